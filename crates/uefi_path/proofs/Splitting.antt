@@ -1,0 +1,97 @@
+-- The components of a text: there is exactly one list of them, what stands between the separators.
+use Rattle.std.proofs.Common.{◌≡◌, ◌≢◌, ℕ, ◌+◌, ◌<◌, ◌≤◌, false, List, [], ◌∷◌, length, None, Some, arith, sym, ◌∙◌, ap, refl, All, subst, inl, inr, get_or, nat_lt, Option}
+use Rattle.std.specs.List.{slice_range, slice_split, onto_first, position, before_first, after_first, position_or_len}
+use Rattle.std.proofs.lemmas.Bool.{cases_Bool, ltb-true, eqb-false, ne_eqb}
+use Rattle.std.proofs.lemmas.List.Elements.{All-nil, All-cons, All-head, All-tail, All-map, All-weaker}
+use Rattle.std.proofs.lemmas.List.Splits.{length-slice_split, slice_split_none, slice_split_at, slice_split_first, slice_split-cons_yes, slice_split-cons_no, join_with_byte-slice_split}
+use Rattle.std.proofs.lemmas.List.Sums.{fails_before_first, count_by-le-length}
+use Rattle.std.proofs.lemmas.Option.{cond_some}
+use Rattle.std.proofs.lemmas.Grind.{common_steps}
+use Rattle.uefi_text.specs.Units.{replaced}
+use Rattle.uefi_path.specs.Components.{joined, IsPiece, AreComponents, components_of, pieces_between, IsFirstCut}
+use Rattle.uefi_path.specs.Separators.{separator, slash, is_separator, canon, slashed, IsPlain}
+
+-- pieces of which the first gets a unit in front are pieces
+All-IsPiece-onto_first : (u : ℕ) (ps : List (List ℕ)) → u ≢ separator → All IsPiece ps → All IsPiece (onto_first u ps)
+All-IsPiece-onto_first u [] ne all = All-cons IsPiece (u ∷ []) [] (All-cons (λ v. v ≢ separator) u [] ne (All-nil (λ v. v ≢ separator))) (All-nil IsPiece)
+All-IsPiece-onto_first u (p ∷ ps) ne all = All-cons IsPiece (u ∷ p) ps (All-cons (λ v. v ≢ separator) u p ne (All-head IsPiece p ps all)) (All-tail IsPiece p ps all)
+
+-- what stands between separators holds none
+All-IsPiece-slice_split : (us : List ℕ) → All IsPiece (slice_split is_separator us)
+All-IsPiece-slice_split [] = All-cons IsPiece [] [] (All-nil (λ v. v ≢ separator)) (All-nil IsPiece)
+All-IsPiece-slice_split (u ∷ us) =
+    elim (cases_Bool (is_separator u)) [
+      | inl cut ↦ subst (All IsPiece) (sym (slice_split-cons_yes is_separator u us cut)) (All-cons IsPiece [] (slice_split is_separator us) (All-nil (λ v. v ≢ separator)) (All-IsPiece-slice_split us))
+      | inr other ↦ subst (All IsPiece) (sym (slice_split-cons_no is_separator u us other)) (All-IsPiece-onto_first u (slice_split is_separator us) (eqb-false u separator other) (All-IsPiece-slice_split us))
+    ]
+
+joined-slice_split : (us : List ℕ) → joined (slice_split is_separator us) ≡ us
+joined-slice_split us = join_with_byte-slice_split separator us
+
+-- a text that is not empty is not the one empty piece
+not_one_empty : (u : ℕ) (us : List ℕ) → slice_split is_separator (u ∷ us) ≢ [] ∷ []
+not_one_empty u us e = let j = joined-slice_split (u ∷ us) in let k = ap joined e in cc
+
+-- pieces that were joined are what stands between the separators of what they join to
+slice_split-joined : (p : List ℕ) (ps : List (List ℕ)) → All IsPiece (p ∷ ps) → slice_split is_separator (joined (p ∷ ps)) ≡ p ∷ ps
+slice_split-joined p [] all = slice_split_none is_separator p (All-weaker (λ v. v ≢ separator) (λ v. is_separator v ≡ false) (λ v h. ne_eqb v separator h) p (All-head IsPiece p [] all))
+slice_split-joined p (q ∷ qs) all =
+    slice_split_at is_separator p separator (joined (q ∷ qs)) (All-weaker (λ v. v ≢ separator) (λ v. is_separator v ≡ false) (λ v h. ne_eqb v separator h) p (All-head IsPiece p (q ∷ qs) all)) refl
+    ∙ ap (λ parts. p ∷ parts) (slice_split-joined q qs (All-tail IsPiece p (q ∷ qs) all))
+
+pieces_between-nonempty : (us : List ℕ) → slice_split is_separator us ≢ [] ∷ [] → pieces_between us ≡ slice_split is_separator us
+pieces_between-nonempty [] ne = absurd (ne refl)
+pieces_between-nonempty (u ∷ us) ne = refl
+
+pieces_between-joined : (ps : List (List ℕ)) → All IsPiece ps → ps ≢ [] ∷ [] → pieces_between (joined ps) ≡ ps
+pieces_between-joined [] all ne = refl
+pieces_between-joined (p ∷ ps) all ne =
+    let s = slice_split-joined p ps all in
+    pieces_between-nonempty (joined (p ∷ ps)) (λ e. ne (sym s ∙ e)) ∙ s
+
+-- the pieces between the separators of the canonical text are components
+AreComponents-between : (text us : List ℕ) → canon text ≡ us → AreComponents text (pieces_between us)
+AreComponents-between text [] e = record { are_pieces = All-nil IsPiece; not_one_empty = λ f. cc; join = sym e }
+AreComponents-between text (u ∷ us) e = record { are_pieces = All-IsPiece-slice_split (u ∷ us); not_one_empty = not_one_empty u us; join = joined-slice_split (u ∷ us) ∙ sym e }
+
+pub AreComponents-components_of : (text : List ℕ) → AreComponents text (components_of text)
+AreComponents-components_of text = AreComponents-between text (canon text) refl
+
+-- and no others are
+pub components_of-only : (text : List ℕ) (pieces : List (List ℕ)) → AreComponents text pieces → pieces ≡ components_of text
+components_of-only text pieces components = sym (pieces_between-joined pieces components.are_pieces components.not_one_empty) ∙ ap pieces_between components.join
+
+-- the pieces of a canonical text that is not empty
+pub slice_split-canon : (text us : List ℕ) → us ≡ canon text → (us ≡ [] → ⊥) → slice_split is_separator us ≡ components_of text
+slice_split-canon text [] e ne = absurd (ne refl)
+slice_split-canon text (u ∷ us) e ne = ap pieces_between e
+
+-- with no separator all units are one piece
+no_cut : (us : List ℕ) → position is_separator us ≡ None → slice_split is_separator us ≡ us ∷ []
+no_cut us none =
+    let past : length us ≤ position_or_len is_separator us = grind (arith, common_steps) in
+    slice_split_none is_separator us (λ k d h. fails_before_first is_separator us k d (omega arith))
+
+-- the first piece ends at the first separator
+cut_at : (us : List ℕ) (place : ℕ) → position is_separator us ≡ Some place → IsFirstCut us (Some place)
+cut_at us place found =
+    let at = cond_some (nat_lt (position_or_len is_separator us) (length us)) (position_or_len is_separator us) place found in
+    let inside : position_or_len is_separator us < length us = ltb-true _ _ at.0 in
+    let front : before_first is_separator us ≡ slice_range us 0 place = grind (arith, common_steps) in
+    let back : after_first is_separator us ≡ slice_range us (place + 1) (length us) = grind (arith, common_steps) in
+    (omega (arith, inside, at.1), slice_split_first is_separator us 0 inside ∙ ap (λ f. f ∷ slice_split is_separator (after_first is_separator us)) front ∙ ap (λ b. slice_range us 0 place ∷ slice_split is_separator b) back)
+
+pub IsFirstCut-position : (us : List ℕ) (cut : Option ℕ) → cut ≡ position is_separator us → IsFirstCut us cut
+IsFirstCut-position us None e = no_cut us (sym e)
+IsFirstCut-position us (Some place) e = cut_at us place (sym e)
+
+-- there is at most one piece more than units
+pub length-slice_split-le : (us : List ℕ) → length (slice_split is_separator us) ≤ length us + 1
+length-slice_split-le us = omega (arith, length-slice_split is_separator us, count_by-le-length is_separator us)
+
+turned : (unit : ℕ) → replaced slash separator unit ≢ slash
+turned unit e = grind (arith, common_steps)
+
+-- a text in which each slash was turned has none
+pub IsPlain-slashed : (text : List ℕ) → IsPlain (slashed text)
+IsPlain-slashed text = All-map (λ v. v ≢ slash) (replaced slash separator) text (λ k d h. turned (get_or text k d))

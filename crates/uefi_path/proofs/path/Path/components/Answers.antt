@@ -1,0 +1,35 @@
+-- The pieces between the separators of a canonical text are the components, and there are no others.
+use Rattle.std.proofs.Common.{◌≡◌, [], arith, sym, ◌∙◌, subst}
+use Rattle.std.specs.List.{slice_split}
+use Rattle.std.proofs.lemmas.Grind.{common_steps}
+use Rattle.uefi_text.specs.Views.{units_of}
+use Rattle.uefi_path.specs.Components.{AreComponents, components_of}
+use Rattle.uefi_path.specs.Separators.{is_separator}
+use Rattle.uefi_path.specs.Views.{components_left, path_text}
+use Rattle.uefi_path.proofs.Splitting.{AreComponents-components_of, components_of-only, slice_split-canon, length-slice_split-le}
+use Rattle.uefi_path.proofs.path.Path.components.Goals as goal
+use Rattle.uefi_path.proofs.path.Path.components.Goals.{After-is_empty}
+
+pub returns-then-is_empty-clause-only : goal.returns-then-is_empty-clause-only
+unfolding components_left
+returns-then-is_empty-clause-only c = λ pieces components.
+    let only = components_of-only (path_text c.args.self.now) pieces components in
+    grind (arith, common_steps, c.if-is_empty.ensures, only)
+
+pub returns-clause-components : goal.returns-clause-components
+unfolding components_left
+returns-clause-components c =
+    let filled : units_of c.canonical-text.result ≡ [] → ⊥ = λ e. grind (arith, common_steps, c.if-is_empty.ensures) in
+    rw (slice_split-canon (path_text c.args.self.now) (units_of c.canonical-text.result) c.canonical-text.ensures.same filled)
+    (AreComponents-components_of (path_text c.args.self.now))
+
+pub returns-clause-only : goal.returns-clause-only
+unfolding components_left
+returns-clause-only c = λ pieces components.
+    let filled : units_of c.canonical-text.result ≡ [] → ⊥ = λ e. grind (arith, common_steps, c.if-is_empty.ensures) in
+    components_of-only (path_text c.args.self.now) pieces components
+    ∙ sym (slice_split-canon (path_text c.args.self.now) (units_of c.canonical-text.result) c.canonical-text.ensures.same filled)
+
+pub returns-clause-bound : goal.returns-clause-bound
+unfolding components_left
+returns-clause-bound c = omega (arith, length-slice_split-le (units_of c.canonical-text.result))

@@ -1,0 +1,35 @@
+-- The components of a path.
+use Rattle.std.specs.Prelude.{◌≡◌, ◌≢◌, ℕ, ◌+◌, ◌<◌, List, [], ◌∷◌, length, All, Option, Some, None, slice_range}
+use Rattle.std.specs.List.{join_with_byte, slice_split}
+use Rattle.uefi_path.specs.Separators.{separator, is_separator, canon}
+
+-- pieces one after the other, with a separator between neighbours
+abbrev pub joined : List (List ℕ) → List ℕ
+joined pieces = join_with_byte separator pieces
+
+-- a piece: no separator in it
+abbrev pub IsPiece : List ℕ → Type 0
+IsPiece piece = All (λ unit. unit ≢ separator) piece
+
+-- the components of a text: pieces that join to its canonical text, and never the one empty piece
+pub record AreComponents (text : List ℕ) (pieces : List (List ℕ)) : Type 0 where
+  pub are_pieces : All IsPiece pieces
+  pub not_one_empty : pieces ≢ [] ∷ []
+  pub join : joined pieces ≡ canon text
+
+-- what stands between the separators of a canonical text, and nothing where it is empty
+abbrev pub pieces_between : List ℕ → List (List ℕ)
+pieces_between [] = []
+pieces_between (unit ∷ units) = slice_split is_separator (unit ∷ units)
+
+-- the one list of components that a text has
+abbrev pub components_of : List ℕ → List (List ℕ)
+components_of text = pieces_between (canon text)
+
+-- how the first piece of units ends: at no separator, and it is all of them, or at the first one
+abbrev pub IsFirstCut : List ℕ → Option ℕ → Type 0
+IsFirstCut units None = slice_split is_separator units ≡ units ∷ []
+IsFirstCut units (Some place) =
+    (place < length units)
+    × (slice_split is_separator units
+       ≡ slice_range units 0 place ∷ slice_split is_separator (slice_range units (place + 1) (length units)))

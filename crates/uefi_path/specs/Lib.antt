@@ -1,0 +1,3 @@
+pub mod Separators
+pub mod Components
+pub mod Views

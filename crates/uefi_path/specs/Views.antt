@@ -1,0 +1,21 @@
+-- What a lent value shows. Other crates see these words alone, and no field.
+use Rattle.std.specs.Prelude.{ℕ, List, [], Option, Some, None}
+use Rattle.std.specs.List.{slice_split}
+use Rattle.uefi_text.specs.Views.{text_of, units_of}
+use Rattle.uefi_text.specs.declared.strs.Char16Slice.{Char16Slice}
+use Rattle.uefi_path.specs.Separators.{is_separator}
+use Rattle.uefi_path.specs.declared.path.Path.{Path}
+use Rattle.uefi_path.specs.declared.path.Components.{Components}
+
+-- the text of a path
+unfoldable pub path_text : Path → List ℕ
+path_text path = text_of path.string
+
+-- the pieces of what is left to cut, if anything is
+abbrev pub pieces_of_rest : Option Char16Slice → List (List ℕ)
+pieces_of_rest None = []
+pieces_of_rest (Some rest) = slice_split is_separator (units_of rest)
+
+-- the components that are still to come
+unfoldable pub components_left : Components → List (List ℕ)
+components_left components = pieces_of_rest components.rest

@@ -1,0 +1,29 @@
+//! Paths over UCS-2 strings, as UEFI firmware spells them: components between backslashes.
+//!
+//! A [`Path`] is a view of a string of `uefi_text`, and a [`PathBuf`] owns one. One leading [`SEPARATOR`]
+//! says nothing: the *canonical text* of a path is its text without it, two paths are equal exactly when
+//! their canonical texts are, and a path's *components* are the pieces between the separators of its
+//! canonical text, empty ones too. The empty path and the lone separator have none. A `PathBuf` turns
+//! each `/` that it takes over into a separator; a `Path` turns nothing.
+//!
+//! ```rust
+//! use uefi_path::{Path, PathBuf};
+//! use uefi_text::CString16;
+//!
+//! let text = CString16::try_from_str(rt.alloc(), "/efi/boot")?;
+//! let Ok(buffer) = PathBuf::new_from_cstring16(rt.alloc(), text) else { return Err(AllocError.into()) };
+//! let other = CString16::try_from_str(rt.alloc(), "efi\\boot")?;
+//! assert!(rt; buffer.as_path() == Path::new(other.as_cstr16()));
+//! assert_eq!(rt; buffer.components().count(), 2);
+//! ```
+//!
+//! In contracts a [`PathBuf`] is its text, `path_text` is that of a [`Path`], and `components_left` are the
+//! pieces that [`Components`] still gives. No clause outside this crate speaks of a separator's place.
+#![tactic(auto)]
+
+mod path;
+mod pathbuf;
+
+pub use path::{Components, Path};
+pub use pathbuf::PathBuf;
+pub use uefi_text::chars::SEPARATOR;

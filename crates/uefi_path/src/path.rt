@@ -1,0 +1,166 @@
+//! Paths that are lent, and their components. `specs/Views.antt` says what each view shows.
+#![tactic(auto, unfolding(crate::specs::Views::path_text, crate::specs::Views::components_left))]
+
+ghost use Rattle.std.specs.Prelude.{◌≡◌, ℕ, ◌+◌, ◌<◌, ◌^◌, ◌↔◌, [], List, Option, length, position, IsTrue};
+ghost use Rattle.uefi_path.specs.Components.{AreComponents, IsFirstCut, components_of};
+ghost use Rattle.uefi_path.specs.Separators.{canon, is_separator};
+ghost use Rattle.uefi_path.specs.Views.{path_text, components_left};
+ghost use Rattle.uefi_text.specs.Views.{text_of, units_of};
+
+use std::fmt;
+use uefi_text::chars::SEPARATOR;
+use uefi_text::strs::{CStr16, Char16Slice};
+
+/// A path that is lent: any string, read as components between separators. In contracts it is `path_text`
+/// of it.
+#[derive(Clone, Copy)]
+pub struct Path<'a> {
+    string: CStr16<'a>,
+}
+
+/// The components of a path that are still to come, in order. In contracts it is `components_left` of it.
+#[derive(Drop)]
+pub struct Components<'a> {
+    /// What is left to cut; `None` behind the last component.
+    rest: Option<Char16Slice<'a>>,
+}
+
+impl<'a> Path<'a> {
+    /// The path of a string, which is taken as it stands: no slash is turned.
+    pub fn new(string: CStr16<'a>) -> Path<'a>
+        ensures { path_text result ≡ text_of string.entry }
+    {
+        Path { string }
+    }
+
+    /// The string of the path.
+    pub fn to_cstr16(&self) -> CStr16<'a>
+        ensures { text_of result ≡ path_text self.now }
+    {
+        self.string
+    }
+
+    /// The components of the path: the pieces between the separators of its canonical text, empty ones too.
+    /// There is no other list of pieces without separators, and not the one empty piece, that joins to that
+    /// text. Takes no memory; all of them together cost one pass over the text.
+    pub fn components(&self) -> Components<'a>
+        ensures same { components_left result ≡ components_of (path_text self.now) }
+        ensures components { AreComponents (path_text self.now) (components_left result) }
+        ensures only { (pieces : List (List ℕ)) →
+            AreComponents (path_text self.now) pieces → pieces ≡ components_left result }
+        ensures bound { length (components_left result) < 2 ^ 64 }
+    {
+        let text = self.canonical();
+        if text.is_empty() {
+            return Components { rest: None };
+        }
+        Components { rest: Some(text) }
+    }
+
+    /// Whether the text is empty. A lone separator is not, though it equals the empty path.
+    pub fn is_empty(&self) -> bool
+        ensures { IsTrue result ↔ (path_text self.now ≡ []) }
+    {
+        self.string.is_empty()
+    }
+
+    /// The text without one leading separator.
+    fn canonical(&self) -> Char16Slice<'a>
+        ensures same { units_of result ≡ canon (path_text self.now) }
+        ensures bound { length (units_of result) + 1 < 2 ^ 64 }
+    {
+        let text = self.string.as_slice();
+        if text.get(0) == Some(SEPARATOR) {
+            text.part(1, text.len())
+        } else {
+            text
+        }
+    }
+}
+
+/// As [`Path::new`].
+impl<'a> From<CStr16<'a>> for Path<'a> {
+    ghost from_gives = { λ string result. path_text result ≡ text_of string };
+
+    fn from(string: CStr16<'a>) -> Path<'a> {
+        Path::new(string)
+    }
+}
+
+/// Two paths are equal exactly when their canonical texts are, which is when their components are.
+impl<'a> PartialEq for Path<'a> {
+    ghost use Rattle.std.proofs.Common.{rules};
+    ghost use Rattle.std.specs.Prelude.{nat_eq};
+    ghost use Rattle.std.specs.Cmp.Lexicographic.{pointwise};
+    ghost use Rattle.std.specs.Cmp.Rules.{comparing};
+    ghost use Rattle.uefi_path.specs.Separators.{canon};
+    ghost use Rattle.uefi_path.specs.Views.{path_text};
+
+    ghost eq = { λ a b. pointwise nat_eq (canon (path_text a)) (canon (path_text b)) };
+
+    ghost laws = { Prim.search (comparing, rules) };
+
+    fn eq(&self, other: &Self) -> bool {
+        self.canonical() == other.canonical()
+    }
+}
+
+impl<'a> Eq for Path<'a> {
+    ghost use Rattle.std.proofs.Common.{rules};
+    ghost use Rattle.std.specs.Cmp.Rules.{comparing};
+
+    ghost laws = { Prim.search (comparing, rules) };
+}
+
+impl<'a> fmt::Debug for Path<'a> {
+    fn fmt<W: fmt::Write>(&self, f: &mut fmt::Formatter<W>) -> fmt::Result {
+        f.debug_tuple("Path").field(&self.string).finish()
+    }
+}
+
+/// The place of the first separator.
+fn find_separator(units: &[u16]) -> Option<usize>
+    ensures { result ≡ position is_separator units.now }
+{
+    units.iter().position(|unit| *unit == u16::from(SEPARATOR))
+}
+
+/// Where the first of several pieces ends.
+fn first_cut(part: Char16Slice<'_>) -> Option<usize>
+    ensures { IsFirstCut (units_of part.entry) result }
+{
+    find_separator(part.units())
+}
+
+impl<'a> Iterator for Components<'a> {
+    type Item = Char16Slice<'a>;
+
+    ghost use Rattle.std.specs.Iterator.{YieldsFirstBy, item_count};
+    ghost use Rattle.uefi_text.specs.Views.{units_of};
+    ghost use Rattle.uefi_path.specs.Views.{components_left};
+
+    ghost next_gives = { YieldsFirstBy units_of components_left };
+
+    ghost remaining = { item_count components_left };
+
+    fn next(&mut self) -> Option<Char16Slice<'a>> {
+        let rest = self.rest?;
+        let len = rest.len();
+        match first_cut(rest) {
+            None => {
+                self.rest = None;
+                Some(rest)
+            }
+            Some(place) => {
+                self.rest = Some(rest.part(place + 1, len));
+                Some(rest.part(0, place))
+            }
+        }
+    }
+}
+
+impl<'a> fmt::Debug for Components<'a> {
+    fn fmt<W: fmt::Write>(&self, f: &mut fmt::Formatter<W>) -> fmt::Result {
+        f.debug_tuple("Components").field(&self.rest).finish()
+    }
+}

@@ -1,0 +1,4 @@
+pub mod Scanning
+pub mod Deciding
+pub mod Texts
+pub mod Values

@@ -1,0 +1,72 @@
+-- Texts, as characters and as code units, and the strings that they are stored as.
+use Rattle.std.proofs.Common.{◌≡◌, ℕ, ◌-◌, ◌≤◌, ◌≢◌, Bool, true, false, List, [], ◌∷◌, ◌++◌, length, map, None, arith, sym, ◌∙◌, ap, refl, subst, ◌==◌, if◌then◌else◌}
+use Rattle.std.specs.List.{find}
+use Rattle.std.specs.Str.{chars, IsUtf8}
+use Rattle.std.specs.Prelude.{encode_utf8}
+use Rattle.std.proofs.lemmas.Str.{chars_past_char}
+use Rattle.std.proofs.lemmas.List.{length-append, map-append}
+use Rattle.std.proofs.Math.Seq.{take-append_seam}
+use Rattle.std.proofs.lemmas.List.Elements.{All-nil, All-cons, All-map, All-weaker}
+use Rattle.std.proofs.Math.Utf8.{scalar, scalars, scalar_cases}
+use Rattle.std.proofs.lemmas.Grind.{common_steps}
+use Rattle.uefi_text.specs.Units.{replaced, IsText, IsTextUnit, IsString, nul_terminated, without_nul}
+use Rattle.uefi_text.specs.FromStr.{is_deciding_char}
+
+-- where nothing is found among the elements, and the next does not pass, nothing is found with it
+pub find-push_none : (p : ℕ → Bool) (xs : List ℕ) (y : ℕ) → find p xs ≡ None → p y ≡ false → find p (xs ++ y ∷ []) ≡ None
+find-push_none p [] y none e = grind (arith, common_steps)
+find-push_none p (x ∷ xs) y none e = let rest : find p xs ≡ None = grind (arith, common_steps) in let more = find-push_none p xs y rest e in grind (arith, common_steps)
+
+-- one more character was read
+pub chars_step : (read rest new_rest : List ℕ) (c : ℕ) (all : List ℕ) → IsUtf8 rest → rest ≡ encode_utf8 c ++ new_rest → read ++ chars rest ≡ all → (read ++ c ∷ []) ++ chars new_rest ≡ all
+chars_step read rest new_rest c all utf8 e so_far =
+    let f = chars_past_char rest new_rest c utf8 e in grind (arith, common_steps)
+
+pub without_nul-nul_terminated : (text : List ℕ) → without_nul (nul_terminated text) ≡ text
+without_nul-nul_terminated text =
+    let n : length (text ++ 0 ∷ []) - 1 ≡ length text = omega (arith, length-append text (0 ∷ [])) in
+    rw n (take-append_seam text (0 ∷ []))
+
+-- a text and a NUL are a string
+pub IsString-nul_terminated : (text : List ℕ) → IsText text → IsString (nul_terminated text)
+IsString-nul_terminated text is_text = rw (without_nul-nul_terminated text) (refl, is_text)
+
+-- units that were made of a text and a NUL are a string
+pub IsString-made : (units text : List ℕ) → units ≡ nul_terminated text → IsText text → IsString units
+IsString-made units text e is_text = subst IsString (sym e) (IsString-nul_terminated text is_text)
+
+-- a unit of a text stays one where another takes its place
+IsTextUnit-replaced : (search replace u : ℕ) → IsTextUnit u → IsTextUnit replace → IsTextUnit (replaced search replace u)
+IsTextUnit-replaced search replace u old new = elim (u == search) as (λ b. IsTextUnit (if b then replace else u)) [ true ↦ new | false ↦ old ]
+
+-- a text in which a character takes the place of another is a text
+IsText-replaced : (search replace : ℕ) (text : List ℕ) → IsText text → IsTextUnit replace → IsText (map (replaced search replace) text)
+IsText-replaced search replace text is_text unit =
+    All-map IsTextUnit (replaced search replace) text (All-weaker IsTextUnit (λ u. IsTextUnit (replaced search replace u)) (λ u h. IsTextUnit-replaced search replace u h unit) text is_text)
+
+replaced-nul : (search replace : ℕ) → search ≢ 0 → replaced search replace 0 ≡ 0
+replaced-nul search replace no_nul = grind (arith, common_steps)
+
+-- what stands before the NUL is written, and the NUL stays
+nul_terminated-replaced : (search replace : ℕ) (text : List ℕ) → search ≢ 0 → map (replaced search replace) (nul_terminated text) ≡ nul_terminated (map (replaced search replace) text)
+nul_terminated-replaced search replace text no_nul =
+    map-append (replaced search replace) text (0 ∷ []) ∙ ap (λ u. map (replaced search replace) text ++ u ∷ []) (replaced-nul search replace no_nul)
+
+-- and so does a string
+pub IsString-replaced : (search replace : ℕ) (units : List ℕ) → IsString units → search ≢ 0 → IsTextUnit replace → IsString (map (replaced search replace) units)
+IsString-replaced search replace units string no_nul unit =
+    IsString-made _ (map (replaced search replace) (without_nul units)) (ap (map (replaced search replace)) string.0 ∙ nul_terminated-replaced search replace (without_nul units) no_nul) (IsText-replaced search replace (without_nul units) string.1 unit)
+
+-- a character that is not refused is a unit of a text
+IsTextUnit-char : (c : ℕ) → scalar c ≡ true → is_deciding_char c ≡ false → IsTextUnit c
+IsTextUnit-char c is_scalar undecided = let s = scalar_cases c is_scalar in grind (arith, common_steps)
+
+-- characters of which none is refused are a text
+pub IsText-chars : (cs : List ℕ) → scalars cs ≡ true → find is_deciding_char cs ≡ None → IsText cs
+IsText-chars [] are_scalars none = All-nil IsTextUnit
+IsText-chars (c ∷ cs) are_scalars none =
+    let first : scalar c ≡ true = grind (arith, common_steps) in
+    let others : scalars cs ≡ true = grind (arith, common_steps) in
+    let undecided : is_deciding_char c ≡ false = grind (arith, common_steps) in
+    let rest : find is_deciding_char cs ≡ None = grind (arith, common_steps) in
+    All-cons IsTextUnit c cs (IsTextUnit-char c first undecided) (IsText-chars cs others rest)

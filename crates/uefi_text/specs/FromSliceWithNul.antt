@@ -1,0 +1,17 @@
+-- Which units are refused as a NUL-terminated string, and why.
+use Rattle.std.specs.Prelude.{ℕ, ◌+◌, ◌==◌, if◌then◌else◌, List, length, slice_index, Option, Some, None}
+use Rattle.uefi_text.specs.Units.{deciding_place}
+use Rattle.uefi_text.specs.declared.strs.FromSliceWithNulError.{FromSliceWithNulError}
+use Rattle.uefi_text.specs.declared.strs.FromSliceWithNulError.TheVariants.{InvalidChar, InteriorNul, NotNulTerminated}
+
+-- the refusal by the deciding place: a NUL there is right where it is the last unit, a surrogate never is
+abbrev pub with_nul_refusal_at : List ℕ → Option ℕ → Option FromSliceWithNulError
+with_nul_refusal_at units None = Some NotNulTerminated
+with_nul_refusal_at units (Some i) =
+    if slice_index units i == 0
+    then (if i + 1 == length units then None else Some (InteriorNul i))
+    else Some (InvalidChar i)
+
+-- the refusal of units, or none where they are a NUL-terminated string
+abbrev pub with_nul_refusal : List ℕ → Option FromSliceWithNulError
+with_nul_refusal units = with_nul_refusal_at units (deciding_place units)

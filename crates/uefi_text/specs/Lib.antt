@@ -1,0 +1,5 @@
+pub mod Units
+pub mod Scans
+pub mod FromSliceWithNul
+pub mod FromStr
+pub mod Views

@@ -1,0 +1,10 @@
+-- Steps of the passes that look at many elements at once. Only private clauses cite them.
+use Rattle.std.specs.Prelude.{ℕ, Bool, ◌&&◌, ◌||◌, ◌==◌, nat_le, nat_lt}
+
+-- whether all bytes so far, and this one, are ASCII and not NUL
+abbrev pub ascii_text_so_far : Bool → ℕ → Bool
+ascii_text_so_far so_far byte = (so_far && nat_lt 0 byte) && nat_lt byte 128
+
+-- whether a unit so far, or this one, is one that no text holds
+abbrev pub decided_so_far : Bool → ℕ → Bool
+decided_so_far so_far unit = (so_far || (unit == 0)) || (nat_le 0xd800 unit && nat_le unit 0xdfff)

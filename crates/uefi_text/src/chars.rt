@@ -1,0 +1,142 @@
+//! Characters of UCS-2. The field of [`Char16`] is private to this module, so the constants of the
+//! crates above are written here too.
+ghost use Rattle.std.specs.Prelude.{◌≡◌, ◌<◌, ◌≤◌, ◌^◌};
+ghost use Rattle.std.specs.Result.{OkIff};
+ghost use Rattle.uefi_text.specs.Units.{IsChar16, is_surrogate};
+
+use std::error::Error;
+use std::fmt;
+use std::marker::Model;
+
+/// A character or a code unit that the type asked for does not have.
+#[derive(Clone, Copy, Debug, PartialEq, Eq)]
+pub struct CharConversionError;
+
+impl fmt::Display for CharConversionError {
+    ghost use Rattle.std.specs.Prelude.{Some, codes};
+
+    ghost output = { λ _. Some (codes "CharConversionError") };
+
+    fn fmt<W: fmt::Write>(&self, f: &mut fmt::Formatter<W>) -> fmt::Result {
+        f.write_str("CharConversionError")
+    }
+}
+
+impl Error for CharConversionError {}
+
+/// A character of UCS-2: a code unit that is no surrogate. The default is NUL. In contracts it is its
+/// number.
+#[derive(Clone, Copy, PartialEq, Eq, PartialOrd, Ord, Hash)]
+pub struct Char16 {
+    unit: u16,
+}
+
+impl Model for Char16 {
+    ghost use Rattle.std.specs.Prelude.{ℕ};
+    ghost use Rattle.uefi_text.specs.Units.{IsChar16};
+
+    ghost Value = { ℕ };
+
+    ghost view = { λ c. c.unit };
+
+    ghost invariant = { λ c. IsChar16 c.unit };
+
+    ghost inverse = { λ number. record { unit = number } };
+}
+
+/// Whether a code unit is a surrogate (Unicode Standard, section 3.8).
+pub(crate) fn is_surrogate(unit: u16) -> bool
+    ensures { result ≡ is_surrogate unit }
+{
+    0xd800 <= unit && unit <= 0xdfff
+}
+
+impl Char16 {
+    /// The character of a code unit that is no surrogate.
+    pub(crate) fn from_unit(unit: u16) -> Self
+        requires { IsChar16 unit }
+        ensures { result ≡ unit }
+    {
+        Char16 { unit }
+    }
+
+    /// The UCS-2 character of a Rust character: `Ok` exactly up to U+FFFF.
+    pub fn try_from_char(value: char) -> Result<Self, CharConversionError>
+        ensures { OkIff result (value < 2 ^ 16) value }
+    {
+        let number = u32::from(value);
+        if number <= 0xffff {
+            Ok(Char16 {
+                unit: number as u16,
+            })
+        } else {
+            Err(CharConversionError)
+        }
+    }
+}
+
+impl Default for Char16 {
+    ghost is_default = { λ c. c ≡ 0 };
+
+    fn default() -> Self {
+        NUL_16
+    }
+}
+
+/// As [`Char16::try_from_char`].
+impl TryFrom<char> for Char16 {
+    type Error = CharConversionError;
+
+    ghost try_from_gives = { λ value result. OkIff result (value < 2 ^ 16) value };
+
+    fn try_from(value: char) -> Result<Self, CharConversionError> {
+        Char16::try_from_char(value)
+    }
+}
+
+/// `Ok` exactly for the code units that are no surrogates.
+impl TryFrom<u16> for Char16 {
+    type Error = CharConversionError;
+
+    ghost try_from_gives = { λ value result. OkIff result (IsChar16 value) value };
+
+    fn try_from(value: u16) -> Result<Self, CharConversionError> {
+        if is_surrogate(value) {
+            Err(CharConversionError)
+        } else {
+            Ok(Char16 { unit: value })
+        }
+    }
+}
+
+impl From<Char16> for u16 {
+    ghost from_gives = { λ value result. (result ≡ value) × IsChar16 value };
+
+    fn from(value: Char16) -> u16 {
+        value.unit
+    }
+}
+
+impl From<Char16> for char {
+    ghost from_gives = { λ value result. result ≡ value };
+
+    fn from(value: Char16) -> char {
+        char::from_u32(u32::from(value.unit)).unwrap()
+    }
+}
+
+/// Prints as the Rust character does.
+impl fmt::Debug for Char16 {
+    fn fmt<W: fmt::Write>(&self, f: &mut fmt::Formatter<W>) -> fmt::Result {
+        fmt::Debug::fmt(&char::from(*self), f)
+    }
+}
+
+/// The character that ends a string.
+pub const NUL_16: Char16 = Char16 { unit: 0 };
+
+/// The separator between the components of a path, `\`.
+pub const SEPARATOR: Char16 = Char16 { unit: 92 };
+
+/// The separator of other systems, `/`, which path buffers turn into [`SEPARATOR`].
+pub const SLASH: Char16 = Char16 { unit: 47 };

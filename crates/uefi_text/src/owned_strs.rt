@@ -1,0 +1,211 @@
+//! NUL-terminated UCS-2 strings that are owned, and what of Rust text is refused as one. A string keeps its
+//! NUL in the vector, which nothing outside this module sees.
+ghost use Rattle.std.specs.Prelude.{◌≡◌, ◌≢◌, ℕ, ◌+◌, ◌<◌, ◌↔◌, ◌++◌, [], List, None, length, map, find, unwrap_or, IsTrue, IsOk, IfOk, IfErr, IfSome};
+ghost use Rattle.std.specs.Str.{chars};
+ghost use Rattle.uefi_text.specs.Units.{nul_terminated, replaced};
+ghost use Rattle.uefi_text.specs.FromStr.{is_deciding_char, from_str_refusal};
+
+use crate::chars::Char16;
+use crate::scans::{is_ascii_text, replace_units, widen};
+use crate::strs::CStr16;
+use std::alloc::{AllocError, Allocator, Global};
+use std::error::Error;
+use std::fmt;
+use std::marker::Model;
+
+/// Why a Rust text is no UCS-2 string.
+#[derive(Clone, Copy, Debug, PartialEq, Eq)]
+pub enum FromStrError {
+    /// The first character that no UCS-2 text holds is above U+FFFF.
+    InvalidChar,
+
+    /// The first character that no UCS-2 text holds is a NUL.
+    InteriorNul,
+
+    /// The text is one of UCS-2, and a request for memory was refused.
+    OutOfMemory,
+}
+
+impl fmt::Display for FromStrError {
+    ghost use Rattle.std.specs.Prelude.{Some};
+    ghost use Rattle.uefi_text.specs.FromStr.{from_str_error_text};
+
+    ghost output = { λ error. Some (from_str_error_text error) };
+
+    fn fmt<W: fmt::Write>(&self, f: &mut fmt::Formatter<W>) -> fmt::Result {
+        f.write_str(match *self {
+            FromStrError::InvalidChar => "UCS-2 Conversion Error: Invalid character",
+            FromStrError::InteriorNul => "UCS-2 Conversion Error: Interior null terminator",
+            FromStrError::OutOfMemory => "UCS-2 Conversion Error: Out of memory",
+        })
+    }
+}
+
+impl Error for FromStrError {}
+
+/// A string that is owned, over the memory of its allocator, which it keeps. In contracts it is its text,
+/// without the NUL.
+#[derive(Drop)]
+pub struct CString16<A: Allocator = Global> {
+    units: Vec<u16, A>,
+}
+
+impl<A: Allocator> Model for CString16<A> {
+    ghost use Rattle.std.specs.Prelude.{ℕ, List};
+    ghost use Rattle.uefi_text.specs.Units.{IsString, without_nul};
+
+    ghost Value = { List ℕ };
+
+    ghost view = { λ string. without_nul string.units.items };
+
+    ghost invariant = { λ string. IsString string.units.items };
+}
+
+/// The first character that no UCS-2 text holds.
+fn find_deciding_char(text: &str) -> Option<char>
+    ensures { result ≡ find is_deciding_char (chars text.now) }
+{
+    text.chars().find(|c| *c == '\0' || *c > '\u{ffff}')
+}
+
+/// The units of ASCII bytes without NUL, and a NUL, in one allocation of their size.
+fn units_of_ascii<A: Allocator>(alloc: A, bytes: &[u8]) -> Result<Vec<u16, A>, AllocError>
+    ensures { IfOk result (λ units. units.items ≡ nul_terminated bytes.now) }
+{
+    let mut units = Vec::new(alloc);
+    units.resize(bytes.len() + 1, 0)?;
+    widen(&mut units, bytes);
+    Ok(units)
+}
+
+/// Adds the units of a text, or answers `false` where it is none of UCS-2 or memory is refused.
+fn add_chars<A: Allocator>(units: &mut Vec<u16, A>, text: &str) -> bool
+    ensures { IsTrue result →
+        (units.new.items ≡ units.old.items ++ chars text.now)
+        × (find is_deciding_char (chars text.now) ≡ None) }
+{
+    for character in text.chars() {
+        if character == '\0' || character > '\u{ffff}' {
+            return false;
+        }
+        if units.push(character as u16).is_err() {
+            return false;
+        }
+    }
+    true
+}
+
+/// The units of a text and a NUL, or `None` where it is none of UCS-2 or memory is refused. It leaves to
+/// its caller to find out which, so that a text in order is read once.
+fn units_of_text<A: Allocator>(alloc: A, text: &str) -> Option<Vec<u16, A>>
+    ensures { IfSome result (λ units.
+        (units.items ≡ nul_terminated (chars text.now))
+        × (find is_deciding_char (chars text.now) ≡ None)) }
+{
+    if is_ascii_text(text.as_bytes()) {
+        let units = units_of_ascii(alloc, text.as_bytes()).ok()?;
+        return Some(units);
+    }
+    // No character has more units than bytes.
+    let mut units = Vec::with_capacity(alloc, text.len() + 1).ok()?;
+    if !add_chars(&mut units, text) {
+        return None;
+    }
+    units.push(0).ok()?;
+    Some(units)
+}
+
+impl<A: Allocator> CString16<A> {
+    ghost use Rattle.uefi_text.specs.Views.{text_of};
+
+    /// The empty string. Takes memory for its NUL.
+    pub fn new(alloc: A) -> Result<Self, AllocError>
+        ensures { IfOk result (λ string. string ≡ []) }
+    {
+        let mut units = Vec::new(alloc);
+        units.push(0)?;
+        Ok(CString16 { units })
+    }
+
+    /// The string of a Rust text.
+    ///
+    /// The first character that is NUL or above U+FFFF decides: `InteriorNul` or `InvalidChar`. Where there
+    /// is none the answer is the string of these characters, or `OutOfMemory`: a fault of the text comes
+    /// before want of memory. One allocation; a text in order is read once.
+    pub fn try_from_str(alloc: A, text: &str) -> Result<Self, FromStrError>
+        ensures ok { IfOk result (λ string. string ≡ chars text.now) }
+        ensures accepted { IfOk result (λ _. from_str_refusal (chars text.now) ≡ None) }
+        ensures refusal { IfErr result (λ error.
+            error ≡ unwrap_or (from_str_refusal (chars text.now)) FromStrError.OutOfMemory) }
+    {
+        if let Some(units) = units_of_text(alloc, text) {
+            return Ok(CString16 { units });
+        }
+        match find_deciding_char(text) {
+            Some('\0') => Err(FromStrError::InteriorNul),
+            Some(_) => Err(FromStrError::InvalidChar),
+            None => Err(FromStrError::OutOfMemory),
+        }
+    }
+
+    /// Writes `replace` in each place of `search`. One pass; takes no memory.
+    pub fn replace_char(&mut self, search: Char16, replace: Char16)
+        requires search_no_nul { search ≢ 0 }
+        requires replace_no_nul { replace ≢ 0 }
+        ensures { self.new ≡ map (replaced search replace) self.old }
+    {
+        replace_units(&mut self.units, u16::from(search), u16::from(replace));
+    }
+
+    /// How many characters the text has, the NUL not counted.
+    pub fn num_chars(&self) -> usize
+        ensures { result ≡ length self.now }
+    {
+        self.units.len() - 1
+    }
+
+    /// Whether the text is empty.
+    pub fn is_empty(&self) -> bool
+        ensures { IsTrue result ↔ (self.now ≡ []) }
+    {
+        self.num_chars() == 0
+    }
+
+    /// A view of the string.
+    pub fn as_cstr16(&self) -> CStr16<'_>
+        ensures { text_of result ≡ self.now }
+    {
+        CStr16::from_string(self.units.as_slice())
+    }
+}
+
+/// Two strings are equal exactly when their texts are.
+impl<A: Allocator> PartialEq for CString16<A> {
+    ghost use Rattle.std.proofs.Common.{rules};
+    ghost use Rattle.std.specs.Prelude.{nat_eq};
+    ghost use Rattle.std.specs.Cmp.Lexicographic.{pointwise};
+    ghost use Rattle.std.specs.Cmp.Rules.{comparing};
+
+    ghost eq = { pointwise nat_eq };
+
+    ghost laws = { Prim.search (comparing, rules) };
+
+    fn eq(&self, other: &Self) -> bool {
+        self.as_cstr16() == other.as_cstr16()
+    }
+}
+
+impl<A: Allocator> Eq for CString16<A> {
+    ghost use Rattle.std.proofs.Common.{rules};
+    ghost use Rattle.std.specs.Cmp.Rules.{comparing};
+
+    ghost laws = { Prim.search (comparing, rules) };
+}
+
+/// Prints as its view does, but for the name.
+impl<A: Allocator> fmt::Debug for CString16<A> {
+    fn fmt<W: fmt::Write>(&self, f: &mut fmt::Formatter<W>) -> fmt::Result {
+        let text = self.as_cstr16().as_slice();
+        f.debug_tuple("CString16").field(&text).finish()
+    }
+}

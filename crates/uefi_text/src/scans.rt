@@ -1,0 +1,89 @@
+//! Passes over whole slices, in forms that the compiler turns into vector instructions: no early exit
+//! inside a block, and loops over places where the bounds are known. What they answer is said by
+//! std's words, so that callers see nothing of the form.
+ghost use Rattle.std.specs.Prelude.{◌≡◌, ℕ, ◌+◌, ◌-◌, ◌<◌, ◌≤◌, ◌++◌, length, drop, map, slice_index, true, false};
+ghost use Rattle.std.specs.List.{fold};
+ghost use Rattle.uefi_text.specs.Scans.{ascii_text_so_far, decided_so_far};
+ghost use Rattle.uefi_text.specs.Units.{is_deciding, deciding_place, replaced};
+
+use crate::chars::is_surrogate;
+
+/// How many units a block has.
+const BLOCK: usize = 64;
+
+/// Whether a block holds a NUL or a surrogate.
+#[inline(always)]
+fn has_deciding(block: &[u16]) -> bool
+    ensures { result ≡ fold decided_so_far false block.now }
+{
+    block.iter().fold(false, |found, unit| {
+        found | (*unit == 0) | ((0xd800 <= *unit) & (*unit <= 0xdfff))
+    })
+}
+
+/// The length of a front of whole blocks that hold neither a NUL nor a surrogate.
+fn undecided_blocks_len(units: &[u16]) -> usize
+    ensures within { result ≤ length units.now }
+    ensures none { (k : ℕ) → k < result → is_deciding (slice_index units.now k) ≡ false }
+{
+    let mut len = 0;
+    while BLOCK <= units.len() - len && !has_deciding(&units[len..len + BLOCK]) {
+        len += BLOCK;
+    }
+    len
+}
+
+/// The place of the first NUL or surrogate, unit by unit.
+fn find_deciding_place_by_unit(units: &[u16]) -> Option<usize>
+    ensures { result ≡ deciding_place units.now }
+{
+    units
+        .iter()
+        .position(|unit| *unit == 0 || is_surrogate(*unit))
+}
+
+/// The place of the first NUL or surrogate.
+pub(crate) fn find_deciding_place(units: &[u16]) -> Option<usize>
+    ensures { result ≡ deciding_place units.now }
+{
+    let len = undecided_blocks_len(units);
+    match find_deciding_place_by_unit(&units[len..]) {
+        None => None,
+        Some(place) => Some(len + place),
+    }
+}
+
+/// Whether each byte is ASCII and not NUL.
+pub(crate) fn is_ascii_text(bytes: &[u8]) -> bool
+    ensures { result ≡ fold ascii_text_so_far true bytes.now }
+{
+    bytes
+        .iter()
+        .fold(true, |so_far, byte| so_far & (0 < *byte) & (*byte < 128))
+}
+
+/// Writes bytes as code units, in front of the last unit, which stays.
+pub(crate) fn widen(units: &mut [u16], bytes: &[u8])
+    requires { length units.now ≡ length bytes.now + 1 }
+    ensures { units.new ≡ bytes.now ++ drop (length bytes.now) units.old }
+{
+    for i in 0..bytes.len() {
+        units[i] = u16::from(bytes[i]);
+    }
+}
+
+fn unit_after(unit: u16, search: u16, replace: u16) -> u16
+    ensures { result ≡ replaced search replace unit }
+{
+    if unit == search { replace } else { unit }
+}
+
+/// Writes `replace` in each place of `search`.
+#[tactic(auto, using(std::proofs::lemmas::List::Edits::map_over_more, std::proofs::lemmas::List::take_all, std::proofs::lemmas::List::drop_all))]
+pub(crate) fn replace_units(units: &mut [u16], search: u16, replace: u16)
+    ensures { units.new ≡ map (replaced search replace) units.old }
+{
+    for unit in units.iter_mut() {
+        *unit = unit_after(*unit, search, replace);
+    }
+}

@@ -1,0 +1,278 @@
+//! NUL-terminated UCS-2 strings that are lent, and what is refused as one. The fields of the views are
+//! private to this module, and `specs/Views.antt` says what each view shows.
+#![tactic(auto, unfolding(crate::specs::Views::text_of, crate::specs::Views::units_of, crate::specs::Views::units_left))]
+
+ghost use Rattle.std.specs.Prelude.{◌≡◌, ◌<◌, ◌≤◌, ◌+◌, ◌^◌, ◌↔◌, ◌==◌, [], List, Option, All, length, slice_get, slice_range, IsTrue, IsOk, IfOk};
+ghost use Rattle.std.specs.Result.{result_err};
+ghost use Rattle.uefi_text.specs.Units.{IsString, IsText, IsChar16, nul_terminated, without_nul};
+
+use crate::chars::Char16;
+use crate::scans::find_deciding_place;
+use std::fmt;
+
+/// Why code units or bytes are no NUL-terminated string. A place is an index into what was handed in.
+#[derive(Clone, Copy, Debug, PartialEq, Eq)]
+pub enum FromSliceWithNulError {
+    /// The first unit that no text holds is a surrogate, at this place.
+    InvalidChar(usize),
+
+    /// The first unit that no text holds is a NUL, at this place, and more units follow it.
+    InteriorNul(usize),
+
+    /// No unit is a NUL.
+    NotNulTerminated,
+
+    /// The slice is not aligned. Kept for the original's callers: no call of this crate answers it.
+    NotAligned,
+
+    /// A request for memory was refused. No call that lends answers it.
+    OutOfMemory,
+}
+
+/// A string that is lent: a view of code units that are a text and its NUL. In contracts it is
+/// `text_of` it, the text without the NUL.
+#[derive(Clone, Copy)]
+pub struct CStr16<'a> {
+    units: &'a [u16],
+    pub ghost is_string: { IsString units.now },
+}
+
+/// The characters of a string that are still to come. In contracts it is `units_left` of it.
+#[derive(Drop)]
+pub struct CStr16Iter<'a> {
+    units: &'a [u16],
+    pub ghost are_characters: { All IsChar16 units.now },
+}
+
+/// Characters that lie side by side, such as a text, a string with its NUL or a component of a path. In
+/// contracts it is `units_of` it, their code units.
+#[derive(Clone, Copy)]
+pub struct Char16Slice<'a> {
+    units: &'a [u16],
+    pub ghost are_characters: { All IsChar16 units.now },
+}
+
+impl<'a> CStr16<'a> {
+    ghost use Rattle.uefi_text.specs.FromSliceWithNul.{with_nul_refusal};
+    ghost use Rattle.uefi_text.specs.Views.{text_of, units_of, units_left};
+
+    /// The string that all of the units spell, as a view of them.
+    ///
+    /// The first unit that is a NUL or a surrogate decides: a surrogate is refused as `InvalidChar`, a NUL
+    /// before the last place as `InteriorNul`, each with its place. Where there is no such unit the answer
+    /// is `NotNulTerminated`. One pass, which ends at that unit; takes no memory.
+    pub fn from_u16_with_nul(units: &'a [u16]) -> Result<CStr16<'a>, FromSliceWithNulError>
+        ensures ok { IfOk result (λ string. nul_terminated (text_of string) ≡ units.now) }
+        ensures accepts { IsOk result ↔ IsString units.now }
+        ensures refusal { result_err result ≡ with_nul_refusal units.now }
+    {
+        let Some(place) = find_deciding_place(units) else {
+            return Err(FromSliceWithNulError::NotNulTerminated);
+        };
+        if units[place] != 0 {
+            return Err(FromSliceWithNulError::InvalidChar(place));
+        }
+        if place + 1 != units.len() {
+            return Err(FromSliceWithNulError::InteriorNul(place));
+        }
+        Ok(CStr16 { units })
+    }
+
+    /// The string that units spell which are known to be one.
+    pub(crate) fn from_string(units: &'a [u16]) -> CStr16<'a>
+        requires { IsString units.now }
+        ensures { text_of result ≡ without_nul units.now }
+    {
+        CStr16 { units }
+    }
+
+    /// The characters of the text, without the NUL.
+    pub fn as_slice(&self) -> Char16Slice<'a>
+        ensures same { units_of result ≡ text_of self.now }
+        ensures bound { length (text_of self.now) + 1 < 2 ^ 64 }
+    {
+        let _units = self.units.len();
+        Char16Slice {
+            units: self.to_u16_slice(),
+        }
+    }
+
+    /// The characters of the text, and the NUL.
+    pub fn as_slice_with_nul(&self) -> Char16Slice<'a>
+        ensures { units_of result ≡ nul_terminated (text_of self.now) }
+    {
+        Char16Slice { units: self.units }
+    }
+
+    /// The code units of the text, without the NUL.
+    pub fn to_u16_slice(&self) -> &'a [u16]
+        ensures { result.now ≡ text_of self.now }
+    {
+        &self.units[..self.units.len() - 1]
+    }
+
+    /// The code units of the text, and the NUL.
+    pub fn to_u16_slice_with_nul(&self) -> &'a [u16]
+        ensures { result.now ≡ nul_terminated (text_of self.now) }
+    {
+        self.units
+    }
+
+    /// The characters of the text in order, without the NUL.
+    pub fn iter(&self) -> CStr16Iter<'a>
+        ensures same { units_left result ≡ text_of self.now }
+        ensures bound { length (units_left result) < 2 ^ 64 }
+    {
+        self.as_slice().iter()
+    }
+
+    /// How many characters the text has, the NUL not counted.
+    pub fn num_chars(&self) -> usize
+        ensures { result ≡ length (text_of self.now) }
+    {
+        self.units.len() - 1
+    }
+
+    /// Whether the text is empty.
+    pub fn is_empty(&self) -> bool
+        ensures { IsTrue result ↔ (text_of self.now ≡ []) }
+    {
+        self.num_chars() == 0
+    }
+}
+
+/// Two strings are equal exactly when their texts are.
+impl<'a> PartialEq for CStr16<'a> {
+    ghost use Rattle.std.proofs.Common.{rules};
+    ghost use Rattle.std.specs.Prelude.{nat_eq};
+    ghost use Rattle.std.specs.Cmp.Lexicographic.{pointwise};
+    ghost use Rattle.std.specs.Cmp.Rules.{comparing};
+    ghost use Rattle.uefi_text.specs.Views.{text_of};
+
+    ghost eq = { λ a b. pointwise nat_eq (text_of a) (text_of b) };
+
+    ghost laws = { Prim.search (comparing, rules) };
+
+    fn eq(&self, other: &Self) -> bool {
+        self.to_u16_slice() == other.to_u16_slice()
+    }
+}
+
+impl<'a> Eq for CStr16<'a> {
+    ghost use Rattle.std.proofs.Common.{rules};
+    ghost use Rattle.std.specs.Cmp.Rules.{comparing};
+
+    ghost laws = { Prim.search (comparing, rules) };
+}
+
+/// Prints the characters, each as a Rust character.
+impl<'a> fmt::Debug for CStr16<'a> {
+    fn fmt<W: fmt::Write>(&self, f: &mut fmt::Formatter<W>) -> fmt::Result {
+        f.debug_tuple("CStr16").field(&self.as_slice()).finish()
+    }
+}
+
+impl<'a> Iterator for CStr16Iter<'a> {
+    type Item = Char16;
+
+    ghost use Rattle.std.specs.Iterator.{YieldsFirst, item_count};
+    ghost use Rattle.uefi_text.specs.Views.{units_left};
+
+    ghost next_gives = { YieldsFirst units_left };
+
+    ghost remaining = { item_count units_left };
+
+    fn next(&mut self) -> Option<Char16> {
+        let (first, others) = self.units.split_first()?;
+        self.units = others;
+        Some(Char16::from_unit(*first))
+    }
+}
+
+impl<'a> fmt::Debug for CStr16Iter<'a> {
+    fn fmt<W: fmt::Write>(&self, f: &mut fmt::Formatter<W>) -> fmt::Result {
+        f.debug_tuple("CStr16Iter").field(&self.units).finish()
+    }
+}
+
+impl<'a> Char16Slice<'a> {
+    ghost use Rattle.uefi_text.specs.Views.{units_of, units_left};
+
+    /// How many characters there are.
+    pub fn len(&self) -> usize
+        ensures { result ≡ length (units_of self.now) }
+    {
+        self.units.len()
+    }
+
+    /// Whether there are none.
+    pub fn is_empty(&self) -> bool
+        ensures { IsTrue result ↔ (units_of self.now ≡ []) }
+    {
+        self.units.is_empty()
+    }
+
+    /// The character at a place, or `None` from the length on.
+    pub fn get(&self, i: usize) -> Option<Char16>
+        ensures { result ≡ slice_get (units_of self.now) i }
+    {
+        let unit = *self.units.get(i)?;
+        Some(Char16::from_unit(unit))
+    }
+
+    /// The characters in order.
+    pub fn iter(&self) -> CStr16Iter<'a>
+        ensures same { units_left result ≡ units_of self.now }
+        ensures bound { length (units_left result) < 2 ^ 64 }
+    {
+        let _units = self.units.len();
+        CStr16Iter { units: self.units }
+    }
+
+    /// The code units of the characters.
+    pub fn units(&self) -> &'a [u16]
+        ensures { result.now ≡ units_of self.now }
+    {
+        self.units
+    }
+
+    /// The characters from the place `start` on, up to and without the place `end`.
+    pub fn part(&self, start: usize, end: usize) -> Char16Slice<'a>
+        requires { (start ≤ end) × (end ≤ length (units_of self.now)) }
+        ensures { units_of result ≡ slice_range (units_of self.now) start end }
+    {
+        Char16Slice {
+            units: &self.units[start..end],
+        }
+    }
+}
+
+/// Two slices are equal exactly when their code units are.
+impl<'a> PartialEq for Char16Slice<'a> {
+    ghost use Rattle.std.proofs.Common.{rules};
+    ghost use Rattle.std.specs.Prelude.{nat_eq};
+    ghost use Rattle.std.specs.Cmp.Lexicographic.{pointwise};
+    ghost use Rattle.std.specs.Cmp.Rules.{comparing};
+    ghost use Rattle.uefi_text.specs.Views.{units_of};
+
+    ghost eq = { λ a b. pointwise nat_eq (units_of a) (units_of b) };
+
+    ghost laws = { Prim.search (comparing, rules) };
+
+    fn eq(&self, other: &Self) -> bool {
+        self.units == other.units
+    }
+}
+
+impl<'a> Eq for Char16Slice<'a> {
+    ghost use Rattle.std.proofs.Common.{rules};
+    ghost use Rattle.std.specs.Cmp.Rules.{comparing};
+
+    ghost laws = { Prim.search (comparing, rules) };
+}
+
+impl<'a> fmt::Debug for Char16Slice<'a> {
+    fn fmt<W: fmt::Write>(&self, f: &mut fmt::Formatter<W>) -> fmt::Result {
+        f.debug_list().entries(self.iter()).finish()
+    }
+}
