@@ -1,4 +1,5 @@
 pub mod Scanning
+pub mod Utf8Bytes
 pub mod Deciding
 pub mod Texts
 pub mod Values

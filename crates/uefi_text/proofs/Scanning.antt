@@ -1,19 +1,15 @@
 -- Passes that test many elements at a time, by a fold with no early exit.
-use Rattle.std.proofs.Common.{◌≡◌, ℕ, ◌<◌, ◌≤◌, ◌+◌, ◌-◌, zero, suc, Bool, true, false, List, [], ◌∷◌, length, take, drop, get_or, subst, ap, None, Some, arith, refl, inl, inr, sym, ◌∙◌}
-use Rattle.std.specs.List.{find, fold, position, position_or_len}
-use Rattle.std.specs.Str.{chars, IsAscii}
+use Rattle.std.proofs.Common.{◌≡◌, ℕ, ◌<◌, ◌≤◌, ◌+◌, ◌-◌, zero, suc, Bool, true, false, List, [], ◌∷◌, ◌++◌, length, take, drop, get_or, subst, ap, None, Some, arith, refl, inl, inr, sym, ◌∙◌}
+use Rattle.std.specs.List.{fold, position, position_or_len}
 use Rattle.std.proofs.lemmas.Bool.{cases_Bool, cases_lt}
 use Rattle.std.proofs.lemmas.List.Folds.{fold_stays}
 use Rattle.std.proofs.lemmas.Simd.{get_or-chunk, length-chunk}
-use Rattle.std.proofs.lemmas.Str.{chars-IsAscii}
 use Rattle.std.proofs.lemmas.Grind.{common_steps}
-use Rattle.uefi_text.specs.FromStr.{is_deciding_char}
-use Rattle.uefi_text.specs.Scans.{ascii_text_so_far}
 
 -- a fold that keeps what it found, and begins with a test
 module _ (p : ℕ → Bool) (step : Bool → ℕ → Bool) (kept : (u : ℕ) → step true u ≡ true) (first : (u : ℕ) → step false u ≡ p u) where
   -- where it found nothing, the first element does not pass, and it finds nothing in the others
-  found_cons : (u : ℕ) (us : List ℕ) → fold step false (u ∷ us) ≡ false → (p u ≡ false) × (fold step false us ≡ false)
+  pub found_cons : (u : ℕ) (us : List ℕ) → fold step false (u ∷ us) ≡ false → (p u ≡ false) × (fold step false us ≡ false)
   found_cons u us e =
       let stuck : fold step true us ≡ true = fold_stays step true kept us in
       let one : step false u ≡ p u = first u in
@@ -21,6 +17,11 @@ module _ (p : ℕ → Bool) (step : Bool → ℕ → Bool) (kept : (u : ℕ) →
         | inl found ↦ let f : fold step (step false u) us ≡ false = e in absurd (grind (arith, common_steps))
         | inr other ↦ (sym one ∙ other, grind (arith, common_steps))
       ]
+
+  -- and nothing behind any front
+  pub found_behind : (us vs : List ℕ) → fold step false (us ++ vs) ≡ false → fold step false vs ≡ false
+  found_behind [] vs e = e
+  found_behind (u ∷ us) vs e = found_behind us vs (found_cons u (us ++ vs) e).1
 
   none_in_block : (us : List ℕ) → fold step false us ≡ false → (k : ℕ) → k < length us → p (get_or us k 0) ≡ false
   none_in_block [] e k h = absurd (omega (arith, h))
@@ -56,29 +57,3 @@ position-from_none p us from le none e = let s = search_from p us from le none i
 
 pub position-from_some : (p : ℕ → Bool) (us : List ℕ) (from place : ℕ) → from ≤ length us → ((k : ℕ) → k < from → p (get_or us k 0) ≡ false) → Some place ≡ position p (drop from us) → Some (from + place) ≡ position p us
 position-from_some p us from place le none e = let s = search_from p us from le none in grind (arith, common_steps)
-
--- the first byte is ASCII and not NUL, and so are the others
-ascii_text_cons : (b : ℕ) (bs : List ℕ) → fold ascii_text_so_far true (b ∷ bs) ≡ true → (ascii_text_so_far true b ≡ true) × (fold ascii_text_so_far true bs ≡ true)
-ascii_text_cons b bs e =
-    let stuck : fold ascii_text_so_far false bs ≡ false = fold_stays ascii_text_so_far false (λ _. refl) bs in
-    elim (cases_Bool (ascii_text_so_far true b)) [
-      | inl passes ↦ (passes, grind (arith, common_steps))
-      | inr other ↦ let f : fold ascii_text_so_far (ascii_text_so_far true b) bs ≡ true = e in absurd (grind (arith, common_steps))
-    ]
-
-ascii_text_ascii : (bs : List ℕ) → fold ascii_text_so_far true bs ≡ true → IsAscii bs
-ascii_text_ascii [] e i = omega arith
-ascii_text_ascii (b ∷ bs) e zero = let p = (ascii_text_cons b bs e).0 in grind (arith, common_steps)
-ascii_text_ascii (b ∷ bs) e (suc i) = ascii_text_ascii bs (ascii_text_cons b bs e).1 i
-
-ascii_text_undecided : (bs : List ℕ) → fold ascii_text_so_far true bs ≡ true → find is_deciding_char bs ≡ None
-ascii_text_undecided [] e = refl
-ascii_text_undecided (b ∷ bs) e =
-    let p = (ascii_text_cons b bs e).0 in
-    let rest = ascii_text_undecided bs (ascii_text_cons b bs e).1 in
-    let other : is_deciding_char b ≡ false = grind (arith, common_steps) in
-    grind (arith, common_steps)
-
--- ASCII bytes without NUL are their own characters, and none of these is refused
-pub ascii_text_chars : (bs : List ℕ) → fold ascii_text_so_far true bs ≡ true → (chars bs ≡ bs) × (find is_deciding_char bs ≡ None)
-ascii_text_chars bs e = (chars-IsAscii bs (ascii_text_ascii bs e), ascii_text_undecided bs e)

@@ -12,15 +12,22 @@ use Rattle.std.proofs.lemmas.Grind.{common_steps}
 use Rattle.uefi_text.specs.Units.{replaced, IsText, IsTextUnit, IsString, nul_terminated, without_nul}
 use Rattle.uefi_text.specs.FromStr.{is_deciding_char}
 
--- where nothing is found among the elements, and the next does not pass, nothing is found with it
-pub find-push_none : (p : ℕ → Bool) (xs : List ℕ) (y : ℕ) → find p xs ≡ None → p y ≡ false → find p (xs ++ y ∷ []) ≡ None
-find-push_none p [] y none e = grind (arith, common_steps)
-find-push_none p (x ∷ xs) y none e = let rest : find p xs ≡ None = grind (arith, common_steps) in let more = find-push_none p xs y rest e in grind (arith, common_steps)
+-- where nothing is found among all elements, none of them passes
+find-none_at : (p : ℕ → Bool) (xs : List ℕ) (y : ℕ) (ys : List ℕ) → find p (xs ++ y ∷ ys) ≡ None → p y ≡ false
+find-none_at p [] y ys none = grind (arith, common_steps)
+find-none_at p (x ∷ xs) y ys none = let rest : find p (xs ++ y ∷ ys) ≡ None = grind (arith, common_steps) in find-none_at p xs y ys rest
 
 -- one more character was read
 pub chars_step : (read rest new_rest : List ℕ) (c : ℕ) (all : List ℕ) → IsUtf8 rest → rest ≡ encode_utf8 c ++ new_rest → read ++ chars rest ≡ all → (read ++ c ∷ []) ++ chars new_rest ≡ all
 chars_step read rest new_rest c all utf8 e so_far =
     let f = chars_past_char rest new_rest c utf8 e in grind (arith, common_steps)
+
+-- and where none of all is refused, it is a code unit
+pub char_fits : (read rest new_rest : List ℕ) (c : ℕ) (all : List ℕ) → IsUtf8 rest → rest ≡ encode_utf8 c ++ new_rest → read ++ chars rest ≡ all → find is_deciding_char all ≡ None → c ≤ 0xffff
+char_fits read rest new_rest c all utf8 e so_far none =
+    let here : find is_deciding_char (read ++ c ∷ chars new_rest) ≡ None = ap (λ cs. find is_deciding_char (read ++ cs)) (sym (chars_past_char rest new_rest c utf8 e)) ∙ ap (find is_deciding_char) so_far ∙ none in
+    let undecided = find-none_at is_deciding_char read c (chars new_rest) here in
+    grind (arith, common_steps)
 
 pub without_nul-nul_terminated : (text : List ℕ) → without_nul (nul_terminated text) ≡ text
 without_nul-nul_terminated text =

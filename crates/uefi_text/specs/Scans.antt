@@ -8,3 +8,7 @@ ascii_text_so_far so_far byte = (so_far && nat_lt 0 byte) && nat_lt byte 128
 -- whether a unit so far, or this one, is one that no text holds
 abbrev pub decided_so_far : Bool → ℕ → Bool
 decided_so_far so_far unit = (so_far || (unit == 0)) || (nat_le 0xd800 unit && nat_le unit 0xdfff)
+
+-- whether a byte so far, or this one, begins a character that no UCS-2 text holds: NUL, or one of four bytes
+abbrev pub deciding_byte_so_far : Bool → ℕ → Bool
+deciding_byte_so_far so_far byte = (so_far || (byte == 0)) || nat_le 0xf0 byte

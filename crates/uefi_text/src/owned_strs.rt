@@ -1,12 +1,12 @@
 //! NUL-terminated UCS-2 strings that are owned, and what of Rust text is refused as one. A string keeps its
 //! NUL in the vector, which nothing outside this module sees.
-ghost use Rattle.std.specs.Prelude.{◌≡◌, ◌≢◌, ℕ, ◌+◌, ◌<◌, ◌↔◌, ◌++◌, [], List, None, length, map, find, unwrap_or, IsTrue, IsOk, IfOk, IfErr, IfSome};
+ghost use Rattle.std.specs.Prelude.{◌≡◌, ◌≢◌, ℕ, ◌+◌, ◌<◌, ◌↔◌, ◌++◌, [], List, None, length, map, find, unwrap_or, IsTrue, IfOk, IfErr};
 ghost use Rattle.std.specs.Str.{chars};
 ghost use Rattle.uefi_text.specs.Units.{nul_terminated, replaced};
 ghost use Rattle.uefi_text.specs.FromStr.{is_deciding_char, from_str_refusal};
 
 use crate::chars::Char16;
-use crate::scans::{is_ascii_text, replace_units, widen};
+use crate::scans::{has_deciding_byte, is_ascii_text, replace_units, widen};
 use crate::strs::CStr16;
 use std::alloc::{AllocError, Allocator, Global};
 use std::error::Error;
@@ -61,14 +61,24 @@ impl<A: Allocator> Model for CString16<A> {
     ghost invariant = { λ string. IsString string.units.items };
 }
 
-/// The first character that no UCS-2 text holds.
+/// The first character that no UCS-2 text holds. Characters are decoded only where a byte gives cause to.
 fn find_deciding_char(text: &str) -> Option<char>
+    ensures { result ≡ find is_deciding_char (chars text.now) }
+{
+    if !has_deciding_byte(text.as_bytes()) {
+        return None;
+    }
+    find_deciding_char_by_char(text)
+}
+
+/// The same, character by character.
+fn find_deciding_char_by_char(text: &str) -> Option<char>
     ensures { result ≡ find is_deciding_char (chars text.now) }
 {
     text.chars().find(|c| *c == '\0' || *c > '\u{ffff}')
 }
 
-/// The units of ASCII bytes without NUL, and a NUL, in one allocation of their size.
+/// The units of ASCII bytes without NUL, and a NUL.
 fn units_of_ascii<A: Allocator>(alloc: A, bytes: &[u8]) -> Result<Vec<u16, A>, AllocError>
     ensures { IfOk result (λ units. units.items ≡ nul_terminated bytes.now) }
 {
@@ -78,41 +88,35 @@ fn units_of_ascii<A: Allocator>(alloc: A, bytes: &[u8]) -> Result<Vec<u16, A>, A
     Ok(units)
 }
 
-/// Adds the units of a text, or answers `false` where it is none of UCS-2 or memory is refused.
-fn add_chars<A: Allocator>(units: &mut Vec<u16, A>, text: &str) -> bool
-    ensures { IsTrue result →
-        (units.new.items ≡ units.old.items ++ chars text.now)
-        × (find is_deciding_char (chars text.now) ≡ None) }
+/// The units of a text of UCS-2, and a NUL.
+fn units_of_chars<A: Allocator>(alloc: A, text: &str) -> Result<Vec<u16, A>, AllocError>
+    requires { find is_deciding_char (chars text.now) ≡ None }
+    ensures { IfOk result (λ units. units.items ≡ nul_terminated (chars text.now)) }
 {
+    // No text has more characters than bytes.
+    let mut units = Vec::with_capacity(alloc, text.len() + 1)?;
     for character in text.chars() {
-        if character == '\0' || character > '\u{ffff}' {
-            return false;
-        }
-        if units.push(character as u16).is_err() {
-            return false;
-        }
+        units.push(character as u16)?;
     }
-    true
+    units.push(0)?;
+    Ok(units)
 }
 
-/// The units of a text and a NUL, or `None` where it is none of UCS-2 or memory is refused. It leaves to
-/// its caller to find out which, so that a text in order is read once.
-fn units_of_text<A: Allocator>(alloc: A, text: &str) -> Option<Vec<u16, A>>
-    ensures { IfSome result (λ units.
-        (units.items ≡ nul_terminated (chars text.now))
-        × (find is_deciding_char (chars text.now) ≡ None)) }
+/// The units of a text of UCS-2 and a NUL, in one allocation.
+fn units_of_text<A: Allocator>(alloc: A, text: &str) -> Result<Vec<u16, A>, FromStrError>
+    ensures ok { IfOk result (λ units. units.items ≡ nul_terminated (chars text.now)) }
+    ensures accepted { IfOk result (λ _. find is_deciding_char (chars text.now) ≡ None) }
+    ensures refusal { IfErr result (λ error.
+        error ≡ unwrap_or (from_str_refusal (chars text.now)) FromStrError.OutOfMemory) }
 {
     if is_ascii_text(text.as_bytes()) {
-        let units = units_of_ascii(alloc, text.as_bytes()).ok()?;
-        return Some(units);
+        return units_of_ascii(alloc, text.as_bytes()).map_err(|_| FromStrError::OutOfMemory);
     }
-    // No character has more units than bytes.
-    let mut units = Vec::with_capacity(alloc, text.len() + 1).ok()?;
-    if !add_chars(&mut units, text) {
-        return None;
+    match find_deciding_char(text) {
+        Some('\0') => Err(FromStrError::InteriorNul),
+        Some(_) => Err(FromStrError::InvalidChar),
+        None => units_of_chars(alloc, text).map_err(|_| FromStrError::OutOfMemory),
     }
-    units.push(0).ok()?;
-    Some(units)
 }
 
 impl<A: Allocator> CString16<A> {
@@ -130,22 +134,16 @@ impl<A: Allocator> CString16<A> {
     /// The string of a Rust text.
     ///
     /// The first character that is NUL or above U+FFFF decides: `InteriorNul` or `InvalidChar`. Where there
-    /// is none the answer is the string of these characters, or `OutOfMemory`: a fault of the text comes
-    /// before want of memory. One allocation; a text in order is read once.
+    /// is none the answer is the string of these characters, or `OutOfMemory`. The whole text is tested
+    /// before memory is asked for, in one allocation.
     pub fn try_from_str(alloc: A, text: &str) -> Result<Self, FromStrError>
         ensures ok { IfOk result (λ string. string ≡ chars text.now) }
         ensures accepted { IfOk result (λ _. from_str_refusal (chars text.now) ≡ None) }
         ensures refusal { IfErr result (λ error.
             error ≡ unwrap_or (from_str_refusal (chars text.now)) FromStrError.OutOfMemory) }
     {
-        if let Some(units) = units_of_text(alloc, text) {
-            return Ok(CString16 { units });
-        }
-        match find_deciding_char(text) {
-            Some('\0') => Err(FromStrError::InteriorNul),
-            Some(_) => Err(FromStrError::InvalidChar),
-            None => Err(FromStrError::OutOfMemory),
-        }
+        let units = units_of_text(alloc, text)?;
+        Ok(CString16 { units })
     }
 
     /// Writes `replace` in each place of `search`. One pass; takes no memory.

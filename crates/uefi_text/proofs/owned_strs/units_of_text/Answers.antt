@@ -2,7 +2,7 @@ use Rattle.std.proofs.Common.{◌≡◌, true, arith}
 use Rattle.std.specs.List.{fold}
 use Rattle.std.proofs.lemmas.Grind.{common_steps}
 use Rattle.uefi_text.specs.Scans.{ascii_text_so_far}
-use Rattle.uefi_text.proofs.Scanning.{ascii_text_chars}
+use Rattle.uefi_text.proofs.Utf8Bytes.{ascii_text_chars}
 use Rattle.uefi_text.proofs.owned_strs.units_of_text.Goals as goal
 
 pub returns-then-is_ascii_text : goal.returns-then-is_ascii_text

@@ -7,5 +7,5 @@ use Rattle.uefi_text.proofs.owned_strs.CString16.try_from_str.Goals as goal
 pub invariant_of-result : goal.invariant_of-result
 invariant_of-result g c =
     let text = c.args.text.now in
-    let made = c.in-Some.ensures in
-    IsString-made c.in-Some.units.items (chars text) made.0 (IsText-chars (chars text) (scalars-chars text c.utf8.text) made.1)
+    let made = c.in_ok-units.ensures in
+    IsString-made c.in_ok-units.units.items (chars text) made.ok (IsText-chars (chars text) (scalars-chars text c.utf8.text) made.accepted)

@@ -1,0 +1,126 @@
+//! Readers and writers that fail.
+use std::io::{self, ErrorKind, Read, Write};
+use std::test::Fail;
+use upath::{StreamFault, run_streams};
+
+/// Gives one byte a call, and fails where it has given so many.
+#[derive(Drop)]
+struct FailingReader {
+    bytes: &'static [u8],
+    before_failing: usize,
+    kind: ErrorKind,
+}
+
+impl Read for FailingReader {
+    fn read(&mut self, buf: &mut [u8]) -> io::Result<usize> {
+        if self.before_failing == 0 {
+            return Err(io::Error::from(self.kind));
+        }
+        self.before_failing -= 1;
+        match (self.bytes.split_first(), buf.first_mut()) {
+            (Some((byte, others)), Some(place)) => {
+                *place = *byte;
+                self.bytes = others;
+                Ok(1)
+            }
+            _ => Ok(0),
+        }
+    }
+}
+
+/// Holds so many bytes, and then takes none or fails; its flush may fail too.
+#[derive(Drop)]
+struct FailingWriter {
+    held: Vec<u8>,
+    room: usize,
+    fails_when_full: bool,
+    fails_to_flush: bool,
+}
+
+impl Write for FailingWriter {
+    fn write(&mut self, buf: &[u8]) -> io::Result<usize> {
+        let taken = buf.len().min(self.room);
+        if taken == 0 && self.fails_when_full {
+            return Err(io::Error::from(ErrorKind::StorageFull));
+        }
+        self.held.extend_from_slice(&buf[..taken])?;
+        self.room -= taken;
+        Ok(taken)
+    }
+
+    fn flush(&mut self) -> io::Result<()> {
+        if self.fails_to_flush {
+            return Err(io::Error::from(ErrorKind::Other));
+        }
+        Ok(())
+    }
+}
+
+const INPUT: &[u8] = b"from \\foo\\bar\npieces\n";
+
+const OUTPUT: &str = "= \\foo\\bar\npieces 2\n| foo\n| bar\n";
+
+fn writer_of(rt: &HostRuntime, room: usize) -> FailingWriter {
+    FailingWriter {
+        held: Vec::new(rt.alloc()),
+        room,
+        fails_when_full: true,
+        fails_to_flush: false,
+    }
+}
+
+#[test]
+fn a_read_that_fails(rt: HostRuntime) {
+    for (before_failing, kind, want) in [
+        (0, ErrorKind::Other, StreamFault::Read),
+        (1, ErrorKind::Other, StreamFault::Read),
+        (7, ErrorKind::IsADirectory, StreamFault::Read),
+        (21, ErrorKind::Other, StreamFault::Read),
+        (3, ErrorKind::OutOfMemory, StreamFault::OutOfMemory),
+    ] {
+        let mut reader = FailingReader {
+            bytes: INPUT,
+            before_failing,
+            kind,
+        };
+        let mut writer = writer_of(&rt, 99);
+        assert_eq!(rt; run_streams(rt.alloc(), &mut reader, &mut writer), Err(want));
+        assert!(rt; writer.held.is_empty(), "after {before_failing} bytes");
+    }
+}
+
+#[test]
+fn a_read_that_fails_behind_the_end(rt: HostRuntime) -> Result<(), Fail> {
+    let mut reader = FailingReader {
+        bytes: INPUT,
+        before_failing: 99,
+        kind: ErrorKind::Other,
+    };
+    let mut writer = writer_of(&rt, 99);
+    assert_eq!(rt; run_streams(rt.alloc(), &mut reader, &mut writer), Ok(()));
+    assert_eq!(rt; String::from_utf8(writer.held)?.as_str(), OUTPUT);
+    Ok(())
+}
+
+#[test]
+fn a_write_that_fails(rt: HostRuntime) {
+    for (room, fails_when_full) in [(0, true), (0, false), (5, true), (5, false), (31, true)] {
+        let mut reader: &[u8] = INPUT;
+        let mut writer = writer_of(&rt, room);
+        writer.fails_when_full = fails_when_full;
+        let answer = run_streams(rt.alloc(), &mut reader, &mut writer);
+        assert_eq!(rt; answer, Err(StreamFault::Write), "room for {room} bytes");
+        assert!(rt; OUTPUT.as_bytes().starts_with(&writer.held));
+        assert_eq!(rt; writer.held.len(), room);
+    }
+}
+
+#[test]
+fn a_flush_that_fails(rt: HostRuntime) -> Result<(), Fail> {
+    let mut reader: &[u8] = INPUT;
+    let mut writer = writer_of(&rt, 99);
+    writer.fails_to_flush = true;
+    assert_eq!(rt; run_streams(rt.alloc(), &mut reader, &mut writer), Err(StreamFault::Write));
+    assert_eq!(rt; String::from_utf8(writer.held)?.as_str(), OUTPUT);
+    Ok(())
+}

@@ -1,0 +1,18 @@
+//! What no contract says, as tests over the other crates: rows whose answers come from outside, calls that get
+//! their memory, calls that are refused it at each of their requests in turn, and streams that fail.
+//!
+//! The product's crates depend on nothing here. [`refusing`] is the allocator that the tests refuse memory with.
+#![tactic(auto)]
+
+pub mod refusing;
+
+#[cfg(test)]
+mod failing_streams;
+#[cfg(test)]
+mod paths;
+#[cfg(test)]
+mod refused_memory;
+#[cfg(test)]
+mod runs;
+#[cfg(test)]
+mod texts;

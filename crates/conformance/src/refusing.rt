@@ -1,0 +1,86 @@
+//! An allocator for tests, which refuses one of the requests that it is handed.
+
+use std::alloc::{AllocError, Allocator};
+use std::cell::Cell;
+
+/// Passes each request on to another allocator, but for one, which it refuses.
+///
+/// So code over a `&Refusing<B>` can run out of memory at each of its requests in turn.
+pub struct Refusing<B: Allocator> {
+    inner: B,
+    /// The number of the request to refuse among those to come, and 0 once it has come.
+    left: Cell<u64>,
+}
+
+impl<B: Allocator> Refusing<B> {
+    /// Refuses the request of that number, counted from 1. At 0 it refuses none.
+    pub fn new(inner: B, number: u64) -> Refusing<B> {
+        Refusing {
+            inner,
+            left: Cell::new(number),
+        }
+    }
+
+    /// Whether no request is left to refuse: it has come, or the number was 0.
+    pub fn has_refused(&self) -> bool {
+        self.left.get() == 0
+    }
+}
+
+impl<B: Allocator> Drop for Refusing<B> {
+    fn drop(self) {
+        let Self { inner: _, left: _ } = self;
+    }
+}
+
+/// Counts a request, and says whether it is the one to refuse.
+fn refuses(left: &Cell<u64>) -> bool {
+    let number = left.get();
+    left.set(number.saturating_sub(1));
+    number == 1
+}
+
+// `grow` and `shrink` keep the trait's bodies, so that each of them makes one request.
+unsafe impl<B: Allocator> Allocator for Refusing<B> {
+    ghost dealloc_token = { λ heap ty ptr. B.dealloc_token heap.inner ty ptr };
+
+    fn allocate(&self, size: usize, align: usize) -> Result<*mut u8, AllocError> {
+        if refuses(&self.left) {
+            return Err(AllocError);
+        }
+        self.inner.allocate(size, align)
+    }
+
+    unsafe fn deallocate(&self, ptr: *mut u8, size: usize, align: usize) {
+        self.inner.deallocate(ptr, size, align);
+    }
+}
+
+#[cfg(test)]
+mod tests {
+    use super::*;
+
+    fn counted<A: Allocator + Copy>(heap: A) -> Result<Vec<u16, A>, AllocError> {
+        let mut numbers = Vec::new(heap);
+        for number in 0..9u16 {
+            numbers.push(number)?;
+        }
+        Ok(numbers)
+    }
+
+    #[test]
+    fn each_request_is_refused_in_turn(rt: HostRuntime) {
+        let mut first_to_pass = None;
+        for number in 1..99u64 {
+            let heap = Refusing::new(rt.alloc(), number);
+            let is_counted = counted(&heap).is_ok();
+            assert_eq!(rt; heap.has_refused(), !is_counted, "at request {number}");
+            if is_counted {
+                first_to_pass = Some(number);
+                break;
+            }
+        }
+        // The room grows to 4, 8 and 16.
+        assert_eq!(rt; first_to_pass, Some(4));
+    }
+}

@@ -1,0 +1,119 @@
+//! Runs over lines.
+use std::test::Fail;
+use upath::{run_streams, run_text};
+
+fn printed(rt: &HostRuntime, input: &[u8]) -> Result<String, Fail> {
+    let output = run_text(rt.alloc(), input)?;
+    Ok(String::from_utf8(output)?)
+}
+
+#[test]
+fn lines_and_their_answers(rt: HostRuntime) -> Result<(), Fail> {
+    for (input, want) in [
+        (
+            "from \\foo\\bar\npieces\n",
+            "= \\foo\\bar\npieces 2\n| foo\n| bar\n",
+        ),
+        (
+            "from /a\\b\neq a\\b\neq \\\\a\\b\npush\npieces",
+            "= \\a\\b\nequal\ndifferent\n? unknown command\npieces 2\n| a\n| b\n",
+        ),
+        (
+            "from a😀\n\nfrom \npieces\neq \\\n",
+            "UCS-2 Conversion Error: Invalid character\n? unknown command\n= \npieces 0\nequal\n",
+        ),
+        (
+            "from x\0\nclear \n",
+            "UCS-2 Conversion Error: Interior null terminator\n? unknown command\n",
+        ),
+        ("from \u{ffff}é\npieces\n", "= \u{ffff}é\npieces 1\n| \u{ffff}é\n"),
+        ("from \\\\\npieces\n", "= \\\\\npieces 2\n| \n| \n"),
+    ] {
+        assert_eq!(rt; printed(&rt, input.as_bytes())?.as_str(), want);
+    }
+    Ok(())
+}
+
+#[test]
+fn ends_of_lines(rt: HostRuntime) -> Result<(), Fail> {
+    for (input, want) in [
+        ("", ""),
+        ("\n", "? unknown command\n"),
+        ("\n\n", "? unknown command\n? unknown command\n"),
+        ("pieces", "pieces 0\n"),
+        ("pieces\r\n", "? unknown command\n"),
+        ("from a\r\npieces", "= a\r\npieces 1\n| a\r\n"),
+        ("from  a b \npieces", "=  a b \npieces 1\n|  a b \n"),
+        ("from\tx\n from x\n", "? unknown command\n? unknown command\n"),
+    ] {
+        assert_eq!(rt; printed(&rt, input.as_bytes())?.as_str(), want);
+    }
+    Ok(())
+}
+
+#[test]
+fn lines_that_leave_the_path(rt: HostRuntime) -> Result<(), Fail> {
+    for line in [
+        "from",
+        "eq",
+        "FROM x",
+        "pieces ",
+        "wat x\0",
+        "wat 😀",
+        "from x\0",
+        "from 😀",
+        "eq x\0",
+        "eq 😀",
+        "eq a",
+        "",
+    ] {
+        let input = format!(in rt.alloc(); "from a\\b\n{line}\neq \\a\\b\n")?;
+        let output = printed(&rt, input.as_bytes())?;
+        assert!(rt; output.as_str().ends_with("\nequal\n"), "{line:?}");
+    }
+    Ok(())
+}
+
+#[test]
+fn refused_texts_are_told_by_each_verb(rt: HostRuntime) -> Result<(), Fail> {
+    for (input, want) in [
+        ("eq x\0", "UCS-2 Conversion Error: Interior null terminator\n"),
+        ("eq 😀\0", "UCS-2 Conversion Error: Invalid character\n"),
+        ("from \0😀", "UCS-2 Conversion Error: Interior null terminator\n"),
+        ("wat x\0", "? unknown command\n"),
+    ] {
+        assert_eq!(rt; printed(&rt, input.as_bytes())?.as_str(), want);
+    }
+    Ok(())
+}
+
+/// A byte that begins nothing, an overlong form, an encoded surrogate, a character beyond the last, and one that is
+/// cut short.
+#[test]
+fn lines_that_are_not_utf8(rt: HostRuntime) -> Result<(), Fail> {
+    let lines: [&[u8]; 6] = [
+        b"\xff",
+        b"from \xff",
+        b"from \xc0\xaf",
+        b"from \xed\xa0\x80",
+        b"from \xf4\x90\x80\x80",
+        b"from \xe2\x82",
+    ];
+    for line in lines {
+        let mut input = Vec::new(rt.alloc());
+        input.extend_from_slice(line)?;
+        input.extend_from_slice(b"\npieces")?;
+        assert_eq!(rt; printed(&rt, &input)?.as_str(), "? not UTF-8\npieces 0\n");
+    }
+    Ok(())
+}
+
+#[test]
+fn a_run_over_streams(rt: HostRuntime) -> Result<(), Fail> {
+    let mut reader: &[u8] = b"from /a/b\npieces";
+    let mut writer = Vec::new(rt.alloc());
+    assert_eq!(rt; run_streams(rt.alloc(), &mut reader, &mut writer), Ok(()));
+    assert!(rt; reader.is_empty());
+    assert_eq!(rt; String::from_utf8(writer)?.as_str(), "= \\a\\b\npieces 2\n| a\n| b\n");
+    Ok(())
+}

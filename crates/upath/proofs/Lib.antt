@@ -1,0 +1,3 @@
+pub mod LineEnds
+pub mod CommandCuts
+pub mod Utf8

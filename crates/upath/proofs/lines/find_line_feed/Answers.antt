@@ -1,0 +1,5 @@
+use Rattle.upath.proofs.LineEnds.{position-IsFirstByte}
+use Rattle.upath.proofs.lines.find_line_feed.Goals as goal
+
+pub returns : goal.returns
+returns c = position-IsFirstByte c.args.bytes.now c.memchr.result c.memchr.ensures

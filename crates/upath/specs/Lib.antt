@@ -1,0 +1,5 @@
+pub mod Lines
+pub mod LinesLeft
+pub mod Commands
+pub mod Output
+pub mod Streams

@@ -1,0 +1,66 @@
+-- What a run prints: a function of its whole input. It begins with the empty path, and each line prints its lines and
+-- leaves the path for the next one.
+use Rattle.std.specs.Prelude.{ℕ, if◌then◌else◌, List, [], ◌∷◌, ◌++◌, length, Option, Some, None, codes}
+use Rattle.std.specs.List.{flat_map}
+use Rattle.std.specs.Str.{chars, encode_utf8_all, bytes_eq}
+use Rattle.std.specs.Fmt.{decimal}
+use Rattle.uefi_text.specs.FromStr.{from_str_refusal, from_str_error_text}
+use Rattle.uefi_text.specs.declared.owned_strs.FromStrError.{FromStrError}
+use Rattle.uefi_path.specs.Components.{components_of}
+use Rattle.uefi_path.specs.Separators.{canon, slashed}
+use Rattle.upath.specs.Lines.{lines_of}
+use Rattle.upath.specs.Commands.{LineCommand, from_text, pieces, eq_text, unknown, not_utf8, command_of}
+
+-- a printed line
+abbrev pub line : List ℕ → List ℕ
+line bytes = bytes ++ 10 ∷ []
+
+-- a printed line: a mark and a text in UTF-8
+abbrev pub text_line : List ℕ → List ℕ → List ℕ
+text_line mark text = line (mark ++ encode_utf8_all text)
+
+-- the lines of `pieces`: how many there are, and each
+abbrev pub pieces_lines : List (List ℕ) → List ℕ
+pieces_lines components =
+    line (codes "pieces " ++ decimal (length components)) ++ flat_map (text_line (codes "| ")) components
+
+-- the line of `eq`: whether two texts are equal as paths
+abbrev pub eq_line : List ℕ → List ℕ → List ℕ
+eq_line path other = if bytes_eq (canon path) (canon other) then line (codes "equal") else line (codes "different")
+
+-- what is printed where a command's text may be refused
+abbrev pub printed_unless : Option FromStrError → List ℕ → List ℕ
+printed_unless None printed = printed
+printed_unless (Some error) printed = line (from_str_error_text error)
+
+-- the path where a command's text may be refused
+abbrev pub path_unless : Option FromStrError → List ℕ → List ℕ → List ℕ
+path_unless None new old = new
+path_unless (Some error) new old = old
+
+-- what a command prints at a path
+abbrev pub printed_by : LineCommand → List ℕ → List ℕ
+printed_by (from_text text) path =
+    printed_unless (from_str_refusal (chars text)) (text_line (codes "= ") (slashed (chars text)))
+printed_by pieces path = pieces_lines (components_of path)
+printed_by (eq_text text) path = printed_unless (from_str_refusal (chars text)) (eq_line path (chars text))
+printed_by unknown path = line (codes "? unknown command")
+printed_by not_utf8 path = line (codes "? not UTF-8")
+
+-- the path that a command leaves
+abbrev pub path_after : LineCommand → List ℕ → List ℕ
+path_after (from_text text) path = path_unless (from_str_refusal (chars text)) (slashed (chars text)) path
+path_after pieces path = path
+path_after (eq_text text) path = path
+path_after unknown path = path
+path_after not_utf8 path = path
+
+-- what lines print, from a path on
+abbrev pub printed_from : List ℕ → List (List ℕ) → List ℕ
+printed_from path [] = []
+printed_from path (first ∷ others) =
+    printed_by (command_of first) path ++ printed_from (path_after (command_of first) path) others
+
+-- what a run over an input prints
+abbrev pub output_of : List ℕ → List ℕ
+output_of input = printed_from [] (lines_of input)

@@ -1,0 +1,57 @@
+//! What a line asks for. A verb with a text is what stands before the first space, and the text is all that
+//! follows that space; a verb without a text is the whole line.
+ghost use Rattle.std.specs.Prelude.{◌≡◌};
+ghost use Rattle.upath.specs.Commands.{command_of, command_shown, verb_alone, verb_with};
+
+/// What a line asks for.
+#[derive(Clone, Copy, Debug)]
+pub(crate) enum Command<'a> {
+    /// `from T`: the path becomes that of T.
+    From(&'a str),
+
+    /// `pieces`: the components are printed.
+    Pieces,
+
+    /// `eq T`: the path is compared with that of T.
+    Eq(&'a str),
+
+    /// A line that is no command.
+    Unknown,
+
+    /// A line that is no text.
+    NotUtf8,
+}
+
+impl<'a> Command<'a> {
+    /// The command of a line.
+    pub(crate) fn of_line(line: &'a [u8]) -> Command<'a>
+        ensures { command_shown result ≡ command_of line.now }
+    {
+        let Ok(text) = simdutf8::compat::from_utf8(line) else {
+            return Command::NotUtf8;
+        };
+        match text.split_once(' ') {
+            Some((verb, text)) => Command::with_text(verb, text),
+            None => Command::alone(text),
+        }
+    }
+
+    fn with_text(verb: &str, text: &'a str) -> Command<'a>
+        ensures { command_shown result ≡ verb_with verb.now text.now }
+    {
+        match verb {
+            "from" => Command::From(text),
+            "eq" => Command::Eq(text),
+            _ => Command::Unknown,
+        }
+    }
+
+    fn alone(verb: &str) -> Command<'a>
+        ensures { command_shown result ≡ verb_alone verb.now }
+    {
+        match verb {
+            "pieces" => Command::Pieces,
+            _ => Command::Unknown,
+        }
+    }
+}
