@@ -84,7 +84,10 @@ fn a_read_that_fails(rt: HostRuntime) {
             kind,
         };
         let mut writer = writer_of(&rt, 99);
-        assert_eq!(rt; run_streams(rt.alloc(), &mut reader, &mut writer), Err(want));
+        assert_eq!(rt;
+            run_streams(rt.alloc(), &mut reader, &mut writer),
+            Err(want)
+        );
         assert!(rt; writer.held.is_empty(), "after {before_failing} bytes");
     }
 }
@@ -120,7 +123,10 @@ fn a_flush_that_fails(rt: HostRuntime) -> Result<(), Fail> {
     let mut reader: &[u8] = INPUT;
     let mut writer = writer_of(&rt, 99);
     writer.fails_to_flush = true;
-    assert_eq!(rt; run_streams(rt.alloc(), &mut reader, &mut writer), Err(StreamFault::Write));
+    assert_eq!(rt;
+        run_streams(rt.alloc(), &mut reader, &mut writer),
+        Err(StreamFault::Write)
+    );
     assert_eq!(rt; String::from_utf8(writer.held)?.as_str(), OUTPUT);
     Ok(())
 }

@@ -1,10 +1,10 @@
-//! What no contract says, as tests over the other crates: rows whose answers come from outside, calls that get
-//! their memory, calls that are refused it at each of their requests in turn, and streams that fail.
+//! What no contract says, as tests over the other crates: rows whose answers come from outside,
+//! calls that get their memory, calls that are refused it at each of their requests in turn, and
+//! streams that fail.
 //!
-//! The product's crates depend on nothing here. [`refusing`] is the allocator that the tests refuse memory with.
+//! The product's crates depend on nothing here. The module `refusing` has the allocator that
+//! refuses.
 #![tactic(auto)]
-
-pub mod refusing;
 
 #[cfg(test)]
 mod failing_streams;
@@ -12,6 +12,8 @@ mod failing_streams;
 mod paths;
 #[cfg(test)]
 mod refused_memory;
+#[cfg(test)]
+mod refusing;
 #[cfg(test)]
 mod runs;
 #[cfg(test)]

@@ -79,12 +79,23 @@ fn equal_paths(rt: HostRuntime) -> Result<(), Fail> {
 
 #[test]
 fn slashes_that_a_buffer_turns(rt: HostRuntime) -> Result<(), Fail> {
-    for (text, want) in [("", ""), ("/", "\\"), ("/a//b\\", "\\a\\\\b\\"), ("\\hello\\foo\\bar", "\\hello\\foo\\bar")] {
+    for (text, want) in [
+        ("", ""),
+        ("/", "\\"),
+        ("/a//b\\", "\\a\\\\b\\"),
+        ("\\hello\\foo\\bar", "\\hello\\foo\\bar"),
+    ] {
         let path = buffer(&rt, text)?;
-        assert!(rt; path.to_cstr16() == string(&rt, want)?.as_cstr16(), "{text}");
+        assert!(rt;
+            path.to_cstr16() == string(&rt, want)?.as_cstr16(),
+            "{text}"
+        );
         assert_eq!(rt; path.is_empty(), text.is_empty());
         assert!(rt; path == buffer(&rt, want)?);
-        assert_eq!(rt; path.components().count(), path.as_path().components().count());
+        assert_eq!(rt;
+            path.components().count(),
+            path.as_path().components().count()
+        );
     }
     assert!(rt; PathBuf::new(rt.alloc())?.is_empty());
     assert!(rt; PathBuf::new(rt.alloc())? == buffer(&rt, "\\")?);
@@ -95,6 +106,9 @@ fn slashes_that_a_buffer_turns(rt: HostRuntime) -> Result<(), Fail> {
 fn printed_for_programmers(rt: HostRuntime) -> Result<(), Fail> {
     let path = buffer(&rt, "/a")?;
     let printed = format!(in rt.alloc(); "{path:?} {:?}", path.as_path())?;
-    assert_eq!(rt; printed.as_str(), "PathBuf(CStr16(['\\\\', 'a'])) Path(CStr16(['\\\\', 'a']))");
+    assert_eq!(rt;
+        printed.as_str(),
+        "PathBuf(CStr16(['\\\\', 'a'])) Path(CStr16(['\\\\', 'a']))"
+    );
     Ok(())
 }

@@ -1,5 +1,5 @@
-//! Each request for memory refused in turn, until a run ends with none refused, which answers what ample memory
-//! answers. A call that always gives up fails here.
+//! Each request for memory refused in turn, until a run ends with none refused, which answers what
+//! ample memory answers. A call that always gives up fails here.
 use crate::refusing::Refusing;
 use std::test::Fail;
 use uefi_path::PathBuf;
@@ -29,7 +29,10 @@ fn strings_of_texts(rt: HostRuntime) -> Result<(), Fail> {
     for text in ["", "a", "\\foo\\bar", "é", "a\u{ffff}é"] {
         let none = Refusing::new(rt.alloc(), 1);
         let refused = CString16::try_from_str(&none, text);
-        assert!(rt; matches!(&refused, Err(FromStrError::OutOfMemory)), "{text}");
+        assert!(rt;
+            matches!(&refused, Err(FromStrError::OutOfMemory)),
+            "{text}"
+        );
         assert!(rt; none.has_refused());
         let one = Refusing::new(rt.alloc(), 2);
         let string = CString16::try_from_str(&one, text)?;
@@ -48,7 +51,10 @@ fn refused_texts_want_no_memory(rt: HostRuntime) {
         ("😀", FromStrError::InvalidChar),
     ] {
         let none = Refusing::new(rt.alloc(), 1);
-        assert!(rt; matches!(&CString16::try_from_str(&none, text), Err(error) if *error == want), "{text:?}");
+        assert!(rt;
+            matches!(&CString16::try_from_str(&none, text), Err(error) if *error == want),
+            "{text:?}"
+        );
         assert!(rt; !none.has_refused());
     }
 }
@@ -65,7 +71,8 @@ fn paths_of_strings(rt: HostRuntime) -> Result<(), Fail> {
     Ok(())
 }
 
-const INPUT: &[u8] = b"from \\foo\\bar\npieces\neq foo\nfrom a\xc3\xa9/c\npieces\neq \xf0\x9f\x98\x80\nwhat\n\xff\n";
+const INPUT: &[u8] =
+    b"from \\foo\\bar\npieces\neq foo\nfrom a\xc3\xa9/c\npieces\neq \xf0\x9f\x98\x80\nwhat\n\xff\n";
 
 #[test]
 fn runs_over_lines(rt: HostRuntime) -> Result<(), Fail> {
@@ -81,7 +88,10 @@ fn runs_over_lines(rt: HostRuntime) -> Result<(), Fail> {
         assert!(rt; answer.is_err(), "at request {number}");
         refused = number;
     }
-    assert!(rt; 5 < refused && refused + 1 < MOST_REQUESTS, "{refused} requests");
+    assert!(rt;
+        5 < refused && refused < MOST_REQUESTS - 1,
+        "{refused} requests"
+    );
     Ok(())
 }
 
@@ -99,10 +109,17 @@ fn runs_over_streams(rt: HostRuntime) -> Result<(), Fail> {
             assert_eq!(rt; writer.as_slice(), want.as_slice());
             break;
         }
-        assert_eq!(rt; answer, Err(StreamFault::OutOfMemory), "at request {number}");
+        assert_eq!(rt;
+            answer,
+            Err(StreamFault::OutOfMemory),
+            "at request {number}"
+        );
         assert!(rt; writer.is_empty());
         refused = number;
     }
-    assert!(rt; 6 < refused && refused + 1 < MOST_REQUESTS, "{refused} requests");
+    assert!(rt;
+        6 < refused && refused < MOST_REQUESTS - 1,
+        "{refused} requests"
+    );
     Ok(())
 }

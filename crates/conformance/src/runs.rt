@@ -26,7 +26,10 @@ fn lines_and_their_answers(rt: HostRuntime) -> Result<(), Fail> {
             "from x\0\nclear \n",
             "UCS-2 Conversion Error: Interior null terminator\n? unknown command\n",
         ),
-        ("from \u{ffff}é\npieces\n", "= \u{ffff}é\npieces 1\n| \u{ffff}é\n"),
+        (
+            "from \u{ffff}é\npieces\n",
+            "= \u{ffff}é\npieces 1\n| \u{ffff}é\n",
+        ),
         ("from \\\\\npieces\n", "= \\\\\npieces 2\n| \n| \n"),
     ] {
         assert_eq!(rt; printed(&rt, input.as_bytes())?.as_str(), want);
@@ -44,7 +47,10 @@ fn ends_of_lines(rt: HostRuntime) -> Result<(), Fail> {
         ("pieces\r\n", "? unknown command\n"),
         ("from a\r\npieces", "= a\r\npieces 1\n| a\r\n"),
         ("from  a b \npieces", "=  a b \npieces 1\n|  a b \n"),
-        ("from\tx\n from x\n", "? unknown command\n? unknown command\n"),
+        (
+            "from\tx\n from x\n",
+            "? unknown command\n? unknown command\n",
+        ),
     ] {
         assert_eq!(rt; printed(&rt, input.as_bytes())?.as_str(), want);
     }
@@ -77,9 +83,15 @@ fn lines_that_leave_the_path(rt: HostRuntime) -> Result<(), Fail> {
 #[test]
 fn refused_texts_are_told_by_each_verb(rt: HostRuntime) -> Result<(), Fail> {
     for (input, want) in [
-        ("eq x\0", "UCS-2 Conversion Error: Interior null terminator\n"),
+        (
+            "eq x\0",
+            "UCS-2 Conversion Error: Interior null terminator\n",
+        ),
         ("eq 😀\0", "UCS-2 Conversion Error: Invalid character\n"),
-        ("from \0😀", "UCS-2 Conversion Error: Interior null terminator\n"),
+        (
+            "from \0😀",
+            "UCS-2 Conversion Error: Interior null terminator\n",
+        ),
         ("wat x\0", "? unknown command\n"),
     ] {
         assert_eq!(rt; printed(&rt, input.as_bytes())?.as_str(), want);
@@ -87,8 +99,8 @@ fn refused_texts_are_told_by_each_verb(rt: HostRuntime) -> Result<(), Fail> {
     Ok(())
 }
 
-/// A byte that begins nothing, an overlong form, an encoded surrogate, a character beyond the last, and one that is
-/// cut short.
+/// A byte that begins nothing, an overlong form, an encoded surrogate, a character beyond the last,
+/// and one that is cut short.
 #[test]
 fn lines_that_are_not_utf8(rt: HostRuntime) -> Result<(), Fail> {
     let lines: [&[u8]; 6] = [
@@ -114,6 +126,9 @@ fn a_run_over_streams(rt: HostRuntime) -> Result<(), Fail> {
     let mut writer = Vec::new(rt.alloc());
     assert_eq!(rt; run_streams(rt.alloc(), &mut reader, &mut writer), Ok(()));
     assert!(rt; reader.is_empty());
-    assert_eq!(rt; String::from_utf8(writer)?.as_str(), "= \\a\\b\npieces 2\n| a\n| b\n");
+    assert_eq!(rt;
+        String::from_utf8(writer)?.as_str(),
+        "= \\a\\b\npieces 2\n| a\n| b\n"
+    );
     Ok(())
 }

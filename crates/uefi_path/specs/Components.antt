@@ -32,4 +32,4 @@ IsFirstCut units None = slice_split is_separator units ≡ units ∷ []
 IsFirstCut units (Some place) =
     (place < length units)
     × (slice_split is_separator units
-       ≡ slice_range units 0 place ∷ slice_split is_separator (slice_range units (place + 1) (length units)))
+    ≡ slice_range units 0 place ∷ slice_split is_separator (slice_range units (place + 1) (length units)))

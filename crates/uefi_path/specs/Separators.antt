@@ -1,4 +1,5 @@
--- Separators in a text: the one that is ignored at its front, and the slashes that path buffers turn.
+-- Separators in a text: the one that is ignored at its front, and the slashes that path buffers
+-- turn.
 use Rattle.std.specs.Prelude.{◌≢◌, ℕ, Bool, ◌==◌, if◌then◌else◌, List, [], ◌∷◌, map, All}
 use Rattle.uefi_text.specs.Units.{replaced}
 

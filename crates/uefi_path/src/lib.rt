@@ -1,10 +1,10 @@
 //! Paths over UCS-2 strings, as UEFI firmware spells them: components between backslashes.
 //!
-//! A [`Path`] is a view of a string of `uefi_text`, and a [`PathBuf`] owns one. One leading [`SEPARATOR`]
-//! says nothing: the *canonical text* of a path is its text without it, two paths are equal exactly when
-//! their canonical texts are, and a path's *components* are the pieces between the separators of its
-//! canonical text, empty ones too. The empty path and the lone separator have none. A `PathBuf` turns
-//! each `/` that it takes over into a separator; a `Path` turns nothing.
+//! A [`Path`] is a view of a string of `uefi_text`, and a [`PathBuf`] owns one. One leading
+//! [`SEPARATOR`] says nothing: the *canonical text* of a path is its text without it, two paths are
+//! equal exactly when their canonical texts are, and a path's *components* are the pieces between
+//! the separators of its canonical text, empty ones too. The empty path and the lone separator have
+//! none. A `PathBuf` turns each `/` that it takes over into a separator; a `Path` turns nothing.
 //!
 //! ```rust
 //! use uefi_path::{Path, PathBuf};
@@ -17,8 +17,9 @@
 //! assert_eq!(rt; buffer.components().count(), 2);
 //! ```
 //!
-//! In contracts a [`PathBuf`] is its text, `path_text` is that of a [`Path`], and `components_left` are the
-//! pieces that [`Components`] still gives. No clause outside this crate speaks of a separator's place.
+//! In contracts a [`PathBuf`] is its text, `path_text` is that of a [`Path`], and `components_left`
+//! are the pieces that [`Components`] still gives. No clause outside this crate speaks of a
+//! separator's place.
 #![tactic(auto)]
 
 mod path;

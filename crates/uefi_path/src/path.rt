@@ -11,14 +11,15 @@ use std::fmt;
 use uefi_text::chars::SEPARATOR;
 use uefi_text::strs::{CStr16, Char16Slice};
 
-/// A path that is lent: any string, read as components between separators. In contracts it is `path_text`
-/// of it.
+/// A path that is lent: any string, read as components between separators. In contracts it is
+/// `path_text` of it.
 #[derive(Clone, Copy)]
 pub struct Path<'a> {
     string: CStr16<'a>,
 }
 
-/// The components of a path that are still to come, in order. In contracts it is `components_left` of it.
+/// The components of a path that are still to come, in order. In contracts it is `components_left`
+/// of it.
 #[derive(Drop)]
 pub struct Components<'a> {
     /// What is left to cut; `None` behind the last component.
@@ -40,9 +41,9 @@ impl<'a> Path<'a> {
         self.string
     }
 
-    /// The components of the path: the pieces between the separators of its canonical text, empty ones too.
-    /// There is no other list of pieces without separators, and not the one empty piece, that joins to that
-    /// text. Takes no memory; all of them together cost one pass over the text.
+    /// The components of the path: the pieces between the separators of its canonical text, empty
+    /// ones too. There is no other list of pieces without separators, and not the one empty piece,
+    /// that joins to that text. Takes no memory; all of them together cost one pass over the text.
     pub fn components(&self) -> Components<'a>
         ensures same { components_left result ≡ components_of (path_text self.now) }
         ensures components { AreComponents (path_text self.now) (components_left result) }

@@ -42,8 +42,8 @@ impl<A: Allocator + Copy> PathBuf<A> {
         })
     }
 
-    /// The path of a string, each slash turned, over the string's own memory. An `Err` would hand the string
-    /// back as it came; none does today, since no memory is asked for.
+    /// The path of a string, each slash turned, over the string's own memory. An `Err` would hand
+    /// the string back as it came; none does today, since no memory is asked for.
     pub fn new_from_cstring16(_alloc: A, mut string: CString16<A>) -> Result<Self, CString16<A>>
         ensures ok { IfOk result (λ path. path ≡ slashed string) }
         ensures err { IfErr result (λ kept. kept ≡ string) }

@@ -1,14 +1,13 @@
 -- Units are a string exactly where the first unit that no text holds is a NUL in the last place.
-use Rattle.std.proofs.Common.{◌≡◌, ℕ, ◌+◌, ◌-◌, ◌<◌, ◌^◌, ◌∙◌, ap, false, List, [], ◌∷◌, ◌++◌, length, get_or, take, Some, arith, true, refl, nat_lt, None, Option}
+use Rattle.std.proofs.Common.{◌≡◌, ℕ, ◌+◌, ◌-◌, ◌<◌, ◌^◌, ◌∙◌, ap, false, List, [], ◌∷◌, ◌++◌, length, get_or, take, Some, arith, refl, None}
 use Rattle.std.specs.List.{position_or_len}
 use Rattle.std.proofs.lemmas.List.Sums.{position_or_len_is}
-use Rattle.std.proofs.lemmas.Bool.{lt-ltb}
 use Rattle.std.proofs.lemmas.List.Quantifiers.{position-Some}
 use Rattle.std.proofs.lemmas.List.Elements.{All-from_get_or}
 use Rattle.std.proofs.lemmas.List.{get_or-take, get_or_append_left, length-take-le, length-append}
 use Rattle.std.proofs.Math.Seq.{get_or-append_seam}
 use Rattle.std.proofs.lemmas.Grind.{common_steps}
-use Rattle.uefi_text.specs.FromSliceWithNul.{with_nul_refusal, with_nul_refusal_at}
+use Rattle.uefi_text.specs.FromSliceWithNul.{with_nul_refusal}
 use Rattle.uefi_text.specs.Units.{IsTextUnit, IsText, IsString, is_deciding, deciding_place, without_nul}
 
 -- a unit that decides nothing may stand in a text

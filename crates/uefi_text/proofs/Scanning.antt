@@ -1,5 +1,5 @@
 -- Passes that test many elements at a time, by a fold with no early exit.
-use Rattle.std.proofs.Common.{◌≡◌, ℕ, ◌<◌, ◌≤◌, ◌+◌, ◌-◌, zero, suc, Bool, true, false, List, [], ◌∷◌, ◌++◌, length, take, drop, get_or, subst, ap, None, Some, arith, refl, inl, inr, sym, ◌∙◌}
+use Rattle.std.proofs.Common.{◌≡◌, ℕ, ◌<◌, ◌≤◌, ◌+◌, ◌-◌, zero, suc, Bool, true, false, List, [], ◌∷◌, ◌++◌, length, take, drop, get_or, subst, ap, None, Some, arith, inl, inr, sym, ◌∙◌}
 use Rattle.std.specs.List.{fold, position, position_or_len}
 use Rattle.std.proofs.lemmas.Bool.{cases_Bool, cases_lt}
 use Rattle.std.proofs.lemmas.List.Folds.{fold_stays}

@@ -1,5 +1,5 @@
 -- What the bytes of a Rust text say of its characters.
-use Rattle.std.proofs.Common.{◌≡◌, ℕ, ◌<◌, ◌≤◌, ◌+◌, ◌/◌, ◌%◌, ◌==◌, ◌||◌, nat_le, ◌++◌, ◌∙◌, ap, sym, subst, zero, suc, Bool, true, false, List, [], ◌∷◌, None, arith, refl, inl, inr}
+use Rattle.std.proofs.Common.{◌≡◌, ℕ, ◌≤◌, ◌+◌, ◌/◌, ◌%◌, ◌==◌, ◌||◌, nat_le, ◌++◌, ◌∙◌, ap, zero, suc, Bool, true, false, List, [], ◌∷◌, None, arith, refl, inl, inr}
 use Rattle.std.specs.Char.{encode_utf8}
 use Rattle.std.specs.List.{find, fold}
 use Rattle.std.specs.Str.{chars, IsAscii, IsUtf8}

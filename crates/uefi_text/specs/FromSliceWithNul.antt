@@ -4,7 +4,8 @@ use Rattle.uefi_text.specs.Units.{deciding_place}
 use Rattle.uefi_text.specs.declared.strs.FromSliceWithNulError.{FromSliceWithNulError}
 use Rattle.uefi_text.specs.declared.strs.FromSliceWithNulError.TheVariants.{InvalidChar, InteriorNul, NotNulTerminated}
 
--- the refusal by the deciding place: a NUL there is right where it is the last unit, a surrogate never is
+-- the refusal by the deciding place: a NUL there is right where it is the last unit, a surrogate
+-- never is
 abbrev pub with_nul_refusal_at : List ℕ → Option ℕ → Option FromSliceWithNulError
 with_nul_refusal_at units None = Some NotNulTerminated
 with_nul_refusal_at units (Some i) =

@@ -9,6 +9,7 @@ ascii_text_so_far so_far byte = (so_far && nat_lt 0 byte) && nat_lt byte 128
 abbrev pub decided_so_far : Bool → ℕ → Bool
 decided_so_far so_far unit = (so_far || (unit == 0)) || (nat_le 0xd800 unit && nat_le unit 0xdfff)
 
--- whether a byte so far, or this one, begins a character that no UCS-2 text holds: NUL, or one of four bytes
+-- whether a byte so far, or this one, begins a character that no UCS-2 text holds: NUL, or one of
+-- four bytes
 abbrev pub deciding_byte_so_far : Bool → ℕ → Bool
 deciding_byte_so_far so_far byte = (so_far || (byte == 0)) || nat_le 0xf0 byte

@@ -24,8 +24,8 @@ impl fmt::Display for CharConversionError {
 
 impl Error for CharConversionError {}
 
-/// A character of UCS-2: a code unit that is no surrogate. The default is NUL. In contracts it is its
-/// number.
+/// A character of UCS-2: a code unit that is no surrogate. The default is NUL. In contracts it is
+/// its number.
 #[derive(Clone, Copy, PartialEq, Eq, PartialOrd, Ord, Hash)]
 pub struct Char16 {
     unit: u16,

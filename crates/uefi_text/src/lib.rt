@@ -1,10 +1,10 @@
 //! UCS-2 characters and NUL-terminated UCS-2 strings, as UEFI firmware stores them.
 //!
-//! A *code unit* is a `u16`. A [`Char16`] is a code unit that is no surrogate. A *text* is a list of
-//! characters without NUL, and a *string* is a text followed by its one NUL, as UEFI stores it in
-//! `CHAR16` (UEFI Specification 2.10, section 2.3.1). A [`CStr16`] is a view of a string that lies
-//! elsewhere, and a [`CString16`] owns one. Both are made by checked constructors alone, so a string
-//! never lacks its NUL, and every value of these types spells a text.
+//! A *code unit* is a `u16`. A [`Char16`] is a code unit that is no surrogate. A *text* is a list
+//! of characters without NUL, and a *string* is a text followed by its one NUL, as UEFI stores it
+//! in `CHAR16` (UEFI Specification 2.10, section 2.3.1). A [`CStr16`] is a view of a string that
+//! lies elsewhere, and a [`CString16`] owns one. Both are made by checked constructors alone, so a
+//! string never lacks its NUL, and every value of these types spells a text.
 //!
 //! ```rust
 //! use uefi_text::{CStr16, CString16, FromSliceWithNulError};
@@ -18,8 +18,8 @@
 //! ```
 //!
 //! In contracts every value is the list of code units that it shows: `text_of` of a [`CStr16`],
-//! `units_of` of a [`Char16Slice`], `units_left` of a [`CStr16Iter`], and a [`CString16`] is its text.
-//! No clause outside this crate speaks of a NUL's place, of a buffer or of a capacity.
+//! `units_of` of a [`Char16Slice`], `units_left` of a [`CStr16Iter`], and a [`CString16`] is its
+//! text. No clause outside this crate speaks of a NUL's place, of a buffer or of a capacity.
 #![tactic(auto)]
 
 pub mod chars;

@@ -1,5 +1,5 @@
-//! NUL-terminated UCS-2 strings that are owned, and what of Rust text is refused as one. A string keeps its
-//! NUL in the vector, which nothing outside this module sees.
+//! NUL-terminated UCS-2 strings that are owned, and what of Rust text is refused as one. A string
+//! keeps its NUL in the vector, which nothing outside this module sees.
 ghost use Rattle.std.specs.Prelude.{◌≡◌, ◌≢◌, ℕ, ◌+◌, ◌<◌, ◌↔◌, ◌++◌, [], List, None, length, map, find, unwrap_or, IsTrue, IfOk, IfErr};
 ghost use Rattle.std.specs.Str.{chars};
 ghost use Rattle.uefi_text.specs.Units.{nul_terminated, replaced};
@@ -43,8 +43,8 @@ impl fmt::Display for FromStrError {
 
 impl Error for FromStrError {}
 
-/// A string that is owned, over the memory of its allocator, which it keeps. In contracts it is its text,
-/// without the NUL.
+/// A string that is owned, over the memory of its allocator, which it keeps. In contracts it is its
+/// text, without the NUL.
 #[derive(Drop)]
 pub struct CString16<A: Allocator = Global> {
     units: Vec<u16, A>,
@@ -61,7 +61,8 @@ impl<A: Allocator> Model for CString16<A> {
     ghost invariant = { λ string. IsString string.units.items };
 }
 
-/// The first character that no UCS-2 text holds. Characters are decoded only where a byte gives cause to.
+/// The first character that no UCS-2 text holds. Characters are decoded only where a byte gives
+/// cause to.
 fn find_deciding_char(text: &str) -> Option<char>
     ensures { result ≡ find is_deciding_char (chars text.now) }
 {
@@ -133,9 +134,9 @@ impl<A: Allocator> CString16<A> {
 
     /// The string of a Rust text.
     ///
-    /// The first character that is NUL or above U+FFFF decides: `InteriorNul` or `InvalidChar`. Where there
-    /// is none the answer is the string of these characters, or `OutOfMemory`. The whole text is tested
-    /// before memory is asked for, in one allocation.
+    /// The first character that is NUL or above U+FFFF decides: `InteriorNul` or `InvalidChar`.
+    /// Where there is none the answer is the string of these characters, or `OutOfMemory`. The
+    /// whole text is tested before memory is asked for, in one allocation.
     pub fn try_from_str(alloc: A, text: &str) -> Result<Self, FromStrError>
         ensures ok { IfOk result (λ string. string ≡ chars text.now) }
         ensures accepted { IfOk result (λ _. from_str_refusal (chars text.now) ≡ None) }

@@ -1,6 +1,6 @@
-//! Passes over whole slices, in forms that the compiler turns into vector instructions: no early exit
-//! inside a block, and loops over places where the bounds are known. What they answer is said by
-//! std's words, so that callers see nothing of the form.
+//! Passes over whole slices, in forms that the compiler turns into vector instructions: no early
+//! exit inside a block, and loops over places where the bounds are known. What they answer is said
+//! by std's words, so that callers see nothing of the form.
 ghost use Rattle.std.specs.Prelude.{◌≡◌, ℕ, ◌+◌, ◌-◌, ◌<◌, ◌≤◌, ◌++◌, length, drop, map, slice_index, true, false};
 ghost use Rattle.std.specs.List.{fold};
 ghost use Rattle.uefi_text.specs.Scans.{ascii_text_so_far, decided_so_far, deciding_byte_so_far};
@@ -62,14 +62,12 @@ pub(crate) fn is_ascii_text(bytes: &[u8]) -> bool
         .fold(true, |so_far, byte| so_far & (0 < *byte) & (*byte < 128))
 }
 
-/// Whether a byte begins a character that no UCS-2 text holds: a NUL, or a character above U+FFFF, which alone
-/// has four bytes.
+/// Whether a byte begins a character that no UCS-2 text holds: a NUL, or a character above U+FFFF,
+/// which alone has four bytes.
 pub(crate) fn has_deciding_byte(bytes: &[u8]) -> bool
     ensures { result ≡ fold deciding_byte_so_far false bytes.now }
 {
-    bytes
-        .iter()
-        .fold(false, |found, byte| found | (*byte == 0) | (0xf0 <= *byte))
+    bytes.iter().fold(false, |found, byte| found | (*byte == 0) | (0xf0 <= *byte))
 }
 
 /// Writes bytes as code units, in front of the last unit, which stays.

@@ -1,5 +1,5 @@
-//! NUL-terminated UCS-2 strings that are lent, and what is refused as one. The fields of the views are
-//! private to this module, and `specs/Views.antt` says what each view shows.
+//! NUL-terminated UCS-2 strings that are lent, and what is refused as one. The fields of the views
+//! are private to this module, and `specs/Views.antt` says what each view shows.
 #![tactic(auto, unfolding(crate::specs::Views::text_of, crate::specs::Views::units_of, crate::specs::Views::units_left))]
 
 ghost use Rattle.std.specs.Prelude.{◌≡◌, ◌<◌, ◌≤◌, ◌+◌, ◌^◌, ◌↔◌, ◌==◌, [], List, Option, All, length, slice_get, slice_range, IsTrue, IsOk, IfOk};
@@ -10,7 +10,8 @@ use crate::chars::Char16;
 use crate::scans::find_deciding_place;
 use std::fmt;
 
-/// Why code units or bytes are no NUL-terminated string. A place is an index into what was handed in.
+/// Why code units or bytes are no NUL-terminated string. A place is an index into what was handed
+/// in.
 #[derive(Clone, Copy, Debug, PartialEq, Eq)]
 pub enum FromSliceWithNulError {
     /// The first unit that no text holds is a surrogate, at this place.
@@ -44,8 +45,8 @@ pub struct CStr16Iter<'a> {
     pub ghost are_characters: { All IsChar16 units.now },
 }
 
-/// Characters that lie side by side, such as a text, a string with its NUL or a component of a path. In
-/// contracts it is `units_of` it, their code units.
+/// Characters that lie side by side, such as a text, a string with its NUL or a component of a
+/// path. In contracts it is `units_of` it, their code units.
 #[derive(Clone, Copy)]
 pub struct Char16Slice<'a> {
     units: &'a [u16],
@@ -58,9 +59,10 @@ impl<'a> CStr16<'a> {
 
     /// The string that all of the units spell, as a view of them.
     ///
-    /// The first unit that is a NUL or a surrogate decides: a surrogate is refused as `InvalidChar`, a NUL
-    /// before the last place as `InteriorNul`, each with its place. Where there is no such unit the answer
-    /// is `NotNulTerminated`. One pass, which ends at that unit; takes no memory.
+    /// The first unit that is a NUL or a surrogate decides: a surrogate is refused as
+    /// `InvalidChar`, a NUL before the last place as `InteriorNul`, each with its place. Where
+    /// there is no such unit the answer is `NotNulTerminated`. One pass, which ends at that unit;
+    /// takes no memory.
     pub fn from_u16_with_nul(units: &'a [u16]) -> Result<CStr16<'a>, FromSliceWithNulError>
         ensures ok { IfOk result (λ string. nul_terminated (text_of string) ≡ units.now) }
         ensures accepts { IsOk result ↔ IsString units.now }

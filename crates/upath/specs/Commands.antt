@@ -26,7 +26,8 @@ verb_with verb text =
 abbrev pub verb_alone : List ℕ → LineCommand
 verb_alone verb = if bytes_eq verb (codes "pieces") then pieces else unknown
 
--- the command of a line by the place of its first space: the verb stands before it, the text is all that follows
+-- the command of a line by the place of its first space: the verb stands before it, the text is all
+-- that follows
 abbrev pub command_at : List ℕ → Option ℕ → LineCommand
 command_at line None = verb_alone line
 command_at line (Some place) = verb_with (take place line) (drop (place + 1) line)

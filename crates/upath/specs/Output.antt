@@ -1,5 +1,5 @@
--- What a run prints: a function of its whole input. It begins with the empty path, and each line prints its lines and
--- leaves the path for the next one.
+-- What a run prints: a function of its whole input. It begins with the empty path, and each line
+-- prints its lines and leaves the path for the next one.
 use Rattle.std.specs.Prelude.{ℕ, if◌then◌else◌, List, [], ◌∷◌, ◌++◌, length, Option, Some, None, codes}
 use Rattle.std.specs.List.{flat_map}
 use Rattle.std.specs.Str.{chars, encode_utf8_all, bytes_eq}
@@ -26,7 +26,8 @@ pieces_lines components =
 
 -- the line of `eq`: whether two texts are equal as paths
 abbrev pub eq_line : List ℕ → List ℕ → List ℕ
-eq_line path other = if bytes_eq (canon path) (canon other) then line (codes "equal") else line (codes "different")
+eq_line path other =
+    if bytes_eq (canon path) (canon other) then line (codes "equal") else line (codes "different")
 
 -- what is printed where a command's text may be refused
 abbrev pub printed_unless : Option FromStrError → List ℕ → List ℕ

@@ -1,5 +1,5 @@
-//! What a line asks for. A verb with a text is what stands before the first space, and the text is all that
-//! follows that space; a verb without a text is the whole line.
+//! What a line asks for. A verb with a text is what stands before the first space, and the text is
+//! all that follows that space; a verb without a text is the whole line.
 ghost use Rattle.std.specs.Prelude.{◌≡◌};
 ghost use Rattle.upath.specs.Commands.{command_of, command_shown, verb_alone, verb_with};
 

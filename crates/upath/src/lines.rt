@@ -2,8 +2,8 @@
 ghost use Rattle.std.specs.Prelude.{◌≡◌, ◌<◌, List, [], ◌∷◌, length, Option, Some, None, position};
 ghost use Rattle.upath.specs.Lines.{is_line_feed, lines_of, IsFirstLine};
 
-/// The lines of an input, each without the line feed that ends it. No other byte ends or trims a line, and a
-/// last line without a line feed counts if it is not empty.
+/// The lines of an input, each without the line feed that ends it. No other byte ends or trims a
+/// line, and a last line without a line feed counts if it is not empty.
 #[derive(Debug, Drop)]
 pub(crate) struct Lines<'a> {
     rest: &'a [u8],

@@ -1,5 +1,5 @@
-//! Texts as UTF-8 at the end of a vector. A unit of a text is a character of its own, so it has one, two or
-//! three bytes (Unicode Standard, section 3.9, table 3-6).
+//! Texts as UTF-8 at the end of a vector. A unit of a text is a character of its own, so it has
+//! one, two or three bytes (Unicode Standard, section 3.9, table 3-6).
 ghost use Rattle.std.specs.Prelude.{◌≡◌, ◌++◌, ℕ, List, length, OnOk, bit_or, encode_utf8, codes};
 ghost use Rattle.std.specs.List.{fold};
 ghost use Rattle.std.specs.Str.{IsAscii, encode_utf8_all};
@@ -66,10 +66,7 @@ fn add_each<A: Allocator>(output: &mut Vec<u8, A>, units: &[u16]) -> Result<(), 
 }
 
 /// Adds the characters of a text.
-fn add_text<A: Allocator>(
-    output: &mut Vec<u8, A>,
-    text: Char16Slice<'_>,
-) -> Result<(), AllocError>
+fn add_text<A: Allocator>(output: &mut Vec<u8, A>, text: Char16Slice<'_>) -> Result<(), AllocError>
     ensures { OnOk result (output.new.items ≡ output.old.items ++ encode_utf8_all (units_of text.entry)) }
 {
     let units = text.units();

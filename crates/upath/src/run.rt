@@ -63,12 +63,12 @@ impl<A: Allocator + Copy> Run<A> {
         ensures path { OnOk result (self.new.path ≡ self.old.path) }
         ensures text { IfOk result (λ string. MatchOption string
             ((error : FromStrError)
-                × (from_str_refusal (chars text.now) ≡ Some error)
-                × (self.new.output.items ≡ self.old.output.items ++ line (from_str_error_text error)))
+            × (from_str_refusal (chars text.now) ≡ Some error)
+            × (self.new.output.items ≡ self.old.output.items ++ line (from_str_error_text error)))
             (λ string.
-                (from_str_refusal (chars text.now) ≡ None)
-                × (string ≡ chars text.now)
-                × (self.new.output.items ≡ self.old.output.items))) }
+            (from_str_refusal (chars text.now) ≡ None)
+            × (string ≡ chars text.now)
+            × (self.new.output.items ≡ self.old.output.items))) }
     {
         match CString16::try_from_str(self.alloc(), text) {
             Ok(string) => Ok(Some(string)),
@@ -131,7 +131,8 @@ impl<A: Allocator + Copy> Run<A> {
     fn line(&mut self, line: &[u8]) -> Result<(), AllocError>
         ensures path { OnOk result (self.new.path ≡ path_after (command_of line.now) self.old.path) }
         ensures output { OnOk result
-            (self.new.output.items ≡ self.old.output.items ++ printed_by (command_of line.now) self.old.path) }
+            (self.new.output.items
+            ≡ self.old.output.items ++ printed_by (command_of line.now) self.old.path) }
     {
         match Command::of_line(line) {
             Command::From(text) => self.from(text),
@@ -145,11 +146,12 @@ impl<A: Allocator + Copy> Run<A> {
 
 /// What the lines of an input print, from the empty path on.
 ///
-/// Lines end at a line feed, and no other byte ends or trims one. `from T` makes the path that of T, its slashes
-/// turned, and prints it; `pieces` prints the number of components and each; `eq T` prints whether the path
-/// equals that of T, taken as it stands. A line that is not UTF-8, one that is no command and a T that is no
-/// text of UCS-2 are answered by a line of their own and leave the path. The only error is want of memory,
-/// which answers nothing of the output. Time and memory are linear in the input and the output.
+/// Lines end at a line feed, and no other byte ends or trims one. `from T` makes the path that of
+/// T, its slashes turned, and prints it; `pieces` prints the number of components and each; `eq T`
+/// prints whether the path equals that of T, taken as it stands. A line that is not UTF-8, one that
+/// is no command and a T that is no text of UCS-2 are answered by a line of their own and leave the
+/// path. The only error is want of memory, which answers nothing of the output. Time and memory are
+/// linear in the input and the output.
 pub fn run_text<A: Allocator + Copy>(alloc: A, input: &[u8]) -> Result<Vec<u8, A>, AllocError>
     ensures { IfOk result (λ output. output.items ≡ output_of input.now) }
 {

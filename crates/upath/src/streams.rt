@@ -55,10 +55,12 @@ fn write_output<W: Write>(writer: &mut W, output: &[u8]) -> Result<(), StreamFau
     Ok(())
 }
 
-/// Reads a reader to its end, writes what [`run_text`] answers to the whole of it, and nothing else, and flushes.
+/// Reads a reader to its end, writes what [`run_text`] answers to the whole of it, and nothing
+/// else, and flushes.
 ///
-/// A fault of reading comes first, then want of memory, then a fault of writing. Unless the fault is
-/// [`StreamFault::Write`] nothing was written. No failed call is tried again, but for one that was interrupted.
+/// A fault of reading comes first, then want of memory, then a fault of writing. Unless the fault
+/// is [`StreamFault::Write`] nothing was written. No failed call is tried again, but for one that
+/// was interrupted.
 pub fn run_streams<A: Allocator + Copy, R: Read, W: Write>(
     alloc: A,
     reader: &mut R,

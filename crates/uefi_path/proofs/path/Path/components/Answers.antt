@@ -1,10 +1,7 @@
 -- The pieces between the separators of a canonical text are the components, and there are no others.
-use Rattle.std.proofs.Common.{◌≡◌, [], arith, sym, ◌∙◌, subst}
-use Rattle.std.specs.List.{slice_split}
+use Rattle.std.proofs.Common.{◌≡◌, [], arith, sym, ◌∙◌}
 use Rattle.std.proofs.lemmas.Grind.{common_steps}
 use Rattle.uefi_text.specs.Views.{units_of}
-use Rattle.uefi_path.specs.Components.{AreComponents, components_of}
-use Rattle.uefi_path.specs.Separators.{is_separator}
 use Rattle.uefi_path.specs.Views.{components_left, path_text}
 use Rattle.uefi_path.proofs.Splitting.{AreComponents-components_of, components_of-only, slice_split-canon, length-slice_split-le}
 use Rattle.uefi_path.proofs.path.Path.components.Goals as goal
