@@ -1,8 +1,8 @@
 //! Paths and their components.
 use std::alloc::AllocError;
 use std::test::Fail;
-use uefi_path::{Path, PathBuf};
-use uefi_text::CString16;
+use uefi_path::{Path, PathBuf, PathError};
+use uefi_text::{CString16, Char16};
 
 fn string(rt: &HostRuntime, text: &str) -> Result<CString16, Fail> {
     Ok(CString16::try_from_str(rt.alloc(), text)?)
@@ -110,5 +110,27 @@ fn printed_for_programmers(rt: HostRuntime) -> Result<(), Fail> {
         printed.as_str(),
         "PathBuf(CStr16(['\\\\', 'a'])) Path(CStr16(['\\\\', 'a']))"
     );
+    Ok(())
+}
+
+#[test]
+fn texts_of_errors(rt: HostRuntime) -> Result<(), Fail> {
+    for (error, want) in [
+        (PathError::Empty, "path is empty"),
+        (
+            PathError::EmptyComponent,
+            "path contains an empty component",
+        ),
+        (
+            PathError::IllegalChar(Char16::try_from('>')?),
+            "path contains an illegal character (value 62)",
+        ),
+        (
+            PathError::IllegalChar(Char16::try_from(0xffffu16)?),
+            "path contains an illegal character (value 65535)",
+        ),
+    ] {
+        assert_eq!(rt; error.to_string(rt.alloc())?.as_str(), want);
+    }
     Ok(())
 }

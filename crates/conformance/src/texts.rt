@@ -1,7 +1,10 @@
 //! Characters and strings.
+use std::collections::HashSet;
+use std::error::Error;
 use std::test::Fail;
 use uefi_text::{
-    CStr16, CString16, Char16, CharConversionError, FromSliceWithNulError, FromStrError, NUL_16,
+    CStr8, CStr16, CString16, Char8, Char16, CharConversionError, FromSliceUntilNulError,
+    FromSliceWithNulError, FromStrError, FromStrWithBufError, NUL_8, NUL_16, UnalignedCStr16Error,
 };
 
 #[test]
@@ -32,6 +35,100 @@ fn rust_characters_as_characters(rt: HostRuntime) -> Result<(), Fail> {
         assert_eq!(rt; Char16::try_from(character), Err(CharConversionError));
     }
     assert_eq!(rt; Char16::default(), NUL_16);
+    Ok(())
+}
+
+#[test]
+fn rust_characters_as_bytes(rt: HostRuntime) -> Result<(), Fail> {
+    for (character, want) in [('A', 65), ('\0', 0), ('é', 0xe9), ('ÿ', 255)] {
+        assert_eq!(rt; u8::from(Char8::try_from(character)?), want);
+        assert_eq!(rt; char::from(Char8::from(want)), character);
+    }
+    for character in ['Ā', 'ꋃ', '😀'] {
+        assert_eq!(rt; Char8::try_from(character), Err(CharConversionError));
+    }
+    assert_eq!(rt; Char8::default(), NUL_8);
+    Ok(())
+}
+
+#[test]
+fn characters_that_equal_rust_characters(rt: HostRuntime) -> Result<(), Fail> {
+    assert!(rt; Char8::from(65).eq_char('A'));
+    assert!(rt; !Char8::from(0x41).eq_char('\u{141}'));
+    assert!(rt; Char16::try_from('A')?.eq_char('A'));
+    assert!(rt; !Char16::try_from('A')?.eq_char('\u{10041}'));
+    assert!(rt; Char16::try_from('~')?.is_ascii());
+    assert!(rt; !Char16::try_from('\u{80}')?.is_ascii());
+    Ok(())
+}
+
+#[test]
+fn printed_characters(rt: HostRuntime) -> Result<(), Fail> {
+    for (byte, want) in [(65, "A"), (0xe9, "é"), (0, "\0")] {
+        assert_eq!(rt; Char8::from(byte).to_string(rt.alloc())?.as_str(), want);
+    }
+    for (unit, want) in [
+        (65u16, "A"),
+        (0xe9, "é"),
+        (0xa2c3, "ꋃ"),
+        (0xffff, "\u{ffff}"),
+    ] {
+        assert_eq!(rt;
+            Char16::try_from(unit)?.to_string(rt.alloc())?.as_str(),
+            want
+        );
+    }
+    let printed = format!(in rt.alloc(); "{:?} {:?}", Char8::from(0xe9), Char16::try_from('\n')?)?;
+    assert_eq!(rt; printed.as_str(), "'é' '\\n'");
+    Ok(())
+}
+
+#[test]
+fn refused_bytes(rt: HostRuntime) {
+    let rows: [(&[u8], FromSliceWithNulError); 5] = [
+        (&[65], FromSliceWithNulError::NotNulTerminated),
+        (&[], FromSliceWithNulError::NotNulTerminated),
+        (&[0, 65], FromSliceWithNulError::InteriorNul(0)),
+        (&[65, 0, 66, 0], FromSliceWithNulError::InteriorNul(1)),
+        (&[0, 0], FromSliceWithNulError::InteriorNul(0)),
+    ];
+    for (bytes, want) in rows {
+        assert!(rt;
+            matches!(CStr8::from_bytes_with_nul(bytes), Err(error) if error == want),
+            "{bytes:?}"
+        );
+    }
+}
+
+#[test]
+fn accepted_bytes(rt: HostRuntime) -> Result<(), Fail> {
+    let rows: [(&[u8], &str); 4] = [
+        (&[97, 0], "a"),
+        (&[97, 98, 99, 0], "abc"),
+        (&[0xe9, 0xff, 0], "éÿ"),
+        (&[0], ""),
+    ];
+    for (bytes, text) in rows {
+        let string = CStr8::from_bytes_with_nul(bytes)?;
+        assert_eq!(rt; string.as_bytes(), bytes);
+        assert_eq!(rt; string.to_string(rt.alloc())?.as_str(), text);
+    }
+    let printed = format!(in rt.alloc(); "{:?}", CStr8::from_bytes_with_nul(&[0xe9, 10, 0])?)?;
+    assert_eq!(rt; printed.as_str(), "CStr8(['é', '\\n'])");
+    Ok(())
+}
+
+#[test]
+fn order_and_hash_of_byte_strings(rt: HostRuntime) -> Result<(), Fail> {
+    let a = CStr8::from_bytes_with_nul(&[65, 0])?;
+    let ab = CStr8::from_bytes_with_nul(&[65, 66, 0])?;
+    let b = CStr8::from_bytes_with_nul(&[66, 0])?;
+    assert!(rt; a < ab && ab < b && a != ab);
+    assert!(rt; a == CStr8::from_bytes_with_nul(b"A\0")?);
+    let mut seen = HashSet::new(rt.alloc());
+    assert!(rt; seen.insert(a)?);
+    assert!(rt; seen.insert(ab)?);
+    assert!(rt; !seen.insert(CStr8::from_bytes_with_nul(b"A\0")?)?);
     Ok(())
 }
 
@@ -134,8 +231,84 @@ fn refused_texts(rt: HostRuntime) {
     }
 }
 
+/// What an error prints.
+fn printed<E: Error>(rt: &HostRuntime, error: E) -> Result<String, Fail> {
+    Ok(error.to_string(rt.alloc())?)
+}
+
 #[test]
-fn texts_of_errors(rt: HostRuntime) -> Result<(), Fail> {
+fn texts_of_slice_errors(rt: HostRuntime) -> Result<(), Fail> {
+    for (error, want) in [
+        (
+            FromSliceWithNulError::InvalidChar(0),
+            "invalid character at index 0",
+        ),
+        (
+            FromSliceWithNulError::InteriorNul(12),
+            "interior null character at index 12",
+        ),
+        (
+            FromSliceWithNulError::NotNulTerminated,
+            "not null-terminated",
+        ),
+        (
+            FromSliceWithNulError::NotAligned,
+            "slice is not aligned to a 16-bit boundary",
+        ),
+        (FromSliceWithNulError::OutOfMemory, "out of memory"),
+    ] {
+        assert_eq!(rt; printed(&rt, error)?.as_str(), want);
+    }
+    for (error, want) in [
+        (
+            FromSliceUntilNulError::InvalidChar(usize::MAX),
+            "invalid character at index 18446744073709551615",
+        ),
+        (FromSliceUntilNulError::NoNul, "no nul character"),
+        (FromSliceUntilNulError::OutOfMemory, "out of memory"),
+    ] {
+        assert_eq!(rt; printed(&rt, error)?.as_str(), want);
+    }
+    Ok(())
+}
+
+#[test]
+fn texts_of_buffer_errors(rt: HostRuntime) -> Result<(), Fail> {
+    for (error, want) in [
+        (
+            UnalignedCStr16Error::InvalidChar(7),
+            "invalid character at index 7",
+        ),
+        (
+            UnalignedCStr16Error::InteriorNul(usize::MAX),
+            "interior null character at index 18446744073709551615",
+        ),
+        (
+            UnalignedCStr16Error::NotNulTerminated,
+            "not null-terminated",
+        ),
+        (UnalignedCStr16Error::BufferTooSmall, "buffer too small"),
+    ] {
+        assert_eq!(rt; printed(&rt, error)?.as_str(), want);
+    }
+    for (error, want) in [
+        (
+            FromStrWithBufError::InvalidChar(10),
+            "invalid character at index 10",
+        ),
+        (
+            FromStrWithBufError::InteriorNul(0),
+            "interior null character at index 0",
+        ),
+        (FromStrWithBufError::BufferTooSmall, "buffer too small"),
+    ] {
+        assert_eq!(rt; printed(&rt, error)?.as_str(), want);
+    }
+    Ok(())
+}
+
+#[test]
+fn texts_of_conversion_errors(rt: HostRuntime) -> Result<(), Fail> {
     for (error, want) in [
         (
             FromStrError::InvalidChar,
@@ -150,10 +323,10 @@ fn texts_of_errors(rt: HostRuntime) -> Result<(), Fail> {
             "UCS-2 Conversion Error: Out of memory",
         ),
     ] {
-        assert_eq!(rt; error.to_string(rt.alloc())?.as_str(), want);
+        assert_eq!(rt; printed(&rt, error)?.as_str(), want);
     }
     assert_eq!(rt;
-        CharConversionError.to_string(rt.alloc())?.as_str(),
+        printed(&rt, CharConversionError)?.as_str(),
         "CharConversionError"
     );
     Ok(())

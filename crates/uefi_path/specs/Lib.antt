@@ -1,3 +1,4 @@
 pub mod Separators
 pub mod Components
 pub mod Views
+pub mod PathErrors

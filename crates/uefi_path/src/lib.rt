@@ -7,11 +7,14 @@
 //! none. A `PathBuf` turns each `/` that it takes over into a separator; a `Path` turns nothing.
 //!
 //! ```rust
+//! use std::alloc::AllocError;
 //! use uefi_path::{Path, PathBuf};
 //! use uefi_text::CString16;
 //!
 //! let text = CString16::try_from_str(rt.alloc(), "/efi/boot")?;
-//! let Ok(buffer) = PathBuf::new_from_cstring16(rt.alloc(), text) else { return Err(AllocError.into()) };
+//! let Ok(buffer) = PathBuf::new_from_cstring16(rt.alloc(), text) else {
+//!     return Err(AllocError.into());
+//! };
 //! let other = CString16::try_from_str(rt.alloc(), "efi\\boot")?;
 //! assert!(rt; buffer.as_path() == Path::new(other.as_cstr16()));
 //! assert_eq!(rt; buffer.components().count(), 2);
@@ -24,7 +27,9 @@
 
 mod path;
 mod pathbuf;
+mod validation;
 
 pub use path::{Components, Path};
 pub use pathbuf::PathBuf;
 pub use uefi_text::chars::SEPARATOR;
+pub use validation::PathError;

@@ -1,5 +1,6 @@
--- Which units are refused as a NUL-terminated string, and why.
-use Rattle.std.specs.Prelude.{ℕ, ◌+◌, ◌==◌, if◌then◌else◌, List, length, slice_index, Option, Some, None}
+-- Which code units, and which bytes of Latin-1, are refused as a NUL-terminated string, and why.
+use Rattle.std.specs.Prelude.{ℕ, ◌+◌, ◌==◌, if◌then◌else◌, List, length, slice_index, Option, Some, None, position}
+use Rattle.uefi_text.specs.Latin1.{is_nul}
 use Rattle.uefi_text.specs.Units.{deciding_place}
 use Rattle.uefi_text.specs.declared.strs.FromSliceWithNulError.{FromSliceWithNulError}
 use Rattle.uefi_text.specs.declared.strs.FromSliceWithNulError.TheVariants.{InvalidChar, InteriorNul, NotNulTerminated}
@@ -16,3 +17,12 @@ with_nul_refusal_at units (Some i) =
 -- the refusal of units, or none where they are a NUL-terminated string
 abbrev pub with_nul_refusal : List ℕ → Option FromSliceWithNulError
 with_nul_refusal units = with_nul_refusal_at units (deciding_place units)
+
+-- the refusal by the first NUL of bytes: it is right where it is the last byte
+abbrev pub bytes_with_nul_refusal_at : List ℕ → Option ℕ → Option FromSliceWithNulError
+bytes_with_nul_refusal_at bytes None = Some NotNulTerminated
+bytes_with_nul_refusal_at bytes (Some i) = if i + 1 == length bytes then None else Some (InteriorNul i)
+
+-- the refusal of bytes, or none where they are a NUL-terminated string
+abbrev pub bytes_with_nul_refusal : List ℕ → Option FromSliceWithNulError
+bytes_with_nul_refusal bytes = bytes_with_nul_refusal_at bytes (position is_nul bytes)

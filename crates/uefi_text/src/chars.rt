@@ -1,6 +1,6 @@
-//! Characters of UCS-2. The field of [`Char16`] is private to this module, so the constants of the
-//! crates above are written here too.
-ghost use Rattle.std.specs.Prelude.{◌≡◌, ◌<◌, ◌≤◌, ◌^◌};
+//! Characters of Latin-1 and of UCS-2. The fields of [`Char8`] and [`Char16`] are private to this module,
+//! so the constants of the crates above are written here too.
+ghost use Rattle.std.specs.Prelude.{◌≡◌, ◌<◌, ◌≤◌, ◌^◌, ◌↔◌, IsTrue};
 ghost use Rattle.std.specs.Result.{OkIff};
 ghost use Rattle.uefi_text.specs.Units.{IsChar16, is_surrogate};
 
@@ -23,6 +23,102 @@ impl fmt::Display for CharConversionError {
 }
 
 impl Error for CharConversionError {}
+
+/// A character of Latin-1: any byte. The default is NUL. In contracts it is its number.
+#[derive(Clone, Copy, PartialEq, Eq, PartialOrd, Ord, Hash)]
+pub struct Char8 {
+    byte: u8,
+}
+
+impl Model for Char8 {
+    ghost use Rattle.std.specs.Prelude.{ℕ, ◌<◌, ◌^◌};
+
+    ghost Value = { ℕ };
+
+    ghost view = { λ c. c.byte };
+
+    ghost invariant = { λ c. c.byte < 2 ^ 8 };
+
+    ghost inverse = { λ number. record { byte = number } };
+}
+
+impl Char8 {
+    /// Whether this is a Rust character: their numbers are equal.
+    pub fn eq_char(&self, other: char) -> bool
+        ensures { IsTrue result ↔ (self.now ≡ other) }
+    {
+        u32::from(self.byte) == u32::from(other)
+    }
+}
+
+impl Default for Char8 {
+    ghost is_default = { λ c. c ≡ 0 };
+
+    fn default() -> Self {
+        NUL_8
+    }
+}
+
+/// `Ok` exactly up to U+00FF.
+impl TryFrom<char> for Char8 {
+    type Error = CharConversionError;
+
+    ghost try_from_gives = { λ value result. OkIff result (value < 2 ^ 8) value };
+
+    fn try_from(value: char) -> Result<Self, CharConversionError> {
+        let number = u32::from(value);
+        if number <= 0xff {
+            Ok(Char8 { byte: number as u8 })
+        } else {
+            Err(CharConversionError)
+        }
+    }
+}
+
+impl From<u8> for Char8 {
+    ghost from_gives = { λ value result. result ≡ value };
+
+    fn from(value: u8) -> Self {
+        Char8 { byte: value }
+    }
+}
+
+impl From<Char8> for u8 {
+    ghost from_gives = { λ value result. (result ≡ value) × (value < 2 ^ 8) };
+
+    fn from(value: Char8) -> u8 {
+        value.byte
+    }
+}
+
+impl From<Char8> for char {
+    ghost from_gives = { λ value result. result ≡ value };
+
+    fn from(value: Char8) -> char {
+        char::from(value.byte)
+    }
+}
+
+/// Writes the one character.
+impl fmt::Display for Char8 {
+    ghost use Rattle.std.specs.Prelude.{Some, encode_utf8};
+
+    ghost output = { λ c. Some (encode_utf8 c) };
+
+    fn fmt<W: fmt::Write>(&self, f: &mut fmt::Formatter<W>) -> fmt::Result {
+        f.write_char(char::from(self.byte))
+    }
+}
+
+/// Prints as the Rust character does.
+impl fmt::Debug for Char8 {
+    fn fmt<W: fmt::Write>(&self, f: &mut fmt::Formatter<W>) -> fmt::Result {
+        fmt::Debug::fmt(&char::from(*self), f)
+    }
+}
+
+/// The character that ends a Latin-1 string.
+pub const NUL_8: Char8 = Char8 { byte: 0 };
 
 /// A character of UCS-2: a code unit that is no surrogate. The default is NUL. In contracts it is
 /// its number.
@@ -73,6 +169,20 @@ impl Char16 {
             Err(CharConversionError)
         }
     }
+
+    /// Whether the character is one of ASCII: its number is at most 127.
+    pub fn is_ascii(&self) -> bool
+        ensures { IsTrue result ↔ (self.now < 2 ^ 7) }
+    {
+        self.unit < 0x80
+    }
+
+    /// Whether this is a Rust character: their numbers are equal.
+    pub fn eq_char(&self, other: char) -> bool
+        ensures { IsTrue result ↔ (self.now ≡ other) }
+    {
+        u32::from(self.unit) == u32::from(other)
+    }
 }
 
 impl Default for Char16 {
@@ -122,6 +232,17 @@ impl From<Char16> for char {
 
     fn from(value: Char16) -> char {
         char::from_u32(u32::from(value.unit)).unwrap()
+    }
+}
+
+/// Writes the one character.
+impl fmt::Display for Char16 {
+    ghost use Rattle.std.specs.Prelude.{Some, encode_utf8};
+
+    ghost output = { λ c. Some (encode_utf8 c) };
+
+    fn fmt<W: fmt::Write>(&self, f: &mut fmt::Formatter<W>) -> fmt::Result {
+        f.write_char(char::from(*self))
     }
 }
 

@@ -14,7 +14,7 @@
 //! assert!(rt; lent == owned.as_cstr16());
 //!
 //! let broken = CStr16::from_u16_with_nul(&[0x48, 0xd800, 0]);
-//! assert!(rt; matches!(broken, Err(FromSliceWithNulError::InvalidChar(1))));
+//! assert_eq!(rt; broken.err(), Some(FromSliceWithNulError::InvalidChar(1)));
 //! ```
 //!
 //! In contracts every value is the list of code units that it shows: `text_of` of a [`CStr16`],
@@ -27,6 +27,9 @@ pub mod owned_strs;
 mod scans;
 pub mod strs;
 
-pub use chars::{Char16, CharConversionError, NUL_16};
+pub use chars::{Char8, Char16, CharConversionError, NUL_8, NUL_16};
 pub use owned_strs::{CString16, FromStrError};
-pub use strs::{CStr16, CStr16Iter, Char16Slice, FromSliceWithNulError};
+pub use strs::{
+    CStr8, CStr16, CStr16Iter, Char16Slice, FromSliceUntilNulError, FromSliceWithNulError,
+    FromStrWithBufError, UnalignedCStr16Error,
+};

@@ -28,7 +28,7 @@ pub enum FromStrError {
 
 impl fmt::Display for FromStrError {
     ghost use Rattle.std.specs.Prelude.{Some};
-    ghost use Rattle.uefi_text.specs.FromStr.{from_str_error_text};
+    ghost use Rattle.uefi_text.specs.ErrorTexts.{from_str_error_text};
 
     ghost output = { λ error. Some (from_str_error_text error) };
 

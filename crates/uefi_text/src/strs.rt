@@ -1,17 +1,51 @@
 //! NUL-terminated UCS-2 strings that are lent, and what is refused as one. The fields of the views
 //! are private to this module, and `specs/Views.antt` says what each view shows.
-#![tactic(auto, unfolding(crate::specs::Views::text_of, crate::specs::Views::units_of, crate::specs::Views::units_left))]
+#![tactic(auto, unfolding(crate::specs::Views::bytes_of, crate::specs::Views::text_of, crate::specs::Views::units_of, crate::specs::Views::units_left))]
 
-ghost use Rattle.std.specs.Prelude.{◌≡◌, ◌<◌, ◌≤◌, ◌+◌, ◌^◌, ◌↔◌, ◌==◌, [], List, Option, All, length, slice_get, slice_range, IsTrue, IsOk, IfOk};
+ghost use Rattle.std.specs.Prelude.{◌≡◌, ◌<◌, ◌≤◌, ◌+◌, ◌^◌, ◌↔◌, ◌==◌, [], List, Option, All, length, position, slice_get, slice_range, IsTrue, IsOk, IfOk};
 ghost use Rattle.std.specs.Result.{result_err};
+ghost use Rattle.uefi_text.specs.Latin1.{IsLatin1String, is_nul};
 ghost use Rattle.uefi_text.specs.Units.{IsString, IsText, IsChar16, nul_terminated, without_nul};
 
 use crate::chars::Char16;
 use crate::scans::find_deciding_place;
+use std::cmp::Ordering;
+use std::error::Error;
 use std::fmt;
+use std::hash::{Hash, Hasher};
 
-/// Why code units or bytes are no NUL-terminated string. A place is an index into what was handed
+/// Why no front of the code units is a NUL-terminated string. A place is an index into what was handed
 /// in.
+#[derive(Clone, Copy, Debug, PartialEq, Eq)]
+pub enum FromSliceUntilNulError {
+    /// The first unit that no text holds is a surrogate, at this place.
+    InvalidChar(usize),
+
+    /// No unit is a NUL.
+    NoNul,
+
+    /// A request for memory was refused. No call that lends answers it.
+    OutOfMemory,
+}
+
+impl fmt::Display for FromSliceUntilNulError {
+    ghost use Rattle.std.specs.Prelude.{Some};
+    ghost use Rattle.uefi_text.specs.ErrorTexts.{from_slice_until_nul_error_text};
+
+    ghost output = { λ error. Some (from_slice_until_nul_error_text error) };
+
+    fn fmt<W: fmt::Write>(&self, f: &mut fmt::Formatter<W>) -> fmt::Result {
+        match self {
+            Self::InvalidChar(place) => write!(f, "invalid character at index {place}"),
+            Self::NoNul => write!(f, "no nul character"),
+            Self::OutOfMemory => write!(f, "out of memory"),
+        }
+    }
+}
+
+impl Error for FromSliceUntilNulError {}
+
+/// Why code units or bytes are no NUL-terminated string. A place is an index into what was handed in.
 #[derive(Clone, Copy, Debug, PartialEq, Eq)]
 pub enum FromSliceWithNulError {
     /// The first unit that no text holds is a surrogate, at this place.
@@ -28,6 +62,247 @@ pub enum FromSliceWithNulError {
 
     /// A request for memory was refused. No call that lends answers it.
     OutOfMemory,
+}
+
+impl fmt::Display for FromSliceWithNulError {
+    ghost use Rattle.std.specs.Prelude.{Some};
+    ghost use Rattle.uefi_text.specs.ErrorTexts.{from_slice_with_nul_error_text};
+
+    ghost output = { λ error. Some (from_slice_with_nul_error_text error) };
+
+    fn fmt<W: fmt::Write>(&self, f: &mut fmt::Formatter<W>) -> fmt::Result {
+        match self {
+            Self::InvalidChar(place) => write!(f, "invalid character at index {place}"),
+            Self::InteriorNul(place) => write!(f, "interior null character at index {place}"),
+            Self::NotNulTerminated => write!(f, "not null-terminated"),
+            Self::NotAligned => write!(f, "slice is not aligned to a 16-bit boundary"),
+            Self::OutOfMemory => write!(f, "out of memory"),
+        }
+    }
+}
+
+impl Error for FromSliceWithNulError {}
+
+/// Why packed code units do not become a string in a buffer. A place is an index into them.
+#[derive(Clone, Copy, Debug, PartialEq, Eq)]
+pub enum UnalignedCStr16Error {
+    /// The first unit that no text holds is a surrogate, at this place.
+    InvalidChar(usize),
+
+    /// The first unit that no text holds is a NUL, at this place, and more units follow it.
+    InteriorNul(usize),
+
+    /// No unit is a NUL.
+    NotNulTerminated,
+
+    /// The buffer has fewer places than there are units.
+    BufferTooSmall,
+}
+
+impl fmt::Display for UnalignedCStr16Error {
+    ghost use Rattle.std.specs.Prelude.{Some};
+    ghost use Rattle.uefi_text.specs.ErrorTexts.{unaligned_cstr16_error_text};
+
+    ghost output = { λ error. Some (unaligned_cstr16_error_text error) };
+
+    fn fmt<W: fmt::Write>(&self, f: &mut fmt::Formatter<W>) -> fmt::Result {
+        match self {
+            Self::InvalidChar(place) => write!(f, "invalid character at index {place}"),
+            Self::InteriorNul(place) => write!(f, "interior null character at index {place}"),
+            Self::NotNulTerminated => write!(f, "not null-terminated"),
+            Self::BufferTooSmall => write!(f, "buffer too small"),
+        }
+    }
+}
+
+impl Error for UnalignedCStr16Error {}
+
+/// Why a Rust text does not become a string in a buffer. A place is a number of characters.
+#[derive(Clone, Copy, Debug, PartialEq, Eq)]
+pub enum FromStrWithBufError {
+    /// The first character that no UCS-2 text holds is above U+FFFF, behind so many others.
+    InvalidChar(usize),
+
+    /// The first character that no UCS-2 text holds is a NUL, behind so many others.
+    InteriorNul(usize),
+
+    /// The buffer has too few places for the text and its NUL.
+    BufferTooSmall,
+}
+
+impl fmt::Display for FromStrWithBufError {
+    ghost use Rattle.std.specs.Prelude.{Some};
+    ghost use Rattle.uefi_text.specs.ErrorTexts.{from_str_with_buf_error_text};
+
+    ghost output = { λ error. Some (from_str_with_buf_error_text error) };
+
+    fn fmt<W: fmt::Write>(&self, f: &mut fmt::Formatter<W>) -> fmt::Result {
+        match self {
+            Self::InvalidChar(place) => write!(f, "invalid character at index {place}"),
+            Self::InteriorNul(place) => write!(f, "interior null character at index {place}"),
+            Self::BufferTooSmall => write!(f, "buffer too small"),
+        }
+    }
+}
+
+impl Error for FromStrWithBufError {}
+
+/// A Latin-1 string that is lent: a view of bytes of which exactly the last is zero. In contracts it is
+/// `bytes_of` it, all its bytes.
+#[derive(Clone, Copy)]
+pub struct CStr8<'a> {
+    bytes: &'a [u8],
+    pub ghost is_string: { IsLatin1String bytes.now },
+}
+
+impl<'a> CStr8<'a> {
+    ghost use Rattle.uefi_text.specs.FromSliceWithNul.{bytes_with_nul_refusal};
+    ghost use Rattle.uefi_text.specs.Views.{bytes_of};
+
+    /// The string that all of the bytes spell, as a view of them.
+    ///
+    /// The first zero decides: before the last place it is refused as `InteriorNul` with its place, even
+    /// where the bytes don't end in zero. Where there is none the answer is `NotNulTerminated`. One pass,
+    /// which ends at the first zero; takes no memory.
+    pub fn from_bytes_with_nul(chars: &'a [u8]) -> Result<CStr8<'a>, FromSliceWithNulError>
+        ensures ok { IfOk result (λ string. bytes_of string ≡ chars.now) }
+        ensures accepts { IsOk result ↔ IsLatin1String chars.now }
+        ensures refusal { result_err result ≡ bytes_with_nul_refusal chars.now }
+    {
+        let Some(place) = find_nul(chars) else {
+            return Err(FromSliceWithNulError::NotNulTerminated);
+        };
+        if place + 1 != chars.len() {
+            return Err(FromSliceWithNulError::InteriorNul(place));
+        }
+        Ok(CStr8 { bytes: chars })
+    }
+
+    /// The bytes of the string, the zero included.
+    pub fn as_bytes(&self) -> &'a [u8]
+        ensures { result.now ≡ bytes_of self.now }
+    {
+        self.bytes
+    }
+
+    /// The bytes before the zero.
+    fn text(&self) -> &'a [u8]
+        ensures { result.now ≡ without_nul (bytes_of self.now) }
+    {
+        &self.bytes[..self.bytes.len() - 1]
+    }
+}
+
+/// The place of the first zero.
+fn find_nul(bytes: &[u8]) -> Option<usize>
+    ensures { result ≡ position is_nul bytes.now }
+{
+    bytes.iter().position(|byte| *byte == 0)
+}
+
+/// Two strings are equal exactly when their bytes are.
+impl<'a> PartialEq for CStr8<'a> {
+    ghost use Rattle.std.proofs.Common.{rules};
+    ghost use Rattle.std.specs.Prelude.{nat_eq};
+    ghost use Rattle.std.specs.Cmp.Lexicographic.{pointwise};
+    ghost use Rattle.std.specs.Cmp.Rules.{comparing};
+    ghost use Rattle.uefi_text.specs.Views.{bytes_of};
+
+    ghost eq = { λ a b. pointwise nat_eq (bytes_of a) (bytes_of b) };
+
+    ghost laws = { Prim.search (comparing, rules) };
+
+    fn eq(&self, other: &Self) -> bool {
+        self.bytes == other.bytes
+    }
+}
+
+impl<'a> Eq for CStr8<'a> {
+    ghost use Rattle.std.proofs.Common.{rules};
+    ghost use Rattle.std.specs.Cmp.Rules.{comparing};
+
+    ghost laws = { Prim.search (comparing, rules) };
+}
+
+/// The list order of the bytes.
+impl<'a> PartialOrd for CStr8<'a> {
+    ghost use Rattle.std.proofs.Common.{rules};
+    ghost use Rattle.std.specs.Ordering.{nat_cmp, as_partial_cmp, on};
+    ghost use Rattle.std.specs.Cmp.Lexicographic.{slice_cmp};
+    ghost use Rattle.std.specs.Cmp.Rules.{comparing};
+    ghost use Rattle.uefi_text.specs.Views.{bytes_of};
+
+    ghost partial_cmp = { as_partial_cmp (on bytes_of (slice_cmp nat_cmp)) };
+
+    ghost laws = { Prim.search (comparing, rules) };
+
+    fn partial_cmp(&self, other: &Self) -> Option<Ordering> {
+        Some(self.cmp(other))
+    }
+}
+
+impl<'a> Ord for CStr8<'a> {
+    ghost use Rattle.std.proofs.Common.{rules};
+    ghost use Rattle.std.specs.Ordering.{nat_cmp, on};
+    ghost use Rattle.std.specs.Cmp.Lexicographic.{slice_cmp};
+    ghost use Rattle.std.specs.Cmp.Rules.{comparing};
+    ghost use Rattle.uefi_text.specs.Views.{bytes_of};
+
+    ghost cmp = { on bytes_of (slice_cmp nat_cmp) };
+
+    ghost total = { Prim.search (comparing, rules) };
+
+    ghost matches_partial_cmp = { Prim.search (comparing, rules) };
+
+    ghost matches_eq = { Prim.search (comparing, rules) };
+
+    fn cmp(&self, other: &Self) -> Ordering {
+        self.bytes.cmp(&other.bytes)
+    }
+}
+
+/// Hashes the bytes, so that equal strings hash alike.
+impl<'a> Hash for CStr8<'a> {
+    ghost use Rattle.std.proofs.Common.{rules};
+    ghost use Rattle.std.specs.Hash as fed;
+    ghost use Rattle.std.specs.Cmp.Rules.{comparing, hashing};
+    ghost use Rattle.uefi_text.specs.Views.{bytes_of};
+
+    ghost hash_input = { λ a. fed.slice fed.u8 (bytes_of a) };
+
+    ghost respects_eq = { Prim.search (hashing, comparing, rules) };
+
+    fn hash<H: Hasher>(&self, state: &mut H) {
+        self.bytes.hash(state);
+    }
+}
+
+/// Writes the character of each byte but the last.
+impl<'a> fmt::Display for CStr8<'a> {
+    ghost use Rattle.std.specs.Prelude.{Some};
+    ghost use Rattle.std.specs.Str.{encode_utf8_all};
+    ghost use Rattle.uefi_text.specs.Units.{without_nul};
+    ghost use Rattle.uefi_text.specs.Views.{bytes_of};
+
+    ghost output = { λ string. Some (encode_utf8_all (without_nul (bytes_of string))) };
+
+    fn fmt<W: fmt::Write>(&self, f: &mut fmt::Formatter<W>) -> fmt::Result {
+        let text = self.text();
+        for byte in text {
+            f.write_char(char::from(*byte))?;
+        }
+        Ok(())
+    }
+}
+
+/// Prints the characters, each as a Rust character.
+impl<'a> fmt::Debug for CStr8<'a> {
+    fn fmt<W: fmt::Write>(&self, f: &mut fmt::Formatter<W>) -> fmt::Result {
+        let characters = self.text().iter().map(|byte| char::from(*byte));
+        f.write_str("CStr8(")?;
+        f.debug_list().entries(characters).finish()?;
+        f.write_str(")")
+    }
 }
 
 /// A string that is lent: a view of code units that are a text and its NUL. In contracts it is

@@ -3,7 +3,8 @@ ghost use Rattle.std.specs.Prelude.{◌≡◌, ◌++◌, [], List, ℕ, length, 
 ghost use Rattle.std.specs.List.{flat_map};
 ghost use Rattle.std.specs.Str.{chars};
 ghost use Rattle.uefi_path.specs.Components.{components_of};
-ghost use Rattle.uefi_text.specs.FromStr.{from_str_refusal, from_str_error_text};
+ghost use Rattle.uefi_text.specs.ErrorTexts.{from_str_error_text};
+ghost use Rattle.uefi_text.specs.FromStr.{from_str_refusal};
 ghost use Rattle.upath.specs.Commands.{command_of, from_text, eq_text};
 ghost use Rattle.upath.specs.Output.{line, output_of, path_after, pieces_lines, printed_by, text_line};
 

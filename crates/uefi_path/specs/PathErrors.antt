@@ -1,0 +1,10 @@
+-- What is printed of the refusal of a path. The value of a character is in decimal.
+use Rattle.std.specs.Prelude.{ℕ, List, ◌++◌, codes}
+use Rattle.std.specs.Fmt.{decimal}
+use Rattle.uefi_path.specs.declared.validation.PathError.{PathError}
+use Rattle.uefi_path.specs.declared.validation.PathError.TheVariants.{Empty, EmptyComponent, IllegalChar}
+
+abbrev pub path_error_text : PathError → List ℕ
+path_error_text Empty = codes "path is empty"
+path_error_text EmptyComponent = codes "path contains an empty component"
+path_error_text (IllegalChar character) = codes "path contains an illegal character (value " ++ decimal character ++ codes ")"

@@ -1,0 +1,11 @@
+-- NUL-terminated strings of Latin-1, as bytes.
+use Rattle.std.specs.Prelude.{◌≡◌, ◌≢◌, ℕ, Bool, ◌==◌, List, All}
+use Rattle.uefi_text.specs.Units.{nul_terminated, without_nul}
+
+-- the test for a NUL
+abbrev pub is_nul : ℕ → Bool
+is_nul byte = byte == 0
+
+-- a NUL-terminated string of Latin-1: bytes of which exactly the last is zero
+abbrev pub IsLatin1String : List ℕ → Type 0
+IsLatin1String bytes = (bytes ≡ nul_terminated (without_nul bytes)) × All (λ byte. byte ≢ 0) (without_nul bytes)
