@@ -5,6 +5,7 @@ use std::test::Fail;
 use uefi_text::{
     CStr8, CStr16, CString16, Char8, Char16, CharConversionError, FromSliceUntilNulError,
     FromSliceWithNulError, FromStrError, FromStrWithBufError, NUL_8, NUL_16, UnalignedCStr16Error,
+    is_latin1, str_num_latin1_chars, str_to_latin1,
 };
 
 #[test]
@@ -116,6 +117,32 @@ fn accepted_bytes(rt: HostRuntime) -> Result<(), Fail> {
     let printed = format!(in rt.alloc(); "{:?}", CStr8::from_bytes_with_nul(&[0xe9, 10, 0])?)?;
     assert_eq!(rt; printed.as_str(), "CStr8(['é', '\\n'])");
     Ok(())
+}
+
+#[test]
+fn texts_of_latin1(rt: HostRuntime) {
+    for (text, want) in [
+        ("ÿ", true),
+        ("Ā", false),
+        ("", true),
+        ("é\0", true),
+        ("a\u{7ff}", false),
+        ("\u{ffff}", false),
+        ("😀", false),
+    ] {
+        assert_eq!(rt; is_latin1(text), want, "{text}");
+    }
+    for (text, want) in [("", 0), ("é\0", 2), ("aé\u{80}\u{7f}", 4)] {
+        assert!(rt; is_latin1(text));
+        assert_eq!(rt; str_num_latin1_chars(text), want, "{text}");
+    }
+}
+
+#[test]
+fn arrays_of_latin1(rt: HostRuntime) {
+    assert_eq!(rt; str_to_latin1::<1>(""), [0]);
+    assert_eq!(rt; str_to_latin1::<2>("é"), [0xe9, 0]);
+    assert_eq!(rt; str_to_latin1::<5>("Aÿ~\u{80}"), [65, 255, 126, 128, 0]);
 }
 
 #[test]

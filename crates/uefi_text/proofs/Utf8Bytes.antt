@@ -1,16 +1,18 @@
 -- What the bytes of a Rust text say of its characters.
-use Rattle.std.proofs.Common.{◌≡◌, ℕ, ◌≤◌, ◌+◌, ◌/◌, ◌%◌, ◌==◌, ◌||◌, nat_le, ◌++◌, ◌∙◌, ap, zero, suc, Bool, true, false, List, [], ◌∷◌, None, arith, refl, inl, inr}
+use Rattle.std.proofs.Common.{◌≡◌, ◌↔◌, ℕ, ◌<◌, ◌≤◌, ◌+◌, ◌/◌, ◌%◌, ◌==◌, ◌||◌, nat_le, ◌++◌, ◌∙◌, ap, zero, suc, Bool, true, false, List, [], ◌∷◌, None, arith, refl, sym, inl, inr}
 use Rattle.std.specs.Char.{encode_utf8}
 use Rattle.std.specs.List.{find, fold}
 use Rattle.std.specs.Str.{chars, IsAscii, IsUtf8}
-use Rattle.std.proofs.lemmas.Bool.{cases_Bool, cases_lt, le-ltb}
+use Rattle.std.proofs.lemmas.Bool.{cases_Bool, cases_lt, le-leb, le-ltb, lt-leb, lt-ltb}
+use Rattle.std.proofs.lemmas.List.Elements.{All-cons, All-head, All-nil, All-tail}
 use Rattle.std.proofs.lemmas.List.Folds.{fold_stays}
 use Rattle.std.proofs.lemmas.Str.{chars-IsAscii, encode_ascii, encodes-chars}
 use Rattle.std.proofs.lemmas.Grind.{common_steps}
 use Rattle.std.proofs.Math.Utf8.{encodes}
 use Rattle.uefi_text.proofs.Scanning.{found_behind}
 use Rattle.uefi_text.specs.FromStr.{is_deciding_char}
-use Rattle.uefi_text.specs.Scans.{ascii_text_so_far, deciding_byte_so_far}
+use Rattle.uefi_text.specs.Latin1.{IsLatin1}
+use Rattle.uefi_text.specs.Scans.{ascii_text_so_far, byte_beyond_latin1_so_far, deciding_byte_so_far}
 
 -- the first byte is ASCII and not NUL, and so are the others
 ascii_text_cons : (b : ℕ) (bs : List ℕ) → fold ascii_text_so_far true (b ∷ bs) ≡ true → (ascii_text_so_far true b ≡ true) × (fold ascii_text_so_far true bs ≡ true)
@@ -81,3 +83,69 @@ undecided_encodes (c ∷ cs) e =
 pub undecided_bytes : (bs : List ℕ) → IsUtf8 bs → fold deciding_byte_so_far false bs ≡ false → find is_deciding_char (chars bs) ≡ None
 undecided_bytes bs utf8 e =
     undecided_encodes (chars bs) (ap (fold deciding_byte_so_far false) (encodes-chars bs utf8) ∙ e)
+
+pub encode_utf8-two : (c : ℕ) → 128 ≤ c → c < 2048 → encode_utf8 c ≡ (192 + c / 64) ∷ (128 + c % 64) ∷ []
+unfolding encode_utf8
+encode_utf8-two c low high = rw (le-ltb c 128 low, lt-ltb c 2048 high) refl
+
+pub encode_utf8-three : (c : ℕ) → 2048 ≤ c → c < 65536 → encode_utf8 c ≡ (224 + c / 4096) ∷ (128 + c / 64 % 64) ∷ (128 + c % 64) ∷ []
+unfolding encode_utf8
+encode_utf8-three c low high =
+    let one : 128 ≤ c = omega arith in
+    rw (le-ltb c 128 one, le-ltb c 2048 low, lt-ltb c 65536 high) refl
+
+-- a byte below 0xc4 is passed over
+latin1_byte : (b : ℕ) (bs : List ℕ) → b < 0xc4 → fold byte_beyond_latin1_so_far false (b ∷ bs) ≡ fold byte_beyond_latin1_so_far false bs
+latin1_byte b bs low = rw (lt-leb 0xc4 b low) refl
+
+-- any other is found
+beyond_latin1_byte : (b : ℕ) (bs : List ℕ) → 0xc4 ≤ b → fold byte_beyond_latin1_so_far false (b ∷ bs) ≡ true
+beyond_latin1_byte b bs high =
+    rw (le-leb 0xc4 b high) (fold_stays byte_beyond_latin1_so_far true (λ _. refl) bs)
+
+-- so is a character of Latin-1
+latin1_char : (c : ℕ) (bs : List ℕ) → c < 256 → fold byte_beyond_latin1_so_far false (encode_utf8 c ++ bs) ≡ fold byte_beyond_latin1_so_far false bs
+latin1_char c bs small =
+    elim (cases_lt c 128) [
+      | inl low ↦ rw (encode_ascii c low) (latin1_byte c bs (omega arith))
+      | inr high ↦
+          let small_too : c < 2048 = omega arith in
+          rw (encode_utf8-two c high small_too)
+          (latin1_byte (192 + c / 64) ((128 + c % 64) ∷ bs) (omega arith) ∙ latin1_byte (128 + c % 64) bs (omega arith))
+    ]
+
+-- a character beyond Latin-1 begins with a byte of 0xc4 or more
+encode_utf8-beyond_latin1 : (c : ℕ) → 256 ≤ c → (b : ℕ) × (bs : List ℕ) × (0xc4 ≤ b) × (encode_utf8 c ≡ b ∷ bs)
+encode_utf8-beyond_latin1 c large =
+    elim (cases_lt c 2048) [
+      | inl low ↦ (192 + c / 64, _, omega arith, encode_utf8-two c (omega arith) low)
+      | inr high ↦
+          elim (cases_lt c 65536) [
+            | inl low ↦ (224 + c / 4096, _, omega arith, encode_utf8-three c high low)
+            | inr higher ↦ (240 + c / 262144, _, omega arith, encode_utf8-four c higher)
+          ]
+    ]
+
+beyond_latin1_char : (c : ℕ) (bs : List ℕ) → 256 ≤ c → fold byte_beyond_latin1_so_far false (encode_utf8 c ++ bs) ≡ true
+beyond_latin1_char c bs large =
+    let e = encode_utf8-beyond_latin1 c large in rw e.3 (beyond_latin1_byte e.0 (e.1 ++ bs) e.2)
+
+IsLatin1-encodes : (cs : List ℕ) → fold byte_beyond_latin1_so_far false (encodes cs) ≡ false → IsLatin1 cs
+IsLatin1-encodes [] e = All-nil (λ c. c ≤ 0xff)
+IsLatin1-encodes (c ∷ cs) e =
+    elim (cases_lt c 256) [
+      | inl low ↦ All-cons (λ c. c ≤ 0xff) c cs (omega arith) (IsLatin1-encodes cs (sym (latin1_char c (encodes cs) low) ∙ e))
+      | inr high ↦ let found = beyond_latin1_char c (encodes cs) high in absurd (grind (arith, common_steps))
+    ]
+
+encodes-IsLatin1 : (cs : List ℕ) → IsLatin1 cs → fold byte_beyond_latin1_so_far false (encodes cs) ≡ false
+encodes-IsLatin1 [] latin1 = refl
+encodes-IsLatin1 (c ∷ cs) latin1 =
+    let first : c ≤ 0xff = All-head (λ c. c ≤ 0xff) c cs latin1 in
+    latin1_char c (encodes cs) (omega arith) ∙ encodes-IsLatin1 cs (All-tail (λ c. c ≤ 0xff) c cs latin1)
+
+-- a text is one of Latin-1 exactly where no byte begins a character beyond it
+pub latin1_bytes : (bs : List ℕ) → IsUtf8 bs → (fold byte_beyond_latin1_so_far false bs ≡ false) ↔ IsLatin1 (chars bs)
+latin1_bytes bs utf8 =
+    let same : fold byte_beyond_latin1_so_far false (encodes (chars bs)) ≡ fold byte_beyond_latin1_so_far false bs = ap (fold byte_beyond_latin1_so_far false) (encodes-chars bs utf8) in
+    (λ e. IsLatin1-encodes (chars bs) (same ∙ e), λ latin1. sym same ∙ encodes-IsLatin1 (chars bs) latin1)

@@ -1,6 +1,10 @@
--- NUL-terminated strings of Latin-1, as bytes.
-use Rattle.std.specs.Prelude.{◌≡◌, ◌≢◌, ℕ, Bool, ◌==◌, List, All}
+-- Latin-1, in which a character is one byte, its number.
+use Rattle.std.specs.Prelude.{◌≡◌, ◌≢◌, ◌≤◌, ℕ, Bool, ◌==◌, List, All}
 use Rattle.uefi_text.specs.Units.{nul_terminated, without_nul}
+
+-- characters of Latin-1: none above U+00FF
+abbrev pub IsLatin1 : List ℕ → Type 0
+IsLatin1 characters = All (λ c. c ≤ 0xff) characters
 
 -- the test for a NUL
 abbrev pub is_nul : ℕ → Bool

@@ -13,3 +13,7 @@ decided_so_far so_far unit = (so_far || (unit == 0)) || (nat_le 0xd800 unit && n
 -- four bytes
 abbrev pub deciding_byte_so_far : Bool → ℕ → Bool
 deciding_byte_so_far so_far byte = (so_far || (byte == 0)) || nat_le 0xf0 byte
+
+-- whether a byte so far, or this one, begins a character above U+00FF: one of 0xc4 or more
+abbrev pub byte_beyond_latin1_so_far : Bool → ℕ → Bool
+byte_beyond_latin1_so_far so_far byte = so_far || nat_le 0xc4 byte

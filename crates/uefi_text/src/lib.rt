@@ -31,5 +31,5 @@ pub use chars::{Char8, Char16, CharConversionError, NUL_8, NUL_16};
 pub use owned_strs::{CString16, FromStrError};
 pub use strs::{
     CStr8, CStr16, CStr16Iter, Char16Slice, FromSliceUntilNulError, FromSliceWithNulError,
-    FromStrWithBufError, UnalignedCStr16Error,
+    FromStrWithBufError, UnalignedCStr16Error, is_latin1, str_num_latin1_chars, str_to_latin1,
 };

@@ -3,7 +3,7 @@
 //! by std's words, so that callers see nothing of the form.
 ghost use Rattle.std.specs.Prelude.{◌≡◌, ℕ, ◌+◌, ◌-◌, ◌<◌, ◌≤◌, ◌++◌, length, drop, map, slice_index, true, false};
 ghost use Rattle.std.specs.List.{fold};
-ghost use Rattle.uefi_text.specs.Scans.{ascii_text_so_far, decided_so_far, deciding_byte_so_far};
+ghost use Rattle.uefi_text.specs.Scans.{ascii_text_so_far, byte_beyond_latin1_so_far, decided_so_far, deciding_byte_so_far};
 ghost use Rattle.uefi_text.specs.Units.{is_deciding, deciding_place, replaced};
 
 use crate::chars::is_surrogate;
@@ -68,6 +68,16 @@ pub(crate) fn has_deciding_byte(bytes: &[u8]) -> bool
     ensures { result ≡ fold deciding_byte_so_far false bytes.now }
 {
     bytes.iter().fold(false, |found, byte| found | (*byte == 0) | (0xf0 <= *byte))
+}
+
+/// Whether a byte begins a character above U+00FF: one of 0xc4 or more. Below that are the bytes
+/// that begin a character of Latin-1, and those inside of characters.
+pub(crate) fn has_byte_beyond_latin1(bytes: &[u8]) -> bool
+    ensures { result ≡ fold byte_beyond_latin1_so_far false bytes.now }
+{
+    bytes
+        .iter()
+        .fold(false, |found, byte| found | (0xc4 <= *byte))
 }
 
 /// Writes bytes as code units, in front of the last unit, which stays.

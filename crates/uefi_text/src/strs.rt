@@ -2,13 +2,14 @@
 //! are private to this module, and `specs/Views.antt` says what each view shows.
 #![tactic(auto, unfolding(crate::specs::Views::bytes_of, crate::specs::Views::text_of, crate::specs::Views::units_of, crate::specs::Views::units_left))]
 
-ghost use Rattle.std.specs.Prelude.{◌≡◌, ◌<◌, ◌≤◌, ◌+◌, ◌^◌, ◌↔◌, ◌==◌, [], List, Option, All, length, position, slice_get, slice_range, IsTrue, IsOk, IfOk};
+ghost use Rattle.std.specs.Prelude.{◌≡◌, ◌<◌, ◌≤◌, ◌+◌, ◌^◌, ◌↔◌, ◌==◌, ◌≢◌, [], List, Option, All, length, position, slice_get, slice_range, IsTrue, IsOk, IfOk};
 ghost use Rattle.std.specs.Result.{result_err};
-ghost use Rattle.uefi_text.specs.Latin1.{IsLatin1String, is_nul};
+ghost use Rattle.std.specs.Str.{chars};
+ghost use Rattle.uefi_text.specs.Latin1.{IsLatin1, IsLatin1String, is_nul};
 ghost use Rattle.uefi_text.specs.Units.{IsString, IsText, IsChar16, nul_terminated, without_nul};
 
 use crate::chars::Char16;
-use crate::scans::find_deciding_place;
+use crate::scans::{find_deciding_place, has_byte_beyond_latin1};
 use std::cmp::Ordering;
 use std::error::Error;
 use std::fmt;
@@ -303,6 +304,40 @@ impl<'a> fmt::Debug for CStr8<'a> {
         f.debug_list().entries(characters).finish()?;
         f.write_str(")")
     }
+}
+
+/// Whether each character of a Rust text is one of Latin-1, which has those up to U+00FF. One pass
+/// over the bytes; takes no memory.
+#[tactic(auto, using(crate::proofs::Utf8Bytes::latin1_bytes))]
+pub fn is_latin1(s: &str) -> bool
+    ensures { IsTrue result ↔ IsLatin1 (chars s.now) }
+{
+    !has_byte_beyond_latin1(s.as_bytes())
+}
+
+/// How many characters a Rust text of Latin-1 has, a NUL among them counted, which is how many bytes
+/// it takes in Latin-1. One pass; takes no memory.
+#[tactic(auto, using(std::proofs::lemmas::Str::chars_from_encodes))]
+pub fn str_num_latin1_chars(s: &str) -> usize
+    requires { IsLatin1 (chars s.now) }
+    ensures { result ≡ length (chars s.now) }
+{
+    s.chars().count()
+}
+
+/// The characters of a Rust text of Latin-1 that holds no NUL, each as one byte, and a NUL behind
+/// them. `N` is one more than their number. One pass; takes no memory.
+pub fn str_to_latin1<const N: usize>(s: &str) -> [u8; N]
+    requires latin1 { IsLatin1 (chars s.now) }
+    requires no_nul { All (λ c. c ≢ 0) (chars s.now) }
+    requires fits { length (chars s.now) + 1 ≡ N }
+    ensures { result ≡ nul_terminated (chars s.now) }
+{
+    let mut bytes = [0; N];
+    for (place, character) in s.chars().enumerate() {
+        bytes[place] = character as u8;
+    }
+    bytes
 }
 
 /// A string that is lent: a view of code units that are a text and its NUL. In contracts it is

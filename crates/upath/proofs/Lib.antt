@@ -1,3 +1,3 @@
 pub mod LineEnds
 pub mod CommandCuts
-pub mod Utf8
+pub mod Ascii

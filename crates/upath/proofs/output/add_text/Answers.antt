@@ -3,7 +3,7 @@ use Rattle.std.proofs.Common.{◌<◌, bit_or, arith}
 use Rattle.std.specs.List.{fold}
 use Rattle.std.proofs.lemmas.Str.{encodes-IsAscii}
 use Rattle.std.proofs.lemmas.Grind.{common_steps}
-use Rattle.upath.proofs.Utf8.{IsAscii-union}
+use Rattle.upath.proofs.Ascii.{IsAscii-union}
 use Rattle.upath.proofs.output.add_text.Goals as goal
 
 pub add_ascii-requires : goal.add_ascii-requires

@@ -1,6 +1,6 @@
 use Rattle.std.proofs.Common.{arith}
 use Rattle.std.proofs.lemmas.Grind.{common_steps}
-use Rattle.upath.proofs.Utf8.{encode_utf8-two, encode_utf8-three}
+use Rattle.uefi_text.proofs.Utf8Bytes.{encode_utf8-two, encode_utf8-three}
 use Rattle.upath.proofs.output.add_unit.Goals as goal
 
 pub returns-then-unit-lt2048 : goal.returns-then-unit-lt2048

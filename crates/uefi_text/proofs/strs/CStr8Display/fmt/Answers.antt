@@ -1,5 +1,5 @@
 -- Each character follows those before it.
-use Rattle.std.proofs.Common.{refl, rules, take, ap, get_or, ◌∙◌, ◌++◌, ℕ}
+use Rattle.std.proofs.Common.{rules, take, ap, ◌∙◌, ◌++◌, ℕ}
 use Rattle.std.specs.Prelude.{encode_utf8, encode_utf8_all}
 use Rattle.std.proofs.Output.{has_written_append, has_written_of_eq}
 use Rattle.uefi_text.proofs.Printed.{encode_utf8_all-take_more}

@@ -1,9 +1,7 @@
--- Units of ASCII, and the UTF-8 of a unit.
-use Rattle.std.proofs.Common.{◌≡◌, ℕ, ◌<◌, ◌≤◌, ◌+◌, ◌/◌, ◌%◌, zero, suc, List, [], ◌∷◌, arith, refl, get_or, bit_or}
+-- Units of ASCII.
+use Rattle.std.proofs.Common.{ℕ, ◌<◌, ◌≤◌, zero, suc, List, [], ◌∷◌, arith, get_or, bit_or}
 use Rattle.std.specs.List.{fold}
 use Rattle.std.specs.Str.{IsAscii}
-use Rattle.std.specs.Char.{encode_utf8}
-use Rattle.std.proofs.lemmas.Bool.{lt-ltb, le-ltb}
 use Rattle.std.proofs.lemmas.Nat.{le_or_l, le_or_r}
 
 -- the union of all units is at least what it began with
@@ -20,11 +18,3 @@ le-union_unit (u ∷ us) a (suc i) = le-union_unit us (bit_or a u) i
 -- units whose union is ASCII are ASCII
 pub IsAscii-union : (us : List ℕ) → fold bit_or 0 us < 128 → IsAscii us
 IsAscii-union us small i = omega (arith, small, le-union_unit us 0 i)
-
-pub encode_utf8-two : (c : ℕ) → 128 ≤ c → c < 2048 → encode_utf8 c ≡ (192 + c / 64) ∷ (128 + c % 64) ∷ []
-unfolding encode_utf8
-encode_utf8-two c low high = rw (le-ltb c 128 low, lt-ltb c 2048 high) refl
-
-pub encode_utf8-three : (c : ℕ) → 2048 ≤ c → c < 65536 → encode_utf8 c ≡ (224 + c / 4096) ∷ (128 + c / 64 % 64) ∷ (128 + c % 64) ∷ []
-unfolding encode_utf8
-encode_utf8-three c low high = let first : 128 ≤ c = omega arith in rw (le-ltb c 128 first, le-ltb c 2048 low, lt-ltb c 65536 high) refl
