@@ -7,4 +7,5 @@ use Rattle.uefi_path.specs.declared.validation.PathError.TheVariants.{Empty, Emp
 abbrev pub path_error_text : PathError → List ℕ
 path_error_text Empty = codes "path is empty"
 path_error_text EmptyComponent = codes "path contains an empty component"
-path_error_text (IllegalChar character) = codes "path contains an illegal character (value " ++ decimal character ++ codes ")"
+path_error_text (IllegalChar character) =
+    codes "path contains an illegal character (value " ++ decimal character ++ codes ")"

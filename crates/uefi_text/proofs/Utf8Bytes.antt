@@ -103,7 +103,7 @@ beyond_latin1_byte : (b : ℕ) (bs : List ℕ) → 0xc4 ≤ b → fold byte_beyo
 beyond_latin1_byte b bs high =
     rw (le-leb 0xc4 b high) (fold_stays byte_beyond_latin1_so_far true (λ _. refl) bs)
 
--- so is a character of Latin-1
+-- a character of Latin-1 is passed over
 latin1_char : (c : ℕ) (bs : List ℕ) → c < 256 → fold byte_beyond_latin1_so_far false (encode_utf8 c ++ bs) ≡ fold byte_beyond_latin1_so_far false bs
 latin1_char c bs small =
     elim (cases_lt c 128) [

@@ -12,4 +12,5 @@ is_nul byte = byte == 0
 
 -- a NUL-terminated string of Latin-1: bytes of which exactly the last is zero
 abbrev pub IsLatin1String : List ℕ → Type 0
-IsLatin1String bytes = (bytes ≡ nul_terminated (without_nul bytes)) × All (λ byte. byte ≢ 0) (without_nul bytes)
+IsLatin1String bytes =
+    (bytes ≡ nul_terminated (without_nul bytes)) × All (λ byte. byte ≢ 0) (without_nul bytes)
