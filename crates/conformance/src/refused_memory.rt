@@ -3,7 +3,7 @@
 use crate::refusing::Refusing;
 use std::test::Fail;
 use uefi_path::PathBuf;
-use uefi_text::{CString16, FromStrError};
+use uefi_text::{CStr16, CString16, FromStrError};
 use upath::{StreamFault, run_streams, run_text};
 
 /// No call here asks for memory more often than this.
@@ -57,6 +57,19 @@ fn refused_texts_want_no_memory(rt: HostRuntime) {
         );
         assert!(rt; !none.has_refused());
     }
+}
+
+/// One request for a copy.
+#[test]
+fn copies_of_strings(rt: HostRuntime) -> Result<(), Fail> {
+    let string = CStr16::from_u16_with_nul(&[97, 0x20ac, 0])?;
+    let none = Refusing::new(rt.alloc(), 1);
+    assert!(rt; string.to_owned(&none).is_err());
+    assert!(rt; none.has_refused());
+    let one = Refusing::new(rt.alloc(), 2);
+    assert!(rt; string.to_owned(&one)?.as_cstr16() == string);
+    assert!(rt; !one.has_refused());
+    Ok(())
 }
 
 /// A path takes over the memory of its string.

@@ -180,6 +180,47 @@ fn refused_units(rt: HostRuntime) {
 }
 
 #[test]
+fn refused_units_until_nul(rt: HostRuntime) {
+    let rows: [(&[u16], FromSliceUntilNulError); 4] = [
+        (&[], FromSliceUntilNulError::NoNul),
+        (&[65, 66], FromSliceUntilNulError::NoNul),
+        (&[65, 0xde01, 0], FromSliceUntilNulError::InvalidChar(1)),
+        (&[0xd800], FromSliceUntilNulError::InvalidChar(0)),
+    ];
+    for (units, want) in rows {
+        assert!(rt;
+            matches!(CStr16::from_u16_until_nul(units), Err(error) if error == want),
+            "{units:?}"
+        );
+    }
+}
+
+#[test]
+fn accepted_units_until_nul(rt: HostRuntime) -> Result<(), Fail> {
+    let rows: [(&[u16], &str); 5] = [
+        (&[97, 98, 0], "ab"),
+        (&[97, 0, 98, 0], "a"),
+        (&[97, 0, 0xd800], "a"),
+        (&[0], ""),
+        (&[0xe9, 0x20ac, 0xffff, 0], "é€\u{ffff}"),
+    ];
+    for (units, text) in rows {
+        let string = CStr16::from_u16_until_nul(units)?;
+        assert_eq!(rt; string.to_string(rt.alloc())?.as_str(), text);
+        assert_eq!(rt; string.is_ascii(), text.is_ascii());
+        let owned = string.to_owned(rt.alloc())?;
+        assert!(rt; owned.as_cstr16().eq_cstr16(string) && string.eq_cstr16(owned.as_cstr16()));
+        assert!(rt; owned == CString16::try_from_str(rt.alloc(), text)?);
+    }
+    let abc = CStr16::from_u16_with_nul(&[65, 66, 67, 0])?;
+    assert_eq!(rt; abc.num_chars(), 3);
+    assert!(rt; abc.num_chars() == 3);
+    assert_eq!(rt; abc.num_bytes(), 8);
+    assert!(rt; !abc.eq_cstr16(CStr16::from_u16_with_nul(&[65, 66, 68, 0])?));
+    Ok(())
+}
+
+#[test]
 fn accepted_units(rt: HostRuntime) -> Result<(), Fail> {
     let rows: [(&[u16], &str); 4] = [
         (&[65, 0], "A"),

@@ -1,15 +1,16 @@
 -- What a constructor takes is a string exactly where the first element that no text holds is a NUL in the last place.
-use Rattle.std.proofs.Common.{◌≡◌, ◌≢◌, ℕ, ◌+◌, ◌-◌, ◌<◌, ◌^◌, ◌∙◌, ap, Bool, true, false, All, List, [], ◌∷◌, ◌++◌, length, get_or, take, Some, None, arith, refl}
-use Rattle.std.specs.List.{position, position_or_len}
+use Rattle.std.proofs.Common.{◌≡◌, ◌≢◌, ℕ, ◌+◌, ◌-◌, ◌<◌, ◌^◌, ◌∙◌, ap, sym, Bool, true, false, All, List, [], ◌∷◌, ◌++◌, length, get_or, take, Some, None, arith, refl}
+use Rattle.std.specs.List.{before_first, position, position_or_len}
 use Rattle.std.proofs.lemmas.List.Sums.{position_or_len_is}
 use Rattle.std.proofs.lemmas.List.Quantifiers.{position-Some}
 use Rattle.std.proofs.lemmas.List.Elements.{All-from_get_or, All-weaker}
-use Rattle.std.proofs.lemmas.List.{get_or-take, get_or_append_left, length-take-le, length-append}
+use Rattle.std.proofs.lemmas.List.{get_or-take, get_or_append_left, length-take-le, length-append, take_more}
 use Rattle.std.proofs.Math.Seq.{get_or-append_seam}
 use Rattle.std.proofs.lemmas.Grind.{common_steps}
+use Rattle.uefi_text.proofs.Texts.{IsString-made, without_nul-nul_terminated}
 use Rattle.uefi_text.specs.FromSliceWithNul.{with_nul_refusal, bytes_with_nul_refusal}
-use Rattle.uefi_text.specs.Latin1.{IsLatin1String, is_nul}
-use Rattle.uefi_text.specs.Units.{IsTextUnit, IsText, IsString, is_deciding, deciding_place, nul_terminated, without_nul}
+use Rattle.uefi_text.specs.Latin1.{IsLatin1String}
+use Rattle.uefi_text.specs.Units.{IsTextUnit, IsText, IsString, is_nul, is_deciding, deciding_place, nul_terminated, without_nul}
 
 -- a list that ends in 0
 ends_in_nul : (units : List ℕ) (i : ℕ) → i + 1 ≡ length units → get_or units i 0 ≡ 0 → units ≡ take i units ++ 0 ∷ []
@@ -70,3 +71,27 @@ pub bytes_with_nul_refusal-IsLatin1String : (bytes : List ℕ) → IsLatin1Strin
 bytes_with_nul_refusal-IsLatin1String bytes string =
     let found = position-undecided_before is_nul refl bytes string.0 (All-weaker (λ b. b ≢ 0) (λ b. is_nul b ≡ false) (λ b h. grind (arith, common_steps)) (without_nul bytes) string.1) in
     rw found.0 (grind (arith, common_steps))
+
+-- what stands before a deciding place is a text
+IsText-before : (units : List ℕ) (i : ℕ) → ((k : ℕ) → get_or units k 0 < 2 ^ 16) → deciding_place units ≡ Some i → IsText (take i units)
+IsText-before units i small place =
+    let found = position-Some is_deciding units i 0 place in
+    All-from_get_or IsTextUnit (take i units) 0 (λ k h.
+    let below : k < i = omega (arith, length-take-le i units (omega (arith, found.0))) in
+    rw get_or-take (IsTextUnit-undecided (get_or units k 0) (small k) (found.2 k below)))
+
+-- units up to and with the first NUL are a string, where no surrogate stands before it
+pub IsString-until_nul : (units : List ℕ) (i : ℕ) → ((k : ℕ) → get_or units k 0 < 2 ^ 16) → deciding_place units ≡ Some i → get_or units i 0 ≡ 0 → IsString (take (i + 1) units)
+IsString-until_nul units i small place zero =
+    let found = position-Some is_deciding units i 0 place in
+    let ended : take (i + 1) units ≡ nul_terminated (take i units) = take_more units i 0 found.0 ∙ ap (λ u. take i units ++ u ∷ []) zero in
+    IsString-made (take (i + 1) units) (take i units) ended (IsText-before units i small place)
+
+-- and their text is what stands before the first NUL
+pub before_nul-deciding : (units : List ℕ) (i : ℕ) → deciding_place units ≡ Some i → get_or units i 0 ≡ 0 → without_nul (take (i + 1) units) ≡ before_first is_nul units
+before_nul-deciding units i place zero =
+    let found = position-Some is_deciding units i 0 place in
+    let undecided : (k : ℕ) → k < i → is_nul (get_or units k 0) ≡ false = λ k h. let f = found.2 k h in grind (arith, common_steps) in
+    let e : position_or_len is_nul units ≡ i = position_or_len_is is_nul units i 0 (omega (arith, found.0)) undecided (λ _. rw zero refl) in
+    let ended : take (i + 1) units ≡ nul_terminated (take i units) = take_more units i 0 found.0 ∙ ap (λ u. take i units ++ u ∷ []) zero in
+    ap without_nul ended ∙ without_nul-nul_terminated (take i units) ∙ ap (λ n. take n units) (sym e)

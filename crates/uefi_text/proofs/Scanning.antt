@@ -1,10 +1,12 @@
 -- Passes that test many elements at a time, by a fold with no early exit.
-use Rattle.std.proofs.Common.{◌≡◌, ℕ, ◌<◌, ◌≤◌, ◌+◌, ◌-◌, zero, suc, Bool, true, false, List, [], ◌∷◌, ◌++◌, length, take, drop, get_or, subst, ap, None, Some, arith, inl, inr, sym, ◌∙◌}
+use Rattle.std.proofs.Common.{◌≡◌, ◌↔◌, nat_le, refl, ℕ, ◌<◌, ◌≤◌, ◌+◌, ◌-◌, zero, suc, Bool, true, false, List, [], ◌∷◌, ◌++◌, length, take, drop, get_or, subst, ap, None, Some, arith, inl, inr, sym, ◌∙◌}
 use Rattle.std.specs.List.{fold, position, position_or_len}
+use Rattle.std.specs.Str.{IsAscii}
 use Rattle.std.proofs.lemmas.Bool.{cases_Bool, cases_lt}
 use Rattle.std.proofs.lemmas.List.Folds.{fold_stays}
 use Rattle.std.proofs.lemmas.Simd.{get_or-chunk, length-chunk}
 use Rattle.std.proofs.lemmas.Grind.{common_steps}
+use Rattle.uefi_text.specs.Scans.{beyond_ascii_so_far}
 
 -- a fold that keeps what it found, and begins with a test
 module _ (p : ℕ → Bool) (step : Bool → ℕ → Bool) (kept : (u : ℕ) → step true u ≡ true) (first : (u : ℕ) → step false u ≡ p u) where
@@ -57,3 +59,19 @@ position-from_none p us from le none e = let s = search_from p us from le none i
 
 pub position-from_some : (p : ℕ → Bool) (us : List ℕ) (from place : ℕ) → from ≤ length us → ((k : ℕ) → k < from → p (get_or us k 0) ≡ false) → Some place ≡ position p (drop from us) → Some (from + place) ≡ position p us
 position-from_some p us from place le none e = let s = search_from p us from le none in grind (arith, common_steps)
+
+ascii_units-none : (us : List ℕ) → fold beyond_ascii_so_far false us ≡ false → IsAscii us
+ascii_units-none [] e i = omega arith
+ascii_units-none (u ∷ us) e zero = let first = (found_cons (λ v. nat_le 0x80 v) beyond_ascii_so_far (λ _. refl) (λ _. refl) u us e).0 in grind (arith, common_steps)
+ascii_units-none (u ∷ us) e (suc i) = ascii_units-none us (found_cons (λ v. nat_le 0x80 v) beyond_ascii_so_far (λ _. refl) (λ _. refl) u us e).1 i
+
+none-ascii_units : (us : List ℕ) → IsAscii us → fold beyond_ascii_so_far false us ≡ false
+none-ascii_units [] ascii = refl
+none-ascii_units (u ∷ us) ascii =
+    let first : u < 0x80 = ascii 0 in
+    let rest = none-ascii_units us (λ i. ascii (suc i)) in
+    grind (arith, common_steps)
+
+-- units are ASCII exactly where none is found beyond it
+pub ascii_units : (us : List ℕ) → (fold beyond_ascii_so_far false us ≡ false) ↔ IsAscii us
+ascii_units us = (ascii_units-none us, none-ascii_units us)

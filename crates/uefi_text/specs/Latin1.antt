@@ -1,14 +1,10 @@
 -- Latin-1, in which a character is one byte, its number.
-use Rattle.std.specs.Prelude.{◌≡◌, ◌≢◌, ◌≤◌, ℕ, Bool, ◌==◌, List, All}
+use Rattle.std.specs.Prelude.{◌≡◌, ◌≢◌, ◌≤◌, ℕ, List, All}
 use Rattle.uefi_text.specs.Units.{nul_terminated, without_nul}
 
 -- characters of Latin-1: none above U+00FF
 abbrev pub IsLatin1 : List ℕ → Type 0
 IsLatin1 characters = All (λ c. c ≤ 0xff) characters
-
--- the test for a NUL
-abbrev pub is_nul : ℕ → Bool
-is_nul byte = byte == 0
 
 -- a NUL-terminated string of Latin-1: bytes of which exactly the last is zero
 abbrev pub IsLatin1String : List ℕ → Type 0

@@ -17,3 +17,7 @@ deciding_byte_so_far so_far byte = (so_far || (byte == 0)) || nat_le 0xf0 byte
 -- whether a byte so far, or this one, begins a character above U+00FF: one of 0xc4 or more
 abbrev pub byte_beyond_latin1_so_far : Bool → ℕ → Bool
 byte_beyond_latin1_so_far so_far byte = so_far || nat_le 0xc4 byte
+
+-- whether a unit so far, or this one, is beyond ASCII
+abbrev pub beyond_ascii_so_far : Bool → ℕ → Bool
+beyond_ascii_so_far so_far unit = so_far || nat_le 0x80 unit

@@ -29,13 +29,17 @@ without_nul units = take (length units - 1) units
 abbrev pub IsString : List ℕ → Type 0
 IsString units = (units ≡ nul_terminated (without_nul units)) × IsText (without_nul units)
 
+-- the test for a NUL
+abbrev pub is_nul : ℕ → Bool
+is_nul unit = unit == 0
+
 -- the test for a surrogate
 abbrev pub is_surrogate : ℕ → Bool
 is_surrogate u = nat_le 0xd800 u && nat_le u 0xdfff
 
 -- the test for a unit that no text holds; the first such unit decides what a constructor answers
 abbrev pub is_deciding : ℕ → Bool
-is_deciding u = (u == 0) || is_surrogate u
+is_deciding u = is_nul u || is_surrogate u
 
 -- the place of the first unit that no text holds
 abbrev pub deciding_place : List ℕ → Option ℕ

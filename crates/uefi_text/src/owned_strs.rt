@@ -120,6 +120,21 @@ fn units_of_text<A: Allocator>(alloc: A, text: &str) -> Result<Vec<u16, A>, From
     }
 }
 
+/// The ways from a lent string into one that is owned.
+impl<'a> CStr16<'a> {
+    ghost use Rattle.uefi_text.specs.Views.{text_of};
+
+    /// An equal string of one's own. One allocation.
+    pub fn to_owned<A: Allocator>(&self, alloc: A) -> Result<CString16<A>, AllocError>
+        ensures { IfOk result (λ string. string ≡ text_of self.now) }
+    {
+        let string = self.to_u16_slice_with_nul();
+        let mut units = Vec::with_capacity(alloc, string.len())?;
+        units.extend_from_slice(string)?;
+        Ok(CString16 { units })
+    }
+}
+
 impl<A: Allocator> CString16<A> {
     ghost use Rattle.uefi_text.specs.Views.{text_of};
 

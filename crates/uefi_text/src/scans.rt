@@ -3,7 +3,7 @@
 //! by std's words, so that callers see nothing of the form.
 ghost use Rattle.std.specs.Prelude.{◌≡◌, ℕ, ◌+◌, ◌-◌, ◌<◌, ◌≤◌, ◌++◌, length, drop, map, slice_index, true, false};
 ghost use Rattle.std.specs.List.{fold};
-ghost use Rattle.uefi_text.specs.Scans.{ascii_text_so_far, byte_beyond_latin1_so_far, decided_so_far, deciding_byte_so_far};
+ghost use Rattle.uefi_text.specs.Scans.{ascii_text_so_far, beyond_ascii_so_far, byte_beyond_latin1_so_far, decided_so_far, deciding_byte_so_far};
 ghost use Rattle.uefi_text.specs.Units.{is_deciding, deciding_place, replaced};
 
 use crate::chars::is_surrogate;
@@ -51,6 +51,15 @@ pub(crate) fn find_deciding_place(units: &[u16]) -> Option<usize>
         None => None,
         Some(place) => Some(len + place),
     }
+}
+
+/// Whether a unit is beyond ASCII.
+pub(crate) fn has_unit_beyond_ascii(units: &[u16]) -> bool
+    ensures { result ≡ fold beyond_ascii_so_far false units.now }
+{
+    units
+        .iter()
+        .fold(false, |found, unit| found | (0x80 <= *unit))
 }
 
 /// Whether each byte is ASCII and not NUL.

@@ -2,14 +2,14 @@
 //! are private to this module, and `specs/Views.antt` says what each view shows.
 #![tactic(auto, unfolding(crate::specs::Views::bytes_of, crate::specs::Views::text_of, crate::specs::Views::units_of, crate::specs::Views::units_left))]
 
-ghost use Rattle.std.specs.Prelude.{◌≡◌, ◌<◌, ◌≤◌, ◌+◌, ◌^◌, ◌↔◌, ◌==◌, ◌≢◌, [], List, Option, All, length, position, slice_get, slice_range, IsTrue, IsOk, IfOk};
+ghost use Rattle.std.specs.Prelude.{◌≡◌, ◌<◌, ◌≤◌, ◌+◌, ◌*◌, ◌^◌, ◌↔◌, ◌==◌, ◌≢◌, [], List, Option, All, length, position, slice_get, slice_range, IsTrue, IsOk, IfOk};
 ghost use Rattle.std.specs.Result.{result_err};
 ghost use Rattle.std.specs.Str.{chars};
-ghost use Rattle.uefi_text.specs.Latin1.{IsLatin1, IsLatin1String, is_nul};
-ghost use Rattle.uefi_text.specs.Units.{IsString, IsText, IsChar16, nul_terminated, without_nul};
+ghost use Rattle.uefi_text.specs.Latin1.{IsLatin1, IsLatin1String};
+ghost use Rattle.uefi_text.specs.Units.{IsString, IsText, IsChar16, is_nul, nul_terminated, without_nul};
 
 use crate::chars::Char16;
-use crate::scans::{find_deciding_place, has_byte_beyond_latin1};
+use crate::scans::{find_deciding_place, has_byte_beyond_latin1, has_unit_beyond_ascii};
 use std::cmp::Ordering;
 use std::error::Error;
 use std::fmt;
@@ -364,8 +364,31 @@ pub struct Char16Slice<'a> {
 }
 
 impl<'a> CStr16<'a> {
+    ghost use Rattle.std.specs.List.{before_first};
+    ghost use Rattle.std.specs.Str.{IsAscii};
+    ghost use Rattle.uefi_text.specs.FromSliceUntilNul.{until_nul_refusal};
     ghost use Rattle.uefi_text.specs.FromSliceWithNul.{with_nul_refusal};
     ghost use Rattle.uefi_text.specs.Views.{text_of, units_of, units_left};
+
+    /// The string up to the first NUL, as a view of the units up to and with it.
+    ///
+    /// The first unit that is a NUL or a surrogate decides: a surrogate is refused as `InvalidChar` with
+    /// its place; what follows a NUL is not looked at. Where there is no such unit the answer is `NoNul`.
+    /// One pass, which ends at that unit; takes no memory.
+    pub fn from_u16_until_nul(units: &'a [u16]) -> Result<CStr16<'a>, FromSliceUntilNulError>
+        ensures ok { IfOk result (λ string. text_of string ≡ before_first is_nul units.now) }
+        ensures refusal { result_err result ≡ until_nul_refusal units.now }
+    {
+        let Some(end) = find_deciding_place(units) else {
+            return Err(FromSliceUntilNulError::NoNul);
+        };
+        if units[end] != 0 {
+            return Err(FromSliceUntilNulError::InvalidChar(end));
+        }
+        Ok(CStr16 {
+            units: &units[..end + 1],
+        })
+    }
 
     /// The string that all of the units spell, as a view of them.
     ///
@@ -445,11 +468,50 @@ impl<'a> CStr16<'a> {
         self.units.len() - 1
     }
 
+    /// How many bytes the string has, two for each character and two for the NUL.
+    pub fn num_bytes(&self) -> usize
+        requires { 2 * (length (text_of self.now) + 1) < 2 ^ 64 }
+        ensures { result ≡ 2 * (length (text_of self.now) + 1) }
+    {
+        2 * self.units.len()
+    }
+
     /// Whether the text is empty.
     pub fn is_empty(&self) -> bool
         ensures { IsTrue result ↔ (text_of self.now ≡ []) }
     {
         self.num_chars() == 0
+    }
+
+    /// Whether each character is one of ASCII. One pass.
+    #[tactic(auto, using(crate::proofs::Scanning::ascii_units), unfolding(crate::specs::Views::text_of))]
+    pub fn is_ascii(&self) -> bool
+        ensures { IsTrue result ↔ IsAscii (text_of self.now) }
+    {
+        !has_unit_beyond_ascii(self.to_u16_slice())
+    }
+
+    /// Whether the other string has the same text, as `==` says.
+    pub fn eq_cstr16(&self, other: CStr16<'_>) -> bool
+        ensures { IsTrue result ↔ (text_of self.now ≡ text_of other.entry) }
+    {
+        *self == other
+    }
+}
+
+/// Writes the characters of the text.
+impl<'a> fmt::Display for CStr16<'a> {
+    ghost use Rattle.std.specs.Prelude.{Some};
+    ghost use Rattle.std.specs.Str.{encode_utf8_all};
+    ghost use Rattle.uefi_text.specs.Views.{text_of};
+
+    ghost output = { λ string. Some (encode_utf8_all (text_of string)) };
+
+    fn fmt<W: fmt::Write>(&self, f: &mut fmt::Formatter<W>) -> fmt::Result {
+        for character in self.iter() {
+            f.write_char(char::from(character))?;
+        }
+        Ok(())
     }
 }
 

@@ -1,0 +1,13 @@
+-- Units up to and with a NUL before which no surrogate stands are a string.
+use Rattle.std.proofs.Common.{arith, sym}
+use Rattle.uefi_text.specs.Views.{text_of}
+use Rattle.uefi_text.proofs.Deciding.{IsString-until_nul, before_nul-deciding}
+use Rattle.uefi_text.proofs.strs.CStr16.from_u16_until_nul.Goals as goal
+
+pub invariant_of-result : goal.invariant_of-result
+invariant_of-result c =
+    record { is_string = IsString-until_nul c.args.units.now c.in-Some.end (λ k. omega (arith, c.type_inv.units k)) (sym c.in-Some.ensures) c.if-units-end-ne0.false }
+
+pub returns-clause-ok : goal.returns-clause-ok
+unfolding text_of
+returns-clause-ok c = before_nul-deciding c.args.units.now c.in-Some.end (sym c.in-Some.ensures) c.if-units-end-ne0.false

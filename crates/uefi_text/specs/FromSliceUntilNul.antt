@@ -1,0 +1,14 @@
+-- Which code units have no front that is a NUL-terminated string, and why.
+use Rattle.std.specs.Prelude.{ℕ, ◌==◌, if◌then◌else◌, List, slice_index, Option, Some, None}
+use Rattle.uefi_text.specs.Units.{deciding_place}
+use Rattle.uefi_text.specs.declared.strs.FromSliceUntilNulError.{FromSliceUntilNulError}
+use Rattle.uefi_text.specs.declared.strs.FromSliceUntilNulError.TheVariants.{InvalidChar, NoNul}
+
+-- the refusal by the deciding place: a NUL there is right, whatever follows it, a surrogate never is
+abbrev pub until_nul_refusal_at : List ℕ → Option ℕ → Option FromSliceUntilNulError
+until_nul_refusal_at units None = Some NoNul
+until_nul_refusal_at units (Some i) = if slice_index units i == 0 then None else Some (InvalidChar i)
+
+-- the refusal of units, or none where what stands before their first NUL is a text
+abbrev pub until_nul_refusal : List ℕ → Option FromSliceUntilNulError
+until_nul_refusal units = until_nul_refusal_at units (deciding_place units)
