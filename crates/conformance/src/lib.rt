@@ -11,6 +11,8 @@ mod documents;
 #[cfg(test)]
 mod failing_streams;
 #[cfg(test)]
+mod packed;
+#[cfg(test)]
 mod paths;
 #[cfg(test)]
 mod refused_memory;

@@ -1,5 +1,5 @@
 -- What a constructor takes is a string exactly where the first element that no text holds is a NUL in the last place.
-use Rattle.std.proofs.Common.{◌≡◌, ◌≢◌, ℕ, ◌+◌, ◌-◌, ◌<◌, ◌^◌, ◌∙◌, ap, sym, Bool, true, false, All, List, [], ◌∷◌, ◌++◌, length, get_or, take, Some, None, arith, refl}
+use Rattle.std.proofs.Common.{◌≡◌, ◌≢◌, ℕ, ◌+◌, ◌-◌, ◌<◌, ◌^◌, ◌∙◌, ap, sym, Bool, true, false, All, List, [], ◌∷◌, ◌++◌, length, get_or, take, Some, None, Option, arith, refl}
 use Rattle.std.specs.List.{before_first, position, position_or_len}
 use Rattle.std.proofs.lemmas.List.Sums.{position_or_len_is}
 use Rattle.std.proofs.lemmas.List.Quantifiers.{position-Some}
@@ -8,7 +8,8 @@ use Rattle.std.proofs.lemmas.List.{get_or-take, get_or_append_left, length-take-
 use Rattle.std.proofs.Math.Seq.{get_or-append_seam}
 use Rattle.std.proofs.lemmas.Grind.{common_steps}
 use Rattle.uefi_text.proofs.Texts.{IsString-made, without_nul-nul_terminated}
-use Rattle.uefi_text.specs.FromSliceWithNul.{with_nul_refusal, bytes_with_nul_refusal}
+use Rattle.uefi_text.specs.FromSliceWithNul.{with_nul_refusal, with_nul_refusal_at, bytes_with_nul_refusal}
+use Rattle.uefi_text.specs.UnalignedCStr16.{unaligned_refusal_at}
 use Rattle.uefi_text.specs.Latin1.{IsLatin1String}
 use Rattle.uefi_text.specs.Units.{IsTextUnit, IsText, IsString, is_nul, is_deciding, deciding_place, nul_terminated, without_nul}
 
@@ -95,3 +96,25 @@ before_nul-deciding units i place zero =
     let e : position_or_len is_nul units ≡ i = position_or_len_is is_nul units i 0 (omega (arith, found.0)) undecided (λ _. rw zero refl) in
     let ended : take (i + 1) units ≡ nul_terminated (take i units) = take_more units i 0 found.0 ∙ ap (λ u. take i units ++ u ∷ []) zero in
     ap without_nul ended ∙ without_nul-nul_terminated (take i units) ∙ ap (λ n. take n units) (sym e)
+
+-- units that are not refused are a string
+pub IsString-accepted : (units : List ℕ) → ((k : ℕ) → get_or units k 0 < 2 ^ 16) → with_nul_refusal units ≡ None → IsString units
+IsString-accepted units small accepted = go (deciding_place units) refl accepted
+  where
+    go : (o : Option ℕ) → deciding_place units ≡ o → with_nul_refusal_at units o ≡ None → IsString units
+    go None e a = cc
+    go (Some i) e a =
+        let zero : get_or units i 0 ≡ 0 = grind (arith, common_steps) in
+        let last : i + 1 ≡ length units = grind (arith, common_steps) in
+        IsString-deciding_last units i small e zero last
+
+-- packed units that are not refused at a buffer with room are not refused as units
+pub with_nul_refusal-unaligned : (units : List ℕ) → unaligned_refusal_at units (deciding_place units) ≡ None → with_nul_refusal units ≡ None
+with_nul_refusal-unaligned units accepted = go (deciding_place units) accepted
+  where
+    go : (o : Option ℕ) → unaligned_refusal_at units o ≡ None → with_nul_refusal_at units o ≡ None
+    go None a = cc
+    go (Some i) a =
+        let zero : get_or units i 0 ≡ 0 = grind (arith, common_steps) in
+        let last : i + 1 ≡ length units = grind (arith, common_steps) in
+        grind (arith, common_steps)

@@ -4,3 +4,4 @@ pub mod Deciding
 pub mod Texts
 pub mod Printed
 pub mod Values
+pub mod Packing

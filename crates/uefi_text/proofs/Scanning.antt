@@ -4,6 +4,7 @@ use Rattle.std.specs.List.{fold, position, position_or_len}
 use Rattle.std.specs.Str.{IsAscii}
 use Rattle.std.proofs.lemmas.Bool.{cases_Bool, cases_lt}
 use Rattle.std.proofs.lemmas.List.Folds.{fold_stays}
+use Rattle.std.proofs.lemmas.List.Sums.{position_or_len_is}
 use Rattle.std.proofs.lemmas.Simd.{get_or-chunk, length-chunk}
 use Rattle.std.proofs.lemmas.Grind.{common_steps}
 use Rattle.uefi_text.specs.Scans.{beyond_ascii_so_far}
@@ -44,6 +45,18 @@ module _ (p : ℕ → Bool) (step : Bool → ℕ → Bool) (kept : (u : ℕ) →
             let e : get_or (take n (drop from us)) i 0 ≡ get_or us k 0 = get_or-chunk from n us i 0 short ∙ same in
             subst (λ u. p u ≡ false) e (none_in_block (take n (drop from us)) clear i long)
       ]
+
+-- where an element passes and none before it does, a search ends there
+pub position-at : (p : ℕ → Bool) (us : List ℕ) (i : ℕ) → i < length us → ((k : ℕ) → k < i → p (get_or us k 0) ≡ false) → p (get_or us i 0) ≡ true → Some i ≡ position p us
+position-at p us i inside none passes =
+    let e : position_or_len p us ≡ i = position_or_len_is p us i 0 (omega arith) none (λ _. passes) in
+    grind (arith, common_steps)
+
+-- and where none does, it finds nothing
+pub position-nowhere : (p : ℕ → Bool) (us : List ℕ) → ((k : ℕ) → k < length us → p (get_or us k 0) ≡ false) → None ≡ position p us
+position-nowhere p us none =
+    let e : position_or_len p us ≡ length us = position_or_len_is p us (length us) 0 (omega arith) none (λ h. absurd (omega (arith, h))) in
+    grind (arith, common_steps)
 
 -- where no element before a place passes, a search may begin at that place
 search_from : (p : ℕ → Bool) (us : List ℕ) (from : ℕ) → from ≤ length us → ((k : ℕ) → k < from → p (get_or us k 0) ≡ false) → position_or_len p us ≡ from + position_or_len p (drop from us)

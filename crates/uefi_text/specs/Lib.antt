@@ -3,6 +3,9 @@ pub mod Scans
 pub mod Latin1
 pub mod FromSliceUntilNul
 pub mod FromSliceWithNul
+pub mod UnalignedCStr16
 pub mod ErrorTexts
 pub mod FromStr
+pub mod Packed
+pub mod PackedLaws
 pub mod Views

@@ -1,10 +1,14 @@
 -- What a lent value shows. Other crates see these words alone, and no field.
 use Rattle.std.specs.Prelude.{ℕ, List}
+use Rattle.uefi_text.specs.Packed.{packed_items}
 use Rattle.uefi_text.specs.Units.{without_nul}
 use Rattle.uefi_text.specs.declared.strs.CStr8.{CStr8}
 use Rattle.uefi_text.specs.declared.strs.CStr16.{CStr16}
 use Rattle.uefi_text.specs.declared.strs.Char16Slice.{Char16Slice}
 use Rattle.uefi_text.specs.declared.strs.CStr16Iter.{CStr16Iter}
+use Rattle.uefi_text.specs.declared.unaligned_slice.UnalignedSlice.{UnalignedSlice}
+use Rattle.uefi_text.specs.declared.unaligned_slice.UnalignedSliceIter.{UnalignedSliceIter}
+use Rattle.uefi_text.specs.declared.unaligned_slice.UnalignedSliceIntoIter.{UnalignedSliceIntoIter}
 
 -- the bytes of a lent Latin-1 string, its NUL included
 unfoldable pub bytes_of : CStr8 → List ℕ
@@ -21,3 +25,16 @@ units_of part = part.units.now
 -- the code units of the characters that are still to come
 unfoldable pub units_left : CStr16Iter → List ℕ
 units_left iter = iter.units.now
+
+module _ {T : Type 0} {P : _} where
+  -- the numbers of the items of a packed slice
+  unfoldable pub items_of : UnalignedSlice T P → List ℕ
+  items_of slice = packed_items P.SIZE slice.len slice.bytes.now
+
+  -- the numbers of the items that are still to come
+  unfoldable pub items_left : UnalignedSliceIter T P → List ℕ
+  items_left iter = items_of iter.rest
+
+  -- the same, of the iterator that a slice is turned into
+  unfoldable pub into_iter_items_left : UnalignedSliceIntoIter T P → List ℕ
+  into_iter_items_left iter = items_of iter.slice

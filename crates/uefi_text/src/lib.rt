@@ -17,15 +17,19 @@
 //! assert_eq!(rt; broken.err(), Some(FromSliceWithNulError::InvalidChar(1)));
 //! ```
 //!
+//! An [`UnalignedSlice`] reads numbers that lie packed in bytes, at any place of memory.
+//!
 //! In contracts every value is the list of code units that it shows: `text_of` of a [`CStr16`],
 //! `units_of` of a [`Char16Slice`], `units_left` of a [`CStr16Iter`], and a [`CString16`] is its
-//! text. No clause outside this crate speaks of a NUL's place, of a buffer or of a capacity.
+//! text. An [`UnalignedSlice`] is `items_of` it, its numbers. No clause outside this crate speaks
+//! of a NUL's place, of a buffer or of a capacity.
 #![tactic(auto)]
 
 pub mod chars;
 pub mod owned_strs;
 mod scans;
 pub mod strs;
+pub mod unaligned_slice;
 
 pub use chars::{Char8, Char16, CharConversionError, NUL_8, NUL_16};
 pub use owned_strs::{CString16, FromStrError};
@@ -33,3 +37,4 @@ pub use strs::{
     CStr8, CStr16, CStr16Iter, Char16Slice, FromSliceUntilNulError, FromSliceWithNulError,
     FromStrWithBufError, UnalignedCStr16Error, is_latin1, str_num_latin1_chars, str_to_latin1,
 };
+pub use unaligned_slice::{Packed, UnalignedSlice, UnalignedSliceIntoIter, UnalignedSliceIter};

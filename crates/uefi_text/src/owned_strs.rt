@@ -136,7 +136,16 @@ impl<'a> CStr16<'a> {
 }
 
 impl<A: Allocator> CString16<A> {
+    ghost use Rattle.uefi_text.specs.FromSliceWithNul.{with_nul_refusal};
     ghost use Rattle.uefi_text.specs.Views.{text_of};
+
+    /// The string that units spell which were not refused.
+    pub(crate) fn from_accepted(units: Vec<u16, A>) -> Self
+        requires { with_nul_refusal units.items ≡ None }
+        ensures { nul_terminated result ≡ units.items }
+    {
+        CString16 { units }
+    }
 
     /// The empty string. Takes memory for its NUL.
     pub fn new(alloc: A) -> Result<Self, AllocError>

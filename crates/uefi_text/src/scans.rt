@@ -33,13 +33,18 @@ fn undecided_blocks_len(units: &[u16]) -> usize
     len
 }
 
+/// Whether a unit is a NUL or a surrogate.
+pub(crate) fn is_deciding(unit: u16) -> bool
+    ensures { result ≡ is_deciding unit }
+{
+    unit == 0 || is_surrogate(unit)
+}
+
 /// The place of the first NUL or surrogate, unit by unit.
 fn find_deciding_place_by_unit(units: &[u16]) -> Option<usize>
     ensures { result ≡ deciding_place units.now }
 {
-    units
-        .iter()
-        .position(|unit| *unit == 0 || is_surrogate(*unit))
+    units.iter().position(|unit| is_deciding(*unit))
 }
 
 /// The place of the first NUL or surrogate.

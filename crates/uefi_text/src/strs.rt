@@ -413,6 +413,14 @@ impl<'a> CStr16<'a> {
         Ok(CStr16 { units })
     }
 
+    /// The string that units spell which were not refused.
+    pub(crate) fn from_accepted(units: &'a [u16]) -> CStr16<'a>
+        requires { with_nul_refusal units.now ≡ None }
+        ensures { nul_terminated (text_of result) ≡ units.now }
+    {
+        CStr16 { units }
+    }
+
     /// The string that units spell which are known to be one.
     pub(crate) fn from_string(units: &'a [u16]) -> CStr16<'a>
         requires { IsString units.now }

@@ -1,5 +1,5 @@
 -- Each character follows those before it.
-use Rattle.std.proofs.Common.{refl, rules, ap, sym, ◌∙◌, ◌++◌, ℕ, arith}
+use Rattle.std.proofs.Common.{rules, ap, sym, ◌∙◌, ◌++◌, ℕ, arith}
 use Rattle.std.specs.Prelude.{encode_utf8, encode_utf8_all}
 use Rattle.std.proofs.Output.{has_written_append, has_written_of_eq}
 use Rattle.std.proofs.lemmas.Grind.{common_steps}

@@ -1,0 +1,500 @@
+//! Little-endian numbers that lie packed in bytes, wherever the bytes begin.
+//!
+//! The tables and device paths of firmware are packed: a number of several bytes begins where the
+//! field before it ends, at an odd place of memory as well as at an even one, so that no slice of
+//! such numbers can be lent. An [`UnalignedSlice`] lends the bytes in its stead, and puts an item
+//! together each time that one is asked for, the low byte first on every machine.
+//!
+//! ```rust
+//! use uefi_text::UnalignedSlice;
+//!
+//! // A tag of one byte, and behind it two numbers of two bytes each.
+//! let field: &[u8] = &[0x07, 0x10, 0x11, 0x20, 0x21];
+//! if UnalignedSlice::<u16>::fits(&field[1..], 2) {
+//!     let items: UnalignedSlice<u16> = UnalignedSlice::new(&field[1..], 2);
+//!     assert_eq!(rt; items.get(0), Some(0x1110));
+//!     assert_eq!(rt; items.get(1), Some(0x2120));
+//!     assert_eq!(rt; items.get(2), None);
+//! }
+//! ```
+//!
+//! In contracts a slice is `items_of` it, the list of its items' numbers. The trait [`Packed`] says
+//! what can be an item: how many bytes it takes, and which number they spell. A further kind of
+//! item is one more `impl`, and every call here holds of it as it stands.
+#![tactic(auto, using(crate::proofs::Packing::packing), unfolding(crate::specs::Views::items_of, crate::specs::Views::items_left, crate::specs::Views::into_iter_items_left))]
+
+ghost use Rattle.std.specs.Prelude.{◌≡◌, ℕ, ◌+◌, ◌*◌, ◌^◌, ◌<◌, ◌≤◌, ◌↔◌, [], length, map, slice_index, slice_get, slice_range, IfOk, IfErr, IfSome, IsTrue};
+ghost use Rattle.std.specs.Iterator.{UpTo, YieldsFirstBy, item_count};
+ghost use Rattle.std.specs.Iterator.SizeHint.{IsWithinCount};
+ghost use Rattle.std.specs.Option.{option_map};
+ghost use Rattle.std.proofs.Common.{arith};
+ghost use Rattle.uefi_text.specs.Packed.{SpellsOnce, le, packed_items};
+ghost use Rattle.uefi_text.specs.PackedLaws.{spells_once};
+
+use crate::owned_strs::CString16;
+use crate::scans::{find_deciding_place, is_deciding};
+use crate::strs::{CStr16, FromSliceWithNulError, UnalignedCStr16Error};
+use std::alloc::{AllocError, Allocator};
+use std::fmt;
+use std::marker::PhantomData;
+
+/// A number that lies in a fixed count of bytes, the low byte first: `u8`, `u16`, `u32` and `u64`.
+/// In contracts a value is `number` of it.
+pub trait Packed: Copy {
+    /// How many bytes a value takes.
+    const SIZE: usize;
+
+    /// How many bytes a value takes, as contracts see it.
+    ghost SIZE: { ℕ };
+
+    /// The number of a value.
+    ghost number: { Self → ℕ };
+
+    /// The value that exactly `SIZE` bytes spell, the low byte first on every machine: the sum of
+    /// each byte times 256 to the power of its place. Takes no memory.
+    fn read_le(bytes: &[u8]) -> Self
+        requires { length bytes.now ≡ SIZE }
+        ensures { number result ≡ le bytes.now };
+
+    /// A value takes one byte or more.
+    ghost size_above_zero: { 0 < SIZE };
+
+    /// Equal numbers come from equal bytes.
+    ghost spelled_once: { SpellsOnce SIZE };
+}
+
+/// One byte, whose number is the value itself.
+impl Packed for u8 {
+    const SIZE: usize = 1;
+
+    ghost SIZE = { 1 };
+
+    ghost number = { λ value. value };
+
+    fn read_le(bytes: &[u8]) -> u8 {
+        bytes[0]
+    }
+
+    ghost size_above_zero = { Prim.omega arith };
+
+    ghost spelled_once = { spells_once 1 };
+}
+
+/// Two bytes, whose number is the value itself.
+impl Packed for u16 {
+    const SIZE: usize = 2;
+
+    ghost SIZE = { 2 };
+
+    ghost number = { λ value. value };
+
+    fn read_le(bytes: &[u8]) -> u16 {
+        u16::from_le_bytes([bytes[0], bytes[1]])
+    }
+
+    ghost size_above_zero = { Prim.omega arith };
+
+    ghost spelled_once = { spells_once 2 };
+}
+
+/// Four bytes, whose number is the value itself.
+impl Packed for u32 {
+    const SIZE: usize = 4;
+
+    ghost SIZE = { 4 };
+
+    ghost number = { λ value. value };
+
+    fn read_le(bytes: &[u8]) -> u32 {
+        u32::from_le_bytes([bytes[0], bytes[1], bytes[2], bytes[3]])
+    }
+
+    ghost size_above_zero = { Prim.omega arith };
+
+    ghost spelled_once = { spells_once 4 };
+}
+
+/// Eight bytes, whose number is the value itself.
+impl Packed for u64 {
+    const SIZE: usize = 8;
+
+    ghost SIZE = { 8 };
+
+    ghost number = { λ value. value };
+
+    fn read_le(bytes: &[u8]) -> u64 {
+        u64::from_le_bytes([
+            bytes[0], bytes[1], bytes[2], bytes[3], bytes[4], bytes[5], bytes[6], bytes[7],
+        ])
+    }
+
+    ghost size_above_zero = { Prim.omega arith };
+
+    ghost spelled_once = { spells_once 8 };
+}
+
+/// A view of items that lie packed in lent bytes, which may begin at any place of memory. In
+/// contracts it is `items_of` it, the list of the items' numbers.
+#[derive(Copy)]
+pub struct UnalignedSlice<'a, T: Packed> {
+    bytes: &'a [u8],
+    len: usize,
+    items: PhantomData<T>,
+    pub ghost in_bytes: { len * T.SIZE ≤ length bytes.now },
+}
+
+/// The items of a packed slice that are still to come. In contracts it is `items_left` of it.
+#[derive(Drop)]
+pub struct UnalignedSliceIter<'a, T: Packed> {
+    rest: UnalignedSlice<'a, T>,
+}
+
+/// The same, of a packed slice that was given away. In contracts it is `into_iter_items_left` of
+/// it.
+#[derive(Drop)]
+pub struct UnalignedSliceIntoIter<'a, T: Packed> {
+    slice: UnalignedSlice<'a, T>,
+}
+
+impl<'a, T: Packed> UnalignedSlice<'a, T> {
+    ghost use Rattle.uefi_text.specs.Views.{items_of, items_left, into_iter_items_left};
+
+    /// Whether the bytes have room for `len` items: whether `len` times `SIZE`, as a whole number
+    /// that never wraps, is at most the number of bytes. Takes no memory.
+    pub fn fits(bytes: &[u8], len: usize) -> bool
+        ensures { IsTrue result ↔ (len * T.SIZE ≤ length bytes.now) }
+    {
+        match len.checked_mul(T::SIZE) {
+            Some(size) => size <= bytes.len(),
+            None => false,
+        }
+    }
+
+    /// A view of the first `len` items of the bytes, which lie one behind the other from their
+    /// front. The bytes behind the items are never read. The bytes have to have room, as `fits`
+    /// tests. Takes no memory.
+    pub fn new(bytes: &'a [u8], len: usize) -> Self
+        requires { len * T.SIZE ≤ length bytes.now }
+        ensures items { items_of result ≡ packed_items T.SIZE len bytes.now }
+        ensures len { length (items_of result) ≡ len }
+        ensures each { (i : ℕ) → i < len → slice_get (items_of result) i
+            ≡ Some (le (slice_range bytes.now (i * T.SIZE) (i * T.SIZE + T.SIZE))) }
+    {
+        UnalignedSlice {
+            bytes,
+            len,
+            items: PhantomData,
+        }
+    }
+
+    /// How many items there are. Takes no memory.
+    pub fn len(&self) -> usize
+        ensures { result ≡ length (items_of self.now) }
+    {
+        self.len
+    }
+
+    /// Whether there are no items. Takes no memory.
+    pub fn is_empty(&self) -> bool
+        ensures { IsTrue result ↔ (items_of self.now ≡ []) }
+    {
+        self.len == 0
+    }
+
+    /// The item at a place where there is one.
+    fn item(&self, place: usize) -> T
+        requires { place < length (items_of self.now) }
+        ensures { T.number result ≡ slice_index (items_of self.now) place }
+    {
+        let start = place * T::SIZE;
+        T::read_le(&self.bytes[start..start + T::SIZE])
+    }
+
+    /// The item at the place `index`, or `None` from the length on. Takes no memory.
+    pub fn get(&self, index: usize) -> Option<T>
+        ensures { option_map T.number result ≡ slice_get (items_of self.now) index }
+    {
+        if index < self.len {
+            Some(self.item(index))
+        } else {
+            None
+        }
+    }
+
+    /// Takes the first item away, where there is one.
+    fn take_first(&mut self) -> Option<T>
+        ensures { YieldsFirstBy T.number items_of self.old result self.new }
+    {
+        if self.len == 0 {
+            return None;
+        }
+        let (first, others) = self.bytes.split_at(T::SIZE);
+        self.bytes = others;
+        self.len -= 1;
+        Some(T::read_le(first))
+    }
+
+    /// The items in order, each once, and then `None` for ever. The iterator may outlive the view,
+    /// since it lends the same bytes. Takes no memory.
+    pub fn iter(&self) -> UnalignedSliceIter<'a, T>
+        ensures same { items_left result ≡ items_of self.now }
+        ensures bound { length (items_left result) < 2 ^ 64 }
+    {
+        UnalignedSliceIter { rest: *self }
+    }
+
+    /// The items in order, each once, and then `None` for ever. Takes no memory.
+    pub fn into_iter(self) -> UnalignedSliceIntoIter<'a, T>
+        ensures same { into_iter_items_left result ≡ items_of self.entry }
+        ensures bound { length (into_iter_items_left result) < 2 ^ 64 }
+    {
+        UnalignedSliceIntoIter { slice: self }
+    }
+
+    /// Writes the items into `dest`, which has to have as many places as there are items. One pass;
+    /// takes no memory.
+    pub fn copy_to(&self, dest: &mut [T])
+        requires { length dest.old ≡ length (items_of self.now) }
+        ensures { map T.number dest.new ≡ items_of self.now }
+    {
+        for place in 0..self.len {
+            dest[place] = self.item(place);
+        }
+    }
+
+    /// A vector of the items, or `AllocError` where its memory is refused: one request, for exactly
+    /// as many places as there are items. One pass.
+    pub fn to_vec<A: Allocator>(&self, alloc: A) -> Result<Vec<T, A>, AllocError>
+        ensures { IfOk result (λ items. map T.number items.items ≡ items_of self.now) }
+    {
+        let mut items = Vec::with_capacity(alloc, self.len)?;
+        for item in self.iter() {
+            items.push(item)?;
+        }
+        Ok(items)
+    }
+}
+
+/// A clone shows the same items. It takes no memory, and is never refused.
+impl<'a, T: Packed> Clone for UnalignedSlice<'a, T> {
+    ghost use Rattle.std.specs.Prelude.{⊤};
+
+    ghost is_clone = { λ slice clone. clone ≡ slice };
+
+    ghost is_infallible = { λ _. ⊤ };
+
+    fn clone(&self) -> Result<Self, AllocError> {
+        Ok(*self)
+    }
+}
+
+/// Prints the items as a list.
+impl<'a, T: Packed + fmt::Debug> fmt::Debug for UnalignedSlice<'a, T> {
+    fn fmt<W: fmt::Write>(&self, f: &mut fmt::Formatter<W>) -> fmt::Result {
+        f.debug_list().entries(self.iter()).finish()
+    }
+}
+
+impl<'a, T: Packed> Iterator for UnalignedSliceIter<'a, T> {
+    type Item = T;
+
+    ghost use Rattle.uefi_text.specs.Views.{items_left};
+
+    ghost next_gives = { YieldsFirstBy T.number items_left };
+
+    ghost remaining = { item_count items_left };
+
+    fn next(&mut self) -> Option<T> {
+        self.rest.take_first()
+    }
+
+    /// Exactly as many as are left.
+    fn size_hint(&self) -> (usize, Option<usize>)
+        ensures lower { IsWithinCount result.0 (item_count items_left self.now) }
+        ensures upper { IfSome result.1 (UpTo (item_count items_left self.now)) }
+        ensures exact { let count = length (items_left self.now) in
+            result ≡ (count, Some count) }
+    {
+        (self.rest.len(), Some(self.rest.len()))
+    }
+}
+
+impl<'a, T: Packed + fmt::Debug> fmt::Debug for UnalignedSliceIter<'a, T> {
+    fn fmt<W: fmt::Write>(&self, f: &mut fmt::Formatter<W>) -> fmt::Result {
+        f.debug_tuple("UnalignedSliceIter")
+            .field(&self.rest)
+            .finish()
+    }
+}
+
+impl<'a, T: Packed> Iterator for UnalignedSliceIntoIter<'a, T> {
+    type Item = T;
+
+    ghost use Rattle.uefi_text.specs.Views.{into_iter_items_left};
+
+    ghost next_gives = { YieldsFirstBy T.number into_iter_items_left };
+
+    ghost remaining = { item_count into_iter_items_left };
+
+    fn next(&mut self) -> Option<T> {
+        self.slice.take_first()
+    }
+
+    /// Exactly as many as are left.
+    fn size_hint(&self) -> (usize, Option<usize>)
+        ensures lower { IsWithinCount result.0 (item_count into_iter_items_left self.now) }
+        ensures upper { IfSome result.1 (UpTo (item_count into_iter_items_left self.now)) }
+        ensures exact { let count = length (into_iter_items_left self.now) in
+            result ≡ (count, Some count) }
+    {
+        (self.slice.len(), Some(self.slice.len()))
+    }
+}
+
+impl<'a, T: Packed + fmt::Debug> fmt::Debug for UnalignedSliceIntoIter<'a, T> {
+    fn fmt<W: fmt::Write>(&self, f: &mut fmt::Formatter<W>) -> fmt::Result {
+        f.debug_tuple("UnalignedSliceIntoIter")
+            .field(&self.slice)
+            .finish()
+    }
+}
+
+/// Packed code units as strings.
+impl<'a> UnalignedSlice<'a, u16> {
+    ghost use Rattle.std.specs.Prelude.{None, drop, unwrap_or, ◌++◌};
+    ghost use Rattle.std.specs.Result.{result_err};
+    ghost use Rattle.uefi_text.specs.FromSliceWithNul.{with_nul_refusal};
+    ghost use Rattle.uefi_text.specs.UnalignedCStr16.{unaligned_refusal, with_front};
+    ghost use Rattle.uefi_text.specs.Units.{deciding_place, nul_terminated};
+    ghost use Rattle.uefi_text.specs.Views.{items_of, text_of};
+
+    /// The place of the first NUL or surrogate.
+    fn find_deciding_place(&self) -> Option<usize>
+        ensures { result ≡ deciding_place (items_of self.now) }
+    {
+        for place in 0..self.len() {
+            let unit = self.item(place);
+            if is_deciding(unit) {
+                return Some(place);
+            }
+        }
+        None
+    }
+
+    /// Why the items are no string, if they are none.
+    fn check_with_nul(&self) -> Result<(), FromSliceWithNulError>
+        ensures { result_err result ≡ with_nul_refusal (items_of self.now) }
+    {
+        let Some(place) = self.find_deciding_place() else {
+            return Err(FromSliceWithNulError::NotNulTerminated);
+        };
+        if self.item(place) != 0 {
+            return Err(FromSliceWithNulError::InvalidChar(place));
+        }
+        if place + 1 != self.len() {
+            return Err(FromSliceWithNulError::InteriorNul(place));
+        }
+        Ok(())
+    }
+
+    /// The string that the items spell, in memory of its own; refused as by
+    /// [`CStr16::from_u16_with_nul`]. All items are looked at before memory is asked for, in one
+    /// request.
+    pub fn to_cstring16<A: Allocator>(
+        &self,
+        alloc: A,
+    ) -> Result<CString16<A>, FromSliceWithNulError>
+        ensures ok { IfOk result (λ string. nul_terminated string ≡ items_of self.now) }
+        ensures accepted { IfOk result (λ _. with_nul_refusal (items_of self.now) ≡ None) }
+        ensures refusal { IfErr result (λ error.
+            error ≡ unwrap_or (with_nul_refusal (items_of self.now)) FromSliceWithNulError.OutOfMemory) }
+    {
+        self.check_with_nul()?;
+        match self.to_vec(alloc) {
+            Ok(units) => Ok(CString16::from_accepted(units)),
+            Err(_) => Err(FromSliceWithNulError::OutOfMemory),
+        }
+    }
+
+    /// Writes the items into the front of a buffer. What stands behind them stays.
+    fn copy_to_front(&self, buffer: &mut [u16])
+        requires { length (items_of self.now) ≤ length buffer.old }
+        ensures { buffer.new ≡ items_of self.now ++ drop (length (items_of self.now)) buffer.old }
+    {
+        let len = self.len();
+        self.copy_to(&mut buffer[..len]);
+    }
+    /// Writes the string that the items spell into the front of a buffer.
+    ///
+    /// A buffer of fewer places than there are items is `BufferTooSmall` and stays as it was. Else its
+    /// front holds the items, what stands behind them stays, and the first item that is a NUL or a
+    /// surrogate decides, as in [`CStr16::from_u16_with_nul`]. Takes no memory.
+    pub fn write_cstr16(&self, buffer: &mut [u16]) -> Result<(), UnalignedCStr16Error>
+        ensures buffer { buffer.new ≡ with_front (items_of self.now) buffer.old }
+        ensures refusal { result_err result ≡ unaligned_refusal (items_of self.now) (length buffer.old) }
+    {
+        let len = self.len();
+        if buffer.len() < len {
+            return Err(UnalignedCStr16Error::BufferTooSmall);
+        }
+        self.copy_to_front(buffer);
+        let Some(place) = find_deciding_place(&buffer[..len]) else {
+            return Err(UnalignedCStr16Error::NotNulTerminated);
+        };
+        if buffer[place] != 0 {
+            return Err(UnalignedCStr16Error::InvalidChar(place));
+        }
+        if place + 1 != len {
+            return Err(UnalignedCStr16Error::InteriorNul(place));
+        }
+        Ok(())
+    }
+
+    /// The string that the items spell, as a view of the buffer's front, which they are copied to. Refused
+    /// as [`UnalignedSlice::write_cstr16`] says, which also says what the buffer then holds.
+    pub fn to_cstr16<'b>(&self, buffer: &'b mut [u16]) -> Result<CStr16<'b>, UnalignedCStr16Error>
+        ensures ok { IfOk result (λ string. nul_terminated (text_of string) ≡ items_of self.now) }
+        ensures refusal { result_err result ≡ unaligned_refusal (items_of self.now) (length buffer.old) }
+    {
+        self.write_cstr16(buffer)?;
+        Ok(CStr16::from_accepted(&buffer[..self.len()]))
+    }
+}
+
+impl<'a> CStr16<'a> {
+    ghost use Rattle.std.specs.Result.{result_err};
+    ghost use Rattle.uefi_text.specs.UnalignedCStr16.{unaligned_refusal};
+    ghost use Rattle.uefi_text.specs.Units.{nul_terminated};
+    ghost use Rattle.uefi_text.specs.Views.{items_of, text_of};
+
+    /// As [`UnalignedSlice::to_cstr16`].
+    pub fn from_unaligned_slice(
+        source: &UnalignedSlice<'_, u16>,
+        buffer: &'a mut [u16],
+    ) -> Result<CStr16<'a>, UnalignedCStr16Error>
+        ensures ok { IfOk result (λ string. nul_terminated (text_of string) ≡ items_of source.now) }
+        ensures refusal { result_err result ≡ unaligned_refusal (items_of source.now) (length buffer.old) }
+    {
+        source.to_cstr16(buffer)
+    }
+}
+
+impl<A: Allocator> CString16<A> {
+    ghost use Rattle.std.specs.Prelude.{None, unwrap_or};
+    ghost use Rattle.uefi_text.specs.FromSliceWithNul.{with_nul_refusal};
+    ghost use Rattle.uefi_text.specs.Units.{nul_terminated};
+    ghost use Rattle.uefi_text.specs.Views.{items_of};
+
+    /// As [`UnalignedSlice::to_cstring16`].
+    pub fn try_from_unaligned(
+        alloc: A,
+        source: &UnalignedSlice<'_, u16>,
+    ) -> Result<Self, FromSliceWithNulError>
+        ensures ok { IfOk result (λ string. nul_terminated string ≡ items_of source.now) }
+        ensures accepted { IfOk result (λ _. with_nul_refusal (items_of source.now) ≡ None) }
+        ensures refusal { IfErr result (λ error. error
+            ≡ unwrap_or (with_nul_refusal (items_of source.now)) FromSliceWithNulError.OutOfMemory) }
+    {
+        source.to_cstring16(alloc)
+    }
+}
