@@ -15,7 +15,9 @@ le_once (x ∷ xs) (y ∷ ys) same xs_bytes ys_bytes e =
     let y_byte = All-head IsByte y ys ys_bytes in
     let firsts : x ≡ y = omega arith in
     let others : le xs ≡ le ys = omega arith in
-    let rests = le_once xs ys (omega arith) (All-tail IsByte x xs xs_bytes) (All-tail IsByte y ys ys_bytes) others in
+    let xs_rest = All-tail IsByte x xs xs_bytes in
+    let ys_rest = All-tail IsByte y ys ys_bytes in
+    let rests = le_once xs ys (omega arith) xs_rest ys_rest others in
     cc
 
 pub spells_once : (size : ℕ) → SpellsOnce size

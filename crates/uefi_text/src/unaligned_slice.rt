@@ -424,11 +424,12 @@ impl<'a> UnalignedSlice<'a, u16> {
         let len = self.len();
         self.copy_to(&mut buffer[..len]);
     }
+
     /// Writes the string that the items spell into the front of a buffer.
     ///
-    /// A buffer of fewer places than there are items is `BufferTooSmall` and stays as it was. Else its
-    /// front holds the items, what stands behind them stays, and the first item that is a NUL or a
-    /// surrogate decides, as in [`CStr16::from_u16_with_nul`]. Takes no memory.
+    /// A buffer of fewer places than there are items is `BufferTooSmall` and stays as it was. Else
+    /// its front holds the items, what stands behind them stays, and the first item that is a NUL
+    /// or a surrogate decides, as in [`CStr16::from_u16_with_nul`]. Takes no memory.
     pub fn write_cstr16(&self, buffer: &mut [u16]) -> Result<(), UnalignedCStr16Error>
         ensures buffer { buffer.new ≡ with_front (items_of self.now) buffer.old }
         ensures refusal { result_err result ≡ unaligned_refusal (items_of self.now) (length buffer.old) }
@@ -450,8 +451,9 @@ impl<'a> UnalignedSlice<'a, u16> {
         Ok(())
     }
 
-    /// The string that the items spell, as a view of the buffer's front, which they are copied to. Refused
-    /// as [`UnalignedSlice::write_cstr16`] says, which also says what the buffer then holds.
+    /// The string that the items spell, as a view of the buffer's front, which they are copied to.
+    /// Refused as [`UnalignedSlice::write_cstr16`] says, which also says what the buffer then
+    /// holds. Takes no memory.
     pub fn to_cstr16<'b>(&self, buffer: &'b mut [u16]) -> Result<CStr16<'b>, UnalignedCStr16Error>
         ensures ok { IfOk result (λ string. nul_terminated (text_of string) ≡ items_of self.now) }
         ensures refusal { result_err result ≡ unaligned_refusal (items_of self.now) (length buffer.old) }
@@ -467,7 +469,7 @@ impl<'a> CStr16<'a> {
     ghost use Rattle.uefi_text.specs.Units.{nul_terminated};
     ghost use Rattle.uefi_text.specs.Views.{items_of, text_of};
 
-    /// As [`UnalignedSlice::to_cstr16`].
+    /// As [`UnalignedSlice::to_cstr16`]. Takes no memory.
     pub fn from_unaligned_slice(
         source: &UnalignedSlice<'_, u16>,
         buffer: &'a mut [u16],
@@ -485,7 +487,7 @@ impl<A: Allocator> CString16<A> {
     ghost use Rattle.uefi_text.specs.Units.{nul_terminated};
     ghost use Rattle.uefi_text.specs.Views.{items_of};
 
-    /// As [`UnalignedSlice::to_cstring16`].
+    /// As [`UnalignedSlice::to_cstring16`], with one request for memory.
     pub fn try_from_unaligned(
         alloc: A,
         source: &UnalignedSlice<'_, u16>,
