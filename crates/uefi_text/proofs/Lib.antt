@@ -5,3 +5,4 @@ pub mod Texts
 pub mod Printed
 pub mod Values
 pub mod Packing
+pub mod Runs

@@ -8,4 +8,5 @@ pub mod ErrorTexts
 pub mod FromStr
 pub mod Packed
 pub mod PackedLaws
+pub mod Runs
 pub mod Views

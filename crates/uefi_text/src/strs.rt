@@ -6,6 +6,7 @@ ghost use Rattle.std.specs.Prelude.{◌≡◌, ◌<◌, ◌≤◌, ◌+◌, ◌*
 ghost use Rattle.std.specs.Result.{result_err};
 ghost use Rattle.std.specs.Str.{chars};
 ghost use Rattle.uefi_text.specs.Latin1.{IsLatin1, IsLatin1String};
+ghost use Rattle.uefi_text.specs.Runs.{GivesEach};
 ghost use Rattle.uefi_text.specs.Units.{IsString, IsText, IsChar16, is_nul, nul_terminated, without_nul};
 
 use crate::chars::Char16;
@@ -465,6 +466,7 @@ impl<'a> CStr16<'a> {
     pub fn iter(&self) -> CStr16Iter<'a>
         ensures same { units_left result ≡ text_of self.now }
         ensures bound { length (units_left result) < 2 ^ 64 }
+        ensures runs { GivesEach (λ unit. unit) units_left result }
     {
         self.as_slice().iter()
     }
@@ -606,6 +608,7 @@ impl<'a> Char16Slice<'a> {
     pub fn iter(&self) -> CStr16Iter<'a>
         ensures same { units_left result ≡ units_of self.now }
         ensures bound { length (units_left result) < 2 ^ 64 }
+        ensures runs { GivesEach (λ unit. unit) units_left result }
     {
         let _units = self.units.len();
         CStr16Iter { units: self.units }

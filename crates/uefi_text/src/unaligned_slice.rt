@@ -30,6 +30,7 @@ ghost use Rattle.std.specs.Option.{option_map};
 ghost use Rattle.std.proofs.Common.{arith};
 ghost use Rattle.uefi_text.specs.Packed.{SpellsOnce, le, packed_items};
 ghost use Rattle.uefi_text.specs.PackedLaws.{spells_once};
+ghost use Rattle.uefi_text.specs.Runs.{GivesEach};
 
 use crate::owned_strs::CString16;
 use crate::scans::{find_deciding_place, is_deciding};
@@ -239,6 +240,7 @@ impl<'a, T: Packed> UnalignedSlice<'a, T> {
     pub fn iter(&self) -> UnalignedSliceIter<'a, T>
         ensures same { items_left result ≡ items_of self.now }
         ensures bound { length (items_left result) < 2 ^ 64 }
+        ensures runs { GivesEach T.number items_left result }
     {
         UnalignedSliceIter { rest: *self }
     }
@@ -247,6 +249,7 @@ impl<'a, T: Packed> UnalignedSlice<'a, T> {
     pub fn into_iter(self) -> UnalignedSliceIntoIter<'a, T>
         ensures same { into_iter_items_left result ≡ items_of self.entry }
         ensures bound { length (into_iter_items_left result) < 2 ^ 64 }
+        ensures runs { GivesEach T.number into_iter_items_left result }
     {
         UnalignedSliceIntoIter { slice: self }
     }
