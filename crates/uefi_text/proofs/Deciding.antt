@@ -1,5 +1,5 @@
 -- What a constructor takes is a string exactly where the first element that no text holds is a NUL in the last place.
-use Rattle.std.proofs.Common.{◌≡◌, ◌≢◌, ℕ, ◌+◌, ◌-◌, ◌<◌, ◌^◌, ◌∙◌, ap, sym, Bool, true, false, All, List, [], ◌∷◌, ◌++◌, length, get_or, take, Some, None, Option, arith, refl}
+use Rattle.std.proofs.Common.{◌≡◌, ◌≢◌, ℕ, ◌+◌, ◌-◌, ◌<◌, ◌^◌, ◌∙◌, ap, subst, sym, Bool, true, false, All, List, [], ◌∷◌, ◌++◌, length, get_or, take, Some, None, Option, arith, refl}
 use Rattle.std.specs.List.{before_first, position, position_or_len}
 use Rattle.std.proofs.lemmas.List.Sums.{position_or_len_is}
 use Rattle.std.proofs.lemmas.List.Quantifiers.{position-Some}
@@ -8,10 +8,10 @@ use Rattle.std.proofs.lemmas.List.{get_or-take, get_or_append_left, length-take-
 use Rattle.std.proofs.Math.Seq.{get_or-append_seam}
 use Rattle.std.proofs.lemmas.Grind.{common_steps}
 use Rattle.uefi_text.proofs.Texts.{IsString-made, without_nul-nul_terminated}
-use Rattle.uefi_text.specs.FromSliceWithNul.{with_nul_refusal, with_nul_refusal_at, bytes_with_nul_refusal}
+use Rattle.uefi_text.specs.FromSliceWithNul.{with_nul_refusal, with_nul_refusal_at, first_nul_refusal}
 use Rattle.uefi_text.specs.UnalignedCStr16.{unaligned_refusal_at}
 use Rattle.uefi_text.specs.Latin1.{IsLatin1String}
-use Rattle.uefi_text.specs.Units.{IsTextUnit, IsText, IsString, is_nul, is_deciding, deciding_place, nul_terminated, without_nul}
+use Rattle.uefi_text.specs.Units.{IsChar16, IsTextUnit, IsText, IsString, is_nul, is_deciding, deciding_place, nul_terminated, without_nul}
 
 -- a list that ends in 0
 ends_in_nul : (units : List ℕ) (i : ℕ) → i + 1 ≡ length units → get_or units i 0 ≡ 0 → units ≡ take i units ++ 0 ∷ []
@@ -68,8 +68,8 @@ IsLatin1String-nul_last bytes i place last =
     let before = undecided_before is_nul refl bytes i place zero last in
     (before.0, All-weaker (λ b. is_nul b ≡ false) (λ b. b ≢ 0) (λ b h. λ e. grind (arith, common_steps)) (without_nul bytes) before.1)
 
-pub bytes_with_nul_refusal-IsLatin1String : (bytes : List ℕ) → IsLatin1String bytes → bytes_with_nul_refusal bytes ≡ None
-bytes_with_nul_refusal-IsLatin1String bytes string =
+pub first_nul_refusal-IsLatin1String : (bytes : List ℕ) → IsLatin1String bytes → first_nul_refusal bytes ≡ None
+first_nul_refusal-IsLatin1String bytes string =
     let found = position-undecided_before is_nul refl bytes string.0 (All-weaker (λ b. b ≢ 0) (λ b. is_nul b ≡ false) (λ b h. grind (arith, common_steps)) (without_nul bytes) string.1) in
     rw found.0 (grind (arith, common_steps))
 
@@ -96,6 +96,24 @@ before_nul-deciding units i place zero =
     let e : position_or_len is_nul units ≡ i = position_or_len_is is_nul units i 0 (omega (arith, found.0)) undecided (λ _. rw zero refl) in
     let ended : take (i + 1) units ≡ nul_terminated (take i units) = take_more units i 0 found.0 ∙ ap (λ u. take i units ++ u ∷ []) zero in
     ap without_nul ended ∙ without_nul-nul_terminated (take i units) ∙ ap (λ n. take n units) (sym e)
+
+-- a character that is no NUL may stand in a text
+IsTextUnit-character : (u : ℕ) → IsChar16 u → is_nul u ≡ false → IsTextUnit u
+IsTextUnit-character u character no_nul = grind (arith, common_steps)
+
+-- characters up to and with their first NUL are a string
+pub IsString-characters : (characters : List ℕ) (i : ℕ) → position is_nul characters ≡ Some i → All IsChar16 (take (i + 1) characters) → IsString (take (i + 1) characters)
+IsString-characters characters i place are_characters =
+    let found = position-Some is_nul characters i 0 place in
+    let zero : get_or characters i 0 ≡ 0 = grind (arith, common_steps, found.1) in
+    let ended : take (i + 1) characters ≡ nul_terminated (take i characters) = take_more characters i 0 found.0 ∙ ap (λ u. take i characters ++ u ∷ []) zero in
+    let text : IsText (take i characters) = All-from_get_or IsTextUnit (take i characters) 0 (λ k h.
+    let below : k < i = omega (arith, length-take-le i characters (omega (arith, found.0))) in
+    let inside : k < length (take (i + 1) characters) = omega (arith, below, length-take-le (i + 1) characters (omega (arith, found.0))) in
+    let same : get_or (take (i + 1) characters) k 0 ≡ get_or characters k 0 = get_or-take (i + 1) characters k 0 (omega (arith, below)) in
+    let character : IsChar16 (get_or characters k 0) = subst IsChar16 same (are_characters k 0 inside) in
+    rw get_or-take (IsTextUnit-character (get_or characters k 0) character (found.2 k below))) in
+    IsString-made (take (i + 1) characters) (take i characters) ended text
 
 -- units that are not refused are a string
 pub IsString-accepted : (units : List ℕ) → ((k : ℕ) → get_or units k 0 < 2 ^ 16) → with_nul_refusal units ≡ None → IsString units

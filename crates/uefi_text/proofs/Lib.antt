@@ -5,4 +5,5 @@ pub mod Texts
 pub mod Printed
 pub mod Values
 pub mod Packing
+pub mod UnitBytes
 pub mod Runs

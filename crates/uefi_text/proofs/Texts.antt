@@ -6,7 +6,7 @@ use Rattle.std.specs.Prelude.{encode_utf8}
 use Rattle.std.proofs.lemmas.Str.{chars_past_char}
 use Rattle.std.proofs.lemmas.List.{length-append, map-append}
 use Rattle.std.proofs.Math.Seq.{take-append_seam}
-use Rattle.std.proofs.lemmas.List.Elements.{All-nil, All-cons, All-map, All-weaker}
+use Rattle.std.proofs.lemmas.List.Elements.{All-nil, All-cons, All-head, All-map, All-tail, All-weaker}
 use Rattle.std.proofs.Math.Utf8.{scalar, scalars, scalar_cases}
 use Rattle.std.proofs.lemmas.Grind.{common_steps}
 use Rattle.uefi_text.specs.Units.{replaced, IsText, IsTextUnit, IsString, nul_terminated, without_nul}
@@ -77,3 +77,14 @@ IsText-chars (c ∷ cs) are_scalars none =
     let undecided : is_deciding_char c ≡ false = grind (arith, common_steps) in
     let rest : find is_deciding_char cs ≡ None = grind (arith, common_steps) in
     All-cons IsTextUnit c cs (IsTextUnit-char c first undecided) (IsText-chars cs others rest)
+
+-- a unit of a text is a character
+scalar-IsTextUnit : (u : ℕ) → IsTextUnit u → scalar u ≡ true
+scalar-IsTextUnit u unit = grind (arith, common_steps)
+
+pub scalars-IsText : (text : List ℕ) → IsText text → scalars text ≡ true
+scalars-IsText [] is_text = refl
+scalars-IsText (u ∷ us) is_text =
+    let first = scalar-IsTextUnit u (All-head IsTextUnit u us is_text) in
+    let others = scalars-IsText us (All-tail IsTextUnit u us is_text) in
+    grind (arith, common_steps)

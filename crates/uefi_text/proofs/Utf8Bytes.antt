@@ -1,10 +1,11 @@
 -- What the bytes of a Rust text say of its characters.
-use Rattle.std.proofs.Common.{◌≡◌, ◌↔◌, ℕ, ◌<◌, ◌≤◌, ◌+◌, ◌/◌, ◌%◌, ◌==◌, ◌||◌, nat_le, ◌++◌, ◌∙◌, ap, zero, suc, Bool, true, false, List, [], ◌∷◌, None, arith, refl, sym, inl, inr}
+use Rattle.std.proofs.Common.{◌≡◌, ◌↔◌, ℕ, ◌<◌, ◌≤◌, ◌+◌, ◌/◌, ◌%◌, ◌==◌, ◌||◌, nat_le, ◌++◌, ◌∙◌, ap, zero, suc, Bool, true, false, List, [], ◌∷◌, get_or, length, None, arith, refl, sym, inl, inr}
 use Rattle.std.specs.Char.{encode_utf8}
-use Rattle.std.specs.List.{find, fold}
-use Rattle.std.specs.Str.{chars, IsAscii, IsUtf8}
+use Rattle.std.specs.List.{count_by, find, fold}
+use Rattle.std.specs.Str.{chars, encode_utf8_all, IsAscii, IsUtf8}
 use Rattle.std.proofs.lemmas.Bool.{cases_Bool, cases_lt, le-leb, le-ltb, lt-leb, lt-ltb}
 use Rattle.std.proofs.lemmas.List.Elements.{All-cons, All-head, All-nil, All-tail}
+use Rattle.std.proofs.lemmas.List.{length-append}
 use Rattle.std.proofs.lemmas.List.Folds.{fold_stays}
 use Rattle.std.proofs.lemmas.Str.{chars-IsAscii, encode_ascii, encodes-chars}
 use Rattle.std.proofs.lemmas.Grind.{common_steps}
@@ -93,6 +94,33 @@ unfolding encode_utf8
 encode_utf8-three c low high =
     let one : 128 ≤ c = omega arith in
     rw (le-ltb c 128 one, le-ltb c 2048 low, lt-ltb c 65536 high) refl
+
+pub length-encode_utf8-two : (c : ℕ) → 128 ≤ c → c < 2048 → length (encode_utf8 c) ≡ 2
+length-encode_utf8-two c low high = rw (encode_utf8-two c low high) refl
+
+pub length-encode_utf8-three : (c : ℕ) → 2048 ≤ c → c < 65536 → length (encode_utf8 c) ≡ 3
+length-encode_utf8-three c low high = rw (encode_utf8-three c low high) refl
+
+pub ruleset unit_widths = (encode_utf8-two, encode_utf8-three, length-encode_utf8-two, length-encode_utf8-three, encode_ascii)
+
+-- a unit has one byte, a second from U+0080 on, and a third from U+0800 on
+length-encode_utf8-unit : (u : ℕ) (us : List ℕ) → u < 65536 → length (encode_utf8 u) + count_by (λ v. nat_le 0x80 v) us + count_by (λ v. nat_le 0x800 v) us ≡ 1 + count_by (λ v. nat_le 0x80 v) (u ∷ us) + count_by (λ v. nat_le 0x800 v) (u ∷ us)
+length-encode_utf8-unit u us small =
+    elim (cases_lt u 128) [
+      | inl low ↦ let one = encode_ascii u low in grind (arith, common_steps)
+      | inr high ↦
+          elim (cases_lt u 2048) [
+            | inl low ↦ let two = length-encode_utf8-two u high low in grind (arith, common_steps)
+            | inr higher ↦ let three = length-encode_utf8-three u higher small in grind (arith, common_steps)
+          ]
+    ]
+
+pub length-encode_utf8_all : (us : List ℕ) → ((k : ℕ) → get_or us k 0 < 65536) → length (encode_utf8_all us) ≡ length us + count_by (λ v. nat_le 0x80 v) us + count_by (λ v. nat_le 0x800 v) us
+length-encode_utf8_all [] small = refl
+length-encode_utf8_all (u ∷ us) small =
+    let first = length-encode_utf8-unit u us (small 0) in
+    let others = length-encode_utf8_all us (λ k. small (suc k)) in
+    omega (arith, first, others, length-append (encode_utf8 u) (encode_utf8_all us))
 
 -- a byte below 0xc4 is passed over
 latin1_byte : (b : ℕ) (bs : List ℕ) → b < 0xc4 → fold byte_beyond_latin1_so_far false (b ∷ bs) ≡ fold byte_beyond_latin1_so_far false bs

@@ -17,11 +17,12 @@ with_nul_refusal_at units (Some i) =
 abbrev pub with_nul_refusal : List ℕ → Option FromSliceWithNulError
 with_nul_refusal units = with_nul_refusal_at units (deciding_place units)
 
--- the refusal by the first NUL of bytes: it is right where it is the last byte
-abbrev pub bytes_with_nul_refusal_at : List ℕ → Option ℕ → Option FromSliceWithNulError
-bytes_with_nul_refusal_at bytes None = Some NotNulTerminated
-bytes_with_nul_refusal_at bytes (Some i) = if i + 1 == length bytes then None else Some (InteriorNul i)
+-- the refusal by the first NUL: it is right where it is the last element
+abbrev pub first_nul_refusal_at : List ℕ → Option ℕ → Option FromSliceWithNulError
+first_nul_refusal_at elements None = Some NotNulTerminated
+first_nul_refusal_at elements (Some i) = if i + 1 == length elements then None else Some (InteriorNul i)
 
--- the refusal of bytes, or none where they are a NUL-terminated string
-abbrev pub bytes_with_nul_refusal : List ℕ → Option FromSliceWithNulError
-bytes_with_nul_refusal bytes = bytes_with_nul_refusal_at bytes (position is_nul bytes)
+-- the refusal of bytes of Latin-1, or of characters, among which there are no surrogates; or none
+-- where they are a NUL-terminated string
+abbrev pub first_nul_refusal : List ℕ → Option FromSliceWithNulError
+first_nul_refusal elements = first_nul_refusal_at elements (position is_nul elements)

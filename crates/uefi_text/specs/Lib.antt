@@ -7,6 +7,7 @@ pub mod UnalignedCStr16
 pub mod ErrorTexts
 pub mod FromStr
 pub mod Packed
+pub mod UnitBytes
 pub mod PackedLaws
 pub mod Runs
 pub mod Views

@@ -25,12 +25,15 @@
 //! of a NUL's place, of a buffer or of a capacity.
 #![tactic(auto)]
 
+pub mod char_sink;
 pub mod chars;
 pub mod owned_strs;
 mod scans;
 pub mod strs;
 pub mod unaligned_slice;
+mod utf8;
 
+pub use char_sink::CharSink;
 pub use chars::{Char8, Char16, CharConversionError, NUL_8, NUL_16};
 pub use owned_strs::{CString16, FromStrError};
 pub use strs::{

@@ -1,13 +1,13 @@
 //! NUL-terminated UCS-2 strings that are owned, and what of Rust text is refused as one. A string
 //! keeps its NUL in the vector, which nothing outside this module sees.
-ghost use Rattle.std.specs.Prelude.{◌≡◌, ◌≢◌, ℕ, ◌+◌, ◌<◌, ◌↔◌, ◌++◌, [], List, None, length, map, find, unwrap_or, IsTrue, IfOk, IfErr};
+ghost use Rattle.std.specs.Prelude.{◌≡◌, ◌≢◌, ℕ, ◌+◌, ◌<◌, ◌↔◌, ◌++◌, [], All, List, None, length, map, find, position, unwrap_or, IsTrue, IfOk, IfErr};
 ghost use Rattle.std.specs.Str.{chars};
-ghost use Rattle.uefi_text.specs.Units.{nul_terminated, replaced};
+ghost use Rattle.uefi_text.specs.Units.{IsChar16, is_nul, nul_terminated, replaced};
 ghost use Rattle.uefi_text.specs.FromStr.{is_deciding_char, from_str_refusal};
 
-use crate::chars::Char16;
+use crate::chars::{Char16, NUL_16};
 use crate::scans::{has_deciding_byte, is_ascii_text, replace_units, widen};
-use crate::strs::CStr16;
+use crate::strs::{CStr16, FromSliceUntilNulError, FromSliceWithNulError};
 use std::alloc::{AllocError, Allocator, Global};
 use std::error::Error;
 use std::fmt;
@@ -120,9 +120,84 @@ fn units_of_text<A: Allocator>(alloc: A, text: &str) -> Result<Vec<u16, A>, From
     }
 }
 
-/// The ways from a lent string into one that is owned.
+/// The place of the first NUL.
+fn find_nul(characters: &[Char16]) -> Option<usize>
+    ensures { result ≡ position is_nul characters.now }
+{
+    characters.iter().position(|character| *character == NUL_16)
+}
+
+/// The units of characters, in one allocation.
+fn units_of_characters<A: Allocator>(
+    alloc: A,
+    characters: &[Char16],
+) -> Result<Vec<u16, A>, AllocError>
+    ensures same { IfOk result (λ units. units.items ≡ characters.now) }
+    ensures are_characters { IfOk result (λ units. All IsChar16 units.items) }
+{
+    let mut units = Vec::with_capacity(alloc, characters.len())?;
+    for character in characters {
+        units.push(u16::from(*character))?;
+    }
+    Ok(units)
+}
+
+/// The ways from characters, and from a lent string, into a string that is owned.
 impl<'a> CStr16<'a> {
+    ghost use Rattle.std.specs.List.{before_first};
+    ghost use Rattle.uefi_text.specs.FromSliceUntilNul.{missing_nul_refusal};
+    ghost use Rattle.uefi_text.specs.FromSliceWithNul.{first_nul_refusal};
     ghost use Rattle.uefi_text.specs.Views.{text_of};
+
+    /// The string of the characters up to the first NUL, in memory of its own.
+    ///
+    /// Where there is no NUL the answer is `NoNul`, and where memory is refused `OutOfMemory`. What
+    /// follows the NUL is not looked at. `InvalidChar` is never answered: no character is a surrogate.
+    /// All is looked at before memory is asked for, in one request.
+    pub fn from_char16_until_nul<A: Allocator>(
+        alloc: A,
+        characters: &[Char16],
+    ) -> Result<CString16<A>, FromSliceUntilNulError>
+        ensures ok { IfOk result (λ string. string ≡ before_first is_nul characters.now) }
+        ensures accepted { IfOk result (λ _. missing_nul_refusal characters.now ≡ None) }
+        ensures refusal { IfErr result (λ error.
+            error ≡ unwrap_or (missing_nul_refusal characters.now) FromSliceUntilNulError.OutOfMemory) }
+    {
+        let Some(end) = find_nul(characters) else {
+            return Err(FromSliceUntilNulError::NoNul);
+        };
+        match units_of_characters(alloc, &characters[..end + 1]) {
+            Ok(units) => Ok(CString16 { units }),
+            Err(_) => Err(FromSliceUntilNulError::OutOfMemory),
+        }
+    }
+
+    /// The string that all of the characters spell, in memory of its own.
+    ///
+    /// The first NUL decides: before the last place it is refused as `InteriorNul` with its place, and
+    /// where there is none the answer is `NotNulTerminated`; `OutOfMemory` comes last. `InvalidChar` is
+    /// never answered: no character is a surrogate. All is looked at before memory is asked for, in one
+    /// request.
+    pub fn from_char16_with_nul<A: Allocator>(
+        alloc: A,
+        characters: &[Char16],
+    ) -> Result<CString16<A>, FromSliceWithNulError>
+        ensures ok { IfOk result (λ string. nul_terminated string ≡ characters.now) }
+        ensures accepted { IfOk result (λ _. first_nul_refusal characters.now ≡ None) }
+        ensures refusal { IfErr result (λ error.
+            error ≡ unwrap_or (first_nul_refusal characters.now) FromSliceWithNulError.OutOfMemory) }
+    {
+        let Some(place) = find_nul(characters) else {
+            return Err(FromSliceWithNulError::NotNulTerminated);
+        };
+        if place + 1 != characters.len() {
+            return Err(FromSliceWithNulError::InteriorNul(place));
+        }
+        match units_of_characters(alloc, characters) {
+            Ok(units) => Ok(CString16 { units }),
+            Err(_) => Err(FromSliceWithNulError::OutOfMemory),
+        }
+    }
 
     /// An equal string of one's own. One allocation.
     pub fn to_owned<A: Allocator>(&self, alloc: A) -> Result<CString16<A>, AllocError>

@@ -1,9 +1,11 @@
 //! Passes over whole slices, in forms that the compiler turns into vector instructions: no early
 //! exit inside a block, and loops over places where the bounds are known. What they answer is said
 //! by std's words, so that callers see nothing of the form.
-ghost use Rattle.std.specs.Prelude.{◌≡◌, ℕ, ◌+◌, ◌-◌, ◌<◌, ◌≤◌, ◌++◌, length, drop, map, slice_index, true, false};
+ghost use Rattle.std.specs.Prelude.{◌≡◌, ℕ, ◌+◌, ◌-◌, ◌*◌, ◌<◌, ◌≤◌, ◌++◌, length, drop, map, slice_index, true, false};
 ghost use Rattle.std.specs.List.{fold};
+ghost use Rattle.std.specs.Str.{IsAscii};
 ghost use Rattle.uefi_text.specs.Scans.{ascii_text_so_far, beyond_ascii_so_far, byte_beyond_latin1_so_far, decided_so_far, deciding_byte_so_far};
+ghost use Rattle.uefi_text.specs.UnitBytes.{unit_bytes};
 ghost use Rattle.uefi_text.specs.Units.{is_deciding, deciding_place, replaced};
 
 use crate::chars::is_surrogate;
@@ -101,6 +103,28 @@ pub(crate) fn widen(units: &mut [u16], bytes: &[u8])
 {
     for i in 0..bytes.len() {
         units[i] = u16::from(bytes[i]);
+    }
+}
+
+/// Writes units of ASCII as bytes.
+pub(crate) fn narrow(bytes: &mut [u8], units: &[u16])
+    requires same_length { length bytes.now ≡ length units.now }
+    requires ascii { IsAscii units.now }
+    ensures { bytes.new ≡ units.now }
+{
+    for i in 0..units.len() {
+        bytes[i] = units[i] as u8;
+    }
+}
+
+/// Writes each unit as two bytes, the low one first.
+pub(crate) fn split(bytes: &mut [u8], units: &[u16])
+    requires { length bytes.now ≡ 2 * length units.now }
+    ensures { bytes.new ≡ unit_bytes units.now }
+{
+    for i in 0..units.len() {
+        bytes[2 * i] = (units[i] % 256) as u8;
+        bytes[2 * i + 1] = (units[i] / 256) as u8;
     }
 }
 

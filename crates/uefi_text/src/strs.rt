@@ -2,15 +2,18 @@
 //! are private to this module, and `specs/Views.antt` says what each view shows.
 #![tactic(auto, unfolding(crate::specs::Views::bytes_of, crate::specs::Views::text_of, crate::specs::Views::units_of, crate::specs::Views::units_left))]
 
-ghost use Rattle.std.specs.Prelude.{◌≡◌, ◌<◌, ◌≤◌, ◌+◌, ◌*◌, ◌^◌, ◌↔◌, ◌==◌, ◌≢◌, [], List, Option, All, length, position, slice_get, slice_range, IsTrue, IsOk, IfOk};
+ghost use Rattle.std.specs.Prelude.{◌≡◌, ◌<◌, ◌≤◌, ◌+◌, ◌*◌, ◌^◌, ◌↔◌, ◌==◌, ◌≢◌, [], ℕ, List, Option, All, length, position, slice_get, slice_index, slice_range, take, ◌++◌, IsTrue, IsOk, IfOk, OnErr, OnOk};
 ghost use Rattle.std.specs.Result.{result_err};
 ghost use Rattle.std.specs.Str.{chars};
 ghost use Rattle.uefi_text.specs.Latin1.{IsLatin1, IsLatin1String};
 ghost use Rattle.uefi_text.specs.Runs.{GivesEach};
 ghost use Rattle.uefi_text.specs.Units.{IsString, IsText, IsChar16, is_nul, nul_terminated, without_nul};
 
+use crate::char_sink::CharSink;
 use crate::chars::Char16;
-use crate::scans::{find_deciding_place, has_byte_beyond_latin1, has_unit_beyond_ascii};
+use crate::scans::{find_deciding_place, has_byte_beyond_latin1, has_unit_beyond_ascii, split};
+use crate::utf8::add_utf8;
+use std::alloc::{AllocError, Allocator};
 use std::cmp::Ordering;
 use std::error::Error;
 use std::fmt;
@@ -158,7 +161,7 @@ pub struct CStr8<'a> {
 }
 
 impl<'a> CStr8<'a> {
-    ghost use Rattle.uefi_text.specs.FromSliceWithNul.{bytes_with_nul_refusal};
+    ghost use Rattle.uefi_text.specs.FromSliceWithNul.{first_nul_refusal};
     ghost use Rattle.uefi_text.specs.Views.{bytes_of};
 
     /// The string that all of the bytes spell, as a view of them.
@@ -169,7 +172,7 @@ impl<'a> CStr8<'a> {
     pub fn from_bytes_with_nul(chars: &'a [u8]) -> Result<CStr8<'a>, FromSliceWithNulError>
         ensures ok { IfOk result (λ string. bytes_of string ≡ chars.now) }
         ensures accepts { IsOk result ↔ IsLatin1String chars.now }
-        ensures refusal { result_err result ≡ bytes_with_nul_refusal chars.now }
+        ensures refusal { result_err result ≡ first_nul_refusal chars.now }
     {
         let Some(place) = find_nul(chars) else {
             return Err(FromSliceWithNulError::NotNulTerminated);
@@ -366,7 +369,9 @@ pub struct Char16Slice<'a> {
 
 impl<'a> CStr16<'a> {
     ghost use Rattle.std.specs.List.{before_first};
-    ghost use Rattle.std.specs.Str.{IsAscii};
+    ghost use Rattle.std.specs.Str.{IsAscii, encode_utf8_all};
+    ghost use Rattle.std.specs.String.{string_bytes};
+    ghost use Rattle.uefi_text.specs.UnitBytes.{unit_bytes};
     ghost use Rattle.uefi_text.specs.FromSliceUntilNul.{until_nul_refusal};
     ghost use Rattle.uefi_text.specs.FromSliceWithNul.{with_nul_refusal};
     ghost use Rattle.uefi_text.specs.Views.{text_of, units_of, units_left};
@@ -501,6 +506,46 @@ impl<'a> CStr16<'a> {
         !has_unit_beyond_ascii(self.to_u16_slice())
     }
 
+    /// The bytes of the string, two for each character and for the NUL, the low one first on every
+    /// machine; or `AllocError`. One pass, into one allocation of that size.
+    pub fn as_bytes<A: Allocator>(&self, alloc: A) -> Result<Vec<u8, A>, AllocError>
+        ensures { IfOk result (λ bytes. bytes.items ≡ unit_bytes (nul_terminated (text_of self.now))) }
+    {
+        let Some(len) = self.units.len().checked_mul(2) else {
+            return Err(AllocError);
+        };
+        let mut bytes = Vec::new(alloc);
+        bytes.resize(len, 0)?;
+        split(&mut bytes, self.units);
+        Ok(bytes)
+    }
+
+    /// The characters of the text as a Rust text, or `AllocError`. One allocation, for which their
+    /// bytes in UTF-8 are counted first.
+    pub fn to_rust_string<A: Allocator>(&self, alloc: A) -> Result<String<A>, AllocError>
+        ensures bytes { IfOk result (λ text. string_bytes text ≡ encode_utf8_all (text_of self.now)) }
+        ensures characters { IfOk result (λ text. chars (string_bytes text) ≡ text_of self.now) }
+    {
+        let mut bytes = Vec::new(alloc);
+        add_utf8(&mut bytes, self.to_u16_slice())?;
+        // SAFETY: the bytes are UTF-8, which is proved here as the condition of the call.
+        Ok(unsafe { String::from_utf8_unchecked(bytes) })
+    }
+
+    /// Adds the characters of the text to a sink, in order, up to the first that it refuses. The sink
+    /// then holds those before it, and is left there. One pass; takes no memory but the sink's.
+    pub fn as_str_in_buf<W: CharSink>(&self, buf: &mut W) -> fmt::Result
+        ensures ok { OnOk result (W.text buf.new ≡ W.text buf.old ++ encode_utf8_all (text_of self.now)) }
+        ensures err { OnErr result ((k : ℕ) × (k < length (text_of self.now))
+            × (W.text buf.new ≡ W.text buf.old ++ encode_utf8_all (take k (text_of self.now)))
+            × W.may_refuse (W.text buf.new) (slice_index (text_of self.now) k)) }
+    {
+        for c in self.iter() {
+            buf.write_char(char::from(c))?;
+        }
+        Ok(())
+    }
+
     /// Whether the other string has the same text, as `==` says.
     pub fn eq_cstr16(&self, other: CStr16<'_>) -> bool
         ensures { IsTrue result ↔ (text_of self.now ≡ text_of other.entry) }
@@ -580,6 +625,7 @@ impl<'a> fmt::Debug for CStr16Iter<'a> {
 }
 
 impl<'a> Char16Slice<'a> {
+    ghost use Rattle.std.specs.Str.{encode_utf8_all};
     ghost use Rattle.uefi_text.specs.Views.{units_of, units_left};
 
     /// How many characters there are.
@@ -619,6 +665,15 @@ impl<'a> Char16Slice<'a> {
         ensures { result.now ≡ units_of self.now }
     {
         self.units
+    }
+
+    /// Adds the characters in UTF-8 to bytes, which stay as they were where memory is refused. One
+    /// request at most, and none where the bytes have room.
+    pub fn add_utf8_to<A: Allocator>(&self, bytes: &mut Vec<u8, A>) -> Result<(), AllocError>
+        ensures ok { OnOk result (bytes.new.items ≡ bytes.old.items ++ encode_utf8_all (units_of self.now)) }
+        ensures err { OnErr result (bytes.new.items ≡ bytes.old.items) }
+    {
+        add_utf8(bytes, self.units)
     }
 
     /// The characters from the place `start` on, up to and without the place `end`.

@@ -31,6 +31,7 @@ ghost use Rattle.std.proofs.Common.{arith};
 ghost use Rattle.uefi_text.specs.Packed.{SpellsOnce, le, packed_items};
 ghost use Rattle.uefi_text.specs.PackedLaws.{spells_once};
 ghost use Rattle.uefi_text.specs.Runs.{GivesEach};
+ghost use Rattle.uefi_text.specs.UnitBytes.{ends_in_nul};
 
 use crate::owned_strs::CString16;
 use crate::scans::{find_deciding_place, is_deciding};
@@ -466,11 +467,42 @@ impl<'a> UnalignedSlice<'a, u16> {
     }
 }
 
+/// Whether bytes are even in number and end in a NUL of two.
+fn ends_in_nul(bytes: &[u8]) -> bool
+    ensures { result ≡ ends_in_nul bytes.now }
+{
+    bytes.len() % 2 == 0 && bytes.ends_with(&[0, 0])
+}
+
 impl<'a> CStr16<'a> {
+    ghost use Rattle.std.specs.Prelude.{None, unwrap_or};
     ghost use Rattle.std.specs.Result.{result_err};
     ghost use Rattle.uefi_text.specs.UnalignedCStr16.{unaligned_refusal};
+    ghost use Rattle.uefi_text.specs.UnitBytes.{unit_bytes, unit_bytes_refusal};
     ghost use Rattle.uefi_text.specs.Units.{nul_terminated};
     ghost use Rattle.uefi_text.specs.Views.{items_of, text_of};
+
+    /// The string that bytes spell from wherever they lie, two for each code unit, the low one first,
+    /// in memory of its own.
+    ///
+    /// Bytes that are odd in number, or do not end in two zeros, are refused as `NotNulTerminated`
+    /// before a unit is looked at; else the units decide as for [`CStr16::from_u16_with_nul`], and
+    /// `OutOfMemory` comes last. `NotAligned` is never answered. All bytes are looked at before memory
+    /// is asked for, in one request.
+    pub fn from_bytes_with_nul<A: Allocator>(
+        alloc: A,
+        bytes: &[u8],
+    ) -> Result<CString16<A>, FromSliceWithNulError>
+        ensures ok { IfOk result (λ string. bytes.now ≡ unit_bytes (nul_terminated string)) }
+        ensures accepted { IfOk result (λ _. unit_bytes_refusal bytes.now ≡ None) }
+        ensures refusal { IfErr result (λ error.
+            error ≡ unwrap_or (unit_bytes_refusal bytes.now) FromSliceWithNulError.OutOfMemory) }
+    {
+        if !ends_in_nul(bytes) {
+            return Err(FromSliceWithNulError::NotNulTerminated);
+        }
+        UnalignedSlice::new(bytes, bytes.len() / 2).to_cstring16(alloc)
+    }
 
     /// As [`UnalignedSlice::to_cstr16`]. Takes no memory.
     pub fn from_unaligned_slice(

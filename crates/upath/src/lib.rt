@@ -10,11 +10,12 @@
 //! ```
 //!
 //! Data flows one way through the modules: `lines` cuts an input, `commands` reads a line, `run`
-//! keeps the path and answers a command, `output` writes texts as UTF-8, and `streams` puts a
-//! reader and a writer around a run.
+//! keeps the path and answers a command, `output` adds lines to what is printed, and `streams` puts
+//! a reader and a writer around a run. [`laws`] stands apart: what users may reason by.
 #![tactic(auto)]
 
 mod commands;
+pub mod laws;
 mod lines;
 mod output;
 mod run;

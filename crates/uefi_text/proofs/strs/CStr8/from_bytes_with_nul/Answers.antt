@@ -1,7 +1,7 @@
 -- Bytes are accepted exactly where their first NUL is the last byte, which is where they are a string.
 use Rattle.std.proofs.Common.{arith, sym}
 use Rattle.std.proofs.lemmas.Grind.{common_steps}
-use Rattle.uefi_text.proofs.Deciding.{IsLatin1String-nul_last, bytes_with_nul_refusal-IsLatin1String}
+use Rattle.uefi_text.proofs.Deciding.{IsLatin1String-nul_last, first_nul_refusal-IsLatin1String}
 use Rattle.uefi_text.proofs.strs.CStr8.from_bytes_with_nul.Goals as goal
 
 pub invariant_of-result : goal.invariant_of-result
@@ -10,8 +10,8 @@ invariant_of-result c =
 
 pub returns-in_default-clause-accepts : goal.returns-in_default-clause-accepts
 returns-in_default-clause-accepts c =
-    (λ h. grind (arith, common_steps), λ string. let none = bytes_with_nul_refusal-IsLatin1String c.args.chars.now string in grind (arith, common_steps))
+    (λ h. grind (arith, common_steps), λ string. let none = first_nul_refusal-IsLatin1String c.args.chars.now string in grind (arith, common_steps))
 
 pub returns-then-place-chars-clause-accepts : goal.returns-then-place-chars-clause-accepts
 returns-then-place-chars-clause-accepts c =
-    (λ h. grind (arith, common_steps), λ string. let none = bytes_with_nul_refusal-IsLatin1String c.args.chars.now string in grind (arith, common_steps))
+    (λ h. grind (arith, common_steps), λ string. let none = first_nul_refusal-IsLatin1String c.args.chars.now string in grind (arith, common_steps))

@@ -1,5 +1,5 @@
 use Rattle.std.proofs.Common.{◌≡◌, ◌++◌, take, drop}
-use Rattle.upath.proofs.output.narrow.Given as goal
+use Rattle.uefi_text.proofs.scans.narrow.Given as goal
 
 -- the bytes so far are units, and the others stand as they were
 abbrev pub invariant-loop-i : goal.invariant-loop-i
