@@ -7,6 +7,8 @@
 #![tactic(auto)]
 
 #[cfg(test)]
+mod conversions;
+#[cfg(test)]
 mod documents;
 #[cfg(test)]
 mod failing_streams;
