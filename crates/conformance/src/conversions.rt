@@ -204,18 +204,23 @@ fn refused_memory(rt: HostRuntime) -> Result<(), Fail> {
 
     let none = Refusing::new(rt.alloc(), 1);
     assert!(rt; view.as_bytes(&none).is_err());
+    let none = Refusing::new(rt.alloc(), 1);
     assert!(rt; view.to_rust_string(&none).is_err());
+    let none = Refusing::new(rt.alloc(), 1);
     let mut utf8 = Vec::new(&none);
     assert!(rt; view.as_slice().add_utf8_to(&mut utf8).is_err());
     assert!(rt; utf8.is_empty());
+    let none = Refusing::new(rt.alloc(), 1);
     assert_eq!(rt;
         CStr16::from_char16_until_nul(&none, &list).err(),
         Some(FromSliceUntilNulError::OutOfMemory)
     );
+    let none = Refusing::new(rt.alloc(), 1);
     assert_eq!(rt;
         CStr16::from_char16_with_nul(&none, &list).err(),
         Some(FromSliceWithNulError::OutOfMemory)
     );
+    let none = Refusing::new(rt.alloc(), 1);
     assert_eq!(rt;
         CStr16::from_bytes_with_nul(&none, &bytes).err(),
         Some(FromSliceWithNulError::OutOfMemory)
@@ -223,14 +228,19 @@ fn refused_memory(rt: HostRuntime) -> Result<(), Fail> {
 
     let one = Refusing::new(rt.alloc(), 2);
     assert_eq!(rt; view.as_bytes(&one)?.as_slice(), bytes.as_slice());
+    assert!(rt; !one.has_refused());
     let one = Refusing::new(rt.alloc(), 2);
     assert_eq!(rt; view.to_rust_string(&one)?.as_str(), "aé€");
+    assert!(rt; !one.has_refused());
     let one = Refusing::new(rt.alloc(), 2);
     assert!(rt; CStr16::from_char16_until_nul(&one, &list)?.as_cstr16() == view);
+    assert!(rt; !one.has_refused());
     let one = Refusing::new(rt.alloc(), 2);
     assert!(rt; CStr16::from_char16_with_nul(&one, &list)?.as_cstr16() == view);
+    assert!(rt; !one.has_refused());
     let one = Refusing::new(rt.alloc(), 2);
     assert!(rt; CStr16::from_bytes_with_nul(&one, &bytes)?.as_cstr16() == view);
+    assert!(rt; !one.has_refused());
     Ok(())
 }
 

@@ -299,6 +299,58 @@ fn refused_texts(rt: HostRuntime) {
     }
 }
 
+/// How many units are written of a text into nines, or why they are no string, and what stands
+/// there then.
+#[test]
+fn texts_in_buffers(rt: HostRuntime) -> Result<(), Fail> {
+    let rows: [(&str, Result<usize, FromStrWithBufError>, &[u16]); 9] = [
+        ("A", Ok(2), &[65, 0, 9, 9]),
+        ("ABC", Ok(4), &[65, 66, 67, 0]),
+        (
+            "ABCD",
+            Err(FromStrWithBufError::BufferTooSmall),
+            &[65, 66, 67, 68],
+        ),
+        (
+            "ab😀",
+            Err(FromStrWithBufError::BufferTooSmall),
+            &[97, 98, 0xd83d, 0xde00],
+        ),
+        (
+            "abc😀",
+            Err(FromStrWithBufError::BufferTooSmall),
+            &[97, 98, 99, 0xd83d],
+        ),
+        (
+            "a😀",
+            Err(FromStrWithBufError::InvalidChar(1)),
+            &[97, 0xd83d, 0xde00, 0],
+        ),
+        (
+            "a\0b",
+            Err(FromStrWithBufError::InteriorNul(1)),
+            &[97, 0, 98, 0],
+        ),
+        ("", Err(FromStrWithBufError::BufferTooSmall), &[]),
+        ("", Ok(1), &[0]),
+    ];
+    for (text, want, after) in rows {
+        let mut written = vec![in rt.alloc(); 9u16; after.len()]?;
+        assert_eq!(rt; CStr16::write_str(text, &mut written), want, "{after:?}");
+        assert_eq!(rt; written.as_slice(), after);
+        let mut lent = vec![in rt.alloc(); 9u16; after.len()]?;
+        match CStr16::from_str_with_buf(text, &mut lent) {
+            Ok(string) => {
+                assert_eq!(rt; Ok(string.num_chars() + 1), want, "{after:?}");
+                assert!(rt; string.to_string(rt.alloc())?.as_str() == text, "{after:?}");
+            }
+            Err(error) => assert_eq!(rt; Err(error), want, "{after:?}"),
+        }
+        assert_eq!(rt; lent.as_slice(), after);
+    }
+    Ok(())
+}
+
 /// What an error prints.
 fn printed<E: Error>(rt: &HostRuntime, error: E) -> Result<String, Fail> {
     Ok(error.to_string(rt.alloc())?)

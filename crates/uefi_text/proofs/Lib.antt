@@ -2,6 +2,7 @@ pub mod Scanning
 pub mod Utf8Bytes
 pub mod Deciding
 pub mod Texts
+pub mod Utf16
 pub mod Printed
 pub mod Values
 pub mod Packing

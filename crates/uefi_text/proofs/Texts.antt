@@ -3,8 +3,8 @@ use Rattle.std.proofs.Common.{◌≡◌, ℕ, ◌-◌, ◌≤◌, ◌≢◌, Boo
 use Rattle.std.specs.List.{find}
 use Rattle.std.specs.Str.{chars, IsUtf8}
 use Rattle.std.specs.Prelude.{encode_utf8}
-use Rattle.std.proofs.lemmas.Str.{chars_past_char}
-use Rattle.std.proofs.lemmas.List.{length-append, map-append}
+use Rattle.std.proofs.lemmas.Str.{chars-nil, chars_past_char}
+use Rattle.std.proofs.lemmas.List.{length-append, map-append, nil_from_length}
 use Rattle.std.proofs.Math.Seq.{take-append_seam}
 use Rattle.std.proofs.lemmas.List.Elements.{All-nil, All-cons, All-head, All-map, All-tail, All-weaker}
 use Rattle.std.proofs.Math.Utf8.{scalar, scalars, scalar_cases}
@@ -22,7 +22,13 @@ pub chars_step : (read rest new_rest : List ℕ) (c : ℕ) (all : List ℕ) → 
 chars_step read rest new_rest c all utf8 e so_far =
     let f = chars_past_char rest new_rest c utf8 e in grind (arith, common_steps)
 
--- and where none of all is refused, it is a code unit
+-- and after the last, all were
+pub chars_end : (read rest all : List ℕ) → length rest ≡ 0 → read ++ chars rest ≡ all → read ≡ all
+chars_end read rest all none so_far =
+    let end : chars rest ≡ [] = ap chars (nil_from_length rest none) ∙ chars-nil in
+    grind (arith, common_steps)
+
+-- where none of all is refused, each that was read is a code unit
 pub char_fits : (read rest new_rest : List ℕ) (c : ℕ) (all : List ℕ) → IsUtf8 rest → rest ≡ encode_utf8 c ++ new_rest → read ++ chars rest ≡ all → find is_deciding_char all ≡ None → c ≤ 0xffff
 char_fits read rest new_rest c all utf8 e so_far none =
     let here : find is_deciding_char (read ++ c ∷ chars new_rest) ≡ None = ap (λ cs. find is_deciding_char (read ++ cs)) (sym (chars_past_char rest new_rest c utf8 e)) ∙ ap (find is_deciding_char) so_far ∙ none in

@@ -6,6 +6,7 @@ pub mod FromSliceWithNul
 pub mod UnalignedCStr16
 pub mod ErrorTexts
 pub mod FromStr
+pub mod FromStrWithBuf
 pub mod Packed
 pub mod UnitBytes
 pub mod PackedLaws

@@ -2,9 +2,12 @@
 //! are private to this module, and `specs/Views.antt` says what each view shows.
 #![tactic(auto, unfolding(crate::specs::Views::bytes_of, crate::specs::Views::text_of, crate::specs::Views::units_of, crate::specs::Views::units_left))]
 
-ghost use Rattle.std.specs.Prelude.{◌≡◌, ◌<◌, ◌≤◌, ◌+◌, ◌*◌, ◌^◌, ◌↔◌, ◌==◌, ◌≢◌, [], ℕ, List, Option, All, length, position, slice_get, slice_index, slice_range, take, ◌++◌, IsTrue, IsOk, IfOk, OnErr, OnOk};
+ghost use Rattle.std.specs.Prelude.{◌≡◌, ◌<◌, ◌≤◌, ◌+◌, ◌*◌, ◌^◌, ◌↔◌, ◌==◌, ◌≢◌, ◌++◌, if◌then◌else◌, [], ℕ, List, Option, All, length, position, slice_get, slice_index, slice_range, take, IsTrue, IsOk, IfOk, OnErr, OnOk};
+ghost use Rattle.std.specs.Char.Escape.{encode_utf16};
 ghost use Rattle.std.specs.Result.{result_err};
 ghost use Rattle.std.specs.Str.{chars};
+ghost use Rattle.uefi_text.specs.FromStr.{is_deciding_char};
+ghost use Rattle.uefi_text.specs.FromStrWithBuf.{refusal_of_char_at, with_units};
 ghost use Rattle.uefi_text.specs.Latin1.{IsLatin1, IsLatin1String};
 ghost use Rattle.uefi_text.specs.Runs.{GivesEach};
 ghost use Rattle.uefi_text.specs.Units.{IsString, IsText, IsChar16, is_nul, nul_terminated, without_nul};
@@ -374,6 +377,7 @@ impl<'a> CStr16<'a> {
     ghost use Rattle.uefi_text.specs.UnitBytes.{unit_bytes};
     ghost use Rattle.uefi_text.specs.FromSliceUntilNul.{until_nul_refusal};
     ghost use Rattle.uefi_text.specs.FromSliceWithNul.{with_nul_refusal};
+    ghost use Rattle.uefi_text.specs.FromStrWithBuf.{from_str_with_buf_refusal, with_text};
     ghost use Rattle.uefi_text.specs.Views.{text_of, units_of, units_left};
 
     /// The string up to the first NUL, as a view of the units up to and with it.
@@ -433,6 +437,56 @@ impl<'a> CStr16<'a> {
         ensures { text_of result ≡ without_nul units.now }
     {
         CStr16 { units }
+    }
+
+    /// Writes a Rust text as a string into the front of a buffer, and answers how many units the
+    /// string has, its NUL counted.
+    ///
+    /// A buffer with no more places than the text has units in UTF-16 (Unicode Standard, section
+    /// 3.9) is `BufferTooSmall`, whatever the text holds, and all of it then holds the first of
+    /// these units; half of a surrogate pair may be the last. Else its front holds the units and a
+    /// NUL, what stands behind them stays, whatever is answered, and the first character that is
+    /// NUL or above U+FFFF decides: `InteriorNul` or `InvalidChar`, with the number of characters
+    /// before it. One pass, which ends where the buffer is full; takes no memory.
+    pub fn write_str(input: &str, buffer: &mut [u16]) -> Result<usize, FromStrWithBufError>
+        ensures ok { IfOk result (λ len. len ≡ length (chars input.now) + 1) }
+        ensures refusal { result_err result
+            ≡ from_str_with_buf_refusal (chars input.now) (length buffer.old) }
+        ensures buffer { buffer.new ≡ with_text (chars input.now) buffer.old }
+    {
+        if buffer.is_empty() {
+            return Err(FromStrWithBufError::BufferTooSmall);
+        }
+        let mut len = 0;
+        let mut refusal = None;
+        for character in input.chars() {
+            // Every character before the first that is refused is one unit.
+            refusal = refusal.or(refusal_of_char(character, len));
+            len += write_char(character, &mut buffer[len..]);
+            if buffer.len() <= len {
+                return Err(FromStrWithBufError::BufferTooSmall);
+            }
+        }
+        buffer[len] = 0;
+        match refusal {
+            Some(error) => Err(error),
+            None => Ok(len + 1),
+        }
+    }
+
+    /// The string of a Rust text, as a view of the buffer's front, which it is written to. Refused
+    /// as [`CStr16::write_str`] says, which also says what the buffer then holds. One pass; takes
+    /// no memory.
+    pub fn from_str_with_buf(
+        input: &str,
+        buf: &'a mut [u16],
+    ) -> Result<CStr16<'a>, FromStrWithBufError>
+        ensures ok { IfOk result (λ string. text_of string ≡ chars input.now) }
+        ensures refusal { result_err result
+            ≡ from_str_with_buf_refusal (chars input.now) (length buf.old) }
+    {
+        let len = CStr16::write_str(input, buf)?;
+        Ok(CStr16::from_accepted(&buf[..len]))
     }
 
     /// The characters of the text, without the NUL.
@@ -552,6 +606,35 @@ impl<'a> CStr16<'a> {
     {
         *self == other
     }
+}
+
+/// Why a character behind so many others is refused, if it is.
+fn refusal_of_char(character: char, place: usize) -> Option<FromStrWithBufError>
+    ensures { result ≡ (if is_deciding_char character
+        then Some (refusal_of_char_at character place)
+        else None) }
+{
+    match character {
+        '\0' => Some(FromStrWithBufError::InteriorNul(place)),
+        '\u{1_0000}'.. => Some(FromStrWithBufError::InvalidChar(place)),
+        _ => None,
+    }
+}
+
+/// Writes the one or two units of a character into the front of a buffer, and answers how many
+/// they are. Where there is one place, the first alone is written.
+fn write_char(character: char, buffer: &mut [u16]) -> usize
+    requires { 0 < length buffer.old }
+    ensures len { result ≡ length (encode_utf16 character) }
+    ensures buffer { buffer.new ≡ with_units (encode_utf16 character) buffer.old }
+{
+    let mut pair = [0; 2];
+    let units = character.encode_utf16(&mut pair);
+    buffer[0] = units[0];
+    if 1 < units.len() && 1 < buffer.len() {
+        buffer[1] = units[1];
+    }
+    units.len()
 }
 
 /// Writes the characters of the text.

@@ -1,11 +1,8 @@
 -- The characters of the text are read one by one, and each is a code unit.
-use Rattle.std.proofs.Common.{◌≡◌, ◌≤◌, [], ◌∙◌, ap, arith}
-use Rattle.std.specs.Str.{chars}
-use Rattle.std.specs.Str.Iter.{chars_rest}
-use Rattle.std.proofs.lemmas.Str.{chars-nil, IsUtf8-past_char}
-use Rattle.std.proofs.lemmas.List.{nil_from_length}
+use Rattle.std.proofs.Common.{◌≤◌, arith}
+use Rattle.std.proofs.lemmas.Str.{IsUtf8-past_char}
 use Rattle.std.proofs.lemmas.Grind.{common_steps}
-use Rattle.uefi_text.proofs.Texts.{char_fits, chars_step}
+use Rattle.uefi_text.proofs.Texts.{char_fits, chars_end, chars_step}
 use Rattle.uefi_text.proofs.owned_strs.units_of_chars.Goals as goal
 
 pub overflow_cast-character : goal.overflow_cast-character
@@ -25,6 +22,5 @@ loop-character-preserved g c =
 
 pub returns : goal.returns
 returns g c =
-    let done : chars (chars_rest c.loop-character.character-iterator) ≡ [] = ap chars (nil_from_length _ c.in-None.ensures.steps.0.0) ∙ chars-nil in
-    let all : c.loop-character.yielded ≡ chars c.args.text.now = grind (arith, common_steps, done) in
+    let all = chars_end c.loop-character.yielded _ _ c.in-None.ensures.steps.0.0 c.loop-character.invariant.to_come in
     grind (arith, common_steps, all)
