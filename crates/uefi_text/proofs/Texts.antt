@@ -1,5 +1,5 @@
 -- Texts, as characters and as code units, and the strings that they are stored as.
-use Rattle.std.proofs.Common.{◌≡◌, ℕ, ◌-◌, ◌≤◌, ◌≢◌, Bool, true, false, List, [], ◌∷◌, ◌++◌, length, map, None, arith, sym, ◌∙◌, ap, refl, subst, ◌==◌, if◌then◌else◌}
+use Rattle.std.proofs.Common.{◌≡◌, ◌↔◌, ℕ, ◌-◌, ◌≤◌, ◌≢◌, Bool, true, false, List, [], ◌∷◌, ◌++◌, length, map, None, Option, Some, All, arith, sym, ◌∙◌, ap, refl, subst, ◌==◌, if◌then◌else◌}
 use Rattle.std.specs.List.{find}
 use Rattle.std.specs.Str.{chars, IsUtf8}
 use Rattle.std.specs.Prelude.{encode_utf8}
@@ -10,7 +10,8 @@ use Rattle.std.proofs.lemmas.List.Elements.{All-nil, All-cons, All-head, All-map
 use Rattle.std.proofs.Math.Utf8.{scalar, scalars, scalar_cases}
 use Rattle.std.proofs.lemmas.Grind.{common_steps}
 use Rattle.uefi_text.specs.Units.{replaced, IsText, IsTextUnit, IsString, nul_terminated, without_nul}
-use Rattle.uefi_text.specs.FromStr.{is_deciding_char}
+use Rattle.std.specs.Char.{IsScalar}
+use Rattle.uefi_text.specs.FromStr.{from_str_refusal, is_deciding_char, refusal_of_char}
 
 -- where nothing is found among all elements, none of them passes
 find-none_at : (p : ℕ → Bool) (xs : List ℕ) (y : ℕ) (ys : List ℕ) → find p (xs ++ y ∷ ys) ≡ None → p y ≡ false
@@ -94,3 +95,33 @@ scalars-IsText (u ∷ us) is_text =
     let first = scalar-IsTextUnit u (All-head IsTextUnit u us is_text) in
     let others = scalars-IsText us (All-tail IsTextUnit u us is_text) in
     grind (arith, common_steps)
+
+-- and so is each of its units
+pub characters-IsText : (text : List ℕ) → IsText text → All IsScalar text
+characters-IsText text is_text = All-weaker IsTextUnit IsScalar scalar-IsTextUnit text is_text
+
+scalars-All : (cs : List ℕ) → All IsScalar cs → scalars cs ≡ true
+scalars-All [] are_scalars = refl
+scalars-All (c ∷ cs) are_scalars =
+    let first : scalar c ≡ true = All-head IsScalar c cs are_scalars in
+    let others = scalars-All cs (All-tail IsScalar c cs are_scalars) in
+    grind (arith, common_steps)
+
+undecided-IsText : (text : List ℕ) → IsText text → find is_deciding_char text ≡ None
+undecided-IsText [] is_text = refl
+undecided-IsText (u ∷ us) is_text =
+    let first : IsTextUnit u = All-head IsTextUnit u us is_text in
+    let others = undecided-IsText us (All-tail IsTextUnit u us is_text) in
+    let undecided : is_deciding_char u ≡ false = grind (arith, common_steps) in
+    grind (arith, common_steps)
+
+unrefused-find : (found : Option ℕ) → refusal_of_char found ≡ None → found ≡ None
+unrefused-find None none = refl
+unrefused-find (Some c) none = absurd (grind (arith, common_steps))
+
+-- characters are a text exactly where none of them is refused
+pub IsText-unrefused : (cs : List ℕ) → All IsScalar cs → IsText cs ↔ (from_str_refusal cs ≡ None)
+IsText-unrefused cs are_scalars = (
+  λ is_text. ap refusal_of_char (undecided-IsText cs is_text),
+  λ none. IsText-chars cs (scalars-All cs are_scalars) (unrefused-find (find is_deciding_char cs) none),
+)

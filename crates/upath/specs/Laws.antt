@@ -1,5 +1,7 @@
 -- The laws of strings and paths, over the definitions that contracts of working calls cite.
 use Rattle.std.specs.Prelude.{◌≡◌, ◌↔◌, ℕ, All, List, None}
+use Rattle.std.specs.Char.{IsScalar}
+use Rattle.uefi_text.specs.FromStr.{from_str_refusal}
 use Rattle.uefi_text.specs.Packed.{IsByte}
 use Rattle.uefi_text.specs.UnitBytes.{BytesSpell, unit_bytes_refusal}
 use Rattle.uefi_text.specs.Units.{IsText}
@@ -20,3 +22,12 @@ SpellOneText = (bytes text other : List ℕ) → BytesSpell bytes text → Bytes
 abbrev pub AcceptedWhereSpelled : Type 0
 AcceptedWhereSpelled = (bytes : List ℕ) → All IsByte bytes
     → (unit_bytes_refusal bytes ≡ None) ↔ ((text : List ℕ) × BytesSpell bytes text)
+
+-- characters are a text exactly where none of them is refused
+abbrev pub TextWhereUnrefused : Type 0
+TextWhereUnrefused = (characters : List ℕ) → All IsScalar characters
+    → IsText characters ↔ (from_str_refusal characters ≡ None)
+
+-- each unit of a text is a character
+abbrev pub TextsAreCharacters : Type 0
+TextsAreCharacters = (text : List ℕ) → IsText text → All IsScalar text
