@@ -9,8 +9,10 @@ use crate::chars::Char16;
 use crate::scans::{has_deciding_byte, is_ascii_text, replace_units, widen};
 use crate::strs::CStr16;
 use std::alloc::{AllocError, Allocator, Global};
+use std::cmp::Ordering;
 use std::error::Error;
 use std::fmt;
+use std::hash::{Hash, Hasher};
 use std::marker::Model;
 
 /// Why a Rust text is no UCS-2 string.
@@ -223,6 +225,69 @@ impl<A: Allocator> Eq for CString16<A> {
     ghost use Rattle.std.specs.Cmp.Rules.{comparing};
 
     ghost laws = { Prim.search (comparing, rules) };
+}
+
+/// The order of the views: the list order of the code units.
+impl<A: Allocator> PartialOrd for CString16<A> {
+    ghost use Rattle.std.proofs.Common.{rules};
+    ghost use Rattle.std.specs.Ordering.{nat_cmp, as_partial_cmp};
+    ghost use Rattle.std.specs.Cmp.Lexicographic.{slice_cmp};
+    ghost use Rattle.std.specs.Cmp.Rules.{comparing};
+
+    ghost partial_cmp = { as_partial_cmp (slice_cmp nat_cmp) };
+
+    ghost laws = { Prim.search (comparing, rules) };
+
+    fn partial_cmp(&self, other: &Self) -> Option<Ordering> {
+        Some(self.cmp(other))
+    }
+}
+
+/// `Equal` exactly for equal strings.
+impl<A: Allocator> Ord for CString16<A> {
+    ghost use Rattle.std.proofs.Common.{rules};
+    ghost use Rattle.std.specs.Ordering.{nat_cmp};
+    ghost use Rattle.std.specs.Cmp.Lexicographic.{slice_cmp};
+    ghost use Rattle.std.specs.Cmp.Rules.{comparing};
+
+    ghost cmp = { slice_cmp nat_cmp };
+
+    ghost total = { Prim.search (comparing, rules) };
+
+    ghost matches_partial_cmp = { Prim.search (comparing, rules) };
+
+    ghost matches_eq = { Prim.search (comparing, rules) };
+
+    fn cmp(&self, other: &Self) -> Ordering {
+        self.as_cstr16().cmp(&other.as_cstr16())
+    }
+}
+
+/// Hashes as its view does, so that equal strings hash alike, lent or owned.
+impl<A: Allocator> Hash for CString16<A> {
+    ghost use Rattle.std.proofs.Common.{rules};
+    ghost use Rattle.std.specs.Hash as fed;
+    ghost use Rattle.std.specs.Cmp.Rules.{comparing, hashing};
+
+    ghost hash_input = { fed.slice fed.u16 };
+
+    ghost respects_eq = { Prim.search (hashing, comparing, rules) };
+
+    fn hash<H: Hasher>(&self, state: &mut H) {
+        self.as_cstr16().hash(state);
+    }
+}
+
+/// Writes the characters of the text.
+impl<A: Allocator> fmt::Display for CString16<A> {
+    ghost use Rattle.std.specs.Prelude.{Some};
+    ghost use Rattle.std.specs.Str.{encode_utf8_all};
+
+    ghost output = { λ text. Some (encode_utf8_all text) };
+
+    fn fmt<W: fmt::Write>(&self, f: &mut fmt::Formatter<W>) -> fmt::Result {
+        fmt::Display::fmt(&self.as_cstr16(), f)
+    }
 }
 
 /// Prints as its view does, but for the name.

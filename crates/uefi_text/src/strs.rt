@@ -549,6 +549,60 @@ impl<'a> Eq for CStr16<'a> {
     ghost laws = { Prim.search (comparing, rules) };
 }
 
+/// The list order of the code units.
+impl<'a> PartialOrd for CStr16<'a> {
+    ghost use Rattle.std.proofs.Common.{rules};
+    ghost use Rattle.std.specs.Ordering.{nat_cmp, as_partial_cmp, on};
+    ghost use Rattle.std.specs.Cmp.Lexicographic.{slice_cmp};
+    ghost use Rattle.std.specs.Cmp.Rules.{comparing};
+    ghost use Rattle.uefi_text.specs.Views.{text_of};
+
+    ghost partial_cmp = { as_partial_cmp (on text_of (slice_cmp nat_cmp)) };
+
+    ghost laws = { Prim.search (comparing, rules) };
+
+    fn partial_cmp(&self, other: &Self) -> Option<Ordering> {
+        Some(Ord::cmp(self, other))
+    }
+}
+
+/// `Equal` exactly for equal strings.
+impl<'a> Ord for CStr16<'a> {
+    ghost use Rattle.std.proofs.Common.{rules};
+    ghost use Rattle.std.specs.Ordering.{nat_cmp, on};
+    ghost use Rattle.std.specs.Cmp.Lexicographic.{slice_cmp};
+    ghost use Rattle.std.specs.Cmp.Rules.{comparing};
+    ghost use Rattle.uefi_text.specs.Views.{text_of};
+
+    ghost cmp = { on text_of (slice_cmp nat_cmp) };
+
+    ghost total = { Prim.search (comparing, rules) };
+
+    ghost matches_partial_cmp = { Prim.search (comparing, rules) };
+
+    ghost matches_eq = { Prim.search (comparing, rules) };
+
+    fn cmp(&self, other: &Self) -> Ordering {
+        self.to_u16_slice().cmp(other.to_u16_slice())
+    }
+}
+
+/// Hashes the code units of the text, so that equal strings hash alike.
+impl<'a> Hash for CStr16<'a> {
+    ghost use Rattle.std.proofs.Common.{rules};
+    ghost use Rattle.std.specs.Hash as fed;
+    ghost use Rattle.std.specs.Cmp.Rules.{comparing, hashing};
+    ghost use Rattle.uefi_text.specs.Views.{text_of};
+
+    ghost hash_input = { λ a. fed.slice fed.u16 (text_of a) };
+
+    ghost respects_eq = { Prim.search (hashing, comparing, rules) };
+
+    fn hash<H: Hasher>(&self, state: &mut H) {
+        self.to_u16_slice().hash(state);
+    }
+}
+
 /// Prints the characters, each as a Rust character.
 impl<'a> fmt::Debug for CStr16<'a> {
     fn fmt<W: fmt::Write>(&self, f: &mut fmt::Formatter<W>) -> fmt::Result {
