@@ -1,13 +1,14 @@
 //! NUL-terminated UCS-2 strings that are owned, and what of Rust text is refused as one. A string
 //! keeps its NUL in the vector, which nothing outside this module sees.
-ghost use Rattle.std.specs.Prelude.{◌≡◌, ◌≢◌, ℕ, ◌+◌, ◌<◌, ◌↔◌, ◌++◌, [], List, None, length, map, find, unwrap_or, IsTrue, IfOk, IfErr};
+ghost use Rattle.std.specs.Prelude.{◌≡◌, ◌≢◌, ℕ, ◌+◌, ◌<◌, ◌↔◌, ◌++◌, [], ◌∷◌, List, None, length, map, find, unwrap_or, IsTrue, IsOk, IfOk, IfErr, OnOk, OnErr};
+ghost use Rattle.std.specs.Result.{result_err};
 ghost use Rattle.std.specs.Str.{chars};
-ghost use Rattle.uefi_text.specs.Units.{nul_terminated, replaced};
+ghost use Rattle.uefi_text.specs.Units.{IsString, nul_terminated, replaced};
 ghost use Rattle.uefi_text.specs.FromStr.{is_deciding_char, from_str_refusal};
 
 use crate::chars::Char16;
 use crate::scans::{has_deciding_byte, is_ascii_text, replace_units, widen};
-use crate::strs::CStr16;
+use crate::strs::{CStr16, FromSliceWithNulError};
 use std::alloc::{AllocError, Allocator, Global};
 use std::cmp::Ordering;
 use std::error::Error;
@@ -173,6 +174,63 @@ impl<A: Allocator> CString16<A> {
         Ok(CString16 { units })
     }
 
+    /// The string that all of the units spell, in the memory that they lie in.
+    ///
+    /// Refused exactly as [`CStr16::from_u16_with_nul`] refuses them, and a refused vector is let
+    /// go. One pass, which ends at the first unit that is a NUL or a surrogate; takes no memory.
+    pub fn try_from_vec(units: Vec<u16, A>) -> Result<Self, FromSliceWithNulError>
+        ensures ok { IfOk result (λ string. nul_terminated string ≡ units.items) }
+        ensures accepts { IsOk result ↔ IsString units.items }
+        ensures refusal { result_err result ≡ with_nul_refusal units.items }
+    {
+        CStr16::from_u16_with_nul(units.as_slice())?;
+        Ok(CString16 { units })
+    }
+
+    /// A string of one's own that is equal to the lent one. One allocation.
+    pub fn from_cstr16(alloc: A, string: CStr16<'_>) -> Result<Self, AllocError>
+        ensures { IfOk result (λ copy. copy ≡ text_of string.entry) }
+    {
+        string.to_owned(alloc)
+    }
+
+    /// Makes the string the empty one. Takes no memory and gives none back.
+    pub fn clear(&mut self)
+        ensures { self.new ≡ [] }
+    {
+        self.units.truncate(1);
+        self.units[0] = 0;
+    }
+
+    /// Adds a character behind the text. Where memory is refused the string is as it was.
+    ///
+    /// Takes memory where the vector is full; a row of pushes takes a constant time each, on
+    /// average.
+    pub fn push(&mut self, c: Char16) -> Result<(), AllocError>
+        requires { c ≢ 0 }
+        ensures ok { OnOk result (self.new ≡ self.old ++ c ∷ []) }
+        ensures err { OnErr result (self.new ≡ self.old) }
+    {
+        let end = self.num_chars();
+        self.units.push(0)?;
+        self.units[end] = u16::from(c);
+        Ok(())
+    }
+
+    /// Adds a text behind the text. Where memory is refused the string is as it was.
+    ///
+    /// Takes memory at most once, and none for the empty text, which is never refused.
+    pub fn push_str(&mut self, string: CStr16<'_>) -> Result<(), AllocError>
+        ensures ok { OnOk result (self.new ≡ self.old ++ text_of string.entry) }
+        ensures err { OnErr result (self.new ≡ self.old) }
+        ensures empty { text_of string.entry ≡ [] → IsOk result }
+    {
+        let end = self.num_chars();
+        self.units.reserve(string.num_chars())?;
+        self.units.truncate(end);
+        self.units.extend_from_slice(string.to_u16_slice_with_nul())
+    }
+
     /// Writes `replace` in each place of `search`. One pass; takes no memory.
     pub fn replace_char(&mut self, search: Char16, replace: Char16)
         requires search_no_nul { search ≢ 0 }
@@ -201,6 +259,22 @@ impl<A: Allocator> CString16<A> {
         ensures { text_of result ≡ self.now }
     {
         CStr16::from_string(self.units.as_slice())
+    }
+
+    /// Whether the lent string has the same text.
+    pub fn eq_cstr16(&self, other: CStr16<'_>) -> bool
+        ensures { IsTrue result ↔ (self.now ≡ text_of other.entry) }
+    {
+        self.as_cstr16() == other
+    }
+}
+
+/// An equal string, over a clone of the allocator. One allocation for the string.
+impl<A: Allocator + Clone> Clone for CString16<A> {
+    ghost is_clone = { λ string copy. copy ≡ string };
+
+    fn clone(&self) -> Result<CString16<A>, AllocError> {
+        self.as_cstr16().to_owned(self.units.allocator().clone()?)
     }
 }
 
