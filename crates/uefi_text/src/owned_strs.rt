@@ -1,6 +1,6 @@
 //! NUL-terminated UCS-2 strings that are owned, and what of Rust text is refused as one. A string
 //! keeps its NUL in the vector, which nothing outside this module sees.
-ghost use Rattle.std.specs.Prelude.{◌≡◌, ◌≢◌, ℕ, ◌+◌, ◌<◌, ◌↔◌, ◌++◌, [], ◌∷◌, List, None, length, map, find, unwrap_or, IsTrue, IsOk, IfOk, IfErr, OnOk, OnErr};
+ghost use Rattle.std.specs.Prelude.{◌≡◌, ◌≢◌, ℕ, ◌+◌, ◌<◌, ◌↔◌, ◌++◌, [], ◌∷◌, List, None, length, take, map, find, unwrap_or, IsTrue, IsOk, IfOk, IfErr, OnOk, OnErr};
 ghost use Rattle.std.specs.Result.{result_err};
 ghost use Rattle.std.specs.Str.{chars};
 ghost use Rattle.uefi_text.specs.Units.{IsString, nul_terminated, replaced};
@@ -139,7 +139,10 @@ impl<'a> CStr16<'a> {
 }
 
 impl<A: Allocator> CString16<A> {
+    ghost use Rattle.std.specs.Iterator.{IsFinite};
+    ghost use Rattle.std.specs.Iterator.Runs.{SomeRun, WholeRun};
     ghost use Rattle.uefi_text.specs.FromSliceWithNul.{with_nul_refusal};
+    ghost use Rattle.uefi_text.specs.Runs.{GivesNoNul};
     ghost use Rattle.uefi_text.specs.Views.{text_of};
 
     /// The string that units spell which were not refused.
@@ -229,6 +232,26 @@ impl<A: Allocator> CString16<A> {
         self.units.reserve(string.num_chars())?;
         self.units.truncate(end);
         self.units.extend_from_slice(string.to_u16_slice_with_nul())
+    }
+
+    /// Adds the characters that an iterator gives, none of them NUL, behind the text.
+    ///
+    /// Where memory is refused the characters before that one have been added, and stay.
+    pub fn extend<I: Iterator<Item = Char16> + Drop>(
+        &mut self,
+        characters: I,
+    ) -> Result<(), AllocError>
+        requires can { I.can_next characters }
+        requires ends { IsFinite (I.remaining characters) }
+        requires no_nul { GivesNoNul I.next_gives characters }
+        ensures ok { OnOk result (WholeRun I.next_gives characters (λ run. self.new ≡ self.old ++ run.items)) }
+        ensures err { OnErr result (SomeRun I.next_gives characters (λ run.
+            (k : ℕ) × (k < run.len) × (self.new ≡ self.old ++ take k run.items))) }
+    {
+        for character in characters {
+            self.push(character)?;
+        }
+        Ok(())
     }
 
     /// Writes `replace` in each place of `search`. One pass; takes no memory.

@@ -6,7 +6,7 @@ ghost use Rattle.std.specs.Prelude.{◌≡◌, ◌<◌, ◌≤◌, ◌+◌, ◌*
 ghost use Rattle.std.specs.Result.{result_err};
 ghost use Rattle.std.specs.Str.{chars};
 ghost use Rattle.uefi_text.specs.Latin1.{IsLatin1, IsLatin1String};
-ghost use Rattle.uefi_text.specs.Runs.{GivesEach};
+ghost use Rattle.uefi_text.specs.Runs.{GivesEach, GivesNoNul};
 ghost use Rattle.uefi_text.specs.Units.{IsString, IsText, IsChar16, is_nul, nul_terminated, without_nul};
 
 use crate::chars::Char16;
@@ -366,6 +366,7 @@ pub struct Char16Slice<'a> {
 
 impl<'a> CStr16<'a> {
     ghost use Rattle.std.specs.List.{before_first};
+    ghost use Rattle.std.specs.Iterator.{YieldsFirst};
     ghost use Rattle.std.specs.Str.{IsAscii};
     ghost use Rattle.uefi_text.specs.FromSliceUntilNul.{until_nul_refusal};
     ghost use Rattle.uefi_text.specs.FromSliceWithNul.{with_nul_refusal};
@@ -465,6 +466,7 @@ impl<'a> CStr16<'a> {
     /// The characters of the text in order, without the NUL.
     pub fn iter(&self) -> CStr16Iter<'a>
         ensures same { units_left result ≡ text_of self.now }
+        ensures no_nul { GivesNoNul (YieldsFirst units_left) result }
         ensures bound { length (units_left result) < 2 ^ 64 }
         ensures runs { GivesEach (λ unit. unit) units_left result }
     {
