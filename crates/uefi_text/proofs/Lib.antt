@@ -6,3 +6,4 @@ pub mod Printed
 pub mod Values
 pub mod Packing
 pub mod Runs
+pub mod Beginnings

@@ -10,3 +10,4 @@ pub mod Packed
 pub mod PackedLaws
 pub mod Runs
 pub mod Views
+pub mod EqStrUntilNul
