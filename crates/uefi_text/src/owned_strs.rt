@@ -288,7 +288,7 @@ impl<A: Allocator> CString16<A> {
     pub fn eq_cstr16(&self, other: CStr16<'_>) -> bool
         ensures { IsTrue result ↔ (self.now ≡ text_of other.entry) }
     {
-        self.as_cstr16() == other
+        self.as_cstr16().eq_cstr16(other)
     }
 }
 
