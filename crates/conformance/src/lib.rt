@@ -13,6 +13,8 @@ mod documents;
 #[cfg(test)]
 mod failing_streams;
 #[cfg(test)]
+mod owned;
+#[cfg(test)]
 mod packed;
 #[cfg(test)]
 mod paths;

@@ -8,3 +8,4 @@ pub mod Values
 pub mod Packing
 pub mod UnitBytes
 pub mod Runs
+pub mod Beginnings

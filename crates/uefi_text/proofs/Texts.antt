@@ -1,10 +1,10 @@
 -- Texts, as characters and as code units, and the strings that they are stored as.
-use Rattle.std.proofs.Common.{◌≡◌, ◌↔◌, ℕ, ◌-◌, ◌≤◌, ◌≢◌, Bool, true, false, List, [], ◌∷◌, ◌++◌, length, map, None, Option, Some, All, arith, sym, ◌∙◌, ap, refl, subst, ◌==◌, if◌then◌else◌}
+use Rattle.std.proofs.Common.{◌≡◌, ◌↔◌, ℕ, ◌-◌, ◌≤◌, ◌≢◌, Bool, true, false, List, [], ◌∷◌, ◌++◌, length, map, None, Option, Some, All, arith, sym, ◌∙◌, ap, refl, subst, ◌==◌, if◌then◌else◌, set, append_assoc}
 use Rattle.std.specs.List.{find}
 use Rattle.std.specs.Str.{chars, IsUtf8}
 use Rattle.std.specs.Prelude.{encode_utf8}
 use Rattle.std.proofs.lemmas.Str.{chars-nil, chars_past_char}
-use Rattle.std.proofs.lemmas.List.{length-append, map-append, nil_from_length}
+use Rattle.std.proofs.lemmas.List.{length-append, map-append, nil_from_length, set_at}
 use Rattle.std.proofs.Math.Seq.{take-append_seam}
 use Rattle.std.proofs.lemmas.List.Elements.{All-nil, All-cons, All-head, All-map, All-tail, All-weaker}
 use Rattle.std.proofs.Math.Utf8.{scalar, scalars, scalar_cases}
@@ -48,6 +48,10 @@ IsString-nul_terminated text is_text = rw (without_nul-nul_terminated text) (ref
 -- units that were made of a text and a NUL are a string
 pub IsString-made : (units text : List ℕ) → units ≡ nul_terminated text → IsText text → IsString units
 IsString-made units text e is_text = subst IsString (sym e) (IsString-nul_terminated text is_text)
+
+-- a unit is written where the NUL stood, in front of a new one
+pub nul_terminated-push : (text : List ℕ) (unit : ℕ) → set (nul_terminated text ++ 0 ∷ []) (length text) unit ≡ nul_terminated (text ++ unit ∷ [])
+nul_terminated-push text unit = rw (append_assoc text, append_assoc text) (set_at text 0 (0 ∷ []) unit (length text) refl)
 
 -- a unit of a text stays one where another takes its place
 IsTextUnit-replaced : (search replace u : ℕ) → IsTextUnit u → IsTextUnit replace → IsTextUnit (replaced search replace u)

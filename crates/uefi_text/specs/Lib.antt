@@ -12,3 +12,4 @@ pub mod UnitBytes
 pub mod PackedLaws
 pub mod Runs
 pub mod Views
+pub mod EqStrUntilNul

@@ -1,8 +1,14 @@
--- What a chain of adapters reads of an iterator: what its calls of `next` gave, as one list.
-use Rattle.std.specs.Prelude.{ℕ, List}
+-- What a chain of adapters, or a call that takes an iterator, reads of it: what its calls of `next` gave.
+use Rattle.std.specs.Prelude.{◌≡◌, ◌≢◌, ℕ, List, Option, map, take}
 use Rattle.std.specs.Iterator.{YieldsFirstBy}
-use Rattle.std.specs.Iterator.Runs.{EachRunFrom, ItemsMapTo}
+use Rattle.std.specs.Iterator.Runs.{AllItems, EachRunFrom, ItemsMapTo}
 
--- each run of calls from here gives in order the items that `left` shows, each seen by `view`
+-- each run of calls from here gives in order the items that `left` shows, each seen by `view`: the
+-- first so many of them, and all where it came to an end
 abbrev pub GivesEach : {S A : Type 0} → (A → ℕ) → (S → List ℕ) → S → Type 0
-GivesEach view left here = EachRunFrom (YieldsFirstBy view left) here (λ run. ItemsMapTo run view (left here))
+GivesEach view left here =
+    EachRunFrom (YieldsFirstBy view left) here (λ run. ItemsMapTo run view (left here) × (map view run.items ≡ take run.len (left here)))
+
+-- no run of calls from here gives a NUL
+abbrev pub GivesNoNul : {S : Type 0} → (S → Option ℕ → S → Type 0) → S → Type 0
+GivesNoNul steps here = EachRunFrom steps here (λ run. AllItems run (λ c. c ≢ 0))

@@ -27,6 +27,7 @@
 
 pub mod char_sink;
 pub mod chars;
+pub mod eq_str_until_nul;
 pub mod owned_strs;
 mod scans;
 pub mod strs;
@@ -35,6 +36,7 @@ mod utf8;
 
 pub use char_sink::CharSink;
 pub use chars::{Char8, Char16, CharConversionError, NUL_8, NUL_16};
+pub use eq_str_until_nul::{EqStrUntilNul, str_eq_until_nul};
 pub use owned_strs::{CString16, FromStrError};
 pub use strs::{
     CStr8, CStr16, CStr16Iter, Char16Slice, FromSliceUntilNulError, FromSliceWithNulError,

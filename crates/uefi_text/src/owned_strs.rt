@@ -1,16 +1,19 @@
 //! NUL-terminated UCS-2 strings that are owned, and what of Rust text is refused as one. A string
 //! keeps its NUL in the vector, which nothing outside this module sees.
-ghost use Rattle.std.specs.Prelude.{◌≡◌, ◌≢◌, ℕ, ◌+◌, ◌<◌, ◌↔◌, ◌++◌, [], All, List, None, length, map, find, position, unwrap_or, IsTrue, IfOk, IfErr};
+ghost use Rattle.std.specs.Prelude.{◌≡◌, ◌≢◌, ℕ, ◌+◌, ◌<◌, ◌↔◌, ◌++◌, [], All, List, None, length, map, find, position, unwrap_or, IsTrue, IfOk, IfErr, ◌∷◌, take, IsOk, OnOk, OnErr};
 ghost use Rattle.std.specs.Str.{chars};
-ghost use Rattle.uefi_text.specs.Units.{IsChar16, is_nul, nul_terminated, replaced};
+ghost use Rattle.uefi_text.specs.Units.{IsChar16, is_nul, nul_terminated, replaced, IsString};
+ghost use Rattle.std.specs.Result.{result_err};
 ghost use Rattle.uefi_text.specs.FromStr.{is_deciding_char, from_str_refusal};
 
 use crate::chars::{Char16, NUL_16};
 use crate::scans::{has_deciding_byte, is_ascii_text, replace_units, widen};
 use crate::strs::{CStr16, FromSliceUntilNulError, FromSliceWithNulError};
 use std::alloc::{AllocError, Allocator, Global};
+use std::cmp::Ordering;
 use std::error::Error;
 use std::fmt;
+use std::hash::{Hash, Hasher};
 use std::marker::Model;
 
 /// Why a Rust text is no UCS-2 string.
@@ -211,7 +214,10 @@ impl<'a> CStr16<'a> {
 }
 
 impl<A: Allocator> CString16<A> {
+    ghost use Rattle.std.specs.Iterator.{IsFinite};
+    ghost use Rattle.std.specs.Iterator.Runs.{SomeRun, WholeRun};
     ghost use Rattle.uefi_text.specs.FromSliceWithNul.{with_nul_refusal};
+    ghost use Rattle.uefi_text.specs.Runs.{GivesNoNul};
     ghost use Rattle.uefi_text.specs.Views.{text_of};
 
     /// The string that units spell which were not refused.
@@ -246,6 +252,83 @@ impl<A: Allocator> CString16<A> {
         Ok(CString16 { units })
     }
 
+    /// The string that all of the units spell, in the memory that they lie in.
+    ///
+    /// Refused exactly as [`CStr16::from_u16_with_nul`] refuses them, and a refused vector is let
+    /// go. One pass, which ends at the first unit that is a NUL or a surrogate; takes no memory.
+    pub fn try_from_vec(units: Vec<u16, A>) -> Result<Self, FromSliceWithNulError>
+        ensures ok { IfOk result (λ string. nul_terminated string ≡ units.items) }
+        ensures accepts { IsOk result ↔ IsString units.items }
+        ensures refusal { result_err result ≡ with_nul_refusal units.items }
+    {
+        CStr16::from_u16_with_nul(units.as_slice())?;
+        Ok(CString16 { units })
+    }
+
+    /// A string of one's own that is equal to the lent one. One allocation.
+    pub fn from_cstr16(alloc: A, string: CStr16<'_>) -> Result<Self, AllocError>
+        ensures { IfOk result (λ copy. copy ≡ text_of string.entry) }
+    {
+        string.to_owned(alloc)
+    }
+
+    /// Makes the string the empty one. Takes no memory and gives none back.
+    pub fn clear(&mut self)
+        ensures { self.new ≡ [] }
+    {
+        self.units.truncate(1);
+        self.units[0] = 0;
+    }
+
+    /// Adds a character behind the text. Where memory is refused the string is as it was.
+    ///
+    /// Takes memory where the vector is full; a row of pushes takes a constant time each, on
+    /// average.
+    pub fn push(&mut self, c: Char16) -> Result<(), AllocError>
+        requires { c ≢ 0 }
+        ensures ok { OnOk result (self.new ≡ self.old ++ c ∷ []) }
+        ensures err { OnErr result (self.new ≡ self.old) }
+    {
+        let end = self.num_chars();
+        self.units.push(0)?;
+        self.units[end] = u16::from(c);
+        Ok(())
+    }
+
+    /// Adds a text behind the text. Where memory is refused the string is as it was.
+    ///
+    /// Takes memory at most once, and none for the empty text, which is never refused.
+    pub fn push_str(&mut self, string: CStr16<'_>) -> Result<(), AllocError>
+        ensures ok { OnOk result (self.new ≡ self.old ++ text_of string.entry) }
+        ensures err { OnErr result (self.new ≡ self.old) }
+        ensures empty { text_of string.entry ≡ [] → IsOk result }
+    {
+        let end = self.num_chars();
+        self.units.reserve(string.num_chars())?;
+        self.units.truncate(end);
+        self.units.extend_from_slice(string.to_u16_slice_with_nul())
+    }
+
+    /// Adds the characters that an iterator gives, none of them NUL, behind the text.
+    ///
+    /// Where memory is refused the characters before that one have been added, and stay.
+    pub fn extend<I: Iterator<Item = Char16> + Drop>(
+        &mut self,
+        characters: I,
+    ) -> Result<(), AllocError>
+        requires can { I.can_next characters }
+        requires ends { IsFinite (I.remaining characters) }
+        requires no_nul { GivesNoNul I.next_gives characters }
+        ensures ok { OnOk result (WholeRun I.next_gives characters (λ run. self.new ≡ self.old ++ run.items)) }
+        ensures err { OnErr result (SomeRun I.next_gives characters (λ run.
+            (k : ℕ) × (k < run.len) × (self.new ≡ self.old ++ take k run.items))) }
+    {
+        for character in characters {
+            self.push(character)?;
+        }
+        Ok(())
+    }
+
     /// Writes `replace` in each place of `search`. One pass; takes no memory.
     pub fn replace_char(&mut self, search: Char16, replace: Char16)
         requires search_no_nul { search ≢ 0 }
@@ -275,6 +358,22 @@ impl<A: Allocator> CString16<A> {
     {
         CStr16::from_string(self.units.as_slice())
     }
+
+    /// Whether the lent string has the same text.
+    pub fn eq_cstr16(&self, other: CStr16<'_>) -> bool
+        ensures { IsTrue result ↔ (self.now ≡ text_of other.entry) }
+    {
+        self.as_cstr16().eq_cstr16(other)
+    }
+}
+
+/// An equal string, over a clone of the allocator. One allocation for the string.
+impl<A: Allocator + Clone> Clone for CString16<A> {
+    ghost is_clone = { λ string copy. copy ≡ string };
+
+    fn clone(&self) -> Result<CString16<A>, AllocError> {
+        self.as_cstr16().to_owned(self.units.allocator().clone()?)
+    }
 }
 
 /// Two strings are equal exactly when their texts are.
@@ -298,6 +397,69 @@ impl<A: Allocator> Eq for CString16<A> {
     ghost use Rattle.std.specs.Cmp.Rules.{comparing};
 
     ghost laws = { Prim.search (comparing, rules) };
+}
+
+/// The order of the views: the list order of the code units.
+impl<A: Allocator> PartialOrd for CString16<A> {
+    ghost use Rattle.std.proofs.Common.{rules};
+    ghost use Rattle.std.specs.Ordering.{nat_cmp, as_partial_cmp};
+    ghost use Rattle.std.specs.Cmp.Lexicographic.{slice_cmp};
+    ghost use Rattle.std.specs.Cmp.Rules.{comparing};
+
+    ghost partial_cmp = { as_partial_cmp (slice_cmp nat_cmp) };
+
+    ghost laws = { Prim.search (comparing, rules) };
+
+    fn partial_cmp(&self, other: &Self) -> Option<Ordering> {
+        Some(self.cmp(other))
+    }
+}
+
+/// `Equal` exactly for equal strings.
+impl<A: Allocator> Ord for CString16<A> {
+    ghost use Rattle.std.proofs.Common.{rules};
+    ghost use Rattle.std.specs.Ordering.{nat_cmp};
+    ghost use Rattle.std.specs.Cmp.Lexicographic.{slice_cmp};
+    ghost use Rattle.std.specs.Cmp.Rules.{comparing};
+
+    ghost cmp = { slice_cmp nat_cmp };
+
+    ghost total = { Prim.search (comparing, rules) };
+
+    ghost matches_partial_cmp = { Prim.search (comparing, rules) };
+
+    ghost matches_eq = { Prim.search (comparing, rules) };
+
+    fn cmp(&self, other: &Self) -> Ordering {
+        self.as_cstr16().cmp(&other.as_cstr16())
+    }
+}
+
+/// Hashes as its view does, so that equal strings hash alike, lent or owned.
+impl<A: Allocator> Hash for CString16<A> {
+    ghost use Rattle.std.proofs.Common.{rules};
+    ghost use Rattle.std.specs.Hash as fed;
+    ghost use Rattle.std.specs.Cmp.Rules.{comparing, hashing};
+
+    ghost hash_input = { fed.slice fed.u16 };
+
+    ghost respects_eq = { Prim.search (hashing, comparing, rules) };
+
+    fn hash<H: Hasher>(&self, state: &mut H) {
+        self.as_cstr16().hash(state);
+    }
+}
+
+/// Writes the characters of the text.
+impl<A: Allocator> fmt::Display for CString16<A> {
+    ghost use Rattle.std.specs.Prelude.{Some};
+    ghost use Rattle.std.specs.Str.{encode_utf8_all};
+
+    ghost output = { λ text. Some (encode_utf8_all text) };
+
+    fn fmt<W: fmt::Write>(&self, f: &mut fmt::Formatter<W>) -> fmt::Result {
+        fmt::Display::fmt(&self.as_cstr16(), f)
+    }
 }
 
 /// Prints as its view does, but for the name.

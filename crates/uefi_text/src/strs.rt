@@ -9,7 +9,7 @@ ghost use Rattle.std.specs.Str.{chars};
 ghost use Rattle.uefi_text.specs.FromStr.{is_deciding_char};
 ghost use Rattle.uefi_text.specs.FromStrWithBuf.{refusal_of_char_at, with_units};
 ghost use Rattle.uefi_text.specs.Latin1.{IsLatin1, IsLatin1String};
-ghost use Rattle.uefi_text.specs.Runs.{GivesEach};
+ghost use Rattle.uefi_text.specs.Runs.{GivesEach, GivesNoNul};
 ghost use Rattle.uefi_text.specs.Units.{IsString, IsText, IsChar16, is_nul, nul_terminated, without_nul};
 
 use crate::char_sink::CharSink;
@@ -194,7 +194,7 @@ impl<'a> CStr8<'a> {
     }
 
     /// The bytes before the zero.
-    fn text(&self) -> &'a [u8]
+    pub(crate) fn text(&self) -> &'a [u8]
         ensures { result.now ≡ without_nul (bytes_of self.now) }
     {
         &self.bytes[..self.bytes.len() - 1]
@@ -375,6 +375,7 @@ impl<'a> CStr16<'a> {
     ghost use Rattle.std.specs.Str.{IsAscii, encode_utf8_all};
     ghost use Rattle.std.specs.String.{string_bytes};
     ghost use Rattle.uefi_text.specs.UnitBytes.{unit_bytes};
+    ghost use Rattle.std.specs.Iterator.{YieldsFirst};
     ghost use Rattle.uefi_text.specs.FromSliceUntilNul.{until_nul_refusal};
     ghost use Rattle.uefi_text.specs.FromSliceWithNul.{with_nul_refusal};
     ghost use Rattle.uefi_text.specs.FromStrWithBuf.{from_str_with_buf_refusal, with_text};
@@ -524,6 +525,7 @@ impl<'a> CStr16<'a> {
     /// The characters of the text in order, without the NUL.
     pub fn iter(&self) -> CStr16Iter<'a>
         ensures same { units_left result ≡ text_of self.now }
+        ensures no_nul { GivesNoNul (YieldsFirst units_left) result }
         ensures bound { length (units_left result) < 2 ^ 64 }
         ensures runs { GivesEach (λ unit. unit) units_left result }
     {
@@ -675,6 +677,60 @@ impl<'a> Eq for CStr16<'a> {
     ghost use Rattle.std.specs.Cmp.Rules.{comparing};
 
     ghost laws = { Prim.search (comparing, rules) };
+}
+
+/// The list order of the code units.
+impl<'a> PartialOrd for CStr16<'a> {
+    ghost use Rattle.std.proofs.Common.{rules};
+    ghost use Rattle.std.specs.Ordering.{nat_cmp, as_partial_cmp, on};
+    ghost use Rattle.std.specs.Cmp.Lexicographic.{slice_cmp};
+    ghost use Rattle.std.specs.Cmp.Rules.{comparing};
+    ghost use Rattle.uefi_text.specs.Views.{text_of};
+
+    ghost partial_cmp = { as_partial_cmp (on text_of (slice_cmp nat_cmp)) };
+
+    ghost laws = { Prim.search (comparing, rules) };
+
+    fn partial_cmp(&self, other: &Self) -> Option<Ordering> {
+        Some(Ord::cmp(self, other))
+    }
+}
+
+/// `Equal` exactly for equal strings.
+impl<'a> Ord for CStr16<'a> {
+    ghost use Rattle.std.proofs.Common.{rules};
+    ghost use Rattle.std.specs.Ordering.{nat_cmp, on};
+    ghost use Rattle.std.specs.Cmp.Lexicographic.{slice_cmp};
+    ghost use Rattle.std.specs.Cmp.Rules.{comparing};
+    ghost use Rattle.uefi_text.specs.Views.{text_of};
+
+    ghost cmp = { on text_of (slice_cmp nat_cmp) };
+
+    ghost total = { Prim.search (comparing, rules) };
+
+    ghost matches_partial_cmp = { Prim.search (comparing, rules) };
+
+    ghost matches_eq = { Prim.search (comparing, rules) };
+
+    fn cmp(&self, other: &Self) -> Ordering {
+        self.to_u16_slice().cmp(other.to_u16_slice())
+    }
+}
+
+/// Hashes the code units of the text, so that equal strings hash alike.
+impl<'a> Hash for CStr16<'a> {
+    ghost use Rattle.std.proofs.Common.{rules};
+    ghost use Rattle.std.specs.Hash as fed;
+    ghost use Rattle.std.specs.Cmp.Rules.{comparing, hashing};
+    ghost use Rattle.uefi_text.specs.Views.{text_of};
+
+    ghost hash_input = { λ a. fed.slice fed.u16 (text_of a) };
+
+    ghost respects_eq = { Prim.search (hashing, comparing, rules) };
+
+    fn hash<H: Hasher>(&self, state: &mut H) {
+        self.to_u16_slice().hash(state);
+    }
 }
 
 /// Prints the characters, each as a Rust character.
