@@ -139,8 +139,8 @@ fn units_of_characters<A: Allocator>(
     ensures are_characters { IfOk result (λ units. All IsChar16 units.items) }
 {
     let mut units = Vec::with_capacity(alloc, characters.len())?;
-    for character in characters {
-        units.push(u16::from(*character))?;
+    for c in characters {
+        units.push(u16::from(*c))?;
     }
     Ok(units)
 }
