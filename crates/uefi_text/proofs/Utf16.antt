@@ -13,7 +13,7 @@ use Rattle.std.proofs.Math.Seq.{get_or-append_seam, take-append_seam}
 use Rattle.uefi_text.specs.FromStr.{is_deciding_char}
 use Rattle.uefi_text.specs.FromStrWithBuf.{from_str_with_buf_refusal_at, refusal_of_char_at, from_str_with_buf_refusal, utf16, with_units, with_text}
 use Rattle.uefi_text.specs.Units.{nul_terminated}
-use Rattle.uefi_text.specs.declared.strs.FromStrWithBufError.TheVariants.{BufferTooSmall}
+use Rattle.uefi_text.specs.declared.errors.FromStrWithBufError.TheVariants.{BufferTooSmall}
 use borrow.Rule.Slice.PartMut.{put_mid}
 
 -- units that have room, and then more units behind them

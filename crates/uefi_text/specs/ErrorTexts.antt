@@ -1,14 +1,14 @@
 -- What is printed of each error. An index is in decimal.
 use Rattle.std.specs.Prelude.{ℕ, List, ◌++◌, codes}
 use Rattle.std.specs.Fmt.{decimal}
-use Rattle.uefi_text.specs.declared.strs.FromSliceUntilNulError.{FromSliceUntilNulError}
-use Rattle.uefi_text.specs.declared.strs.FromSliceUntilNulError.TheVariants as until_nul
-use Rattle.uefi_text.specs.declared.strs.FromSliceWithNulError.{FromSliceWithNulError}
-use Rattle.uefi_text.specs.declared.strs.FromSliceWithNulError.TheVariants as with_nul
-use Rattle.uefi_text.specs.declared.strs.UnalignedCStr16Error.{UnalignedCStr16Error}
-use Rattle.uefi_text.specs.declared.strs.UnalignedCStr16Error.TheVariants as unaligned
-use Rattle.uefi_text.specs.declared.strs.FromStrWithBufError.{FromStrWithBufError}
-use Rattle.uefi_text.specs.declared.strs.FromStrWithBufError.TheVariants as with_buf
+use Rattle.uefi_text.specs.declared.errors.FromSliceUntilNulError.{FromSliceUntilNulError}
+use Rattle.uefi_text.specs.declared.errors.FromSliceUntilNulError.TheVariants as until_nul
+use Rattle.uefi_text.specs.declared.errors.FromSliceWithNulError.{FromSliceWithNulError}
+use Rattle.uefi_text.specs.declared.errors.FromSliceWithNulError.TheVariants as with_nul
+use Rattle.uefi_text.specs.declared.errors.UnalignedCStr16Error.{UnalignedCStr16Error}
+use Rattle.uefi_text.specs.declared.errors.UnalignedCStr16Error.TheVariants as unaligned
+use Rattle.uefi_text.specs.declared.errors.FromStrWithBufError.{FromStrWithBufError}
+use Rattle.uefi_text.specs.declared.errors.FromStrWithBufError.TheVariants as with_buf
 use Rattle.uefi_text.specs.declared.owned_strs.FromStrError.{FromStrError}
 use Rattle.uefi_text.specs.declared.owned_strs.FromStrError.TheVariants as from_str
 

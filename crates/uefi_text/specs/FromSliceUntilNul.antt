@@ -1,8 +1,8 @@
 -- Which code units have no front that is a NUL-terminated string, and why.
 use Rattle.std.specs.Prelude.{ℕ, ◌==◌, if◌then◌else◌, List, slice_index, Option, Some, None, position}
 use Rattle.uefi_text.specs.Units.{deciding_place, is_nul}
-use Rattle.uefi_text.specs.declared.strs.FromSliceUntilNulError.{FromSliceUntilNulError}
-use Rattle.uefi_text.specs.declared.strs.FromSliceUntilNulError.TheVariants.{InvalidChar, NoNul}
+use Rattle.uefi_text.specs.declared.errors.FromSliceUntilNulError.{FromSliceUntilNulError}
+use Rattle.uefi_text.specs.declared.errors.FromSliceUntilNulError.TheVariants.{InvalidChar, NoNul}
 
 -- the refusal by the deciding place: a NUL there is right, whatever follows it, a surrogate never is
 abbrev pub until_nul_refusal_at : List ℕ → Option ℕ → Option FromSliceUntilNulError

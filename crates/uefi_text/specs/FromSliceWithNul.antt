@@ -1,8 +1,8 @@
 -- Which code units, and which bytes of Latin-1, are refused as a NUL-terminated string, and why.
 use Rattle.std.specs.Prelude.{ℕ, ◌+◌, ◌==◌, if◌then◌else◌, List, length, slice_index, Option, Some, None, position}
 use Rattle.uefi_text.specs.Units.{deciding_place, is_nul}
-use Rattle.uefi_text.specs.declared.strs.FromSliceWithNulError.{FromSliceWithNulError}
-use Rattle.uefi_text.specs.declared.strs.FromSliceWithNulError.TheVariants.{InvalidChar, InteriorNul, NotNulTerminated}
+use Rattle.uefi_text.specs.declared.errors.FromSliceWithNulError.{FromSliceWithNulError}
+use Rattle.uefi_text.specs.declared.errors.FromSliceWithNulError.TheVariants.{InvalidChar, InteriorNul, NotNulTerminated}
 
 -- the refusal by the deciding place: a NUL there is right where it is the last unit, a surrogate
 -- never is

@@ -4,8 +4,8 @@ use Rattle.std.specs.Char.Escape.{encode_utf16}
 use Rattle.std.specs.List.{flat_map}
 use Rattle.uefi_text.specs.FromStr.{is_deciding_char}
 use Rattle.uefi_text.specs.Units.{nul_terminated}
-use Rattle.uefi_text.specs.declared.strs.FromStrWithBufError.{FromStrWithBufError}
-use Rattle.uefi_text.specs.declared.strs.FromStrWithBufError.TheVariants.{InvalidChar, InteriorNul, BufferTooSmall}
+use Rattle.uefi_text.specs.declared.errors.FromStrWithBufError.{FromStrWithBufError}
+use Rattle.uefi_text.specs.declared.errors.FromStrWithBufError.TheVariants.{InvalidChar, InteriorNul, BufferTooSmall}
 
 -- the UTF-16 of characters: the one or two units of each
 abbrev pub utf16 : List ℕ → List ℕ

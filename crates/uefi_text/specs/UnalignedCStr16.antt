@@ -1,8 +1,8 @@
 -- Which packed code units are refused as a string in a buffer, why, and what the buffer then holds.
 use Rattle.std.specs.Prelude.{ℕ, ◌+◌, ◌==◌, nat_lt, if◌then◌else◌, List, ◌++◌, length, drop, slice_index, Option, Some, None}
 use Rattle.uefi_text.specs.Units.{deciding_place}
-use Rattle.uefi_text.specs.declared.strs.UnalignedCStr16Error.{UnalignedCStr16Error}
-use Rattle.uefi_text.specs.declared.strs.UnalignedCStr16Error.TheVariants.{InvalidChar, InteriorNul, NotNulTerminated, BufferTooSmall}
+use Rattle.uefi_text.specs.declared.errors.UnalignedCStr16Error.{UnalignedCStr16Error}
+use Rattle.uefi_text.specs.declared.errors.UnalignedCStr16Error.TheVariants.{InvalidChar, InteriorNul, NotNulTerminated, BufferTooSmall}
 
 -- the refusal by the deciding place, as of units that lie in a slice
 abbrev pub unaligned_refusal_at : List ℕ → Option ℕ → Option UnalignedCStr16Error

@@ -4,8 +4,8 @@ use Rattle.std.specs.List.{ends_with}
 use Rattle.uefi_text.specs.FromSliceWithNul.{with_nul_refusal}
 use Rattle.uefi_text.specs.Packed.{packed_items}
 use Rattle.uefi_text.specs.Units.{IsText, nul_terminated}
-use Rattle.uefi_text.specs.declared.strs.FromSliceWithNulError.{FromSliceWithNulError}
-use Rattle.uefi_text.specs.declared.strs.FromSliceWithNulError.TheVariants.{NotNulTerminated}
+use Rattle.uefi_text.specs.declared.errors.FromSliceWithNulError.{FromSliceWithNulError}
+use Rattle.uefi_text.specs.declared.errors.FromSliceWithNulError.TheVariants.{NotNulTerminated}
 
 -- the bytes of code units, two for each, the low one first
 abbrev pub unit_bytes : List ℕ → List ℕ

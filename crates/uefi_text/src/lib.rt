@@ -28,6 +28,7 @@
 pub mod char_sink;
 pub mod chars;
 pub mod eq_str_until_nul;
+mod errors;
 pub mod owned_strs;
 mod scans;
 pub mod strs;

@@ -1,5 +1,5 @@
-//! NUL-terminated UCS-2 strings that are lent, and what is refused as one. The fields of the views
-//! are private to this module, and `specs/Views.antt` says what each view shows.
+//! NUL-terminated strings that are lent: of Latin-1, and of UCS-2. The fields of the views are
+//! private to this module, and `specs/Views.antt` says what each view shows.
 #![tactic(auto, unfolding(crate::specs::Views::bytes_of, crate::specs::Views::text_of, crate::specs::Views::units_of, crate::specs::Views::units_left))]
 
 ghost use Rattle.std.specs.Prelude.{◌≡◌, ◌<◌, ◌≤◌, ◌+◌, ◌*◌, ◌^◌, ◌↔◌, ◌==◌, ◌≢◌, ◌++◌, if◌then◌else◌, [], ℕ, List, Option, All, length, position, slice_get, slice_index, slice_range, take, IsTrue, IsOk, IfOk, OnErr, OnOk};
@@ -12,148 +12,18 @@ ghost use Rattle.uefi_text.specs.Latin1.{IsLatin1, IsLatin1String};
 ghost use Rattle.uefi_text.specs.Runs.{GivesEach, GivesNoNul};
 ghost use Rattle.uefi_text.specs.Units.{IsString, IsText, IsChar16, is_nul, nul_terminated, without_nul};
 
+pub use crate::errors::{
+    FromSliceUntilNulError, FromSliceWithNulError, FromStrWithBufError, UnalignedCStr16Error,
+};
+
 use crate::char_sink::CharSink;
 use crate::chars::Char16;
 use crate::scans::{find_deciding_place, has_byte_beyond_latin1, has_unit_beyond_ascii, split};
 use crate::utf8::add_utf8;
 use std::alloc::{AllocError, Allocator};
 use std::cmp::Ordering;
-use std::error::Error;
 use std::fmt;
 use std::hash::{Hash, Hasher};
-
-/// Why no front of the code units is a NUL-terminated string. A place is an index into what was handed
-/// in.
-#[derive(Clone, Copy, Debug, PartialEq, Eq)]
-pub enum FromSliceUntilNulError {
-    /// The first unit that no text holds is a surrogate, at this place.
-    InvalidChar(usize),
-
-    /// No unit is a NUL.
-    NoNul,
-
-    /// A request for memory was refused. No call that lends answers it.
-    OutOfMemory,
-}
-
-impl fmt::Display for FromSliceUntilNulError {
-    ghost use Rattle.std.specs.Prelude.{Some};
-    ghost use Rattle.uefi_text.specs.ErrorTexts.{from_slice_until_nul_error_text};
-
-    ghost output = { λ error. Some (from_slice_until_nul_error_text error) };
-
-    fn fmt<W: fmt::Write>(&self, f: &mut fmt::Formatter<W>) -> fmt::Result {
-        match self {
-            Self::InvalidChar(place) => write!(f, "invalid character at index {place}"),
-            Self::NoNul => write!(f, "no nul character"),
-            Self::OutOfMemory => write!(f, "out of memory"),
-        }
-    }
-}
-
-impl Error for FromSliceUntilNulError {}
-
-/// Why code units or bytes are no NUL-terminated string. A place is an index into what was handed in.
-#[derive(Clone, Copy, Debug, PartialEq, Eq)]
-pub enum FromSliceWithNulError {
-    /// The first unit that no text holds is a surrogate, at this place.
-    InvalidChar(usize),
-
-    /// The first unit that no text holds is a NUL, at this place, and more units follow it.
-    InteriorNul(usize),
-
-    /// No unit is a NUL.
-    NotNulTerminated,
-
-    /// The slice is not aligned. Kept for the original's callers: no call of this crate answers it.
-    NotAligned,
-
-    /// A request for memory was refused. No call that lends answers it.
-    OutOfMemory,
-}
-
-impl fmt::Display for FromSliceWithNulError {
-    ghost use Rattle.std.specs.Prelude.{Some};
-    ghost use Rattle.uefi_text.specs.ErrorTexts.{from_slice_with_nul_error_text};
-
-    ghost output = { λ error. Some (from_slice_with_nul_error_text error) };
-
-    fn fmt<W: fmt::Write>(&self, f: &mut fmt::Formatter<W>) -> fmt::Result {
-        match self {
-            Self::InvalidChar(place) => write!(f, "invalid character at index {place}"),
-            Self::InteriorNul(place) => write!(f, "interior null character at index {place}"),
-            Self::NotNulTerminated => write!(f, "not null-terminated"),
-            Self::NotAligned => write!(f, "slice is not aligned to a 16-bit boundary"),
-            Self::OutOfMemory => write!(f, "out of memory"),
-        }
-    }
-}
-
-impl Error for FromSliceWithNulError {}
-
-/// Why packed code units do not become a string in a buffer. A place is an index into them.
-#[derive(Clone, Copy, Debug, PartialEq, Eq)]
-pub enum UnalignedCStr16Error {
-    /// The first unit that no text holds is a surrogate, at this place.
-    InvalidChar(usize),
-
-    /// The first unit that no text holds is a NUL, at this place, and more units follow it.
-    InteriorNul(usize),
-
-    /// No unit is a NUL.
-    NotNulTerminated,
-
-    /// The buffer has fewer places than there are units.
-    BufferTooSmall,
-}
-
-impl fmt::Display for UnalignedCStr16Error {
-    ghost use Rattle.std.specs.Prelude.{Some};
-    ghost use Rattle.uefi_text.specs.ErrorTexts.{unaligned_cstr16_error_text};
-
-    ghost output = { λ error. Some (unaligned_cstr16_error_text error) };
-
-    fn fmt<W: fmt::Write>(&self, f: &mut fmt::Formatter<W>) -> fmt::Result {
-        match self {
-            Self::InvalidChar(place) => write!(f, "invalid character at index {place}"),
-            Self::InteriorNul(place) => write!(f, "interior null character at index {place}"),
-            Self::NotNulTerminated => write!(f, "not null-terminated"),
-            Self::BufferTooSmall => write!(f, "buffer too small"),
-        }
-    }
-}
-
-impl Error for UnalignedCStr16Error {}
-
-/// Why a Rust text does not become a string in a buffer. A place is a number of characters.
-#[derive(Clone, Copy, Debug, PartialEq, Eq)]
-pub enum FromStrWithBufError {
-    /// The first character that no UCS-2 text holds is above U+FFFF, behind so many others.
-    InvalidChar(usize),
-
-    /// The first character that no UCS-2 text holds is a NUL, behind so many others.
-    InteriorNul(usize),
-
-    /// The buffer has too few places for the text and its NUL.
-    BufferTooSmall,
-}
-
-impl fmt::Display for FromStrWithBufError {
-    ghost use Rattle.std.specs.Prelude.{Some};
-    ghost use Rattle.uefi_text.specs.ErrorTexts.{from_str_with_buf_error_text};
-
-    ghost output = { λ error. Some (from_str_with_buf_error_text error) };
-
-    fn fmt<W: fmt::Write>(&self, f: &mut fmt::Formatter<W>) -> fmt::Result {
-        match self {
-            Self::InvalidChar(place) => write!(f, "invalid character at index {place}"),
-            Self::InteriorNul(place) => write!(f, "interior null character at index {place}"),
-            Self::BufferTooSmall => write!(f, "buffer too small"),
-        }
-    }
-}
-
-impl Error for FromStrWithBufError {}
 
 /// A Latin-1 string that is lent: a view of bytes of which exactly the last is zero. In contracts it is
 /// `bytes_of` it, all its bytes.
