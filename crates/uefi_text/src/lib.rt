@@ -17,7 +17,10 @@
 //! assert_eq!(rt; broken.err(), Some(FromSliceWithNulError::InvalidChar(1)));
 //! ```
 //!
-//! An [`UnalignedSlice`] reads numbers that lie packed in bytes, at any place of memory.
+//! Strings come out of code units, characters, bytes and Rust texts, lent where nothing has to be
+//! copied, and each refusal says what is wrong and where. They go back into bytes, Rust texts and any
+//! [`CharSink`]. A [`CStr8`] is a string of Latin-1, and [`EqStrUntilNul`] compares all of them with
+//! Rust texts. An [`UnalignedSlice`] reads numbers that lie packed in bytes, at any place of memory.
 //!
 //! In contracts every value is the list of code units that it shows: `text_of` of a [`CStr16`],
 //! `units_of` of a [`Char16Slice`], `units_left` of a [`CStr16Iter`], and a [`CString16`] is its
