@@ -41,7 +41,8 @@ fn extended_by_ascii<A: Allocator>(
     string: &mut CString16<A>,
     more: CStr16<'_>,
 ) -> Result<(), AllocError>
-    ensures { OnOk result (string.new ≡ string.old ++ filter (λ c. nat_lt c 128) (text_of more.entry)) }
+    ensures { OnOk result (string.new
+        ≡ string.old ++ filter (λ c. nat_lt c 128) (text_of more.entry)) }
 {
     string.extend(more.iter().filter(|c| c.is_ascii()))
 }

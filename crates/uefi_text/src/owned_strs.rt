@@ -319,7 +319,8 @@ impl<A: Allocator> CString16<A> {
         requires can { I.can_next characters }
         requires ends { IsFinite (I.remaining characters) }
         requires no_nul { GivesNoNul I.next_gives characters }
-        ensures ok { OnOk result (WholeRun I.next_gives characters (λ run. self.new ≡ self.old ++ run.items)) }
+        ensures ok { OnOk result (WholeRun I.next_gives characters (λ run.
+            self.new ≡ self.old ++ run.items)) }
         ensures err { OnErr result (SomeRun I.next_gives characters (λ run.
             (k : ℕ) × (k < run.len) × (self.new ≡ self.old ++ take k run.items))) }
     {
