@@ -1,6 +1,7 @@
 -- What a constructor takes is a string exactly where the first element that no text holds is a NUL in the last place.
 use Rattle.std.proofs.Common.{◌≡◌, ◌≢◌, ℕ, ◌+◌, ◌-◌, ◌<◌, ◌^◌, ◌∙◌, ap, subst, sym, Bool, true, false, All, List, [], ◌∷◌, ◌++◌, length, get_or, take, Some, None, Option, arith, refl}
 use Rattle.std.specs.List.{before_first, position, position_or_len}
+use Rattle.std.specs.Option.{unwrap_or}
 use Rattle.std.proofs.lemmas.List.Sums.{position_or_len_is}
 use Rattle.std.proofs.lemmas.List.Quantifiers.{position-Some}
 use Rattle.std.proofs.lemmas.List.Elements.{All-from_get_or, All-weaker}
@@ -10,6 +11,7 @@ use Rattle.std.proofs.lemmas.Grind.{common_steps}
 use Rattle.uefi_text.proofs.Texts.{IsString-made, without_nul-nul_terminated}
 use Rattle.uefi_text.specs.FromSliceWithNul.{with_nul_refusal, with_nul_refusal_at, first_nul_refusal}
 use Rattle.uefi_text.specs.UnalignedCStr16.{unaligned_refusal_at}
+use Rattle.uefi_text.specs.declared.errors.FromSliceWithNulError.TheVariants.{OutOfMemory}
 use Rattle.uefi_text.specs.Latin1.{IsLatin1String}
 use Rattle.uefi_text.specs.Units.{IsChar16, IsTextUnit, IsText, IsString, is_nul, is_deciding, deciding_place, nul_terminated, without_nul}
 
@@ -136,3 +138,11 @@ with_nul_refusal-unaligned units accepted = go (deciding_place units) accepted
         let zero : get_or units i 0 ≡ 0 = grind (arith, common_steps) in
         let last : i + 1 ≡ length units = grind (arith, common_steps) in
         grind (arith, common_steps)
+
+-- units are never refused for want of memory themselves
+pub with_nul_refusal-memory : (units : List ℕ) → OutOfMemory ≡ unwrap_or (with_nul_refusal units) OutOfMemory → with_nul_refusal units ≡ None
+with_nul_refusal-memory units want = go (deciding_place units) want
+  where
+    go : (o : Option ℕ) → OutOfMemory ≡ unwrap_or (with_nul_refusal_at units o) OutOfMemory → with_nul_refusal_at units o ≡ None
+    go None w = cc
+    go (Some i) w = grind (arith, common_steps)

@@ -1,12 +1,12 @@
 -- Texts, as characters and as code units, and the strings that they are stored as.
-use Rattle.std.proofs.Common.{◌≡◌, ◌↔◌, ℕ, ◌-◌, ◌≤◌, ◌≢◌, Bool, true, false, List, [], ◌∷◌, ◌++◌, length, map, None, Option, Some, All, arith, sym, ◌∙◌, ap, refl, subst, ◌==◌, if◌then◌else◌, set, append_assoc}
+use Rattle.std.proofs.Common.{◌≡◌, ◌↔◌, ℕ, ◌-◌, ◌≤◌, ◌≢◌, Bool, true, false, List, [], ◌∷◌, ◌++◌, length, map, None, Option, Some, All, arith, sym, ◌∙◌, ap, refl, subst, ◌==◌, if◌then◌else◌, set, append_assoc, take, drop}
 use Rattle.std.specs.List.{find}
 use Rattle.std.specs.Str.{chars, IsUtf8}
 use Rattle.std.specs.Prelude.{encode_utf8}
 use Rattle.std.proofs.lemmas.Str.{chars-nil, chars_past_char}
-use Rattle.std.proofs.lemmas.List.{length-append, map-append, nil_from_length, set_at}
+use Rattle.std.proofs.lemmas.List.{length-append, map-append, nil_from_length, set_at, drop-append-le, take-append-le}
 use Rattle.std.proofs.Math.Seq.{take-append_seam}
-use Rattle.std.proofs.lemmas.List.Elements.{All-nil, All-cons, All-head, All-map, All-tail, All-weaker}
+use Rattle.std.proofs.lemmas.List.Elements.{All-append, All-cons, All-drop, All-head, All-map, All-nil, All-tail, All-take, All-weaker}
 use Rattle.std.proofs.Math.Utf8.{scalar, scalars, scalar_cases}
 use Rattle.std.proofs.lemmas.Grind.{common_steps}
 use Rattle.uefi_text.specs.Units.{replaced, IsText, IsTextUnit, IsString, nul_terminated, without_nul}
@@ -70,10 +70,15 @@ nul_terminated-replaced : (search replace : ℕ) (text : List ℕ) → search �
 nul_terminated-replaced search replace text no_nul =
     map-append (replaced search replace) text (0 ∷ []) ∙ ap (λ u. map (replaced search replace) text ++ u ∷ []) (replaced-nul search replace no_nul)
 
--- and so does a string
-pub IsString-replaced : (search replace : ℕ) (units : List ℕ) → IsString units → search ≢ 0 → IsTextUnit replace → IsString (map (replaced search replace) units)
-IsString-replaced search replace units string no_nul unit =
-    IsString-made _ (map (replaced search replace) (without_nul units)) (ap (map (replaced search replace)) string.0 ∙ nul_terminated-replaced search replace (without_nul units) no_nul) (IsText-replaced search replace (without_nul units) string.1 unit)
+-- and so does a string, also where what stands before a place stays
+pub IsString-replaced_from : (search replace start : ℕ) (units : List ℕ) → IsString units → start ≤ length (without_nul units) → search ≢ 0 → IsTextUnit replace → IsString (take start units ++ map (replaced search replace) (drop start units))
+IsString-replaced_from search replace start units string inside no_nul unit =
+    let text = without_nul units in
+    let front : take start units ≡ take start text = ap (take start) string.0 ∙ take-append-le start text (0 ∷ []) inside in
+    let back : drop start units ≡ nul_terminated (drop start text) = ap (drop start) string.0 ∙ drop-append-le start text (0 ∷ []) inside in
+    let made : take start units ++ map (replaced search replace) (drop start units) ≡ nul_terminated (take start text ++ map (replaced search replace) (drop start text)) =
+    rw (front, back, nul_terminated-replaced search replace (drop start text) no_nul) (sym (append_assoc (take start text) _ _)) in
+    IsString-made _ _ made (All-append IsTextUnit (take start text) _ (All-take IsTextUnit start text string.1) (IsText-replaced search replace (drop start text) (All-drop IsTextUnit start text string.1) unit))
 
 -- a character that is not refused is a unit of a text
 IsTextUnit-char : (c : ℕ) → scalar c ≡ true → is_deciding_char c ≡ false → IsTextUnit c

@@ -1,5 +1,5 @@
 -- Code units as bytes, two for each, and back.
-use Rattle.std.proofs.Common.{◌≡◌, ℕ, zero, suc, ◌+◌, ◌-◌, ◌*◌, ◌/◌, ◌%◌, ◌<◌, ◌≤◌, ◌^◌, ◌∙◌, ap, sym, refl, true, All, List, [], ◌∷◌, ◌++◌, length, take, drop, get_or, set, append_assoc, None, inl, inr, arith}
+use Rattle.std.proofs.Common.{◌≡◌, ℕ, zero, suc, ◌+◌, ◌-◌, ◌*◌, ◌/◌, ◌%◌, ◌<◌, ◌^◌, ◌∙◌, ap, subst, sym, refl, true, All, List, [], ◌∷◌, ◌++◌, length, take, drop, get_or, set, append_assoc, None, inl, inr, arith}
 use Rattle.std.proofs.lemmas.Bool.{cases_Bool}
 use Rattle.std.proofs.lemmas.List.{drop-drop, length-append, length-drop, length-take-le, take_more}
 use Rattle.std.proofs.lemmas.List.Elements.{All-append, All-cons, All-head, All-nil, All-tail, All-weaker}
@@ -7,6 +7,7 @@ use Rattle.std.proofs.Math.Seq.{drop-append_seam}
 use Rattle.std.proofs.lemmas.Grind.{common_steps}
 use Rattle.uefi_text.proofs.Deciding.{IsString-accepted, with_nul_refusal-IsString}
 use Rattle.uefi_text.proofs.Texts.{IsString-nul_terminated, without_nul-nul_terminated}
+use Rattle.uefi_text.specs.FromSliceWithNul.{with_nul_refusal}
 use Rattle.uefi_text.specs.Packed.{IsByte, packed_items}
 use Rattle.uefi_text.specs.UnitBytes.{BytesSpell, ends_in_nul, unit_bytes, unit_bytes_refusal, units_of_bytes}
 use Rattle.uefi_text.specs.Units.{IsText, IsTextUnit, nul_terminated, without_nul}
@@ -124,14 +125,25 @@ small_items (suc count) [] are_bytes (suc k) = small_items count [] are_bytes k
 small_items (suc count) (b ∷ []) are_bytes (suc k) = small_items count [] (All-nil IsByte) k
 small_items (suc count) (b ∷ c ∷ bs) are_bytes (suc k) = small_items count bs (All-tail IsByte c bs (All-tail IsByte b (c ∷ bs) are_bytes)) k
 
--- and no others
+-- bytes whose units are a text and a NUL spell it
+pub units_spell : (bytes text : List ℕ) → All IsByte bytes → length bytes % 2 ≡ 0 → with_nul_refusal (units_of_bytes bytes) ≡ None → nul_terminated text ≡ units_of_bytes bytes → BytesSpell bytes text
+units_spell bytes text are_bytes even accepted e =
+    let string = IsString-accepted (units_of_bytes bytes) (small_items (length bytes / 2) bytes are_bytes) accepted in
+    let same : without_nul (units_of_bytes bytes) ≡ text = ap without_nul (sym e) ∙ without_nul-nul_terminated text in
+    (subst IsText same string.1, sym (unit_bytes-units_of_bytes bytes even are_bytes) ∙ ap unit_bytes (sym e))
+
+-- and where they are not refused they are one
+pub units_text : (bytes : List ℕ) → All IsByte bytes → length bytes % 2 ≡ 0 → with_nul_refusal (units_of_bytes bytes) ≡ None → (text : List ℕ) × BytesSpell bytes text
+units_text bytes are_bytes even accepted =
+    let string = IsString-accepted (units_of_bytes bytes) (small_items (length bytes / 2) bytes are_bytes) accepted in
+    (without_nul (units_of_bytes bytes), units_spell bytes (without_nul (units_of_bytes bytes)) are_bytes even accepted (sym string.0))
+
+-- bytes that are accepted spell a text
 pub accepted_spells : (bytes : List ℕ) → All IsByte bytes → unit_bytes_refusal bytes ≡ None → (text : List ℕ) × BytesSpell bytes text
 accepted_spells bytes are_bytes accepted =
     elim (cases_Bool (ends_in_nul bytes)) [
       | inl ended ↦
           let even : length bytes % 2 ≡ 0 = grind (arith, common_steps) in
-          let string = IsString-accepted (units_of_bytes bytes) (small_items (length bytes / 2) bytes are_bytes) (rw ended at accepted) in
-          let spelled = sym (unit_bytes-units_of_bytes bytes even are_bytes) ∙ ap unit_bytes string.0 in
-          (without_nul (units_of_bytes bytes), (string.1, spelled))
+          units_text bytes are_bytes even (rw ended at accepted)
       | inr other ↦ absurd (grind (arith, common_steps))
     ]

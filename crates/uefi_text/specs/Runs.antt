@@ -5,9 +5,10 @@ use Rattle.std.specs.Iterator.Runs.{AllItems, EachRunFrom, ItemsMapTo}
 
 -- each run of calls from here gives in order the items that `left` shows, each seen by `view`: the
 -- first so many of them, and all where it came to an end
-abbrev pub GivesEach : {S A : Type 0} → (A → ℕ) → (S → List ℕ) → S → Type 0
+abbrev pub GivesEach : {S A B : Type 0} → (A → B) → (S → List B) → S → Type 0
 GivesEach view left here =
-    EachRunFrom (YieldsFirstBy view left) here (λ run. ItemsMapTo run view (left here) × (map view run.items ≡ take run.len (left here)))
+    EachRunFrom (YieldsFirstBy view left) here (λ run.
+    ItemsMapTo run view (left here) × (map view run.items ≡ take run.len (left here)))
 
 -- no run of calls from here gives a NUL
 abbrev pub GivesNoNul : {S : Type 0} → (S → Option ℕ → S → Type 0) → S → Type 0

@@ -1,5 +1,5 @@
 -- Strings as bytes, two for each code unit, the low one first; and which bytes are refused as one.
-use Rattle.std.specs.Prelude.{◌≡◌, ℕ, ◌+◌, ◌/◌, ◌%◌, ◌==◌, nat_eq, Bool, ◌&&◌, if◌then◌else◌, List, [], ◌∷◌, length, Option, Some}
+use Rattle.std.specs.Prelude.{◌≡◌, ℕ, ◌/◌, ◌%◌, ◌==◌, nat_eq, Bool, ◌&&◌, if◌then◌else◌, List, [], ◌∷◌, length, Option, Some}
 use Rattle.std.specs.List.{ends_with}
 use Rattle.uefi_text.specs.FromSliceWithNul.{with_nul_refusal}
 use Rattle.uefi_text.specs.Packed.{packed_items}

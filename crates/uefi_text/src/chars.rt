@@ -261,3 +261,17 @@ pub const SEPARATOR: Char16 = Char16 { unit: 92 };
 
 /// The separator of other systems, `/`, which path buffers turn into [`SEPARATOR`].
 pub const SLASH: Char16 = Char16 { unit: 47 };
+
+/// The characters that no name of a file holds: NUL and `"*/:<>?\|`.
+pub const CHARACTER_DENY_LIST: [Char16; 10] = [
+    NUL_16,
+    Char16 { unit: 34 },
+    Char16 { unit: 42 },
+    SLASH,
+    Char16 { unit: 58 },
+    Char16 { unit: 60 },
+    Char16 { unit: 62 },
+    Char16 { unit: 63 },
+    SEPARATOR,
+    Char16 { unit: 124 },
+];

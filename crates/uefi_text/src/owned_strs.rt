@@ -1,14 +1,14 @@
 //! NUL-terminated UCS-2 strings that are owned, and what of Rust text is refused as one. A string
 //! keeps its NUL in the vector, which nothing outside this module sees.
-ghost use Rattle.std.specs.Prelude.{◌≡◌, ◌≢◌, ℕ, ◌+◌, ◌<◌, ◌↔◌, ◌++◌, [], All, List, None, length, map, find, position, unwrap_or, IsTrue, IfOk, IfErr, ◌∷◌, take, IsOk, OnOk, OnErr};
+ghost use Rattle.std.specs.Prelude.{◌≡◌, ◌≢◌, ℕ, ◌+◌, ◌<◌, ◌↔◌, ◌++◌, [], All, List, None, length, map, find, position, unwrap_or, IsTrue, IfOk, IfErr, ◌∷◌, take, IsOk, OnOk, OnErr, drop};
 ghost use Rattle.std.specs.Str.{chars};
 ghost use Rattle.uefi_text.specs.Units.{IsChar16, is_nul, nul_terminated, replaced, IsString};
 ghost use Rattle.std.specs.Result.{result_err};
 ghost use Rattle.uefi_text.specs.FromStr.{is_deciding_char, from_str_refusal};
 
 use crate::chars::{Char16, NUL_16};
-use crate::scans::{has_deciding_byte, is_ascii_text, replace_units, widen};
-use crate::strs::{CStr16, FromSliceUntilNulError, FromSliceWithNulError};
+use crate::scans::{has_deciding_byte, is_ascii_text, replace_units_from, widen};
+use crate::strs::{CStr16, Char16Slice, FromSliceUntilNulError, FromSliceWithNulError};
 use std::alloc::{AllocError, Allocator, Global};
 use std::cmp::Ordering;
 use std::error::Error;
@@ -218,7 +218,7 @@ impl<A: Allocator> CString16<A> {
     ghost use Rattle.std.specs.Iterator.Runs.{SomeRun, WholeRun};
     ghost use Rattle.uefi_text.specs.FromSliceWithNul.{with_nul_refusal};
     ghost use Rattle.uefi_text.specs.Runs.{GivesNoNul};
-    ghost use Rattle.uefi_text.specs.Views.{text_of};
+    ghost use Rattle.uefi_text.specs.Views.{text_of, units_of};
 
     /// The string that units spell which were not refused.
     pub(crate) fn from_accepted(units: Vec<u16, A>) -> Self
@@ -233,6 +233,18 @@ impl<A: Allocator> CString16<A> {
         ensures { IfOk result (λ string. string ≡ []) }
     {
         let mut units = Vec::new(alloc);
+        units.push(0)?;
+        Ok(CString16 { units })
+    }
+
+    /// The empty string, with room for so many characters and the NUL. One allocation.
+    pub fn with_capacity(alloc: A, characters: usize) -> Result<Self, AllocError>
+        ensures { IfOk result (λ string. string ≡ []) }
+    {
+        let Some(room) = characters.checked_add(1) else {
+            return Err(AllocError);
+        };
+        let mut units = Vec::with_capacity(alloc, room)?;
         units.push(0)?;
         Ok(CString16 { units })
     }
@@ -303,10 +315,36 @@ impl<A: Allocator> CString16<A> {
         ensures err { OnErr result (self.new ≡ self.old) }
         ensures empty { text_of string.entry ≡ [] → IsOk result }
     {
+        self.push_part(string.as_slice())
+    }
+
+    /// Adds characters, none of them NUL, behind the text. Where memory is refused the string is as
+    /// it was.
+    ///
+    /// Takes memory at most once, and none where there are no characters, which is never refused. A
+    /// row of calls takes a time linear in what it adds, on average.
+    pub fn push_part(&mut self, part: Char16Slice<'_>) -> Result<(), AllocError>
+        requires { All (λ unit. unit ≢ 0) (units_of part) }
+        ensures ok { OnOk result (self.new ≡ self.old ++ units_of part.entry) }
+        ensures err { OnErr result (self.new ≡ self.old) }
+        ensures empty { units_of part.entry ≡ [] → IsOk result }
+    {
         let end = self.num_chars();
-        self.units.reserve(string.num_chars())?;
+        self.units.reserve(part.len())?;
         self.units.truncate(end);
-        self.units.extend_from_slice(string.to_u16_slice_with_nul())
+        self.units.extend_from_slice(part.units())?;
+        self.units.extend_from_slice(&[0])
+    }
+
+    /// Keeps the first so many characters, or all where there are no more. Takes no memory and
+    /// gives none back.
+    pub fn truncate(&mut self, len: usize)
+        ensures { self.new ≡ take len self.old }
+    {
+        if len < self.num_chars() {
+            self.units.truncate(len + 1);
+            self.units[len] = 0;
+        }
     }
 
     /// Adds the characters that an iterator gives, none of them NUL, behind the text.
@@ -336,7 +374,24 @@ impl<A: Allocator> CString16<A> {
         requires replace_no_nul { replace ≢ 0 }
         ensures { self.new ≡ map (replaced search replace) self.old }
     {
-        replace_units(&mut self.units, u16::from(search), u16::from(replace));
+        self.replace_char_from(0, search, replace);
+    }
+
+    /// Writes `replace` in each place of `search`, from the place `start` on. One pass over what
+    /// stands there; takes no memory.
+    pub fn replace_char_from(&mut self, start: usize, search: Char16, replace: Char16)
+        requires search_no_nul { search ≢ 0 }
+        requires replace_no_nul { replace ≢ 0 }
+        ensures { self.new ≡ take start self.old ++ map (replaced search replace) (drop start self.old) }
+    {
+        if start < self.num_chars() {
+            replace_units_from(
+                &mut self.units,
+                start,
+                u16::from(search),
+                u16::from(replace),
+            );
+        }
     }
 
     /// How many characters the text has, the NUL not counted.

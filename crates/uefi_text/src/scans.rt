@@ -1,7 +1,7 @@
 //! Passes over whole slices, in forms that the compiler turns into vector instructions: no early
 //! exit inside a block, and loops over places where the bounds are known. What they answer is said
 //! by std's words, so that callers see nothing of the form.
-ghost use Rattle.std.specs.Prelude.{◌≡◌, ℕ, ◌+◌, ◌-◌, ◌*◌, ◌<◌, ◌≤◌, ◌++◌, length, drop, map, slice_index, true, false};
+ghost use Rattle.std.specs.Prelude.{◌≡◌, ℕ, ◌+◌, ◌-◌, ◌*◌, ◌<◌, ◌≤◌, ◌++◌, length, take, drop, map, slice_index, true, false};
 ghost use Rattle.std.specs.List.{fold};
 ghost use Rattle.std.specs.Str.{IsAscii};
 ghost use Rattle.uefi_text.specs.Scans.{ascii_text_so_far, beyond_ascii_so_far, byte_beyond_latin1_so_far, decided_so_far, deciding_byte_so_far};
@@ -136,10 +136,18 @@ fn unit_after(unit: u16, search: u16, replace: u16) -> u16
 
 /// Writes `replace` in each place of `search`.
 #[tactic(auto, using(std::proofs::lemmas::List::Edits::map_over_more, std::proofs::lemmas::List::take_all, std::proofs::lemmas::List::drop_all))]
-pub(crate) fn replace_units(units: &mut [u16], search: u16, replace: u16)
+fn replace_units(units: &mut [u16], search: u16, replace: u16)
     ensures { units.new ≡ map (replaced search replace) units.old }
 {
     for unit in units.iter_mut() {
         *unit = unit_after(*unit, search, replace);
     }
+}
+
+/// Writes `replace` in each place of `search`, from the place `start` on.
+pub(crate) fn replace_units_from(units: &mut [u16], start: usize, search: u16, replace: u16)
+    requires { start ≤ length units.now }
+    ensures { units.new ≡ take start units.old ++ map (replaced search replace) (drop start units.old) }
+{
+    replace_units(&mut units[start..], search, replace);
 }

@@ -12,12 +12,11 @@ ghost use Rattle.uefi_text.specs.Latin1.{IsLatin1, IsLatin1String};
 ghost use Rattle.uefi_text.specs.Runs.{GivesEach, GivesNoNul};
 ghost use Rattle.uefi_text.specs.Units.{IsString, IsText, IsChar16, is_nul, nul_terminated, without_nul};
 
+use crate::char_sink::CharSink;
+use crate::chars::Char16;
 pub use crate::errors::{
     FromSliceUntilNulError, FromSliceWithNulError, FromStrWithBufError, UnalignedCStr16Error,
 };
-
-use crate::char_sink::CharSink;
-use crate::chars::Char16;
 use crate::scans::{find_deciding_place, has_byte_beyond_latin1, has_unit_beyond_ascii, split};
 use crate::utf8::add_utf8;
 use std::alloc::{AllocError, Allocator};

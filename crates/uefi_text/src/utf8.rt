@@ -73,7 +73,10 @@ fn add_each<A: Allocator>(bytes: &mut Vec<u8, A>, units: &[u16]) -> Result<(), A
 
 /// Adds the UTF-8 of units to bytes, which stay as they were where memory is refused.
 #[tactic(auto, using(crate::proofs::Scanning::ascii_units))]
-pub(crate) fn add_utf8<A: Allocator>(bytes: &mut Vec<u8, A>, units: &[u16]) -> Result<(), AllocError>
+pub(crate) fn add_utf8<A: Allocator>(
+    bytes: &mut Vec<u8, A>,
+    units: &[u16],
+) -> Result<(), AllocError>
     ensures ok { OnOk result (bytes.new.items ≡ bytes.old.items ++ encode_utf8_all units.now) }
     ensures err { OnErr result (bytes.new.items ≡ bytes.old.items) }
 {

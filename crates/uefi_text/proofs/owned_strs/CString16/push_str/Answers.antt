@@ -1,16 +1,7 @@
--- The other string stands where the NUL stood.
-use Rattle.std.proofs.Common.{◌≡◌, ◌++◌, arith}
-use Rattle.std.proofs.lemmas.Grind.{common_steps}
-use Rattle.std.proofs.lemmas.List.Elements.{All-append}
-use Rattle.uefi_text.specs.Units.{IsTextUnit, nul_terminated, without_nul}
-use Rattle.uefi_text.specs.Views.{text_of}
-use Rattle.uefi_text.proofs.Texts.{IsString-made}
-use Rattle.uefi_text.proofs.Values.{IsText-text_of}
+use Rattle.std.proofs.Common.{◌≢◌, subst, sym}
+use Rattle.std.specs.List.{All}
+use Rattle.uefi_text.proofs.Values.{no_nul-text_of}
 use Rattle.uefi_text.proofs.owned_strs.CString16.push_str.Goals as goal
 
-pub invariant_of-self-2 : goal.invariant_of-self-2
-invariant_of-self-2 g c =
-    let text = without_nul c.self.inside.units.items in
-    let more = text_of c.args.string in
-    let copied : c.extend_from_slice.new.self.items ≡ nul_terminated (text ++ more) = grind (arith, common_steps) in
-    IsString-made _ (text ++ more) copied (All-append IsTextUnit text more c.self.invariant.1 (IsText-text_of c.args.string))
+pub push_part-requires : goal.push_part-requires
+push_part-requires g c = subst (All (λ unit. unit ≢ 0)) (sym c.as_slice.ensures.same) (no_nul-text_of c.args.string)

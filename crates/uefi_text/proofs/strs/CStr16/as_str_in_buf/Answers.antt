@@ -7,4 +7,4 @@ use Rattle.uefi_text.proofs.strs.CStr16.as_str_in_buf.Goals as goal
 pub loop-c-preserved : goal.loop-c-preserved
 loop-c-preserved g c =
     let more = encode_utf8_all-push c.loop-c.yielded c.in-Some.c in
-    record { taken = grind (arith, common_steps, more); to_come = grind (arith, common_steps); }
+    record { taken = grind (arith, common_steps, more); to_come = grind (arith, common_steps) }
