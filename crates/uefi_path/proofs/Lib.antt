@@ -1,1 +1,10 @@
 pub mod Splitting
+pub mod Pushing
+pub mod Parents
+pub mod Values
+pub mod Shrinking
+pub mod Joining
+pub mod Validity
+pub mod Climbing
+pub mod Rebuilding
+pub mod Counting

@@ -11,10 +11,10 @@ use Rattle.uefi_text.specs.Units.{replaced}
 use Rattle.uefi_path.specs.Components.{joined, IsPiece, AreComponents, components_of, pieces_between, IsFirstCut}
 use Rattle.uefi_path.specs.Separators.{separator, slash, is_separator, canon, slashed, IsPlain}
 
--- pieces of which the first gets a unit in front are pieces
-All-IsPiece-onto_first : (u : ℕ) (ps : List (List ℕ)) → u ≢ separator → All IsPiece ps → All IsPiece (onto_first u ps)
-All-IsPiece-onto_first u [] ne all = All-cons IsPiece (u ∷ []) [] (All-cons (λ v. v ≢ separator) u [] ne (All-nil (λ v. v ≢ separator))) (All-nil IsPiece)
-All-IsPiece-onto_first u (p ∷ ps) ne all = All-cons IsPiece (u ∷ p) ps (All-cons (λ v. v ≢ separator) u p ne (All-head IsPiece p ps all)) (All-tail IsPiece p ps all)
+-- lists of which the first gets an element in front: what holds of it and of theirs holds of all
+pub All-onto_first : (P : ℕ → Type 0) (u : ℕ) (ps : List (List ℕ)) → P u → All (All P) ps → All (All P) (onto_first u ps)
+All-onto_first P u [] of_unit all = All-cons (All P) (u ∷ []) [] (All-cons P u [] of_unit (All-nil P)) (All-nil (All P))
+All-onto_first P u (p ∷ ps) of_unit all = All-cons (All P) (u ∷ p) ps (All-cons P u p of_unit (All-head (All P) p ps all)) (All-tail (All P) p ps all)
 
 -- what stands between separators holds none
 All-IsPiece-slice_split : (us : List ℕ) → All IsPiece (slice_split is_separator us)
@@ -22,7 +22,7 @@ All-IsPiece-slice_split [] = All-cons IsPiece [] [] (All-nil (λ v. v ≢ separa
 All-IsPiece-slice_split (u ∷ us) =
     elim (cases_Bool (is_separator u)) [
       | inl cut ↦ subst (All IsPiece) (sym (slice_split-cons_yes is_separator u us cut)) (All-cons IsPiece [] (slice_split is_separator us) (All-nil (λ v. v ≢ separator)) (All-IsPiece-slice_split us))
-      | inr other ↦ subst (All IsPiece) (sym (slice_split-cons_no is_separator u us other)) (All-IsPiece-onto_first u (slice_split is_separator us) (eqb-false u separator other) (All-IsPiece-slice_split us))
+      | inr other ↦ subst (All IsPiece) (sym (slice_split-cons_no is_separator u us other)) (All-onto_first (λ v. v ≢ separator) u (slice_split is_separator us) (eqb-false u separator other) (All-IsPiece-slice_split us))
     ]
 
 joined-slice_split : (us : List ℕ) → joined (slice_split is_separator us) ≡ us
@@ -33,7 +33,7 @@ not_one_empty : (u : ℕ) (us : List ℕ) → slice_split is_separator (u ∷ us
 not_one_empty u us e = let j = joined-slice_split (u ∷ us) in let k = ap joined e in cc
 
 -- pieces that were joined are what stands between the separators of what they join to
-slice_split-joined : (p : List ℕ) (ps : List (List ℕ)) → All IsPiece (p ∷ ps) → slice_split is_separator (joined (p ∷ ps)) ≡ p ∷ ps
+pub slice_split-joined : (p : List ℕ) (ps : List (List ℕ)) → All IsPiece (p ∷ ps) → slice_split is_separator (joined (p ∷ ps)) ≡ p ∷ ps
 slice_split-joined p [] all = slice_split_none is_separator p (All-weaker (λ v. v ≢ separator) (λ v. is_separator v ≡ false) (λ v h. ne_eqb v separator h) p (All-head IsPiece p [] all))
 slice_split-joined p (q ∷ qs) all =
     slice_split_at is_separator p separator (joined (q ∷ qs)) (All-weaker (λ v. v ≢ separator) (λ v. is_separator v ≡ false) (λ v h. ne_eqb v separator h) p (All-head IsPiece p (q ∷ qs) all)) refl
@@ -43,7 +43,7 @@ pieces_between-nonempty : (us : List ℕ) → slice_split is_separator us ≢ []
 pieces_between-nonempty [] ne = absurd (ne refl)
 pieces_between-nonempty (u ∷ us) ne = refl
 
-pieces_between-joined : (ps : List (List ℕ)) → All IsPiece ps → ps ≢ [] ∷ [] → pieces_between (joined ps) ≡ ps
+pub pieces_between-joined : (ps : List (List ℕ)) → All IsPiece ps → ps ≢ [] ∷ [] → pieces_between (joined ps) ≡ ps
 pieces_between-joined [] all ne = refl
 pieces_between-joined (p ∷ ps) all ne =
     let s = slice_split-joined p ps all in

@@ -2,13 +2,14 @@
 //!
 //! A [`Path`] is a view of a string of `uefi_text`, and a [`PathBuf`] owns one. One leading
 //! [`SEPARATOR`] says nothing: the *canonical text* of a path is its text without it, two paths are
-//! equal exactly when their canonical texts are, and a path's *components* are the pieces between
-//! the separators of its canonical text, empty ones too. The empty path and the lone separator have
-//! none. A `PathBuf` turns each `/` that it takes over into a separator; a `Path` turns nothing.
+//! equal exactly when their canonical texts are and ordered as these are, and a path's *components*
+//! are the pieces between the separators of its canonical text, empty ones too. The empty path and
+//! the lone separator have none. A `PathBuf` turns each `/` that it takes over into a separator; a
+//! `Path` turns nothing. [`validate_path`] says whether each component may name a file.
 //!
 //! ```rust
 //! use std::alloc::AllocError;
-//! use uefi_path::{Path, PathBuf};
+//! use uefi_path::{Path, PathBuf, validate_path};
 //! use uefi_text::CString16;
 //!
 //! let text = CString16::try_from_str(rt.alloc(), "/efi/boot")?;
@@ -18,6 +19,9 @@
 //! let other = CString16::try_from_str(rt.alloc(), "efi\\boot")?;
 //! assert!(rt; buffer.as_path() == Path::new(other.as_cstr16()));
 //! assert_eq!(rt; buffer.components().count(), 2);
+//!
+//! let file = buffer.join(Path::new(other.as_cstr16()))?;
+//! assert!(rt; validate_path(file.as_path()).is_ok());
 //! ```
 //!
 //! In contracts a [`PathBuf`] is its text, `path_text` is that of a [`Path`], and `components_left`
@@ -29,7 +33,7 @@ mod path;
 mod pathbuf;
 mod validation;
 
-pub use path::{Components, Path};
+pub use path::{Components, Path, separator_str};
 pub use pathbuf::PathBuf;
-pub use uefi_text::chars::SEPARATOR;
-pub use validation::PathError;
+pub use uefi_text::chars::{CHARACTER_DENY_LIST, SEPARATOR};
+pub use validation::{PathError, validate_path};

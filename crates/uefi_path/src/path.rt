@@ -1,12 +1,14 @@
 //! Paths that are lent, and their components. `specs/Views.antt` says what each view shows.
 #![tactic(auto, unfolding(crate::specs::Views::path_text, crate::specs::Views::components_left))]
 
-ghost use Rattle.std.specs.Prelude.{◌≡◌, ℕ, ◌+◌, ◌<◌, ◌^◌, ◌↔◌, [], List, Option, length, position, IsTrue};
+ghost use Rattle.std.specs.Prelude.{◌≡◌, ℕ, ◌+◌, ◌<◌, ◌^◌, ◌↔◌, [], ◌∷◌, List, Option, length, position, IsTrue};
 ghost use Rattle.uefi_path.specs.Components.{AreComponents, IsFirstCut, components_of};
-ghost use Rattle.uefi_path.specs.Separators.{canon, is_separator};
+ghost use Rattle.uefi_path.specs.Separators.{canon, is_separator, separator};
 ghost use Rattle.uefi_path.specs.Views.{path_text, components_left};
+ghost use Rattle.uefi_text.specs.Runs.{GivesEach};
 ghost use Rattle.uefi_text.specs.Views.{text_of, units_of};
 
+use std::cmp::Ordering;
 use std::fmt;
 use uefi_text::chars::SEPARATOR;
 use uefi_text::strs::{CStr16, Char16Slice};
@@ -50,6 +52,7 @@ impl<'a> Path<'a> {
         ensures only { (pieces : List (List ℕ)) →
             AreComponents (path_text self.now) pieces → pieces ≡ components_left result }
         ensures bound { length (components_left result) < 2 ^ 64 }
+        ensures runs { GivesEach units_of components_left result }
     {
         let text = self.canonical();
         if text.is_empty() {
@@ -113,10 +116,71 @@ impl<'a> Eq for Path<'a> {
     ghost laws = { Prim.search (comparing, rules) };
 }
 
+/// The order of the canonical texts, by code unit: components are not compared one by one, so `a\\b`
+/// comes behind `a!`.
+impl<'a> PartialOrd for Path<'a> {
+    ghost use Rattle.std.proofs.Common.{rules};
+    ghost use Rattle.std.specs.Ordering.{nat_cmp, as_partial_cmp, on};
+    ghost use Rattle.std.specs.Cmp.Lexicographic.{slice_cmp};
+    ghost use Rattle.std.specs.Cmp.Rules.{comparing};
+    ghost use Rattle.uefi_path.specs.Separators.{canon};
+    ghost use Rattle.uefi_path.specs.Views.{path_text};
+
+    ghost partial_cmp = { as_partial_cmp (on (λ path. canon (path_text path)) (slice_cmp nat_cmp)) };
+
+    ghost laws = { Prim.search (comparing, rules) };
+
+    fn partial_cmp(&self, other: &Self) -> Option<Ordering> {
+        Some(Ord::cmp(self, other))
+    }
+}
+
+/// `Equal` exactly for equal paths.
+impl<'a> Ord for Path<'a> {
+    ghost use Rattle.std.proofs.Common.{rules};
+    ghost use Rattle.std.specs.Ordering.{nat_cmp, on};
+    ghost use Rattle.std.specs.Cmp.Lexicographic.{slice_cmp};
+    ghost use Rattle.std.specs.Cmp.Rules.{comparing};
+    ghost use Rattle.uefi_path.specs.Separators.{canon};
+    ghost use Rattle.uefi_path.specs.Views.{path_text};
+
+    ghost cmp = { on (λ path. canon (path_text path)) (slice_cmp nat_cmp) };
+
+    ghost total = { Prim.search (comparing, rules) };
+
+    ghost matches_partial_cmp = { Prim.search (comparing, rules) };
+
+    ghost matches_eq = { Prim.search (comparing, rules) };
+
+    fn cmp(&self, other: &Self) -> Ordering {
+        self.canonical().units().cmp(other.canonical().units())
+    }
+}
+
+/// Writes the characters of the text.
+impl<'a> fmt::Display for Path<'a> {
+    ghost use Rattle.std.specs.Prelude.{Some};
+    ghost use Rattle.std.specs.Str.{encode_utf8_all};
+    ghost use Rattle.uefi_path.specs.Views.{path_text};
+
+    ghost output = { λ path. Some (encode_utf8_all (path_text path)) };
+
+    fn fmt<W: fmt::Write>(&self, f: &mut fmt::Formatter<W>) -> fmt::Result {
+        fmt::Display::fmt(&self.string, f)
+    }
+}
+
 impl<'a> fmt::Debug for Path<'a> {
     fn fmt<W: fmt::Write>(&self, f: &mut fmt::Formatter<W>) -> fmt::Result {
         f.debug_tuple("Path").field(&self.string).finish()
     }
+}
+
+/// The string of the separator alone.
+pub fn separator_str() -> CStr16<'static>
+    ensures { text_of result ≡ separator ∷ [] }
+{
+    CStr16::from_u16_with_nul(&[92, 0]).unwrap()
 }
 
 /// The place of the first separator.

@@ -1,21 +1,30 @@
-//! Paths that are owned.
-ghost use Rattle.std.specs.Prelude.{◌≡◌, ℕ, ◌<◌, ◌^◌, ◌↔◌, [], List, length, IsTrue, IsOk, IfOk, IfErr};
+//! Paths that are owned, and the calls of [`Path`] that make one.
+ghost use Rattle.std.specs.Prelude.{◌≡◌, ℕ, ◌<◌, ◌^◌, ◌↔◌, [], All, List, None, fold, length, IsTrue, IsOk, IfOk, IfErr, OnOk, OnErr};
 ghost use Rattle.uefi_path.specs.Components.{AreComponents, components_of};
+ghost use Rattle.uefi_path.specs.Parents.{above, all_but_last};
+ghost use Rattle.uefi_path.specs.Pushing.{appended, needs_separator, pushed};
 ghost use Rattle.uefi_path.specs.Separators.{IsPlain, slashed};
+ghost use Rattle.uefi_path.specs.Views.{components_left};
+ghost use Rattle.uefi_text.specs.Units.{IsText};
+ghost use Rattle.uefi_text.specs.Views.{units_of};
 
 use crate::path::{Components, Path};
 use std::alloc::{AllocError, Allocator, Global};
+use std::cmp::Ordering;
 use std::fmt;
 use std::marker::Model;
 use uefi_text::chars::{SEPARATOR, SLASH};
 use uefi_text::owned_strs::CString16;
-use uefi_text::strs::CStr16;
+use uefi_text::strs::{CStr16, Char16Slice};
 
 /// A path that is owned, and whose text never holds a slash: each one that it takes over becomes a
 /// separator. In contracts it is its text.
 #[derive(Drop)]
 pub struct PathBuf<A: Allocator = Global> {
     string: CString16<A>,
+
+    /// What the string lies in, for paths that are made of this one.
+    alloc: A,
 }
 
 impl<A: Allocator> Model for PathBuf<A> {
@@ -29,8 +38,105 @@ impl<A: Allocator> Model for PathBuf<A> {
     ghost invariant = { λ path. IsPlain path.string };
 }
 
+/// Whether the string is not empty and its last character is no separator.
+fn needs_separator<A: Allocator>(string: &CString16<A>) -> bool
+    ensures { result ≡ needs_separator string.now }
+{
+    let text = string.as_cstr16().as_slice();
+    !text.is_empty() && text.get(text.len() - 1) != Some(SEPARATOR)
+}
+
+/// Adds a part behind a string, and a separator between the two where one is missing. Where memory
+/// is refused the string is as it was.
+fn append<A: Allocator>(string: &mut CString16<A>, part: Char16Slice<'_>) -> Result<(), AllocError>
+    requires { IsText (units_of part) }
+    ensures ok { OnOk result (string.new ≡ appended string.old (units_of part.entry)) }
+    ensures err { OnErr result (string.new ≡ string.old) }
+{
+    let end = string.num_chars();
+    if needs_separator(string) {
+        string.push(SEPARATOR)?;
+    }
+    if let Err(error) = string.push_part(part) {
+        string.truncate(end);
+        return Err(error);
+    }
+    Ok(())
+}
+
+/// Adds each component but the last behind a string, as [`append`] does.
+fn append_all_but_last<A: Allocator>(
+    string: &mut CString16<A>,
+    mut components: Components<'_>,
+) -> Result<(), AllocError>
+    requires { All IsText (components_left components) }
+    ensures { OnOk result (string.new
+        ≡ fold appended string.old (all_but_last (components_left components.entry))) }
+{
+    let Some(mut last) = components.next() else {
+        return Ok(());
+    };
+    for component in components {
+        append(string, last)?;
+        last = component;
+    }
+    Ok(())
+}
+
+/// The calls that make a path of one's own.
+impl<'a> Path<'a> {
+    ghost use Rattle.uefi_path.specs.Views.{path_text};
+
+    /// The path over memory of its own, each slash turned; or `AllocError`. One allocation.
+    pub fn to_path_buf<A: Allocator + Copy>(&self, alloc: A) -> Result<PathBuf<A>, AllocError>
+        ensures { IfOk result (λ path. path ≡ slashed (path_text self.now)) }
+    {
+        PathBuf::from(alloc, self.to_cstr16())
+    }
+
+    /// The path with another pushed behind it, as [`PathBuf::push`] does, in memory of its own; or
+    /// `AllocError`. The slashes of both are turned. One allocation of the size needed.
+    pub fn join<A: Allocator + Copy>(
+        &self,
+        alloc: A,
+        path: Path<'_>,
+    ) -> Result<PathBuf<A>, AllocError>
+        ensures { IfOk result (λ joined.
+            joined ≡ pushed (slashed (path_text self.now)) (path_text path.entry)) }
+    {
+        let (first, second) = (self.to_cstr16().num_chars(), path.to_cstr16().num_chars());
+        let room = first.saturating_add(second).saturating_add(1);
+        let mut joined = PathBuf {
+            string: CString16::with_capacity(alloc, room)?,
+            alloc,
+        };
+        joined.push(*self)?;
+        joined.push(path)?;
+        Ok(joined)
+    }
+
+    /// The path without its last component, in memory of its own with each slash turned; or
+    /// `AllocError`.
+    ///
+    /// There is none where the path has at most one component: that takes no memory and is never
+    /// refused. Empty components are left out, but where the last one that is kept is empty and
+    /// another is not, a separator ends the parent. One pass over the text; one allocation.
+    pub fn parent<A: Allocator + Copy>(&self, alloc: A) -> Result<Option<PathBuf<A>>, AllocError>
+        ensures ok { IfOk result (λ parent. parent ≡ above (path_text self.now)) }
+        ensures none { above (path_text self.now) ≡ None → IsOk result }
+    {
+        if self.components().nth(1).is_none() {
+            return Ok(None);
+        }
+        let mut string = CString16::with_capacity(alloc, self.to_cstr16().num_chars())?;
+        append_all_but_last(&mut string, self.components())?;
+        Ok(Some(PathBuf::turned(alloc, string)))
+    }
+}
+
 impl<A: Allocator + Copy> PathBuf<A> {
-    ghost use Rattle.uefi_text.specs.Views.{text_of};
+    ghost use Rattle.uefi_text.specs.Runs.{GivesEach};
+    ghost use Rattle.uefi_text.specs.Views.{text_of, units_of};
     ghost use Rattle.uefi_path.specs.Views.{path_text, components_left};
 
     /// The empty path. Takes memory for its NUL.
@@ -39,18 +145,75 @@ impl<A: Allocator + Copy> PathBuf<A> {
     {
         Ok(PathBuf {
             string: CString16::new(alloc)?,
+            alloc,
         })
+    }
+
+    /// The path of a string, each slash turned, over the string's memory.
+    fn turned(alloc: A, mut string: CString16<A>) -> Self
+        ensures { result ≡ slashed string }
+    {
+        string.replace_char(SLASH, SEPARATOR);
+        PathBuf { string, alloc }
+    }
+
+    /// The path of a lent string, each slash turned, in memory of its own; or `AllocError`. One
+    /// allocation.
+    pub fn from(alloc: A, string: CStr16<'_>) -> Result<Self, AllocError>
+        ensures { IfOk result (λ path. path ≡ slashed (text_of string.entry)) }
+    {
+        Ok(PathBuf::turned(alloc, string.to_owned(alloc)?))
     }
 
     /// The path of a string, each slash turned, over the string's own memory. An `Err` would hand
     /// the string back as it came; none does today, since no memory is asked for.
-    pub fn new_from_cstring16(_alloc: A, mut string: CString16<A>) -> Result<Self, CString16<A>>
+    pub fn new_from_cstring16(alloc: A, string: CString16<A>) -> Result<Self, CString16<A>>
         ensures ok { IfOk result (λ path. path ≡ slashed string) }
         ensures err { IfErr result (λ kept. kept ≡ string) }
         ensures succeeds { IsOk result }
     {
-        string.replace_char(SLASH, SEPARATOR);
-        Ok(PathBuf { string })
+        Ok(PathBuf::turned(alloc, string))
+    }
+
+    /// Pushes a path behind this one, its slashes turned, and a separator between the two where this
+    /// one is not empty and does not end in one; or `AllocError`, and the path is as it was.
+    ///
+    /// The empty path changes nothing, takes no memory and is never refused. A push costs what it
+    /// adds, on average: of what stands already only the last character is looked at.
+    pub fn push(&mut self, path: Path<'_>) -> Result<(), AllocError>
+        ensures ok { OnOk result (self.new ≡ pushed self.old (path_text path.entry)) }
+        ensures err { OnErr result (self.new ≡ self.old) }
+        ensures empty { path_text path.entry ≡ [] → IsOk result }
+    {
+        if path.is_empty() {
+            return Ok(());
+        }
+        let end = self.string.num_chars();
+        append(&mut self.string, path.to_cstr16().as_slice())?;
+        self.string.replace_char_from(end, SLASH, SEPARATOR);
+        Ok(())
+    }
+
+    /// The path with another pushed behind it, as [`Path::join`], in memory of the same allocator.
+    pub fn join(&self, path: Path<'_>) -> Result<Self, AllocError>
+        ensures { IfOk result (λ joined. joined ≡ pushed self.now (path_text path.entry)) }
+    {
+        self.as_path().join(self.alloc, path)
+    }
+
+    /// The path without its last component, as [`Path::parent`], in memory of the same allocator.
+    pub fn parent(&self) -> Result<Option<Self>, AllocError>
+        ensures ok { IfOk result (λ parent. parent ≡ above self.now) }
+        ensures none { above self.now ≡ None → IsOk result }
+    {
+        self.as_path().parent(self.alloc)
+    }
+
+    /// Makes the path the empty one. Takes no memory and gives none back.
+    pub fn clear(&mut self)
+        ensures { self.new ≡ [] }
+    {
+        self.string.clear();
     }
 
     /// A view of the path.
@@ -82,8 +245,21 @@ impl<A: Allocator + Copy> PathBuf<A> {
         ensures only { (pieces : List (List ℕ)) →
             AreComponents self.now pieces → pieces ≡ components_left result }
         ensures bound { length (components_left result) < 2 ^ 64 }
+        ensures runs { GivesEach units_of components_left result }
     {
         self.as_path().components()
+    }
+}
+
+/// An equal path, in memory of the same allocator. One allocation.
+impl<A: Allocator + Copy> Clone for PathBuf<A> {
+    ghost is_clone = { λ path copy. copy ≡ path };
+
+    fn clone(&self) -> Result<PathBuf<A>, AllocError> {
+        Ok(PathBuf {
+            string: self.string.as_cstr16().to_owned(self.alloc)?,
+            alloc: self.alloc,
+        })
     }
 }
 
@@ -109,6 +285,56 @@ impl<A: Allocator + Copy> Eq for PathBuf<A> {
     ghost use Rattle.std.specs.Cmp.Rules.{comparing};
 
     ghost laws = { Prim.search (comparing, rules) };
+}
+
+/// As the order of [`Path`].
+impl<A: Allocator + Copy> PartialOrd for PathBuf<A> {
+    ghost use Rattle.std.proofs.Common.{rules};
+    ghost use Rattle.std.specs.Ordering.{nat_cmp, as_partial_cmp, on};
+    ghost use Rattle.std.specs.Cmp.Lexicographic.{slice_cmp};
+    ghost use Rattle.std.specs.Cmp.Rules.{comparing};
+    ghost use Rattle.uefi_path.specs.Separators.{canon};
+
+    ghost partial_cmp = { as_partial_cmp (on canon (slice_cmp nat_cmp)) };
+
+    ghost laws = { Prim.search (comparing, rules) };
+
+    fn partial_cmp(&self, other: &Self) -> Option<Ordering> {
+        Some(self.cmp(other))
+    }
+}
+
+/// `Equal` exactly for equal paths.
+impl<A: Allocator + Copy> Ord for PathBuf<A> {
+    ghost use Rattle.std.proofs.Common.{rules};
+    ghost use Rattle.std.specs.Ordering.{nat_cmp, on};
+    ghost use Rattle.std.specs.Cmp.Lexicographic.{slice_cmp};
+    ghost use Rattle.std.specs.Cmp.Rules.{comparing};
+    ghost use Rattle.uefi_path.specs.Separators.{canon};
+
+    ghost cmp = { on canon (slice_cmp nat_cmp) };
+
+    ghost total = { Prim.search (comparing, rules) };
+
+    ghost matches_partial_cmp = { Prim.search (comparing, rules) };
+
+    ghost matches_eq = { Prim.search (comparing, rules) };
+
+    fn cmp(&self, other: &Self) -> Ordering {
+        self.as_path().cmp(&other.as_path())
+    }
+}
+
+/// Writes the characters of the text.
+impl<A: Allocator + Copy> fmt::Display for PathBuf<A> {
+    ghost use Rattle.std.specs.Prelude.{Some};
+    ghost use Rattle.std.specs.Str.{encode_utf8_all};
+
+    ghost output = { λ text. Some (encode_utf8_all text) };
+
+    fn fmt<W: fmt::Write>(&self, f: &mut fmt::Formatter<W>) -> fmt::Result {
+        fmt::Display::fmt(&self.string, f)
+    }
 }
 
 impl<A: Allocator + Copy> fmt::Debug for PathBuf<A> {

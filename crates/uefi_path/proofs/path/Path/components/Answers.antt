@@ -4,6 +4,7 @@ use Rattle.std.proofs.lemmas.Grind.{common_steps}
 use Rattle.uefi_text.specs.Views.{units_of}
 use Rattle.uefi_path.specs.Views.{components_left, path_text}
 use Rattle.uefi_path.proofs.Splitting.{AreComponents-components_of, components_of-only, slice_split-canon, length-slice_split-le}
+use Rattle.uefi_text.proofs.Runs.{gives_each}
 use Rattle.uefi_path.proofs.path.Path.components.Goals as goal
 use Rattle.uefi_path.proofs.path.Path.components.Goals.{After-is_empty}
 
@@ -30,3 +31,9 @@ returns-clause-only c = λ pieces components.
 pub returns-clause-bound : goal.returns-clause-bound
 unfolding components_left
 returns-clause-bound c = omega (arith, length-slice_split-le (units_of c.canonical-text.result))
+
+pub returns-then-is_empty-clause-runs : goal.returns-then-is_empty-clause-runs
+returns-then-is_empty-clause-runs c = gives_each units_of components_left _
+
+pub returns-clause-runs : goal.returns-clause-runs
+returns-clause-runs c = gives_each units_of components_left _

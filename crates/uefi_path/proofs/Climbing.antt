@@ -1,0 +1,244 @@
+-- From a path to its parent: what a parent looks like, which components it has, and how many.
+use Rattle.std.proofs.Common.{◌≡◌, ◌≢◌, ℕ, ◌-◌, ◌<◌, List, [], ◌∷◌, ◌++◌, length, All, Bool, true, false, not, if◌then◌else◌, None, Some, ap, sym, refl, subst, ◌∙◌, arith}
+use Rattle.std.specs.List.{slice_split}
+use Rattle.std.proofs.lemmas.Bool.{false≢true, ne_eqb}
+use Rattle.std.proofs.lemmas.List.{append-nil}
+use Rattle.std.proofs.lemmas.List.Elements.{All-append, All-cons, All-filter, All-head, All-nil, All-tail}
+use Rattle.std.proofs.lemmas.Option.{same_Some}
+use Rattle.uefi_path.specs.Components.{IsPiece, components_of, joined, pieces_between}
+use Rattle.uefi_path.specs.Parents.{above, above_last, all_but_last, ends_empty, filled, is_filled, joined_with_end, rejoined}
+use Rattle.uefi_path.specs.Separators.{IsPlain, canon, is_separator, separator, slash, slashed}
+use Rattle.uefi_path.specs.Verdicts.{IsGood, verdict}
+use Rattle.uefi_path.proofs.Joining.{canon-no, slice_split-append, slice_split-filled}
+use Rattle.uefi_path.proofs.Parents.{All-IsPiece-filled, All-all_but_last, All-components_of, All-filled, above_last-many}
+use Rattle.uefi_path.proofs.Pushing.{separator_is_plain, slashed-plain}
+use Rattle.uefi_path.proofs.Splitting.{AreComponents-components_of, pieces_between-joined, slice_split-joined}
+use Rattle.uefi_path.proofs.Validity.{All-good_filled, All-good_piece, All-good_plain, All-joined, valid-components, valid-from, valid-plain}
+
+-- whether a piece is not empty, as a fact
+abbrev IsFull : List ℕ → Type 0
+IsFull piece = is_filled piece ≡ true
+
+-- no separator stands in front of pieces that are not empty
+front_joined : (n : List ℕ) (ns : List (List ℕ)) (more : List ℕ) → IsPiece n → IsFull n
+    → canon (joined (n ∷ ns) ++ more) ≡ joined (n ∷ ns) ++ more
+front_joined [] ns more piece full = absurd (false≢true full)
+front_joined (u ∷ us) [] more piece full =
+    canon-no u (us ++ more) (ne_eqb u separator (All-head (λ v. v ≢ separator) u us piece))
+front_joined (u ∷ us) (m ∷ ms) more piece full =
+    canon-no u ((us ++ separator ∷ joined (m ∷ ms)) ++ more)
+    (ne_eqb u separator (All-head (λ v. v ≢ separator) u us piece))
+
+pub front_with_end : (ns : List (List ℕ)) (ends : Bool) → All IsPiece ns → All IsFull ns
+    → canon (joined_with_end ns ends) ≡ joined_with_end ns ends
+front_with_end [] ends pieces full = refl
+front_with_end (n ∷ ns) ends pieces full =
+    front_joined n ns (if ends then separator ∷ [] else []) (All-head IsPiece n ns pieces)
+    (All-head IsFull n ns full)
+
+-- what stands between the separators of such pieces, and of the end behind them
+pub split_with_end : (n : List ℕ) (ns : List (List ℕ)) (ends : Bool) → All IsPiece (n ∷ ns)
+    → slice_split is_separator (joined_with_end (n ∷ ns) ends) ≡ (n ∷ ns)
+    ++ (if ends then [] ∷ [] else [])
+split_with_end n ns true pieces = slice_split-append (joined (n ∷ ns)) []
+    ∙ ap (λ ps. ps ++ [] ∷ []) (slice_split-joined n ns pieces)
+split_with_end n ns false pieces = ap (slice_split is_separator) (append-nil (joined (n ∷ ns)))
+    ∙ slice_split-joined n ns pieces ∙ sym (append-nil (n ∷ ns))
+
+pub all_but_last-push : (ps : List (List ℕ)) (q : List ℕ) → all_but_last (ps ++ q ∷ []) ≡ ps
+all_but_last-push [] q = refl
+all_but_last-push (p ∷ []) q = refl
+all_but_last-push (p ∷ r ∷ rs) q = ap (λ ps. p ∷ ps) (all_but_last-push (r ∷ rs) q)
+
+all_but_last-middle : (ps : List (List ℕ)) (q : List ℕ) (qs : List (List ℕ)) → qs ≢ []
+    → all_but_last (ps ++ q ∷ qs) ≡ ps ++ q ∷ all_but_last qs
+all_but_last-middle [] q [] filled = absurd (filled refl)
+all_but_last-middle [] q (r ∷ rs) filled = refl
+all_but_last-middle (p ∷ []) q qs filled = ap (λ ps. p ∷ ps) (all_but_last-middle [] q qs filled)
+all_but_last-middle (p ∷ r ∷ rs) q qs filled =
+    ap (λ ps. p ∷ ps) (all_but_last-middle (r ∷ rs) q qs filled)
+
+All-middle : (P : List ℕ → Type 0) (ps : List (List ℕ)) (q : List ℕ) (qs : List (List ℕ))
+    → All P (ps ++ q ∷ qs) → P q
+All-middle P [] q qs all = All-head P q qs all
+All-middle P (p ∷ ps) q qs all = All-middle P ps q qs (All-tail P p (ps ++ q ∷ qs) all)
+
+full_but_last : (ns : List (List ℕ)) (ends : Bool) → All IsPiece ns → All IsFull ns
+    → All IsFull (all_but_last (slice_split is_separator (joined_with_end ns ends)))
+full_but_last [] ends pieces full = All-nil IsFull
+full_but_last (n ∷ ns) true pieces full =
+    subst (All IsFull)
+    (sym (ap all_but_last (split_with_end n ns true pieces) ∙ all_but_last-push (n ∷ ns) [])) full
+full_but_last (n ∷ ns) false pieces full =
+    subst (λ ps. All IsFull (all_but_last ps))
+    (sym (split_with_end n ns false pieces ∙ append-nil (n ∷ ns)))
+    (All-all_but_last IsFull (n ∷ ns) full)
+
+-- two separators in a row have an empty piece between them
+doubled : (before after : List ℕ)
+    → slice_split is_separator (before ++ separator ∷ separator ∷ after)
+    ≡ slice_split is_separator before ++ [] ∷ slice_split is_separator after
+doubled before after = slice_split-append before (separator ∷ after)
+    ∙ ap (λ ps. slice_split is_separator before ++ ps) (slice_split-append [] after)
+
+not_doubled : (text before after : List ℕ)
+    → All IsFull (all_but_last (slice_split is_separator text))
+    → text ≢ before ++ separator ∷ separator ∷ after
+not_doubled text before after full e =
+    let pieces = ap (λ us. all_but_last (slice_split is_separator us)) e
+    ∙ ap all_but_last (doubled before after)
+    ∙ all_but_last-middle (slice_split is_separator before) [] (slice_split is_separator after)
+    (slice_split-filled after) in
+    false≢true
+    (All-middle IsFull (slice_split is_separator before) []
+    (all_but_last (slice_split is_separator after)) (subst (All IsFull) pieces full))
+
+-- pieces that were rejoined
+front_rejoined : (ps : List (List ℕ)) → All IsPiece ps → canon (rejoined ps) ≡ rejoined ps
+front_rejoined ps pieces =
+    front_with_end (filled ps) (ends_empty ps) (All-IsPiece-filled ps pieces) (All-filled ps)
+
+rejoined_not_doubled : (ps : List (List ℕ)) (before after : List ℕ) → All IsPiece ps
+    → rejoined ps ≢ before ++ separator ∷ separator ∷ after
+rejoined_not_doubled ps before after pieces =
+    not_doubled (rejoined ps) before after
+    (full_but_last (filled ps) (ends_empty ps) (All-IsPiece-filled ps pieces) (All-filled ps))
+
+plain_with_end : (ns : List (List ℕ)) (ends : Bool) → All IsPlain ns
+    → IsPlain (joined_with_end ns ends)
+plain_with_end [] ends plain = All-nil (λ u. u ≢ slash)
+plain_with_end (n ∷ ns) true plain =
+    All-append (λ u. u ≢ slash) (joined (n ∷ ns)) (separator ∷ [])
+    (All-joined (λ u. u ≢ slash) (n ∷ ns) separator_is_plain plain)
+    (All-cons (λ u. u ≢ slash) separator [] separator_is_plain (All-nil (λ u. u ≢ slash)))
+plain_with_end (n ∷ ns) false plain =
+    All-append (λ u. u ≢ slash) (joined (n ∷ ns)) []
+    (All-joined (λ u. u ≢ slash) (n ∷ ns) separator_is_plain plain) (All-nil (λ u. u ≢ slash))
+
+plain_rejoined : (ps : List (List ℕ)) → All IsPlain ps → IsPlain (rejoined ps)
+plain_rejoined ps plain =
+    plain_with_end (filled ps) (ends_empty ps) (All-filter is_filled IsPlain ps plain)
+
+above_last-plain : (ps : List (List ℕ)) (parent : List ℕ) → All IsPlain ps
+    → above_last ps ≡ Some parent → (parent ≡ rejoined (all_but_last ps)) × (1 < length ps)
+above_last-plain [] parent plain e = absurd (cc)
+above_last-plain (p ∷ []) parent plain e = absurd (cc)
+above_last-plain (p ∷ q ∷ ps) parent plain e = (
+  sym (same_Some _ _ e)
+      ∙ slashed-plain (rejoined (all_but_last (p ∷ q ∷ ps)))
+      (plain_rejoined (all_but_last (p ∷ q ∷ ps)) (All-all_but_last IsPlain (p ∷ q ∷ ps) plain)),
+  omega arith,
+)
+
+-- the parent of a plain text, whose slashes need no turning,
+pub above-plain : (text parent : List ℕ) → IsPlain text → above text ≡ Some parent
+    → (parent ≡ rejoined (all_but_last (components_of text))) × (1 < length (components_of text))
+above-plain text parent plain e =
+    above_last-plain (components_of text) parent (All-components_of (λ u. u ≢ slash) text plain) e
+
+-- begins with no separator
+pub front_above : (text parent : List ℕ) → IsPlain text → above text ≡ Some parent
+    → canon parent ≡ parent
+front_above text parent plain e =
+    let is : (parent ≡ rejoined (all_but_last (components_of text)))
+    × (1 < length (components_of text)) = above-plain text parent plain e in
+    subst (λ us. canon us ≡ us) (sym is.0)
+    (front_rejoined (all_but_last (components_of text))
+    (All-all_but_last IsPiece (components_of text)
+    (AreComponents-components_of text).are_pieces))
+
+-- and has no two in a row
+pub above_not_doubled : (text parent before after : List ℕ) → IsPlain text
+    → above text ≡ Some parent → parent ≢ before ++ separator ∷ separator ∷ after
+above_not_doubled text parent before after plain e =
+    let is : (parent ≡ rejoined (all_but_last (components_of text)))
+    × (1 < length (components_of text)) = above-plain text parent plain e in
+    subst (λ us. us ≢ before ++ separator ∷ separator ∷ after) (sym is.0)
+    (rejoined_not_doubled (all_but_last (components_of text)) before after
+    (All-all_but_last IsPiece (components_of text)
+    (AreComponents-components_of text).are_pieces))
+
+-- pieces of which none is empty are rejoined as they are
+filled-full : (ps : List (List ℕ)) → All IsFull ps → filled ps ≡ ps
+filled-full [] full = refl
+filled-full ([] ∷ ps) full = absurd (false≢true (All-head IsFull [] ps full))
+filled-full ((u ∷ us) ∷ ps) full =
+    ap (λ qs. (u ∷ us) ∷ qs) (filled-full ps (All-tail IsFull (u ∷ us) ps full))
+
+ends-full : (ps : List (List ℕ)) → All IsFull ps → ends_empty ps ≡ false
+ends-full [] full = refl
+ends-full (p ∷ []) full = ap not (All-head IsFull p [] full)
+ends-full (p ∷ q ∷ ps) full = ends-full (q ∷ ps) (All-tail IsFull p (q ∷ ps) full)
+
+with_no_end : (ps : List (List ℕ)) → joined_with_end ps false ≡ joined ps
+with_no_end [] = refl
+with_no_end (p ∷ ps) = append-nil (joined (p ∷ ps))
+
+rejoined-full : (ps : List (List ℕ)) → All IsFull ps → rejoined ps ≡ joined ps
+rejoined-full ps full =
+    ap (λ ns. joined_with_end ns (ends_empty ps)) (filled-full ps full)
+    ∙ ap (joined_with_end ps) (ends-full ps full) ∙ with_no_end ps
+
+front_full : (ps : List (List ℕ)) → All IsPiece ps → All IsFull ps → canon (joined ps) ≡ joined ps
+front_full ps pieces full =
+    subst (λ us. canon us ≡ us) (rejoined-full ps full) (front_rejoined ps pieces)
+
+one_is_full : (ps : List (List ℕ)) → All IsFull ps → ps ≢ [] ∷ []
+one_is_full ps full e = false≢true (All-head IsFull [] [] (subst (All IsFull) e full))
+
+-- joined good components, which have themselves as components
+pub components_of-joined : (cs : List (List ℕ)) → All IsGood cs → components_of (joined cs) ≡ cs
+components_of-joined cs good =
+    let pieces = All-good_piece cs good in
+    let full = All-good_filled cs good in
+    ap pieces_between (front_full cs pieces full)
+    ∙ pieces_between-joined cs pieces (one_is_full cs full)
+
+-- begin with no separator
+pub front_good : (cs : List (List ℕ)) → All IsGood cs → canon (joined cs) ≡ joined cs
+front_good cs good = front_full cs (All-good_piece cs good) (All-good_filled cs good)
+
+-- and two or more of them have the joined others above
+pub above_last-good : (cs : List (List ℕ)) → All IsGood cs → 1 < length cs
+    → above_last cs ≡ Some (joined (all_but_last cs))
+above_last-good cs good many =
+    let others = All-all_but_last IsGood cs good in
+    above_last-many cs many
+    ∙ ap (λ us. Some (slashed us))
+    (rejoined-full (all_but_last cs) (All-good_filled (all_but_last cs) others))
+    ∙ ap (λ us. Some us)
+    (slashed-plain (joined (all_but_last cs))
+    (All-joined (λ u. u ≢ slash) (all_but_last cs) separator_is_plain
+    (All-good_plain (all_but_last cs) others)))
+
+pub length-all_but_last : (ps : List (List ℕ)) → length (all_but_last ps) ≡ length ps - 1
+length-all_but_last [] = refl
+length-all_but_last (p ∷ []) = refl
+length-all_but_last (p ∷ q ∷ ps) = omega (arith, length-all_but_last (q ∷ ps))
+
+-- the parent of a valid text: its components but the last, joined
+above-valid : (text parent : List ℕ) → verdict text ≡ None → above text ≡ Some parent
+    → (parent ≡ joined (all_but_last (components_of text))) × (1 < length (components_of text))
+above-valid text parent valid e =
+    let is : (parent ≡ rejoined (all_but_last (components_of text)))
+    × (1 < length (components_of text)) = above-plain text parent (valid-plain text valid) e in (
+      is.0 ∙ rejoined-full (all_but_last (components_of text))
+          (All-all_but_last IsFull (components_of text)
+          (All-good_filled (components_of text) (valid-components text valid))),
+      is.1,
+    )
+
+-- is valid too
+pub valid_above : (text parent : List ℕ) → verdict text ≡ None → above text ≡ Some parent
+    → verdict parent ≡ None
+valid_above text parent valid e =
+    let is : (parent ≡ joined (all_but_last (components_of text)))
+    × (1 < length (components_of text)) = above-valid text parent valid e in
+    let good = All-all_but_last IsGood (components_of text) (valid-components text valid) in
+    let same : components_of parent ≡ all_but_last (components_of text) =
+    ap components_of is.0 ∙ components_of-joined (all_but_last (components_of text)) good in
+    let filled_parent : parent ≢ [] =
+    λ none. let n : 0 ≡ length (all_but_last (components_of text)) =
+    ap (λ us. length (components_of us)) (sym none) ∙ ap length same in
+    omega (arith, length-all_but_last (components_of text), is.1) in
+    valid-from parent filled_parent (subst (All IsGood) (sym same) good)

@@ -1,0 +1,193 @@
+-- Texts that name files: each of their components is good, which is that it has no fault.
+use Rattle.uefi_text.specs.Units.{replaced}
+use Rattle.std.proofs.Common.{◌≡◌, ◌≢◌, ℕ, List, [], ◌∷◌, ◌++◌, if◌then◌else◌, All, Bool, true, false, Option, None, Some, inl, inr, ap, sym, refl, subst, ◌∙◌, ◌⊎◌, is_some}
+use Rattle.std.specs.List.{find}
+use Rattle.std.specs.Option.{option_and_then, option_map}
+use Rattle.std.proofs.lemmas.Bool.{cases_Bool, cond-false, cond-true, eqb-true, false≢true, true≢false}
+use Rattle.std.proofs.lemmas.List.Elements.{All-append, All-cons, All-head, All-nil, All-tail, All-weaker}
+use Rattle.uefi_path.specs.Components.{IsPiece, components_of, joined}
+use Rattle.uefi_path.specs.Parents.{is_filled}
+use Rattle.uefi_path.specs.Pushing.{appended, needs_separator, pushed}
+use Rattle.uefi_path.specs.Separators.{IsPlain, canon, is_separator, separator, slash, slashed}
+use Rattle.uefi_path.specs.Verdicts.{IsGood, fault, first_fault, is_bad, is_denied, verdict}
+use Rattle.uefi_path.specs.declared.validation.PathError.{PathError}
+use Rattle.uefi_path.specs.declared.validation.PathError.TheVariants.{IllegalChar}
+use Rattle.uefi_path.proofs.Joining.{canon-no, canon-yes, components_of-pushed}
+use Rattle.uefi_path.proofs.Parents.{behind_separator, open_joined}
+use Rattle.uefi_path.proofs.Pushing.{separator_is_plain}
+use Rattle.uefi_path.proofs.Splitting.{AreComponents-components_of}
+
+-- nothing is found where all fail
+All-found_none : (p : ℕ → Bool) (us : List ℕ) → find p us ≡ None → All (λ u. p u ≡ false) us
+All-found_none p [] e = All-nil (λ u. p u ≡ false)
+All-found_none p (u ∷ us) e =
+    elim (cases_Bool (p u)) [
+      | inl passes ↦ let found : find p (u ∷ us) ≡ Some u =
+          cond-true (p u) (Some u) (find p us) passes in absurd (cc)
+      | inr fails ↦
+          All-cons (λ v. p v ≡ false) u us fails
+          (All-found_none p us (sym (cond-false (p u) (Some u) (find p us) fails) ∙ e))
+    ]
+
+no_fault : (o : Option PathError) → is_some o ≡ false → o ≡ None
+no_fault None e = refl
+no_fault (Some x) e = absurd (true≢false e)
+
+-- components without a fault
+All-good : (cs : List (List ℕ)) → first_fault cs ≡ None → All IsGood cs
+All-good [] e = All-nil IsGood
+All-good (c ∷ cs) e =
+    elim (cases_Bool (is_bad c)) [
+      | inl bad ↦
+          let found : first_fault (c ∷ cs) ≡ fault c =
+          ap (option_and_then fault) (cond-true (is_bad c) (Some c) (find is_bad cs) bad) in
+          let none : fault c ≡ None = sym found ∙ e in
+          absurd (false≢true (sym (ap is_some none) ∙ bad))
+      | inr good ↦
+          let others : first_fault (c ∷ cs) ≡ first_fault cs =
+          ap (option_and_then fault) (cond-false (is_bad c) (Some c) (find is_bad cs) good) in
+          All-cons IsGood c cs (no_fault (fault c) good) (All-good cs (sym others ∙ e))
+    ]
+
+first_fault-good : (cs : List (List ℕ)) → All IsGood cs → first_fault cs ≡ None
+first_fault-good [] good = refl
+first_fault-good (c ∷ cs) good =
+    ap (option_and_then fault)
+    (cond-false (is_bad c) (Some c) (find is_bad cs) (ap is_some (All-head IsGood c cs good)))
+    ∙ first_fault-good cs (All-tail IsGood c cs good)
+
+-- a valid text has good components
+pub valid-components : (text : List ℕ) → verdict text ≡ None → All IsGood (components_of text)
+valid-components [] valid = absurd (cc)
+valid-components (u ∷ us) valid = All-good (components_of (u ∷ us)) valid
+
+-- and is not empty
+valid-filled : (text : List ℕ) → verdict text ≡ None → text ≢ []
+valid-filled [] valid e = cc
+valid-filled (u ∷ us) valid e = cc
+
+-- any text like that is valid
+pub valid-from : (text : List ℕ) → text ≢ [] → All IsGood (components_of text) → verdict text ≡ None
+valid-from [] filled good = absurd (filled refl)
+valid-from (u ∷ us) filled good = first_fault-good (components_of (u ∷ us)) good
+
+-- a good component is not empty
+pub good-filled : (c : List ℕ) → IsGood c → is_filled c ≡ true
+good-filled [] good = absurd (cc)
+good-filled (u ∷ us) good = refl
+
+unmapped : (o : Option ℕ) → option_map IllegalChar o ≡ None → o ≡ None
+unmapped None e = refl
+unmapped (Some u) e = absurd (cc)
+
+good-units : (c : List ℕ) → IsGood c → All (λ u. is_denied u ≡ false) c
+good-units [] good = All-nil (λ u. is_denied u ≡ false)
+good-units (u ∷ us) good =
+    All-found_none is_denied (u ∷ us) (unmapped (find is_denied (u ∷ us)) good)
+
+not_slash : (u : ℕ) → is_denied u ≡ false → u ≢ slash
+not_slash u allowed e = true≢false (sym (ap is_denied e) ∙ allowed)
+
+not_separator : (u : ℕ) → is_denied u ≡ false → u ≢ separator
+not_separator u allowed e = true≢false (sym (ap is_denied e) ∙ allowed)
+
+-- nor does it hold a slash
+pub good-plain : (c : List ℕ) → IsGood c → IsPlain c
+good-plain c good =
+    All-weaker (λ u. is_denied u ≡ false) (λ u. u ≢ slash) not_slash c (good-units c good)
+
+-- or a separator
+good-piece : (c : List ℕ) → IsGood c → IsPiece c
+good-piece c good =
+    All-weaker (λ u. is_denied u ≡ false) (λ u. u ≢ separator) not_separator c (good-units c good)
+
+pub All-good_filled : (cs : List (List ℕ)) → All IsGood cs → All (λ c. is_filled c ≡ true) cs
+All-good_filled cs good = All-weaker IsGood (λ c. is_filled c ≡ true) good-filled cs good
+
+pub All-good_plain : (cs : List (List ℕ)) → All IsGood cs → All IsPlain cs
+All-good_plain cs good = All-weaker IsGood IsPlain good-plain cs good
+
+pub All-good_piece : (cs : List (List ℕ)) → All IsGood cs → All IsPiece cs
+All-good_piece cs good = All-weaker IsGood IsPiece good-piece cs good
+
+-- what holds of the separator and of each unit of all pieces holds of what they join to
+pub All-joined : (P : ℕ → Type 0) (ps : List (List ℕ)) → P separator → All (All P) ps
+    → All P (joined ps)
+All-joined P [] of_separator all = All-nil P
+All-joined P (p ∷ []) of_separator all = All-head (All P) p [] all
+All-joined P (p ∷ q ∷ ps) of_separator all =
+    All-append P p (separator ∷ joined (q ∷ ps)) (All-head (All P) p (q ∷ ps) all)
+    (All-cons P separator (joined (q ∷ ps)) of_separator
+    (All-joined P (q ∷ ps) of_separator (All-tail (All P) p (q ∷ ps) all)))
+
+All-from_canon : (P : ℕ → Type 0) (text : List ℕ) → P separator → All P (canon text) → All P text
+All-from_canon P [] of_separator all = all
+All-from_canon P (u ∷ us) of_separator all =
+    elim (cases_Bool (is_separator u)) [
+      | inl cut ↦
+          All-cons P u us (subst P (sym (eqb-true u separator cut)) of_separator)
+          (subst (All P) (canon-yes u us cut) all)
+      | inr other ↦ subst (All P) (canon-no u us other) all
+    ]
+
+-- a valid text is plain
+pub valid-plain : (text : List ℕ) → verdict text ≡ None → IsPlain text
+valid-plain text valid =
+    let pieces = All-good_plain (components_of text) (valid-components text valid) in
+    let whole = All-joined (λ u. u ≢ slash) (components_of text) separator_is_plain pieces in
+    All-from_canon (λ u. u ≢ slash) text separator_is_plain
+    (subst IsPlain (AreComponents-components_of text).join whole)
+
+open_canon : (text : List ℕ) → needs_separator (canon text) ≡ true → needs_separator text ≡ true
+open_canon [] missing = missing
+open_canon (u ∷ us) missing =
+    elim (cases_Bool (is_separator u)) [
+      | inl cut ↦
+          subst (λ v. needs_separator (v ∷ us) ≡ true) (sym (eqb-true u separator cut))
+          (behind_separator us (ap needs_separator (sym (canon-yes u us cut)) ∙ missing))
+      | inr other ↦ ap needs_separator (sym (canon-no u us other)) ∙ missing
+    ]
+
+open_pieces : (text : List ℕ) (cs : List (List ℕ)) → joined cs ≡ canon text → All IsGood cs
+    → (canon text ≡ []) ⊎ (needs_separator text ≡ true)
+open_pieces text [] e good = inl (sym e)
+open_pieces text (c ∷ cs) e good =
+    inr (open_canon text
+    (ap needs_separator (sym e)
+    ∙ open_joined c cs (All-good_piece (c ∷ cs) good) (All-good_filled (c ∷ cs) good)))
+
+-- a valid text has no component or ends in no separator
+pub valid-open : (text : List ℕ) → verdict text ≡ None
+    → (canon text ≡ []) ⊎ (needs_separator text ≡ true)
+valid-open text valid =
+    open_pieces text (components_of text) (AreComponents-components_of text).join
+    (valid-components text valid)
+
+append-filled : (us : List ℕ) (v : ℕ) (vs : List ℕ) → us ++ v ∷ vs ≢ []
+append-filled [] v vs e = cc
+append-filled (u ∷ us) v vs e = cc
+
+appended-filled : (text : List ℕ) (u : ℕ) (us : List ℕ) → appended text (u ∷ us) ≢ []
+appended-filled text u us =
+    elim (needs_separator text)
+    as (λ b. (if b then text ++ separator ∷ u ∷ us else text ++ u ∷ us) ≢ []) [
+      | true ↦ append-filled text separator (u ∷ us)
+      | false ↦ append-filled text u us
+    ]
+
+pushed-not_empty : (text part : List ℕ) → part ≢ [] → pushed text part ≢ []
+pushed-not_empty text [] filled = absurd (filled refl)
+pushed-not_empty text (u ∷ us) filled =
+    appended-filled text (replaced slash separator u) (slashed us)
+
+-- a valid path pushed behind another, unless it begins with a separator
+pub valid-pushed : (text part : List ℕ) → verdict text ≡ None → verdict part ≡ None
+    → canon part ≡ part → verdict (pushed text part) ≡ None
+valid-pushed text part valid valid_part front =
+    let both =
+    components_of-pushed text part (valid-plain part valid_part) (valid-open text valid) front
+    in
+    valid-from (pushed text part) (pushed-not_empty text part (valid-filled part valid_part))
+    (subst (All IsGood) (sym both)
+    (All-append IsGood (components_of text) (components_of part) (valid-components text valid)
+    (valid-components part valid_part)))

@@ -1,0 +1,28 @@
+-- The part is added as it is, and then its slashes are turned.
+use Rattle.std.proofs.Common.{◌≡◌, ◌≢◌, [], subst, sym, arith}
+use Rattle.std.proofs.lemmas.Grind.{common_steps}
+use Rattle.uefi_text.specs.Units.{IsText}
+use Rattle.uefi_text.proofs.Values.{IsText-text_of}
+use Rattle.uefi_path.specs.Pushing.{appended}
+use Rattle.uefi_path.specs.Separators.{IsPlain, slashed}
+use Rattle.uefi_path.specs.Views.{path_text}
+use Rattle.uefi_path.proofs.Pushing.{IsPlain-appended, pushed-filled, slashed-appended}
+use Rattle.uefi_path.proofs.pathbuf.PathBuf.push.Goals as goal
+
+pub append-requires : goal.append-requires
+append-requires g c = subst IsText (sym c.as_slice.ensures.same) (IsText-text_of c.to_cstr16.result)
+
+pub invariant_of-self-2 : goal.invariant_of-self-2
+invariant_of-self-2 g c =
+    let text = c.self.inside.string in
+    let part = path_text c.args.path in
+    let turned : c.replace_char_from.new.self ≡ appended text (slashed part) = grind (arith, common_steps, slashed-appended text part) in
+    subst IsPlain (sym turned) (IsPlain-appended text part c.self.invariant)
+
+pub returns-clause-ok : goal.returns-clause-ok
+returns-clause-ok g c =
+    let text = c.self.inside.string in
+    let part = path_text c.args.path in
+    let filled : part ≢ [] = λ e. grind (arith, common_steps, c.if-is_empty.ensures) in
+    let turned : c.replace_char_from.new.self ≡ appended text (slashed part) = grind (arith, common_steps, slashed-appended text part) in
+    grind (arith, common_steps, pushed-filled text part filled)

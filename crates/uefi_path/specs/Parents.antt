@@ -1,0 +1,44 @@
+-- The parent of a path: its components but the last.
+use Rattle.std.specs.Prelude.{ℕ, Bool, true, false, not, if◌then◌else◌, List, [], ◌∷◌, ◌++◌, Option, Some, None, filter}
+use Rattle.uefi_path.specs.Components.{joined, components_of}
+use Rattle.uefi_path.specs.Separators.{separator, slashed}
+
+-- the pieces without the last one
+abbrev pub all_but_last : List (List ℕ) → List (List ℕ)
+all_but_last [] = []
+all_but_last (piece ∷ []) = []
+all_but_last (piece ∷ next ∷ pieces) = piece ∷ all_but_last (next ∷ pieces)
+
+-- the test for a piece that is not empty
+abbrev pub is_filled : List ℕ → Bool
+is_filled [] = false
+is_filled (unit ∷ units) = true
+
+-- the pieces that are not empty
+abbrev pub filled : List (List ℕ) → List (List ℕ)
+filled pieces = filter is_filled pieces
+
+-- whether the last piece is empty
+abbrev pub ends_empty : List (List ℕ) → Bool
+ends_empty [] = false
+ends_empty (piece ∷ []) = not (is_filled piece)
+ends_empty (piece ∷ next ∷ pieces) = ends_empty (next ∷ pieces)
+
+-- pieces with a separator between neighbours, and one behind the last where that is asked for
+abbrev pub joined_with_end : List (List ℕ) → Bool → List ℕ
+joined_with_end [] closes = []
+joined_with_end (piece ∷ pieces) closes = joined (piece ∷ pieces) ++ (if closes then separator ∷ [] else [])
+
+-- the pieces that are not empty, joined, and a separator behind them where the last of all is empty
+abbrev pub rejoined : List (List ℕ) → List ℕ
+rejoined pieces = joined_with_end (filled pieces) (ends_empty pieces)
+
+-- what is left of components without the last, where there are two or more; slashes are turned
+abbrev pub above_last : List (List ℕ) → Option (List ℕ)
+above_last [] = None
+above_last (piece ∷ []) = None
+above_last (piece ∷ next ∷ pieces) = Some (slashed (rejoined (all_but_last (piece ∷ next ∷ pieces))))
+
+-- the parent of a path, which none of at most one component has
+abbrev pub above : List ℕ → Option (List ℕ)
+above text = above_last (components_of text)
