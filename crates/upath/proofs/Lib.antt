@@ -1,2 +1,4 @@
 pub mod LineEnds
 pub mod CommandCuts
+pub mod Climbing
+pub mod Beginnings

@@ -2,13 +2,20 @@
 use Rattle.std.specs.Prelude.{ℕ, Bool, ◌==◌, ◌+◌, if◌then◌else◌, List, Option, Some, None, take, drop, position, codes}
 use Rattle.std.specs.Str.{bytes_eq, is_utf8}
 use Rattle.upath.specs.declared.commands.Command.{Command}
-use Rattle.upath.specs.declared.commands.Command.TheVariants.{From, Pieces, Eq, Unknown, NotUtf8}
+use Rattle.upath.specs.declared.commands.Command.TheVariants.{From, Push, Join, Clear, Parent, Pieces, Up, Eq, Cmp, Check, Unknown, NotUtf8}
 
 -- a command, with the bytes of its text where it has one
 pub data LineCommand : Type 0 where
   from_text : List ℕ → LineCommand
+  push_text : List ℕ → LineCommand
+  join_text : List ℕ → LineCommand
+  clear : LineCommand
+  parent : LineCommand
   pieces : LineCommand
+  up : LineCommand
   eq_text : List ℕ → LineCommand
+  cmp_text : List ℕ → LineCommand
+  check : LineCommand
   unknown : LineCommand
   not_utf8 : LineCommand
 
@@ -19,12 +26,21 @@ is_space byte = byte == 32
 abbrev pub verb_with : List ℕ → List ℕ → LineCommand
 verb_with verb text =
     if bytes_eq verb (codes "from") then from_text text
+    else if bytes_eq verb (codes "push") then push_text text
+    else if bytes_eq verb (codes "join") then join_text text
     else if bytes_eq verb (codes "eq") then eq_text text
+    else if bytes_eq verb (codes "cmp") then cmp_text text
     else unknown
 
 -- a verb without a text
 abbrev pub verb_alone : List ℕ → LineCommand
-verb_alone verb = if bytes_eq verb (codes "pieces") then pieces else unknown
+verb_alone verb =
+    if bytes_eq verb (codes "clear") then clear
+    else if bytes_eq verb (codes "parent") then parent
+    else if bytes_eq verb (codes "pieces") then pieces
+    else if bytes_eq verb (codes "up") then up
+    else if bytes_eq verb (codes "check") then check
+    else unknown
 
 -- the command of a line by the place of its first space: the verb stands before it, the text is all
 -- that follows
@@ -39,7 +55,14 @@ command_of line = if is_utf8 line then command_at line (position is_space line) 
 -- what the program's own value of a command stands for
 abbrev pub command_shown : Command → LineCommand
 command_shown (From text) = from_text text.now
+command_shown (Push text) = push_text text.now
+command_shown (Join text) = join_text text.now
+command_shown Clear = clear
+command_shown Parent = parent
 command_shown Pieces = pieces
+command_shown Up = up
 command_shown (Eq text) = eq_text text.now
+command_shown (Cmp text) = cmp_text text.now
+command_shown Check = check
 command_shown Unknown = unknown
 command_shown NotUtf8 = not_utf8

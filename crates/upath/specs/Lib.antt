@@ -2,5 +2,8 @@ pub mod Lines
 pub mod LinesLeft
 pub mod Commands
 pub mod Output
+pub mod PathCommands
+pub mod SuccessiveParents
+pub mod Judging
 pub mod Laws
 pub mod Streams

@@ -1,6 +1,10 @@
 -- What a run prints: a function of its whole input. It begins with the empty path, and each line
 -- prints its lines and leaves the path for the next one.
-use Rattle.std.specs.Prelude.{ℕ, if◌then◌else◌, List, [], ◌∷◌, ◌++◌, length, Option, Some, None, codes}
+use Rattle.std.specs.Prelude.{ℕ, if◌then◌else◌, List, [], ◌∷◌, ◌++◌, length, Option, Some, None, unwrap_or, codes}
+use Rattle.std.specs.Cmp.Lexicographic.{slice_cmp}
+use Rattle.std.specs.Ordering.{nat_cmp}
+use Rattle.std.specs.declared.cmp.Ordering.{Ordering}
+use Rattle.std.specs.declared.cmp.Ordering.TheVariants.{Less, Equal, Greater}
 use Rattle.std.specs.List.{flat_map}
 use Rattle.std.specs.Str.{chars, encode_utf8_all, bytes_eq}
 use Rattle.std.specs.Fmt.{decimal}
@@ -10,7 +14,13 @@ use Rattle.uefi_text.specs.declared.owned_strs.FromStrError.{FromStrError}
 use Rattle.uefi_path.specs.Components.{components_of}
 use Rattle.uefi_path.specs.Separators.{canon, slashed}
 use Rattle.upath.specs.Lines.{lines_of}
-use Rattle.upath.specs.Commands.{LineCommand, from_text, pieces, eq_text, unknown, not_utf8, command_of}
+use Rattle.upath.specs.SuccessiveParents.{parents_of}
+use Rattle.uefi_path.specs.Parents.{above}
+use Rattle.uefi_path.specs.PathErrors.{path_error_text}
+use Rattle.uefi_path.specs.Pushing.{pushed}
+use Rattle.uefi_path.specs.Verdicts.{verdict}
+use Rattle.uefi_path.specs.declared.validation.PathError.{PathError}
+use Rattle.upath.specs.Commands.{LineCommand, from_text, push_text, join_text, clear, parent, pieces, up, eq_text, cmp_text, check, unknown, not_utf8, command_of}
 
 -- a printed line
 abbrev pub line : List ℕ → List ℕ
@@ -25,10 +35,31 @@ abbrev pub pieces_lines : List (List ℕ) → List ℕ
 pieces_lines components =
     line (codes "pieces " ++ decimal (length components)) ++ flat_map (text_line (codes "| ")) components
 
+-- the lines of `up`: how many parents there are, and each
+abbrev pub parents_lines : List (List ℕ) → List ℕ
+parents_lines parents =
+    line (codes "parents " ++ decimal (length parents)) ++ flat_map (text_line (codes "| ")) parents
+
 -- the line of `eq`: whether two texts are equal as paths
 abbrev pub eq_line : List ℕ → List ℕ → List ℕ
 eq_line path other =
     if bytes_eq (canon path) (canon other) then line (codes "equal") else line (codes "different")
+
+-- the line of `parent`: the parent, or that there is none
+abbrev pub parent_line : Option (List ℕ) → List ℕ
+parent_line None = line (codes "none")
+parent_line (Some text) = text_line (codes "= ") text
+
+-- the line of `cmp`: how two texts are ordered as paths
+abbrev pub cmp_line : Ordering → List ℕ
+cmp_line Less = line (codes "less")
+cmp_line Equal = line (codes "equal")
+cmp_line Greater = line (codes "greater")
+
+-- the line of `check`: that a path is accepted, or why it is not
+abbrev pub check_line : Option PathError → List ℕ
+check_line None = line (codes "ok")
+check_line (Some error) = line (path_error_text error)
 
 -- what is printed where a command's text may be refused
 abbrev pub printed_unless : Option FromStrError → List ℕ → List ℕ
@@ -44,16 +75,34 @@ path_unless (Some error) new old = old
 abbrev pub printed_by : LineCommand → List ℕ → List ℕ
 printed_by (from_text text) path =
     printed_unless (from_str_refusal (chars text)) (text_line (codes "= ") (slashed (chars text)))
+printed_by (push_text text) path =
+    printed_unless (from_str_refusal (chars text)) (text_line (codes "= ") (pushed path (chars text)))
+printed_by (join_text text) path =
+    printed_unless (from_str_refusal (chars text)) (text_line (codes "= ") (pushed path (chars text)))
+printed_by clear path = text_line (codes "= ") []
+printed_by parent path = parent_line (above path)
 printed_by pieces path = pieces_lines (components_of path)
+printed_by up path = parents_lines (parents_of path)
 printed_by (eq_text text) path = printed_unless (from_str_refusal (chars text)) (eq_line path (chars text))
+printed_by (cmp_text text) path =
+    printed_unless (from_str_refusal (chars text))
+    (cmp_line (slice_cmp nat_cmp (canon path) (canon (chars text))))
+printed_by check path = check_line (verdict path)
 printed_by unknown path = line (codes "? unknown command")
 printed_by not_utf8 path = line (codes "? not UTF-8")
 
 -- the path that a command leaves
 abbrev pub path_after : LineCommand → List ℕ → List ℕ
 path_after (from_text text) path = path_unless (from_str_refusal (chars text)) (slashed (chars text)) path
+path_after (push_text text) path = path_unless (from_str_refusal (chars text)) (pushed path (chars text)) path
+path_after (join_text text) path = path_unless (from_str_refusal (chars text)) (pushed path (chars text)) path
+path_after clear path = []
+path_after parent path = unwrap_or (above path) path
 path_after pieces path = path
+path_after up path = path
 path_after (eq_text text) path = path
+path_after (cmp_text text) path = path
+path_after check path = path
 path_after unknown path = path
 path_after not_utf8 path = path
 

@@ -9,11 +9,32 @@ pub(crate) enum Command<'a> {
     /// `from T`: the path becomes that of T.
     From(&'a str),
 
+    /// `push T`: the path of T is pushed.
+    Push(&'a str),
+
+    /// `join T`: the path becomes what it joined with that of T is.
+    Join(&'a str),
+
+    /// `clear`: the path becomes the empty one.
+    Clear,
+
+    /// `parent`: the path becomes its parent, if it has one.
+    Parent,
+
     /// `pieces`: the components are printed.
     Pieces,
 
+    /// `up`: the successive parents are printed.
+    Up,
+
     /// `eq T`: the path is compared with that of T.
     Eq(&'a str),
+
+    /// `cmp T`: the path is ordered against that of T.
+    Cmp(&'a str),
+
+    /// `check`: the path is judged.
+    Check,
 
     /// A line that is no command.
     Unknown,
@@ -41,7 +62,10 @@ impl<'a> Command<'a> {
     {
         match verb {
             "from" => Command::From(text),
+            "push" => Command::Push(text),
+            "join" => Command::Join(text),
             "eq" => Command::Eq(text),
+            "cmp" => Command::Cmp(text),
             _ => Command::Unknown,
         }
     }
@@ -50,7 +74,11 @@ impl<'a> Command<'a> {
         ensures { command_shown result ≡ verb_alone verb.now }
     {
         match verb {
+            "clear" => Command::Clear,
+            "parent" => Command::Parent,
             "pieces" => Command::Pieces,
+            "up" => Command::Up,
+            "check" => Command::Check,
             _ => Command::Unknown,
         }
     }

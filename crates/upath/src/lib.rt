@@ -1,4 +1,9 @@
-//! Runs over the paths of UEFI firmware: lines of commands in, lines of answers out.
+//! What programs do with the paths of UEFI firmware: bytes judged, lists of commands, lines of
+//! commands in and lines of answers out, and the laws to reason by.
+//!
+//! [`judge`] takes bytes from outside, and answers the path that they spell or why they spell none.
+//! [`run_commands`] does a list of commands on a path, [`pieces`] lists its components and
+//! [`all_parents`] its successive parents.
 //!
 //! [`run_text`] answers what the lines of an input print, and [`run_streams`] does the same from a
 //! reader to a writer. The contract of both is one definition, `output_of` in `specs/Output.antt`:
@@ -11,15 +16,20 @@
 //!
 //! Data flows one way through the modules: `lines` cuts an input, `commands` reads a line, `run`
 //! keeps the path and answers a command, `output` adds lines to what is printed, and `streams` puts
-//! a reader and a writer around a run. [`laws`] stands apart: what users may reason by.
+//! a reader and a writer around a run. `judging` and `path_commands` stand beside them, and [`laws`]
+//! apart: what users may reason by.
 #![tactic(auto)]
 
 mod commands;
+mod judging;
 pub mod laws;
 mod lines;
 mod output;
+mod path_commands;
 mod run;
 mod streams;
 
+pub use judging::{JudgeError, judge};
+pub use path_commands::{PathCommand, RunFault, all_parents, pieces, run_commands};
 pub use run::run_text;
 pub use streams::{StreamFault, run_streams};

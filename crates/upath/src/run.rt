@@ -1,18 +1,23 @@
 //! A run over lines: the path between them, and what each one prints.
-ghost use Rattle.std.specs.Prelude.{◌≡◌, ◌++◌, [], List, ℕ, length, Some, None, IfOk, OnOk, MatchOption, codes};
+ghost use Rattle.std.specs.Prelude.{◌≡◌, ◌++◌, [], List, ℕ, length, Some, None, IfOk, OnOk, MatchOption, codes, unwrap_or};
 ghost use Rattle.std.specs.List.{flat_map};
 ghost use Rattle.std.specs.Str.{chars};
 ghost use Rattle.uefi_path.specs.Components.{components_of};
 ghost use Rattle.uefi_text.specs.ErrorTexts.{from_str_error_text};
 ghost use Rattle.uefi_text.specs.FromStr.{from_str_refusal};
-ghost use Rattle.upath.specs.Commands.{command_of, from_text, eq_text};
-ghost use Rattle.upath.specs.Output.{line, output_of, path_after, pieces_lines, printed_by, text_line};
+ghost use Rattle.uefi_path.specs.Parents.{above};
+ghost use Rattle.uefi_path.specs.Verdicts.{verdict};
+ghost use Rattle.upath.specs.Commands.{command_of, from_text, push_text, join_text, eq_text, cmp_text};
+ghost use Rattle.upath.specs.Output.{check_line, line, output_of, parent_line, parents_lines, path_after, pieces_lines, printed_by, text_line};
+ghost use Rattle.upath.specs.SuccessiveParents.{parents_of};
 
 use crate::commands::Command;
 use crate::lines::Lines;
 use crate::output::add_text_line;
+use crate::path_commands::all_parents;
 use std::alloc::{AllocError, Allocator};
-use uefi_path::{Path, PathBuf};
+use std::cmp::Ordering;
+use uefi_path::{Path, PathBuf, validate_path};
 use uefi_text::owned_strs::{CString16, FromStrError};
 
 /// A run so far: the path that the next line finds, and what was printed.
@@ -39,6 +44,20 @@ fn add_component_lines<A: Allocator + Copy>(
 {
     for component in path.components() {
         add_text_line(output, b"| ", component)?;
+    }
+    Ok(())
+}
+
+/// Adds a line for each path.
+fn add_path_lines<A: Allocator + Copy>(
+    output: &mut Vec<u8, A>,
+    paths: &[PathBuf<A>],
+) -> Result<(), AllocError>
+    ensures { OnOk result (output.new.items
+        ≡ output.old.items ++ flat_map (text_line (codes "| ")) paths.now) }
+{
+    for path in paths {
+        add_text_line(output, b"| ", path.to_cstr16().as_slice())?;
     }
     Ok(())
 }
@@ -83,6 +102,15 @@ impl<A: Allocator + Copy> Run<A> {
         }
     }
 
+    /// Prints the path.
+    fn print_path(&mut self) -> Result<(), AllocError>
+        ensures path { self.new.path ≡ self.old.path }
+        ensures output { OnOk result
+            (self.new.output.items ≡ self.old.output.items ++ text_line (codes "= ") self.old.path) }
+    {
+        add_text_line(&mut self.output, b"= ", self.path.to_cstr16().as_slice())
+    }
+
     /// `from T`
     fn from(&mut self, text: &str) -> Result<(), AllocError>
         ensures path { OnOk result (self.new.path ≡ path_after (from_text text.now) self.old.path) }
@@ -96,7 +124,58 @@ impl<A: Allocator + Copy> Run<A> {
             return Err(AllocError);
         };
         self.path = path;
-        add_text_line(&mut self.output, b"= ", self.path.to_cstr16().as_slice())
+        self.print_path()
+    }
+
+    /// `push T`
+    fn push(&mut self, text: &str) -> Result<(), AllocError>
+        ensures path { OnOk result (self.new.path ≡ path_after (push_text text.now) self.old.path) }
+        ensures output { OnOk result
+            (self.new.output.items ≡ self.old.output.items ++ printed_by (push_text text.now) self.old.path) }
+    {
+        let Some(string) = self.read_text(text)? else {
+            return Ok(());
+        };
+        self.path.push(Path::new(string.as_cstr16()))?;
+        self.print_path()
+    }
+
+    /// `join T`
+    fn join(&mut self, text: &str) -> Result<(), AllocError>
+        ensures path { OnOk result (self.new.path ≡ path_after (join_text text.now) self.old.path) }
+        ensures output { OnOk result
+            (self.new.output.items ≡ self.old.output.items ++ printed_by (join_text text.now) self.old.path) }
+    {
+        let Some(string) = self.read_text(text)? else {
+            return Ok(());
+        };
+        self.path = self.path.join(Path::new(string.as_cstr16()))?;
+        self.print_path()
+    }
+
+    /// `clear`
+    fn clear(&mut self) -> Result<(), AllocError>
+        ensures path { OnOk result (self.new.path ≡ []) }
+        ensures output { OnOk result
+            (self.new.output.items ≡ self.old.output.items ++ text_line (codes "= ") []) }
+    {
+        self.path.clear();
+        self.print_path()
+    }
+
+    /// `parent`
+    fn parent(&mut self) -> Result<(), AllocError>
+        ensures path { OnOk result (self.new.path ≡ unwrap_or (above self.old.path) self.old.path) }
+        ensures output { OnOk result
+            (self.new.output.items ≡ self.old.output.items ++ parent_line (above self.old.path)) }
+    {
+        match self.path.parent()? {
+            Some(parent) => {
+                self.path = parent;
+                self.print_path()
+            }
+            None => self.output.extend_from_slice(b"none\n"),
+        }
     }
 
     /// `pieces`
@@ -110,6 +189,20 @@ impl<A: Allocator + Copy> Run<A> {
         writeln!(line, "pieces {count}")?;
         self.output.extend_from_slice(line.as_bytes())?;
         add_component_lines(&mut self.output, &self.path)
+    }
+
+    /// `up`
+    fn up(&mut self) -> Result<(), AllocError>
+        ensures path { OnOk result (self.new.path ≡ self.old.path) }
+        ensures output { OnOk result
+            (self.new.output.items ≡ self.old.output.items ++ parents_lines (parents_of self.old.path)) }
+    {
+        let parents = all_parents(self.alloc(), &self.path)?;
+        let count = parents.len();
+        let mut line = String::new(self.alloc());
+        writeln!(line, "parents {count}")?;
+        self.output.extend_from_slice(line.as_bytes())?;
+        add_path_lines(&mut self.output, &parents)
     }
 
     /// `eq T`
@@ -128,6 +221,39 @@ impl<A: Allocator + Copy> Run<A> {
         }
     }
 
+    /// `cmp T`
+    fn cmp(&mut self, text: &str) -> Result<(), AllocError>
+        ensures path { OnOk result (self.new.path ≡ self.old.path) }
+        ensures output { OnOk result
+            (self.new.output.items ≡ self.old.output.items ++ printed_by (cmp_text text.now) self.old.path) }
+    {
+        let Some(string) = self.read_text(text)? else {
+            return Ok(());
+        };
+        let line: &[u8] = match self.path.as_path().cmp(&Path::new(string.as_cstr16())) {
+            Ordering::Less => b"less\n",
+            Ordering::Equal => b"equal\n",
+            Ordering::Greater => b"greater\n",
+        };
+        self.output.extend_from_slice(line)
+    }
+
+    /// `check`
+    fn check(&mut self) -> Result<(), AllocError>
+        ensures path { OnOk result (self.new.path ≡ self.old.path) }
+        ensures output { OnOk result
+            (self.new.output.items ≡ self.old.output.items ++ check_line (verdict self.old.path)) }
+    {
+        match validate_path(self.path.as_path()) {
+            Ok(()) => self.output.extend_from_slice(b"ok\n"),
+            Err(error) => {
+                let mut line = String::new(self.alloc());
+                writeln!(line, "{error}")?;
+                self.output.extend_from_slice(line.as_bytes())
+            }
+        }
+    }
+
     /// Runs a line.
     fn line(&mut self, line: &[u8]) -> Result<(), AllocError>
         ensures path { OnOk result (self.new.path ≡ path_after (command_of line.now) self.old.path) }
@@ -137,8 +263,15 @@ impl<A: Allocator + Copy> Run<A> {
     {
         match Command::of_line(line) {
             Command::From(text) => self.from(text),
+            Command::Push(text) => self.push(text),
+            Command::Join(text) => self.join(text),
+            Command::Clear => self.clear(),
+            Command::Parent => self.parent(),
             Command::Pieces => self.pieces(),
+            Command::Up => self.up(),
             Command::Eq(text) => self.eq(text),
+            Command::Cmp(text) => self.cmp(text),
+            Command::Check => self.check(),
             Command::Unknown => self.output.extend_from_slice(b"? unknown command\n"),
             Command::NotUtf8 => self.output.extend_from_slice(b"? not UTF-8\n"),
         }
@@ -148,11 +281,14 @@ impl<A: Allocator + Copy> Run<A> {
 /// What the lines of an input print, from the empty path on.
 ///
 /// Lines end at a line feed, and no other byte ends or trims one. `from T` makes the path that of
-/// T, its slashes turned, and prints it; `pieces` prints the number of components and each; `eq T`
-/// prints whether the path equals that of T, taken as it stands. A line that is not UTF-8, one that
-/// is no command and a T that is no text of UCS-2 are answered by a line of their own and leave the
-/// path. The only error is want of memory, which answers nothing of the output. Time and memory are
-/// linear in the input and the output.
+/// T, its slashes turned, `push T` and `join T` put that behind it, `clear` empties it, `parent`
+/// makes it its parent, and each prints it; `parent` prints `none` where there is none. `pieces`
+/// prints the number of components and each, `up` that of the successive parents and each; `eq T`
+/// and `cmp T` print how the path compares with that of T, taken as it stands; `check` prints
+/// whether it is accepted, or why not. A line that is not UTF-8, one that is no command and a T
+/// that is no text of UCS-2 are answered by a line of their own and leave the path. The only error
+/// is want of memory, which answers nothing of the output. Memory is linear in the input and the
+/// output; a line costs what it says, what it prints, and at most a pass over the path.
 pub fn run_text<A: Allocator + Copy>(alloc: A, input: &[u8]) -> Result<Vec<u8, A>, AllocError>
     ensures { IfOk result (λ output. output.items ≡ output_of input.now) }
 {

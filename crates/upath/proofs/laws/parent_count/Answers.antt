@@ -1,0 +1,24 @@
+use Rattle.std.proofs.Common.{ℕ, ◌-◌, ◌≤◌, List, [], ◌∷◌, length, arith}
+use Rattle.uefi_path.proofs.Climbing.{above-plain}
+use Rattle.uefi_path.proofs.Counting.{above-slashed, fewer_above}
+use Rattle.uefi_path.specs.Components.{components_of}
+use Rattle.uefi_path.specs.Separators.{IsPlain}
+use Rattle.upath.specs.SuccessiveParents.{AreParents, parents_of}
+use Rattle.upath.proofs.Climbing.{AreParents-parents_of}
+use Rattle.upath.proofs.laws.parent_count.Goals as goal
+
+fewer_parents : (text : List ℕ) (parents : List (List ℕ)) → IsPlain text → AreParents text parents → length parents ≤ length (components_of text) - 1
+fewer_parents text [] plain none = omega arith
+fewer_parents text (parent ∷ parents) plain of_parent =
+    omega (
+      arith,
+      fewer_parents parent parents (above-slashed text parent of_parent.0) of_parent.1,
+      fewer_above text parent plain of_parent.0,
+      (above-plain text parent plain of_parent.0).1,
+    )
+
+pub returns-clause-ends : goal.returns-clause-ends
+returns-clause-ends c text = (parents_of text, AreParents-parents_of text)
+
+pub returns-clause-fewer : goal.returns-clause-fewer
+returns-clause-fewer c text parents plain are_parents = fewer_parents text parents plain are_parents

@@ -1,0 +1,37 @@
+-- Each parent is followed by its own.
+use Rattle.std.proofs.Common.{◌≡◌, ap, sym, subst, ◌∙◌, arith}
+use Rattle.std.proofs.lemmas.Grind.{common_steps}
+use Rattle.uefi_path.specs.Parents.{above}
+use Rattle.upath.proofs.Beginnings.{AreParents-beginnings, parents_once}
+use Rattle.upath.proofs.Climbing.{AreParents-parents_of, chain, most_left, most_left-above, parents_of-chain}
+use Rattle.upath.specs.SuccessiveParents.{AreParents, parents_of, shorter_beginnings}
+use Rattle.upath.proofs.path_commands.all_parents.Goals as goal
+
+pub loop-next-init : goal.loop-next-init
+loop-next-init g c =
+    let first : c.in_ok-next.next ≡ above c.args.path.now = c.in_ok-next.ensures.ok in
+    let all = ap chain first ∙ sym (parents_of-chain c.args.path.now) in
+    grind (arith, common_steps, all)
+
+pub loop-next-smaller : goal.loop-next-smaller
+loop-next-smaller g c =
+    let next : c.in_ok-next-2.next ≡ above c.in-Some.parent = c.in_ok-next-2.ensures.ok in
+    omega (arith, ap most_left next, ap most_left c.in-Some.is, most_left-above c.in-Some.parent)
+
+pub loop-next-preserved : goal.loop-next-preserved
+loop-next-preserved g c =
+    let next : c.in_ok-next-2.next ≡ above c.in-Some.parent = c.in_ok-next-2.ensures.ok in
+    let behind = ap chain next ∙ sym (parents_of-chain c.in-Some.parent) in
+    let so_far = ap chain c.in-Some.is in
+    grind (arith, common_steps, behind, so_far)
+
+pub returns-clause-parents : goal.returns-clause-parents
+returns-clause-parents g c =
+    let all : parents_of c.args.path.now ≡ c.loop-next.parents.items = grind (arith, common_steps) in
+    subst (AreParents c.args.path.now) all (AreParents-parents_of c.args.path.now)
+
+pub returns-clause-beginnings : goal.returns-clause-beginnings
+returns-clause-beginnings g c valid =
+    let text = c.args.path.now in
+    let all : c.loop-next.parents.items ≡ parents_of text = grind (arith, common_steps) in
+    all ∙ parents_once text (parents_of text) (shorter_beginnings text) (AreParents-parents_of text) (AreParents-beginnings text valid)

@@ -1,0 +1,11 @@
+use Rattle.std.proofs.Common.{◌≡◌, ◌++◌}
+use Rattle.upath.specs.SuccessiveParents.{parents_of}
+use Rattle.upath.proofs.Climbing.{chain, most_left}
+use Rattle.upath.proofs.path_commands.all_parents.Given as goal
+
+-- the parents so far, and those to come, are all
+abbrev pub invariant-loop-next : goal.invariant-loop-next
+invariant-loop-next g l = l.parents.items ++ chain l.next ≡ parents_of l.path
+
+abbrev pub decreases-loop-next : goal.decreases-loop-next
+decreases-loop-next g l = most_left l.next

@@ -1,0 +1,61 @@
+//! Bytes from outside, judged to be a path or refused.
+ghost use Rattle.std.specs.Prelude.{◌≡◌, None, IfErr, IfOk, unwrap_or};
+ghost use Rattle.uefi_text.specs.UnitBytes.{BytesSpell};
+ghost use Rattle.upath.specs.Judging.{IsPathOf, IsRefusalOf, bytes_fault};
+
+use std::alloc::Allocator;
+use uefi_path::{PathBuf, PathError, validate_path};
+use uefi_text::{CString16, FromSliceWithNulError, UnalignedSlice};
+
+/// Why bytes are no path.
+#[derive(Clone, Copy, Debug, PartialEq, Eq)]
+pub enum JudgeError {
+    /// The bytes are odd in number.
+    HalfUnit,
+
+    /// The code units that the bytes spell are no string. Never holds `OutOfMemory`.
+    Text(FromSliceWithNulError),
+
+    /// The path of the string is refused.
+    Invalid(PathError),
+
+    /// A request for memory was refused.
+    OutOfMemory,
+}
+
+/// The string that bytes spell, two for each code unit.
+fn read_string<A: Allocator>(alloc: A, bytes: &[u8]) -> Result<CString16<A>, JudgeError>
+    ensures ok { IfOk result (λ string. BytesSpell bytes.now string) }
+    ensures accepted { IfOk result (λ _. bytes_fault bytes.now ≡ None) }
+    ensures refusal { IfErr result (λ error. IsRefusalOf bytes.now error) }
+{
+    if bytes.len() % 2 != 0 {
+        return Err(JudgeError::HalfUnit);
+    }
+    match UnalignedSlice::new(bytes, bytes.len() / 2).to_cstring16(alloc) {
+        Ok(string) => Ok(string),
+        Err(FromSliceWithNulError::OutOfMemory) => Err(JudgeError::OutOfMemory),
+        Err(error) => Err(JudgeError::Text(error)),
+    }
+}
+
+/// The path of a string that lies in bytes, two for each code unit, the low one first, from wherever
+/// they lie: its text with each slash turned, which `validate_path` accepts.
+///
+/// What is refused, in this order: an odd number of bytes, as `HalfUnit`; units that are no string, as
+/// `Text` of what [`uefi_text::CStr16::from_u16_with_nul`] says of them; want of memory, as
+/// `OutOfMemory`; a path that is not accepted, as `Invalid` of the reason. The bytes are looked at before
+/// memory is asked for.
+pub fn judge<A: Allocator + Copy>(alloc: A, bytes: &[u8]) -> Result<PathBuf<A>, JudgeError>
+    ensures ok { IfOk result (λ path. IsPathOf bytes.now path) }
+    ensures refusal { IfErr result (λ error. IsRefusalOf bytes.now error) }
+{
+    let string = read_string(alloc, bytes)?;
+    let Ok(path) = PathBuf::new_from_cstring16(alloc, string) else {
+        return Err(JudgeError::OutOfMemory);
+    };
+    match validate_path(path.as_path()) {
+        Ok(()) => Ok(path),
+        Err(error) => Err(JudgeError::Invalid(error)),
+    }
+}

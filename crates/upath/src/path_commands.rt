@@ -1,0 +1,117 @@
+//! Lists of commands on one path.
+ghost use Rattle.std.specs.Prelude.{◌≡◌, ◌<◌, None, IfErr, IfOk, IsSomeAnd, OnErr, OnOk, length, map, slice_get, take};
+ghost use Rattle.uefi_path.specs.Components.{components_of};
+ghost use Rattle.uefi_path.specs.Verdicts.{verdict};
+ghost use Rattle.uefi_path.specs.Views.{path_text};
+ghost use Rattle.uefi_text.specs.Views.{units_of};
+ghost use Rattle.upath.specs.PathCommands.{TakesMemory, after_command, after_commands};
+ghost use Rattle.upath.specs.SuccessiveParents.{AreParents, parents_of, shorter_beginnings};
+
+use std::alloc::{AllocError, Allocator};
+use uefi_path::{Path, PathBuf};
+use uefi_text::{CStr16, Char16Slice};
+
+/// What a path buffer is told to become.
+#[derive(Clone, Copy, Debug)]
+pub enum PathCommand<'a> {
+    /// The path of a string, its slashes turned.
+    From(CStr16<'a>),
+
+    /// Itself with another path pushed.
+    Push(Path<'a>),
+
+    /// What it joined with another path is.
+    Join(Path<'a>),
+
+    /// The empty path.
+    Clear,
+
+    /// Its parent; it stays where it has none.
+    Parent,
+}
+
+/// A list of commands was cut short by want of memory.
+#[derive(Clone, Copy, Debug, PartialEq, Eq)]
+pub struct RunFault {
+    /// How many commands were done.
+    pub done: usize,
+}
+
+/// Does one command. After a refusal the path is as it was.
+fn run_command<A: Allocator + Copy>(
+    alloc: A,
+    path: &mut PathBuf<A>,
+    command: PathCommand<'_>,
+) -> Result<(), AllocError>
+    ensures ok { OnOk result (path.new ≡ after_command path.old command.entry) }
+    ensures err { OnErr result (path.new ≡ path.old) }
+    ensures memory { OnErr result (TakesMemory path.old command.entry) }
+{
+    match command {
+        PathCommand::From(string) => *path = PathBuf::from(alloc, string)?,
+        PathCommand::Push(other) => path.push(other)?,
+        PathCommand::Join(other) => *path = path.join(other)?,
+        PathCommand::Clear => path.clear(),
+        PathCommand::Parent => {
+            if let Some(parent) = path.parent()? {
+                *path = parent;
+            }
+        }
+    }
+    Ok(())
+}
+
+/// Does commands one after the other, and leaves the path that folding their meaning over it gives.
+///
+/// Where memory is refused the answer says how many commands were done, fewer than all; the path is
+/// then what these made of it. `Clear`, `Push` of an empty path and `Parent` of a path that has none
+/// take no memory. Costs what the commands cost.
+pub fn run_commands<A: Allocator + Copy>(
+    alloc: A,
+    path: &mut PathBuf<A>,
+    commands: &[PathCommand<'_>],
+) -> Result<(), RunFault>
+    ensures ok { OnOk result (path.new ≡ after_commands path.old commands.now) }
+    ensures done { IfErr result (λ fault. fault.done < length commands.now) }
+    ensures path { IfErr result (λ fault. path.new ≡ after_commands path.old (take fault.done commands.now)) }
+    ensures memory { IfErr result (λ fault.
+        IsSomeAnd (slice_get commands.now fault.done) (λ command. TakesMemory path.new command)) }
+{
+    for done in 0..commands.len() {
+        if run_command(alloc, path, commands[done]).is_err() {
+            return Err(RunFault { done });
+        }
+    }
+    Ok(())
+}
+
+/// The components of a path as a list, or `AllocError`.
+pub fn pieces<'a, A: Allocator>(
+    alloc: A,
+    path: Path<'a>,
+) -> Result<Vec<Char16Slice<'a>, A>, AllocError>
+    ensures { IfOk result (λ pieces. map units_of pieces.items ≡ components_of (path_text path.entry)) }
+{
+    path.components().collect(alloc)
+}
+
+/// The parent of a path, the parent of that, and so on until there is none; or `AllocError`. Of a
+/// valid path these are its shorter beginnings, the longest first. One request for each parent, and
+/// those of the list; costs what the parents are long.
+pub fn all_parents<A: Allocator + Copy>(
+    alloc: A,
+    path: &PathBuf<A>,
+) -> Result<Vec<PathBuf<A>, A>, AllocError>
+    ensures parents { IfOk result (λ parents. AreParents path.now parents.items) }
+    ensures same { IfOk result (λ parents. parents.items ≡ parents_of path.now) }
+    ensures beginnings { IfOk result (λ parents.
+        verdict path.now ≡ None → parents.items ≡ shorter_beginnings path.now) }
+{
+    let mut parents = Vec::new(alloc);
+    let mut next = path.parent()?;
+    while let Some(parent) = next {
+        next = parent.parent()?;
+        parents.push(parent)?;
+    }
+    Ok(parents)
+}
