@@ -15,7 +15,11 @@ use uefi_text::{
 fn characters(rt: &HostRuntime, text: &str) -> Result<Vec<Char16>, Fail> {
     let mut characters = Vec::new(rt.alloc());
     for c in text.chars() {
-        let character = if c == '0' { NUL_16 } else { Char16::try_from(c)? };
+        let character = if c == '0' {
+            NUL_16
+        } else {
+            Char16::try_from(c)?
+        };
         characters.push(character)?;
     }
     Ok(characters)
@@ -25,7 +29,11 @@ fn characters(rt: &HostRuntime, text: &str) -> Result<Vec<Char16>, Fail> {
 fn characters_until_nul(rt: HostRuntime) -> Result<(), Fail> {
     for text in ["", "ab"] {
         let refused = CStr16::from_char16_until_nul(rt.alloc(), &characters(&rt, text)?);
-        assert_eq!(rt; refused.err(), Some(FromSliceUntilNulError::NoNul), "{text}");
+        assert_eq!(rt;
+            refused.err(),
+            Some(FromSliceUntilNulError::NoNul),
+            "{text}"
+        );
     }
     for (text, want) in [
         ("ab0", "ab"),
@@ -36,7 +44,10 @@ fn characters_until_nul(rt: HostRuntime) -> Result<(), Fail> {
         ("é€0", "é€"),
     ] {
         let string = CStr16::from_char16_until_nul(rt.alloc(), &characters(&rt, text)?)?;
-        assert!(rt; string == CString16::try_from_str(rt.alloc(), want)?, "{text}");
+        assert!(rt;
+            string == CString16::try_from_str(rt.alloc(), want)?,
+            "{text}"
+        );
     }
     Ok(())
 }
@@ -55,7 +66,10 @@ fn characters_with_nul(rt: HostRuntime) -> Result<(), Fail> {
     }
     for (text, want) in [("ab0", "ab"), ("0", ""), ("é€0", "é€")] {
         let string = CStr16::from_char16_with_nul(rt.alloc(), &characters(&rt, text)?)?;
-        assert!(rt; string == CString16::try_from_str(rt.alloc(), want)?, "{text}");
+        assert!(rt;
+            string == CString16::try_from_str(rt.alloc(), want)?,
+            "{text}"
+        );
     }
     Ok(())
 }
@@ -105,17 +119,35 @@ fn strings_and_their_bytes(rt: HostRuntime) -> Result<(), Fail> {
     ];
     for (text, bytes) in rows {
         let string = CString16::try_from_str(rt.alloc(), text)?;
-        assert_eq!(rt; string.as_cstr16().as_bytes(rt.alloc())?.as_slice(), bytes, "{text}");
-        assert!(rt; CStr16::from_bytes_with_nul(rt.alloc(), bytes)? == string, "{text}");
+        assert_eq!(rt;
+            string.as_cstr16().as_bytes(rt.alloc())?.as_slice(),
+            bytes,
+            "{text}"
+        );
+        assert!(rt;
+            CStr16::from_bytes_with_nul(rt.alloc(), bytes)? == string,
+            "{text}"
+        );
     }
     Ok(())
 }
 
 #[test]
 fn strings_as_rust_texts(rt: HostRuntime) -> Result<(), Fail> {
-    for text in ["", "abc", "\u{7f}", "\u{80}", "\u{7ff}", "\u{800}", "aé€\u{ffff}b"] {
+    for text in [
+        "",
+        "abc",
+        "\u{7f}",
+        "\u{80}",
+        "\u{7ff}",
+        "\u{800}",
+        "aé€\u{ffff}b",
+    ] {
         let string = CString16::try_from_str(rt.alloc(), text)?;
-        assert_eq!(rt; string.as_cstr16().to_rust_string(rt.alloc())?.as_str(), text);
+        assert_eq!(rt;
+            string.as_cstr16().to_rust_string(rt.alloc())?.as_str(),
+            text
+        );
         let mut bytes = Vec::new(rt.alloc());
         bytes.push(b'x')?;
         string.as_cstr16().as_slice().add_utf8_to(&mut bytes)?;
@@ -155,7 +187,12 @@ fn sinks_that_grow(rt: HostRuntime) -> Result<(), Fail> {
     let mut text = String::new(&heap);
     assert!(rt; string.as_cstr16().as_str_in_buf(&mut text).is_err());
     assert!(rt; text.is_empty());
-    assert!(rt; CString16::new(rt.alloc())?.as_cstr16().as_str_in_buf(&mut text).is_ok());
+    assert!(rt;
+        CString16::new(rt.alloc())?
+            .as_cstr16()
+            .as_str_in_buf(&mut text)
+            .is_ok()
+    );
     Ok(())
 }
 
@@ -168,7 +205,8 @@ struct Capitals {
 impl CharSink for Capitals {
     ghost text = { λ sink. sink.text.bytes };
 
-    ghost may_refuse = { λ text c. (64 < length text + length (encode_utf8 c)) ⊎ IsFalse (is_ascii_uppercase c) };
+    ghost may_refuse = { λ text c.
+        (64 < length text + length (encode_utf8 c)) ⊎ IsFalse (is_ascii_uppercase c) };
 
     fn write_char(&mut self, c: char) -> fmt::Result {
         if !c.is_ascii_uppercase() {
@@ -188,7 +226,11 @@ fn sinks_of_a_callers_own(rt: HostRuntime) -> Result<(), Fail> {
         let mut sink = Capitals {
             text: ArrayString::new(),
         };
-        assert_eq!(rt; string.as_cstr16().as_str_in_buf(&mut sink).is_ok(), all, "{text}");
+        assert_eq!(rt;
+            string.as_cstr16().as_str_in_buf(&mut sink).is_ok(),
+            all,
+            "{text}"
+        );
         assert_eq!(rt; sink.text.as_str(), taken);
     }
     Ok(())

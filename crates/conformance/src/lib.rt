@@ -7,15 +7,21 @@
 #![tactic(auto)]
 
 #[cfg(test)]
+mod commands_on_paths;
+#[cfg(test)]
 mod conversions;
 #[cfg(test)]
 mod documents;
 #[cfg(test)]
 mod failing_streams;
 #[cfg(test)]
+mod judged_bytes;
+#[cfg(test)]
 mod owned;
 #[cfg(test)]
 mod packed;
+#[cfg(test)]
+mod path_edits;
 #[cfg(test)]
 mod paths;
 #[cfg(test)]
@@ -26,3 +32,5 @@ mod refusing;
 mod runs;
 #[cfg(test)]
 mod texts;
+#[cfg(test)]
+mod vectors;

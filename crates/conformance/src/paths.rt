@@ -4,11 +4,11 @@ use std::test::Fail;
 use uefi_path::{Path, PathBuf, PathError};
 use uefi_text::{CString16, Char16};
 
-fn string(rt: &HostRuntime, text: &str) -> Result<CString16, Fail> {
+pub(crate) fn string(rt: &HostRuntime, text: &str) -> Result<CString16, Fail> {
     Ok(CString16::try_from_str(rt.alloc(), text)?)
 }
 
-fn buffer(rt: &HostRuntime, text: &str) -> Result<PathBuf, Fail> {
+pub(crate) fn buffer(rt: &HostRuntime, text: &str) -> Result<PathBuf, Fail> {
     match PathBuf::new_from_cstring16(rt.alloc(), string(rt, text)?) {
         Ok(path) => Ok(path),
         Err(_) => Err(AllocError.into()),

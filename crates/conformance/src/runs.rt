@@ -38,6 +38,47 @@ fn lines_and_their_answers(rt: HostRuntime) -> Result<(), Fail> {
 }
 
 #[test]
+fn lines_that_change_the_path(rt: HostRuntime) -> Result<(), Fail> {
+    for (input, want) in [
+        (
+            "from a\npush \nparent\nclear\ncmp \\\njoin \\x\nfrom \\\njoin \\x\ncmp x\ncheck\nfrom b\ncmp \\c\n",
+            "= a\n= a\nnone\n= \nequal\n= \\x\n= \\\n= \\\\x\nless\npath contains an empty component\n= b\nless\n",
+        ),
+        (
+            "from a/b\neq a/b\ncmp \\a\\b\ncmp a\njoin \\\npieces\ncheck\nup\n",
+            "= a\\b\ndifferent\nequal\ngreater\n= a\\b\\\\\npieces 4\n| a\n| b\n| \n| \npath contains an empty component\nparents 3\n| a\\b\\\n| a\\b\n| a\n",
+        ),
+        (
+            "from /a\npush b\nup\nparent\nparent\npieces\ncheck\n",
+            "= \\a\n= \\a\\b\nparents 1\n| a\n= a\nnone\npieces 1\n| a\nok\n",
+        ),
+        (
+            "check\npush a>b\ncheck\njoin c/d\nclear\ncheck\n",
+            "path is empty\n= a>b\npath contains an illegal character (value 62)\n= a>b\\c\\d\n= \npath is empty\n",
+        ),
+        (
+            "from a\\b\ncmp a!\nfrom a\ncmp \\a\ncmp \\\\a\n",
+            "= a\\b\ngreater\n= a\nequal\ngreater\n",
+        ),
+    ] {
+        assert_eq!(rt; printed(&rt, input.as_bytes())?.as_str(), want);
+    }
+    Ok(())
+}
+
+#[test]
+fn lines_of_all_kinds(rt: HostRuntime) -> Result<(), Fail> {
+    let mut input = Vec::new(rt.alloc());
+    input.extend_from_slice("from a😀\n\nfrom \npieces\neq \\\ncheck\n".as_bytes())?;
+    input.extend_from_slice(b"\xff\nfrom x\0\nclear \n")?;
+    assert_eq!(rt;
+        printed(&rt, &input)?.as_str(),
+        "UCS-2 Conversion Error: Invalid character\n? unknown command\n= \npieces 0\nequal\npath is empty\n? not UTF-8\nUCS-2 Conversion Error: Interior null terminator\n? unknown command\n"
+    );
+    Ok(())
+}
+
+#[test]
 fn ends_of_lines(rt: HostRuntime) -> Result<(), Fail> {
     for (input, want) in [
         ("", ""),
@@ -71,6 +112,21 @@ fn lines_that_leave_the_path(rt: HostRuntime) -> Result<(), Fail> {
         "eq x\0",
         "eq 😀",
         "eq a",
+        "push",
+        "push ",
+        "push x\0",
+        "join",
+        "join 😀",
+        "cmp",
+        "cmp x",
+        "cmp x\0",
+        "clear ",
+        "parent ",
+        "check",
+        "check ",
+        "pieces",
+        "up",
+        "up ",
         "",
     ] {
         let input = format!(in rt.alloc(); "from a\\b\n{line}\neq \\a\\b\n")?;
@@ -90,6 +146,15 @@ fn refused_texts_are_told_by_each_verb(rt: HostRuntime) -> Result<(), Fail> {
         ("eq 😀\0", "UCS-2 Conversion Error: Invalid character\n"),
         (
             "from \0😀",
+            "UCS-2 Conversion Error: Interior null terminator\n",
+        ),
+        (
+            "push x\0",
+            "UCS-2 Conversion Error: Interior null terminator\n",
+        ),
+        ("join 😀", "UCS-2 Conversion Error: Invalid character\n"),
+        (
+            "cmp x\0",
             "UCS-2 Conversion Error: Interior null terminator\n",
         ),
         ("wat x\0", "? unknown command\n"),
