@@ -18,20 +18,19 @@ fn buffer<A: Allocator + Copy>(rt: &HostRuntime, alloc: A, text: &str) -> Result
 #[test]
 fn a_list_of_commands(rt: HostRuntime) -> Result<(), Fail> {
     let (first, second) = (string(&rt, "/a")?, string(&rt, "b")?);
-    let commands = [
-        PathCommand::From(first.as_cstr16()),
-        PathCommand::Push(Path::new(second.as_cstr16())),
-        PathCommand::Parent,
-        PathCommand::Parent,
-        PathCommand::Clear,
-    ];
+    let mut commands = Vec::new(rt.alloc());
+    commands.push(PathCommand::From(first.as_cstr16()))?;
+    commands.push(PathCommand::Push(Path::new(second.as_cstr16())))?;
+    commands.push(PathCommand::Parent)?;
+    commands.push(PathCommand::Parent)?;
+    commands.push(PathCommand::Clear)?;
     let wants = ["", "\\a", "\\a\\b", "a", "a", ""];
     for (count, want) in wants.iter().enumerate() {
         let mut path = PathBuf::new(rt.alloc())?;
-        assert_eq!(rt;
-            run_commands(rt.alloc(), &mut path, &commands[..count]),
-            Ok(())
-        );
+        let Some(first) = commands.get(..count) else {
+            return Err("fewer commands".into());
+        };
+        assert_eq!(rt; run_commands(rt.alloc(), &mut path, first), Ok(()));
         assert!(rt;
             path.to_cstr16() == string(&rt, want)?.as_cstr16(),
             "{count}"
@@ -43,17 +42,16 @@ fn a_list_of_commands(rt: HostRuntime) -> Result<(), Fail> {
 #[test]
 fn commands_on_a_path_that_ends_in_a_separator(rt: HostRuntime) -> Result<(), Fail> {
     let (first, second) = (string(&rt, "x")?, string(&rt, "/y")?);
-    let commands = [
-        PathCommand::Push(Path::new(first.as_cstr16())),
-        PathCommand::Join(Path::new(second.as_cstr16())),
-        PathCommand::Parent,
-    ];
+    let mut commands = Vec::new(rt.alloc());
+    commands.push(PathCommand::Push(Path::new(first.as_cstr16())))?;
+    commands.push(PathCommand::Join(Path::new(second.as_cstr16())))?;
+    commands.push(PathCommand::Parent)?;
     for (count, want) in [(1, "q\\x"), (2, "q\\x\\\\y"), (3, "q\\x\\")] {
         let mut path = buffer(&rt, rt.alloc(), "q\\")?;
-        assert_eq!(rt;
-            run_commands(rt.alloc(), &mut path, &commands[..count]),
-            Ok(())
-        );
+        let Some(first) = commands.get(..count) else {
+            return Err("fewer commands".into());
+        };
+        assert_eq!(rt; run_commands(rt.alloc(), &mut path, first), Ok(()));
         assert!(rt;
             path.to_cstr16() == string(&rt, want)?.as_cstr16(),
             "{count}"

@@ -72,6 +72,25 @@ fn copies_of_strings(rt: HostRuntime) -> Result<(), Fail> {
     Ok(())
 }
 
+/// One request for room, and none for what fits into it; what does not fit is refused as a whole.
+#[test]
+fn strings_with_room(rt: HostRuntime) -> Result<(), Fail> {
+    let part = CString16::try_from_str(rt.alloc(), "a/b")?;
+    let none = Refusing::new(rt.alloc(), 1);
+    assert!(rt; CString16::with_capacity(&none, 3).is_err());
+    assert!(rt; CString16::with_capacity(rt.alloc(), usize::MAX).is_err());
+    let one = Refusing::new(rt.alloc(), 2);
+    let mut text = CString16::with_capacity(&one, 3)?;
+    assert!(rt; text.is_empty());
+    text.push_str(part.as_cstr16())?;
+    assert!(rt; text.eq_cstr16(part.as_cstr16()));
+    assert!(rt; !one.has_refused());
+    assert!(rt; text.push_str(part.as_cstr16()).is_err());
+    assert!(rt; one.has_refused());
+    assert!(rt; text.eq_cstr16(part.as_cstr16()));
+    Ok(())
+}
+
 /// A path takes over the memory of its string.
 #[test]
 fn paths_of_strings(rt: HostRuntime) -> Result<(), Fail> {

@@ -120,7 +120,7 @@ impl<'a> Path<'a> {
     ///
     /// There is none where the path has at most one component: that takes no memory and is never
     /// refused. Empty components are left out, but where the last one that is kept is empty and
-    /// another is not, a separator ends the parent. One pass over the text; one allocation.
+    /// another is not, a separator ends the parent. Linear in the text; one allocation.
     pub fn parent<A: Allocator + Copy>(&self, alloc: A) -> Result<Option<PathBuf<A>>, AllocError>
         ensures ok { IfOk result (λ parent. parent ≡ above (path_text self.now)) }
         ensures none { above (path_text self.now) ≡ None → IsOk result }
