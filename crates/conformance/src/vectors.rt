@@ -46,13 +46,24 @@ fn refused_rust_texts(rt: HostRuntime) {
 }
 
 #[test]
-fn strings_that_grow(rt: HostRuntime) -> Result<(), Fail> {
-    let mut first = CString16::new(rt.alloc())?;
-    assert_eq!(rt; first.as_cstr16().num_bytes(), 2);
-    assert_eq!(rt; first.num_chars(), 0);
+fn the_empty_string(rt: HostRuntime) -> Result<(), Fail> {
+    let empty = CString16::new(rt.alloc())?;
+    assert_eq!(rt; empty.as_cstr16().num_bytes(), 2);
+    assert_eq!(rt; empty.num_chars(), 0);
+    Ok(())
+}
+
+#[test]
+fn characters_of_a_string(rt: HostRuntime) -> Result<(), Fail> {
     for character in string(&rt, "hi")?.as_cstr16().iter() {
         assert!(rt; !character.eq_char('\0'));
     }
+    Ok(())
+}
+
+#[test]
+fn strings_that_grow(rt: HostRuntime) -> Result<(), Fail> {
+    let mut first = CString16::new(rt.alloc())?;
     first.push_str(string(&rt, "h")?.as_cstr16())?;
     first.push_str(string(&rt, "i")?.as_cstr16())?;
     assert_eq!(rt; first.num_chars(), 2);
@@ -61,6 +72,11 @@ fn strings_that_grow(rt: HostRuntime) -> Result<(), Fail> {
     second.extend(string(&rt, "!")?.as_cstr16().iter())?;
     assert_eq!(rt; second.num_chars(), 4);
     assert!(rt; second == string(&rt, "!hi!")?);
+    Ok(())
+}
+
+#[test]
+fn cleared_strings(rt: HostRuntime) -> Result<(), Fail> {
     let mut cleared = string(&rt, "a")?;
     for _ in 0..2 {
         cleared.clear();
@@ -92,15 +108,17 @@ fn parents(rt: HostRuntime) -> Result<(), Fail> {
     }
     for (text, want) in [("a\\b", "a"), ("\\a\\b", "a"), ("a\\b\\c\\d", "a\\b\\c")] {
         let string = string(&rt, text)?;
-        let parent = Path::new(string.as_cstr16()).parent(rt.alloc())?;
+        let Some(parent) = Path::new(string.as_cstr16()).parent(rt.alloc())? else {
+            return Err("no parent".into());
+        };
         let want = self::string(&rt, want)?;
-        assert!(rt; matches!(&parent, Some(parent) if parent.to_cstr16() == want.as_cstr16()));
+        assert!(rt; parent.to_cstr16() == want.as_cstr16());
     }
     Ok(())
 }
 
 #[test]
-fn joined_and_pushed_paths(rt: HostRuntime) -> Result<(), Fail> {
+fn joined_paths(rt: HostRuntime) -> Result<(), Fail> {
     let left = string(&rt, "a\\b")?;
     let right = string(&rt, "c\\d")?;
     let want = string(&rt, "a\\b\\c\\d")?;
@@ -108,6 +126,11 @@ fn joined_and_pushed_paths(rt: HostRuntime) -> Result<(), Fail> {
     assert!(rt; joined.to_cstr16() == want.as_cstr16());
     let joined = buffer(&rt, "a\\b")?.join(Path::new(right.as_cstr16()))?;
     assert!(rt; joined.to_cstr16() == want.as_cstr16());
+    Ok(())
+}
+
+#[test]
+fn pushed_paths(rt: HostRuntime) -> Result<(), Fail> {
     for (first, middle, last, want) in [
         ("first", "second", "third", "first\\second\\third"),
         ("\\first", "", "second", "\\first\\second"),
@@ -122,6 +145,11 @@ fn joined_and_pushed_paths(rt: HostRuntime) -> Result<(), Fail> {
             "{want}"
         );
     }
+    Ok(())
+}
+
+#[test]
+fn cleared_and_unequal_paths(rt: HostRuntime) -> Result<(), Fail> {
     let mut path = buffer(&rt, "first")?;
     for _ in 0..2 {
         path.clear();
