@@ -1,11 +1,2 @@
-pub mod Scanning
-pub mod Utf8Bytes
-pub mod Deciding
-pub mod Texts
-pub mod Utf16
-pub mod Printed
 pub mod Values
-pub mod Packing
-pub mod UnitBytes
 pub mod Runs
-pub mod Beginnings

@@ -2,7 +2,7 @@
 use Rattle.std.proofs.Common.{◌≢◌, All, arith}
 use Rattle.std.proofs.lemmas.Grind.{common_steps}
 use Rattle.std.proofs.lemmas.List.Elements.{All-weaker}
-use Rattle.uefi_text.specs.Units.{IsText, IsTextUnit}
+use Rattle.uefi_text_chars.specs.Units.{IsText, IsTextUnit}
 use Rattle.uefi_text.specs.Views.{text_of, units_of}
 use Rattle.uefi_text.specs.declared.strs.CStr16.{CStr16}
 use Rattle.uefi_text.specs.declared.strs.Char16Slice.{Char16Slice}

@@ -1,18 +1,14 @@
 -- What a lent value shows. Other crates see these words alone, and no field.
 use Rattle.std.specs.Prelude.{ℕ, List}
-use Rattle.uefi_text.specs.Packed.{packed_items}
-use Rattle.uefi_text.specs.Units.{without_nul}
-use Rattle.uefi_text.specs.declared.strs.CStr8.{CStr8}
+use Rattle.uefi_text_encodings.specs.Packed.{packed_items}
+unfoldable pub use Rattle.uefi_text_encodings.specs.Views.{bytes_of}
+use Rattle.uefi_text_chars.specs.Units.{without_nul}
 use Rattle.uefi_text.specs.declared.strs.CStr16.{CStr16}
 use Rattle.uefi_text.specs.declared.strs.Char16Slice.{Char16Slice}
 use Rattle.uefi_text.specs.declared.strs.CStr16Iter.{CStr16Iter}
 use Rattle.uefi_text.specs.declared.unaligned_slice.UnalignedSlice.{UnalignedSlice}
 use Rattle.uefi_text.specs.declared.unaligned_slice.UnalignedSliceIter.{UnalignedSliceIter}
 use Rattle.uefi_text.specs.declared.unaligned_slice.UnalignedSliceIntoIter.{UnalignedSliceIntoIter}
-
--- the bytes of a lent Latin-1 string, its NUL included
-unfoldable pub bytes_of : CStr8 → List ℕ
-bytes_of string = string.bytes.now
 
 -- the text of a lent string, without its NUL
 unfoldable pub text_of : CStr16 → List ℕ
@@ -37,4 +33,4 @@ module _ {T : Type 0} {P : _} where
 
   -- the same, of the iterator that a slice is turned into
   unfoldable pub into_iter_items_left : UnalignedSliceIntoIter T P → List ℕ
-  into_iter_items_left iter = items_of iter.slice
+  into_iter_items_left iter = items_left iter.items

@@ -28,22 +28,19 @@
 //! of a NUL's place, of a buffer or of a capacity.
 #![tactic(auto)]
 
-pub mod char_sink;
-pub mod chars;
 pub mod eq_str_until_nul;
-mod errors;
 pub mod owned_strs;
-mod scans;
 pub mod strs;
 pub mod unaligned_slice;
-mod utf8;
 
-pub use char_sink::CharSink;
-pub use chars::{Char8, Char16, CharConversionError, NUL_8, NUL_16};
 pub use eq_str_until_nul::{EqStrUntilNul, str_eq_until_nul};
 pub use owned_strs::{CString16, FromStrError};
 pub use strs::{
     CStr8, CStr16, CStr16Iter, Char16Slice, FromSliceUntilNulError, FromSliceWithNulError,
     FromStrWithBufError, UnalignedCStr16Error, is_latin1, str_num_latin1_chars, str_to_latin1,
 };
+pub use uefi_text_chars as chars;
+pub use uefi_text_chars::{Char8, Char16, CharConversionError, NUL_8, NUL_16};
+pub use uefi_text_encodings::char_sink;
+pub use uefi_text_encodings::char_sink::CharSink;
 pub use unaligned_slice::{Packed, UnalignedSlice, UnalignedSliceIntoIter, UnalignedSliceIter};

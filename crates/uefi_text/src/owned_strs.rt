@@ -2,49 +2,20 @@
 //! keeps its NUL in the vector, which nothing outside this module sees.
 ghost use Rattle.std.specs.Prelude.{◌≡◌, ◌≢◌, ℕ, ◌+◌, ◌<◌, ◌↔◌, ◌++◌, [], All, List, None, length, map, find, position, unwrap_or, IsTrue, IfOk, IfErr, ◌∷◌, take, IsOk, OnOk, OnErr, drop};
 ghost use Rattle.std.specs.Str.{chars};
-ghost use Rattle.uefi_text.specs.Units.{IsChar16, is_nul, nul_terminated, replaced, IsString};
+ghost use Rattle.uefi_text_chars.specs.Units.{IsChar16, is_nul, nul_terminated, replaced, IsString};
 ghost use Rattle.std.specs.Result.{result_err};
-ghost use Rattle.uefi_text.specs.FromStr.{is_deciding_char, from_str_refusal};
+ghost use Rattle.uefi_text_encodings.specs.FromStr.{is_deciding_char, from_str_refusal};
 
-use crate::chars::{Char16, NUL_16};
-use crate::scans::{has_deciding_byte, is_ascii_text, replace_units_from, widen};
 use crate::strs::{CStr16, Char16Slice, FromSliceUntilNulError, FromSliceWithNulError};
 use std::alloc::{AllocError, Allocator, Global};
 use std::cmp::Ordering;
-use std::error::Error;
 use std::fmt;
 use std::hash::{Hash, Hasher};
 use std::marker::Model;
-
-/// Why a Rust text is no UCS-2 string.
-#[derive(Clone, Copy, Debug, PartialEq, Eq)]
-pub enum FromStrError {
-    /// The first character that no UCS-2 text holds is above U+FFFF.
-    InvalidChar,
-
-    /// The first character that no UCS-2 text holds is a NUL.
-    InteriorNul,
-
-    /// The text is one of UCS-2, and a request for memory was refused.
-    OutOfMemory,
-}
-
-impl fmt::Display for FromStrError {
-    ghost use Rattle.std.specs.Prelude.{Some};
-    ghost use Rattle.uefi_text.specs.ErrorTexts.{from_str_error_text};
-
-    ghost output = { λ error. Some (from_str_error_text error) };
-
-    fn fmt<W: fmt::Write>(&self, f: &mut fmt::Formatter<W>) -> fmt::Result {
-        f.write_str(match *self {
-            FromStrError::InvalidChar => "UCS-2 Conversion Error: Invalid character",
-            FromStrError::InteriorNul => "UCS-2 Conversion Error: Interior null terminator",
-            FromStrError::OutOfMemory => "UCS-2 Conversion Error: Out of memory",
-        })
-    }
-}
-
-impl Error for FromStrError {}
+use uefi_text_chars::{Char16, NUL_16};
+use uefi_text_encodings::code_units::units_of_text;
+pub use uefi_text_encodings::errors::FromStrError;
+use uefi_text_encodings::scans::replace_units_from;
 
 /// A string that is owned, over the memory of its allocator, which it keeps. In contracts it is its
 /// text, without the NUL.
@@ -55,72 +26,13 @@ pub struct CString16<A: Allocator = Global> {
 
 impl<A: Allocator> Model for CString16<A> {
     ghost use Rattle.std.specs.Prelude.{ℕ, List};
-    ghost use Rattle.uefi_text.specs.Units.{IsString, without_nul};
+    ghost use Rattle.uefi_text_chars.specs.Units.{IsString, without_nul};
 
     ghost Value = { List ℕ };
 
     ghost view = { λ string. without_nul string.units.items };
 
     ghost invariant = { λ string. IsString string.units.items };
-}
-
-/// The first character that no UCS-2 text holds. Characters are decoded only where a byte gives
-/// cause to.
-fn find_deciding_char(text: &str) -> Option<char>
-    ensures { result ≡ find is_deciding_char (chars text.now) }
-{
-    if !has_deciding_byte(text.as_bytes()) {
-        return None;
-    }
-    find_deciding_char_by_char(text)
-}
-
-/// The same, character by character.
-fn find_deciding_char_by_char(text: &str) -> Option<char>
-    ensures { result ≡ find is_deciding_char (chars text.now) }
-{
-    text.chars().find(|c| *c == '\0' || *c > '\u{ffff}')
-}
-
-/// The units of ASCII bytes without NUL, and a NUL.
-fn units_of_ascii<A: Allocator>(alloc: A, bytes: &[u8]) -> Result<Vec<u16, A>, AllocError>
-    ensures { IfOk result (λ units. units.items ≡ nul_terminated bytes.now) }
-{
-    let mut units = Vec::new(alloc);
-    units.resize(bytes.len() + 1, 0)?;
-    widen(&mut units, bytes);
-    Ok(units)
-}
-
-/// The units of a text of UCS-2, and a NUL.
-fn units_of_chars<A: Allocator>(alloc: A, text: &str) -> Result<Vec<u16, A>, AllocError>
-    requires { find is_deciding_char (chars text.now) ≡ None }
-    ensures { IfOk result (λ units. units.items ≡ nul_terminated (chars text.now)) }
-{
-    // No text has more characters than bytes.
-    let mut units = Vec::with_capacity(alloc, text.len() + 1)?;
-    for character in text.chars() {
-        units.push(character as u16)?;
-    }
-    units.push(0)?;
-    Ok(units)
-}
-
-/// The units of a text of UCS-2 and a NUL, in one allocation.
-fn units_of_text<A: Allocator>(alloc: A, text: &str) -> Result<Vec<u16, A>, FromStrError>
-    ensures ok { IfOk result (λ units. units.items ≡ nul_terminated (chars text.now)) }
-    ensures accepted { IfOk result (λ _. find is_deciding_char (chars text.now) ≡ None) }
-    ensures refusal { IfErr result (λ error.
-        error ≡ unwrap_or (from_str_refusal (chars text.now)) FromStrError.OutOfMemory) }
-{
-    if is_ascii_text(text.as_bytes()) {
-        return units_of_ascii(alloc, text.as_bytes()).map_err(|_| FromStrError::OutOfMemory);
-    }
-    match find_deciding_char(text) {
-        Some('\0') => Err(FromStrError::InteriorNul),
-        Some(_) => Err(FromStrError::InvalidChar),
-        None => units_of_chars(alloc, text).map_err(|_| FromStrError::OutOfMemory),
-    }
 }
 
 /// The place of the first NUL.
@@ -148,8 +60,8 @@ fn units_of_characters<A: Allocator>(
 /// The ways from characters, and from a lent string, into a string that is owned.
 impl<'a> CStr16<'a> {
     ghost use Rattle.std.specs.List.{before_first};
-    ghost use Rattle.uefi_text.specs.FromSliceUntilNul.{missing_nul_refusal};
-    ghost use Rattle.uefi_text.specs.FromSliceWithNul.{first_nul_refusal};
+    ghost use Rattle.uefi_text_encodings.specs.FromSliceUntilNul.{missing_nul_refusal};
+    ghost use Rattle.uefi_text_encodings.specs.FromSliceWithNul.{first_nul_refusal};
     ghost use Rattle.uefi_text.specs.Views.{text_of};
 
     /// The string of the characters up to the first NUL, in memory of its own.
@@ -216,13 +128,13 @@ impl<'a> CStr16<'a> {
 impl<A: Allocator> CString16<A> {
     ghost use Rattle.std.specs.Iterator.{IsFinite};
     ghost use Rattle.std.specs.Iterator.Runs.{SomeRun, WholeRun};
-    ghost use Rattle.uefi_text.specs.FromSliceWithNul.{with_nul_refusal};
+    ghost use Rattle.uefi_text_encodings.specs.FromSliceWithNul.{with_nul_refusal};
     ghost use Rattle.uefi_text.specs.Runs.{GivesNoNul};
     ghost use Rattle.uefi_text.specs.Views.{text_of, units_of};
 
-    /// The string that units spell which were not refused.
-    pub(crate) fn from_accepted(units: Vec<u16, A>) -> Self
-        requires { with_nul_refusal units.items ≡ None }
+    /// The string of units that are known to be one.
+    pub(crate) fn from_string(units: Vec<u16, A>) -> Self
+        requires { IsString units.items }
         ensures { nul_terminated result ≡ units.items }
     {
         CString16 { units }

@@ -1,220 +1,31 @@
 //! NUL-terminated strings that are lent: of Latin-1, and of UCS-2. The fields of the views are
 //! private to this module, and `specs/Views.antt` says what each view shows.
-#![tactic(auto, unfolding(crate::specs::Views::bytes_of, crate::specs::Views::text_of, crate::specs::Views::units_of, crate::specs::Views::units_left))]
+#![tactic(auto, unfolding(crate::specs::Views::text_of, crate::specs::Views::units_of, crate::specs::Views::units_left))]
 
 ghost use Rattle.std.specs.Prelude.{◌≡◌, ◌<◌, ◌≤◌, ◌+◌, ◌*◌, ◌^◌, ◌↔◌, ◌==◌, ◌≢◌, ◌++◌, if◌then◌else◌, [], ℕ, List, Option, All, length, position, slice_get, slice_index, slice_range, take, IsTrue, IsOk, IfOk, OnErr, OnOk};
 ghost use Rattle.std.specs.Char.Escape.{encode_utf16};
 ghost use Rattle.std.specs.Result.{result_err};
 ghost use Rattle.std.specs.Str.{chars};
-ghost use Rattle.uefi_text.specs.FromStr.{is_deciding_char};
-ghost use Rattle.uefi_text.specs.FromStrWithBuf.{refusal_of_char_at, with_units};
-ghost use Rattle.uefi_text.specs.Latin1.{IsLatin1, IsLatin1String};
+ghost use Rattle.uefi_text_encodings.specs.FromStr.{is_deciding_char};
+ghost use Rattle.uefi_text_encodings.specs.FromStrWithBuf.{refusal_of_char_at, with_units};
+ghost use Rattle.uefi_text_encodings.specs.FromSliceWithNul.{deciding_refusal};
 ghost use Rattle.uefi_text.specs.Runs.{GivesEach, GivesNoNul};
-ghost use Rattle.uefi_text.specs.Units.{IsString, IsText, IsChar16, is_nul, nul_terminated, without_nul};
+ghost use Rattle.uefi_text_chars.specs.Units.{IsString, IsText, IsChar16, is_nul, nul_terminated, without_nul};
 
-use crate::char_sink::CharSink;
-use crate::chars::Char16;
-pub use crate::errors::{
-    FromSliceUntilNulError, FromSliceWithNulError, FromStrWithBufError, UnalignedCStr16Error,
-};
-use crate::scans::{find_deciding_place, has_byte_beyond_latin1, has_unit_beyond_ascii, split};
-use crate::utf8::add_utf8;
 use std::alloc::{AllocError, Allocator};
 use std::cmp::Ordering;
 use std::fmt;
 use std::hash::{Hash, Hasher};
-
-/// A Latin-1 string that is lent: a view of bytes of which exactly the last is zero. In contracts it is
-/// `bytes_of` it, all its bytes.
-#[derive(Clone, Copy)]
-pub struct CStr8<'a> {
-    bytes: &'a [u8],
-    pub ghost is_string: { IsLatin1String bytes.now },
-}
-
-impl<'a> CStr8<'a> {
-    ghost use Rattle.uefi_text.specs.FromSliceWithNul.{first_nul_refusal};
-    ghost use Rattle.uefi_text.specs.Views.{bytes_of};
-
-    /// The string that all of the bytes spell, as a view of them.
-    ///
-    /// The first zero decides: before the last place it is refused as `InteriorNul` with its place, even
-    /// where the bytes don't end in zero. Where there is none the answer is `NotNulTerminated`. One pass,
-    /// which ends at the first zero; takes no memory.
-    pub fn from_bytes_with_nul(chars: &'a [u8]) -> Result<CStr8<'a>, FromSliceWithNulError>
-        ensures ok { IfOk result (λ string. bytes_of string ≡ chars.now) }
-        ensures accepts { IsOk result ↔ IsLatin1String chars.now }
-        ensures refusal { result_err result ≡ first_nul_refusal chars.now }
-    {
-        let Some(place) = find_nul(chars) else {
-            return Err(FromSliceWithNulError::NotNulTerminated);
-        };
-        if place + 1 != chars.len() {
-            return Err(FromSliceWithNulError::InteriorNul(place));
-        }
-        Ok(CStr8 { bytes: chars })
-    }
-
-    /// The bytes of the string, the zero included.
-    pub fn as_bytes(&self) -> &'a [u8]
-        ensures { result.now ≡ bytes_of self.now }
-    {
-        self.bytes
-    }
-
-    /// The bytes before the zero.
-    pub(crate) fn text(&self) -> &'a [u8]
-        ensures { result.now ≡ without_nul (bytes_of self.now) }
-    {
-        &self.bytes[..self.bytes.len() - 1]
-    }
-}
-
-/// The place of the first zero.
-fn find_nul(bytes: &[u8]) -> Option<usize>
-    ensures { result ≡ position is_nul bytes.now }
-{
-    bytes.iter().position(|byte| *byte == 0)
-}
-
-/// Two strings are equal exactly when their bytes are.
-impl<'a> PartialEq for CStr8<'a> {
-    ghost use Rattle.std.proofs.Common.{rules};
-    ghost use Rattle.std.specs.Prelude.{nat_eq};
-    ghost use Rattle.std.specs.Cmp.Lexicographic.{pointwise};
-    ghost use Rattle.std.specs.Cmp.Rules.{comparing};
-    ghost use Rattle.uefi_text.specs.Views.{bytes_of};
-
-    ghost eq = { λ a b. pointwise nat_eq (bytes_of a) (bytes_of b) };
-
-    ghost laws = { Prim.search (comparing, rules) };
-
-    fn eq(&self, other: &Self) -> bool {
-        self.bytes == other.bytes
-    }
-}
-
-impl<'a> Eq for CStr8<'a> {
-    ghost use Rattle.std.proofs.Common.{rules};
-    ghost use Rattle.std.specs.Cmp.Rules.{comparing};
-
-    ghost laws = { Prim.search (comparing, rules) };
-}
-
-/// The list order of the bytes.
-impl<'a> PartialOrd for CStr8<'a> {
-    ghost use Rattle.std.proofs.Common.{rules};
-    ghost use Rattle.std.specs.Ordering.{nat_cmp, as_partial_cmp, on};
-    ghost use Rattle.std.specs.Cmp.Lexicographic.{slice_cmp};
-    ghost use Rattle.std.specs.Cmp.Rules.{comparing};
-    ghost use Rattle.uefi_text.specs.Views.{bytes_of};
-
-    ghost partial_cmp = { as_partial_cmp (on bytes_of (slice_cmp nat_cmp)) };
-
-    ghost laws = { Prim.search (comparing, rules) };
-
-    fn partial_cmp(&self, other: &Self) -> Option<Ordering> {
-        Some(self.cmp(other))
-    }
-}
-
-impl<'a> Ord for CStr8<'a> {
-    ghost use Rattle.std.proofs.Common.{rules};
-    ghost use Rattle.std.specs.Ordering.{nat_cmp, on};
-    ghost use Rattle.std.specs.Cmp.Lexicographic.{slice_cmp};
-    ghost use Rattle.std.specs.Cmp.Rules.{comparing};
-    ghost use Rattle.uefi_text.specs.Views.{bytes_of};
-
-    ghost cmp = { on bytes_of (slice_cmp nat_cmp) };
-
-    ghost total = { Prim.search (comparing, rules) };
-
-    ghost matches_partial_cmp = { Prim.search (comparing, rules) };
-
-    ghost matches_eq = { Prim.search (comparing, rules) };
-
-    fn cmp(&self, other: &Self) -> Ordering {
-        self.bytes.cmp(&other.bytes)
-    }
-}
-
-/// Hashes the bytes, so that equal strings hash alike.
-impl<'a> Hash for CStr8<'a> {
-    ghost use Rattle.std.proofs.Common.{rules};
-    ghost use Rattle.std.specs.Hash as fed;
-    ghost use Rattle.std.specs.Cmp.Rules.{comparing, hashing};
-    ghost use Rattle.uefi_text.specs.Views.{bytes_of};
-
-    ghost hash_input = { λ a. fed.slice fed.u8 (bytes_of a) };
-
-    ghost respects_eq = { Prim.search (hashing, comparing, rules) };
-
-    fn hash<H: Hasher>(&self, state: &mut H) {
-        self.bytes.hash(state);
-    }
-}
-
-/// Writes the character of each byte but the last.
-impl<'a> fmt::Display for CStr8<'a> {
-    ghost use Rattle.std.specs.Prelude.{Some};
-    ghost use Rattle.std.specs.Str.{encode_utf8_all};
-    ghost use Rattle.uefi_text.specs.Units.{without_nul};
-    ghost use Rattle.uefi_text.specs.Views.{bytes_of};
-
-    ghost output = { λ string. Some (encode_utf8_all (without_nul (bytes_of string))) };
-
-    fn fmt<W: fmt::Write>(&self, f: &mut fmt::Formatter<W>) -> fmt::Result {
-        let text = self.text();
-        for byte in text {
-            f.write_char(char::from(*byte))?;
-        }
-        Ok(())
-    }
-}
-
-/// Prints the characters, each as a Rust character.
-impl<'a> fmt::Debug for CStr8<'a> {
-    fn fmt<W: fmt::Write>(&self, f: &mut fmt::Formatter<W>) -> fmt::Result {
-        let characters = self.text().iter().map(|byte| char::from(*byte));
-        f.write_str("CStr8(")?;
-        f.debug_list().entries(characters).finish()?;
-        f.write_str(")")
-    }
-}
-
-/// Whether each character of a Rust text is one of Latin-1, which has those up to U+00FF. One pass
-/// over the bytes; takes no memory.
-#[tactic(auto, using(crate::proofs::Utf8Bytes::latin1_bytes))]
-pub fn is_latin1(s: &str) -> bool
-    ensures { IsTrue result ↔ IsLatin1 (chars s.now) }
-{
-    !has_byte_beyond_latin1(s.as_bytes())
-}
-
-/// How many characters a Rust text of Latin-1 has, a NUL among them counted, which is how many bytes
-/// it takes in Latin-1. One pass; takes no memory.
-#[tactic(auto, using(std::proofs::lemmas::Str::chars_from_encodes))]
-pub fn str_num_latin1_chars(s: &str) -> usize
-    requires { IsLatin1 (chars s.now) }
-    ensures { result ≡ length (chars s.now) }
-{
-    s.chars().count()
-}
-
-/// The characters of a Rust text of Latin-1 that holds no NUL, each as one byte, and a NUL behind
-/// them. `N` is one more than their number. One pass; takes no memory.
-pub fn str_to_latin1<const N: usize>(s: &str) -> [u8; N]
-    requires latin1 { IsLatin1 (chars s.now) }
-    requires no_nul { All (λ c. c ≢ 0) (chars s.now) }
-    requires fits { length (chars s.now) + 1 ≡ N }
-    ensures { result ≡ nul_terminated (chars s.now) }
-{
-    let mut bytes = [0; N];
-    for (place, character) in s.chars().enumerate() {
-        bytes[place] = character as u8;
-    }
-    bytes
-}
+use uefi_text_chars::Char16;
+pub use uefi_text_encodings::char_sink::CharSink;
+use uefi_text_encodings::code_units::write_text;
+pub use uefi_text_encodings::eq_str_until_nul::{EqStrUntilNul, str_eq_until_nul};
+pub use uefi_text_encodings::errors::{
+    FromSliceUntilNulError, FromSliceWithNulError, FromStrWithBufError, UnalignedCStr16Error,
+};
+pub use uefi_text_encodings::latin1::{CStr8, is_latin1, str_num_latin1_chars, str_to_latin1};
+use uefi_text_encodings::scans::{find_deciding_place, has_unit_beyond_ascii, split};
+use uefi_text_encodings::utf8::add_utf8;
 
 /// A string that is lent: a view of code units that are a text and its NUL. In contracts it is
 /// `text_of` it, the text without the NUL.
@@ -222,6 +33,25 @@ pub fn str_to_latin1<const N: usize>(s: &str) -> [u8; N]
 pub struct CStr16<'a> {
     units: &'a [u16],
     pub ghost is_string: { IsString units.now },
+}
+
+/// Whether units of which this is the first that no text holds, at this place among `len`, are a string;
+/// or why they are none.
+pub(crate) fn check_deciding_unit(
+    unit: u16,
+    place: usize,
+    len: usize,
+) -> Result<(), FromSliceWithNulError>
+    requires { place < len }
+    ensures { result_err result ≡ deciding_refusal unit place len }
+{
+    if unit != 0 {
+        return Err(FromSliceWithNulError::InvalidChar(place));
+    }
+    if place + 1 != len {
+        return Err(FromSliceWithNulError::InteriorNul(place));
+    }
+    Ok(())
 }
 
 /// The characters of a string that are still to come. In contracts it is `units_left` of it.
@@ -243,11 +73,11 @@ impl<'a> CStr16<'a> {
     ghost use Rattle.std.specs.List.{before_first};
     ghost use Rattle.std.specs.Str.{IsAscii, encode_utf8_all};
     ghost use Rattle.std.specs.String.{string_bytes};
-    ghost use Rattle.uefi_text.specs.UnitBytes.{unit_bytes};
+    ghost use Rattle.uefi_text_encodings.specs.UnitBytes.{unit_bytes};
     ghost use Rattle.std.specs.Iterator.{YieldsFirst};
-    ghost use Rattle.uefi_text.specs.FromSliceUntilNul.{until_nul_refusal};
-    ghost use Rattle.uefi_text.specs.FromSliceWithNul.{with_nul_refusal};
-    ghost use Rattle.uefi_text.specs.FromStrWithBuf.{from_str_with_buf_refusal, with_text};
+    ghost use Rattle.uefi_text_encodings.specs.FromSliceUntilNul.{until_nul_refusal};
+    ghost use Rattle.uefi_text_encodings.specs.FromSliceWithNul.{with_nul_refusal};
+    ghost use Rattle.uefi_text_encodings.specs.FromStrWithBuf.{from_str_with_buf_refusal, with_text};
     ghost use Rattle.uefi_text.specs.Views.{text_of, units_of, units_left};
 
     /// The string up to the first NUL, as a view of the units up to and with it.
@@ -284,24 +114,11 @@ impl<'a> CStr16<'a> {
         let Some(place) = find_deciding_place(units) else {
             return Err(FromSliceWithNulError::NotNulTerminated);
         };
-        if units[place] != 0 {
-            return Err(FromSliceWithNulError::InvalidChar(place));
-        }
-        if place + 1 != units.len() {
-            return Err(FromSliceWithNulError::InteriorNul(place));
-        }
+        check_deciding_unit(units[place], place, units.len())?;
         Ok(CStr16 { units })
     }
 
-    /// The string that units spell which were not refused.
-    pub(crate) fn from_accepted(units: &'a [u16]) -> CStr16<'a>
-        requires { with_nul_refusal units.now ≡ None }
-        ensures { nul_terminated (text_of result) ≡ units.now }
-    {
-        CStr16 { units }
-    }
-
-    /// The string that units spell which are known to be one.
+    /// The string of units that are known to be one.
     pub(crate) fn from_string(units: &'a [u16]) -> CStr16<'a>
         requires { IsString units.now }
         ensures { text_of result ≡ without_nul units.now }
@@ -324,24 +141,7 @@ impl<'a> CStr16<'a> {
             ≡ from_str_with_buf_refusal (chars input.now) (length buffer.old) }
         ensures buffer { buffer.new ≡ with_text (chars input.now) buffer.old }
     {
-        if buffer.is_empty() {
-            return Err(FromStrWithBufError::BufferTooSmall);
-        }
-        let mut len = 0;
-        let mut refusal = None;
-        for character in input.chars() {
-            // Every character before the first that is refused is one unit.
-            refusal = refusal.or(refusal_of_char(character, len));
-            len += write_char(character, &mut buffer[len..]);
-            if buffer.len() <= len {
-                return Err(FromStrWithBufError::BufferTooSmall);
-            }
-        }
-        buffer[len] = 0;
-        match refusal {
-            Some(error) => Err(error),
-            None => Ok(len + 1),
-        }
+        write_text(input, buffer)
     }
 
     /// The string of a Rust text, as a view of the buffer's front, which it is written to. Refused
@@ -356,7 +156,7 @@ impl<'a> CStr16<'a> {
             ≡ from_str_with_buf_refusal (chars input.now) (length buf.old) }
     {
         let len = CStr16::write_str(input, buf)?;
-        Ok(CStr16::from_accepted(&buf[..len]))
+        Ok(CStr16::from_string(&buf[..len]))
     }
 
     /// The characters of the text, without the NUL.
@@ -424,7 +224,7 @@ impl<'a> CStr16<'a> {
     }
 
     /// Whether each character is one of ASCII. One pass.
-    #[tactic(auto, using(crate::proofs::Scanning::ascii_units), unfolding(crate::specs::Views::text_of))]
+    #[tactic(auto, using(uefi_text_encodings::proofs::Scanning::ascii_units), unfolding(crate::specs::Views::text_of))]
     pub fn is_ascii(&self) -> bool
         ensures { IsTrue result ↔ IsAscii (text_of self.now) }
     {
@@ -477,35 +277,6 @@ impl<'a> CStr16<'a> {
     {
         *self == other
     }
-}
-
-/// Why a character behind so many others is refused, if it is.
-fn refusal_of_char(character: char, place: usize) -> Option<FromStrWithBufError>
-    ensures { result ≡ (if is_deciding_char character
-        then Some (refusal_of_char_at character place)
-        else None) }
-{
-    match character {
-        '\0' => Some(FromStrWithBufError::InteriorNul(place)),
-        '\u{1_0000}'.. => Some(FromStrWithBufError::InvalidChar(place)),
-        _ => None,
-    }
-}
-
-/// Writes the one or two units of a character into the front of a buffer, and answers how many
-/// they are. Where there is one place, the first alone is written.
-fn write_char(character: char, buffer: &mut [u16]) -> usize
-    requires { 0 < length buffer.old }
-    ensures len { result ≡ length (encode_utf16 character) }
-    ensures buffer { buffer.new ≡ with_units (encode_utf16 character) buffer.old }
-{
-    let mut pair = [0; 2];
-    let units = character.encode_utf16(&mut pair);
-    buffer[0] = units[0];
-    if 1 < units.len() && 1 < buffer.len() {
-        buffer[1] = units[1];
-    }
-    units.len()
 }
 
 /// Writes the characters of the text.

@@ -21,119 +21,24 @@
 //! In contracts a slice is `items_of` it, the list of its items' numbers. The trait [`Packed`] says
 //! what can be an item: how many bytes it takes, and which number they spell. A further kind of
 //! item is one more `impl`, and every call here holds of it as it stands.
-#![tactic(auto, using(crate::proofs::Packing::packing), unfolding(crate::specs::Views::items_of, crate::specs::Views::items_left, crate::specs::Views::into_iter_items_left))]
+#![tactic(auto, using(uefi_text_encodings::proofs::Packing::packing), unfolding(crate::specs::Views::items_of, crate::specs::Views::items_left, crate::specs::Views::into_iter_items_left))]
 
 ghost use Rattle.std.specs.Prelude.{◌≡◌, ℕ, ◌+◌, ◌*◌, ◌^◌, ◌<◌, ◌≤◌, ◌↔◌, [], length, map, slice_index, slice_get, slice_range, IfOk, IfErr, IfSome, IsTrue};
 ghost use Rattle.std.specs.Iterator.{UpTo, YieldsFirstBy, item_count};
 ghost use Rattle.std.specs.Iterator.SizeHint.{IsWithinCount};
 ghost use Rattle.std.specs.Option.{option_map};
-ghost use Rattle.std.proofs.Common.{arith};
-ghost use Rattle.uefi_text.specs.Packed.{SpellsOnce, le, packed_items};
-ghost use Rattle.uefi_text.specs.PackedLaws.{spells_once};
+ghost use Rattle.uefi_text_encodings.specs.Packed.{le, packed_items};
 ghost use Rattle.uefi_text.specs.Runs.{GivesEach};
-ghost use Rattle.uefi_text.specs.UnitBytes.{ends_in_nul};
+ghost use Rattle.uefi_text_encodings.specs.UnalignedCStr16.{refusal_in_buffer};
+ghost use Rattle.uefi_text_encodings.specs.UnitBytes.{ends_in_nul};
 
 use crate::owned_strs::CString16;
-use crate::scans::{find_deciding_place, is_deciding};
-use crate::strs::{CStr16, FromSliceWithNulError, UnalignedCStr16Error};
+use crate::strs::{CStr16, FromSliceWithNulError, UnalignedCStr16Error, check_deciding_unit};
 use std::alloc::{AllocError, Allocator};
 use std::fmt;
 use std::marker::PhantomData;
-
-/// A number that lies in a fixed count of bytes, the low byte first: `u8`, `u16`, `u32` and `u64`.
-/// In contracts a value is `number` of it.
-pub trait Packed: Copy {
-    /// How many bytes a value takes.
-    const SIZE: usize;
-
-    /// How many bytes a value takes, as contracts see it.
-    ghost SIZE: { ℕ };
-
-    /// The number of a value.
-    ghost number: { Self → ℕ };
-
-    /// The value that exactly `SIZE` bytes spell, the low byte first on every machine: the sum of
-    /// each byte times 256 to the power of its place. Takes no memory.
-    fn read_le(bytes: &[u8]) -> Self
-        requires { length bytes.now ≡ SIZE }
-        ensures { number result ≡ le bytes.now };
-
-    /// A value takes one byte or more.
-    ghost size_above_zero: { 0 < SIZE };
-
-    /// Equal numbers come from equal bytes.
-    ghost spelled_once: { SpellsOnce SIZE };
-}
-
-/// One byte, whose number is the value itself.
-impl Packed for u8 {
-    const SIZE: usize = 1;
-
-    ghost SIZE = { 1 };
-
-    ghost number = { λ value. value };
-
-    fn read_le(bytes: &[u8]) -> u8 {
-        bytes[0]
-    }
-
-    ghost size_above_zero = { Prim.omega arith };
-
-    ghost spelled_once = { spells_once 1 };
-}
-
-/// Two bytes, whose number is the value itself.
-impl Packed for u16 {
-    const SIZE: usize = 2;
-
-    ghost SIZE = { 2 };
-
-    ghost number = { λ value. value };
-
-    fn read_le(bytes: &[u8]) -> u16 {
-        u16::from_le_bytes([bytes[0], bytes[1]])
-    }
-
-    ghost size_above_zero = { Prim.omega arith };
-
-    ghost spelled_once = { spells_once 2 };
-}
-
-/// Four bytes, whose number is the value itself.
-impl Packed for u32 {
-    const SIZE: usize = 4;
-
-    ghost SIZE = { 4 };
-
-    ghost number = { λ value. value };
-
-    fn read_le(bytes: &[u8]) -> u32 {
-        u32::from_le_bytes([bytes[0], bytes[1], bytes[2], bytes[3]])
-    }
-
-    ghost size_above_zero = { Prim.omega arith };
-
-    ghost spelled_once = { spells_once 4 };
-}
-
-/// Eight bytes, whose number is the value itself.
-impl Packed for u64 {
-    const SIZE: usize = 8;
-
-    ghost SIZE = { 8 };
-
-    ghost number = { λ value. value };
-
-    fn read_le(bytes: &[u8]) -> u64 {
-        u64::from_le_bytes([
-            bytes[0], bytes[1], bytes[2], bytes[3], bytes[4], bytes[5], bytes[6], bytes[7],
-        ])
-    }
-
-    ghost size_above_zero = { Prim.omega arith };
-
-    ghost spelled_once = { spells_once 8 };
-}
+pub use uefi_text_encodings::packed::Packed;
+use uefi_text_encodings::scans::is_deciding;
 
 /// A view of items that lie packed in lent bytes, which may begin at any place of memory. In
 /// contracts it is `items_of` it, the list of the items' numbers.
@@ -155,7 +60,7 @@ pub struct UnalignedSliceIter<'a, T: Packed> {
 /// it.
 #[derive(Drop)]
 pub struct UnalignedSliceIntoIter<'a, T: Packed> {
-    slice: UnalignedSlice<'a, T>,
+    items: UnalignedSliceIter<'a, T>,
 }
 
 impl<'a, T: Packed> UnalignedSlice<'a, T> {
@@ -252,7 +157,7 @@ impl<'a, T: Packed> UnalignedSlice<'a, T> {
         ensures bound { length (into_iter_items_left result) < 2 ^ 64 }
         ensures runs { GivesEach T.number into_iter_items_left result }
     {
-        UnalignedSliceIntoIter { slice: self }
+        UnalignedSliceIntoIter { items: self.iter() }
     }
 
     /// Writes the items into `dest`, which has to have as many places as there are items. One pass;
@@ -341,7 +246,7 @@ impl<'a, T: Packed> Iterator for UnalignedSliceIntoIter<'a, T> {
     ghost remaining = { item_count into_iter_items_left };
 
     fn next(&mut self) -> Option<T> {
-        self.slice.take_first()
+        self.items.next()
     }
 
     /// Exactly as many as are left.
@@ -351,15 +256,30 @@ impl<'a, T: Packed> Iterator for UnalignedSliceIntoIter<'a, T> {
         ensures exact { let count = length (into_iter_items_left self.now) in
             result ≡ (count, Some count) }
     {
-        (self.slice.len(), Some(self.slice.len()))
+        self.items.size_hint()
     }
 }
 
 impl<'a, T: Packed + fmt::Debug> fmt::Debug for UnalignedSliceIntoIter<'a, T> {
     fn fmt<W: fmt::Write>(&self, f: &mut fmt::Formatter<W>) -> fmt::Result {
         f.debug_tuple("UnalignedSliceIntoIter")
-            .field(&self.slice)
+            .field(&self.items.rest)
             .finish()
+    }
+}
+
+/// Why units do not become a string in a buffer that has room for them, by why they are none.
+fn refusal_in_buffer(error: FromSliceWithNulError) -> UnalignedCStr16Error
+    ensures { result ≡ refusal_in_buffer error }
+{
+    match error {
+        FromSliceWithNulError::InvalidChar(place) => UnalignedCStr16Error::InvalidChar(place),
+        FromSliceWithNulError::InteriorNul(place) => UnalignedCStr16Error::InteriorNul(place),
+        // No units are refused for their place in memory, or for memory.
+        FromSliceWithNulError::NotNulTerminated | FromSliceWithNulError::NotAligned => {
+            UnalignedCStr16Error::NotNulTerminated
+        }
+        FromSliceWithNulError::OutOfMemory => UnalignedCStr16Error::BufferTooSmall,
     }
 }
 
@@ -367,14 +287,17 @@ impl<'a, T: Packed + fmt::Debug> fmt::Debug for UnalignedSliceIntoIter<'a, T> {
 impl<'a> UnalignedSlice<'a, u16> {
     ghost use Rattle.std.specs.Prelude.{None, drop, unwrap_or, ◌++◌};
     ghost use Rattle.std.specs.Result.{result_err};
-    ghost use Rattle.uefi_text.specs.FromSliceWithNul.{with_nul_refusal};
-    ghost use Rattle.uefi_text.specs.UnalignedCStr16.{unaligned_refusal, with_front};
-    ghost use Rattle.uefi_text.specs.Units.{deciding_place, nul_terminated};
+    ghost use Rattle.uefi_text_encodings.specs.FromSliceWithNul.{with_nul_refusal};
+    ghost use Rattle.uefi_text_encodings.specs.UnalignedCStr16.{unaligned_refusal, with_front};
+    ghost use Rattle.std.specs.Prelude.{OnOk};
+    ghost use Rattle.uefi_text_chars.specs.Units.{IsString, deciding_place, nul_terminated};
     ghost use Rattle.uefi_text.specs.Views.{items_of, text_of};
 
     /// The place of the first NUL or surrogate.
     fn find_deciding_place(&self) -> Option<usize>
-        ensures { result ≡ deciding_place (items_of self.now) }
+        ensures place { result ≡ deciding_place (items_of self.now) }
+        ensures units { IfSome result (λ place.
+            (k : ℕ) → k < place → slice_index (items_of self.now) k < 2 ^ 16) }
     {
         for place in 0..self.len() {
             let unit = self.item(place);
@@ -387,18 +310,13 @@ impl<'a> UnalignedSlice<'a, u16> {
 
     /// Why the items are no string, if they are none.
     fn check_with_nul(&self) -> Result<(), FromSliceWithNulError>
-        ensures { result_err result ≡ with_nul_refusal (items_of self.now) }
+        ensures refusal { result_err result ≡ with_nul_refusal (items_of self.now) }
+        ensures accepted { OnOk result (IsString (items_of self.now)) }
     {
         let Some(place) = self.find_deciding_place() else {
             return Err(FromSliceWithNulError::NotNulTerminated);
         };
-        if self.item(place) != 0 {
-            return Err(FromSliceWithNulError::InvalidChar(place));
-        }
-        if place + 1 != self.len() {
-            return Err(FromSliceWithNulError::InteriorNul(place));
-        }
-        Ok(())
+        check_deciding_unit(self.item(place), place, self.len())
     }
 
     /// The string that the items spell, in memory of its own; refused as by
@@ -415,7 +333,7 @@ impl<'a> UnalignedSlice<'a, u16> {
     {
         self.check_with_nul()?;
         match self.to_vec(alloc) {
-            Ok(units) => Ok(CString16::from_accepted(units)),
+            Ok(units) => Ok(CString16::from_string(units)),
             Err(_) => Err(FromSliceWithNulError::OutOfMemory),
         }
     }
@@ -437,22 +355,17 @@ impl<'a> UnalignedSlice<'a, u16> {
     pub fn write_cstr16(&self, buffer: &mut [u16]) -> Result<(), UnalignedCStr16Error>
         ensures buffer { buffer.new ≡ with_front (items_of self.now) buffer.old }
         ensures refusal { result_err result ≡ unaligned_refusal (items_of self.now) (length buffer.old) }
+        ensures accepted { OnOk result (IsString (items_of self.now)) }
     {
         let len = self.len();
         if buffer.len() < len {
             return Err(UnalignedCStr16Error::BufferTooSmall);
         }
         self.copy_to_front(buffer);
-        let Some(place) = find_deciding_place(&buffer[..len]) else {
-            return Err(UnalignedCStr16Error::NotNulTerminated);
-        };
-        if buffer[place] != 0 {
-            return Err(UnalignedCStr16Error::InvalidChar(place));
+        match CStr16::from_u16_with_nul(&buffer[..len]) {
+            Ok(_) => Ok(()),
+            Err(error) => Err(refusal_in_buffer(error)),
         }
-        if place + 1 != len {
-            return Err(UnalignedCStr16Error::InteriorNul(place));
-        }
-        Ok(())
     }
 
     /// The string that the items spell, as a view of the buffer's front, which they are copied to.
@@ -463,7 +376,7 @@ impl<'a> UnalignedSlice<'a, u16> {
         ensures refusal { result_err result ≡ unaligned_refusal (items_of self.now) (length buffer.old) }
     {
         self.write_cstr16(buffer)?;
-        Ok(CStr16::from_accepted(&buffer[..self.len()]))
+        Ok(CStr16::from_string(&buffer[..self.len()]))
     }
 }
 
@@ -477,9 +390,9 @@ fn ends_in_nul(bytes: &[u8]) -> bool
 impl<'a> CStr16<'a> {
     ghost use Rattle.std.specs.Prelude.{None, unwrap_or};
     ghost use Rattle.std.specs.Result.{result_err};
-    ghost use Rattle.uefi_text.specs.UnalignedCStr16.{unaligned_refusal};
-    ghost use Rattle.uefi_text.specs.UnitBytes.{unit_bytes, unit_bytes_refusal};
-    ghost use Rattle.uefi_text.specs.Units.{nul_terminated};
+    ghost use Rattle.uefi_text_encodings.specs.UnalignedCStr16.{unaligned_refusal};
+    ghost use Rattle.uefi_text_encodings.specs.UnitBytes.{unit_bytes, unit_bytes_refusal};
+    ghost use Rattle.uefi_text_chars.specs.Units.{nul_terminated};
     ghost use Rattle.uefi_text.specs.Views.{items_of, text_of};
 
     /// The string that bytes spell from wherever they lie, two for each code unit, the low one first,
@@ -518,8 +431,8 @@ impl<'a> CStr16<'a> {
 
 impl<A: Allocator> CString16<A> {
     ghost use Rattle.std.specs.Prelude.{None, unwrap_or};
-    ghost use Rattle.uefi_text.specs.FromSliceWithNul.{with_nul_refusal};
-    ghost use Rattle.uefi_text.specs.Units.{nul_terminated};
+    ghost use Rattle.uefi_text_encodings.specs.FromSliceWithNul.{with_nul_refusal};
+    ghost use Rattle.uefi_text_chars.specs.Units.{nul_terminated};
     ghost use Rattle.uefi_text.specs.Views.{items_of};
 
     /// As [`UnalignedSlice::to_cstring16`], with one request for memory.

@@ -1,7 +1,7 @@
 -- Each character follows those before it.
 use Rattle.std.proofs.Common.{arith}
 use Rattle.std.proofs.lemmas.Grind.{common_steps}
-use Rattle.uefi_text.proofs.Printed.{encode_utf8_all-push}
+use Rattle.uefi_text_encodings.proofs.Printed.{encode_utf8_all-push}
 use Rattle.uefi_text.proofs.strs.CStr16.as_str_in_buf.Goals as goal
 
 pub loop-c-preserved : goal.loop-c-preserved

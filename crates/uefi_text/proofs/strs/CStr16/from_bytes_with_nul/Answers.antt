@@ -2,9 +2,9 @@
 use Rattle.std.proofs.Common.{◌≡◌, ◌%◌, All, length, true, arith}
 use Rattle.std.proofs.lemmas.List.Elements.{All-from_get_or}
 use Rattle.std.proofs.lemmas.Grind.{common_steps}
-use Rattle.uefi_text.specs.Packed.{IsByte}
-use Rattle.uefi_text.specs.UnitBytes.{ends_in_nul}
-use Rattle.uefi_text.proofs.UnitBytes.{unit_bytes-units_of_bytes}
+use Rattle.uefi_text_encodings.specs.Packed.{IsByte}
+use Rattle.uefi_text_encodings.specs.UnitBytes.{ends_in_nul}
+use Rattle.uefi_text_encodings.proofs.UnitBytes.{unit_bytes-units_of_bytes}
 use Rattle.uefi_text.proofs.strs.CStr16.from_bytes_with_nul.Goals as goal
 
 pub returns-clause-ok : goal.returns-clause-ok

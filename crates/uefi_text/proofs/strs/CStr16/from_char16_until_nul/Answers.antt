@@ -1,7 +1,7 @@
 -- Characters up to and with their first NUL are a string.
 use Rattle.std.proofs.Common.{All, sym, subst}
-use Rattle.uefi_text.proofs.Deciding.{IsString-characters}
-use Rattle.uefi_text.specs.Units.{IsChar16, IsString}
+use Rattle.uefi_text_encodings.proofs.Deciding.{IsString-characters}
+use Rattle.uefi_text_chars.specs.Units.{IsChar16, IsString}
 use Rattle.uefi_text.proofs.strs.CStr16.from_char16_until_nul.Goals as goal
 
 pub invariant_of-result : goal.invariant_of-result

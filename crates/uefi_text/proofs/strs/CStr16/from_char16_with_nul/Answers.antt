@@ -1,8 +1,8 @@
 -- Characters of which the last alone is a NUL are a string.
 use Rattle.std.proofs.Common.{◌≡◌, ◌+◌, All, sym, subst, take, arith, ◌∙◌}
 use Rattle.std.proofs.lemmas.List.{take_all}
-use Rattle.uefi_text.proofs.Deciding.{IsString-characters}
-use Rattle.uefi_text.specs.Units.{IsChar16, IsString}
+use Rattle.uefi_text_encodings.proofs.Deciding.{IsString-characters}
+use Rattle.uefi_text_chars.specs.Units.{IsChar16, IsString}
 use Rattle.uefi_text.proofs.strs.CStr16.from_char16_with_nul.Goals as goal
 
 all_taken : (g : _) (c : goal.In-Ok g) → c.in-Ok.units.items ≡ take (c.in-Some.place + 1) c.args.characters.now

@@ -1,7 +1,7 @@
 -- Units up to and with a NUL before which no surrogate stands are a string.
 use Rattle.std.proofs.Common.{arith, sym}
 use Rattle.uefi_text.specs.Views.{text_of}
-use Rattle.uefi_text.proofs.Deciding.{IsString-until_nul, before_nul-deciding}
+use Rattle.uefi_text_encodings.proofs.Deciding.{IsString-until_nul, before_nul-deciding}
 use Rattle.uefi_text.proofs.strs.CStr16.from_u16_until_nul.Goals as goal
 
 pub invariant_of-result : goal.invariant_of-result

@@ -3,7 +3,7 @@ use Rattle.std.proofs.Common.{rules, ap, sym, ◌∙◌, ◌++◌, ℕ, arith}
 use Rattle.std.specs.Prelude.{encode_utf8, encode_utf8_all}
 use Rattle.std.proofs.Output.{has_written_append, has_written_of_eq}
 use Rattle.std.proofs.lemmas.Grind.{common_steps}
-use Rattle.uefi_text.proofs.Printed.{encode_utf8_all-push}
+use Rattle.uefi_text_encodings.proofs.Printed.{encode_utf8_all-push}
 use Rattle.uefi_text.proofs.strs.CStr16Display.fmt.Goals as goal
 
 pub loop-character-preserved : goal.loop-character-preserved

@@ -1,7 +1,7 @@
 use Rattle.std.proofs.Common.{arith}
 use Rattle.std.proofs.lemmas.List.{take_all}
 use Rattle.uefi_text.specs.Views.{items_of}
-use Rattle.uefi_text.proofs.Packing.{length-packed_items}
+use Rattle.uefi_text_encodings.proofs.Packing.{length-packed_items}
 use Rattle.uefi_text.proofs.unaligned_slice.UnalignedSlice.copy_to.Goals as goal
 
 -- behind the last place, what is copied is all of both

@@ -1,0 +1,9 @@
+pub mod Scanning
+pub mod Utf8Bytes
+pub mod Deciding
+pub mod Texts
+pub mod Utf16
+pub mod Printed
+pub mod Packing
+pub mod UnitBytes
+pub mod Prefixes

@@ -1,0 +1,90 @@
+-- Passes that test many elements at a time, by a fold with no early exit.
+use Rattle.std.proofs.Common.{◌≡◌, ◌↔◌, nat_le, refl, ℕ, ◌<◌, ◌≤◌, ◌+◌, ◌-◌, zero, suc, Bool, true, false, List, [], ◌∷◌, ◌++◌, length, take, drop, get_or, subst, ap, None, Some, arith, inl, inr, sym, ◌∙◌}
+use Rattle.std.specs.List.{fold, position, position_or_len}
+use Rattle.std.specs.Str.{IsAscii}
+use Rattle.std.proofs.lemmas.Bool.{cases_Bool, cases_lt}
+use Rattle.std.proofs.lemmas.List.Folds.{fold_stays}
+use Rattle.std.proofs.lemmas.List.Sums.{position_or_len_is}
+use Rattle.std.proofs.lemmas.Simd.{get_or-chunk, length-chunk}
+use Rattle.std.proofs.lemmas.Grind.{common_steps}
+use Rattle.uefi_text_encodings.specs.Scans.{beyond_ascii_so_far}
+
+-- a fold that keeps what it found, and begins with a test
+module _ (p : ℕ → Bool) (step : Bool → ℕ → Bool) (kept : (u : ℕ) → step true u ≡ true) (first : (u : ℕ) → step false u ≡ p u) where
+  -- where it found nothing, the first element does not pass, and it finds nothing in the others
+  pub found_cons : (u : ℕ) (us : List ℕ) → fold step false (u ∷ us) ≡ false → (p u ≡ false) × (fold step false us ≡ false)
+  found_cons u us e =
+      let stuck : fold step true us ≡ true = fold_stays step true kept us in
+      let one : step false u ≡ p u = first u in
+      elim (cases_Bool (step false u)) [
+        | inl found ↦ let f : fold step (step false u) us ≡ false = e in absurd (grind (arith, common_steps))
+        | inr other ↦ (sym one ∙ other, grind (arith, common_steps))
+      ]
+
+  -- and nothing behind any front
+  pub found_behind : (us vs : List ℕ) → fold step false (us ++ vs) ≡ false → fold step false vs ≡ false
+  found_behind [] vs e = e
+  found_behind (u ∷ us) vs e = found_behind us vs (found_cons u (us ++ vs) e).1
+
+  none_in_block : (us : List ℕ) → fold step false us ≡ false → (k : ℕ) → k < length us → p (get_or us k 0) ≡ false
+  none_in_block [] e k h = absurd (omega (arith, h))
+  none_in_block (u ∷ us) e zero h = (found_cons u us e).0
+  none_in_block (u ∷ us) e (suc k) h = none_in_block us (found_cons u us e).1 k (omega (arith, h))
+
+  -- one block more in which it found nothing
+  pub none_in_blocks : (us : List ℕ) (from n : ℕ) → from + n ≤ length us → ((k : ℕ) → k < from → p (get_or us k 0) ≡ false) → fold step false (take n (drop from us)) ≡ false → (k : ℕ) → k < from + n → p (get_or us k 0) ≡ false
+  none_in_blocks us from n inside none clear k h =
+      elim (cases_lt k from) [
+        | inl low ↦ none k low
+        | inr high ↦
+            let i = k - from in
+            let short : i < n = omega (arith, h, high) in
+            let at : from + i ≡ k = omega (arith, high) in
+            let long : i < length (take n (drop from us)) = omega (arith, short, length-chunk from n us inside) in
+            let same : get_or us (from + i) 0 ≡ get_or us k 0 = ap (λ j. get_or us j 0) at in
+            let e : get_or (take n (drop from us)) i 0 ≡ get_or us k 0 = get_or-chunk from n us i 0 short ∙ same in
+            subst (λ u. p u ≡ false) e (none_in_block (take n (drop from us)) clear i long)
+      ]
+
+-- where an element passes and none before it does, a search ends there
+pub position-at : (p : ℕ → Bool) (us : List ℕ) (i : ℕ) → i < length us → ((k : ℕ) → k < i → p (get_or us k 0) ≡ false) → p (get_or us i 0) ≡ true → Some i ≡ position p us
+position-at p us i inside none passes =
+    let e : position_or_len p us ≡ i = position_or_len_is p us i 0 (omega arith) none (λ _. passes) in
+    grind (arith, common_steps)
+
+-- and where none does, it finds nothing
+pub position-nowhere : (p : ℕ → Bool) (us : List ℕ) → ((k : ℕ) → k < length us → p (get_or us k 0) ≡ false) → None ≡ position p us
+position-nowhere p us none =
+    let e : position_or_len p us ≡ length us = position_or_len_is p us (length us) 0 (omega arith) none (λ h. absurd (omega (arith, h))) in
+    grind (arith, common_steps)
+
+-- where no element before a place passes, a search may begin at that place
+search_from : (p : ℕ → Bool) (us : List ℕ) (from : ℕ) → from ≤ length us → ((k : ℕ) → k < from → p (get_or us k 0) ≡ false) → position_or_len p us ≡ from + position_or_len p (drop from us)
+search_from p us zero le none = grind (arith, common_steps)
+search_from p [] (suc n) le none = absurd (omega (arith, le))
+search_from p (u ∷ us) (suc n) le none =
+    let first : p u ≡ false = none 0 (omega arith) in
+    let rest = search_from p us n (omega (arith, le)) (λ k h. none (suc k) (omega (arith, h))) in
+    grind (arith, common_steps)
+
+pub position-from_none : (p : ℕ → Bool) (us : List ℕ) (from : ℕ) → from ≤ length us → ((k : ℕ) → k < from → p (get_or us k 0) ≡ false) → None ≡ position p (drop from us) → None ≡ position p us
+position-from_none p us from le none e = let s = search_from p us from le none in grind (arith, common_steps)
+
+pub position-from_some : (p : ℕ → Bool) (us : List ℕ) (from place : ℕ) → from ≤ length us → ((k : ℕ) → k < from → p (get_or us k 0) ≡ false) → Some place ≡ position p (drop from us) → Some (from + place) ≡ position p us
+position-from_some p us from place le none e = let s = search_from p us from le none in grind (arith, common_steps)
+
+ascii_units-none : (us : List ℕ) → fold beyond_ascii_so_far false us ≡ false → IsAscii us
+ascii_units-none [] e i = omega arith
+ascii_units-none (u ∷ us) e zero = let first = (found_cons (λ v. nat_le 0x80 v) beyond_ascii_so_far (λ _. refl) (λ _. refl) u us e).0 in grind (arith, common_steps)
+ascii_units-none (u ∷ us) e (suc i) = ascii_units-none us (found_cons (λ v. nat_le 0x80 v) beyond_ascii_so_far (λ _. refl) (λ _. refl) u us e).1 i
+
+none-ascii_units : (us : List ℕ) → IsAscii us → fold beyond_ascii_so_far false us ≡ false
+none-ascii_units [] ascii = refl
+none-ascii_units (u ∷ us) ascii =
+    let first : u < 0x80 = ascii 0 in
+    let rest = none-ascii_units us (λ i. ascii (suc i)) in
+    grind (arith, common_steps)
+
+-- units are ASCII exactly where none is found beyond it
+pub ascii_units : (us : List ℕ) → (fold beyond_ascii_so_far false us ≡ false) ↔ IsAscii us
+ascii_units us = (ascii_units-none us, none-ascii_units us)

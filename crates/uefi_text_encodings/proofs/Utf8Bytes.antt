@@ -1,0 +1,179 @@
+-- What the bytes of a Rust text say of its characters.
+use Rattle.std.proofs.Common.{◌≡◌, ◌↔◌, ℕ, ◌<◌, ◌≤◌, ◌+◌, ◌/◌, ◌%◌, ◌==◌, ◌||◌, nat_le, ◌++◌, ◌∙◌, ap, zero, suc, Bool, true, false, List, [], ◌∷◌, get_or, length, None, arith, refl, sym, inl, inr}
+use Rattle.std.specs.Char.{encode_utf8}
+use Rattle.std.specs.List.{count_by, find, fold}
+use Rattle.std.specs.Str.{chars, encode_utf8_all, IsAscii, IsUtf8}
+use Rattle.std.proofs.lemmas.Bool.{cases_Bool, cases_lt, le-leb, le-ltb, lt-leb, lt-ltb}
+use Rattle.std.proofs.lemmas.List.Elements.{All-cons, All-head, All-nil, All-tail}
+use Rattle.std.proofs.lemmas.List.{length-append}
+use Rattle.std.proofs.lemmas.List.Folds.{fold_stays}
+use Rattle.std.proofs.lemmas.Str.{chars-IsAscii, encode_ascii, encodes-chars}
+use Rattle.std.proofs.lemmas.Grind.{common_steps}
+use Rattle.std.proofs.Math.Utf8.{encodes}
+use Rattle.uefi_text_encodings.proofs.Scanning.{found_behind}
+use Rattle.uefi_text_encodings.specs.FromStr.{is_deciding_char}
+use Rattle.uefi_text_encodings.specs.Latin1.{IsLatin1}
+use Rattle.uefi_text_encodings.specs.Scans.{ascii_text_so_far, byte_beyond_latin1_so_far, deciding_byte_so_far}
+
+-- the first byte is ASCII and not NUL, and so are the others
+ascii_text_cons : (b : ℕ) (bs : List ℕ) → fold ascii_text_so_far true (b ∷ bs) ≡ true → (ascii_text_so_far true b ≡ true) × (fold ascii_text_so_far true bs ≡ true)
+ascii_text_cons b bs e =
+    let stuck : fold ascii_text_so_far false bs ≡ false = fold_stays ascii_text_so_far false (λ _. refl) bs in
+    elim (cases_Bool (ascii_text_so_far true b)) [
+      | inl passes ↦ (passes, grind (arith, common_steps))
+      | inr other ↦ let f : fold ascii_text_so_far (ascii_text_so_far true b) bs ≡ true = e in absurd (grind (arith, common_steps))
+    ]
+
+ascii_text_ascii : (bs : List ℕ) → fold ascii_text_so_far true bs ≡ true → IsAscii bs
+ascii_text_ascii [] e i = omega arith
+ascii_text_ascii (b ∷ bs) e zero = let p = (ascii_text_cons b bs e).0 in grind (arith, common_steps)
+ascii_text_ascii (b ∷ bs) e (suc i) = ascii_text_ascii bs (ascii_text_cons b bs e).1 i
+
+ascii_text_undecided : (bs : List ℕ) → fold ascii_text_so_far true bs ≡ true → find is_deciding_char bs ≡ None
+ascii_text_undecided [] e = refl
+ascii_text_undecided (b ∷ bs) e =
+    let p = (ascii_text_cons b bs e).0 in
+    let rest = ascii_text_undecided bs (ascii_text_cons b bs e).1 in
+    let other : is_deciding_char b ≡ false = grind (arith, common_steps) in
+    grind (arith, common_steps)
+
+-- ASCII bytes without NUL are their own characters, and none of these is refused
+pub ascii_text_chars : (bs : List ℕ) → fold ascii_text_so_far true bs ≡ true → (chars bs ≡ bs) × (find is_deciding_char bs ≡ None)
+ascii_text_chars bs e = (chars-IsAscii bs (ascii_text_ascii bs e), ascii_text_undecided bs e)
+
+abbrev is_deciding_byte : ℕ → Bool
+is_deciding_byte byte = (byte == 0) || nat_le 0xf0 byte
+
+encode_utf8-four : (c : ℕ) → 65536 ≤ c → encode_utf8 c ≡ (240 + c / 262144) ∷ (128 + c / 4096 % 64) ∷ (128 + c / 64 % 64) ∷ (128 + c % 64) ∷ []
+unfolding encode_utf8
+encode_utf8-four c low =
+    let one : 128 ≤ c = omega arith in
+    let two : 2048 ≤ c = omega arith in
+    rw (le-ltb c 128 one, le-ltb c 2048 two, le-ltb c 65536 low) refl
+
+-- where the first byte decides, the fold has found it
+found_first : (b : ℕ) (bs : List ℕ) → 240 ≤ b → fold deciding_byte_so_far false (b ∷ bs) ≡ true
+found_first b bs high =
+    let test : nat_le 240 b ≡ true = grind (arith, common_steps) in
+    let stuck : fold deciding_byte_so_far true bs ≡ true = fold_stays deciding_byte_so_far true (λ _. refl) bs in
+    grind (arith, common_steps)
+
+found_nul : (bs : List ℕ) → fold deciding_byte_so_far false (0 ∷ bs) ≡ true
+found_nul bs = fold_stays deciding_byte_so_far true (λ _. refl) bs
+
+-- where no byte decides, the character at the front does not
+undecided_first : (c : ℕ) (bs : List ℕ) → fold deciding_byte_so_far false (encode_utf8 c ++ bs) ≡ false → is_deciding_char c ≡ false
+undecided_first zero bs e = let found = found_nul bs in let none : fold deciding_byte_so_far false (0 ∷ bs) ≡ false = rw (encode_ascii 0 (omega arith)) at e in absurd (grind (arith, common_steps))
+undecided_first (suc n) bs e =
+    elim (cases_lt (suc n) 65536) [
+      | inl low ↦ grind (arith, common_steps)
+      | inr high ↦
+          let found = found_first (240 + suc n / 262144) ((128 + suc n / 4096 % 64) ∷ (128 + suc n / 64 % 64) ∷ (128 + suc n % 64) ∷ bs) (omega arith) in
+          let none : fold deciding_byte_so_far false ((240 + suc n / 262144) ∷ (128 + suc n / 4096 % 64) ∷ (128 + suc n / 64 % 64) ∷ (128 + suc n % 64) ∷ bs) ≡ false = rw (encode_utf8-four (suc n) high) at e in
+          absurd (grind (arith, common_steps))
+    ]
+
+undecided_encodes : (cs : List ℕ) → fold deciding_byte_so_far false (encodes cs) ≡ false → find is_deciding_char cs ≡ None
+undecided_encodes [] e = refl
+undecided_encodes (c ∷ cs) e =
+    let first = undecided_first c (encodes cs) e in
+    let rest = undecided_encodes cs (found_behind is_deciding_byte deciding_byte_so_far (λ _. refl) (λ _. refl) (encode_utf8 c) (encodes cs) e) in
+    grind (arith, common_steps)
+
+-- a text of which no byte decides has no character that does
+pub undecided_bytes : (bs : List ℕ) → IsUtf8 bs → fold deciding_byte_so_far false bs ≡ false → find is_deciding_char (chars bs) ≡ None
+undecided_bytes bs utf8 e =
+    undecided_encodes (chars bs) (ap (fold deciding_byte_so_far false) (encodes-chars bs utf8) ∙ e)
+
+pub encode_utf8-two : (c : ℕ) → 128 ≤ c → c < 2048 → encode_utf8 c ≡ (192 + c / 64) ∷ (128 + c % 64) ∷ []
+unfolding encode_utf8
+encode_utf8-two c low high = rw (le-ltb c 128 low, lt-ltb c 2048 high) refl
+
+pub encode_utf8-three : (c : ℕ) → 2048 ≤ c → c < 65536 → encode_utf8 c ≡ (224 + c / 4096) ∷ (128 + c / 64 % 64) ∷ (128 + c % 64) ∷ []
+unfolding encode_utf8
+encode_utf8-three c low high =
+    let one : 128 ≤ c = omega arith in
+    rw (le-ltb c 128 one, le-ltb c 2048 low, lt-ltb c 65536 high) refl
+
+pub length-encode_utf8-two : (c : ℕ) → 128 ≤ c → c < 2048 → length (encode_utf8 c) ≡ 2
+length-encode_utf8-two c low high = rw (encode_utf8-two c low high) refl
+
+pub length-encode_utf8-three : (c : ℕ) → 2048 ≤ c → c < 65536 → length (encode_utf8 c) ≡ 3
+length-encode_utf8-three c low high = rw (encode_utf8-three c low high) refl
+
+pub ruleset unit_widths = (encode_utf8-two, encode_utf8-three, length-encode_utf8-two, length-encode_utf8-three, encode_ascii)
+
+-- a unit has one byte, a second from U+0080 on, and a third from U+0800 on
+length-encode_utf8-unit : (u : ℕ) (us : List ℕ) → u < 65536 → length (encode_utf8 u) + count_by (λ v. nat_le 0x80 v) us + count_by (λ v. nat_le 0x800 v) us ≡ 1 + count_by (λ v. nat_le 0x80 v) (u ∷ us) + count_by (λ v. nat_le 0x800 v) (u ∷ us)
+length-encode_utf8-unit u us small =
+    elim (cases_lt u 128) [
+      | inl low ↦ let one = encode_ascii u low in grind (arith, common_steps)
+      | inr high ↦
+          elim (cases_lt u 2048) [
+            | inl low ↦ let two = length-encode_utf8-two u high low in grind (arith, common_steps)
+            | inr higher ↦ let three = length-encode_utf8-three u higher small in grind (arith, common_steps)
+          ]
+    ]
+
+pub length-encode_utf8_all : (us : List ℕ) → ((k : ℕ) → get_or us k 0 < 65536) → length (encode_utf8_all us) ≡ length us + count_by (λ v. nat_le 0x80 v) us + count_by (λ v. nat_le 0x800 v) us
+length-encode_utf8_all [] small = refl
+length-encode_utf8_all (u ∷ us) small =
+    let first = length-encode_utf8-unit u us (small 0) in
+    let others = length-encode_utf8_all us (λ k. small (suc k)) in
+    omega (arith, first, others, length-append (encode_utf8 u) (encode_utf8_all us))
+
+-- a byte below 0xc4 is passed over
+latin1_byte : (b : ℕ) (bs : List ℕ) → b < 0xc4 → fold byte_beyond_latin1_so_far false (b ∷ bs) ≡ fold byte_beyond_latin1_so_far false bs
+latin1_byte b bs low = rw (lt-leb 0xc4 b low) refl
+
+-- any other is found
+beyond_latin1_byte : (b : ℕ) (bs : List ℕ) → 0xc4 ≤ b → fold byte_beyond_latin1_so_far false (b ∷ bs) ≡ true
+beyond_latin1_byte b bs high =
+    rw (le-leb 0xc4 b high) (fold_stays byte_beyond_latin1_so_far true (λ _. refl) bs)
+
+-- a character of Latin-1 is passed over
+latin1_char : (c : ℕ) (bs : List ℕ) → c < 256 → fold byte_beyond_latin1_so_far false (encode_utf8 c ++ bs) ≡ fold byte_beyond_latin1_so_far false bs
+latin1_char c bs small =
+    elim (cases_lt c 128) [
+      | inl low ↦ rw (encode_ascii c low) (latin1_byte c bs (omega arith))
+      | inr high ↦
+          let small_too : c < 2048 = omega arith in
+          rw (encode_utf8-two c high small_too)
+          (latin1_byte (192 + c / 64) ((128 + c % 64) ∷ bs) (omega arith) ∙ latin1_byte (128 + c % 64) bs (omega arith))
+    ]
+
+-- a character beyond Latin-1 begins with a byte of 0xc4 or more
+encode_utf8-beyond_latin1 : (c : ℕ) → 256 ≤ c → (b : ℕ) × (bs : List ℕ) × (0xc4 ≤ b) × (encode_utf8 c ≡ b ∷ bs)
+encode_utf8-beyond_latin1 c large =
+    elim (cases_lt c 2048) [
+      | inl low ↦ (192 + c / 64, _, omega arith, encode_utf8-two c (omega arith) low)
+      | inr high ↦
+          elim (cases_lt c 65536) [
+            | inl low ↦ (224 + c / 4096, _, omega arith, encode_utf8-three c high low)
+            | inr higher ↦ (240 + c / 262144, _, omega arith, encode_utf8-four c higher)
+          ]
+    ]
+
+beyond_latin1_char : (c : ℕ) (bs : List ℕ) → 256 ≤ c → fold byte_beyond_latin1_so_far false (encode_utf8 c ++ bs) ≡ true
+beyond_latin1_char c bs large =
+    let e = encode_utf8-beyond_latin1 c large in rw e.3 (beyond_latin1_byte e.0 (e.1 ++ bs) e.2)
+
+IsLatin1-encodes : (cs : List ℕ) → fold byte_beyond_latin1_so_far false (encodes cs) ≡ false → IsLatin1 cs
+IsLatin1-encodes [] e = All-nil (λ c. c ≤ 0xff)
+IsLatin1-encodes (c ∷ cs) e =
+    elim (cases_lt c 256) [
+      | inl low ↦ All-cons (λ c. c ≤ 0xff) c cs (omega arith) (IsLatin1-encodes cs (sym (latin1_char c (encodes cs) low) ∙ e))
+      | inr high ↦ let found = beyond_latin1_char c (encodes cs) high in absurd (grind (arith, common_steps))
+    ]
+
+encodes-IsLatin1 : (cs : List ℕ) → IsLatin1 cs → fold byte_beyond_latin1_so_far false (encodes cs) ≡ false
+encodes-IsLatin1 [] latin1 = refl
+encodes-IsLatin1 (c ∷ cs) latin1 =
+    let first : c ≤ 0xff = All-head (λ c. c ≤ 0xff) c cs latin1 in
+    latin1_char c (encodes cs) (omega arith) ∙ encodes-IsLatin1 cs (All-tail (λ c. c ≤ 0xff) c cs latin1)
+
+-- a text is one of Latin-1 exactly where no byte begins a character beyond it
+pub latin1_bytes : (bs : List ℕ) → IsUtf8 bs → (fold byte_beyond_latin1_so_far false bs ≡ false) ↔ IsLatin1 (chars bs)
+latin1_bytes bs utf8 =
+    let same : fold byte_beyond_latin1_so_far false (encodes (chars bs)) ≡ fold byte_beyond_latin1_so_far false bs = ap (fold byte_beyond_latin1_so_far false) (encodes-chars bs utf8) in
+    (λ e. IsLatin1-encodes (chars bs) (same ∙ e), λ latin1. sym same ∙ encodes-IsLatin1 (chars bs) latin1)

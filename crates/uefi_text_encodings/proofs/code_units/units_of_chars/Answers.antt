@@ -1,0 +1,26 @@
+-- The characters of the text are read one by one, and each is a code unit.
+use Rattle.std.proofs.Common.{◌≤◌, arith}
+use Rattle.std.proofs.lemmas.Str.{IsUtf8-past_char}
+use Rattle.std.proofs.lemmas.Grind.{common_steps}
+use Rattle.uefi_text_encodings.proofs.Texts.{char_fits, chars_end, chars_step}
+use Rattle.uefi_text_encodings.proofs.code_units.units_of_chars.Goals as goal
+
+pub overflow_cast-character : goal.overflow_cast-character
+overflow_cast-character g c =
+    let so_far = c.loop-character.invariant in
+    let fits : c.in-Some.character ≤ 0xffff = char_fits _ _ _ _ _ so_far.utf8 c.in-Some.ensures.steps.0 so_far.to_come c.requires in
+    omega arith
+
+pub loop-character-preserved : goal.loop-character-preserved
+loop-character-preserved g c =
+    let so_far = c.loop-character.invariant in
+    record {
+      added = grind (arith, common_steps);
+      utf8 = IsUtf8-past_char _ _ _ so_far.utf8 c.in-Some.ensures.steps.0;
+      to_come = chars_step _ _ _ _ _ so_far.utf8 c.in-Some.ensures.steps.0 so_far.to_come;
+    }
+
+pub returns : goal.returns
+returns g c =
+    let all = chars_end c.loop-character.yielded _ _ c.in-None.ensures.steps.0.0 c.loop-character.invariant.to_come in
+    grind (arith, common_steps, all)

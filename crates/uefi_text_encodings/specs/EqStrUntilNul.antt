@@ -1,0 +1,17 @@
+-- When a text counts as equal to a Rust text up to its first NUL.
+use Rattle.std.specs.Prelude.{◌≡◌, ℕ, ◌⊎◌, List, ◌++◌}
+use Rattle.std.specs.List.{before_first}
+use Rattle.uefi_text_chars.specs.Units.{is_nul}
+
+-- the first list is a beginning of the second
+abbrev pub IsBeginning : List ℕ → List ℕ → Type 0
+IsBeginning xs ys = (rest : List ℕ) × (ys ≡ xs ++ rest)
+
+-- one of two lists is a beginning of the other
+abbrev pub OneBeginsOther : List ℕ → List ℕ → Type 0
+OneBeginsOther xs ys = IsBeginning xs ys ⊎ IsBeginning ys xs
+
+-- the text, or what stands before the first NUL of the other, all of it where it has none, is a
+-- beginning of the other of these two
+abbrev pub IsEqualUntilNul : List ℕ → List ℕ → Type 0
+IsEqualUntilNul text other = OneBeginsOther text (before_first is_nul other)

@@ -1,0 +1,14 @@
+pub use Rattle.uefi_text_chars.specs.Units
+pub mod Scans
+pub mod Latin1
+pub mod FromSliceUntilNul
+pub mod FromSliceWithNul
+pub mod UnalignedCStr16
+pub mod ErrorTexts
+pub mod FromStr
+pub mod FromStrWithBuf
+pub mod Packed
+pub mod UnitBytes
+pub mod PackedLaws
+pub mod Views
+pub mod EqStrUntilNul

@@ -1,0 +1,129 @@
+//! Code units of Rust texts: in a vector, where the text is one of UCS-2, or in a buffer.
+ghost use Rattle.std.specs.Prelude.{◌≡◌, ◌+◌, ◌<◌, if◌then◌else◌, None, Some, find, length, unwrap_or, IfOk, IfErr};
+ghost use Rattle.std.specs.Char.Escape.{encode_utf16};
+ghost use Rattle.std.specs.Result.{result_err};
+ghost use Rattle.std.specs.Str.{chars};
+ghost use Rattle.uefi_text_chars.specs.Units.{nul_terminated};
+ghost use Rattle.uefi_text_encodings.specs.FromStr.{is_deciding_char, from_str_refusal};
+ghost use Rattle.uefi_text_encodings.specs.FromStrWithBuf.{from_str_with_buf_refusal, refusal_of_char_at, with_text, with_units};
+
+use crate::errors::{FromStrError, FromStrWithBufError};
+use crate::scans::{has_deciding_byte, is_ascii_text, widen};
+use std::alloc::{AllocError, Allocator};
+
+/// The first character that no UCS-2 text holds. Characters are decoded only where a byte gives
+/// cause to.
+fn find_deciding_char(text: &str) -> Option<char>
+    ensures { result ≡ find is_deciding_char (chars text.now) }
+{
+    if !has_deciding_byte(text.as_bytes()) {
+        return None;
+    }
+    find_deciding_char_by_char(text)
+}
+
+/// The same, character by character.
+fn find_deciding_char_by_char(text: &str) -> Option<char>
+    ensures { result ≡ find is_deciding_char (chars text.now) }
+{
+    text.chars().find(|c| *c == '\0' || *c > '\u{ffff}')
+}
+
+/// The units of ASCII bytes without NUL, and a NUL.
+fn units_of_ascii<A: Allocator>(alloc: A, bytes: &[u8]) -> Result<Vec<u16, A>, AllocError>
+    ensures { IfOk result (λ units. units.items ≡ nul_terminated bytes.now) }
+{
+    let mut units = Vec::new(alloc);
+    units.resize(bytes.len() + 1, 0)?;
+    widen(&mut units, bytes);
+    Ok(units)
+}
+
+/// The units of a text of UCS-2, and a NUL.
+fn units_of_chars<A: Allocator>(alloc: A, text: &str) -> Result<Vec<u16, A>, AllocError>
+    requires { find is_deciding_char (chars text.now) ≡ None }
+    ensures { IfOk result (λ units. units.items ≡ nul_terminated (chars text.now)) }
+{
+    // No text has more characters than bytes.
+    let mut units = Vec::with_capacity(alloc, text.len() + 1)?;
+    for character in text.chars() {
+        units.push(character as u16)?;
+    }
+    units.push(0)?;
+    Ok(units)
+}
+
+/// The units of a text of UCS-2 and a NUL, in one allocation.
+pub fn units_of_text<A: Allocator>(alloc: A, text: &str) -> Result<Vec<u16, A>, FromStrError>
+    ensures ok { IfOk result (λ units. units.items ≡ nul_terminated (chars text.now)) }
+    ensures accepted { IfOk result (λ _. find is_deciding_char (chars text.now) ≡ None) }
+    ensures refusal { IfErr result (λ error.
+        error ≡ unwrap_or (from_str_refusal (chars text.now)) FromStrError.OutOfMemory) }
+{
+    if is_ascii_text(text.as_bytes()) {
+        return units_of_ascii(alloc, text.as_bytes()).map_err(|_| FromStrError::OutOfMemory);
+    }
+    match find_deciding_char(text) {
+        Some('\0') => Err(FromStrError::InteriorNul),
+        Some(_) => Err(FromStrError::InvalidChar),
+        None => units_of_chars(alloc, text).map_err(|_| FromStrError::OutOfMemory),
+    }
+}
+
+/// Writes a Rust text and a NUL into the prefix of a buffer, and returns how many units they are:
+/// `CStr16::write_str` says the rest. One pass, which ends where the buffer is full; takes no
+/// memory.
+pub fn write_text(input: &str, buffer: &mut [u16]) -> Result<usize, FromStrWithBufError>
+    ensures ok { IfOk result (λ len. len ≡ length (chars input.now) + 1) }
+    ensures refusal { result_err result
+        ≡ from_str_with_buf_refusal (chars input.now) (length buffer.old) }
+    ensures buffer { buffer.new ≡ with_text (chars input.now) buffer.old }
+{
+    if buffer.is_empty() {
+        return Err(FromStrWithBufError::BufferTooSmall);
+    }
+    let mut len = 0;
+    let mut refusal = None;
+    for character in input.chars() {
+        // Every character before the first that is refused is one unit.
+        refusal = refusal.or(refusal_of_char(character, len));
+        len += write_char(character, &mut buffer[len..]);
+        if buffer.len() <= len {
+            return Err(FromStrWithBufError::BufferTooSmall);
+        }
+    }
+    buffer[len] = 0;
+    match refusal {
+        Some(error) => Err(error),
+        None => Ok(len + 1),
+    }
+}
+
+/// Why a character behind so many others is refused, if it is.
+fn refusal_of_char(character: char, place: usize) -> Option<FromStrWithBufError>
+    ensures { result ≡ (if is_deciding_char character
+        then Some (refusal_of_char_at character place)
+        else None) }
+{
+    match character {
+        '\0' => Some(FromStrWithBufError::InteriorNul(place)),
+        '\u{1_0000}'.. => Some(FromStrWithBufError::InvalidChar(place)),
+        _ => None,
+    }
+}
+
+/// Writes the one or two units of a character into the front of a buffer, and answers how many
+/// they are. Where there is one place, the first alone is written.
+fn write_char(character: char, buffer: &mut [u16]) -> usize
+    requires { 0 < length buffer.old }
+    ensures len { result ≡ length (encode_utf16 character) }
+    ensures buffer { buffer.new ≡ with_units (encode_utf16 character) buffer.old }
+{
+    let mut pair = [0; 2];
+    let units = character.encode_utf16(&mut pair);
+    buffer[0] = units[0];
+    if 1 < units.len() && 1 < buffer.len() {
+        buffer[1] = units[1];
+    }
+    units.len()
+}

@@ -1,0 +1,206 @@
+//! Latin-1: strings of it that are borrowed, and the calls on Rust texts of it.
+#![tactic(auto, unfolding(crate::specs::Views::bytes_of))]
+
+ghost use Rattle.std.specs.Prelude.{◌≡◌, ◌≢◌, ◌<◌, ◌+◌, ◌↔◌, All, length, position, IsTrue, IsOk, IfOk};
+ghost use Rattle.std.specs.Result.{result_err};
+ghost use Rattle.std.specs.Str.{chars};
+ghost use Rattle.uefi_text_chars.specs.Units.{is_nul, nul_terminated, without_nul};
+ghost use Rattle.uefi_text_encodings.specs.Latin1.{IsLatin1, IsLatin1String};
+
+use crate::errors::FromSliceWithNulError;
+use crate::scans::has_byte_beyond_latin1;
+use std::cmp::Ordering;
+use std::fmt;
+use std::hash::{Hash, Hasher};
+
+/// A Latin-1 string that is lent: a view of bytes of which exactly the last is zero. In contracts it is
+/// `bytes_of` it, all its bytes.
+#[derive(Clone, Copy)]
+pub struct CStr8<'a> {
+    bytes: &'a [u8],
+    pub ghost is_string: { IsLatin1String bytes.now },
+}
+
+impl<'a> CStr8<'a> {
+    ghost use Rattle.uefi_text_encodings.specs.FromSliceWithNul.{first_nul_refusal};
+    ghost use Rattle.uefi_text_encodings.specs.Views.{bytes_of};
+
+    /// The string that all of the bytes spell, as a view of them.
+    ///
+    /// The first zero decides: before the last place it is refused as `InteriorNul` with its place, even
+    /// where the bytes don't end in zero. Where there is none the answer is `NotNulTerminated`. One pass,
+    /// which ends at the first zero; takes no memory.
+    pub fn from_bytes_with_nul(chars: &'a [u8]) -> Result<CStr8<'a>, FromSliceWithNulError>
+        ensures ok { IfOk result (λ string. bytes_of string ≡ chars.now) }
+        ensures accepts { IsOk result ↔ IsLatin1String chars.now }
+        ensures refusal { result_err result ≡ first_nul_refusal chars.now }
+    {
+        let Some(place) = find_nul(chars) else {
+            return Err(FromSliceWithNulError::NotNulTerminated);
+        };
+        if place + 1 != chars.len() {
+            return Err(FromSliceWithNulError::InteriorNul(place));
+        }
+        Ok(CStr8 { bytes: chars })
+    }
+
+    /// The bytes of the string, the zero included.
+    pub fn as_bytes(&self) -> &'a [u8]
+        ensures { result.now ≡ bytes_of self.now }
+    {
+        self.bytes
+    }
+
+    /// The bytes before the zero.
+    pub fn text(&self) -> &'a [u8]
+        ensures { result.now ≡ without_nul (bytes_of self.now) }
+    {
+        &self.bytes[..self.bytes.len() - 1]
+    }
+}
+
+/// The place of the first zero.
+fn find_nul(bytes: &[u8]) -> Option<usize>
+    ensures { result ≡ position is_nul bytes.now }
+{
+    bytes.iter().position(|byte| *byte == 0)
+}
+
+/// Two strings are equal exactly when their bytes are.
+impl<'a> PartialEq for CStr8<'a> {
+    ghost use Rattle.std.proofs.Common.{rules};
+    ghost use Rattle.std.specs.Prelude.{nat_eq};
+    ghost use Rattle.std.specs.Cmp.Lexicographic.{pointwise};
+    ghost use Rattle.std.specs.Cmp.Rules.{comparing};
+    ghost use Rattle.uefi_text_encodings.specs.Views.{bytes_of};
+
+    ghost eq = { λ a b. pointwise nat_eq (bytes_of a) (bytes_of b) };
+
+    ghost laws = { Prim.search (comparing, rules) };
+
+    fn eq(&self, other: &Self) -> bool {
+        self.bytes == other.bytes
+    }
+}
+
+impl<'a> Eq for CStr8<'a> {
+    ghost use Rattle.std.proofs.Common.{rules};
+    ghost use Rattle.std.specs.Cmp.Rules.{comparing};
+
+    ghost laws = { Prim.search (comparing, rules) };
+}
+
+/// The list order of the bytes.
+impl<'a> PartialOrd for CStr8<'a> {
+    ghost use Rattle.std.proofs.Common.{rules};
+    ghost use Rattle.std.specs.Ordering.{nat_cmp, as_partial_cmp, on};
+    ghost use Rattle.std.specs.Cmp.Lexicographic.{slice_cmp};
+    ghost use Rattle.std.specs.Cmp.Rules.{comparing};
+    ghost use Rattle.uefi_text_encodings.specs.Views.{bytes_of};
+
+    ghost partial_cmp = { as_partial_cmp (on bytes_of (slice_cmp nat_cmp)) };
+
+    ghost laws = { Prim.search (comparing, rules) };
+
+    fn partial_cmp(&self, other: &Self) -> Option<Ordering> {
+        Some(self.cmp(other))
+    }
+}
+
+impl<'a> Ord for CStr8<'a> {
+    ghost use Rattle.std.proofs.Common.{rules};
+    ghost use Rattle.std.specs.Ordering.{nat_cmp, on};
+    ghost use Rattle.std.specs.Cmp.Lexicographic.{slice_cmp};
+    ghost use Rattle.std.specs.Cmp.Rules.{comparing};
+    ghost use Rattle.uefi_text_encodings.specs.Views.{bytes_of};
+
+    ghost cmp = { on bytes_of (slice_cmp nat_cmp) };
+
+    ghost total = { Prim.search (comparing, rules) };
+
+    ghost matches_partial_cmp = { Prim.search (comparing, rules) };
+
+    ghost matches_eq = { Prim.search (comparing, rules) };
+
+    fn cmp(&self, other: &Self) -> Ordering {
+        self.bytes.cmp(&other.bytes)
+    }
+}
+
+/// Hashes the bytes, so that equal strings hash alike.
+impl<'a> Hash for CStr8<'a> {
+    ghost use Rattle.std.proofs.Common.{rules};
+    ghost use Rattle.std.specs.Hash as fed;
+    ghost use Rattle.std.specs.Cmp.Rules.{comparing, hashing};
+    ghost use Rattle.uefi_text_encodings.specs.Views.{bytes_of};
+
+    ghost hash_input = { λ a. fed.slice fed.u8 (bytes_of a) };
+
+    ghost respects_eq = { Prim.search (hashing, comparing, rules) };
+
+    fn hash<H: Hasher>(&self, state: &mut H) {
+        self.bytes.hash(state);
+    }
+}
+
+/// Writes the character of each byte but the last.
+impl<'a> fmt::Display for CStr8<'a> {
+    ghost use Rattle.std.specs.Prelude.{Some};
+    ghost use Rattle.std.specs.Str.{encode_utf8_all};
+    ghost use Rattle.uefi_text_chars.specs.Units.{without_nul};
+    ghost use Rattle.uefi_text_encodings.specs.Views.{bytes_of};
+
+    ghost output = { λ string. Some (encode_utf8_all (without_nul (bytes_of string))) };
+
+    fn fmt<W: fmt::Write>(&self, f: &mut fmt::Formatter<W>) -> fmt::Result {
+        let text = self.text();
+        for byte in text {
+            f.write_char(char::from(*byte))?;
+        }
+        Ok(())
+    }
+}
+
+/// Prints the characters, each as a Rust character.
+impl<'a> fmt::Debug for CStr8<'a> {
+    fn fmt<W: fmt::Write>(&self, f: &mut fmt::Formatter<W>) -> fmt::Result {
+        let characters = self.text().iter().map(|byte| char::from(*byte));
+        f.write_str("CStr8(")?;
+        f.debug_list().entries(characters).finish()?;
+        f.write_str(")")
+    }
+}
+
+/// Whether each character of a Rust text is one of Latin-1, which has those up to U+00FF. One pass
+/// over the bytes; takes no memory.
+#[tactic(auto, using(crate::proofs::Utf8Bytes::latin1_bytes))]
+pub fn is_latin1(s: &str) -> bool
+    ensures { IsTrue result ↔ IsLatin1 (chars s.now) }
+{
+    !has_byte_beyond_latin1(s.as_bytes())
+}
+
+/// How many characters a Rust text of Latin-1 has, a NUL among them counted, which is how many bytes
+/// it takes in Latin-1. One pass; takes no memory.
+#[tactic(auto, using(std::proofs::lemmas::Str::chars_from_encodes))]
+pub fn str_num_latin1_chars(s: &str) -> usize
+    requires { IsLatin1 (chars s.now) }
+    ensures { result ≡ length (chars s.now) }
+{
+    s.chars().count()
+}
+
+/// The characters of a Rust text of Latin-1 that holds no NUL, each as one byte, and a NUL behind
+/// them. `N` is one more than their number. One pass; takes no memory.
+pub fn str_to_latin1<const N: usize>(s: &str) -> [u8; N]
+    requires latin1 { IsLatin1 (chars s.now) }
+    requires no_nul { All (λ c. c ≢ 0) (chars s.now) }
+    requires fits { length (chars s.now) + 1 ≡ N }
+    ensures { result ≡ nul_terminated (chars s.now) }
+{
+    let mut bytes = [0; N];
+    for (place, character) in s.chars().enumerate() {
+        bytes[place] = character as u8;
+    }
+    bytes
+}

@@ -1,0 +1,100 @@
+//! Numbers that lie in bytes, the low byte first: what may be an item of a packed slice.
+ghost use Rattle.std.specs.Prelude.{◌≡◌, ℕ, ◌<◌, length};
+ghost use Rattle.std.proofs.Common.{arith};
+ghost use Rattle.uefi_text_encodings.specs.Packed.{SpellsOnce, le};
+ghost use Rattle.uefi_text_encodings.specs.PackedLaws.{spells_once};
+
+/// A number that lies in a fixed count of bytes, the low byte first: `u8`, `u16`, `u32` and `u64`.
+/// In contracts a value is `number` of it.
+pub trait Packed: Copy {
+    /// How many bytes a value takes.
+    const SIZE: usize;
+
+    /// How many bytes a value takes, as contracts see it.
+    ghost SIZE: { ℕ };
+
+    /// The number of a value.
+    ghost number: { Self → ℕ };
+
+    /// The value that exactly `SIZE` bytes spell, the low byte first on every machine: the sum of
+    /// each byte times 256 to the power of its place. Takes no memory.
+    fn read_le(bytes: &[u8]) -> Self
+        requires { length bytes.now ≡ SIZE }
+        ensures { number result ≡ le bytes.now };
+
+    /// A value takes one byte or more.
+    ghost size_above_zero: { 0 < SIZE };
+
+    /// Equal numbers come from equal bytes.
+    ghost spelled_once: { SpellsOnce SIZE };
+}
+
+/// One byte, whose number is the value itself.
+impl Packed for u8 {
+    const SIZE: usize = 1;
+
+    ghost SIZE = { 1 };
+
+    ghost number = { λ value. value };
+
+    fn read_le(bytes: &[u8]) -> u8 {
+        bytes[0]
+    }
+
+    ghost size_above_zero = { Prim.omega arith };
+
+    ghost spelled_once = { spells_once 1 };
+}
+
+/// Two bytes, whose number is the value itself.
+impl Packed for u16 {
+    const SIZE: usize = 2;
+
+    ghost SIZE = { 2 };
+
+    ghost number = { λ value. value };
+
+    fn read_le(bytes: &[u8]) -> u16 {
+        u16::from_le_bytes([bytes[0], bytes[1]])
+    }
+
+    ghost size_above_zero = { Prim.omega arith };
+
+    ghost spelled_once = { spells_once 2 };
+}
+
+/// Four bytes, whose number is the value itself.
+impl Packed for u32 {
+    const SIZE: usize = 4;
+
+    ghost SIZE = { 4 };
+
+    ghost number = { λ value. value };
+
+    fn read_le(bytes: &[u8]) -> u32 {
+        u32::from_le_bytes([bytes[0], bytes[1], bytes[2], bytes[3]])
+    }
+
+    ghost size_above_zero = { Prim.omega arith };
+
+    ghost spelled_once = { spells_once 4 };
+}
+
+/// Eight bytes, whose number is the value itself.
+impl Packed for u64 {
+    const SIZE: usize = 8;
+
+    ghost SIZE = { 8 };
+
+    ghost number = { λ value. value };
+
+    fn read_le(bytes: &[u8]) -> u64 {
+        u64::from_le_bytes([
+            bytes[0], bytes[1], bytes[2], bytes[3], bytes[4], bytes[5], bytes[6], bytes[7],
+        ])
+    }
+
+    ghost size_above_zero = { Prim.omega arith };
+
+    ghost spelled_once = { spells_once 8 };
+}

@@ -1,0 +1,153 @@
+//! Passes over whole slices, in forms that the compiler turns into vector instructions: no early
+//! exit inside a block, and loops over places where the bounds are known. What they answer is said
+//! by std's words, so that callers see nothing of the form.
+ghost use Rattle.std.specs.Prelude.{◌≡◌, ℕ, ◌+◌, ◌-◌, ◌*◌, ◌<◌, ◌≤◌, ◌++◌, length, take, drop, map, slice_index, true, false};
+ghost use Rattle.std.specs.List.{fold};
+ghost use Rattle.std.specs.Str.{IsAscii};
+ghost use Rattle.uefi_text_encodings.specs.Scans.{ascii_text_so_far, beyond_ascii_so_far, byte_beyond_latin1_so_far, decided_so_far, deciding_byte_so_far};
+ghost use Rattle.uefi_text_encodings.specs.UnitBytes.{unit_bytes};
+ghost use Rattle.uefi_text_chars.specs.Units.{is_deciding, deciding_place, replaced};
+
+use uefi_text_chars::is_surrogate;
+
+/// How many units a block has.
+const BLOCK: usize = 64;
+
+/// Whether a block holds a NUL or a surrogate.
+#[inline(always)]
+fn has_deciding(block: &[u16]) -> bool
+    ensures { result ≡ fold decided_so_far false block.now }
+{
+    block.iter().fold(false, |found, unit| {
+        found | (*unit == 0) | ((0xd800 <= *unit) & (*unit <= 0xdfff))
+    })
+}
+
+/// The length of a front of whole blocks that hold neither a NUL nor a surrogate.
+fn undecided_blocks_len(units: &[u16]) -> usize
+    ensures within { result ≤ length units.now }
+    ensures none { (k : ℕ) → k < result → is_deciding (slice_index units.now k) ≡ false }
+{
+    let mut len = 0;
+    while BLOCK <= units.len() - len && !has_deciding(&units[len..len + BLOCK]) {
+        len += BLOCK;
+    }
+    len
+}
+
+/// Whether a unit is a NUL or a surrogate.
+pub fn is_deciding(unit: u16) -> bool
+    ensures { result ≡ is_deciding unit }
+{
+    unit == 0 || is_surrogate(unit)
+}
+
+/// The place of the first NUL or surrogate, unit by unit.
+fn find_deciding_place_by_unit(units: &[u16]) -> Option<usize>
+    ensures { result ≡ deciding_place units.now }
+{
+    units.iter().position(|unit| is_deciding(*unit))
+}
+
+/// The place of the first NUL or surrogate.
+pub fn find_deciding_place(units: &[u16]) -> Option<usize>
+    ensures { result ≡ deciding_place units.now }
+{
+    let len = undecided_blocks_len(units);
+    match find_deciding_place_by_unit(&units[len..]) {
+        None => None,
+        Some(place) => Some(len + place),
+    }
+}
+
+/// Whether a unit is beyond ASCII.
+pub fn has_unit_beyond_ascii(units: &[u16]) -> bool
+    ensures { result ≡ fold beyond_ascii_so_far false units.now }
+{
+    units
+        .iter()
+        .fold(false, |found, unit| found | (0x80 <= *unit))
+}
+
+/// Whether each byte is ASCII and not NUL.
+pub fn is_ascii_text(bytes: &[u8]) -> bool
+    ensures { result ≡ fold ascii_text_so_far true bytes.now }
+{
+    bytes
+        .iter()
+        .fold(true, |so_far, byte| so_far & (0 < *byte) & (*byte < 128))
+}
+
+/// Whether a byte begins a character that no UCS-2 text holds: a NUL, or a character above U+FFFF,
+/// which alone has four bytes.
+pub fn has_deciding_byte(bytes: &[u8]) -> bool
+    ensures { result ≡ fold deciding_byte_so_far false bytes.now }
+{
+    bytes.iter().fold(false, |found, byte| found | (*byte == 0) | (0xf0 <= *byte))
+}
+
+/// Whether a byte begins a character above U+00FF: one of 0xc4 or more. Below that are the bytes
+/// that begin a character of Latin-1, and those inside of characters.
+pub fn has_byte_beyond_latin1(bytes: &[u8]) -> bool
+    ensures { result ≡ fold byte_beyond_latin1_so_far false bytes.now }
+{
+    bytes
+        .iter()
+        .fold(false, |found, byte| found | (0xc4 <= *byte))
+}
+
+/// Writes bytes as code units, in front of the last unit, which stays.
+pub fn widen(units: &mut [u16], bytes: &[u8])
+    requires { length units.now ≡ length bytes.now + 1 }
+    ensures { units.new ≡ bytes.now ++ drop (length bytes.now) units.old }
+{
+    for i in 0..bytes.len() {
+        units[i] = u16::from(bytes[i]);
+    }
+}
+
+/// Writes units of ASCII as bytes.
+pub fn narrow(bytes: &mut [u8], units: &[u16])
+    requires same_length { length bytes.now ≡ length units.now }
+    requires ascii { IsAscii units.now }
+    ensures { bytes.new ≡ units.now }
+{
+    for i in 0..units.len() {
+        bytes[i] = units[i] as u8;
+    }
+}
+
+/// Writes each unit as two bytes, the low one first.
+pub fn split(bytes: &mut [u8], units: &[u16])
+    requires { length bytes.now ≡ 2 * length units.now }
+    ensures { bytes.new ≡ unit_bytes units.now }
+{
+    for i in 0..units.len() {
+        bytes[2 * i] = (units[i] % 256) as u8;
+        bytes[2 * i + 1] = (units[i] / 256) as u8;
+    }
+}
+
+fn unit_after(unit: u16, search: u16, replace: u16) -> u16
+    ensures { result ≡ replaced search replace unit }
+{
+    if unit == search { replace } else { unit }
+}
+
+/// Writes `replace` in each place of `search`.
+#[tactic(auto, using(std::proofs::lemmas::List::Edits::map_over_more, std::proofs::lemmas::List::take_all, std::proofs::lemmas::List::drop_all))]
+fn replace_units(units: &mut [u16], search: u16, replace: u16)
+    ensures { units.new ≡ map (replaced search replace) units.old }
+{
+    for unit in units.iter_mut() {
+        *unit = unit_after(*unit, search, replace);
+    }
+}
+
+/// Writes `replace` in each place of `search`, from the place `start` on.
+pub fn replace_units_from(units: &mut [u16], start: usize, search: u16, replace: u16)
+    requires { start ≤ length units.now }
+    ensures { units.new ≡ take start units.old ++ map (replaced search replace) (drop start units.old) }
+{
+    replace_units(&mut units[start..], search, replace);
+}
