@@ -21,7 +21,9 @@ ends_in_nul units i last zero = grind (arith, common_steps)
 -- a test that a NUL passes
 module _ (p : ℕ → Bool) (nul : p 0 ≡ true) where
   -- where the first element that passes is a NUL in the last place, none before the NUL passes
-  pub undecided_before : (units : List ℕ) (i : ℕ) → position p units ≡ Some i → get_or units i 0 ≡ 0 → i + 1 ≡ length units → (units ≡ nul_terminated (without_nul units)) × All (λ u. p u ≡ false) (without_nul units)
+  pub undecided_before : (units : List ℕ) (i : ℕ) → position p units ≡ Some i → get_or units i 0 ≡ 0
+      → i + 1 ≡ length units
+      → (units ≡ nul_terminated (without_nul units)) × All (λ u. p u ≡ false) (without_nul units)
   undecided_before units i place zero last =
       let found = position-Some p units i 0 place in
       let n : length units - 1 ≡ i = omega arith in
@@ -31,13 +33,17 @@ module _ (p : ℕ → Bool) (nul : p 0 ≡ true) where
       rw n (ends_in_nul units i last zero, before)
 
   -- and where none before the NUL passes, that is the first that does
-  pub position-undecided_before : (units : List ℕ) → units ≡ nul_terminated (without_nul units) → All (λ u. p u ≡ false) (without_nul units) → (position p units ≡ Some (length (without_nul units))) × (get_or units (length (without_nul units)) 0 ≡ 0) × (length (without_nul units) + 1 ≡ length units)
+  pub position-undecided_before : (units : List ℕ) → units ≡ nul_terminated (without_nul units)
+      → All (λ u. p u ≡ false) (without_nul units)
+      → (position p units ≡ Some (length (without_nul units))) × (get_or units (length (without_nul units)) 0 ≡ 0)
+      × (length (without_nul units) + 1 ≡ length units)
   position-undecided_before units ended undecided =
       let text = without_nul units in
       let n : length units ≡ length text + 1 = ap length ended ∙ length-append text (0 ∷ []) in
       let last : get_or units (length text) 0 ≡ 0 = ap (λ us. get_or us (length text) 0) ended ∙ get_or-append_seam text 0 [] 0 in
       let before : (k : ℕ) → k < length text → p (get_or units k 0) ≡ false =
-      λ k h. let same : get_or units k 0 ≡ get_or text k 0 = ap (λ us. get_or us k 0) ended ∙ get_or_append_left text (0 ∷ []) 0 k h in rw same (undecided k 0 h) in
+      λ k h. let same : get_or units k 0 ≡ get_or text k 0 = ap (λ us. get_or us k 0) ended
+      ∙ get_or_append_left text (0 ∷ []) 0 k h in rw same (undecided k 0 h) in
       let e : position_or_len p units ≡ length text = position_or_len_is p units (length text) 0 (omega arith) before (λ _. rw last nul) in
       (grind (arith, common_steps), last, omega arith)
 
@@ -48,7 +54,8 @@ IsTextUnit-undecided u small undecided = grind (arith, common_steps)
 undecided-IsTextUnit : (u : ℕ) → IsTextUnit u → is_deciding u ≡ false
 undecided-IsTextUnit u unit = grind (arith, common_steps)
 
-pub IsString-deciding_last : (units : List ℕ) (i : ℕ) → ((k : ℕ) → get_or units k 0 < 2 ^ 16) → deciding_place units ≡ Some i → get_or units i 0 ≡ 0 → i + 1 ≡ length units → IsString units
+pub IsString-deciding_last : (units : List ℕ) (i : ℕ) → ((k : ℕ) → get_or units k 0 < 2 ^ 16)
+    → deciding_place units ≡ Some i → get_or units i 0 ≡ 0 → i + 1 ≡ length units → IsString units
 IsString-deciding_last units i small place zero last =
     let before = undecided_before is_deciding refl units i place zero last in
     let text : IsText (without_nul units) = All-from_get_or IsTextUnit (without_nul units) 0 (λ k h.
@@ -60,7 +67,9 @@ IsString-deciding_last units i small place zero last =
 -- a string is not refused
 pub with_nul_refusal-IsString : (units : List ℕ) → IsString units → with_nul_refusal units ≡ None
 with_nul_refusal-IsString units string =
-    let found = position-undecided_before is_deciding refl units string.0 (All-weaker IsTextUnit (λ u. is_deciding u ≡ false) undecided-IsTextUnit (without_nul units) string.1) in
+    let found =
+    position-undecided_before is_deciding refl units string.0
+    (All-weaker IsTextUnit (λ u. is_deciding u ≡ false) undecided-IsTextUnit (without_nul units) string.1) in
     rw found.0 (grind (arith, common_steps))
 
 pub IsLatin1String-nul_last : (bytes : List ℕ) (i : ℕ) → position is_nul bytes ≡ Some i → i + 1 ≡ length bytes → IsLatin1String bytes
@@ -71,7 +80,9 @@ IsLatin1String-nul_last bytes i place last =
 
 pub first_nul_refusal-IsLatin1String : (bytes : List ℕ) → IsLatin1String bytes → first_nul_refusal bytes ≡ None
 first_nul_refusal-IsLatin1String bytes string =
-    let found = position-undecided_before is_nul refl bytes string.0 (All-weaker (λ b. b ≢ 0) (λ b. is_nul b ≡ false) (λ b h. grind (arith, common_steps)) (without_nul bytes) string.1) in
+    let found =
+    position-undecided_before is_nul refl bytes string.0
+    (All-weaker (λ b. b ≢ 0) (λ b. is_nul b ≡ false) (λ b h. grind (arith, common_steps)) (without_nul bytes) string.1) in
     rw found.0 (grind (arith, common_steps))
 
 -- what stands before a deciding place is a text
@@ -83,14 +94,16 @@ IsText-before units i small place =
     rw get_or-take (IsTextUnit-undecided (get_or units k 0) (small k) (found.2 k below)))
 
 -- units up to and with the first NUL are a string, where no surrogate stands before it
-pub IsString-until_nul : (units : List ℕ) (i : ℕ) → ((k : ℕ) → get_or units k 0 < 2 ^ 16) → deciding_place units ≡ Some i → get_or units i 0 ≡ 0 → IsString (take (i + 1) units)
+pub IsString-until_nul : (units : List ℕ) (i : ℕ) → ((k : ℕ) → get_or units k 0 < 2 ^ 16)
+    → deciding_place units ≡ Some i → get_or units i 0 ≡ 0 → IsString (take (i + 1) units)
 IsString-until_nul units i small place zero =
     let found = position-Some is_deciding units i 0 place in
     let ended : take (i + 1) units ≡ nul_terminated (take i units) = take_more units i 0 found.0 ∙ ap (λ u. take i units ++ u ∷ []) zero in
     IsString-made (take (i + 1) units) (take i units) ended (IsText-before units i small place)
 
 -- and their text is what stands before the first NUL
-pub before_nul-deciding : (units : List ℕ) (i : ℕ) → deciding_place units ≡ Some i → get_or units i 0 ≡ 0 → without_nul (take (i + 1) units) ≡ before_first is_nul units
+pub before_nul-deciding : (units : List ℕ) (i : ℕ) → deciding_place units ≡ Some i → get_or units i 0 ≡ 0
+    → without_nul (take (i + 1) units) ≡ before_first is_nul units
 before_nul-deciding units i place zero =
     let found = position-Some is_deciding units i 0 place in
     let undecided : (k : ℕ) → k < i → is_nul (get_or units k 0) ≡ false = λ k h. let f = found.2 k h in grind (arith, common_steps) in
@@ -103,7 +116,8 @@ IsTextUnit-character : (u : ℕ) → IsChar16 u → is_nul u ≡ false → IsTex
 IsTextUnit-character u character no_nul = grind (arith, common_steps)
 
 -- characters up to and with their first NUL are a string
-pub IsString-characters : (characters : List ℕ) (i : ℕ) → position is_nul characters ≡ Some i → All IsChar16 (take (i + 1) characters) → IsString (take (i + 1) characters)
+pub IsString-characters : (characters : List ℕ) (i : ℕ) → position is_nul characters ≡ Some i
+    → All IsChar16 (take (i + 1) characters) → IsString (take (i + 1) characters)
 IsString-characters characters i place are_characters =
     let found = position-Some is_nul characters i 0 place in
     let zero : get_or characters i 0 ≡ 0 = grind (arith, common_steps, found.1) in
@@ -128,7 +142,8 @@ IsString-accepted units small accepted = go (deciding_place units) refl accepted
         IsString-deciding_last units i small e zero last
 
 -- units are never refused for want of memory themselves
-pub with_nul_refusal-memory : (units : List ℕ) → OutOfMemory ≡ unwrap_or (with_nul_refusal units) OutOfMemory → with_nul_refusal units ≡ None
+pub with_nul_refusal-memory : (units : List ℕ) → OutOfMemory ≡ unwrap_or (with_nul_refusal units) OutOfMemory
+    → with_nul_refusal units ≡ None
 with_nul_refusal-memory units want = go (deciding_place units) want
   where
     go : (o : Option ℕ) → OutOfMemory ≡ unwrap_or (with_nul_refusal_at units o) OutOfMemory → with_nul_refusal_at units o ≡ None

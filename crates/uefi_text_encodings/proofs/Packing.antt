@@ -11,7 +11,8 @@ length-packed_items size zero bytes = refl
 length-packed_items size (suc count) bytes = ap suc (length-packed_items size count (drop size bytes))
 
 -- an item is the number of its block of bytes
-pub get_or-packed_items : (size count : ℕ) (bytes : List ℕ) (i : ℕ) → i < count → get_or (packed_items size count bytes) i 0 ≡ le (take size (drop (i * size) bytes))
+pub get_or-packed_items : (size count : ℕ) (bytes : List ℕ) (i : ℕ) → i < count
+    → get_or (packed_items size count bytes) i 0 ≡ le (take size (drop (i * size) bytes))
 get_or-packed_items size zero bytes i within = absurd (omega arith)
 get_or-packed_items size (suc count) bytes zero within = rw zero-mul refl
 get_or-packed_items size (suc count) bytes (suc i) within =
@@ -19,7 +20,8 @@ get_or-packed_items size (suc count) bytes (suc i) within =
     rw (suc-mul i size, add_comm (i * size) size, ← drop-drop (i * size) size bytes) behind
 
 -- the same, with the block as a part of the bytes
-pub slice_get-packed_items : (size count : ℕ) (bytes : List ℕ) (i : ℕ) → i < count → slice_get (packed_items size count bytes) i ≡ Some (le (slice_range bytes (i * size) (i * size + size)))
+pub slice_get-packed_items : (size count : ℕ) (bytes : List ℕ) (i : ℕ) → i < count
+    → slice_get (packed_items size count bytes) i ≡ Some (le (slice_range bytes (i * size) (i * size + size)))
 slice_get-packed_items size count bytes i within =
     let inside : i < length (packed_items size count bytes) = rw (length-packed_items size count bytes) within in
     let long : i * size + size - i * size ≡ size = omega arith in

@@ -32,7 +32,8 @@ pairs_from_begins (x ∷ xs) (y ∷ ys) begins =
 
 -- a test of the pairs in turn, up to the first that differ, tells
 pub begins_by_pairs : (answer : Bool) (xs ys : List ℕ)
-    → MatchBool answer (AllWithin AreSame (zip xs ys) 0 (length (zip xs ys))) ((k : ℕ) × (k < length (zip xs ys)) × HoldsAt (λ pair. ¬ AreSame pair) (zip xs ys) k)
+    → MatchBool answer (AllWithin AreSame (zip xs ys) 0 (length (zip xs ys)))
+    ((k : ℕ) × (k < length (zip xs ys)) × HoldsAt (λ pair. ¬ AreSame pair) (zip xs ys) k)
     → IsTrue answer ↔ OneBeginsOther xs ys
 begins_by_pairs true xs ys tested =
     (λ _. begins_from_pairs xs ys (λ k d inside. tested k d (omega arith) inside), λ _. refl)

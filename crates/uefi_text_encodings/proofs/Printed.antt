@@ -9,5 +9,6 @@ encode_utf8_all-push (x ∷ xs) c =
     ap (λ (bs : List ℕ). encode_utf8 x ++ bs) (encode_utf8_all-push xs c) ∙ sym (append_assoc (encode_utf8 x) (encode_utf8_all xs) (encode_utf8 c))
 
 -- the bytes of one character more
-pub encode_utf8_all-take_more : (cs : List ℕ) (i : ℕ) → i < length cs → encode_utf8_all (take i cs) ++ encode_utf8 (get_or cs i 0) ≡ encode_utf8_all (take (i + 1) cs)
+pub encode_utf8_all-take_more : (cs : List ℕ) (i : ℕ) → i < length cs
+    → encode_utf8_all (take i cs) ++ encode_utf8 (get_or cs i 0) ≡ encode_utf8_all (take (i + 1) cs)
 encode_utf8_all-take_more cs i h = sym (encode_utf8_all-push (take i cs) (get_or cs i 0)) ∙ ap encode_utf8_all (sym (take_more cs i 0 h))

@@ -32,7 +32,9 @@ module _ (p : ℕ → Bool) (step : Bool → ℕ → Bool) (kept : (u : ℕ) →
   none_in_block (u ∷ us) e (suc k) h = none_in_block us (found_cons u us e).1 k (omega (arith, h))
 
   -- one block more in which it found nothing
-  pub none_in_blocks : (us : List ℕ) (from n : ℕ) → from + n ≤ length us → ((k : ℕ) → k < from → p (get_or us k 0) ≡ false) → fold step false (take n (drop from us)) ≡ false → (k : ℕ) → k < from + n → p (get_or us k 0) ≡ false
+  pub none_in_blocks : (us : List ℕ) (from n : ℕ) → from + n ≤ length us
+      → ((k : ℕ) → k < from → p (get_or us k 0) ≡ false) → fold step false (take n (drop from us)) ≡ false → (k : ℕ)
+      → k < from + n → p (get_or us k 0) ≡ false
   none_in_blocks us from n inside none clear k h =
       elim (cases_lt k from) [
         | inl low ↦ none k low
@@ -47,7 +49,8 @@ module _ (p : ℕ → Bool) (step : Bool → ℕ → Bool) (kept : (u : ℕ) →
       ]
 
 -- where an element passes and none before it does, a search ends there
-pub position-at : (p : ℕ → Bool) (us : List ℕ) (i : ℕ) → i < length us → ((k : ℕ) → k < i → p (get_or us k 0) ≡ false) → p (get_or us i 0) ≡ true → Some i ≡ position p us
+pub position-at : (p : ℕ → Bool) (us : List ℕ) (i : ℕ) → i < length us → ((k : ℕ) → k < i → p (get_or us k 0) ≡ false)
+    → p (get_or us i 0) ≡ true → Some i ≡ position p us
 position-at p us i inside none passes =
     let e : position_or_len p us ≡ i = position_or_len_is p us i 0 (omega arith) none (λ _. passes) in
     grind (arith, common_steps)
@@ -59,7 +62,9 @@ position-nowhere p us none =
     grind (arith, common_steps)
 
 -- where no element before a place passes, a search may begin at that place
-search_from : (p : ℕ → Bool) (us : List ℕ) (from : ℕ) → from ≤ length us → ((k : ℕ) → k < from → p (get_or us k 0) ≡ false) → position_or_len p us ≡ from + position_or_len p (drop from us)
+search_from : (p : ℕ → Bool) (us : List ℕ) (from : ℕ) → from ≤ length us
+    → ((k : ℕ) → k < from → p (get_or us k 0) ≡ false)
+    → position_or_len p us ≡ from + position_or_len p (drop from us)
 search_from p us zero le none = grind (arith, common_steps)
 search_from p [] (suc n) le none = absurd (omega (arith, le))
 search_from p (u ∷ us) (suc n) le none =
@@ -67,15 +72,20 @@ search_from p (u ∷ us) (suc n) le none =
     let rest = search_from p us n (omega (arith, le)) (λ k h. none (suc k) (omega (arith, h))) in
     grind (arith, common_steps)
 
-pub position-from_none : (p : ℕ → Bool) (us : List ℕ) (from : ℕ) → from ≤ length us → ((k : ℕ) → k < from → p (get_or us k 0) ≡ false) → None ≡ position p (drop from us) → None ≡ position p us
+pub position-from_none : (p : ℕ → Bool) (us : List ℕ) (from : ℕ) → from ≤ length us
+    → ((k : ℕ) → k < from → p (get_or us k 0) ≡ false) → None ≡ position p (drop from us) → None ≡ position p us
 position-from_none p us from le none e = let s = search_from p us from le none in grind (arith, common_steps)
 
-pub position-from_some : (p : ℕ → Bool) (us : List ℕ) (from place : ℕ) → from ≤ length us → ((k : ℕ) → k < from → p (get_or us k 0) ≡ false) → Some place ≡ position p (drop from us) → Some (from + place) ≡ position p us
+pub position-from_some : (p : ℕ → Bool) (us : List ℕ) (from place : ℕ) → from ≤ length us
+    → ((k : ℕ) → k < from → p (get_or us k 0) ≡ false) → Some place ≡ position p (drop from us)
+    → Some (from + place) ≡ position p us
 position-from_some p us from place le none e = let s = search_from p us from le none in grind (arith, common_steps)
 
 ascii_units-none : (us : List ℕ) → fold beyond_ascii_so_far false us ≡ false → IsAscii us
 ascii_units-none [] e i = omega arith
-ascii_units-none (u ∷ us) e zero = let first = (found_cons (λ v. nat_le 0x80 v) beyond_ascii_so_far (λ _. refl) (λ _. refl) u us e).0 in grind (arith, common_steps)
+ascii_units-none (u ∷ us) e zero =
+    let first = (found_cons (λ v. nat_le 0x80 v) beyond_ascii_so_far (λ _. refl) (λ _. refl) u us e).0 in
+    grind (arith, common_steps)
 ascii_units-none (u ∷ us) e (suc i) = ascii_units-none us (found_cons (λ v. nat_le 0x80 v) beyond_ascii_so_far (λ _. refl) (λ _. refl) u us e).1 i
 
 none-ascii_units : (us : List ℕ) → IsAscii us → fold beyond_ascii_so_far false us ≡ false

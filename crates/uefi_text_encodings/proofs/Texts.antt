@@ -19,7 +19,8 @@ find-none_at p [] y ys none = grind (arith, common_steps)
 find-none_at p (x ∷ xs) y ys none = let rest : find p (xs ++ y ∷ ys) ≡ None = grind (arith, common_steps) in find-none_at p xs y ys rest
 
 -- one more character was read
-pub chars_step : (read rest new_rest : List ℕ) (c : ℕ) (all : List ℕ) → IsUtf8 rest → rest ≡ encode_utf8 c ++ new_rest → read ++ chars rest ≡ all → (read ++ c ∷ []) ++ chars new_rest ≡ all
+pub chars_step : (read rest new_rest : List ℕ) (c : ℕ) (all : List ℕ) → IsUtf8 rest → rest ≡ encode_utf8 c ++ new_rest
+    → read ++ chars rest ≡ all → (read ++ c ∷ []) ++ chars new_rest ≡ all
 chars_step read rest new_rest c all utf8 e so_far =
     let f = chars_past_char rest new_rest c utf8 e in grind (arith, common_steps)
 
@@ -30,9 +31,11 @@ chars_end read rest all none so_far =
     grind (arith, common_steps)
 
 -- where none of all is refused, each that was read is a code unit
-pub char_fits : (read rest new_rest : List ℕ) (c : ℕ) (all : List ℕ) → IsUtf8 rest → rest ≡ encode_utf8 c ++ new_rest → read ++ chars rest ≡ all → find is_deciding_char all ≡ None → c ≤ 0xffff
+pub char_fits : (read rest new_rest : List ℕ) (c : ℕ) (all : List ℕ) → IsUtf8 rest → rest ≡ encode_utf8 c ++ new_rest
+    → read ++ chars rest ≡ all → find is_deciding_char all ≡ None → c ≤ 0xffff
 char_fits read rest new_rest c all utf8 e so_far none =
-    let here : find is_deciding_char (read ++ c ∷ chars new_rest) ≡ None = ap (λ cs. find is_deciding_char (read ++ cs)) (sym (chars_past_char rest new_rest c utf8 e)) ∙ ap (find is_deciding_char) so_far ∙ none in
+    let here : find is_deciding_char (read ++ c ∷ chars new_rest) ≡ None =
+    ap (λ cs. find is_deciding_char (read ++ cs)) (sym (chars_past_char rest new_rest c utf8 e)) ∙ ap (find is_deciding_char) so_far ∙ none in
     let undecided = find-none_at is_deciding_char read c (chars new_rest) here in
     grind (arith, common_steps)
 
@@ -50,7 +53,8 @@ pub IsString-made : (units text : List ℕ) → units ≡ nul_terminated text �
 IsString-made units text e is_text = subst IsString (sym e) (IsString-nul_terminated text is_text)
 
 -- a unit is written where the NUL stood, in front of a new one
-pub nul_terminated-push : (text : List ℕ) (unit : ℕ) → set (nul_terminated text ++ 0 ∷ []) (length text) unit ≡ nul_terminated (text ++ unit ∷ [])
+pub nul_terminated-push : (text : List ℕ) (unit : ℕ)
+    → set (nul_terminated text ++ 0 ∷ []) (length text) unit ≡ nul_terminated (text ++ unit ∷ [])
 nul_terminated-push text unit = rw (append_assoc text, append_assoc text) (set_at text 0 (0 ∷ []) unit (length text) refl)
 
 -- a unit of a text stays one where another takes its place
@@ -60,25 +64,31 @@ IsTextUnit-replaced search replace u old new = elim (u == search) as (λ b. IsTe
 -- a text in which a character takes the place of another is a text
 IsText-replaced : (search replace : ℕ) (text : List ℕ) → IsText text → IsTextUnit replace → IsText (map (replaced search replace) text)
 IsText-replaced search replace text is_text unit =
-    All-map IsTextUnit (replaced search replace) text (All-weaker IsTextUnit (λ u. IsTextUnit (replaced search replace u)) (λ u h. IsTextUnit-replaced search replace u h unit) text is_text)
+    All-map IsTextUnit (replaced search replace) text
+    (All-weaker IsTextUnit (λ u. IsTextUnit (replaced search replace u)) (λ u h. IsTextUnit-replaced search replace u h unit) text is_text)
 
 replaced-nul : (search replace : ℕ) → search ≢ 0 → replaced search replace 0 ≡ 0
 replaced-nul search replace no_nul = grind (arith, common_steps)
 
 -- what stands before the NUL is written, and the NUL stays
-nul_terminated-replaced : (search replace : ℕ) (text : List ℕ) → search ≢ 0 → map (replaced search replace) (nul_terminated text) ≡ nul_terminated (map (replaced search replace) text)
+nul_terminated-replaced : (search replace : ℕ) (text : List ℕ) → search ≢ 0
+    → map (replaced search replace) (nul_terminated text) ≡ nul_terminated (map (replaced search replace) text)
 nul_terminated-replaced search replace text no_nul =
     map-append (replaced search replace) text (0 ∷ []) ∙ ap (λ u. map (replaced search replace) text ++ u ∷ []) (replaced-nul search replace no_nul)
 
 -- and so does a string, also where what stands before a place stays
-pub IsString-replaced_from : (search replace start : ℕ) (units : List ℕ) → IsString units → start ≤ length (without_nul units) → search ≢ 0 → IsTextUnit replace → IsString (take start units ++ map (replaced search replace) (drop start units))
+pub IsString-replaced_from : (search replace start : ℕ) (units : List ℕ) → IsString units
+    → start ≤ length (without_nul units) → search ≢ 0 → IsTextUnit replace
+    → IsString (take start units ++ map (replaced search replace) (drop start units))
 IsString-replaced_from search replace start units string inside no_nul unit =
     let text = without_nul units in
     let front : take start units ≡ take start text = ap (take start) string.0 ∙ take-append-le start text (0 ∷ []) inside in
     let back : drop start units ≡ nul_terminated (drop start text) = ap (drop start) string.0 ∙ drop-append-le start text (0 ∷ []) inside in
-    let made : take start units ++ map (replaced search replace) (drop start units) ≡ nul_terminated (take start text ++ map (replaced search replace) (drop start text)) =
+    let made : take start units ++ map (replaced search replace) (drop start units)
+    ≡ nul_terminated (take start text ++ map (replaced search replace) (drop start text)) =
     rw (front, back, nul_terminated-replaced search replace (drop start text) no_nul) (sym (append_assoc (take start text) _ _)) in
-    IsString-made _ _ made (All-append IsTextUnit (take start text) _ (All-take IsTextUnit start text string.1) (IsText-replaced search replace (drop start text) (All-drop IsTextUnit start text string.1) unit))
+    IsString-made _ _ made
+    (All-append IsTextUnit (take start text) _ (All-take IsTextUnit start text string.1) (IsText-replaced search replace (drop start text) (All-drop IsTextUnit start text string.1) unit))
 
 -- a character that is not refused is a unit of a text
 IsTextUnit-char : (c : ℕ) → scalar c ≡ true → is_deciding_char c ≡ false → IsTextUnit c

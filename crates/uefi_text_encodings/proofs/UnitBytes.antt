@@ -24,8 +24,8 @@ unit_bytes-push : (us : List ℕ) (u : ℕ) → unit_bytes (us ++ u ∷ []) ≡ 
 unit_bytes-push [] u = refl
 unit_bytes-push (v ∷ us) u = ap (λ (bs : List ℕ). v % 256 ∷ v / 256 ∷ bs) (unit_bytes-push us u)
 
--- two places written one behind the other
-set_two : (bs : List ℕ) (n a b : ℕ) → n + 1 < length bs → set (set bs n a) (suc n) b ≡ take n bs ++ a ∷ b ∷ drop (suc (suc n)) bs
+-- two places written one after the other
+pub set_two : (bs : List ℕ) (n a b : ℕ) → n + 1 < length bs → set (set bs n a) (suc n) b ≡ take n bs ++ a ∷ b ∷ drop (suc (suc n)) bs
 set_two [] n a b inside = absurd (omega (arith, inside))
 set_two (x ∷ []) zero a b inside = absurd (omega (arith, inside))
 set_two (x ∷ y ∷ bs) zero a b inside = refl
@@ -36,7 +36,8 @@ behind_two : (xs ys : List ℕ) (n a b : ℕ) → a ≡ n + 2 → b ≡ n + 2 �
 behind_two xs ys n a b ea eb e = rw (ea, eb, ← drop-drop 2 n xs, ← drop-drop 2 n ys) (ap (drop 2) e)
 
 -- one unit more is written
-pub split_more : (us old bytes : List ℕ) (i : ℕ) → i < length us → length old ≡ 2 * length us → bytes ≡ unit_bytes (take i us) ++ drop (2 * i) old
+pub split_more : (us old bytes : List ℕ) (i : ℕ) → i < length us → length old ≡ 2 * length us
+    → bytes ≡ unit_bytes (take i us) ++ drop (2 * i) old
     → set (set bytes (2 * i) (get_or us i 0 % 256)) (2 * i + 1) (get_or us i 0 / 256) ≡ unit_bytes (take (i + 1) us) ++ drop (2 * (i + 1)) old
 split_more us old bytes i inside long so_far =
     let done = unit_bytes (take i us) in
@@ -45,7 +46,8 @@ split_more us old bytes i inside long so_far =
     let front : take (2 * i) bytes ≡ done = grind (arith, common_steps) in
     let next : 2 * i + 1 ≡ suc (2 * i) = omega arith in
     let rest : drop (2 * i) bytes ≡ drop (2 * i) old = grind (arith, common_steps) in
-    let behind : drop (suc (suc (2 * i))) bytes ≡ drop (2 * (i + 1)) old = behind_two bytes old (2 * i) (suc (suc (2 * i))) (2 * (i + 1)) (omega arith) (omega arith) rest in
+    let behind : drop (suc (suc (2 * i))) bytes ≡ drop (2 * (i + 1)) old =
+    behind_two bytes old (2 * i) (suc (suc (2 * i))) (2 * (i + 1)) (omega arith) (omega arith) rest in
     let more = ap unit_bytes (take_more us i 0 inside) ∙ unit_bytes-push (take i us) (get_or us i 0) in
     rw next (set_two bytes (2 * i) _ _ (omega arith) ∙ rw (front, behind, more, append_assoc) refl)
 
@@ -93,7 +95,8 @@ units_of_bytes-spelled bytes text spells =
 -- no bytes spell two texts
 pub spelled_apart : (bytes first second : List ℕ) → BytesSpell bytes first → BytesSpell bytes second → first ≡ second
 spelled_apart bytes first second spells_first spells_second =
-    let same : nul_terminated first ≡ nul_terminated second = sym (units_of_bytes-spelled bytes first spells_first) ∙ units_of_bytes-spelled bytes second spells_second in
+    let same : nul_terminated first ≡ nul_terminated second =
+    sym (units_of_bytes-spelled bytes first spells_first) ∙ units_of_bytes-spelled bytes second spells_second in
     sym (without_nul-nul_terminated first) ∙ ap without_nul same ∙ without_nul-nul_terminated second
 
 ends_in_nul-spelled : (text : List ℕ) → ends_in_nul (unit_bytes (nul_terminated text)) ≡ true
@@ -126,14 +129,17 @@ small_items (suc count) (b ∷ []) are_bytes (suc k) = small_items count [] (All
 small_items (suc count) (b ∷ c ∷ bs) are_bytes (suc k) = small_items count bs (All-tail IsByte c bs (All-tail IsByte b (c ∷ bs) are_bytes)) k
 
 -- bytes whose units are a text and a NUL spell it
-pub units_spell : (bytes text : List ℕ) → All IsByte bytes → length bytes % 2 ≡ 0 → with_nul_refusal (units_of_bytes bytes) ≡ None → nul_terminated text ≡ units_of_bytes bytes → BytesSpell bytes text
+pub units_spell : (bytes text : List ℕ) → All IsByte bytes → length bytes % 2 ≡ 0
+    → with_nul_refusal (units_of_bytes bytes) ≡ None → nul_terminated text ≡ units_of_bytes bytes
+    → BytesSpell bytes text
 units_spell bytes text are_bytes even accepted e =
     let string = IsString-accepted (units_of_bytes bytes) (small_items (length bytes / 2) bytes are_bytes) accepted in
     let same : without_nul (units_of_bytes bytes) ≡ text = ap without_nul (sym e) ∙ without_nul-nul_terminated text in
     (subst IsText same string.1, sym (unit_bytes-units_of_bytes bytes even are_bytes) ∙ ap unit_bytes (sym e))
 
 -- and where they are not refused they are one
-pub units_text : (bytes : List ℕ) → All IsByte bytes → length bytes % 2 ≡ 0 → with_nul_refusal (units_of_bytes bytes) ≡ None → (text : List ℕ) × BytesSpell bytes text
+pub units_text : (bytes : List ℕ) → All IsByte bytes → length bytes % 2 ≡ 0
+    → with_nul_refusal (units_of_bytes bytes) ≡ None → (text : List ℕ) × BytesSpell bytes text
 units_text bytes are_bytes even accepted =
     let string = IsString-accepted (units_of_bytes bytes) (small_items (length bytes / 2) bytes are_bytes) accepted in
     (without_nul (units_of_bytes bytes), units_spell bytes (without_nul (units_of_bytes bytes)) are_bytes even accepted (sym string.0))

@@ -16,7 +16,8 @@ use Rattle.uefi_text_encodings.specs.Latin1.{IsLatin1}
 use Rattle.uefi_text_encodings.specs.Scans.{ascii_text_so_far, byte_beyond_latin1_so_far, deciding_byte_so_far}
 
 -- the first byte is ASCII and not NUL, and so are the others
-ascii_text_cons : (b : ℕ) (bs : List ℕ) → fold ascii_text_so_far true (b ∷ bs) ≡ true → (ascii_text_so_far true b ≡ true) × (fold ascii_text_so_far true bs ≡ true)
+ascii_text_cons : (b : ℕ) (bs : List ℕ) → fold ascii_text_so_far true (b ∷ bs) ≡ true
+    → (ascii_text_so_far true b ≡ true) × (fold ascii_text_so_far true bs ≡ true)
 ascii_text_cons b bs e =
     let stuck : fold ascii_text_so_far false bs ≡ false = fold_stays ascii_text_so_far false (λ _. refl) bs in
     elim (cases_Bool (ascii_text_so_far true b)) [
@@ -44,7 +45,8 @@ ascii_text_chars bs e = (chars-IsAscii bs (ascii_text_ascii bs e), ascii_text_un
 abbrev is_deciding_byte : ℕ → Bool
 is_deciding_byte byte = (byte == 0) || nat_le 0xf0 byte
 
-encode_utf8-four : (c : ℕ) → 65536 ≤ c → encode_utf8 c ≡ (240 + c / 262144) ∷ (128 + c / 4096 % 64) ∷ (128 + c / 64 % 64) ∷ (128 + c % 64) ∷ []
+encode_utf8-four : (c : ℕ) → 65536 ≤ c
+    → encode_utf8 c ≡ (240 + c / 262144) ∷ (128 + c / 4096 % 64) ∷ (128 + c / 64 % 64) ∷ (128 + c % 64) ∷ []
 unfolding encode_utf8
 encode_utf8-four c low =
     let one : 128 ≤ c = omega arith in
@@ -63,13 +65,19 @@ found_nul bs = fold_stays deciding_byte_so_far true (λ _. refl) bs
 
 -- where no byte decides, the character at the front does not
 undecided_first : (c : ℕ) (bs : List ℕ) → fold deciding_byte_so_far false (encode_utf8 c ++ bs) ≡ false → is_deciding_char c ≡ false
-undecided_first zero bs e = let found = found_nul bs in let none : fold deciding_byte_so_far false (0 ∷ bs) ≡ false = rw (encode_ascii 0 (omega arith)) at e in absurd (grind (arith, common_steps))
+undecided_first zero bs e =
+    let found = found_nul bs in
+    let none : fold deciding_byte_so_far false (0 ∷ bs) ≡ false = rw (encode_ascii 0 (omega arith)) at e in
+    absurd (grind (arith, common_steps))
 undecided_first (suc n) bs e =
     elim (cases_lt (suc n) 65536) [
       | inl low ↦ grind (arith, common_steps)
       | inr high ↦
           let found = found_first (240 + suc n / 262144) ((128 + suc n / 4096 % 64) ∷ (128 + suc n / 64 % 64) ∷ (128 + suc n % 64) ∷ bs) (omega arith) in
-          let none : fold deciding_byte_so_far false ((240 + suc n / 262144) ∷ (128 + suc n / 4096 % 64) ∷ (128 + suc n / 64 % 64) ∷ (128 + suc n % 64) ∷ bs) ≡ false = rw (encode_utf8-four (suc n) high) at e in
+          let none : fold deciding_byte_so_far false
+          ((240 + suc n / 262144) ∷ (128 + suc n / 4096 % 64) ∷ (128 + suc n / 64 % 64) ∷ (128 + suc n % 64) ∷ bs)
+          ≡ false =
+          rw (encode_utf8-four (suc n) high) at e in
           absurd (grind (arith, common_steps))
     ]
 
@@ -104,7 +112,9 @@ length-encode_utf8-three c low high = rw (encode_utf8-three c low high) refl
 pub ruleset unit_widths = (encode_utf8-two, encode_utf8-three, length-encode_utf8-two, length-encode_utf8-three, encode_ascii)
 
 -- a unit has one byte, a second from U+0080 on, and a third from U+0800 on
-length-encode_utf8-unit : (u : ℕ) (us : List ℕ) → u < 65536 → length (encode_utf8 u) + count_by (λ v. nat_le 0x80 v) us + count_by (λ v. nat_le 0x800 v) us ≡ 1 + count_by (λ v. nat_le 0x80 v) (u ∷ us) + count_by (λ v. nat_le 0x800 v) (u ∷ us)
+length-encode_utf8-unit : (u : ℕ) (us : List ℕ) → u < 65536
+    → length (encode_utf8 u) + count_by (λ v. nat_le 0x80 v) us + count_by (λ v. nat_le 0x800 v) us
+    ≡ 1 + count_by (λ v. nat_le 0x80 v) (u ∷ us) + count_by (λ v. nat_le 0x800 v) (u ∷ us)
 length-encode_utf8-unit u us small =
     elim (cases_lt u 128) [
       | inl low ↦ let one = encode_ascii u low in grind (arith, common_steps)
@@ -115,7 +125,8 @@ length-encode_utf8-unit u us small =
           ]
     ]
 
-pub length-encode_utf8_all : (us : List ℕ) → ((k : ℕ) → get_or us k 0 < 65536) → length (encode_utf8_all us) ≡ length us + count_by (λ v. nat_le 0x80 v) us + count_by (λ v. nat_le 0x800 v) us
+pub length-encode_utf8_all : (us : List ℕ) → ((k : ℕ) → get_or us k 0 < 65536)
+    → length (encode_utf8_all us) ≡ length us + count_by (λ v. nat_le 0x80 v) us + count_by (λ v. nat_le 0x800 v) us
 length-encode_utf8_all [] small = refl
 length-encode_utf8_all (u ∷ us) small =
     let first = length-encode_utf8-unit u us (small 0) in
@@ -132,7 +143,8 @@ beyond_latin1_byte b bs high =
     rw (le-leb 0xc4 b high) (fold_stays byte_beyond_latin1_so_far true (λ _. refl) bs)
 
 -- a character of Latin-1 is passed over
-latin1_char : (c : ℕ) (bs : List ℕ) → c < 256 → fold byte_beyond_latin1_so_far false (encode_utf8 c ++ bs) ≡ fold byte_beyond_latin1_so_far false bs
+latin1_char : (c : ℕ) (bs : List ℕ) → c < 256
+    → fold byte_beyond_latin1_so_far false (encode_utf8 c ++ bs) ≡ fold byte_beyond_latin1_so_far false bs
 latin1_char c bs small =
     elim (cases_lt c 128) [
       | inl low ↦ rw (encode_ascii c low) (latin1_byte c bs (omega arith))
@@ -175,5 +187,6 @@ encodes-IsLatin1 (c ∷ cs) latin1 =
 -- a text is one of Latin-1 exactly where no byte begins a character beyond it
 pub latin1_bytes : (bs : List ℕ) → IsUtf8 bs → (fold byte_beyond_latin1_so_far false bs ≡ false) ↔ IsLatin1 (chars bs)
 latin1_bytes bs utf8 =
-    let same : fold byte_beyond_latin1_so_far false (encodes (chars bs)) ≡ fold byte_beyond_latin1_so_far false bs = ap (fold byte_beyond_latin1_so_far false) (encodes-chars bs utf8) in
+    let same : fold byte_beyond_latin1_so_far false (encodes (chars bs)) ≡ fold byte_beyond_latin1_so_far false bs =
+    ap (fold byte_beyond_latin1_so_far false) (encodes-chars bs utf8) in
     (λ e. IsLatin1-encodes (chars bs) (same ∙ e), λ latin1. sym same ∙ encodes-IsLatin1 (chars bs) latin1)

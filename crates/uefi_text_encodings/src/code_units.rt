@@ -1,5 +1,5 @@
 //! Code units of Rust texts: in a vector, where the text is one of UCS-2, or in a buffer.
-ghost use Rattle.std.specs.Prelude.{◌≡◌, ◌+◌, ◌<◌, if◌then◌else◌, None, Some, find, length, unwrap_or, IfOk, IfErr};
+ghost use Rattle.std.specs.Prelude.{◌≡◌, ◌+◌, ◌<◌, ◌++◌, if◌then◌else◌, None, Some, drop, find, length, take, unwrap_or, IfOk, IfErr};
 ghost use Rattle.std.specs.Char.Escape.{encode_utf16};
 ghost use Rattle.std.specs.Result.{result_err};
 ghost use Rattle.std.specs.Str.{chars};
@@ -87,7 +87,7 @@ pub fn write_text(input: &str, buffer: &mut [u16]) -> Result<usize, FromStrWithB
     for character in input.chars() {
         // Every character before the first that is refused is one unit.
         refusal = refusal.or(refusal_of_char(character, len));
-        len += write_char(character, &mut buffer[len..]);
+        len += write_char(character, buffer, len);
         if buffer.len() <= len {
             return Err(FromStrWithBufError::BufferTooSmall);
         }
@@ -99,7 +99,7 @@ pub fn write_text(input: &str, buffer: &mut [u16]) -> Result<usize, FromStrWithB
     }
 }
 
-/// Why a character behind so many others is refused, if it is.
+/// Why a character at a place of a text is refused, if it is.
 fn refusal_of_char(character: char, place: usize) -> Option<FromStrWithBufError>
     ensures { result ≡ (if is_deciding_char character
         then Some (refusal_of_char_at character place)
@@ -112,18 +112,19 @@ fn refusal_of_char(character: char, place: usize) -> Option<FromStrWithBufError>
     }
 }
 
-/// Writes the one or two units of a character into the front of a buffer, and answers how many
-/// they are. Where there is one place, the first alone is written.
-fn write_char(character: char, buffer: &mut [u16]) -> usize
-    requires { 0 < length buffer.old }
+/// Writes the one or two units of a character into a buffer from a place on, and returns how many
+/// they are. Where that is the last place, the first alone is written.
+fn write_char(character: char, buffer: &mut [u16], place: usize) -> usize
+    requires { place < length buffer.old }
     ensures len { result ≡ length (encode_utf16 character) }
-    ensures buffer { buffer.new ≡ with_units (encode_utf16 character) buffer.old }
+    ensures buffer { buffer.new
+        ≡ take place buffer.old ++ with_units (encode_utf16 character) (drop place buffer.old) }
 {
     let mut pair = [0; 2];
     let units = character.encode_utf16(&mut pair);
-    buffer[0] = units[0];
-    if 1 < units.len() && 1 < buffer.len() {
-        buffer[1] = units[1];
+    buffer[place] = units[0];
+    if 1 < units.len() && place + 1 < buffer.len() {
+        buffer[place + 1] = units[1];
     }
     units.len()
 }

@@ -15,7 +15,8 @@ loop-character-preserved c =
     record {
       counted = length-utf16-push c.loop-character.yielded _ _ _ so_far.counted c.write_char-len.ensures.len;
       place_left = c.if-buffer-len.false;
-      written = with_units-char c.args.buffer.now _ _ c.loop-character.yielded c.in-Some.character _ so_far.counted so_far.place_left so_far.written c.write_char-len.ensures.buffer;
+      written =
+          with_units-char c.args.buffer.now _ _ c.loop-character.yielded c.in-Some.character _ so_far.counted so_far.place_left so_far.written c.write_char-len.ensures.buffer;
       refused = cc (c.or-refusal.ensures, c.refusal_of_char.ensures);
       utf8 = IsUtf8-past_char _ _ _ so_far.utf8 c.in-Some.ensures.steps.0;
       to_come = chars_step _ _ _ _ _ so_far.utf8 c.in-Some.ensures.steps.0 so_far.to_come;
@@ -27,7 +28,8 @@ returns-then-buffer-len c =
     let old = c.args.buffer.now in
     let front = c.loop-character.yielded ++ c.in-Some.character ∷ [] in
     let text = chars_step _ _ _ _ _ so_far.utf8 c.in-Some.ensures.steps.0 so_far.to_come in
-    let written = with_units-char old _ _ c.loop-character.yielded c.in-Some.character _ so_far.counted so_far.place_left so_far.written c.write_char-len.ensures.buffer in
+    let written =
+    with_units-char old _ _ c.loop-character.yielded c.in-Some.character _ so_far.counted so_far.place_left so_far.written c.write_char-len.ensures.buffer in
     let count = length-utf16-push c.loop-character.yielded _ _ _ so_far.counted c.write_char-len.ensures.len in
     let full : length old ≤ length (utf16 front) = omega (arith, c.if-buffer-len.true, ap length written ∙ length-with_units (utf16 front) old, count) in
     let end = filled old front (chars (chars_rest c.next.new.self)) full in

@@ -12,5 +12,7 @@ loop-len-preserved c =
     let inside : from + n ≤ length us = omega arith in
     record {
       within = omega arith;
-      none = λ k h. none_in_blocks is_deciding decided_so_far (λ _. refl) (λ _. refl) us from n inside c.loop-len.invariant.none (sym c.if-not-has_deciding.ensures) k (omega (arith, h));
+      none =
+          λ k h. none_in_blocks is_deciding decided_so_far (λ _. refl) (λ _. refl) us from n inside c.loop-len.invariant.none
+          (sym c.if-not-has_deciding.ensures) k (omega (arith, h));
     }

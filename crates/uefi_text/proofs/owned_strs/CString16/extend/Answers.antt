@@ -10,7 +10,8 @@ returns-in_err-push-clause-err g c =
     let it = c.into_iter-character-iterator in
     let so_far = c.loop-character in
     let xs = so_far.yielded in
-    let made = run_of_turn g.I.Iterator.next_gives it.result xs so_far.character-iterator so_far.yielded_by c.in-Some.character c.next.new.self c.in-Some.ensures.steps in
+    let made =
+    run_of_turn g.I.Iterator.next_gives it.result xs so_far.character-iterator so_far.yielded_by c.in-Some.character c.next.new.self c.in-Some.ensures.steps in
     let front : xs ≡ take (length xs) made.0.items = rw (made.2.0, take-append_seam) refl in
     let added : SomeRun g.I.Iterator.next_gives c.args.characters (λ run. (k : ℕ) × (k < run.len) × (c.push.new.self ≡ c.args.self.now ++ take k run.items)) =
     (made.0, made.1 ∙ it.ensures.into_iter_gives, (length xs, omega (arith, made.2.1), c.in_err-push.ensures.err ∙ so_far.invariant ∙ ap (λ (ys : List ℕ). c.args.self.now ++ ys) front)) in

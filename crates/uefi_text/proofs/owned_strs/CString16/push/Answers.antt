@@ -12,6 +12,8 @@ invariant_of-self-2 g c =
     let unit = c.from.result in
     let grown : c.push.new.self.items ≡ nul_terminated text ++ 0 ∷ [] = c.in_ok-push.ensures.items ∙ ap (λ units. units ++ 0 ∷ []) c.self.invariant.0 in
     let end : c.num_chars-end.result ≡ length text = cc in
-    let written : set c.push.new.self.items c.num_chars-end.result unit ≡ nul_terminated (text ++ unit ∷ []) = rw (grown, end) (nul_terminated-push text unit) in
+    let written : set c.push.new.self.items c.num_chars-end.result unit ≡ nul_terminated (text ++ unit ∷ []) =
+    rw (grown, end) (nul_terminated-push text unit) in
     let is_unit : IsTextUnit unit = grind (arith, common_steps) in
-    IsString-made _ (text ++ unit ∷ []) written (All-append IsTextUnit text (unit ∷ []) c.self.invariant.1 (All-cons IsTextUnit unit [] is_unit (All-nil IsTextUnit)))
+    IsString-made _ (text ++ unit ∷ []) written
+    (All-append IsTextUnit text (unit ∷ []) c.self.invariant.1 (All-cons IsTextUnit unit [] is_unit (All-nil IsTextUnit)))
