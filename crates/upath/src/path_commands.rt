@@ -37,8 +37,8 @@ pub struct RunFault {
     pub done: usize,
 }
 
-/// Does one command. After a refusal the path is as it was.
-fn run_command<A: Allocator + Copy>(
+/// Does one command. After a refusal the path is unchanged.
+pub(crate) fn run_command<A: Allocator + Copy>(
     alloc: A,
     path: &mut PathBuf<A>,
     command: PathCommand<'_>,
