@@ -86,7 +86,7 @@ impl<A: Allocator + Copy> Run<A> {
         *self.output.allocator()
     }
 
-    /// The string of a command's text; where the text is refused it is printed why.
+    /// The string of a command's text. Where the text is refused this prints why, and returns `None`.
     fn read_text(&mut self, text: &str) -> Result<Option<CString16<A>>, AllocError>
         ensures path { OnOk result (self.new.path ≡ self.old.path) }
         ensures text { IfOk result (λ string. MatchOption string
@@ -281,14 +281,15 @@ impl<A: Allocator + Copy> Run<A> {
 /// What the lines of an input print, from the empty path on.
 ///
 /// Lines end at a line feed, and no other byte ends or trims one. `from T` makes the path that of
-/// T, its slashes turned, `push T` and `join T` put that behind it, `clear` empties it, `parent`
-/// makes it its parent, and each prints it; `parent` prints `none` where there is none. `pieces`
-/// prints the number of components and each, `up` that of the successive parents and each; `eq T`
-/// and `cmp T` print how the path compares with that of T, taken as it stands; `check` prints
-/// whether it is accepted, or why not. A line that is not UTF-8, one that is no command and a T
-/// that is no text of UCS-2 are answered by a line of their own and leave the path. The only error
-/// is want of memory, which answers nothing of the output. Memory is linear in the input and the
-/// output; a line costs what it says, what it prints, and at most a pass over the path.
+/// T, its slashes replaced, `push T` and `join T` push that onto it, `clear` empties it, `parent`
+/// makes it its parent, and each prints it; `parent` prints `none` where there is none. These edits
+/// are those of [`crate::run_commands`]. `pieces` prints the number of components and each, `up`
+/// that of the successive parents and each; `eq T` and `cmp T` print how the path compares with
+/// that of T, taken as it stands; `check` prints whether it is accepted, or why not. A line that is
+/// not UTF-8, one that is no command and a T that is no text of UCS-2 print a line that says so and
+/// leave the path unchanged. The only error is out of memory, and then nothing of the output is
+/// returned. Memory is linear in the input and the output; a line costs what it says, what it
+/// prints, and at most a pass over the path.
 pub fn run_text<A: Allocator + Copy>(alloc: A, input: &[u8]) -> Result<Vec<u8, A>, AllocError>
     ensures { IfOk result (λ output. output.items ≡ output_of input.now) }
 {
