@@ -32,7 +32,7 @@ front_with_end (n ∷ ns) ends pieces full =
     front_joined n ns (if ends then separator ∷ [] else []) (All-head IsPiece n ns pieces)
     (All-head IsFull n ns full)
 
--- what stands between the separators of such pieces, and of the end behind them
+-- what stands between the separators of such pieces, and of the end after them
 pub split_with_end : (n : List ℕ) (ns : List (List ℕ)) (ends : Bool) → All IsPiece (n ∷ ns)
     → slice_split is_separator (joined_with_end (n ∷ ns) ends) ≡ (n ∷ ns)
     ++ (if ends then [] ∷ [] else [])

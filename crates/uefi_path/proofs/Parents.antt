@@ -36,10 +36,10 @@ open_piece (u ∷ us) piece full =
     ap not (ne_eqb last separator (piece (length us) 0 (omega arith)))
 
 -- a separator in front changes nothing
-pub behind_separator : (us : List ℕ) → needs_separator us ≡ true
+pub after_separator : (us : List ℕ) → needs_separator us ≡ true
     → needs_separator (separator ∷ us) ≡ true
-behind_separator [] missing = absurd (false≢true missing)
-behind_separator (u ∷ us) missing = needs_separator-append (separator ∷ []) u us ∙ missing
+after_separator [] missing = absurd (false≢true missing)
+after_separator (u ∷ us) missing = needs_separator-append (separator ∷ []) u us ∙ missing
 
 -- and after such pieces that were joined
 pub open_joined : (p : List ℕ) (ps : List (List ℕ)) → All IsPiece (p ∷ ps) → All IsFull (p ∷ ps)
@@ -49,7 +49,7 @@ open_joined p (q ∷ qs) pieces full =
     let others =
     open_joined q qs (All-tail IsPiece p (q ∷ qs) pieces) (All-tail IsFull p (q ∷ qs) full) in
     needs_separator-append p separator (joined (q ∷ qs))
-    ∙ behind_separator (joined (q ∷ qs)) others
+    ∙ after_separator (joined (q ∷ qs)) others
 
 -- one piece more
 pub joined-append : (p : List ℕ) (ps : List (List ℕ)) (q : List ℕ)
@@ -64,22 +64,22 @@ ends_empty-append [] q = refl
 ends_empty-append (p ∷ []) q = refl
 ends_empty-append (p ∷ r ∷ rs) q = ends_empty-append (r ∷ rs) q
 
-added_behind : (n : List ℕ) (ns : List (List ℕ)) (q : List ℕ)
+added_after : (n : List ℕ) (ns : List (List ℕ)) (q : List ℕ)
     → joined_with_end ((n ∷ ns) ++ filled (q ∷ [])) (not (is_filled q))
     ≡ joined (n ∷ ns) ++ separator ∷ q
-added_behind n ns [] = ap (λ ms. joined (n ∷ ms) ++ separator ∷ []) (append-nil ns)
-added_behind n ns (u ∷ us) =
+added_after n ns [] = ap (λ ms. joined (n ∷ ms) ++ separator ∷ []) (append-nil ns)
+added_after n ns (u ∷ us) =
     append-nil (joined (n ∷ (ns ++ (u ∷ us) ∷ []))) ∙ joined-append n ns (u ∷ us)
 
-behind_closed : (text q : List ℕ) → appended (text ++ separator ∷ []) q ≡ text ++ separator ∷ q
-behind_closed text q =
+after_closed : (text q : List ℕ) → appended (text ++ separator ∷ []) q ≡ text ++ separator ∷ q
+after_closed text q =
     let ended = text ++ separator ∷ [] in
     ap (λ b. if b then ended ++ separator ∷ q else ended ++ q) (closed text)
     ∙ append_assoc text (separator ∷ []) q
 
-behind_open : (text q : List ℕ) → needs_separator text ≡ true
+after_open : (text q : List ℕ) → needs_separator text ≡ true
     → appended text q ≡ text ++ separator ∷ q
-behind_open text q missing = ap (λ b. if b then text ++ separator ∷ q else text ++ q) missing
+after_open text q missing = ap (λ b. if b then text ++ separator ∷ q else text ++ q) missing
 
 -- a piece after those that are filled, of which the last of all is empty where `ends` is true
 added_piece : (ns : List (List ℕ)) (ends : Bool) (q : List ℕ) → All IsPiece ns → All IsFull ns
@@ -88,12 +88,12 @@ added_piece : (ns : List (List ℕ)) (ends : Bool) (q : List ℕ) → All IsPiec
 added_piece [] ends [] pieces full = refl
 added_piece [] ends (u ∷ us) pieces full = append-nil (u ∷ us)
 added_piece (n ∷ ns) true q pieces full =
-    added_behind n ns q ∙ sym (behind_closed (joined (n ∷ ns)) q)
+    added_after n ns q ∙ sym (after_closed (joined (n ∷ ns)) q)
 added_piece (n ∷ ns) false q pieces full =
     let text = joined (n ∷ ns) in
-    added_behind n ns q
+    added_after n ns q
     ∙ sym (ap (λ us. appended us q) (append-nil text)
-    ∙ behind_open text q (open_joined n ns pieces full))
+    ∙ after_open text q (open_joined n ns pieces full))
 
 pub All-filled : (ps : List (List ℕ)) → All IsFull (filled ps)
 All-filled [] = All-nil IsFull

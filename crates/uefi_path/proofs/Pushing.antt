@@ -1,20 +1,27 @@
 -- What was pushed onto a text: which units it has, and what replacing its slashes does.
 use Rattle.std.proofs.Common.{◌≡◌, ◌≢◌, ℕ, List, [], ◌∷◌, ◌++◌, length, All, true, false, take, drop, if◌then◌else◌, ap, refl, ◌∙◌, arith}
 use Rattle.std.proofs.lemmas.Grind.{common_steps}
+use Rattle.std.proofs.lemmas.List.{drop-append-le, drop_all, take-append-le, take_all}
 use Rattle.std.proofs.lemmas.List.Elements.{All-append, All-cons, All-head, All-tail}
-use Rattle.std.proofs.Math.Seq.{drop-append_seam, take-append_seam}
 use Rattle.uefi_text.specs.Units.{replaced}
 use Rattle.uefi_path.specs.Separators.{IsPlain, separator, slash, slashed}
 use Rattle.uefi_path.specs.Pushing.{appended, needs_separator, pushed}
 use Rattle.uefi_path.proofs.Splitting.{IsPlain-slashed}
 
--- a text of which the slashes after so many units are replaced
+-- a text whose slashes are replaced, but for those in its first `count` units
 abbrev slashed_after : ℕ → List ℕ → List ℕ
 slashed_after count text = take count text ++ slashed (drop count text)
 
 -- only what was added stands after the text
 slashed_added : (text more : List ℕ) → slashed_after (length text) (text ++ more) ≡ text ++ slashed more
-slashed_added text more = rw (take-append_seam text more, drop-append_seam text more) refl
+slashed_added text more =
+    let none : drop (length text) text ≡ [] = drop_all (length text) text (omega arith) in
+    let before : take (length text) (text ++ more) ≡ text =
+    take-append-le (length text) text more (omega arith)
+    ∙ take_all (length text) text (omega arith) in
+    let after : drop (length text) (text ++ more) ≡ more =
+    drop-append-le (length text) text more (omega arith) ∙ ap (λ us. us ++ more) none in
+    rw (before, after) refl
 
 -- replacing the slashes after the text replaces those of the part
 pub slashed-appended : (text part : List ℕ)

@@ -5,7 +5,7 @@ use Rattle.uefi_path.specs.Parents.{above}
 use Rattle.uefi_path.proofs.ParentSizes.{above-shorter}
 use Rattle.upath.specs.SuccessiveParents.{AreParents, parents_from, parents_of}
 
--- a parent, if there is one, has fewer than so many units
+-- a parent, if there is one, has fewer units than `most`
 abbrev Within : Option (List ℕ) → ℕ → Type 0
 Within None most = ⊤
 Within (Some parent) most = length parent < most
@@ -17,7 +17,7 @@ Within-above text most within = go (above text) refl
     go None e = tt
     go (Some parent) e = omega (arith, above-shorter text parent e, within)
 
--- more room than is needed changes nothing
+-- a greater bound than is needed changes nothing
 parents_from-enough : (most more : ℕ) (o : Option (List ℕ)) → Within o most → Within o more
     → parents_from most o ≡ parents_from more o
 parents_from-enough most more None within too = refl
@@ -28,7 +28,7 @@ parents_from-enough (suc most) (suc more) (Some parent) within too =
     let also = Within-above parent more (omega (arith, too)) in
     ap (λ parents. parent ∷ parents) (parents_from-enough most more (above parent) fewer also)
 
--- a parent that there may be, and its successive parents
+-- a parent, if there is one, and its successive parents
 abbrev pub chain : Option (List ℕ) → List (List ℕ)
 chain None = []
 chain (Some parent) = parent ∷ parents_of parent
@@ -54,7 +54,7 @@ AreParents-from (suc most) text (Some parent) e within =
 pub AreParents-parents_of : (text : List ℕ) → AreParents text (parents_of text)
 AreParents-parents_of text = AreParents-from (length text) text (above text) refl (omega arith)
 
--- how many parents there may still be at most: one more than a parent has units
+-- how many parents may still come at most: one more than a parent has units
 abbrev pub most_left : Option (List ℕ) → ℕ
 most_left None = 0
 most_left (Some parent) = length parent + 1

@@ -37,7 +37,7 @@ above_last-one : (cs : List (List ℕ)) → above_last (take 1 cs) ≡ None
 above_last-one [] = refl
 above_last-one (c ∷ cs) = refl
 
--- the parents of a text that has so many of the components
+-- the parents of a text of `count` components and one more, the first of all
 parents_of_some : (text : List ℕ) (count : ℕ) (cs : List (List ℕ)) → All IsGood cs → count < length cs
     → components_of text ≡ take (suc count) cs → AreParents text (beginnings count cs)
 parents_of_some text zero cs good below e = ap above_last e ∙ above_last-one cs

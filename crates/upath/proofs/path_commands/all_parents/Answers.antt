@@ -21,9 +21,9 @@ loop-next-smaller g c =
 pub loop-next-preserved : goal.loop-next-preserved
 loop-next-preserved g c =
     let next : c.in_ok-next-2.next ≡ above c.in-Some.parent = c.in_ok-next-2.ensures.ok in
-    let behind = ap chain next ∙ sym (parents_of-chain c.in-Some.parent) in
+    let after = ap chain next ∙ sym (parents_of-chain c.in-Some.parent) in
     let so_far = ap chain c.in-Some.is in
-    grind (arith, common_steps, behind, so_far)
+    grind (arith, common_steps, after, so_far)
 
 pub returns-clause-parents : goal.returns-clause-parents
 returns-clause-parents g c =
