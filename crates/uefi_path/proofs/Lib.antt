@@ -1,10 +1,9 @@
 pub mod Splitting
 pub mod Pushing
 pub mod Parents
-pub mod Values
-pub mod Shrinking
+pub mod PathTexts
 pub mod Joining
 pub mod Validity
-pub mod Climbing
+pub mod ParentForm
+pub mod ParentSizes
 pub mod Rebuilding
-pub mod Counting

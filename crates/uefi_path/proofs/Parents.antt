@@ -11,98 +11,135 @@ use Rattle.uefi_path.specs.Pushing.{appended, needs_separator}
 use Rattle.uefi_path.specs.Separators.{canon, is_separator, separator, slashed}
 use Rattle.uefi_path.proofs.Splitting.{All-onto_first}
 
--- behind more units the last one decides
-pub needs_separator-append : (us : List ℕ) (v : ℕ) (vs : List ℕ) → needs_separator (us ++ v ∷ vs) ≡ needs_separator (v ∷ vs)
+-- a full piece: it is not empty
+abbrev pub IsFull : List ℕ → Type 0
+IsFull piece = is_filled piece ≡ true
+
+-- after more units the last one decides
+pub needs_separator-append : (us : List ℕ) (v : ℕ) (vs : List ℕ)
+    → needs_separator (us ++ v ∷ vs) ≡ needs_separator (v ∷ vs)
 needs_separator-append [] v vs = refl
 needs_separator-append (u ∷ us) v vs =
     let place : length (us ++ v ∷ vs) ≡ length (u ∷ us) + length vs = omega (arith, length-append us (v ∷ vs)) in
     ap (λ i. not (is_separator (get_or (u ∷ (us ++ v ∷ vs)) i 0))) place
     ∙ ap (λ unit. not (is_separator unit)) (get_or-append-add (u ∷ us) (v ∷ vs) (length vs) 0)
 
--- none is missing behind a separator
+-- none is missing after a separator
 closed : (us : List ℕ) → needs_separator (us ++ separator ∷ []) ≡ false
 closed us = needs_separator-append us separator []
 
--- one is missing behind a piece that is not empty
-open_piece : (p : List ℕ) → IsPiece p → is_filled p ≡ true → needs_separator p ≡ true
-open_piece [] piece is_full = absurd (false≢true is_full)
-open_piece (u ∷ us) piece is_full = ap not (ne_eqb (get_or (u ∷ us) (length us) 0) separator (piece (length us) 0 (omega arith)))
+-- one is missing after a full piece
+open_piece : (p : List ℕ) → IsPiece p → IsFull p → needs_separator p ≡ true
+open_piece [] piece full = absurd (false≢true full)
+open_piece (u ∷ us) piece full =
+    let last = get_or (u ∷ us) (length us) 0 in
+    ap not (ne_eqb last separator (piece (length us) 0 (omega arith)))
 
 -- a separator in front changes nothing
-pub behind_separator : (us : List ℕ) → needs_separator us ≡ true → needs_separator (separator ∷ us) ≡ true
-behind_separator [] missing = absurd (false≢true missing)
-behind_separator (u ∷ us) missing = needs_separator-append (separator ∷ []) u us ∙ missing
+pub after_separator : (us : List ℕ) → needs_separator us ≡ true
+    → needs_separator (separator ∷ us) ≡ true
+after_separator [] missing = absurd (false≢true missing)
+after_separator (u ∷ us) missing = needs_separator-append (separator ∷ []) u us ∙ missing
 
--- and behind such pieces that were joined
-pub open_joined : (p : List ℕ) (ps : List (List ℕ)) → All IsPiece (p ∷ ps) → All (λ q. is_filled q ≡ true) (p ∷ ps) → needs_separator (joined (p ∷ ps)) ≡ true
-open_joined p [] pieces are_full = open_piece p (All-head IsPiece p [] pieces) (All-head (λ q. is_filled q ≡ true) p [] are_full)
-open_joined p (q ∷ qs) pieces are_full =
-    let others = open_joined q qs (All-tail IsPiece p (q ∷ qs) pieces) (All-tail (λ r. is_filled r ≡ true) p (q ∷ qs) are_full) in
-    needs_separator-append p separator (joined (q ∷ qs)) ∙ behind_separator (joined (q ∷ qs)) others
+-- and after such pieces that were joined
+pub open_joined : (p : List ℕ) (ps : List (List ℕ)) → All IsPiece (p ∷ ps) → All IsFull (p ∷ ps)
+    → needs_separator (joined (p ∷ ps)) ≡ true
+open_joined p [] pieces full = open_piece p (All-head IsPiece p [] pieces) (All-head IsFull p [] full)
+open_joined p (q ∷ qs) pieces full =
+    let others =
+    open_joined q qs (All-tail IsPiece p (q ∷ qs) pieces) (All-tail IsFull p (q ∷ qs) full) in
+    needs_separator-append p separator (joined (q ∷ qs))
+    ∙ after_separator (joined (q ∷ qs)) others
 
 -- one piece more
-pub joined-append : (p : List ℕ) (ps : List (List ℕ)) (q : List ℕ) → joined (p ∷ (ps ++ q ∷ [])) ≡ joined (p ∷ ps) ++ separator ∷ q
+pub joined-append : (p : List ℕ) (ps : List (List ℕ)) (q : List ℕ)
+    → joined (p ∷ (ps ++ q ∷ [])) ≡ joined (p ∷ ps) ++ separator ∷ q
 joined-append p [] q = refl
-joined-append p (r ∷ rs) q = ap (λ units. p ++ separator ∷ units) (joined-append r rs q) ∙ sym (append_assoc p (separator ∷ joined (r ∷ rs)) (separator ∷ q))
+joined-append p (r ∷ rs) q =
+    ap (λ units. p ++ separator ∷ units) (joined-append r rs q)
+    ∙ sym (append_assoc p (separator ∷ joined (r ∷ rs)) (separator ∷ q))
 
 ends_empty-append : (ps : List (List ℕ)) (q : List ℕ) → ends_empty (ps ++ q ∷ []) ≡ not (is_filled q)
 ends_empty-append [] q = refl
 ends_empty-append (p ∷ []) q = refl
 ends_empty-append (p ∷ r ∷ rs) q = ends_empty-append (r ∷ rs) q
 
-added_behind : (n : List ℕ) (ns : List (List ℕ)) (q : List ℕ) → joined_with_end ((n ∷ ns) ++ filled (q ∷ [])) (not (is_filled q)) ≡ joined (n ∷ ns) ++ separator ∷ q
-added_behind n ns [] = ap (λ ms. joined (n ∷ ms) ++ separator ∷ []) (append-nil ns)
-added_behind n ns (u ∷ us) = append-nil (joined (n ∷ (ns ++ (u ∷ us) ∷ []))) ∙ joined-append n ns (u ∷ us)
+added_after : (n : List ℕ) (ns : List (List ℕ)) (q : List ℕ)
+    → joined_with_end ((n ∷ ns) ++ filled (q ∷ [])) (not (is_filled q))
+    ≡ joined (n ∷ ns) ++ separator ∷ q
+added_after n ns [] = ap (λ ms. joined (n ∷ ms) ++ separator ∷ []) (append-nil ns)
+added_after n ns (u ∷ us) =
+    append-nil (joined (n ∷ (ns ++ (u ∷ us) ∷ []))) ∙ joined-append n ns (u ∷ us)
 
-behind_closed : (text q : List ℕ) → appended (text ++ separator ∷ []) q ≡ text ++ separator ∷ q
-behind_closed text q = ap (λ b. if b then (text ++ separator ∷ []) ++ separator ∷ q else (text ++ separator ∷ []) ++ q) (closed text) ∙ append_assoc text (separator ∷ []) q
+after_closed : (text q : List ℕ) → appended (text ++ separator ∷ []) q ≡ text ++ separator ∷ q
+after_closed text q =
+    let ended = text ++ separator ∷ [] in
+    ap (λ b. if b then ended ++ separator ∷ q else ended ++ q) (closed text)
+    ∙ append_assoc text (separator ∷ []) q
 
-behind_open : (text q : List ℕ) → needs_separator text ≡ true → appended text q ≡ text ++ separator ∷ q
-behind_open text q missing = ap (λ b. if b then text ++ separator ∷ q else text ++ q) missing
+after_open : (text q : List ℕ) → needs_separator text ≡ true
+    → appended text q ≡ text ++ separator ∷ q
+after_open text q missing = ap (λ b. if b then text ++ separator ∷ q else text ++ q) missing
 
--- a piece behind those that are filled, of which the last of all is empty where `ends` is true
-added_piece : (ns : List (List ℕ)) (ends : Bool) (q : List ℕ) → All IsPiece ns → All (λ p. is_filled p ≡ true) ns → joined_with_end (ns ++ filled (q ∷ [])) (not (is_filled q)) ≡ appended (joined_with_end ns ends) q
-added_piece [] ends [] pieces are_full = refl
-added_piece [] ends (u ∷ us) pieces are_full = append-nil (u ∷ us)
-added_piece (n ∷ ns) true q pieces are_full = added_behind n ns q ∙ sym (behind_closed (joined (n ∷ ns)) q)
-added_piece (n ∷ ns) false q pieces are_full =
-    added_behind n ns q
-    ∙ sym (ap (λ text. appended text q) (append-nil (joined (n ∷ ns))) ∙ behind_open (joined (n ∷ ns)) q (open_joined n ns pieces are_full))
+-- a piece after those that are filled, of which the last of all is empty where `ends` is true
+added_piece : (ns : List (List ℕ)) (ends : Bool) (q : List ℕ) → All IsPiece ns → All IsFull ns
+    → joined_with_end (ns ++ filled (q ∷ [])) (not (is_filled q))
+    ≡ appended (joined_with_end ns ends) q
+added_piece [] ends [] pieces full = refl
+added_piece [] ends (u ∷ us) pieces full = append-nil (u ∷ us)
+added_piece (n ∷ ns) true q pieces full =
+    added_after n ns q ∙ sym (after_closed (joined (n ∷ ns)) q)
+added_piece (n ∷ ns) false q pieces full =
+    let text = joined (n ∷ ns) in
+    added_after n ns q
+    ∙ sym (ap (λ us. appended us q) (append-nil text)
+    ∙ after_open text q (open_joined n ns pieces full))
 
-pub All-filled : (ps : List (List ℕ)) → All (λ p. is_filled p ≡ true) (filled ps)
-All-filled [] = All-nil (λ p. is_filled p ≡ true)
+pub All-filled : (ps : List (List ℕ)) → All IsFull (filled ps)
+All-filled [] = All-nil IsFull
 All-filled ([] ∷ ps) = All-filled ps
-All-filled ((u ∷ us) ∷ ps) = All-cons (λ p. is_filled p ≡ true) (u ∷ us) (filled ps) refl (All-filled ps)
+All-filled ((u ∷ us) ∷ ps) = All-cons IsFull (u ∷ us) (filled ps) refl (All-filled ps)
 
 pub All-IsPiece-filled : (ps : List (List ℕ)) → All IsPiece ps → All IsPiece (filled ps)
 All-IsPiece-filled [] pieces = All-nil IsPiece
 All-IsPiece-filled ([] ∷ ps) pieces = All-IsPiece-filled ps (All-tail IsPiece [] ps pieces)
-All-IsPiece-filled ((u ∷ us) ∷ ps) pieces = All-cons IsPiece (u ∷ us) (filled ps) (All-head IsPiece (u ∷ us) ps pieces) (All-IsPiece-filled ps (All-tail IsPiece (u ∷ us) ps pieces))
+All-IsPiece-filled ((u ∷ us) ∷ ps) pieces =
+    All-cons IsPiece (u ∷ us) (filled ps) (All-head IsPiece (u ∷ us) ps pieces)
+    (All-IsPiece-filled ps (All-tail IsPiece (u ∷ us) ps pieces))
 
 -- one piece more is added as a push adds it
-rejoined-append : (ps : List (List ℕ)) (q : List ℕ) → All IsPiece ps → rejoined (ps ++ q ∷ []) ≡ appended (rejoined ps) q
+rejoined-append : (ps : List (List ℕ)) (q : List ℕ) → All IsPiece ps
+    → rejoined (ps ++ q ∷ []) ≡ appended (rejoined ps) q
 rejoined-append ps q pieces =
     ap (λ ns. joined_with_end ns (ends_empty (ps ++ q ∷ []))) (filter-append is_filled ps (q ∷ []))
     ∙ ap (joined_with_end (filled ps ++ filled (q ∷ []))) (ends_empty-append ps q)
-    ∙ added_piece (filled ps) (ends_empty ps) q (All-filter is_filled IsPiece ps pieces) (All-filled ps)
+    ∙ added_piece (filled ps) (ends_empty ps) q (All-filter is_filled IsPiece ps pieces)
+    (All-filled ps)
 
--- pieces added one after the other behind some
-added_all : (ps qs : List (List ℕ)) → All IsPiece ps → All IsPiece qs → fold appended (rejoined ps) qs ≡ rejoined (ps ++ qs)
-added_all ps [] before behind = ap rejoined (sym (append-nil ps))
-added_all ps (q ∷ qs) before behind =
-    let piece = All-head IsPiece q qs behind in
+-- pieces added one after the other to some
+added_all : (ps qs : List (List ℕ)) → All IsPiece ps → All IsPiece qs
+    → fold appended (rejoined ps) qs ≡ rejoined (ps ++ qs)
+added_all ps [] before after = ap rejoined (sym (append-nil ps))
+added_all ps (q ∷ qs) before after =
+    let piece = All-cons IsPiece q [] (All-head IsPiece q qs after) (All-nil IsPiece) in
     ap (λ text. fold appended text qs) (sym (rejoined-append ps q before))
-    ∙ added_all (ps ++ q ∷ []) qs (All-append IsPiece ps (q ∷ []) before (All-cons IsPiece q [] piece (All-nil IsPiece))) (All-tail IsPiece q qs behind)
+    ∙ added_all (ps ++ q ∷ []) qs (All-append IsPiece ps (q ∷ []) before piece)
+    (All-tail IsPiece q qs after)
     ∙ ap rejoined (append_assoc ps (q ∷ []) qs)
 
-pub All-all_but_last : (P : List ℕ → Type 0) (ps : List (List ℕ)) → All P ps → All P (all_but_last ps)
+pub All-all_but_last : (P : List ℕ → Type 0) (ps : List (List ℕ)) → All P ps
+    → All P (all_but_last ps)
 All-all_but_last P [] all = All-nil P
 All-all_but_last P (p ∷ []) all = All-nil P
-All-all_but_last P (p ∷ q ∷ ps) all = All-cons P p (all_but_last (q ∷ ps)) (All-head P p (q ∷ ps) all) (All-all_but_last P (q ∷ ps) (All-tail P p (q ∷ ps) all))
+All-all_but_last P (p ∷ q ∷ ps) all =
+    All-cons P p (all_but_last (q ∷ ps)) (All-head P p (q ∷ ps) all)
+    (All-all_but_last P (q ∷ ps) (All-tail P p (q ∷ ps) all))
 
--- added one after the other behind nothing they are rejoined
-pub rejoined-added : (ps : List (List ℕ)) → All IsPiece ps → fold appended [] (all_but_last ps) ≡ rejoined (all_but_last ps)
-rejoined-added ps pieces = added_all [] (all_but_last ps) (All-nil IsPiece) (All-all_but_last IsPiece ps pieces)
+-- added one after the other to nothing they are rejoined
+pub rejoined-added : (ps : List (List ℕ)) → All IsPiece ps
+    → fold appended [] (all_but_last ps) ≡ rejoined (all_but_last ps)
+rejoined-added ps pieces =
+    added_all [] (all_but_last ps) (All-nil IsPiece) (All-all_but_last IsPiece ps pieces)
 
 -- what holds of each unit of a text holds of each of its components
 module _ (P : ℕ → Type 0) where
@@ -111,8 +148,12 @@ module _ (P : ℕ → Type 0) where
   All-slice_split (u ∷ us) all =
       let others = All-slice_split us (All-tail P u us all) in
       elim (cases_Bool (is_separator u)) [
-        | inl cut ↦ subst (All (All P)) (sym (slice_split-cons_yes is_separator u us cut)) (All-cons (All P) [] (slice_split is_separator us) (All-nil P) others)
-        | inr other ↦ subst (All (All P)) (sym (slice_split-cons_no is_separator u us other)) (All-onto_first P u (slice_split is_separator us) (All-head P u us all) others)
+        | inl cut ↦
+            subst (All (All P)) (sym (slice_split-cons_yes is_separator u us cut))
+            (All-cons (All P) [] (slice_split is_separator us) (All-nil P) others)
+        | inr other ↦
+            subst (All (All P)) (sym (slice_split-cons_no is_separator u us other))
+            (All-onto_first P u (slice_split is_separator us) (All-head P u us all) others)
       ]
 
   All-pieces_between : (us : List ℕ) → All P us → All (All P) (pieces_between us)
@@ -121,13 +162,16 @@ module _ (P : ℕ → Type 0) where
 
   All-canon : (text : List ℕ) → All P text → All P (canon text)
   All-canon [] all = All-nil P
-  All-canon (u ∷ us) all = elim (is_separator u) as (λ b. All P (if b then us else u ∷ us)) [ true ↦ All-tail P u us all | false ↦ all ]
+  All-canon (u ∷ us) all =
+      elim (is_separator u) as (λ b. All P (if b then us else u ∷ us))
+      [ true ↦ All-tail P u us all | false ↦ all ]
 
   pub All-components_of : (text : List ℕ) → All P text → All (All P) (components_of text)
   All-components_of text all = All-pieces_between (canon text) (All-canon text all)
 
 -- two components or more have a parent
-pub above_last-many : (ps : List (List ℕ)) → 1 < length ps → above_last ps ≡ Some (slashed (rejoined (all_but_last ps)))
+pub above_last-many : (ps : List (List ℕ)) → 1 < length ps
+    → above_last ps ≡ Some (slashed (rejoined (all_but_last ps)))
 above_last-many [] many = absurd (omega (arith, many))
 above_last-many (p ∷ []) many = absurd (omega (arith, many))
 above_last-many (p ∷ q ∷ ps) many = refl

@@ -9,7 +9,7 @@ use Rattle.uefi_path.specs.Parents.{above, above_last, is_filled}
 use Rattle.uefi_path.specs.Pushing.{appended, pushed}
 use Rattle.uefi_path.specs.Separators.{canon, separator}
 use Rattle.uefi_path.specs.Verdicts.{IsGood, verdict}
-use Rattle.uefi_path.proofs.Climbing.{above_last-good, all_but_last-push, components_of-joined, front_good}
+use Rattle.uefi_path.proofs.ParentForm.{above_last-good, all_but_last-push, components_of-joined, front_good}
 use Rattle.uefi_path.proofs.Joining.{components_of-pushed}
 use Rattle.uefi_path.proofs.Parents.{joined-append, open_joined}
 use Rattle.uefi_path.proofs.Pushing.{pushed-filled, slashed-plain}

@@ -12,17 +12,31 @@ use Rattle.uefi_path.specs.Components.{joined, IsPiece, AreComponents, component
 use Rattle.uefi_path.specs.Separators.{separator, slash, is_separator, canon, slashed, IsPlain}
 
 -- lists of which the first gets an element in front: what holds of it and of theirs holds of all
-pub All-onto_first : (P : ℕ → Type 0) (u : ℕ) (ps : List (List ℕ)) → P u → All (All P) ps → All (All P) (onto_first u ps)
-All-onto_first P u [] of_unit all = All-cons (All P) (u ∷ []) [] (All-cons P u [] of_unit (All-nil P)) (All-nil (All P))
-All-onto_first P u (p ∷ ps) of_unit all = All-cons (All P) (u ∷ p) ps (All-cons P u p of_unit (All-head (All P) p ps all)) (All-tail (All P) p ps all)
+pub All-onto_first : (P : ℕ → Type 0) (u : ℕ) (ps : List (List ℕ)) → P u → All (All P) ps
+    → All (All P) (onto_first u ps)
+All-onto_first P u [] of_unit all =
+    All-cons (All P) (u ∷ []) [] (All-cons P u [] of_unit (All-nil P)) (All-nil (All P))
+All-onto_first P u (p ∷ ps) of_unit all =
+    All-cons (All P) (u ∷ p) ps (All-cons P u p of_unit (All-head (All P) p ps all))
+    (All-tail (All P) p ps all)
+
+-- a unit of a piece
+abbrev IsNoSeparator : ℕ → Type 0
+IsNoSeparator unit = unit ≢ separator
 
 -- what stands between separators holds none
 All-IsPiece-slice_split : (us : List ℕ) → All IsPiece (slice_split is_separator us)
-All-IsPiece-slice_split [] = All-cons IsPiece [] [] (All-nil (λ v. v ≢ separator)) (All-nil IsPiece)
+All-IsPiece-slice_split [] = All-cons IsPiece [] [] (All-nil IsNoSeparator) (All-nil IsPiece)
 All-IsPiece-slice_split (u ∷ us) =
+    let rest = slice_split is_separator us in
+    let others = All-IsPiece-slice_split us in
     elim (cases_Bool (is_separator u)) [
-      | inl cut ↦ subst (All IsPiece) (sym (slice_split-cons_yes is_separator u us cut)) (All-cons IsPiece [] (slice_split is_separator us) (All-nil (λ v. v ≢ separator)) (All-IsPiece-slice_split us))
-      | inr other ↦ subst (All IsPiece) (sym (slice_split-cons_no is_separator u us other)) (All-onto_first (λ v. v ≢ separator) u (slice_split is_separator us) (eqb-false u separator other) (All-IsPiece-slice_split us))
+      | inl cut ↦
+          subst (All IsPiece) (sym (slice_split-cons_yes is_separator u us cut))
+          (All-cons IsPiece [] rest (All-nil IsNoSeparator) others)
+      | inr other ↦
+          subst (All IsPiece) (sym (slice_split-cons_no is_separator u us other))
+          (All-onto_first IsNoSeparator u rest (eqb-false u separator other) others)
     ]
 
 joined-slice_split : (us : List ℕ) → joined (slice_split is_separator us) ≡ us
@@ -32,14 +46,23 @@ joined-slice_split us = join_with_byte-slice_split separator us
 not_one_empty : (u : ℕ) (us : List ℕ) → slice_split is_separator (u ∷ us) ≢ [] ∷ []
 not_one_empty u us e = let j = joined-slice_split (u ∷ us) in let k = ap joined e in cc
 
+-- the test for a separator fails at each unit of a piece
+passes_over : (p : List ℕ) → IsPiece p → All (λ v. is_separator v ≡ false) p
+passes_over p piece =
+    All-weaker IsNoSeparator (λ v. is_separator v ≡ false) (λ v h. ne_eqb v separator h) p piece
+
 -- pieces that were joined are what stands between the separators of what they join to
-pub slice_split-joined : (p : List ℕ) (ps : List (List ℕ)) → All IsPiece (p ∷ ps) → slice_split is_separator (joined (p ∷ ps)) ≡ p ∷ ps
-slice_split-joined p [] all = slice_split_none is_separator p (All-weaker (λ v. v ≢ separator) (λ v. is_separator v ≡ false) (λ v h. ne_eqb v separator h) p (All-head IsPiece p [] all))
+pub slice_split-joined : (p : List ℕ) (ps : List (List ℕ)) → All IsPiece (p ∷ ps)
+    → slice_split is_separator (joined (p ∷ ps)) ≡ p ∷ ps
+slice_split-joined p [] all =
+    slice_split_none is_separator p (passes_over p (All-head IsPiece p [] all))
 slice_split-joined p (q ∷ qs) all =
-    slice_split_at is_separator p separator (joined (q ∷ qs)) (All-weaker (λ v. v ≢ separator) (λ v. is_separator v ≡ false) (λ v h. ne_eqb v separator h) p (All-head IsPiece p (q ∷ qs) all)) refl
+    slice_split_at is_separator p separator (joined (q ∷ qs))
+    (passes_over p (All-head IsPiece p (q ∷ qs) all)) refl
     ∙ ap (λ parts. p ∷ parts) (slice_split-joined q qs (All-tail IsPiece p (q ∷ qs) all))
 
-pieces_between-nonempty : (us : List ℕ) → slice_split is_separator us ≢ [] ∷ [] → pieces_between us ≡ slice_split is_separator us
+pieces_between-nonempty : (us : List ℕ) → slice_split is_separator us ≢ [] ∷ []
+    → pieces_between us ≡ slice_split is_separator us
 pieces_between-nonempty [] ne = absurd (ne refl)
 pieces_between-nonempty (u ∷ us) ne = refl
 
@@ -51,18 +74,27 @@ pieces_between-joined (p ∷ ps) all ne =
 
 -- the pieces between the separators of the canonical text are components
 AreComponents-between : (text us : List ℕ) → canon text ≡ us → AreComponents text (pieces_between us)
-AreComponents-between text [] e = record { are_pieces = All-nil IsPiece; not_one_empty = λ f. cc; join = sym e }
-AreComponents-between text (u ∷ us) e = record { are_pieces = All-IsPiece-slice_split (u ∷ us); not_one_empty = not_one_empty u us; join = joined-slice_split (u ∷ us) ∙ sym e }
+AreComponents-between text [] e =
+    record { are_pieces = All-nil IsPiece; not_one_empty = λ f. cc; join = sym e }
+AreComponents-between text (u ∷ us) e = record {
+  are_pieces = All-IsPiece-slice_split (u ∷ us);
+  not_one_empty = not_one_empty u us;
+  join = joined-slice_split (u ∷ us) ∙ sym e;
+}
 
 pub AreComponents-components_of : (text : List ℕ) → AreComponents text (components_of text)
 AreComponents-components_of text = AreComponents-between text (canon text) refl
 
 -- and no others are
-pub components_of-only : (text : List ℕ) (pieces : List (List ℕ)) → AreComponents text pieces → pieces ≡ components_of text
-components_of-only text pieces components = sym (pieces_between-joined pieces components.are_pieces components.not_one_empty) ∙ ap pieces_between components.join
+pub components_of-only : (text : List ℕ) (pieces : List (List ℕ)) → AreComponents text pieces
+    → pieces ≡ components_of text
+components_of-only text pieces components =
+    sym (pieces_between-joined pieces components.are_pieces components.not_one_empty)
+    ∙ ap pieces_between components.join
 
 -- the pieces of a canonical text that is not empty
-pub slice_split-canon : (text us : List ℕ) → us ≡ canon text → (us ≡ [] → ⊥) → slice_split is_separator us ≡ components_of text
+pub slice_split-canon : (text us : List ℕ) → us ≡ canon text → (us ≡ [] → ⊥)
+    → slice_split is_separator us ≡ components_of text
 slice_split-canon text [] e ne = absurd (ne refl)
 slice_split-canon text (u ∷ us) e ne = ap pieces_between e
 
@@ -73,15 +105,25 @@ no_cut us none =
     slice_split_none is_separator us (λ k d h. fails_before_first is_separator us k d (omega arith))
 
 -- the first piece ends at the first separator
-cut_at : (us : List ℕ) (place : ℕ) → position is_separator us ≡ Some place → IsFirstCut us (Some place)
+cut_at : (us : List ℕ) (place : ℕ) → position is_separator us ≡ Some place
+    → IsFirstCut us (Some place)
 cut_at us place found =
-    let at = cond_some (nat_lt (position_or_len is_separator us) (length us)) (position_or_len is_separator us) place found in
-    let inside : position_or_len is_separator us < length us = ltb-true _ _ at.0 in
-    let front : before_first is_separator us ≡ slice_range us 0 place = grind (arith, common_steps) in
-    let back : after_first is_separator us ≡ slice_range us (place + 1) (length us) = grind (arith, common_steps) in
-    (omega (arith, inside, at.1), slice_split_first is_separator us 0 inside ∙ ap (λ f. f ∷ slice_split is_separator (after_first is_separator us)) front ∙ ap (λ b. slice_range us 0 place ∷ slice_split is_separator b) back)
+    let first = position_or_len is_separator us in
+    let at = cond_some (nat_lt first (length us)) first place found in
+    let inside : first < length us = ltb-true _ _ at.0 in
+    let before : before_first is_separator us ≡ slice_range us 0 place =
+    grind (arith, common_steps) in
+    let after : after_first is_separator us ≡ slice_range us (place + 1) (length us) =
+    grind (arith, common_steps) in
+    let pieces_after = slice_split is_separator (after_first is_separator us) in (
+      omega (arith, inside, at.1),
+      slice_split_first is_separator us 0 inside
+          ∙ ap (λ piece. piece ∷ pieces_after) before
+          ∙ ap (λ rest. slice_range us 0 place ∷ slice_split is_separator rest) after,
+    )
 
-pub IsFirstCut-position : (us : List ℕ) (cut : Option ℕ) → cut ≡ position is_separator us → IsFirstCut us cut
+pub IsFirstCut-position : (us : List ℕ) (cut : Option ℕ) → cut ≡ position is_separator us
+    → IsFirstCut us cut
 IsFirstCut-position us None e = no_cut us (sym e)
 IsFirstCut-position us (Some place) e = cut_at us place (sym e)
 

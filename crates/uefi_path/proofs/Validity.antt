@@ -13,7 +13,7 @@ use Rattle.uefi_path.specs.Verdicts.{IsGood, fault, first_fault, is_bad, is_deni
 use Rattle.uefi_path.specs.declared.validation.PathError.{PathError}
 use Rattle.uefi_path.specs.declared.validation.PathError.TheVariants.{IllegalChar}
 use Rattle.uefi_path.proofs.Joining.{canon-no, canon-yes, components_of-pushed}
-use Rattle.uefi_path.proofs.Parents.{behind_separator, open_joined}
+use Rattle.uefi_path.proofs.Parents.{after_separator, open_joined}
 use Rattle.uefi_path.proofs.Pushing.{separator_is_plain}
 use Rattle.uefi_path.proofs.Splitting.{AreComponents-components_of}
 
@@ -144,7 +144,7 @@ open_canon (u ∷ us) missing =
     elim (cases_Bool (is_separator u)) [
       | inl cut ↦
           subst (λ v. needs_separator (v ∷ us) ≡ true) (sym (eqb-true u separator cut))
-          (behind_separator us (ap needs_separator (sym (canon-yes u us cut)) ∙ missing))
+          (after_separator us (ap needs_separator (sym (canon-yes u us cut)) ∙ missing))
       | inr other ↦ ap needs_separator (sym (canon-no u us other)) ∙ missing
     ]
 
@@ -180,7 +180,7 @@ pushed-not_empty text [] filled = absurd (filled refl)
 pushed-not_empty text (u ∷ us) filled =
     appended-filled text (replaced slash separator u) (slashed us)
 
--- a valid path pushed behind another, unless it begins with a separator
+-- a valid path pushed onto another, unless it begins with a separator
 pub valid-pushed : (text part : List ℕ) → verdict text ≡ None → verdict part ≡ None
     → canon part ≡ part → verdict (pushed text part) ≡ None
 valid-pushed text part valid valid_part front =

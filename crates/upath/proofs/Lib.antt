@@ -1,4 +1,4 @@
 pub mod LineEnds
 pub mod CommandCuts
-pub mod Climbing
-pub mod Beginnings
+pub mod ParentChains
+pub mod ParentsOfValid

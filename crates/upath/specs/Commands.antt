@@ -9,8 +9,8 @@ pub data LineCommand : Type 0 where
   from_text : List ℕ → LineCommand
   push_text : List ℕ → LineCommand
   join_text : List ℕ → LineCommand
-  clear : LineCommand
-  parent : LineCommand
+  clear_path : LineCommand
+  parent_path : LineCommand
   pieces : LineCommand
   up : LineCommand
   eq_text : List ℕ → LineCommand
@@ -35,8 +35,8 @@ verb_with verb text =
 -- a verb without a text
 abbrev pub verb_alone : List ℕ → LineCommand
 verb_alone verb =
-    if bytes_eq verb (codes "clear") then clear
-    else if bytes_eq verb (codes "parent") then parent
+    if bytes_eq verb (codes "clear") then clear_path
+    else if bytes_eq verb (codes "parent") then parent_path
     else if bytes_eq verb (codes "pieces") then pieces
     else if bytes_eq verb (codes "up") then up
     else if bytes_eq verb (codes "check") then check
@@ -57,8 +57,8 @@ abbrev pub command_shown : Command → LineCommand
 command_shown (From text) = from_text text.now
 command_shown (Push text) = push_text text.now
 command_shown (Join text) = join_text text.now
-command_shown Clear = clear
-command_shown Parent = parent
+command_shown Clear = clear_path
+command_shown Parent = parent_path
 command_shown Pieces = pieces
 command_shown Up = up
 command_shown (Eq text) = eq_text text.now

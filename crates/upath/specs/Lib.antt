@@ -1,5 +1,6 @@
 pub mod Lines
 pub mod LinesLeft
+pub mod Edits
 pub mod Commands
 pub mod Output
 pub mod PathCommands

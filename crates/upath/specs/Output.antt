@@ -1,6 +1,6 @@
 -- What a run prints: a function of its whole input. It begins with the empty path, and each line
 -- prints its lines and leaves the path for the next one.
-use Rattle.std.specs.Prelude.{ℕ, if◌then◌else◌, List, [], ◌∷◌, ◌++◌, length, Option, Some, None, unwrap_or, codes}
+use Rattle.std.specs.Prelude.{ℕ, if◌then◌else◌, List, [], ◌∷◌, ◌++◌, length, Option, Some, None, option_map, unwrap_or, codes}
 use Rattle.std.specs.Cmp.Lexicographic.{slice_cmp}
 use Rattle.std.specs.Ordering.{nat_cmp}
 use Rattle.std.specs.declared.cmp.Ordering.{Ordering}
@@ -12,15 +12,15 @@ use Rattle.uefi_text.specs.ErrorTexts.{from_str_error_text}
 use Rattle.uefi_text.specs.FromStr.{from_str_refusal}
 use Rattle.uefi_text.specs.FromStrError.{FromStrError}
 use Rattle.uefi_path.specs.Components.{components_of}
-use Rattle.uefi_path.specs.Separators.{canon, slashed}
+use Rattle.uefi_path.specs.Separators.{canon}
 use Rattle.upath.specs.Lines.{lines_of}
 use Rattle.upath.specs.SuccessiveParents.{parents_of}
 use Rattle.uefi_path.specs.Parents.{above}
 use Rattle.uefi_path.specs.PathErrors.{path_error_text}
-use Rattle.uefi_path.specs.Pushing.{pushed}
 use Rattle.uefi_path.specs.Verdicts.{verdict}
 use Rattle.uefi_path.specs.declared.validation.PathError.{PathError}
-use Rattle.upath.specs.Commands.{LineCommand, from_text, push_text, join_text, clear, parent, pieces, up, eq_text, cmp_text, check, unknown, not_utf8, command_of}
+use Rattle.upath.specs.Edits.{Edit, from, push, join, clear, parent, after_edit}
+use Rattle.upath.specs.Commands.{LineCommand, from_text, push_text, join_text, clear_path, parent_path, pieces, up, eq_text, cmp_text, check, unknown, not_utf8, command_of}
 
 -- a printed line
 abbrev pub line : List ℕ → List ℕ
@@ -29,6 +29,10 @@ line bytes = bytes ++ 10 ∷ []
 -- a printed line: a mark and a text in UTF-8
 abbrev pub text_line : List ℕ → List ℕ → List ℕ
 text_line mark text = line (mark ++ encode_utf8_all text)
+
+-- the line of a path
+abbrev pub path_line : List ℕ → List ℕ
+path_line path = text_line (codes "= ") path
 
 -- the lines of `pieces`: how many there are, and each
 abbrev pub pieces_lines : List (List ℕ) → List ℕ
@@ -48,7 +52,7 @@ eq_line path other =
 -- the line of `parent`: the parent, or that there is none
 abbrev pub parent_line : Option (List ℕ) → List ℕ
 parent_line None = line (codes "none")
-parent_line (Some text) = text_line (codes "= ") text
+parent_line (Some path) = path_line path
 
 -- the line of `cmp`: how two texts are ordered as paths
 abbrev pub cmp_line : Ordering → List ℕ
@@ -66,21 +70,34 @@ abbrev pub printed_unless : Option FromStrError → List ℕ → List ℕ
 printed_unless None printed = printed
 printed_unless (Some error) printed = line (from_str_error_text error)
 
--- the path where a command's text may be refused
-abbrev pub path_unless : Option FromStrError → List ℕ → List ℕ → List ℕ
-path_unless None new old = new
-path_unless (Some error) new old = old
+-- an edit whose text may be refused
+abbrev pub edit_unless : Option FromStrError → Edit → Option Edit
+edit_unless None edit = Some edit
+edit_unless (Some error) edit = None
+
+-- the edit that a command does, if it does one; its text is read as characters
+abbrev pub edit_of : LineCommand → Option Edit
+edit_of (from_text text) = edit_unless (from_str_refusal (chars text)) (from (chars text))
+edit_of (push_text text) = edit_unless (from_str_refusal (chars text)) (push (chars text))
+edit_of (join_text text) = edit_unless (from_str_refusal (chars text)) (join (chars text))
+edit_of clear_path = Some clear
+edit_of parent_path = Some parent
+edit_of _ = None
+
+-- the path after a command: it stays where the command does no edit
+abbrev pub path_after : LineCommand → List ℕ → List ℕ
+path_after command path = unwrap_or (option_map (after_edit path) (edit_of command)) path
 
 -- what a command prints at a path
 abbrev pub printed_by : LineCommand → List ℕ → List ℕ
 printed_by (from_text text) path =
-    printed_unless (from_str_refusal (chars text)) (text_line (codes "= ") (slashed (chars text)))
+    printed_unless (from_str_refusal (chars text)) (path_line (after_edit path (from (chars text))))
 printed_by (push_text text) path =
-    printed_unless (from_str_refusal (chars text)) (text_line (codes "= ") (pushed path (chars text)))
+    printed_unless (from_str_refusal (chars text)) (path_line (after_edit path (push (chars text))))
 printed_by (join_text text) path =
-    printed_unless (from_str_refusal (chars text)) (text_line (codes "= ") (pushed path (chars text)))
-printed_by clear path = text_line (codes "= ") []
-printed_by parent path = parent_line (above path)
+    printed_unless (from_str_refusal (chars text)) (path_line (after_edit path (join (chars text))))
+printed_by clear_path path = path_line (after_edit path clear)
+printed_by parent_path path = parent_line (above path)
 printed_by pieces path = pieces_lines (components_of path)
 printed_by up path = parents_lines (parents_of path)
 printed_by (eq_text text) path = printed_unless (from_str_refusal (chars text)) (eq_line path (chars text))
@@ -90,21 +107,6 @@ printed_by (cmp_text text) path =
 printed_by check path = check_line (verdict path)
 printed_by unknown path = line (codes "? unknown command")
 printed_by not_utf8 path = line (codes "? not UTF-8")
-
--- the path that a command leaves
-abbrev pub path_after : LineCommand → List ℕ → List ℕ
-path_after (from_text text) path = path_unless (from_str_refusal (chars text)) (slashed (chars text)) path
-path_after (push_text text) path = path_unless (from_str_refusal (chars text)) (pushed path (chars text)) path
-path_after (join_text text) path = path_unless (from_str_refusal (chars text)) (pushed path (chars text)) path
-path_after clear path = []
-path_after parent path = unwrap_or (above path) path
-path_after pieces path = path
-path_after up path = path
-path_after (eq_text text) path = path
-path_after (cmp_text text) path = path
-path_after check path = path
-path_after unknown path = path
-path_after not_utf8 path = path
 
 -- what lines print, from a path on
 abbrev pub printed_from : List ℕ → List (List ℕ) → List ℕ

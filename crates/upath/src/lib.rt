@@ -15,8 +15,8 @@
 //! ```
 //!
 //! Data flows one way through the modules: `lines` cuts an input, `commands` reads a line, `run`
-//! keeps the path and answers a command, `output` adds lines to what is printed, and `streams` puts
-//! a reader and a writer around a run. `judging` and `path_commands` stand beside them, and [`laws`]
+//! keeps the path, edits it by `path_commands` and prints, `output` adds lines to what is printed,
+//! and `streams` puts a reader and a writer around a run. `judging` stands beside them, and [`laws`]
 //! apart: what users may reason by.
 #![tactic(auto)]
 

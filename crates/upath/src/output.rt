@@ -1,10 +1,18 @@
 //! Lines of output, at the end of a vector.
 ghost use Rattle.std.specs.Prelude.{◌≡◌, ◌++◌, OnOk};
 ghost use Rattle.uefi_text.specs.Views.{units_of};
-ghost use Rattle.upath.specs.Output.{text_line};
+ghost use Rattle.upath.specs.Output.{line, text_line};
 
 use std::alloc::{AllocError, Allocator};
 use uefi_text::strs::Char16Slice;
+
+/// Adds a line: the characters of a text.
+pub(crate) fn add_line<A: Allocator>(output: &mut Vec<u8, A>, text: &str) -> Result<(), AllocError>
+    ensures { OnOk result (output.new.items ≡ output.old.items ++ line text.now) }
+{
+    output.extend_from_slice(text.as_bytes())?;
+    output.extend_from_slice(b"\n")
+}
 
 /// Adds a line: a mark and the characters of a text.
 pub(crate) fn add_text_line<A: Allocator>(

@@ -14,7 +14,7 @@ use uefi_text::{CStr16, Char16Slice};
 /// What a path buffer is told to become.
 #[derive(Clone, Copy, Debug)]
 pub enum PathCommand<'a> {
-    /// The path of a string, its slashes turned.
+    /// The path of a string, its slashes replaced.
     From(CStr16<'a>),
 
     /// Itself with another path pushed.
@@ -30,15 +30,16 @@ pub enum PathCommand<'a> {
     Parent,
 }
 
-/// A list of commands was cut short by want of memory.
+/// A list of commands was cut short: out of memory.
 #[derive(Clone, Copy, Debug, PartialEq, Eq)]
 pub struct RunFault {
     /// How many commands were done.
     pub done: usize,
 }
 
-/// Does one command. After a refusal the path is as it was.
-fn run_command<A: Allocator + Copy>(
+/// Does one command: the edit both of a list of commands and of a line. After a refusal the path is
+/// unchanged.
+pub(crate) fn run_command<A: Allocator + Copy>(
     alloc: A,
     path: &mut PathBuf<A>,
     command: PathCommand<'_>,
@@ -63,7 +64,7 @@ fn run_command<A: Allocator + Copy>(
 
 /// Does commands one after the other, and leaves the path that folding their meaning over it gives.
 ///
-/// Where memory is refused the answer says how many commands were done, fewer than all; the path is
+/// Where memory is refused the error says how many commands were done, fewer than all; the path is
 /// then what these made of it. `Clear`, `Push` of an empty path and `Parent` of a path that has none
 /// take no memory. Costs what the commands cost.
 pub fn run_commands<A: Allocator + Copy>(

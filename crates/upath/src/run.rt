@@ -1,5 +1,5 @@
 //! A run over lines: the path between them, and what each one prints.
-ghost use Rattle.std.specs.Prelude.{◌≡◌, ◌++◌, [], List, ℕ, length, Some, None, IfOk, OnOk, MatchOption, codes, unwrap_or};
+ghost use Rattle.std.specs.Prelude.{◌≡◌, ◌++◌, [], List, ℕ, length, Some, None, IfOk, OnOk, MatchOption, codes, is_some};
 ghost use Rattle.std.specs.List.{flat_map};
 ghost use Rattle.std.specs.Str.{chars};
 ghost use Rattle.uefi_path.specs.Components.{components_of};
@@ -7,14 +7,15 @@ ghost use Rattle.uefi_text.specs.ErrorTexts.{from_str_error_text};
 ghost use Rattle.uefi_text.specs.FromStr.{from_str_refusal};
 ghost use Rattle.uefi_path.specs.Parents.{above};
 ghost use Rattle.uefi_path.specs.Verdicts.{verdict};
-ghost use Rattle.upath.specs.Commands.{command_of, from_text, push_text, join_text, eq_text, cmp_text};
-ghost use Rattle.upath.specs.Output.{check_line, line, output_of, parent_line, parents_lines, path_after, pieces_lines, printed_by, text_line};
+ghost use Rattle.upath.specs.Commands.{command_of, from_text, push_text, join_text, parent_path, eq_text, cmp_text};
+ghost use Rattle.upath.specs.Output.{check_line, line, output_of, parents_lines, path_after, path_line, pieces_lines, printed_by, text_line};
+ghost use Rattle.upath.specs.PathCommands.{after_command};
 ghost use Rattle.upath.specs.SuccessiveParents.{parents_of};
 
 use crate::commands::Command;
 use crate::lines::Lines;
-use crate::output::add_text_line;
-use crate::path_commands::all_parents;
+use crate::output::{add_line, add_text_line};
+use crate::path_commands::{PathCommand, all_parents, run_command};
 use std::alloc::{AllocError, Allocator};
 use std::cmp::Ordering;
 use uefi_path::{Path, PathBuf, validate_path};
@@ -32,6 +33,13 @@ fn count_components<A: Allocator + Copy>(path: &PathBuf<A>) -> usize
     ensures { result ≡ length (components_of path.now) }
 {
     path.components().count()
+}
+
+/// Whether a path has a parent: it has two components or more.
+fn has_parent<A: Allocator + Copy>(path: &PathBuf<A>) -> bool
+    ensures { result ≡ is_some (above path.now) }
+{
+    path.components().nth(1).is_some()
 }
 
 /// Adds a line for each component of a path.
@@ -78,7 +86,7 @@ impl<A: Allocator + Copy> Run<A> {
         *self.output.allocator()
     }
 
-    /// The string of a command's text; where the text is refused it is printed why.
+    /// The string of a command's text. Where the text is refused this prints why, and returns `None`.
     fn read_text(&mut self, text: &str) -> Result<Option<CString16<A>>, AllocError>
         ensures path { OnOk result (self.new.path ≡ self.old.path) }
         ensures text { IfOk result (λ string. MatchOption string
@@ -94,9 +102,8 @@ impl<A: Allocator + Copy> Run<A> {
             Ok(string) => Ok(Some(string)),
             Err(FromStrError::OutOfMemory) => Err(AllocError),
             Err(error) => {
-                let mut line = String::new(self.alloc());
-                writeln!(line, "{error}")?;
-                self.output.extend_from_slice(line.as_bytes())?;
+                let line = format!(in self.alloc(); "{error}")?;
+                add_line(&mut self.output, &line)?;
                 Ok(None)
             }
         }
@@ -106,9 +113,19 @@ impl<A: Allocator + Copy> Run<A> {
     fn print_path(&mut self) -> Result<(), AllocError>
         ensures path { self.new.path ≡ self.old.path }
         ensures output { OnOk result
-            (self.new.output.items ≡ self.old.output.items ++ text_line (codes "= ") self.old.path) }
+            (self.new.output.items ≡ self.old.output.items ++ path_line self.old.path) }
     {
         add_text_line(&mut self.output, b"= ", self.path.to_cstr16().as_slice())
+    }
+
+    /// Edits the path and prints it.
+    fn edit(&mut self, command: PathCommand<'_>) -> Result<(), AllocError>
+        ensures path { OnOk result (self.new.path ≡ after_command self.old.path command.entry) }
+        ensures output { OnOk result (self.new.output.items
+            ≡ self.old.output.items ++ path_line (after_command self.old.path command.entry)) }
+    {
+        run_command(self.alloc(), &mut self.path, command)?;
+        self.print_path()
     }
 
     /// `from T`
@@ -133,11 +150,10 @@ impl<A: Allocator + Copy> Run<A> {
         ensures output { OnOk result
             (self.new.output.items ≡ self.old.output.items ++ printed_by (push_text text.now) self.old.path) }
     {
-        let Some(string) = self.read_text(text)? else {
-            return Ok(());
-        };
-        self.path.push(Path::new(string.as_cstr16()))?;
-        self.print_path()
+        match self.read_text(text)? {
+            Some(string) => self.edit(PathCommand::Push(Path::new(string.as_cstr16()))),
+            None => Ok(()),
+        }
     }
 
     /// `join T`
@@ -146,35 +162,22 @@ impl<A: Allocator + Copy> Run<A> {
         ensures output { OnOk result
             (self.new.output.items ≡ self.old.output.items ++ printed_by (join_text text.now) self.old.path) }
     {
-        let Some(string) = self.read_text(text)? else {
-            return Ok(());
-        };
-        self.path = self.path.join(Path::new(string.as_cstr16()))?;
-        self.print_path()
-    }
-
-    /// `clear`
-    fn clear(&mut self) -> Result<(), AllocError>
-        ensures path { OnOk result (self.new.path ≡ []) }
-        ensures output { OnOk result
-            (self.new.output.items ≡ self.old.output.items ++ text_line (codes "= ") []) }
-    {
-        self.path.clear();
-        self.print_path()
+        match self.read_text(text)? {
+            Some(string) => self.edit(PathCommand::Join(Path::new(string.as_cstr16()))),
+            None => Ok(()),
+        }
     }
 
     /// `parent`
     fn parent(&mut self) -> Result<(), AllocError>
-        ensures path { OnOk result (self.new.path ≡ unwrap_or (above self.old.path) self.old.path) }
+        ensures path { OnOk result (self.new.path ≡ path_after parent_path self.old.path) }
         ensures output { OnOk result
-            (self.new.output.items ≡ self.old.output.items ++ parent_line (above self.old.path)) }
+            (self.new.output.items ≡ self.old.output.items ++ printed_by parent_path self.old.path) }
     {
-        match self.path.parent()? {
-            Some(parent) => {
-                self.path = parent;
-                self.print_path()
-            }
-            None => self.output.extend_from_slice(b"none\n"),
+        if has_parent(&self.path) {
+            self.edit(PathCommand::Parent)
+        } else {
+            add_line(&mut self.output, "none")
         }
     }
 
@@ -185,9 +188,8 @@ impl<A: Allocator + Copy> Run<A> {
             (self.new.output.items ≡ self.old.output.items ++ pieces_lines (components_of self.old.path)) }
     {
         let count = count_components(&self.path);
-        let mut line = String::new(self.alloc());
-        writeln!(line, "pieces {count}")?;
-        self.output.extend_from_slice(line.as_bytes())?;
+        let line = format!(in self.alloc(); "pieces {count}")?;
+        add_line(&mut self.output, &line)?;
         add_component_lines(&mut self.output, &self.path)
     }
 
@@ -199,9 +201,8 @@ impl<A: Allocator + Copy> Run<A> {
     {
         let parents = all_parents(self.alloc(), &self.path)?;
         let count = parents.len();
-        let mut line = String::new(self.alloc());
-        writeln!(line, "parents {count}")?;
-        self.output.extend_from_slice(line.as_bytes())?;
+        let line = format!(in self.alloc(); "parents {count}")?;
+        add_line(&mut self.output, &line)?;
         add_path_lines(&mut self.output, &parents)
     }
 
@@ -215,9 +216,9 @@ impl<A: Allocator + Copy> Run<A> {
             return Ok(());
         };
         if self.path.as_path() == Path::new(string.as_cstr16()) {
-            self.output.extend_from_slice(b"equal\n")
+            add_line(&mut self.output, "equal")
         } else {
-            self.output.extend_from_slice(b"different\n")
+            add_line(&mut self.output, "different")
         }
     }
 
@@ -230,12 +231,12 @@ impl<A: Allocator + Copy> Run<A> {
         let Some(string) = self.read_text(text)? else {
             return Ok(());
         };
-        let line: &[u8] = match self.path.as_path().cmp(&Path::new(string.as_cstr16())) {
-            Ordering::Less => b"less\n",
-            Ordering::Equal => b"equal\n",
-            Ordering::Greater => b"greater\n",
+        let line = match self.path.as_path().cmp(&Path::new(string.as_cstr16())) {
+            Ordering::Less => "less",
+            Ordering::Equal => "equal",
+            Ordering::Greater => "greater",
         };
-        self.output.extend_from_slice(line)
+        add_line(&mut self.output, line)
     }
 
     /// `check`
@@ -245,11 +246,10 @@ impl<A: Allocator + Copy> Run<A> {
             (self.new.output.items ≡ self.old.output.items ++ check_line (verdict self.old.path)) }
     {
         match validate_path(self.path.as_path()) {
-            Ok(()) => self.output.extend_from_slice(b"ok\n"),
+            Ok(()) => add_line(&mut self.output, "ok"),
             Err(error) => {
-                let mut line = String::new(self.alloc());
-                writeln!(line, "{error}")?;
-                self.output.extend_from_slice(line.as_bytes())
+                let line = format!(in self.alloc(); "{error}")?;
+                add_line(&mut self.output, &line)
             }
         }
     }
@@ -265,15 +265,15 @@ impl<A: Allocator + Copy> Run<A> {
             Command::From(text) => self.from(text),
             Command::Push(text) => self.push(text),
             Command::Join(text) => self.join(text),
-            Command::Clear => self.clear(),
+            Command::Clear => self.edit(PathCommand::Clear),
             Command::Parent => self.parent(),
             Command::Pieces => self.pieces(),
             Command::Up => self.up(),
             Command::Eq(text) => self.eq(text),
             Command::Cmp(text) => self.cmp(text),
             Command::Check => self.check(),
-            Command::Unknown => self.output.extend_from_slice(b"? unknown command\n"),
-            Command::NotUtf8 => self.output.extend_from_slice(b"? not UTF-8\n"),
+            Command::Unknown => add_line(&mut self.output, "? unknown command"),
+            Command::NotUtf8 => add_line(&mut self.output, "? not UTF-8"),
         }
     }
 }
@@ -281,14 +281,15 @@ impl<A: Allocator + Copy> Run<A> {
 /// What the lines of an input print, from the empty path on.
 ///
 /// Lines end at a line feed, and no other byte ends or trims one. `from T` makes the path that of
-/// T, its slashes turned, `push T` and `join T` put that behind it, `clear` empties it, `parent`
-/// makes it its parent, and each prints it; `parent` prints `none` where there is none. `pieces`
-/// prints the number of components and each, `up` that of the successive parents and each; `eq T`
-/// and `cmp T` print how the path compares with that of T, taken as it stands; `check` prints
-/// whether it is accepted, or why not. A line that is not UTF-8, one that is no command and a T
-/// that is no text of UCS-2 are answered by a line of their own and leave the path. The only error
-/// is want of memory, which answers nothing of the output. Memory is linear in the input and the
-/// output; a line costs what it says, what it prints, and at most a pass over the path.
+/// T, its slashes replaced, `push T` and `join T` push that onto it, `clear` empties it, `parent`
+/// makes it its parent, and each prints it; `parent` prints `none` where there is none. These edits
+/// are those of [`crate::run_commands`]. `pieces` prints the number of components and each, `up`
+/// that of the successive parents and each; `eq T` and `cmp T` print how the path compares with
+/// that of T, taken as it stands; `check` prints whether it is accepted, or why not. A line that is
+/// not UTF-8, one that is no command and a T that is no text of UCS-2 print a line that says so and
+/// leave the path unchanged. The only error is out of memory, and then nothing of the output is
+/// returned. Memory is linear in the input and the output; a line costs what it says, what it
+/// prints, and at most a pass over the path.
 pub fn run_text<A: Allocator + Copy>(alloc: A, input: &[u8]) -> Result<Vec<u8, A>, AllocError>
     ensures { IfOk result (λ output. output.items ≡ output_of input.now) }
 {

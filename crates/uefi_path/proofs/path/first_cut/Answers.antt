@@ -8,4 +8,5 @@ use Rattle.uefi_path.proofs.path.first_cut.Goals as goal
 
 pub returns : goal.returns
 returns c =
-    IsFirstCut-position (units_of c.args.part) c.find_separator.result (c.find_separator.ensures ∙ ap (position is_separator) c.units.ensures)
+    let first = c.find_separator.ensures ∙ ap (position is_separator) c.units.ensures in
+    IsFirstCut-position (units_of c.args.part) c.find_separator.result first

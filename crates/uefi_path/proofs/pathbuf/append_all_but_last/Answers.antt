@@ -12,7 +12,10 @@ use Rattle.uefi_path.proofs.pathbuf.append_all_but_last.Goals as goal
 
 pub loop-component-init : goal.loop-component-init
 loop-component-init g c =
-    let all : units_of c.in-Some.last ∷ components_left c.into_iter-component-iterator.result ≡ components_left c.args.components = grind (arith, common_steps, c.in-Some.ensures.steps) in
+    let all :
+    units_of c.in-Some.last ∷ components_left c.into_iter-component-iterator.result
+    ≡ components_left c.args.components =
+    grind (arith, common_steps, c.in-Some.ensures.steps) in
     record {
       texts = subst (All IsText) (sym all) c.requires;
       added = ap (λ pieces. fold appended c.args.string.now (all_but_last pieces)) all;
@@ -24,11 +27,16 @@ append-requires g c = All-head IsText _ _ c.loop-component.invariant.texts
 pub loop-component-preserved : goal.loop-component-preserved
 loop-component-preserved g c =
     let so_far = c.loop-component in
-    let left : components_left so_far.component-iterator ≡ units_of c.in-Some-component.component ∷ components_left c.next-in-loop-component.new.self = grind (arith, common_steps, c.in-Some-component.ensures.steps) in
+    let kept = units_of c.in-Some-component.component in
+    let to_come = components_left c.next-in-loop-component.new.self in
+    let left : components_left so_far.component-iterator ≡ kept ∷ to_come =
+    grind (arith, common_steps, c.in-Some-component.ensures.steps) in
     record {
       texts = subst (All IsText) left (All-tail IsText _ _ so_far.invariant.texts);
       added =
-          ap (λ text. fold appended text (all_but_last (units_of c.in-Some-component.component ∷ components_left c.next-in-loop-component.new.self))) c.in_ok-append.ensures.ok
-          ∙ ap (λ pieces. fold appended so_far.string (all_but_last (units_of so_far.last ∷ pieces))) (sym left)
+          ap (λ text. fold appended text (all_but_last (kept ∷ to_come)))
+          c.in_ok-append.ensures.ok
+          ∙ ap (λ pieces. fold appended so_far.string (all_but_last (units_of so_far.last ∷ pieces)))
+          (sym left)
           ∙ so_far.invariant.added;
     }

@@ -11,5 +11,8 @@ use Rattle.uefi_path.proofs.pathbuf.append_all_but_last.Given as goal
 abbrev pub invariant-loop-component : goal.invariant-loop-component
 invariant-loop-component g l = record {
   texts : All IsText (units_of l.last ∷ components_left l.component-iterator);
-  added : fold appended l.string (all_but_last (units_of l.last ∷ components_left l.component-iterator)) ≡ fold appended l.fn.string (all_but_last (components_left l.fn.components));
+  added :
+      fold appended l.string
+      (all_but_last (units_of l.last ∷ components_left l.component-iterator))
+      ≡ fold appended l.fn.string (all_but_last (components_left l.fn.components));
 }

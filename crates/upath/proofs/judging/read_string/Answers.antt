@@ -16,14 +16,20 @@ pub returns-in-Ok-clause-ok : goal.returns-in-Ok-clause-ok
 returns-in-Ok-clause-ok g c =
     let bytes = c.args.bytes.now in
     let even : length bytes % 2 ≡ 0 = omega arith in
-    let accepted : with_nul_refusal (units_of_bytes bytes) ≡ None = ap with_nul_refusal (sym c.new.ensures.items) ∙ c.in-Ok.ensures.accepted in
-    units_spell bytes c.in-Ok.string (are_bytes bytes (λ k. omega (arith, c.type_inv.bytes k))) even accepted (c.in-Ok.ensures.ok ∙ c.new.ensures.items)
+    let all_bytes = are_bytes bytes (λ k. omega (arith, c.type_inv.bytes k)) in
+    let accepted : with_nul_refusal (units_of_bytes bytes) ≡ None =
+    ap with_nul_refusal (sym c.new.ensures.items) ∙ c.in-Ok.ensures.accepted in
+    let read = c.in-Ok.ensures.ok ∙ c.new.ensures.items in
+    units_spell bytes c.in-Ok.string all_bytes even accepted read
 
 pub returns-in-Err-OutOfMemory-clause-refusal : goal.returns-in-Err-OutOfMemory-clause-refusal
 returns-in-Err-OutOfMemory-clause-refusal g c =
     let bytes = c.args.bytes.now in
     let even : length bytes % 2 ≡ 0 = omega arith in
-    let want = sym c.in-Err-OutOfMemory.field-0-is ∙ c.in-Err-OutOfMemory.ensures.refusal in
-    let accepted : with_nul_refusal (units_of_bytes bytes) ≡ None = ap with_nul_refusal (sym c.new.ensures.items) ∙ with_nul_refusal-memory (items_of c.new.result) want in
-    let spelled = units_text bytes (are_bytes bytes (λ k. omega (arith, c.type_inv.bytes k))) even accepted in
+    let all_bytes = are_bytes bytes (λ k. omega (arith, c.type_inv.bytes k)) in
+    let refused = sym c.in-Err-OutOfMemory.field-0-is ∙ c.in-Err-OutOfMemory.ensures.refusal in
+    let accepted : with_nul_refusal (units_of_bytes bytes) ≡ None =
+    ap with_nul_refusal (sym c.new.ensures.items)
+    ∙ with_nul_refusal-memory (items_of c.new.result) refused in
+    let spelled = units_text bytes all_bytes even accepted in
     rw (even, accepted) (spelled.0, spelled.1, inl refl)

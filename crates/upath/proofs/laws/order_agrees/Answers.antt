@@ -1,21 +1,38 @@
-use Rattle.std.proofs.Common.{sym, ◌∙◌, ap}
-use Rattle.std.specs.Cmp.{Equal-is, nat_cmp_total, nat_eq_equiv, on_equiv, on_total}
-use Rattle.std.specs.Cmp.Lexicographic.{bytes_decides, lists_equiv, lists_total, slice_cmp, texts_ties}
+use Rattle.std.proofs.Common.{◌≡◌, ℕ, List, true, sym, ◌∙◌, refl, arith}
+use Rattle.std.proofs.lemmas.Bool.{false≢true}
+use Rattle.std.proofs.lemmas.Bool.Decides.{nat_tests}
+use Rattle.std.proofs.lemmas.Cmp.{same_from_slice_cmp}
+use Rattle.std.specs.Cmp.{nat_cmp_total, nat_eq_equiv, on_equiv, on_total}
+use Rattle.std.specs.Cmp.Lexicographic.{bytes_decides, lists_equiv, lists_total, pointwise, slice_cmp}
 use Rattle.std.specs.Ordering.{is_eq, nat_cmp}
+use Rattle.std.specs.Prelude.{nat_eq}
+use Rattle.std.specs.declared.cmp.Ordering.{Ordering}
+use Rattle.std.specs.declared.cmp.Ordering.TheVariants.{Less, Equal, Greater}
 use Rattle.uefi_path.specs.Separators.{canon}
 use Rattle.upath.proofs.laws.order_agrees.Goals as goal
+
+-- texts are tied exactly where they are the same
+ties : (us vs : List ℕ) (order : Ordering) → order ≡ slice_cmp nat_cmp us vs
+    → is_eq order ≡ pointwise nat_eq us vs
+ties =
+    same_from_slice_cmp nat_cmp is_eq (pointwise nat_eq) refl (λ _ _. refl) (λ _ _. refl)
+    (λ x y xs ys order h. grind (arith, nat_tests))
+
+is_Equal : (order : Ordering) → is_eq order ≡ true → order ≡ Equal
+is_Equal Less e = absurd (false≢true e)
+is_Equal Equal e = refl
+is_Equal Greater e = absurd (false≢true e)
 
 pub returns-clause-total : goal.returns-clause-total
 returns-clause-total c = on_total canon (lists_total nat_cmp_total)
 
 pub returns-clause-ties : goal.returns-clause-ties
-returns-clause-ties c text other = (
-  λ tied. (bytes_decides (canon text) (canon other)).0
-      (texts_ties (canon text) (canon other) ∙ ap is_eq tied),
-  λ same. (Equal-is (slice_cmp nat_cmp (canon text) (canon other))).0
-      (sym (texts_ties (canon text) (canon other))
-      ∙ (bytes_decides (canon text) (canon other)).1 same),
-)
+returns-clause-ties c text other =
+    let same_texts = bytes_decides (canon text) (canon other) in (
+      λ tied. same_texts.0 (sym (ties (canon text) (canon other) Equal (sym tied))),
+      λ same. is_Equal (slice_cmp nat_cmp (canon text) (canon other))
+          (ties (canon text) (canon other) _ refl ∙ same_texts.1 same),
+    )
 
 pub returns-clause-equivalence : goal.returns-clause-equivalence
 returns-clause-equivalence c = on_equiv canon (lists_equiv nat_eq_equiv)

@@ -1,13 +1,14 @@
 use Rattle.std.proofs.Common.{ℕ, ◌-◌, ◌≤◌, List, [], ◌∷◌, length, arith}
-use Rattle.uefi_path.proofs.Climbing.{above-plain}
-use Rattle.uefi_path.proofs.Counting.{above-slashed, fewer_above}
+use Rattle.uefi_path.proofs.ParentForm.{above-plain}
+use Rattle.uefi_path.proofs.ParentSizes.{above-slashed, fewer_above}
 use Rattle.uefi_path.specs.Components.{components_of}
 use Rattle.uefi_path.specs.Separators.{IsPlain}
 use Rattle.upath.specs.SuccessiveParents.{AreParents, parents_of}
-use Rattle.upath.proofs.Climbing.{AreParents-parents_of}
+use Rattle.upath.proofs.ParentChains.{AreParents-parents_of}
 use Rattle.upath.proofs.laws.parent_count.Goals as goal
 
-fewer_parents : (text : List ℕ) (parents : List (List ℕ)) → IsPlain text → AreParents text parents → length parents ≤ length (components_of text) - 1
+fewer_parents : (text : List ℕ) (parents : List (List ℕ)) → IsPlain text → AreParents text parents
+    → length parents ≤ length (components_of text) - 1
 fewer_parents text [] plain none = omega arith
 fewer_parents text (parent ∷ parents) plain of_parent =
     omega (

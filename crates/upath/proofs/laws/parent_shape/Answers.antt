@@ -1,4 +1,4 @@
-use Rattle.uefi_path.proofs.Climbing.{above_not_doubled, front_above}
+use Rattle.uefi_path.proofs.ParentForm.{above_not_doubled, front_above}
 use Rattle.upath.proofs.laws.parent_shape.Goals as goal
 
 pub returns-clause-relative : goal.returns-clause-relative

@@ -1,4 +1,4 @@
-use Rattle.uefi_path.proofs.Climbing.{valid_above}
+use Rattle.uefi_path.proofs.ParentForm.{valid_above}
 use Rattle.upath.proofs.laws.parent_valid.Goals as goal
 
 pub returns : goal.returns

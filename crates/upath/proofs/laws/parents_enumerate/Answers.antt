@@ -1,5 +1,5 @@
 use Rattle.std.proofs.Common.{subst, sym}
-use Rattle.upath.proofs.Beginnings.{AreParents-beginnings, parents_once}
+use Rattle.upath.proofs.ParentsOfValid.{AreParents-beginnings, parents_once}
 use Rattle.upath.specs.SuccessiveParents.{AreParents, shorter_beginnings}
 use Rattle.upath.proofs.laws.parents_enumerate.Goals as goal
 

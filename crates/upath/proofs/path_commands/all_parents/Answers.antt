@@ -2,8 +2,8 @@
 use Rattle.std.proofs.Common.{◌≡◌, ap, sym, subst, ◌∙◌, arith}
 use Rattle.std.proofs.lemmas.Grind.{common_steps}
 use Rattle.uefi_path.specs.Parents.{above}
-use Rattle.upath.proofs.Beginnings.{AreParents-beginnings, parents_once}
-use Rattle.upath.proofs.Climbing.{AreParents-parents_of, chain, most_left, most_left-above, parents_of-chain}
+use Rattle.upath.proofs.ParentsOfValid.{AreParents-beginnings, parents_once}
+use Rattle.upath.proofs.ParentChains.{AreParents-parents_of, chain, most_left, most_left-above, parents_of-chain}
 use Rattle.upath.specs.SuccessiveParents.{AreParents, parents_of, shorter_beginnings}
 use Rattle.upath.proofs.path_commands.all_parents.Goals as goal
 
@@ -21,9 +21,9 @@ loop-next-smaller g c =
 pub loop-next-preserved : goal.loop-next-preserved
 loop-next-preserved g c =
     let next : c.in_ok-next-2.next ≡ above c.in-Some.parent = c.in_ok-next-2.ensures.ok in
-    let behind = ap chain next ∙ sym (parents_of-chain c.in-Some.parent) in
+    let after = ap chain next ∙ sym (parents_of-chain c.in-Some.parent) in
     let so_far = ap chain c.in-Some.is in
-    grind (arith, common_steps, behind, so_far)
+    grind (arith, common_steps, after, so_far)
 
 pub returns-clause-parents : goal.returns-clause-parents
 returns-clause-parents g c =
@@ -34,4 +34,6 @@ pub returns-clause-beginnings : goal.returns-clause-beginnings
 returns-clause-beginnings g c valid =
     let text = c.args.path.now in
     let all : c.loop-next.parents.items ≡ parents_of text = grind (arith, common_steps) in
-    all ∙ parents_once text (parents_of text) (shorter_beginnings text) (AreParents-parents_of text) (AreParents-beginnings text valid)
+    all
+    ∙ parents_once text (parents_of text) (shorter_beginnings text) (AreParents-parents_of text)
+    (AreParents-beginnings text valid)

@@ -1,6 +1,6 @@
 use Rattle.std.proofs.Common.{◌≡◌, ◌++◌}
 use Rattle.upath.specs.SuccessiveParents.{parents_of}
-use Rattle.upath.proofs.Climbing.{chain, most_left}
+use Rattle.upath.proofs.ParentChains.{chain, most_left}
 use Rattle.upath.proofs.path_commands.all_parents.Given as goal
 
 -- the parents so far, and those to come, are all

@@ -17,16 +17,20 @@ returns-then-is_empty-clause-only c = λ pieces components.
 pub returns-clause-components : goal.returns-clause-components
 unfolding components_left
 returns-clause-components c =
-    let filled : units_of c.canonical-text.result ≡ [] → ⊥ = λ e. grind (arith, common_steps, c.if-is_empty.ensures) in
-    rw (slice_split-canon (path_text c.args.self.now) (units_of c.canonical-text.result) c.canonical-text.ensures.same filled)
-    (AreComponents-components_of (path_text c.args.self.now))
+    let text = path_text c.args.self.now in
+    let units = units_of c.canonical-text.result in
+    let filled : units ≡ [] → ⊥ = λ e. grind (arith, common_steps, c.if-is_empty.ensures) in
+    rw (slice_split-canon text units c.canonical-text.ensures.same filled)
+    (AreComponents-components_of text)
 
 pub returns-clause-only : goal.returns-clause-only
 unfolding components_left
 returns-clause-only c = λ pieces components.
-    let filled : units_of c.canonical-text.result ≡ [] → ⊥ = λ e. grind (arith, common_steps, c.if-is_empty.ensures) in
-    components_of-only (path_text c.args.self.now) pieces components
-    ∙ sym (slice_split-canon (path_text c.args.self.now) (units_of c.canonical-text.result) c.canonical-text.ensures.same filled)
+    let text = path_text c.args.self.now in
+    let units = units_of c.canonical-text.result in
+    let filled : units ≡ [] → ⊥ = λ e. grind (arith, common_steps, c.if-is_empty.ensures) in
+    components_of-only text pieces components
+    ∙ sym (slice_split-canon text units c.canonical-text.ensures.same filled)
 
 pub returns-clause-bound : goal.returns-clause-bound
 unfolding components_left

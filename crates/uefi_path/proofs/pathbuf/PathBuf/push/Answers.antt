@@ -1,4 +1,4 @@
--- The part is added as it is, and then its slashes are turned.
+-- The part is added as it is, and then its slashes are replaced.
 use Rattle.std.proofs.Common.{◌≡◌, ◌≢◌, [], subst, sym, arith}
 use Rattle.std.proofs.lemmas.Grind.{common_steps}
 use Rattle.uefi_text.specs.Units.{IsText}
@@ -16,13 +16,15 @@ pub invariant_of-self-2 : goal.invariant_of-self-2
 invariant_of-self-2 g c =
     let text = c.self.inside.string in
     let part = path_text c.args.path in
-    let turned : c.replace_char_from.new.self ≡ appended text (slashed part) = grind (arith, common_steps, slashed-appended text part) in
-    subst IsPlain (sym turned) (IsPlain-appended text part c.self.invariant)
+    let all : c.replace_char_from.new.self ≡ appended text (slashed part) =
+    grind (arith, common_steps, slashed-appended text part) in
+    subst IsPlain (sym all) (IsPlain-appended text part c.self.invariant)
 
 pub returns-clause-ok : goal.returns-clause-ok
 returns-clause-ok g c =
     let text = c.self.inside.string in
     let part = path_text c.args.path in
     let filled : part ≢ [] = λ e. grind (arith, common_steps, c.if-is_empty.ensures) in
-    let turned : c.replace_char_from.new.self ≡ appended text (slashed part) = grind (arith, common_steps, slashed-appended text part) in
+    let all : c.replace_char_from.new.self ≡ appended text (slashed part) =
+    grind (arith, common_steps, slashed-appended text part) in
     grind (arith, common_steps, pushed-filled text part filled)

@@ -2,10 +2,10 @@
 use Rattle.std.proofs.Common.{◌≡◌, ℕ, zero, suc, ◌+◌, ◌<◌, ◌≤◌, ap, refl, List, [], ◌∷◌, length, None, Some, Option, arith}
 use Rattle.std.specs.Prelude.{⊤}
 use Rattle.uefi_path.specs.Parents.{above}
-use Rattle.uefi_path.proofs.Shrinking.{above-shorter}
+use Rattle.uefi_path.proofs.ParentSizes.{above-shorter}
 use Rattle.upath.specs.SuccessiveParents.{AreParents, parents_from, parents_of}
 
--- a text that is no longer than so many units is no parent's own, nor any behind it
+-- a parent, if there is one, has fewer units than `most`
 abbrev Within : Option (List ℕ) → ℕ → Type 0
 Within None most = ⊤
 Within (Some parent) most = length parent < most
@@ -17,15 +17,18 @@ Within-above text most within = go (above text) refl
     go None e = tt
     go (Some parent) e = omega (arith, above-shorter text parent e, within)
 
--- more room than is needed changes nothing
-parents_from-enough : (most more : ℕ) (o : Option (List ℕ)) → Within o most → Within o more → parents_from most o ≡ parents_from more o
+-- a greater bound than is needed changes nothing
+parents_from-enough : (most more : ℕ) (o : Option (List ℕ)) → Within o most → Within o more
+    → parents_from most o ≡ parents_from more o
 parents_from-enough most more None within too = refl
 parents_from-enough zero more (Some parent) within too = absurd (omega (arith, within))
 parents_from-enough (suc most) zero (Some parent) within too = absurd (omega (arith, too))
 parents_from-enough (suc most) (suc more) (Some parent) within too =
-    ap (λ parents. parent ∷ parents) (parents_from-enough most more (above parent) (Within-above parent most (omega (arith, within))) (Within-above parent more (omega (arith, too))))
+    let fewer = Within-above parent most (omega (arith, within)) in
+    let also = Within-above parent more (omega (arith, too)) in
+    ap (λ parents. parent ∷ parents) (parents_from-enough most more (above parent) fewer also)
 
--- a parent that there may be, and its successive parents
+-- a parent, if there is one, and its successive parents
 abbrev pub chain : Option (List ℕ) → List (List ℕ)
 chain None = []
 chain (Some parent) = parent ∷ parents_of parent
@@ -39,16 +42,19 @@ parents_of-chain text = go (above text) refl
         let shorter = above-shorter text parent e in
         parents_from-enough (length text) (suc (length parent)) (Some parent) shorter (omega arith)
 
-AreParents-from : (most : ℕ) (text : List ℕ) (o : Option (List ℕ)) → above text ≡ o → length text ≤ most → AreParents text (parents_from most o)
+AreParents-from : (most : ℕ) (text : List ℕ) (o : Option (List ℕ)) → above text ≡ o
+    → length text ≤ most → AreParents text (parents_from most o)
 AreParents-from most text None e within = e
-AreParents-from zero text (Some parent) e within = absurd (omega (arith, within, above-shorter text parent e))
+AreParents-from zero text (Some parent) e within =
+    absurd (omega (arith, within, above-shorter text parent e))
 AreParents-from (suc most) text (Some parent) e within =
-    (e, AreParents-from most parent (above parent) refl (omega (arith, within, above-shorter text parent e)))
+    let fewer : length parent ≤ most = omega (arith, within, above-shorter text parent e) in
+    (e, AreParents-from most parent (above parent) refl fewer)
 
 pub AreParents-parents_of : (text : List ℕ) → AreParents text (parents_of text)
 AreParents-parents_of text = AreParents-from (length text) text (above text) refl (omega arith)
 
--- how many parents there may still be at most: one more than a parent has units
+-- how many parents may still come at most: one more than a parent has units
 abbrev pub most_left : Option (List ℕ) → ℕ
 most_left None = 0
 most_left (Some parent) = length parent + 1

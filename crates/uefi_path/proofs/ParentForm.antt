@@ -10,14 +10,10 @@ use Rattle.uefi_path.specs.Parents.{above, above_last, all_but_last, ends_empty,
 use Rattle.uefi_path.specs.Separators.{IsPlain, canon, is_separator, separator, slash, slashed}
 use Rattle.uefi_path.specs.Verdicts.{IsGood, verdict}
 use Rattle.uefi_path.proofs.Joining.{canon-no, slice_split-append, slice_split-filled}
-use Rattle.uefi_path.proofs.Parents.{All-IsPiece-filled, All-all_but_last, All-components_of, All-filled, above_last-many}
+use Rattle.uefi_path.proofs.Parents.{All-IsPiece-filled, All-all_but_last, All-components_of, All-filled, IsFull, above_last-many}
 use Rattle.uefi_path.proofs.Pushing.{separator_is_plain, slashed-plain}
 use Rattle.uefi_path.proofs.Splitting.{AreComponents-components_of, pieces_between-joined, slice_split-joined}
 use Rattle.uefi_path.proofs.Validity.{All-good_filled, All-good_piece, All-good_plain, All-joined, valid-components, valid-from, valid-plain}
-
--- whether a piece is not empty, as a fact
-abbrev IsFull : List ℕ → Type 0
-IsFull piece = is_filled piece ≡ true
 
 -- no separator stands in front of pieces that are not empty
 front_joined : (n : List ℕ) (ns : List (List ℕ)) (more : List ℕ) → IsPiece n → IsFull n
@@ -36,7 +32,7 @@ front_with_end (n ∷ ns) ends pieces full =
     front_joined n ns (if ends then separator ∷ [] else []) (All-head IsPiece n ns pieces)
     (All-head IsFull n ns full)
 
--- what stands between the separators of such pieces, and of the end behind them
+-- what stands between the separators of such pieces, and of the end after them
 pub split_with_end : (n : List ℕ) (ns : List (List ℕ)) (ends : Bool) → All IsPiece (n ∷ ns)
     → slice_split is_separator (joined_with_end (n ∷ ns) ends) ≡ (n ∷ ns)
     ++ (if ends then [] ∷ [] else [])
@@ -119,8 +115,12 @@ plain_rejoined : (ps : List (List ℕ)) → All IsPlain ps → IsPlain (rejoined
 plain_rejoined ps plain =
     plain_with_end (filled ps) (ends_empty ps) (All-filter is_filled IsPlain ps plain)
 
+-- a parent of pieces: those but the last, of two or more, rejoined
+abbrev IsRejoined : List (List ℕ) → List ℕ → Type 0
+IsRejoined ps parent = (parent ≡ rejoined (all_but_last ps)) × (1 < length ps)
+
 above_last-plain : (ps : List (List ℕ)) (parent : List ℕ) → All IsPlain ps
-    → above_last ps ≡ Some parent → (parent ≡ rejoined (all_but_last ps)) × (1 < length ps)
+    → above_last ps ≡ Some parent → IsRejoined ps parent
 above_last-plain [] parent plain e = absurd (cc)
 above_last-plain (p ∷ []) parent plain e = absurd (cc)
 above_last-plain (p ∷ q ∷ ps) parent plain e = (
@@ -130,7 +130,7 @@ above_last-plain (p ∷ q ∷ ps) parent plain e = (
   omega arith,
 )
 
--- the parent of a plain text, whose slashes need no turning,
+-- the parent of a plain text, of whose slashes none is to replace,
 pub above-plain : (text parent : List ℕ) → IsPlain text → above text ≡ Some parent
     → (parent ≡ rejoined (all_but_last (components_of text))) × (1 < length (components_of text))
 above-plain text parent plain e =
@@ -140,8 +140,7 @@ above-plain text parent plain e =
 pub front_above : (text parent : List ℕ) → IsPlain text → above text ≡ Some parent
     → canon parent ≡ parent
 front_above text parent plain e =
-    let is : (parent ≡ rejoined (all_but_last (components_of text)))
-    × (1 < length (components_of text)) = above-plain text parent plain e in
+    let is : IsRejoined (components_of text) parent = above-plain text parent plain e in
     subst (λ us. canon us ≡ us) (sym is.0)
     (front_rejoined (all_but_last (components_of text))
     (All-all_but_last IsPiece (components_of text)
@@ -151,8 +150,7 @@ front_above text parent plain e =
 pub above_not_doubled : (text parent before after : List ℕ) → IsPlain text
     → above text ≡ Some parent → parent ≢ before ++ separator ∷ separator ∷ after
 above_not_doubled text parent before after plain e =
-    let is : (parent ≡ rejoined (all_but_last (components_of text)))
-    × (1 < length (components_of text)) = above-plain text parent plain e in
+    let is : IsRejoined (components_of text) parent = above-plain text parent plain e in
     subst (λ us. us ≢ before ++ separator ∷ separator ∷ after) (sym is.0)
     (rejoined_not_doubled (all_but_last (components_of text)) before after
     (All-all_but_last IsPiece (components_of text)
@@ -220,8 +218,8 @@ length-all_but_last (p ∷ q ∷ ps) = omega (arith, length-all_but_last (q ∷ 
 above-valid : (text parent : List ℕ) → verdict text ≡ None → above text ≡ Some parent
     → (parent ≡ joined (all_but_last (components_of text))) × (1 < length (components_of text))
 above-valid text parent valid e =
-    let is : (parent ≡ rejoined (all_but_last (components_of text)))
-    × (1 < length (components_of text)) = above-plain text parent (valid-plain text valid) e in (
+    let is : IsRejoined (components_of text) parent =
+    above-plain text parent (valid-plain text valid) e in (
       is.0 ∙ rejoined-full (all_but_last (components_of text))
           (All-all_but_last IsFull (components_of text)
           (All-good_filled (components_of text) (valid-components text valid))),

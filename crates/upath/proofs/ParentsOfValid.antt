@@ -3,7 +3,7 @@ use Rattle.std.proofs.Common.{◌≡◌, ℕ, zero, suc, ◌+◌, ◌-◌, ◌<�
 use Rattle.std.proofs.lemmas.List.{length-take-le, take_all}
 use Rattle.std.proofs.lemmas.List.Elements.{All-take}
 use Rattle.std.proofs.lemmas.Option.{none-some, same_Some}
-use Rattle.uefi_path.proofs.Climbing.{above_last-good, components_of-joined}
+use Rattle.uefi_path.proofs.ParentForm.{above_last-good, components_of-joined}
 use Rattle.uefi_path.proofs.Validity.{valid-components}
 use Rattle.uefi_path.specs.Components.{components_of, joined}
 use Rattle.uefi_path.specs.Parents.{above, above_last, all_but_last}
@@ -37,11 +37,11 @@ above_last-one : (cs : List (List ℕ)) → above_last (take 1 cs) ≡ None
 above_last-one [] = refl
 above_last-one (c ∷ cs) = refl
 
--- climbing from a text that has so many of the components
-climbs : (text : List ℕ) (count : ℕ) (cs : List (List ℕ)) → All IsGood cs → count < length cs
+-- the parents of a text of `count` components and one more, the first of all
+parents_of_some : (text : List ℕ) (count : ℕ) (cs : List (List ℕ)) → All IsGood cs → count < length cs
     → components_of text ≡ take (suc count) cs → AreParents text (beginnings count cs)
-climbs text zero cs good below e = ap above_last e ∙ above_last-one cs
-climbs text (suc count) cs good below e =
+parents_of_some text zero cs good below e = ap above_last e ∙ above_last-one cs
+parents_of_some text (suc count) cs good below e =
     let more : length (take (suc (suc count)) cs) ≡ suc (suc count) =
     length-take-le (suc (suc count)) cs (omega (arith, below)) in
     let many : 1 < length (take (suc (suc count)) cs) = omega (arith, more) in
@@ -51,7 +51,7 @@ climbs text (suc count) cs good below e =
     many
     ∙ ap (λ ps. Some (joined ps)) (all_but_last-take count cs (omega (arith, below))) in (
       here,
-      climbs (joined (take (suc count) cs)) count cs good (omega (arith, below))
+      parents_of_some (joined (take (suc count) cs)) count cs good (omega (arith, below))
           (components_of-joined (take (suc count) cs) (All-take IsGood (suc count) cs good)),
     )
 
@@ -61,7 +61,7 @@ from_all text [] good e = ap above_last e
 from_all text (c ∷ cs) good e =
     let fewer : length cs ≡ length (c ∷ cs) - 1 = omega arith in
     subst (λ count. AreParents text (beginnings count (c ∷ cs))) fewer
-    (climbs text (length cs) (c ∷ cs) good (omega arith)
+    (parents_of_some text (length cs) (c ∷ cs) good (omega arith)
     (e ∙ sym (take_all (suc (length cs)) (c ∷ cs) (omega arith))))
 
 pub AreParents-beginnings : (text : List ℕ) → verdict text ≡ None → AreParents text (shorter_beginnings text)
