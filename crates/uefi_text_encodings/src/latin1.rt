@@ -52,7 +52,7 @@ impl<'a> CStr8<'a> {
     }
 
     /// The bytes before the zero.
-    pub fn text(&self) -> &'a [u8]
+    pub(crate) fn text(&self) -> &'a [u8]
         ensures { result.now ≡ without_nul (bytes_of self.now) }
     {
         &self.bytes[..self.bytes.len() - 1]

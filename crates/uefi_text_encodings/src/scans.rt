@@ -70,7 +70,7 @@ pub fn has_unit_beyond_ascii(units: &[u16]) -> bool
 }
 
 /// Whether each byte is ASCII and not NUL.
-pub fn is_ascii_text(bytes: &[u8]) -> bool
+pub(crate) fn is_ascii_text(bytes: &[u8]) -> bool
     ensures { result ≡ fold ascii_text_so_far true bytes.now }
 {
     bytes
@@ -80,7 +80,7 @@ pub fn is_ascii_text(bytes: &[u8]) -> bool
 
 /// Whether a byte begins a character that no UCS-2 text holds: a NUL, or a character above U+FFFF,
 /// which alone has four bytes.
-pub fn has_deciding_byte(bytes: &[u8]) -> bool
+pub(crate) fn has_deciding_byte(bytes: &[u8]) -> bool
     ensures { result ≡ fold deciding_byte_so_far false bytes.now }
 {
     bytes.iter().fold(false, |found, byte| found | (*byte == 0) | (0xf0 <= *byte))
@@ -88,7 +88,7 @@ pub fn has_deciding_byte(bytes: &[u8]) -> bool
 
 /// Whether a byte begins a character above U+00FF: one of 0xc4 or more. Below that are the bytes
 /// that begin a character of Latin-1, and those inside of characters.
-pub fn has_byte_beyond_latin1(bytes: &[u8]) -> bool
+pub(crate) fn has_byte_beyond_latin1(bytes: &[u8]) -> bool
     ensures { result ≡ fold byte_beyond_latin1_so_far false bytes.now }
 {
     bytes
@@ -97,7 +97,7 @@ pub fn has_byte_beyond_latin1(bytes: &[u8]) -> bool
 }
 
 /// Writes bytes as code units, in front of the last unit, which stays.
-pub fn widen(units: &mut [u16], bytes: &[u8])
+pub(crate) fn widen(units: &mut [u16], bytes: &[u8])
     requires { length units.now ≡ length bytes.now + 1 }
     ensures { units.new ≡ bytes.now ++ drop (length bytes.now) units.old }
 {
@@ -107,7 +107,7 @@ pub fn widen(units: &mut [u16], bytes: &[u8])
 }
 
 /// Writes units of ASCII as bytes.
-pub fn narrow(bytes: &mut [u8], units: &[u16])
+pub(crate) fn narrow(bytes: &mut [u8], units: &[u16])
     requires same_length { length bytes.now ≡ length units.now }
     requires ascii { IsAscii units.now }
     ensures { bytes.new ≡ units.now }
