@@ -23,9 +23,9 @@ fn the_example_of_the_readme(rt: HostRuntime) -> Result<(), Fail> {
 
 #[test]
 fn the_example_of_the_strings(rt: HostRuntime) -> Result<(), Fail> {
-    let lent = CStr16::from_u16_with_nul(&[0x48, 0x69, 0])?;
+    let borrowed = CStr16::from_u16_with_nul(&[0x48, 0x69, 0])?;
     let owned = CString16::try_from_str(rt.alloc(), "Hi")?;
-    assert!(rt; lent == owned.as_cstr16());
+    assert!(rt; borrowed == owned.as_cstr16());
     let broken = CStr16::from_u16_with_nul(&[0x48, 0xd800, 0]);
     assert_eq!(rt; broken.err(), Some(FromSliceWithNulError::InvalidChar(1)));
     Ok(())

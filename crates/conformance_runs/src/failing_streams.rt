@@ -93,7 +93,7 @@ fn a_read_that_fails(rt: HostRuntime) {
 }
 
 #[test]
-fn a_read_that_fails_behind_the_end(rt: HostRuntime) -> Result<(), Fail> {
+fn a_read_that_fails_after_the_end(rt: HostRuntime) -> Result<(), Fail> {
     let mut reader = FailingReader {
         bytes: INPUT,
         before_failing: 99,
