@@ -6,18 +6,31 @@ use std::collections::{BTreeMap, HashMap};
 use std::test::Fail;
 use uefi_text::{CStr8, CStr16, CString16, EqStrUntilNul, str_eq_until_nul};
 
-/// Whether two borrowed strings stand in this order.
-fn compare(a: CStr16<'_>, b: CStr16<'_>, want: Ordering) -> bool {
-    a.cmp(&b) == want && a.partial_cmp(&b) == Some(want)
+/// Whether the borrowed strings of these units stand in this order.
+fn compare(a: &[u16], b: &[u16], want: Ordering) -> Result<bool, Fail> {
+    let (a, b) = (CStr16::from_u16_with_nul(a)?, CStr16::from_u16_with_nul(b)?);
+    Ok(a.cmp(&b) == want && a.partial_cmp(&b) == Some(want))
 }
 
-/// Whether two owned strings stand in this order, and are equal only where it says so.
-fn compare_owned(a: &CString16, b: &CString16, want: Ordering) -> bool {
-    let equal = want == Ordering::Equal;
-    a.cmp(b) == want
-        && a.partial_cmp(b) == Some(want)
-        && (a == b) == equal
-        && a.eq_cstr16(b.as_cstr16()) == equal
+/// The owned string of these units.
+fn owned(rt: &HostRuntime, units: &[u16]) -> Result<CString16, Fail> {
+    Ok(CStr16::from_u16_with_nul(units)?.to_owned(rt.alloc())?)
+}
+
+/// Whether two owned strings are equal, if so by `==` and against a borrowed one.
+fn are_equal(a: &CString16, b: &CString16) -> Option<bool> {
+    let equal = a == b;
+    (a.eq_cstr16(b.as_cstr16()) == equal).then_some(equal)
+}
+
+/// Whether the owned strings of these units stand in this order, and are equal only where it says so.
+fn compare_owned(rt: &HostRuntime, a: &[u16], b: &[u16], want: Ordering) -> Result<bool, Fail> {
+    let (a, b) = (owned(rt, a)?, owned(rt, b)?);
+    Ok(
+        a.cmp(&b) == want
+            && a.partial_cmp(&b) == Some(want)
+            && are_equal(&a, &b) == Some(want == Ordering::Equal),
+    )
 }
 
 #[test]
@@ -30,12 +43,19 @@ fn order(rt: HostRuntime) -> Result<(), Fail> {
         (&[97, 98, 0], &[97, 98, 0], Ordering::Equal),
     ];
     for (a, b, want) in rows {
-        let (a, b) = (CStr16::from_u16_with_nul(a)?, CStr16::from_u16_with_nul(b)?);
-        assert!(rt; compare(a, b, want), "{a} and {b}");
-        let (left, right) = (a.to_owned(rt.alloc())?, b.to_owned(rt.alloc())?);
-        assert!(rt; compare_owned(&left, &right, want), "{a} and {b}");
+        assert!(rt; compare(a, b, want)?, "{a:?} and {b:?}");
+        assert!(rt; compare_owned(&rt, a, b, want)?, "{a:?} and {b:?}");
     }
     Ok(())
+}
+
+/// The map to which these are added in turn.
+fn hash_map(rt: &HostRuntime, rows: &[(&str, i32)]) -> Result<HashMap<CString16, i32>, Fail> {
+    let mut numbers = HashMap::new(rt.alloc());
+    for (key, number) in rows {
+        numbers.insert(string(rt.alloc(), key)?, *number)?;
+    }
+    Ok(numbers)
 }
 
 /// The number that stands at a key.
@@ -49,14 +69,20 @@ fn hashed(
 
 #[test]
 fn keys_of_a_hash_map(rt: HostRuntime) -> Result<(), Fail> {
-    let mut numbers = HashMap::new(rt.alloc());
-    for (key, number) in [("a", 1), ("é", 2), ("a", 3)] {
-        numbers.insert(string(rt.alloc(), key)?, number)?;
-    }
+    let numbers = hash_map(&rt, &[("a", 1), ("é", 2), ("a", 3)])?;
     for (key, want) in [("a", Some(3)), ("é", Some(2)), ("ab", None)] {
         assert_eq!(rt; hashed(&rt, &numbers, key)?, want, "{key}");
     }
     Ok(())
+}
+
+/// The map to which these are added in turn.
+fn ordered_map(rt: &HostRuntime, rows: &[(&str, i32)]) -> Result<BTreeMap<CString16, i32>, Fail> {
+    let mut numbers = BTreeMap::new(rt.alloc());
+    for (key, number) in rows {
+        numbers.insert(string(rt.alloc(), key)?, *number)?;
+    }
+    Ok(numbers)
 }
 
 /// The number that stands at a key.
@@ -70,39 +96,34 @@ fn ordered(
 
 #[test]
 fn keys_of_an_ordered_map(rt: HostRuntime) -> Result<(), Fail> {
-    let mut numbers = BTreeMap::new(rt.alloc());
-    for (key, number) in [("b", 1), ("ab", 2), ("b", 3)] {
-        numbers.insert(string(rt.alloc(), key)?, number)?;
-    }
+    let numbers = ordered_map(&rt, &[("b", 1), ("ab", 2), ("b", 3)])?;
     for (key, want) in [("b", Some(3)), ("ab", Some(2)), ("a", None)] {
         assert_eq!(rt; ordered(&rt, &numbers, key)?, want, "{key}");
     }
     Ok(())
 }
 
-/// The answers of both ways to compare a string with a text.
-fn equals_until_nul<S: EqStrUntilNul>(string: &S, text: &str) -> (bool, bool) {
-    (
-        string.eq_str_until_nul(text),
-        str_eq_until_nul(text, string),
-    )
+/// What both ways to compare a string with a text say, if they agree.
+fn equals_until_nul<S: EqStrUntilNul>(string: &S, text: &str) -> Option<bool> {
+    let equal = string.eq_str_until_nul(text);
+    (str_eq_until_nul(text, string) == equal).then_some(equal)
 }
 
 #[test]
 fn equal_until_nul(rt: HostRuntime) -> Result<(), Fail> {
-    let borrowed = CStr16::from_u16_with_nul(&[116, 101, 115, 116, 0])?;
-    let owned = borrowed.to_owned(rt.alloc())?;
+    let owned = owned(&rt, &[116, 101, 115, 116, 0])?;
+    let borrowed = owned.as_cstr16();
     let bytes = CStr8::from_bytes_with_nul(b"test\0")?;
     for (text, want) in [
-        ("te\0st", true),
-        ("test\0", true),
-        ("", true),
-        ("test😀", true),
-        ("hello", false),
+        ("te\0st", Some(true)),
+        ("test\0", Some(true)),
+        ("", Some(true)),
+        ("test😀", Some(true)),
+        ("hello", Some(false)),
     ] {
-        assert_eq!(rt; equals_until_nul(&borrowed, text), (want, want), "{text:?}");
-        assert_eq!(rt; equals_until_nul(&owned, text), (want, want), "{text:?}");
-        assert_eq!(rt; equals_until_nul(&bytes, text), (want, want), "{text:?}");
+        assert_eq!(rt; equals_until_nul(&borrowed, text), want, "{text:?}");
+        assert_eq!(rt; equals_until_nul(&owned, text), want, "{text:?}");
+        assert_eq!(rt; equals_until_nul(&bytes, text), want, "{text:?}");
     }
     Ok(())
 }
@@ -110,7 +131,7 @@ fn equal_until_nul(rt: HostRuntime) -> Result<(), Fail> {
 #[test]
 fn latin1_equal_until_nul(rt: HostRuntime) -> Result<(), Fail> {
     let bytes = CStr8::from_bytes_with_nul(&[0xe9, 0])?;
-    assert_eq!(rt; equals_until_nul(&bytes, "é"), (true, true));
-    assert_eq!(rt; equals_until_nul(&bytes, "e"), (false, false));
+    assert_eq!(rt; equals_until_nul(&bytes, "é"), Some(true));
+    assert_eq!(rt; equals_until_nul(&bytes, "e"), Some(false));
     Ok(())
 }

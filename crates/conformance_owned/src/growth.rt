@@ -4,7 +4,7 @@ ghost use Rattle.std.specs.Prelude.{◌≡◌, ◌≢◌, ◌<◌, ◌++◌, ℕ
 ghost use Rattle.std.specs.List.{filter};
 ghost use Rattle.uefi_text.specs.Views.{text_of};
 
-use conformance::{Refusing, printed, requests, string};
+use conformance::{Refusing, out_of_memory, printed, requests, string};
 use std::alloc::{AllocError, Allocator, Global};
 use std::iter;
 use std::test::Fail;
@@ -41,13 +41,27 @@ fn pushed_hi(rt: &HostRuntime) -> Result<CString16, Fail> {
     Ok(text)
 }
 
+/// A text after a push of a string, and then extended by the characters of another.
+fn pushed_and_extended_by(
+    mut text: CString16,
+    pushed: CStr16<'_>,
+    extended: CStr16<'_>,
+) -> Result<CString16, Fail> {
+    text.push_str(pushed)?;
+    text.extend(extended.iter())?;
+    Ok(text)
+}
+
 #[test]
 fn pushed_and_extended(rt: HostRuntime) -> Result<(), Fail> {
     let first = pushed_hi(&rt)?;
     assert_eq!(rt; first.num_chars(), 2);
-    let mut second = string(rt.alloc(), "!")?;
-    second.push_str(first.as_cstr16())?;
-    second.extend(string(rt.alloc(), "!")?.as_cstr16().iter())?;
+    let mark = string(rt.alloc(), "!")?;
+    let second = pushed_and_extended_by(
+        string(rt.alloc(), "!")?,
+        first.as_cstr16(),
+        mark.as_cstr16(),
+    )?;
     assert_eq!(rt; second.num_chars(), 4);
     assert!(rt; second == string(rt.alloc(), "!hi!")?);
     Ok(())
@@ -98,27 +112,26 @@ fn pushes_until_one_is_refused(rt: HostRuntime) -> Result<(), Fail> {
     Ok(())
 }
 
-/// A refused push of a string leaves the text unchanged, and the next one gets its memory.
-#[test]
-fn pushed_strings(rt: HostRuntime) -> Result<(), Fail> {
-    let more = CStr16::from_u16_with_nul(&[99, 0xe9, 0])?;
-    let one = Refusing::new(rt.alloc(), 2);
-    let mut text = string(&one, "ab")?;
-    assert!(rt; text.push_str(more).is_err());
-    assert!(rt; one.has_refused());
-    assert_eq!(rt; printed(&rt, &text)?.as_str(), "ab");
-    text.push_str(more)?;
-    assert_eq!(rt; printed(&rt, &text)?.as_str(), "abcé");
-    Ok(())
+/// The results of two pushes of a string to `ab`, the first of which is refused.
+fn pushed_twice<'a>(
+    heap: &'a Refusing<Global>,
+    more: CStr16<'_>,
+) -> Result<(bool, bool, CString16<&'a Refusing<Global>>), Fail> {
+    let mut text = string(heap, "ab")?;
+    let first = text.push_str(more).is_ok();
+    let second = text.push_str(more).is_ok();
+    Ok((first, second, text))
 }
 
+/// A push after a refused one gets its memory.
 #[test]
-fn pushed_empty_strings(rt: HostRuntime) -> Result<(), Fail> {
+fn pushed_after_a_refusal(rt: HostRuntime) -> Result<(), Fail> {
+    let more = CStr16::from_u16_with_nul(&[99, 0xe9, 0])?;
     let one = Refusing::new(rt.alloc(), 2);
-    let mut text = string(&one, "b")?;
-    assert!(rt; text.push_str(CStr16::from_u16_with_nul(&[0])?).is_ok());
-    assert_eq!(rt; printed(&rt, &text)?.as_str(), "b");
-    assert!(rt; !one.has_refused());
+    let (first, second, text) = pushed_twice(&one, more)?;
+    assert!(rt; !first && second);
+    assert!(rt; one.has_refused());
+    assert!(rt; has_units(&text, &[97, 98, 99, 0xe9]));
     Ok(())
 }
 
@@ -129,41 +142,90 @@ fn is_ab_and_c(units: &[u16]) -> bool {
         .is_some_and(|others| others.iter().all(|unit| *unit == 99))
 }
 
-/// Whether `ab` is extended by 64 times this character, or by fewer where memory ran out.
-fn extends_by_64(heap: &Refusing<Global>, c: Char16) -> Result<bool, AllocError>
-    requires { c ≢ 0 }
-{
+/// How `ab` ends that is extended by 64 times this character: whether all were added, and the units.
+fn extended_by_64<'a>(
+    heap: &'a Refusing<Global>,
+    c: Char16,
+) -> Result<(bool, CString16<&'a Refusing<Global>>), AllocError> {
     let Ok(mut text) = CString16::try_from_str(heap, "ab") else {
         return Err(AllocError);
     };
-    let answer = text.extend(iter::repeat_n(c, 64));
+    let is_whole = c != NUL_16 && text.extend(iter::repeat_n(c, 64)).is_ok();
+    Ok((is_whole, text))
+}
+
+/// Whether `ab` is extended by 64 times this character, or by fewer where memory ran out.
+fn extends_by_64(heap: &Refusing<Global>, c: Char16) -> Result<bool, AllocError> {
+    let (is_whole, text) = extended_by_64(heap, c)?;
     let units = text.as_cstr16().to_u16_slice();
-    if !is_ab_and_c(units) || answer.is_ok() != (units.len() == 66) {
-        return Ok(false);
+    let is_right = is_ab_and_c(units) && is_whole == (units.len() == 66);
+    if is_whole {
+        Ok(is_right)
+    } else {
+        out_of_memory(is_right)
     }
-    answer?;
-    Ok(true)
 }
 
 /// Where a request is refused, the characters before it stay.
 #[test]
 fn extended_until_refused(rt: HostRuntime) -> Result<(), Fail> {
     let c = Char16::try_from('c')?;
-    assert!(rt; c != NUL_16);
     let count = requests(rt.alloc(), 1, |heap| extends_by_64(heap, c))?;
-    assert!(rt; 1 < count, "{count} requests");
+    assert!(rt; 1 < count && count < 97, "{count} requests");
+    Ok(())
+}
+
+/// Whether a text gets a string after it, or is unchanged where memory ran out.
+fn pushes(
+    heap: &Refusing<Global>,
+    text: CStr16<'_>,
+    more: CStr16<'_>,
+    want: CStr16<'_>,
+) -> Result<bool, AllocError> {
+    let mut grown = CString16::from_cstr16(heap, text)?;
+    match grown.push_str(more) {
+        Ok(()) => Ok(grown.eq_cstr16(want)),
+        Err(_) => out_of_memory(grown.eq_cstr16(text)),
+    }
+}
+
+/// The requests of a push of a string.
+fn requests_of_push(rt: &HostRuntime, text: &str, more: &str, want: &str) -> Result<u64, Fail> {
+    let (text, more) = (string(rt.alloc(), text)?, string(rt.alloc(), more)?);
+    let want = string(rt.alloc(), want)?;
+    requests(rt.alloc(), 1, |heap| {
+        pushes(heap, text.as_cstr16(), more.as_cstr16(), want.as_cstr16())
+    })
+}
+
+/// One request for a string with characters, and none for one without.
+#[test]
+fn pushed_strings(rt: HostRuntime) -> Result<(), Fail> {
+    assert_eq!(rt; requests_of_push(&rt, "ab", "cé", "abcé")?, 1);
+    assert_eq!(rt; requests_of_push(&rt, "b", "", "b")?, 0);
+    Ok(())
+}
+
+#[test]
+fn extended_by_no_characters(rt: HostRuntime) -> Result<(), Fail> {
+    let mut text = string(rt.alloc(), "ab")?;
+    text.extend(CStr16::from_u16_with_nul(&[0])?.iter())?;
+    assert!(rt; has_units(&text, &[97, 98]));
     Ok(())
 }
 
 #[test]
 fn extended_by_the_characters_of_a_string(rt: HostRuntime) -> Result<(), Fail> {
-    let more = CStr16::from_u16_with_nul(&[99, 0xe9, 100, 0])?;
     let mut text = string(rt.alloc(), "ab")?;
-    text.extend(CStr16::from_u16_with_nul(&[0])?.iter())?;
-    assert_eq!(rt; printed(&rt, &text)?.as_str(), "ab");
-    extended_by_all(&mut text, more)?;
+    extended_by_all(&mut text, CStr16::from_u16_with_nul(&[99, 0xe9, 100, 0])?)?;
     assert_eq!(rt; printed(&rt, &text)?.as_str(), "abcéd");
-    extended_by_ascii(&mut text, more)?;
+    Ok(())
+}
+
+#[test]
+fn extended_by_the_ascii_characters_of_a_string(rt: HostRuntime) -> Result<(), Fail> {
+    let mut text = string(rt.alloc(), "abcéd")?;
+    extended_by_ascii(&mut text, CStr16::from_u16_with_nul(&[99, 0xe9, 100, 0])?)?;
     assert_eq!(rt; printed(&rt, &text)?.as_str(), "abcédcd");
     Ok(())
 }

@@ -1,7 +1,7 @@
 //! Strings whose requests for memory are refused in turn, until a run ends with none refused, which
 //! gives what ample memory gives.
 
-use conformance::{Refusing, requests, string};
+use conformance::{Refusing, out_of_memory, requests, string};
 use std::alloc::{AllocError, Global};
 use std::test::Fail;
 use uefi_text::{CStr16, CString16, FromStrError, UnalignedSlice};
@@ -50,17 +50,31 @@ fn refused_texts(rt: HostRuntime) {
     }
 }
 
+/// The string of room for three characters after a push of this part, or nothing if that is not so.
+fn filled<'a>(
+    heap: &'a Refusing<Global>,
+    part: CStr16<'_>,
+) -> Result<Option<CString16<&'a Refusing<Global>>>, AllocError> {
+    let mut text = CString16::with_capacity(heap, 3)?;
+    if text.is_empty() && text.push_str(part).is_ok() {
+        Ok(Some(text))
+    } else {
+        Ok(None)
+    }
+}
+
 /// Whether a string with room for a part takes it, and a second one only with more memory, unchanged
 /// where that is refused.
 fn grows_from_room(heap: &Refusing<Global>, part: CStr16<'_>) -> Result<bool, AllocError> {
-    let mut text = CString16::with_capacity(heap, 3)?;
-    if !text.is_empty() || text.push_str(part).is_err() || !text.eq_cstr16(part) {
+    let Some(mut text) = filled(heap, part)? else {
+        return Ok(false);
+    };
+    if !text.eq_cstr16(part) {
         return Ok(false);
     }
     match text.push_str(part) {
         Ok(()) => Ok(text.num_chars() == 6),
-        Err(_) if text.eq_cstr16(part) => Err(AllocError),
-        Err(_) => Ok(false),
+        Err(_) => out_of_memory(text.eq_cstr16(part)),
     }
 }
 

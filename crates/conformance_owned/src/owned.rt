@@ -1,6 +1,6 @@
 //! Owned strings as they are made, copied, cleared, changed and printed.
 
-use conformance::{Refusing, printed, requests, string};
+use conformance::{Refusing, out_of_memory, printed, requests, string};
 use std::alloc::{AllocError, Global};
 use std::test::Fail;
 use uefi_text::{CStr16, CString16, Char16, FromSliceWithNulError, NUL_16};
@@ -30,10 +30,9 @@ fn becomes(
 ) -> Result<bool, AllocError> {
     let mut list = Vec::with_capacity(heap, 3)?;
     list.extend_from_slice(units)?;
-    Ok(match (CString16::try_from_vec(list), want) {
-        (Ok(string), Ok(text)) => string.as_cstr16() == text,
-        (Err(error), Err(want)) => error == want,
-        _ => false,
+    Ok(match CString16::try_from_vec(list) {
+        Ok(string) => want == Ok(string.as_cstr16()),
+        Err(error) => want == Err(error),
     })
 }
 
@@ -88,8 +87,7 @@ fn clones(heap: &Refusing<Global>, borrowed: CStr16<'_>) -> Result<bool, AllocEr
     let owned = CString16::from_cstr16(heap, borrowed)?;
     match owned.clone() {
         Ok(copy) => Ok(copy == owned && owned.eq_cstr16(borrowed)),
-        Err(_) if owned.eq_cstr16(borrowed) => Err(AllocError),
-        Err(_) => Ok(false),
+        Err(_) => out_of_memory(owned.eq_cstr16(borrowed)),
     }
 }
 
@@ -114,20 +112,26 @@ fn cleared_strings(rt: HostRuntime) -> Result<(), Fail> {
     Ok(())
 }
 
+/// Whether `ab` that is cleared twice is empty, and takes a character.
+fn clears(heap: &Refusing<Global>, c: Char16) -> Result<bool, AllocError> {
+    let Ok(mut text) = CString16::try_from_str(heap, "ab") else {
+        return Err(AllocError);
+    };
+    text.clear();
+    let is_empty = text.is_empty();
+    text.clear();
+    let is_still_empty = text.is_empty();
+    if c != NUL_16 {
+        text.push(c)?;
+    }
+    Ok(is_empty && is_still_empty && text.as_cstr16().to_u16_slice() == [99u16].as_slice())
+}
+
 /// A cleared string keeps its room.
 #[test]
 fn room_of_a_cleared_string(rt: HostRuntime) -> Result<(), Fail> {
     let c = Char16::try_from('c')?;
-    assert!(rt; c != NUL_16);
-    let one = Refusing::new(rt.alloc(), 2);
-    let mut string = string(&one, "ab")?;
-    string.clear();
-    assert!(rt; string.is_empty());
-    string.clear();
-    assert!(rt; string.is_empty());
-    string.push(c)?;
-    assert_eq!(rt; printed(&rt, &string)?.as_str(), "c");
-    assert!(rt; !one.has_refused());
+    assert_eq!(rt; requests(rt.alloc(), 1, |heap| clears(heap, c))?, 0);
     Ok(())
 }
 

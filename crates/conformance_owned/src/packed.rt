@@ -1,7 +1,7 @@
 //! Packed numbers: read in place, in turn and as a copy.
 
 use std::test::Fail;
-use uefi_text::{Packed, UnalignedSlice};
+use uefi_text::{Packed, UnalignedSlice, UnalignedSliceIntoIter, UnalignedSliceIter};
 
 /// Three numbers of four bytes, and the numbers.
 const BYTES: [u8; 12] = [
@@ -16,11 +16,15 @@ const BYTES_AFTER_ONE: [u8; 13] = [
 ];
 
 #[test]
-fn bytes_of_an_item(rt: HostRuntime) {
+fn sizes_of_items(rt: HostRuntime) {
     assert_eq!(rt; u8::SIZE, 1);
     assert_eq!(rt; u16::SIZE, 2);
     assert_eq!(rt; u32::SIZE, 4);
     assert_eq!(rt; u64::SIZE, 8);
+}
+
+#[test]
+fn bytes_of_an_item(rt: HostRuntime) {
     assert_eq!(rt; u8::read_le(&[0xfe]), 0xfe);
     assert_eq!(rt; u16::read_le(&[0x10, 0x11]), 0x1110);
     assert_eq!(rt; u32::read_le(&[0x10, 0x11, 0x12, 0x13]), 0x13121110);
@@ -82,33 +86,55 @@ fn room_for_items(rt: HostRuntime) {
     assert!(rt; !UnalignedSlice::<u64>::fits(&[0; 7], 1));
 }
 
+/// Whether so many items are left, and the next is this.
+fn borrowed_gives(items: &mut UnalignedSliceIter<'_, u32>, left: usize, want: Option<u32>) -> bool {
+    items.size_hint() == (left, Some(left)) && items.next() == want
+}
+
+/// Whether so many items are left, and the next is this.
+fn owned_gives(
+    items: &mut UnalignedSliceIntoIter<'_, u32>,
+    left: usize,
+    want: Option<u32>,
+) -> bool {
+    items.size_hint() == (left, Some(left)) && items.next() == want
+}
+
 #[test]
 fn items_in_turn(rt: HostRuntime) {
     let items: UnalignedSlice<u32> = UnalignedSlice::new(&BYTES, 3);
     let mut borrowed = items.iter();
     let mut owned = items.into_iter();
-    for (place, number) in NUMBERS.iter().enumerate() {
-        assert_eq!(rt; borrowed.size_hint(), (3 - place, Some(3 - place)));
-        assert_eq!(rt; owned.size_hint(), (3 - place, Some(3 - place)));
-        assert_eq!(rt; borrowed.next(), Some(*number));
-        assert_eq!(rt; owned.next(), Some(*number));
+    for (left, want) in [
+        (3, Some(0x13121110)),
+        (2, Some(0x23222120)),
+        (1, Some(0x33323130)),
+        (0, None),
+        (0, None),
+    ] {
+        assert!(rt; borrowed_gives(&mut borrowed, left, want), "{left} left");
+        assert!(rt; owned_gives(&mut owned, left, want), "{left} left");
     }
-    for _ in 0..2 {
-        assert_eq!(rt; borrowed.size_hint(), (0, Some(0)));
-        assert_eq!(rt; owned.size_hint(), (0, Some(0)));
-        assert_eq!(rt; borrowed.next(), None);
-        assert_eq!(rt; owned.next(), None);
-    }
+}
+
+#[test]
+fn counts_of_items(rt: HostRuntime) {
+    let items: UnalignedSlice<u32> = UnalignedSlice::new(&BYTES, 3);
     assert_eq!(rt; items.iter().count(), 3);
     assert_eq!(rt; items.into_iter().count(), 3);
 }
 
 #[test]
-fn copied_items(rt: HostRuntime) -> Result<(), Fail> {
+fn copied_items(rt: HostRuntime) {
     let items: UnalignedSlice<u32> = UnalignedSlice::new(&BYTES_AFTER_ONE[1..], 3);
     let mut copy = [0; 3];
     items.copy_to(&mut copy);
     assert_eq!(rt; copy, NUMBERS);
+}
+
+#[test]
+fn vectors_of_items(rt: HostRuntime) -> Result<(), Fail> {
+    let items: UnalignedSlice<u32> = UnalignedSlice::new(&BYTES_AFTER_ONE[1..], 3);
     assert_eq!(rt; items.to_vec(rt.alloc())?.as_slice(), NUMBERS.as_slice());
     assert_eq!(rt;
         items.clone()?.to_vec(rt.alloc())?.as_slice(),

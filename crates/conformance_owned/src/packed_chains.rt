@@ -82,7 +82,7 @@ fn last<T: Packed>(items: &UnalignedSlice<'_, T>) -> Option<T> {
 }
 
 #[test]
-fn chains_over_items(rt: HostRuntime) -> Result<(), Fail> {
+fn collected_items(rt: HostRuntime) -> Result<(), Fail> {
     let items: UnalignedSlice<u16> = UnalignedSlice::new(&[7, 0, 0xff, 0xff, 8, 0], 3);
     assert_eq!(rt;
         collected(items, rt.alloc())?.as_slice(),
@@ -92,6 +92,12 @@ fn chains_over_items(rt: HostRuntime) -> Result<(), Fail> {
         collected_units(items, rt.alloc())?.as_slice(),
         [7, 0xffff, 8].as_slice()
     );
+    Ok(())
+}
+
+#[test]
+fn mapped_and_filtered_items(rt: HostRuntime) -> Result<(), Fail> {
+    let items: UnalignedSlice<u16> = UnalignedSlice::new(&[7, 0, 0xff, 0xff, 8, 0], 3);
     assert_eq!(rt;
         successors(&items, rt.alloc())?.as_slice(),
         [8, 0x10000, 9].as_slice()
@@ -100,10 +106,15 @@ fn chains_over_items(rt: HostRuntime) -> Result<(), Fail> {
         above_seven(&items, rt.alloc())?.as_slice(),
         [0xffff, 8].as_slice()
     );
+    Ok(())
+}
+
+#[test]
+fn facts_of_items(rt: HostRuntime) {
+    let items: UnalignedSlice<u16> = UnalignedSlice::new(&[7, 0, 0xff, 0xff, 8, 0], 3);
     assert_eq!(rt; count_above_seven(&items), 2);
     assert_eq!(rt; place_of_seven(&items), Some(0));
     assert!(rt; !has_no_seven(&items));
     assert_eq!(rt; greatest(items), 0xffff);
     assert_eq!(rt; last(&items), Some(8));
-    Ok(())
 }

@@ -9,7 +9,7 @@ use uefi_text::{CStr16, CString16, FromSliceWithNulError, UnalignedCStr16Error, 
 const TEST_AFTER_ONE: [u8; 11] = [0xff, 0x74, 0, 0x65, 0, 0x73, 0, 0x74, 0, 0, 0];
 
 #[test]
-fn strings_in_buffers(rt: HostRuntime) -> Result<(), Fail> {
+fn strings_in_small_buffers(rt: HostRuntime) -> Result<(), Fail> {
     let items: UnalignedSlice<u16> = UnalignedSlice::new(&TEST_AFTER_ONE[1..], 5);
     let mut small = [9u16; 4];
     assert_eq!(rt;
@@ -17,6 +17,12 @@ fn strings_in_buffers(rt: HostRuntime) -> Result<(), Fail> {
         Some(UnalignedCStr16Error::BufferTooSmall)
     );
     assert_eq!(rt; small, [9, 9, 9, 9]);
+    Ok(())
+}
+
+#[test]
+fn strings_in_exact_buffers(rt: HostRuntime) -> Result<(), Fail> {
+    let items: UnalignedSlice<u16> = UnalignedSlice::new(&TEST_AFTER_ONE[1..], 5);
     let mut exact = [9u16; 5];
     assert_eq!(rt;
         items.to_cstr16(&mut exact)?.to_string(rt.alloc())?.as_str(),

@@ -24,15 +24,16 @@ fn reads_until_nul(rt: &HostRuntime, text: &str, want: &str) -> Result<bool, Fai
     Ok(read == string(rt.alloc(), want)?)
 }
 
+/// Whether the characters of a text are refused since none is a NUL.
+fn has_no_nul(rt: &HostRuntime, text: &str) -> Result<bool, Fail> {
+    let refused = CStr16::from_char16_until_nul(rt.alloc(), &characters(rt, text)?);
+    Ok(refused.err() == Some(FromSliceUntilNulError::NoNul))
+}
+
 #[test]
 fn characters_until_nul(rt: HostRuntime) -> Result<(), Fail> {
     for text in ["", "ab"] {
-        let refused = CStr16::from_char16_until_nul(rt.alloc(), &characters(&rt, text)?);
-        assert_eq!(rt;
-            refused.err(),
-            Some(FromSliceUntilNulError::NoNul),
-            "{text}"
-        );
+        assert!(rt; has_no_nul(&rt, text)?, "{text}");
     }
     for (text, want) in [
         ("ab0", "ab"),
@@ -53,6 +54,16 @@ fn reads_with_nul(rt: &HostRuntime, text: &str, want: &str) -> Result<bool, Fail
     Ok(read == string(rt.alloc(), want)?)
 }
 
+/// Whether the characters of a text are refused so.
+fn is_refused_with_nul(
+    rt: &HostRuntime,
+    text: &str,
+    want: FromSliceWithNulError,
+) -> Result<bool, Fail> {
+    let refused = CStr16::from_char16_with_nul(rt.alloc(), &characters(rt, text)?);
+    Ok(refused.err() == Some(want))
+}
+
 #[test]
 fn characters_with_nul(rt: HostRuntime) -> Result<(), Fail> {
     for (text, want) in [
@@ -62,8 +73,7 @@ fn characters_with_nul(rt: HostRuntime) -> Result<(), Fail> {
         ("a0b", FromSliceWithNulError::InteriorNul(1)),
         ("00", FromSliceWithNulError::InteriorNul(0)),
     ] {
-        let refused = CStr16::from_char16_with_nul(rt.alloc(), &characters(&rt, text)?);
-        assert_eq!(rt; refused.err(), Some(want), "{text}");
+        assert!(rt; is_refused_with_nul(&rt, text, want)?, "{text}");
     }
     for (text, want) in [("ab0", "ab"), ("0", ""), ("é€0", "é€")] {
         assert!(rt; reads_with_nul(&rt, text, want)?, "{text}");
@@ -71,17 +81,25 @@ fn characters_with_nul(rt: HostRuntime) -> Result<(), Fail> {
     Ok(())
 }
 
-/// Why bytes are refused.
-fn fault_of_bytes(rt: &HostRuntime, bytes: &[u8]) -> Option<FromSliceWithNulError> {
-    CStr16::from_bytes_with_nul(rt.alloc(), bytes).err()
+/// Whether bytes are refused so.
+fn is_refused(rt: &HostRuntime, bytes: &[u8], want: FromSliceWithNulError) -> bool {
+    CStr16::from_bytes_with_nul(rt.alloc(), bytes).err() == Some(want)
 }
 
-/// The bytes after one other.
-fn moved_by_one(rt: &HostRuntime, bytes: &[u8]) -> Result<Vec<u8>, Fail> {
+/// Whether bytes are refused so after one other.
+fn is_refused_after_one(
+    rt: &HostRuntime,
+    bytes: &[u8],
+    want: FromSliceWithNulError,
+) -> Result<bool, Fail> {
     let mut moved = Vec::new(rt.alloc());
     moved.push(0xff)?;
     moved.extend_from_slice(bytes)?;
-    Ok(moved)
+    Ok(
+        moved
+            .split_first()
+            .is_some_and(|(_, others)| is_refused(rt, others, want)),
+    )
 }
 
 /// Each row from an even place of memory and from an odd one.
@@ -106,12 +124,9 @@ fn refused_bytes(rt: HostRuntime) -> Result<(), Fail> {
         ),
     ];
     for (bytes, want) in rows {
-        assert_eq!(rt; fault_of_bytes(&rt, bytes), Some(want), "{bytes:?}");
-        let moved = moved_by_one(&rt, bytes)?;
-        assert!(rt; !moved.is_empty());
-        assert_eq!(rt;
-            fault_of_bytes(&rt, &moved[1..]),
-            Some(want),
+        assert!(rt; is_refused(&rt, bytes, want), "{bytes:?}");
+        assert!(rt;
+            is_refused_after_one(&rt, bytes, want)?,
             "{bytes:?} after one other"
         );
     }
