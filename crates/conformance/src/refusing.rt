@@ -1,4 +1,4 @@
-//! An allocator for tests, which refuses one of the requests that it is handed.
+//! An allocator for tests, which refuses one of the requests that it gets.
 
 use std::alloc::{AllocError, Allocator};
 use std::cell::Cell;

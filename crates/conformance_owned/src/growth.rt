@@ -87,7 +87,7 @@ fn has_units<A: Allocator>(text: &CString16<A>, units: &[u16]) -> bool {
         && text.as_cstr16().to_u16_slice_with_nul().split_last() == Some((&0, units))
 }
 
-/// The code units of `ab` and so many of `c`.
+/// The code units of `ab` and a count of `c`.
 fn ab_and(rt: &HostRuntime, count: u64) -> Result<Vec<u16>, Fail> {
     let mut units = vec![in rt.alloc(); 97u16, 98]?;
     for _ in 0..count {

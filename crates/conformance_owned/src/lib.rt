@@ -1,4 +1,4 @@
-//! Tests of owned strings, of packed numbers, and of the strings that packed code units spell: growth,
+//! Tests of owned strings, of packed numbers, and of the strings that packed code units encode: growth,
 //! copies, order, keys of maps, and each request for memory refused in turn.
 #![tactic(auto)]
 

@@ -22,7 +22,7 @@ fn printed_string(rt: HostRuntime) -> Result<(), Fail> {
     Ok(())
 }
 
-/// Whether a vector of these units becomes the string of a text, or is refused so.
+/// Whether a vector of these units becomes the string of a text, or is refused for this cause.
 fn becomes(
     heap: &Refusing<Global>,
     units: &[u16],

@@ -86,12 +86,12 @@ fn room_for_items(rt: HostRuntime) {
     assert!(rt; !UnalignedSlice::<u64>::fits(&[0; 7], 1));
 }
 
-/// Whether so many items are left, and the next is this.
+/// Whether `left` items are left, and the next is this.
 fn borrowed_gives(items: &mut UnalignedSliceIter<'_, u32>, left: usize, want: Option<u32>) -> bool {
     items.size_hint() == (left, Some(left)) && items.next() == want
 }
 
-/// Whether so many items are left, and the next is this.
+/// Whether `left` items are left, and the next is this.
 fn owned_gives(
     items: &mut UnalignedSliceIntoIter<'_, u32>,
     left: usize,

@@ -53,7 +53,7 @@ fn strings_in_memory_of_their_own(rt: HostRuntime) -> Result<(), Fail> {
     Ok(())
 }
 
-/// Whether the items are refused so in a buffer of three nines, which then holds this.
+/// Whether the items are refused for this cause in a buffer of three nines, which then holds this.
 fn is_refused(items: &UnalignedSlice<'_, u16>, after: &[u16], want: UnalignedCStr16Error) -> bool {
     let mut written = [9u16; 3];
     let mut borrowed = [9u16; 3];

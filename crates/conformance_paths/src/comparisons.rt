@@ -6,6 +6,12 @@ use std::cmp::Ordering;
 use std::test::Fail;
 use uefi_path::Path;
 
+/// Whether the borrowed paths of two texts are equal.
+fn are_equal(rt: &HostRuntime, a: &str, b: &str) -> Result<bool, Fail> {
+    let (left, right) = (string(rt.alloc(), a)?, string(rt.alloc(), b)?);
+    Ok(Path::new(left.as_cstr16()) == Path::new(right.as_cstr16()))
+}
+
 #[test]
 fn equal_paths(rt: HostRuntime) -> Result<(), Fail> {
     for (a, b, want) in [
@@ -16,9 +22,7 @@ fn equal_paths(rt: HostRuntime) -> Result<(), Fail> {
         ("a", "a\\", false),
         ("a/b", "a\\b", false),
     ] {
-        let (left, right) = (string(rt.alloc(), a)?, string(rt.alloc(), b)?);
-        let equal = Path::new(left.as_cstr16()) == Path::new(right.as_cstr16());
-        assert_eq!(rt; equal, want, "{a} and {b}");
+        assert_eq!(rt; are_equal(&rt, a, b)?, want, "{a} and {b}");
     }
     Ok(())
 }

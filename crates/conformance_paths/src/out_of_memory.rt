@@ -14,12 +14,13 @@ fn new_makes_one_request(rt: HostRuntime) -> Result<(), Fail> {
     Ok(())
 }
 
-/// Whether the path that takes over a string of `a/b` has this text.
-fn takes_over(heap: &Refusing<Global>, want: CStr16<'_>) -> Result<bool, AllocError> {
-    let Ok(string) = CString16::try_from_str(heap, "a/b") else {
-        return Err(AllocError);
-    };
-    match PathBuf::new_from_cstring16(heap, string) {
+/// Whether the path that takes over a copy of a string has this text.
+fn takes_over(
+    heap: &Refusing<Global>,
+    text: CStr16<'_>,
+    want: CStr16<'_>,
+) -> Result<bool, AllocError> {
+    match PathBuf::new_from_cstring16(heap, CString16::from_cstr16(heap, text)?) {
         Ok(path) => Ok(path.to_cstr16() == want),
         Err(_) => Err(AllocError),
     }
@@ -28,8 +29,10 @@ fn takes_over(heap: &Refusing<Global>, want: CStr16<'_>) -> Result<bool, AllocEr
 /// A path takes over the memory of its string.
 #[test]
 fn paths_of_strings_make_no_request(rt: HostRuntime) -> Result<(), Fail> {
-    let want = string(rt.alloc(), "a\\b")?;
-    let count = requests(rt.alloc(), 1, |heap| takes_over(heap, want.as_cstr16()))?;
+    let (text, want) = (string(rt.alloc(), "a/b")?, string(rt.alloc(), "a\\b")?);
+    let count = requests(rt.alloc(), 1, |heap| {
+        takes_over(heap, text.as_cstr16(), want.as_cstr16())
+    })?;
     assert_eq!(rt; count, 0);
     Ok(())
 }
@@ -92,13 +95,31 @@ fn parent_of_a_borrowed_path_makes_one_request(rt: HostRuntime) -> Result<(), Fa
     Ok(())
 }
 
-/// Whether the clone of a buffer equals it, and the buffer is unchanged.
+/// A path buffer with an allocator that refuses a request.
+type Buffer<'a> = PathBuf<&'a Refusing<Global>>;
+
+/// What a call on a buffer returned, which is wrong if the buffer is not this text any more.
+fn if_unchanged(
+    answer: Result<bool, AllocError>,
+    path: &Buffer<'_>,
+    text: CStr16<'_>,
+) -> Result<bool, AllocError> {
+    if path.to_cstr16() == text {
+        answer
+    } else {
+        Ok(false)
+    }
+}
+
+/// Whether the clone of a buffer equals it.
+fn clone_is_equal(path: &Buffer<'_>) -> Result<bool, AllocError> {
+    Ok(path.clone()? == *path)
+}
+
+/// Whether the clone of the buffer of a text equals it.
 fn clones(heap: &Refusing<Global>, text: CStr16<'_>) -> Result<bool, AllocError> {
     let path = PathBuf::from(heap, text)?;
-    match path.clone() {
-        Ok(copy) => Ok(copy == path && path.to_cstr16() == text),
-        Err(_) => out_of_memory(path.to_cstr16() == text),
-    }
+    if_unchanged(clone_is_equal(&path), &path, text)
 }
 
 #[test]
@@ -109,7 +130,12 @@ fn clone_makes_one_request(rt: HostRuntime) -> Result<(), Fail> {
     Ok(())
 }
 
-/// Whether a buffer joined with another path has this text, and the buffer is unchanged.
+/// Whether a buffer joined with another path has this text.
+fn join_is(path: &Buffer<'_>, other: CStr16<'_>, want: CStr16<'_>) -> Result<bool, AllocError> {
+    Ok(path.join(Path::new(other))?.to_cstr16() == want)
+}
+
+/// Whether the buffer of a text joined with another path has this text.
 fn joins(
     heap: &Refusing<Global>,
     text: CStr16<'_>,
@@ -117,10 +143,7 @@ fn joins(
     want: CStr16<'_>,
 ) -> Result<bool, AllocError> {
     let path = PathBuf::from(heap, text)?;
-    match path.join(Path::new(other)) {
-        Ok(joined) => Ok(joined.to_cstr16() == want && path.to_cstr16() == text),
-        Err(_) => out_of_memory(path.to_cstr16() == text),
-    }
+    if_unchanged(join_is(&path, other, want), &path, text)
 }
 
 #[test]
@@ -134,18 +157,22 @@ fn join_makes_one_request(rt: HostRuntime) -> Result<(), Fail> {
     Ok(())
 }
 
-/// Whether a buffer has this parent and is unchanged.
+/// Whether a buffer has this parent.
+fn parent_is(path: &Buffer<'_>, want: CStr16<'_>) -> Result<bool, AllocError> {
+    match path.parent()? {
+        Some(parent) => Ok(parent.to_cstr16() == want),
+        None => Ok(false),
+    }
+}
+
+/// Whether the buffer of a text has this parent.
 fn buffer_has_parent(
     heap: &Refusing<Global>,
     text: CStr16<'_>,
     want: CStr16<'_>,
 ) -> Result<bool, AllocError> {
     let path = PathBuf::from(heap, text)?;
-    match path.parent() {
-        Ok(Some(parent)) => Ok(parent.to_cstr16() == want && path.to_cstr16() == text),
-        Ok(None) => Ok(false),
-        Err(_) => out_of_memory(path.to_cstr16() == text),
-    }
+    if_unchanged(parent_is(&path, want), &path, text)
 }
 
 #[test]
@@ -186,6 +213,15 @@ fn each_request_of_a_push(rt: HostRuntime) -> Result<(), Fail> {
     Ok(())
 }
 
+/// Whether a buffer without parent has none, nor has its text.
+fn has_no_parent(
+    heap: &Refusing<Global>,
+    path: &Buffer<'_>,
+    text: CStr16<'_>,
+) -> Result<bool, AllocError> {
+    Ok(path.parent()?.is_none() && Path::new(text).parent(heap)?.is_none())
+}
+
 /// Whether no parent, an empty path that is pushed, and clearing do what they should.
 fn needs_no_memory(
     heap: &Refusing<Global>,
@@ -194,10 +230,9 @@ fn needs_no_memory(
 ) -> Result<bool, AllocError> {
     let mut path = PathBuf::from(heap, text)?;
     path.push(Path::new(empty))?;
-    let is_unchanged = path.to_cstr16() == text;
-    let has_no_parent = path.parent()?.is_none() && Path::new(text).parent(heap)?.is_none();
+    let is_right = path.to_cstr16() == text && has_no_parent(heap, &path, text)?;
     path.clear();
-    Ok(is_unchanged && has_no_parent && path.is_empty())
+    Ok(is_right && path.is_empty())
 }
 
 #[test]

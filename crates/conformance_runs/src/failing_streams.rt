@@ -2,7 +2,7 @@
 use std::io::{self, ErrorKind, Read, Write};
 use upath::{StreamFault, run_streams};
 
-/// Gives one byte a call, and fails where it has given so many.
+/// Gives one byte a call, and fails once it has given `before_failing`.
 #[derive(Drop)]
 struct FailingReader {
     bytes: &'static [u8],
@@ -27,7 +27,7 @@ impl Read for FailingReader {
     }
 }
 
-/// Holds so many bytes, and then takes none or fails; its flush may fail too.
+/// Takes `room` bytes, and then takes none or fails; its flush may fail too.
 #[derive(Drop)]
 struct FailingWriter {
     held: Vec<u8>,
@@ -68,7 +68,7 @@ fn writer_of(rt: &HostRuntime, room: usize) -> FailingWriter {
     }
 }
 
-/// Whether a run whose reader fails after so many bytes ends so, with nothing written.
+/// Whether a run whose reader fails after this many bytes reports this, with nothing written.
 fn ends_unwritten(
     rt: &HostRuntime,
     before_failing: usize,
@@ -113,7 +113,7 @@ fn a_read_that_fails_after_the_end(rt: HostRuntime) {
     assert_eq!(rt; writer.held.as_slice(), OUTPUT.as_bytes());
 }
 
-/// Whether a run whose writer takes so many bytes fails, with those bytes written.
+/// Whether a run whose writer has this much room fails, with the room used up.
 fn ends_when_full(rt: &HostRuntime, room: usize, fails_when_full: bool) -> bool {
     let mut reader: &[u8] = INPUT;
     let mut writer = writer_of(rt, room);

@@ -28,7 +28,7 @@ fn accepted_bytes(rt: HostRuntime) -> Result<(), Fail> {
 }
 
 #[test]
-fn bytes_that_spell_no_text(rt: HostRuntime) -> Result<(), Fail> {
+fn bytes_that_encode_no_text(rt: HostRuntime) -> Result<(), Fail> {
     let rows: [(&[u8], JudgeError); 7] = [
         (&[0x61, 0, 0], JudgeError::HalfUnit),
         (&[0], JudgeError::HalfUnit),

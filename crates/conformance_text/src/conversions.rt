@@ -54,7 +54,7 @@ fn reads_with_nul(rt: &HostRuntime, text: &str, want: &str) -> Result<bool, Fail
     Ok(read == string(rt.alloc(), want)?)
 }
 
-/// Whether the characters of a text are refused so.
+/// Whether the characters of a text are refused for this cause.
 fn is_refused_with_nul(
     rt: &HostRuntime,
     text: &str,
@@ -81,12 +81,12 @@ fn characters_with_nul(rt: HostRuntime) -> Result<(), Fail> {
     Ok(())
 }
 
-/// Whether bytes are refused so.
+/// Whether bytes are refused for this cause.
 fn is_refused(rt: &HostRuntime, bytes: &[u8], want: FromSliceWithNulError) -> bool {
     CStr16::from_bytes_with_nul(rt.alloc(), bytes).err() == Some(want)
 }
 
-/// Whether bytes are refused so after one other.
+/// Whether bytes are refused for this cause after one other.
 fn is_refused_after_one(
     rt: &HostRuntime,
     bytes: &[u8],

@@ -139,18 +139,22 @@ fn bytes_with_nul(rt: HostRuntime) -> Result<(), Fail> {
 }
 
 /// Whether characters with these faults are refused for them.
-fn tells_faults_of_characters(heap: &Refusing<Global>, open: &[Char16], inner: &[Char16]) -> bool {
+fn reports_faults_of_characters(
+    heap: &Refusing<Global>,
+    open: &[Char16],
+    inner: &[Char16],
+) -> bool {
     CStr16::from_char16_until_nul(heap, open).err() == Some(FromSliceUntilNulError::NoNul)
         && CStr16::from_char16_with_nul(heap, inner).err()
             == Some(FromSliceWithNulError::InteriorNul(1))
 }
 
-/// Faults are told before memory is asked for.
+/// Faults are reported before a request for memory.
 #[test]
 fn refused_characters_make_no_request(rt: HostRuntime) -> Result<(), Fail> {
     let (open, inner) = (characters(&rt, "ab")?, characters(&rt, "a0b0")?);
     let count = requests(rt.alloc(), 0, |heap| {
-        Ok(tells_faults_of_characters(heap, &open, &inner))
+        Ok(reports_faults_of_characters(heap, &open, &inner))
     })?;
     assert_eq!(rt; count, 0);
     Ok(())

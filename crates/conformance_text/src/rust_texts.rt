@@ -18,7 +18,8 @@ fn refused_texts(rt: HostRuntime) {
     }
 }
 
-/// Whether the text is written or refused so into a buffer of nines, which then holds this.
+/// Whether the text is written into a buffer of nines or refused for this cause, and the buffer then
+/// holds this.
 fn writes(
     rt: &HostRuntime,
     text: &str,
@@ -44,7 +45,8 @@ fn units_of_text(
     }
 }
 
-/// Whether the text becomes a string or is refused so in a buffer of nines, which then holds this.
+/// Whether the text becomes a string in a buffer of nines or is refused for this cause, and the buffer
+/// then holds this.
 fn borrows(
     rt: &HostRuntime,
     text: &str,
