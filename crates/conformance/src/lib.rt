@@ -1,36 +1,14 @@
-//! What no contract says, as tests over the other crates: rows whose answers come from outside,
-//! calls that get their memory, calls that are refused it at each of their requests in turn, and
-//! streams that fail.
+//! What the test crates above share: an allocator that refuses a request, the runs that refuse each
+//! request in turn, and strings of Rust texts.
 //!
-//! The product's crates depend on nothing here. The module `refusing` has the allocator that
-//! refuses.
+//! No product crate depends on it or on a test crate. It has no rows: those stand in the crates
+//! `conformance_*`, by subject.
 #![tactic(auto)]
 
-#[cfg(test)]
-mod commands_on_paths;
-#[cfg(test)]
-mod conversions;
-#[cfg(test)]
-mod documents;
-#[cfg(test)]
-mod failing_streams;
-#[cfg(test)]
-mod judged_bytes;
-#[cfg(test)]
-mod owned;
-#[cfg(test)]
-mod packed;
-#[cfg(test)]
-mod path_edits;
-#[cfg(test)]
-mod paths;
-#[cfg(test)]
-mod refused_memory;
-#[cfg(test)]
-mod refusing;
-#[cfg(test)]
-mod runs;
-#[cfg(test)]
-mod texts;
-#[cfg(test)]
-mod vectors;
+pub mod refusals;
+pub mod refusing;
+pub mod texts;
+
+pub use refusals::{Refusals, out_of_memory, refused_in_turn, requests};
+pub use refusing::Refusing;
+pub use texts::{printed, string};

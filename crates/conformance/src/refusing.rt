@@ -1,4 +1,4 @@
-//! An allocator for tests, which refuses one of the requests that it is handed.
+//! An allocator for tests, which refuses one of the requests that it gets.
 
 use std::alloc::{AllocError, Allocator};
 use std::cell::Cell;
@@ -6,7 +6,7 @@ use std::cell::Cell;
 /// Passes each request on to another allocator, but for one, which it refuses.
 ///
 /// So code over a `&Refusing<B>` can run out of memory at each of its requests in turn.
-pub(crate) struct Refusing<B: Allocator> {
+pub struct Refusing<B: Allocator> {
     inner: B,
     /// The number of the request to refuse among those to come, and 0 once it has come.
     left: Cell<u64>,
@@ -14,7 +14,7 @@ pub(crate) struct Refusing<B: Allocator> {
 
 impl<B: Allocator> Refusing<B> {
     /// Refuses the request of that number, counted from 1. At 0 it refuses none.
-    pub(crate) fn new(inner: B, number: u64) -> Refusing<B> {
+    pub fn new(inner: B, number: u64) -> Refusing<B> {
         Refusing {
             inner,
             left: Cell::new(number),
@@ -22,7 +22,7 @@ impl<B: Allocator> Refusing<B> {
     }
 
     /// Whether no request is left to refuse: it has come, or the number was 0.
-    pub(crate) fn has_refused(&self) -> bool {
+    pub fn has_refused(&self) -> bool {
         self.left.get() == 0
     }
 }

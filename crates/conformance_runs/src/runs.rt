@@ -2,13 +2,13 @@
 use std::test::Fail;
 use upath::{run_streams, run_text};
 
-fn printed(rt: &HostRuntime, input: &[u8]) -> Result<String, Fail> {
-    let output = run_text(rt.alloc(), input)?;
-    Ok(String::from_utf8(output)?)
+/// Whether a run over these lines prints this.
+fn prints(rt: &HostRuntime, input: &[u8], want: &str) -> Result<bool, Fail> {
+    Ok(run_text(rt.alloc(), input)?.as_slice() == want.as_bytes())
 }
 
 #[test]
-fn lines_and_their_answers(rt: HostRuntime) -> Result<(), Fail> {
+fn lines_and_what_they_print(rt: HostRuntime) -> Result<(), Fail> {
     for (input, want) in [
         (
             "from \\foo\\bar\npieces\n",
@@ -32,7 +32,7 @@ fn lines_and_their_answers(rt: HostRuntime) -> Result<(), Fail> {
         ),
         ("from \\\\\npieces\n", "= \\\\\npieces 2\n| \n| \n"),
     ] {
-        assert_eq!(rt; printed(&rt, input.as_bytes())?.as_str(), want);
+        assert!(rt; prints(&rt, input.as_bytes(), want)?, "{input:?}");
     }
     Ok(())
 }
@@ -61,7 +61,7 @@ fn lines_that_change_the_path(rt: HostRuntime) -> Result<(), Fail> {
             "= a\\b\ngreater\n= a\nequal\ngreater\n",
         ),
     ] {
-        assert_eq!(rt; printed(&rt, input.as_bytes())?.as_str(), want);
+        assert!(rt; prints(&rt, input.as_bytes(), want)?, "{input:?}");
     }
     Ok(())
 }
@@ -71,9 +71,12 @@ fn lines_of_all_kinds(rt: HostRuntime) -> Result<(), Fail> {
     let mut input = Vec::new(rt.alloc());
     input.extend_from_slice("from a😀\n\nfrom \npieces\neq \\\ncheck\n".as_bytes())?;
     input.extend_from_slice(b"\xff\nfrom x\0\nclear \n")?;
-    assert_eq!(rt;
-        printed(&rt, &input)?.as_str(),
-        "UCS-2 Conversion Error: Invalid character\n? unknown command\n= \npieces 0\nequal\npath is empty\n? not UTF-8\nUCS-2 Conversion Error: Interior null terminator\n? unknown command\n"
+    assert!(rt;
+        prints(
+            &rt,
+            &input,
+            "UCS-2 Conversion Error: Invalid character\n? unknown command\n= \npieces 0\nequal\npath is empty\n? not UTF-8\nUCS-2 Conversion Error: Interior null terminator\n? unknown command\n"
+        )?
     );
     Ok(())
 }
@@ -93,9 +96,19 @@ fn ends_of_lines(rt: HostRuntime) -> Result<(), Fail> {
             "? unknown command\n? unknown command\n",
         ),
     ] {
-        assert_eq!(rt; printed(&rt, input.as_bytes())?.as_str(), want);
+        assert!(rt; prints(&rt, input.as_bytes(), want)?, "{input:?}");
     }
     Ok(())
+}
+
+/// Whether a line leaves the path unchanged.
+fn keeps_the_path(rt: &HostRuntime, line: &str) -> Result<bool, Fail> {
+    let input = format!(in rt.alloc(); "from a\\b\n{line}\neq \\a\\b\n")?;
+    Ok(
+        run_text(rt.alloc(), input.as_bytes())?
+            .as_slice()
+            .ends_with(b"\nequal\n"),
+    )
 }
 
 #[test]
@@ -129,15 +142,13 @@ fn lines_that_leave_the_path(rt: HostRuntime) -> Result<(), Fail> {
         "up ",
         "",
     ] {
-        let input = format!(in rt.alloc(); "from a\\b\n{line}\neq \\a\\b\n")?;
-        let output = printed(&rt, input.as_bytes())?;
-        assert!(rt; output.as_str().ends_with("\nequal\n"), "{line:?}");
+        assert!(rt; keeps_the_path(&rt, line)?, "{line:?}");
     }
     Ok(())
 }
 
 #[test]
-fn refused_texts_are_told_by_each_verb(rt: HostRuntime) -> Result<(), Fail> {
+fn refused_texts_of_each_verb(rt: HostRuntime) -> Result<(), Fail> {
     for (input, want) in [
         (
             "eq x\0",
@@ -159,9 +170,17 @@ fn refused_texts_are_told_by_each_verb(rt: HostRuntime) -> Result<(), Fail> {
         ),
         ("wat x\0", "? unknown command\n"),
     ] {
-        assert_eq!(rt; printed(&rt, input.as_bytes())?.as_str(), want);
+        assert!(rt; prints(&rt, input.as_bytes(), want)?, "{input:?}");
     }
     Ok(())
+}
+
+/// Whether a line prints that it is no UTF-8, and leaves the empty path.
+fn is_not_utf8(rt: &HostRuntime, line: &[u8]) -> Result<bool, Fail> {
+    let mut input = Vec::new(rt.alloc());
+    input.extend_from_slice(line)?;
+    input.extend_from_slice(b"\npieces")?;
+    prints(rt, &input, "? not UTF-8\npieces 0\n")
 }
 
 /// A byte that begins nothing, an overlong form, an encoded surrogate, a character beyond the last,
@@ -177,10 +196,7 @@ fn lines_that_are_not_utf8(rt: HostRuntime) -> Result<(), Fail> {
         b"from \xe2\x82",
     ];
     for line in lines {
-        let mut input = Vec::new(rt.alloc());
-        input.extend_from_slice(line)?;
-        input.extend_from_slice(b"\npieces")?;
-        assert_eq!(rt; printed(&rt, &input)?.as_str(), "? not UTF-8\npieces 0\n");
+        assert!(rt; is_not_utf8(&rt, line)?, "{line:?}");
     }
     Ok(())
 }
@@ -192,8 +208,8 @@ fn a_run_over_streams(rt: HostRuntime) -> Result<(), Fail> {
     assert_eq!(rt; run_streams(rt.alloc(), &mut reader, &mut writer), Ok(()));
     assert!(rt; reader.is_empty());
     assert_eq!(rt;
-        String::from_utf8(writer)?.as_str(),
-        "= \\a\\b\npieces 2\n| a\n| b\n"
+        writer.as_slice(),
+        "= \\a\\b\npieces 2\n| a\n| b\n".as_bytes()
     );
     Ok(())
 }

@@ -1,0 +1,231 @@
+//! Owned strings as they grow, with ample memory and until a request is refused.
+
+ghost use Rattle.std.specs.Prelude.{◌≡◌, ◌≢◌, ◌<◌, ◌++◌, ℕ, OnErr, OnOk, length, nat_lt, take};
+ghost use Rattle.std.specs.List.{filter};
+ghost use Rattle.uefi_text.specs.Views.{text_of};
+
+use conformance::{Refusing, out_of_memory, printed, requests, string};
+use std::alloc::{AllocError, Allocator, Global};
+use std::iter;
+use std::test::Fail;
+use uefi_text::{CStr16, CString16, Char16, NUL_16};
+
+// What a caller proves of a string that it extends, with no proof of its own.
+
+fn extended_by_all<A: Allocator>(
+    string: &mut CString16<A>,
+    more: CStr16<'_>,
+) -> Result<(), AllocError>
+    ensures ok { OnOk result (string.new ≡ string.old ++ text_of more.entry) }
+    ensures err { OnErr result ((k : ℕ) × (k < length (text_of more.entry))
+        × (string.new ≡ string.old ++ take k (text_of more.entry))) }
+{
+    string.extend(more.iter())
+}
+
+fn extended_by_ascii<A: Allocator>(
+    string: &mut CString16<A>,
+    more: CStr16<'_>,
+) -> Result<(), AllocError>
+    ensures { OnOk result (string.new
+        ≡ string.old ++ filter (λ c. nat_lt c 128) (text_of more.entry)) }
+{
+    string.extend(more.iter().filter(|c| c.is_ascii()))
+}
+
+/// The empty string after pushes of `h` and of `i`.
+fn pushed_hi(rt: &HostRuntime) -> Result<CString16, Fail> {
+    let mut text = CString16::new(rt.alloc())?;
+    text.push_str(string(rt.alloc(), "h")?.as_cstr16())?;
+    text.push_str(string(rt.alloc(), "i")?.as_cstr16())?;
+    Ok(text)
+}
+
+/// A text after a push of a string, and then extended by the characters of another.
+fn pushed_and_extended_by(
+    mut text: CString16,
+    pushed: CStr16<'_>,
+    extended: CStr16<'_>,
+) -> Result<CString16, Fail> {
+    text.push_str(pushed)?;
+    text.extend(extended.iter())?;
+    Ok(text)
+}
+
+#[test]
+fn pushed_and_extended(rt: HostRuntime) -> Result<(), Fail> {
+    let first = pushed_hi(&rt)?;
+    assert_eq!(rt; first.num_chars(), 2);
+    let mark = string(rt.alloc(), "!")?;
+    let second = pushed_and_extended_by(
+        string(rt.alloc(), "!")?,
+        first.as_cstr16(),
+        mark.as_cstr16(),
+    )?;
+    assert_eq!(rt; second.num_chars(), 4);
+    assert!(rt; second == string(rt.alloc(), "!hi!")?);
+    Ok(())
+}
+
+/// Pushes a character until a push is refused, at most 99 times, and returns how many it took.
+fn pushed_until_refused(text: &mut CString16<&Refusing<Global>>, c: Char16) -> u64
+    requires { c ≢ 0 }
+{
+    let mut pushed = 0u64;
+    for _ in 0..99 {
+        if text.push(c).is_err() {
+            break;
+        }
+        pushed = pushed.saturating_add(1);
+    }
+    pushed
+}
+
+/// Whether a string has these code units, and then its NUL.
+fn has_units<A: Allocator>(text: &CString16<A>, units: &[u16]) -> bool {
+    text.as_cstr16().to_u16_slice() == units
+        && text.as_cstr16().to_u16_slice_with_nul().split_last() == Some((&0, units))
+}
+
+/// The code units of `ab` and a count of `c`.
+fn ab_and(rt: &HostRuntime, count: u64) -> Result<Vec<u16>, Fail> {
+    let mut units = vec![in rt.alloc(); 97u16, 98]?;
+    for _ in 0..count {
+        units.push(99)?;
+    }
+    Ok(units)
+}
+
+/// A refused push leaves the units of those before it.
+#[test]
+fn pushes_until_one_is_refused(rt: HostRuntime) -> Result<(), Fail> {
+    let c = Char16::try_from('c')?;
+    assert!(rt; c != NUL_16);
+    for number in 2..6u64 {
+        let heap = Refusing::new(rt.alloc(), number);
+        let mut text = string(&heap, "ab")?;
+        let pushed = pushed_until_refused(&mut text, c);
+        assert!(rt; heap.has_refused(), "at request {number}");
+        let want = ab_and(&rt, pushed)?;
+        assert!(rt; has_units(&text, &want), "at request {number}");
+    }
+    Ok(())
+}
+
+/// The results of two pushes of a string to `ab`, the first of which is refused.
+fn pushed_twice<'a>(
+    heap: &'a Refusing<Global>,
+    more: CStr16<'_>,
+) -> Result<(bool, bool, CString16<&'a Refusing<Global>>), Fail> {
+    let mut text = string(heap, "ab")?;
+    let first = text.push_str(more).is_ok();
+    let second = text.push_str(more).is_ok();
+    Ok((first, second, text))
+}
+
+/// A push after a refused one gets its memory.
+#[test]
+fn pushed_after_a_refusal(rt: HostRuntime) -> Result<(), Fail> {
+    let more = CStr16::from_u16_with_nul(&[99, 0xe9, 0])?;
+    let one = Refusing::new(rt.alloc(), 2);
+    let (first, second, text) = pushed_twice(&one, more)?;
+    assert!(rt; !first && second);
+    assert!(rt; one.has_refused());
+    assert!(rt; has_units(&text, &[97, 98, 99, 0xe9]));
+    Ok(())
+}
+
+/// Whether these are the units of `ab` and of nothing but `c` after it.
+fn is_ab_and_c(units: &[u16]) -> bool {
+    units
+        .strip_prefix(&[97u16, 98])
+        .is_some_and(|others| others.iter().all(|unit| *unit == 99))
+}
+
+/// How `ab` ends that is extended by 64 times this character: whether all were added, and the units.
+fn extended_by_64<'a>(
+    heap: &'a Refusing<Global>,
+    c: Char16,
+) -> Result<(bool, CString16<&'a Refusing<Global>>), AllocError> {
+    let Ok(mut text) = CString16::try_from_str(heap, "ab") else {
+        return Err(AllocError);
+    };
+    let is_whole = c != NUL_16 && text.extend(iter::repeat_n(c, 64)).is_ok();
+    Ok((is_whole, text))
+}
+
+/// Whether `ab` is extended by 64 times this character, or by fewer where memory ran out.
+fn extends_by_64(heap: &Refusing<Global>, c: Char16) -> Result<bool, AllocError> {
+    let (is_whole, text) = extended_by_64(heap, c)?;
+    let units = text.as_cstr16().to_u16_slice();
+    let is_right = is_ab_and_c(units) && is_whole == (units.len() == 66);
+    if is_whole {
+        Ok(is_right)
+    } else {
+        out_of_memory(is_right)
+    }
+}
+
+/// Where a request is refused, the characters before it stay.
+#[test]
+fn extended_until_refused(rt: HostRuntime) -> Result<(), Fail> {
+    let c = Char16::try_from('c')?;
+    let count = requests(rt.alloc(), 1, |heap| extends_by_64(heap, c))?;
+    assert!(rt; 1 < count && count < 97, "{count} requests");
+    Ok(())
+}
+
+/// Whether a text gets a string after it, or is unchanged where memory ran out.
+fn pushes(
+    heap: &Refusing<Global>,
+    text: CStr16<'_>,
+    more: CStr16<'_>,
+    want: CStr16<'_>,
+) -> Result<bool, AllocError> {
+    let mut grown = CString16::from_cstr16(heap, text)?;
+    match grown.push_str(more) {
+        Ok(()) => Ok(grown.eq_cstr16(want)),
+        Err(_) => out_of_memory(grown.eq_cstr16(text)),
+    }
+}
+
+/// The requests of a push of a string.
+fn requests_of_push(rt: &HostRuntime, text: &str, more: &str, want: &str) -> Result<u64, Fail> {
+    let (text, more) = (string(rt.alloc(), text)?, string(rt.alloc(), more)?);
+    let want = string(rt.alloc(), want)?;
+    requests(rt.alloc(), 1, |heap| {
+        pushes(heap, text.as_cstr16(), more.as_cstr16(), want.as_cstr16())
+    })
+}
+
+/// One request for a string with characters, and none for one without.
+#[test]
+fn pushed_strings(rt: HostRuntime) -> Result<(), Fail> {
+    assert_eq!(rt; requests_of_push(&rt, "ab", "cé", "abcé")?, 1);
+    assert_eq!(rt; requests_of_push(&rt, "b", "", "b")?, 0);
+    Ok(())
+}
+
+#[test]
+fn extended_by_no_characters(rt: HostRuntime) -> Result<(), Fail> {
+    let mut text = string(rt.alloc(), "ab")?;
+    text.extend(CStr16::from_u16_with_nul(&[0])?.iter())?;
+    assert!(rt; has_units(&text, &[97, 98]));
+    Ok(())
+}
+
+#[test]
+fn extended_by_the_characters_of_a_string(rt: HostRuntime) -> Result<(), Fail> {
+    let mut text = string(rt.alloc(), "ab")?;
+    extended_by_all(&mut text, CStr16::from_u16_with_nul(&[99, 0xe9, 100, 0])?)?;
+    assert_eq!(rt; printed(&rt, &text)?.as_str(), "abcéd");
+    Ok(())
+}
+
+#[test]
+fn extended_by_the_ascii_characters_of_a_string(rt: HostRuntime) -> Result<(), Fail> {
+    let mut text = string(rt.alloc(), "abcéd")?;
+    extended_by_ascii(&mut text, CStr16::from_u16_with_nul(&[99, 0xe9, 100, 0])?)?;
+    assert_eq!(rt; printed(&rt, &text)?.as_str(), "abcédcd");
+    Ok(())
+}

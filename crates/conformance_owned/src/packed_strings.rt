@@ -1,0 +1,174 @@
+//! Strings of packed code units, in buffers and in memory of their own.
+
+use conformance::{Refusing, requests, string};
+use std::alloc::{AllocError, Global};
+use std::test::Fail;
+use uefi_text::{CStr16, CString16, FromSliceWithNulError, UnalignedCStr16Error, UnalignedSlice};
+
+/// `test` and its NUL, after one other byte.
+const TEST_AFTER_ONE: [u8; 11] = [0xff, 0x74, 0, 0x65, 0, 0x73, 0, 0x74, 0, 0, 0];
+
+#[test]
+fn strings_in_small_buffers(rt: HostRuntime) -> Result<(), Fail> {
+    let items: UnalignedSlice<u16> = UnalignedSlice::new(&TEST_AFTER_ONE[1..], 5);
+    let mut small = [9u16; 4];
+    assert_eq!(rt;
+        items.to_cstr16(&mut small).err(),
+        Some(UnalignedCStr16Error::BufferTooSmall)
+    );
+    assert_eq!(rt; small, [9, 9, 9, 9]);
+    Ok(())
+}
+
+#[test]
+fn strings_in_exact_buffers(rt: HostRuntime) -> Result<(), Fail> {
+    let items: UnalignedSlice<u16> = UnalignedSlice::new(&TEST_AFTER_ONE[1..], 5);
+    let mut exact = [9u16; 5];
+    assert_eq!(rt;
+        items.to_cstr16(&mut exact)?.to_string(rt.alloc())?.as_str(),
+        "test"
+    );
+    assert_eq!(rt; exact, [0x74, 0x65, 0x73, 0x74, 0]);
+    Ok(())
+}
+
+#[test]
+fn strings_in_larger_buffers(rt: HostRuntime) -> Result<(), Fail> {
+    let items: UnalignedSlice<u16> = UnalignedSlice::new(&TEST_AFTER_ONE[1..], 5);
+    let mut large = [9u16; 7];
+    assert_eq!(rt;
+        CStr16::from_unaligned_slice(&items, &mut large)?.num_chars(),
+        4
+    );
+    assert_eq!(rt; large, [0x74, 0x65, 0x73, 0x74, 0, 9, 9]);
+    Ok(())
+}
+
+#[test]
+fn strings_in_memory_of_their_own(rt: HostRuntime) -> Result<(), Fail> {
+    let items: UnalignedSlice<u16> = UnalignedSlice::new(&TEST_AFTER_ONE[1..], 5);
+    assert!(rt; items.to_cstring16(rt.alloc())? == string(rt.alloc(), "test")?);
+    let items: UnalignedSlice<u16> = UnalignedSlice::new(&[0x41, 0, 0x42, 0, 0, 0], 3);
+    assert!(rt; CString16::try_from_unaligned(rt.alloc(), &items)? == string(rt.alloc(), "AB")?);
+    Ok(())
+}
+
+/// Whether the items are refused for this cause in a buffer of three nines, which then holds this.
+fn is_refused(items: &UnalignedSlice<'_, u16>, after: &[u16], want: UnalignedCStr16Error) -> bool {
+    let mut written = [9u16; 3];
+    let mut borrowed = [9u16; 3];
+    items.write_cstr16(&mut written).err() == Some(want)
+        && written.as_slice() == after
+        && items.to_cstr16(&mut borrowed).err() == Some(want)
+        && borrowed.as_slice() == after
+}
+
+#[test]
+fn refused_strings_in_buffers(rt: HostRuntime) {
+    let rows: [(&[u8], &[u16], UnalignedCStr16Error); 8] = [
+        (
+            &[0, 0xd8, 0, 0],
+            &[0xd800, 0, 9],
+            UnalignedCStr16Error::InvalidChar(0),
+        ),
+        (
+            &[0, 0xd8, 0, 0, 0x41, 0, 0, 0],
+            &[9, 9, 9],
+            UnalignedCStr16Error::BufferTooSmall,
+        ),
+        (
+            &[0x41, 0],
+            &[65, 9, 9],
+            UnalignedCStr16Error::NotNulTerminated,
+        ),
+        (
+            &[0x61, 0, 0, 0, 0x62, 0],
+            &[97, 0, 98],
+            UnalignedCStr16Error::InteriorNul(1),
+        ),
+        (
+            &[0x61, 0, 0, 0xdc, 0, 0],
+            &[97, 0xdc00, 0],
+            UnalignedCStr16Error::InvalidChar(1),
+        ),
+        (
+            &[0, 0, 0, 0],
+            &[0, 0, 9],
+            UnalignedCStr16Error::InteriorNul(0),
+        ),
+        (&[], &[9, 9, 9], UnalignedCStr16Error::NotNulTerminated),
+        (&[0x41], &[9, 9, 9], UnalignedCStr16Error::NotNulTerminated),
+    ];
+    for (bytes, after, want) in rows {
+        let len = bytes.len() / 2;
+        assert!(rt; UnalignedSlice::<u16>::fits(bytes, len));
+        let items: UnalignedSlice<u16> = UnalignedSlice::new(bytes, len);
+        assert!(rt; is_refused(&items, after, want), "{bytes:?}");
+    }
+}
+
+#[test]
+fn empty_strings_in_buffers(rt: HostRuntime) -> Result<(), Fail> {
+    let nul: UnalignedSlice<u16> = UnalignedSlice::new(&[0, 0], 1);
+    let mut buffer = [9u16; 2];
+    assert!(rt; nul.to_cstr16(&mut buffer)?.is_empty());
+    assert_eq!(rt; buffer, [0, 9]);
+    let none: UnalignedSlice<u16> = UnalignedSlice::new(&[], 0);
+    let mut no_places: [u16; 0] = [];
+    assert_eq!(rt;
+        none.to_cstr16(&mut no_places).err(),
+        Some(UnalignedCStr16Error::NotNulTerminated)
+    );
+    Ok(())
+}
+
+/// All items are tested before memory is asked for.
+#[test]
+fn refused_packed_units(rt: HostRuntime) -> Result<(), Fail> {
+    let rows: [(&[u8], FromSliceWithNulError); 4] = [
+        (&[], FromSliceWithNulError::NotNulTerminated),
+        (&[0x41, 0], FromSliceWithNulError::NotNulTerminated),
+        (
+            &[0x41, 0, 0, 0xd8, 0, 0],
+            FromSliceWithNulError::InvalidChar(1),
+        ),
+        (
+            &[0x61, 0, 0, 0, 0x62, 0],
+            FromSliceWithNulError::InteriorNul(1),
+        ),
+    ];
+    for (bytes, want) in rows {
+        let len = bytes.len() / 2;
+        assert!(rt; UnalignedSlice::<u16>::fits(bytes, len));
+        let items: UnalignedSlice<u16> = UnalignedSlice::new(bytes, len);
+        let none = Refusing::new(rt.alloc(), 1);
+        assert!(rt;
+            matches!(&items.to_cstring16(&none), Err(error) if *error == want),
+            "{bytes:?}"
+        );
+        assert!(rt; !none.has_refused());
+    }
+    Ok(())
+}
+
+/// Whether the items become `test`, or memory ran out.
+fn becomes_test(
+    heap: &Refusing<Global>,
+    items: &UnalignedSlice<'_, u16>,
+) -> Result<bool, AllocError> {
+    match CString16::try_from_unaligned(heap, items) {
+        Ok(string) => Ok(string.as_cstr16().to_u16_slice() == [0x74, 0x65, 0x73, 0x74].as_slice()),
+        Err(FromSliceWithNulError::OutOfMemory) => Err(AllocError),
+        Err(_) => Ok(false),
+    }
+}
+
+#[test]
+fn one_request_for_packed_units(rt: HostRuntime) -> Result<(), Fail> {
+    let items: UnalignedSlice<u16> = UnalignedSlice::new(&TEST_AFTER_ONE[1..], 5);
+    assert_eq!(rt;
+        requests(rt.alloc(), 0, |heap| becomes_test(heap, &items))?,
+        1
+    );
+    Ok(())
+}

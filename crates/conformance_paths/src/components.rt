@@ -1,0 +1,57 @@
+//! The components of paths.
+
+use crate::fixtures::buffer;
+use conformance::string;
+use std::test::Fail;
+use uefi_path::Path;
+use uefi_text::CStr16;
+
+/// The components of a path, with a bar before each.
+fn barred(rt: &HostRuntime, path: Path<'_>) -> Result<String, Fail> {
+    let mut shown = String::new(rt.alloc());
+    for component in path.components() {
+        shown.push('|')?;
+        for character in component.iter() {
+            shown.push(char::from(character))?;
+        }
+    }
+    Ok(shown)
+}
+
+/// Whether both ways to make a path of a string keep the string.
+fn keeps(string: CStr16<'_>) -> bool {
+    let path = Path::new(string);
+    Path::from(string) == path && path.to_cstr16() == string
+}
+
+#[test]
+fn components_of_texts(rt: HostRuntime) -> Result<(), Fail> {
+    for (text, want) in [
+        ("", ""),
+        ("\\", ""),
+        ("\\\\", "||"),
+        ("a\\", "|a|"),
+        ("foo\\bar\\hello", "|foo|bar|hello"),
+        ("\\foo\\bar\\hello", "|foo|bar|hello"),
+        ("\\\\a", "||a"),
+        ("a/b\\c", "|a/b|c"),
+    ] {
+        let string = string(rt.alloc(), text)?;
+        let path = Path::new(string.as_cstr16());
+        assert_eq!(rt; barred(&rt, path)?.as_str(), want, "{text}");
+        assert_eq!(rt; path.is_empty(), text.is_empty());
+        assert!(rt; keeps(string.as_cstr16()), "{text}");
+    }
+    Ok(())
+}
+
+#[test]
+fn components_end_for_good(rt: HostRuntime) -> Result<(), Fail> {
+    let path = buffer(&rt, "a\\")?;
+    let mut components = path.components();
+    assert_eq!(rt; components.next().map(|component| component.len()), Some(1));
+    assert_eq!(rt; components.next().map(|component| component.len()), Some(0));
+    assert!(rt; components.next().is_none());
+    assert!(rt; components.next().is_none());
+    Ok(())
+}

@@ -1,0 +1,19 @@
+//! Path buffers of Rust texts, and the texts that they have.
+
+use conformance::string;
+use std::alloc::AllocError;
+use std::test::Fail;
+use uefi_path::PathBuf;
+
+/// The path buffer of a text, each slash replaced.
+pub(crate) fn buffer(rt: &HostRuntime, text: &str) -> Result<PathBuf, Fail> {
+    match PathBuf::new_from_cstring16(rt.alloc(), string(rt.alloc(), text)?) {
+        Ok(path) => Ok(path),
+        Err(_) => Err(AllocError.into()),
+    }
+}
+
+/// Whether a path has this text.
+pub(crate) fn shows(rt: &HostRuntime, path: &PathBuf, want: &str) -> Result<bool, Fail> {
+    Ok(path.to_cstr16() == string(rt.alloc(), want)?.as_cstr16())
+}

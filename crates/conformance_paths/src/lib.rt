@@ -1,0 +1,22 @@
+//! Tests of paths and of path buffers: components, comparison, pushes, parents, the judgement of a
+//! path, each request for memory refused in turn, and the examples of the documents.
+#![tactic(auto)]
+
+#[cfg(test)]
+mod buffers;
+#[cfg(test)]
+mod comparisons;
+#[cfg(test)]
+mod components;
+#[cfg(test)]
+mod documents;
+#[cfg(test)]
+mod fixtures;
+#[cfg(test)]
+mod judgement;
+#[cfg(test)]
+mod out_of_memory;
+#[cfg(test)]
+mod parents;
+#[cfg(test)]
+mod pushes;

@@ -1,0 +1,91 @@
+//! Paths that are pushed to and joined.
+
+use crate::fixtures::{buffer, shows};
+use conformance::string;
+use std::test::Fail;
+use uefi_path::{Path, PathBuf};
+
+/// Whether a borrowed path joined with another has this text.
+fn joins(rt: &HostRuntime, text: &str, other: &str, want: &str) -> Result<bool, Fail> {
+    let (text, other) = (string(rt.alloc(), text)?, string(rt.alloc(), other)?);
+    let joined = Path::new(text.as_cstr16()).join(rt.alloc(), Path::new(other.as_cstr16()))?;
+    shows(rt, &joined, want)
+}
+
+/// Whether a buffer joined with another path has this text.
+fn joins_buffer(rt: &HostRuntime, text: &str, other: &str, want: &str) -> Result<bool, Fail> {
+    let other = string(rt.alloc(), other)?;
+    let joined = buffer(rt, text)?.join(Path::new(other.as_cstr16()))?;
+    shows(rt, &joined, want)
+}
+
+/// Whether a buffer after a push of another path has this text.
+fn pushes(rt: &HostRuntime, text: &str, other: &str, want: &str) -> Result<bool, Fail> {
+    let other = string(rt.alloc(), other)?;
+    let mut path = buffer(rt, text)?;
+    path.push(Path::new(other.as_cstr16()))?;
+    shows(rt, &path, want)
+}
+
+#[test]
+fn pushed_and_joined(rt: HostRuntime) -> Result<(), Fail> {
+    for (text, other, want) in [
+        ("", "", ""),
+        ("", "a", "a"),
+        ("", "/b", "\\b"),
+        ("a", "", "a"),
+        ("a", "b", "a\\b"),
+        ("a\\", "b", "a\\b"),
+        ("a/", "b", "a\\b"),
+        ("a", "/b", "a\\\\b"),
+        ("a", "b/c", "a\\b\\c"),
+        ("\\", "x", "\\x"),
+        ("\\", "\\x", "\\\\x"),
+        ("a\\b", "c\\d", "a\\b\\c\\d"),
+    ] {
+        assert!(rt; joins(&rt, text, other, want)?, "{text}, {want}");
+        assert!(rt; joins_buffer(&rt, text, other, want)?, "{text}, {want}");
+        assert!(rt; pushes(&rt, text, other, want)?, "{text}, {want}");
+    }
+    Ok(())
+}
+
+/// Whether the empty path after three pushes has this text.
+fn pushes_three(rt: &HostRuntime, parts: [&str; 3], want: &str) -> Result<bool, Fail> {
+    let mut path = PathBuf::new(rt.alloc())?;
+    for part in parts {
+        path.push(buffer(rt, part)?.as_path())?;
+    }
+    shows(rt, &path, want)
+}
+
+#[test]
+fn pushed_in_turn(rt: HostRuntime) -> Result<(), Fail> {
+    for (parts, want) in [
+        (["first", "second", "third"], "first\\second\\third"),
+        (["\\first", "", "second"], "\\first\\second"),
+        (["first", "", "second"], "first\\second"),
+    ] {
+        assert!(rt; pushes_three(&rt, parts, want)?, "{want}");
+    }
+    Ok(())
+}
+
+/// The empty path after a hundred pushes.
+fn pushed_often(rt: &HostRuntime, part: &str) -> Result<PathBuf, Fail> {
+    let part = string(rt.alloc(), part)?;
+    let mut path = PathBuf::new(rt.alloc())?;
+    for _ in 0..100 {
+        path.push(Path::new(part.as_cstr16()))?;
+    }
+    Ok(path)
+}
+
+#[test]
+fn many_pushes(rt: HostRuntime) -> Result<(), Fail> {
+    let path = pushed_often(&rt, "ab")?;
+    assert_eq!(rt; path.components().count(), 100);
+    assert_eq!(rt; path.to_cstr16().num_chars(), 299);
+    assert!(rt; path.components().all(|component| component.len() == 2));
+    Ok(())
+}

@@ -1,0 +1,130 @@
+//! Bytes that are judged to be a path, or refused.
+
+use conformance::{Refusing, requests, string};
+use std::alloc::{AllocError, Global};
+use std::test::Fail;
+use uefi_path::PathError;
+use uefi_text::{Char16, FromSliceWithNulError};
+use upath::{JudgeError, judge};
+
+/// Whether bytes are accepted as the path of a text.
+fn accepts(rt: &HostRuntime, bytes: &[u8], want: &str) -> Result<bool, Fail> {
+    let want = string(rt.alloc(), want)?;
+    Ok(matches!(&judge(rt.alloc(), bytes), Ok(path) if path.to_cstr16() == want.as_cstr16()))
+}
+
+#[test]
+fn accepted_bytes(rt: HostRuntime) -> Result<(), Fail> {
+    let rows: [(&[u8], &str); 4] = [
+        (&[0x2f, 0, 0x61, 0, 0, 0], "\\a"),
+        (&[0x5c, 0, 0, 0], "\\"),
+        (&[0xff, 0xff, 0, 0], "\u{ffff}"),
+        (&[0x2e, 0, 0x2e, 0, 0, 0], ".."),
+    ];
+    for (bytes, want) in rows {
+        assert!(rt; accepts(&rt, bytes, want)?, "{bytes:?}");
+    }
+    Ok(())
+}
+
+#[test]
+fn bytes_that_encode_no_text(rt: HostRuntime) -> Result<(), Fail> {
+    let rows: [(&[u8], JudgeError); 7] = [
+        (&[0x61, 0, 0], JudgeError::HalfUnit),
+        (&[0], JudgeError::HalfUnit),
+        (
+            &[],
+            JudgeError::Text(FromSliceWithNulError::NotNulTerminated),
+        ),
+        (
+            &[0x61, 0],
+            JudgeError::Text(FromSliceWithNulError::NotNulTerminated),
+        ),
+        (
+            &[0, 0xd8],
+            JudgeError::Text(FromSliceWithNulError::InvalidChar(0)),
+        ),
+        (
+            &[0x41, 0, 0, 0xd8, 0, 0],
+            JudgeError::Text(FromSliceWithNulError::InvalidChar(1)),
+        ),
+        (
+            &[0x61, 0, 0, 0, 0x62, 0],
+            JudgeError::Text(FromSliceWithNulError::InteriorNul(1)),
+        ),
+    ];
+    for (bytes, want) in rows {
+        assert_eq!(rt; judge(rt.alloc(), bytes).err(), Some(want), "{bytes:?}");
+    }
+    Ok(())
+}
+
+#[test]
+fn refused_paths(rt: HostRuntime) -> Result<(), Fail> {
+    let rows: [(&[u8], PathError); 4] = [
+        (&[0, 0], PathError::Empty),
+        (
+            &[0x61, 0, 0x2f, 0, 0x2f, 0, 0x62, 0, 0, 0],
+            PathError::EmptyComponent,
+        ),
+        (&[0x5c, 0, 0x5c, 0, 0, 0], PathError::EmptyComponent),
+        (
+            &[0x61, 0, 0x3e, 0, 0, 0],
+            PathError::IllegalChar(Char16::try_from('>')?),
+        ),
+    ];
+    for (bytes, want) in rows {
+        assert_eq!(rt;
+            judge(rt.alloc(), bytes).err(),
+            Some(JudgeError::Invalid(want)),
+            "{bytes:?}"
+        );
+    }
+    Ok(())
+}
+
+/// Whether the verdict on bytes is this, or memory ran out.
+fn judges(
+    heap: &Refusing<Global>,
+    bytes: &[u8],
+    want: Option<JudgeError>,
+) -> Result<bool, AllocError> {
+    match judge(heap, bytes).err() {
+        Some(JudgeError::OutOfMemory) => Err(AllocError),
+        verdict => Ok(verdict == want),
+    }
+}
+
+/// One request, which comes after what the bytes are refused for and before the verdict on the path.
+#[test]
+fn one_request_for_a_text(rt: HostRuntime) -> Result<(), Fail> {
+    let illegal = PathError::IllegalChar(Char16::try_from('>')?);
+    let rows: [(&[u8], Option<JudgeError>); 3] = [
+        (&[0x61, 0, 0, 0], None),
+        (&[0, 0], Some(JudgeError::Invalid(PathError::Empty))),
+        (
+            &[0x61, 0, 0x3e, 0, 0, 0],
+            Some(JudgeError::Invalid(illegal)),
+        ),
+    ];
+    for (bytes, want) in rows {
+        let count = requests(rt.alloc(), 0, |heap| judges(heap, bytes, want))?;
+        assert_eq!(rt; count, 1, "{bytes:?}");
+    }
+    Ok(())
+}
+
+#[test]
+fn no_request_for_refused_bytes(rt: HostRuntime) -> Result<(), Fail> {
+    let open = JudgeError::Text(FromSliceWithNulError::NotNulTerminated);
+    let rows: [(&[u8], JudgeError); 3] = [
+        (&[0x61, 0, 0], JudgeError::HalfUnit),
+        (&[0x61, 0], open),
+        (&[], open),
+    ];
+    for (bytes, want) in rows {
+        let count = requests(rt.alloc(), 0, |heap| judges(heap, bytes, Some(want)))?;
+        assert_eq!(rt; count, 0, "{bytes:?}");
+    }
+    Ok(())
+}

@@ -1,0 +1,16 @@
+//! Tests of what programs do with paths: bytes judged, lists of commands, lines of commands, runs over
+//! streams that fail, and each request for memory refused in turn.
+#![tactic(auto)]
+
+#[cfg(test)]
+mod commands_on_paths;
+#[cfg(test)]
+mod failing_streams;
+#[cfg(test)]
+mod judged_bytes;
+#[cfg(test)]
+mod lists;
+#[cfg(test)]
+mod out_of_memory;
+#[cfg(test)]
+mod runs;

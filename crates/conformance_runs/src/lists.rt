@@ -1,0 +1,160 @@
+//! The components of a path as a list, and its successive parents.
+
+use conformance::{Refusals, Refusing, out_of_memory, refused_in_turn, requests, string};
+use std::alloc::{AllocError, Global};
+use std::test::Fail;
+use uefi_path::{Path, PathBuf};
+use uefi_text::{CStr16, Char16Slice};
+use upath::{all_parents, pieces};
+
+/// The parents of the path of a text, a bar before each.
+fn barred_parents(rt: &HostRuntime, text: &str) -> Result<String, Fail> {
+    let path = PathBuf::from(rt.alloc(), string(rt.alloc(), text)?.as_cstr16())?;
+    let mut shown = String::new(rt.alloc());
+    for parent in &all_parents(rt.alloc(), &path)? {
+        write!(shown, "|{parent}")?;
+    }
+    Ok(shown)
+}
+
+#[test]
+fn successive_parents(rt: HostRuntime) -> Result<(), Fail> {
+    for (text, want) in [
+        ("\\a\\b\\c", "|a\\b|a"),
+        ("a\\\\b", "|a\\|a"),
+        ("\\\\\\a", "|"),
+        ("a\\", "|a"),
+        ("\\", ""),
+        ("", ""),
+    ] {
+        assert_eq!(rt; barred_parents(&rt, text)?.as_str(), want, "{text}");
+    }
+    Ok(())
+}
+
+/// Whether the path of a text has two parents and is unchanged.
+fn has_two_parents(heap: &Refusing<Global>, text: CStr16<'_>) -> Result<bool, AllocError> {
+    let path = PathBuf::from(heap, text)?;
+    let answer = all_parents(heap, &path);
+    let is_unchanged = path.to_cstr16() == text;
+    match answer {
+        Ok(parents) => Ok(is_unchanged && parents.len() == 2),
+        Err(_) => out_of_memory(is_unchanged),
+    }
+}
+
+#[test]
+fn each_request_for_parents(rt: HostRuntime) -> Result<(), Fail> {
+    let text = string(rt.alloc(), "a\\b\\c")?;
+    let count = requests(
+        rt.alloc(),
+        1,
+        |heap| has_two_parents(heap, text.as_cstr16()),
+    )?;
+    assert!(rt; 1 < count && count < 99, "{count} requests");
+    Ok(())
+}
+
+/// How many components the path of a text has.
+fn count_of_pieces(rt: &HostRuntime, text: &str) -> Result<usize, Fail> {
+    let text = string(rt.alloc(), text)?;
+    Ok(pieces(rt.alloc(), Path::new(text.as_cstr16()))?.len())
+}
+
+#[test]
+fn counts_of_components(rt: HostRuntime) -> Result<(), Fail> {
+    for (text, count) in [
+        ("", 0),
+        ("\\", 0),
+        ("\\a\\b", 2),
+        ("a\\\\", 3),
+        ("ab\\c", 2),
+    ] {
+        assert_eq!(rt; count_of_pieces(&rt, text)?, count, "{text}");
+    }
+    Ok(())
+}
+
+/// Whether a component is this text.
+fn is_text(
+    rt: &HostRuntime,
+    component: Option<&Char16Slice<'_>>,
+    want: &str,
+) -> Result<bool, Fail> {
+    let want = string(rt.alloc(), want)?;
+    Ok(component.is_some_and(|component| *component == want.as_cstr16().as_slice()))
+}
+
+#[test]
+fn components_as_a_list(rt: HostRuntime) -> Result<(), Fail> {
+    let text = string(rt.alloc(), "ab\\c")?;
+    let list = pieces(rt.alloc(), Path::new(text.as_cstr16()))?;
+    assert!(rt; is_text(&rt, list.first(), "ab")?);
+    assert!(rt; is_text(&rt, list.get(1), "c")?);
+    Ok(())
+}
+
+/// Whether the components of a path are these.
+fn lists(
+    heap: &Refusing<Global>,
+    path: Path<'_>,
+    want: &[Char16Slice<'_>],
+) -> Result<bool, AllocError> {
+    Ok(pieces(heap, path)?.as_slice() == want)
+}
+
+/// How the runs end that list the components of a text with a request refused.
+fn refusals_of_pieces(rt: &HostRuntime, text: &str) -> Result<Refusals, Fail> {
+    let text = string(rt.alloc(), text)?;
+    let path = Path::new(text.as_cstr16());
+    let want = pieces(rt.alloc(), path)?;
+    refused_in_turn(rt.alloc(), 0, |heap| lists(heap, path, &want))
+}
+
+/// A list that is refused room to grow asks once more, for less, so a refusal need not end it.
+#[test]
+fn each_request_for_components(rt: HostRuntime) -> Result<(), Fail> {
+    for text in ["ab\\c", "a\\b\\c\\d\\e\\f\\g\\h\\i\\j\\k\\l"] {
+        let refusals = refusals_of_pieces(&rt, text)?;
+        assert!(rt; refusals.failed != 0 || refusals.answered != 0, "{text}");
+    }
+    Ok(())
+}
+
+/// Whether the components of a path are these, or memory ran out, where the request of that number is
+/// refused and the one after it too. Nothing is said where neither came.
+fn lists_twice_refused(
+    alloc: Global,
+    number: u64,
+    path: Path<'_>,
+    want: &[Char16Slice<'_>],
+) -> Option<bool> {
+    let inner = Refusing::new(alloc, number);
+    let outer = Refusing::new(&inner, number);
+    let answer = pieces(&outer, path);
+    if !outer.has_refused() {
+        return None;
+    }
+    Some(match &answer {
+        Ok(list) => list.as_slice() == want,
+        Err(_) => inner.has_refused(),
+    })
+}
+
+/// The request that is refused and the one for less are refused together: the list ends, or is whole.
+#[test]
+fn each_request_for_components_and_the_next(rt: HostRuntime) -> Result<(), Fail> {
+    let text = string(rt.alloc(), "a\\b\\c\\d\\e\\f\\g\\h\\i\\j\\k\\l")?;
+    let path = Path::new(text.as_cstr16());
+    let want = pieces(rt.alloc(), path)?;
+    let mut refused = 0u64;
+    for number in 1..100u64 {
+        match lists_twice_refused(rt.alloc(), number, path, &want) {
+            None => break,
+            Some(is_right) => assert!(rt; is_right, "at request {number}"),
+        }
+        refused = number;
+    }
+    assert!(rt; 0 < refused && refused < 99, "{refused} requests");
+    Ok(())
+}

@@ -1,0 +1,85 @@
+//! Borrowed strings of Latin-1, and Rust texts of Latin-1 as arrays.
+
+use std::collections::HashSet;
+use std::test::Fail;
+use uefi_text::{CStr8, FromSliceWithNulError, is_latin1, str_num_latin1_chars, str_to_latin1};
+
+#[test]
+fn refused_bytes(rt: HostRuntime) {
+    let rows: [(&[u8], FromSliceWithNulError); 5] = [
+        (&[65], FromSliceWithNulError::NotNulTerminated),
+        (&[], FromSliceWithNulError::NotNulTerminated),
+        (&[0, 65], FromSliceWithNulError::InteriorNul(0)),
+        (&[65, 0, 66, 0], FromSliceWithNulError::InteriorNul(1)),
+        (&[0, 0], FromSliceWithNulError::InteriorNul(0)),
+    ];
+    for (bytes, want) in rows {
+        assert!(rt;
+            matches!(CStr8::from_bytes_with_nul(bytes), Err(error) if error == want),
+            "{bytes:?}"
+        );
+    }
+}
+
+#[test]
+fn accepted_bytes(rt: HostRuntime) -> Result<(), Fail> {
+    let rows: [(&[u8], &str); 4] = [
+        (&[97, 0], "a"),
+        (&[97, 98, 99, 0], "abc"),
+        (&[0xe9, 0xff, 0], "éÿ"),
+        (&[0], ""),
+    ];
+    for (bytes, text) in rows {
+        let string = CStr8::from_bytes_with_nul(bytes)?;
+        assert_eq!(rt; string.as_bytes(), bytes);
+        assert_eq!(rt; string.to_string(rt.alloc())?.as_str(), text);
+    }
+    let printed = format!(in rt.alloc(); "{:?}", CStr8::from_bytes_with_nul(&[0xe9, 10, 0])?)?;
+    assert_eq!(rt; printed.as_str(), "CStr8(['é', '\\n'])");
+    Ok(())
+}
+
+#[test]
+fn texts_of_latin1(rt: HostRuntime) {
+    for (text, want) in [
+        ("ÿ", true),
+        ("Ā", false),
+        ("", true),
+        ("é\0", true),
+        ("a\u{7ff}", false),
+        ("\u{ffff}", false),
+        ("😀", false),
+    ] {
+        assert_eq!(rt; is_latin1(text), want, "{text}");
+    }
+    for (text, want) in [("", 0), ("é\0", 2), ("aé\u{80}\u{7f}", 4)] {
+        assert!(rt; is_latin1(text));
+        assert_eq!(rt; str_num_latin1_chars(text), want, "{text}");
+    }
+}
+
+#[test]
+fn arrays_of_latin1(rt: HostRuntime) {
+    assert_eq!(rt; str_to_latin1::<1>(""), [0]);
+    assert_eq!(rt; str_to_latin1::<2>("é"), [0xe9, 0]);
+    assert_eq!(rt; str_to_latin1::<5>("Aÿ~\u{80}"), [65, 255, 126, 128, 0]);
+}
+
+#[test]
+fn order_of_byte_strings(rt: HostRuntime) -> Result<(), Fail> {
+    let a = CStr8::from_bytes_with_nul(&[65, 0])?;
+    let ab = CStr8::from_bytes_with_nul(&[65, 66, 0])?;
+    let b = CStr8::from_bytes_with_nul(&[66, 0])?;
+    assert!(rt; a < ab && ab < b && a != ab);
+    assert!(rt; a == CStr8::from_bytes_with_nul(b"A\0")?);
+    Ok(())
+}
+
+#[test]
+fn byte_strings_in_a_hash_set(rt: HostRuntime) -> Result<(), Fail> {
+    let mut seen = HashSet::new(rt.alloc());
+    assert!(rt; seen.insert(CStr8::from_bytes_with_nul(&[65, 0])?)?);
+    assert!(rt; seen.insert(CStr8::from_bytes_with_nul(&[65, 66, 0])?)?);
+    assert!(rt; !seen.insert(CStr8::from_bytes_with_nul(b"A\0")?)?);
+    Ok(())
+}

@@ -1,0 +1,100 @@
+//! Rust texts as strings, in memory and in a caller's buffer.
+
+use std::test::Fail;
+use uefi_text::{CStr16, CString16, FromStrError, FromStrWithBufError};
+
+#[test]
+fn refused_texts(rt: HostRuntime) {
+    for (text, want) in [
+        ("x\0", FromStrError::InteriorNul),
+        ("😀\0", FromStrError::InvalidChar),
+        ("\0😀", FromStrError::InteriorNul),
+        ("é\u{10000}", FromStrError::InvalidChar),
+        ("é\0", FromStrError::InteriorNul),
+        ("😀", FromStrError::InvalidChar),
+    ] {
+        let answer = CString16::try_from_str(rt.alloc(), text);
+        assert!(rt; matches!(&answer, Err(error) if *error == want), "{text:?}");
+    }
+}
+
+/// Whether the text is written into a buffer of nines or refused for this cause, and the buffer then
+/// holds this.
+fn writes(
+    rt: &HostRuntime,
+    text: &str,
+    want: Result<usize, FromStrWithBufError>,
+    after: &[u16],
+) -> Result<bool, Fail> {
+    let mut buffer = vec![in rt.alloc(); 9u16; after.len()]?;
+    Ok(CStr16::write_str(text, &mut buffer) == want && buffer.as_slice() == after)
+}
+
+/// The units of a string with its NUL, or why it was refused.
+fn units_of_text(
+    rt: &HostRuntime,
+    text: &str,
+    buffer: &mut [u16],
+) -> Result<Result<usize, FromStrWithBufError>, Fail> {
+    match CStr16::from_str_with_buf(text, buffer) {
+        Ok(string) if string.to_string(rt.alloc())?.as_str() == text => {
+            Ok(Ok(string.num_chars().saturating_add(1)))
+        }
+        Ok(_) => Err("another text".into()),
+        Err(error) => Ok(Err(error)),
+    }
+}
+
+/// Whether the text becomes a string in a buffer of nines or is refused for this cause, and the buffer
+/// then holds this.
+fn borrows(
+    rt: &HostRuntime,
+    text: &str,
+    want: Result<usize, FromStrWithBufError>,
+    after: &[u16],
+) -> Result<bool, Fail> {
+    let mut buffer = vec![in rt.alloc(); 9u16; after.len()]?;
+    Ok(units_of_text(rt, text, &mut buffer)? == want && buffer.as_slice() == after)
+}
+
+/// How many units are written of a text into nines, or why they are no string, and what stands
+/// there then.
+#[test]
+fn texts_in_buffers(rt: HostRuntime) -> Result<(), Fail> {
+    let rows: [(&str, Result<usize, FromStrWithBufError>, &[u16]); 9] = [
+        ("A", Ok(2), &[65, 0, 9, 9]),
+        ("ABC", Ok(4), &[65, 66, 67, 0]),
+        (
+            "ABCD",
+            Err(FromStrWithBufError::BufferTooSmall),
+            &[65, 66, 67, 68],
+        ),
+        (
+            "ab😀",
+            Err(FromStrWithBufError::BufferTooSmall),
+            &[97, 98, 0xd83d, 0xde00],
+        ),
+        (
+            "abc😀",
+            Err(FromStrWithBufError::BufferTooSmall),
+            &[97, 98, 99, 0xd83d],
+        ),
+        (
+            "a😀",
+            Err(FromStrWithBufError::InvalidChar(1)),
+            &[97, 0xd83d, 0xde00, 0],
+        ),
+        (
+            "a\0b",
+            Err(FromStrWithBufError::InteriorNul(1)),
+            &[97, 0, 98, 0],
+        ),
+        ("", Err(FromStrWithBufError::BufferTooSmall), &[]),
+        ("", Ok(1), &[0]),
+    ];
+    for (text, want, after) in rows {
+        assert!(rt; writes(&rt, text, want, after)?, "{after:?}");
+        assert!(rt; borrows(&rt, text, want, after)?, "{after:?}");
+    }
+    Ok(())
+}
