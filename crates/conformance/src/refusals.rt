@@ -86,3 +86,44 @@ pub fn requests<F: Fn(&Refusing<Global>) -> Result<bool, AllocError>>(
     }
     Ok(refusals.failed)
 }
+
+#[cfg(test)]
+mod tests {
+    use super::*;
+    use std::alloc::Allocator;
+
+    /// Nine numbers, in room that grows to 4, 8 and 16.
+    fn counted<A: Allocator>(heap: A) -> Result<Vec<u16, A>, AllocError> {
+        let mut numbers = Vec::new(heap);
+        for number in 0..9u16 {
+            numbers.push(number)?;
+        }
+        Ok(numbers)
+    }
+
+    #[test]
+    fn requests_of_a_list_that_grows(rt: HostRuntime) -> Result<(), Fail> {
+        let count = requests(rt.alloc(), 0, |heap| Ok(counted(heap)?.len() == 9))?;
+        assert_eq!(rt; count, 3);
+        let count = requests(rt.alloc(), 1, |heap| Ok(counted(heap)?.len() == 9))?;
+        assert_eq!(rt; count, 2);
+        Ok(())
+    }
+
+    /// A call that does without the memory that it is refused.
+    #[test]
+    fn runs_that_do_without(rt: HostRuntime) -> Result<(), Fail> {
+        let refusals = refused_in_turn(rt.alloc(), 0, |heap| {
+            let numbers: Result<Vec<u8, _>, _> = Vec::with_capacity(heap, 9);
+            Ok(numbers.is_ok() != heap.has_refused())
+        })?;
+        assert_eq!(rt;
+            refusals,
+            Refusals {
+                failed: 0,
+                answered: 1,
+            }
+        );
+        Ok(())
+    }
+}

@@ -3,17 +3,17 @@
 use crate::fixtures::{buffer, shows};
 use conformance::string;
 use std::test::Fail;
-use uefi_path::{Components, Path, PathBuf, PathError};
+use uefi_path::{Path, PathBuf, PathError};
 use uefi_text::Char16;
 
-/// How many components are left.
-fn count(components: Components<'_>) -> usize {
-    components.count()
+/// How many components a borrowed path has.
+fn count(path: Path<'_>) -> usize {
+    path.components().count()
 }
 
 /// Whether a buffer and its view have as many components.
 fn counts_as_its_view(path: &PathBuf) -> bool {
-    count(path.components()) == count(path.as_path().components())
+    path.components().count() == count(path.as_path())
 }
 
 /// Whether the path buffer of a text has another text, and equals the buffer of that.

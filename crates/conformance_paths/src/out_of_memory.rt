@@ -222,6 +222,12 @@ fn has_no_parent(
     Ok(path.parent()?.is_none() && Path::new(text).parent(heap)?.is_none())
 }
 
+/// Whether a buffer that is cleared is empty.
+fn clears(mut path: Buffer<'_>) -> bool {
+    path.clear();
+    path.is_empty()
+}
+
 /// Whether no parent, an empty path that is pushed, and clearing do what they should.
 fn needs_no_memory(
     heap: &Refusing<Global>,
@@ -231,8 +237,7 @@ fn needs_no_memory(
     let mut path = PathBuf::from(heap, text)?;
     path.push(Path::new(empty))?;
     let is_right = path.to_cstr16() == text && has_no_parent(heap, &path, text)?;
-    path.clear();
-    Ok(is_right && path.is_empty())
+    Ok(is_right && clears(path))
 }
 
 #[test]

@@ -116,14 +116,19 @@ fn one_request_for_a_text(rt: HostRuntime) -> Result<(), Fail> {
 
 #[test]
 fn no_request_for_refused_bytes(rt: HostRuntime) -> Result<(), Fail> {
-    let open = JudgeError::Text(FromSliceWithNulError::NotNulTerminated);
-    let rows: [(&[u8], JudgeError); 3] = [
-        (&[0x61, 0, 0], JudgeError::HalfUnit),
-        (&[0x61, 0], open),
-        (&[], open),
+    let rows: [(&[u8], Option<JudgeError>); 3] = [
+        (&[0x61, 0, 0], Some(JudgeError::HalfUnit)),
+        (
+            &[0x61, 0],
+            Some(JudgeError::Text(FromSliceWithNulError::NotNulTerminated)),
+        ),
+        (
+            &[],
+            Some(JudgeError::Text(FromSliceWithNulError::NotNulTerminated)),
+        ),
     ];
     for (bytes, want) in rows {
-        let count = requests(rt.alloc(), 0, |heap| judges(heap, bytes, Some(want)))?;
+        let count = requests(rt.alloc(), 0, |heap| judges(heap, bytes, want))?;
         assert_eq!(rt; count, 0, "{bytes:?}");
     }
     Ok(())

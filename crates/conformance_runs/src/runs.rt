@@ -111,39 +111,44 @@ fn keeps_the_path(rt: &HostRuntime, line: &str) -> Result<bool, Fail> {
     )
 }
 
+/// Lines of which none changes the path: they are refused, or only ask. The last is empty.
+const LINES_THAT_LEAVE_THE_PATH: &str = "\
+    from\n\
+    eq\n\
+    FROM x\n\
+    pieces\x20\n\
+    wat x\0\n\
+    wat 😀\n\
+    from x\0\n\
+    from 😀\n\
+    eq x\0\n\
+    eq 😀\n\
+    eq a\n\
+    push\n\
+    push\x20\n\
+    push x\0\n\
+    join\n\
+    join 😀\n\
+    cmp\n\
+    cmp x\n\
+    cmp x\0\n\
+    clear\x20\n\
+    parent\x20\n\
+    check\n\
+    check\x20\n\
+    pieces\n\
+    up\n\
+    up\x20\n\
+";
+
 #[test]
 fn lines_that_leave_the_path(rt: HostRuntime) -> Result<(), Fail> {
-    for line in [
-        "from",
-        "eq",
-        "FROM x",
-        "pieces ",
-        "wat x\0",
-        "wat 😀",
-        "from x\0",
-        "from 😀",
-        "eq x\0",
-        "eq 😀",
-        "eq a",
-        "push",
-        "push ",
-        "push x\0",
-        "join",
-        "join 😀",
-        "cmp",
-        "cmp x",
-        "cmp x\0",
-        "clear ",
-        "parent ",
-        "check",
-        "check ",
-        "pieces",
-        "up",
-        "up ",
-        "",
-    ] {
+    let mut count = 0u64;
+    for line in LINES_THAT_LEAVE_THE_PATH.split('\n') {
         assert!(rt; keeps_the_path(&rt, line)?, "{line:?}");
+        count = count.saturating_add(1);
     }
+    assert_eq!(rt; count, 27);
     Ok(())
 }
 
