@@ -51,7 +51,7 @@ fn refused_texts(rt: HostRuntime) {
 }
 
 /// The string of room for three characters after a push of this part, or nothing if that is not so.
-fn filled<'a>(
+fn non_empty<'a>(
     heap: &'a Refusing<Global>,
     part: CStr16<'_>,
 ) -> Result<Option<CString16<&'a Refusing<Global>>>, AllocError> {
@@ -66,7 +66,7 @@ fn filled<'a>(
 /// Whether a string with room for a part takes it, and a second one only with more memory, unchanged
 /// where that is refused.
 fn grows_from_room(heap: &Refusing<Global>, part: CStr16<'_>) -> Result<bool, AllocError> {
-    let Some(mut text) = filled(heap, part)? else {
+    let Some(mut text) = non_empty(heap, part)? else {
         return Ok(false);
     };
     if !text.eq_cstr16(part) {

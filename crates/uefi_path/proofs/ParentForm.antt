@@ -6,30 +6,30 @@ use Rattle.std.proofs.lemmas.List.{append-nil}
 use Rattle.std.proofs.lemmas.List.Elements.{All-append, All-cons, All-filter, All-head, All-nil, All-tail}
 use Rattle.std.proofs.lemmas.Option.{same_Some}
 use Rattle.uefi_path.specs.Components.{IsPiece, components_of, joined, pieces_between}
-use Rattle.uefi_path.specs.Parents.{above, above_last, all_but_last, ends_empty, filled, is_filled, joined_with_end, rejoined}
-use Rattle.uefi_path.specs.Separators.{IsPlain, canon, is_separator, separator, slash, slashed}
+use Rattle.uefi_path.specs.Parents.{parent_text, parent_of_components, all_but_last, ends_empty, non_empty, is_non_empty, joined_with_end, rejoined}
+use Rattle.uefi_path.specs.Separators.{IsPlain, canonical, is_separator, separator, slash, with_separators}
 use Rattle.uefi_path.specs.Verdicts.{IsGood, verdict}
-use Rattle.uefi_path.proofs.Joining.{canon-no, slice_split-append, slice_split-filled}
-use Rattle.uefi_path.proofs.Parents.{All-IsPiece-filled, All-all_but_last, All-components_of, All-filled, IsFull, above_last-many}
-use Rattle.uefi_path.proofs.Pushing.{separator_is_plain, slashed-plain}
+use Rattle.uefi_path.proofs.Joining.{canonical-no, slice_split-append, slice_split-non_empty}
+use Rattle.uefi_path.proofs.Parents.{All-IsPiece-non_empty, All-all_but_last, All-components_of, All-non_empty, IsFull, parent_of_components-many}
+use Rattle.uefi_path.proofs.Pushing.{separator_is_plain, with_separators-plain}
 use Rattle.uefi_path.proofs.Splitting.{AreComponents-components_of, pieces_between-joined, slice_split-joined}
-use Rattle.uefi_path.proofs.Validity.{All-good_filled, All-good_piece, All-good_plain, All-joined, valid-components, valid-from, valid-plain}
+use Rattle.uefi_path.proofs.Validity.{All-good_non_empty, All-good_piece, All-good_plain, All-joined, valid-components, valid-from, valid-plain}
 
 -- no separator stands in front of pieces that are not empty
-front_joined : (n : List ℕ) (ns : List (List ℕ)) (more : List ℕ) → IsPiece n → IsFull n
-    → canon (joined (n ∷ ns) ++ more) ≡ joined (n ∷ ns) ++ more
-front_joined [] ns more piece full = absurd (false≢true full)
-front_joined (u ∷ us) [] more piece full =
-    canon-no u (us ++ more) (ne_eqb u separator (All-head (λ v. v ≢ separator) u us piece))
-front_joined (u ∷ us) (m ∷ ms) more piece full =
-    canon-no u ((us ++ separator ∷ joined (m ∷ ms)) ++ more)
+prefix_joined : (n : List ℕ) (ns : List (List ℕ)) (more : List ℕ) → IsPiece n → IsFull n
+    → canonical (joined (n ∷ ns) ++ more) ≡ joined (n ∷ ns) ++ more
+prefix_joined [] ns more piece full = absurd (false≢true full)
+prefix_joined (u ∷ us) [] more piece full =
+    canonical-no u (us ++ more) (ne_eqb u separator (All-head (λ v. v ≢ separator) u us piece))
+prefix_joined (u ∷ us) (m ∷ ms) more piece full =
+    canonical-no u ((us ++ separator ∷ joined (m ∷ ms)) ++ more)
     (ne_eqb u separator (All-head (λ v. v ≢ separator) u us piece))
 
-pub front_with_end : (ns : List (List ℕ)) (ends : Bool) → All IsPiece ns → All IsFull ns
-    → canon (joined_with_end ns ends) ≡ joined_with_end ns ends
-front_with_end [] ends pieces full = refl
-front_with_end (n ∷ ns) ends pieces full =
-    front_joined n ns (if ends then separator ∷ [] else []) (All-head IsPiece n ns pieces)
+pub prefix_with_end : (ns : List (List ℕ)) (ends : Bool) → All IsPiece ns → All IsFull ns
+    → canonical (joined_with_end ns ends) ≡ joined_with_end ns ends
+prefix_with_end [] ends pieces full = refl
+prefix_with_end (n ∷ ns) ends pieces full =
+    prefix_joined n ns (if ends then separator ∷ [] else []) (All-head IsPiece n ns pieces)
     (All-head IsFull n ns full)
 
 -- what stands between the separators of such pieces, and of the end after them
@@ -48,11 +48,11 @@ all_but_last-push (p ∷ r ∷ rs) q = ap (λ ps. p ∷ ps) (all_but_last-push (
 
 all_but_last-middle : (ps : List (List ℕ)) (q : List ℕ) (qs : List (List ℕ)) → qs ≢ []
     → all_but_last (ps ++ q ∷ qs) ≡ ps ++ q ∷ all_but_last qs
-all_but_last-middle [] q [] filled = absurd (filled refl)
-all_but_last-middle [] q (r ∷ rs) filled = refl
-all_but_last-middle (p ∷ []) q qs filled = ap (λ ps. p ∷ ps) (all_but_last-middle [] q qs filled)
-all_but_last-middle (p ∷ r ∷ rs) q qs filled =
-    ap (λ ps. p ∷ ps) (all_but_last-middle (r ∷ rs) q qs filled)
+all_but_last-middle [] q [] non_empty = absurd (non_empty refl)
+all_but_last-middle [] q (r ∷ rs) non_empty = refl
+all_but_last-middle (p ∷ []) q qs non_empty = ap (λ ps. p ∷ ps) (all_but_last-middle [] q qs non_empty)
+all_but_last-middle (p ∷ r ∷ rs) q qs non_empty =
+    ap (λ ps. p ∷ ps) (all_but_last-middle (r ∷ rs) q qs non_empty)
 
 All-middle : (P : List ℕ → Type 0) (ps : List (List ℕ)) (q : List ℕ) (qs : List (List ℕ))
     → All P (ps ++ q ∷ qs) → P q
@@ -84,21 +84,21 @@ not_doubled text before after full e =
     let pieces = ap (λ us. all_but_last (slice_split is_separator us)) e
     ∙ ap all_but_last (doubled before after)
     ∙ all_but_last-middle (slice_split is_separator before) [] (slice_split is_separator after)
-    (slice_split-filled after) in
+    (slice_split-non_empty after) in
     false≢true
     (All-middle IsFull (slice_split is_separator before) []
     (all_but_last (slice_split is_separator after)) (subst (All IsFull) pieces full))
 
 -- pieces that were rejoined
-front_rejoined : (ps : List (List ℕ)) → All IsPiece ps → canon (rejoined ps) ≡ rejoined ps
-front_rejoined ps pieces =
-    front_with_end (filled ps) (ends_empty ps) (All-IsPiece-filled ps pieces) (All-filled ps)
+prefix_rejoined : (ps : List (List ℕ)) → All IsPiece ps → canonical (rejoined ps) ≡ rejoined ps
+prefix_rejoined ps pieces =
+    prefix_with_end (non_empty ps) (ends_empty ps) (All-IsPiece-non_empty ps pieces) (All-non_empty ps)
 
 rejoined_not_doubled : (ps : List (List ℕ)) (before after : List ℕ) → All IsPiece ps
     → rejoined ps ≢ before ++ separator ∷ separator ∷ after
 rejoined_not_doubled ps before after pieces =
     not_doubled (rejoined ps) before after
-    (full_but_last (filled ps) (ends_empty ps) (All-IsPiece-filled ps pieces) (All-filled ps))
+    (full_but_last (non_empty ps) (ends_empty ps) (All-IsPiece-non_empty ps pieces) (All-non_empty ps))
 
 plain_with_end : (ns : List (List ℕ)) (ends : Bool) → All IsPlain ns
     → IsPlain (joined_with_end ns ends)
@@ -113,55 +113,55 @@ plain_with_end (n ∷ ns) false plain =
 
 plain_rejoined : (ps : List (List ℕ)) → All IsPlain ps → IsPlain (rejoined ps)
 plain_rejoined ps plain =
-    plain_with_end (filled ps) (ends_empty ps) (All-filter is_filled IsPlain ps plain)
+    plain_with_end (non_empty ps) (ends_empty ps) (All-filter is_non_empty IsPlain ps plain)
 
 -- a parent of pieces: those but the last, of two or more, rejoined
 abbrev IsRejoined : List (List ℕ) → List ℕ → Type 0
 IsRejoined ps parent = (parent ≡ rejoined (all_but_last ps)) × (1 < length ps)
 
-above_last-plain : (ps : List (List ℕ)) (parent : List ℕ) → All IsPlain ps
-    → above_last ps ≡ Some parent → IsRejoined ps parent
-above_last-plain [] parent plain e = absurd (cc)
-above_last-plain (p ∷ []) parent plain e = absurd (cc)
-above_last-plain (p ∷ q ∷ ps) parent plain e = (
+parent_of_components-plain : (ps : List (List ℕ)) (parent : List ℕ) → All IsPlain ps
+    → parent_of_components ps ≡ Some parent → IsRejoined ps parent
+parent_of_components-plain [] parent plain e = absurd (cc)
+parent_of_components-plain (p ∷ []) parent plain e = absurd (cc)
+parent_of_components-plain (p ∷ q ∷ ps) parent plain e = (
   sym (same_Some _ _ e)
-      ∙ slashed-plain (rejoined (all_but_last (p ∷ q ∷ ps)))
+      ∙ with_separators-plain (rejoined (all_but_last (p ∷ q ∷ ps)))
       (plain_rejoined (all_but_last (p ∷ q ∷ ps)) (All-all_but_last IsPlain (p ∷ q ∷ ps) plain)),
   omega arith,
 )
 
 -- the parent of a plain text, of whose slashes none is to replace,
-pub above-plain : (text parent : List ℕ) → IsPlain text → above text ≡ Some parent
+pub parent_text-plain : (text parent : List ℕ) → IsPlain text → parent_text text ≡ Some parent
     → (parent ≡ rejoined (all_but_last (components_of text))) × (1 < length (components_of text))
-above-plain text parent plain e =
-    above_last-plain (components_of text) parent (All-components_of (λ u. u ≢ slash) text plain) e
+parent_text-plain text parent plain e =
+    parent_of_components-plain (components_of text) parent (All-components_of (λ u. u ≢ slash) text plain) e
 
 -- begins with no separator
-pub front_above : (text parent : List ℕ) → IsPlain text → above text ≡ Some parent
-    → canon parent ≡ parent
-front_above text parent plain e =
-    let is : IsRejoined (components_of text) parent = above-plain text parent plain e in
-    subst (λ us. canon us ≡ us) (sym is.0)
-    (front_rejoined (all_but_last (components_of text))
+pub prefix_parent_text : (text parent : List ℕ) → IsPlain text → parent_text text ≡ Some parent
+    → canonical parent ≡ parent
+prefix_parent_text text parent plain e =
+    let is : IsRejoined (components_of text) parent = parent_text-plain text parent plain e in
+    subst (λ us. canonical us ≡ us) (sym is.0)
+    (prefix_rejoined (all_but_last (components_of text))
     (All-all_but_last IsPiece (components_of text)
     (AreComponents-components_of text).are_pieces))
 
 -- and has no two in a row
-pub above_not_doubled : (text parent before after : List ℕ) → IsPlain text
-    → above text ≡ Some parent → parent ≢ before ++ separator ∷ separator ∷ after
-above_not_doubled text parent before after plain e =
-    let is : IsRejoined (components_of text) parent = above-plain text parent plain e in
+pub parent_text_not_doubled : (text parent before after : List ℕ) → IsPlain text
+    → parent_text text ≡ Some parent → parent ≢ before ++ separator ∷ separator ∷ after
+parent_text_not_doubled text parent before after plain e =
+    let is : IsRejoined (components_of text) parent = parent_text-plain text parent plain e in
     subst (λ us. us ≢ before ++ separator ∷ separator ∷ after) (sym is.0)
     (rejoined_not_doubled (all_but_last (components_of text)) before after
     (All-all_but_last IsPiece (components_of text)
     (AreComponents-components_of text).are_pieces))
 
 -- pieces of which none is empty are rejoined as they are
-filled-full : (ps : List (List ℕ)) → All IsFull ps → filled ps ≡ ps
-filled-full [] full = refl
-filled-full ([] ∷ ps) full = absurd (false≢true (All-head IsFull [] ps full))
-filled-full ((u ∷ us) ∷ ps) full =
-    ap (λ qs. (u ∷ us) ∷ qs) (filled-full ps (All-tail IsFull (u ∷ us) ps full))
+non_empty-full : (ps : List (List ℕ)) → All IsFull ps → non_empty ps ≡ ps
+non_empty-full [] full = refl
+non_empty-full ([] ∷ ps) full = absurd (false≢true (All-head IsFull [] ps full))
+non_empty-full ((u ∷ us) ∷ ps) full =
+    ap (λ qs. (u ∷ us) ∷ qs) (non_empty-full ps (All-tail IsFull (u ∷ us) ps full))
 
 ends-full : (ps : List (List ℕ)) → All IsFull ps → ends_empty ps ≡ false
 ends-full [] full = refl
@@ -174,12 +174,12 @@ with_no_end (p ∷ ps) = append-nil (joined (p ∷ ps))
 
 rejoined-full : (ps : List (List ℕ)) → All IsFull ps → rejoined ps ≡ joined ps
 rejoined-full ps full =
-    ap (λ ns. joined_with_end ns (ends_empty ps)) (filled-full ps full)
+    ap (λ ns. joined_with_end ns (ends_empty ps)) (non_empty-full ps full)
     ∙ ap (joined_with_end ps) (ends-full ps full) ∙ with_no_end ps
 
-front_full : (ps : List (List ℕ)) → All IsPiece ps → All IsFull ps → canon (joined ps) ≡ joined ps
-front_full ps pieces full =
-    subst (λ us. canon us ≡ us) (rejoined-full ps full) (front_rejoined ps pieces)
+prefix_full : (ps : List (List ℕ)) → All IsPiece ps → All IsFull ps → canonical (joined ps) ≡ joined ps
+prefix_full ps pieces full =
+    subst (λ us. canonical us ≡ us) (rejoined-full ps full) (prefix_rejoined ps pieces)
 
 one_is_full : (ps : List (List ℕ)) → All IsFull ps → ps ≢ [] ∷ []
 one_is_full ps full e = false≢true (All-head IsFull [] [] (subst (All IsFull) e full))
@@ -188,24 +188,24 @@ one_is_full ps full e = false≢true (All-head IsFull [] [] (subst (All IsFull) 
 pub components_of-joined : (cs : List (List ℕ)) → All IsGood cs → components_of (joined cs) ≡ cs
 components_of-joined cs good =
     let pieces = All-good_piece cs good in
-    let full = All-good_filled cs good in
-    ap pieces_between (front_full cs pieces full)
+    let full = All-good_non_empty cs good in
+    ap pieces_between (prefix_full cs pieces full)
     ∙ pieces_between-joined cs pieces (one_is_full cs full)
 
 -- begin with no separator
-pub front_good : (cs : List (List ℕ)) → All IsGood cs → canon (joined cs) ≡ joined cs
-front_good cs good = front_full cs (All-good_piece cs good) (All-good_filled cs good)
+pub prefix_good : (cs : List (List ℕ)) → All IsGood cs → canonical (joined cs) ≡ joined cs
+prefix_good cs good = prefix_full cs (All-good_piece cs good) (All-good_non_empty cs good)
 
 -- and two or more of them have the joined others above
-pub above_last-good : (cs : List (List ℕ)) → All IsGood cs → 1 < length cs
-    → above_last cs ≡ Some (joined (all_but_last cs))
-above_last-good cs good many =
+pub parent_of_components-good : (cs : List (List ℕ)) → All IsGood cs → 1 < length cs
+    → parent_of_components cs ≡ Some (joined (all_but_last cs))
+parent_of_components-good cs good many =
     let others = All-all_but_last IsGood cs good in
-    above_last-many cs many
-    ∙ ap (λ us. Some (slashed us))
-    (rejoined-full (all_but_last cs) (All-good_filled (all_but_last cs) others))
+    parent_of_components-many cs many
+    ∙ ap (λ us. Some (with_separators us))
+    (rejoined-full (all_but_last cs) (All-good_non_empty (all_but_last cs) others))
     ∙ ap (λ us. Some us)
-    (slashed-plain (joined (all_but_last cs))
+    (with_separators-plain (joined (all_but_last cs))
     (All-joined (λ u. u ≢ slash) (all_but_last cs) separator_is_plain
     (All-good_plain (all_but_last cs) others)))
 
@@ -215,23 +215,23 @@ length-all_but_last (p ∷ []) = refl
 length-all_but_last (p ∷ q ∷ ps) = omega (arith, length-all_but_last (q ∷ ps))
 
 -- the parent of a valid text: its components but the last, joined
-above-valid : (text parent : List ℕ) → verdict text ≡ None → above text ≡ Some parent
+parent_text-valid : (text parent : List ℕ) → verdict text ≡ None → parent_text text ≡ Some parent
     → (parent ≡ joined (all_but_last (components_of text))) × (1 < length (components_of text))
-above-valid text parent valid e =
+parent_text-valid text parent valid e =
     let is : IsRejoined (components_of text) parent =
-    above-plain text parent (valid-plain text valid) e in (
+    parent_text-plain text parent (valid-plain text valid) e in (
       is.0 ∙ rejoined-full (all_but_last (components_of text))
           (All-all_but_last IsFull (components_of text)
-          (All-good_filled (components_of text) (valid-components text valid))),
+          (All-good_non_empty (components_of text) (valid-components text valid))),
       is.1,
     )
 
 -- is valid too
-pub valid_above : (text parent : List ℕ) → verdict text ≡ None → above text ≡ Some parent
+pub valid_parent_text : (text parent : List ℕ) → verdict text ≡ None → parent_text text ≡ Some parent
     → verdict parent ≡ None
-valid_above text parent valid e =
+valid_parent_text text parent valid e =
     let is : (parent ≡ joined (all_but_last (components_of text)))
-    × (1 < length (components_of text)) = above-valid text parent valid e in
+    × (1 < length (components_of text)) = parent_text-valid text parent valid e in
     let good = All-all_but_last IsGood (components_of text) (valid-components text valid) in
     let same : components_of parent ≡ all_but_last (components_of text) =
     ap components_of is.0 ∙ components_of-joined (all_but_last (components_of text)) good in

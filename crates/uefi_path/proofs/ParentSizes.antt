@@ -5,11 +5,11 @@ use Rattle.std.proofs.lemmas.Grind.{common_steps}
 use Rattle.std.proofs.lemmas.List.{length-append}
 use Rattle.std.proofs.lemmas.Option.{same_Some}
 use Rattle.uefi_path.specs.Components.{IsPiece, components_of, joined, pieces_between}
-use Rattle.uefi_path.specs.Parents.{above, above_last, all_but_last, ends_empty, filled, joined_with_end, rejoined}
-use Rattle.uefi_path.specs.Separators.{IsPlain, canon, is_separator, separator}
-use Rattle.uefi_path.proofs.ParentForm.{above-plain, front_with_end, length-all_but_last, split_with_end}
-use Rattle.uefi_path.proofs.Parents.{All-IsPiece-filled, All-all_but_last, All-filled, IsFull}
-use Rattle.uefi_path.proofs.Splitting.{AreComponents-components_of, IsPlain-slashed}
+use Rattle.uefi_path.specs.Parents.{parent_text, parent_of_components, all_but_last, ends_empty, non_empty, joined_with_end, rejoined}
+use Rattle.uefi_path.specs.Separators.{IsPlain, canonical, is_separator, separator}
+use Rattle.uefi_path.proofs.ParentForm.{parent_text-plain, prefix_with_end, length-all_but_last, split_with_end}
+use Rattle.uefi_path.proofs.Parents.{All-IsPiece-non_empty, All-all_but_last, All-non_empty, IsFull}
+use Rattle.uefi_path.proofs.Splitting.{AreComponents-components_of, IsPlain-with_separators}
 
 -- how many units joined pieces have
 units-joined : (piece next : List ℕ) (pieces : List (List ℕ))
@@ -44,7 +44,7 @@ units-rejoined ((u ∷ us) ∷ next ∷ pieces) =
     let others = next ∷ pieces in
     let rest = units-rejoined (next ∷ pieces) in
     let more =
-    units-with_end (u ∷ us) (filled others) (ends_empty others) (length (joined others)) rest in
+    units-with_end (u ∷ us) (non_empty others) (ends_empty others) (length (joined others)) rest in
     omega (arith, more, units-joined (u ∷ us) next pieces)
 
 units-all_but_last : (piece next : List ℕ) (pieces : List (List ℕ))
@@ -61,28 +61,28 @@ units-all_but_last piece next (third ∷ pieces) =
       length-append piece (separator ∷ joined kept),
     )
 
-units-canon : (text : List ℕ) → length (canon text) ≤ length text
-units-canon [] = omega arith
-units-canon (unit ∷ units) = grind (arith, common_steps)
+units-canonical : (text : List ℕ) → length (canonical text) ≤ length text
+units-canonical [] = omega arith
+units-canonical (unit ∷ units) = grind (arith, common_steps)
 
-above_last-shorter : (pieces : List (List ℕ)) (parent : List ℕ) → above_last pieces ≡ Some parent
+parent_of_components-shorter : (pieces : List (List ℕ)) (parent : List ℕ) → parent_of_components pieces ≡ Some parent
     → length parent < length (joined pieces)
-above_last-shorter [] parent is = absurd (grind (arith, common_steps))
-above_last-shorter (piece ∷ []) parent is = absurd (grind (arith, common_steps))
-above_last-shorter (piece ∷ next ∷ pieces) parent is =
+parent_of_components-shorter [] parent is = absurd (grind (arith, common_steps))
+parent_of_components-shorter (piece ∷ []) parent is = absurd (grind (arith, common_steps))
+parent_of_components-shorter (piece ∷ next ∷ pieces) parent is =
     let kept = all_but_last (piece ∷ next ∷ pieces) in
     let same : length parent ≡ length (rejoined kept) = grind (arith, common_steps) in
     omega (arith, same, units-rejoined kept, units-all_but_last piece next pieces)
 
 -- a parent is shorter than its path
-pub above-shorter : (text parent : List ℕ) → above text ≡ Some parent → length parent < length text
-above-shorter text parent is =
+pub parent_text-shorter : (text parent : List ℕ) → parent_text text ≡ Some parent → length parent < length text
+parent_text-shorter text parent is =
     let components = AreComponents-components_of text in
     omega (
       arith,
-      above_last-shorter (components_of text) parent is,
+      parent_of_components-shorter (components_of text) parent is,
       ap length components.join,
-      units-canon text,
+      units-canonical text,
     )
 
 -- how many pieces the end of some is: one that is empty, or none
@@ -105,35 +105,35 @@ count-with_end : (ns : List (List ℕ)) (ends : Bool) → All IsPiece ns → All
 count-with_end [] ends pieces full = omega arith
 count-with_end (n ∷ ns) ends pieces full =
     let text = joined_with_end (n ∷ ns) ends in
-    let front = ap (λ us. length (pieces_between us)) (front_with_end (n ∷ ns) ends pieces full) in
+    let front = ap (λ us. length (pieces_between us)) (prefix_with_end (n ∷ ns) ends pieces full) in
     let split = ap length (split_with_end n ns ends pieces) ∙ count-end (n ∷ ns) ends in
     omega (arith, front, count-pieces_between text, split)
 
-count-filled : (ps : List (List ℕ))
-    → length (filled ps) + pieces_of_end (ends_empty ps) ≤ length ps
-count-filled [] = omega arith
-count-filled ([] ∷ []) = omega arith
-count-filled ((u ∷ us) ∷ []) = omega arith
-count-filled ([] ∷ q ∷ ps) = omega (arith, count-filled (q ∷ ps))
-count-filled ((u ∷ us) ∷ q ∷ ps) = omega (arith, count-filled (q ∷ ps))
+count-non_empty : (ps : List (List ℕ))
+    → length (non_empty ps) + pieces_of_end (ends_empty ps) ≤ length ps
+count-non_empty [] = omega arith
+count-non_empty ([] ∷ []) = omega arith
+count-non_empty ((u ∷ us) ∷ []) = omega arith
+count-non_empty ([] ∷ q ∷ ps) = omega (arith, count-non_empty (q ∷ ps))
+count-non_empty ((u ∷ us) ∷ q ∷ ps) = omega (arith, count-non_empty (q ∷ ps))
 
 count-rejoined : (ps : List (List ℕ)) → All IsPiece ps
     → length (components_of (rejoined ps)) ≤ length ps
 count-rejoined ps pieces =
-    let parts = All-IsPiece-filled ps pieces in
+    let parts = All-IsPiece-non_empty ps pieces in
     omega (
       arith,
-      count-with_end (filled ps) (ends_empty ps) parts (All-filled ps),
-      count-filled ps,
+      count-with_end (non_empty ps) (ends_empty ps) parts (All-non_empty ps),
+      count-non_empty ps,
     )
 
 -- the parent of a plain text has fewer components
-pub fewer_above : (text parent : List ℕ) → IsPlain text → above text ≡ Some parent
+pub fewer_parent_text : (text parent : List ℕ) → IsPlain text → parent_text text ≡ Some parent
     → length (components_of parent) < length (components_of text)
-fewer_above text parent plain e =
+fewer_parent_text text parent plain e =
     let all = components_of text in
     let is : (parent ≡ rejoined (all_but_last all)) × (1 < length all) =
-    above-plain text parent plain e in
+    parent_text-plain text parent plain e in
     let others = All-all_but_last IsPiece all (AreComponents-components_of text).are_pieces in
     omega (
       arith,
@@ -143,13 +143,13 @@ fewer_above text parent plain e =
       is.1,
     )
 
-above_last-slashed : (ps : List (List ℕ)) (parent : List ℕ) → above_last ps ≡ Some parent
+parent_of_components-with_separators : (ps : List (List ℕ)) (parent : List ℕ) → parent_of_components ps ≡ Some parent
     → IsPlain parent
-above_last-slashed [] parent e = absurd (cc)
-above_last-slashed (p ∷ []) parent e = absurd (cc)
-above_last-slashed (p ∷ q ∷ ps) parent e =
-    subst IsPlain (same_Some _ _ e) (IsPlain-slashed (rejoined (all_but_last (p ∷ q ∷ ps))))
+parent_of_components-with_separators [] parent e = absurd (cc)
+parent_of_components-with_separators (p ∷ []) parent e = absurd (cc)
+parent_of_components-with_separators (p ∷ q ∷ ps) parent e =
+    subst IsPlain (same_Some _ _ e) (IsPlain-with_separators (rejoined (all_but_last (p ∷ q ∷ ps))))
 
 -- a parent is plain: its slashes were replaced
-pub above-slashed : (text parent : List ℕ) → above text ≡ Some parent → IsPlain parent
-above-slashed text parent e = above_last-slashed (components_of text) parent e
+pub parent_text-with_separators : (text parent : List ℕ) → parent_text text ≡ Some parent → IsPlain parent
+parent_text-with_separators text parent e = parent_of_components-with_separators (components_of text) parent e

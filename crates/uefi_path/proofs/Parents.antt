@@ -6,14 +6,14 @@ use Rattle.std.proofs.lemmas.List.{append-nil, get_or-append-add, length-append}
 use Rattle.std.proofs.lemmas.List.Elements.{All-append, All-cons, All-filter, All-head, All-nil, All-tail, filter-append}
 use Rattle.std.proofs.lemmas.List.Splits.{slice_split-cons_no, slice_split-cons_yes}
 use Rattle.uefi_path.specs.Components.{IsPiece, components_of, joined, pieces_between}
-use Rattle.uefi_path.specs.Parents.{above_last, all_but_last, ends_empty, filled, is_filled, joined_with_end, rejoined}
+use Rattle.uefi_path.specs.Parents.{parent_of_components, all_but_last, ends_empty, non_empty, is_non_empty, joined_with_end, rejoined}
 use Rattle.uefi_path.specs.Pushing.{appended, needs_separator}
-use Rattle.uefi_path.specs.Separators.{canon, is_separator, separator, slashed}
+use Rattle.uefi_path.specs.Separators.{canonical, is_separator, separator, with_separators}
 use Rattle.uefi_path.proofs.Splitting.{All-onto_first}
 
 -- a full piece: it is not empty
 abbrev pub IsFull : List ℕ → Type 0
-IsFull piece = is_filled piece ≡ true
+IsFull piece = is_non_empty piece ≡ true
 
 -- after more units the last one decides
 pub needs_separator-append : (us : List ℕ) (v : ℕ) (vs : List ℕ)
@@ -59,13 +59,13 @@ joined-append p (r ∷ rs) q =
     ap (λ units. p ++ separator ∷ units) (joined-append r rs q)
     ∙ sym (append_assoc p (separator ∷ joined (r ∷ rs)) (separator ∷ q))
 
-ends_empty-append : (ps : List (List ℕ)) (q : List ℕ) → ends_empty (ps ++ q ∷ []) ≡ not (is_filled q)
+ends_empty-append : (ps : List (List ℕ)) (q : List ℕ) → ends_empty (ps ++ q ∷ []) ≡ not (is_non_empty q)
 ends_empty-append [] q = refl
 ends_empty-append (p ∷ []) q = refl
 ends_empty-append (p ∷ r ∷ rs) q = ends_empty-append (r ∷ rs) q
 
 added_after : (n : List ℕ) (ns : List (List ℕ)) (q : List ℕ)
-    → joined_with_end ((n ∷ ns) ++ filled (q ∷ [])) (not (is_filled q))
+    → joined_with_end ((n ∷ ns) ++ non_empty (q ∷ [])) (not (is_non_empty q))
     ≡ joined (n ∷ ns) ++ separator ∷ q
 added_after n ns [] = ap (λ ms. joined (n ∷ ms) ++ separator ∷ []) (append-nil ns)
 added_after n ns (u ∷ us) =
@@ -83,7 +83,7 @@ after_open text q missing = ap (λ b. if b then text ++ separator ∷ q else tex
 
 -- a piece after those that are filled, of which the last of all is empty where `ends` is true
 added_piece : (ns : List (List ℕ)) (ends : Bool) (q : List ℕ) → All IsPiece ns → All IsFull ns
-    → joined_with_end (ns ++ filled (q ∷ [])) (not (is_filled q))
+    → joined_with_end (ns ++ non_empty (q ∷ [])) (not (is_non_empty q))
     ≡ appended (joined_with_end ns ends) q
 added_piece [] ends [] pieces full = refl
 added_piece [] ends (u ∷ us) pieces full = append-nil (u ∷ us)
@@ -95,26 +95,26 @@ added_piece (n ∷ ns) false q pieces full =
     ∙ sym (ap (λ us. appended us q) (append-nil text)
     ∙ after_open text q (open_joined n ns pieces full))
 
-pub All-filled : (ps : List (List ℕ)) → All IsFull (filled ps)
-All-filled [] = All-nil IsFull
-All-filled ([] ∷ ps) = All-filled ps
-All-filled ((u ∷ us) ∷ ps) = All-cons IsFull (u ∷ us) (filled ps) refl (All-filled ps)
+pub All-non_empty : (ps : List (List ℕ)) → All IsFull (non_empty ps)
+All-non_empty [] = All-nil IsFull
+All-non_empty ([] ∷ ps) = All-non_empty ps
+All-non_empty ((u ∷ us) ∷ ps) = All-cons IsFull (u ∷ us) (non_empty ps) refl (All-non_empty ps)
 
-pub All-IsPiece-filled : (ps : List (List ℕ)) → All IsPiece ps → All IsPiece (filled ps)
-All-IsPiece-filled [] pieces = All-nil IsPiece
-All-IsPiece-filled ([] ∷ ps) pieces = All-IsPiece-filled ps (All-tail IsPiece [] ps pieces)
-All-IsPiece-filled ((u ∷ us) ∷ ps) pieces =
-    All-cons IsPiece (u ∷ us) (filled ps) (All-head IsPiece (u ∷ us) ps pieces)
-    (All-IsPiece-filled ps (All-tail IsPiece (u ∷ us) ps pieces))
+pub All-IsPiece-non_empty : (ps : List (List ℕ)) → All IsPiece ps → All IsPiece (non_empty ps)
+All-IsPiece-non_empty [] pieces = All-nil IsPiece
+All-IsPiece-non_empty ([] ∷ ps) pieces = All-IsPiece-non_empty ps (All-tail IsPiece [] ps pieces)
+All-IsPiece-non_empty ((u ∷ us) ∷ ps) pieces =
+    All-cons IsPiece (u ∷ us) (non_empty ps) (All-head IsPiece (u ∷ us) ps pieces)
+    (All-IsPiece-non_empty ps (All-tail IsPiece (u ∷ us) ps pieces))
 
 -- one piece more is added as a push adds it
 rejoined-append : (ps : List (List ℕ)) (q : List ℕ) → All IsPiece ps
     → rejoined (ps ++ q ∷ []) ≡ appended (rejoined ps) q
 rejoined-append ps q pieces =
-    ap (λ ns. joined_with_end ns (ends_empty (ps ++ q ∷ []))) (filter-append is_filled ps (q ∷ []))
-    ∙ ap (joined_with_end (filled ps ++ filled (q ∷ []))) (ends_empty-append ps q)
-    ∙ added_piece (filled ps) (ends_empty ps) q (All-filter is_filled IsPiece ps pieces)
-    (All-filled ps)
+    ap (λ ns. joined_with_end ns (ends_empty (ps ++ q ∷ []))) (filter-append is_non_empty ps (q ∷ []))
+    ∙ ap (joined_with_end (non_empty ps ++ non_empty (q ∷ []))) (ends_empty-append ps q)
+    ∙ added_piece (non_empty ps) (ends_empty ps) q (All-filter is_non_empty IsPiece ps pieces)
+    (All-non_empty ps)
 
 -- pieces added one after the other to some
 added_all : (ps qs : List (List ℕ)) → All IsPiece ps → All IsPiece qs
@@ -160,18 +160,18 @@ module _ (P : ℕ → Type 0) where
   All-pieces_between [] all = All-nil (All P)
   All-pieces_between (u ∷ us) all = All-slice_split (u ∷ us) all
 
-  All-canon : (text : List ℕ) → All P text → All P (canon text)
-  All-canon [] all = All-nil P
-  All-canon (u ∷ us) all =
+  All-canonical : (text : List ℕ) → All P text → All P (canonical text)
+  All-canonical [] all = All-nil P
+  All-canonical (u ∷ us) all =
       elim (is_separator u) as (λ b. All P (if b then us else u ∷ us))
       [ true ↦ All-tail P u us all | false ↦ all ]
 
   pub All-components_of : (text : List ℕ) → All P text → All (All P) (components_of text)
-  All-components_of text all = All-pieces_between (canon text) (All-canon text all)
+  All-components_of text all = All-pieces_between (canonical text) (All-canonical text all)
 
 -- two components or more have a parent
-pub above_last-many : (ps : List (List ℕ)) → 1 < length ps
-    → above_last ps ≡ Some (slashed (rejoined (all_but_last ps)))
-above_last-many [] many = absurd (omega (arith, many))
-above_last-many (p ∷ []) many = absurd (omega (arith, many))
-above_last-many (p ∷ q ∷ ps) many = refl
+pub parent_of_components-many : (ps : List (List ℕ)) → 1 < length ps
+    → parent_of_components ps ≡ Some (with_separators (rejoined (all_but_last ps)))
+parent_of_components-many [] many = absurd (omega (arith, many))
+parent_of_components-many (p ∷ []) many = absurd (omega (arith, many))
+parent_of_components-many (p ∷ q ∷ ps) many = refl

@@ -4,17 +4,17 @@ use Rattle.std.proofs.lemmas.Grind.{common_steps}
 use Rattle.std.proofs.lemmas.List.{drop-append-le, drop_all, take-append-le, take_all}
 use Rattle.std.proofs.lemmas.List.Elements.{All-append, All-cons, All-head, All-tail}
 use Rattle.uefi_text.specs.Units.{replaced}
-use Rattle.uefi_path.specs.Separators.{IsPlain, separator, slash, slashed}
+use Rattle.uefi_path.specs.Separators.{IsPlain, separator, slash, with_separators}
 use Rattle.uefi_path.specs.Pushing.{appended, needs_separator, pushed}
-use Rattle.uefi_path.proofs.Splitting.{IsPlain-slashed}
+use Rattle.uefi_path.proofs.Splitting.{IsPlain-with_separators}
 
 -- a text whose slashes are replaced, but for those in its first `count` units
-abbrev slashed_after : ℕ → List ℕ → List ℕ
-slashed_after count text = take count text ++ slashed (drop count text)
+abbrev with_separators_after : ℕ → List ℕ → List ℕ
+with_separators_after count text = take count text ++ with_separators (drop count text)
 
 -- only what was added stands after the text
-slashed_added : (text more : List ℕ) → slashed_after (length text) (text ++ more) ≡ text ++ slashed more
-slashed_added text more =
+with_separators_added : (text more : List ℕ) → with_separators_after (length text) (text ++ more) ≡ text ++ with_separators more
+with_separators_added text more =
     let none : drop (length text) text ≡ [] = drop_all (length text) text (omega arith) in
     let before : take (length text) (text ++ more) ≡ text =
     take-append-le (length text) text more (omega arith)
@@ -24,15 +24,15 @@ slashed_added text more =
     rw (before, after) refl
 
 -- replacing the slashes after the text replaces those of the part
-pub slashed-appended : (text part : List ℕ)
-    → take (length text) (appended text part) ++ slashed (drop (length text) (appended text part))
-    ≡ appended text (slashed part)
-slashed-appended text part =
+pub with_separators-appended : (text part : List ℕ)
+    → take (length text) (appended text part) ++ with_separators (drop (length text) (appended text part))
+    ≡ appended text (with_separators part)
+with_separators-appended text part =
     elim (needs_separator text)
-    as (λ b. slashed_after (length text) (if b then text ++ separator ∷ part else text ++ part)
-    ≡ (if b then text ++ separator ∷ slashed part else text ++ slashed part)) [
-      | true ↦ slashed_added text (separator ∷ part)
-      | false ↦ slashed_added text part
+    as (λ b. with_separators_after (length text) (if b then text ++ separator ∷ part else text ++ part)
+    ≡ (if b then text ++ separator ∷ with_separators part else text ++ with_separators part)) [
+      | true ↦ with_separators_added text (separator ∷ part)
+      | false ↦ with_separators_added text part
     ]
 
 -- what holds of the separator and of each unit holds of each of both
@@ -48,13 +48,13 @@ All-appended P text part of_separator of_text of_part =
     ]
 
 -- a path that is not empty is added with its slashes replaced
-pub pushed-filled : (text part : List ℕ) → part ≢ []
-    → pushed text part ≡ appended text (slashed part)
-pushed-filled text [] filled = absurd (filled refl)
-pushed-filled text (unit ∷ units) filled = refl
+pub pushed-non_empty : (text part : List ℕ) → part ≢ []
+    → pushed text part ≡ appended text (with_separators part)
+pushed-non_empty text [] non_empty = absurd (non_empty refl)
+pushed-non_empty text (unit ∷ units) non_empty = refl
 
 -- a path pushed onto the empty one
-pub pushed-nil : (part : List ℕ) → pushed [] part ≡ slashed part
+pub pushed-nil : (part : List ℕ) → pushed [] part ≡ with_separators part
 pushed-nil [] = refl
 pushed-nil (unit ∷ units) = refl
 
@@ -63,16 +63,16 @@ separator_is_plain e = omega (arith, e)
 
 -- no slash comes in
 pub IsPlain-appended : (text part : List ℕ) → IsPlain text
-    → IsPlain (appended text (slashed part))
+    → IsPlain (appended text (with_separators part))
 IsPlain-appended text part plain =
-    All-appended (λ unit. unit ≢ slash) text (slashed part) separator_is_plain plain
-    (IsPlain-slashed part)
+    All-appended (λ unit. unit ≢ slash) text (with_separators part) separator_is_plain plain
+    (IsPlain-with_separators part)
 
 -- a plain text has no slash to replace
-pub slashed-plain : (text : List ℕ) → IsPlain text → slashed text ≡ text
-slashed-plain [] plain = refl
-slashed-plain (unit ∷ units) plain =
+pub with_separators-plain : (text : List ℕ) → IsPlain text → with_separators text ≡ text
+with_separators-plain [] plain = refl
+with_separators-plain (unit ∷ units) plain =
     let here : replaced slash separator unit ≡ unit =
     let ne = All-head (λ u. u ≢ slash) unit units plain in grind (arith, common_steps) in
-    let others = slashed-plain units (All-tail (λ u. u ≢ slash) unit units plain) in
-    ap (λ u. u ∷ slashed units) here ∙ ap (λ us. unit ∷ us) others
+    let others = with_separators-plain units (All-tail (λ u. u ≢ slash) unit units plain) in
+    ap (λ u. u ∷ with_separators units) here ∙ ap (λ us. unit ∷ us) others

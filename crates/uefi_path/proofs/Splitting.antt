@@ -9,7 +9,7 @@ use Rattle.std.proofs.lemmas.Option.{cond_some}
 use Rattle.std.proofs.lemmas.Grind.{common_steps}
 use Rattle.uefi_text.specs.Units.{replaced}
 use Rattle.uefi_path.specs.Components.{joined, IsPiece, AreComponents, components_of, pieces_between, IsFirstCut}
-use Rattle.uefi_path.specs.Separators.{separator, slash, is_separator, canon, slashed, IsPlain}
+use Rattle.uefi_path.specs.Separators.{separator, slash, is_separator, canonical, with_separators, IsPlain}
 
 -- lists of which the first gets an element in front: what holds of it and of theirs holds of all
 pub All-onto_first : (P : ℕ → Type 0) (u : ℕ) (ps : List (List ℕ)) → P u → All (All P) ps
@@ -73,7 +73,7 @@ pieces_between-joined (p ∷ ps) all ne =
     pieces_between-nonempty (joined (p ∷ ps)) (λ e. ne (sym s ∙ e)) ∙ s
 
 -- the pieces between the separators of the canonical text are components
-AreComponents-between : (text us : List ℕ) → canon text ≡ us → AreComponents text (pieces_between us)
+AreComponents-between : (text us : List ℕ) → canonical text ≡ us → AreComponents text (pieces_between us)
 AreComponents-between text [] e =
     record { are_pieces = All-nil IsPiece; not_one_empty = λ f. cc; join = sym e }
 AreComponents-between text (u ∷ us) e = record {
@@ -83,7 +83,7 @@ AreComponents-between text (u ∷ us) e = record {
 }
 
 pub AreComponents-components_of : (text : List ℕ) → AreComponents text (components_of text)
-AreComponents-components_of text = AreComponents-between text (canon text) refl
+AreComponents-components_of text = AreComponents-between text (canonical text) refl
 
 -- and no others are
 pub components_of-only : (text : List ℕ) (pieces : List (List ℕ)) → AreComponents text pieces
@@ -93,10 +93,10 @@ components_of-only text pieces components =
     ∙ ap pieces_between components.join
 
 -- the pieces of a canonical text that is not empty
-pub slice_split-canon : (text us : List ℕ) → us ≡ canon text → (us ≡ [] → ⊥)
+pub slice_split-canonical : (text us : List ℕ) → us ≡ canonical text → (us ≡ [] → ⊥)
     → slice_split is_separator us ≡ components_of text
-slice_split-canon text [] e ne = absurd (ne refl)
-slice_split-canon text (u ∷ us) e ne = ap pieces_between e
+slice_split-canonical text [] e ne = absurd (ne refl)
+slice_split-canonical text (u ∷ us) e ne = ap pieces_between e
 
 -- with no separator all units are one piece
 no_cut : (us : List ℕ) → position is_separator us ≡ None → slice_split is_separator us ≡ us ∷ []
@@ -131,9 +131,9 @@ IsFirstCut-position us (Some place) e = cut_at us place (sym e)
 pub length-slice_split-le : (us : List ℕ) → length (slice_split is_separator us) ≤ length us + 1
 length-slice_split-le us = omega (arith, length-slice_split is_separator us, count_by-le-length is_separator us)
 
-turned : (unit : ℕ) → replaced slash separator unit ≢ slash
-turned unit e = grind (arith, common_steps)
+from_string : (unit : ℕ) → replaced slash separator unit ≢ slash
+from_string unit e = grind (arith, common_steps)
 
 -- a text in which each slash was turned has none
-pub IsPlain-slashed : (text : List ℕ) → IsPlain (slashed text)
-IsPlain-slashed text = All-map (λ v. v ≢ slash) (replaced slash separator) text (λ k d h. turned (get_or text k d))
+pub IsPlain-with_separators : (text : List ℕ) → IsPlain (with_separators text)
+IsPlain-with_separators text = All-map (λ v. v ≢ slash) (replaced slash separator) text (λ k d h. from_string (get_or text k d))

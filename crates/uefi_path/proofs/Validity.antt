@@ -6,13 +6,13 @@ use Rattle.std.specs.Option.{option_and_then, option_map}
 use Rattle.std.proofs.lemmas.Bool.{cases_Bool, cond-false, cond-true, eqb-true, false≢true, true≢false}
 use Rattle.std.proofs.lemmas.List.Elements.{All-append, All-cons, All-head, All-nil, All-tail, All-weaker}
 use Rattle.uefi_path.specs.Components.{IsPiece, components_of, joined}
-use Rattle.uefi_path.specs.Parents.{is_filled}
+use Rattle.uefi_path.specs.Parents.{is_non_empty}
 use Rattle.uefi_path.specs.Pushing.{appended, needs_separator, pushed}
-use Rattle.uefi_path.specs.Separators.{IsPlain, canon, is_separator, separator, slash, slashed}
+use Rattle.uefi_path.specs.Separators.{IsPlain, canonical, is_separator, separator, slash, with_separators}
 use Rattle.uefi_path.specs.Verdicts.{IsGood, fault, first_fault, is_bad, is_denied, verdict}
 use Rattle.uefi_path.specs.declared.validation.PathError.{PathError}
 use Rattle.uefi_path.specs.declared.validation.PathError.TheVariants.{IllegalChar}
-use Rattle.uefi_path.proofs.Joining.{canon-no, canon-yes, components_of-pushed}
+use Rattle.uefi_path.proofs.Joining.{canonical-no, canonical-yes, components_of-pushed}
 use Rattle.uefi_path.proofs.Parents.{after_separator, open_joined}
 use Rattle.uefi_path.proofs.Pushing.{separator_is_plain}
 use Rattle.uefi_path.proofs.Splitting.{AreComponents-components_of}
@@ -62,19 +62,19 @@ valid-components [] valid = absurd (cc)
 valid-components (u ∷ us) valid = All-good (components_of (u ∷ us)) valid
 
 -- and is not empty
-valid-filled : (text : List ℕ) → verdict text ≡ None → text ≢ []
-valid-filled [] valid e = cc
-valid-filled (u ∷ us) valid e = cc
+valid-non_empty : (text : List ℕ) → verdict text ≡ None → text ≢ []
+valid-non_empty [] valid e = cc
+valid-non_empty (u ∷ us) valid e = cc
 
 -- any text like that is valid
 pub valid-from : (text : List ℕ) → text ≢ [] → All IsGood (components_of text) → verdict text ≡ None
-valid-from [] filled good = absurd (filled refl)
-valid-from (u ∷ us) filled good = first_fault-good (components_of (u ∷ us)) good
+valid-from [] non_empty good = absurd (non_empty refl)
+valid-from (u ∷ us) non_empty good = first_fault-good (components_of (u ∷ us)) good
 
 -- a good component is not empty
-pub good-filled : (c : List ℕ) → IsGood c → is_filled c ≡ true
-good-filled [] good = absurd (cc)
-good-filled (u ∷ us) good = refl
+pub good-non_empty : (c : List ℕ) → IsGood c → is_non_empty c ≡ true
+good-non_empty [] good = absurd (cc)
+good-non_empty (u ∷ us) good = refl
 
 unmapped : (o : Option ℕ) → option_map IllegalChar o ≡ None → o ≡ None
 unmapped None e = refl
@@ -101,8 +101,8 @@ good-piece : (c : List ℕ) → IsGood c → IsPiece c
 good-piece c good =
     All-weaker (λ u. is_denied u ≡ false) (λ u. u ≢ separator) not_separator c (good-units c good)
 
-pub All-good_filled : (cs : List (List ℕ)) → All IsGood cs → All (λ c. is_filled c ≡ true) cs
-All-good_filled cs good = All-weaker IsGood (λ c. is_filled c ≡ true) good-filled cs good
+pub All-good_non_empty : (cs : List (List ℕ)) → All IsGood cs → All (λ c. is_non_empty c ≡ true) cs
+All-good_non_empty cs good = All-weaker IsGood (λ c. is_non_empty c ≡ true) good-non_empty cs good
 
 pub All-good_plain : (cs : List (List ℕ)) → All IsGood cs → All IsPlain cs
 All-good_plain cs good = All-weaker IsGood IsPlain good-plain cs good
@@ -120,14 +120,14 @@ All-joined P (p ∷ q ∷ ps) of_separator all =
     (All-cons P separator (joined (q ∷ ps)) of_separator
     (All-joined P (q ∷ ps) of_separator (All-tail (All P) p (q ∷ ps) all)))
 
-All-from_canon : (P : ℕ → Type 0) (text : List ℕ) → P separator → All P (canon text) → All P text
-All-from_canon P [] of_separator all = all
-All-from_canon P (u ∷ us) of_separator all =
+All-from_canonical : (P : ℕ → Type 0) (text : List ℕ) → P separator → All P (canonical text) → All P text
+All-from_canonical P [] of_separator all = all
+All-from_canonical P (u ∷ us) of_separator all =
     elim (cases_Bool (is_separator u)) [
       | inl cut ↦
           All-cons P u us (subst P (sym (eqb-true u separator cut)) of_separator)
-          (subst (All P) (canon-yes u us cut) all)
-      | inr other ↦ subst (All P) (canon-no u us other) all
+          (subst (All P) (canonical-yes u us cut) all)
+      | inr other ↦ subst (All P) (canonical-no u us other) all
     ]
 
 -- a valid text is plain
@@ -135,59 +135,59 @@ pub valid-plain : (text : List ℕ) → verdict text ≡ None → IsPlain text
 valid-plain text valid =
     let pieces = All-good_plain (components_of text) (valid-components text valid) in
     let whole = All-joined (λ u. u ≢ slash) (components_of text) separator_is_plain pieces in
-    All-from_canon (λ u. u ≢ slash) text separator_is_plain
+    All-from_canonical (λ u. u ≢ slash) text separator_is_plain
     (subst IsPlain (AreComponents-components_of text).join whole)
 
-open_canon : (text : List ℕ) → needs_separator (canon text) ≡ true → needs_separator text ≡ true
-open_canon [] missing = missing
-open_canon (u ∷ us) missing =
+open_canonical : (text : List ℕ) → needs_separator (canonical text) ≡ true → needs_separator text ≡ true
+open_canonical [] missing = missing
+open_canonical (u ∷ us) missing =
     elim (cases_Bool (is_separator u)) [
       | inl cut ↦
           subst (λ v. needs_separator (v ∷ us) ≡ true) (sym (eqb-true u separator cut))
-          (after_separator us (ap needs_separator (sym (canon-yes u us cut)) ∙ missing))
-      | inr other ↦ ap needs_separator (sym (canon-no u us other)) ∙ missing
+          (after_separator us (ap needs_separator (sym (canonical-yes u us cut)) ∙ missing))
+      | inr other ↦ ap needs_separator (sym (canonical-no u us other)) ∙ missing
     ]
 
-open_pieces : (text : List ℕ) (cs : List (List ℕ)) → joined cs ≡ canon text → All IsGood cs
-    → (canon text ≡ []) ⊎ (needs_separator text ≡ true)
+open_pieces : (text : List ℕ) (cs : List (List ℕ)) → joined cs ≡ canonical text → All IsGood cs
+    → (canonical text ≡ []) ⊎ (needs_separator text ≡ true)
 open_pieces text [] e good = inl (sym e)
 open_pieces text (c ∷ cs) e good =
-    inr (open_canon text
+    inr (open_canonical text
     (ap needs_separator (sym e)
-    ∙ open_joined c cs (All-good_piece (c ∷ cs) good) (All-good_filled (c ∷ cs) good)))
+    ∙ open_joined c cs (All-good_piece (c ∷ cs) good) (All-good_non_empty (c ∷ cs) good)))
 
 -- a valid text has no component or ends in no separator
 pub valid-open : (text : List ℕ) → verdict text ≡ None
-    → (canon text ≡ []) ⊎ (needs_separator text ≡ true)
+    → (canonical text ≡ []) ⊎ (needs_separator text ≡ true)
 valid-open text valid =
     open_pieces text (components_of text) (AreComponents-components_of text).join
     (valid-components text valid)
 
-append-filled : (us : List ℕ) (v : ℕ) (vs : List ℕ) → us ++ v ∷ vs ≢ []
-append-filled [] v vs e = cc
-append-filled (u ∷ us) v vs e = cc
+append-non_empty : (us : List ℕ) (v : ℕ) (vs : List ℕ) → us ++ v ∷ vs ≢ []
+append-non_empty [] v vs e = cc
+append-non_empty (u ∷ us) v vs e = cc
 
-appended-filled : (text : List ℕ) (u : ℕ) (us : List ℕ) → appended text (u ∷ us) ≢ []
-appended-filled text u us =
+appended-non_empty : (text : List ℕ) (u : ℕ) (us : List ℕ) → appended text (u ∷ us) ≢ []
+appended-non_empty text u us =
     elim (needs_separator text)
     as (λ b. (if b then text ++ separator ∷ u ∷ us else text ++ u ∷ us) ≢ []) [
-      | true ↦ append-filled text separator (u ∷ us)
-      | false ↦ append-filled text u us
+      | true ↦ append-non_empty text separator (u ∷ us)
+      | false ↦ append-non_empty text u us
     ]
 
 pushed-not_empty : (text part : List ℕ) → part ≢ [] → pushed text part ≢ []
-pushed-not_empty text [] filled = absurd (filled refl)
-pushed-not_empty text (u ∷ us) filled =
-    appended-filled text (replaced slash separator u) (slashed us)
+pushed-not_empty text [] non_empty = absurd (non_empty refl)
+pushed-not_empty text (u ∷ us) non_empty =
+    appended-non_empty text (replaced slash separator u) (with_separators us)
 
 -- a valid path pushed onto another, unless it begins with a separator
 pub valid-pushed : (text part : List ℕ) → verdict text ≡ None → verdict part ≡ None
-    → canon part ≡ part → verdict (pushed text part) ≡ None
+    → canonical part ≡ part → verdict (pushed text part) ≡ None
 valid-pushed text part valid valid_part front =
     let both =
     components_of-pushed text part (valid-plain part valid_part) (valid-open text valid) front
     in
-    valid-from (pushed text part) (pushed-not_empty text part (valid-filled part valid_part))
+    valid-from (pushed text part) (pushed-not_empty text part (valid-non_empty part valid_part))
     (subst (All IsGood) (sym both)
     (All-append IsGood (components_of text) (components_of part) (valid-components text valid)
     (valid-components part valid_part)))

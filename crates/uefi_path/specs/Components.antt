@@ -1,7 +1,7 @@
 -- The components of a path.
 use Rattle.std.specs.Prelude.{◌≡◌, ◌≢◌, ℕ, ◌+◌, ◌<◌, List, [], ◌∷◌, length, All, Option, Some, None, slice_range}
 use Rattle.std.specs.List.{join_with_byte, slice_split}
-use Rattle.uefi_path.specs.Separators.{separator, is_separator, canon}
+use Rattle.uefi_path.specs.Separators.{separator, is_separator, canonical}
 
 -- pieces one after the other, with a separator between neighbours
 abbrev pub joined : List (List ℕ) → List ℕ
@@ -15,7 +15,7 @@ IsPiece piece = All (λ unit. unit ≢ separator) piece
 pub record AreComponents (text : List ℕ) (pieces : List (List ℕ)) : Type 0 where
   pub are_pieces : All IsPiece pieces
   pub not_one_empty : pieces ≢ [] ∷ []
-  pub join : joined pieces ≡ canon text
+  pub join : joined pieces ≡ canonical text
 
 -- what stands between the separators of a canonical text, and nothing where it is empty
 abbrev pub pieces_between : List ℕ → List (List ℕ)
@@ -24,7 +24,7 @@ pieces_between (unit ∷ units) = slice_split is_separator (unit ∷ units)
 
 -- the one list of components that a text has
 abbrev pub components_of : List ℕ → List (List ℕ)
-components_of text = pieces_between (canon text)
+components_of text = pieces_between (canonical text)
 
 -- how the first piece of units ends: at no separator, and it is all of them, or at the first one
 abbrev pub IsFirstCut : List ℕ → Option ℕ → Type 0

@@ -1,7 +1,7 @@
 -- The parent of a path: its components but the last.
 use Rattle.std.specs.Prelude.{ℕ, Bool, true, false, not, if◌then◌else◌, List, [], ◌∷◌, ◌++◌, Option, Some, None, filter}
 use Rattle.uefi_path.specs.Components.{joined, components_of}
-use Rattle.uefi_path.specs.Separators.{separator, slashed}
+use Rattle.uefi_path.specs.Separators.{separator, with_separators}
 
 -- the pieces without the last one
 abbrev pub all_but_last : List (List ℕ) → List (List ℕ)
@@ -10,18 +10,18 @@ all_but_last (piece ∷ []) = []
 all_but_last (piece ∷ next ∷ pieces) = piece ∷ all_but_last (next ∷ pieces)
 
 -- the test for a piece that is not empty
-abbrev pub is_filled : List ℕ → Bool
-is_filled [] = false
-is_filled (unit ∷ units) = true
+abbrev pub is_non_empty : List ℕ → Bool
+is_non_empty [] = false
+is_non_empty (unit ∷ units) = true
 
 -- the pieces that are not empty
-abbrev pub filled : List (List ℕ) → List (List ℕ)
-filled pieces = filter is_filled pieces
+abbrev pub non_empty : List (List ℕ) → List (List ℕ)
+non_empty pieces = filter is_non_empty pieces
 
 -- whether the last piece is empty
 abbrev pub ends_empty : List (List ℕ) → Bool
 ends_empty [] = false
-ends_empty (piece ∷ []) = not (is_filled piece)
+ends_empty (piece ∷ []) = not (is_non_empty piece)
 ends_empty (piece ∷ next ∷ pieces) = ends_empty (next ∷ pieces)
 
 -- pieces with a separator between neighbours, and one behind the last where that is asked for
@@ -31,14 +31,14 @@ joined_with_end (piece ∷ pieces) closes = joined (piece ∷ pieces) ++ (if clo
 
 -- the pieces that are not empty, joined, and a separator behind them where the last of all is empty
 abbrev pub rejoined : List (List ℕ) → List ℕ
-rejoined pieces = joined_with_end (filled pieces) (ends_empty pieces)
+rejoined pieces = joined_with_end (non_empty pieces) (ends_empty pieces)
 
 -- what is left of components without the last, where there are two or more; slashes are turned
-abbrev pub above_last : List (List ℕ) → Option (List ℕ)
-above_last [] = None
-above_last (piece ∷ []) = None
-above_last (piece ∷ next ∷ pieces) = Some (slashed (rejoined (all_but_last (piece ∷ next ∷ pieces))))
+abbrev pub parent_of_components : List (List ℕ) → Option (List ℕ)
+parent_of_components [] = None
+parent_of_components (piece ∷ []) = None
+parent_of_components (piece ∷ next ∷ pieces) = Some (with_separators (rejoined (all_but_last (piece ∷ next ∷ pieces))))
 
 -- the parent of a path, which none of at most one component has
-abbrev pub above : List ℕ → Option (List ℕ)
-above text = above_last (components_of text)
+abbrev pub parent_text : List ℕ → Option (List ℕ)
+parent_text text = parent_of_components (components_of text)

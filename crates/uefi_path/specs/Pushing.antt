@@ -1,6 +1,6 @@
 -- What a path is once another was pushed behind it.
 use Rattle.std.specs.Prelude.{ℕ, Bool, false, not, if◌then◌else◌, List, [], ◌∷◌, ◌++◌, length, slice_index}
-use Rattle.uefi_path.specs.Separators.{separator, is_separator, slashed}
+use Rattle.uefi_path.specs.Separators.{separator, is_separator, with_separators}
 
 -- whether a separator is missing behind a text: it is not empty, and its last unit is none
 abbrev pub needs_separator : List ℕ → Bool
@@ -14,4 +14,4 @@ appended text part = if needs_separator text then text ++ separator ∷ part els
 -- a path behind another, its slashes turned; the empty path changes nothing
 abbrev pub pushed : List ℕ → List ℕ → List ℕ
 pushed text [] = text
-pushed text (unit ∷ units) = appended text (slashed (unit ∷ units))
+pushed text (unit ∷ units) = appended text (with_separators (unit ∷ units))

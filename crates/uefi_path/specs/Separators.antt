@@ -15,13 +15,13 @@ abbrev pub is_separator : ℕ → Bool
 is_separator unit = unit == separator
 
 -- the canonical text of a path: its text without one leading separator
-abbrev pub canon : List ℕ → List ℕ
-canon [] = []
-canon (unit ∷ units) = if is_separator unit then units else unit ∷ units
+abbrev pub canonical : List ℕ → List ℕ
+canonical [] = []
+canonical (unit ∷ units) = if is_separator unit then units else unit ∷ units
 
 -- a text with each slash turned into a separator
-abbrev pub slashed : List ℕ → List ℕ
-slashed text = map (replaced slash separator) text
+abbrev pub with_separators : List ℕ → List ℕ
+with_separators text = map (replaced slash separator) text
 
 -- a plain text: no slash in it
 abbrev pub IsPlain : List ℕ → Type 0

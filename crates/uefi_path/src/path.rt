@@ -3,7 +3,7 @@
 
 ghost use Rattle.std.specs.Prelude.{◌≡◌, ℕ, ◌+◌, ◌<◌, ◌^◌, ◌↔◌, [], ◌∷◌, List, Option, length, position, IsTrue};
 ghost use Rattle.uefi_path.specs.Components.{AreComponents, IsFirstCut, components_of};
-ghost use Rattle.uefi_path.specs.Separators.{canon, is_separator, separator};
+ghost use Rattle.uefi_path.specs.Separators.{canonical, is_separator, separator};
 ghost use Rattle.uefi_path.specs.Views.{path_text, components_left};
 ghost use Rattle.uefi_text.specs.Runs.{GivesEach};
 ghost use Rattle.uefi_text.specs.Views.{text_of, units_of};
@@ -70,7 +70,7 @@ impl<'a> Path<'a> {
 
     /// The text without one leading separator.
     fn canonical(&self) -> Char16Slice<'a>
-        ensures same { units_of result ≡ canon (path_text self.now) }
+        ensures same { units_of result ≡ canonical (path_text self.now) }
         ensures bound { length (units_of result) + 1 < 2 ^ 64 }
     {
         let text = self.string.as_slice();
@@ -97,10 +97,10 @@ impl<'a> PartialEq for Path<'a> {
     ghost use Rattle.std.specs.Prelude.{nat_eq};
     ghost use Rattle.std.specs.Cmp.Lexicographic.{pointwise};
     ghost use Rattle.std.specs.Cmp.Rules.{comparing};
-    ghost use Rattle.uefi_path.specs.Separators.{canon};
+    ghost use Rattle.uefi_path.specs.Separators.{canonical};
     ghost use Rattle.uefi_path.specs.Views.{path_text};
 
-    ghost eq = { λ a b. pointwise nat_eq (canon (path_text a)) (canon (path_text b)) };
+    ghost eq = { λ a b. pointwise nat_eq (canonical (path_text a)) (canonical (path_text b)) };
 
     ghost laws = { Prim.search (comparing, rules) };
 
@@ -123,10 +123,10 @@ impl<'a> PartialOrd for Path<'a> {
     ghost use Rattle.std.specs.Ordering.{nat_cmp, as_partial_cmp, on};
     ghost use Rattle.std.specs.Cmp.Lexicographic.{slice_cmp};
     ghost use Rattle.std.specs.Cmp.Rules.{comparing};
-    ghost use Rattle.uefi_path.specs.Separators.{canon};
+    ghost use Rattle.uefi_path.specs.Separators.{canonical};
     ghost use Rattle.uefi_path.specs.Views.{path_text};
 
-    ghost partial_cmp = { as_partial_cmp (on (λ path. canon (path_text path)) (slice_cmp nat_cmp)) };
+    ghost partial_cmp = { as_partial_cmp (on (λ path. canonical (path_text path)) (slice_cmp nat_cmp)) };
 
     ghost laws = { Prim.search (comparing, rules) };
 
@@ -141,10 +141,10 @@ impl<'a> Ord for Path<'a> {
     ghost use Rattle.std.specs.Ordering.{nat_cmp, on};
     ghost use Rattle.std.specs.Cmp.Lexicographic.{slice_cmp};
     ghost use Rattle.std.specs.Cmp.Rules.{comparing};
-    ghost use Rattle.uefi_path.specs.Separators.{canon};
+    ghost use Rattle.uefi_path.specs.Separators.{canonical};
     ghost use Rattle.uefi_path.specs.Views.{path_text};
 
-    ghost cmp = { on (λ path. canon (path_text path)) (slice_cmp nat_cmp) };
+    ghost cmp = { on (λ path. canonical (path_text path)) (slice_cmp nat_cmp) };
 
     ghost total = { Prim.search (comparing, rules) };
 

@@ -1,9 +1,9 @@
 //! Paths that are owned, and the calls of [`Path`] that make one.
 ghost use Rattle.std.specs.Prelude.{◌≡◌, ℕ, ◌<◌, ◌^◌, ◌↔◌, [], All, List, None, fold, length, IsTrue, IsOk, IfOk, IfErr, OnOk, OnErr};
 ghost use Rattle.uefi_path.specs.Components.{AreComponents, components_of};
-ghost use Rattle.uefi_path.specs.Parents.{above, all_but_last};
+ghost use Rattle.uefi_path.specs.Parents.{parent_text, all_but_last};
 ghost use Rattle.uefi_path.specs.Pushing.{appended, needs_separator, pushed};
-ghost use Rattle.uefi_path.specs.Separators.{IsPlain, slashed};
+ghost use Rattle.uefi_path.specs.Separators.{IsPlain, with_separators};
 ghost use Rattle.uefi_path.specs.Views.{components_left};
 ghost use Rattle.uefi_text.specs.Units.{IsText};
 ghost use Rattle.uefi_text.specs.Views.{units_of};
@@ -89,7 +89,7 @@ impl<'a> Path<'a> {
 
     /// The path over memory of its own, each slash turned; or `AllocError`. One allocation.
     pub fn to_path_buf<A: Allocator + Copy>(&self, alloc: A) -> Result<PathBuf<A>, AllocError>
-        ensures { IfOk result (λ path. path ≡ slashed (path_text self.now)) }
+        ensures { IfOk result (λ path. path ≡ with_separators (path_text self.now)) }
     {
         PathBuf::from(alloc, self.to_cstr16())
     }
@@ -102,7 +102,7 @@ impl<'a> Path<'a> {
         path: Path<'_>,
     ) -> Result<PathBuf<A>, AllocError>
         ensures { IfOk result (λ joined.
-            joined ≡ pushed (slashed (path_text self.now)) (path_text path.entry)) }
+            joined ≡ pushed (with_separators (path_text self.now)) (path_text path.entry)) }
     {
         let (first, second) = (self.to_cstr16().num_chars(), path.to_cstr16().num_chars());
         let room = first.saturating_add(second).saturating_add(1);
@@ -122,15 +122,15 @@ impl<'a> Path<'a> {
     /// refused. Empty components are left out, but where the last one that is kept is empty and
     /// another is not, a separator ends the parent. Linear in the text; one allocation.
     pub fn parent<A: Allocator + Copy>(&self, alloc: A) -> Result<Option<PathBuf<A>>, AllocError>
-        ensures ok { IfOk result (λ parent. parent ≡ above (path_text self.now)) }
-        ensures none { above (path_text self.now) ≡ None → IsOk result }
+        ensures ok { IfOk result (λ parent. parent ≡ parent_text (path_text self.now)) }
+        ensures none { parent_text (path_text self.now) ≡ None → IsOk result }
     {
         if self.components().nth(1).is_none() {
             return Ok(None);
         }
         let mut string = CString16::with_capacity(alloc, self.to_cstr16().num_chars())?;
         append_all_but_last(&mut string, self.components())?;
-        Ok(Some(PathBuf::turned(alloc, string)))
+        Ok(Some(PathBuf::from_string(alloc, string)))
     }
 }
 
@@ -150,8 +150,8 @@ impl<A: Allocator + Copy> PathBuf<A> {
     }
 
     /// The path of a string, each slash turned, over the string's memory.
-    fn turned(alloc: A, mut string: CString16<A>) -> Self
-        ensures { result ≡ slashed string }
+    fn from_string(alloc: A, mut string: CString16<A>) -> Self
+        ensures { result ≡ with_separators string }
     {
         string.replace_char(SLASH, SEPARATOR);
         PathBuf { string, alloc }
@@ -160,19 +160,19 @@ impl<A: Allocator + Copy> PathBuf<A> {
     /// The path of a lent string, each slash turned, in memory of its own; or `AllocError`. One
     /// allocation.
     pub fn from(alloc: A, string: CStr16<'_>) -> Result<Self, AllocError>
-        ensures { IfOk result (λ path. path ≡ slashed (text_of string.entry)) }
+        ensures { IfOk result (λ path. path ≡ with_separators (text_of string.entry)) }
     {
-        Ok(PathBuf::turned(alloc, string.to_owned(alloc)?))
+        Ok(PathBuf::from_string(alloc, string.to_owned(alloc)?))
     }
 
     /// The path of a string, each slash turned, over the string's own memory. An `Err` would hand
     /// the string back as it came; none does today, since no memory is asked for.
     pub fn new_from_cstring16(alloc: A, string: CString16<A>) -> Result<Self, CString16<A>>
-        ensures ok { IfOk result (λ path. path ≡ slashed string) }
+        ensures ok { IfOk result (λ path. path ≡ with_separators string) }
         ensures err { IfErr result (λ kept. kept ≡ string) }
         ensures succeeds { IsOk result }
     {
-        Ok(PathBuf::turned(alloc, string))
+        Ok(PathBuf::from_string(alloc, string))
     }
 
     /// Pushes a path behind this one, its slashes turned, and a separator between the two where this
@@ -203,8 +203,8 @@ impl<A: Allocator + Copy> PathBuf<A> {
 
     /// The path without its last component, as [`Path::parent`], in memory of the same allocator.
     pub fn parent(&self) -> Result<Option<Self>, AllocError>
-        ensures ok { IfOk result (λ parent. parent ≡ above self.now) }
-        ensures none { above self.now ≡ None → IsOk result }
+        ensures ok { IfOk result (λ parent. parent ≡ parent_text self.now) }
+        ensures none { parent_text self.now ≡ None → IsOk result }
     {
         self.as_path().parent(self.alloc)
     }
@@ -269,9 +269,9 @@ impl<A: Allocator + Copy> PartialEq for PathBuf<A> {
     ghost use Rattle.std.specs.Prelude.{nat_eq};
     ghost use Rattle.std.specs.Cmp.Lexicographic.{pointwise};
     ghost use Rattle.std.specs.Cmp.Rules.{comparing};
-    ghost use Rattle.uefi_path.specs.Separators.{canon};
+    ghost use Rattle.uefi_path.specs.Separators.{canonical};
 
-    ghost eq = { λ a b. pointwise nat_eq (canon a) (canon b) };
+    ghost eq = { λ a b. pointwise nat_eq (canonical a) (canonical b) };
 
     ghost laws = { Prim.search (comparing, rules) };
 
@@ -293,9 +293,9 @@ impl<A: Allocator + Copy> PartialOrd for PathBuf<A> {
     ghost use Rattle.std.specs.Ordering.{nat_cmp, as_partial_cmp, on};
     ghost use Rattle.std.specs.Cmp.Lexicographic.{slice_cmp};
     ghost use Rattle.std.specs.Cmp.Rules.{comparing};
-    ghost use Rattle.uefi_path.specs.Separators.{canon};
+    ghost use Rattle.uefi_path.specs.Separators.{canonical};
 
-    ghost partial_cmp = { as_partial_cmp (on canon (slice_cmp nat_cmp)) };
+    ghost partial_cmp = { as_partial_cmp (on canonical (slice_cmp nat_cmp)) };
 
     ghost laws = { Prim.search (comparing, rules) };
 
@@ -310,9 +310,9 @@ impl<A: Allocator + Copy> Ord for PathBuf<A> {
     ghost use Rattle.std.specs.Ordering.{nat_cmp, on};
     ghost use Rattle.std.specs.Cmp.Lexicographic.{slice_cmp};
     ghost use Rattle.std.specs.Cmp.Rules.{comparing};
-    ghost use Rattle.uefi_path.specs.Separators.{canon};
+    ghost use Rattle.uefi_path.specs.Separators.{canonical};
 
-    ghost cmp = { on canon (slice_cmp nat_cmp) };
+    ghost cmp = { on canonical (slice_cmp nat_cmp) };
 
     ghost total = { Prim.search (comparing, rules) };
 

@@ -12,10 +12,10 @@ use Rattle.std.proofs.lemmas.Grind.{common_steps}
 use Rattle.uefi_text.specs.Runs.{GivesEach, GivesNoNul}
 
 -- what calls gave is the front of what was left
-given_front : {S A B : Type 0} (view : A → B) (left : S → List B) (s : S) (xs : List A) (t : S)
+given_prefix : {S A B : Type 0} (view : A → B) (left : S → List B) (s : S) (xs : List A) (t : S)
     → Yields (YieldsFirstBy view left) s xs t → map view xs ≡ take (length xs) (left s)
-given_front view left s [] t y = refl
-given_front view left s (x ∷ xs) t y = ap (λ us. view x ∷ us) (given_front view left y.0 xs t y.2) ∙ ap (take (suc (length xs))) (sym y.1)
+given_prefix view left s [] t y = refl
+given_prefix view left s (x ∷ xs) t y = ap (λ us. view x ∷ us) (given_prefix view left y.0 xs t y.2) ∙ ap (take (suc (length xs))) (sym y.1)
 
 pub gives_each : {S A B : Type 0} (view : A → B) (left : S → List B) (here : S) → GivesEach view left here
 gives_each view left here run seen from =
@@ -23,7 +23,7 @@ gives_each view left here run seen from =
     let in_order =
     subst (λ s. ItemsMapTo run view (left s)) from
     (from_front (YieldsFirstBy view left) view left (λ s t ended. ap length ended.0) (λ s x t took. took) run seen) in
-    let front = subst (λ s. map view run.items ≡ take (length run.items) (left s)) from (given_front view left run.from run.items drained.0 drained.1) in
+    let front = subst (λ s. map view run.items ≡ take (length run.items) (left s)) from (given_prefix view left run.from run.items drained.0 drained.1) in
     (in_order, rw run.long front)
 
 -- and no NUL where it shows none

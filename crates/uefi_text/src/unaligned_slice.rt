@@ -27,7 +27,7 @@ ghost use Rattle.std.specs.Prelude.{◌≡◌, ℕ, ◌+◌, ◌*◌, ◌^◌, �
 ghost use Rattle.std.specs.Iterator.{UpTo, YieldsFirstBy, item_count};
 ghost use Rattle.std.specs.Iterator.SizeHint.{IsWithinCount};
 ghost use Rattle.std.specs.Option.{option_map};
-ghost use Rattle.uefi_text_encodings.specs.Packed.{le, packed_items};
+ghost use Rattle.uefi_text_encodings.specs.Packed.{little_endian, packed_items};
 ghost use Rattle.uefi_text.specs.Runs.{GivesEach};
 ghost use Rattle.uefi_text_encodings.specs.UnalignedCStr16.{refusal_in_buffer};
 ghost use Rattle.uefi_text_encodings.specs.UnitBytes.{ends_in_nul};
@@ -85,7 +85,7 @@ impl<'a, T: Packed> UnalignedSlice<'a, T> {
         ensures items { items_of result ≡ packed_items T.SIZE len bytes.now }
         ensures len { length (items_of result) ≡ len }
         ensures each { (i : ℕ) → i < len → slice_get (items_of result) i
-            ≡ Some (le (slice_range bytes.now (i * T.SIZE) (i * T.SIZE + T.SIZE))) }
+            ≡ Some (little_endian (slice_range bytes.now (i * T.SIZE) (i * T.SIZE + T.SIZE))) }
     {
         UnalignedSlice {
             bytes,
@@ -288,7 +288,7 @@ impl<'a> UnalignedSlice<'a, u16> {
     ghost use Rattle.std.specs.Prelude.{None, drop, unwrap_or, ◌++◌};
     ghost use Rattle.std.specs.Result.{result_err};
     ghost use Rattle.uefi_text_encodings.specs.FromSliceWithNul.{with_nul_refusal};
-    ghost use Rattle.uefi_text_encodings.specs.UnalignedCStr16.{unaligned_refusal, with_front};
+    ghost use Rattle.uefi_text_encodings.specs.UnalignedCStr16.{unaligned_refusal, with_prefix};
     ghost use Rattle.std.specs.Prelude.{OnOk};
     ghost use Rattle.uefi_text_chars.specs.Units.{IsString, deciding_place, nul_terminated};
     ghost use Rattle.uefi_text.specs.Views.{items_of, text_of};
@@ -353,7 +353,7 @@ impl<'a> UnalignedSlice<'a, u16> {
     /// its front holds the items, what stands behind them stays, and the first item that is a NUL
     /// or a surrogate decides, as in [`CStr16::from_u16_with_nul`]. Takes no memory.
     pub fn write_cstr16(&self, buffer: &mut [u16]) -> Result<(), UnalignedCStr16Error>
-        ensures buffer { buffer.new ≡ with_front (items_of self.now) buffer.old }
+        ensures buffer { buffer.new ≡ with_prefix (items_of self.now) buffer.old }
         ensures refusal { result_err result ≡ unaligned_refusal (items_of self.now) (length buffer.old) }
         ensures accepted { OnOk result (IsString (items_of self.now)) }
     {

@@ -4,7 +4,7 @@ use Rattle.std.proofs.Common.{◌≡◌, ℕ, zero, suc, ◌+◌, ◌-◌, ◌*�
 use Rattle.std.proofs.Math.Nat.{suc-mul, zero-mul, add_comm}
 use Rattle.std.proofs.lemmas.List.{drop-drop}
 use Rattle.std.proofs.lemmas.Option.{slice_get-get_or, slice_get_past}
-use Rattle.uefi_text_encodings.specs.Packed.{le, packed_items}
+use Rattle.uefi_text_encodings.specs.Packed.{little_endian, packed_items}
 
 pub length-packed_items : (size count : ℕ) (bytes : List ℕ) → length (packed_items size count bytes) ≡ count
 length-packed_items size zero bytes = refl
@@ -12,7 +12,7 @@ length-packed_items size (suc count) bytes = ap suc (length-packed_items size co
 
 -- an item is the number of its block of bytes
 pub get_or-packed_items : (size count : ℕ) (bytes : List ℕ) (i : ℕ) → i < count
-    → get_or (packed_items size count bytes) i 0 ≡ le (take size (drop (i * size) bytes))
+    → get_or (packed_items size count bytes) i 0 ≡ little_endian (take size (drop (i * size) bytes))
 get_or-packed_items size zero bytes i within = absurd (omega arith)
 get_or-packed_items size (suc count) bytes zero within = rw zero-mul refl
 get_or-packed_items size (suc count) bytes (suc i) within =
@@ -21,7 +21,7 @@ get_or-packed_items size (suc count) bytes (suc i) within =
 
 -- the same, with the block as a part of the bytes
 pub slice_get-packed_items : (size count : ℕ) (bytes : List ℕ) (i : ℕ) → i < count
-    → slice_get (packed_items size count bytes) i ≡ Some (le (slice_range bytes (i * size) (i * size + size)))
+    → slice_get (packed_items size count bytes) i ≡ Some (little_endian (slice_range bytes (i * size) (i * size + size)))
 slice_get-packed_items size count bytes i within =
     let inside : i < length (packed_items size count bytes) = rw (length-packed_items size count bytes) within in
     let long : i * size + size - i * size ≡ size = omega arith in

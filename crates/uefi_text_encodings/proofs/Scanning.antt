@@ -22,9 +22,9 @@ module _ (p : ℕ → Bool) (step : Bool → ℕ → Bool) (kept : (u : ℕ) →
       ]
 
   -- and nothing behind any front
-  pub found_behind : (us vs : List ℕ) → fold step false (us ++ vs) ≡ false → fold step false vs ≡ false
-  found_behind [] vs e = e
-  found_behind (u ∷ us) vs e = found_behind us vs (found_cons u (us ++ vs) e).1
+  pub found_after : (us vs : List ℕ) → fold step false (us ++ vs) ≡ false → fold step false vs ≡ false
+  found_after [] vs e = e
+  found_after (u ∷ us) vs e = found_after us vs (found_cons u (us ++ vs) e).1
 
   none_in_block : (us : List ℕ) → fold step false us ≡ false → (k : ℕ) → k < length us → p (get_or us k 0) ≡ false
   none_in_block [] e k h = absurd (omega (arith, h))
@@ -65,21 +65,21 @@ position-nowhere p us none =
 search_from : (p : ℕ → Bool) (us : List ℕ) (from : ℕ) → from ≤ length us
     → ((k : ℕ) → k < from → p (get_or us k 0) ≡ false)
     → position_or_len p us ≡ from + position_or_len p (drop from us)
-search_from p us zero le none = grind (arith, common_steps)
-search_from p [] (suc n) le none = absurd (omega (arith, le))
-search_from p (u ∷ us) (suc n) le none =
+search_from p us zero little_endian none = grind (arith, common_steps)
+search_from p [] (suc n) little_endian none = absurd (omega (arith, little_endian))
+search_from p (u ∷ us) (suc n) little_endian none =
     let first : p u ≡ false = none 0 (omega arith) in
-    let rest = search_from p us n (omega (arith, le)) (λ k h. none (suc k) (omega (arith, h))) in
+    let rest = search_from p us n (omega (arith, little_endian)) (λ k h. none (suc k) (omega (arith, h))) in
     grind (arith, common_steps)
 
 pub position-from_none : (p : ℕ → Bool) (us : List ℕ) (from : ℕ) → from ≤ length us
     → ((k : ℕ) → k < from → p (get_or us k 0) ≡ false) → None ≡ position p (drop from us) → None ≡ position p us
-position-from_none p us from le none e = let s = search_from p us from le none in grind (arith, common_steps)
+position-from_none p us from little_endian none e = let s = search_from p us from little_endian none in grind (arith, common_steps)
 
 pub position-from_some : (p : ℕ → Bool) (us : List ℕ) (from place : ℕ) → from ≤ length us
     → ((k : ℕ) → k < from → p (get_or us k 0) ≡ false) → Some place ≡ position p (drop from us)
     → Some (from + place) ≡ position p us
-position-from_some p us from place le none e = let s = search_from p us from le none in grind (arith, common_steps)
+position-from_some p us from place little_endian none e = let s = search_from p us from little_endian none in grind (arith, common_steps)
 
 ascii_units-none : (us : List ℕ) → fold beyond_ascii_so_far false us ≡ false → IsAscii us
 ascii_units-none [] e i = omega arith

@@ -9,7 +9,7 @@ use Rattle.uefi_text_encodings.proofs.Deciding.{IsString-accepted, with_nul_refu
 use Rattle.uefi_text_encodings.proofs.Texts.{IsString-nul_terminated, without_nul-nul_terminated}
 use Rattle.uefi_text_encodings.specs.FromSliceWithNul.{with_nul_refusal}
 use Rattle.uefi_text_encodings.specs.Packed.{IsByte, packed_items}
-use Rattle.uefi_text_encodings.specs.UnitBytes.{BytesSpell, ends_in_nul, unit_bytes, unit_bytes_refusal, units_of_bytes}
+use Rattle.uefi_text_encodings.specs.UnitBytes.{BytesEncode, ends_in_nul, unit_bytes, unit_bytes_refusal, units_of_bytes}
 use Rattle.uefi_text_chars.specs.Units.{IsText, IsTextUnit, nul_terminated, without_nul}
 
 -- a code unit
@@ -32,8 +32,8 @@ set_two (x ∷ y ∷ bs) zero a b inside = refl
 set_two (x ∷ bs) (suc n) a b inside = ap (λ (l : List ℕ). x ∷ l) (set_two bs n a b (omega (arith, inside)))
 
 -- lists that are the same from a place on are so two places behind it
-behind_two : (xs ys : List ℕ) (n a b : ℕ) → a ≡ n + 2 → b ≡ n + 2 → drop n xs ≡ drop n ys → drop a xs ≡ drop b ys
-behind_two xs ys n a b ea eb e = rw (ea, eb, ← drop-drop 2 n xs, ← drop-drop 2 n ys) (ap (drop 2) e)
+after_two : (xs ys : List ℕ) (n a b : ℕ) → a ≡ n + 2 → b ≡ n + 2 → drop n xs ≡ drop n ys → drop a xs ≡ drop b ys
+after_two xs ys n a b ea eb e = rw (ea, eb, ← drop-drop 2 n xs, ← drop-drop 2 n ys) (ap (drop 2) e)
 
 -- one unit more is written
 pub split_more : (us old bytes : List ℕ) (i : ℕ) → i < length us → length old ≡ 2 * length us
@@ -47,7 +47,7 @@ split_more us old bytes i inside long so_far =
     let next : 2 * i + 1 ≡ suc (2 * i) = omega arith in
     let rest : drop (2 * i) bytes ≡ drop (2 * i) old = grind (arith, common_steps) in
     let behind : drop (suc (suc (2 * i))) bytes ≡ drop (2 * (i + 1)) old =
-    behind_two bytes old (2 * i) (suc (suc (2 * i))) (2 * (i + 1)) (omega arith) (omega arith) rest in
+    after_two bytes old (2 * i) (suc (suc (2 * i))) (2 * (i + 1)) (omega arith) (omega arith) rest in
     let more = ap unit_bytes (take_more us i 0 inside) ∙ unit_bytes-push (take i us) (get_or us i 0) in
     rw next (set_two bytes (2 * i) _ _ (omega arith) ∙ rw (front, behind, more, append_assoc) refl)
 
@@ -88,19 +88,19 @@ IsUnit-nul_terminated text is_text =
     let units : All IsUnit text = All-weaker IsTextUnit IsUnit (λ u unit. omega (arith, unit.1.0)) text is_text in
     All-append IsUnit text (0 ∷ []) units (All-cons IsUnit 0 [] (omega arith) (All-nil IsUnit))
 
-units_of_bytes-spelled : (bytes text : List ℕ) → BytesSpell bytes text → units_of_bytes bytes ≡ nul_terminated text
-units_of_bytes-spelled bytes text spells =
+units_of_bytes-encoded : (bytes text : List ℕ) → BytesEncode bytes text → units_of_bytes bytes ≡ nul_terminated text
+units_of_bytes-encoded bytes text spells =
     ap units_of_bytes spells.1 ∙ units_of_bytes-unit_bytes (nul_terminated text) (IsUnit-nul_terminated text spells.0)
 
 -- no bytes spell two texts
-pub spelled_apart : (bytes first second : List ℕ) → BytesSpell bytes first → BytesSpell bytes second → first ≡ second
-spelled_apart bytes first second spells_first spells_second =
+pub encoded_apart : (bytes first second : List ℕ) → BytesEncode bytes first → BytesEncode bytes second → first ≡ second
+encoded_apart bytes first second spells_first spells_second =
     let same : nul_terminated first ≡ nul_terminated second =
-    sym (units_of_bytes-spelled bytes first spells_first) ∙ units_of_bytes-spelled bytes second spells_second in
+    sym (units_of_bytes-encoded bytes first spells_first) ∙ units_of_bytes-encoded bytes second spells_second in
     sym (without_nul-nul_terminated first) ∙ ap without_nul same ∙ without_nul-nul_terminated second
 
-ends_in_nul-spelled : (text : List ℕ) → ends_in_nul (unit_bytes (nul_terminated text)) ≡ true
-ends_in_nul-spelled text =
+ends_in_nul-encoded : (text : List ℕ) → ends_in_nul (unit_bytes (nul_terminated text)) ≡ true
+ends_in_nul-encoded text =
     let front = unit_bytes text in
     let ended : unit_bytes (nul_terminated text) ≡ front ++ 0 ∷ 0 ∷ [] = unit_bytes-push text 0 in
     let even : length (front ++ 0 ∷ 0 ∷ []) % 2 ≡ 0 = omega (arith, length-append front (0 ∷ 0 ∷ []), length-unit_bytes text) in
@@ -108,11 +108,11 @@ ends_in_nul-spelled text =
     rw (ended, even, start, drop-append_seam front (0 ∷ 0 ∷ [])) refl
 
 -- bytes that spell a text are accepted
-pub spelled_accepted : (bytes text : List ℕ) → BytesSpell bytes text → unit_bytes_refusal bytes ≡ None
-spelled_accepted bytes text spells =
-    let ended : ends_in_nul bytes ≡ true = ap ends_in_nul spells.1 ∙ ends_in_nul-spelled text in
+pub encoded_accepted : (bytes text : List ℕ) → BytesEncode bytes text → unit_bytes_refusal bytes ≡ None
+encoded_accepted bytes text spells =
+    let ended : ends_in_nul bytes ≡ true = ap ends_in_nul spells.1 ∙ ends_in_nul-encoded text in
     let accepted = with_nul_refusal-IsString (nul_terminated text) (IsString-nul_terminated text spells.0) in
-    rw (ended, units_of_bytes-spelled bytes text spells) accepted
+    rw (ended, units_of_bytes-encoded bytes text spells) accepted
 
 -- units of two bytes are code units
 small_items : (count : ℕ) (bs : List ℕ) → All IsByte bs → (k : ℕ) → get_or (packed_items 2 count bs) k 0 < 2 ^ 16
@@ -129,24 +129,24 @@ small_items (suc count) (b ∷ []) are_bytes (suc k) = small_items count [] (All
 small_items (suc count) (b ∷ c ∷ bs) are_bytes (suc k) = small_items count bs (All-tail IsByte c bs (All-tail IsByte b (c ∷ bs) are_bytes)) k
 
 -- bytes whose units are a text and a NUL spell it
-pub units_spell : (bytes text : List ℕ) → All IsByte bytes → length bytes % 2 ≡ 0
+pub units_encode : (bytes text : List ℕ) → All IsByte bytes → length bytes % 2 ≡ 0
     → with_nul_refusal (units_of_bytes bytes) ≡ None → nul_terminated text ≡ units_of_bytes bytes
-    → BytesSpell bytes text
-units_spell bytes text are_bytes even accepted e =
+    → BytesEncode bytes text
+units_encode bytes text are_bytes even accepted e =
     let string = IsString-accepted (units_of_bytes bytes) (small_items (length bytes / 2) bytes are_bytes) accepted in
     let same : without_nul (units_of_bytes bytes) ≡ text = ap without_nul (sym e) ∙ without_nul-nul_terminated text in
     (subst IsText same string.1, sym (unit_bytes-units_of_bytes bytes even are_bytes) ∙ ap unit_bytes (sym e))
 
 -- and where they are not refused they are one
 pub units_text : (bytes : List ℕ) → All IsByte bytes → length bytes % 2 ≡ 0
-    → with_nul_refusal (units_of_bytes bytes) ≡ None → (text : List ℕ) × BytesSpell bytes text
+    → with_nul_refusal (units_of_bytes bytes) ≡ None → (text : List ℕ) × BytesEncode bytes text
 units_text bytes are_bytes even accepted =
     let string = IsString-accepted (units_of_bytes bytes) (small_items (length bytes / 2) bytes are_bytes) accepted in
-    (without_nul (units_of_bytes bytes), units_spell bytes (without_nul (units_of_bytes bytes)) are_bytes even accepted (sym string.0))
+    (without_nul (units_of_bytes bytes), units_encode bytes (without_nul (units_of_bytes bytes)) are_bytes even accepted (sym string.0))
 
 -- bytes that are accepted spell a text
-pub accepted_spells : (bytes : List ℕ) → All IsByte bytes → unit_bytes_refusal bytes ≡ None → (text : List ℕ) × BytesSpell bytes text
-accepted_spells bytes are_bytes accepted =
+pub accepted_encodes : (bytes : List ℕ) → All IsByte bytes → unit_bytes_refusal bytes ≡ None → (text : List ℕ) × BytesEncode bytes text
+accepted_encodes bytes are_bytes accepted =
     elim (cases_Bool (ends_in_nul bytes)) [
       | inl ended ↦
           let even : length bytes % 2 ≡ 0 = grind (arith, common_steps) in

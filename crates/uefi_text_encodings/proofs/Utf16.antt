@@ -17,15 +17,15 @@ use Rattle.uefi_text_chars.specs.Units.{nul_terminated}
 use Rattle.uefi_text_encodings.specs.declared.errors.FromStrWithBufError.TheVariants.{BufferTooSmall}
 
 -- units that have room, and then more units behind them
-with_units-behind : (old units more : List ℕ) → length units ≤ length old
+with_units-after : (old units more : List ℕ) → length units ≤ length old
     → with_units (units ++ more) old ≡ units ++ with_units more (drop (length units) old)
-with_units-behind old [] more room = refl
-with_units-behind [] (u ∷ us) more room = absurd (omega (arith, room))
-with_units-behind (o ∷ os) (u ∷ us) more room = ap (λ vs. u ∷ vs) (with_units-behind os us more (omega (arith, room)))
+with_units-after old [] more room = refl
+with_units-after [] (u ∷ us) more room = absurd (omega (arith, room))
+with_units-after (o ∷ os) (u ∷ us) more room = ap (λ vs. u ∷ vs) (with_units-after os us more (omega (arith, room)))
 
 -- units that have room stand before what stays
-with_units-front : (old units : List ℕ) → length units ≤ length old → with_units units old ≡ units ++ drop (length units) old
-with_units-front old units room = grind (arith, common_steps)
+with_units-prefix : (old units : List ℕ) → length units ≤ length old → with_units units old ≡ units ++ drop (length units) old
+with_units-prefix old units room = grind (arith, common_steps)
 
 pub length-with_units : (units old : List ℕ) → length (with_units units old) ≡ length old
 length-with_units units old = grind (arith, common_steps)
@@ -47,11 +47,11 @@ with_units-char old buffer new front c len count place so_far is =
     let rest = drop (length units) old in
     let same_length : length buffer ≡ length old = ap length so_far ∙ length-with_units units old in
     let room : length units ≤ length old = omega arith in
-    let split : buffer ≡ units ++ rest = so_far ∙ with_units-front old units room in
+    let split : buffer ≡ units ++ rest = so_far ∙ with_units-prefix old units room in
     let before : take len buffer ≡ units = grind (arith, common_steps) in
     let after : drop len buffer ≡ rest = grind (arith, common_steps) in
     let written : new ≡ units ++ with_units (encode_utf16 c) rest = is ∙ rw (before, after) refl in
-    let all = with_units-behind old units (encode_utf16 c) room in
+    let all = with_units-after old units (encode_utf16 c) room in
     let more = flat_map_more encode_utf16 [] front c in
     cc
 
@@ -83,7 +83,7 @@ with_units-two (u ∷ v ∷ []) buffer place two inside =
     let after : drop 2 (drop place buffer) ≡ drop (suc (suc place)) buffer =
     drop-drop 2 place buffer ∙ ap (λ n. drop n buffer) same in
     let rest : with_units (u ∷ v ∷ []) (drop place buffer) ≡ u ∷ v ∷ drop (suc (suc place)) buffer =
-    with_units-front (drop place buffer) (u ∷ v ∷ []) room ∙ ap (λ (us : List ℕ). u ∷ v ∷ us) after in
+    with_units-prefix (drop place buffer) (u ∷ v ∷ []) room ∙ ap (λ (us : List ℕ). u ∷ v ∷ us) after in
     rw next (set_two buffer place u v (omega arith) ∙ ap (λ (us : List ℕ). take place buffer ++ us) (sym rest))
 with_units-two (u ∷ v ∷ w ∷ us) buffer place two inside = absurd (omega (arith, two))
 
@@ -97,9 +97,9 @@ with_units-full : (old units more : List ℕ) → length old ≤ length units �
 with_units-full old units more full = grind (arith, elements)
 
 -- a buffer that characters fill is too small for them and what follows
-pub filled : (old front rest : List ℕ) → length old ≤ length (utf16 front)
+pub non_empty : (old front rest : List ℕ) → length old ≤ length (utf16 front)
     → (with_units (utf16 front) old ≡ with_text (front ++ rest) old) × (Some BufferTooSmall ≡ from_str_with_buf_refusal (front ++ rest) (length old))
-filled old front rest full =
+non_empty old front rest full =
     let more : utf16 (front ++ rest) ≡ utf16 front ++ utf16 rest = flat_map-append encode_utf16 front rest in
     let all : with_text (front ++ rest) old ≡ with_units (utf16 front ++ nul_terminated (utf16 rest)) old =
     ap (λ units. with_units (nul_terminated units) old) more
@@ -172,5 +172,5 @@ accepted old cs none =
     let places : length cs < length old = grind (arith, common_steps) in
     let nul : length (nul_terminated cs) ≡ length cs + 1 = length-append cs (0 ∷ []) in
     let front : with_text cs old ≡ nul_terminated cs ++ drop (length (nul_terminated cs)) old =
-    ap (λ us. with_units (nul_terminated us) old) units.1 ∙ with_units-front old (nul_terminated cs) (omega arith) in
+    ap (λ us. with_units (nul_terminated us) old) units.1 ∙ with_units-prefix old (nul_terminated cs) (omega arith) in
     (units.0, rw (front, ← nul) (take-append_seam (nul_terminated cs) _))

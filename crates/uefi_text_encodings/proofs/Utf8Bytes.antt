@@ -10,7 +10,7 @@ use Rattle.std.proofs.lemmas.List.Folds.{fold_stays}
 use Rattle.std.proofs.lemmas.Str.{chars-IsAscii, encode_ascii, encodes-chars}
 use Rattle.std.proofs.lemmas.Grind.{common_steps}
 use Rattle.std.proofs.Math.Utf8.{encodes}
-use Rattle.uefi_text_encodings.proofs.Scanning.{found_behind}
+use Rattle.uefi_text_encodings.proofs.Scanning.{found_after}
 use Rattle.uefi_text_encodings.specs.FromStr.{is_deciding_char}
 use Rattle.uefi_text_encodings.specs.Latin1.{IsLatin1}
 use Rattle.uefi_text_encodings.specs.Scans.{ascii_text_so_far, byte_beyond_latin1_so_far, deciding_byte_so_far}
@@ -85,7 +85,7 @@ undecided_encodes : (cs : List ℕ) → fold deciding_byte_so_far false (encodes
 undecided_encodes [] e = refl
 undecided_encodes (c ∷ cs) e =
     let first = undecided_first c (encodes cs) e in
-    let rest = undecided_encodes cs (found_behind is_deciding_byte deciding_byte_so_far (λ _. refl) (λ _. refl) (encode_utf8 c) (encodes cs) e) in
+    let rest = undecided_encodes cs (found_after is_deciding_byte deciding_byte_so_far (λ _. refl) (λ _. refl) (encode_utf8 c) (encodes cs) e) in
     grind (arith, common_steps)
 
 -- a text of which no byte decides has no character that does

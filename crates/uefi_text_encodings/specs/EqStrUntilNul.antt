@@ -4,14 +4,14 @@ use Rattle.std.specs.List.{before_first}
 use Rattle.uefi_text_chars.specs.Units.{is_nul}
 
 -- the first list is a beginning of the second
-abbrev pub IsBeginning : List ℕ → List ℕ → Type 0
-IsBeginning xs ys = (rest : List ℕ) × (ys ≡ xs ++ rest)
+abbrev pub IsPrefix : List ℕ → List ℕ → Type 0
+IsPrefix xs ys = (rest : List ℕ) × (ys ≡ xs ++ rest)
 
 -- one of two lists is a beginning of the other
-abbrev pub OneBeginsOther : List ℕ → List ℕ → Type 0
-OneBeginsOther xs ys = IsBeginning xs ys ⊎ IsBeginning ys xs
+abbrev pub OneIsPrefixOfOther : List ℕ → List ℕ → Type 0
+OneIsPrefixOfOther xs ys = IsPrefix xs ys ⊎ IsPrefix ys xs
 
 -- the text, or what stands before the first NUL of the other, all of it where it has none, is a
 -- beginning of the other of these two
 abbrev pub IsEqualUntilNul : List ℕ → List ℕ → Type 0
-IsEqualUntilNul text other = OneBeginsOther text (before_first is_nul other)
+IsEqualUntilNul text other = OneIsPrefixOfOther text (before_first is_nul other)

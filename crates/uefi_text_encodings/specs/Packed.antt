@@ -6,17 +6,17 @@ abbrev pub IsByte : ℕ → Type 0
 IsByte byte = byte < 256
 
 -- the number that bytes spell: the sum of each byte times 256 to the power of its place
-abbrev pub le : List ℕ → ℕ
-le [] = 0
-le (byte ∷ bytes) = byte + 256 * le bytes
+abbrev pub little_endian : List ℕ → ℕ
+little_endian [] = 0
+little_endian (byte ∷ bytes) = byte + 256 * little_endian bytes
 
 -- the numbers of the first `count` blocks of `size` bytes
 abbrev pub packed_items : ℕ → ℕ → List ℕ → List ℕ
 packed_items size zero bytes = []
 packed_items size (suc count) bytes =
-    le (take size bytes) ∷ packed_items size count (drop size bytes)
+    little_endian (take size bytes) ∷ packed_items size count (drop size bytes)
 
 -- lists of `size` bytes that spell the same number are the same
-abbrev pub SpellsOnce : ℕ → Type 0
-SpellsOnce size = (xs ys : List ℕ) → length xs ≡ size → length ys ≡ size
-    → All IsByte xs → All IsByte ys → le xs ≡ le ys → xs ≡ ys
+abbrev pub EncodesOnce : ℕ → Type 0
+EncodesOnce size = (xs ys : List ℕ) → length xs ≡ size → length ys ≡ size
+    → All IsByte xs → All IsByte ys → little_endian xs ≡ little_endian ys → xs ≡ ys

@@ -23,6 +23,6 @@ unaligned_refusal units room =
     else option_map refusal_in_buffer (with_nul_refusal units)
 
 -- a buffer with units written into its prefix, or unchanged where they have no room
-abbrev pub with_front : List ℕ → List ℕ → List ℕ
-with_front units buffer =
+abbrev pub with_prefix : List ℕ → List ℕ → List ℕ
+with_prefix units buffer =
     if nat_lt (length buffer) (length units) then buffer else units ++ drop (length units) buffer

@@ -13,8 +13,8 @@ unit_bytes [] = []
 unit_bytes (unit ∷ units) = unit % 256 ∷ unit / 256 ∷ unit_bytes units
 
 -- bytes that spell a text: those of the text and its NUL
-abbrev pub BytesSpell : List ℕ → List ℕ → Type 0
-BytesSpell bytes text = IsText text × (bytes ≡ unit_bytes (nul_terminated text))
+abbrev pub BytesEncode : List ℕ → List ℕ → Type 0
+BytesEncode bytes text = IsText text × (bytes ≡ unit_bytes (nul_terminated text))
 
 -- the code units that bytes spell, two bytes each, where their number is even
 abbrev pub units_of_bytes : List ℕ → List ℕ

@@ -1,8 +1,8 @@
 //! Numbers that lie in bytes, the low byte first: what may be an item of a packed slice.
 ghost use Rattle.std.specs.Prelude.{◌≡◌, ℕ, ◌<◌, length};
 ghost use Rattle.std.proofs.Common.{arith};
-ghost use Rattle.uefi_text_encodings.specs.Packed.{SpellsOnce, le};
-ghost use Rattle.uefi_text_encodings.specs.PackedLaws.{spells_once};
+ghost use Rattle.uefi_text_encodings.specs.Packed.{EncodesOnce, little_endian};
+ghost use Rattle.uefi_text_encodings.specs.PackedLaws.{encodes_once};
 
 /// A number that lies in a fixed count of bytes, the low byte first: `u8`, `u16`, `u32` and `u64`.
 /// In contracts a value is `number` of it.
@@ -20,13 +20,13 @@ pub trait Packed: Copy {
     /// each byte times 256 to the power of its place. Takes no memory.
     fn read_le(bytes: &[u8]) -> Self
         requires { length bytes.now ≡ SIZE }
-        ensures { number result ≡ le bytes.now };
+        ensures { number result ≡ little_endian bytes.now };
 
     /// A value takes one byte or more.
     ghost size_above_zero: { 0 < SIZE };
 
     /// Equal numbers come from equal bytes.
-    ghost spelled_once: { SpellsOnce SIZE };
+    ghost encoded_once: { EncodesOnce SIZE };
 }
 
 /// One byte, whose number is the value itself.
@@ -43,7 +43,7 @@ impl Packed for u8 {
 
     ghost size_above_zero = { Prim.omega arith };
 
-    ghost spelled_once = { spells_once 1 };
+    ghost encoded_once = { encodes_once 1 };
 }
 
 /// Two bytes, whose number is the value itself.
@@ -60,7 +60,7 @@ impl Packed for u16 {
 
     ghost size_above_zero = { Prim.omega arith };
 
-    ghost spelled_once = { spells_once 2 };
+    ghost encoded_once = { encodes_once 2 };
 }
 
 /// Four bytes, whose number is the value itself.
@@ -77,7 +77,7 @@ impl Packed for u32 {
 
     ghost size_above_zero = { Prim.omega arith };
 
-    ghost spelled_once = { spells_once 4 };
+    ghost encoded_once = { encodes_once 4 };
 }
 
 /// Eight bytes, whose number is the value itself.
@@ -96,5 +96,5 @@ impl Packed for u64 {
 
     ghost size_above_zero = { Prim.omega arith };
 
-    ghost spelled_once = { spells_once 8 };
+    ghost encoded_once = { encodes_once 8 };
 }

@@ -3,12 +3,12 @@ use Rattle.std.proofs.Common.{◌≡◌, ℕ, zero, suc, ◌+◌, ◌-◌, ◌<�
 use Rattle.std.proofs.lemmas.List.{length-take-le, take_all}
 use Rattle.std.proofs.lemmas.List.Elements.{All-take}
 use Rattle.std.proofs.lemmas.Option.{none-some, same_Some}
-use Rattle.uefi_path.proofs.ParentForm.{above_last-good, components_of-joined}
+use Rattle.uefi_path.proofs.ParentForm.{parent_of_components-good, components_of-joined}
 use Rattle.uefi_path.proofs.Validity.{valid-components}
 use Rattle.uefi_path.specs.Components.{components_of, joined}
-use Rattle.uefi_path.specs.Parents.{above, above_last, all_but_last}
+use Rattle.uefi_path.specs.Parents.{parent_text, parent_of_components, all_but_last}
 use Rattle.uefi_path.specs.Verdicts.{IsGood, verdict}
-use Rattle.upath.specs.SuccessiveParents.{AreParents, beginnings, shorter_beginnings}
+use Rattle.upath.specs.SuccessiveParents.{AreParents, prefixes, shorter_prefixes}
 
 -- no two lists are the successive parents of one text
 pub parents_once : (text : List ℕ) (parents others : List (List ℕ)) → AreParents text parents
@@ -33,21 +33,21 @@ all_but_last-take zero (c ∷ d ∷ cs) below = refl
 all_but_last-take (suc count) (c ∷ d ∷ cs) below =
     ap (λ ps. c ∷ ps) (all_but_last-take count (d ∷ cs) (omega (arith, below)))
 
-above_last-one : (cs : List (List ℕ)) → above_last (take 1 cs) ≡ None
-above_last-one [] = refl
-above_last-one (c ∷ cs) = refl
+parent_of_components-one : (cs : List (List ℕ)) → parent_of_components (take 1 cs) ≡ None
+parent_of_components-one [] = refl
+parent_of_components-one (c ∷ cs) = refl
 
 -- the parents of a text of `count` components and one more, the first of all
 parents_of_some : (text : List ℕ) (count : ℕ) (cs : List (List ℕ)) → All IsGood cs → count < length cs
-    → components_of text ≡ take (suc count) cs → AreParents text (beginnings count cs)
-parents_of_some text zero cs good below e = ap above_last e ∙ above_last-one cs
+    → components_of text ≡ take (suc count) cs → AreParents text (prefixes count cs)
+parents_of_some text zero cs good below e = ap parent_of_components e ∙ parent_of_components-one cs
 parents_of_some text (suc count) cs good below e =
     let more : length (take (suc (suc count)) cs) ≡ suc (suc count) =
     length-take-le (suc (suc count)) cs (omega (arith, below)) in
     let many : 1 < length (take (suc (suc count)) cs) = omega (arith, more) in
-    let here : above text ≡ Some (joined (take (suc count) cs)) =
-    ap above_last e
-    ∙ above_last-good (take (suc (suc count)) cs) (All-take IsGood (suc (suc count)) cs good)
+    let here : parent_text text ≡ Some (joined (take (suc count) cs)) =
+    ap parent_of_components e
+    ∙ parent_of_components-good (take (suc (suc count)) cs) (All-take IsGood (suc (suc count)) cs good)
     many
     ∙ ap (λ ps. Some (joined ps)) (all_but_last-take count cs (omega (arith, below))) in (
       here,
@@ -56,13 +56,13 @@ parents_of_some text (suc count) cs good below e =
     )
 
 from_all : (text : List ℕ) (cs : List (List ℕ)) → All IsGood cs → components_of text ≡ cs
-    → AreParents text (beginnings (length cs - 1) cs)
-from_all text [] good e = ap above_last e
+    → AreParents text (prefixes (length cs - 1) cs)
+from_all text [] good e = ap parent_of_components e
 from_all text (c ∷ cs) good e =
     let fewer : length cs ≡ length (c ∷ cs) - 1 = omega arith in
-    subst (λ count. AreParents text (beginnings count (c ∷ cs))) fewer
+    subst (λ count. AreParents text (prefixes count (c ∷ cs))) fewer
     (parents_of_some text (length cs) (c ∷ cs) good (omega arith)
     (e ∙ sym (take_all (suc (length cs)) (c ∷ cs) (omega arith))))
 
-pub AreParents-beginnings : (text : List ℕ) → verdict text ≡ None → AreParents text (shorter_beginnings text)
-AreParents-beginnings text valid = from_all text (components_of text) (valid-components text valid) refl
+pub AreParents-prefixes : (text : List ℕ) → verdict text ≡ None → AreParents text (shorter_prefixes text)
+AreParents-prefixes text valid = from_all text (components_of text) (valid-components text valid) refl

@@ -1,8 +1,8 @@
 -- Which bytes are judged to be a path, and why the others are not.
 use Rattle.std.specs.Prelude.{◌≡◌, ℕ, ◌%◌, ◌==◌, ◌⊎◌, if◌then◌else◌, List, length, Option, Some, None, option_map, MatchOption}
 use Rattle.uefi_text.specs.FromSliceWithNul.{with_nul_refusal}
-use Rattle.uefi_text.specs.UnitBytes.{BytesSpell, units_of_bytes}
-use Rattle.uefi_path.specs.Separators.{slashed}
+use Rattle.uefi_text.specs.UnitBytes.{BytesEncode, units_of_bytes}
+use Rattle.uefi_path.specs.Separators.{with_separators}
 use Rattle.uefi_path.specs.Verdicts.{verdict}
 use Rattle.upath.specs.declared.judging.JudgeError.{JudgeError}
 use Rattle.upath.specs.declared.judging.JudgeError.TheVariants.{HalfUnit, Text, Invalid, OutOfMemory}
@@ -14,15 +14,15 @@ bytes_fault bytes =
 
 -- why the path of a text is refused, its slashes turned
 abbrev pub path_fault : List ℕ → Option JudgeError
-path_fault text = option_map Invalid (verdict (slashed text))
+path_fault text = option_map Invalid (verdict (with_separators text))
 
 -- a path is that of bytes: they spell its text but for the slashes, and it is accepted
 abbrev pub IsPathOf : List ℕ → List ℕ → Type 0
 IsPathOf bytes path = (text : List ℕ)
-    × BytesSpell bytes text × (path ≡ slashed text) × (path_fault text ≡ None)
+    × BytesEncode bytes text × (path ≡ with_separators text) × (path_fault text ≡ None)
 
 -- what bytes are refused for: the fault of their own, else want of memory or the fault of their path
 abbrev pub IsRefusalOf : List ℕ → JudgeError → Type 0
 IsRefusalOf bytes error = MatchOption (bytes_fault bytes)
-    ((text : List ℕ) × BytesSpell bytes text × ((error ≡ OutOfMemory) ⊎ (path_fault text ≡ Some error)))
+    ((text : List ℕ) × BytesEncode bytes text × ((error ≡ OutOfMemory) ⊎ (path_fault text ≡ Some error)))
     (λ fault. error ≡ fault)

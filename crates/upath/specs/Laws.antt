@@ -7,32 +7,32 @@ use Rattle.std.specs.Ordering.{nat_cmp}
 use Rattle.std.specs.declared.cmp.Ordering.{Ordering}
 use Rattle.std.specs.declared.cmp.Ordering.TheVariants.{Equal}
 use Rattle.uefi_path.specs.Components.{AreComponents, components_of}
-use Rattle.uefi_path.specs.Parents.{above}
+use Rattle.uefi_path.specs.Parents.{parent_text}
 use Rattle.uefi_path.specs.Pushing.{needs_separator, pushed}
-use Rattle.uefi_path.specs.Separators.{IsPlain, canon, is_separator, separator}
+use Rattle.uefi_path.specs.Separators.{IsPlain, canonical, is_separator, separator}
 use Rattle.uefi_path.specs.Verdicts.{IsGood, verdict}
-use Rattle.upath.specs.SuccessiveParents.{AreParents, shorter_beginnings}
+use Rattle.upath.specs.SuccessiveParents.{AreParents, shorter_prefixes}
 use Rattle.uefi_text.specs.FromStr.{from_str_refusal}
 use Rattle.uefi_text.specs.Packed.{IsByte}
-use Rattle.uefi_text.specs.UnitBytes.{BytesSpell, unit_bytes_refusal}
+use Rattle.uefi_text.specs.UnitBytes.{BytesEncode, unit_bytes_refusal}
 use Rattle.uefi_text.specs.Units.{IsText}
 
 -- every text has bytes that spell it
-abbrev pub TextsAreSpelled : Type 0
-TextsAreSpelled = (text : List ℕ) → IsText text → (bytes : List ℕ) × BytesSpell bytes text
+abbrev pub TextsAreEncoded : Type 0
+TextsAreEncoded = (text : List ℕ) → IsText text → (bytes : List ℕ) × BytesEncode bytes text
 
 -- and no other bytes do
-abbrev pub SpelledOnce : Type 0
-SpelledOnce = (text bytes other : List ℕ) → BytesSpell bytes text → BytesSpell other text → bytes ≡ other
+abbrev pub EncodedOnce : Type 0
+EncodedOnce = (text bytes other : List ℕ) → BytesEncode bytes text → BytesEncode other text → bytes ≡ other
 
 -- no bytes spell two texts
-abbrev pub SpellOneText : Type 0
-SpellOneText = (bytes text other : List ℕ) → BytesSpell bytes text → BytesSpell bytes other → text ≡ other
+abbrev pub EncodeOneText : Type 0
+EncodeOneText = (bytes text other : List ℕ) → BytesEncode bytes text → BytesEncode bytes other → text ≡ other
 
 -- bytes are accepted exactly where they spell a text
-abbrev pub AcceptedWhereSpelled : Type 0
-AcceptedWhereSpelled = (bytes : List ℕ) → All IsByte bytes
-    → (unit_bytes_refusal bytes ≡ None) ↔ ((text : List ℕ) × BytesSpell bytes text)
+abbrev pub AcceptedWhereEncoded : Type 0
+AcceptedWhereEncoded = (bytes : List ℕ) → All IsByte bytes
+    → (unit_bytes_refusal bytes ≡ None) ↔ ((text : List ℕ) × BytesEncode bytes text)
 
 -- characters are a text exactly where none of them is refused
 abbrev pub TextWhereUnrefused : Type 0
@@ -55,24 +55,24 @@ ComponentsOnce = (text : List ℕ) (pieces others : List (List ℕ))
 -- an empty canonical text has none
 abbrev pub NoComponentsOfEmpty : Type 0
 NoComponentsOfEmpty = (text : List ℕ) (pieces : List (List ℕ)) → AreComponents text pieces
-    → canon text ≡ [] → length pieces ≡ 0
+    → canonical text ≡ [] → length pieces ≡ 0
 
 -- and any other has one more than separators
 abbrev pub OneMoreThanSeparators : Type 0
 OneMoreThanSeparators = (text : List ℕ) (pieces : List (List ℕ)) → AreComponents text pieces
-    → canon text ≢ [] → length pieces ≡ count_by is_separator (canon text) + 1
+    → canonical text ≢ [] → length pieces ≡ count_by is_separator (canonical text) + 1
 
 -- equal paths have the same parent, or have none
-abbrev pub SameAbove : Type 0
-SameAbove = (text other : List ℕ) → canon text ≡ canon other → above text ≡ above other
+abbrev pub SameParent : Type 0
+SameParent = (text other : List ℕ) → canonical text ≡ canonical other → parent_text text ≡ parent_text other
 
 -- whether two paths are equal: their canonical texts are
 abbrev pub path_equal : List ℕ → List ℕ → Bool
-path_equal text other = pointwise nat_eq (canon text) (canon other)
+path_equal text other = pointwise nat_eq (canonical text) (canonical other)
 
 -- the order of two paths: that of their canonical texts, unit by unit
 abbrev pub path_order : List ℕ → List ℕ → Ordering
-path_order text other = slice_cmp nat_cmp (canon text) (canon other)
+path_order text other = slice_cmp nat_cmp (canonical text) (canonical other)
 
 -- the order of paths is total: of two paths either is less, or they are alike, and less chains
 abbrev pub OrderIsTotal : Type 0
@@ -81,16 +81,16 @@ OrderIsTotal = IsTotalOrder path_order
 -- neither is less exactly where the canonical texts are the same
 abbrev pub OrderTiesEqual : Type 0
 OrderTiesEqual =
-    (text other : List ℕ) → (path_order text other ≡ Equal) ↔ (canon text ≡ canon other)
+    (text other : List ℕ) → (path_order text other ≡ Equal) ↔ (canonical text ≡ canonical other)
 
 -- equality of paths is an equivalence
 abbrev pub EqualityIsEquivalence : Type 0
 EqualityIsEquivalence = IsEquivalence path_equal
 
 -- and holds exactly where the canonical texts are the same
-abbrev pub EqualWhereSameCanon : Type 0
-EqualWhereSameCanon =
-    (text other : List ℕ) → IsTrue (path_equal text other) ↔ (canon text ≡ canon other)
+abbrev pub EqualWhereSameCanonical : Type 0
+EqualWhereSameCanonical =
+    (text other : List ℕ) → IsTrue (path_equal text other) ↔ (canonical text ≡ canonical other)
 
 -- in which order paths are pushed does not matter, where the middle one has no slash to turn
 abbrev pub PushingIsAssociative : Type 0
@@ -98,20 +98,20 @@ PushingIsAssociative = (first second third : List ℕ) → IsPlain second
     → pushed (pushed first second) third ≡ pushed first (pushed second third)
 
 -- the empty path behind a path changes nothing
-abbrev pub EmptyBehindIsUnit : Type 0
-EmptyBehindIsUnit = (text : List ℕ) → pushed text [] ≡ text
+abbrev pub EmptyAfterIsUnit : Type 0
+EmptyAfterIsUnit = (text : List ℕ) → pushed text [] ≡ text
 
 -- nor does it in front of a plain one
-abbrev pub EmptyInFrontIsUnit : Type 0
-EmptyInFrontIsUnit = (text : List ℕ) → IsPlain text → pushed [] text ≡ text
+abbrev pub EmptyBeforeIsUnit : Type 0
+EmptyBeforeIsUnit = (text : List ℕ) → IsPlain text → pushed [] text ≡ text
 
 -- a relative text: no separator at its front, which its canonical text would lack
 abbrev pub IsRelative : List ℕ → Type 0
-IsRelative text = canon text ≡ text
+IsRelative text = canonical text ≡ text
 
 -- a text that takes a part behind it: it is empty, or the lone separator, or does not end in one
 abbrev pub TakesMore : List ℕ → Type 0
-TakesMore text = (canon text ≡ []) ⊎ (needs_separator text ≡ true)
+TakesMore text = (canonical text ≡ []) ⊎ (needs_separator text ≡ true)
 
 -- the components of what was pushed stand behind those of the path
 abbrev pub ComponentsAreJoined : Type 0
@@ -125,46 +125,46 @@ JoinedAreValid = (text part : List ℕ) → verdict text ≡ None → verdict pa
 
 -- equal paths that have components stay equal when the same is pushed on both
 abbrev pub JoinedAreSame : Type 0
-JoinedAreSame = (text other part : List ℕ) → canon text ≡ canon other → components_of text ≢ []
-    → canon (pushed text part) ≡ canon (pushed other part)
+JoinedAreSame = (text other part : List ℕ) → canonical text ≡ canonical other → components_of text ≢ []
+    → canonical (pushed text part) ≡ canonical (pushed other part)
 
 -- a parent of a plain text is relative
 abbrev pub ParentIsRelative : Type 0
-ParentIsRelative = (text parent : List ℕ) → IsPlain text → above text ≡ Some parent
+ParentIsRelative = (text parent : List ℕ) → IsPlain text → parent_text text ≡ Some parent
     → IsRelative parent
 
 -- and holds no two separators in a row
 abbrev pub ParentIsNotDoubled : Type 0
-ParentIsNotDoubled = (text parent before after : List ℕ) → IsPlain text → above text ≡ Some parent
+ParentIsNotDoubled = (text parent before after : List ℕ) → IsPlain text → parent_text text ≡ Some parent
     → parent ≢ before ++ separator ∷ separator ∷ after
 
 -- a parent of a valid text is valid
 abbrev pub ParentIsValid : Type 0
-ParentIsValid = (text parent : List ℕ) → verdict text ≡ None → above text ≡ Some parent
+ParentIsValid = (text parent : List ℕ) → verdict text ≡ None → parent_text text ≡ Some parent
     → verdict parent ≡ None
 
 -- the components of a valid text, pushed one by one behind nothing, make its canonical text
 abbrev pub ComponentsRebuild : Type 0
 ComponentsRebuild = (text : List ℕ) → verdict text ≡ None
-    → fold pushed [] (components_of text) ≡ canon text
+    → fold pushed [] (components_of text) ≡ canonical text
 
 -- the parent of a valid text behind which a good component was pushed is its canonical text
 abbrev pub ParentOfJoined : Type 0
 ParentOfJoined = (text piece : List ℕ) → verdict text ≡ None → components_of text ≢ []
-    → IsGood piece → above (pushed text piece) ≡ Some (canon text)
+    → IsGood piece → parent_text (pushed text piece) ≡ Some (canonical text)
 
 -- which is an equal path
-abbrev pub CanonIsEqual : Type 0
-CanonIsEqual = (text : List ℕ) → verdict text ≡ None → canon (canon text) ≡ canon text
+abbrev pub CanonicalIsEqual : Type 0
+CanonicalIsEqual = (text : List ℕ) → verdict text ≡ None → canonical (canonical text) ≡ canonical text
 
 -- the successive parents of a valid text are its shorter beginnings, the longest first
-abbrev pub ParentsAreBeginnings : Type 0
-ParentsAreBeginnings = (text : List ℕ) (parents : List (List ℕ)) → verdict text ≡ None
-    → AreParents text parents ↔ (parents ≡ shorter_beginnings text)
+abbrev pub ParentsArePrefixes : Type 0
+ParentsArePrefixes = (text : List ℕ) (parents : List (List ℕ)) → verdict text ≡ None
+    → AreParents text parents ↔ (parents ≡ shorter_prefixes text)
 
 -- every text has successive parents: climbing ends
-abbrev pub ClimbingEnds : Type 0
-ClimbingEnds = (text : List ℕ) → (parents : List (List ℕ)) × AreParents text parents
+abbrev pub WalkingUpEnds : Type 0
+WalkingUpEnds = (text : List ℕ) → (parents : List (List ℕ)) × AreParents text parents
 
 -- a plain text has fewer of them than components, or none of either
 abbrev pub FewerParents : Type 0

@@ -12,10 +12,10 @@ use Rattle.uefi_text.specs.ErrorTexts.{from_str_error_text}
 use Rattle.uefi_text.specs.FromStr.{from_str_refusal}
 use Rattle.uefi_text.specs.FromStrError.{FromStrError}
 use Rattle.uefi_path.specs.Components.{components_of}
-use Rattle.uefi_path.specs.Separators.{canon}
+use Rattle.uefi_path.specs.Separators.{canonical}
 use Rattle.upath.specs.Lines.{lines_of}
 use Rattle.upath.specs.SuccessiveParents.{parents_of}
-use Rattle.uefi_path.specs.Parents.{above}
+use Rattle.uefi_path.specs.Parents.{parent_text}
 use Rattle.uefi_path.specs.PathErrors.{path_error_text}
 use Rattle.uefi_path.specs.Verdicts.{verdict}
 use Rattle.uefi_path.specs.declared.validation.PathError.{PathError}
@@ -47,7 +47,7 @@ parents_lines parents =
 -- the line of `eq`: whether two texts are equal as paths
 abbrev pub eq_line : List ℕ → List ℕ → List ℕ
 eq_line path other =
-    if bytes_eq (canon path) (canon other) then line (codes "equal") else line (codes "different")
+    if bytes_eq (canonical path) (canonical other) then line (codes "equal") else line (codes "different")
 
 -- the line of `parent`: the parent, or that there is none
 abbrev pub parent_line : Option (List ℕ) → List ℕ
@@ -97,13 +97,13 @@ printed_by (push_text text) path =
 printed_by (join_text text) path =
     printed_unless (from_str_refusal (chars text)) (path_line (after_edit path (join (chars text))))
 printed_by clear_path path = path_line (after_edit path clear)
-printed_by parent_path path = parent_line (above path)
+printed_by parent_path path = parent_line (parent_text path)
 printed_by pieces path = pieces_lines (components_of path)
 printed_by up path = parents_lines (parents_of path)
 printed_by (eq_text text) path = printed_unless (from_str_refusal (chars text)) (eq_line path (chars text))
 printed_by (cmp_text text) path =
     printed_unless (from_str_refusal (chars text))
-    (cmp_line (slice_cmp nat_cmp (canon path) (canon (chars text))))
+    (cmp_line (slice_cmp nat_cmp (canonical path) (canonical (chars text))))
 printed_by check path = check_line (verdict path)
 printed_by unknown path = line (codes "? unknown command")
 printed_by not_utf8 path = line (codes "? not UTF-8")

@@ -2,7 +2,7 @@
 use Rattle.std.specs.Prelude.{◌≢◌, ℕ, List, [], None, ⊤}
 use Rattle.std.specs.List.{fold}
 use Rattle.uefi_text.specs.Views.{text_of}
-use Rattle.uefi_path.specs.Parents.{above}
+use Rattle.uefi_path.specs.Parents.{parent_text}
 use Rattle.uefi_path.specs.Views.{path_text}
 use Rattle.upath.specs.Edits.{Edit, from, push, join, clear, parent, after_edit}
 use Rattle.upath.specs.declared.path_commands.PathCommand.{PathCommand}
@@ -30,4 +30,4 @@ TakesMemory text (From string) = ⊤
 TakesMemory text (Push path) = path_text path ≢ []
 TakesMemory text (Join path) = ⊤
 TakesMemory text Clear = ⊥
-TakesMemory text Parent = above text ≢ None
+TakesMemory text Parent = parent_text text ≢ None

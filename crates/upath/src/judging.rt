@@ -1,6 +1,6 @@
 //! Bytes from outside, judged to be a path or refused.
 ghost use Rattle.std.specs.Prelude.{◌≡◌, None, IfErr, IfOk, unwrap_or};
-ghost use Rattle.uefi_text.specs.UnitBytes.{BytesSpell};
+ghost use Rattle.uefi_text.specs.UnitBytes.{BytesEncode};
 ghost use Rattle.upath.specs.Judging.{IsPathOf, IsRefusalOf, bytes_fault};
 
 use std::alloc::Allocator;
@@ -25,7 +25,7 @@ pub enum JudgeError {
 
 /// The string that bytes spell, two for each code unit.
 fn read_string<A: Allocator>(alloc: A, bytes: &[u8]) -> Result<CString16<A>, JudgeError>
-    ensures ok { IfOk result (λ string. BytesSpell bytes.now string) }
+    ensures ok { IfOk result (λ string. BytesEncode bytes.now string) }
     ensures accepted { IfOk result (λ _. bytes_fault bytes.now ≡ None) }
     ensures refusal { IfErr result (λ error. IsRefusalOf bytes.now error) }
 {

@@ -1,22 +1,22 @@
 //! The laws by which users of this layer reason, over the definitions that the contracts of the
 //! working calls cite. Each law is a function that does nothing: its contract is the law. No
 //! program calls it.
-ghost use Rattle.upath.specs.Laws.{AcceptedWhereSpelled, SpellOneText, SpelledOnce, TextWhereUnrefused, TextsAreCharacters, TextsAreSpelled};
+ghost use Rattle.upath.specs.Laws.{AcceptedWhereEncoded, EncodeOneText, EncodedOnce, TextWhereUnrefused, TextsAreCharacters, TextsAreEncoded};
 ghost use Rattle.upath.specs.Laws.{ComponentsOnce, NoComponentsOfEmpty, OneMoreThanSeparators, TextsHaveComponents};
-ghost use Rattle.upath.specs.Laws.{EqualWhereSameCanon, EqualityIsEquivalence, OrderIsTotal, OrderTiesEqual, SameAbove};
-ghost use Rattle.upath.specs.Laws.{EmptyBehindIsUnit, EmptyInFrontIsUnit, PushingIsAssociative};
+ghost use Rattle.upath.specs.Laws.{EqualWhereSameCanonical, EqualityIsEquivalence, OrderIsTotal, OrderTiesEqual, SameParent};
+ghost use Rattle.upath.specs.Laws.{EmptyAfterIsUnit, EmptyBeforeIsUnit, PushingIsAssociative};
 ghost use Rattle.upath.specs.Laws.{ComponentsAreJoined, JoinedAreSame, JoinedAreValid};
 ghost use Rattle.upath.specs.Laws.{ParentIsNotDoubled, ParentIsRelative, ParentIsValid};
-ghost use Rattle.upath.specs.Laws.{CanonIsEqual, ComponentsRebuild, ParentOfJoined};
-ghost use Rattle.upath.specs.Laws.{ClimbingEnds, FewerParents, ParentsAreBeginnings};
+ghost use Rattle.upath.specs.Laws.{CanonicalIsEqual, ComponentsRebuild, ParentOfJoined};
+ghost use Rattle.upath.specs.Laws.{WalkingUpEnds, FewerParents, ParentsArePrefixes};
 
 /// Every text is spelled by exactly one list of bytes, no bytes spell two texts, and bytes are accepted
 /// exactly where they spell one: `CStr16::from_bytes_with_nul` and `CStr16::as_bytes` undo one another.
 pub fn bytes_once()
-    ensures spelled { TextsAreSpelled }
-    ensures once { SpelledOnce }
-    ensures apart { SpellOneText }
-    ensures accepted { AcceptedWhereSpelled }
+    ensures encoded { TextsAreEncoded }
+    ensures once { EncodedOnce }
+    ensures apart { EncodeOneText }
+    ensures accepted { AcceptedWhereEncoded }
 {}
 
 /// Characters of Rust are a text exactly where none of them is refused, and each unit of a text is
@@ -37,7 +37,7 @@ pub fn split_once()
 
 /// Equal paths have the same parent, or both have none.
 pub fn parent_congruence()
-    ensures { SameAbove }
+    ensures { SameParent }
 {}
 
 /// Paths are totally ordered, equality is an equivalence, and two paths are equal exactly where
@@ -46,15 +46,15 @@ pub fn order_agrees()
     ensures total { OrderIsTotal }
     ensures ties { OrderTiesEqual }
     ensures equivalence { EqualityIsEquivalence }
-    ensures equal { EqualWhereSameCanon }
+    ensures equal { EqualWhereSameCanonical }
 {}
 
 /// Plain paths are a monoid under `Path::join`: in which order they are joined does not matter, and
 /// the empty path changes nothing on either side.
 pub fn join_monoid()
     ensures associative { PushingIsAssociative }
-    ensures behind { EmptyBehindIsUnit }
-    ensures in_front { EmptyInFrontIsUnit }
+    ensures after { EmptyAfterIsUnit }
+    ensures before { EmptyBeforeIsUnit }
 {}
 
 /// The components of two joined paths are those of the first and then those of the second, where
@@ -94,18 +94,18 @@ pub fn push_components()
 /// equal path.
 pub fn join_then_parent()
     ensures parent { ParentOfJoined }
-    ensures equal { CanonIsEqual }
+    ensures equal { CanonicalIsEqual }
 {}
 
 /// The successive parents of a valid path are its shorter beginnings, the longest first, down to the
 /// first component alone.
 pub fn parents_enumerate()
-    ensures { ParentsAreBeginnings }
+    ensures { ParentsArePrefixes }
 {}
 
 /// Climbing from any path ends, and a plain path of n components has at most n - 1 successive
 /// parents, or none where n is 0.
 pub fn parent_count()
-    ensures ends { ClimbingEnds }
+    ensures ends { WalkingUpEnds }
     ensures fewer { FewerParents }
 {}

@@ -5,7 +5,7 @@ ghost use Rattle.uefi_path.specs.Verdicts.{verdict};
 ghost use Rattle.uefi_path.specs.Views.{path_text};
 ghost use Rattle.uefi_text.specs.Views.{units_of};
 ghost use Rattle.upath.specs.PathCommands.{TakesMemory, after_command, after_commands};
-ghost use Rattle.upath.specs.SuccessiveParents.{AreParents, parents_of, shorter_beginnings};
+ghost use Rattle.upath.specs.SuccessiveParents.{AreParents, parents_of, shorter_prefixes};
 
 use std::alloc::{AllocError, Allocator};
 use uefi_path::{Path, PathBuf};
@@ -105,8 +105,8 @@ pub fn all_parents<A: Allocator + Copy>(
 ) -> Result<Vec<PathBuf<A>, A>, AllocError>
     ensures parents { IfOk result (λ parents. AreParents path.now parents.items) }
     ensures same { IfOk result (λ parents. parents.items ≡ parents_of path.now) }
-    ensures beginnings { IfOk result (λ parents.
-        verdict path.now ≡ None → parents.items ≡ shorter_beginnings path.now) }
+    ensures prefixes { IfOk result (λ parents.
+        verdict path.now ≡ None → parents.items ≡ shorter_prefixes path.now) }
 {
     let mut parents = Vec::new(alloc);
     let mut next = path.parent()?;

@@ -5,7 +5,7 @@ ghost use Rattle.std.specs.Str.{chars};
 ghost use Rattle.uefi_path.specs.Components.{components_of};
 ghost use Rattle.uefi_text.specs.ErrorTexts.{from_str_error_text};
 ghost use Rattle.uefi_text.specs.FromStr.{from_str_refusal};
-ghost use Rattle.uefi_path.specs.Parents.{above};
+ghost use Rattle.uefi_path.specs.Parents.{parent_text};
 ghost use Rattle.uefi_path.specs.Verdicts.{verdict};
 ghost use Rattle.upath.specs.Commands.{command_of, from_text, push_text, join_text, parent_path, eq_text, cmp_text};
 ghost use Rattle.upath.specs.Output.{check_line, line, output_of, parents_lines, path_after, path_line, pieces_lines, printed_by, text_line};
@@ -37,7 +37,7 @@ fn count_components<A: Allocator + Copy>(path: &PathBuf<A>) -> usize
 
 /// Whether a path has a parent: it has two components or more.
 fn has_parent<A: Allocator + Copy>(path: &PathBuf<A>) -> bool
-    ensures { result ≡ is_some (above path.now) }
+    ensures { result ≡ is_some (parent_text path.now) }
 {
     path.components().nth(1).is_some()
 }

@@ -5,7 +5,7 @@ use Rattle.std.specs.Str.Iter.{chars_rest}
 use Rattle.std.proofs.lemmas.Str.{IsUtf8-past_char}
 use Rattle.uefi_text_encodings.specs.FromStrWithBuf.{utf16}
 use Rattle.uefi_text_encodings.proofs.Texts.{chars_end, chars_step}
-use Rattle.uefi_text_encodings.proofs.Utf16.{ended, filled, length-utf16-push, length-with_units, refusal-push, unrefused, with_units-char}
+use Rattle.uefi_text_encodings.proofs.Utf16.{ended, non_empty, length-utf16-push, length-with_units, refusal-push, unrefused, with_units-char}
 use Rattle.uefi_text_encodings.proofs.code_units.write_text.Goals as goal
 
 pub loop-character-preserved : goal.loop-character-preserved
@@ -32,7 +32,7 @@ returns-then-buffer-len c =
     with_units-char old _ _ c.loop-character.yielded c.in-Some.character _ so_far.counted so_far.place_left so_far.written c.write_char-len.ensures.buffer in
     let count = length-utf16-push c.loop-character.yielded _ _ _ so_far.counted c.write_char-len.ensures.len in
     let full : length old ≤ length (utf16 front) = omega (arith, c.if-buffer-len.true, ap length written ∙ length-with_units (utf16 front) old, count) in
-    let end = filled old front (chars (chars_rest c.next.new.self)) full in
+    let end = non_empty old front (chars (chars_rest c.next.new.self)) full in
     record { ok = search rules; refusal = rw (← text) end.1; buffer = rw (← text) (written ∙ end.0) }
 
 pub returns-in-None-refusal : goal.returns-in-None-refusal

@@ -6,7 +6,7 @@ use Rattle.uefi_text.specs.Packed.{IsByte}
 use Rattle.uefi_text.specs.UnitBytes.{units_of_bytes}
 use Rattle.uefi_text.specs.Views.{items_of}
 use Rattle.uefi_text.proofs.Deciding.{with_nul_refusal-memory}
-use Rattle.uefi_text.proofs.UnitBytes.{units_spell, units_text}
+use Rattle.uefi_text.proofs.UnitBytes.{units_encode, units_text}
 use Rattle.upath.proofs.judging.read_string.Goals as goal
 
 are_bytes : (bytes : List ℕ) → ((k : ℕ) → get_or bytes k 0 < 256) → All IsByte bytes
@@ -20,7 +20,7 @@ returns-in-Ok-clause-ok g c =
     let accepted : with_nul_refusal (units_of_bytes bytes) ≡ None =
     ap with_nul_refusal (sym c.new.ensures.items) ∙ c.in-Ok.ensures.accepted in
     let read = c.in-Ok.ensures.ok ∙ c.new.ensures.items in
-    units_spell bytes c.in-Ok.string all_bytes even accepted read
+    units_encode bytes c.in-Ok.string all_bytes even accepted read
 
 pub returns-in-Err-OutOfMemory-clause-refusal : goal.returns-in-Err-OutOfMemory-clause-refusal
 returns-in-Err-OutOfMemory-clause-refusal g c =

@@ -8,7 +8,7 @@ use Rattle.std.specs.Ordering.{is_eq, nat_cmp}
 use Rattle.std.specs.Prelude.{nat_eq}
 use Rattle.std.specs.declared.cmp.Ordering.{Ordering}
 use Rattle.std.specs.declared.cmp.Ordering.TheVariants.{Less, Equal, Greater}
-use Rattle.uefi_path.specs.Separators.{canon}
+use Rattle.uefi_path.specs.Separators.{canonical}
 use Rattle.upath.proofs.laws.order_agrees.Goals as goal
 
 -- texts are tied exactly where they are the same
@@ -24,18 +24,18 @@ is_Equal Equal e = refl
 is_Equal Greater e = absurd (false≢true e)
 
 pub returns-clause-total : goal.returns-clause-total
-returns-clause-total c = on_total canon (lists_total nat_cmp_total)
+returns-clause-total c = on_total canonical (lists_total nat_cmp_total)
 
 pub returns-clause-ties : goal.returns-clause-ties
 returns-clause-ties c text other =
-    let same_texts = bytes_decides (canon text) (canon other) in (
-      λ tied. same_texts.0 (sym (ties (canon text) (canon other) Equal (sym tied))),
-      λ same. is_Equal (slice_cmp nat_cmp (canon text) (canon other))
-          (ties (canon text) (canon other) _ refl ∙ same_texts.1 same),
+    let same_texts = bytes_decides (canonical text) (canonical other) in (
+      λ tied. same_texts.0 (sym (ties (canonical text) (canonical other) Equal (sym tied))),
+      λ same. is_Equal (slice_cmp nat_cmp (canonical text) (canonical other))
+          (ties (canonical text) (canonical other) _ refl ∙ same_texts.1 same),
     )
 
 pub returns-clause-equivalence : goal.returns-clause-equivalence
-returns-clause-equivalence c = on_equiv canon (lists_equiv nat_eq_equiv)
+returns-clause-equivalence c = on_equiv canonical (lists_equiv nat_eq_equiv)
 
 pub returns-clause-equal : goal.returns-clause-equal
-returns-clause-equal c text other = bytes_decides (canon text) (canon other)
+returns-clause-equal c text other = bytes_decides (canonical text) (canonical other)

@@ -1,6 +1,6 @@
 use Rattle.std.proofs.Common.{ℕ, ◌-◌, ◌≤◌, List, [], ◌∷◌, length, arith}
-use Rattle.uefi_path.proofs.ParentForm.{above-plain}
-use Rattle.uefi_path.proofs.ParentSizes.{above-slashed, fewer_above}
+use Rattle.uefi_path.proofs.ParentForm.{parent_text-plain}
+use Rattle.uefi_path.proofs.ParentSizes.{parent_text-with_separators, fewer_parent_text}
 use Rattle.uefi_path.specs.Components.{components_of}
 use Rattle.uefi_path.specs.Separators.{IsPlain}
 use Rattle.upath.specs.SuccessiveParents.{AreParents, parents_of}
@@ -13,9 +13,9 @@ fewer_parents text [] plain none = omega arith
 fewer_parents text (parent ∷ parents) plain of_parent =
     omega (
       arith,
-      fewer_parents parent parents (above-slashed text parent of_parent.0) of_parent.1,
-      fewer_above text parent plain of_parent.0,
-      (above-plain text parent plain of_parent.0).1,
+      fewer_parents parent parents (parent_text-with_separators text parent of_parent.0) of_parent.1,
+      fewer_parent_text text parent plain of_parent.0,
+      (parent_text-plain text parent plain of_parent.0).1,
     )
 
 pub returns-clause-ends : goal.returns-clause-ends

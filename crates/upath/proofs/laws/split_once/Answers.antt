@@ -3,13 +3,13 @@ use Rattle.std.proofs.lemmas.List.Splits.{length-slice_split}
 use Rattle.std.specs.List.{count_by}
 use Rattle.uefi_path.proofs.Splitting.{AreComponents-components_of, components_of-only}
 use Rattle.uefi_path.specs.Components.{components_of, pieces_between}
-use Rattle.uefi_path.specs.Separators.{canon, is_separator}
+use Rattle.uefi_path.specs.Separators.{canonical, is_separator}
 use Rattle.upath.proofs.laws.split_once.Goals as goal
 
 length-pieces_between : (us : List ℕ) → us ≢ []
     → length (pieces_between us) ≡ count_by is_separator us + 1
-length-pieces_between [] filled = absurd (filled refl)
-length-pieces_between (u ∷ us) filled = length-slice_split is_separator (u ∷ us)
+length-pieces_between [] non_empty = absurd (non_empty refl)
+length-pieces_between (u ∷ us) non_empty = length-slice_split is_separator (u ∷ us)
 
 pub returns-clause-split : goal.returns-clause-split
 returns-clause-split c text = (components_of text, AreComponents-components_of text)
@@ -24,6 +24,6 @@ returns-clause-none c text pieces are_pieces is_empty =
     ∙ ap (λ us. length (pieces_between us)) is_empty
 
 pub returns-clause-count : goal.returns-clause-count
-returns-clause-count c text pieces are_pieces filled =
+returns-clause-count c text pieces are_pieces non_empty =
     ap length (components_of-only text pieces are_pieces)
-    ∙ length-pieces_between (canon text) filled
+    ∙ length-pieces_between (canonical text) non_empty

@@ -3,7 +3,7 @@ use Rattle.std.proofs.Common.{◌≡◌, [], arith, sym, ◌∙◌}
 use Rattle.std.proofs.lemmas.Grind.{common_steps}
 use Rattle.uefi_text.specs.Views.{units_of}
 use Rattle.uefi_path.specs.Views.{components_left, path_text}
-use Rattle.uefi_path.proofs.Splitting.{AreComponents-components_of, components_of-only, slice_split-canon, length-slice_split-le}
+use Rattle.uefi_path.proofs.Splitting.{AreComponents-components_of, components_of-only, slice_split-canonical, length-slice_split-le}
 use Rattle.uefi_text.proofs.Runs.{gives_each}
 use Rattle.uefi_path.proofs.path.Path.components.Goals as goal
 use Rattle.uefi_path.proofs.path.Path.components.Goals.{After-is_empty}
@@ -19,8 +19,8 @@ unfolding components_left
 returns-clause-components c =
     let text = path_text c.args.self.now in
     let units = units_of c.canonical-text.result in
-    let filled : units ≡ [] → ⊥ = λ e. grind (arith, common_steps, c.if-is_empty.ensures) in
-    rw (slice_split-canon text units c.canonical-text.ensures.same filled)
+    let non_empty : units ≡ [] → ⊥ = λ e. grind (arith, common_steps, c.if-is_empty.ensures) in
+    rw (slice_split-canonical text units c.canonical-text.ensures.same non_empty)
     (AreComponents-components_of text)
 
 pub returns-clause-only : goal.returns-clause-only
@@ -28,9 +28,9 @@ unfolding components_left
 returns-clause-only c = λ pieces components.
     let text = path_text c.args.self.now in
     let units = units_of c.canonical-text.result in
-    let filled : units ≡ [] → ⊥ = λ e. grind (arith, common_steps, c.if-is_empty.ensures) in
+    let non_empty : units ≡ [] → ⊥ = λ e. grind (arith, common_steps, c.if-is_empty.ensures) in
     components_of-only text pieces components
-    ∙ sym (slice_split-canon text units c.canonical-text.ensures.same filled)
+    ∙ sym (slice_split-canonical text units c.canonical-text.ensures.same non_empty)
 
 pub returns-clause-bound : goal.returns-clause-bound
 unfolding components_left

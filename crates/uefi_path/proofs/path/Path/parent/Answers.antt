@@ -6,10 +6,10 @@ use Rattle.uefi_text.specs.Units.{IsText, IsTextUnit}
 use Rattle.uefi_path.specs.Components.{components_of}
 use Rattle.uefi_path.specs.Parents.{all_but_last}
 use Rattle.uefi_path.specs.Pushing.{appended}
-use Rattle.uefi_path.specs.Separators.{slashed}
+use Rattle.uefi_path.specs.Separators.{with_separators}
 use Rattle.uefi_path.specs.Views.{path_text}
 use Rattle.uefi_path.proofs.Splitting.{AreComponents-components_of}
-use Rattle.uefi_path.proofs.Parents.{above_last-many, All-components_of, rejoined-added}
+use Rattle.uefi_path.proofs.Parents.{parent_of_components-many, All-components_of, rejoined-added}
 use Rattle.uefi_path.proofs.PathTexts.{IsText-path_text}
 use Rattle.uefi_path.proofs.path.Path.parent.Goals as goal
 
@@ -27,4 +27,4 @@ returns-clause-ok g c =
     let added : c.append_all_but_last.new.string ≡ fold appended [] (all_but_last all) =
     grind (arith, common_steps) in
     let whole = rejoined-added all (AreComponents-components_of text).are_pieces in
-    ap Some (c.turned.ensures ∙ ap slashed (added ∙ whole)) ∙ sym (above_last-many all many)
+    ap Some (c.from_string.ensures ∙ ap with_separators (added ∙ whole)) ∙ sym (parent_of_components-many all many)
