@@ -12,14 +12,14 @@ const MOST_REQUESTS: u64 = 1000;
 pub struct Refusals {
     /// The runs that reported that memory ran out.
     pub failed: u64,
-    /// The runs that gave the answer of ample memory all the same.
+    /// The runs that gave the result of ample memory all the same.
     pub answered: u64,
 }
 
 /// Why the runs of a call are not what they should be.
 #[derive(Debug, Drop)]
 pub enum RefusalError {
-    /// The answer was wrong in the run that refuses this request.
+    /// The result was wrong in the run that refuses this request.
     WrongAnswer(u64),
     /// Memory ran out in the run that refuses this request, though none was refused.
     OutOfMemory(u64),
@@ -30,7 +30,7 @@ pub enum RefusalError {
 }
 
 /// What a call returns to [`refused_in_turn`] once memory ran out: `AllocError` if all that it works on
-/// is as a refusal has to leave it, and else a wrong answer.
+/// is as a refusal has to leave it, and else a wrong result.
 pub fn out_of_memory(is_as_promised: bool) -> Result<bool, AllocError> {
     if is_as_promised {
         Err(AllocError)
@@ -42,7 +42,7 @@ pub fn out_of_memory(is_as_promised: bool) -> Result<bool, AllocError> {
 /// Runs a call with each request after the first `setup` ones refused in turn, until a run ends with
 /// none refused.
 ///
-/// The call returns whether its answer is that of ample memory, or [`out_of_memory`] of what it finds
+/// The call returns whether its result is that of ample memory, or [`out_of_memory`] of what it finds
 /// where it reports that.
 /// The `setup` requests are those that build what the call works on.
 pub fn refused_in_turn<F: Fn(&Refusing<Global>) -> Result<bool, AllocError>>(

@@ -72,7 +72,7 @@ fn sinks_that_grow(rt: HostRuntime) -> Result<(), Fail> {
     Ok(())
 }
 
-/// Whether an answer holds this string, or memory ran out.
+/// Whether a result holds this string, or memory ran out.
 fn until_nul(
     heap: &Refusing<Global>,
     list: &[Char16],
@@ -98,7 +98,7 @@ fn characters_until_nul(rt: HostRuntime) -> Result<(), Fail> {
     Ok(())
 }
 
-/// Whether an answer holds this string, or memory ran out.
+/// Whether a result holds this string, or memory ran out.
 fn outcome(
     answer: Result<CString16<&Refusing<Global>>, FromSliceWithNulError>,
     want: CStr16<'_>,

@@ -1,5 +1,5 @@
--- Paths pushed one behind the other: in which order does not matter, and their components stand one
--- behind the other too.
+-- Paths pushed one after the other: in which order does not matter, and their components stand one
+-- after the other too.
 use Rattle.std.proofs.Common.{◌≡◌, ◌≢◌, ℕ, List, [], ◌∷◌, ◌++◌, length, Bool, true, false, not, if◌then◌else◌, inl, inr, ap, sym, refl, subst, ◌∙◌, ◌⊎◌, append_assoc, arith}
 use Rattle.std.specs.List.{onto_first, slice_split}
 use Rattle.std.proofs.lemmas.Bool.{cases_Bool, false≢true}
@@ -12,7 +12,7 @@ use Rattle.uefi_path.proofs.Parents.{needs_separator-append}
 use Rattle.uefi_path.proofs.Pushing.{IsPlain-appended, with_separators-plain}
 use Rattle.uefi_path.proofs.Splitting.{IsPlain-with_separators}
 
--- behind a text that is not empty the text in front of it does not count
+-- after a text that is not empty the text before it does not count
 needs_separator-appended : (text : List ℕ) (u : ℕ) (us : List ℕ)
     → needs_separator (appended text (u ∷ us)) ≡ needs_separator (u ∷ us)
 needs_separator-appended text u us =
@@ -40,7 +40,7 @@ appended_cases : (text us part : List ℕ) (b : Bool)
 appended_cases text us part true = appended-append text us (separator ∷ part)
 appended_cases text us part false = appended-append text us part
 
--- a part behind two texts
+-- a part after two texts
 appended-appended : (text : List ℕ) (u : ℕ) (us part : List ℕ)
     → appended (appended text (u ∷ us)) part ≡ appended text (appended (u ∷ us) part)
 appended-appended text u us part =
@@ -124,7 +124,7 @@ canonical-cons u us vs =
     as (λ b. (if b then us ++ vs else u ∷ (us ++ vs)) ≡ (if b then us else u ∷ us) ++ vs)
     [ true ↦ refl | false ↦ refl ]
 
--- the lone separator takes no more in front of a part
+-- the lone separator takes no more before a part
 lone : (u : ℕ) (us : List ℕ) → canonical (u ∷ us) ≡ [] → (us ≡ []) × (is_separator u ≡ true)
 lone u us =
     elim (is_separator u) as (λ b. (if b then us else u ∷ us) ≡ [] → (us ≡ []) × (b ≡ true))
@@ -146,13 +146,13 @@ appended_after_lone u us part e =
     ∙ ap (λ b. canonical (if not b then (u ∷ []) ++ separator ∷ part else (u ∷ []) ++ part)) parts.1
     ∙ ap (λ b. if b then part else u ∷ part) parts.1
 
--- a part that begins with no separator, behind nothing or the lone separator
+-- a part that begins with no separator, after nothing or the lone separator
 canonical-appended-empty : (text part : List ℕ) → canonical text ≡ [] → canonical part ≡ part
     → canonical (appended text part) ≡ part
 canonical-appended-empty [] part e front = front
 canonical-appended-empty (u ∷ us) part e front = appended_after_lone u us part e
 
--- and behind a text that ends in no separator
+-- and after a text that ends in no separator
 canonical-appended-open : (text part : List ℕ) → needs_separator text ≡ true
     → canonical (appended text part) ≡ canonical text ++ separator ∷ part
 canonical-appended-open [] part missing = absurd (false≢true missing)
@@ -172,7 +172,7 @@ components_of-appended text part (inr missing) front non_empty =
     ∙ pieces_between-append (canonical text) part (canonical-non_empty text missing) non_empty
     ∙ ap (λ us. components_of text ++ pieces_between us) (sym front)
 
--- the components of a path behind another
+-- the components of a path after another
 pub components_of-pushed : (text part : List ℕ) → IsPlain part
     → (canonical text ≡ []) ⊎ (needs_separator text ≡ true) → canonical part ≡ part
     → components_of (pushed text part) ≡ components_of text ++ components_of part
@@ -181,7 +181,7 @@ components_of-pushed text (u ∷ us) plain ends front =
     ap (λ part. components_of (appended text part)) (with_separators-plain (u ∷ us) plain)
     ∙ components_of-appended text (u ∷ us) ends front (λ e. cc)
 
--- what is pushed behind a path with components is pushed behind its canonical text
+-- what is pushed after a path with components is pushed after its canonical text
 needs_separator-tail : (u : ℕ) (us : List ℕ) → us ≢ []
     → needs_separator (u ∷ us) ≡ needs_separator us
 needs_separator-tail u [] non_empty = absurd (non_empty refl)

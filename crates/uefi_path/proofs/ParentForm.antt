@@ -15,7 +15,7 @@ use Rattle.uefi_path.proofs.Pushing.{separator_is_plain, with_separators-plain}
 use Rattle.uefi_path.proofs.Splitting.{AreComponents-components_of, pieces_between-joined, slice_split-joined}
 use Rattle.uefi_path.proofs.Validity.{All-good_non_empty, All-good_piece, All-good_plain, All-joined, valid-components, valid-from, valid-plain}
 
--- no separator stands in front of pieces that are not empty
+-- no separator stands before pieces that are not empty
 prefix_joined : (n : List ℕ) (ns : List (List ℕ)) (more : List ℕ) → IsPiece n → IsFull n
     → canonical (joined (n ∷ ns) ++ more) ≡ joined (n ∷ ns) ++ more
 prefix_joined [] ns more piece full = absurd (false≢true full)

@@ -35,7 +35,7 @@ open_piece (u ∷ us) piece full =
     let last = get_or (u ∷ us) (length us) 0 in
     ap not (ne_eqb last separator (piece (length us) 0 (omega arith)))
 
--- a separator in front changes nothing
+-- a leading separator changes nothing
 pub after_separator : (us : List ℕ) → needs_separator us ≡ true
     → needs_separator (separator ∷ us) ≡ true
 after_separator [] missing = absurd (false≢true missing)

@@ -27,7 +27,7 @@ appended-joined (p ∷ ps) q good =
 not_empty : (c : List ℕ) → is_non_empty c ≡ true → c ≢ []
 not_empty c full e = false≢true (ap is_non_empty (sym e) ∙ full)
 
--- one good piece pushed behind others
+-- one good piece pushed after others
 pushed-joined : (ps : List (List ℕ)) (q : List ℕ) → All IsGood ps → IsGood q
     → pushed (joined ps) q ≡ joined (ps ++ q ∷ [])
 pushed-joined ps q good good_piece =
@@ -71,7 +71,7 @@ some_more : (ps : List (List ℕ)) (q : List ℕ) → ps ≢ [] → 1 < length (
 some_more [] q many = absurd (many refl)
 some_more (p ∷ ps) q many = omega (arith, length-append ps (q ∷ []))
 
--- above a piece that was pushed is what it was pushed behind
+-- above a piece that was pushed is what it was pushed after
 pub parent_text-pushed : (text piece : List ℕ) → verdict text ≡ None → components_of text ≢ []
     → IsGood piece → parent_text (pushed text piece) ≡ Some (canonical text)
 parent_text-pushed text piece valid many good =

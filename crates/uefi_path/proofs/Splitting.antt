@@ -11,7 +11,7 @@ use Rattle.uefi_text.specs.Units.{replaced}
 use Rattle.uefi_path.specs.Components.{joined, IsPiece, AreComponents, components_of, pieces_between, IsFirstCut}
 use Rattle.uefi_path.specs.Separators.{separator, slash, is_separator, canonical, with_separators, IsPlain}
 
--- lists of which the first gets an element in front: what holds of it and of theirs holds of all
+-- lists of which the first gets another first element: what holds of it and of theirs holds of all
 pub All-onto_first : (P : ℕ → Type 0) (u : ℕ) (ps : List (List ℕ)) → P u → All (All P) ps
     → All (All P) (onto_first u ps)
 All-onto_first P u [] of_unit all =
@@ -134,6 +134,6 @@ length-slice_split-le us = omega (arith, length-slice_split is_separator us, cou
 from_string : (unit : ℕ) → replaced slash separator unit ≢ slash
 from_string unit e = grind (arith, common_steps)
 
--- a text in which each slash was turned has none
+-- a text in which each slash was replaced has none
 pub IsPlain-with_separators : (text : List ℕ) → IsPlain (with_separators text)
 IsPlain-with_separators text = All-map (λ v. v ≢ slash) (replaced slash separator) text (λ k d h. from_string (get_or text k d))

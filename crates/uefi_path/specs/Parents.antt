@@ -24,16 +24,16 @@ ends_empty [] = false
 ends_empty (piece ∷ []) = not (is_non_empty piece)
 ends_empty (piece ∷ next ∷ pieces) = ends_empty (next ∷ pieces)
 
--- pieces with a separator between neighbours, and one behind the last where that is asked for
+-- pieces with a separator between neighbours, and one after the last where that is asked for
 abbrev pub joined_with_end : List (List ℕ) → Bool → List ℕ
 joined_with_end [] closes = []
 joined_with_end (piece ∷ pieces) closes = joined (piece ∷ pieces) ++ (if closes then separator ∷ [] else [])
 
--- the pieces that are not empty, joined, and a separator behind them where the last of all is empty
+-- the pieces that are not empty, joined, and a separator after them where the last of all is empty
 abbrev pub rejoined : List (List ℕ) → List ℕ
 rejoined pieces = joined_with_end (non_empty pieces) (ends_empty pieces)
 
--- what is left of components without the last, where there are two or more; slashes are turned
+-- what is left of components without the last, where there are two or more; slashes are replaced
 abbrev pub parent_of_components : List (List ℕ) → Option (List ℕ)
 parent_of_components [] = None
 parent_of_components (piece ∷ []) = None

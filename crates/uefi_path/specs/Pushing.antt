@@ -1,17 +1,17 @@
--- What a path is once another was pushed behind it.
+-- What a path is once another was pushed after it.
 use Rattle.std.specs.Prelude.{ℕ, Bool, false, not, if◌then◌else◌, List, [], ◌∷◌, ◌++◌, length, slice_index}
 use Rattle.uefi_path.specs.Separators.{separator, is_separator, with_separators}
 
--- whether a separator is missing behind a text: it is not empty, and its last unit is none
+-- whether a separator is missing after a text: it is not empty, and its last unit is none
 abbrev pub needs_separator : List ℕ → Bool
 needs_separator [] = false
 needs_separator (unit ∷ units) = not (is_separator (slice_index (unit ∷ units) (length units)))
 
--- a part behind a text, and a separator between the two where one is missing
+-- a part after a text, and a separator between the two where one is missing
 abbrev pub appended : List ℕ → List ℕ → List ℕ
 appended text part = if needs_separator text then text ++ separator ∷ part else text ++ part
 
--- a path behind another, its slashes turned; the empty path changes nothing
+-- a path after another, its slashes replaced; the empty path changes nothing
 abbrev pub pushed : List ℕ → List ℕ → List ℕ
 pushed text [] = text
 pushed text (unit ∷ units) = appended text (with_separators (unit ∷ units))

@@ -1,5 +1,5 @@
--- Separators in a text: the one that is ignored at its front, and the slashes that path buffers
--- turn.
+-- Separators in a text: the one that is ignored at its start, and the slashes that path buffers
+-- replace.
 use Rattle.std.specs.Prelude.{◌≢◌, ℕ, Bool, ◌==◌, if◌then◌else◌, List, [], ◌∷◌, map, All}
 use Rattle.uefi_text.specs.Units.{replaced}
 
@@ -19,7 +19,7 @@ abbrev pub canonical : List ℕ → List ℕ
 canonical [] = []
 canonical (unit ∷ units) = if is_separator unit then units else unit ∷ units
 
--- a text with each slash turned into a separator
+-- a text with each slash replaced by a separator
 abbrev pub with_separators : List ℕ → List ℕ
 with_separators text = map (replaced slash separator) text
 

@@ -1,4 +1,4 @@
--- What a lent value shows. Other crates see these words alone, and no field.
+-- What a borrowed value shows. Other crates see these words alone, and no field.
 use Rattle.std.specs.Prelude.{ℕ, List, [], Option, Some, None}
 use Rattle.std.specs.List.{slice_split}
 use Rattle.uefi_text.specs.Views.{text_of, units_of}

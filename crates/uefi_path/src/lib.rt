@@ -1,11 +1,11 @@
-//! Paths over UCS-2 strings, as UEFI firmware spells them: components between backslashes.
+//! Paths over UCS-2 strings, as UEFI firmware encodes them: components between backslashes.
 //!
 //! A [`Path`] is a view of a string of `uefi_text`, and a [`PathBuf`] owns one. One leading
 //! [`SEPARATOR`] says nothing: the *canonical text* of a path is its text without it, two paths are
 //! equal exactly when their canonical texts are and ordered as these are, and a path's *components*
 //! are the pieces between the separators of its canonical text, empty ones too. The empty path and
-//! the lone separator have none. A `PathBuf` turns each `/` that it takes over into a separator; a
-//! `Path` turns nothing. [`validate_path`] says whether each component may name a file.
+//! the lone separator have none. A `PathBuf` replaces each `/` that it takes over by a separator; a
+//! `Path` replaces nothing. [`validate_path`] says whether each component may name a file.
 //!
 //! ```rust
 //! use std::alloc::AllocError;

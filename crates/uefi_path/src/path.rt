@@ -1,4 +1,4 @@
-//! Paths that are lent, and their components. `specs/Views.antt` says what each view shows.
+//! Paths that are borrowed, and their components. `specs/Views.antt` says what each view shows.
 #![tactic(auto, unfolding(crate::specs::Views::path_text, crate::specs::Views::components_left))]
 
 ghost use Rattle.std.specs.Prelude.{◌≡◌, ℕ, ◌+◌, ◌<◌, ◌^◌, ◌↔◌, [], ◌∷◌, List, Option, length, position, IsTrue};
@@ -13,7 +13,7 @@ use std::fmt;
 use uefi_text::chars::SEPARATOR;
 use uefi_text::strs::{CStr16, Char16Slice};
 
-/// A path that is lent: any string, read as components between separators. In contracts it is
+/// A path that is borrowed: any string, read as components between separators. In contracts it is
 /// `path_text` of it.
 #[derive(Clone, Copy)]
 pub struct Path<'a> {
@@ -24,12 +24,12 @@ pub struct Path<'a> {
 /// of it.
 #[derive(Drop)]
 pub struct Components<'a> {
-    /// What is left to cut; `None` behind the last component.
+    /// What is left to cut; `None` after the last component.
     rest: Option<Char16Slice<'a>>,
 }
 
 impl<'a> Path<'a> {
-    /// The path of a string, which is taken as it stands: no slash is turned.
+    /// The path of a string, which is taken as it stands: no slash is replaced.
     pub fn new(string: CStr16<'a>) -> Path<'a>
         ensures { path_text result ≡ text_of string.entry }
     {
@@ -117,7 +117,7 @@ impl<'a> Eq for Path<'a> {
 }
 
 /// The order of the canonical texts, by code unit: components are not compared one by one, so `a\\b`
-/// comes behind `a!`.
+/// comes after `a!`.
 impl<'a> PartialOrd for Path<'a> {
     ghost use Rattle.std.proofs.Common.{rules};
     ghost use Rattle.std.specs.Ordering.{nat_cmp, as_partial_cmp, on};

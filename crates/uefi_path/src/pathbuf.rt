@@ -46,8 +46,8 @@ fn needs_separator<A: Allocator>(string: &CString16<A>) -> bool
     !text.is_empty() && text.get(text.len() - 1) != Some(SEPARATOR)
 }
 
-/// Adds a part behind a string, and a separator between the two where one is missing. Where memory
-/// is refused the string is as it was.
+/// Adds a part after a string, and a separator between the two where one is missing. Where memory
+/// is refused the string is unchanged.
 fn append<A: Allocator>(string: &mut CString16<A>, part: Char16Slice<'_>) -> Result<(), AllocError>
     requires { IsText (units_of part) }
     ensures ok { OnOk result (string.new ≡ appended string.old (units_of part.entry)) }
@@ -64,7 +64,7 @@ fn append<A: Allocator>(string: &mut CString16<A>, part: Char16Slice<'_>) -> Res
     Ok(())
 }
 
-/// Adds each component but the last behind a string, as [`append`] does.
+/// Adds each component but the last after a string, as [`append`] does.
 fn append_all_but_last<A: Allocator>(
     string: &mut CString16<A>,
     mut components: Components<'_>,
@@ -83,19 +83,19 @@ fn append_all_but_last<A: Allocator>(
     Ok(())
 }
 
-/// The calls that make a path of one's own.
+/// The calls that make an owned path.
 impl<'a> Path<'a> {
     ghost use Rattle.uefi_path.specs.Views.{path_text};
 
-    /// The path over memory of its own, each slash turned; or `AllocError`. One allocation.
+    /// The path in memory that it owns, each slash replaced; or `AllocError`. One allocation.
     pub fn to_path_buf<A: Allocator + Copy>(&self, alloc: A) -> Result<PathBuf<A>, AllocError>
         ensures { IfOk result (λ path. path ≡ with_separators (path_text self.now)) }
     {
         PathBuf::from(alloc, self.to_cstr16())
     }
 
-    /// The path with another pushed behind it, as [`PathBuf::push`] does, in memory of its own; or
-    /// `AllocError`. The slashes of both are turned. One allocation of the size needed.
+    /// The path with another pushed after it, as [`PathBuf::push`] does, in memory that it owns; or
+    /// `AllocError`. The slashes of both are replaced. One allocation of the size needed.
     pub fn join<A: Allocator + Copy>(
         &self,
         alloc: A,
@@ -115,7 +115,7 @@ impl<'a> Path<'a> {
         Ok(joined)
     }
 
-    /// The path without its last component, in memory of its own with each slash turned; or
+    /// The path without its last component, in memory that it owns with each slash replaced; or
     /// `AllocError`.
     ///
     /// There is none where the path has at most one component: that takes no memory and is never
@@ -149,7 +149,7 @@ impl<A: Allocator + Copy> PathBuf<A> {
         })
     }
 
-    /// The path of a string, each slash turned, over the string's memory.
+    /// The path of a string, each slash replaced, over the string's memory.
     fn from_string(alloc: A, mut string: CString16<A>) -> Self
         ensures { result ≡ with_separators string }
     {
@@ -157,7 +157,7 @@ impl<A: Allocator + Copy> PathBuf<A> {
         PathBuf { string, alloc }
     }
 
-    /// The path of a lent string, each slash turned, in memory of its own; or `AllocError`. One
+    /// The path of a borrowed string, each slash replaced, in memory that it owns; or `AllocError`. One
     /// allocation.
     pub fn from(alloc: A, string: CStr16<'_>) -> Result<Self, AllocError>
         ensures { IfOk result (λ path. path ≡ with_separators (text_of string.entry)) }
@@ -165,7 +165,7 @@ impl<A: Allocator + Copy> PathBuf<A> {
         Ok(PathBuf::from_string(alloc, string.to_owned(alloc)?))
     }
 
-    /// The path of a string, each slash turned, over the string's own memory. An `Err` would hand
+    /// The path of a string, each slash replaced, over the string's own memory. An `Err` would hand
     /// the string back as it came; none does today, since no memory is asked for.
     pub fn new_from_cstring16(alloc: A, string: CString16<A>) -> Result<Self, CString16<A>>
         ensures ok { IfOk result (λ path. path ≡ with_separators string) }
@@ -175,8 +175,8 @@ impl<A: Allocator + Copy> PathBuf<A> {
         Ok(PathBuf::from_string(alloc, string))
     }
 
-    /// Pushes a path behind this one, its slashes turned, and a separator between the two where this
-    /// one is not empty and does not end in one; or `AllocError`, and the path is as it was.
+    /// Pushes a path after this one, its slashes replaced, and a separator between the two where this
+    /// one is not empty and does not end in one; or `AllocError`, and the path is unchanged.
     ///
     /// The empty path changes nothing, takes no memory and is never refused. A push costs what it
     /// adds, on average: of what stands already only the last character is looked at.
@@ -194,7 +194,7 @@ impl<A: Allocator + Copy> PathBuf<A> {
         Ok(())
     }
 
-    /// The path with another pushed behind it, as [`Path::join`], in memory of the same allocator.
+    /// The path with another pushed after it, as [`Path::join`], in memory of the same allocator.
     pub fn join(&self, path: Path<'_>) -> Result<Self, AllocError>
         ensures { IfOk result (λ joined. joined ≡ pushed self.now (path_text path.entry)) }
     {

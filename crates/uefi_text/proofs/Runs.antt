@@ -11,7 +11,7 @@ use Rattle.std.proofs.lemmas.Bool.{cases_lt}
 use Rattle.std.proofs.lemmas.Grind.{common_steps}
 use Rattle.uefi_text.specs.Runs.{GivesEach, GivesNoNul}
 
--- what calls gave is the front of what was left
+-- what calls gave is the prefix of what was left
 given_prefix : {S A B : Type 0} (view : A → B) (left : S → List B) (s : S) (xs : List A) (t : S)
     → Yields (YieldsFirstBy view left) s xs t → map view xs ≡ take (length xs) (left s)
 given_prefix view left s [] t y = refl

@@ -7,7 +7,7 @@ use Rattle.uefi_text.specs.Views.{text_of, units_of}
 use Rattle.uefi_text.specs.declared.strs.CStr16.{CStr16}
 use Rattle.uefi_text.specs.declared.strs.Char16Slice.{Char16Slice}
 
--- what a lent string shows is a text
+-- what a borrowed string shows is a text
 pub IsText-text_of : (string : CStr16) → IsText (text_of string)
 unfolding text_of
 IsText-text_of string = string.is_string.1

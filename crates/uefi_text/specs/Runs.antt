@@ -4,7 +4,7 @@ use Rattle.std.specs.Iterator.{YieldsFirstBy}
 use Rattle.std.specs.Iterator.Runs.{AllItems, EachRunFrom, ItemsMapTo}
 
 -- each run of calls from here gives in order the items that `left` shows, each seen by `view`: the
--- first so many of them, and all where it came to an end
+-- first ones, as many as there were calls, and all where it came to an end
 abbrev pub GivesEach : {S A B : Type 0} → (A → B) → (S → List B) → S → Type 0
 GivesEach view left here =
     EachRunFrom (YieldsFirstBy view left) here (λ run.

@@ -1,4 +1,4 @@
--- What a lent value shows. Other crates see these words alone, and no field.
+-- What a borrowed value shows. Other crates see these words alone, and no field.
 use Rattle.std.specs.Prelude.{ℕ, List}
 use Rattle.uefi_text_encodings.specs.Packed.{packed_items}
 unfoldable pub use Rattle.uefi_text_encodings.specs.Views.{bytes_of}
@@ -10,7 +10,7 @@ use Rattle.uefi_text.specs.declared.unaligned_slice.UnalignedSlice.{UnalignedSli
 use Rattle.uefi_text.specs.declared.unaligned_slice.UnalignedSliceIter.{UnalignedSliceIter}
 use Rattle.uefi_text.specs.declared.unaligned_slice.UnalignedSliceIntoIter.{UnalignedSliceIntoIter}
 
--- the text of a lent string, without its NUL
+-- the text of a borrowed string, without its NUL
 unfoldable pub text_of : CStr16 → List ℕ
 text_of string = without_nul string.units.now
 
@@ -31,6 +31,6 @@ module _ {T : Type 0} {P : _} where
   unfoldable pub items_left : UnalignedSliceIter T P → List ℕ
   items_left iter = items_of iter.rest
 
-  -- the same, of the iterator that a slice is turned into
+  -- the same, of the iterator that a slice is made into
   unfoldable pub into_iter_items_left : UnalignedSliceIntoIter T P → List ℕ
   into_iter_items_left iter = items_left iter.items

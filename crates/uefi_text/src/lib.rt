@@ -4,20 +4,20 @@
 //! of characters without NUL, and a *string* is a text followed by its one NUL, as UEFI stores it
 //! in `CHAR16` (UEFI Specification 2.10, section 2.3.1). A [`CStr16`] is a view of a string that
 //! lies elsewhere, and a [`CString16`] owns one. Both are made by checked constructors alone, so a
-//! string never lacks its NUL, and every value of these types spells a text.
+//! string never lacks its NUL, and every value of these types encodes a text.
 //!
 //! ```rust
 //! use uefi_text::{CStr16, CString16, FromSliceWithNulError};
 //!
-//! let lent = CStr16::from_u16_with_nul(&[0x48, 0x69, 0])?;
+//! let borrowed = CStr16::from_u16_with_nul(&[0x48, 0x69, 0])?;
 //! let owned = CString16::try_from_str(rt.alloc(), "Hi")?;
-//! assert!(rt; lent == owned.as_cstr16());
+//! assert!(rt; borrowed == owned.as_cstr16());
 //!
 //! let broken = CStr16::from_u16_with_nul(&[0x48, 0xd800, 0]);
 //! assert_eq!(rt; broken.err(), Some(FromSliceWithNulError::InvalidChar(1)));
 //! ```
 //!
-//! Strings come out of code units, characters, bytes and Rust texts, lent where nothing has to be
+//! Strings come out of code units, characters, bytes and Rust texts, borrowed where nothing has to be
 //! copied, and each refusal says what is wrong and where. They go back into bytes, Rust texts and any
 //! [`CharSink`]. A [`CStr8`] is a string of Latin-1, and [`EqStrUntilNul`] compares all of them with
 //! Rust texts. An [`UnalignedSlice`] reads numbers that lie packed in bytes, at any place of memory.

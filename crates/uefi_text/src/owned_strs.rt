@@ -57,17 +57,17 @@ fn units_of_characters<A: Allocator>(
     Ok(units)
 }
 
-/// The ways from characters, and from a lent string, into a string that is owned.
+/// The ways from characters, and from a borrowed string, into a string that is owned.
 impl<'a> CStr16<'a> {
     ghost use Rattle.std.specs.List.{before_first};
     ghost use Rattle.uefi_text_encodings.specs.FromSliceUntilNul.{missing_nul_refusal};
     ghost use Rattle.uefi_text_encodings.specs.FromSliceWithNul.{first_nul_refusal};
     ghost use Rattle.uefi_text.specs.Views.{text_of};
 
-    /// The string of the characters up to the first NUL, in memory of its own.
+    /// The string of the characters up to the first NUL, in memory that it owns.
     ///
-    /// Where there is no NUL the answer is `NoNul`, and where memory is refused `OutOfMemory`. What
-    /// follows the NUL is not looked at. `InvalidChar` is never answered: no character is a surrogate.
+    /// Where there is no NUL the result is `NoNul`, and where memory is refused `OutOfMemory`. What
+    /// follows the NUL is not looked at. `InvalidChar` is never returned: no character is a surrogate.
     /// All is looked at before memory is asked for, in one request.
     pub fn from_char16_until_nul<A: Allocator>(
         alloc: A,
@@ -87,11 +87,11 @@ impl<'a> CStr16<'a> {
         }
     }
 
-    /// The string that all of the characters spell, in memory of its own.
+    /// The string that all of the characters encode, in memory that it owns.
     ///
     /// The first NUL decides: before the last place it is refused as `InteriorNul` with its place, and
-    /// where there is none the answer is `NotNulTerminated`; `OutOfMemory` comes last. `InvalidChar` is
-    /// never answered: no character is a surrogate. All is looked at before memory is asked for, in one
+    /// where there is none the result is `NotNulTerminated`; `OutOfMemory` comes last. `InvalidChar` is
+    /// never returned: no character is a surrogate. All is looked at before memory is asked for, in one
     /// request.
     pub fn from_char16_with_nul<A: Allocator>(
         alloc: A,
@@ -114,7 +114,7 @@ impl<'a> CStr16<'a> {
         }
     }
 
-    /// An equal string of one's own. One allocation.
+    /// An equal owned string. One allocation.
     pub fn to_owned<A: Allocator>(&self, alloc: A) -> Result<CString16<A>, AllocError>
         ensures { IfOk result (λ string. string ≡ text_of self.now) }
     {
@@ -149,7 +149,7 @@ impl<A: Allocator> CString16<A> {
         Ok(CString16 { units })
     }
 
-    /// The empty string, with room for so many characters and the NUL. One allocation.
+    /// The empty string, with room for `characters` of them and the NUL. One allocation.
     pub fn with_capacity(alloc: A, characters: usize) -> Result<Self, AllocError>
         ensures { IfOk result (λ string. string ≡ []) }
     {
@@ -164,7 +164,7 @@ impl<A: Allocator> CString16<A> {
     /// The string of a Rust text.
     ///
     /// The first character that is NUL or above U+FFFF decides: `InteriorNul` or `InvalidChar`.
-    /// Where there is none the answer is the string of these characters, or `OutOfMemory`. The
+    /// Where there is none the result is the string of these characters, or `OutOfMemory`. The
     /// whole text is tested before memory is asked for, in one allocation.
     pub fn try_from_str(alloc: A, text: &str) -> Result<Self, FromStrError>
         ensures ok { IfOk result (λ string. string ≡ chars text.now) }
@@ -176,7 +176,7 @@ impl<A: Allocator> CString16<A> {
         Ok(CString16 { units })
     }
 
-    /// The string that all of the units spell, in the memory that they lie in.
+    /// The string that all of the units encode, in the memory that they lie in.
     ///
     /// Refused exactly as [`CStr16::from_u16_with_nul`] refuses them, and a refused vector is let
     /// go. One pass, which ends at the first unit that is a NUL or a surrogate; takes no memory.
@@ -189,7 +189,7 @@ impl<A: Allocator> CString16<A> {
         Ok(CString16 { units })
     }
 
-    /// A string of one's own that is equal to the lent one. One allocation.
+    /// An owned string that is equal to the borrowed one. One allocation.
     pub fn from_cstr16(alloc: A, string: CStr16<'_>) -> Result<Self, AllocError>
         ensures { IfOk result (λ copy. copy ≡ text_of string.entry) }
     {
@@ -204,7 +204,7 @@ impl<A: Allocator> CString16<A> {
         self.units[0] = 0;
     }
 
-    /// Adds a character behind the text. Where memory is refused the string is as it was.
+    /// Adds a character after the text. Where memory is refused the string is unchanged.
     ///
     /// Takes memory where the vector is full; a row of pushes takes a constant time each, on
     /// average.
@@ -219,7 +219,7 @@ impl<A: Allocator> CString16<A> {
         Ok(())
     }
 
-    /// Adds a text behind the text. Where memory is refused the string is as it was.
+    /// Adds a text after the text. Where memory is refused the string is unchanged.
     ///
     /// Takes memory at most once, and none for the empty text, which is never refused.
     pub fn push_str(&mut self, string: CStr16<'_>) -> Result<(), AllocError>
@@ -230,8 +230,8 @@ impl<A: Allocator> CString16<A> {
         self.push_part(string.as_slice())
     }
 
-    /// Adds characters, none of them NUL, behind the text. Where memory is refused the string is as
-    /// it was.
+    /// Adds characters, none of them NUL, after the text. Where memory is refused the string is
+    /// unchanged.
     ///
     /// Takes memory at most once, and none where there are no characters, which is never refused. A
     /// row of calls takes a time linear in what it adds, on average.
@@ -248,7 +248,7 @@ impl<A: Allocator> CString16<A> {
         self.units.extend_from_slice(&[0])
     }
 
-    /// Keeps the first so many characters, or all where there are no more. Takes no memory and
+    /// Keeps the first `len` characters, or all where there are no more. Takes no memory and
     /// gives none back.
     pub fn truncate(&mut self, len: usize)
         ensures { self.new ≡ take len self.old }
@@ -259,7 +259,7 @@ impl<A: Allocator> CString16<A> {
         }
     }
 
-    /// Adds the characters that an iterator gives, none of them NUL, behind the text.
+    /// Adds the characters that an iterator gives, none of them NUL, after the text.
     ///
     /// Where memory is refused the characters before that one have been added, and stay.
     pub fn extend<I: Iterator<Item = Char16> + Drop>(
@@ -327,7 +327,7 @@ impl<A: Allocator> CString16<A> {
         CStr16::from_string(self.units.as_slice())
     }
 
-    /// Whether the lent string has the same text.
+    /// Whether the borrowed string has the same text.
     pub fn eq_cstr16(&self, other: CStr16<'_>) -> bool
         ensures { IsTrue result ↔ (self.now ≡ text_of other.entry) }
     {
@@ -403,7 +403,7 @@ impl<A: Allocator> Ord for CString16<A> {
     }
 }
 
-/// Hashes as its view does, so that equal strings hash alike, lent or owned.
+/// Hashes as its view does, so that equal strings hash alike, borrowed or owned.
 impl<A: Allocator> Hash for CString16<A> {
     ghost use Rattle.std.proofs.Common.{rules};
     ghost use Rattle.std.specs.Hash as fed;

@@ -1,4 +1,4 @@
-//! NUL-terminated strings that are lent: of Latin-1, and of UCS-2. The fields of the views are
+//! NUL-terminated strings that are borrowed: of Latin-1, and of UCS-2. The fields of the views are
 //! private to this module, and `specs/Views.antt` says what each view shows.
 #![tactic(auto, unfolding(crate::specs::Views::text_of, crate::specs::Views::units_of, crate::specs::Views::units_left))]
 
@@ -27,7 +27,7 @@ pub use uefi_text_encodings::latin1::{CStr8, is_latin1, str_num_latin1_chars, st
 use uefi_text_encodings::scans::{find_deciding_place, has_unit_beyond_ascii, split};
 use uefi_text_encodings::utf8::add_utf8;
 
-/// A string that is lent: a view of code units that are a text and its NUL. In contracts it is
+/// A string that is borrowed: a view of code units that are a text and its NUL. In contracts it is
 /// `text_of` it, the text without the NUL.
 #[derive(Clone, Copy)]
 pub struct CStr16<'a> {
@@ -83,7 +83,7 @@ impl<'a> CStr16<'a> {
     /// The string up to the first NUL, as a view of the units up to and with it.
     ///
     /// The first unit that is a NUL or a surrogate decides: a surrogate is refused as `InvalidChar` with
-    /// its place; what follows a NUL is not looked at. Where there is no such unit the answer is `NoNul`.
+    /// its place; what follows a NUL is not looked at. Where there is no such unit the result is `NoNul`.
     /// One pass, which ends at that unit; takes no memory.
     pub fn from_u16_until_nul(units: &'a [u16]) -> Result<CStr16<'a>, FromSliceUntilNulError>
         ensures ok { IfOk result (λ string. text_of string ≡ before_first is_nul units.now) }
@@ -100,11 +100,11 @@ impl<'a> CStr16<'a> {
         })
     }
 
-    /// The string that all of the units spell, as a view of them.
+    /// The string that all of the units encode, as a view of them.
     ///
     /// The first unit that is a NUL or a surrogate decides: a surrogate is refused as
     /// `InvalidChar`, a NUL before the last place as `InteriorNul`, each with its place. Where
-    /// there is no such unit the answer is `NotNulTerminated`. One pass, which ends at that unit;
+    /// there is no such unit the result is `NotNulTerminated`. One pass, which ends at that unit;
     /// takes no memory.
     pub fn from_u16_with_nul(units: &'a [u16]) -> Result<CStr16<'a>, FromSliceWithNulError>
         ensures ok { IfOk result (λ string. nul_terminated (text_of string) ≡ units.now) }
@@ -126,13 +126,13 @@ impl<'a> CStr16<'a> {
         CStr16 { units }
     }
 
-    /// Writes a Rust text as a string into the front of a buffer, and answers how many units the
+    /// Writes a Rust text as a string into the prefix of a buffer, and returns how many units the
     /// string has, its NUL counted.
     ///
     /// A buffer with no more places than the text has units in UTF-16 (Unicode Standard, section
     /// 3.9) is `BufferTooSmall`, whatever the text holds, and all of it then holds the first of
-    /// these units; half of a surrogate pair may be the last. Else its front holds the units and a
-    /// NUL, what stands behind them stays, whatever is answered, and the first character that is
+    /// these units; half of a surrogate pair may be the last. Else its prefix holds the units and a
+    /// NUL, what stands after them stays, whatever is returned, and the first character that is
     /// NUL or above U+FFFF decides: `InteriorNul` or `InvalidChar`, with the number of characters
     /// before it. One pass, which ends where the buffer is full; takes no memory.
     pub fn write_str(input: &str, buffer: &mut [u16]) -> Result<usize, FromStrWithBufError>
@@ -144,7 +144,7 @@ impl<'a> CStr16<'a> {
         write_text(input, buffer)
     }
 
-    /// The string of a Rust text, as a view of the buffer's front, which it is written to. Refused
+    /// The string of a Rust text, as a view of the buffer's prefix, which it is written to. Refused
     /// as [`CStr16::write_str`] says, which also says what the buffer then holds. One pass; takes
     /// no memory.
     pub fn from_str_with_buf(
@@ -446,7 +446,7 @@ impl<'a> Char16Slice<'a> {
         self.units
     }
 
-    /// Adds the characters in UTF-8 to bytes, which stay as they were where memory is refused. One
+    /// Adds the characters in UTF-8 to bytes, which stay unchanged where memory is refused. One
     /// request at most, and none where the bytes have room.
     pub fn add_utf8_to<A: Allocator>(&self, bytes: &mut Vec<u8, A>) -> Result<(), AllocError>
         ensures ok { OnOk result (bytes.new.items ≡ bytes.old.items ++ encode_utf8_all (units_of self.now)) }

@@ -2,13 +2,13 @@
 //!
 //! The tables and device paths of firmware are packed: a number of several bytes begins where the
 //! field before it ends, at an odd place of memory as well as at an even one, so that no slice of
-//! such numbers can be lent. An [`UnalignedSlice`] lends the bytes in its stead, and puts an item
+//! such numbers can be borrowed. An [`UnalignedSlice`] borrows the bytes in its stead, and puts an item
 //! together each time that one is asked for, the low byte first on every machine.
 //!
 //! ```rust
 //! use uefi_text::UnalignedSlice;
 //!
-//! // A tag of one byte, and behind it two numbers of two bytes each.
+//! // A tag of one byte, and after it two numbers of two bytes each.
 //! let field: &[u8] = &[0x07, 0x10, 0x11, 0x20, 0x21];
 //! if UnalignedSlice::<u16>::fits(&field[1..], 2) {
 //!     let items: UnalignedSlice<u16> = UnalignedSlice::new(&field[1..], 2);
@@ -19,7 +19,7 @@
 //! ```
 //!
 //! In contracts a slice is `items_of` it, the list of its items' numbers. The trait [`Packed`] says
-//! what can be an item: how many bytes it takes, and which number they spell. A further kind of
+//! what can be an item: how many bytes it takes, and which number they encode. A further kind of
 //! item is one more `impl`, and every call here holds of it as it stands.
 #![tactic(auto, using(uefi_text_encodings::proofs::Packing::packing), unfolding(crate::specs::Views::items_of, crate::specs::Views::items_left, crate::specs::Views::into_iter_items_left))]
 
@@ -40,7 +40,7 @@ use std::marker::PhantomData;
 pub use uefi_text_encodings::packed::Packed;
 use uefi_text_encodings::scans::is_deciding;
 
-/// A view of items that lie packed in lent bytes, which may begin at any place of memory. In
+/// A view of items that lie packed in borrowed bytes, which may begin at any place of memory. In
 /// contracts it is `items_of` it, the list of the items' numbers.
 #[derive(Copy)]
 pub struct UnalignedSlice<'a, T: Packed> {
@@ -77,8 +77,8 @@ impl<'a, T: Packed> UnalignedSlice<'a, T> {
         }
     }
 
-    /// A view of the first `len` items of the bytes, which lie one behind the other from their
-    /// front. The bytes behind the items are never read. The bytes have to have room, as `fits`
+    /// A view of the first `len` items of the bytes, which lie one after the other from their
+    /// start. The bytes after the items are never read. The bytes have to have room, as `fits`
     /// tests. Takes no memory.
     pub fn new(bytes: &'a [u8], len: usize) -> Self
         requires { len * T.SIZE ≤ length bytes.now }
@@ -142,7 +142,7 @@ impl<'a, T: Packed> UnalignedSlice<'a, T> {
     }
 
     /// The items in order, each once, and then `None` for ever. The iterator may outlive the view,
-    /// since it lends the same bytes. Takes no memory.
+    /// since it borrows the same bytes. Takes no memory.
     pub fn iter(&self) -> UnalignedSliceIter<'a, T>
         ensures same { items_left result ≡ items_of self.now }
         ensures bound { length (items_left result) < 2 ^ 64 }
@@ -319,7 +319,7 @@ impl<'a> UnalignedSlice<'a, u16> {
         check_deciding_unit(self.item(place), place, self.len())
     }
 
-    /// The string that the items spell, in memory of its own; refused as by
+    /// The string that the items encode, in memory that it owns; refused as by
     /// [`CStr16::from_u16_with_nul`]. All items are looked at before memory is asked for, in one
     /// request.
     pub fn to_cstring16<A: Allocator>(
@@ -338,8 +338,8 @@ impl<'a> UnalignedSlice<'a, u16> {
         }
     }
 
-    /// Writes the items into the front of a buffer. What stands behind them stays.
-    fn copy_to_front(&self, buffer: &mut [u16])
+    /// Writes the items into the prefix of a buffer. What stands after them stays.
+    fn copy_to_prefix(&self, buffer: &mut [u16])
         requires { length (items_of self.now) ≤ length buffer.old }
         ensures { buffer.new ≡ items_of self.now ++ drop (length (items_of self.now)) buffer.old }
     {
@@ -347,10 +347,10 @@ impl<'a> UnalignedSlice<'a, u16> {
         self.copy_to(&mut buffer[..len]);
     }
 
-    /// Writes the string that the items spell into the front of a buffer.
+    /// Writes the string that the items encode into the prefix of a buffer.
     ///
-    /// A buffer of fewer places than there are items is `BufferTooSmall` and stays as it was. Else
-    /// its front holds the items, what stands behind them stays, and the first item that is a NUL
+    /// A buffer of fewer places than there are items is `BufferTooSmall` and stays unchanged. Else
+    /// its prefix holds the items, what stands after them stays, and the first item that is a NUL
     /// or a surrogate decides, as in [`CStr16::from_u16_with_nul`]. Takes no memory.
     pub fn write_cstr16(&self, buffer: &mut [u16]) -> Result<(), UnalignedCStr16Error>
         ensures buffer { buffer.new ≡ with_prefix (items_of self.now) buffer.old }
@@ -361,14 +361,14 @@ impl<'a> UnalignedSlice<'a, u16> {
         if buffer.len() < len {
             return Err(UnalignedCStr16Error::BufferTooSmall);
         }
-        self.copy_to_front(buffer);
+        self.copy_to_prefix(buffer);
         match CStr16::from_u16_with_nul(&buffer[..len]) {
             Ok(_) => Ok(()),
             Err(error) => Err(refusal_in_buffer(error)),
         }
     }
 
-    /// The string that the items spell, as a view of the buffer's front, which they are copied to.
+    /// The string that the items encode, as a view of the buffer's prefix, which they are copied to.
     /// Refused as [`UnalignedSlice::write_cstr16`] says, which also says what the buffer then
     /// holds. Takes no memory.
     pub fn to_cstr16<'b>(&self, buffer: &'b mut [u16]) -> Result<CStr16<'b>, UnalignedCStr16Error>
@@ -395,12 +395,12 @@ impl<'a> CStr16<'a> {
     ghost use Rattle.uefi_text_chars.specs.Units.{nul_terminated};
     ghost use Rattle.uefi_text.specs.Views.{items_of, text_of};
 
-    /// The string that bytes spell from wherever they lie, two for each code unit, the low one first,
-    /// in memory of its own.
+    /// The string that bytes encode from wherever they lie, two for each code unit, the low one first,
+    /// in memory that it owns.
     ///
     /// Bytes that are odd in number, or do not end in two zeros, are refused as `NotNulTerminated`
     /// before a unit is looked at; else the units decide as for [`CStr16::from_u16_with_nul`], and
-    /// `OutOfMemory` comes last. `NotAligned` is never answered. All bytes are looked at before memory
+    /// `OutOfMemory` comes last. `NotAligned` is never returned. All bytes are looked at before memory
     /// is asked for, in one request.
     pub fn from_bytes_with_nul<A: Allocator>(
         alloc: A,

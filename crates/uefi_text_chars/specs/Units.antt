@@ -37,7 +37,7 @@ is_nul unit = unit == 0
 abbrev pub is_surrogate : ℕ → Bool
 is_surrogate u = nat_le 0xd800 u && nat_le u 0xdfff
 
--- the test for a unit that no text holds; the first such unit decides what a constructor answers
+-- the test for a unit that no text holds; the first such unit decides what a constructor returns
 abbrev pub is_deciding : ℕ → Bool
 is_deciding u = is_nul u || is_surrogate u
 

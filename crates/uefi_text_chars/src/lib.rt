@@ -272,7 +272,7 @@ pub const NUL_16: Char16 = Char16 { unit: 0 };
 /// The separator between the components of a path, `\`.
 pub const SEPARATOR: Char16 = Char16 { unit: 92 };
 
-/// The separator of other systems, `/`, which path buffers turn into [`SEPARATOR`].
+/// The separator of other systems, `/`, which path buffers replace by [`SEPARATOR`].
 pub const SLASH: Char16 = Char16 { unit: 47 };
 
 /// The characters that no name of a file holds: NUL and `"*/:<>?\|`.

@@ -141,7 +141,7 @@ IsString-accepted units small accepted = go (deciding_place units) refl accepted
         let last : i + 1 ≡ length units = grind (arith, common_steps) in
         IsString-deciding_last units i small e zero last
 
--- units are never refused for want of memory themselves
+-- units themselves are never refused as out of memory
 pub with_nul_refusal-memory : (units : List ℕ) → OutOfMemory ≡ unwrap_or (with_nul_refusal units) OutOfMemory
     → with_nul_refusal units ≡ None
 with_nul_refusal-memory units want = go (deciding_place units) want

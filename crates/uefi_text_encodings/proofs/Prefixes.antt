@@ -1,4 +1,4 @@
--- One of two lists is a beginning of the other exactly where they agree at each place that both have.
+-- One of two lists is a prefix of the other exactly where they agree at each place that both have.
 use Rattle.std.proofs.Common.{◌≡◌, ◌↔◌, ℕ, ◌<◌, Bool, true, false, List, [], ◌∷◌, All, length, MatchBool, IsTrue, refl, inl, inr, arith}
 use Rattle.std.specs.List.{AllWithin, HoldsAt, zip}
 use Rattle.std.proofs.lemmas.Bool.{false≢true}
@@ -30,7 +30,7 @@ pairs_from_begins (x ∷ xs) (y ∷ ys) begins =
     let both = shorter x y xs ys begins in
     All-cons AreSame (x, y) (zip xs ys) both.0 (pairs_from_begins xs ys both.1)
 
--- a test of the pairs in turn, up to the first that differ, tells
+-- a test of the pairs in turn, up to the first that differ, decides
 pub begins_by_pairs : (answer : Bool) (xs ys : List ℕ)
     → MatchBool answer (AllWithin AreSame (zip xs ys) 0 (length (zip xs ys)))
     ((k : ℕ) × (k < length (zip xs ys)) × HoldsAt (λ pair. ¬ AreSame pair) (zip xs ys) k)

@@ -21,7 +21,7 @@ module _ (p : ℕ → Bool) (step : Bool → ℕ → Bool) (kept : (u : ℕ) →
         | inr other ↦ (sym one ∙ other, grind (arith, common_steps))
       ]
 
-  -- and nothing behind any front
+  -- and nothing after any prefix
   pub found_after : (us vs : List ℕ) → fold step false (us ++ vs) ≡ false → fold step false vs ≡ false
   found_after [] vs e = e
   found_after (u ∷ us) vs e = found_after us vs (found_cons u (us ++ vs) e).1

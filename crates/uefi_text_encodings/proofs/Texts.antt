@@ -52,7 +52,7 @@ IsString-nul_terminated text is_text = rw (without_nul-nul_terminated text) (ref
 pub IsString-made : (units text : List ℕ) → units ≡ nul_terminated text → IsText text → IsString units
 IsString-made units text e is_text = subst IsString (sym e) (IsString-nul_terminated text is_text)
 
--- a unit is written where the NUL stood, in front of a new one
+-- a unit is written where the NUL stood, before a new one
 pub nul_terminated-push : (text : List ℕ) (unit : ℕ)
     → set (nul_terminated text ++ 0 ∷ []) (length text) unit ≡ nul_terminated (text ++ unit ∷ [])
 nul_terminated-push text unit = rw (append_assoc text, append_assoc text) (set_at text 0 (0 ∷ []) unit (length text) refl)

@@ -31,7 +31,7 @@ set_two (x ∷ []) zero a b inside = absurd (omega (arith, inside))
 set_two (x ∷ y ∷ bs) zero a b inside = refl
 set_two (x ∷ bs) (suc n) a b inside = ap (λ (l : List ℕ). x ∷ l) (set_two bs n a b (omega (arith, inside)))
 
--- lists that are the same from a place on are so two places behind it
+-- lists that are the same from a place on are so two places after it
 after_two : (xs ys : List ℕ) (n a b : ℕ) → a ≡ n + 2 → b ≡ n + 2 → drop n xs ≡ drop n ys → drop a xs ≡ drop b ys
 after_two xs ys n a b ea eb e = rw (ea, eb, ← drop-drop 2 n xs, ← drop-drop 2 n ys) (ap (drop 2) e)
 
@@ -92,7 +92,7 @@ units_of_bytes-encoded : (bytes text : List ℕ) → BytesEncode bytes text → 
 units_of_bytes-encoded bytes text spells =
     ap units_of_bytes spells.1 ∙ units_of_bytes-unit_bytes (nul_terminated text) (IsUnit-nul_terminated text spells.0)
 
--- no bytes spell two texts
+-- no bytes encode two texts
 pub encoded_apart : (bytes first second : List ℕ) → BytesEncode bytes first → BytesEncode bytes second → first ≡ second
 encoded_apart bytes first second spells_first spells_second =
     let same : nul_terminated first ≡ nul_terminated second =
@@ -107,7 +107,7 @@ ends_in_nul-encoded text =
     let start : length (front ++ 0 ∷ 0 ∷ []) - 2 ≡ length front = omega (arith, length-append front (0 ∷ 0 ∷ [])) in
     rw (ended, even, start, drop-append_seam front (0 ∷ 0 ∷ [])) refl
 
--- bytes that spell a text are accepted
+-- bytes that encode a text are accepted
 pub encoded_accepted : (bytes text : List ℕ) → BytesEncode bytes text → unit_bytes_refusal bytes ≡ None
 encoded_accepted bytes text spells =
     let ended : ends_in_nul bytes ≡ true = ap ends_in_nul spells.1 ∙ ends_in_nul-encoded text in
@@ -128,7 +128,7 @@ small_items (suc count) [] are_bytes (suc k) = small_items count [] are_bytes k
 small_items (suc count) (b ∷ []) are_bytes (suc k) = small_items count [] (All-nil IsByte) k
 small_items (suc count) (b ∷ c ∷ bs) are_bytes (suc k) = small_items count bs (All-tail IsByte c bs (All-tail IsByte b (c ∷ bs) are_bytes)) k
 
--- bytes whose units are a text and a NUL spell it
+-- bytes whose units are a text and a NUL encode it
 pub units_encode : (bytes text : List ℕ) → All IsByte bytes → length bytes % 2 ≡ 0
     → with_nul_refusal (units_of_bytes bytes) ≡ None → nul_terminated text ≡ units_of_bytes bytes
     → BytesEncode bytes text
@@ -144,7 +144,7 @@ units_text bytes are_bytes even accepted =
     let string = IsString-accepted (units_of_bytes bytes) (small_items (length bytes / 2) bytes are_bytes) accepted in
     (without_nul (units_of_bytes bytes), units_encode bytes (without_nul (units_of_bytes bytes)) are_bytes even accepted (sym string.0))
 
--- bytes that are accepted spell a text
+-- bytes that are accepted encode a text
 pub accepted_encodes : (bytes : List ℕ) → All IsByte bytes → unit_bytes_refusal bytes ≡ None → (text : List ℕ) × BytesEncode bytes text
 accepted_encodes bytes are_bytes accepted =
     elim (cases_Bool (ends_in_nul bytes)) [

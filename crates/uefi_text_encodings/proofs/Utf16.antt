@@ -1,4 +1,4 @@
--- Texts as UTF-16, written into the front of a buffer.
+-- Texts as UTF-16, written into the prefix of a buffer.
 use Rattle.std.proofs.Common.{◌≡◌, ◌∙◌, ap, sym, refl, ℕ, ◌+◌, ◌-◌, ◌<◌, ◌≤◌, if◌then◌else◌, Bool, not, List, [], ◌∷◌, ◌++◌, append_assoc, length, take, drop, get_or, set, suc, Option, Some, None, arith}
 use Rattle.std.specs.Char.Escape.{encode_utf16}
 use Rattle.std.specs.List.{position, position_or_len, find}
@@ -16,7 +16,7 @@ use Rattle.uefi_text_encodings.specs.FromStrWithBuf.{from_str_with_buf_refusal_a
 use Rattle.uefi_text_chars.specs.Units.{nul_terminated}
 use Rattle.uefi_text_encodings.specs.declared.errors.FromStrWithBufError.TheVariants.{BufferTooSmall}
 
--- units that have room, and then more units behind them
+-- units that have room, and then more units after them
 with_units-after : (old units more : List ℕ) → length units ≤ length old
     → with_units (units ++ more) old ≡ units ++ with_units more (drop (length units) old)
 with_units-after old [] more room = refl
@@ -30,7 +30,7 @@ with_units-prefix old units room = grind (arith, common_steps)
 pub length-with_units : (units old : List ℕ) → length (with_units units old) ≡ length old
 length-with_units units old = grind (arith, common_steps)
 
--- one character more has so many units more
+-- one character more has its units more
 pub length-utf16-push : (front : List ℕ) (c len more : ℕ) → len ≡ length (utf16 front)
     → more ≡ length (encode_utf16 c) → len + more ≡ length (utf16 (front ++ c ∷ []))
 length-utf16-push front c len more count is =
@@ -87,7 +87,7 @@ with_units-two (u ∷ v ∷ []) buffer place two inside =
     rw next (set_two buffer place u v (omega arith) ∙ ap (λ (us : List ℕ). take place buffer ++ us) (sym rest))
 with_units-two (u ∷ v ∷ w ∷ us) buffer place two inside = absurd (omega (arith, two))
 
--- units that leave a place, and a NUL behind them
+-- units that leave a place, and a NUL after them
 with_units-nul : (old units : List ℕ) → length units < length old
     → set (with_units units old) (length units) 0 ≡ with_units (nul_terminated units) old
 with_units-nul old units room = grind (arith, elements)
@@ -163,7 +163,7 @@ unrefused cs accepted = go (position is_deciding_char cs) refl accepted
     go None e a = let none = find-nowhere is_deciding_char cs e in (none, utf16-undecided cs none)
     go (Some i) e a = cc
 
--- where a buffer was large enough too, its front is the characters and a NUL
+-- where a buffer was large enough too, its prefix is the characters and a NUL
 pub accepted : (old cs : List ℕ) → from_str_with_buf_refusal cs (length old) ≡ None
     → (find is_deciding_char cs ≡ None) × (take (length cs + 1) (with_text cs old) ≡ nul_terminated cs)
 accepted old cs none =

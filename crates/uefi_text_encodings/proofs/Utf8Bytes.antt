@@ -63,7 +63,7 @@ found_first b bs high =
 found_nul : (bs : List ℕ) → fold deciding_byte_so_far false (0 ∷ bs) ≡ true
 found_nul bs = fold_stays deciding_byte_so_far true (λ _. refl) bs
 
--- where no byte decides, the character at the front does not
+-- where no byte decides, the character at the start does not
 undecided_first : (c : ℕ) (bs : List ℕ) → fold deciding_byte_so_far false (encode_utf8 c ++ bs) ≡ false → is_deciding_char c ≡ false
 undecided_first zero bs e =
     let found = found_nul bs in

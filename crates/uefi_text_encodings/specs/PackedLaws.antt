@@ -4,7 +4,7 @@ use Rattle.std.proofs.Common.{◌≡◌, ℕ, List, [], ◌∷◌, length, refl,
 use Rattle.std.proofs.lemmas.List.Elements.{All-head, All-tail}
 use Rattle.uefi_text_encodings.specs.Packed.{IsByte, EncodesOnce, little_endian}
 
--- lists of one length that spell the same number are the same
+-- lists of one length that encode the same number are the same
 le_once : (xs ys : List ℕ) → length xs ≡ length ys
     → All IsByte xs → All IsByte ys → little_endian xs ≡ little_endian ys → xs ≡ ys
 le_once [] [] same xs_bytes ys_bytes e = refl

@@ -12,10 +12,10 @@ pub trait CharSink {
     /// The text that it holds.
     ghost text: { Self → List ℕ };
 
-    /// Where this holds of a text and a character, the character may be refused behind that text.
+    /// Where this holds of a text and a character, the character may be refused after that text.
     ghost may_refuse: { List ℕ → ℕ → Type 0 };
 
-    /// Adds a character behind the text, or refuses it and leaves the text as it was.
+    /// Adds a character after the text, or refuses it and leaves the text unchanged.
     fn write_char(&mut self, c: char) -> fmt::Result
         ensures ok { OnOk result (text self.new ≡ text self.old ++ encode_utf8 c) }
         ensures err { OnErr result (text self.new ≡ text self.old) }

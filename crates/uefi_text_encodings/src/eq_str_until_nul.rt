@@ -12,8 +12,8 @@ pub trait EqStrUntilNul {
     /// The characters before the NUL.
     ghost characters: { Self → List ℕ };
 
-    /// Whether the characters, or those of `other` before its first NUL, are a beginning of the
-    /// other of these two: so a text counts as equal to each of its beginnings, and to each text
+    /// Whether the characters, or those of `other` before its first NUL, are a prefix of the
+    /// other of these two: so a text counts as equal to each of its prefixes, and to each text
     /// that begins with it. One pass, which ends at the first difference; takes no memory.
     fn eq_str_until_nul(&self, other: &str) -> bool
         ensures { IsTrue result ↔ IsEqualUntilNul (characters self.now) (chars other.now) };

@@ -1,9 +1,9 @@
-//! Why bytes, code units and texts are refused as a string. The module `strs` hands these on, under
+//! Why bytes, code units and texts are refused as a string. The module `strs` re-exports these, under
 //! whose name callers know them.
 use std::error::Error;
 use std::fmt;
 
-/// Why no front of the code units is a NUL-terminated string. A place is an index into what was handed
+/// Why no prefix of the code units is a NUL-terminated string. A place is an index into what was handed
 /// in.
 #[derive(Clone, Copy, Debug, PartialEq, Eq)]
 pub enum FromSliceUntilNulError {
@@ -13,7 +13,7 @@ pub enum FromSliceUntilNulError {
     /// No unit is a NUL.
     NoNul,
 
-    /// A request for memory was refused. No call that lends answers it.
+    /// A request for memory was refused. No call that borrows returns it.
     OutOfMemory,
 }
 
@@ -46,10 +46,10 @@ pub enum FromSliceWithNulError {
     /// No unit is a NUL.
     NotNulTerminated,
 
-    /// The slice is not aligned. Kept for the original's callers: no call of this crate answers it.
+    /// The slice is not aligned. Kept for the original's callers: no call of this crate returns it.
     NotAligned,
 
-    /// A request for memory was refused. No call that lends answers it.
+    /// A request for memory was refused. No call that borrows returns it.
     OutOfMemory,
 }
 
@@ -109,10 +109,10 @@ impl Error for UnalignedCStr16Error {}
 /// Why a Rust text does not become a string in a buffer. A place is a number of characters.
 #[derive(Clone, Copy, Debug, PartialEq, Eq)]
 pub enum FromStrWithBufError {
-    /// The first character that no UCS-2 text holds is above U+FFFF, behind so many others.
+    /// The first character that no UCS-2 text holds is above U+FFFF, after this many others.
     InvalidChar(usize),
 
-    /// The first character that no UCS-2 text holds is a NUL, behind so many others.
+    /// The first character that no UCS-2 text holds is a NUL, after this many others.
     InteriorNul(usize),
 
     /// The buffer has too few places for the text and its NUL.

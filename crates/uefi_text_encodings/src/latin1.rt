@@ -13,7 +13,7 @@ use std::cmp::Ordering;
 use std::fmt;
 use std::hash::{Hash, Hasher};
 
-/// A Latin-1 string that is lent: a view of bytes of which exactly the last is zero. In contracts it is
+/// A Latin-1 string that is borrowed: a view of bytes of which exactly the last is zero. In contracts it is
 /// `bytes_of` it, all its bytes.
 #[derive(Clone, Copy)]
 pub struct CStr8<'a> {
@@ -25,10 +25,10 @@ impl<'a> CStr8<'a> {
     ghost use Rattle.uefi_text_encodings.specs.FromSliceWithNul.{first_nul_refusal};
     ghost use Rattle.uefi_text_encodings.specs.Views.{bytes_of};
 
-    /// The string that all of the bytes spell, as a view of them.
+    /// The string that all of the bytes encode, as a view of them.
     ///
     /// The first zero decides: before the last place it is refused as `InteriorNul` with its place, even
-    /// where the bytes don't end in zero. Where there is none the answer is `NotNulTerminated`. One pass,
+    /// where the bytes don't end in zero. Where there is none the result is `NotNulTerminated`. One pass,
     /// which ends at the first zero; takes no memory.
     pub fn from_bytes_with_nul(chars: &'a [u8]) -> Result<CStr8<'a>, FromSliceWithNulError>
         ensures ok { IfOk result (λ string. bytes_of string ≡ chars.now) }
@@ -190,7 +190,7 @@ pub fn str_num_latin1_chars(s: &str) -> usize
     s.chars().count()
 }
 
-/// The characters of a Rust text of Latin-1 that holds no NUL, each as one byte, and a NUL behind
+/// The characters of a Rust text of Latin-1 that holds no NUL, each as one byte, and a NUL after
 /// them. `N` is one more than their number. One pass; takes no memory.
 pub fn str_to_latin1<const N: usize>(s: &str) -> [u8; N]
     requires latin1 { IsLatin1 (chars s.now) }

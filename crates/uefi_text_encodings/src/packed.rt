@@ -16,7 +16,7 @@ pub trait Packed: Copy {
     /// The number of a value.
     ghost number: { Self → ℕ };
 
-    /// The value that exactly `SIZE` bytes spell, the low byte first on every machine: the sum of
+    /// The value that exactly `SIZE` bytes encode, the low byte first on every machine: the sum of
     /// each byte times 256 to the power of its place. Takes no memory.
     fn read_le(bytes: &[u8]) -> Self
         requires { length bytes.now ≡ SIZE }

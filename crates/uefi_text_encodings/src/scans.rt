@@ -1,5 +1,5 @@
-//! Passes over whole slices, in forms that the compiler turns into vector instructions: no early
-//! exit inside a block, and loops over places where the bounds are known. What they answer is said
+//! Passes over whole slices, in forms that the compiler compiles to vector instructions: no early
+//! exit inside a block, and loops over places where the bounds are known. What they return is said
 //! by std's words, so that callers see nothing of the form.
 ghost use Rattle.std.specs.Prelude.{◌≡◌, ℕ, ◌+◌, ◌-◌, ◌*◌, ◌<◌, ◌≤◌, ◌++◌, length, take, drop, map, slice_index, true, false};
 ghost use Rattle.std.specs.List.{fold};
@@ -23,7 +23,7 @@ fn has_deciding(block: &[u16]) -> bool
     })
 }
 
-/// The length of a front of whole blocks that hold neither a NUL nor a surrogate.
+/// The length of a prefix of whole blocks that hold neither a NUL nor a surrogate.
 fn undecided_blocks_len(units: &[u16]) -> usize
     ensures within { result ≤ length units.now }
     ensures none { (k : ℕ) → k < result → is_deciding (slice_index units.now k) ≡ false }
@@ -96,7 +96,7 @@ pub(crate) fn has_byte_beyond_latin1(bytes: &[u8]) -> bool
         .fold(false, |found, byte| found | (0xc4 <= *byte))
 }
 
-/// Writes bytes as code units, in front of the last unit, which stays.
+/// Writes bytes as code units, before the last unit, which stays.
 pub(crate) fn widen(units: &mut [u16], bytes: &[u8])
     requires { length units.now ≡ length bytes.now + 1 }
     ensures { units.new ≡ bytes.now ++ drop (length bytes.now) units.old }

@@ -1,6 +1,6 @@
 //! Code units as UTF-8. A unit of a text is a character of its own, so it has one, two or three
 //! bytes (Unicode Standard, section 3.9, table 3-6). How many all have is known before the first is
-//! written, so that memory is asked for once, and a refusal leaves everything as it was.
+//! written, so that memory is asked for once, and a refusal leaves everything unchanged.
 ghost use Rattle.std.specs.Prelude.{◌≡◌, ◌+◌, ◌<◌, ◌≤◌, ◌++◌, IfSome, IsOk, OnErr, OnOk, count_by, length, encode_utf8, nat_le};
 ghost use Rattle.std.specs.Str.{IsAscii, encode_utf8_all};
 ghost use Rattle.std.specs.Vec.{vec_capacity, vec_len};
@@ -71,7 +71,7 @@ fn add_each<A: Allocator>(bytes: &mut Vec<u8, A>, units: &[u16]) -> Result<(), A
     Ok(())
 }
 
-/// Adds the UTF-8 of units to bytes, which stay as they were where memory is refused.
+/// Adds the UTF-8 of units to bytes, which stay unchanged where memory is refused.
 #[tactic(auto, using(crate::proofs::Scanning::ascii_units))]
 pub fn add_utf8<A: Allocator>(bytes: &mut Vec<u8, A>, units: &[u16]) -> Result<(), AllocError>
     ensures ok { OnOk result (bytes.new.items ≡ bytes.old.items ++ encode_utf8_all units.now) }

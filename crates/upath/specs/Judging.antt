@@ -7,21 +7,21 @@ use Rattle.uefi_path.specs.Verdicts.{verdict}
 use Rattle.upath.specs.declared.judging.JudgeError.{JudgeError}
 use Rattle.upath.specs.declared.judging.JudgeError.TheVariants.{HalfUnit, Text, Invalid, OutOfMemory}
 
--- why bytes spell no text: they are odd in number, or their code units are refused
+-- why bytes encode no text: they are odd in number, or their code units are refused
 abbrev pub bytes_fault : List ℕ → Option JudgeError
 bytes_fault bytes =
     if length bytes % 2 == 0 then option_map Text (with_nul_refusal (units_of_bytes bytes)) else Some HalfUnit
 
--- why the path of a text is refused, its slashes turned
+-- why the path of a text is refused, its slashes replaced
 abbrev pub path_fault : List ℕ → Option JudgeError
 path_fault text = option_map Invalid (verdict (with_separators text))
 
--- a path is that of bytes: they spell its text but for the slashes, and it is accepted
+-- a path is that of bytes: they encode its text but for the slashes, and it is accepted
 abbrev pub IsPathOf : List ℕ → List ℕ → Type 0
 IsPathOf bytes path = (text : List ℕ)
     × BytesEncode bytes text × (path ≡ with_separators text) × (path_fault text ≡ None)
 
--- what bytes are refused for: the fault of their own, else want of memory or the fault of their path
+-- what bytes are refused for: the fault of their own, else out of memory or the fault of their path
 abbrev pub IsRefusalOf : List ℕ → JudgeError → Type 0
 IsRefusalOf bytes error = MatchOption (bytes_fault bytes)
     ((text : List ℕ) × BytesEncode bytes text × ((error ≡ OutOfMemory) ⊎ (path_fault text ≡ Some error)))

@@ -17,7 +17,7 @@ use Rattle.uefi_text.specs.Packed.{IsByte}
 use Rattle.uefi_text.specs.UnitBytes.{BytesEncode, unit_bytes_refusal}
 use Rattle.uefi_text.specs.Units.{IsText}
 
--- every text has bytes that spell it
+-- every text has bytes that encode it
 abbrev pub TextsAreEncoded : Type 0
 TextsAreEncoded = (text : List ℕ) → IsText text → (bytes : List ℕ) × BytesEncode bytes text
 
@@ -25,11 +25,11 @@ TextsAreEncoded = (text : List ℕ) → IsText text → (bytes : List ℕ) × By
 abbrev pub EncodedOnce : Type 0
 EncodedOnce = (text bytes other : List ℕ) → BytesEncode bytes text → BytesEncode other text → bytes ≡ other
 
--- no bytes spell two texts
+-- no bytes encode two texts
 abbrev pub EncodeOneText : Type 0
 EncodeOneText = (bytes text other : List ℕ) → BytesEncode bytes text → BytesEncode bytes other → text ≡ other
 
--- bytes are accepted exactly where they spell a text
+-- bytes are accepted exactly where they encode a text
 abbrev pub AcceptedWhereEncoded : Type 0
 AcceptedWhereEncoded = (bytes : List ℕ) → All IsByte bytes
     → (unit_bytes_refusal bytes ≡ None) ↔ ((text : List ℕ) × BytesEncode bytes text)
@@ -92,33 +92,33 @@ abbrev pub EqualWhereSameCanonical : Type 0
 EqualWhereSameCanonical =
     (text other : List ℕ) → IsTrue (path_equal text other) ↔ (canonical text ≡ canonical other)
 
--- in which order paths are pushed does not matter, where the middle one has no slash to turn
+-- in which order paths are pushed does not matter, where the middle one has no slash to replace
 abbrev pub PushingIsAssociative : Type 0
 PushingIsAssociative = (first second third : List ℕ) → IsPlain second
     → pushed (pushed first second) third ≡ pushed first (pushed second third)
 
--- the empty path behind a path changes nothing
+-- the empty path after a path changes nothing
 abbrev pub EmptyAfterIsUnit : Type 0
 EmptyAfterIsUnit = (text : List ℕ) → pushed text [] ≡ text
 
--- nor does it in front of a plain one
+-- nor does it before a plain one
 abbrev pub EmptyBeforeIsUnit : Type 0
 EmptyBeforeIsUnit = (text : List ℕ) → IsPlain text → pushed [] text ≡ text
 
--- a relative text: no separator at its front, which its canonical text would lack
+-- a relative text: no separator at its start, which its canonical text would lack
 abbrev pub IsRelative : List ℕ → Type 0
 IsRelative text = canonical text ≡ text
 
--- a text that takes a part behind it: it is empty, or the lone separator, or does not end in one
+-- a text that takes a part after it: it is empty, or the lone separator, or does not end in one
 abbrev pub TakesMore : List ℕ → Type 0
 TakesMore text = (canonical text ≡ []) ⊎ (needs_separator text ≡ true)
 
--- the components of what was pushed stand behind those of the path
+-- the components of what was pushed stand after those of the path
 abbrev pub ComponentsAreJoined : Type 0
 ComponentsAreJoined = (text part : List ℕ) → TakesMore text → IsPlain part → IsRelative part
     → components_of (pushed text part) ≡ components_of text ++ components_of part
 
--- a valid relative path behind a valid one is valid
+-- a valid relative path after a valid one is valid
 abbrev pub JoinedAreValid : Type 0
 JoinedAreValid = (text part : List ℕ) → verdict text ≡ None → verdict part ≡ None → IsRelative part
     → verdict (pushed text part) ≡ None
@@ -143,12 +143,12 @@ abbrev pub ParentIsValid : Type 0
 ParentIsValid = (text parent : List ℕ) → verdict text ≡ None → parent_text text ≡ Some parent
     → verdict parent ≡ None
 
--- the components of a valid text, pushed one by one behind nothing, make its canonical text
+-- the components of a valid text, pushed one by one after nothing, make its canonical text
 abbrev pub ComponentsRebuild : Type 0
 ComponentsRebuild = (text : List ℕ) → verdict text ≡ None
     → fold pushed [] (components_of text) ≡ canonical text
 
--- the parent of a valid text behind which a good component was pushed is its canonical text
+-- the parent of a valid text after which a good component was pushed is its canonical text
 abbrev pub ParentOfJoined : Type 0
 ParentOfJoined = (text piece : List ℕ) → verdict text ≡ None → components_of text ≢ []
     → IsGood piece → parent_text (pushed text piece) ≡ Some (canonical text)
@@ -157,12 +157,12 @@ ParentOfJoined = (text piece : List ℕ) → verdict text ≡ None → component
 abbrev pub CanonicalIsEqual : Type 0
 CanonicalIsEqual = (text : List ℕ) → verdict text ≡ None → canonical (canonical text) ≡ canonical text
 
--- the successive parents of a valid text are its shorter beginnings, the longest first
+-- the successive parents of a valid text are its shorter prefixes, the longest first
 abbrev pub ParentsArePrefixes : Type 0
 ParentsArePrefixes = (text : List ℕ) (parents : List (List ℕ)) → verdict text ≡ None
     → AreParents text parents ↔ (parents ≡ shorter_prefixes text)
 
--- every text has successive parents: climbing ends
+-- every text has successive parents: walking up ends
 abbrev pub WalkingUpEnds : Type 0
 WalkingUpEnds = (text : List ℕ) → (parents : List (List ℕ)) × AreParents text parents
 

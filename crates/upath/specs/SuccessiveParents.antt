@@ -9,7 +9,7 @@ abbrev pub AreParents : List ℕ → List (List ℕ) → Type 0
 AreParents text [] = parent_text text ≡ None
 AreParents text (parent ∷ parents) = (parent_text text ≡ Some parent) × AreParents parent parents
 
--- a parent and its successive parents, so many at most
+-- a parent and its successive parents, at most a given number
 abbrev pub parents_from : ℕ → Option (List ℕ) → List (List ℕ)
 parents_from most None = []
 parents_from zero (Some parent) = []
@@ -19,13 +19,13 @@ parents_from (suc most) (Some parent) = parent ∷ parents_from most (parent_tex
 abbrev pub parents_of : List ℕ → List (List ℕ)
 parents_of text = parents_from (length text) (parent_text text)
 
--- the beginnings of components, joined: so many of them, one fewer, and so on down to one
+-- the prefixes of components, joined: of `count` of them, of one fewer, and so on down to one
 abbrev pub prefixes : ℕ → List (List ℕ) → List (List ℕ)
 prefixes zero components = []
 prefixes (suc count) components =
     joined (take (suc count) components) ∷ prefixes count components
 
--- the shorter beginnings of a path that are not empty, the longest first: its components but the last,
+-- the shorter prefixes of a path that are not empty, the longest first: its components but the last,
 -- but the last two, and so on down to the first alone, each joined
 abbrev pub shorter_prefixes : List ℕ → List (List ℕ)
 shorter_prefixes text = prefixes (length (components_of text) - 1) (components_of text)

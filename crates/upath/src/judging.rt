@@ -13,7 +13,7 @@ pub enum JudgeError {
     /// The bytes are odd in number.
     HalfUnit,
 
-    /// The code units that the bytes spell are no string. Never holds `OutOfMemory`.
+    /// The code units that the bytes encode are no string. Never holds `OutOfMemory`.
     Text(FromSliceWithNulError),
 
     /// The path of the string is refused.
@@ -23,7 +23,7 @@ pub enum JudgeError {
     OutOfMemory,
 }
 
-/// The string that bytes spell, two for each code unit.
+/// The string that bytes encode, two for each code unit.
 fn read_string<A: Allocator>(alloc: A, bytes: &[u8]) -> Result<CString16<A>, JudgeError>
     ensures ok { IfOk result (λ string. BytesEncode bytes.now string) }
     ensures accepted { IfOk result (λ _. bytes_fault bytes.now ≡ None) }
@@ -40,10 +40,10 @@ fn read_string<A: Allocator>(alloc: A, bytes: &[u8]) -> Result<CString16<A>, Jud
 }
 
 /// The path of a string that lies in bytes, two for each code unit, the low one first, from wherever
-/// they lie: its text with each slash turned, which `validate_path` accepts.
+/// they lie: its text with each slash replaced, which `validate_path` accepts.
 ///
 /// What is refused, in this order: an odd number of bytes, as `HalfUnit`; units that are no string, as
-/// `Text` of what [`uefi_text::CStr16::from_u16_with_nul`] says of them; want of memory, as
+/// `Text` of what [`uefi_text::CStr16::from_u16_with_nul`] says of them; out of memory, as
 /// `OutOfMemory`; a path that is not accepted, as `Invalid` of the reason. The bytes are looked at before
 /// memory is asked for.
 pub fn judge<A: Allocator + Copy>(alloc: A, bytes: &[u8]) -> Result<PathBuf<A>, JudgeError>

@@ -10,8 +10,8 @@ ghost use Rattle.upath.specs.Laws.{ParentIsNotDoubled, ParentIsRelative, ParentI
 ghost use Rattle.upath.specs.Laws.{CanonicalIsEqual, ComponentsRebuild, ParentOfJoined};
 ghost use Rattle.upath.specs.Laws.{WalkingUpEnds, FewerParents, ParentsArePrefixes};
 
-/// Every text is spelled by exactly one list of bytes, no bytes spell two texts, and bytes are accepted
-/// exactly where they spell one: `CStr16::from_bytes_with_nul` and `CStr16::as_bytes` undo one another.
+/// Every text is encoded by exactly one list of bytes, no bytes encode two texts, and bytes are accepted
+/// exactly where they encode one: `CStr16::from_bytes_with_nul` and `CStr16::as_bytes` undo one another.
 pub fn bytes_once()
     ensures encoded { TextsAreEncoded }
     ensures once { EncodedOnce }
@@ -97,13 +97,13 @@ pub fn join_then_parent()
     ensures equal { CanonicalIsEqual }
 {}
 
-/// The successive parents of a valid path are its shorter beginnings, the longest first, down to the
+/// The successive parents of a valid path are its shorter prefixes, the longest first, down to the
 /// first component alone.
 pub fn parents_enumerate()
     ensures { ParentsArePrefixes }
 {}
 
-/// Climbing from any path ends, and a plain path of n components has at most n - 1 successive
+/// Walking up from any path ends, and a plain path of n components has at most n - 1 successive
 /// parents, or none where n is 0.
 pub fn parent_count()
     ensures ends { WalkingUpEnds }

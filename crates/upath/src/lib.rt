@@ -1,11 +1,11 @@
 //! What programs do with the paths of UEFI firmware: bytes judged, lists of commands, lines of
-//! commands in and lines of answers out, and the laws to reason by.
+//! commands in and lines of results out, and the laws to reason by.
 //!
-//! [`judge`] takes bytes from outside, and answers the path that they spell or why they spell none.
+//! [`judge`] takes bytes from outside, and returns the path that they encode or why they encode none.
 //! [`run_commands`] does a list of commands on a path, [`pieces`] lists its components and
 //! [`all_parents`] its successive parents.
 //!
-//! [`run_text`] answers what the lines of an input print, and [`run_streams`] does the same from a
+//! [`run_text`] returns what the lines of an input print, and [`run_streams`] does the same from a
 //! reader to a writer. The contract of both is one definition, `output_of` in `specs/Output.antt`:
 //! what is printed is a function of the whole input, and of nothing else.
 //!

@@ -17,7 +17,7 @@ pub enum StreamFault {
     /// A read failed. Nothing was written.
     Read,
 
-    /// A write or the flush failed. A beginning of the output may have been written.
+    /// A write or the flush failed. A prefix of the output may have been written.
     Write,
 
     /// A request for memory was refused, while reading or later. Nothing was written.
@@ -55,10 +55,10 @@ fn write_output<W: Write>(writer: &mut W, output: &[u8]) -> Result<(), StreamFau
     Ok(())
 }
 
-/// Reads a reader to its end, writes what [`run_text`] answers to the whole of it, and nothing
+/// Reads a reader to its end, writes what [`run_text`] returns to the whole of it, and nothing
 /// else, and flushes.
 ///
-/// A fault of reading comes first, then want of memory, then a fault of writing. Unless the fault
+/// A fault of reading comes first, then out of memory, then a fault of writing. Unless the fault
 /// is [`StreamFault::Write`] nothing was written. No failed call is tried again, but for one that
 /// was interrupted.
 pub fn run_streams<A: Allocator + Copy, R: Read, W: Write>(

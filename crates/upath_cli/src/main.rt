@@ -1,4 +1,4 @@
-//! Reads lines of commands on paths from standard input, and prints what they answer.
+//! Reads lines of commands on paths from standard input, and prints what they return.
 //!
 //! Ends with 0; with 2 where a read or a write failed; with 3, and `out of memory` on standard
 //! error, where memory was refused.

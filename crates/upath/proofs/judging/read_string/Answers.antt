@@ -1,4 +1,4 @@
--- Bytes whose units are no string are refused, and all others spell a text.
+-- Bytes whose units are no string are refused, and all others encode a text.
 use Rattle.std.proofs.Common.{◌≡◌, ◌%◌, ◌∙◌, ap, sym, All, List, ℕ, None, length, refl, inl, get_or, ◌<◌, arith}
 use Rattle.std.proofs.lemmas.List.Elements.{All-from_get_or}
 use Rattle.uefi_text.specs.FromSliceWithNul.{with_nul_refusal}

@@ -1,4 +1,4 @@
--- `allocate` answers `Err` where `refuses` says so, and else what the inner allocator answers.
+-- `allocate` returns `Err` where `refuses` says so, and else what the inner allocator returns.
 use Rattle.std.proofs.Common.{ℕ, ◌+◌, Bool, true, false, [], ◌∷◌, Ok, Err, refl, ap, w64}
 use Rattle.std.proofs.raw_atomic.Walks.{proved, leaves}
 use Rattle.std.proofs.alloc.Calls.{Al, α, token, Answer, answer_val, Answer-typed, Answer-Ok, Answer-err, Takes, at_takes, Answered, Takes-goes, Takes-gives, answers}
@@ -63,7 +63,7 @@ allocate_spec 𝓤 𝓛 𝓜 𝓡 wired B laws g d dd met _ =
     let at : ℕ → ℕ × ℕ = λ k. (self.ref_ptr.0, self.ref_ptr.1 + k) in
     let inner = at (up (align (α Z)) 0) in
     let left = at (up 8 (up (align (α Z)) 0 + size (α Z))) in
-    -- the end of the walk, at any answer and at `Err`
+    -- the end of the walk, at any result and at `Err`
     let others : Item 𝓤 = ‵ (flft κs.1.0 qs.1.0) ⊛ ‵ ftrue in
     let answers_with : (v : Val) (r : Answer.Denot) → ent 𝓤 (emp 𝓤) (sem 𝓛 (Answer.own_val r (v ∷ [])))
     → Sq 𝓛 (‵ (flft κ q) ∷ others ∷ ‵ (block_if_ok (token Z h) τ r) ∷ []) (prop (W.post y v)) = λ v r made.
@@ -73,7 +73,7 @@ allocate_spec 𝓤 𝓛 𝓜 𝓡 wired B laws g d dd met _ =
     nothing ! $ move ! (1 ∷ 2 ∷ []) $ answers_with (answer_val false 0 0) (Err (record {})) (Answer-err 𝓛) in
     qed 𝓛 (((‵ (flft κ q) ⊛ others) ⊛ ‵ (owns (types_at T.signature.params κs) a y.0.4))
     ∷ (raw (fact 𝓤 (κs.1.0 ⊑ B.lives)) ⊛ raw (fact 𝓤 (HasLayout τ n al))) ∷ []) ∵
-    -- `self` lends both fields
+    -- `self` borrows both fields
     split ! $ split ! $ move ! (2 ∷ []) $ fsplit ! $ fsplit ! $ move ! (1 ∷ []) $ unhide ! $ fsplit ! $
     fsplit ! $ hide ! $ move ! (1 ∷ []) $ fsplit ! $ hide ! $
     keep ! (8 ∷ 0 ∷ 6 ∷ 2 ∷ 7 ∷ []) $ split ! $ heard ! _ (λ lives. heard ! _ (λ laid.

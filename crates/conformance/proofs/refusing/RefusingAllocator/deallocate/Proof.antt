@@ -59,7 +59,7 @@ deallocate_spec 𝓤 𝓛 𝓜 𝓡 wired B laws g d dd met _ =
     let inner : ℕ × ℕ = (self.ref_ptr.0, self.ref_ptr.1 + up (align (α Z)) 0) in
     qed 𝓛 (((‵ (flft κ q) ⊛ ‵ (flft κs.1.0 qs.1.0) ⊛ ‵ ftrue) ⊛ ‵ (owns (types_at T.signature.params κs) a y.0.4))
     ∷ (raw (fact 𝓤 (κs.1.0 ⊑ B.lives)) ⊛ raw (fact 𝓤 (HasLayout τ n al)) ⊛ ‵ (owned_block (token Z h) τ a.1.0)) ∷ []) ∵
-    -- `self` lends its fields, of which the first is wanted
+    -- `self` borrows its fields, of which the first is wanted
     split ! $ split ! $ move ! (2 ∷ []) $ fsplit ! $ fsplit ! $ move ! (1 ∷ []) $ unhide ! $ fsplit ! $ fsplit ! $ hide ! $
     keep ! (7 ∷ 0 ∷ 5 ∷ 6 ∷ []) $ split3 ! $ heard ! _ (λ lives. heard ! _ (λ laid.
     -- [the block; the `&` to the inner allocator; the token of κ; the other tokens]

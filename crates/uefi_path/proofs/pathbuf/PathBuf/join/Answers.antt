@@ -1,4 +1,4 @@
--- No slash of the path is left to turn.
+-- No slash of the path is left to replace.
 use Rattle.std.proofs.Common.{arith}
 use Rattle.std.proofs.lemmas.Grind.{common_steps}
 use Rattle.uefi_path.proofs.Pushing.{with_separators-plain}

@@ -1,4 +1,4 @@
--- The character stands where the NUL stood, in front of a new one.
+-- The character stands where the NUL stood, before a new one.
 use Rattle.std.proofs.Common.{◌≡◌, [], ◌∷◌, ◌++◌, length, set, ap, ◌∙◌, arith}
 use Rattle.std.proofs.lemmas.Grind.{common_steps}
 use Rattle.std.proofs.lemmas.List.Elements.{All-append, All-cons, All-nil}

@@ -1,4 +1,4 @@
--- The characters stand where the NUL stood, in front of a new one.
+-- The characters stand where the NUL stood, before a new one.
 use Rattle.std.proofs.Common.{◌≡◌, ◌++◌, arith}
 use Rattle.std.proofs.lemmas.Grind.{common_steps}
 use Rattle.std.proofs.lemmas.List.Elements.{All-append}

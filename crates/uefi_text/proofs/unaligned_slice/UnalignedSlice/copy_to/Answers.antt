@@ -4,7 +4,7 @@ use Rattle.uefi_text.specs.Views.{items_of}
 use Rattle.uefi_text_encodings.proofs.Packing.{length-packed_items}
 use Rattle.uefi_text.proofs.unaligned_slice.UnalignedSlice.copy_to.Goals as goal
 
--- behind the last place, what is copied is all of both
+-- after the last place, what is copied is all of both
 pub returns : goal.returns
 unfolding items_of
 returns g c =
