@@ -27,6 +27,15 @@ fn pushes(rt: &HostRuntime, text: &str, other: &str, want: &str) -> Result<bool,
     shows(rt, &path, want)
 }
 
+/// Whether both joins and the push have this text.
+fn joins_and_pushes(rt: &HostRuntime, text: &str, other: &str, want: &str) -> Result<bool, Fail> {
+    Ok(
+        joins(rt, text, other, want)?
+            && joins_buffer(rt, text, other, want)?
+            && pushes(rt, text, other, want)?,
+    )
+}
+
 #[test]
 fn pushed_and_joined(rt: HostRuntime) -> Result<(), Fail> {
     for (text, other, want) in [
@@ -43,9 +52,7 @@ fn pushed_and_joined(rt: HostRuntime) -> Result<(), Fail> {
         ("\\", "\\x", "\\\\x"),
         ("a\\b", "c\\d", "a\\b\\c\\d"),
     ] {
-        assert!(rt; joins(&rt, text, other, want)?, "{text}, {want}");
-        assert!(rt; joins_buffer(&rt, text, other, want)?, "{text}, {want}");
-        assert!(rt; pushes(&rt, text, other, want)?, "{text}, {want}");
+        assert!(rt; joins_and_pushes(&rt, text, other, want)?, "{text}, {want}");
     }
     Ok(())
 }

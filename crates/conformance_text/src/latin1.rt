@@ -21,6 +21,12 @@ fn refused_bytes(rt: HostRuntime) {
     }
 }
 
+/// Whether bytes become a string that keeps them and prints this.
+fn prints(rt: &HostRuntime, bytes: &[u8], text: &str) -> Result<bool, Fail> {
+    let string = CStr8::from_bytes_with_nul(bytes)?;
+    Ok(string.as_bytes() == bytes && string.to_string(rt.alloc())?.as_str() == text)
+}
+
 #[test]
 fn accepted_bytes(rt: HostRuntime) -> Result<(), Fail> {
     let rows: [(&[u8], &str); 4] = [
@@ -30,10 +36,13 @@ fn accepted_bytes(rt: HostRuntime) -> Result<(), Fail> {
         (&[0], ""),
     ];
     for (bytes, text) in rows {
-        let string = CStr8::from_bytes_with_nul(bytes)?;
-        assert_eq!(rt; string.as_bytes(), bytes);
-        assert_eq!(rt; string.to_string(rt.alloc())?.as_str(), text);
+        assert!(rt; prints(&rt, bytes, text)?, "{text}");
     }
+    Ok(())
+}
+
+#[test]
+fn printed_for_programmers(rt: HostRuntime) -> Result<(), Fail> {
     let printed = format!(in rt.alloc(); "{:?}", CStr8::from_bytes_with_nul(&[0xe9, 10, 0])?)?;
     assert_eq!(rt; printed.as_str(), "CStr8(['é', '\\n'])");
     Ok(())
