@@ -1,36 +1,41 @@
 //! The examples of the documents.
 use std::alloc::AllocError;
 use std::test::Fail;
-use uefi_path::{Path, PathBuf};
+use uefi_path::{Path, PathBuf, validate_path};
 use uefi_text::{CStr16, CString16, FromSliceWithNulError};
 
 #[test]
-fn the_strings_of_the_readme(rt: HostRuntime) -> Result<(), Fail> {
-    let name = CStr16::from_u16_with_nul(&[0x65, 0x66, 0x69, 0])?;
+fn the_example_of_the_readme(rt: HostRuntime) -> Result<(), Fail> {
+    // A view of code units that lie elsewhere, and the exact refusal with its place.
+    let boot = CStr16::from_u16_with_nul(&[0x62, 0x6f, 0x6f, 0x74, 0])?;
     let broken = CStr16::from_u16_with_nul(&[0x65, 0xd800, 0]);
     assert_eq!(rt; broken.err(), Some(FromSliceWithNulError::InvalidChar(1)));
-    assert_eq!(rt; name.to_string(rt.alloc())?.as_str(), "efi");
+
+    // An owned string, and a path over it, in which each `/` becomes the separator.
+    let folder = CString16::try_from_str(rt.alloc(), "/efi")?;
+    let mut path = PathBuf::from(rt.alloc(), folder.as_cstr16())?;
+    path.push(Path::new(boot))?;
+    assert!(rt; validate_path(path.as_path()).is_ok());
+
+    // Prints `\efi\boot`, and then its components, a line each.
+    println!(rt; "{path}")?;
+    for component in path.components() {
+        for character in component.iter() {
+            print!(rt; "{character}")?;
+        }
+        println!(rt; "")?;
+    }
+    assert_eq!(rt; path.to_string(rt.alloc())?.as_str(), "\\efi\\boot");
     Ok(())
 }
 
-/// The path of the README, its slash replaced.
+/// The path of the examples, its slash replaced.
 fn efi_boot(rt: &HostRuntime) -> Result<PathBuf, Fail> {
     let text = CString16::try_from_str(rt.alloc(), "/efi/boot")?;
     let Ok(buffer) = PathBuf::new_from_cstring16(rt.alloc(), text) else {
         return Err(AllocError.into());
     };
     Ok(buffer)
-}
-
-#[test]
-fn the_path_of_the_readme(rt: HostRuntime) -> Result<(), Fail> {
-    let name = CStr16::from_u16_with_nul(&[0x65, 0x66, 0x69, 0])?;
-    let buffer = efi_boot(&rt)?;
-    assert_eq!(rt; buffer.components().next(), Some(name.as_slice()));
-    for component in buffer.components() {
-        println!(rt; "{} characters", component.len())?;
-    }
-    Ok(())
 }
 
 #[test]

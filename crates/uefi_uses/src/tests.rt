@@ -1,0 +1,25 @@
+use super::*;
+use std::test::Fail;
+
+#[test]
+fn entries(rt: HostRuntime) -> Result<(), Fail> {
+    let entry = entry_path(rt.alloc(), "/efi/boot", "menu.efi");
+    let Ok(path) = entry else {
+        return Err(std::alloc::AllocError.into());
+    };
+    assert_eq!(rt; path.to_string(rt.alloc())?.as_str(), "\\efi\\boot\\menu.efi");
+    let refused = entry_path(rt.alloc(), "/efi/boot", "menu?");
+    assert!(rt; matches!(refused.err(), Some(EntryError::Path(PathError::IllegalChar(_)))));
+    Ok(())
+}
+
+#[test]
+fn stored_entries(rt: HostRuntime) -> Result<(), Fail> {
+    let text = CString16::try_from_str(rt.alloc(), "a")?;
+    let entry = Path::new(text.as_cstr16());
+    // `/a` and its NUL, two bytes for each unit.
+    assert_eq!(rt; is_entry(rt.alloc(), b"/\0a\0\0\0", entry), Ok(true));
+    assert_eq!(rt; is_entry(rt.alloc(), b"b\0\0\0", entry), Ok(false));
+    assert_eq!(rt; is_entry(rt.alloc(), b"b", entry), Err(JudgeError::HalfUnit));
+    Ok(())
+}
