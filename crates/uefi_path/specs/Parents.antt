@@ -37,7 +37,8 @@ rejoined pieces = joined_with_end (non_empty pieces) (ends_empty pieces)
 abbrev pub parent_of_components : List (List ℕ) → Option (List ℕ)
 parent_of_components [] = None
 parent_of_components (piece ∷ []) = None
-parent_of_components (piece ∷ next ∷ pieces) = Some (with_separators (rejoined (all_but_last (piece ∷ next ∷ pieces))))
+parent_of_components (piece ∷ next ∷ pieces) =
+    Some (with_separators (rejoined (all_but_last (piece ∷ next ∷ pieces))))
 
 -- the parent of a path, which none of at most one component has
 abbrev pub parent_text : List ℕ → Option (List ℕ)

@@ -13,7 +13,7 @@ fn main(rt: HostRuntime) -> ExitCode {
         Ok(()) => ExitCode::SUCCESS,
         Err(StreamFault::Read | StreamFault::Write) => ExitCode::from(2),
         Err(StreamFault::OutOfMemory) => {
-            // There is nobody left to tell where standard error can't be written.
+            // Nothing is left to do where standard error can't be written.
             let _ = eprintln!(rt; "out of memory");
             ExitCode::from(3)
         }

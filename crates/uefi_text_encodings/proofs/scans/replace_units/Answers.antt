@@ -9,4 +9,5 @@ loop-unit-preserved c =
     let i = c.loop-unit.unit-index in
     let inside : i < length c.loop-unit.units = omega arith in
     rw c.unit_after.ensures
-    (map_over_more (replaced c.args.search c.args.replace) c.args.units.now c.loop-unit.units i (get_or c.loop-unit.units i 0) c.loop-unit-test.true c.loop-unit.invariant (get_or_default c.loop-unit.units i 0 _ inside))
+    (map_over_more (replaced c.args.search c.args.replace) c.args.units.now c.loop-unit.units i
+    (get_or c.loop-unit.units i 0) c.loop-unit-test.true c.loop-unit.invariant (get_or_default c.loop-unit.units i 0 _ inside))

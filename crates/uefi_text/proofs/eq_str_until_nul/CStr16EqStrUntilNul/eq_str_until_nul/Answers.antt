@@ -19,4 +19,6 @@ returns c =
     YieldsList-from_take_while _ (λ character. not (is_nul character)) (YieldsList-from_chars other c.utf8.other (cc)) (cc) (cc)
     (λ x b q k. search (rules, tests)) in
     begins_by_pairs c.all.result text (before_first is_nul (chars other))
-    (cases_from_all c.all.new.self _ c.all.result AreSame (λ pair. ¬ AreSame pair) c.all.ensures.ran (YieldsList-from_zip {s = c.zip-pairs.result} own before_nul) (λ x q k. search (rules, tests)) (λ x q k. search (rules, tests)))
+    (cases_from_all c.all.new.self _ c.all.result AreSame (λ pair. ¬ AreSame pair) c.all.ensures.ran
+    (YieldsList-from_zip {s = c.zip-pairs.result} own before_nul)
+    (λ x q k. search (rules, tests)) (λ x q k. search (rules, tests)))
