@@ -13,7 +13,7 @@ denied = 0 ∷ 34 ∷ 42 ∷ 47 ∷ 58 ∷ 60 ∷ 62 ∷ 63 ∷ 92 ∷ 124 ∷ [
 abbrev pub is_denied : ℕ → Bool
 is_denied unit = list_any (λ other. other == unit) denied
 
--- why a component names no file: it is empty, or holds a denied unit, of which the first is told
+-- why a component names no file: it is empty, or holds a denied unit, of which the first is reported
 abbrev pub fault : List ℕ → Option PathError
 fault [] = Some EmptyComponent
 fault (unit ∷ units) = option_map IllegalChar (find is_denied (unit ∷ units))

@@ -92,7 +92,7 @@ abbrev pub EqualWhereSameCanonical : Type 0
 EqualWhereSameCanonical =
     (text other : List ℕ) → IsTrue (path_equal text other) ↔ (canonical text ≡ canonical other)
 
--- in which order paths are pushed does not matter, where the middle one has no slash to replace
+-- how pushed paths are grouped does not matter, where the middle one has no slash to replace
 abbrev pub PushingIsAssociative : Type 0
 PushingIsAssociative = (first second third : List ℕ) → IsPlain second
     → pushed (pushed first second) third ≡ pushed first (pushed second third)

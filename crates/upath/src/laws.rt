@@ -49,8 +49,8 @@ pub fn order_agrees()
     ensures equal { EqualWhereSameCanonical }
 {}
 
-/// Plain paths are a monoid under `Path::join`: in which order they are joined does not matter, and
-/// the empty path changes nothing on either side.
+/// Plain paths are a monoid under `Path::join`: how they are grouped does not matter, and the empty
+/// path changes nothing on either side.
 pub fn join_monoid()
     ensures associative { PushingIsAssociative }
     ensures after { EmptyAfterIsUnit }
