@@ -1,5 +1,5 @@
 -- Texts as UTF-16, written into the prefix of a buffer.
-use Rattle.std.proofs.Common.{◌≡◌, ◌∙◌, ap, sym, refl, ℕ, ◌+◌, ◌-◌, ◌<◌, ◌≤◌, if◌then◌else◌, Bool, not, List, [], ◌∷◌, ◌++◌, append_assoc, length, take, drop, get_or, set, suc, Option, Some, None, arith}
+use Rattle.std.proofs.Common.{◌≡◌, ◌∙◌, ap, sym, refl, ℕ, ◌+◌, ◌<◌, ◌≤◌, if◌then◌else◌, Bool, not, List, [], ◌∷◌, ◌++◌, append_assoc, length, take, drop, get_or, set, suc, Option, Some, None, arith}
 use Rattle.std.specs.Char.Escape.{encode_utf16}
 use Rattle.std.specs.List.{position, position_or_len, find}
 use Rattle.std.specs.Option.{option_or}

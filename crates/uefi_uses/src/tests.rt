@@ -7,9 +7,17 @@ fn entries(rt: HostRuntime) -> Result<(), Fail> {
     let Ok(path) = entry else {
         return Err(std::alloc::AllocError.into());
     };
-    assert_eq!(rt; path.to_string(rt.alloc())?.as_str(), "\\efi\\boot\\menu.efi");
+    assert_eq!(rt;
+        path.to_string(rt.alloc())?.as_str(),
+        "\\efi\\boot\\menu.efi"
+    );
     let refused = entry_path(rt.alloc(), "/efi/boot", "menu?");
-    assert!(rt; matches!(refused.err(), Some(EntryError::Path(PathError::IllegalChar(_)))));
+    assert!(rt;
+        matches!(
+            refused.err(),
+            Some(EntryError::Path(PathError::IllegalChar(_)))
+        )
+    );
     Ok(())
 }
 
@@ -20,6 +28,9 @@ fn stored_entries(rt: HostRuntime) -> Result<(), Fail> {
     // `/a` and its NUL, two bytes for each unit.
     assert_eq!(rt; is_entry(rt.alloc(), b"/\0a\0\0\0", entry), Ok(true));
     assert_eq!(rt; is_entry(rt.alloc(), b"b\0\0\0", entry), Ok(false));
-    assert_eq!(rt; is_entry(rt.alloc(), b"b", entry), Err(JudgeError::HalfUnit));
+    assert_eq!(rt;
+        is_entry(rt.alloc(), b"b", entry),
+        Err(JudgeError::HalfUnit)
+    );
     Ok(())
 }

@@ -1,5 +1,5 @@
 -- The one unit of the character is written, or the first of its two, or both.
-use Rattle.std.proofs.Common.{◌≡◌, ◌∙◌, length, arith}
+use Rattle.std.proofs.Common.{◌≡◌, length, arith}
 use Rattle.std.proofs.lemmas.Grind.{common_steps}
 use Rattle.uefi_text_encodings.proofs.Utf16.{with_units-first, with_units-one, with_units-two}
 use Rattle.uefi_text_encodings.proofs.code_units.write_char.Goals.{then-units-gt1+then-place-buffer, else-units-gt1, else-units-gt1-via-then-units-gt1+else-place-buffer, else-units-gt1-via-else-units-gt1}

@@ -1,5 +1,5 @@
 -- What was written and not refused is a string.
-use Rattle.std.proofs.Common.{◌≡◌, sym, rules}
+use Rattle.std.proofs.Common.{sym}
 use Rattle.std.specs.Str.{chars}
 use Rattle.std.proofs.lemmas.List.{length-append}
 use Rattle.std.proofs.lemmas.Str.{scalars-chars}

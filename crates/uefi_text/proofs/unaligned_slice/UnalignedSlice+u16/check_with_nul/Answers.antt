@@ -6,7 +6,6 @@ use Rattle.std.proofs.lemmas.Grind.{common_steps}
 use Rattle.uefi_text_chars.specs.Units.{IsString}
 use Rattle.uefi_text.specs.Views.{items_of}
 use Rattle.uefi_text_encodings.specs.FromSliceWithNul.{with_nul_refusal}
-use Rattle.uefi_text_encodings.specs.declared.errors.FromSliceWithNulError.{FromSliceWithNulError}
 use Rattle.uefi_text_encodings.proofs.Deciding.{IsString-accepted}
 use Rattle.uefi_text.proofs.unaligned_slice.UnalignedSlice+u16.check_with_nul.Goals as goal
 
