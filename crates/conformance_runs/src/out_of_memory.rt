@@ -7,7 +7,8 @@ use std::test::Fail;
 use upath::{StreamFault, run_streams, run_text};
 
 const INPUT: &[u8] =
-    b"from \\foo\\bar\npieces\neq foo\nfrom a\xc3\xa9/c\npieces\neq \xf0\x9f\x98\x80\nwhat\n\xff\npush b\njoin c/d\nup\nparent\ncmp a\ncheck\nclear\ncheck\n";
+    b"from \\foo\\bar\npieces\neq foo\nfrom a\xc3\xa9/c\npieces\neq \xf0\x9f\x98\x80\nwhat\n\
+      \xff\npush b\njoin c/d\nup\nparent\ncmp a\ncheck\nclear\ncheck\n";
 
 #[test]
 fn runs_over_lines(rt: HostRuntime) -> Result<(), Fail> {

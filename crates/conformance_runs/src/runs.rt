@@ -41,12 +41,15 @@ fn lines_and_what_they_print(rt: HostRuntime) -> Result<(), Fail> {
 fn lines_that_change_the_path(rt: HostRuntime) -> Result<(), Fail> {
     for (input, want) in [
         (
-            "from a\npush \nparent\nclear\ncmp \\\njoin \\x\nfrom \\\njoin \\x\ncmp x\ncheck\nfrom b\ncmp \\c\n",
-            "= a\n= a\nnone\n= \nequal\n= \\x\n= \\\n= \\\\x\nless\npath contains an empty component\n= b\nless\n",
+            "from a\npush \nparent\nclear\ncmp \\\njoin \\x\nfrom \\\njoin \\x\ncmp x\n\
+             check\nfrom b\ncmp \\c\n",
+            "= a\n= a\nnone\n= \nequal\n= \\x\n= \\\n= \\\\x\nless\n\
+             path contains an empty component\n= b\nless\n",
         ),
         (
             "from a/b\neq a/b\ncmp \\a\\b\ncmp a\njoin \\\npieces\ncheck\nup\n",
-            "= a\\b\ndifferent\nequal\ngreater\n= a\\b\\\\\npieces 4\n| a\n| b\n| \n| \npath contains an empty component\nparents 3\n| a\\b\\\n| a\\b\n| a\n",
+            "= a\\b\ndifferent\nequal\ngreater\n= a\\b\\\\\npieces 4\n| a\n| b\n| \n| \n\
+             path contains an empty component\nparents 3\n| a\\b\\\n| a\\b\n| a\n",
         ),
         (
             "from /a\npush b\nup\nparent\nparent\npieces\ncheck\n",
@@ -54,7 +57,8 @@ fn lines_that_change_the_path(rt: HostRuntime) -> Result<(), Fail> {
         ),
         (
             "check\npush a>b\ncheck\njoin c/d\nclear\ncheck\n",
-            "path is empty\n= a>b\npath contains an illegal character (value 62)\n= a>b\\c\\d\n= \npath is empty\n",
+            "path is empty\n= a>b\npath contains an illegal character (value 62)\n\
+             = a>b\\c\\d\n= \npath is empty\n",
         ),
         (
             "from a\\b\ncmp a!\nfrom a\ncmp \\a\ncmp \\\\a\n",
@@ -75,7 +79,9 @@ fn lines_of_all_kinds(rt: HostRuntime) -> Result<(), Fail> {
         prints(
             &rt,
             &input,
-            "UCS-2 Conversion Error: Invalid character\n? unknown command\n= \npieces 0\nequal\npath is empty\n? not UTF-8\nUCS-2 Conversion Error: Interior null terminator\n? unknown command\n"
+            "UCS-2 Conversion Error: Invalid character\n? unknown command\n= \npieces 0\n\
+             equal\npath is empty\n? not UTF-8\n\
+             UCS-2 Conversion Error: Interior null terminator\n? unknown command\n"
         )?
     );
     Ok(())

@@ -14,7 +14,8 @@ use contract.BorrowLft.{◌⊑◌, ⊑_trans}
 use contract.Monad.{fact}
 use contract.Running.{tables}
 use types.Logic.{sem}
-use types.Kit.{Item, ‵, raw, ◌⊛◌, some, later, prop, at_ret, Sq, ◌$◌, ◌∵◌, !, qed, done, move, keep, drop, use0, use1, use2, split, join, group, fsplit, fjoin, feq_i, feq_l, pick, await, suffices, frame}
+use types.Kit.{Item, ‵, raw, ◌⊛◌, some, later, prop, at_ret, Sq, ◌$◌, ◌∵◌, !, qed, done, move}
+use types.Kit.{keep, drop, use0, use1, use2, split, join, group, fsplit, fjoin, feq_i, feq_l, pick, await, suffices, frame}
 use types.Part.{agg}
 use types.Run.{enter, addr, fld, stop, lit, and_then, no_more, first, branches, skips, exec, returns, returns_within}
 use types.ByLocal.{alloc_all, pass_all, free_all, look_at, get, through, sets, lands_as, env}
