@@ -2,7 +2,7 @@
 use std::alloc::AllocError;
 use std::test::Fail;
 use uefi_path::{Path, PathBuf, validate_path};
-use uefi_text::{CStr16, CString16, FromSliceWithNulError};
+use uefi_text::{CStr16, CString16, FromSliceWithNulError, UnalignedSlice};
 
 #[test]
 fn the_example_of_the_readme(rt: HostRuntime) -> Result<(), Fail> {
@@ -54,5 +54,21 @@ fn the_example_of_the_paths(rt: HostRuntime) -> Result<(), Fail> {
     let other = CString16::try_from_str(rt.alloc(), "efi\\boot")?;
     assert!(rt; buffer.as_path() == Path::new(other.as_cstr16()));
     assert_eq!(rt; buffer.components().count(), 2);
+
+    let file = buffer.join(Path::new(other.as_cstr16()))?;
+    assert!(rt; validate_path(file.as_path()).is_ok());
     Ok(())
+}
+
+#[test]
+fn the_example_of_packed_numbers(rt: HostRuntime) {
+    // A tag of one byte, and after it two numbers of two bytes each.
+    let field: &[u8] = &[0x07, 0x10, 0x11, 0x20, 0x21];
+    assert!(rt; UnalignedSlice::<u16>::fits(&field[1..], 2));
+    if UnalignedSlice::<u16>::fits(&field[1..], 2) {
+        let items: UnalignedSlice<u16> = UnalignedSlice::new(&field[1..], 2);
+        assert_eq!(rt; items.get(0), Some(0x1110));
+        assert_eq!(rt; items.get(1), Some(0x2120));
+        assert_eq!(rt; items.get(2), None);
+    }
 }
