@@ -1,5 +1,5 @@
-//! NUL-terminated UCS-2 strings that are owned, and what of Rust text is refused as one. A string
-//! keeps its NUL in the vector, which nothing outside this module sees.
+//! NUL-terminated strings of UCS-2 that are owned. A string keeps its NUL in the vector, which nothing
+//! outside this module sees.
 ghost use Rattle.std.specs.Prelude.{◌≡◌, ◌≢◌, ℕ, ◌+◌, ◌<◌, ◌↔◌, ◌++◌, [], All, List, None, length, map, find, position, unwrap_or, IsTrue, IfOk, IfErr, ◌∷◌, take, IsOk, OnOk, OnErr, drop};
 ghost use Rattle.std.specs.Str.{chars};
 ghost use Rattle.uefi_text_chars.specs.Units.{IsChar16, is_nul, nul_terminated, replaced, IsString};

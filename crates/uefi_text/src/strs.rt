@@ -1,5 +1,6 @@
-//! NUL-terminated strings that are borrowed: of Latin-1, and of UCS-2. The fields of the views are
-//! private to this module, and `specs/Views.antt` says what each view shows.
+//! NUL-terminated strings of UCS-2 that are borrowed; what of Latin-1 stands in the layer below is
+//! re-exported. The fields of the views are private to this module, and `specs/Views.antt` says what
+//! each view shows.
 #![tactic(auto, unfolding(crate::specs::Views::text_of, crate::specs::Views::units_of, crate::specs::Views::units_left))]
 
 ghost use Rattle.std.specs.Prelude.{◌≡◌, ◌<◌, ◌≤◌, ◌+◌, ◌*◌, ◌^◌, ◌↔◌, ◌==◌, ◌≢◌, ◌++◌, if◌then◌else◌, [], ℕ, List, Option, All, length, position, slice_get, slice_index, slice_range, take, IsTrue, IsOk, IfOk, OnErr, OnOk};

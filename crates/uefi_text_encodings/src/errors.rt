@@ -1,5 +1,5 @@
-//! Why bytes, code units and texts are refused as a string. The module `strs` re-exports these, under
-//! whose name callers know them.
+//! Why bytes, code units and texts are refused as a string. The modules `strs` and `owned_strs` of
+//! `uefi_text` re-export these, under whose names callers know them.
 use std::error::Error;
 use std::fmt;
 
