@@ -11,4 +11,4 @@ pub mod texts;
 
 pub use refusals::{Refusals, out_of_memory, refused_in_turn, requests};
 pub use refusing::Refusing;
-pub use texts::{printed, string};
+pub use texts::{printed, repeated, string};

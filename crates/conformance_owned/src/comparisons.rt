@@ -35,7 +35,8 @@ fn compare_owned(rt: &HostRuntime, a: &[u16], b: &[u16], want: Ordering) -> Resu
 
 #[test]
 fn order(rt: HostRuntime) -> Result<(), Fail> {
-    let rows: [(&[u16], &[u16], Ordering); 5] = [
+    let rows: [(&[u16], &[u16], Ordering); 6] = [
+        (&[97, 98, 99, 0], &[97, 98, 99, 0], Ordering::Equal),
         (&[0xffff, 0], &[0xe000, 0], Ordering::Greater),
         (&[97, 0], &[97, 98, 0], Ordering::Less),
         (&[97, 98, 0], &[98, 0], Ordering::Less),
@@ -115,6 +116,7 @@ fn equal_until_nul(rt: HostRuntime) -> Result<(), Fail> {
     let borrowed = owned.as_cstr16();
     let bytes = CStr8::from_bytes_with_nul(b"test\0")?;
     for (text, want) in [
+        ("test", Some(true)),
         ("te\0st", Some(true)),
         ("test\0", Some(true)),
         ("", Some(true)),

@@ -33,12 +33,24 @@ fn extended_by_ascii<A: Allocator>(
     string.extend(more.iter().filter(|c| c.is_ascii()))
 }
 
-/// The empty string after pushes of `h` and of `i`.
-fn pushed_hi(rt: &HostRuntime) -> Result<CString16, Fail> {
+/// The empty string after a push of each of these characters.
+pub(crate) fn pushed_one_by_one(rt: &HostRuntime, characters: &str) -> Result<CString16, Fail> {
     let mut text = CString16::new(rt.alloc())?;
-    text.push_str(string(rt.alloc(), "h")?.as_cstr16())?;
-    text.push_str(string(rt.alloc(), "i")?.as_cstr16())?;
+    for c in characters.chars() {
+        let c = Char16::try_from(c)?;
+        if c != NUL_16 {
+            text.push(c)?;
+        }
+    }
     Ok(text)
+}
+
+#[test]
+fn pushed_characters(rt: HostRuntime) -> Result<(), Fail> {
+    for text in ["h", "hi", "hi!"] {
+        assert!(rt; pushed_one_by_one(&rt, text)? == string(rt.alloc(), text)?);
+    }
+    Ok(())
 }
 
 /// A text after a push of a string, and then extended by the characters of another.
@@ -54,17 +66,27 @@ fn pushed_and_extended_by(
 
 #[test]
 fn pushed_and_extended(rt: HostRuntime) -> Result<(), Fail> {
-    let first = pushed_hi(&rt)?;
+    let first = pushed_one_by_one(&rt, "hi")?;
     assert_eq!(rt; first.num_chars(), 2);
     let mark = string(rt.alloc(), "!")?;
     let second = pushed_and_extended_by(
-        string(rt.alloc(), "!")?,
+        pushed_one_by_one(&rt, "!")?,
         first.as_cstr16(),
         mark.as_cstr16(),
     )?;
     assert_eq!(rt; second.num_chars(), 4);
     assert!(rt; second == string(rt.alloc(), "!hi!")?);
     Ok(())
+}
+
+/// A text in a string that has room for no more characters.
+fn filled<'a>(
+    heap: &'a Refusing<Global>,
+    text: CStr16<'_>,
+) -> Result<CString16<&'a Refusing<Global>>, AllocError> {
+    let mut filled = CString16::with_capacity(heap, text.num_chars())?;
+    filled.push_str(text)?;
+    Ok(filled)
 }
 
 /// Pushes a character until a push is refused, at most 99 times, and returns how many it took.
@@ -101,9 +123,10 @@ fn ab_and(rt: &HostRuntime, count: u64) -> Result<Vec<u16>, Fail> {
 fn pushes_until_one_is_refused(rt: HostRuntime) -> Result<(), Fail> {
     let c = Char16::try_from('c')?;
     assert!(rt; c != NUL_16);
+    let ab = string(rt.alloc(), "ab")?;
     for number in 2..6u64 {
         let heap = Refusing::new(rt.alloc(), number);
-        let mut text = string(&heap, "ab")?;
+        let mut text = filled(&heap, ab.as_cstr16())?;
         let pushed = pushed_until_refused(&mut text, c);
         assert!(rt; heap.has_refused(), "at request {number}");
         let want = ab_and(&rt, pushed)?;
@@ -112,12 +135,13 @@ fn pushes_until_one_is_refused(rt: HostRuntime) -> Result<(), Fail> {
     Ok(())
 }
 
-/// The results of two pushes of a string to `ab`, the first of which is refused.
+/// The results of two pushes of a string to another, the first of which is refused.
 fn pushed_twice<'a>(
     heap: &'a Refusing<Global>,
+    text: CStr16<'_>,
     more: CStr16<'_>,
 ) -> Result<(bool, bool, CString16<&'a Refusing<Global>>), Fail> {
-    let mut text = string(heap, "ab")?;
+    let mut text = filled(heap, text)?;
     let first = text.push_str(more).is_ok();
     let second = text.push_str(more).is_ok();
     Ok((first, second, text))
@@ -126,9 +150,10 @@ fn pushed_twice<'a>(
 /// A push after a refused one gets its memory.
 #[test]
 fn pushed_after_a_refusal(rt: HostRuntime) -> Result<(), Fail> {
+    let ab = CStr16::from_u16_with_nul(&[97, 98, 0])?;
     let more = CStr16::from_u16_with_nul(&[99, 0xe9, 0])?;
     let one = Refusing::new(rt.alloc(), 2);
-    let (first, second, text) = pushed_twice(&one, more)?;
+    let (first, second, text) = pushed_twice(&one, ab, more)?;
     assert!(rt; !first && second);
     assert!(rt; one.has_refused());
     assert!(rt; has_units(&text, &[97, 98, 99, 0xe9]));
@@ -182,7 +207,7 @@ fn pushes(
     more: CStr16<'_>,
     want: CStr16<'_>,
 ) -> Result<bool, AllocError> {
-    let mut grown = CString16::from_cstr16(heap, text)?;
+    let mut grown = filled(heap, text)?;
     match grown.push_str(more) {
         Ok(()) => Ok(grown.eq_cstr16(want)),
         Err(_) => out_of_memory(grown.eq_cstr16(text)),

@@ -28,7 +28,7 @@ fn becomes(
     units: &[u16],
     want: Result<CStr16<'_>, FromSliceWithNulError>,
 ) -> Result<bool, AllocError> {
-    let mut list = Vec::with_capacity(heap, 3)?;
+    let mut list = Vec::with_capacity(heap, 4)?;
     list.extend_from_slice(units)?;
     Ok(match CString16::try_from_vec(list) {
         Ok(string) => want == Ok(string.as_cstr16()),
@@ -39,7 +39,7 @@ fn becomes(
 /// The string takes over the vector's memory.
 #[test]
 fn strings_of_vectors(rt: HostRuntime) -> Result<(), Fail> {
-    for (units, text) in [([65u16, 0].as_slice(), "A"), (&[0], "")] {
+    for (units, text) in [([65u16, 0].as_slice(), "A"), (&[120, 0], "x"), (&[0], "")] {
         let text = string(rt.alloc(), text)?;
         let count = requests(
             rt.alloc(),
@@ -53,7 +53,8 @@ fn strings_of_vectors(rt: HostRuntime) -> Result<(), Fail> {
 
 #[test]
 fn refused_vectors(rt: HostRuntime) -> Result<(), Fail> {
-    let rows: [(&[u16], FromSliceWithNulError); 4] = [
+    let rows: [(&[u16], FromSliceWithNulError); 5] = [
+        (&[97, 0, 98, 0], FromSliceWithNulError::InteriorNul(1)),
         (&[0xd800, 0], FromSliceWithNulError::InvalidChar(0)),
         (&[], FromSliceWithNulError::NotNulTerminated),
         (&[65], FromSliceWithNulError::NotNulTerminated),

@@ -53,19 +53,46 @@ fn strings_in_memory_of_their_own(rt: HostRuntime) -> Result<(), Fail> {
     Ok(())
 }
 
-/// Whether the items are refused for this cause in a buffer of three nines, which then holds this.
-fn is_refused(items: &UnalignedSlice<'_, u16>, after: &[u16], want: UnalignedCStr16Error) -> bool {
-    let mut written = [9u16; 3];
-    let mut borrowed = [9u16; 3];
-    items.write_cstr16(&mut written).err() == Some(want)
-        && written.as_slice() == after
-        && items.to_cstr16(&mut borrowed).err() == Some(want)
-        && borrowed.as_slice() == after
+/// A way from packed units to a string in a buffer.
+#[derive(Clone, Copy)]
+enum Way {
+    Write,
+    Borrow,
+    FromSlice,
+}
+
+/// Why packed units are refused in a buffer, if they are.
+fn refusal(
+    way: Way,
+    items: &UnalignedSlice<'_, u16>,
+    buffer: &mut [u16],
+) -> Option<UnalignedCStr16Error> {
+    match way {
+        Way::Write => items.write_cstr16(buffer).err(),
+        Way::Borrow => items.to_cstr16(buffer).err(),
+        Way::FromSlice => CStr16::from_unaligned_slice(items, buffer).err(),
+    }
+}
+
+/// Whether the items are refused for this cause in a buffer of nines, which then holds this.
+fn is_refused(
+    rt: &HostRuntime,
+    way: Way,
+    items: &UnalignedSlice<'_, u16>,
+    after: &[u16],
+    want: UnalignedCStr16Error,
+) -> Result<bool, Fail> {
+    let mut buffer = vec![in rt.alloc(); 9u16; after.len()]?;
+    Ok(refusal(way, items, &mut buffer) == Some(want) && buffer.as_slice() == after)
 }
 
 #[test]
-fn refused_strings_in_buffers(rt: HostRuntime) {
-    let rows: [(&[u8], &[u16], UnalignedCStr16Error); 8] = [
+fn refused_strings_in_buffers(rt: HostRuntime) -> Result<(), Fail> {
+    let rows: [(&[u8], &[u16], UnalignedCStr16Error); 12] = [
+        (&[0, 0xd8, 0, 0], &[9], UnalignedCStr16Error::BufferTooSmall),
+        (&[0x41, 0], &[65, 9], UnalignedCStr16Error::NotNulTerminated),
+        (&[], &[9], UnalignedCStr16Error::NotNulTerminated),
+        (&[], &[], UnalignedCStr16Error::NotNulTerminated),
         (
             &[0, 0xd8, 0, 0],
             &[0xd800, 0, 9],
@@ -103,8 +130,11 @@ fn refused_strings_in_buffers(rt: HostRuntime) {
         let len = bytes.len() / 2;
         assert!(rt; UnalignedSlice::<u16>::fits(bytes, len));
         let items: UnalignedSlice<u16> = UnalignedSlice::new(bytes, len);
-        assert!(rt; is_refused(&items, after, want), "{bytes:?}");
+        for way in [Way::Write, Way::Borrow, Way::FromSlice] {
+            assert!(rt; is_refused(&rt, way, &items, after, want)?, "{bytes:?}");
+        }
     }
+    Ok(())
 }
 
 #[test]
@@ -113,12 +143,6 @@ fn empty_strings_in_buffers(rt: HostRuntime) -> Result<(), Fail> {
     let mut buffer = [9u16; 2];
     assert!(rt; nul.to_cstr16(&mut buffer)?.is_empty());
     assert_eq!(rt; buffer, [0, 9]);
-    let none: UnalignedSlice<u16> = UnalignedSlice::new(&[], 0);
-    let mut no_places: [u16; 0] = [];
-    assert_eq!(rt;
-        none.to_cstr16(&mut no_places).err(),
-        Some(UnalignedCStr16Error::NotNulTerminated)
-    );
     Ok(())
 }
 

@@ -22,6 +22,12 @@ fn becomes(rt: &HostRuntime, text: &str, want: &str) -> Result<bool, Fail> {
     Ok(shows(rt, &path, want)? && path == buffer(rt, want)?)
 }
 
+/// Whether the path buffer of a borrowed string has this text.
+fn copies(rt: &HostRuntime, text: &str, want: &str) -> Result<bool, Fail> {
+    let path = PathBuf::from(rt.alloc(), string(rt.alloc(), text)?.as_cstr16())?;
+    shows(rt, &path, want)
+}
+
 /// Whether the path buffer of a text is as empty as the text, and counts its components as its view.
 fn is_read_as_its_view(rt: &HostRuntime, text: &str) -> Result<bool, Fail> {
     let path = buffer(rt, text)?;
@@ -37,6 +43,7 @@ fn replaced_slashes(rt: HostRuntime) -> Result<(), Fail> {
         ("\\hello\\foo\\bar", "\\hello\\foo\\bar"),
     ] {
         assert!(rt; becomes(&rt, text, want)?, "{text}");
+        assert!(rt; copies(&rt, text, want)?, "{text}");
         assert!(rt; is_read_as_its_view(&rt, text)?, "{text}");
     }
     Ok(())

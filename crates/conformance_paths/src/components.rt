@@ -44,10 +44,38 @@ fn components_of_texts(rt: HostRuntime) -> Result<(), Fail> {
         ("a\\", "|a|"),
         ("foo\\bar\\hello", "|foo|bar|hello"),
         ("\\foo\\bar\\hello", "|foo|bar|hello"),
+        ("\\hello\\foo\\bar", "|hello|foo|bar"),
+        ("abc", "|abc"),
+        ("\\\\\\a", "|||a"),
         ("\\\\a", "||a"),
         ("a/b\\c", "|a/b|c"),
     ] {
         assert!(rt; has_components(&rt, text, want)?, "{text}");
+    }
+    Ok(())
+}
+
+/// How many components the path of a text has, and its buffer.
+fn counts(rt: &HostRuntime, text: &str) -> Result<(usize, usize), Fail> {
+    let string = string(rt.alloc(), text)?;
+    let path = Path::new(string.as_cstr16());
+    Ok((
+        path.components().count(),
+        buffer(rt, text)?.components().count(),
+    ))
+}
+
+/// Each slash separates components of a buffer alone. The last row is the parent of the one before it.
+#[test]
+fn counts_of_components(rt: HostRuntime) -> Result<(), Fail> {
+    for (text, borrowed, owned) in [
+        ("a\\", 2, 2),
+        ("\\\\\\a", 3, 3),
+        ("abc", 1, 1),
+        ("a/b\\c", 2, 3),
+        ("a\\b", 2, 2),
+    ] {
+        assert_eq!(rt; counts(&rt, text)?, (borrowed, owned), "{text}");
     }
     Ok(())
 }

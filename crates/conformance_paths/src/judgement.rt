@@ -45,6 +45,8 @@ fn illegal_characters(rt: HostRuntime) -> Result<(), Fail> {
         ("x?y", 63),
         ("x|y", 124),
         ("a>\\\\b", 62),
+        ("a>b\\\\c", 62),
+        ("a/b", 47),
         ("a\\b?*", 63),
     ] {
         let character = Char16::try_from(number)?;
@@ -66,6 +68,7 @@ fn judged_buffers(rt: HostRuntime) -> Result<(), Fail> {
             Err(PathError::IllegalChar(Char16::try_from(62u16)?)),
         ),
         ("hello\\\\bar", Err(PathError::EmptyComponent)),
+        ("a/b", Ok(())),
         ("", Err(PathError::Empty)),
     ] {
         assert_eq!(rt; validate_path(buffer(&rt, text)?.as_path()), want, "{text}");

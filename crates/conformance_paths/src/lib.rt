@@ -15,6 +15,8 @@ mod fixtures;
 #[cfg(test)]
 mod judgement;
 #[cfg(test)]
+mod long_paths;
+#[cfg(test)]
 mod out_of_memory;
 #[cfg(test)]
 mod parents;

@@ -84,7 +84,11 @@ fn has_parent(
 
 #[test]
 fn parent_of_a_borrowed_path_makes_one_request(rt: HostRuntime) -> Result<(), Fail> {
-    let (text, want) = (string(rt.alloc(), "/a\\b")?, string(rt.alloc(), "\\a")?);
+    let text = string(
+        rt.alloc(),
+        "/efi\\boot\\loader\\entries\\2026\\linux\\initrd.img",
+    )?;
+    let want = string(rt.alloc(), "\\efi\\boot\\loader\\entries\\2026\\linux")?;
     let path = Path::new(text.as_cstr16());
     let count = requests(
         rt.alloc(),
@@ -177,12 +181,23 @@ fn buffer_has_parent(
 
 #[test]
 fn parent_makes_one_request(rt: HostRuntime) -> Result<(), Fail> {
-    let (text, want) = (string(rt.alloc(), "a\\b")?, string(rt.alloc(), "a")?);
+    let text = string(
+        rt.alloc(),
+        "efi\\boot\\loader\\entries\\2026\\linux\\initrd.img",
+    )?;
+    let want = string(rt.alloc(), "efi\\boot\\loader\\entries\\2026\\linux")?;
     let count = requests(rt.alloc(), 1, |heap| {
         buffer_has_parent(heap, text.as_cstr16(), want.as_cstr16())
     })?;
     assert_eq!(rt; count, 1);
     Ok(())
+}
+
+/// The path of a text in a buffer that has room for no more characters.
+fn filled<'a>(heap: &'a Refusing<Global>, text: CStr16<'_>) -> Result<Buffer<'a>, AllocError> {
+    let mut filled = CString16::with_capacity(heap, text.num_chars())?;
+    filled.push_str(text)?;
+    PathBuf::new_from_cstring16(heap, filled).map_err(|_| AllocError)
 }
 
 /// Whether a buffer after a push has this text, or is unchanged where memory ran out.
@@ -192,7 +207,7 @@ fn pushes(
     other: CStr16<'_>,
     want: CStr16<'_>,
 ) -> Result<bool, AllocError> {
-    let mut path = PathBuf::from(heap, text)?;
+    let mut path = filled(heap, text)?;
     match path.push(Path::new(other)) {
         Ok(()) => Ok(path.to_cstr16() == want),
         Err(_) => out_of_memory(path.to_cstr16() == text),

@@ -6,7 +6,7 @@ use std::test::Fail;
 use uefi_path::Path;
 
 /// Whether a borrowed path has this parent, or none.
-fn has_parent(rt: &HostRuntime, text: &str, want: Option<&str>) -> Result<bool, Fail> {
+pub(crate) fn has_parent(rt: &HostRuntime, text: &str, want: Option<&str>) -> Result<bool, Fail> {
     let text = string(rt.alloc(), text)?;
     match (Path::new(text.as_cstr16()).parent(rt.alloc())?, want) {
         (Some(parent), Some(want)) => shows(rt, &parent, want),
@@ -16,7 +16,11 @@ fn has_parent(rt: &HostRuntime, text: &str, want: Option<&str>) -> Result<bool, 
 }
 
 /// Whether a buffer has this parent, or none, and is unchanged.
-fn buffer_has_parent(rt: &HostRuntime, text: &str, want: Option<&str>) -> Result<bool, Fail> {
+pub(crate) fn buffer_has_parent(
+    rt: &HostRuntime,
+    text: &str,
+    want: Option<&str>,
+) -> Result<bool, Fail> {
     let path = buffer(rt, text)?;
     let is_right = match (path.parent()?, want) {
         (Some(parent), Some(want)) => shows(rt, &parent, want)?,
@@ -38,6 +42,7 @@ fn paths_without_parent(rt: HostRuntime) -> Result<(), Fail> {
 #[test]
 fn parents_of_borrowed_paths(rt: HostRuntime) -> Result<(), Fail> {
     for (text, want) in [
+        ("a\\", "a"),
         ("a\\b", "a"),
         ("\\a\\b", "a"),
         ("a\\\\b", "a\\"),
@@ -46,6 +51,7 @@ fn parents_of_borrowed_paths(rt: HostRuntime) -> Result<(), Fail> {
         ("a\\b\\", "a\\b"),
         ("\\\\", ""),
         ("\\\\a", ""),
+        ("\\\\\\a", ""),
         ("\\\\a\\b", "a"),
         ("a\\b\\c", "a\\b"),
         ("a\\b\\c\\d", "a\\b\\c"),
@@ -60,6 +66,8 @@ fn parents_of_borrowed_paths(rt: HostRuntime) -> Result<(), Fail> {
 #[test]
 fn parents_of_buffers(rt: HostRuntime) -> Result<(), Fail> {
     for (text, want) in [
+        ("a\\", "a"),
+        ("\\\\\\a", ""),
         ("a/b", "a"),
         ("a\\\\b", "a\\"),
         ("a/b\\c", "a\\b"),

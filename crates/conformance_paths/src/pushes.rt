@@ -28,7 +28,12 @@ fn pushes(rt: &HostRuntime, text: &str, other: &str, want: &str) -> Result<bool,
 }
 
 /// Whether both joins and the push have this text.
-fn joins_and_pushes(rt: &HostRuntime, text: &str, other: &str, want: &str) -> Result<bool, Fail> {
+pub(crate) fn joins_and_pushes(
+    rt: &HostRuntime,
+    text: &str,
+    other: &str,
+    want: &str,
+) -> Result<bool, Fail> {
     Ok(
         joins(rt, text, other, want)?
             && joins_buffer(rt, text, other, want)?
@@ -42,11 +47,15 @@ fn pushed_and_joined(rt: HostRuntime) -> Result<(), Fail> {
         ("", "", ""),
         ("", "a", "a"),
         ("", "/b", "\\b"),
+        ("", "\\x", "\\x"),
+        ("", "/x/y", "\\x\\y"),
         ("a", "", "a"),
         ("a", "b", "a\\b"),
         ("a\\", "b", "a\\b"),
         ("a/", "b", "a\\b"),
         ("a", "/b", "a\\\\b"),
+        ("a", "\\b", "a\\\\b"),
+        ("\\first", "second", "\\first\\second"),
         ("a", "b/c", "a\\b\\c"),
         ("\\", "x", "\\x"),
         ("\\", "\\x", "\\\\x"),
@@ -57,24 +66,33 @@ fn pushed_and_joined(rt: HostRuntime) -> Result<(), Fail> {
     Ok(())
 }
 
-/// Whether the empty path after three pushes has this text.
-fn pushes_three(rt: &HostRuntime, parts: [&str; 3], want: &str) -> Result<bool, Fail> {
+/// The empty path after these are pushed in turn.
+fn pushed_in_turn(rt: &HostRuntime, parts: &[&str]) -> Result<PathBuf, Fail> {
     let mut path = PathBuf::new(rt.alloc())?;
     for part in parts {
         path.push(buffer(rt, part)?.as_path())?;
     }
-    shows(rt, &path, want)
+    Ok(path)
 }
 
 #[test]
-fn pushed_in_turn(rt: HostRuntime) -> Result<(), Fail> {
-    for (parts, want) in [
-        (["first", "second", "third"], "first\\second\\third"),
-        (["\\first", "", "second"], "\\first\\second"),
-        (["first", "", "second"], "first\\second"),
-    ] {
-        assert!(rt; pushes_three(&rt, parts, want)?, "{want}");
+fn several_pushes(rt: HostRuntime) -> Result<(), Fail> {
+    let rows: [(&[&str], &str); 4] = [
+        (&["first", "second", "third"], "first\\second\\third"),
+        (&["\\first", "second"], "\\first\\second"),
+        (&["\\first", "", "second"], "\\first\\second"),
+        (&["first", "", "", "", "second"], "first\\second"),
+    ];
+    for (parts, want) in rows {
+        assert!(rt; shows(&rt, &pushed_in_turn(&rt, parts)?, want)?, "{want}");
     }
+    Ok(())
+}
+
+/// One leading separator says nothing, nor does it where the other path is pushed together.
+#[test]
+fn pushed_and_equal(rt: HostRuntime) -> Result<(), Fail> {
+    assert!(rt; pushed_in_turn(&rt, &["a", "b"])? == buffer(&rt, "\\a\\b")?);
     Ok(())
 }
 

@@ -8,7 +8,7 @@ use uefi_text::CStr16;
 use upath::{PathCommand, RunFault, run_commands};
 
 /// Whether the path of a text after the first commands of a list has another text.
-fn leads_to(
+pub(crate) fn leads_to(
     rt: &HostRuntime,
     start: &str,
     commands: &[PathCommand<'_>],
@@ -77,6 +77,18 @@ fn long_list<'a>(
     Ok(commands)
 }
 
+/// Whether units are `a` and `\b` after it, again and again, `count` components in all.
+fn are_components(units: &[u16], count: usize) -> bool {
+    match (units.split_first(), count.checked_sub(1)) {
+        (None, None) => true,
+        (Some((97, others)), Some(pushes)) => {
+            others.len() == pushes.saturating_mul(2)
+                && others.chunks(2).all(|pair| pair == [92u16, 98].as_slice())
+        }
+        _ => false,
+    }
+}
+
 /// Whether the commands of a long list are done, or the path is what those that were done made of it.
 fn runs_or_stops(
     heap: &Refusing<Global>,
@@ -84,10 +96,10 @@ fn runs_or_stops(
 ) -> Result<bool, AllocError> {
     let mut path = PathBuf::new(heap)?;
     let answer = run_commands(heap, &mut path, commands);
-    let count = path.components().count();
+    let units = path.to_cstr16().to_u16_slice();
     match answer {
-        Ok(()) => Ok(count == 65),
-        Err(RunFault { done }) => out_of_memory(done <= 64 && count == done),
+        Ok(()) => Ok(are_components(units, 65)),
+        Err(RunFault { done }) => out_of_memory(done <= 64 && are_components(units, done)),
     }
 }
 

@@ -8,7 +8,7 @@ use uefi_text::{Char16, FromSliceWithNulError};
 use upath::{JudgeError, judge};
 
 /// Whether bytes are accepted as the path of a text.
-fn accepts(rt: &HostRuntime, bytes: &[u8], want: &str) -> Result<bool, Fail> {
+pub(crate) fn accepts(rt: &HostRuntime, bytes: &[u8], want: &str) -> Result<bool, Fail> {
     let want = string(rt.alloc(), want)?;
     Ok(matches!(&judge(rt.alloc(), bytes), Ok(path) if path.to_cstr16() == want.as_cstr16()))
 }

@@ -5,11 +5,15 @@
 #[cfg(test)]
 mod commands_on_paths;
 #[cfg(test)]
+mod error_texts;
+#[cfg(test)]
 mod failing_streams;
 #[cfg(test)]
 mod judged_bytes;
 #[cfg(test)]
 mod lists;
+#[cfg(test)]
+mod long_paths;
 #[cfg(test)]
 mod out_of_memory;
 #[cfg(test)]

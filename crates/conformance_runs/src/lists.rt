@@ -56,7 +56,7 @@ fn each_request_for_parents(rt: HostRuntime) -> Result<(), Fail> {
 }
 
 /// How many components the path of a text has.
-fn count_of_pieces(rt: &HostRuntime, text: &str) -> Result<usize, Fail> {
+pub(crate) fn count_of_pieces(rt: &HostRuntime, text: &str) -> Result<usize, Fail> {
     let text = string(rt.alloc(), text)?;
     Ok(pieces(rt.alloc(), Path::new(text.as_cstr16()))?.len())
 }

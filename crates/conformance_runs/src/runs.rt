@@ -3,7 +3,7 @@ use std::test::Fail;
 use upath::{run_streams, run_text};
 
 /// Whether a run over these lines prints this.
-fn prints(rt: &HostRuntime, input: &[u8], want: &str) -> Result<bool, Fail> {
+pub(crate) fn prints(rt: &HostRuntime, input: &[u8], want: &str) -> Result<bool, Fail> {
     Ok(run_text(rt.alloc(), input)?.as_slice() == want.as_bytes())
 }
 

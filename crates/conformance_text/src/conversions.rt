@@ -19,7 +19,7 @@ pub(crate) fn characters(rt: &HostRuntime, text: &str) -> Result<Vec<Char16>, Fa
 }
 
 /// Whether the characters of a text up to their first NUL are a string of this text.
-fn reads_until_nul(rt: &HostRuntime, text: &str, want: &str) -> Result<bool, Fail> {
+pub(crate) fn reads_until_nul(rt: &HostRuntime, text: &str, want: &str) -> Result<bool, Fail> {
     let read = CStr16::from_char16_until_nul(rt.alloc(), &characters(rt, text)?)?;
     Ok(read == string(rt.alloc(), want)?)
 }
@@ -49,7 +49,7 @@ fn characters_until_nul(rt: HostRuntime) -> Result<(), Fail> {
 }
 
 /// Whether the characters of a text, with their one NUL at the end, are a string of this text.
-fn reads_with_nul(rt: &HostRuntime, text: &str, want: &str) -> Result<bool, Fail> {
+pub(crate) fn reads_with_nul(rt: &HostRuntime, text: &str, want: &str) -> Result<bool, Fail> {
     let read = CStr16::from_char16_with_nul(rt.alloc(), &characters(rt, text)?)?;
     Ok(read == string(rt.alloc(), want)?)
 }
@@ -157,13 +157,13 @@ fn strings_and_their_bytes(rt: HostRuntime) -> Result<(), Fail> {
 }
 
 /// Whether the string of a text gives it back.
-fn gives_text(rt: &HostRuntime, text: &str) -> Result<bool, Fail> {
+pub(crate) fn gives_text(rt: &HostRuntime, text: &str) -> Result<bool, Fail> {
     let string = string(rt.alloc(), text)?;
     Ok(string.as_cstr16().to_rust_string(rt.alloc())?.as_str() == text)
 }
 
 /// Whether the string of a text adds its bytes after those that stand there.
-fn adds_text(rt: &HostRuntime, text: &str) -> Result<bool, Fail> {
+pub(crate) fn adds_text(rt: &HostRuntime, text: &str) -> Result<bool, Fail> {
     let string = string(rt.alloc(), text)?;
     let mut bytes = Vec::new(rt.alloc());
     bytes.push(b'x')?;

@@ -13,6 +13,8 @@ mod error_texts;
 #[cfg(test)]
 mod latin1;
 #[cfg(test)]
+mod long_texts;
+#[cfg(test)]
 mod out_of_memory;
 #[cfg(test)]
 mod rust_texts;

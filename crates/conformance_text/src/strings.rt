@@ -57,8 +57,10 @@ fn copies(rt: &HostRuntime, borrowed: CStr16<'_>, text: &str) -> Result<bool, Fa
 
 #[test]
 fn accepted_units_until_nul(rt: HostRuntime) -> Result<(), Fail> {
-    let rows: [(&[u16], &str); 5] = [
+    let rows: [(&[u16], &str); 7] = [
         (&[97, 98, 0], "ab"),
+        (&[97, 98, 99, 0], "abc"),
+        (&[0xe9, 0], "é"),
         (&[97, 0, 98, 0], "a"),
         (&[97, 0, 0xd800], "a"),
         (&[0], ""),
@@ -85,6 +87,7 @@ fn sizes_of_a_string(rt: HostRuntime) -> Result<(), Fail> {
 fn has_units(string: CStr16<'_>, units: &[u16]) -> bool {
     string.to_u16_slice_with_nul() == units
         && string.as_slice_with_nul().units() == units
+        && Some(string.as_slice().units()) == units.split_last().map(|(_, others)| others)
         && string.num_chars().checked_add(1) == Some(units.len())
 }
 
@@ -98,8 +101,9 @@ fn have_one_size(borrowed: CStr16<'_>, owned: &CString16, text: &str) -> bool {
 
 #[test]
 fn accepted_units(rt: HostRuntime) -> Result<(), Fail> {
-    let rows: [(&[u16], &str); 4] = [
+    let rows: [(&[u16], &str); 5] = [
         (&[65, 0], "A"),
+        (&[97, 0], "a"),
         (&[0], ""),
         (&[0xd7ff, 0xe000, 0xffff, 0], "\u{d7ff}\u{e000}\u{ffff}"),
         (&[0x48, 0xe9, 0], "Hé"),
@@ -119,11 +123,7 @@ fn accepted_units(rt: HostRuntime) -> Result<(), Fail> {
 fn keeps_units(rt: &HostRuntime, string: &CString16, units: &[u16]) -> Result<bool, Fail> {
     let borrowed = string.as_cstr16();
     let copy = borrowed.to_owned(rt.alloc())?;
-    Ok(
-        has_units(borrowed, units)
-            && has_units(copy.as_cstr16(), units)
-            && Some(borrowed.as_slice().units()) == units.split_last().map(|(_, others)| others),
-    )
+    Ok(has_units(borrowed, units) && has_units(copy.as_cstr16(), units))
 }
 
 #[test]

@@ -6,5 +6,6 @@ pub mod Output
 pub mod PathCommands
 pub mod SuccessiveParents
 pub mod Judging
+pub mod ErrorTexts
 pub mod Laws
 pub mod Streams

@@ -4,6 +4,8 @@ ghost use Rattle.uefi_text.specs.UnitBytes.{BytesEncode};
 ghost use Rattle.upath.specs.Judging.{IsPathOf, IsRefusalOf, bytes_fault};
 
 use std::alloc::Allocator;
+use std::error::Error;
+use std::fmt;
 use uefi_path::{PathBuf, PathError, validate_path};
 use uefi_text::{CString16, FromSliceWithNulError, UnalignedSlice};
 
@@ -22,6 +24,25 @@ pub enum JudgeError {
     /// A request for memory was refused.
     OutOfMemory,
 }
+
+/// Says what the reason within says of itself.
+impl fmt::Display for JudgeError {
+    ghost use Rattle.std.specs.Prelude.{Some};
+    ghost use Rattle.upath.specs.ErrorTexts.{judge_error_text};
+
+    ghost output = { λ error. Some (judge_error_text error) };
+
+    fn fmt<W: fmt::Write>(&self, f: &mut fmt::Formatter<W>) -> fmt::Result {
+        match self {
+            JudgeError::HalfUnit => write!(f, "odd number of bytes"),
+            JudgeError::Text(error) => fmt::Display::fmt(error, f),
+            JudgeError::Invalid(error) => fmt::Display::fmt(error, f),
+            JudgeError::OutOfMemory => write!(f, "out of memory"),
+        }
+    }
+}
+
+impl Error for JudgeError {}
 
 /// The string that bytes encode, two for each code unit.
 fn read_string<A: Allocator>(alloc: A, bytes: &[u8]) -> Result<CString16<A>, JudgeError>

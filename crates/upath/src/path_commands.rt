@@ -8,6 +8,8 @@ ghost use Rattle.upath.specs.PathCommands.{TakesMemory, after_command, after_com
 ghost use Rattle.upath.specs.SuccessiveParents.{AreParents, parents_of, shorter_prefixes};
 
 use std::alloc::{AllocError, Allocator};
+use std::error::Error;
+use std::fmt;
 use uefi_path::{Path, PathBuf};
 use uefi_text::{CStr16, Char16Slice};
 
@@ -36,6 +38,20 @@ pub struct RunFault {
     /// How many commands were done.
     pub done: usize,
 }
+
+impl fmt::Display for RunFault {
+    ghost use Rattle.std.specs.Prelude.{Some};
+    ghost use Rattle.upath.specs.ErrorTexts.{run_fault_text};
+
+    ghost output = { λ fault. Some (run_fault_text fault.done) };
+
+    fn fmt<W: fmt::Write>(&self, f: &mut fmt::Formatter<W>) -> fmt::Result {
+        let done = self.done;
+        write!(f, "out of memory after {done} commands")
+    }
+}
+
+impl Error for RunFault {}
 
 /// Does one command: the edit both of a list of commands and of a line. After a refusal the path is
 /// unchanged.

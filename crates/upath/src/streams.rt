@@ -24,6 +24,23 @@ pub enum StreamFault {
     OutOfMemory,
 }
 
+impl fmt::Display for StreamFault {
+    ghost use Rattle.std.specs.Prelude.{Some};
+    ghost use Rattle.upath.specs.ErrorTexts.{stream_fault_text};
+
+    ghost output = { λ fault. Some (stream_fault_text fault) };
+
+    fn fmt<W: fmt::Write>(&self, f: &mut fmt::Formatter<W>) -> fmt::Result {
+        match self {
+            StreamFault::Read => write!(f, "a read failed"),
+            StreamFault::Write => write!(f, "a write failed"),
+            StreamFault::OutOfMemory => write!(f, "out of memory"),
+        }
+    }
+}
+
+impl Error for StreamFault {}
+
 /// All that a reader still gives.
 fn read_input<A: Allocator, R: Read>(alloc: A, reader: &mut R) -> Result<Vec<u8, A>, StreamFault>
     ensures input { IfOk result (λ input.

@@ -1,0 +1,72 @@
+//! Owned strings and packed units of 100,000 characters, with ample memory: no call gives up on a long
+//! text.
+
+use crate::growth::pushed_one_by_one;
+use conformance::{repeated, string};
+use std::test::Fail;
+use uefi_text::{CStr16, CString16, UnalignedSlice};
+
+/// Whether copies of a string equal it.
+fn copies(rt: &HostRuntime, string: &CString16) -> Result<bool, Fail> {
+    let copy = CString16::from_cstr16(rt.alloc(), string.as_cstr16())?;
+    Ok(copy == *string && copy.clone()? == *string)
+}
+
+/// The empty string after a push of a string, and then extended by its characters.
+fn doubled(rt: &HostRuntime, string: CStr16<'_>) -> Result<CString16, Fail> {
+    let mut doubled = CString16::new(rt.alloc())?;
+    doubled.push_str(string)?;
+    doubled.extend(string.iter())?;
+    Ok(doubled)
+}
+
+#[test]
+fn long_strings(rt: HostRuntime) -> Result<(), Fail> {
+    let (text, twice) = (
+        repeated(rt.alloc(), "aé", 50_000)?,
+        repeated(rt.alloc(), "aé", 100_000)?,
+    );
+    let long = string(rt.alloc(), &text)?;
+    assert_eq!(rt; long.num_chars(), 100_000);
+    assert!(rt; copies(&rt, &long)?);
+    assert!(rt; pushed_one_by_one(&rt, &text)? == long);
+    assert!(rt; doubled(&rt, long.as_cstr16())? == string(rt.alloc(), &twice)?);
+    Ok(())
+}
+
+#[test]
+fn room_for_a_long_string(rt: HostRuntime) -> Result<(), Fail> {
+    assert!(rt; CString16::with_capacity(rt.alloc(), 100_000)?.is_empty());
+    Ok(())
+}
+
+/// The packed units of bytes, as many as they hold.
+fn units(bytes: &[u8]) -> Option<UnalignedSlice<'_, u16>> {
+    let len = bytes.len() / 2;
+    UnalignedSlice::<u16>::fits(bytes, len).then(|| UnalignedSlice::new(bytes, len))
+}
+
+/// Whether packed units become a string, and as many numbers as it has units.
+fn are_read_as(
+    rt: &HostRuntime,
+    items: UnalignedSlice<'_, u16>,
+    string: &CString16,
+) -> Result<bool, Fail> {
+    Ok(
+        items.to_vec(rt.alloc())?.as_slice() == string.as_cstr16().to_u16_slice_with_nul()
+            && items.to_cstring16(rt.alloc())? == *string
+            && CString16::try_from_unaligned(rt.alloc(), &items)? == *string,
+    )
+}
+
+#[test]
+fn long_packed_strings(rt: HostRuntime) -> Result<(), Fail> {
+    let text = repeated(rt.alloc(), "aé", 50_000)?;
+    let string = string(rt.alloc(), &text)?;
+    let bytes = string.as_cstr16().as_bytes(rt.alloc())?;
+    match units(&bytes) {
+        Some(items) => assert!(rt; are_read_as(&rt, items, &string)?),
+        None => return Err("no room".into()),
+    }
+    Ok(())
+}

@@ -1,0 +1,84 @@
+//! Paths and inputs of 100,000 characters, with ample memory: no call gives up on a long one.
+
+use crate::commands_on_paths::leads_to;
+use crate::judged_bytes::accepts;
+use crate::lists::count_of_pieces;
+use crate::runs::prints;
+use conformance::{repeated, string};
+use std::test::Fail;
+use uefi_path::{Path, PathBuf};
+use upath::{PathCommand, all_parents, run_streams};
+
+#[test]
+fn long_lists_of_components(rt: HostRuntime) -> Result<(), Fail> {
+    let text = repeated(rt.alloc(), "\\a", 50_000)?;
+    assert_eq!(rt; count_of_pieces(&rt, &text)?, 50_000);
+    Ok(())
+}
+
+/// How many parents the path of a text has.
+fn count_of_parents(rt: &HostRuntime, text: &str) -> Result<usize, Fail> {
+    let path = PathBuf::from(rt.alloc(), string(rt.alloc(), text)?.as_cstr16())?;
+    Ok(all_parents(rt.alloc(), &path)?.len())
+}
+
+#[test]
+fn parents_of_long_paths(rt: HostRuntime) -> Result<(), Fail> {
+    let mut text = repeated(rt.alloc(), "ab", 50_000)?;
+    text.push_str("\\c\\d")?;
+    assert_eq!(rt; count_of_parents(&rt, &text)?, 2);
+    Ok(())
+}
+
+#[test]
+fn commands_on_long_paths(rt: HostRuntime) -> Result<(), Fail> {
+    let (text, twice) = (
+        repeated(rt.alloc(), "ab\\", 33_334)?,
+        repeated(rt.alloc(), "ab\\", 66_668)?,
+    );
+    let long = string(rt.alloc(), &text)?;
+    let commands = [
+        PathCommand::From(long.as_cstr16()),
+        PathCommand::Push(Path::new(long.as_cstr16())),
+        PathCommand::From(long.as_cstr16()),
+        PathCommand::Join(Path::new(long.as_cstr16())),
+    ];
+    for (count, want) in [(1, &text), (2, &twice), (3, &text), (4, &twice)] {
+        assert!(rt; leads_to(&rt, "", &commands, count, want)?, "{count}");
+    }
+    Ok(())
+}
+
+#[test]
+fn long_bytes_that_are_judged(rt: HostRuntime) -> Result<(), Fail> {
+    let text = repeated(rt.alloc(), "\\a", 50_000)?;
+    let bytes = string(rt.alloc(), &text)?.as_cstr16().as_bytes(rt.alloc())?;
+    assert!(rt; accepts(&rt, &bytes, &text)?);
+    Ok(())
+}
+
+/// The input of one long line, and what it prints.
+fn long_run(rt: &HostRuntime) -> Result<(String, String), Fail> {
+    let text = repeated(rt.alloc(), "aé", 50_000)?;
+    Ok((
+        format!(in rt.alloc(); "from {text}\n")?,
+        format!(in rt.alloc(); "= {text}\n")?,
+    ))
+}
+
+#[test]
+fn runs_over_long_lines(rt: HostRuntime) -> Result<(), Fail> {
+    let (input, want) = long_run(&rt)?;
+    assert!(rt; prints(&rt, input.as_bytes(), &want)?);
+    Ok(())
+}
+
+#[test]
+fn runs_over_long_streams(rt: HostRuntime) -> Result<(), Fail> {
+    let (input, want) = long_run(&rt)?;
+    let mut reader: &[u8] = input.as_bytes();
+    let mut writer = Vec::new(rt.alloc());
+    assert_eq!(rt; run_streams(rt.alloc(), &mut reader, &mut writer), Ok(()));
+    assert_eq!(rt; writer.as_slice(), want.as_bytes());
+    Ok(())
+}
