@@ -4,9 +4,8 @@ ghost use Rattle.std.specs.Prelude.{◌≡◌, ◌≢◌, ◌<◌, ◌++◌, ℕ
 ghost use Rattle.std.specs.List.{filter};
 ghost use Rattle.uefi_text.specs.Views.{text_of};
 
-use conformance::{Refusing, out_of_memory, printed, requests, string};
+use conformance::{Refusing, printed, string};
 use std::alloc::{AllocError, Allocator, Global};
-use std::iter;
 use std::test::Fail;
 use uefi_text::{CStr16, CString16, Char16, NUL_16};
 
@@ -80,7 +79,7 @@ fn pushed_and_extended(rt: HostRuntime) -> Result<(), Fail> {
 }
 
 /// A text in a string that has room for no more characters.
-fn filled<'a>(
+pub(crate) fn filled<'a>(
     heap: &'a Refusing<Global>,
     text: CStr16<'_>,
 ) -> Result<CString16<&'a Refusing<Global>>, AllocError> {
@@ -157,77 +156,6 @@ fn pushed_after_a_refusal(rt: HostRuntime) -> Result<(), Fail> {
     assert!(rt; !first && second);
     assert!(rt; one.has_refused());
     assert!(rt; has_units(&text, &[97, 98, 99, 0xe9]));
-    Ok(())
-}
-
-/// Whether these are the units of `ab` and of nothing but `c` after it.
-fn is_ab_and_c(units: &[u16]) -> bool {
-    units
-        .strip_prefix(&[97u16, 98])
-        .is_some_and(|others| others.iter().all(|unit| *unit == 99))
-}
-
-/// How `ab` ends that is extended by 64 times this character: whether all were added, and the units.
-fn extended_by_64<'a>(
-    heap: &'a Refusing<Global>,
-    c: Char16,
-) -> Result<(bool, CString16<&'a Refusing<Global>>), AllocError> {
-    let Ok(mut text) = CString16::try_from_str(heap, "ab") else {
-        return Err(AllocError);
-    };
-    let is_whole = c != NUL_16 && text.extend(iter::repeat_n(c, 64)).is_ok();
-    Ok((is_whole, text))
-}
-
-/// Whether `ab` is extended by 64 times this character, or by fewer where memory ran out.
-fn extends_by_64(heap: &Refusing<Global>, c: Char16) -> Result<bool, AllocError> {
-    let (is_whole, text) = extended_by_64(heap, c)?;
-    let units = text.as_cstr16().to_u16_slice();
-    let is_right = is_ab_and_c(units) && is_whole == (units.len() == 66);
-    if is_whole {
-        Ok(is_right)
-    } else {
-        out_of_memory(is_right)
-    }
-}
-
-/// Where a request is refused, the characters before it stay.
-#[test]
-fn extended_until_refused(rt: HostRuntime) -> Result<(), Fail> {
-    let c = Char16::try_from('c')?;
-    let count = requests(rt.alloc(), 1, |heap| extends_by_64(heap, c))?;
-    assert!(rt; 1 < count && count < 97, "{count} requests");
-    Ok(())
-}
-
-/// Whether a text gets a string after it, or is unchanged where memory ran out.
-fn pushes(
-    heap: &Refusing<Global>,
-    text: CStr16<'_>,
-    more: CStr16<'_>,
-    want: CStr16<'_>,
-) -> Result<bool, AllocError> {
-    let mut grown = filled(heap, text)?;
-    match grown.push_str(more) {
-        Ok(()) => Ok(grown.eq_cstr16(want)),
-        Err(_) => out_of_memory(grown.eq_cstr16(text)),
-    }
-}
-
-/// The requests of a push of a string.
-fn requests_of_push(rt: &HostRuntime, text: &str, more: &str, want: &str) -> Result<u64, Fail> {
-    let (text, more) = (string(rt.alloc(), text)?, string(rt.alloc(), more)?);
-    let want = string(rt.alloc(), want)?;
-    requests(rt.alloc(), 1, |heap| {
-        pushes(heap, text.as_cstr16(), more.as_cstr16(), want.as_cstr16())
-    })
-}
-
-/// One request for a string with characters, and none for one without.
-#[test]
-fn pushed_strings(rt: HostRuntime) -> Result<(), Fail> {
-    assert_eq!(rt; requests_of_push(&rt, "ab", "cé", "abcé")?, 1);
-    assert_eq!(rt; requests_of_push(&rt, "b", "", "b")?, 0);
     Ok(())
 }
 

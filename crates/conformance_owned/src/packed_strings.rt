@@ -1,7 +1,6 @@
 //! Strings of packed code units, in buffers and in memory of their own.
 
-use conformance::{Refusing, requests, string};
-use std::alloc::{AllocError, Global};
+use conformance::{Refusing, string};
 use std::test::Fail;
 use uefi_text::{CStr16, CString16, FromSliceWithNulError, UnalignedCStr16Error, UnalignedSlice};
 
@@ -172,27 +171,5 @@ fn refused_packed_units(rt: HostRuntime) -> Result<(), Fail> {
         );
         assert!(rt; !none.has_refused());
     }
-    Ok(())
-}
-
-/// Whether the items become `test`, or memory ran out.
-fn becomes_test(
-    heap: &Refusing<Global>,
-    items: &UnalignedSlice<'_, u16>,
-) -> Result<bool, AllocError> {
-    match CString16::try_from_unaligned(heap, items) {
-        Ok(string) => Ok(string.as_cstr16().to_u16_slice() == [0x74, 0x65, 0x73, 0x74].as_slice()),
-        Err(FromSliceWithNulError::OutOfMemory) => Err(AllocError),
-        Err(_) => Ok(false),
-    }
-}
-
-#[test]
-fn one_request_for_packed_units(rt: HostRuntime) -> Result<(), Fail> {
-    let items: UnalignedSlice<u16> = UnalignedSlice::new(&TEST_AFTER_ONE[1..], 5);
-    assert_eq!(rt;
-        requests(rt.alloc(), 0, |heap| becomes_test(heap, &items))?,
-        1
-    );
     Ok(())
 }

@@ -51,6 +51,7 @@ fn ordered_by_canonical_text(rt: HostRuntime) -> Result<(), Fail> {
     for (a, b, want) in [
         ("a\\b", "a!", Ordering::Greater),
         ("a", "\\a", Ordering::Equal),
+        ("\\a", "a", Ordering::Equal),
         ("\\x", "x", Ordering::Equal),
         ("", "\\", Ordering::Equal),
         ("\\\\a", "\\a", Ordering::Less),

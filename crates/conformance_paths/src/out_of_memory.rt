@@ -1,5 +1,6 @@
 //! Paths whose requests for memory are refused in turn, until a run ends with none refused, which
-//! gives what ample memory gives. A call on a buffer asks the buffer's own allocator.
+//! gives what ample memory gives. A call on a buffer asks the buffer's own allocator. All calls stand in
+//! one table.
 
 use conformance::{Refusing, out_of_memory, requests, string};
 use std::alloc::{AllocError, Global};
@@ -7,100 +8,54 @@ use std::test::Fail;
 use uefi_path::{Path, PathBuf};
 use uefi_text::{CStr16, CString16};
 
-#[test]
-fn new_makes_one_request(rt: HostRuntime) -> Result<(), Fail> {
-    let count = requests(rt.alloc(), 0, |heap| Ok(PathBuf::new(heap)?.is_empty()))?;
-    assert_eq!(rt; count, 1);
-    Ok(())
+/// A path buffer with an allocator that refuses a request.
+type Buffer<'a> = PathBuf<&'a Refusing<Global>>;
+
+/// A call that makes a path or changes one.
+#[derive(Clone, Copy, Debug)]
+enum Call {
+    New,
+    NewFromCString16,
+    From,
+    ToPathBuf,
+    Join,
+    Parent,
+    CloneBuffer,
+    JoinBuffer,
+    ParentOfBuffer,
+    Push,
+    IntoCString16,
+    Nothing,
+}
+
+/// What a call is given: a text, another, and the text of the path that it makes.
+#[derive(Clone, Copy)]
+struct Row<'a> {
+    text: CStr16<'a>,
+    other: CStr16<'a>,
+    want: CStr16<'a>,
+}
+
+/// Whether a buffer has this text.
+fn shows(path: &Buffer<'_>, want: CStr16<'_>) -> bool {
+    path.to_cstr16() == want
 }
 
 /// Whether the path that takes over a copy of a string has this text.
-fn takes_over(
-    heap: &Refusing<Global>,
-    text: CStr16<'_>,
-    want: CStr16<'_>,
-) -> Result<bool, AllocError> {
-    match PathBuf::new_from_cstring16(heap, CString16::from_cstr16(heap, text)?) {
-        Ok(path) => Ok(path.to_cstr16() == want),
+fn takes_over(heap: &Refusing<Global>, row: Row<'_>) -> Result<bool, AllocError> {
+    match PathBuf::new_from_cstring16(heap, CString16::from_cstr16(heap, row.text)?) {
+        Ok(path) => Ok(shows(&path, row.want)),
         Err(_) => Err(AllocError),
     }
 }
 
-/// A path takes over the memory of its string.
-#[test]
-fn paths_of_strings_make_no_request(rt: HostRuntime) -> Result<(), Fail> {
-    let (text, want) = (string(rt.alloc(), "a/b")?, string(rt.alloc(), "a\\b")?);
-    let count = requests(rt.alloc(), 1, |heap| {
-        takes_over(heap, text.as_cstr16(), want.as_cstr16())
-    })?;
-    assert_eq!(rt; count, 0);
-    Ok(())
-}
-
-#[test]
-fn from_makes_one_request(rt: HostRuntime) -> Result<(), Fail> {
-    let (text, want) = (string(rt.alloc(), "/a\\b")?, string(rt.alloc(), "\\a\\b")?);
-    let count = requests(rt.alloc(), 0, |heap| {
-        Ok(PathBuf::from(heap, text.as_cstr16())?.to_cstr16() == want.as_cstr16())
-    })?;
-    assert_eq!(rt; count, 1);
-    Ok(())
-}
-
-#[test]
-fn to_path_buf_makes_one_request(rt: HostRuntime) -> Result<(), Fail> {
-    let (text, want) = (string(rt.alloc(), "/a\\b")?, string(rt.alloc(), "\\a\\b")?);
-    let path = Path::new(text.as_cstr16());
-    let count = requests(rt.alloc(), 0, |heap| {
-        Ok(path.to_path_buf(heap)?.to_cstr16() == want.as_cstr16())
-    })?;
-    assert_eq!(rt; count, 1);
-    Ok(())
-}
-
-#[test]
-fn join_of_a_borrowed_path_makes_one_request(rt: HostRuntime) -> Result<(), Fail> {
-    let (text, part) = (string(rt.alloc(), "/a\\b")?, string(rt.alloc(), "c/d")?);
-    let want = string(rt.alloc(), "\\a\\b\\c\\d")?;
-    let (path, other) = (Path::new(text.as_cstr16()), Path::new(part.as_cstr16()));
-    let count = requests(rt.alloc(), 0, |heap| {
-        Ok(path.join(heap, other)?.to_cstr16() == want.as_cstr16())
-    })?;
-    assert_eq!(rt; count, 1);
-    Ok(())
-}
-
-/// Whether a borrowed path has this parent.
-fn has_parent(
-    heap: &Refusing<Global>,
-    path: Path<'_>,
-    want: CStr16<'_>,
-) -> Result<bool, AllocError> {
-    match path.parent(heap)? {
-        Some(parent) => Ok(parent.to_cstr16() == want),
-        None => Ok(false),
+/// Whether a parent has this text.
+fn is_parent(parent: Option<Buffer<'_>>, want: CStr16<'_>) -> bool {
+    match parent {
+        Some(parent) => shows(&parent, want),
+        None => false,
     }
 }
-
-#[test]
-fn parent_of_a_borrowed_path_makes_one_request(rt: HostRuntime) -> Result<(), Fail> {
-    let text = string(
-        rt.alloc(),
-        "/efi\\boot\\loader\\entries\\2026\\linux\\initrd.img",
-    )?;
-    let want = string(rt.alloc(), "\\efi\\boot\\loader\\entries\\2026\\linux")?;
-    let path = Path::new(text.as_cstr16());
-    let count = requests(
-        rt.alloc(),
-        0,
-        |heap| has_parent(heap, path, want.as_cstr16()),
-    )?;
-    assert_eq!(rt; count, 1);
-    Ok(())
-}
-
-/// A path buffer with an allocator that refuses a request.
-type Buffer<'a> = PathBuf<&'a Refusing<Global>>;
 
 /// What a call on a buffer returned, which is wrong if the buffer is not this text any more.
 fn if_unchanged(
@@ -108,11 +63,7 @@ fn if_unchanged(
     path: &Buffer<'_>,
     text: CStr16<'_>,
 ) -> Result<bool, AllocError> {
-    if path.to_cstr16() == text {
-        answer
-    } else {
-        Ok(false)
-    }
+    if shows(path, text) { answer } else { Ok(false) }
 }
 
 /// Whether the clone of a buffer equals it.
@@ -120,77 +71,25 @@ fn clone_is_equal(path: &Buffer<'_>) -> Result<bool, AllocError> {
     Ok(path.clone()? == *path)
 }
 
-/// Whether the clone of the buffer of a text equals it.
-fn clones(heap: &Refusing<Global>, text: CStr16<'_>) -> Result<bool, AllocError> {
-    let path = PathBuf::from(heap, text)?;
-    if_unchanged(clone_is_equal(&path), &path, text)
-}
-
-#[test]
-fn clone_makes_one_request(rt: HostRuntime) -> Result<(), Fail> {
-    let text = string(rt.alloc(), "a\\b")?;
-    let count = requests(rt.alloc(), 1, |heap| clones(heap, text.as_cstr16()))?;
-    assert_eq!(rt; count, 1);
-    Ok(())
-}
-
 /// Whether a buffer joined with another path has this text.
-fn join_is(path: &Buffer<'_>, other: CStr16<'_>, want: CStr16<'_>) -> Result<bool, AllocError> {
-    Ok(path.join(Path::new(other))?.to_cstr16() == want)
-}
-
-/// Whether the buffer of a text joined with another path has this text.
-fn joins(
-    heap: &Refusing<Global>,
-    text: CStr16<'_>,
-    other: CStr16<'_>,
-    want: CStr16<'_>,
-) -> Result<bool, AllocError> {
-    let path = PathBuf::from(heap, text)?;
-    if_unchanged(join_is(&path, other, want), &path, text)
-}
-
-#[test]
-fn join_makes_one_request(rt: HostRuntime) -> Result<(), Fail> {
-    let (text, other) = (string(rt.alloc(), "a\\b")?, string(rt.alloc(), "/c")?);
-    let want = string(rt.alloc(), "a\\b\\\\c")?;
-    let count = requests(rt.alloc(), 1, |heap| {
-        joins(heap, text.as_cstr16(), other.as_cstr16(), want.as_cstr16())
-    })?;
-    assert_eq!(rt; count, 1);
-    Ok(())
+fn join_is(path: &Buffer<'_>, row: Row<'_>) -> Result<bool, AllocError> {
+    Ok(shows(&path.join(Path::new(row.other))?, row.want))
 }
 
 /// Whether a buffer has this parent.
 fn parent_is(path: &Buffer<'_>, want: CStr16<'_>) -> Result<bool, AllocError> {
-    match path.parent()? {
-        Some(parent) => Ok(parent.to_cstr16() == want),
-        None => Ok(false),
-    }
+    Ok(is_parent(path.parent()?, want))
 }
 
-/// Whether the buffer of a text has this parent.
-fn buffer_has_parent(
-    heap: &Refusing<Global>,
-    text: CStr16<'_>,
-    want: CStr16<'_>,
-) -> Result<bool, AllocError> {
-    let path = PathBuf::from(heap, text)?;
-    if_unchanged(parent_is(&path, want), &path, text)
-}
-
-#[test]
-fn parent_makes_one_request(rt: HostRuntime) -> Result<(), Fail> {
-    let text = string(
-        rt.alloc(),
-        "efi\\boot\\loader\\entries\\2026\\linux\\initrd.img",
-    )?;
-    let want = string(rt.alloc(), "efi\\boot\\loader\\entries\\2026\\linux")?;
-    let count = requests(rt.alloc(), 1, |heap| {
-        buffer_has_parent(heap, text.as_cstr16(), want.as_cstr16())
-    })?;
-    assert_eq!(rt; count, 1);
-    Ok(())
+/// Whether a call on the buffer of a text gives what ample memory gives, and leaves it unchanged.
+fn reads(call: Call, heap: &Refusing<Global>, row: Row<'_>) -> Result<bool, AllocError> {
+    let path = PathBuf::from(heap, row.text)?;
+    let answer = match call {
+        Call::CloneBuffer => clone_is_equal(&path),
+        Call::JoinBuffer => join_is(&path, row),
+        _ => parent_is(&path, row.want),
+    };
+    if_unchanged(answer, &path, row.text)
 }
 
 /// The path of a text in a buffer that has room for no more characters.
@@ -201,31 +100,21 @@ fn filled<'a>(heap: &'a Refusing<Global>, text: CStr16<'_>) -> Result<Buffer<'a>
 }
 
 /// Whether a buffer after a push has this text, or is unchanged where memory ran out.
-fn pushes(
-    heap: &Refusing<Global>,
-    text: CStr16<'_>,
-    other: CStr16<'_>,
-    want: CStr16<'_>,
-) -> Result<bool, AllocError> {
-    let mut path = filled(heap, text)?;
-    match path.push(Path::new(other)) {
-        Ok(()) => Ok(path.to_cstr16() == want),
-        Err(_) => out_of_memory(path.to_cstr16() == text),
+fn pushes(heap: &Refusing<Global>, row: Row<'_>) -> Result<bool, AllocError> {
+    let mut path = filled(heap, row.text)?;
+    match path.push(Path::new(row.other)) {
+        Ok(()) => Ok(shows(&path, row.want)),
+        Err(_) => out_of_memory(shows(&path, row.text)),
     }
 }
 
-#[test]
-fn each_request_of_a_push(rt: HostRuntime) -> Result<(), Fail> {
-    let (text, part) = (
-        string(rt.alloc(), "a\\b")?,
-        string(rt.alloc(), "cd/ef/gh/ij/kl")?,
-    );
-    let want = string(rt.alloc(), "a\\b\\cd\\ef\\gh\\ij\\kl")?;
-    let count = requests(rt.alloc(), 1, |heap| {
-        pushes(heap, text.as_cstr16(), part.as_cstr16(), want.as_cstr16())
-    })?;
-    assert!(rt; 1 < count && count < 98, "{count} requests");
-    Ok(())
+/// Whether the string of a buffer has its text.
+fn gives_back(heap: &Refusing<Global>, row: Row<'_>) -> Result<bool, AllocError> {
+    Ok(
+        PathBuf::from(heap, row.text)?
+            .into_cstring16()
+            .eq_cstr16(row.want),
+    )
 }
 
 /// Whether a buffer without parent has none, nor has its text.
@@ -244,23 +133,78 @@ fn clears(mut path: Buffer<'_>) -> bool {
 }
 
 /// Whether no parent, an empty path that is pushed, and clearing do what they should.
-fn needs_no_memory(
-    heap: &Refusing<Global>,
-    text: CStr16<'_>,
-    empty: CStr16<'_>,
-) -> Result<bool, AllocError> {
-    let mut path = PathBuf::from(heap, text)?;
-    path.push(Path::new(empty))?;
-    let is_right = path.to_cstr16() == text && has_no_parent(heap, &path, text)?;
+fn needs_no_memory(heap: &Refusing<Global>, row: Row<'_>) -> Result<bool, AllocError> {
+    let mut path = PathBuf::from(heap, row.text)?;
+    path.push(Path::new(row.other))?;
+    let is_right = shows(&path, row.text) && has_no_parent(heap, &path, row.text)?;
     Ok(is_right && clears(path))
 }
 
+/// Whether a call gives what ample memory gives, or memory ran out.
+fn answers(call: Call, heap: &Refusing<Global>, row: Row<'_>) -> Result<bool, AllocError> {
+    let path = Path::new(row.text);
+    match call {
+        Call::New => Ok(PathBuf::new(heap)?.is_empty()),
+        Call::NewFromCString16 => takes_over(heap, row),
+        Call::From => Ok(shows(&PathBuf::from(heap, row.text)?, row.want)),
+        Call::ToPathBuf => Ok(shows(&path.to_path_buf(heap)?, row.want)),
+        Call::Join => Ok(shows(&path.join(heap, Path::new(row.other))?, row.want)),
+        Call::Parent => Ok(is_parent(path.parent(heap)?, row.want)),
+        Call::CloneBuffer | Call::JoinBuffer | Call::ParentOfBuffer => reads(call, heap, row),
+        Call::Push => pushes(heap, row),
+        Call::IntoCString16 => gives_back(heap, row),
+        Call::Nothing => needs_no_memory(heap, row),
+    }
+}
+
+/// The requests of a call, after those that come before it.
+fn count_of(rt: &HostRuntime, call: Call, setup: u64, texts: [&str; 3]) -> Result<u64, Fail> {
+    let [text, other, want] = texts;
+    let (text, other) = (string(rt.alloc(), text)?, string(rt.alloc(), other)?);
+    let want = string(rt.alloc(), want)?;
+    let row = Row {
+        text: text.as_cstr16(),
+        other: other.as_cstr16(),
+        want: want.as_cstr16(),
+    };
+    requests(rt.alloc(), setup, |heap| answers(call, heap, row))
+}
+
+const LONG: &str = "/efi\\boot\\loader\\entries\\2026\\linux\\initrd.img";
+
+const LONG_PARENT: &str = "\\efi\\boot\\loader\\entries\\2026\\linux";
+
+/// A text without slash and leading separator, and its parent.
+const PLAIN: &str = "efi\\boot\\loader\\entries\\2026\\linux\\initrd.img";
+
+const PLAIN_PARENT: &str = "efi\\boot\\loader\\entries\\2026\\linux";
+
+/// Each call, how many requests come before it, its texts, and how many requests it makes at least and
+/// at most. A path takes over the memory of its string, and gives it back.
 #[test]
-fn calls_without_a_request(rt: HostRuntime) -> Result<(), Fail> {
-    let (text, empty) = (string(rt.alloc(), "\\a")?, string(rt.alloc(), "")?);
-    let count = requests(rt.alloc(), 1, |heap| {
-        needs_no_memory(heap, text.as_cstr16(), empty.as_cstr16())
-    })?;
-    assert_eq!(rt; count, 0);
+fn requests_of_each_call(rt: HostRuntime) -> Result<(), Fail> {
+    for (call, setup, texts, least, most) in [
+        (Call::New, 0, ["", "", ""], 1, 1),
+        (Call::NewFromCString16, 1, ["a/b", "", "a\\b"], 0, 0),
+        (Call::From, 0, ["/a\\b", "", "\\a\\b"], 1, 1),
+        (Call::ToPathBuf, 0, ["/a\\b", "", "\\a\\b"], 1, 1),
+        (Call::Join, 0, ["/a\\b", "c/d", "\\a\\b\\c\\d"], 1, 1),
+        (Call::Parent, 0, [LONG, "", LONG_PARENT], 1, 1),
+        (Call::CloneBuffer, 1, ["a\\b", "", ""], 1, 1),
+        (Call::JoinBuffer, 1, ["a\\b", "/c", "a\\b\\\\c"], 1, 1),
+        (Call::ParentOfBuffer, 1, [PLAIN, "", PLAIN_PARENT], 1, 1),
+        (
+            Call::Push,
+            1,
+            ["a\\b", "cd/ef/gh/ij", "a\\b\\cd\\ef\\gh\\ij"],
+            2,
+            97,
+        ),
+        (Call::IntoCString16, 1, ["a/b", "", "a\\b"], 0, 0),
+        (Call::Nothing, 1, ["\\a", "", ""], 0, 0),
+    ] {
+        let count = count_of(&rt, call, setup, texts)?;
+        assert!(rt; least <= count && count <= most, "{call:?}: {count}");
+    }
     Ok(())
 }

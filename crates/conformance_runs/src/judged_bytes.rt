@@ -1,7 +1,6 @@
 //! Bytes that are judged to be a path, or refused.
 
-use conformance::{Refusing, requests, string};
-use std::alloc::{AllocError, Global};
+use conformance::string;
 use std::test::Fail;
 use uefi_path::PathError;
 use uefi_text::{Char16, FromSliceWithNulError};
@@ -79,57 +78,6 @@ fn refused_paths(rt: HostRuntime) -> Result<(), Fail> {
             Some(JudgeError::Invalid(want)),
             "{bytes:?}"
         );
-    }
-    Ok(())
-}
-
-/// Whether the verdict on bytes is this, or memory ran out.
-fn judges(
-    heap: &Refusing<Global>,
-    bytes: &[u8],
-    want: Option<JudgeError>,
-) -> Result<bool, AllocError> {
-    match judge(heap, bytes).err() {
-        Some(JudgeError::OutOfMemory) => Err(AllocError),
-        verdict => Ok(verdict == want),
-    }
-}
-
-/// One request, which comes after what the bytes are refused for and before the verdict on the path.
-#[test]
-fn one_request_for_a_text(rt: HostRuntime) -> Result<(), Fail> {
-    let illegal = PathError::IllegalChar(Char16::try_from('>')?);
-    let rows: [(&[u8], Option<JudgeError>); 3] = [
-        (&[0x61, 0, 0, 0], None),
-        (&[0, 0], Some(JudgeError::Invalid(PathError::Empty))),
-        (
-            &[0x61, 0, 0x3e, 0, 0, 0],
-            Some(JudgeError::Invalid(illegal)),
-        ),
-    ];
-    for (bytes, want) in rows {
-        let count = requests(rt.alloc(), 0, |heap| judges(heap, bytes, want))?;
-        assert_eq!(rt; count, 1, "{bytes:?}");
-    }
-    Ok(())
-}
-
-#[test]
-fn no_request_for_refused_bytes(rt: HostRuntime) -> Result<(), Fail> {
-    let rows: [(&[u8], Option<JudgeError>); 3] = [
-        (&[0x61, 0, 0], Some(JudgeError::HalfUnit)),
-        (
-            &[0x61, 0],
-            Some(JudgeError::Text(FromSliceWithNulError::NotNulTerminated)),
-        ),
-        (
-            &[],
-            Some(JudgeError::Text(FromSliceWithNulError::NotNulTerminated)),
-        ),
-    ];
-    for (bytes, want) in rows {
-        let count = requests(rt.alloc(), 0, |heap| judges(heap, bytes, want))?;
-        assert_eq!(rt; count, 0, "{bytes:?}");
     }
     Ok(())
 }

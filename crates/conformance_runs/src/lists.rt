@@ -1,7 +1,7 @@
 //! The components of a path as a list, and its successive parents.
 
-use conformance::{Refusals, Refusing, out_of_memory, refused_in_turn, requests, string};
-use std::alloc::{AllocError, Global};
+use conformance::{Refusing, string};
+use std::alloc::Global;
 use std::test::Fail;
 use uefi_path::{Path, PathBuf};
 use uefi_text::{CStr16, Char16Slice};
@@ -29,29 +29,6 @@ fn successive_parents(rt: HostRuntime) -> Result<(), Fail> {
     ] {
         assert_eq!(rt; barred_parents(&rt, text)?.as_str(), want, "{text}");
     }
-    Ok(())
-}
-
-/// Whether the path of a text has two parents and is unchanged.
-fn has_two_parents(heap: &Refusing<Global>, text: CStr16<'_>) -> Result<bool, AllocError> {
-    let path = PathBuf::from(heap, text)?;
-    let answer = all_parents(heap, &path);
-    let is_unchanged = path.to_cstr16() == text;
-    match answer {
-        Ok(parents) => Ok(is_unchanged && parents.len() == 2),
-        Err(_) => out_of_memory(is_unchanged),
-    }
-}
-
-#[test]
-fn each_request_for_parents(rt: HostRuntime) -> Result<(), Fail> {
-    let text = string(rt.alloc(), "a\\b\\c")?;
-    let count = requests(
-        rt.alloc(),
-        1,
-        |heap| has_two_parents(heap, text.as_cstr16()),
-    )?;
-    assert!(rt; 1 < count && count < 99, "{count} requests");
     Ok(())
 }
 
@@ -91,33 +68,6 @@ fn components_as_a_list(rt: HostRuntime) -> Result<(), Fail> {
     let list = pieces(rt.alloc(), Path::new(text.as_cstr16()))?;
     assert!(rt; is_text(&rt, list.first(), "ab")?);
     assert!(rt; is_text(&rt, list.get(1), "c")?);
-    Ok(())
-}
-
-/// Whether the components of a path are these.
-fn lists(
-    heap: &Refusing<Global>,
-    path: Path<'_>,
-    want: &[Char16Slice<'_>],
-) -> Result<bool, AllocError> {
-    Ok(pieces(heap, path)?.as_slice() == want)
-}
-
-/// How the runs end that list the components of a text with a request refused.
-fn refusals_of_pieces(rt: &HostRuntime, text: &str) -> Result<Refusals, Fail> {
-    let text = string(rt.alloc(), text)?;
-    let path = Path::new(text.as_cstr16());
-    let want = pieces(rt.alloc(), path)?;
-    refused_in_turn(rt.alloc(), 0, |heap| lists(heap, path, &want))
-}
-
-/// A list that is refused room to grow asks once more, for less, so a refusal need not end it.
-#[test]
-fn each_request_for_components(rt: HostRuntime) -> Result<(), Fail> {
-    for text in ["ab\\c", "a\\b\\c\\d\\e\\f\\g\\h\\i\\j\\k\\l"] {
-        let refusals = refusals_of_pieces(&rt, text)?;
-        assert!(rt; refusals.failed != 0 || refusals.answered != 0, "{text}");
-    }
     Ok(())
 }
 

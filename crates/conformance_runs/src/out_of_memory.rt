@@ -1,24 +1,117 @@
-//! Runs over lines and over streams whose requests for memory are refused in turn, until one ends with
-//! none refused, which gives what ample memory gives.
+//! What programs do with paths, with each request for memory refused in turn, until a run ends with
+//! none refused, which gives what ample memory gives. All calls stand in one table.
 
-use conformance::{Refusing, out_of_memory, requests};
+use conformance::{Refusals, Refusing, out_of_memory, refused_in_turn, string};
 use std::alloc::{AllocError, Global};
 use std::test::Fail;
-use upath::{StreamFault, run_streams, run_text};
+use uefi_path::{Path, PathBuf, PathError};
+use uefi_text::{CStr16, Char16, Char16Slice, FromSliceWithNulError};
+use upath::{
+    JudgeError, PathCommand, RunFault, StreamFault, all_parents, judge, pieces, run_commands,
+    run_streams, run_text,
+};
+
+/// A call that takes memory, or is refused before it does, and what it is given.
+#[derive(Clone, Copy)]
+enum Call<'a> {
+    /// One command that sets the path `a`, and 64 that push `b`.
+    RunCommands(&'a [PathCommand<'a>]),
+    /// Commands that take none.
+    RunCommandsWithout,
+    /// Bytes, and why they are no path, if they are none.
+    Judge(&'a [u8], Option<JudgeError>),
+    /// A path, and its components.
+    Pieces(Path<'a>, &'a [Char16Slice<'a>]),
+    /// A path of three components.
+    AllParents(CStr16<'a>),
+    /// What the run prints.
+    RunText(&'a [u8]),
+    /// What the run writes to a vector over this heap.
+    RunStreams(Global, &'a [u8]),
+}
+
+/// Whether units are `a` and `\\b` after it, again and again, `count` components in all.
+fn are_components(units: &[u16], count: usize) -> bool {
+    match (units.split_first(), count.checked_sub(1)) {
+        (None, None) => true,
+        (Some((97, others)), Some(pushes)) => {
+            others.len() == pushes.saturating_mul(2)
+                && others.chunks(2).all(|pair| pair == [92u16, 98].as_slice())
+        }
+        _ => false,
+    }
+}
+
+/// Whether the commands of a long list are done, or the path is what those that were done made of it.
+fn runs_or_stops(
+    heap: &Refusing<Global>,
+    commands: &[PathCommand<'_>],
+) -> Result<bool, AllocError> {
+    let mut path = PathBuf::new(heap)?;
+    let answer = run_commands(heap, &mut path, commands);
+    let units = path.to_cstr16().to_u16_slice();
+    match answer {
+        Ok(()) => Ok(are_components(units, 65)),
+        Err(RunFault { done }) => out_of_memory(done <= 64 && are_components(units, done)),
+    }
+}
+
+/// Whether a parent of the empty path, a push of the empty text, a clearing and the empty list leave the
+/// path empty.
+fn needs_no_memory(heap: &Refusing<Global>) -> Result<bool, AllocError> {
+    let mut path = PathBuf::new(heap)?;
+    let Ok(empty) = CStr16::from_u16_with_nul(&[0]) else {
+        return Ok(false);
+    };
+    let commands = [
+        PathCommand::Parent,
+        PathCommand::Push(Path::new(empty)),
+        PathCommand::Clear,
+    ];
+    match (
+        run_commands(heap, &mut path, &commands),
+        run_commands(heap, &mut path, &[]),
+    ) {
+        (Ok(()), Ok(())) => Ok(path.is_empty()),
+        _ => Ok(false),
+    }
+}
+
+/// Whether the verdict on bytes is this, or memory ran out.
+fn judges(
+    heap: &Refusing<Global>,
+    bytes: &[u8],
+    want: Option<JudgeError>,
+) -> Result<bool, AllocError> {
+    match judge(heap, bytes).err() {
+        Some(JudgeError::OutOfMemory) => Err(AllocError),
+        verdict => Ok(verdict == want),
+    }
+}
+
+/// Whether the components of a path are these.
+fn lists(
+    heap: &Refusing<Global>,
+    path: Path<'_>,
+    want: &[Char16Slice<'_>],
+) -> Result<bool, AllocError> {
+    Ok(pieces(heap, path)?.as_slice() == want)
+}
+
+/// Whether the path of a text has two parents and is unchanged.
+fn has_two_parents(heap: &Refusing<Global>, text: CStr16<'_>) -> Result<bool, AllocError> {
+    let path = PathBuf::from(heap, text)?;
+    let answer = all_parents(heap, &path);
+    let is_unchanged = path.to_cstr16() == text;
+    match answer {
+        Ok(parents) => Ok(is_unchanged && parents.len() == 2),
+        Err(_) => out_of_memory(is_unchanged),
+    }
+}
 
 const INPUT: &[u8] =
     b"from \\foo\\bar\npieces\neq foo\nfrom a\xc3\xa9/c\npieces\neq \xf0\x9f\x98\x80\nwhat\n\
       \xff\npush b\njoin c/d\nup\nparent\ncmp a\ncheck\nclear\ncheck\n";
-
-#[test]
-fn runs_over_lines(rt: HostRuntime) -> Result<(), Fail> {
-    let want = run_text(rt.alloc(), INPUT)?;
-    let count = requests(rt.alloc(), 0, |heap| {
-        Ok(run_text(heap, INPUT)?.as_slice() == want.as_slice())
-    })?;
-    assert!(rt; 5 < count, "{count} requests");
-    Ok(())
-}
 
 /// Whether a run over streams writes this, or nothing where memory ran out.
 fn writes(heap: &Refusing<Global>, alloc: Global, want: &[u8]) -> Result<bool, AllocError> {
@@ -31,10 +124,113 @@ fn writes(heap: &Refusing<Global>, alloc: Global, want: &[u8]) -> Result<bool, A
     }
 }
 
+/// Whether a call gives what ample memory gives, or memory ran out.
+fn answers(call: Call<'_>, heap: &Refusing<Global>) -> Result<bool, AllocError> {
+    match call {
+        Call::RunCommands(commands) => runs_or_stops(heap, commands),
+        Call::RunCommandsWithout => needs_no_memory(heap),
+        Call::Judge(bytes, want) => judges(heap, bytes, want),
+        Call::Pieces(path, want) => lists(heap, path, want),
+        Call::AllParents(text) => has_two_parents(heap, text),
+        Call::RunText(want) => Ok(run_text(heap, INPUT)?.as_slice() == want),
+        Call::RunStreams(alloc, want) => writes(heap, alloc, want),
+    }
+}
+
+/// How the runs of a call end, each with one of its requests after the first `setup` ones refused.
+fn refusals_of(rt: &HostRuntime, call: Call<'_>, setup: u64) -> Result<Refusals, Fail> {
+    refused_in_turn(rt.alloc(), setup, |heap| answers(call, heap))
+}
+
+/// Whether a call makes requests, that many at least and at most, and needs each of them.
+fn needs(
+    rt: &HostRuntime,
+    call: Call<'_>,
+    setup: u64,
+    least: u64,
+    most: u64,
+) -> Result<bool, Fail> {
+    let refusals = refusals_of(rt, call, setup)?;
+    Ok(refusals.answered == 0 && least <= refusals.failed && refusals.failed <= most)
+}
+
+/// One request, which comes after what the bytes are refused for and before the verdict on the path.
 #[test]
-fn runs_over_streams(rt: HostRuntime) -> Result<(), Fail> {
+fn requests_for_judged_bytes(rt: HostRuntime) -> Result<(), Fail> {
+    let illegal = PathError::IllegalChar(Char16::try_from('>')?);
+    let open = JudgeError::Text(FromSliceWithNulError::NotNulTerminated);
+    let rows: [(&[u8], Option<JudgeError>, u64); 6] = [
+        (&[0x61, 0, 0, 0], None, 1),
+        (&[0, 0], Some(JudgeError::Invalid(PathError::Empty)), 1),
+        (
+            &[0x61, 0, 0x3e, 0, 0, 0],
+            Some(JudgeError::Invalid(illegal)),
+            1,
+        ),
+        (&[0x61, 0, 0], Some(JudgeError::HalfUnit), 0),
+        (&[0x61, 0], Some(open), 0),
+        (&[], Some(open), 0),
+    ];
+    for (bytes, want, count) in rows {
+        assert!(rt;
+            needs(&rt, Call::Judge(bytes, want), 0, count, count)?,
+            "{bytes:?}"
+        );
+    }
+    Ok(())
+}
+
+/// One command that sets a path, and 64 that push to it.
+fn long_list<'a>(
+    rt: &HostRuntime,
+    first: CStr16<'a>,
+    second: Path<'a>,
+) -> Result<Vec<PathCommand<'a>>, Fail> {
+    let mut commands = Vec::new(rt.alloc());
+    commands.push(PathCommand::From(first))?;
+    for _ in 0..64 {
+        commands.push(PathCommand::Push(second))?;
+    }
+    Ok(commands)
+}
+
+#[test]
+fn requests_of_commands(rt: HostRuntime) -> Result<(), Fail> {
+    let (first, second) = (string(rt.alloc(), "a")?, string(rt.alloc(), "b")?);
+    let commands = long_list(&rt, first.as_cstr16(), Path::new(second.as_cstr16()))?;
+    assert!(rt; needs(&rt, Call::RunCommands(&commands), 1, 2, 998)?);
+    assert!(rt; needs(&rt, Call::RunCommandsWithout, 1, 0, 0)?);
+    Ok(())
+}
+
+#[test]
+fn requests_for_parents(rt: HostRuntime) -> Result<(), Fail> {
+    let text = string(rt.alloc(), "a\\b\\c")?;
+    assert!(rt; needs(&rt, Call::AllParents(text.as_cstr16()), 1, 2, 98)?);
+    Ok(())
+}
+
+/// A list that is refused room to grow asks once more, for less, so a refusal need not end it.
+fn may_do_without(rt: &HostRuntime, text: &str) -> Result<bool, Fail> {
+    let text = string(rt.alloc(), text)?;
+    let path = Path::new(text.as_cstr16());
+    let want = pieces(rt.alloc(), path)?;
+    let refusals = refusals_of(rt, Call::Pieces(path, &want), 0)?;
+    Ok(refusals.failed != 0 || refusals.answered != 0)
+}
+
+#[test]
+fn requests_for_components(rt: HostRuntime) -> Result<(), Fail> {
+    for text in ["ab\\c", "a\\b\\c\\d\\e\\f\\g\\h\\i\\j\\k\\l"] {
+        assert!(rt; may_do_without(&rt, text)?, "{text}");
+    }
+    Ok(())
+}
+
+#[test]
+fn requests_of_runs(rt: HostRuntime) -> Result<(), Fail> {
     let want = run_text(rt.alloc(), INPUT)?;
-    let count = requests(rt.alloc(), 0, |heap| writes(heap, rt.alloc(), &want))?;
-    assert!(rt; 6 < count, "{count} requests");
+    assert!(rt; needs(&rt, Call::RunText(&want), 0, 6, 998)?);
+    assert!(rt; needs(&rt, Call::RunStreams(rt.alloc(), &want), 0, 7, 998)?);
     Ok(())
 }

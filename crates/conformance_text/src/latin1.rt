@@ -29,8 +29,10 @@ fn prints(rt: &HostRuntime, bytes: &[u8], text: &str) -> Result<bool, Fail> {
 
 #[test]
 fn accepted_bytes(rt: HostRuntime) -> Result<(), Fail> {
-    let rows: [(&[u8], &str); 4] = [
+    let rows: [(&[u8], &str); 6] = [
         (&[97, 0], "a"),
+        (&[65, 0], "A"),
+        (&[0xe9, 0], "é"),
         (&[97, 98, 99, 0], "abc"),
         (&[0xe9, 0xff, 0], "éÿ"),
         (&[0], ""),

@@ -1,35 +1,70 @@
-//! Conversions whose requests for memory are refused in turn. But for a sink that grows, each makes one
+//! Conversions whose requests for memory are refused in turn, until a run ends with none refused, which
+//! gives what ample memory gives. All stand in one table. But for a sink that grows, each makes one
 //! request, after every other cause of refusal.
 
 use crate::conversions::characters;
 use conformance::{Refusing, out_of_memory, requests, string};
 use std::alloc::{AllocError, Global};
 use std::test::Fail;
-use uefi_text::{CStr16, CString16, Char16, FromSliceUntilNulError, FromSliceWithNulError};
+use uefi_text::{
+    CStr16, CString16, Char16, FromSliceUntilNulError, FromSliceWithNulError, FromStrError,
+};
 
 const TEXT: &str = "aé€";
 
-#[test]
-fn strings_as_bytes(rt: HostRuntime) -> Result<(), Fail> {
-    let string = string(rt.alloc(), TEXT)?;
-    let view = string.as_cstr16();
-    let want = [0x61u8, 0, 0xe9, 0, 0xac, 0x20, 0, 0];
-    let count = requests(rt.alloc(), 0, |heap| {
-        Ok(view.as_bytes(heap)?.as_slice() == want.as_slice())
-    })?;
-    assert_eq!(rt; count, 1);
-    Ok(())
+/// Its bytes as a string.
+const BYTES: [u8; 8] = [0x61, 0, 0xe9, 0, 0xac, 0x20, 0, 0];
+
+/// Longer than a text grows to at once.
+const LONG_TEXT: &str =
+    "é0123456789abcdefghijklmnopqrstuvwxyz0123456789abcdefghijklmnopqrstuvwxyz€";
+
+/// What the calls work on.
+#[derive(Drop)]
+struct Inputs {
+    /// The string of `TEXT`.
+    text: CString16,
+    /// The string of `LONG_TEXT`.
+    long: CString16,
+    /// The characters of `TEXT`, and a NUL.
+    list: Vec<Char16>,
+    /// Characters without NUL.
+    open: Vec<Char16>,
+    /// Characters with a NUL among them.
+    inner: Vec<Char16>,
 }
 
-#[test]
-fn strings_as_rust_texts(rt: HostRuntime) -> Result<(), Fail> {
-    let string = string(rt.alloc(), TEXT)?;
-    let view = string.as_cstr16();
-    let count = requests(rt.alloc(), 0, |heap| {
-        Ok(view.to_rust_string(heap)?.as_str() == TEXT)
-    })?;
-    assert_eq!(rt; count, 1);
-    Ok(())
+fn inputs(rt: &HostRuntime) -> Result<Inputs, Fail> {
+    Ok(Inputs {
+        text: string(rt.alloc(), TEXT)?,
+        long: string(rt.alloc(), LONG_TEXT)?,
+        list: characters(rt, "aé€0")?,
+        open: characters(rt, "ab")?,
+        inner: characters(rt, "a0b0")?,
+    })
+}
+
+/// A call that takes memory, or is refused before it does.
+#[derive(Clone, Copy, Debug)]
+enum Call {
+    AsBytes,
+    ToRustString,
+    AddUtf8To,
+    AsStrInBuf,
+    FromChar16UntilNul,
+    FromChar16WithNul,
+    FromBytesWithNul,
+    ToCString16,
+    RefusedCharacters,
+    RefusedBytes,
+}
+
+fn gives_bytes(heap: &Refusing<Global>, string: CStr16<'_>) -> Result<bool, AllocError> {
+    Ok(string.as_bytes(heap)?.as_slice() == BYTES.as_slice())
+}
+
+fn gives_rust_text(heap: &Refusing<Global>, string: CStr16<'_>) -> Result<bool, AllocError> {
+    Ok(string.to_rust_string(heap)?.as_str() == TEXT)
 }
 
 /// Whether a list with room for one byte gets the bytes of a string after it, or is unchanged where
@@ -43,18 +78,6 @@ fn adds_bytes(heap: &Refusing<Global>, string: CStr16<'_>) -> Result<bool, Alloc
     }
 }
 
-#[test]
-fn bytes_that_a_string_adds(rt: HostRuntime) -> Result<(), Fail> {
-    let string = string(rt.alloc(), TEXT)?;
-    let count = requests(rt.alloc(), 1, |heap| adds_bytes(heap, string.as_cstr16()))?;
-    assert_eq!(rt; count, 1);
-    Ok(())
-}
-
-/// Longer than a text grows to at once.
-const LONG_TEXT: &str =
-    "é0123456789abcdefghijklmnopqrstuvwxyz0123456789abcdefghijklmnopqrstuvwxyz€";
-
 /// Whether a sink gets the whole text of a string, or the first characters of it where memory ran out.
 fn fills_sink(heap: &Refusing<Global>, string: CStr16<'_>) -> Result<bool, AllocError> {
     let mut sink = String::new(heap);
@@ -62,14 +85,6 @@ fn fills_sink(heap: &Refusing<Global>, string: CStr16<'_>) -> Result<bool, Alloc
         Ok(()) => Ok(sink.as_str() == LONG_TEXT),
         Err(_) => out_of_memory(LONG_TEXT.starts_with(sink.as_str())),
     }
-}
-
-#[test]
-fn sinks_that_grow(rt: HostRuntime) -> Result<(), Fail> {
-    let string = string(rt.alloc(), LONG_TEXT)?;
-    let count = requests(rt.alloc(), 0, |heap| fills_sink(heap, string.as_cstr16()))?;
-    assert!(rt; 1 < count, "{count} requests");
-    Ok(())
 }
 
 /// Whether a result holds this string, or memory ran out.
@@ -85,19 +100,6 @@ fn until_nul(
     }
 }
 
-#[test]
-fn characters_until_nul(rt: HostRuntime) -> Result<(), Fail> {
-    let string = string(rt.alloc(), TEXT)?;
-    let list = characters(&rt, "aé€0")?;
-    let count = requests(
-        rt.alloc(),
-        0,
-        |heap| until_nul(heap, &list, string.as_cstr16()),
-    )?;
-    assert_eq!(rt; count, 1);
-    Ok(())
-}
-
 /// Whether a result holds this string, or memory ran out.
 fn outcome(
     answer: Result<CString16<&Refusing<Global>>, FromSliceWithNulError>,
@@ -110,62 +112,71 @@ fn outcome(
     }
 }
 
-#[test]
-fn characters_with_nul(rt: HostRuntime) -> Result<(), Fail> {
-    let string = string(rt.alloc(), TEXT)?;
-    let list = characters(&rt, "aé€0")?;
-    let count = requests(rt.alloc(), 0, |heap| {
-        outcome(
-            CStr16::from_char16_with_nul(heap, &list),
-            string.as_cstr16(),
-        )
-    })?;
-    assert_eq!(rt; count, 1);
-    Ok(())
+/// Whether the characters of a string become an equal one, or memory ran out.
+fn copies_characters(heap: &Refusing<Global>, string: CStr16<'_>) -> Result<bool, AllocError> {
+    match string.as_slice().to_cstring16(heap) {
+        Ok(copy) => Ok(copy.as_cstr16() == string),
+        Err(FromStrError::OutOfMemory) => Err(AllocError),
+        Err(_) => Ok(false),
+    }
 }
 
-#[test]
-fn bytes_with_nul(rt: HostRuntime) -> Result<(), Fail> {
-    let string = string(rt.alloc(), TEXT)?;
-    let bytes = [0x61u8, 0, 0xe9, 0, 0xac, 0x20, 0, 0];
-    let count = requests(rt.alloc(), 0, |heap| {
-        outcome(
-            CStr16::from_bytes_with_nul(heap, &bytes),
-            string.as_cstr16(),
-        )
-    })?;
-    assert_eq!(rt; count, 1);
-    Ok(())
-}
-
-/// Whether characters with these faults are refused for them.
-fn reports_faults_of_characters(
-    heap: &Refusing<Global>,
-    open: &[Char16],
-    inner: &[Char16],
-) -> bool {
-    CStr16::from_char16_until_nul(heap, open).err() == Some(FromSliceUntilNulError::NoNul)
-        && CStr16::from_char16_with_nul(heap, inner).err()
+/// Whether characters with these faults are refused for them, a string's with its NUL too.
+fn reports_faults_of_characters(heap: &Refusing<Global>, inputs: &Inputs) -> bool {
+    CStr16::from_char16_until_nul(heap, &inputs.open).err() == Some(FromSliceUntilNulError::NoNul)
+        && CStr16::from_char16_with_nul(heap, &inputs.inner).err()
             == Some(FromSliceWithNulError::InteriorNul(1))
+        && inputs
+            .text
+            .as_cstr16()
+            .as_slice_with_nul()
+            .to_cstring16(heap)
+            .err()
+            == Some(FromStrError::InteriorNul)
 }
 
-/// Faults are reported before a request for memory.
+fn reports_faults_of_bytes(heap: &Refusing<Global>) -> bool {
+    CStr16::from_bytes_with_nul(heap, &[0, 0xd8, 0, 0]).err()
+        == Some(FromSliceWithNulError::InvalidChar(0))
+}
+
+/// Whether a call gives what ample memory gives, or memory ran out.
+fn answers(call: Call, heap: &Refusing<Global>, inputs: &Inputs) -> Result<bool, AllocError> {
+    let text = inputs.text.as_cstr16();
+    match call {
+        Call::AsBytes => gives_bytes(heap, text),
+        Call::ToRustString => gives_rust_text(heap, text),
+        Call::AddUtf8To => adds_bytes(heap, text),
+        Call::AsStrInBuf => fills_sink(heap, inputs.long.as_cstr16()),
+        Call::FromChar16UntilNul => until_nul(heap, &inputs.list, text),
+        Call::FromChar16WithNul => {
+            outcome(CStr16::from_char16_with_nul(heap, &inputs.list), text)
+        }
+        Call::FromBytesWithNul => outcome(CStr16::from_bytes_with_nul(heap, &BYTES), text),
+        Call::ToCString16 => copies_characters(heap, text),
+        Call::RefusedCharacters => Ok(reports_faults_of_characters(heap, inputs)),
+        Call::RefusedBytes => Ok(reports_faults_of_bytes(heap)),
+    }
+}
+
+/// Each call, how many requests come before it, and how many it makes at least and at most.
 #[test]
-fn refused_characters_make_no_request(rt: HostRuntime) -> Result<(), Fail> {
-    let (open, inner) = (characters(&rt, "ab")?, characters(&rt, "a0b0")?);
-    let count = requests(rt.alloc(), 0, |heap| {
-        Ok(reports_faults_of_characters(heap, &open, &inner))
-    })?;
-    assert_eq!(rt; count, 0);
+fn requests_of_each_call(rt: HostRuntime) -> Result<(), Fail> {
+    let inputs = inputs(&rt)?;
+    for (call, setup, least, most) in [
+        (Call::AsBytes, 0, 1, 1),
+        (Call::ToRustString, 0, 1, 1),
+        (Call::AddUtf8To, 1, 1, 1),
+        (Call::AsStrInBuf, 0, 2, 99),
+        (Call::FromChar16UntilNul, 0, 1, 1),
+        (Call::FromChar16WithNul, 0, 1, 1),
+        (Call::FromBytesWithNul, 0, 1, 1),
+        (Call::ToCString16, 0, 1, 1),
+        (Call::RefusedCharacters, 0, 0, 0),
+        (Call::RefusedBytes, 0, 0, 0),
+    ] {
+        let count = requests(rt.alloc(), setup, |heap| answers(call, heap, &inputs))?;
+        assert!(rt; least <= count && count <= most, "{call:?}: {count}");
+    }
     Ok(())
-}
-
-#[test]
-fn refused_bytes_make_no_request(rt: HostRuntime) {
-    let none = Refusing::new(rt.alloc(), 1);
-    assert_eq!(rt;
-        CStr16::from_bytes_with_nul(&none, &[0, 0xd8, 0, 0]).err(),
-        Some(FromSliceWithNulError::InvalidChar(0))
-    );
-    assert!(rt; !none.has_refused());
 }
