@@ -1,9 +1,12 @@
 pub mod Splitting
 pub mod Pushing
 pub mod Parents
-pub mod PathTexts
 pub mod Joining
 pub mod Validity
 pub mod ParentForm
 pub mod ParentSizes
 pub mod Rebuilding
+pub mod ParentChains
+pub mod ParentsOfValid
+pub mod ValidPaths
+pub mod Runs

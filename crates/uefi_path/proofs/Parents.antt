@@ -143,7 +143,7 @@ rejoined-added ps pieces =
 
 -- what holds of each unit of a text holds of each of its components
 module _ (P : ℕ → Type 0) where
-  All-slice_split : (us : List ℕ) → All P us → All (All P) (slice_split is_separator us)
+  pub All-slice_split : (us : List ℕ) → All P us → All (All P) (slice_split is_separator us)
   All-slice_split [] all = All-cons (All P) [] [] (All-nil P) (All-nil (All P))
   All-slice_split (u ∷ us) all =
       let others = All-slice_split us (All-tail P u us all) in

@@ -8,7 +8,7 @@ use Rattle.std.proofs.lemmas.List.Sums.{fails_before_first, count_by-le-length}
 use Rattle.std.proofs.lemmas.Option.{cond_some}
 use Rattle.std.proofs.lemmas.Grind.{common_steps}
 use Rattle.uefi_text.specs.Units.{replaced}
-use Rattle.uefi_path.specs.Components.{joined, IsPiece, AreComponents, components_of, pieces_between, IsFirstCut}
+use Rattle.uefi_path.specs.Components.{joined, IsPiece, AreComponents, components_of, hint_of_pieces, pieces_between, IsFirstCut}
 use Rattle.uefi_path.specs.Separators.{separator, slash, is_separator, canonical, with_separators, IsPlain}
 
 -- lists of which the first gets another first element: what holds of it and of theirs holds of all
@@ -130,6 +130,20 @@ IsFirstCut-position us (Some place) e = cut_at us place (sym e)
 -- there is at most one piece more than units
 pub length-slice_split-le : (us : List ℕ) → length (slice_split is_separator us) ≤ length us + 1
 length-slice_split-le us = omega (arith, length-slice_split is_separator us, count_by-le-length is_separator us)
+
+-- there is at least one piece, and what is left of them is what they were cut of
+pub some_slice_split : (us : List ℕ) → 1 ≤ length (slice_split is_separator us)
+some_slice_split us = omega (arith, length-slice_split is_separator us)
+
+hint_of_some : (pieces : List (List ℕ)) → 1 ≤ length pieces
+    → hint_of_pieces pieces ≡ (1, Some (length (joined pieces) + 1))
+hint_of_some [] some = absurd (omega (arith, some))
+hint_of_some (piece ∷ pieces) some = refl
+
+pub hint_of_split : (us : List ℕ) → hint_of_pieces (slice_split is_separator us) ≡ (1, Some (length us + 1))
+hint_of_split us =
+    hint_of_some (slice_split is_separator us) (some_slice_split us)
+    ∙ ap (λ (vs : List ℕ). (1, Some (length vs + 1))) (joined-slice_split us)
 
 from_string : (unit : ℕ) → replaced slash separator unit ≢ slash
 from_string unit e = grind (arith, common_steps)

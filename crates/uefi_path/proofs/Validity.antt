@@ -62,7 +62,7 @@ valid-components [] valid = absurd (cc)
 valid-components (u ∷ us) valid = All-good (components_of (u ∷ us)) valid
 
 -- and is not empty
-valid-non_empty : (text : List ℕ) → verdict text ≡ None → text ≢ []
+pub valid-non_empty : (text : List ℕ) → verdict text ≡ None → text ≢ []
 valid-non_empty [] valid e = cc
 valid-non_empty (u ∷ us) valid e = cc
 
@@ -80,7 +80,8 @@ unmapped : (o : Option ℕ) → option_map IllegalChar o ≡ None → o ≡ None
 unmapped None e = refl
 unmapped (Some u) e = absurd (cc)
 
-good-units : (c : List ℕ) → IsGood c → All (λ u. is_denied u ≡ false) c
+-- and none of its units is denied
+pub good-units : (c : List ℕ) → IsGood c → All (λ u. is_denied u ≡ false) c
 good-units [] good = All-nil (λ u. is_denied u ≡ false)
 good-units (u ∷ us) good =
     All-found_none is_denied (u ∷ us) (unmapped (find is_denied (u ∷ us)) good)

@@ -1,5 +1,5 @@
 -- The components of a path.
-use Rattle.std.specs.Prelude.{◌≡◌, ◌≢◌, ℕ, ◌+◌, ◌<◌, List, [], ◌∷◌, length, All, Option, Some, None, slice_range}
+use Rattle.std.specs.Prelude.{◌≡◌, ◌≢◌, ℕ, ◌+◌, ◌<◌, List, [], ◌∷◌, ◌++◌, length, All, Option, Some, None, slice_range}
 use Rattle.std.specs.List.{join_with_byte, slice_split}
 use Rattle.uefi_path.specs.Separators.{separator, is_separator, canonical}
 
@@ -25,6 +25,17 @@ pieces_between (unit ∷ units) = slice_split is_separator (unit ∷ units)
 -- the one list of components that a text has
 abbrev pub components_of : List ℕ → List (List ℕ)
 components_of text = pieces_between (canonical text)
+
+-- a path starts with a base: its components are those of the base, and then some
+abbrev pub StartsWith : List ℕ → List ℕ → Type 0
+StartsWith text base =
+    (rest : List (List ℕ)) × (components_of text ≡ components_of base ++ rest)
+
+-- bounds on how many pieces there are, by how many units they join to: one at least, unless there are
+-- none, and at most one more than units
+abbrev pub hint_of_pieces : List (List ℕ) → ℕ × Option ℕ
+hint_of_pieces [] = (0, Some 0)
+hint_of_pieces (piece ∷ pieces) = (1, Some (length (joined (piece ∷ pieces)) + 1))
 
 -- how the first piece of units ends: at no separator, and it is all of them, or at the first one
 abbrev pub IsFirstCut : List ℕ → Option ℕ → Type 0

@@ -1,7 +1,10 @@
 pub mod Separators
 pub mod Components
 pub mod Views
+pub mod Runs
 pub mod PathErrors
 pub mod Verdicts
 pub mod Pushing
 pub mod Parents
+pub mod SuccessiveParents
+pub mod Laws

@@ -1,15 +1,26 @@
 -- Which paths name files, and why the others do not.
-use Rattle.std.specs.Prelude.{◌≡◌, ℕ, Bool, ◌==◌, List, [], ◌∷◌, Option, Some, None, find, is_some, option_and_then, option_map}
+use Rattle.std.specs.Prelude.{◌≡◌, ◌≢◌, ℕ, Bool, ◌==◌, All, Contains, List, [], ◌∷◌, Option, Some, None, find, is_some, option_and_then, option_map}
 use Rattle.std.specs.List.{list_any}
+use Rattle.uefi_text.specs.Units.{denied_characters}
 use Rattle.uefi_path.specs.Components.{components_of}
 use Rattle.uefi_path.specs.declared.validation.PathError.{PathError}
 use Rattle.uefi_path.specs.declared.validation.PathError.TheVariants.{Empty, EmptyComponent, IllegalChar}
 
--- the code units that no file's name holds: NUL and "*/:<>?\|
+-- the code units that no file's name holds
 abbrev pub denied : List ℕ
-denied = 0 ∷ 34 ∷ 42 ∷ 47 ∷ 58 ∷ 60 ∷ 62 ∷ 63 ∷ 92 ∷ 124 ∷ []
+denied = denied_characters
 
--- the test for one of them
+-- a name that a file may have: it is not empty, and holds no denied unit
+pub record IsFileName (component : List ℕ) : Type 0 where
+  pub not_empty : component ≢ []
+  pub none_denied : All (λ unit. ¬ Contains denied unit) component
+
+-- a valid path: its text is not empty, and each of its components is a name that a file may have
+pub record IsValid (text : List ℕ) : Type 0 where
+  pub not_empty : text ≢ []
+  pub file_names : All IsFileName (components_of text)
+
+-- the test for a denied unit
 abbrev pub is_denied : ℕ → Bool
 is_denied unit = list_any (λ other. other == unit) denied
 

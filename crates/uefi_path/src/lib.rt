@@ -29,6 +29,7 @@
 //! separator's place.
 #![tactic(auto)]
 
+pub mod laws;
 mod path;
 mod pathbuf;
 mod validation;

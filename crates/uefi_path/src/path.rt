@@ -1,11 +1,12 @@
 //! Paths that are borrowed, and their components. `specs/Views.antt` says what each view shows.
 #![tactic(auto, unfolding(crate::specs::Views::path_text, crate::specs::Views::components_left))]
 
-ghost use Rattle.std.specs.Prelude.{◌≡◌, ℕ, ◌+◌, ◌<◌, ◌^◌, ◌↔◌, [], ◌∷◌, List, Option, length, position, IsTrue};
-ghost use Rattle.uefi_path.specs.Components.{AreComponents, IsFirstCut, components_of};
+ghost use Rattle.std.specs.Prelude.{◌≡◌, ℕ, ◌+◌, ◌<◌, ◌^◌, ◌↔◌, [], ◌∷◌, ◌++◌, All, List, None, Option, length, option_map, position, IfSome, IsSome, IsTrue};
+ghost use Rattle.std.specs.List.{last_or};
+ghost use Rattle.uefi_path.specs.Components.{AreComponents, IsFirstCut, StartsWith, components_of};
 ghost use Rattle.uefi_path.specs.Separators.{canonical, is_separator, separator};
-ghost use Rattle.uefi_path.specs.Views.{path_text, components_left};
 ghost use Rattle.uefi_text.specs.Runs.{GivesEach};
+ghost use Rattle.uefi_text.specs.Units.{IsText};
 ghost use Rattle.uefi_text.specs.Views.{text_of, units_of};
 
 use std::cmp::Ordering;
@@ -29,6 +30,9 @@ pub struct Components<'a> {
 }
 
 impl<'a> Path<'a> {
+    ghost use Rattle.uefi_path.specs.Runs.{GivesNoNulIn};
+    ghost use Rattle.uefi_path.specs.Views.{path_text, components_left};
+
     /// The path of a string, which is taken as it stands: no slash is replaced.
     pub fn new(string: CStr16<'a>) -> Path<'a>
         ensures { path_text result ≡ text_of string.entry }
@@ -38,8 +42,10 @@ impl<'a> Path<'a> {
 
     /// The string of the path.
     pub fn to_cstr16(&self) -> CStr16<'a>
-        ensures { text_of result ≡ path_text self.now }
+        ensures same { text_of result ≡ path_text self.now }
+        ensures is_text { IsText (text_of result) }
     {
+        let _text = self.string.as_slice();
         self.string
     }
 
@@ -51,14 +57,56 @@ impl<'a> Path<'a> {
         ensures components { AreComponents (path_text self.now) (components_left result) }
         ensures only { (pieces : List (List ℕ)) →
             AreComponents (path_text self.now) pieces → pieces ≡ components_left result }
+        ensures texts { All IsText (components_left result) }
         ensures bound { length (components_left result) < 2 ^ 64 }
         ensures runs { GivesEach units_of components_left result }
+        ensures no_nul { GivesNoNulIn result }
     {
         let text = self.canonical();
         if text.is_empty() {
             return Components { rest: None };
         }
         Components { rest: Some(text) }
+    }
+
+    /// The last component, or `None` where there is none. It may be empty. Takes no memory; one pass
+    /// over the text.
+    pub fn file_name(&self) -> Option<Char16Slice<'a>>
+        ensures same { option_map units_of result ≡ last_or None (components_of (path_text self.now)) }
+        ensures is_text { IfSome result (λ name. IsText (units_of name)) }
+    {
+        self.components().last()
+    }
+
+    /// Whether the components of the base are the first of this path's. So `\a\bc` starts with `a`
+    /// and with `\a\bc`, and not with `\a\b`. Takes no memory; one pass over the shorter of the
+    /// two.
+    pub fn starts_with(&self, base: Path<'_>) -> bool
+        ensures { IsTrue result ↔ StartsWith (path_text self.now) (path_text base.entry) }
+    {
+        self.strip_prefix(base).is_some()
+    }
+
+    /// The components of this path after those of the base, where the base's are the first of this
+    /// path's, as [`Path::starts_with`] says; else `None`. Takes no memory; one pass over the shorter
+    /// of the two.
+    pub fn strip_prefix(&self, base: Path<'_>) -> Option<Components<'a>>
+        ensures starts { IsSome result ↔ StartsWith (path_text self.now) (path_text base.entry) }
+        ensures rest { IfSome result (λ rest. components_of (path_text self.now)
+            ≡ components_of (path_text base.entry) ++ components_left rest) }
+        ensures texts { IfSome result (λ rest. All IsText (components_left rest)) }
+        ensures bound { IfSome result (λ rest. length (components_left rest) < 2 ^ 64) }
+        ensures runs { IfSome result (λ rest. GivesEach units_of components_left rest) }
+        ensures no_nul { IfSome result (λ rest. GivesNoNulIn rest) }
+    {
+        let mut rest = self.components();
+        for component in base.components() {
+            let own = rest.next()?;
+            if own != component {
+                return None;
+            }
+        }
+        Some(rest)
     }
 
     /// Whether the text is empty. A lone separator is not, though it equals the empty path.
@@ -71,6 +119,7 @@ impl<'a> Path<'a> {
     /// The text without one leading separator.
     fn canonical(&self) -> Char16Slice<'a>
         ensures same { units_of result ≡ canonical (path_text self.now) }
+        ensures is_text { IsText (units_of result) }
         ensures bound { length (units_of result) + 1 < 2 ^ 64 }
     {
         let text = self.string.as_slice();
@@ -84,6 +133,8 @@ impl<'a> Path<'a> {
 
 /// As [`Path::new`].
 impl<'a> From<CStr16<'a>> for Path<'a> {
+    ghost use Rattle.uefi_path.specs.Views.{path_text};
+
     ghost from_gives = { λ string result. path_text result ≡ text_of string };
 
     fn from(string: CStr16<'a>) -> Path<'a> {
@@ -200,7 +251,9 @@ fn first_cut(part: Char16Slice<'_>) -> Option<usize>
 impl<'a> Iterator for Components<'a> {
     type Item = Char16Slice<'a>;
 
-    ghost use Rattle.std.specs.Iterator.{YieldsFirstBy, item_count};
+    ghost use Rattle.std.specs.Iterator.{UpTo, YieldsFirstBy, item_count};
+    ghost use Rattle.std.specs.Iterator.SizeHint.{IsWithinCount};
+    ghost use Rattle.uefi_path.specs.Components.{hint_of_pieces};
     ghost use Rattle.uefi_text.specs.Views.{units_of};
     ghost use Rattle.uefi_path.specs.Views.{components_left};
 
@@ -220,6 +273,19 @@ impl<'a> Iterator for Components<'a> {
                 self.rest = Some(rest.part(place + 1, len));
                 Some(rest.part(0, place))
             }
+        }
+    }
+
+    /// None after the last component; before it at least one, and at most one more than there are
+    /// characters left, since a separator stands between two.
+    fn size_hint(&self) -> (usize, Option<usize>)
+        ensures lower { IsWithinCount result.0 (item_count components_left self.now) }
+        ensures upper { IfSome result.1 (UpTo (item_count components_left self.now)) }
+        ensures exact { result ≡ hint_of_pieces (components_left self.now) }
+    {
+        match self.rest {
+            None => (0, Some(0)),
+            Some(rest) => (1, Some(rest.units().len() + 1)),
         }
     }
 }

@@ -1,9 +1,12 @@
 //! Paths that are owned, and the calls of [`Path`] that make one.
-ghost use Rattle.std.specs.Prelude.{◌≡◌, ℕ, ◌<◌, ◌^◌, ◌↔◌, [], All, List, None, fold, length, IsTrue, IsOk, IfOk, IfErr, OnOk, OnErr};
-ghost use Rattle.uefi_path.specs.Components.{AreComponents, components_of};
+ghost use Rattle.std.specs.Prelude.{◌≡◌, ℕ, ◌<◌, ◌^◌, ◌↔◌, [], ◌++◌, All, List, None, fold, length, option_map, IsTrue, IsOk, IsSome, IfOk, IfErr, IfSome, OnOk, OnErr};
+ghost use Rattle.std.specs.List.{last_or};
+ghost use Rattle.uefi_path.specs.Components.{AreComponents, StartsWith, components_of};
 ghost use Rattle.uefi_path.specs.Parents.{parent_text, all_but_last};
+ghost use Rattle.uefi_path.specs.Runs.{GivesNoNulIn};
 ghost use Rattle.uefi_path.specs.Pushing.{appended, needs_separator, pushed};
 ghost use Rattle.uefi_path.specs.Separators.{IsPlain, with_separators};
+ghost use Rattle.uefi_path.specs.SuccessiveParents.{parent_chain, parents_of};
 ghost use Rattle.uefi_path.specs.Views.{components_left};
 ghost use Rattle.uefi_text.specs.Units.{IsText};
 ghost use Rattle.uefi_text.specs.Views.{units_of};
@@ -124,6 +127,9 @@ impl<'a> Path<'a> {
     pub fn parent<A: Allocator + Copy>(&self, alloc: A) -> Result<Option<PathBuf<A>>, AllocError>
         ensures ok { IfOk result (λ parent. parent ≡ parent_text (path_text self.now)) }
         ensures none { parent_text (path_text self.now) ≡ None → IsOk result }
+        ensures shorter { IfOk result (λ parent.
+            IfSome parent (λ parent. length parent < length (path_text self.now))) }
+        ensures successive { IfOk result (λ parent. parents_of (path_text self.now) ≡ parent_chain parent) }
     {
         if self.components().nth(1).is_none() {
             return Ok(None);
@@ -205,6 +211,9 @@ impl<A: Allocator + Copy> PathBuf<A> {
     pub fn parent(&self) -> Result<Option<Self>, AllocError>
         ensures ok { IfOk result (λ parent. parent ≡ parent_text self.now) }
         ensures none { parent_text self.now ≡ None → IsOk result }
+        ensures shorter { IfOk result (λ parent.
+            IfSome parent (λ parent. length parent < length self.now)) }
+        ensures successive { IfOk result (λ parent. parents_of self.now ≡ parent_chain parent) }
     {
         self.as_path().parent(self.alloc)
     }
@@ -226,9 +235,18 @@ impl<A: Allocator + Copy> PathBuf<A> {
 
     /// The string of the path.
     pub fn to_cstr16(&self) -> CStr16<'_>
-        ensures { text_of result ≡ self.now }
+        ensures same { text_of result ≡ self.now }
+        ensures is_text { IsText (text_of result) }
     {
         self.string.as_cstr16()
+    }
+
+    /// The string that the path owns. Takes no memory.
+    pub fn into_cstring16(self) -> CString16<A>
+        ensures { result ≡ self }
+    {
+        let PathBuf { string, alloc: _ } = self;
+        string
     }
 
     /// Whether the text is empty. A lone separator is not, though it equals the empty path.
@@ -244,10 +262,40 @@ impl<A: Allocator + Copy> PathBuf<A> {
         ensures components { AreComponents self.now (components_left result) }
         ensures only { (pieces : List (List ℕ)) →
             AreComponents self.now pieces → pieces ≡ components_left result }
+        ensures texts { All IsText (components_left result) }
         ensures bound { length (components_left result) < 2 ^ 64 }
         ensures runs { GivesEach units_of components_left result }
+        ensures no_nul { GivesNoNulIn result }
     {
         self.as_path().components()
+    }
+
+    /// The last component, as [`Path::file_name`].
+    pub fn file_name(&self) -> Option<Char16Slice<'_>>
+        ensures same { option_map units_of result ≡ last_or None (components_of self.now) }
+        ensures is_text { IfSome result (λ name. IsText (units_of name)) }
+    {
+        self.as_path().file_name()
+    }
+
+    /// Whether the components of the base are the first of this path's, as [`Path::starts_with`].
+    pub fn starts_with(&self, base: Path<'_>) -> bool
+        ensures { IsTrue result ↔ StartsWith self.now (path_text base.entry) }
+    {
+        self.as_path().starts_with(base)
+    }
+
+    /// The components of this path after those of the base, as [`Path::strip_prefix`].
+    pub fn strip_prefix(&self, base: Path<'_>) -> Option<Components<'_>>
+        ensures starts { IsSome result ↔ StartsWith self.now (path_text base.entry) }
+        ensures rest { IfSome result (λ rest.
+            components_of self.now ≡ components_of (path_text base.entry) ++ components_left rest) }
+        ensures texts { IfSome result (λ rest. All IsText (components_left rest)) }
+        ensures bound { IfSome result (λ rest. length (components_left rest) < 2 ^ 64) }
+        ensures runs { IfSome result (λ rest. GivesEach units_of components_left rest) }
+        ensures no_nul { IfSome result (λ rest. GivesNoNulIn rest) }
+    {
+        self.as_path().strip_prefix(base)
     }
 }
 

@@ -1,7 +1,7 @@
 //! Why a path names no file.
-ghost use Rattle.std.specs.Prelude.{◌≡◌, Option, find};
+ghost use Rattle.std.specs.Prelude.{◌≡◌, ◌↔◌, IsOk, Option, find};
 ghost use Rattle.std.specs.Result.{result_err};
-ghost use Rattle.uefi_path.specs.Verdicts.{fault, is_denied, verdict};
+ghost use Rattle.uefi_path.specs.Verdicts.{IsValid, fault, is_denied, verdict};
 ghost use Rattle.uefi_path.specs.Views.{path_text};
 ghost use Rattle.uefi_text.specs.Views.{units_of};
 
@@ -80,7 +80,8 @@ fn find_fault(component: Char16Slice<'_>) -> Option<PathError>
 /// [`CHARACTER_DENY_LIST`] as `IllegalChar` of its first such. `.` and `..` are names like others.
 /// One pass, which ends at the first fault; takes no memory.
 pub fn validate_path(path: Path<'_>) -> Result<(), PathError>
-    ensures { result_err result ≡ verdict (path_text path.entry) }
+    ensures refusal { result_err result ≡ verdict (path_text path.entry) }
+    ensures valid { IsOk result ↔ IsValid (path_text path.entry) }
 {
     if path.is_empty() {
         return Err(PathError::Empty);

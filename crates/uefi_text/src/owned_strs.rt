@@ -2,7 +2,7 @@
 //! outside this module sees.
 ghost use Rattle.std.specs.Prelude.{◌≡◌, ◌≢◌, ℕ, ◌+◌, ◌<◌, ◌↔◌, ◌++◌, [], All, List, None, length, map, find, position, unwrap_or, IsTrue, IfOk, IfErr, ◌∷◌, take, IsOk, OnOk, OnErr, drop};
 ghost use Rattle.std.specs.Str.{chars};
-ghost use Rattle.uefi_text_chars.specs.Units.{IsChar16, is_nul, nul_terminated, replaced, IsString};
+ghost use Rattle.uefi_text_chars.specs.Units.{IsChar16, IsString, IsText, is_nul, nul_terminated, replaced};
 ghost use Rattle.std.specs.Result.{result_err};
 ghost use Rattle.uefi_text_encodings.specs.FromStr.{is_deciding_char, from_str_refusal};
 
@@ -320,9 +320,10 @@ impl<A: Allocator> CString16<A> {
         self.num_chars() == 0
     }
 
-    /// A view of the string.
+    /// A view of the string, whose text holds no NUL and no surrogate.
     pub fn as_cstr16(&self) -> CStr16<'_>
-        ensures { text_of result ≡ self.now }
+        ensures same { text_of result ≡ self.now }
+        ensures is_text { IsText self.now }
     {
         CStr16::from_string(self.units.as_slice())
     }

@@ -163,6 +163,8 @@ impl<'a> CStr16<'a> {
     /// The characters of the text, without the NUL.
     pub fn as_slice(&self) -> Char16Slice<'a>
         ensures same { units_of result ≡ text_of self.now }
+        ensures is_text { IsText (units_of result) }
+        ensures no_nul { All (λ unit. unit ≢ 0) (units_of result) }
         ensures bound { length (text_of self.now) + 1 < 2 ^ 64 }
     {
         let _units = self.units.len();

@@ -21,6 +21,11 @@ IsText units = All IsTextUnit units
 abbrev pub nul_terminated : List ℕ → List ℕ
 nul_terminated text = text ++ 0 ∷ []
 
+-- units that begin with a string: a text, its NUL, and whatever follows
+abbrev pub BeginsWithString : List ℕ → Type 0
+BeginsWithString units =
+    (text : List ℕ) × (rest : List ℕ) × IsText text × (units ≡ nul_terminated text ++ rest)
+
 -- all units but the last
 abbrev pub without_nul : List ℕ → List ℕ
 without_nul units = take (length units - 1) units
@@ -48,3 +53,7 @@ deciding_place units = position is_deciding units
 -- what stands for a unit once `replace` has taken the place of `search`
 abbrev pub replaced : ℕ → ℕ → ℕ → ℕ
 replaced search replace unit = if unit == search then replace else unit
+
+-- the characters that no file's name holds, in the order of their numbers: NUL and "*/:<>?\|
+abbrev pub denied_characters : List ℕ
+denied_characters = 0 ∷ 34 ∷ 42 ∷ 47 ∷ 58 ∷ 60 ∷ 62 ∷ 63 ∷ 92 ∷ 124 ∷ []

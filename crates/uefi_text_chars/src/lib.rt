@@ -8,7 +8,7 @@
 
 ghost use Rattle.std.specs.Prelude.{◌≡◌, ◌<◌, ◌≤◌, ◌^◌, ◌↔◌, IsTrue};
 ghost use Rattle.std.specs.Result.{OkIff};
-ghost use Rattle.uefi_text_chars.specs.Units.{IsChar16, is_surrogate};
+ghost use Rattle.uefi_text_chars.specs.Units.{IsChar16, denied_characters, is_surrogate};
 
 use std::error::Error;
 use std::fmt;
@@ -288,3 +288,13 @@ pub const CHARACTER_DENY_LIST: [Char16; 10] = [
     SEPARATOR,
     Char16 { unit: 124 },
 ];
+
+/// The characters of [`CHARACTER_DENY_LIST`], in its order, which is that of their numbers.
+///
+/// Public so that a contract says what the list holds: no clause can name it. Callers have the list.
+#[doc(hidden)]
+pub fn denied_characters() -> [Char16; 10]
+    ensures { result ≡ denied_characters }
+{
+    CHARACTER_DENY_LIST
+}

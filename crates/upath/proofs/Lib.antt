@@ -1,4 +1,2 @@
 pub mod LineEnds
 pub mod CommandCuts
-pub mod ParentChains
-pub mod ParentsOfValid

@@ -4,7 +4,7 @@ pub mod Edits
 pub mod Commands
 pub mod Output
 pub mod PathCommands
-pub mod SuccessiveParents
+pub use Rattle.uefi_path.specs.SuccessiveParents
 pub mod Judging
 pub mod ErrorTexts
 pub mod Laws

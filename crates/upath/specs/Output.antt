@@ -14,9 +14,9 @@ use Rattle.uefi_text.specs.FromStrError.{FromStrError}
 use Rattle.uefi_path.specs.Components.{components_of}
 use Rattle.uefi_path.specs.Separators.{canonical}
 use Rattle.upath.specs.Lines.{lines_of}
-use Rattle.upath.specs.SuccessiveParents.{parents_of}
 use Rattle.uefi_path.specs.Parents.{parent_text}
 use Rattle.uefi_path.specs.PathErrors.{path_error_text}
+use Rattle.uefi_path.specs.SuccessiveParents.{parents_of}
 use Rattle.uefi_path.specs.Verdicts.{verdict}
 use Rattle.uefi_path.specs.declared.validation.PathError.{PathError}
 use Rattle.upath.specs.Edits.{Edit, from, push, join, clear, parent, after_edit}

@@ -1,14 +1,13 @@
-//! The laws by which users of this layer reason, over the definitions that the contracts of the
-//! working calls cite. Each law is a function that does nothing: its contract is the law. No
-//! program calls it.
+//! The laws by which users reason, over the definitions that the contracts of the working calls
+//! cite. Each law is a function that does nothing: its contract is the law. Those of paths stand in
+//! [`uefi_path::laws`], and are re-exported.
 ghost use Rattle.upath.specs.Laws.{AcceptedWhereEncoded, EncodeOneText, EncodedOnce, TextWhereUnrefused, TextsAreCharacters, TextsAreEncoded};
-ghost use Rattle.upath.specs.Laws.{ComponentsOnce, NoComponentsOfEmpty, OneMoreThanSeparators, TextsHaveComponents};
-ghost use Rattle.upath.specs.Laws.{EqualWhereSameCanonical, EqualityIsEquivalence, OrderIsTotal, OrderTiesEqual, SameParent};
-ghost use Rattle.upath.specs.Laws.{EmptyAfterIsUnit, EmptyBeforeIsUnit, PushingIsAssociative};
-ghost use Rattle.upath.specs.Laws.{ComponentsAreJoined, JoinedAreSame, JoinedAreValid};
-ghost use Rattle.upath.specs.Laws.{ParentIsNotDoubled, ParentIsRelative, ParentIsValid};
-ghost use Rattle.upath.specs.Laws.{CanonicalIsEqual, ComponentsRebuild, ParentOfJoined};
-ghost use Rattle.upath.specs.Laws.{WalkingUpEnds, FewerParents, ParentsArePrefixes};
+
+pub use uefi_path::laws::{
+    join_components, join_congruence, join_monoid, join_then_parent, join_valid, order_agrees,
+    parent_congruence, parent_count, parent_shape, parent_valid, parents_enumerate,
+    push_components, split_once, validity,
+};
 
 /// Every text is encoded by exactly one list of bytes, no bytes encode two texts, and bytes are accepted
 /// exactly where they encode one: `CStr16::from_bytes_with_nul` and `CStr16::as_bytes` undo one another.
@@ -24,88 +23,4 @@ pub fn bytes_once()
 pub fn text_once()
     ensures unrefused { TextWhereUnrefused }
     ensures characters { TextsAreCharacters }
-{}
-
-/// Every text has exactly one list of components: none where its canonical text is empty, else one
-/// more than separators in it.
-pub fn split_once()
-    ensures split { TextsHaveComponents }
-    ensures once { ComponentsOnce }
-    ensures none { NoComponentsOfEmpty }
-    ensures count { OneMoreThanSeparators }
-{}
-
-/// Equal paths have the same parent, or both have none.
-pub fn parent_congruence()
-    ensures { SameParent }
-{}
-
-/// Paths are totally ordered, equality is an equivalence, and two paths are equal exactly where
-/// neither is less: where their canonical texts are the same.
-pub fn order_agrees()
-    ensures total { OrderIsTotal }
-    ensures ties { OrderTiesEqual }
-    ensures equivalence { EqualityIsEquivalence }
-    ensures equal { EqualWhereSameCanonical }
-{}
-
-/// Plain paths are a monoid under `Path::join`: how they are grouped does not matter, and the empty
-/// path changes nothing on either side.
-pub fn join_monoid()
-    ensures associative { PushingIsAssociative }
-    ensures after { EmptyAfterIsUnit }
-    ensures before { EmptyBeforeIsUnit }
-{}
-
-/// The components of two joined paths are those of the first and then those of the second, where
-/// the first ends in no separator, or is empty or the root, and the second begins with none.
-pub fn join_components()
-    ensures { ComponentsAreJoined }
-{}
-
-/// Two valid paths, of which the second begins with no separator, join to a valid one.
-pub fn join_valid()
-    ensures { JoinedAreValid }
-{}
-
-/// Equal paths with at least one component stay equal when the same path is joined to both. With
-/// none they may not: `\a` joined to the empty path and to the root makes `\a` and `\\a`.
-pub fn join_congruence()
-    ensures { JoinedAreSame }
-{}
-
-/// The parent of a plain path begins with no separator, and holds no two of them in a row.
-pub fn parent_shape()
-    ensures relative { ParentIsRelative }
-    ensures not_doubled { ParentIsNotDoubled }
-{}
-
-/// The parent of a valid path, where there is one, is valid.
-pub fn parent_valid()
-    ensures { ParentIsValid }
-{}
-
-/// The components of a valid path, joined one by one to the empty path, give its canonical text.
-pub fn push_components()
-    ensures { ComponentsRebuild }
-{}
-
-/// Joining one good component to a valid path that has components, and taking the parent, gives an
-/// equal path.
-pub fn join_then_parent()
-    ensures parent { ParentOfJoined }
-    ensures equal { CanonicalIsEqual }
-{}
-
-/// The successive parents of a valid path are its shorter prefixes, the longest first, down to the
-/// first component alone.
-pub fn parents_enumerate()
-    ensures { ParentsArePrefixes }
-{}
-
-/// Walking up from any path ends, and a plain path of n components has at most n - 1 successive
-/// parents, or none where n is 0.
-pub fn parent_count()
-    ensures ends { WalkingUpEnds }
-    ensures fewer { FewerParents }
 {}

@@ -1,15 +1,16 @@
 //! Lists of commands on one path.
-ghost use Rattle.std.specs.Prelude.{◌≡◌, ◌<◌, None, IfErr, IfOk, IsSomeAnd, OnErr, OnOk, length, map, slice_get, take};
-ghost use Rattle.uefi_path.specs.Components.{components_of};
+ghost use Rattle.std.specs.Prelude.{◌≡◌, ◌<◌, ℕ, List, None, IfErr, IfOk, IsSomeAnd, OnErr, OnOk, length, map, slice_get, take};
+ghost use Rattle.uefi_path.specs.Components.{AreComponents, components_of};
+ghost use Rattle.uefi_path.specs.SuccessiveParents.{AreParents, parents_of, shorter_prefixes};
 ghost use Rattle.uefi_path.specs.Verdicts.{verdict};
 ghost use Rattle.uefi_path.specs.Views.{path_text};
 ghost use Rattle.uefi_text.specs.Views.{units_of};
 ghost use Rattle.upath.specs.PathCommands.{TakesMemory, after_command, after_commands};
-ghost use Rattle.upath.specs.SuccessiveParents.{AreParents, parents_of, shorter_prefixes};
 
 use std::alloc::{AllocError, Allocator};
 use std::error::Error;
 use std::fmt;
+use uefi_path::laws;
 use uefi_path::{Path, PathBuf};
 use uefi_text::{CStr16, Char16Slice};
 
@@ -102,12 +103,17 @@ pub fn run_commands<A: Allocator + Copy>(
     Ok(())
 }
 
-/// The components of a path as a list, or `AllocError`.
+/// The components of a path as a list, or `AllocError`. There is no other list of pieces without
+/// separators, and not the one empty piece, that joins to the path's canonical text.
 pub fn pieces<'a, A: Allocator>(
     alloc: A,
     path: Path<'a>,
 ) -> Result<Vec<Char16Slice<'a>, A>, AllocError>
-    ensures { IfOk result (λ pieces. map units_of pieces.items ≡ components_of (path_text path.entry)) }
+    ensures components { IfOk result (λ pieces.
+        AreComponents (path_text path.entry) (map units_of pieces.items)) }
+    ensures only { IfOk result (λ pieces. (others : List (List ℕ)) →
+        AreComponents (path_text path.entry) others → others ≡ map units_of pieces.items) }
+    ensures same { IfOk result (λ pieces. map units_of pieces.items ≡ components_of (path_text path.entry)) }
 {
     path.components().collect(alloc)
 }
@@ -124,6 +130,9 @@ pub fn all_parents<A: Allocator + Copy>(
     ensures prefixes { IfOk result (λ parents.
         verdict path.now ≡ None → parents.items ≡ shorter_prefixes path.now) }
 {
+    // The two laws do nothing: they say which lists are the successive parents of a path.
+    laws::parent_count();
+    laws::parents_enumerate();
     let mut parents = Vec::new(alloc);
     let mut next = path.parent()?;
     while let Some(parent) = next {

@@ -6,11 +6,11 @@ ghost use Rattle.uefi_path.specs.Components.{components_of};
 ghost use Rattle.uefi_text.specs.ErrorTexts.{from_str_error_text};
 ghost use Rattle.uefi_text.specs.FromStr.{from_str_refusal};
 ghost use Rattle.uefi_path.specs.Parents.{parent_text};
+ghost use Rattle.uefi_path.specs.SuccessiveParents.{parents_of};
 ghost use Rattle.uefi_path.specs.Verdicts.{verdict};
 ghost use Rattle.upath.specs.Commands.{command_of, from_text, push_text, join_text, parent_path, eq_text, cmp_text};
 ghost use Rattle.upath.specs.Output.{check_line, line, output_of, parents_lines, path_after, path_line, pieces_lines, printed_by, text_line};
 ghost use Rattle.upath.specs.PathCommands.{after_command};
-ghost use Rattle.upath.specs.SuccessiveParents.{parents_of};
 
 use crate::commands::Command;
 use crate::lines::Lines;

@@ -1,10 +1,13 @@
 -- The pieces between the separators of a canonical text are the components, and there are no others.
 use Rattle.std.proofs.Common.{◌≡◌, [], arith, sym, ◌∙◌}
 use Rattle.std.proofs.lemmas.Grind.{common_steps}
+use Rattle.std.proofs.lemmas.List.Elements.{All-nil}
+use Rattle.uefi_text.specs.Units.{IsText, IsTextUnit}
 use Rattle.uefi_text.specs.Views.{units_of}
 use Rattle.uefi_path.specs.Views.{components_left, path_text}
 use Rattle.uefi_path.proofs.Splitting.{AreComponents-components_of, components_of-only, slice_split-canonical, length-slice_split-le}
-use Rattle.uefi_text.proofs.Runs.{gives_each}
+use Rattle.uefi_path.proofs.Parents.{All-slice_split}
+use Rattle.uefi_path.proofs.Runs.{gives_each, gives_no_nul}
 use Rattle.uefi_path.proofs.path.Path.components.Goals as goal
 use Rattle.uefi_path.proofs.path.Path.components.Goals.{After-is_empty}
 
@@ -32,6 +35,11 @@ returns-clause-only c = λ pieces components.
     components_of-only text pieces components
     ∙ sym (slice_split-canonical text units c.canonical-text.ensures.same non_empty)
 
+pub returns-clause-texts : goal.returns-clause-texts
+unfolding components_left
+returns-clause-texts c =
+    All-slice_split IsTextUnit (units_of c.canonical-text.result) c.canonical-text.ensures.is_text
+
 pub returns-clause-bound : goal.returns-clause-bound
 unfolding components_left
 returns-clause-bound c = omega (arith, length-slice_split-le (units_of c.canonical-text.result))
@@ -41,3 +49,13 @@ returns-then-is_empty-clause-runs c = gives_each units_of components_left _
 
 pub returns-clause-runs : goal.returns-clause-runs
 returns-clause-runs c = gives_each units_of components_left _
+
+pub returns-then-is_empty-clause-no_nul : goal.returns-then-is_empty-clause-no_nul
+unfolding components_left
+returns-then-is_empty-clause-no_nul c = gives_no_nul _ (All-nil IsText)
+
+pub returns-clause-no_nul : goal.returns-clause-no_nul
+unfolding components_left
+returns-clause-no_nul c =
+    gives_no_nul _
+    (All-slice_split IsTextUnit (units_of c.canonical-text.result) c.canonical-text.ensures.is_text)

@@ -1,16 +1,11 @@
 -- The part is added as it is, and then its slashes are replaced.
 use Rattle.std.proofs.Common.{◌≡◌, ◌≢◌, [], subst, sym, arith}
 use Rattle.std.proofs.lemmas.Grind.{common_steps}
-use Rattle.uefi_text.specs.Units.{IsText}
-use Rattle.uefi_text.proofs.Values.{IsText-text_of}
 use Rattle.uefi_path.specs.Pushing.{appended}
 use Rattle.uefi_path.specs.Separators.{IsPlain, with_separators}
 use Rattle.uefi_path.specs.Views.{path_text}
 use Rattle.uefi_path.proofs.Pushing.{IsPlain-appended, pushed-non_empty, with_separators-appended}
 use Rattle.uefi_path.proofs.pathbuf.PathBuf.push.Goals as goal
-
-pub append-requires : goal.append-requires
-append-requires g c = subst IsText (sym c.as_slice.ensures.same) (IsText-text_of c.to_cstr16.result)
 
 pub invariant_of-self-2 : goal.invariant_of-self-2
 invariant_of-self-2 g c =

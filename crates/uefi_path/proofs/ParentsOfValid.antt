@@ -1,0 +1,68 @@
+-- The successive parents of a valid text are its shorter prefixes.
+use Rattle.std.proofs.Common.{◌≡◌, ℕ, zero, suc, ◌+◌, ◌-◌, ◌<◌, List, [], ◌∷◌, length, take, All, None, Some, ap, sym, refl, subst, ◌∙◌, arith}
+use Rattle.std.proofs.lemmas.List.{length-take-le, take_all}
+use Rattle.std.proofs.lemmas.List.Elements.{All-take}
+use Rattle.std.proofs.lemmas.Option.{none-some, same_Some}
+use Rattle.uefi_path.proofs.ParentForm.{parent_of_components-good, components_of-joined}
+use Rattle.uefi_path.proofs.Validity.{valid-components}
+use Rattle.uefi_path.specs.Components.{components_of, joined}
+use Rattle.uefi_path.specs.Parents.{parent_text, parent_of_components, all_but_last}
+use Rattle.uefi_path.specs.Verdicts.{IsGood, verdict}
+use Rattle.uefi_path.specs.SuccessiveParents.{AreParents, prefixes, shorter_prefixes}
+
+-- no two lists are the successive parents of one text
+pub parents_once : (text : List ℕ) (parents others : List (List ℕ)) → AreParents text parents
+    → AreParents text others → parents ≡ others
+parents_once text [] [] none none_other = refl
+parents_once text [] (other ∷ others) none of_other =
+    absurd (none-some other (sym none ∙ of_other.0))
+parents_once text (parent ∷ parents) [] of_parent none =
+    absurd (none-some parent (sym none ∙ of_parent.0))
+parents_once text (parent ∷ parents) (other ∷ others) of_parent of_other =
+    let same : parent ≡ other = same_Some parent other (sym of_parent.0 ∙ of_other.0) in
+    let rest =
+    parents_once parent parents others of_parent.1
+    (subst (λ t. AreParents t others) (sym same) of_other.1) in
+    ap (λ t. t ∷ parents) same ∙ ap (λ ts. other ∷ ts) rest
+
+all_but_last-take : (count : ℕ) (cs : List (List ℕ)) → count + 1 < length cs
+    → all_but_last (take (suc (suc count)) cs) ≡ take (suc count) cs
+all_but_last-take count [] below = absurd (omega (arith, below))
+all_but_last-take count (c ∷ []) below = absurd (omega (arith, below))
+all_but_last-take zero (c ∷ d ∷ cs) below = refl
+all_but_last-take (suc count) (c ∷ d ∷ cs) below =
+    ap (λ ps. c ∷ ps) (all_but_last-take count (d ∷ cs) (omega (arith, below)))
+
+parent_of_components-one : (cs : List (List ℕ)) → parent_of_components (take 1 cs) ≡ None
+parent_of_components-one [] = refl
+parent_of_components-one (c ∷ cs) = refl
+
+-- the parents of a text of `count` components and one more, the first of all
+parents_of_some : (text : List ℕ) (count : ℕ) (cs : List (List ℕ)) → All IsGood cs → count < length cs
+    → components_of text ≡ take (suc count) cs → AreParents text (prefixes count cs)
+parents_of_some text zero cs good below e = ap parent_of_components e ∙ parent_of_components-one cs
+parents_of_some text (suc count) cs good below e =
+    let more : length (take (suc (suc count)) cs) ≡ suc (suc count) =
+    length-take-le (suc (suc count)) cs (omega (arith, below)) in
+    let many : 1 < length (take (suc (suc count)) cs) = omega (arith, more) in
+    let here : parent_text text ≡ Some (joined (take (suc count) cs)) =
+    ap parent_of_components e
+    ∙ parent_of_components-good (take (suc (suc count)) cs) (All-take IsGood (suc (suc count)) cs good)
+    many
+    ∙ ap (λ ps. Some (joined ps)) (all_but_last-take count cs (omega (arith, below))) in (
+      here,
+      parents_of_some (joined (take (suc count) cs)) count cs good (omega (arith, below))
+          (components_of-joined (take (suc count) cs) (All-take IsGood (suc count) cs good)),
+    )
+
+from_all : (text : List ℕ) (cs : List (List ℕ)) → All IsGood cs → components_of text ≡ cs
+    → AreParents text (prefixes (length cs - 1) cs)
+from_all text [] good e = ap parent_of_components e
+from_all text (c ∷ cs) good e =
+    let fewer : length cs ≡ length (c ∷ cs) - 1 = omega arith in
+    subst (λ count. AreParents text (prefixes count (c ∷ cs))) fewer
+    (parents_of_some text (length cs) (c ∷ cs) good (omega arith)
+    (e ∙ sym (take_all (suc (length cs)) (c ∷ cs) (omega arith))))
+
+pub AreParents-prefixes : (text : List ℕ) → verdict text ≡ None → AreParents text (shorter_prefixes text)
+AreParents-prefixes text valid = from_all text (components_of text) (valid-components text valid) refl

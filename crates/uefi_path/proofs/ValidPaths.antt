@@ -1,0 +1,77 @@
+-- A path is valid exactly where it is not refused.
+use Rattle.std.proofs.Common.{◌≡◌, ◌≢◌, ℕ, ◌↔◌, ◌==◌, List, [], ◌∷◌, All, Bool, true, false, None, Some, Result, Ok, Err, IsOk, ap, sym, refl, subst, ◌∙◌}
+use Rattle.std.specs.List.{Contains, find}
+use Rattle.std.specs.Option.{option_map}
+use Rattle.std.specs.Result.{result_err}
+use Rattle.std.proofs.lemmas.Bool.{cond-false, eq-eqb, eqb-true, false_from_ne_true, false≢true, true≢false}
+use Rattle.std.proofs.lemmas.List.Elements.{All-head, All-tail, All-weaker}
+use Rattle.std.proofs.lemmas.List.Folds.{Any-from_list_any, list_any-from_Any}
+use Rattle.uefi_path.specs.Components.{components_of}
+use Rattle.uefi_path.specs.Verdicts.{IsFileName, IsGood, IsValid, denied, is_denied, verdict}
+use Rattle.uefi_path.specs.declared.validation.PathError.{PathError}
+use Rattle.uefi_path.specs.declared.validation.PathError.TheVariants.{IllegalChar}
+use Rattle.uefi_path.proofs.Validity.{good-units, valid-components, valid-from, valid-non_empty}
+
+-- a unit that none of those denied is, and the test that says so
+none_denied : (unit : ℕ) → is_denied unit ≡ false → ¬ Contains denied unit
+none_denied unit allowed found =
+    true≢false
+    (sym (list_any-from_Any (λ other. other == unit) denied
+    (found.0, unit, found.1, found.2, eq-eqb unit unit refl))
+    ∙ allowed)
+
+denied_unit : (unit : ℕ) → is_denied unit ≡ true → Contains denied unit
+denied_unit unit tested =
+    let found = Any-from_list_any (λ other. other == unit) denied tested in
+    subst (Contains denied) (eqb-true found.1 unit found.4) (found.0, found.2, found.3)
+
+not_denied : (unit : ℕ) → ¬ Contains denied unit → is_denied unit ≡ false
+not_denied unit none = false_from_ne_true (is_denied unit) (λ tested. none (denied_unit unit tested))
+
+found_none : (test : ℕ → Bool) (us : List ℕ) → All (λ u. test u ≡ false) us → find test us ≡ None
+found_none test [] all = refl
+found_none test (u ∷ us) all =
+    cond-false (test u) (Some u) (find test us) (All-head (λ u. test u ≡ false) u us all)
+    ∙ found_none test us (All-tail (λ u. test u ≡ false) u us all)
+
+-- a component without a fault is a name, and the other way round
+good_name : (c : List ℕ) → IsFileName c → IsGood c
+good_name [] name = absurd (name.not_empty refl)
+good_name (u ∷ us) name =
+    ap (option_map IllegalChar)
+    (found_none is_denied (u ∷ us)
+    (All-weaker (λ unit. ¬ Contains denied unit) (λ unit. is_denied unit ≡ false) not_denied (u ∷ us)
+    name.none_denied))
+
+good_non_empty : (c : List ℕ) → IsGood c → c ≢ []
+good_non_empty [] good = absurd (cc)
+good_non_empty (u ∷ us) good = λ e. cc
+
+name_good : (c : List ℕ) → IsGood c → IsFileName c
+name_good c good = record {
+  not_empty = good_non_empty c good;
+  none_denied = All-weaker (λ unit. is_denied unit ≡ false) (λ unit. ¬ Contains denied unit) none_denied c (good-units c good);
+}
+
+pub valid_unrefused : (text : List ℕ) → IsValid text ↔ (verdict text ≡ None)
+valid_unrefused text = (
+  λ valid. valid-from text valid.not_empty
+      (All-weaker IsFileName IsGood good_name (components_of text) valid.file_names),
+  λ unrefused. record {
+    not_empty = valid-non_empty text unrefused;
+    file_names =
+        All-weaker IsGood IsFileName name_good (components_of text) (valid-components text unrefused);
+  },
+)
+
+-- what is accepted is what is not refused
+accepted : {T : Type 0} (result : Result T PathError) → IsOk result ↔ (result_err result ≡ None)
+accepted (Ok value) = (λ _. refl, λ _. refl)
+accepted (Err error) = (λ ok. absurd (false≢true ok), λ e. absurd (cc))
+
+pub accepted_valid : {T : Type 0} (result : Result T PathError) (text : List ℕ) → result_err result ≡ verdict text
+    → IsOk result ↔ IsValid text
+accepted_valid result text e = (
+  λ ok. (valid_unrefused text).1 (sym e ∙ (accepted result).0 ok),
+  λ valid. (accepted result).1 (e ∙ (valid_unrefused text).0 valid),
+)

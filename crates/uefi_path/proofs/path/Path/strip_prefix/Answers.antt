@@ -1,0 +1,54 @@
+-- What follows the base in the path is what follows the components to come of one in those of the other.
+use Rattle.std.proofs.Common.{◌≡◌, ◌∷◌, ◌++◌, All, ap, length, refl, subst, true, sym, ◌∙◌, arith}
+use Rattle.std.proofs.lemmas.Grind.{common_steps}
+use Rattle.std.proofs.lemmas.List.Elements.{All-tail}
+use Rattle.std.specs.Cmp.Lexicographic.{bytes_decides, pointwise}
+use Rattle.std.specs.Prelude.{nat_eq}
+use Rattle.uefi_text.specs.Units.{IsText}
+use Rattle.uefi_text.specs.Views.{units_of}
+use Rattle.uefi_path.specs.Views.{components_left}
+use Rattle.uefi_path.proofs.Runs.{gives_each, gives_no_nul}
+use Rattle.uefi_path.proofs.path.Path.strip_prefix.Goals as goal
+
+pub loop-component-preserved : goal.loop-component-preserved
+loop-component-preserved c =
+    let so_far = c.loop-component in
+    let component = units_of c.in-Some.component in
+    let theirs :
+    components_left so_far.component-iterator ≡ component ∷ components_left c.next.new.self =
+    grind (arith, common_steps, c.in-Some.ensures.steps) in
+    let own = units_of c.in_ok-own.own in
+    let tested : pointwise nat_eq own component ≡ true = grind (arith, common_steps) in
+    let first :
+    components_left so_far.rest ≡ own ∷ components_left c.next-in-loop-component.new.self =
+    grind (arith, common_steps) in
+    let ours :
+    components_left so_far.rest ≡ component ∷ components_left c.next-in-loop-component.new.self =
+    first
+    ∙ ap (λ piece. piece ∷ components_left c.next-in-loop-component.new.self)
+    ((bytes_decides own component).0 tested) in
+    record {
+      same = λ more. (
+        λ e. let whole = sym ours ∙ (so_far.invariant.same more).0 e ∙ ap (λ ps. ps ++ more) theirs in cc,
+        λ e. (so_far.invariant.same more).1
+            (ours ∙ ap (λ ps. component ∷ ps) e ∙ sym (ap (λ ps. ps ++ more) theirs)),
+      );
+      texts = All-tail IsText _ _ (subst (All IsText) ours so_far.invariant.texts);
+      bound = omega (arith, ap length ours);
+    }
+
+pub returns-clause-starts : goal.returns-clause-starts
+returns-clause-starts c =
+    let rest = components_left c.loop-component.rest in (
+      λ _. (
+        rest,
+        (c.loop-component.invariant.same rest).1 (sym (ap (λ ps. ps ++ rest) c.in-None.ensures.steps.0)),
+      ),
+      λ _. refl,
+    )
+
+pub returns-clause-runs : goal.returns-clause-runs
+returns-clause-runs c = gives_each units_of components_left _
+
+pub returns-clause-no_nul : goal.returns-clause-no_nul
+returns-clause-no_nul c = gives_no_nul _ c.loop-component.invariant.texts

@@ -1,5 +1,0 @@
-use Rattle.uefi_path.proofs.Joining.{components_of-pushed}
-use Rattle.upath.proofs.laws.join_components.Goals as goal
-
-pub returns : goal.returns
-returns c text part takes plain relative = components_of-pushed text part plain takes relative
