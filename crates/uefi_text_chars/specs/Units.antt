@@ -1,5 +1,5 @@
 -- Code units, texts and NUL-terminated strings. A code unit is a number below 2^16.
-use Rattle.std.specs.Prelude.{◌≡◌, ℕ, ◌-◌, ◌<◌, ◌≤◌, Bool, ◌&&◌, ◌||◌, ◌==◌, nat_le, if◌then◌else◌, List, [], ◌∷◌, ◌++◌, length, take, All, Option, position}
+use Rattle.std.specs.Prelude.{◌≡◌, ◌≢◌, ℕ, ◌-◌, ◌<◌, ◌≤◌, Bool, ◌&&◌, ◌||◌, ◌==◌, nat_le, if◌then◌else◌, List, [], ◌∷◌, ◌++◌, length, take, All, Option, position}
 
 -- a surrogate: a code unit that only the UTF-16 of a character above 0xffff has
 abbrev pub IsSurrogate : ℕ → Type 0
@@ -33,6 +33,11 @@ without_nul units = take (length units - 1) units
 -- a NUL-terminated string: a text and its NUL, and nothing else
 abbrev pub IsString : List ℕ → Type 0
 IsString units = (units ≡ nul_terminated (without_nul units)) × IsText (without_nul units)
+
+-- elements of which exactly the last is zero
+abbrev pub IsNulTerminated : List ℕ → Type 0
+IsNulTerminated elements =
+    (elements ≡ nul_terminated (without_nul elements)) × All (λ element. element ≢ 0) (without_nul elements)
 
 -- the test for a NUL
 abbrev pub is_nul : ℕ → Bool

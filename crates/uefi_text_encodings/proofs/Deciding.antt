@@ -86,7 +86,7 @@ first_nul_refusal-IsLatin1String bytes string =
     rw found.0 (grind (arith, common_steps))
 
 -- what stands before a deciding place is a text
-IsText-before : (units : List ℕ) (i : ℕ) → ((k : ℕ) → get_or units k 0 < 2 ^ 16) → deciding_place units ≡ Some i → IsText (take i units)
+pub IsText-before : (units : List ℕ) (i : ℕ) → ((k : ℕ) → get_or units k 0 < 2 ^ 16) → deciding_place units ≡ Some i → IsText (take i units)
 IsText-before units i small place =
     let found = position-Some is_deciding units i 0 place in
     All-from_get_or IsTextUnit (take i units) 0 (λ k h.

@@ -7,3 +7,4 @@ pub mod Printed
 pub mod Packing
 pub mod UnitBytes
 pub mod Prefixes
+pub mod Accepting

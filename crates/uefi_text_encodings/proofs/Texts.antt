@@ -119,14 +119,14 @@ scalars-IsText (u ∷ us) is_text =
 pub characters-IsText : (text : List ℕ) → IsText text → All IsScalar text
 characters-IsText text is_text = All-weaker IsTextUnit IsScalar scalar-IsTextUnit text is_text
 
-scalars-All : (cs : List ℕ) → All IsScalar cs → scalars cs ≡ true
+pub scalars-All : (cs : List ℕ) → All IsScalar cs → scalars cs ≡ true
 scalars-All [] are_scalars = refl
 scalars-All (c ∷ cs) are_scalars =
     let first : scalar c ≡ true = All-head IsScalar c cs are_scalars in
     let others = scalars-All cs (All-tail IsScalar c cs are_scalars) in
     grind (arith, common_steps)
 
-undecided-IsText : (text : List ℕ) → IsText text → find is_deciding_char text ≡ None
+pub undecided-IsText : (text : List ℕ) → IsText text → find is_deciding_char text ≡ None
 undecided-IsText [] is_text = refl
 undecided-IsText (u ∷ us) is_text =
     let first : IsTextUnit u = All-head IsTextUnit u us is_text in
@@ -134,7 +134,7 @@ undecided-IsText (u ∷ us) is_text =
     let undecided : is_deciding_char u ≡ false = grind (arith, common_steps) in
     grind (arith, common_steps)
 
-unrefused-find : (found : Option ℕ) → refusal_of_char found ≡ None → found ≡ None
+pub unrefused-find : (found : Option ℕ) → refusal_of_char found ≡ None → found ≡ None
 unrefused-find None none = refl
 unrefused-find (Some c) none = absurd (grind (arith, common_steps))
 

@@ -107,7 +107,7 @@ non_empty old front rest full =
     (with_units-full old (utf16 front) (nul_terminated (utf16 rest)) full ∙ sym all, grind (arith, common_steps))
 
 -- of characters of which none decides each is one unit
-utf16-undecided : (cs : List ℕ) → find is_deciding_char cs ≡ None → utf16 cs ≡ cs
+pub utf16-undecided : (cs : List ℕ) → find is_deciding_char cs ≡ None → utf16 cs ≡ cs
 utf16-undecided [] none = refl
 utf16-undecided (c ∷ cs) none =
     let rest : find is_deciding_char cs ≡ None = grind (arith, common_steps) in

@@ -1,5 +1,5 @@
 -- What the bytes of a Rust text say of its characters.
-use Rattle.std.proofs.Common.{◌≡◌, ◌↔◌, ℕ, ◌<◌, ◌≤◌, ◌+◌, ◌/◌, ◌%◌, ◌==◌, ◌||◌, nat_le, ◌++◌, ◌∙◌, ap, zero, suc, Bool, true, false, List, [], ◌∷◌, get_or, length, None, arith, refl, sym, inl, inr}
+use Rattle.std.proofs.Common.{◌≡◌, ◌≢◌, ◌↔◌, All, ℕ, ◌<◌, ◌≤◌, ◌+◌, ◌/◌, ◌%◌, ◌==◌, ◌||◌, nat_le, ◌++◌, ◌∙◌, ap, zero, suc, Bool, true, false, List, [], ◌∷◌, get_or, length, None, arith, refl, sym, inl, inr}
 use Rattle.std.specs.Char.{encode_utf8}
 use Rattle.std.specs.List.{count_by, find, fold}
 use Rattle.std.specs.Str.{chars, encode_utf8_all, IsAscii, IsUtf8}
@@ -13,7 +13,7 @@ use Rattle.std.proofs.Math.Utf8.{encodes}
 use Rattle.uefi_text_encodings.proofs.Scanning.{found_after}
 use Rattle.uefi_text_encodings.specs.FromStr.{is_deciding_char}
 use Rattle.uefi_text_encodings.specs.Latin1.{IsLatin1}
-use Rattle.uefi_text_encodings.specs.Scans.{ascii_text_so_far, byte_beyond_latin1_so_far, deciding_byte_so_far}
+use Rattle.uefi_text_encodings.specs.Scans.{ascii_text_so_far, byte_beyond_latin1_so_far, deciding_byte_so_far, zero_so_far}
 
 -- the first byte is ASCII and not NUL, and so are the others
 ascii_text_cons : (b : ℕ) (bs : List ℕ) → fold ascii_text_so_far true (b ∷ bs) ≡ true
@@ -190,3 +190,59 @@ latin1_bytes bs utf8 =
     let same : fold byte_beyond_latin1_so_far false (encodes (chars bs)) ≡ fold byte_beyond_latin1_so_far false bs =
     ap (fold byte_beyond_latin1_so_far false) (encodes-chars bs utf8) in
     (λ e. IsLatin1-encodes (chars bs) (same ∙ e), λ latin1. sym same ∙ encodes-IsLatin1 (chars bs) latin1)
+
+-- a byte that is not zero is passed over
+nonzero_byte : (b : ℕ) (bs : List ℕ) → 0 < b → fold zero_so_far false (b ∷ bs) ≡ fold zero_so_far false bs
+nonzero_byte b bs above = let other : (b == 0) ≡ false = grind (arith, common_steps) in rw other refl
+
+-- and so is a character that is not NUL
+nonzero_char : (c : ℕ) (bs : List ℕ) → 0 < c → fold zero_so_far false (encode_utf8 c ++ bs) ≡ fold zero_so_far false bs
+nonzero_char c bs above =
+    elim (cases_lt c 128) [
+      | inl low ↦ rw (encode_ascii c low) (nonzero_byte c bs above)
+      | inr high ↦
+          elim (cases_lt c 2048) [
+            | inl low ↦
+                rw (encode_utf8-two c high low)
+                (nonzero_byte (192 + c / 64) ((128 + c % 64) ∷ bs) (omega arith) ∙ nonzero_byte (128 + c % 64) bs (omega arith))
+            | inr higher ↦
+                elim (cases_lt c 65536) [
+                  | inl low ↦
+                      rw (encode_utf8-three c higher low)
+                      (nonzero_byte (224 + c / 4096) ((128 + c / 64 % 64) ∷ (128 + c % 64) ∷ bs) (omega arith)
+                      ∙ nonzero_byte (128 + c / 64 % 64) ((128 + c % 64) ∷ bs) (omega arith)
+                      ∙ nonzero_byte (128 + c % 64) bs (omega arith))
+                  | inr highest ↦
+                      rw (encode_utf8-four c highest)
+                      (nonzero_byte (240 + c / 262144) ((128 + c / 4096 % 64) ∷ (128 + c / 64 % 64) ∷ (128 + c % 64) ∷ bs) (omega arith)
+                      ∙ nonzero_byte (128 + c / 4096 % 64) ((128 + c / 64 % 64) ∷ (128 + c % 64) ∷ bs) (omega arith)
+                      ∙ nonzero_byte (128 + c / 64 % 64) ((128 + c % 64) ∷ bs) (omega arith)
+                      ∙ nonzero_byte (128 + c % 64) bs (omega arith))
+                ]
+          ]
+    ]
+
+-- a NUL is found
+zero_char : (bs : List ℕ) → fold zero_so_far false (encode_utf8 0 ++ bs) ≡ true
+zero_char bs = rw (encode_ascii 0 (omega arith)) (fold_stays zero_so_far true (λ _. refl) bs)
+
+no_nul-encodes : (cs : List ℕ) → fold zero_so_far false (encodes cs) ≡ false → All (λ c. c ≢ 0) cs
+no_nul-encodes [] e = All-nil (λ c. c ≢ 0)
+no_nul-encodes (zero ∷ cs) e = let found = zero_char (encodes cs) in absurd (grind (arith, common_steps))
+no_nul-encodes (suc n ∷ cs) e =
+    All-cons (λ c. c ≢ 0) (suc n) cs (λ is. omega (arith, is))
+    (no_nul-encodes cs (sym (nonzero_char (suc n) (encodes cs) (omega arith)) ∙ e))
+
+encodes-no_nul : (cs : List ℕ) → All (λ c. c ≢ 0) cs → fold zero_so_far false (encodes cs) ≡ false
+encodes-no_nul [] no_nul = refl
+encodes-no_nul (c ∷ cs) no_nul =
+    let first : c ≢ 0 = All-head (λ c. c ≢ 0) c cs no_nul in
+    let above : 0 < c = grind (arith, common_steps) in
+    nonzero_char c (encodes cs) above ∙ encodes-no_nul cs (All-tail (λ c. c ≢ 0) c cs no_nul)
+
+-- no character of a text is NUL exactly where no byte is zero
+pub no_zero_bytes : (bs : List ℕ) → IsUtf8 bs → (fold zero_so_far false bs ≡ false) ↔ All (λ c. c ≢ 0) (chars bs)
+no_zero_bytes bs utf8 =
+    let same : fold zero_so_far false (encodes (chars bs)) ≡ fold zero_so_far false bs =
+    ap (fold zero_so_far false) (encodes-chars bs utf8) in
+    (λ e. no_nul-encodes (chars bs) (same ∙ e), λ no_nul. sym same ∙ encodes-no_nul (chars bs) no_nul)

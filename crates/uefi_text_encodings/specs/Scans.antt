@@ -18,6 +18,10 @@ deciding_byte_so_far so_far byte = (so_far || (byte == 0)) || nat_le 0xf0 byte
 abbrev pub byte_beyond_latin1_so_far : Bool → ℕ → Bool
 byte_beyond_latin1_so_far so_far byte = so_far || nat_le 0xc4 byte
 
+-- whether a byte so far, or this one, is zero
+abbrev pub zero_so_far : Bool → ℕ → Bool
+zero_so_far so_far byte = so_far || (byte == 0)
+
 -- whether a unit so far, or this one, is beyond ASCII
 abbrev pub beyond_ascii_so_far : Bool → ℕ → Bool
 beyond_ascii_so_far so_far unit = so_far || nat_le 0x80 unit

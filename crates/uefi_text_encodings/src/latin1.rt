@@ -8,7 +8,7 @@ ghost use Rattle.uefi_text_chars.specs.Units.{is_nul, nul_terminated, without_nu
 ghost use Rattle.uefi_text_encodings.specs.Latin1.{IsLatin1, IsLatin1String};
 
 use crate::errors::FromSliceWithNulError;
-use crate::scans::has_byte_beyond_latin1;
+use crate::scans::{has_byte_beyond_latin1, has_zero_byte};
 use std::cmp::Ordering;
 use std::fmt;
 use std::hash::{Hash, Hasher};
@@ -180,6 +180,14 @@ pub fn is_latin1(s: &str) -> bool
     !has_byte_beyond_latin1(s.as_bytes())
 }
 
+/// Whether no character of a Rust text is NUL. One pass over the bytes; takes no memory.
+#[tactic(auto, using(crate::proofs::Utf8Bytes::no_zero_bytes))]
+pub fn has_no_nul(s: &str) -> bool
+    ensures { IsTrue result ↔ All (λ c. c ≢ 0) (chars s.now) }
+{
+    !has_zero_byte(s.as_bytes())
+}
+
 /// How many characters a Rust text of Latin-1 has, a NUL among them counted, which is how many bytes
 /// it takes in Latin-1. One pass; takes no memory.
 #[tactic(auto, using(std::proofs::lemmas::Str::chars_from_encodes))]
@@ -192,6 +200,8 @@ pub fn str_num_latin1_chars(s: &str) -> usize
 
 /// The characters of a Rust text of Latin-1 that holds no NUL, each as one byte, and a NUL after
 /// them. `N` is one more than their number. One pass; takes no memory.
+///
+/// [`is_latin1`], [`has_no_nul`] and [`str_num_latin1_chars`] test what is asked of the text.
 pub fn str_to_latin1<const N: usize>(s: &str) -> [u8; N]
     requires latin1 { IsLatin1 (chars s.now) }
     requires no_nul { All (λ c. c ≢ 0) (chars s.now) }

@@ -23,5 +23,5 @@ pub mod utf8;
 
 pub use char_sink::CharSink;
 pub use eq_str_until_nul::{EqStrUntilNul, str_eq_until_nul};
-pub use latin1::{CStr8, is_latin1, str_num_latin1_chars, str_to_latin1};
+pub use latin1::{CStr8, has_no_nul, is_latin1, str_num_latin1_chars, str_to_latin1};
 pub use packed::Packed;

@@ -4,7 +4,7 @@
 ghost use Rattle.std.specs.Prelude.{◌≡◌, ℕ, ◌+◌, ◌-◌, ◌*◌, ◌<◌, ◌≤◌, ◌++◌, length, take, drop, map, slice_index, true, false};
 ghost use Rattle.std.specs.List.{fold};
 ghost use Rattle.std.specs.Str.{IsAscii};
-ghost use Rattle.uefi_text_encodings.specs.Scans.{ascii_text_so_far, beyond_ascii_so_far, byte_beyond_latin1_so_far, decided_so_far, deciding_byte_so_far};
+ghost use Rattle.uefi_text_encodings.specs.Scans.{ascii_text_so_far, beyond_ascii_so_far, byte_beyond_latin1_so_far, decided_so_far, deciding_byte_so_far, zero_so_far};
 ghost use Rattle.uefi_text_encodings.specs.UnitBytes.{unit_bytes};
 ghost use Rattle.uefi_text_chars.specs.Units.{is_deciding, deciding_place, replaced};
 
@@ -94,6 +94,13 @@ pub(crate) fn has_byte_beyond_latin1(bytes: &[u8]) -> bool
     bytes
         .iter()
         .fold(false, |found, byte| found | (0xc4 <= *byte))
+}
+
+/// Whether a byte is zero. In UTF-8 that is the byte of a NUL, and of no other character.
+pub(crate) fn has_zero_byte(bytes: &[u8]) -> bool
+    ensures { result ≡ fold zero_so_far false bytes.now }
+{
+    bytes.iter().fold(false, |found, byte| found | (*byte == 0))
 }
 
 /// Writes bytes as code units, before the last unit, which stays.
