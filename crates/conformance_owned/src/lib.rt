@@ -18,3 +18,5 @@ mod packed;
 mod packed_chains;
 #[cfg(test)]
 mod packed_strings;
+#[cfg(test)]
+mod written;

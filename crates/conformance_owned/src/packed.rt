@@ -86,6 +86,17 @@ fn room_for_items(rt: HostRuntime) {
     assert!(rt; !UnalignedSlice::<u64>::fits(&[0; 7], 1));
 }
 
+#[test]
+fn views_of_bytes_with_room(rt: HostRuntime) {
+    let items = UnalignedSlice::<u32>::try_new(&BYTES_AFTER_ONE[1..], 3);
+    assert_eq!(rt; items.and_then(|items| items.get(2)), Some(0x33323130));
+    assert!(rt; UnalignedSlice::<u32>::try_new(&BYTES, 4).is_none());
+    assert!(rt; UnalignedSlice::<u32>::try_new(&BYTES, usize::MAX).is_none());
+    let units = UnalignedSlice::from_unit_bytes(&[0x10, 0x11, 0x12, 0x13]);
+    assert_eq!(rt; units.and_then(|units| units.get(1)), Some(0x1312));
+    assert!(rt; UnalignedSlice::from_unit_bytes(&[0x10, 0x11, 0x12]).is_none());
+}
+
 /// Whether `left` items are left, and the next is this.
 fn borrowed_gives(items: &mut UnalignedSliceIter<'_, u32>, left: usize, want: Option<u32>) -> bool {
     items.size_hint() == (left, Some(left)) && items.next() == want
@@ -122,6 +133,20 @@ fn counts_of_items(rt: HostRuntime) {
     let items: UnalignedSlice<u32> = UnalignedSlice::new(&BYTES, 3);
     assert_eq!(rt; items.iter().count(), 3);
     assert_eq!(rt; items.into_iter().count(), 3);
+}
+
+/// The last of packed numbers.
+fn last_of(items: UnalignedSlice<'_, u32>) -> Option<u32> {
+    let mut last = None;
+    for item in items {
+        last = Some(item);
+    }
+    last
+}
+
+#[test]
+fn loops_over_items(rt: HostRuntime) {
+    assert_eq!(rt; last_of(UnalignedSlice::new(&BYTES, 3)), Some(0x33323130));
 }
 
 #[test]

@@ -5,6 +5,8 @@
 #[cfg(test)]
 mod buffers;
 #[cfg(test)]
+mod callers;
+#[cfg(test)]
 mod comparisons;
 #[cfg(test)]
 mod components;

@@ -2,7 +2,9 @@
 
 use std::collections::HashSet;
 use std::test::Fail;
-use uefi_text::{CStr8, FromSliceWithNulError, is_latin1, str_num_latin1_chars, str_to_latin1};
+use uefi_text::{
+    CStr8, FromSliceWithNulError, has_no_nul, is_latin1, str_num_latin1_chars, str_to_latin1,
+};
 
 #[test]
 fn refused_bytes(rt: HostRuntime) {
@@ -74,6 +76,29 @@ fn arrays_of_latin1(rt: HostRuntime) {
     assert_eq!(rt; str_to_latin1::<1>(""), [0]);
     assert_eq!(rt; str_to_latin1::<2>("é"), [0xe9, 0]);
     assert_eq!(rt; str_to_latin1::<5>("Aÿ~\u{80}"), [65, 255, 126, 128, 0]);
+}
+
+/// The bytes of a text, if it is three characters of Latin-1 and none of them NUL: what a caller tests
+/// is what the call asks for.
+fn three_characters(text: &str) -> Option<[u8; 4]> {
+    if is_latin1(text) && has_no_nul(text) && str_num_latin1_chars(text) == 3 {
+        Some(str_to_latin1(text))
+    } else {
+        None
+    }
+}
+
+#[test]
+fn arrays_of_texts_that_are_tested(rt: HostRuntime) {
+    for (text, want) in [
+        ("aéÿ", Some([97, 0xe9, 255, 0])),
+        ("aé", None),
+        ("a\0b", None),
+        ("aĀb", None),
+        ("abcd", None),
+    ] {
+        assert_eq!(rt; three_characters(text), want, "{text:?}");
+    }
 }
 
 #[test]

@@ -17,6 +17,8 @@ mod long_texts;
 #[cfg(test)]
 mod out_of_memory;
 #[cfg(test)]
+mod parts;
+#[cfg(test)]
 mod rust_texts;
 #[cfg(test)]
 mod sinks;

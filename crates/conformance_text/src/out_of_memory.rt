@@ -34,7 +34,7 @@ struct Inputs {
     inner: Vec<Char16>,
 }
 
-fn inputs(rt: &HostRuntime) -> Result<Inputs, Fail> {
+fn given(rt: &HostRuntime) -> Result<Inputs, Fail> {
     Ok(Inputs {
         text: string(rt.alloc(), TEXT)?,
         long: string(rt.alloc(), LONG_TEXT)?,
@@ -162,7 +162,7 @@ fn answers(call: Call, heap: &Refusing<Global>, inputs: &Inputs) -> Result<bool,
 /// Each call, how many requests come before it, and how many it makes at least and at most.
 #[test]
 fn requests_of_each_call(rt: HostRuntime) -> Result<(), Fail> {
-    let inputs = inputs(&rt)?;
+    let inputs = given(&rt)?;
     for (call, setup, least, most) in [
         (Call::AsBytes, 0, 1, 1),
         (Call::ToRustString, 0, 1, 1),
