@@ -8,8 +8,7 @@ ghost use Rattle.uefi_text.specs.Views.{units_of};
 ghost use Rattle.upath.specs.PathCommands.{TakesMemory, after_command, after_commands};
 
 use std::alloc::{AllocError, Allocator};
-use uefi_path::laws;
-use uefi_path::{Path, PathBuf};
+use uefi_path::{Path, PathBuf, laws};
 use uefi_text::{CStr16, Char16Slice};
 
 /// What a path buffer is told to become.
