@@ -24,6 +24,9 @@
 //! assert!(rt; validate_path(file.as_path()).is_ok());
 //! ```
 //!
+//! [`laws`] are what users may reason by: one list of components for each text, equality and order,
+//! what joining does, and what climbing does.
+//!
 //! In contracts a [`PathBuf`] is its text, `path_text` is that of a [`Path`], and `components_left`
 //! are the pieces that [`Components`] still gives. No clause outside this crate speaks of a
 //! separator's place.

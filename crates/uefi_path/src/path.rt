@@ -45,6 +45,7 @@ impl<'a> Path<'a> {
         ensures same { text_of result ≡ path_text self.now }
         ensures is_text { IsText (text_of result) }
     {
+        // A clause of this call says that what the string shows is a text.
         let _text = self.string.as_slice();
         self.string
     }
@@ -78,9 +79,9 @@ impl<'a> Path<'a> {
         self.components().last()
     }
 
-    /// Whether the components of the base are the first of this path's. So `\a\bc` starts with `a`
-    /// and with `\a\bc`, and not with `\a\b`. Takes no memory; one pass over the shorter of the
-    /// two.
+    /// Whether this path's components are those of the base, and then maybe more. So `\a\bc` starts
+    /// with `a` and with `\a\bc`, and not with `\a\b`; and every path starts with the empty one. Takes
+    /// no memory; at most one pass over each, which ends at the first components that differ.
     pub fn starts_with(&self, base: Path<'_>) -> bool
         ensures { IsTrue result ↔ StartsWith (path_text self.now) (path_text base.entry) }
     {
@@ -88,8 +89,8 @@ impl<'a> Path<'a> {
     }
 
     /// The components of this path after those of the base, where the base's are the first of this
-    /// path's, as [`Path::starts_with`] says; else `None`. Takes no memory; one pass over the shorter
-    /// of the two.
+    /// path's, as [`Path::starts_with`] says; else `None`. Takes no memory; at most one pass over each,
+    /// which ends at the first components that differ.
     pub fn strip_prefix(&self, base: Path<'_>) -> Option<Components<'a>>
         ensures starts { IsSome result ↔ StartsWith (path_text self.now) (path_text base.entry) }
         ensures rest { IfSome result (λ rest. components_of (path_text self.now)

@@ -123,7 +123,8 @@ impl<'a> Path<'a> {
     ///
     /// There is none where the path has at most one component: that takes no memory and is never
     /// refused. Empty components are left out, but where the last one that is kept is empty and
-    /// another is not, a separator ends the parent. Linear in the text; one allocation.
+    /// another is not, a separator ends the parent. It is shorter than the path, so that climbing from
+    /// parent to parent ends. Linear in the text; one allocation.
     pub fn parent<A: Allocator + Copy>(&self, alloc: A) -> Result<Option<PathBuf<A>>, AllocError>
         ensures ok { IfOk result (λ parent. parent ≡ parent_text (path_text self.now)) }
         ensures none { parent_text (path_text self.now) ≡ None → IsOk result }
@@ -278,7 +279,7 @@ impl<A: Allocator + Copy> PathBuf<A> {
         self.as_path().file_name()
     }
 
-    /// Whether the components of the base are the first of this path's, as [`Path::starts_with`].
+    /// Whether this path's components begin with those of the base, as [`Path::starts_with`].
     pub fn starts_with(&self, base: Path<'_>) -> bool
         ensures { IsTrue result ↔ StartsWith self.now (path_text base.entry) }
     {

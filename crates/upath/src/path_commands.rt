@@ -10,8 +10,7 @@ ghost use Rattle.upath.specs.PathCommands.{TakesMemory, after_command, after_com
 use std::alloc::{AllocError, Allocator};
 use std::error::Error;
 use std::fmt;
-use uefi_path::laws;
-use uefi_path::{Path, PathBuf};
+use uefi_path::{Path, PathBuf, laws};
 use uefi_text::{CStr16, Char16Slice};
 
 /// What a path buffer is told to become.
