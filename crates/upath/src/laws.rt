@@ -1,7 +1,6 @@
 //! The laws by which users of this layer reason, over the definitions that the contracts of the
 //! working calls cite. Each law is a function that does nothing: its contract is the law. No
-//! program calls it.
-ghost use Rattle.upath.specs.Laws.{AcceptedWhereEncoded, EncodeOneText, EncodedOnce, TextWhereUnrefused, TextsAreCharacters, TextsAreEncoded};
+//! program calls it. Those of strings are re-exported.
 ghost use Rattle.upath.specs.Laws.{ComponentsOnce, NoComponentsOfEmpty, OneMoreThanSeparators, TextsHaveComponents};
 ghost use Rattle.upath.specs.Laws.{EqualWhereSameCanonical, EqualityIsEquivalence, OrderIsTotal, OrderTiesEqual, SameParent};
 ghost use Rattle.upath.specs.Laws.{EmptyAfterIsUnit, EmptyBeforeIsUnit, PushingIsAssociative};
@@ -10,21 +9,7 @@ ghost use Rattle.upath.specs.Laws.{ParentIsNotDoubled, ParentIsRelative, ParentI
 ghost use Rattle.upath.specs.Laws.{CanonicalIsEqual, ComponentsRebuild, ParentOfJoined};
 ghost use Rattle.upath.specs.Laws.{WalkingUpEnds, FewerParents, ParentsArePrefixes};
 
-/// Every text is encoded by exactly one list of bytes, no bytes encode two texts, and bytes are accepted
-/// exactly where they encode one: `CStr16::from_bytes_with_nul` and `CStr16::as_bytes` undo one another.
-pub fn bytes_once()
-    ensures encoded { TextsAreEncoded }
-    ensures once { EncodedOnce }
-    ensures apart { EncodeOneText }
-    ensures accepted { AcceptedWhereEncoded }
-{}
-
-/// Characters of Rust are a text exactly where none of them is refused, and each unit of a text is
-/// one: `CString16::try_from_str` and `CStr16::to_rust_string` undo one another.
-pub fn text_once()
-    ensures unrefused { TextWhereUnrefused }
-    ensures characters { TextsAreCharacters }
-{}
+pub use uefi_text::laws::{bytes_once, text_once};
 
 /// Every text has exactly one list of components: none where its canonical text is empty, else one
 /// more than separators in it.
