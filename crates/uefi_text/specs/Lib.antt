@@ -17,5 +17,6 @@ pub use Rattle.uefi_text_encodings.specs.declared.errors.FromSliceWithNulError
 pub use Rattle.uefi_text_encodings.specs.declared.errors.UnalignedCStr16Error
 pub use Rattle.uefi_text_encodings.specs.declared.errors.FromStrWithBufError
 pub use Rattle.uefi_text_encodings.specs.declared.errors.FromStrError
+pub mod Laws
 pub mod Runs
 pub mod Views

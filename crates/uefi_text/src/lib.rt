@@ -29,15 +29,17 @@
 #![tactic(auto)]
 
 pub mod eq_str_until_nul;
+pub mod laws;
 pub mod owned_strs;
 pub mod strs;
 pub mod unaligned_slice;
 
 pub use eq_str_until_nul::{EqStrUntilNul, str_eq_until_nul};
-pub use owned_strs::{CString16, FromStrError};
+pub use owned_strs::{CString16, FromStrError, have_no_nul};
 pub use strs::{
     CStr8, CStr16, CStr16Iter, Char16Slice, FromSliceUntilNulError, FromSliceWithNulError,
-    FromStrWithBufError, UnalignedCStr16Error, is_latin1, str_num_latin1_chars, str_to_latin1,
+    FromStrWithBufError, UnalignedCStr16Error, has_no_nul, is_latin1, str_num_latin1_chars,
+    str_to_latin1,
 };
 pub use uefi_text_chars as chars;
 pub use uefi_text_chars::{Char8, Char16, CharConversionError, NUL_8, NUL_16};

@@ -1,10 +1,11 @@
 //! NUL-terminated strings of UCS-2 that are owned. A string keeps its NUL in the vector, which nothing
 //! outside this module sees.
-ghost use Rattle.std.specs.Prelude.{◌≡◌, ◌≢◌, ℕ, ◌+◌, ◌<◌, ◌↔◌, ◌++◌, [], All, List, None, length, map, find, position, unwrap_or, IsTrue, IfOk, IfErr, ◌∷◌, take, IsOk, OnOk, OnErr, drop};
+ghost use Rattle.std.specs.Prelude.{◌≡◌, ◌≢◌, ℕ, ◌+◌, ◌<◌, ◌↔◌, ◌++◌, [], All, Contains, List, None, length, map, find, position, unwrap_or, IsTrue, IfOk, IfErr, ◌∷◌, take, IsOk, OnOk, OnErr, drop};
 ghost use Rattle.std.specs.Str.{chars};
-ghost use Rattle.uefi_text_chars.specs.Units.{IsChar16, IsString, IsText, is_nul, nul_terminated, replaced};
+ghost use Rattle.uefi_text_chars.specs.Units.{IsChar16, IsNulTerminated, IsString, IsText, is_nul, nul_terminated, replaced};
 ghost use Rattle.std.specs.Result.{result_err};
 ghost use Rattle.uefi_text_encodings.specs.FromStr.{is_deciding_char, from_str_refusal};
+ghost use Rattle.uefi_text.specs.Runs.{CopiesNoNul};
 
 use crate::strs::{CStr16, Char16Slice, FromSliceUntilNulError, FromSliceWithNulError};
 use std::alloc::{AllocError, Allocator, Global};
@@ -13,7 +14,7 @@ use std::fmt;
 use std::hash::{Hash, Hasher};
 use std::marker::Model;
 use uefi_text_chars::{Char16, NUL_16};
-use uefi_text_encodings::code_units::units_of_text;
+use uefi_text_encodings::code_units::{text_len, units_of_text, write_text};
 pub use uefi_text_encodings::errors::FromStrError;
 use uefi_text_encodings::scans::replace_units_from;
 
@@ -40,6 +41,42 @@ fn find_nul(characters: &[Char16]) -> Option<usize>
     ensures { result ≡ position is_nul characters.now }
 {
     characters.iter().position(|character| *character == NUL_16)
+}
+
+/// Whether each character is another than NUL.
+fn all_are_text(characters: &[Char16]) -> bool
+    ensures { IsTrue result ↔ All (λ c. c ≢ 0) characters.now }
+{
+    characters.iter().all(|character| *character != NUL_16)
+}
+
+/// Whether none of the characters is NUL, as [`CString16::extend`] asks of what is added. One pass,
+/// which ends at the first NUL.
+pub fn have_no_nul(characters: &[Char16]) -> bool
+    ensures all { IsTrue result ↔ All (λ c. c ≢ 0) characters.now }
+    ensures copied { IsTrue result → CopiesNoNul characters.now }
+{
+    all_are_text(characters)
+}
+
+/// Writes a text of UCS-2 and its NUL into units, from a place on up to their end.
+fn write_text_from(units: &mut [u16], start: usize, text: &str)
+    requires is_text { IsText (chars text.now) }
+    requires fits { start + length (chars text.now) + 1 ≡ length units.old }
+    ensures { units.new ≡ take start units.old ++ nul_terminated (chars text.now) }
+{
+    // Never refused: each character is one unit, and has a place, and so has the NUL.
+    let _len = write_text(text, &mut units[start..]);
+}
+
+/// Units and a NUL, in one allocation.
+fn units_with_nul<A: Allocator>(alloc: A, units: &[u16]) -> Result<Vec<u16, A>, AllocError>
+    ensures { IfOk result (λ string. string.items ≡ nul_terminated units.now) }
+{
+    let mut string = Vec::with_capacity(alloc, units.len() + 1)?;
+    string.extend_from_slice(units)?;
+    string.push(0)?;
+    Ok(string)
 }
 
 /// The units of characters, in one allocation.
@@ -75,6 +112,9 @@ impl<'a> CStr16<'a> {
     ) -> Result<CString16<A>, FromSliceUntilNulError>
         ensures ok { IfOk result (λ string. string ≡ before_first is_nul characters.now) }
         ensures accepted { IfOk result (λ _. missing_nul_refusal characters.now ≡ None) }
+        ensures holds_nul { IfOk result (λ _. Contains characters.now 0) }
+        ensures memory { IfErr result (λ error.
+            (error ≡ FromSliceUntilNulError.OutOfMemory) ↔ Contains characters.now 0) }
         ensures refusal { IfErr result (λ error.
             error ≡ unwrap_or (missing_nul_refusal characters.now) FromSliceUntilNulError.OutOfMemory) }
     {
@@ -99,6 +139,9 @@ impl<'a> CStr16<'a> {
     ) -> Result<CString16<A>, FromSliceWithNulError>
         ensures ok { IfOk result (λ string. nul_terminated string ≡ characters.now) }
         ensures accepted { IfOk result (λ _. first_nul_refusal characters.now ≡ None) }
+        ensures is_string { IfOk result (λ _. IsString characters.now) }
+        ensures memory { IfErr result (λ error.
+            (error ≡ FromSliceWithNulError.OutOfMemory) ↔ IsNulTerminated characters.now) }
         ensures refusal { IfErr result (λ error.
             error ≡ unwrap_or (first_nul_refusal characters.now) FromSliceWithNulError.OutOfMemory) }
     {
@@ -125,6 +168,34 @@ impl<'a> CStr16<'a> {
     }
 }
 
+/// The way from characters that lie side by side into a string that is owned.
+impl<'a> Char16Slice<'a> {
+    ghost use Rattle.uefi_text.specs.Views.{units_of};
+
+    /// The string of the characters, in memory that it owns.
+    ///
+    /// Where a NUL is among them the result is `InteriorNul`, and where memory is refused `OutOfMemory`.
+    /// `InvalidChar` is never returned: no character is a surrogate. All is looked at before memory is
+    /// asked for, in one request.
+    pub fn to_cstring16<A: Allocator>(&self, alloc: A) -> Result<CString16<A>, FromStrError>
+        ensures ok { IfOk result (λ string. string ≡ units_of self.now) }
+        ensures accepted { IfOk result (λ _. from_str_refusal (units_of self.now) ≡ None) }
+        ensures is_text { IfOk result (λ _. IsText (units_of self.now)) }
+        ensures memory { IfErr result (λ error.
+            (error ≡ FromStrError.OutOfMemory) ↔ IsText (units_of self.now)) }
+        ensures refusal { IfErr result (λ error.
+            error ≡ unwrap_or (from_str_refusal (units_of self.now)) FromStrError.OutOfMemory) }
+    {
+        if !self.has_no_nul() {
+            return Err(FromStrError::InteriorNul);
+        }
+        match units_with_nul(alloc, self.units()) {
+            Ok(units) => Ok(CString16 { units }),
+            Err(_) => Err(FromStrError::OutOfMemory),
+        }
+    }
+}
+
 impl<A: Allocator> CString16<A> {
     ghost use Rattle.std.specs.Iterator.{IsFinite};
     ghost use Rattle.std.specs.Iterator.Runs.{SomeRun, WholeRun};
@@ -135,7 +206,8 @@ impl<A: Allocator> CString16<A> {
     /// The string of units that are known to be one.
     pub(crate) fn from_string(units: Vec<u16, A>) -> Self
         requires { IsString units.items }
-        ensures { nul_terminated result ≡ units.items }
+        ensures same { nul_terminated result ≡ units.items }
+        ensures is_text { IsText result }
     {
         CString16 { units }
     }
@@ -169,6 +241,9 @@ impl<A: Allocator> CString16<A> {
     pub fn try_from_str(alloc: A, text: &str) -> Result<Self, FromStrError>
         ensures ok { IfOk result (λ string. string ≡ chars text.now) }
         ensures accepted { IfOk result (λ _. from_str_refusal (chars text.now) ≡ None) }
+        ensures is_text { IfOk result (λ _. IsText (chars text.now)) }
+        ensures memory { IfErr result (λ error.
+            (error ≡ FromStrError.OutOfMemory) ↔ IsText (chars text.now)) }
         ensures refusal { IfErr result (λ error.
             error ≡ unwrap_or (from_str_refusal (chars text.now)) FromStrError.OutOfMemory) }
     {
@@ -187,6 +262,13 @@ impl<A: Allocator> CString16<A> {
     {
         CStr16::from_u16_with_nul(units.as_slice())?;
         Ok(CString16 { units })
+    }
+
+    /// The units of the text and its NUL, in the memory that they lie in. Takes no memory.
+    pub fn into_vec_with_nul(self) -> Vec<u16, A>
+        ensures { result.items ≡ nul_terminated self }
+    {
+        self.units
     }
 
     /// An owned string that is equal to the borrowed one. One allocation.
@@ -231,7 +313,7 @@ impl<A: Allocator> CString16<A> {
     }
 
     /// Adds characters, none of them NUL, after the text. Where memory is refused the string is
-    /// unchanged.
+    /// unchanged. [`Char16Slice::has_no_nul`] tests the characters, and those of a text hold none.
     ///
     /// Takes memory at most once, and none where there are no characters, which is never refused. A
     /// row of calls takes a time linear in what it adds, on average.
@@ -259,7 +341,8 @@ impl<A: Allocator> CString16<A> {
         }
     }
 
-    /// Adds the characters that an iterator gives, none of them NUL, after the text.
+    /// Adds the characters that an iterator gives, none of them NUL, after the text. [`have_no_nul`]
+    /// tests those of a slice.
     ///
     /// Where memory is refused the characters before that one have been added, and stay.
     pub fn extend<I: Iterator<Item = Char16> + Drop>(
@@ -416,6 +499,49 @@ impl<A: Allocator> Hash for CString16<A> {
 
     fn hash<H: Hasher>(&self, state: &mut H) {
         self.as_cstr16().hash(state);
+    }
+}
+
+/// As [`CString16::try_from_vec`].
+impl<A: Allocator> TryFrom<Vec<u16, A>> for CString16<A> {
+    type Error = FromSliceWithNulError;
+
+    ghost use Rattle.uefi_text_encodings.specs.FromSliceWithNul.{with_nul_refusal};
+
+    ghost try_from_gives = { λ units result. IfOk result (λ string. nul_terminated string ≡ units.items)
+        × (IsOk result ↔ IsString units.items) × (result_err result ≡ with_nul_refusal units.items) };
+
+    fn try_from(units: Vec<u16, A>) -> Result<Self, FromSliceWithNulError> {
+        CString16::try_from_vec(units)
+    }
+}
+
+/// Adds a Rust text after the text. Where it holds a NUL or a character above U+FFFF, or memory is
+/// refused, the result is an error, and the string is unchanged.
+///
+/// What `write!` prints comes in parts, and an error leaves those before it. The text is looked at
+/// before memory is asked for, at most once.
+impl<A: Allocator> fmt::Write for CString16<A> {
+    ghost use Rattle.std.specs.Str.{encode_utf8_all};
+
+    ghost write_str_gives = { λ old bytes new. encode_utf8_all new ≡ encode_utf8_all old ++ bytes };
+
+    fn write_str(&mut self, s: &str) -> fmt::Result
+        ensures ok { IsOk result → encode_utf8_all self.new ≡ encode_utf8_all self.old ++ s.now }
+        ensures added { OnOk result (self.new ≡ self.old ++ chars s.now) }
+        ensures is_text { OnOk result (IsText (chars s.now)) }
+        ensures err { OnErr result (self.new ≡ self.old) }
+    {
+        let Some(len) = text_len(s) else {
+            return Err(fmt::Error);
+        };
+        let Some(room) = self.units.len().checked_add(len) else {
+            return Err(fmt::Error);
+        };
+        let end = self.num_chars();
+        self.units.resize(room, 0)?;
+        write_text_from(&mut self.units, end, s);
+        Ok(())
     }
 }
 

@@ -3,15 +3,15 @@
 //! each view shows.
 #![tactic(auto, unfolding(crate::specs::Views::text_of, crate::specs::Views::units_of, crate::specs::Views::units_left))]
 
-ghost use Rattle.std.specs.Prelude.{◌≡◌, ◌<◌, ◌≤◌, ◌+◌, ◌*◌, ◌^◌, ◌↔◌, ◌==◌, ◌≢◌, ◌++◌, if◌then◌else◌, [], ℕ, List, Option, All, length, position, slice_get, slice_index, slice_range, take, IsTrue, IsOk, IfOk, OnErr, OnOk};
+ghost use Rattle.std.specs.Prelude.{◌≡◌, ◌<◌, ◌≤◌, ◌+◌, ◌*◌, ◌^◌, ◌↔◌, ◌==◌, ◌≢◌, ◌++◌, if◌then◌else◌, [], ℕ, List, Option, All, length, position, slice_get, slice_index, slice_range, take, IsTrue, IsOk, IfOk, IfSome, OnErr, OnOk, Some};
 ghost use Rattle.std.specs.Char.Escape.{encode_utf16};
 ghost use Rattle.std.specs.Result.{result_err};
 ghost use Rattle.std.specs.Str.{chars};
 ghost use Rattle.uefi_text_encodings.specs.FromStr.{is_deciding_char};
 ghost use Rattle.uefi_text_encodings.specs.FromStrWithBuf.{refusal_of_char_at, with_units};
 ghost use Rattle.uefi_text_encodings.specs.FromSliceWithNul.{deciding_refusal};
-ghost use Rattle.uefi_text.specs.Runs.{GivesEach, GivesNoNul};
-ghost use Rattle.uefi_text_chars.specs.Units.{IsString, IsText, IsChar16, is_nul, nul_terminated, without_nul};
+ghost use Rattle.uefi_text.specs.Runs.{GivesAll, GivesEach, GivesNoNul};
+ghost use Rattle.uefi_text_chars.specs.Units.{BeginsWithString, IsString, IsText, IsChar16, is_nul, nul_terminated, without_nul};
 
 use std::alloc::{AllocError, Allocator};
 use std::cmp::Ordering;
@@ -24,7 +24,9 @@ pub use uefi_text_encodings::eq_str_until_nul::{EqStrUntilNul, str_eq_until_nul}
 pub use uefi_text_encodings::errors::{
     FromSliceUntilNulError, FromSliceWithNulError, FromStrWithBufError, UnalignedCStr16Error,
 };
-pub use uefi_text_encodings::latin1::{CStr8, is_latin1, str_num_latin1_chars, str_to_latin1};
+pub use uefi_text_encodings::latin1::{
+    CStr8, has_no_nul, is_latin1, str_num_latin1_chars, str_to_latin1,
+};
 use uefi_text_encodings::scans::{find_deciding_place, has_unit_beyond_ascii, split};
 use uefi_text_encodings::utf8::add_utf8;
 
@@ -88,6 +90,7 @@ impl<'a> CStr16<'a> {
     /// One pass, which ends at that unit; takes no memory.
     pub fn from_u16_until_nul(units: &'a [u16]) -> Result<CStr16<'a>, FromSliceUntilNulError>
         ensures ok { IfOk result (λ string. text_of string ≡ before_first is_nul units.now) }
+        ensures accepts { IsOk result ↔ BeginsWithString units.now }
         ensures refusal { result_err result ≡ until_nul_refusal units.now }
     {
         let Some(end) = find_deciding_place(units) else {
@@ -138,6 +141,8 @@ impl<'a> CStr16<'a> {
     /// before it. One pass, which ends where the buffer is full; takes no memory.
     pub fn write_str(input: &str, buffer: &mut [u16]) -> Result<usize, FromStrWithBufError>
         ensures ok { IfOk result (λ len. len ≡ length (chars input.now) + 1) }
+        ensures accepts { IsOk result
+            ↔ (IsText (chars input.now) × (length (chars input.now) < length buffer.old)) }
         ensures refusal { result_err result
             ≡ from_str_with_buf_refusal (chars input.now) (length buffer.old) }
         ensures buffer { buffer.new ≡ with_text (chars input.now) buffer.old }
@@ -153,6 +158,8 @@ impl<'a> CStr16<'a> {
         buf: &'a mut [u16],
     ) -> Result<CStr16<'a>, FromStrWithBufError>
         ensures ok { IfOk result (λ string. text_of string ≡ chars input.now) }
+        ensures accepts { IsOk result
+            ↔ (IsText (chars input.now) × (length (chars input.now) < length buf.old)) }
         ensures refusal { result_err result
             ≡ from_str_with_buf_refusal (chars input.now) (length buf.old) }
     {
@@ -291,10 +298,7 @@ impl<'a> fmt::Display for CStr16<'a> {
     ghost output = { λ string. Some (encode_utf8_all (text_of string)) };
 
     fn fmt<W: fmt::Write>(&self, f: &mut fmt::Formatter<W>) -> fmt::Result {
-        for character in self.iter() {
-            f.write_char(char::from(character))?;
-        }
-        Ok(())
+        fmt::Display::fmt(&self.as_slice(), f)
     }
 }
 
@@ -376,6 +380,23 @@ impl<'a> Hash for CStr16<'a> {
     }
 }
 
+/// The characters of the text in order, without the NUL. Takes no memory.
+impl<'a> IntoIterator for CStr16<'a> {
+    type Item = Char16;
+
+    type IntoIter = CStr16Iter<'a>;
+
+    ghost use Rattle.std.specs.Iterator.{YieldsFirst};
+    ghost use Rattle.uefi_text.specs.Views.{text_of, units_left};
+
+    ghost into_iter_gives = { λ string iter. GivesAll (λ unit. unit) units_left iter (text_of string)
+        × GivesNoNul (YieldsFirst units_left) iter };
+
+    fn into_iter(self) -> CStr16Iter<'a> {
+        CStr16::iter(&self)
+    }
+}
+
 /// Prints the characters, each as a Rust character.
 impl<'a> fmt::Debug for CStr16<'a> {
     fn fmt<W: fmt::Write>(&self, f: &mut fmt::Formatter<W>) -> fmt::Result {
@@ -386,7 +407,8 @@ impl<'a> fmt::Debug for CStr16<'a> {
 impl<'a> Iterator for CStr16Iter<'a> {
     type Item = Char16;
 
-    ghost use Rattle.std.specs.Iterator.{YieldsFirst, item_count};
+    ghost use Rattle.std.specs.Iterator.{UpTo, YieldsFirst, item_count};
+    ghost use Rattle.std.specs.Iterator.SizeHint.{IsWithinCount};
     ghost use Rattle.uefi_text.specs.Views.{units_left};
 
     ghost next_gives = { YieldsFirst units_left };
@@ -397,6 +419,29 @@ impl<'a> Iterator for CStr16Iter<'a> {
         let (first, others) = self.units.split_first()?;
         self.units = others;
         Some(Char16::from_unit(*first))
+    }
+
+    /// Exactly as many as are left.
+    fn size_hint(&self) -> (usize, Option<usize>)
+        ensures lower { IsWithinCount result.0 (item_count units_left self.now) }
+        ensures upper { IfSome result.1 (UpTo (item_count units_left self.now)) }
+        ensures exact { let count = length (units_left self.now) in
+            result ≡ (count, Some count) }
+    {
+        (self.units.len(), Some(self.units.len()))
+    }
+}
+
+impl<'a> DoubleEndedIterator for CStr16Iter<'a> {
+    ghost use Rattle.std.specs.Iterator.{YieldsLast};
+    ghost use Rattle.uefi_text.specs.Views.{units_left};
+
+    ghost next_back_gives = { YieldsLast units_left };
+
+    fn next_back(&mut self) -> Option<Char16> {
+        let (last, rest) = self.units.split_last()?;
+        self.units = rest;
+        Some(Char16::from_unit(*last))
     }
 }
 
@@ -440,6 +485,13 @@ impl<'a> Char16Slice<'a> {
     {
         let _units = self.units.len();
         CStr16Iter { units: self.units }
+    }
+
+    /// Whether none of the characters is NUL. One pass, which ends at the first NUL.
+    pub fn has_no_nul(&self) -> bool
+        ensures { IsTrue result ↔ All (λ unit. unit ≢ 0) (units_of self.now) }
+    {
+        self.units.iter().all(|unit| *unit != 0)
     }
 
     /// The code units of the characters.
@@ -493,8 +545,92 @@ impl<'a> Eq for Char16Slice<'a> {
     ghost laws = { Prim.search (comparing, rules) };
 }
 
+/// The list order of the code units.
+impl<'a> PartialOrd for Char16Slice<'a> {
+    ghost use Rattle.std.proofs.Common.{rules};
+    ghost use Rattle.std.specs.Ordering.{nat_cmp, as_partial_cmp, on};
+    ghost use Rattle.std.specs.Cmp.Lexicographic.{slice_cmp};
+    ghost use Rattle.std.specs.Cmp.Rules.{comparing};
+    ghost use Rattle.uefi_text.specs.Views.{units_of};
+
+    ghost partial_cmp = { as_partial_cmp (on units_of (slice_cmp nat_cmp)) };
+
+    ghost laws = { Prim.search (comparing, rules) };
+
+    fn partial_cmp(&self, other: &Self) -> Option<Ordering> {
+        Some(self.cmp(other))
+    }
+}
+
+/// `Equal` exactly for equal slices.
+impl<'a> Ord for Char16Slice<'a> {
+    ghost use Rattle.std.proofs.Common.{rules};
+    ghost use Rattle.std.specs.Ordering.{nat_cmp, on};
+    ghost use Rattle.std.specs.Cmp.Lexicographic.{slice_cmp};
+    ghost use Rattle.std.specs.Cmp.Rules.{comparing};
+    ghost use Rattle.uefi_text.specs.Views.{units_of};
+
+    ghost cmp = { on units_of (slice_cmp nat_cmp) };
+
+    ghost total = { Prim.search (comparing, rules) };
+
+    ghost matches_partial_cmp = { Prim.search (comparing, rules) };
+
+    ghost matches_eq = { Prim.search (comparing, rules) };
+
+    fn cmp(&self, other: &Self) -> Ordering {
+        self.units.cmp(other.units)
+    }
+}
+
+/// Hashes the code units, so that equal slices hash alike, and a text as its string does.
+impl<'a> Hash for Char16Slice<'a> {
+    ghost use Rattle.std.proofs.Common.{rules};
+    ghost use Rattle.std.specs.Hash as fed;
+    ghost use Rattle.std.specs.Cmp.Rules.{comparing, hashing};
+    ghost use Rattle.uefi_text.specs.Views.{units_of};
+
+    ghost hash_input = { λ a. fed.slice fed.u16 (units_of a) };
+
+    ghost respects_eq = { Prim.search (hashing, comparing, rules) };
+
+    fn hash<H: Hasher>(&self, state: &mut H) {
+        self.units.hash(state);
+    }
+}
+
+/// Writes the characters.
+impl<'a> fmt::Display for Char16Slice<'a> {
+    ghost use Rattle.std.specs.Str.{encode_utf8_all};
+    ghost use Rattle.uefi_text.specs.Views.{units_of};
+
+    ghost output = { λ part. Some (encode_utf8_all (units_of part)) };
+
+    fn fmt<W: fmt::Write>(&self, f: &mut fmt::Formatter<W>) -> fmt::Result {
+        for character in self.iter() {
+            f.write_char(char::from(character))?;
+        }
+        Ok(())
+    }
+}
+
 impl<'a> fmt::Debug for Char16Slice<'a> {
     fn fmt<W: fmt::Write>(&self, f: &mut fmt::Formatter<W>) -> fmt::Result {
         f.debug_list().entries(self.iter()).finish()
+    }
+}
+
+/// The characters in order. Takes no memory.
+impl<'a> IntoIterator for Char16Slice<'a> {
+    type Item = Char16;
+
+    type IntoIter = CStr16Iter<'a>;
+
+    ghost use Rattle.uefi_text.specs.Views.{units_left, units_of};
+
+    ghost into_iter_gives = { λ part iter. GivesAll (λ unit. unit) units_left iter (units_of part) };
+
+    fn into_iter(self) -> CStr16Iter<'a> {
+        Char16Slice::iter(&self)
     }
 }

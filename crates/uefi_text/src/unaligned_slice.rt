@@ -23,7 +23,7 @@
 //! item is one more `impl`, and every call here holds of it as it stands.
 #![tactic(auto, using(uefi_text_encodings::proofs::Packing::packing), unfolding(crate::specs::Views::items_of, crate::specs::Views::items_left, crate::specs::Views::into_iter_items_left))]
 
-ghost use Rattle.std.specs.Prelude.{◌≡◌, ℕ, ◌+◌, ◌*◌, ◌^◌, ◌<◌, ◌≤◌, ◌↔◌, [], length, map, slice_index, slice_get, slice_range, IfOk, IfErr, IfSome, IsTrue};
+ghost use Rattle.std.specs.Prelude.{◌≡◌, ℕ, ◌+◌, ◌*◌, ◌^◌, ◌<◌, ◌≤◌, ◌↔◌, [], length, map, slice_index, slice_get, slice_range, IfOk, IfErr, IfSome, IsSome, IsTrue};
 ghost use Rattle.std.specs.Iterator.{UpTo, YieldsFirstBy, item_count};
 ghost use Rattle.std.specs.Iterator.SizeHint.{IsWithinCount};
 ghost use Rattle.std.specs.Option.{option_map};
@@ -64,7 +64,7 @@ pub struct UnalignedSliceIntoIter<'a, T: Packed> {
 }
 
 impl<'a, T: Packed> UnalignedSlice<'a, T> {
-    ghost use Rattle.uefi_text.specs.Views.{items_of, items_left, into_iter_items_left};
+    ghost use Rattle.uefi_text.specs.Views.{items_of, items_left};
 
     /// Whether the bytes have room for `len` items: whether `len` times `SIZE`, as a whole number
     /// that never wraps, is at most the number of bytes. Takes no memory.
@@ -91,6 +91,22 @@ impl<'a, T: Packed> UnalignedSlice<'a, T> {
             bytes,
             len,
             items: PhantomData,
+        }
+    }
+
+    /// The view that [`UnalignedSlice::new`] makes of the first `len` items of the bytes, or `None`
+    /// exactly where the bytes have no room for them. Takes no memory.
+    pub fn try_new(bytes: &'a [u8], len: usize) -> Option<Self>
+        ensures fits { IsSome result ↔ (len * T.SIZE ≤ length bytes.now) }
+        ensures items { IfSome result (λ slice. items_of slice ≡ packed_items T.SIZE len bytes.now) }
+        ensures len { IfSome result (λ slice. length (items_of slice) ≡ len) }
+        ensures each { IfSome result (λ slice. (i : ℕ) → i < len → slice_get (items_of slice) i
+            ≡ Some (little_endian (slice_range bytes.now (i * T.SIZE) (i * T.SIZE + T.SIZE)))) }
+    {
+        if UnalignedSlice::<T>::fits(bytes, len) {
+            Some(UnalignedSlice::new(bytes, len))
+        } else {
+            None
         }
     }
 
@@ -151,15 +167,6 @@ impl<'a, T: Packed> UnalignedSlice<'a, T> {
         UnalignedSliceIter { rest: *self }
     }
 
-    /// The items in order, each once, and then `None` for ever. Takes no memory.
-    pub fn into_iter(self) -> UnalignedSliceIntoIter<'a, T>
-        ensures same { into_iter_items_left result ≡ items_of self.entry }
-        ensures bound { length (into_iter_items_left result) < 2 ^ 64 }
-        ensures runs { GivesEach T.number into_iter_items_left result }
-    {
-        UnalignedSliceIntoIter { items: self.iter() }
-    }
-
     /// Writes the items into `dest`, which has to have as many places as there are items. One pass;
     /// takes no memory.
     pub fn copy_to(&self, dest: &mut [T])
@@ -181,6 +188,22 @@ impl<'a, T: Packed> UnalignedSlice<'a, T> {
             items.push(item)?;
         }
         Ok(items)
+    }
+}
+
+/// The items in order, each once, and then `None` for ever. Takes no memory.
+impl<'a, T: Packed> IntoIterator for UnalignedSlice<'a, T> {
+    type Item = T;
+
+    type IntoIter = UnalignedSliceIntoIter<'a, T>;
+
+    ghost use Rattle.uefi_text.specs.Runs.{GivesAll};
+    ghost use Rattle.uefi_text.specs.Views.{into_iter_items_left, items_of};
+
+    ghost into_iter_gives = { λ slice iter. GivesAll T.number into_iter_items_left iter (items_of slice) };
+
+    fn into_iter(self) -> UnalignedSliceIntoIter<'a, T> {
+        UnalignedSliceIntoIter { items: self.iter() }
     }
 }
 
@@ -285,13 +308,28 @@ fn refusal_in_buffer(error: FromSliceWithNulError) -> UnalignedCStr16Error
 
 /// Packed code units as strings.
 impl<'a> UnalignedSlice<'a, u16> {
-    ghost use Rattle.std.specs.Prelude.{None, drop, unwrap_or, ◌++◌};
+    ghost use Rattle.std.specs.Prelude.{None, drop, unwrap_or, ◌++◌, ◌%◌};
     ghost use Rattle.std.specs.Result.{result_err};
     ghost use Rattle.uefi_text_encodings.specs.FromSliceWithNul.{with_nul_refusal};
     ghost use Rattle.uefi_text_encodings.specs.UnalignedCStr16.{unaligned_refusal, with_prefix};
-    ghost use Rattle.std.specs.Prelude.{OnOk};
-    ghost use Rattle.uefi_text_chars.specs.Units.{IsString, deciding_place, nul_terminated};
+    ghost use Rattle.std.specs.Prelude.{IsOk, OnOk};
+    ghost use Rattle.uefi_text_encodings.specs.UnitBytes.{unit_bytes, units_of_bytes};
+    ghost use Rattle.uefi_text_chars.specs.Units.{IsString, IsText, deciding_place, nul_terminated};
     ghost use Rattle.uefi_text.specs.Views.{items_of, text_of};
+
+    /// The code units that all of the bytes encode, two bytes for each, the low one first; `None`
+    /// exactly where the bytes are odd in number. Takes no memory.
+    pub fn from_unit_bytes(bytes: &'a [u8]) -> Option<Self>
+        ensures even { IsSome result ↔ (length bytes.now % 2 ≡ 0) }
+        ensures items { IfSome result (λ slice. items_of slice ≡ units_of_bytes bytes.now) }
+        ensures bytes { IfSome result (λ slice. unit_bytes (items_of slice) ≡ bytes.now) }
+    {
+        if bytes.len() % 2 == 0 {
+            Some(UnalignedSlice::new(bytes, bytes.len() / 2))
+        } else {
+            None
+        }
+    }
 
     /// The place of the first NUL or surrogate.
     fn find_deciding_place(&self) -> Option<usize>
@@ -328,6 +366,12 @@ impl<'a> UnalignedSlice<'a, u16> {
     ) -> Result<CString16<A>, FromSliceWithNulError>
         ensures ok { IfOk result (λ string. nul_terminated string ≡ items_of self.now) }
         ensures accepted { IfOk result (λ _. with_nul_refusal (items_of self.now) ≡ None) }
+        ensures is_string { IfOk result (λ _. IsString (items_of self.now)) }
+        ensures is_text { IfOk result (λ string. IsText string) }
+        ensures memory { IfErr result (λ error.
+            (error ≡ FromSliceWithNulError.OutOfMemory) ↔ IsString (items_of self.now)) }
+        ensures unrefused { IfErr result (λ error. error ≡ FromSliceWithNulError.OutOfMemory
+            → with_nul_refusal (items_of self.now) ≡ None) }
         ensures refusal { IfErr result (λ error.
             error ≡ unwrap_or (with_nul_refusal (items_of self.now)) FromSliceWithNulError.OutOfMemory) }
     {
@@ -356,6 +400,8 @@ impl<'a> UnalignedSlice<'a, u16> {
         ensures buffer { buffer.new ≡ with_prefix (items_of self.now) buffer.old }
         ensures refusal { result_err result ≡ unaligned_refusal (items_of self.now) (length buffer.old) }
         ensures accepted { OnOk result (IsString (items_of self.now)) }
+        ensures accepts { IsOk result
+            ↔ (IsString (items_of self.now) × (length (items_of self.now) ≤ length buffer.old)) }
     {
         let len = self.len();
         if buffer.len() < len {
@@ -373,6 +419,8 @@ impl<'a> UnalignedSlice<'a, u16> {
     /// holds. Takes no memory.
     pub fn to_cstr16<'b>(&self, buffer: &'b mut [u16]) -> Result<CStr16<'b>, UnalignedCStr16Error>
         ensures ok { IfOk result (λ string. nul_terminated (text_of string) ≡ items_of self.now) }
+        ensures accepts { IsOk result
+            ↔ (IsString (items_of self.now) × (length (items_of self.now) ≤ length buffer.old)) }
         ensures refusal { result_err result ≡ unaligned_refusal (items_of self.now) (length buffer.old) }
     {
         self.write_cstr16(buffer)?;
@@ -388,11 +436,11 @@ fn ends_in_nul(bytes: &[u8]) -> bool
 }
 
 impl<'a> CStr16<'a> {
-    ghost use Rattle.std.specs.Prelude.{None, unwrap_or};
+    ghost use Rattle.std.specs.Prelude.{List, None, unwrap_or, IsOk};
     ghost use Rattle.std.specs.Result.{result_err};
     ghost use Rattle.uefi_text_encodings.specs.UnalignedCStr16.{unaligned_refusal};
-    ghost use Rattle.uefi_text_encodings.specs.UnitBytes.{unit_bytes, unit_bytes_refusal};
-    ghost use Rattle.uefi_text_chars.specs.Units.{nul_terminated};
+    ghost use Rattle.uefi_text_encodings.specs.UnitBytes.{BytesEncode, unit_bytes, unit_bytes_refusal};
+    ghost use Rattle.uefi_text_chars.specs.Units.{IsString, nul_terminated};
     ghost use Rattle.uefi_text.specs.Views.{items_of, text_of};
 
     /// The string that bytes encode from wherever they lie, two for each code unit, the low one first,
@@ -408,6 +456,9 @@ impl<'a> CStr16<'a> {
     ) -> Result<CString16<A>, FromSliceWithNulError>
         ensures ok { IfOk result (λ string. bytes.now ≡ unit_bytes (nul_terminated string)) }
         ensures accepted { IfOk result (λ _. unit_bytes_refusal bytes.now ≡ None) }
+        ensures encodes { IfOk result (λ string. BytesEncode bytes.now string) }
+        ensures memory { IfErr result (λ error. (error ≡ FromSliceWithNulError.OutOfMemory)
+            ↔ ((text : List ℕ) × BytesEncode bytes.now text)) }
         ensures refusal { IfErr result (λ error.
             error ≡ unwrap_or (unit_bytes_refusal bytes.now) FromSliceWithNulError.OutOfMemory) }
     {
@@ -423,6 +474,8 @@ impl<'a> CStr16<'a> {
         buffer: &'a mut [u16],
     ) -> Result<CStr16<'a>, UnalignedCStr16Error>
         ensures ok { IfOk result (λ string. nul_terminated (text_of string) ≡ items_of source.now) }
+        ensures accepts { IsOk result
+            ↔ (IsString (items_of source.now) × (length (items_of source.now) ≤ length buffer.old)) }
         ensures refusal { result_err result ≡ unaligned_refusal (items_of source.now) (length buffer.old) }
     {
         source.to_cstr16(buffer)
@@ -432,7 +485,7 @@ impl<'a> CStr16<'a> {
 impl<A: Allocator> CString16<A> {
     ghost use Rattle.std.specs.Prelude.{None, unwrap_or};
     ghost use Rattle.uefi_text_encodings.specs.FromSliceWithNul.{with_nul_refusal};
-    ghost use Rattle.uefi_text_chars.specs.Units.{nul_terminated};
+    ghost use Rattle.uefi_text_chars.specs.Units.{IsString, nul_terminated};
     ghost use Rattle.uefi_text.specs.Views.{items_of};
 
     /// As [`UnalignedSlice::to_cstring16`], with one request for memory.
@@ -442,6 +495,9 @@ impl<A: Allocator> CString16<A> {
     ) -> Result<Self, FromSliceWithNulError>
         ensures ok { IfOk result (λ string. nul_terminated string ≡ items_of source.now) }
         ensures accepted { IfOk result (λ _. with_nul_refusal (items_of source.now) ≡ None) }
+        ensures is_string { IfOk result (λ _. IsString (items_of source.now)) }
+        ensures memory { IfErr result (λ error.
+            (error ≡ FromSliceWithNulError.OutOfMemory) ↔ IsString (items_of source.now)) }
         ensures refusal { IfErr result (λ error. error
             ≡ unwrap_or (with_nul_refusal (items_of source.now)) FromSliceWithNulError.OutOfMemory) }
     {

@@ -3,7 +3,7 @@ use Rattle.std.specs.Char.{IsScalar}
 use Rattle.std.specs.List.{find, list_any}
 use Rattle.std.specs.Option.{unwrap_or}
 use Rattle.std.specs.Result.{IsOk, result_err}
-use Rattle.std.proofs.Common.{◌≡◌, ◌≢◌, ◌↔◌, ℕ, zero, suc, ◌+◌, ◌-◌, ◌<◌, ◌==◌, ◌^◌, ◌∙◌, if◌then◌else◌, Bool, ap, sym, refl, subst, true, false, All, List, [], ◌∷◌, ◌++◌, append_assoc, length, get_or, take, drop, None, Option, Some, Ok, Err, Result, position, Contains, inl, inr, arith}
+use Rattle.std.proofs.Common.{◌≡◌, ◌≢◌, ◌↔◌, ℕ, zero, suc, ◌+◌, ◌<◌, ◌==◌, ◌^◌, ◌∙◌, if◌then◌else◌, Bool, ap, sym, refl, true, false, All, List, [], ◌∷◌, ◌++◌, append_assoc, length, get_or, take, drop, None, Option, Some, Ok, Err, Result, position, Contains, inl, inr, arith}
 use Rattle.std.proofs.lemmas.Bool.{cases_Bool, false≢true, lt-ltb}
 use Rattle.std.proofs.lemmas.List.{get_or_append_left, length-append, take-append-drop, take_more}
 use Rattle.std.proofs.lemmas.List.Elements.{All-head, All-tail, All-weaker}
@@ -12,10 +12,10 @@ use Rattle.std.proofs.lemmas.Grind.{common_steps}
 use Rattle.std.proofs.Math.Seq.{get_or-append_seam}
 use Rattle.std.proofs.Math.Utf8.{scalar, scalars}
 use Rattle.uefi_text_chars.specs.Units.{BeginsWithString, IsChar16, IsNulTerminated, IsString, IsText, IsTextUnit, deciding_place, is_deciding, is_nul, nul_terminated, without_nul}
-use Rattle.uefi_text_encodings.specs.FromSliceUntilNul.{missing_nul_refusal, missing_nul_refusal_at, until_nul_refusal, until_nul_refusal_at}
+use Rattle.uefi_text_encodings.specs.FromSliceUntilNul.{missing_nul_refusal, missing_nul_refusal_at, until_nul_refusal}
 use Rattle.uefi_text_encodings.specs.FromSliceWithNul.{first_nul_refusal, first_nul_refusal_at, with_nul_refusal}
 use Rattle.uefi_text_encodings.specs.FromStr.{from_str_refusal, is_deciding_char, refusal_of_char}
-use Rattle.uefi_text_encodings.specs.FromStrWithBuf.{from_str_with_buf_refusal, from_str_with_buf_refusal_at, utf16}
+use Rattle.uefi_text_encodings.specs.FromStrWithBuf.{from_str_with_buf_refusal, utf16}
 use Rattle.uefi_text_encodings.specs.Packed.{IsByte}
 use Rattle.uefi_text_encodings.specs.UnitBytes.{BytesEncode, ends_in_nul, unit_bytes_refusal, units_of_bytes}
 use Rattle.uefi_text_encodings.specs.declared.errors.FromSliceUntilNulError.{FromSliceUntilNulError}

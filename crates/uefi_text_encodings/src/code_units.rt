@@ -1,9 +1,10 @@
 //! Code units of Rust texts: in a vector, where the text is one of UCS-2, or in a buffer.
 ghost use Rattle.std.specs.Prelude.{◌≡◌, ◌+◌, ◌<◌, ◌++◌, if◌then◌else◌, None, Some, drop, find, length, take, unwrap_or, IfOk, IfErr};
+ghost use Rattle.std.specs.Option.{SomeIff};
 ghost use Rattle.std.specs.Char.Escape.{encode_utf16};
 ghost use Rattle.std.specs.Result.{result_err};
 ghost use Rattle.std.specs.Str.{chars};
-ghost use Rattle.uefi_text_chars.specs.Units.{nul_terminated};
+ghost use Rattle.uefi_text_chars.specs.Units.{IsText, nul_terminated};
 ghost use Rattle.uefi_text_encodings.specs.FromStr.{is_deciding_char, from_str_refusal};
 ghost use Rattle.uefi_text_encodings.specs.FromStrWithBuf.{from_str_with_buf_refusal, refusal_of_char_at, with_text, with_units};
 
@@ -27,6 +28,17 @@ fn find_deciding_char_by_char(text: &str) -> Option<char>
     ensures { result ≡ find is_deciding_char (chars text.now) }
 {
     text.chars().find(|c| *c == '\0' || *c > '\u{ffff}')
+}
+
+/// How many units a text of UCS-2 has, which is how many characters; `None` exactly for other texts.
+pub fn text_len(text: &str) -> Option<usize>
+    ensures { SomeIff result (IsText (chars text.now)) (length (chars text.now)) }
+{
+    let refused = find_deciding_char(text);
+    match refused {
+        Some(_) => None,
+        None => Some(text.chars().count()),
+    }
 }
 
 /// The units of ASCII bytes without NUL, and a NUL.

@@ -1,7 +1,7 @@
 //! Latin-1: strings of it that are borrowed, and the calls on Rust texts of it.
 #![tactic(auto, unfolding(crate::specs::Views::bytes_of))]
 
-ghost use Rattle.std.specs.Prelude.{◌≡◌, ◌≢◌, ◌<◌, ◌+◌, ◌↔◌, All, length, position, IsTrue, IsOk, IfOk};
+ghost use Rattle.std.specs.Prelude.{◌≡◌, ◌≢◌, ◌<◌, ◌+◌, ◌^◌, ◌↔◌, All, length, position, IsTrue, IsOk, IfOk};
 ghost use Rattle.std.specs.Result.{result_err};
 ghost use Rattle.std.specs.Str.{chars};
 ghost use Rattle.uefi_text_chars.specs.Units.{is_nul, nul_terminated, without_nul};
@@ -193,8 +193,10 @@ pub fn has_no_nul(s: &str) -> bool
 #[tactic(auto, using(std::proofs::lemmas::Str::chars_from_encodes))]
 pub fn str_num_latin1_chars(s: &str) -> usize
     requires { IsLatin1 (chars s.now) }
-    ensures { result ≡ length (chars s.now) }
+    ensures count { result ≡ length (chars s.now) }
+    ensures bound { result + 1 < 2 ^ 64 }
 {
+    let _bytes = s.len();
     s.chars().count()
 }
 

@@ -7,5 +7,4 @@ pub mod PathCommands
 pub use Rattle.uefi_path.specs.SuccessiveParents
 pub mod Judging
 pub mod ErrorTexts
-pub mod Laws
 pub mod Streams

@@ -50,10 +50,10 @@ fn read_string<A: Allocator>(alloc: A, bytes: &[u8]) -> Result<CString16<A>, Jud
     ensures accepted { IfOk result (λ _. bytes_fault bytes.now ≡ None) }
     ensures refusal { IfErr result (λ error. IsRefusalOf bytes.now error) }
 {
-    if bytes.len() % 2 != 0 {
+    let Some(units) = UnalignedSlice::from_unit_bytes(bytes) else {
         return Err(JudgeError::HalfUnit);
-    }
-    match UnalignedSlice::new(bytes, bytes.len() / 2).to_cstring16(alloc) {
+    };
+    match units.to_cstring16(alloc) {
         Ok(string) => Ok(string),
         Err(FromSliceWithNulError::OutOfMemory) => Err(JudgeError::OutOfMemory),
         Err(error) => Err(JudgeError::Text(error)),

@@ -1,26 +1,9 @@
 //! The laws by which users reason, over the definitions that the contracts of the working calls
-//! cite. Each law is a function that does nothing: its contract is the law. Those of paths stand in
-//! [`uefi_path::laws`], and are re-exported.
-ghost use Rattle.upath.specs.Laws.{AcceptedWhereEncoded, EncodeOneText, EncodedOnce, TextWhereUnrefused, TextsAreCharacters, TextsAreEncoded};
-
+//! cite. Each law is a function that does nothing: its contract is the law. Each stands in the crate
+//! whose definitions it speaks of, and all are re-exported here.
 pub use uefi_path::laws::{
     join_components, join_congruence, join_monoid, join_then_parent, join_valid, order_agrees,
     parent_congruence, parent_count, parent_shape, parent_valid, parents_enumerate,
     push_components, split_once, validity,
 };
-
-/// Every text is encoded by exactly one list of bytes, no bytes encode two texts, and bytes are accepted
-/// exactly where they encode one: `CStr16::from_bytes_with_nul` and `CStr16::as_bytes` undo one another.
-pub fn bytes_once()
-    ensures encoded { TextsAreEncoded }
-    ensures once { EncodedOnce }
-    ensures apart { EncodeOneText }
-    ensures accepted { AcceptedWhereEncoded }
-{}
-
-/// Characters of Rust are a text exactly where none of them is refused, and each unit of a text is
-/// one: `CString16::try_from_str` and `CStr16::to_rust_string` undo one another.
-pub fn text_once()
-    ensures unrefused { TextWhereUnrefused }
-    ensures characters { TextsAreCharacters }
-{}
+pub use uefi_text::laws::{bytes_once, text_once};

@@ -1,6 +1,9 @@
 -- Characters of which the last alone is a NUL are a string.
 use Rattle.std.proofs.Common.{◌≡◌, ◌+◌, All, sym, subst, take, arith, ◌∙◌}
+use Rattle.std.proofs.lemmas.Grind.{common_steps}
 use Rattle.std.proofs.lemmas.List.{take_all}
+use Rattle.uefi_text_encodings.specs.declared.errors.FromSliceWithNulError.TheVariants.{InteriorNul, NotNulTerminated, OutOfMemory}
+use Rattle.uefi_text_encodings.proofs.Accepting.{first_nul-memory}
 use Rattle.uefi_text_encodings.proofs.Deciding.{IsString-characters}
 use Rattle.uefi_text_chars.specs.Units.{IsChar16, IsString}
 use Rattle.uefi_text.proofs.strs.CStr16.from_char16_with_nul.Goals as goal
@@ -18,3 +21,16 @@ invariant_of-result = is_string
 
 pub returns-in-Ok-clause-ok : goal.returns-in-Ok-clause-ok
 returns-in-Ok-clause-ok g c = sym (is_string g c).0 ∙ c.in-Ok.ensures.same
+
+pub returns-in-Ok-clause-is_string : goal.returns-in-Ok-clause-is_string
+returns-in-Ok-clause-is_string g c = subst IsString c.in-Ok.ensures.same (is_string g c)
+
+pub returns-in_default-clause-memory : goal.returns-in_default-clause-memory
+returns-in_default-clause-memory g c = first_nul-memory c.args.characters.now NotNulTerminated (grind (arith, common_steps))
+
+pub returns-then-place-characters-clause-memory : goal.returns-then-place-characters-clause-memory
+returns-then-place-characters-clause-memory g c =
+    first_nul-memory c.args.characters.now (InteriorNul c.in-Some.place) (grind (arith, common_steps))
+
+pub returns-in-Err-clause-memory : goal.returns-in-Err-clause-memory
+returns-in-Err-clause-memory g c = first_nul-memory c.args.characters.now OutOfMemory (grind (arith, common_steps))

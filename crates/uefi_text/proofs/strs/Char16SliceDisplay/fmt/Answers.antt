@@ -4,7 +4,7 @@ use Rattle.std.specs.Prelude.{encode_utf8, encode_utf8_all}
 use Rattle.std.proofs.Output.{has_written_append, has_written_of_eq}
 use Rattle.std.proofs.lemmas.Grind.{common_steps}
 use Rattle.uefi_text_encodings.proofs.Printed.{encode_utf8_all-push}
-use Rattle.uefi_text.proofs.strs.CStr16Display.fmt.Goals as goal
+use Rattle.uefi_text.proofs.strs.Char16SliceDisplay.fmt.Goals as goal
 
 pub loop-character-preserved : goal.loop-character-preserved
 loop-character-preserved g c =

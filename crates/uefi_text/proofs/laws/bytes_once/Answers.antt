@@ -1,8 +1,8 @@
 use Rattle.std.proofs.Common.{sym, ◌∙◌, refl}
-use Rattle.uefi_text.proofs.UnitBytes.{accepted_encodes, encoded_accepted, encoded_apart}
-use Rattle.uefi_text.specs.UnitBytes.{unit_bytes}
-use Rattle.uefi_text.specs.Units.{nul_terminated}
-use Rattle.upath.proofs.laws.bytes_once.Goals as goal
+use Rattle.uefi_text_encodings.proofs.UnitBytes.{accepted_encodes, encoded_accepted, encoded_apart}
+use Rattle.uefi_text_encodings.specs.UnitBytes.{unit_bytes}
+use Rattle.uefi_text_chars.specs.Units.{nul_terminated}
+use Rattle.uefi_text.proofs.laws.bytes_once.Goals as goal
 
 pub returns-clause-encoded : goal.returns-clause-encoded
 returns-clause-encoded c text is_text = (unit_bytes (nul_terminated text), (is_text, refl))

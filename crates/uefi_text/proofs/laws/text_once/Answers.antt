@@ -1,5 +1,5 @@
-use Rattle.uefi_text.proofs.Texts.{IsText-unrefused, characters-IsText}
-use Rattle.upath.proofs.laws.text_once.Goals as goal
+use Rattle.uefi_text_encodings.proofs.Texts.{IsText-unrefused, characters-IsText}
+use Rattle.uefi_text.proofs.laws.text_once.Goals as goal
 
 pub returns-clause-unrefused : goal.returns-clause-unrefused
 returns-clause-unrefused c characters are_characters = IsText-unrefused characters are_characters

@@ -1,0 +1,42 @@
+-- The characters stand where the NUL stood, before a new one.
+use Rattle.std.proofs.Common.{◌≡◌, ◌∙◌, [], ◌∷◌, ◌++◌, append_assoc, ap, sym, take, drop, length, arith}
+use Rattle.std.specs.Str.{chars, encode_utf8_all}
+use Rattle.std.proofs.lemmas.Grind.{common_steps}
+use Rattle.std.proofs.lemmas.List.Elements.{All-append}
+use Rattle.std.proofs.lemmas.Str.{encodes-append, encodes-chars}
+use Rattle.uefi_text_chars.specs.Units.{IsTextUnit, nul_terminated, without_nul}
+use Rattle.uefi_text_encodings.proofs.Texts.{IsString-made, without_nul-nul_terminated}
+use Rattle.uefi_text.proofs.owned_strs.CString16Write.write_str.Goals as goal
+
+pub invariant_of-self-2 : goal.invariant_of-self-2
+invariant_of-self-2 g c =
+    let items = c.self.inside.units.items in
+    let text = without_nul items in
+    let cs = chars c.args.s.now in
+    let units = c.write_text_from.new.units in
+    let front : take c.num_chars-end.result c.resize.new.self.items ≡ text = grind (arith, common_steps) in
+    let of_units : units ≡ take c.num_chars-end.result c.resize.new.self.items ++ nul_terminated cs = cc in
+    let made : units ≡ nul_terminated (text ++ cs) =
+    of_units ∙ ap (λ us. us ++ nul_terminated cs) front ∙ sym (append_assoc text cs (0 ∷ [])) in
+    let whole : take c.resize.new.self.len (units ++ drop (length units) c.resize.new.self.items) ≡ units = grind (arith, common_steps) in
+    IsString-made _ (text ++ cs) (whole ∙ made) (All-append IsTextUnit text cs c.self.invariant.1 c.in-Some.ensures.0)
+
+pub returns-clause-added : goal.returns-clause-added
+returns-clause-added g c =
+    let items = c.self.inside.units.items in
+    let text = without_nul items in
+    let cs = chars c.args.s.now in
+    let units = c.write_text_from.new.units in
+    let front : take c.num_chars-end.result c.resize.new.self.items ≡ text = grind (arith, common_steps) in
+    let of_units : units ≡ take c.num_chars-end.result c.resize.new.self.items ++ nul_terminated cs = cc in
+    let made : units ≡ nul_terminated (text ++ cs) =
+    of_units ∙ ap (λ us. us ++ nul_terminated cs) front ∙ sym (append_assoc text cs (0 ∷ [])) in
+    let whole : take c.resize.new.self.len (units ++ drop (length units) c.resize.new.self.items) ≡ units = grind (arith, common_steps) in
+    ap without_nul (whole ∙ made) ∙ without_nul-nul_terminated (text ++ cs) ∙ ap (λ us. us ++ cs) c.self.view_is
+
+pub returns-clause-ok : goal.returns-clause-ok
+returns-clause-ok g c ok =
+    let old = c.args.self.now in
+    let cs = chars c.args.s.now in
+    ap encode_utf8_all (returns-clause-added g c) ∙ encodes-append old cs
+    ∙ ap (λ bs. encode_utf8_all old ++ bs) (encodes-chars c.args.s.now c.utf8.s)
