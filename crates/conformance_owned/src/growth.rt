@@ -7,7 +7,7 @@ ghost use Rattle.uefi_text.specs.Views.{text_of};
 use conformance::{Refusing, printed, string};
 use std::alloc::{AllocError, Allocator, Global};
 use std::test::Fail;
-use uefi_text::{CStr16, CString16, Char16, NUL_16};
+use uefi_text::{CStr16, CString16, Char16, Char16Slice, NUL_16};
 
 // What a caller proves of a string that it extends, with no proof of its own.
 
@@ -75,6 +75,30 @@ fn pushed_and_extended(rt: HostRuntime) -> Result<(), Fail> {
     )?;
     assert_eq!(rt; second.num_chars(), 4);
     assert!(rt; second == string(rt.alloc(), "!hi!")?);
+    Ok(())
+}
+
+/// A text after a push of characters among which a NUL may be, if there is none: what a caller tests is
+/// what the call asks for.
+fn pushed_part(
+    rt: &HostRuntime,
+    text: &str,
+    part: Char16Slice<'_>,
+) -> Result<Option<CString16>, Fail> {
+    let mut text = string(rt.alloc(), text)?;
+    if !part.has_no_nul() {
+        return Ok(None);
+    }
+    text.push_part(part)?;
+    Ok(Some(text))
+}
+
+#[test]
+fn pushed_parts(rt: HostRuntime) -> Result<(), Fail> {
+    let more = CStr16::from_u16_with_nul(&[97, 0xe9, 0])?;
+    let longer = pushed_part(&rt, "x", more.as_slice())?;
+    assert!(rt; longer == Some(string(rt.alloc(), "xaé")?));
+    assert!(rt; pushed_part(&rt, "x", more.as_slice_with_nul())?.is_none());
     Ok(())
 }
 
