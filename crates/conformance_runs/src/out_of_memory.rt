@@ -142,16 +142,9 @@ fn refusals_of(rt: &HostRuntime, call: Call<'_>, setup: u64) -> Result<Refusals,
     refused_in_turn(rt.alloc(), setup, |heap| answers(call, heap))
 }
 
-/// Whether a call makes requests, that many at least and at most, and needs each of them.
-fn needs(
-    rt: &HostRuntime,
-    call: Call<'_>,
-    setup: u64,
-    least: u64,
-    most: u64,
-) -> Result<bool, Fail> {
-    let refusals = refusals_of(rt, call, setup)?;
-    Ok(refusals.answered == 0 && least <= refusals.failed && refusals.failed <= most)
+/// Whether each refused request ended its run, and they were so many at least and at most.
+fn ended(refusals: Refusals, least: u64, most: u64) -> bool {
+    refusals.answered == 0 && least <= refusals.failed && refusals.failed <= most
 }
 
 /// One request, which comes after what the bytes are refused for and before the verdict on the path.
@@ -172,10 +165,8 @@ fn requests_for_judged_bytes(rt: HostRuntime) -> Result<(), Fail> {
         (&[], Some(open), 0),
     ];
     for (bytes, want, count) in rows {
-        assert!(rt;
-            needs(&rt, Call::Judge(bytes, want), 0, count, count)?,
-            "{bytes:?}"
-        );
+        let refusals = refusals_of(&rt, Call::Judge(bytes, want), 0)?;
+        assert!(rt; ended(refusals, count, count), "{bytes:?}");
     }
     Ok(())
 }
@@ -198,15 +189,18 @@ fn long_list<'a>(
 fn requests_of_commands(rt: HostRuntime) -> Result<(), Fail> {
     let (first, second) = (string(rt.alloc(), "a")?, string(rt.alloc(), "b")?);
     let commands = long_list(&rt, first.as_cstr16(), Path::new(second.as_cstr16()))?;
-    assert!(rt; needs(&rt, Call::RunCommands(&commands), 1, 2, 998)?);
-    assert!(rt; needs(&rt, Call::RunCommandsWithout, 1, 0, 0)?);
+    let refusals = refusals_of(&rt, Call::RunCommands(&commands), 1)?;
+    assert!(rt; ended(refusals, 2, 998));
+    let refusals = refusals_of(&rt, Call::RunCommandsWithout, 1)?;
+    assert!(rt; ended(refusals, 0, 0));
     Ok(())
 }
 
 #[test]
 fn requests_for_parents(rt: HostRuntime) -> Result<(), Fail> {
     let text = string(rt.alloc(), "a\\b\\c")?;
-    assert!(rt; needs(&rt, Call::AllParents(text.as_cstr16()), 1, 2, 98)?);
+    let refusals = refusals_of(&rt, Call::AllParents(text.as_cstr16()), 1)?;
+    assert!(rt; ended(refusals, 2, 98));
     Ok(())
 }
 
@@ -230,7 +224,9 @@ fn requests_for_components(rt: HostRuntime) -> Result<(), Fail> {
 #[test]
 fn requests_of_runs(rt: HostRuntime) -> Result<(), Fail> {
     let want = run_text(rt.alloc(), INPUT)?;
-    assert!(rt; needs(&rt, Call::RunText(&want), 0, 6, 998)?);
-    assert!(rt; needs(&rt, Call::RunStreams(rt.alloc(), &want), 0, 7, 998)?);
+    let refusals = refusals_of(&rt, Call::RunText(&want), 0)?;
+    assert!(rt; ended(refusals, 6, 998));
+    let refusals = refusals_of(&rt, Call::RunStreams(rt.alloc(), &want), 0)?;
+    assert!(rt; ended(refusals, 7, 998));
     Ok(())
 }
