@@ -125,20 +125,20 @@ fn writes(heap: &Refusing<Global>, alloc: Global, want: &[u8]) -> Result<bool, A
 }
 
 /// Whether a call gives what ample memory gives, or memory ran out.
-fn answers(call: Call<'_>, heap: &Refusing<Global>) -> Result<bool, AllocError> {
+fn answers(call: &Call<'_>, heap: &Refusing<Global>) -> Result<bool, AllocError> {
     match call {
         Call::RunCommands(commands) => runs_or_stops(heap, commands),
         Call::RunCommandsWithout => needs_no_memory(heap),
-        Call::Judge(bytes, want) => judges(heap, bytes, want),
-        Call::Pieces(path, want) => lists(heap, path, want),
-        Call::AllParents(text) => has_two_parents(heap, text),
-        Call::RunText(want) => Ok(run_text(heap, INPUT)?.as_slice() == want),
-        Call::RunStreams(alloc, want) => writes(heap, alloc, want),
+        Call::Judge(bytes, want) => judges(heap, bytes, *want),
+        Call::Pieces(path, want) => lists(heap, *path, want),
+        Call::AllParents(text) => has_two_parents(heap, *text),
+        Call::RunText(want) => Ok(run_text(heap, INPUT)?.as_slice() == *want),
+        Call::RunStreams(alloc, want) => writes(heap, *alloc, want),
     }
 }
 
 /// How the runs of a call end, each with one of its requests after the first `setup` ones refused.
-fn refusals_of(rt: &HostRuntime, call: Call<'_>, setup: u64) -> Result<Refusals, Fail> {
+fn refusals_of(rt: &HostRuntime, call: &Call<'_>, setup: u64) -> Result<Refusals, Fail> {
     refused_in_turn(rt.alloc(), setup, |heap| answers(call, heap))
 }
 
@@ -165,7 +165,7 @@ fn requests_for_judged_bytes(rt: HostRuntime) -> Result<(), Fail> {
         (&[], Some(open), 0),
     ];
     for (bytes, want, count) in rows {
-        let refusals = refusals_of(&rt, Call::Judge(bytes, want), 0)?;
+        let refusals = refusals_of(&rt, &Call::Judge(bytes, want), 0)?;
         assert!(rt; ended(refusals, count, count), "{bytes:?}");
     }
     Ok(())
@@ -189,9 +189,9 @@ fn long_list<'a>(
 fn requests_of_commands(rt: HostRuntime) -> Result<(), Fail> {
     let (first, second) = (string(rt.alloc(), "a")?, string(rt.alloc(), "b")?);
     let commands = long_list(&rt, first.as_cstr16(), Path::new(second.as_cstr16()))?;
-    let refusals = refusals_of(&rt, Call::RunCommands(&commands), 1)?;
+    let refusals = refusals_of(&rt, &Call::RunCommands(&commands), 1)?;
     assert!(rt; ended(refusals, 2, 998));
-    let refusals = refusals_of(&rt, Call::RunCommandsWithout, 1)?;
+    let refusals = refusals_of(&rt, &Call::RunCommandsWithout, 1)?;
     assert!(rt; ended(refusals, 0, 0));
     Ok(())
 }
@@ -199,7 +199,7 @@ fn requests_of_commands(rt: HostRuntime) -> Result<(), Fail> {
 #[test]
 fn requests_for_parents(rt: HostRuntime) -> Result<(), Fail> {
     let text = string(rt.alloc(), "a\\b\\c")?;
-    let refusals = refusals_of(&rt, Call::AllParents(text.as_cstr16()), 1)?;
+    let refusals = refusals_of(&rt, &Call::AllParents(text.as_cstr16()), 1)?;
     assert!(rt; ended(refusals, 2, 98));
     Ok(())
 }
@@ -209,7 +209,7 @@ fn may_do_without(rt: &HostRuntime, text: &str) -> Result<bool, Fail> {
     let text = string(rt.alloc(), text)?;
     let path = Path::new(text.as_cstr16());
     let want = pieces(rt.alloc(), path)?;
-    let refusals = refusals_of(rt, Call::Pieces(path, &want), 0)?;
+    let refusals = refusals_of(rt, &Call::Pieces(path, &want), 0)?;
     Ok(refusals.failed != 0 || refusals.answered != 0)
 }
 
@@ -224,9 +224,9 @@ fn requests_for_components(rt: HostRuntime) -> Result<(), Fail> {
 #[test]
 fn requests_of_runs(rt: HostRuntime) -> Result<(), Fail> {
     let want = run_text(rt.alloc(), INPUT)?;
-    let refusals = refusals_of(&rt, Call::RunText(&want), 0)?;
+    let refusals = refusals_of(&rt, &Call::RunText(&want), 0)?;
     assert!(rt; ended(refusals, 6, 998));
-    let refusals = refusals_of(&rt, Call::RunStreams(rt.alloc(), &want), 0)?;
+    let refusals = refusals_of(&rt, &Call::RunStreams(rt.alloc(), &want), 0)?;
     assert!(rt; ended(refusals, 7, 998));
     Ok(())
 }
