@@ -6,20 +6,19 @@ use std::test::Fail;
 use uefi_path::{Components, Path};
 use uefi_text::CString16;
 
-/// The characters of components, one after the other.
-fn run_together(rt: &HostRuntime, components: Components<'_>) -> Result<CString16, Fail> {
+/// The characters of the components of a path, one after the other.
+fn run_together(rt: &HostRuntime, path: Path<'_>) -> Result<CString16, Fail> {
     let mut text = CString16::new(rt.alloc())?;
-    for component in components {
+    for component in path.components() {
         text.push_part(component)?;
     }
     Ok(text)
 }
 
-/// Whether the components of a path run together to this, borrowed and owned.
+/// Whether the components of a path run together to this.
 fn runs_to(rt: &HostRuntime, text: &str, want: &str) -> Result<bool, Fail> {
     let (text, want) = (string(rt.alloc(), text)?, string(rt.alloc(), want)?);
-    let path = Path::new(text.as_cstr16());
-    Ok(run_together(rt, path.components())? == want)
+    Ok(run_together(rt, Path::new(text.as_cstr16()))? == want)
 }
 
 #[test]
