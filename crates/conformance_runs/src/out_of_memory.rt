@@ -1,33 +1,33 @@
 //! What programs do with paths, with each request for memory refused in turn, until a run ends with
 //! none refused, which gives what ample memory gives. All calls stand in one table.
 
-use conformance::{Refusals, Refusing, out_of_memory, refused_in_turn, string};
+use conformance::{Refusals, Refusing, out_of_memory, refused_in_turn};
 use std::alloc::{AllocError, Global};
 use std::test::Fail;
 use uefi_path::{Path, PathBuf, PathError};
-use uefi_text::{CStr16, Char16, Char16Slice, FromSliceWithNulError};
+use uefi_text::{CStr16, Char16, FromSliceWithNulError};
 use upath::{
     JudgeError, PathCommand, RunFault, StreamFault, all_parents, judge, pieces, run_commands,
     run_streams, run_text,
 };
 
-/// A call that takes memory, or is refused before it does, and what it is given.
+/// A call that takes memory, or is refused before it does, and what it is given. Units have their NUL.
 #[derive(Clone, Copy)]
 enum Call<'a> {
     /// One command that sets the path `a`, and 64 that push `b`.
-    RunCommands(&'a [PathCommand<'a>]),
+    RunCommands,
     /// Commands that take none.
     RunCommandsWithout,
     /// Bytes, and why they are no path, if they are none.
     Judge(&'a [u8], Option<JudgeError>),
-    /// A path, and its components.
-    Pieces(Path<'a>, &'a [Char16Slice<'a>]),
-    /// A path of three components.
-    AllParents(CStr16<'a>),
+    /// The units of a path, and a heap for what is compared.
+    Pieces(&'a [u16], Global),
+    /// The units of a path of three components.
+    AllParents(&'a [u16]),
     /// What the run prints.
     RunText(&'a [u8]),
-    /// What the run writes to a vector over this heap.
-    RunStreams(Global, &'a [u8]),
+    /// What the run writes, and a heap for that.
+    RunStreams(&'a [u8], Global),
 }
 
 /// Whether units are `a` and `\\b` after it, again and again, `count` components in all.
@@ -43,12 +43,17 @@ fn are_components(units: &[u16], count: usize) -> bool {
 }
 
 /// Whether the commands of a long list are done, or the path is what those that were done made of it.
-fn runs_or_stops(
-    heap: &Refusing<Global>,
-    commands: &[PathCommand<'_>],
-) -> Result<bool, AllocError> {
+fn runs_or_stops(heap: &Refusing<Global>) -> Result<bool, AllocError> {
+    let (Ok(first), Ok(second)) = (
+        CStr16::from_u16_with_nul(&[97, 0]),
+        CStr16::from_u16_with_nul(&[98, 0]),
+    ) else {
+        return Ok(false);
+    };
+    let mut commands = [PathCommand::Push(Path::new(second)); 65];
+    commands[0] = PathCommand::From(first);
     let mut path = PathBuf::new(heap)?;
-    let answer = run_commands(heap, &mut path, commands);
+    let answer = run_commands(heap, &mut path, &commands);
     let units = path.to_cstr16().to_u16_slice();
     match answer {
         Ok(()) => Ok(are_components(units, 65)),
@@ -89,17 +94,20 @@ fn judges(
     }
 }
 
-/// Whether the components of a path are these.
-fn lists(
-    heap: &Refusing<Global>,
-    path: Path<'_>,
-    want: &[Char16Slice<'_>],
-) -> Result<bool, AllocError> {
-    Ok(pieces(heap, path)?.as_slice() == want)
+/// Whether the components of a path are those that ample memory gives.
+fn lists(heap: &Refusing<Global>, units: &[u16], alloc: Global) -> Result<bool, AllocError> {
+    let Ok(text) = CStr16::from_u16_with_nul(units) else {
+        return Ok(false);
+    };
+    let want = pieces(alloc, Path::new(text))?;
+    Ok(pieces(heap, Path::new(text))?.as_slice() == want.as_slice())
 }
 
-/// Whether the path of a text has two parents and is unchanged.
-fn has_two_parents(heap: &Refusing<Global>, text: CStr16<'_>) -> Result<bool, AllocError> {
+/// Whether a path has two parents and is unchanged.
+fn has_two_parents(heap: &Refusing<Global>, units: &[u16]) -> Result<bool, AllocError> {
+    let Ok(text) = CStr16::from_u16_with_nul(units) else {
+        return Ok(false);
+    };
     let path = PathBuf::from(heap, text)?;
     let answer = all_parents(heap, &path);
     let is_unchanged = path.to_cstr16() == text;
@@ -114,7 +122,7 @@ const INPUT: &[u8] =
       \xff\npush b\njoin c/d\nup\nparent\ncmp a\ncheck\nclear\ncheck\n";
 
 /// Whether a run over streams writes this, or nothing where memory ran out.
-fn writes(heap: &Refusing<Global>, alloc: Global, want: &[u8]) -> Result<bool, AllocError> {
+fn writes(heap: &Refusing<Global>, want: &[u8], alloc: Global) -> Result<bool, AllocError> {
     let mut reader: &[u8] = INPUT;
     let mut writer = Vec::new(alloc);
     match run_streams(heap, &mut reader, &mut writer) {
@@ -127,13 +135,13 @@ fn writes(heap: &Refusing<Global>, alloc: Global, want: &[u8]) -> Result<bool, A
 /// Whether a call gives what ample memory gives, or memory ran out.
 fn answers(call: &Call<'_>, heap: &Refusing<Global>) -> Result<bool, AllocError> {
     match call {
-        Call::RunCommands(commands) => runs_or_stops(heap, commands),
+        Call::RunCommands => runs_or_stops(heap),
         Call::RunCommandsWithout => needs_no_memory(heap),
         Call::Judge(bytes, want) => judges(heap, bytes, *want),
-        Call::Pieces(path, want) => lists(heap, *path, want),
-        Call::AllParents(text) => has_two_parents(heap, *text),
+        Call::Pieces(units, alloc) => lists(heap, units, *alloc),
+        Call::AllParents(units) => has_two_parents(heap, units),
         Call::RunText(want) => Ok(run_text(heap, INPUT)?.as_slice() == *want),
-        Call::RunStreams(alloc, want) => writes(heap, *alloc, want),
+        Call::RunStreams(want, alloc) => writes(heap, want, *alloc),
     }
 }
 
@@ -142,7 +150,7 @@ fn refusals_of(rt: &HostRuntime, call: &Call<'_>, setup: u64) -> Result<Refusals
     refused_in_turn(rt.alloc(), setup, |heap| answers(call, heap))
 }
 
-/// Whether each refused request ended its run, and they were so many at least and at most.
+/// Whether each refused request ended its run, and how many there were is within these bounds.
 fn ended(refusals: Refusals, least: u64, most: u64) -> bool {
     refusals.answered == 0 && least <= refusals.failed && refusals.failed <= most
 }
@@ -171,25 +179,9 @@ fn requests_for_judged_bytes(rt: HostRuntime) -> Result<(), Fail> {
     Ok(())
 }
 
-/// One command that sets a path, and 64 that push to it.
-fn long_list<'a>(
-    rt: &HostRuntime,
-    first: CStr16<'a>,
-    second: Path<'a>,
-) -> Result<Vec<PathCommand<'a>>, Fail> {
-    let mut commands = Vec::new(rt.alloc());
-    commands.push(PathCommand::From(first))?;
-    for _ in 0..64 {
-        commands.push(PathCommand::Push(second))?;
-    }
-    Ok(commands)
-}
-
 #[test]
 fn requests_of_commands(rt: HostRuntime) -> Result<(), Fail> {
-    let (first, second) = (string(rt.alloc(), "a")?, string(rt.alloc(), "b")?);
-    let commands = long_list(&rt, first.as_cstr16(), Path::new(second.as_cstr16()))?;
-    let refusals = refusals_of(&rt, &Call::RunCommands(&commands), 1)?;
+    let refusals = refusals_of(&rt, &Call::RunCommands, 1)?;
     assert!(rt; ended(refusals, 2, 998));
     let refusals = refusals_of(&rt, &Call::RunCommandsWithout, 1)?;
     assert!(rt; ended(refusals, 0, 0));
@@ -198,25 +190,21 @@ fn requests_of_commands(rt: HostRuntime) -> Result<(), Fail> {
 
 #[test]
 fn requests_for_parents(rt: HostRuntime) -> Result<(), Fail> {
-    let text = string(rt.alloc(), "a\\b\\c")?;
-    let refusals = refusals_of(&rt, &Call::AllParents(text.as_cstr16()), 1)?;
+    let refusals = refusals_of(&rt, &Call::AllParents(&[97, 92, 98, 92, 99, 0]), 1)?;
     assert!(rt; ended(refusals, 2, 98));
     Ok(())
 }
 
 /// A list that is refused room to grow asks once more, for less, so a refusal need not end it.
-fn may_do_without(rt: &HostRuntime, text: &str) -> Result<bool, Fail> {
-    let text = string(rt.alloc(), text)?;
-    let path = Path::new(text.as_cstr16());
-    let want = pieces(rt.alloc(), path)?;
-    let refusals = refusals_of(rt, &Call::Pieces(path, &want), 0)?;
-    Ok(refusals.failed != 0 || refusals.answered != 0)
-}
-
 #[test]
 fn requests_for_components(rt: HostRuntime) -> Result<(), Fail> {
-    for text in ["ab\\c", "a\\b\\c\\d\\e\\f\\g\\h\\i\\j\\k\\l"] {
-        assert!(rt; may_do_without(&rt, text)?, "{text}");
+    let rows: [&[u16]; 2] = [
+        &[97, 98, 92, 99, 0],
+        &[97, 92, 92, 92, 92, 92, 92, 92, 92, 92, 92, 98, 0],
+    ];
+    for units in rows {
+        let refusals = refusals_of(&rt, &Call::Pieces(units, rt.alloc()), 0)?;
+        assert!(rt; refusals.failed != 0 || refusals.answered != 0, "{units:?}");
     }
     Ok(())
 }
@@ -226,7 +214,7 @@ fn requests_of_runs(rt: HostRuntime) -> Result<(), Fail> {
     let want = run_text(rt.alloc(), INPUT)?;
     let refusals = refusals_of(&rt, &Call::RunText(&want), 0)?;
     assert!(rt; ended(refusals, 6, 998));
-    let refusals = refusals_of(&rt, &Call::RunStreams(rt.alloc(), &want), 0)?;
+    let refusals = refusals_of(&rt, &Call::RunStreams(&want, rt.alloc()), 0)?;
     assert!(rt; ended(refusals, 7, 998));
     Ok(())
 }
