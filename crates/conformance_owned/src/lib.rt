@@ -1,5 +1,5 @@
-//! Tests of owned strings, of packed numbers, and of the strings that packed code units encode: growth,
-//! copies, order, keys of maps, and each request for memory refused in turn.
+//! Tests of owned strings: growth, copies, order, keys of maps, and each request for memory refused in
+//! turn, those of packed numbers too.
 #![tactic(auto)]
 
 #[cfg(test)]
@@ -12,11 +12,5 @@ mod long_texts;
 mod out_of_memory;
 #[cfg(test)]
 mod owned;
-#[cfg(test)]
-mod packed;
-#[cfg(test)]
-mod packed_chains;
-#[cfg(test)]
-mod packed_strings;
 #[cfg(test)]
 mod written;

@@ -1,17 +1,12 @@
-//! Tests of characters and of borrowed strings: what code units, bytes and Rust texts become strings
-//! or are refused, and what strings give back.
+//! Tests of borrowed strings: what code units, bytes and Rust texts become strings or are refused, and
+//! what strings give back.
 //!
-//! Strings that own their memory and packed numbers stand in `conformance_owned`.
+//! Characters and Latin-1 stand in `conformance_characters`, strings that own their memory in
+//! `conformance_owned`.
 #![tactic(auto)]
 
 #[cfg(test)]
-mod characters;
-#[cfg(test)]
 mod conversions;
-#[cfg(test)]
-mod error_texts;
-#[cfg(test)]
-mod latin1;
 #[cfg(test)]
 mod long_texts;
 #[cfg(test)]

@@ -396,10 +396,10 @@ impl<'a> UnalignedSlice<'a, u16> {
     /// A buffer of fewer places than there are items is `BufferTooSmall` and stays unchanged. Else
     /// its prefix holds the items, what stands after them stays, and the first item that is a NUL
     /// or a surrogate decides, as in [`CStr16::from_u16_with_nul`]. Takes no memory.
+    #[tactic(auto)]
     pub fn write_cstr16(&self, buffer: &mut [u16]) -> Result<(), UnalignedCStr16Error>
         ensures buffer { buffer.new ≡ with_prefix (items_of self.now) buffer.old }
         ensures refusal { result_err result ≡ unaligned_refusal (items_of self.now) (length buffer.old) }
-        ensures accepted { OnOk result (IsString (items_of self.now)) }
         ensures accepts { IsOk result
             ↔ (IsString (items_of self.now) × (length (items_of self.now) ≤ length buffer.old)) }
     {

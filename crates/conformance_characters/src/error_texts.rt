@@ -2,9 +2,10 @@
 
 use std::error::Error;
 use std::test::Fail;
-use uefi_text::{
-    CharConversionError, FromSliceUntilNulError, FromSliceWithNulError, FromStrError,
-    FromStrWithBufError, UnalignedCStr16Error,
+use uefi_text_chars::CharConversionError;
+use uefi_text_encodings::errors::{
+    FromSliceUntilNulError, FromSliceWithNulError, FromStrError, FromStrWithBufError,
+    UnalignedCStr16Error,
 };
 
 /// Whether an error prints this.

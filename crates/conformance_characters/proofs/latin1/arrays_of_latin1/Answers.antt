@@ -2,7 +2,7 @@
 use Rattle.std.proofs.Common.{◌≡◌, [], ◌∷◌, refl, arith}
 use Rattle.std.specs.Str.{chars}
 use Rattle.std.proofs.lemmas.Grind.{common_steps}
-use Rattle.conformance_text.proofs.latin1.arrays_of_latin1.Goals as goal
+use Rattle.conformance_characters.proofs.latin1.arrays_of_latin1.Goals as goal
 
 pub str_to_latin1-requires : goal.str_to_latin1-requires
 unfolding chars

@@ -1,0 +1,12 @@
+//! Tests of packed numbers: one by one, in chains of iterators, and as the strings that packed code
+//! units encode.
+//!
+//! Their requests for memory stand in `conformance_owned`, in one table with those of strings.
+#![tactic(auto)]
+
+#[cfg(test)]
+mod packed;
+#[cfg(test)]
+mod packed_chains;
+#[cfg(test)]
+mod packed_strings;
