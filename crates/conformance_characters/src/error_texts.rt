@@ -2,7 +2,7 @@
 
 use std::error::Error;
 use std::test::Fail;
-use uefi_text_chars::CharConversionError;
+use uefi_text_encodings::chars::CharConversionError;
 use uefi_text_encodings::errors::{
     FromSliceUntilNulError, FromSliceWithNulError, FromStrError, FromStrWithBufError,
     UnalignedCStr16Error,

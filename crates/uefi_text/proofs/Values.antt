@@ -4,7 +4,7 @@ use Rattle.std.proofs.Common.{◌≡◌, ◌≢◌, ◌∙◌, ℕ, All, List, [
 use Rattle.std.proofs.lemmas.Bool.{cases_Bool}
 use Rattle.std.proofs.lemmas.Grind.{common_steps}
 use Rattle.std.proofs.lemmas.List.Elements.{All-cons, All-nil, All-weaker}
-use Rattle.uefi_text_chars.specs.Units.{IsText, IsTextUnit, is_nul}
+use Rattle.uefi_text_encodings.specs.Units.{IsText, IsTextUnit, is_nul}
 use Rattle.uefi_text_encodings.specs.FromStr.{from_str_refusal}
 use Rattle.uefi_text_encodings.specs.declared.errors.FromStrError.TheVariants.{InteriorNul}
 use Rattle.uefi_text_encodings.proofs.Accepting.{from_str-characters}

@@ -1,7 +1,7 @@
 -- The laws of strings, over the definitions that contracts of working calls cite.
 use Rattle.std.specs.Prelude.{◌≡◌, ◌↔◌, ℕ, All, List, None}
 use Rattle.std.specs.Char.{IsScalar}
-use Rattle.uefi_text_chars.specs.Units.{IsText}
+use Rattle.uefi_text_encodings.specs.Units.{IsText}
 use Rattle.uefi_text_encodings.specs.FromStr.{from_str_refusal}
 use Rattle.uefi_text_encodings.specs.Packed.{IsByte}
 use Rattle.uefi_text_encodings.specs.UnitBytes.{BytesEncode, unit_bytes_refusal}

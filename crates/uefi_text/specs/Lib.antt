@@ -1,4 +1,4 @@
-pub use Rattle.uefi_text_chars.specs.Units
+pub use Rattle.uefi_text_encodings.specs.Units
 pub use Rattle.uefi_text_encodings.specs.Latin1
 pub use Rattle.uefi_text_encodings.specs.FromSliceUntilNul
 pub use Rattle.uefi_text_encodings.specs.FromSliceWithNul

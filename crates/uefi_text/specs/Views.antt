@@ -2,7 +2,7 @@
 use Rattle.std.specs.Prelude.{ℕ, List}
 use Rattle.uefi_text_encodings.specs.Packed.{packed_items}
 unfoldable pub use Rattle.uefi_text_encodings.specs.Views.{bytes_of}
-use Rattle.uefi_text_chars.specs.Units.{without_nul}
+use Rattle.uefi_text_encodings.specs.Units.{without_nul}
 use Rattle.uefi_text.specs.declared.strs.CStr16.{CStr16}
 use Rattle.uefi_text.specs.declared.strs.Char16Slice.{Char16Slice}
 use Rattle.uefi_text.specs.declared.strs.CStr16Iter.{CStr16Iter}

@@ -2,7 +2,7 @@
 //! outside this module sees.
 ghost use Rattle.std.specs.Prelude.{◌≡◌, ◌≢◌, ℕ, ◌+◌, ◌<◌, ◌↔◌, ◌++◌, [], All, Contains, List, None, length, map, find, position, unwrap_or, IsTrue, IfOk, IfErr, ◌∷◌, take, IsOk, OnOk, OnErr, drop};
 ghost use Rattle.std.specs.Str.{chars};
-ghost use Rattle.uefi_text_chars.specs.Units.{IsChar16, IsNulTerminated, IsString, IsText, is_nul, nul_terminated, replaced};
+ghost use Rattle.uefi_text_encodings.specs.Units.{IsChar16, IsNulTerminated, IsString, IsText, is_nul, nul_terminated, replaced};
 ghost use Rattle.std.specs.Result.{result_err};
 ghost use Rattle.uefi_text_encodings.specs.FromStr.{is_deciding_char, from_str_refusal};
 ghost use Rattle.uefi_text.specs.Runs.{CopiesNoNul};
@@ -13,7 +13,7 @@ use std::cmp::Ordering;
 use std::fmt;
 use std::hash::{Hash, Hasher};
 use std::marker::Model;
-use uefi_text_chars::{Char16, NUL_16};
+use uefi_text_encodings::chars::{Char16, NUL_16};
 use uefi_text_encodings::code_units::{text_len, units_of_text, write_text};
 pub use uefi_text_encodings::errors::FromStrError;
 use uefi_text_encodings::scans::replace_units_from;
@@ -27,7 +27,7 @@ pub struct CString16<A: Allocator = Global> {
 
 impl<A: Allocator> Model for CString16<A> {
     ghost use Rattle.std.specs.Prelude.{ℕ, List};
-    ghost use Rattle.uefi_text_chars.specs.Units.{IsString, without_nul};
+    ghost use Rattle.uefi_text_encodings.specs.Units.{IsString, without_nul};
 
     ghost Value = { List ℕ };
 

@@ -11,13 +11,13 @@ ghost use Rattle.uefi_text_encodings.specs.FromStr.{is_deciding_char};
 ghost use Rattle.uefi_text_encodings.specs.FromStrWithBuf.{refusal_of_char_at, with_units};
 ghost use Rattle.uefi_text_encodings.specs.FromSliceWithNul.{deciding_refusal};
 ghost use Rattle.uefi_text.specs.Runs.{GivesAll, GivesEach, GivesNoNul};
-ghost use Rattle.uefi_text_chars.specs.Units.{BeginsWithString, IsString, IsText, IsChar16, is_nul, nul_terminated, without_nul};
+ghost use Rattle.uefi_text_encodings.specs.Units.{BeginsWithString, IsString, IsText, IsChar16, is_nul, nul_terminated, without_nul};
 
 use std::alloc::{AllocError, Allocator};
 use std::cmp::Ordering;
 use std::fmt;
 use std::hash::{Hash, Hasher};
-use uefi_text_chars::Char16;
+use uefi_text_encodings::chars::Char16;
 pub use uefi_text_encodings::char_sink::CharSink;
 use uefi_text_encodings::code_units::write_text;
 pub use uefi_text_encodings::eq_str_until_nul::{EqStrUntilNul, str_eq_until_nul};

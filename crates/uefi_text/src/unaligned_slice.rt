@@ -314,7 +314,7 @@ impl<'a> UnalignedSlice<'a, u16> {
     ghost use Rattle.uefi_text_encodings.specs.UnalignedCStr16.{unaligned_refusal, with_prefix};
     ghost use Rattle.std.specs.Prelude.{IsOk, OnOk};
     ghost use Rattle.uefi_text_encodings.specs.UnitBytes.{unit_bytes, units_of_bytes};
-    ghost use Rattle.uefi_text_chars.specs.Units.{IsString, IsText, deciding_place, nul_terminated};
+    ghost use Rattle.uefi_text_encodings.specs.Units.{IsString, IsText, deciding_place, nul_terminated};
     ghost use Rattle.uefi_text.specs.Views.{items_of, text_of};
 
     /// The code units that all of the bytes encode, two bytes for each, the low one first; `None`
@@ -440,7 +440,7 @@ impl<'a> CStr16<'a> {
     ghost use Rattle.std.specs.Result.{result_err};
     ghost use Rattle.uefi_text_encodings.specs.UnalignedCStr16.{unaligned_refusal};
     ghost use Rattle.uefi_text_encodings.specs.UnitBytes.{BytesEncode, unit_bytes, unit_bytes_refusal};
-    ghost use Rattle.uefi_text_chars.specs.Units.{IsString, nul_terminated};
+    ghost use Rattle.uefi_text_encodings.specs.Units.{IsString, nul_terminated};
     ghost use Rattle.uefi_text.specs.Views.{items_of, text_of};
 
     /// The string that bytes encode from wherever they lie, two for each code unit, the low one first,
@@ -485,7 +485,7 @@ impl<'a> CStr16<'a> {
 impl<A: Allocator> CString16<A> {
     ghost use Rattle.std.specs.Prelude.{None, unwrap_or};
     ghost use Rattle.uefi_text_encodings.specs.FromSliceWithNul.{with_nul_refusal};
-    ghost use Rattle.uefi_text_chars.specs.Units.{IsString, nul_terminated};
+    ghost use Rattle.uefi_text_encodings.specs.Units.{IsString, nul_terminated};
     ghost use Rattle.uefi_text.specs.Views.{items_of};
 
     /// As [`UnalignedSlice::to_cstring16`], with one request for memory.

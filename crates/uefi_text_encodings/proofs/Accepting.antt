@@ -11,7 +11,7 @@ use Rattle.std.proofs.lemmas.List.Quantifiers.{position-Some}
 use Rattle.std.proofs.lemmas.Grind.{common_steps}
 use Rattle.std.proofs.Math.Seq.{get_or-append_seam}
 use Rattle.std.proofs.Math.Utf8.{scalar, scalars}
-use Rattle.uefi_text_chars.specs.Units.{BeginsWithString, IsChar16, IsNulTerminated, IsString, IsText, IsTextUnit, deciding_place, is_deciding, is_nul, nul_terminated, without_nul}
+use Rattle.uefi_text_encodings.specs.Units.{BeginsWithString, IsChar16, IsNulTerminated, IsString, IsText, IsTextUnit, deciding_place, is_deciding, is_nul, nul_terminated, without_nul}
 use Rattle.uefi_text_encodings.specs.FromSliceUntilNul.{missing_nul_refusal, missing_nul_refusal_at, until_nul_refusal}
 use Rattle.uefi_text_encodings.specs.FromSliceWithNul.{first_nul_refusal, first_nul_refusal_at, with_nul_refusal}
 use Rattle.uefi_text_encodings.specs.FromStr.{from_str_refusal, is_deciding_char, refusal_of_char}

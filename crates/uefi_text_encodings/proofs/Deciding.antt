@@ -12,7 +12,7 @@ use Rattle.uefi_text_encodings.proofs.Texts.{IsString-made, without_nul-nul_term
 use Rattle.uefi_text_encodings.specs.FromSliceWithNul.{with_nul_refusal, with_nul_refusal_at, first_nul_refusal}
 use Rattle.uefi_text_encodings.specs.declared.errors.FromSliceWithNulError.TheVariants.{OutOfMemory}
 use Rattle.uefi_text_encodings.specs.Latin1.{IsLatin1String}
-use Rattle.uefi_text_chars.specs.Units.{IsChar16, IsTextUnit, IsText, IsString, is_nul, is_deciding, deciding_place, nul_terminated, without_nul}
+use Rattle.uefi_text_encodings.specs.Units.{IsChar16, IsTextUnit, IsText, IsString, is_nul, is_deciding, deciding_place, nul_terminated, without_nul}
 
 -- a list that ends in 0
 ends_in_nul : (units : List ℕ) (i : ℕ) → i + 1 ≡ length units → get_or units i 0 ≡ 0 → units ≡ take i units ++ 0 ∷ []

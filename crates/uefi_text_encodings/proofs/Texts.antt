@@ -9,7 +9,7 @@ use Rattle.std.proofs.Math.Seq.{take-append_seam}
 use Rattle.std.proofs.lemmas.List.Elements.{All-append, All-cons, All-drop, All-head, All-map, All-nil, All-tail, All-take, All-weaker}
 use Rattle.std.proofs.Math.Utf8.{scalar, scalars, scalar_cases}
 use Rattle.std.proofs.lemmas.Grind.{common_steps}
-use Rattle.uefi_text_chars.specs.Units.{replaced, IsText, IsTextUnit, IsString, nul_terminated, without_nul}
+use Rattle.uefi_text_encodings.specs.Units.{replaced, IsText, IsTextUnit, IsString, nul_terminated, without_nul}
 use Rattle.std.specs.Char.{IsScalar}
 use Rattle.uefi_text_encodings.specs.FromStr.{from_str_refusal, is_deciding_char, refusal_of_char}
 

@@ -10,7 +10,7 @@ use Rattle.uefi_text_encodings.proofs.Texts.{IsString-nul_terminated, without_nu
 use Rattle.uefi_text_encodings.specs.FromSliceWithNul.{with_nul_refusal}
 use Rattle.uefi_text_encodings.specs.Packed.{IsByte, packed_items}
 use Rattle.uefi_text_encodings.specs.UnitBytes.{BytesEncode, ends_in_nul, unit_bytes, unit_bytes_refusal, units_of_bytes}
-use Rattle.uefi_text_chars.specs.Units.{IsText, IsTextUnit, nul_terminated, without_nul}
+use Rattle.uefi_text_encodings.specs.Units.{IsText, IsTextUnit, nul_terminated, without_nul}
 
 -- a code unit
 abbrev IsUnit : ℕ → Type 0

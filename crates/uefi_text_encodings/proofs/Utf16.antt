@@ -13,7 +13,7 @@ use Rattle.std.proofs.Math.Seq.{get_or-append_seam, take-append_seam}
 use Rattle.uefi_text_encodings.proofs.UnitBytes.{set_two}
 use Rattle.uefi_text_encodings.specs.FromStr.{is_deciding_char}
 use Rattle.uefi_text_encodings.specs.FromStrWithBuf.{from_str_with_buf_refusal_at, refusal_of_char_at, from_str_with_buf_refusal, utf16, with_units, with_text}
-use Rattle.uefi_text_chars.specs.Units.{nul_terminated}
+use Rattle.uefi_text_encodings.specs.Units.{nul_terminated}
 use Rattle.uefi_text_encodings.specs.declared.errors.FromStrWithBufError.TheVariants.{BufferTooSmall}
 
 -- units that have room, and then more units after them

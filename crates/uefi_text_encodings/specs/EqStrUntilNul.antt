@@ -1,7 +1,7 @@
 -- When a text counts as equal to a Rust text up to its first NUL.
 use Rattle.std.specs.Prelude.{◌≡◌, ℕ, ◌⊎◌, List, ◌++◌}
 use Rattle.std.specs.List.{before_first}
-use Rattle.uefi_text_chars.specs.Units.{is_nul}
+use Rattle.uefi_text_encodings.specs.Units.{is_nul}
 
 -- the first list is a prefix of the second
 abbrev pub IsPrefix : List ℕ → List ℕ → Type 0

@@ -1,6 +1,6 @@
 -- Which code units have no prefix that is a NUL-terminated string, and why.
 use Rattle.std.specs.Prelude.{ℕ, ◌==◌, if◌then◌else◌, List, slice_index, Option, Some, None, position}
-use Rattle.uefi_text_chars.specs.Units.{deciding_place, is_nul}
+use Rattle.uefi_text_encodings.specs.Units.{deciding_place, is_nul}
 use Rattle.uefi_text_encodings.specs.declared.errors.FromSliceUntilNulError.{FromSliceUntilNulError}
 use Rattle.uefi_text_encodings.specs.declared.errors.FromSliceUntilNulError.TheVariants.{InvalidChar, NoNul}
 

@@ -1,6 +1,6 @@
 -- Which code units, and which bytes of Latin-1, are refused as a NUL-terminated string, and why.
 use Rattle.std.specs.Prelude.{ℕ, ◌+◌, ◌==◌, if◌then◌else◌, List, length, slice_index, Option, Some, None, position}
-use Rattle.uefi_text_chars.specs.Units.{deciding_place, is_nul}
+use Rattle.uefi_text_encodings.specs.Units.{deciding_place, is_nul}
 use Rattle.uefi_text_encodings.specs.declared.errors.FromSliceWithNulError.{FromSliceWithNulError}
 use Rattle.uefi_text_encodings.specs.declared.errors.FromSliceWithNulError.TheVariants.{InvalidChar, InteriorNul, NotNulTerminated}
 

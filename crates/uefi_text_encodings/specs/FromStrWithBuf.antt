@@ -3,7 +3,7 @@ use Rattle.std.specs.Prelude.{ℕ, ◌==◌, nat_lt, if◌then◌else◌, List, 
 use Rattle.std.specs.Char.Escape.{encode_utf16}
 use Rattle.std.specs.List.{flat_map}
 use Rattle.uefi_text_encodings.specs.FromStr.{is_deciding_char}
-use Rattle.uefi_text_chars.specs.Units.{nul_terminated}
+use Rattle.uefi_text_encodings.specs.Units.{nul_terminated}
 use Rattle.uefi_text_encodings.specs.declared.errors.FromStrWithBufError.{FromStrWithBufError}
 use Rattle.uefi_text_encodings.specs.declared.errors.FromStrWithBufError.TheVariants.{InvalidChar, InteriorNul, BufferTooSmall}
 

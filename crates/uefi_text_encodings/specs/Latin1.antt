@@ -1,6 +1,6 @@
 -- Latin-1, in which a character is one byte, its number.
 use Rattle.std.specs.Prelude.{◌≤◌, ℕ, List, All}
-use Rattle.uefi_text_chars.specs.Units.{IsNulTerminated}
+use Rattle.uefi_text_encodings.specs.Units.{IsNulTerminated}
 
 -- characters of Latin-1: none above U+00FF
 abbrev pub IsLatin1 : List ℕ → Type 0

@@ -1,4 +1,5 @@
-pub use Rattle.uefi_text_chars.specs.Units
+pub mod Units
+pub use Rattle.uefi_text_encodings.specs.Units
 pub mod Scans
 pub mod Latin1
 pub mod FromSliceUntilNul

@@ -3,7 +3,7 @@ use Rattle.std.specs.Prelude.{◌≡◌, ℕ, ◌/◌, ◌%◌, ◌==◌, nat_eq
 use Rattle.std.specs.List.{ends_with}
 use Rattle.uefi_text_encodings.specs.FromSliceWithNul.{with_nul_refusal}
 use Rattle.uefi_text_encodings.specs.Packed.{packed_items}
-use Rattle.uefi_text_chars.specs.Units.{IsText, nul_terminated}
+use Rattle.uefi_text_encodings.specs.Units.{IsText, nul_terminated}
 use Rattle.uefi_text_encodings.specs.declared.errors.FromSliceWithNulError.{FromSliceWithNulError}
 use Rattle.uefi_text_encodings.specs.declared.errors.FromSliceWithNulError.TheVariants.{NotNulTerminated}
 

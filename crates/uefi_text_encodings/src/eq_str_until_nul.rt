@@ -4,7 +4,7 @@ ghost use Rattle.std.specs.Str.{chars};
 ghost use Rattle.uefi_text_encodings.specs.EqStrUntilNul.{IsEqualUntilNul};
 
 use crate::latin1::CStr8;
-use uefi_text_chars::Char8;
+use crate::chars::Char8;
 
 /// A string that is compared with a Rust text. In contracts a value is the `characters` of it,
 /// those before its NUL.
@@ -20,7 +20,7 @@ pub trait EqStrUntilNul {
 }
 
 impl<'a> EqStrUntilNul for CStr8<'a> {
-    ghost use Rattle.uefi_text_chars.specs.Units.{without_nul};
+    ghost use Rattle.uefi_text_encodings.specs.Units.{without_nul};
     ghost use Rattle.uefi_text_encodings.specs.Views.{bytes_of};
 
     ghost characters = { λ string. without_nul (bytes_of string) };

@@ -4,7 +4,7 @@
 ghost use Rattle.std.specs.Prelude.{◌≡◌, ◌≢◌, ◌<◌, ◌+◌, ◌^◌, ◌↔◌, All, length, position, IsTrue, IsOk, IfOk};
 ghost use Rattle.std.specs.Result.{result_err};
 ghost use Rattle.std.specs.Str.{chars};
-ghost use Rattle.uefi_text_chars.specs.Units.{is_nul, nul_terminated, without_nul};
+ghost use Rattle.uefi_text_encodings.specs.Units.{is_nul, nul_terminated, without_nul};
 ghost use Rattle.uefi_text_encodings.specs.Latin1.{IsLatin1, IsLatin1String};
 
 use crate::errors::FromSliceWithNulError;
@@ -147,7 +147,7 @@ impl<'a> Hash for CStr8<'a> {
 impl<'a> fmt::Display for CStr8<'a> {
     ghost use Rattle.std.specs.Prelude.{Some};
     ghost use Rattle.std.specs.Str.{encode_utf8_all};
-    ghost use Rattle.uefi_text_chars.specs.Units.{without_nul};
+    ghost use Rattle.uefi_text_encodings.specs.Units.{without_nul};
     ghost use Rattle.uefi_text_encodings.specs.Views.{bytes_of};
 
     ghost output = { λ string. Some (encode_utf8_all (without_nul (bytes_of string))) };

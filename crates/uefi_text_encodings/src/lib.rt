@@ -1,15 +1,17 @@
-//! The layer of `uefi_text` between bytes and strings of UCS-2: Latin-1, UTF-8, the code units of Rust
+//! The layer of `uefi_text` below strings of UCS-2: characters, Latin-1, UTF-8, the code units of Rust
 //! texts, numbers packed in bytes, and the reasons for which bytes, units and texts are refused.
 //!
-//! Callers use `uefi_text`, which re-exports what is theirs: [`CStr8`] and the calls on Latin-1 of
-//! [`latin1`], the reasons of [`errors`], [`CharSink`], [`EqStrUntilNul`] and [`Packed`]. The other
-//! modules are passes over whole slices and texts, which strings are made of. They are public for the
-//! layer above alone, and hidden from the documentation: nothing promises that they stay.
+//! Callers use `uefi_text`, which re-exports what is theirs: the module [`chars`], [`CStr8`] and the
+//! calls on Latin-1 of [`latin1`], the reasons of [`errors`], [`CharSink`], [`EqStrUntilNul`] and
+//! [`Packed`]. The other modules are passes over whole slices and texts, which strings are made of. They
+//! are public for the layer above alone, and hidden from the documentation: nothing promises that they
+//! stay.
 //!
 //! Contracts here speak of lists of bytes, units and characters. No type here keeps a string of UCS-2.
 #![tactic(auto)]
 
 pub mod char_sink;
+pub mod chars;
 #[doc(hidden)]
 pub mod code_units;
 pub mod eq_str_until_nul;

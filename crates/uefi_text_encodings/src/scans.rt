@@ -6,9 +6,9 @@ ghost use Rattle.std.specs.List.{fold};
 ghost use Rattle.std.specs.Str.{IsAscii};
 ghost use Rattle.uefi_text_encodings.specs.Scans.{ascii_text_so_far, beyond_ascii_so_far, byte_beyond_latin1_so_far, decided_so_far, deciding_byte_so_far, zero_so_far};
 ghost use Rattle.uefi_text_encodings.specs.UnitBytes.{unit_bytes};
-ghost use Rattle.uefi_text_chars.specs.Units.{is_deciding, deciding_place, replaced};
+ghost use Rattle.uefi_text_encodings.specs.Units.{is_deciding, deciding_place, replaced};
 
-use uefi_text_chars::is_surrogate;
+use crate::chars::is_surrogate;
 
 /// How many units a block has.
 const BLOCK: usize = 64;

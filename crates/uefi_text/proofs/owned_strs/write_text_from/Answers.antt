@@ -3,7 +3,7 @@ use Rattle.std.proofs.Common.{◌≡◌, ◌∙◌, ℕ, ◌+◌, ap, List, [], 
 use Rattle.std.specs.Str.{chars}
 use Rattle.std.proofs.lemmas.Grind.{common_steps}
 use Rattle.std.proofs.lemmas.List.{length-append, length-drop}
-use Rattle.uefi_text_chars.specs.Units.{IsText, nul_terminated}
+use Rattle.uefi_text_encodings.specs.Units.{IsText, nul_terminated}
 use Rattle.uefi_text_encodings.specs.FromStrWithBuf.{with_text, with_units}
 use Rattle.uefi_text_encodings.proofs.Texts.{undecided-IsText}
 use Rattle.uefi_text_encodings.proofs.Utf16.{utf16-undecided}

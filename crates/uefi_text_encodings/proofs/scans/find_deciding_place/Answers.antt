@@ -1,6 +1,6 @@
 use Rattle.std.proofs.Common.{arith}
 use Rattle.std.proofs.lemmas.Grind.{common_steps}
-use Rattle.uefi_text_chars.specs.Units.{is_deciding}
+use Rattle.uefi_text_encodings.specs.Units.{is_deciding}
 use Rattle.uefi_text_encodings.proofs.Scanning.{position-from_none, position-from_some}
 use Rattle.uefi_text_encodings.proofs.scans.find_deciding_place.Goals as goal
 

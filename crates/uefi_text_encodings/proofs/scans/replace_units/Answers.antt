@@ -1,7 +1,7 @@
 use Rattle.std.proofs.Common.{◌<◌, get_or, length, arith}
 use Rattle.std.proofs.lemmas.List.{get_or_default}
 use Rattle.std.proofs.lemmas.List.Edits.{map_over_more}
-use Rattle.uefi_text_chars.specs.Units.{replaced}
+use Rattle.uefi_text_encodings.specs.Units.{replaced}
 use Rattle.uefi_text_encodings.proofs.scans.replace_units.Goals as goal
 
 pub loop-unit-preserved : goal.loop-unit-preserved

@@ -1,5 +1,5 @@
 use Rattle.std.proofs.Common.{◌≡◌, ◌++◌, map, take, drop}
-use Rattle.uefi_text_chars.specs.Units.{replaced}
+use Rattle.uefi_text_encodings.specs.Units.{replaced}
 use Rattle.uefi_text_encodings.proofs.scans.replace_units.Given as goal
 
 -- the units so far were looked at, and the others stand unchanged

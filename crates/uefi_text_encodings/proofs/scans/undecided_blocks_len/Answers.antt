@@ -1,5 +1,5 @@
 use Rattle.std.proofs.Common.{refl, ◌≤◌, ◌+◌, ◌-◌, length, arith, sym}
-use Rattle.uefi_text_chars.specs.Units.{is_deciding}
+use Rattle.uefi_text_encodings.specs.Units.{is_deciding}
 use Rattle.uefi_text_encodings.specs.Scans.{decided_so_far}
 use Rattle.uefi_text_encodings.proofs.Scanning.{none_in_blocks}
 use Rattle.uefi_text_encodings.proofs.scans.undecided_blocks_len.Goals as goal

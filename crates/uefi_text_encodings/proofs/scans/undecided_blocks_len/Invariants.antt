@@ -1,5 +1,5 @@
 use Rattle.std.proofs.Common.{◌≡◌, ℕ, ◌≤◌, ◌<◌, ◌-◌, length, false, slice_index}
-use Rattle.uefi_text_chars.specs.Units.{is_deciding}
+use Rattle.uefi_text_encodings.specs.Units.{is_deciding}
 use Rattle.uefi_text_encodings.proofs.scans.undecided_blocks_len.Given as goal
 
 abbrev pub decreases-loop-len : goal.decreases-loop-len

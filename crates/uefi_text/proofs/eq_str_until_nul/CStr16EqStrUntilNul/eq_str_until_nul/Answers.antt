@@ -5,7 +5,7 @@ use Rattle.std.specs.Str.{chars}
 use Rattle.std.proofs.lemmas.Iterator.{YieldsList-from_chars, YieldsList-from_zip, cases_from_all}
 use Rattle.std.proofs.lemmas.Iterator.Consumers.{YieldsList-from_first}
 use Rattle.std.proofs.lemmas.Iterator.Search.{YieldsList-from_take_while}
-use Rattle.uefi_text_chars.specs.Units.{is_nul}
+use Rattle.uefi_text_encodings.specs.Units.{is_nul}
 use Rattle.uefi_text.specs.Views.{text_of, units_left}
 use Rattle.uefi_text_encodings.proofs.Prefixes.{AreSame, begins_by_pairs}
 use Rattle.uefi_text.proofs.eq_str_until_nul.CStr16EqStrUntilNul.eq_str_until_nul.Goals as goal

@@ -2,7 +2,7 @@
 use Rattle.std.proofs.Common.{◌≡◌, [], ◌∷◌, ◌++◌, length, set, ap, ◌∙◌, arith}
 use Rattle.std.proofs.lemmas.Grind.{common_steps}
 use Rattle.std.proofs.lemmas.List.Elements.{All-append, All-cons, All-nil}
-use Rattle.uefi_text_chars.specs.Units.{IsTextUnit, nul_terminated, without_nul}
+use Rattle.uefi_text_encodings.specs.Units.{IsTextUnit, nul_terminated, without_nul}
 use Rattle.uefi_text_encodings.proofs.Texts.{IsString-made, nul_terminated-push}
 use Rattle.uefi_text.proofs.owned_strs.CString16.push.Goals as goal
 

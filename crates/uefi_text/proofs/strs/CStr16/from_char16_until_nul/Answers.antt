@@ -4,7 +4,7 @@ use Rattle.std.proofs.lemmas.Grind.{common_steps}
 use Rattle.uefi_text_encodings.specs.declared.errors.FromSliceUntilNulError.TheVariants.{NoNul, OutOfMemory}
 use Rattle.uefi_text_encodings.proofs.Accepting.{missing_nul-memory}
 use Rattle.uefi_text_encodings.proofs.Deciding.{IsString-characters}
-use Rattle.uefi_text_chars.specs.Units.{IsChar16, IsString}
+use Rattle.uefi_text_encodings.specs.Units.{IsChar16, IsString}
 use Rattle.uefi_text.proofs.strs.CStr16.from_char16_until_nul.Goals as goal
 
 pub invariant_of-result : goal.invariant_of-result

@@ -5,7 +5,7 @@ use Rattle.std.proofs.lemmas.List.{take_all}
 use Rattle.uefi_text_encodings.specs.declared.errors.FromSliceWithNulError.TheVariants.{InteriorNul, NotNulTerminated, OutOfMemory}
 use Rattle.uefi_text_encodings.proofs.Accepting.{first_nul-memory}
 use Rattle.uefi_text_encodings.proofs.Deciding.{IsString-characters}
-use Rattle.uefi_text_chars.specs.Units.{IsChar16, IsString}
+use Rattle.uefi_text_encodings.specs.Units.{IsChar16, IsString}
 use Rattle.uefi_text.proofs.strs.CStr16.from_char16_with_nul.Goals as goal
 
 all_taken : (g : _) (c : goal.In-Ok g) → c.in-Ok.units.items ≡ take (c.in-Some.place + 1) c.args.characters.now

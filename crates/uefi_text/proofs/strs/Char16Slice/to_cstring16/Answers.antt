@@ -2,7 +2,7 @@
 use Rattle.std.proofs.Common.{◌≡◌, ◌≢◌, ◌∙◌, ap, sym, refl, All, IsTrue, arith}
 use Rattle.std.specs.Option.{unwrap_or}
 use Rattle.std.proofs.lemmas.Grind.{common_steps}
-use Rattle.uefi_text_chars.specs.Units.{IsText, nul_terminated}
+use Rattle.uefi_text_encodings.specs.Units.{IsText, nul_terminated}
 use Rattle.uefi_text_encodings.specs.FromStr.{from_str_refusal}
 use Rattle.uefi_text_encodings.specs.declared.errors.FromStrError.TheVariants.{OutOfMemory}
 use Rattle.uefi_text_encodings.proofs.Texts.{IsString-made, IsText-unrefused, characters-IsText}

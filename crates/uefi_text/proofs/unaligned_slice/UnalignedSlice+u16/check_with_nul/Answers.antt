@@ -3,7 +3,7 @@ use Rattle.std.proofs.Common.{◌≡◌, ℕ, ◌+◌, ◌<◌, ◌^◌, None, O
 use Rattle.std.specs.Result.{OnOk, result_err}
 use Rattle.std.proofs.lemmas.Bool.{cases_lt}
 use Rattle.std.proofs.lemmas.Grind.{common_steps}
-use Rattle.uefi_text_chars.specs.Units.{IsString}
+use Rattle.uefi_text_encodings.specs.Units.{IsString}
 use Rattle.uefi_text.specs.Views.{items_of}
 use Rattle.uefi_text_encodings.specs.FromSliceWithNul.{with_nul_refusal}
 use Rattle.uefi_text_encodings.proofs.Deciding.{IsString-accepted}

@@ -2,7 +2,7 @@
 use Rattle.std.proofs.Common.{◌≡◌, true, arith}
 use Rattle.std.specs.List.{slice_index_or}
 use Rattle.std.proofs.lemmas.Grind.{common_steps}
-use Rattle.uefi_text_chars.specs.Units.{is_deciding}
+use Rattle.uefi_text_encodings.specs.Units.{is_deciding}
 use Rattle.uefi_text.specs.Views.{items_of}
 use Rattle.uefi_text_encodings.proofs.Scanning.{position-at, position-nowhere}
 use Rattle.uefi_text.proofs.unaligned_slice.UnalignedSlice+u16.find_deciding_place.Goals as goal

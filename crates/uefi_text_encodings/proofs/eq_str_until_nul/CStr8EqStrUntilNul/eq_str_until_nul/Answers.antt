@@ -4,7 +4,7 @@ use Rattle.std.specs.List.{before_first}
 use Rattle.std.specs.Str.{chars}
 use Rattle.std.proofs.lemmas.Iterator.{YieldsList-from_chars, YieldsList-from_slice, YieldsList-from_zip, cases_from_all}
 use Rattle.std.proofs.lemmas.Iterator.Search.{YieldsList-from_take_while}
-use Rattle.uefi_text_chars.specs.Units.{is_nul, without_nul}
+use Rattle.uefi_text_encodings.specs.Units.{is_nul, without_nul}
 use Rattle.uefi_text_encodings.specs.Views.{bytes_of}
 use Rattle.uefi_text_encodings.proofs.Prefixes.{AreSame, begins_by_pairs}
 use Rattle.uefi_text_encodings.proofs.eq_str_until_nul.CStr8EqStrUntilNul.eq_str_until_nul.Goals as goal

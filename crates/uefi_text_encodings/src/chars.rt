@@ -1,14 +1,12 @@
-//! Characters of Latin-1 and of UCS-2: the module `chars` of `uefi_text`, which re-exports this crate
-//! under that name.
+//! Characters of Latin-1 and of UCS-2, and the constants: the module `chars` of `uefi_text`.
 //!
-//! The fields of [`Char8`] and [`Char16`] are private to this crate, so the constants of the crates
+//! The fields of [`Char8`] and [`Char16`] are private to this module, so the constants of the crates
 //! above are written here too. `specs/Units.antt` says what a code unit, a text and a NUL-terminated
 //! string are, for all the crates above.
-#![tactic(auto)]
 
 ghost use Rattle.std.specs.Prelude.{◌≡◌, ◌<◌, ◌≤◌, ◌^◌, ◌↔◌, IsTrue};
 ghost use Rattle.std.specs.Result.{OkIff};
-ghost use Rattle.uefi_text_chars.specs.Units.{IsChar16, denied_characters, is_surrogate};
+ghost use Rattle.uefi_text_encodings.specs.Units.{IsChar16, denied_characters, is_surrogate};
 
 use std::error::Error;
 use std::fmt;
@@ -135,7 +133,7 @@ pub struct Char16 {
 
 impl Model for Char16 {
     ghost use Rattle.std.specs.Prelude.{ℕ};
-    ghost use Rattle.uefi_text_chars.specs.Units.{IsChar16};
+    ghost use Rattle.uefi_text_encodings.specs.Units.{IsChar16};
 
     ghost Value = { ℕ };
 
