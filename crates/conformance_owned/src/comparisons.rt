@@ -110,30 +110,34 @@ fn equals_until_nul<S: EqStrUntilNul>(string: &S, text: &str) -> Option<bool> {
     (str_eq_until_nul(text, string) == equal).then_some(equal)
 }
 
-#[test]
-fn equal_until_nul(rt: HostRuntime) -> Result<(), Fail> {
-    let owned = owned(&rt, &[116, 101, 115, 116, 0])?;
-    let borrowed = owned.as_cstr16();
-    let bytes = CStr8::from_bytes_with_nul(b"test\0")?;
-    for (text, want) in [
-        ("test", Some(true)),
-        ("te\0st", Some(true)),
-        ("test\0", Some(true)),
-        ("", Some(true)),
-        ("test😀", Some(true)),
-        ("hello", Some(false)),
-    ] {
-        assert_eq!(rt; equals_until_nul(&borrowed, text), want, "{text:?}");
-        assert_eq!(rt; equals_until_nul(&owned, text), want, "{text:?}");
-        assert_eq!(rt; equals_until_nul(&bytes, text), want, "{text:?}");
-    }
-    Ok(())
+/// What the string of these bytes says of a text.
+fn latin1_equals(bytes: &[u8], text: &str) -> Result<Option<bool>, Fail> {
+    Ok(equals_until_nul(&CStr8::from_bytes_with_nul(bytes)?, text))
+}
+
+/// What the string `test` says of a text, if it says so as each kind of string.
+fn test_equals(rt: &HostRuntime, text: &str) -> Result<Option<bool>, Fail> {
+    let owned = owned(rt, &[116, 101, 115, 116, 0])?;
+    let equal = equals_until_nul(&owned, text);
+    let agree = equals_until_nul(&owned.as_cstr16(), text) == equal
+        && latin1_equals(b"test\0", text)? == equal;
+    Ok(if agree { equal } else { None })
 }
 
 #[test]
-fn latin1_equal_until_nul(rt: HostRuntime) -> Result<(), Fail> {
-    let bytes = CStr8::from_bytes_with_nul(&[0xe9, 0])?;
-    assert_eq!(rt; equals_until_nul(&bytes, "é"), Some(true));
-    assert_eq!(rt; equals_until_nul(&bytes, "e"), Some(false));
+fn equal_until_nul(rt: HostRuntime) -> Result<(), Fail> {
+    for (text, want) in [
+        ("test", true),
+        ("te\0st", true),
+        ("test\0", true),
+        ("", true),
+        ("test😀", true),
+        ("hello", false),
+    ] {
+        assert_eq!(rt; test_equals(&rt, text)?, Some(want), "{text:?}");
+    }
+    for (text, want) in [("é", true), ("e", false)] {
+        assert_eq!(rt; latin1_equals(&[0xe9, 0], text)?, Some(want), "{text}");
+    }
     Ok(())
 }

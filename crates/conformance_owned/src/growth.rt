@@ -4,7 +4,7 @@ ghost use Rattle.std.specs.Prelude.{◌≡◌, ◌≢◌, ◌<◌, ◌++◌, ℕ
 ghost use Rattle.std.specs.List.{filter};
 ghost use Rattle.uefi_text.specs.Views.{text_of};
 
-use conformance::{Refusing, printed, string};
+use conformance::{Refusing, string};
 use std::alloc::{AllocError, Allocator, Global};
 use std::test::Fail;
 use uefi_text::{CStr16, CString16, Char16, Char16Slice, NUL_16};
@@ -141,19 +141,27 @@ fn ab_and(rt: &HostRuntime, count: u64) -> Result<Vec<u16>, Fail> {
     Ok(units)
 }
 
+/// Whether the units of the pushes before one that is refused stand after `ab`, where this request is
+/// the refused one.
+fn keeps_what_was_pushed(rt: &HostRuntime, request: u64) -> Result<bool, Fail> {
+    let c = Char16::try_from('c')?;
+    if c == NUL_16 {
+        return Ok(false);
+    }
+    let heap = Refusing::new(rt.alloc(), request);
+    let mut text = filled(&heap, CStr16::from_u16_with_nul(&[97, 98, 0])?)?;
+    let pushed = pushed_until_refused(&mut text, c);
+    Ok(heap.has_refused() && has_units(&text, &ab_and(rt, pushed)?))
+}
+
 /// A refused push leaves the units of those before it.
 #[test]
 fn pushes_until_one_is_refused(rt: HostRuntime) -> Result<(), Fail> {
-    let c = Char16::try_from('c')?;
-    assert!(rt; c != NUL_16);
-    let ab = string(rt.alloc(), "ab")?;
-    for number in 2..6u64 {
-        let heap = Refusing::new(rt.alloc(), number);
-        let mut text = filled(&heap, ab.as_cstr16())?;
-        let pushed = pushed_until_refused(&mut text, c);
-        assert!(rt; heap.has_refused(), "at request {number}");
-        let want = ab_and(&rt, pushed)?;
-        assert!(rt; has_units(&text, &want), "at request {number}");
+    for request in 2..6u64 {
+        assert!(rt;
+            keeps_what_was_pushed(&rt, request)?,
+            "at request {request}"
+        );
     }
     Ok(())
 }
@@ -183,26 +191,19 @@ fn pushed_after_a_refusal(rt: HostRuntime) -> Result<(), Fail> {
     Ok(())
 }
 
-#[test]
-fn extended_by_no_characters(rt: HostRuntime) -> Result<(), Fail> {
-    let mut text = string(rt.alloc(), "ab")?;
-    text.extend(CStr16::from_u16_with_nul(&[0])?.iter())?;
-    assert!(rt; has_units(&text, &[97, 98]));
-    Ok(())
+/// Whether `ab` becomes these texts, extended by all characters of a string and by those of ASCII.
+fn becomes(rt: &HostRuntime, more: &str, all: &str, ascii: &str) -> Result<bool, Fail> {
+    let more = string(rt.alloc(), more)?;
+    let (mut by_all, mut by_ascii) = (string(rt.alloc(), "ab")?, string(rt.alloc(), "ab")?);
+    extended_by_all(&mut by_all, more.as_cstr16())?;
+    extended_by_ascii(&mut by_ascii, more.as_cstr16())?;
+    Ok(by_all == string(rt.alloc(), all)? && by_ascii == string(rt.alloc(), ascii)?)
 }
 
 #[test]
 fn extended_by_the_characters_of_a_string(rt: HostRuntime) -> Result<(), Fail> {
-    let mut text = string(rt.alloc(), "ab")?;
-    extended_by_all(&mut text, CStr16::from_u16_with_nul(&[99, 0xe9, 100, 0])?)?;
-    assert_eq!(rt; printed(&rt, &text)?.as_str(), "abcéd");
-    Ok(())
-}
-
-#[test]
-fn extended_by_the_ascii_characters_of_a_string(rt: HostRuntime) -> Result<(), Fail> {
-    let mut text = string(rt.alloc(), "abcéd")?;
-    extended_by_ascii(&mut text, CStr16::from_u16_with_nul(&[99, 0xe9, 100, 0])?)?;
-    assert_eq!(rt; printed(&rt, &text)?.as_str(), "abcédcd");
+    for (more, all, ascii) in [("", "ab", "ab"), ("céd", "abcéd", "abcd")] {
+        assert!(rt; becomes(&rt, more, all, ascii)?, "{more}");
+    }
     Ok(())
 }

@@ -34,25 +34,34 @@ fn cleared_strings(rt: HostRuntime) -> Result<(), Fail> {
     Ok(())
 }
 
-#[test]
-fn replaced_characters(rt: HostRuntime) -> Result<(), Fail> {
-    let slash = Char16::try_from('/')?;
-    let backslash = Char16::try_from('\\')?;
-    assert!(rt; slash != NUL_16 && backslash != NUL_16);
-    let mut text = string(rt.alloc(), "foo/bar/foobar//")?;
-    text.replace_char(slash, backslash);
-    assert!(rt; text == string(rt.alloc(), "foo\\bar\\foobar\\\\")?);
-    text.replace_char(backslash, backslash);
-    assert!(rt; text == string(rt.alloc(), "foo\\bar\\foobar\\\\")?);
-    Ok(())
+/// A text with one character replaced by another, if neither is NUL.
+fn replaced(
+    rt: &HostRuntime,
+    text: &str,
+    search: char,
+    replace: char,
+) -> Result<Option<CString16>, Fail> {
+    let (search, replace) = (Char16::try_from(search)?, Char16::try_from(replace)?);
+    if search == NUL_16 || replace == NUL_16 {
+        return Ok(None);
+    }
+    let mut string = string(rt.alloc(), text)?;
+    string.replace_char(search, replace);
+    Ok(Some(string))
 }
 
 #[test]
-fn replaced_by_itself(rt: HostRuntime) -> Result<(), Fail> {
-    let a = Char16::try_from('a')?;
-    assert!(rt; a != NUL_16);
-    let mut text = string(rt.alloc(), "aba")?;
-    text.replace_char(a, a);
-    assert_eq!(rt; printed(&rt, &text)?.as_str(), "aba");
+fn replaced_characters(rt: HostRuntime) -> Result<(), Fail> {
+    for (text, search, replace, want) in [
+        ("foo/bar/foobar//", '/', '\\', "foo\\bar\\foobar\\\\"),
+        ("foo\\bar\\foobar\\\\", '\\', '\\', "foo\\bar\\foobar\\\\"),
+        ("aba", 'a', 'a', "aba"),
+    ] {
+        let want = string(rt.alloc(), want)?;
+        assert!(rt;
+            replaced(&rt, text, search, replace)? == Some(want),
+            "{text}"
+        );
+    }
     Ok(())
 }

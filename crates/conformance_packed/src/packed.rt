@@ -15,86 +15,118 @@ const BYTES_AFTER_ONE: [u8; 13] = [
     0xff, 0x10, 0x11, 0x12, 0x13, 0x20, 0x21, 0x22, 0x23, 0x30, 0x31, 0x32, 0x33,
 ];
 
-#[test]
-fn sizes_of_items(rt: HostRuntime) {
-    assert_eq!(rt; u8::SIZE, 1);
-    assert_eq!(rt; u16::SIZE, 2);
-    assert_eq!(rt; u32::SIZE, 4);
-    assert_eq!(rt; u64::SIZE, 8);
+/// Whether numbers of this kind take so many bytes, and these are the bytes of that one.
+fn takes<T: Packed + PartialEq>(size: usize, bytes: &[u8], want: T) -> bool {
+    T::SIZE == size && bytes.len() == size && T::read_le(bytes) == want
 }
 
 #[test]
 fn bytes_of_an_item(rt: HostRuntime) {
-    assert_eq!(rt; u8::read_le(&[0xfe]), 0xfe);
-    assert_eq!(rt; u16::read_le(&[0x10, 0x11]), 0x1110);
-    assert_eq!(rt; u32::read_le(&[0x10, 0x11, 0x12, 0x13]), 0x13121110);
-    assert_eq!(rt; u64::read_le(&[1, 2, 3, 4, 5, 6, 7, 8]), 0x0807060504030201);
+    assert!(rt; takes(1, &[0xfe], 0xfeu8));
+    assert!(rt; takes(2, &[0x10, 0x11], 0x1110u16));
+    assert!(rt; takes(4, &[0x10, 0x11, 0x12, 0x13], 0x13121110u32));
+    assert!(rt; takes(8, &[1, 2, 3, 4, 5, 6, 7, 8], 0x0807060504030201u64));
+}
+
+/// The number at a place among so many, if the bytes have room for them.
+fn item<T: Packed>(bytes: &[u8], len: usize, index: usize) -> Option<Option<T>> {
+    Some(UnalignedSlice::<T>::try_new(bytes, len)?.get(index))
+}
+
+/// Whether the bytes have room for three numbers, and a view of them says that they are three.
+fn hold_three(bytes: &[u8]) -> bool {
+    if !UnalignedSlice::<u32>::fits(bytes, 3) {
+        return false;
+    }
+    let items: UnalignedSlice<u32> = UnalignedSlice::new(bytes, 3);
+    items.len() == 3 && !items.is_empty()
 }
 
 #[test]
 fn items_at_any_place(rt: HostRuntime) {
     for bytes in [BYTES.as_slice(), &BYTES_AFTER_ONE[1..]] {
-        assert!(rt; UnalignedSlice::<u32>::fits(bytes, 3));
-        let items: UnalignedSlice<u32> = UnalignedSlice::new(bytes, 3);
-        assert_eq!(rt; items.len(), 3);
-        assert!(rt; !items.is_empty());
-        assert_eq!(rt; items.get(0), Some(0x13121110));
-        assert_eq!(rt; items.get(1), Some(0x23222120));
-        assert_eq!(rt; items.get(2), Some(0x33323130));
-        assert_eq!(rt; items.get(3), None);
-        assert_eq!(rt; items.get(usize::MAX), None);
+        assert!(rt; hold_three(bytes));
+        for (index, want) in [
+            (0, Some(0x13121110)),
+            (1, Some(0x23222120)),
+            (2, Some(0x33323130)),
+            (3, None),
+            (usize::MAX, None),
+        ] {
+            assert_eq!(rt; item::<u32>(bytes, 3, index), Some(want), "{index}");
+        }
     }
 }
 
 #[test]
 fn items_of_other_sizes(rt: HostRuntime) {
-    let one: UnalignedSlice<u64> = UnalignedSlice::new(&[1, 2, 3, 4, 5, 6, 7, 8], 1);
-    assert_eq!(rt; one.get(0), Some(0x0807060504030201));
-    assert_eq!(rt; one.get(1), None);
-    let two: UnalignedSlice<u8> = UnalignedSlice::new(&[0xff, 0], 2);
-    assert_eq!(rt; two.get(0), Some(255));
-    assert_eq!(rt; two.get(1), Some(0));
-    assert_eq!(rt; two.get(2), None);
-    let prefix: UnalignedSlice<u16> = UnalignedSlice::new(&[0x10, 0x11, 0x12], 1);
-    assert_eq!(rt; prefix.get(0), Some(0x1110));
-    assert_eq!(rt; prefix.get(1), None);
+    for (index, want) in [(0, Some(0x0807060504030201)), (1, None)] {
+        let got = item::<u64>(&[1, 2, 3, 4, 5, 6, 7, 8], 1, index);
+        assert_eq!(rt; got, Some(want), "{index}");
+    }
+    for (index, want) in [(0, Some(255)), (1, Some(0)), (2, None)] {
+        assert_eq!(rt; item::<u8>(&[0xff, 0], 2, index), Some(want), "{index}");
+    }
+    for (index, want) in [(0, Some(0x1110)), (1, None)] {
+        assert_eq!(rt; item::<u16>(&[0x10, 0x11, 0x12], 1, index), Some(want), "{index}");
+    }
+}
+
+/// Whether no numbers are in a view that has none, by each call.
+fn holds_none(rt: &HostRuntime, bytes: &[u8]) -> Result<bool, Fail> {
+    let none: UnalignedSlice<u32> = UnalignedSlice::new(bytes, 0);
+    none.copy_to(&mut []);
+    Ok(none.is_empty()
+        && none.len() == 0
+        && none.get(0).is_none()
+        && none.iter().next().is_none()
+        && none.to_vec(rt.alloc())?.is_empty())
 }
 
 #[test]
 fn no_items(rt: HostRuntime) -> Result<(), Fail> {
     for bytes in [BYTES.as_slice(), &BYTES_AFTER_ONE[1..], &[]] {
-        let none: UnalignedSlice<u32> = UnalignedSlice::new(bytes, 0);
-        assert!(rt; none.is_empty());
-        assert_eq!(rt; none.len(), 0);
-        assert_eq!(rt; none.get(0), None);
-        assert_eq!(rt; none.iter().next(), None);
-        none.copy_to(&mut []);
-        assert!(rt; none.to_vec(rt.alloc())?.is_empty());
+        assert!(rt; holds_none(&rt, bytes)?);
     }
     Ok(())
 }
 
-#[test]
-fn room_for_items(rt: HostRuntime) {
-    assert!(rt; UnalignedSlice::<u16>::fits(&[0x10, 0x11, 0x12], 1));
-    assert!(rt; !UnalignedSlice::<u16>::fits(&[0x10, 0x11, 0x12], 2));
-    assert!(rt; UnalignedSlice::<u64>::fits(&[], 0));
-    assert!(rt; !UnalignedSlice::<u64>::fits(&[], usize::MAX));
-    // Eight times this wraps to 8.
-    assert!(rt; !UnalignedSlice::<u64>::fits(&[0; 8], usize::MAX / 8 + 2));
-    assert!(rt; UnalignedSlice::<u64>::fits(&[0; 8], 1));
-    assert!(rt; !UnalignedSlice::<u64>::fits(&[0; 7], 1));
+/// Whether the bytes have room for so many numbers, as both calls say that tell.
+fn fits<T: Packed>(bytes: &[u8], len: usize) -> Option<bool> {
+    let fits = UnalignedSlice::<T>::fits(bytes, len);
+    (UnalignedSlice::<T>::try_new(bytes, len).is_some() == fits).then_some(fits)
 }
 
 #[test]
-fn views_of_bytes_with_room(rt: HostRuntime) {
-    let items = UnalignedSlice::<u32>::try_new(&BYTES_AFTER_ONE[1..], 3);
-    assert_eq!(rt; items.and_then(|items| items.get(2)), Some(0x33323130));
-    assert!(rt; UnalignedSlice::<u32>::try_new(&BYTES, 4).is_none());
-    assert!(rt; UnalignedSlice::<u32>::try_new(&BYTES, usize::MAX).is_none());
-    let units = UnalignedSlice::from_unit_bytes(&[0x10, 0x11, 0x12, 0x13]);
-    assert_eq!(rt; units.and_then(|units| units.get(1)), Some(0x1312));
-    assert!(rt; UnalignedSlice::from_unit_bytes(&[0x10, 0x11, 0x12]).is_none());
+fn room_for_items(rt: HostRuntime) {
+    for (len, want) in [(1, true), (2, false)] {
+        assert_eq!(rt; fits::<u16>(&[0x10, 0x11, 0x12], len), Some(want), "{len}");
+    }
+    for (len, want) in [(3, true), (4, false), (usize::MAX, false)] {
+        assert_eq!(rt; fits::<u32>(&BYTES, len), Some(want), "{len}");
+    }
+    for (bytes, len, want) in [
+        (&[0u8; 8][..0], 0, true),
+        (&[0; 8][..0], usize::MAX, false),
+        // Eight times this wraps to 8.
+        (&[0; 8], usize::MAX / 8 + 2, false),
+        (&[0; 8], 1, true),
+        (&[0; 8][..7], 1, false),
+    ] {
+        assert_eq!(rt; fits::<u64>(bytes, len), Some(want), "{len}");
+    }
+}
+
+/// The code unit at a place of bytes that are even in number.
+fn unit(bytes: &[u8], index: usize) -> Option<Option<u16>> {
+    Some(UnalignedSlice::from_unit_bytes(bytes)?.get(index))
+}
+
+#[test]
+fn units_of_bytes(rt: HostRuntime) {
+    assert_eq!(rt; unit(&[0x10, 0x11, 0x12, 0x13], 1), Some(Some(0x1312)));
+    assert_eq!(rt; unit(&[0x10, 0x11, 0x12, 0x13], 2), Some(None));
+    assert_eq!(rt; unit(&[0x10, 0x11, 0x12], 0), None);
 }
 
 /// Whether `left` items are left, and the next is this.
@@ -128,11 +160,10 @@ fn items_in_turn(rt: HostRuntime) {
     }
 }
 
-#[test]
-fn counts_of_items(rt: HostRuntime) {
+/// How many numbers each iterator over three counts.
+fn counts() -> (usize, usize) {
     let items: UnalignedSlice<u32> = UnalignedSlice::new(&BYTES, 3);
-    assert_eq!(rt; items.iter().count(), 3);
-    assert_eq!(rt; items.into_iter().count(), 3);
+    (items.iter().count(), items.into_iter().count())
 }
 
 /// The last of packed numbers.
@@ -146,27 +177,32 @@ fn last_of(items: UnalignedSlice<'_, u32>) -> Option<u32> {
 
 #[test]
 fn loops_over_items(rt: HostRuntime) {
+    assert_eq!(rt; counts(), (3, 3));
     assert_eq!(rt; last_of(UnalignedSlice::new(&BYTES, 3)), Some(0x33323130));
 }
 
-#[test]
-fn copied_items(rt: HostRuntime) {
-    let items: UnalignedSlice<u32> = UnalignedSlice::new(&BYTES_AFTER_ONE[1..], 3);
+/// Whether each way to copy packed numbers gives these.
+fn are_copied(
+    rt: &HostRuntime,
+    items: UnalignedSlice<'_, u32>,
+    want: [u32; 3],
+) -> Result<bool, Fail> {
     let mut copy = [0; 3];
+    if items.len() != copy.len() {
+        return Ok(false);
+    }
     items.copy_to(&mut copy);
-    assert_eq!(rt; copy, NUMBERS);
+    let collected: Vec<u32> = items.iter().collect(rt.alloc())?;
+    Ok(copy == want
+        && items.to_vec(rt.alloc())?.as_slice() == want.as_slice()
+        && items.clone()?.to_vec(rt.alloc())?.as_slice() == want.as_slice()
+        && collected.as_slice() == want.as_slice())
 }
 
 #[test]
-fn vectors_of_items(rt: HostRuntime) -> Result<(), Fail> {
-    let items: UnalignedSlice<u32> = UnalignedSlice::new(&BYTES_AFTER_ONE[1..], 3);
-    assert_eq!(rt; items.to_vec(rt.alloc())?.as_slice(), NUMBERS.as_slice());
-    assert_eq!(rt;
-        items.clone()?.to_vec(rt.alloc())?.as_slice(),
-        NUMBERS.as_slice()
-    );
-    let collected: Vec<u32> = items.iter().collect(rt.alloc())?;
-    assert_eq!(rt; collected.as_slice(), NUMBERS.as_slice());
+fn copies_of_items(rt: HostRuntime) -> Result<(), Fail> {
+    let items = UnalignedSlice::new(&BYTES_AFTER_ONE[1..], 3);
+    assert!(rt; are_copied(&rt, items, NUMBERS)?);
     Ok(())
 }
 
