@@ -11,6 +11,10 @@ mod conversions;
 #[cfg(test)]
 mod error_texts;
 #[cfg(test)]
+mod hostile_texts;
+#[cfg(test)]
+mod hostile_units;
+#[cfg(test)]
 mod latin1;
 #[cfg(test)]
 mod long_texts;
