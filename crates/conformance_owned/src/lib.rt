@@ -7,6 +7,8 @@ mod comparisons;
 #[cfg(test)]
 mod growth;
 #[cfg(test)]
+mod hostile_units;
+#[cfg(test)]
 mod long_texts;
 #[cfg(test)]
 mod out_of_memory;

@@ -5,6 +5,8 @@
 #![tactic(auto)]
 
 #[cfg(test)]
+mod hostile_units;
+#[cfg(test)]
 mod packed;
 #[cfg(test)]
 mod packed_chains;

@@ -54,11 +54,13 @@ fn strings_in_memory_of_their_own(rt: HostRuntime) -> Result<(), Fail> {
 
 /// A way from packed units to a string in a buffer.
 #[derive(Clone, Copy)]
-enum Way {
+pub(crate) enum Way {
     Write,
     Borrow,
     FromSlice,
 }
+
+pub(crate) const WAYS: [Way; 3] = [Way::Write, Way::Borrow, Way::FromSlice];
 
 /// Why packed units are refused in a buffer, if they are.
 fn refusal(
@@ -73,16 +75,17 @@ fn refusal(
     }
 }
 
-/// Whether the items are refused for this cause in a buffer of nines, which then holds this.
-fn is_refused(
+/// Whether the items are a string in a buffer of nines, or refused for this cause, and it then holds
+/// this.
+pub(crate) fn leaves(
     rt: &HostRuntime,
     way: Way,
     items: &UnalignedSlice<'_, u16>,
     after: &[u16],
-    want: UnalignedCStr16Error,
+    want: Option<UnalignedCStr16Error>,
 ) -> Result<bool, Fail> {
     let mut buffer = vec![in rt.alloc(); 9u16; after.len()]?;
-    Ok(refusal(way, items, &mut buffer) == Some(want) && buffer.as_slice() == after)
+    Ok(refusal(way, items, &mut buffer) == want && buffer.as_slice() == after)
 }
 
 #[test]
@@ -129,8 +132,8 @@ fn refused_strings_in_buffers(rt: HostRuntime) -> Result<(), Fail> {
         let len = bytes.len() / 2;
         assert!(rt; UnalignedSlice::<u16>::fits(bytes, len));
         let items: UnalignedSlice<u16> = UnalignedSlice::new(bytes, len);
-        for way in [Way::Write, Way::Borrow, Way::FromSlice] {
-            assert!(rt; is_refused(&rt, way, &items, after, want)?, "{bytes:?}");
+        for way in WAYS {
+            assert!(rt; leaves(&rt, way, &items, after, Some(want))?, "{bytes:?}");
         }
     }
     Ok(())

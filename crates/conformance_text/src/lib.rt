@@ -8,6 +8,12 @@
 #[cfg(test)]
 mod conversions;
 #[cfg(test)]
+mod hostile_bytes;
+#[cfg(test)]
+mod hostile_texts;
+#[cfg(test)]
+mod hostile_units;
+#[cfg(test)]
 mod long_texts;
 #[cfg(test)]
 mod out_of_memory;

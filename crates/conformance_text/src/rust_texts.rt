@@ -20,7 +20,7 @@ fn refused_texts(rt: HostRuntime) {
 
 /// Whether the text is written into a buffer of nines or refused for this cause, and the buffer then
 /// holds this.
-fn writes(
+pub(crate) fn writes(
     rt: &HostRuntime,
     text: &str,
     want: Result<usize, FromStrWithBufError>,
@@ -47,7 +47,7 @@ fn units_of_text(
 
 /// Whether the text becomes a string in a buffer of nines or is refused for this cause, and the buffer
 /// then holds this.
-fn borrows(
+pub(crate) fn borrows(
     rt: &HostRuntime,
     text: &str,
     want: Result<usize, FromStrWithBufError>,
@@ -95,6 +95,23 @@ fn texts_in_buffers(rt: HostRuntime) -> Result<(), Fail> {
     for (text, want, after) in rows {
         assert!(rt; writes(&rt, text, want, after)?, "{after:?}");
         assert!(rt; borrows(&rt, text, want, after)?, "{after:?}");
+    }
+    Ok(())
+}
+
+/// In nines with room for each number of units from none on.
+#[test]
+fn a_refused_text_in_buffers_of_each_length(rt: HostRuntime) -> Result<(), Fail> {
+    let after: &[u16] = &[97, 0xd83d, 0xde00, 98, 0, 9];
+    for room in 0..=6usize {
+        let want = if room < 5 {
+            FromStrWithBufError::BufferTooSmall
+        } else {
+            FromStrWithBufError::InvalidChar(1)
+        };
+        let after = after.get(..room).unwrap_or(&[]);
+        assert!(rt; writes(&rt, "a😀b", Err(want), after)?, "{room}");
+        assert!(rt; borrows(&rt, "a😀b", Err(want), after)?, "{room}");
     }
     Ok(())
 }

