@@ -28,59 +28,47 @@ fn bytes_of_an_item(rt: HostRuntime) {
     assert!(rt; takes(8, &[1, 2, 3, 4, 5, 6, 7, 8], 0x0807060504030201u64));
 }
 
-/// The number at a place among so many, if the bytes have room for them.
-fn item<T: Packed>(bytes: &[u8], len: usize, index: usize) -> Option<Option<T>> {
-    Some(UnalignedSlice::<T>::try_new(bytes, len)?.get(index))
-}
-
-/// Whether the bytes have room for three numbers, and a view of them says that they are three.
-fn hold_three(bytes: &[u8]) -> bool {
-    if !UnalignedSlice::<u32>::fits(bytes, 3) {
+/// Whether the bytes hold these numbers, as a view of them gives them one by one, and none after them.
+fn hold<T: Packed + PartialEq>(bytes: &[u8], numbers: &[T]) -> bool {
+    let Some(items) = UnalignedSlice::<T>::try_new(bytes, numbers.len()) else {
         return false;
+    };
+    for (index, number) in numbers.iter().enumerate() {
+        if items.get(index) != Some(*number) {
+            return false;
+        }
     }
-    let items: UnalignedSlice<u32> = UnalignedSlice::new(bytes, 3);
-    items.len() == 3 && !items.is_empty()
+    items.len() == numbers.len()
+        && items.is_empty() == numbers.is_empty()
+        && items.get(numbers.len()).is_none()
+        && items.get(usize::MAX).is_none()
 }
 
 #[test]
 fn items_at_any_place(rt: HostRuntime) {
-    for bytes in [BYTES.as_slice(), &BYTES_AFTER_ONE[1..]] {
-        assert!(rt; hold_three(bytes));
-        for (index, want) in [
-            (0, Some(0x13121110)),
-            (1, Some(0x23222120)),
-            (2, Some(0x33323130)),
-            (3, None),
-            (usize::MAX, None),
-        ] {
-            assert_eq!(rt; item::<u32>(bytes, 3, index), Some(want), "{index}");
-        }
-    }
+    assert!(rt; hold(&BYTES, &NUMBERS));
+    assert!(rt; hold(&BYTES_AFTER_ONE[1..], &NUMBERS));
+    assert!(rt; hold(&BYTES, &NUMBERS[..2]));
 }
 
 #[test]
 fn items_of_other_sizes(rt: HostRuntime) {
-    for (index, want) in [(0, Some(0x0807060504030201)), (1, None)] {
-        let got = item::<u64>(&[1, 2, 3, 4, 5, 6, 7, 8], 1, index);
-        assert_eq!(rt; got, Some(want), "{index}");
-    }
-    for (index, want) in [(0, Some(255)), (1, Some(0)), (2, None)] {
-        assert_eq!(rt; item::<u8>(&[0xff, 0], 2, index), Some(want), "{index}");
-    }
-    for (index, want) in [(0, Some(0x1110)), (1, None)] {
-        assert_eq!(rt; item::<u16>(&[0x10, 0x11, 0x12], 1, index), Some(want), "{index}");
-    }
+    assert!(rt; hold(&[1, 2, 3, 4, 5, 6, 7, 8], &[0x0807060504030201u64]));
+    assert!(rt; hold(&[0xff, 0], &[255u8, 0]));
+    assert!(rt; hold(&[0x10, 0x11, 0x12], &[0x1110u16]));
 }
 
 /// Whether no numbers are in a view that has none, by each call.
 fn holds_none(rt: &HostRuntime, bytes: &[u8]) -> Result<bool, Fail> {
     let none: UnalignedSlice<u32> = UnalignedSlice::new(bytes, 0);
     none.copy_to(&mut []);
-    Ok(none.is_empty()
-        && none.len() == 0
-        && none.get(0).is_none()
-        && none.iter().next().is_none()
-        && none.to_vec(rt.alloc())?.is_empty())
+    Ok(
+        none.is_empty()
+            && none.len() == 0
+            && none.get(0).is_none()
+            && none.iter().next().is_none()
+            && none.to_vec(rt.alloc())?.is_empty(),
+    )
 }
 
 #[test]
@@ -193,10 +181,12 @@ fn are_copied(
     }
     items.copy_to(&mut copy);
     let collected: Vec<u32> = items.iter().collect(rt.alloc())?;
-    Ok(copy == want
-        && items.to_vec(rt.alloc())?.as_slice() == want.as_slice()
-        && items.clone()?.to_vec(rt.alloc())?.as_slice() == want.as_slice()
-        && collected.as_slice() == want.as_slice())
+    Ok(
+        copy == want
+            && items.to_vec(rt.alloc())?.as_slice() == want.as_slice()
+            && items.clone()?.to_vec(rt.alloc())?.as_slice() == want.as_slice()
+            && collected.as_slice() == want.as_slice(),
+    )
 }
 
 #[test]
