@@ -1,9 +1,15 @@
 //! Borrowed strings of Latin-1, and Rust texts of Latin-1 as arrays.
 
+use std::cmp::Ordering;
 use std::collections::HashSet;
 use std::test::Fail;
 use uefi_text_encodings::errors::FromSliceWithNulError;
 use uefi_text_encodings::{CStr8, has_no_nul, is_latin1, str_num_latin1_chars, str_to_latin1};
+
+/// Whether bytes are refused for this cause.
+fn is_refused(bytes: &[u8], want: FromSliceWithNulError) -> bool {
+    matches!(CStr8::from_bytes_with_nul(bytes), Err(error) if error == want)
+}
 
 #[test]
 fn refused_bytes(rt: HostRuntime) {
@@ -15,10 +21,7 @@ fn refused_bytes(rt: HostRuntime) {
         (&[0, 0], FromSliceWithNulError::InteriorNul(0)),
     ];
     for (bytes, want) in rows {
-        assert!(rt;
-            matches!(CStr8::from_bytes_with_nul(bytes), Err(error) if error == want),
-            "{bytes:?}"
-        );
+        assert!(rt; is_refused(bytes, want), "{bytes:?}");
     }
 }
 
@@ -44,29 +47,40 @@ fn accepted_bytes(rt: HostRuntime) -> Result<(), Fail> {
     Ok(())
 }
 
+/// Whether bytes become a string that prints this for programmers.
+fn shows(rt: &HostRuntime, bytes: &[u8], want: &str) -> Result<bool, Fail> {
+    let string = CStr8::from_bytes_with_nul(bytes)?;
+    Ok(format!(in rt.alloc(); "{string:?}")?.as_str() == want)
+}
+
 #[test]
 fn printed_for_programmers(rt: HostRuntime) -> Result<(), Fail> {
-    let printed = format!(in rt.alloc(); "{:?}", CStr8::from_bytes_with_nul(&[0xe9, 10, 0])?)?;
-    assert_eq!(rt; printed.as_str(), "CStr8(['é', '\\n'])");
+    assert!(rt; shows(&rt, &[0xe9, 10, 0], "CStr8(['é', '\\n'])")?);
     Ok(())
+}
+
+/// How many characters a text has, if all of them are of Latin-1.
+fn count_latin1(text: &str) -> Option<usize> {
+    if is_latin1(text) {
+        Some(str_num_latin1_chars(text))
+    } else {
+        None
+    }
 }
 
 #[test]
 fn texts_of_latin1(rt: HostRuntime) {
     for (text, want) in [
-        ("ÿ", true),
-        ("Ā", false),
-        ("", true),
-        ("é\0", true),
-        ("a\u{7ff}", false),
-        ("\u{ffff}", false),
-        ("😀", false),
+        ("ÿ", Some(1)),
+        ("Ā", None),
+        ("", Some(0)),
+        ("é\0", Some(2)),
+        ("aé\u{80}\u{7f}", Some(4)),
+        ("a\u{7ff}", None),
+        ("\u{ffff}", None),
+        ("😀", None),
     ] {
-        assert_eq!(rt; is_latin1(text), want, "{text}");
-    }
-    for (text, want) in [("", 0), ("é\0", 2), ("aé\u{80}\u{7f}", 4)] {
-        assert!(rt; is_latin1(text));
-        assert_eq!(rt; str_num_latin1_chars(text), want, "{text}");
+        assert_eq!(rt; count_latin1(text), want, "{text}");
     }
 }
 
@@ -100,21 +114,39 @@ fn arrays_of_texts_that_are_tested(rt: HostRuntime) {
     }
 }
 
+/// Whether the strings of these bytes stand in this order, and are equal only where it says so.
+fn compare(a: &[u8], b: &[u8], want: Ordering) -> Result<bool, Fail> {
+    let (a, b) = (
+        CStr8::from_bytes_with_nul(a)?,
+        CStr8::from_bytes_with_nul(b)?,
+    );
+    Ok(a.cmp(&b) == want && (a == b) == (want == Ordering::Equal))
+}
+
 #[test]
 fn order_of_byte_strings(rt: HostRuntime) -> Result<(), Fail> {
-    let a = CStr8::from_bytes_with_nul(&[65, 0])?;
-    let ab = CStr8::from_bytes_with_nul(&[65, 66, 0])?;
-    let b = CStr8::from_bytes_with_nul(&[66, 0])?;
-    assert!(rt; a < ab && ab < b && a != ab);
-    assert!(rt; a == CStr8::from_bytes_with_nul(b"A\0")?);
+    let rows: [(&[u8], &[u8], Ordering); 4] = [
+        (&[65, 0], &[65, 66, 0], Ordering::Less),
+        (&[65, 66, 0], &[66, 0], Ordering::Less),
+        (&[66, 0], &[65, 0], Ordering::Greater),
+        (&[65, 0], b"A\0", Ordering::Equal),
+    ];
+    for (a, b, want) in rows {
+        assert!(rt; compare(a, b, want)?, "{a:?} and {b:?}");
+    }
     Ok(())
+}
+
+/// Whether the string of these bytes is not in the set yet. It is then.
+fn is_added<'a>(seen: &mut HashSet<CStr8<'a>>, bytes: &'a [u8]) -> Result<bool, Fail> {
+    Ok(seen.insert(CStr8::from_bytes_with_nul(bytes)?)?)
 }
 
 #[test]
 fn byte_strings_in_a_hash_set(rt: HostRuntime) -> Result<(), Fail> {
     let mut seen = HashSet::new(rt.alloc());
-    assert!(rt; seen.insert(CStr8::from_bytes_with_nul(&[65, 0])?)?);
-    assert!(rt; seen.insert(CStr8::from_bytes_with_nul(&[65, 66, 0])?)?);
-    assert!(rt; !seen.insert(CStr8::from_bytes_with_nul(b"A\0")?)?);
+    assert!(rt; is_added(&mut seen, &[65, 0])?);
+    assert!(rt; is_added(&mut seen, &[65, 66, 0])?);
+    assert!(rt; !is_added(&mut seen, b"A\0")?);
     Ok(())
 }

@@ -3,8 +3,8 @@ ghost use Rattle.std.specs.Prelude.{◌↔◌, ℕ, List, IsTrue};
 ghost use Rattle.std.specs.Str.{chars};
 ghost use Rattle.uefi_text_encodings.specs.EqStrUntilNul.{IsEqualUntilNul};
 
-use crate::latin1::CStr8;
 use crate::chars::Char8;
+use crate::latin1::CStr8;
 
 /// A string that is compared with a Rust text. In contracts a value is the `characters` of it,
 /// those before its NUL.
