@@ -41,8 +41,7 @@ pub use strs::{
     FromStrWithBufError, UnalignedCStr16Error, has_no_nul, is_latin1, str_num_latin1_chars,
     str_to_latin1,
 };
-pub use uefi_text_encodings::chars;
-pub use uefi_text_encodings::chars::{Char8, Char16, CharConversionError, NUL_8, NUL_16};
-pub use uefi_text_encodings::char_sink;
 pub use uefi_text_encodings::char_sink::CharSink;
+pub use uefi_text_encodings::chars::{Char8, Char16, CharConversionError, NUL_8, NUL_16};
+pub use uefi_text_encodings::{char_sink, chars};
 pub use unaligned_slice::{Packed, UnalignedSlice, UnalignedSliceIntoIter, UnalignedSliceIter};

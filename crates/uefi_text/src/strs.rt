@@ -17,8 +17,8 @@ use std::alloc::{AllocError, Allocator};
 use std::cmp::Ordering;
 use std::fmt;
 use std::hash::{Hash, Hasher};
-use uefi_text_encodings::chars::Char16;
 pub use uefi_text_encodings::char_sink::CharSink;
+use uefi_text_encodings::chars::Char16;
 use uefi_text_encodings::code_units::write_text;
 pub use uefi_text_encodings::eq_str_until_nul::{EqStrUntilNul, str_eq_until_nul};
 pub use uefi_text_encodings::errors::{
