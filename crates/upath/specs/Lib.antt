@@ -7,4 +7,5 @@ pub mod PathCommands
 pub use Rattle.uefi_path.specs.SuccessiveParents
 pub mod Judging
 pub mod ErrorTexts
+pub mod Watched
 pub mod Streams

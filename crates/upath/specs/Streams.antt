@@ -1,10 +1,7 @@
--- Why a run over streams ended early.
-use Rattle.std.specs.declared.io.ErrorKind.{ErrorKind}
-use Rattle.std.specs.declared.io.ErrorKind.TheVariants.{OutOfMemory as NoMemory}
-use Rattle.upath.specs.declared.streams.StreamFault.{StreamFault}
-use Rattle.upath.specs.declared.streams.StreamFault.TheVariants.{Read, OutOfMemory}
+-- What a writer holds after a write of several calls.
+use Rattle.std.specs.Prelude.{ℕ, List, Option, take}
+use Rattle.std.specs.Io.KnownBytes.{Appends}
 
--- the fault of a read that failed
-abbrev pub read_fault : ErrorKind → StreamFault
-read_fault NoMemory = OutOfMemory
-read_fault _ = Read
+-- known bytes grow by a prefix of these
+abbrev pub AppendsPrefix : Option (List ℕ) → Option (List ℕ) → List ℕ → Type 0
+AppendsPrefix old new bytes = (count : ℕ) × Appends old new (take count bytes)

@@ -6,7 +6,7 @@
 //! [`all_parents`] its successive parents.
 //!
 //! [`run_text`] returns what the lines of an input print, and [`run_streams`] does the same from a
-//! reader to a writer. The contract of both is one definition, `output_of` in `specs/Output.antt`:
+//! reader to a writer, both [`Watched`]. The contract of both is one definition, `output_of` in `specs/Output.antt`:
 //! what is printed is a function of the whole input, and of nothing else.
 //!
 //! ```rust
@@ -28,8 +28,10 @@ mod output;
 mod path_commands;
 mod run;
 mod streams;
+mod watched;
 
 pub use judging::{JudgeError, judge};
 pub use path_commands::{PathCommand, RunFault, all_parents, pieces, run_commands};
 pub use run::run_text;
 pub use streams::{StreamFault, run_streams};
+pub use watched::Watched;

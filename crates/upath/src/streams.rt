@@ -1,15 +1,16 @@
 //! A run from a reader to a writer.
-ghost use Rattle.std.specs.Prelude.{◌≡◌, ◌≢◌, ℕ, List, IfOk, IfErr, OnOk};
-ghost use Rattle.std.specs.IoError.{error_kind};
+ghost use Rattle.std.specs.Prelude.{◌≡◌, ◌≢◌, ℕ, List, IfOk, IfErr, OnOk, OnErr, false, true};
 ghost use Rattle.std.specs.Io.KnownBytes.{Appends, Consumes, IsAtEnd};
 ghost use Rattle.upath.specs.Output.{output_of};
-ghost use Rattle.upath.specs.Streams.{read_fault};
+ghost use Rattle.upath.specs.Streams.{AppendsPrefix};
+ghost use Rattle.upath.specs.Watched.{is_marked, stream_of};
 
 use crate::run::run_text;
+use crate::watched::Watched;
 use std::alloc::Allocator;
 use std::error::Error;
 use std::fmt;
-use std::io::{ErrorKind, Read, Write};
+use std::io::{Read, Write};
 
 /// Why a run from a reader to a writer ended early.
 #[derive(Clone, Copy, Debug, PartialEq, Eq)]
@@ -41,30 +42,56 @@ impl fmt::Display for StreamFault {
 
 impl Error for StreamFault {}
 
-/// All that a reader still gives.
-fn read_input<A: Allocator, R: Read>(alloc: A, reader: &mut R) -> Result<Vec<u8, A>, StreamFault>
-    ensures input { IfOk result (λ input.
-        Consumes (R.remaining reader.old) (R.remaining reader.new) input.items) }
-    ensures end { OnOk result (IsAtEnd (R.remaining reader.new)) }
+/// How many bytes are asked for at a read.
+const CHUNK: usize = 8192;
+
+/// All that a reader still gives. Memory is refused only after a read that gave bytes.
+fn read_input<A: Allocator, R: Read>(
+    alloc: A,
+    reader: &mut Watched<R>,
+) -> Result<Vec<u8, A>, StreamFault>
+    ensures input { IfOk result (λ input. Consumes
+        (R.remaining (stream_of reader.old)) (R.remaining (stream_of reader.new)) input.items) }
+    ensures end { OnOk result (IsAtEnd (R.remaining (stream_of reader.new))) }
+    ensures unmarked { OnOk result (is_marked reader.new ≡ is_marked reader.old) }
+    ensures prefix { OnErr result ((input : List ℕ) × Consumes
+        (R.remaining (stream_of reader.old)) (R.remaining (stream_of reader.new)) input) }
     ensures fault { IfErr result (λ fault. fault ≢ StreamFault.Write) }
+    ensures failed { IfErr result (λ fault. fault ≡ StreamFault.Read → is_marked reader.new ≡ true) }
+    ensures refused { IfErr result (λ fault.
+        fault ≢ StreamFault.Read → is_marked reader.new ≡ is_marked reader.old) }
 {
     let mut input = Vec::new(alloc);
-    match reader.read_to_end(&mut input) {
-        Ok(_) => Ok(input),
-        Err(error) => match error.kind() {
-            ErrorKind::OutOfMemory => Err(StreamFault::OutOfMemory),
-            _ => Err(StreamFault::Read),
-        },
+    let mut chunk = [0; CHUNK];
+    'chunks: loop {
+        let Ok(count) = reader.read(&mut chunk) else {
+            return Err(StreamFault::Read);
+        };
+        if count == 0 {
+            return Ok(input);
+        }
+        if input.extend_from_slice(&chunk[..count]).is_err() {
+            return Err(StreamFault::OutOfMemory);
+        }
     }
 }
 
 /// Writes bytes and flushes.
-fn write_output<W: Write>(writer: &mut W, output: &[u8]) -> Result<(), StreamFault>
-    ensures output { OnOk result (Appends (W.contents writer.old) (W.contents writer.new) output.now) }
+fn write_output<W: Write>(writer: &mut Watched<W>, output: &[u8]) -> Result<(), StreamFault>
+    ensures output { OnOk result (Appends
+        (W.contents (stream_of writer.old)) (W.contents (stream_of writer.new)) output.now) }
+    ensures unmarked { OnOk result (is_marked writer.new ≡ is_marked writer.old) }
+    ensures prefix { OnErr result (AppendsPrefix
+        (W.contents (stream_of writer.old)) (W.contents (stream_of writer.new)) output.now) }
+    ensures failed { OnErr result (is_marked writer.new ≡ true) }
     ensures fault { IfErr result (λ fault. fault ≡ StreamFault.Write) }
 {
-    if writer.write_all(output).is_err() {
-        return Err(StreamFault::Write);
+    let mut written = 0;
+    while written < output.len() {
+        let Ok(count) = writer.write(&output[written..]) else {
+            return Err(StreamFault::Write);
+        };
+        written += count;
     }
     if writer.flush().is_err() {
         return Err(StreamFault::Write);
@@ -72,22 +99,36 @@ fn write_output<W: Write>(writer: &mut W, output: &[u8]) -> Result<(), StreamFau
     Ok(())
 }
 
-/// Reads a reader to its end, writes what [`run_text`] returns to the whole of it, and nothing
-/// else, and flushes.
+/// Reads a reader to its end, writes what [`run_text`] returns to the whole of it, and nothing else, and
+/// flushes. The marks of both are unset before.
 ///
-/// A fault of reading comes first, then out of memory, then a fault of writing. Unless the fault
-/// is [`StreamFault::Write`] nothing was written. No failed call is tried again, but for one that
-/// was interrupted.
+/// [`StreamFault::Read`] comes only where the reader's mark is set then, and [`StreamFault::Write`] only
+/// where the writer's is: what was written is a prefix of the output. After any other result both marks
+/// are unset. Nothing was written where a read failed or memory was refused. No failed call is made
+/// again, an interrupted one neither, and no call comes after it.
 pub fn run_streams<A: Allocator + Copy, R: Read, W: Write>(
     alloc: A,
-    reader: &mut R,
-    writer: &mut W,
+    reader: &mut Watched<R>,
+    writer: &mut Watched<W>,
 ) -> Result<(), StreamFault>
+    requires reader { is_marked reader.old ≡ false }
+    requires writer { is_marked writer.old ≡ false }
     ensures written { OnOk result ((input : List ℕ)
-        × Consumes (R.remaining reader.old) (R.remaining reader.new) input
-        × Appends (W.contents writer.old) (W.contents writer.new) (output_of input)) }
-    ensures end { OnOk result (IsAtEnd (R.remaining reader.new)) }
+        × Consumes (R.remaining (stream_of reader.old)) (R.remaining (stream_of reader.new)) input
+        × Appends (W.contents (stream_of writer.old)) (W.contents (stream_of writer.new)) (output_of input)) }
+    ensures end { OnOk result (IsAtEnd (R.remaining (stream_of reader.new))) }
+    ensures unmarked { OnOk result ((is_marked reader.new ≡ false) × (is_marked writer.new ≡ false)) }
     ensures nothing_written { IfErr result (λ fault. fault ≢ StreamFault.Write → writer.new ≡ writer.old) }
+    ensures prefix_written { IfErr result (λ fault. fault ≡ StreamFault.Write → ((input : List ℕ)
+        × Consumes (R.remaining (stream_of reader.old)) (R.remaining (stream_of reader.new)) input
+        × IsAtEnd (R.remaining (stream_of reader.new))
+        × AppendsPrefix (W.contents (stream_of writer.old)) (W.contents (stream_of writer.new)) (output_of input))) }
+    ensures prefix_read { OnErr result ((input : List ℕ)
+        × Consumes (R.remaining (stream_of reader.old)) (R.remaining (stream_of reader.new)) input) }
+    ensures reader_marked { IfErr result (λ fault.
+        (fault ≡ StreamFault.Read → is_marked reader.new ≡ true)
+        × (fault ≢ StreamFault.Read → is_marked reader.new ≡ false)) }
+    ensures writer_marked { IfErr result (λ fault. fault ≡ StreamFault.Write → is_marked writer.new ≡ true) }
 {
     let input = read_input(alloc, reader)?;
     let Ok(output) = run_text(alloc, &input) else {

@@ -1,0 +1,114 @@
+//! Readers and writers of which one can tell afterwards whether a call failed.
+ghost use Rattle.std.specs.Prelude.{◌≡◌, ◌<◌, IfOk, OnOk, OnErr, false, length, true};
+ghost use Rattle.std.specs.Io.{ReadsAtMost, WritesAtMost};
+ghost use Rattle.std.specs.Io.KnownBytes.{Keeps, ReadConsumes, WriteAppends};
+ghost use Rattle.upath.specs.Watched.{is_marked, stream_of};
+
+use std::io::{self, ErrorKind, Read, Write};
+
+/// A reader or a writer, and a mark that is set once a call of it fails, and then stays.
+///
+/// Each call returns an `Err` exactly where it sets the mark. None is made again.
+#[derive(Drop)]
+pub struct Watched<T> {
+    stream: T,
+    failed: bool,
+}
+
+impl<T> Watched<T> {
+    /// The stream, of which no call has failed yet.
+    pub fn new(stream: T) -> Self
+        ensures stream { stream_of result ≡ stream }
+        ensures unmarked { is_marked result ≡ false }
+    {
+        Watched {
+            stream,
+            failed: false,
+        }
+    }
+
+    /// Whether a call failed.
+    pub fn has_failed(&self) -> bool
+        ensures { result ≡ is_marked self.now }
+    {
+        self.failed
+    }
+
+    /// The stream. The mark is lost.
+    pub fn into_inner(self) -> T
+        ensures { result ≡ stream_of self }
+    {
+        let Watched { stream, failed: _ } = self;
+        stream
+    }
+}
+
+impl<R: Read> Watched<R> {
+    /// One read of the reader, which sets the mark where it fails, an interrupted one too.
+    pub fn read(&mut self, buf: &mut [u8]) -> io::Result<usize>
+        ensures bound { ReadsAtMost result buf.new }
+        ensures bytes { ReadConsumes (R.remaining (stream_of self.old)) (R.remaining (stream_of self.new)) result buf.new }
+        ensures ok { OnOk result (is_marked self.new ≡ is_marked self.old) }
+        ensures err { OnErr result (is_marked self.new ≡ true) }
+    {
+        let outcome = self.stream.read(buf);
+        self.failed |= outcome.is_err();
+        outcome
+    }
+}
+
+impl<W: Write> Watched<W> {
+    /// One write of the writer, which sets the mark where it fails, an interrupted one too. A write of at
+    /// least one byte that takes none has failed, with [`ErrorKind::WriteZero`].
+    pub fn write(&mut self, buf: &[u8]) -> io::Result<usize>
+        ensures bound { WritesAtMost result buf.now }
+        ensures bytes { WriteAppends (W.contents (stream_of self.old)) (W.contents (stream_of self.new)) result buf.now }
+        ensures some { IfOk result (λ count. 0 < length buf.now → 0 < count) }
+        ensures ok { OnOk result (is_marked self.new ≡ is_marked self.old) }
+        ensures err { OnErr result (is_marked self.new ≡ true) }
+    {
+        let outcome = match self.stream.write(buf) {
+            Ok(0) if !buf.is_empty() => Err(io::Error::from(ErrorKind::WriteZero)),
+            outcome => outcome,
+        };
+        self.failed |= outcome.is_err();
+        outcome
+    }
+
+    /// One flush of the writer, which sets the mark where it fails.
+    pub fn flush(&mut self) -> io::Result<()>
+        ensures bytes { Keeps (W.contents (stream_of self.old)) (W.contents (stream_of self.new)) }
+        ensures ok { OnOk result (is_marked self.new ≡ is_marked self.old) }
+        ensures err { OnErr result (is_marked self.new ≡ true) }
+    {
+        let outcome = self.stream.flush();
+        self.failed |= outcome.is_err();
+        outcome
+    }
+}
+
+/// As [`Watched::read`].
+impl<R: Read> Read for Watched<R> {
+    ghost use Rattle.upath.specs.Watched.{stream_of};
+
+    ghost remaining = { λ watched. R.remaining (stream_of watched) };
+
+    fn read(&mut self, buf: &mut [u8]) -> io::Result<usize> {
+        Watched::read(self, buf)
+    }
+}
+
+/// As [`Watched::write`] and [`Watched::flush`].
+impl<W: Write> Write for Watched<W> {
+    ghost use Rattle.upath.specs.Watched.{stream_of};
+
+    ghost contents = { λ watched. W.contents (stream_of watched) };
+
+    fn write(&mut self, buf: &[u8]) -> io::Result<usize> {
+        Watched::write(self, buf)
+    }
+
+    fn flush(&mut self) -> io::Result<()> {
+        Watched::flush(self)
+    }
+}
