@@ -8,3 +8,4 @@ pub use Rattle.uefi_path.specs.SuccessiveParents
 pub mod Judging
 pub mod ErrorTexts
 pub mod Streams
+pub mod ProgramEnds

@@ -76,8 +76,8 @@ fn write_output<W: Write>(writer: &mut W, output: &[u8]) -> Result<(), StreamFau
 /// else, and flushes.
 ///
 /// A fault of reading comes first, then out of memory, then a fault of writing. Unless the fault
-/// is [`StreamFault::Write`] nothing was written. No failed call is tried again, but for one that
-/// was interrupted.
+/// is [`StreamFault::Write`] nothing was written. A read or a write that was interrupted is made
+/// again. No other failed call is, and none comes after it: a flush that was interrupted has failed.
 pub fn run_streams<A: Allocator + Copy, R: Read, W: Write>(
     alloc: A,
     reader: &mut R,
