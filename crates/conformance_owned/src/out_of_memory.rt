@@ -26,13 +26,16 @@ enum Call {
     ToOwned,
     Clone,
     Clear,
+    Push,
     PushStr,
+    PushPart,
     PushNothing,
     WriteStr,
     Extend,
     ToVec,
     ToVecOfNothing,
     TryFromUnaligned,
+    ToCString16,
 }
 
 /// Whether a string is this text.
@@ -98,6 +101,30 @@ fn grows_from_room(heap: &Refusing<Global>, part: CStr16<'_>) -> Result<bool, Al
     }
 }
 
+/// Whether a string takes one more character, or is unchanged where memory ran out.
+fn pushes_character(heap: &Refusing<Global>, part: CStr16<'_>) -> Result<bool, AllocError> {
+    let Ok(c) = Char16::try_from('c') else {
+        return Ok(false);
+    };
+    let mut text = filled(heap, part)?;
+    if c == NUL_16 {
+        return Ok(false);
+    }
+    match text.push(c) {
+        Ok(()) => Ok(is_text(text.as_cstr16(), "a/éc")),
+        Err(_) => out_of_memory(text.eq_cstr16(part)),
+    }
+}
+
+/// Whether a string takes the characters of another, or is unchanged where memory ran out.
+fn pushes_part(heap: &Refusing<Global>, part: CStr16<'_>) -> Result<bool, AllocError> {
+    let mut text = filled(heap, part)?;
+    match text.push_part(part.as_slice()) {
+        Ok(()) => Ok(is_text(text.as_cstr16(), "a/éa/é")),
+        Err(_) => out_of_memory(text.eq_cstr16(part)),
+    }
+}
+
 /// Whether a push of the empty string changes nothing.
 fn pushes_nothing(heap: &Refusing<Global>, part: CStr16<'_>) -> Result<bool, AllocError> {
     let mut text = filled(heap, part)?;
@@ -153,13 +180,18 @@ fn numbers(heap: &Refusing<Global>, want: &[u32]) -> Result<bool, AllocError> {
     Ok(items.to_vec(heap)?.as_slice() == want)
 }
 
-/// Whether the packed units of `test` become it, or memory ran out.
-fn becomes_test(heap: &Refusing<Global>) -> Result<bool, AllocError> {
+/// Whether the packed units of `test` become it by either call, or memory ran out.
+fn becomes_test(heap: &Refusing<Global>, by_source: bool) -> Result<bool, AllocError> {
     let items: UnalignedSlice<u16> = UnalignedSlice::new(
         &[0x74, 0, 0x65, 0, 0x73, 0, 0x74, 0, 0, 0],
         5,
     );
-    match CString16::try_from_unaligned(heap, &items) {
+    let answer = if by_source {
+        items.to_cstring16(heap)
+    } else {
+        CString16::try_from_unaligned(heap, &items)
+    };
+    match answer {
         Ok(string) => Ok(is_text(string.as_cstr16(), "test")),
         Err(FromSliceWithNulError::OutOfMemory) => Err(AllocError),
         Err(_) => Ok(false),
@@ -178,13 +210,16 @@ fn answers(call: Call, heap: &Refusing<Global>, part: CStr16<'_>) -> Result<bool
         Call::ToOwned => Ok(part.to_owned(heap)?.eq_cstr16(part)),
         Call::Clone => clones(heap, part),
         Call::Clear => clears(heap, part),
+        Call::Push => pushes_character(heap, part),
         Call::PushStr => grows_from_room(heap, part),
+        Call::PushPart => pushes_part(heap, part),
         Call::PushNothing => pushes_nothing(heap, part),
         Call::WriteStr => writes(heap, part),
         Call::Extend => extends_by_64(heap, part),
         Call::ToVec => numbers(heap, &[0x13121110, 0x23222120, 0x33323130]),
         Call::ToVecOfNothing => numbers(heap, &[]),
-        Call::TryFromUnaligned => becomes_test(heap),
+        Call::TryFromUnaligned => becomes_test(heap, false),
+        Call::ToCString16 => becomes_test(heap, true),
     }
 }
 
@@ -209,13 +244,16 @@ fn requests_of_each_call(rt: HostRuntime) -> Result<(), Fail> {
         (Call::ToOwned, 0, 1, 1),
         (Call::Clone, 1, 1, 1),
         (Call::Clear, 1, 0, 0),
+        (Call::Push, 1, 1, 1),
         (Call::PushStr, 1, 1, 1),
+        (Call::PushPart, 1, 1, 1),
         (Call::PushNothing, 1, 0, 0),
         (Call::WriteStr, 1, 1, 1),
         (Call::Extend, 1, 2, 96),
         (Call::ToVec, 0, 1, 1),
         (Call::ToVecOfNothing, 0, 0, 0),
         (Call::TryFromUnaligned, 0, 1, 1),
+        (Call::ToCString16, 0, 1, 1),
     ] {
         let count = count_of(&rt, call, setup, part.as_cstr16())?;
         assert!(rt; least <= count && count <= most, "{call:?}: {count}");

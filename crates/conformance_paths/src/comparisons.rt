@@ -34,14 +34,19 @@ fn unequal_buffers(rt: HostRuntime) -> Result<(), Fail> {
 }
 
 /// Whether the borrowed paths of two texts stand in this order.
-fn compare(rt: &HostRuntime, a: &str, b: &str, want: Ordering) -> Result<bool, Fail> {
+pub(crate) fn compare(rt: &HostRuntime, a: &str, b: &str, want: Ordering) -> Result<bool, Fail> {
     let (left, right) = (string(rt.alloc(), a)?, string(rt.alloc(), b)?);
     let (path, other) = (Path::new(left.as_cstr16()), Path::new(right.as_cstr16()));
     Ok(path.cmp(&other) == want && path.partial_cmp(&other) == Some(want))
 }
 
 /// Whether the path buffers of two texts stand in this order.
-fn compare_buffers(rt: &HostRuntime, a: &str, b: &str, want: Ordering) -> Result<bool, Fail> {
+pub(crate) fn compare_buffers(
+    rt: &HostRuntime,
+    a: &str,
+    b: &str,
+    want: Ordering,
+) -> Result<bool, Fail> {
     let (path, other) = (buffer(rt, a)?, buffer(rt, b)?);
     Ok(path.cmp(&other) == want && path.partial_cmp(&other) == Some(want))
 }

@@ -25,7 +25,7 @@ fn keeps(string: CStr16<'_>) -> bool {
 }
 
 /// Whether the path of a text has these components, is as empty as the text and keeps it.
-fn has_components(rt: &HostRuntime, text: &str, want: &str) -> Result<bool, Fail> {
+pub(crate) fn has_components(rt: &HostRuntime, text: &str, want: &str) -> Result<bool, Fail> {
     let string = string(rt.alloc(), text)?;
     let path = Path::new(string.as_cstr16());
     Ok(

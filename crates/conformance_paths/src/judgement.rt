@@ -7,7 +7,7 @@ use uefi_path::{CHARACTER_DENY_LIST, Path, PathError, separator_str, validate_pa
 use uefi_text::Char16;
 
 /// The judgement of the borrowed path of a text.
-fn judged(rt: &HostRuntime, text: &str) -> Result<Result<(), PathError>, Fail> {
+pub(crate) fn judged(rt: &HostRuntime, text: &str) -> Result<Result<(), PathError>, Fail> {
     let string = string(rt.alloc(), text)?;
     Ok(validate_path(Path::new(string.as_cstr16())))
 }

@@ -15,6 +15,8 @@ mod documents;
 #[cfg(test)]
 mod fixtures;
 #[cfg(test)]
+mod hostile_paths;
+#[cfg(test)]
 mod judgement;
 #[cfg(test)]
 mod long_paths;
@@ -24,3 +26,5 @@ mod out_of_memory;
 mod parents;
 #[cfg(test)]
 mod pushes;
+#[cfg(test)]
+mod separators;

@@ -1,146 +1,270 @@
-//! Readers and writers that fail.
+//! Readers and writers of which one call fails, and would succeed if it were made again: each call in turn,
+//! where one byte goes through a call, a few do, or all. They count their calls, so that a further one is
+//! seen.
+
 use std::io::{self, ErrorKind, Read, Write};
+use std::test::Fail;
 use upath::{StreamFault, run_streams};
 
-/// Gives one byte a call, and fails once it has given `before_failing`.
+/// A run, and how many bytes a call of its reader gives or of its writer takes at most.
+#[derive(Clone, Copy, Debug)]
+struct Run {
+    input: &'static [u8],
+    output: &'static [u8],
+    step: usize,
+}
+
+/// The first input, and that of the program's stored run.
+const RUNS: [(&[u8], &[u8]); 2] = [
+    (
+        b"from \\foo\\bar\npieces\n",
+        b"= \\foo\\bar\npieces 2\n| foo\n| bar\n",
+    ),
+    (
+        b"from /a\npush b\nup\nparent\nparent\npieces\ncheck\n",
+        b"= \\a\n= \\a\\b\nparents 1\n| a\n= a\nnone\npieces 1\n| a\nok\n",
+    ),
+];
+
+/// Each run by single bytes, by few at a time, and whole.
+fn runs(rt: &HostRuntime) -> Result<Vec<Run>, Fail> {
+    let mut runs = Vec::new(rt.alloc());
+    for (input, output) in RUNS {
+        for step in [1, 5, 99] {
+            runs.push(Run {
+                input,
+                output,
+                step,
+            })?;
+        }
+    }
+    Ok(runs)
+}
+
+/// Gives at most `step` bytes a call. The call of the number `failing`, counted from 1, fails.
 #[derive(Drop)]
 struct FailingReader {
-    bytes: &'static [u8],
-    before_failing: usize,
+    rest: &'static [u8],
+    step: usize,
+    failing: usize,
     kind: ErrorKind,
+    calls: usize,
 }
 
 impl Read for FailingReader {
     fn read(&mut self, buf: &mut [u8]) -> io::Result<usize> {
-        if self.before_failing == 0 {
+        self.calls = self.calls.saturating_add(1);
+        if self.calls == self.failing {
             return Err(io::Error::from(self.kind));
         }
-        self.before_failing -= 1;
-        match (self.bytes.split_first(), buf.first_mut()) {
-            (Some((byte, others)), Some(place)) => {
-                *place = *byte;
-                self.bytes = others;
-                Ok(1)
-            }
-            _ => Ok(0),
-        }
+        let len = self.step.min(buf.len()).min(self.rest.len());
+        let (given, others) = self.rest.split_at(len);
+        buf[..len].copy_from_slice(given);
+        self.rest = others;
+        Ok(len)
     }
 }
 
-/// Takes `room` bytes, and then takes none or fails; its flush may fail too.
+/// What a call of a writer does in place of taking bytes.
+#[derive(Clone, Copy, Debug)]
+enum Failure {
+    Fails(ErrorKind),
+    TakesNone,
+}
+
+/// Takes at most `step` bytes a call. The write of the number `failing`, counted from 1, fails, and so does
+/// the first flush where `flush` says so.
 #[derive(Drop)]
 struct FailingWriter {
     held: Vec<u8>,
-    room: usize,
-    fails_when_full: bool,
-    fails_to_flush: bool,
+    step: usize,
+    failing: usize,
+    failure: Failure,
+    flush: Option<ErrorKind>,
+    writes: usize,
+    flushes: usize,
 }
 
 impl Write for FailingWriter {
     fn write(&mut self, buf: &[u8]) -> io::Result<usize> {
-        let taken = buf.len().min(self.room);
-        if taken == 0 && self.fails_when_full {
-            return Err(io::Error::from(ErrorKind::StorageFull));
+        self.writes = self.writes.saturating_add(1);
+        if self.writes == self.failing {
+            return match self.failure {
+                Failure::Fails(kind) => Err(io::Error::from(kind)),
+                Failure::TakesNone => Ok(0),
+            };
         }
+        let taken = self.step.min(buf.len());
         self.held.extend_from_slice(&buf[..taken])?;
-        self.room -= taken;
         Ok(taken)
     }
 
     fn flush(&mut self) -> io::Result<()> {
-        if self.fails_to_flush {
-            return Err(io::Error::from(ErrorKind::Other));
+        self.flushes = self.flushes.saturating_add(1);
+        match self.flush {
+            Some(kind) if self.flushes == 1 => Err(io::Error::from(kind)),
+            _ => Ok(()),
         }
-        Ok(())
     }
 }
 
-const INPUT: &[u8] = b"from \\foo\\bar\npieces\n";
+/// A reader of the input of which this call fails; none at 0.
+fn reader_of(run: Run, failing: usize, kind: ErrorKind) -> FailingReader {
+    FailingReader {
+        rest: run.input,
+        step: run.step,
+        failing,
+        kind,
+        calls: 0,
+    }
+}
 
-const OUTPUT: &str = "= \\foo\\bar\npieces 2\n| foo\n| bar\n";
-
-fn writer_of(rt: &HostRuntime, room: usize) -> FailingWriter {
+/// A writer of which this write fails; none at 0.
+fn writer_of(rt: &HostRuntime, run: Run, failing: usize, failure: Failure) -> FailingWriter {
     FailingWriter {
         held: Vec::new(rt.alloc()),
-        room,
-        fails_when_full: true,
-        fails_to_flush: false,
+        step: run.step,
+        failing,
+        failure,
+        flush: None,
+        writes: 0,
+        flushes: 0,
     }
 }
 
-/// Whether a run whose reader fails after this many bytes reports this, with nothing written.
+/// Whether a writer holds this, after these numbers of writes and flushes.
+fn has_taken(writer: &FailingWriter, held: &[u8], writes: usize, flushes: usize) -> bool {
+    writer.held.as_slice() == held && writer.writes == writes && writer.flushes == flushes
+}
+
+/// How many calls a run makes of a reader and a writer that don't fail, after which all is written and
+/// flushed once.
+fn calls_of(rt: &HostRuntime, run: Run) -> Result<(usize, usize), Fail> {
+    let mut reader = reader_of(run, 0, ErrorKind::Other);
+    let mut writer = writer_of(rt, run, 0, Failure::TakesNone);
+    if run_streams(rt.alloc(), &mut reader, &mut writer).is_err()
+        || !reader.rest.is_empty()
+        || !has_taken(&writer, run.output, writer.writes, 1)
+    {
+        return Err("a run without a failed call".into());
+    }
+    Ok((reader.calls, writer.writes))
+}
+
+/// Whether a run of which this read fails reports this, reads no more, and writes nothing.
 fn ends_unwritten(
     rt: &HostRuntime,
-    before_failing: usize,
+    run: Run,
+    failing: usize,
     kind: ErrorKind,
     want: StreamFault,
 ) -> bool {
-    let mut reader = FailingReader {
-        bytes: INPUT,
-        before_failing,
-        kind,
-    };
-    let mut writer = writer_of(rt, 99);
-    run_streams(rt.alloc(), &mut reader, &mut writer) == Err(want) && writer.held.is_empty()
+    let mut reader = reader_of(run, failing, kind);
+    let mut writer = writer_of(rt, run, 0, Failure::TakesNone);
+    run_streams(rt.alloc(), &mut reader, &mut writer) == Err(want)
+        && reader.calls == failing
+        && has_taken(&writer, b"", 0, 0)
 }
 
 #[test]
-fn a_read_that_fails(rt: HostRuntime) {
-    for (before_failing, kind, want) in [
-        (0, ErrorKind::Other, StreamFault::Read),
-        (1, ErrorKind::Other, StreamFault::Read),
-        (7, ErrorKind::IsADirectory, StreamFault::Read),
-        (21, ErrorKind::Other, StreamFault::Read),
-        (3, ErrorKind::OutOfMemory, StreamFault::OutOfMemory),
-    ] {
-        assert!(rt;
-            ends_unwritten(&rt, before_failing, kind, want),
-            "after {before_failing} bytes"
-        );
+fn each_read_that_fails(rt: HostRuntime) -> Result<(), Fail> {
+    for run in &runs(&rt)? {
+        let (reads, _) = calls_of(&rt, *run)?;
+        for failing in 1..=reads {
+            for (kind, want) in [
+                (ErrorKind::Other, StreamFault::Read),
+                (ErrorKind::IsADirectory, StreamFault::Read),
+                (ErrorKind::UnexpectedEof, StreamFault::Read),
+                (ErrorKind::WouldBlock, StreamFault::Read),
+                (ErrorKind::OutOfMemory, StreamFault::OutOfMemory),
+            ] {
+                assert!(rt;
+                    ends_unwritten(&rt, *run, failing, kind, want),
+                    "read {failing}: {run:?}"
+                );
+            }
+        }
     }
+    Ok(())
 }
 
-/// The reader would fail at a read that no run makes.
-#[test]
-fn a_read_that_fails_after_the_end(rt: HostRuntime) {
-    let mut reader = FailingReader {
-        bytes: INPUT,
-        before_failing: 99,
-        kind: ErrorKind::Other,
-    };
-    let mut writer = writer_of(&rt, 99);
-    assert_eq!(rt; run_streams(rt.alloc(), &mut reader, &mut writer), Ok(()));
-    assert_eq!(rt; writer.held.as_slice(), OUTPUT.as_bytes());
-}
-
-/// Whether a run whose writer has this much room fails, with the room used up.
-fn ends_when_full(rt: &HostRuntime, room: usize, fails_when_full: bool) -> bool {
-    let mut reader: &[u8] = INPUT;
-    let mut writer = writer_of(rt, room);
-    writer.fails_when_full = fails_when_full;
+/// Whether a run of which this write fails writes what those before it took, and calls no more.
+fn ends_in_write(rt: &HostRuntime, run: Run, failing: usize, failure: Failure) -> bool {
+    let mut reader: &[u8] = run.input;
+    let mut writer = writer_of(rt, run, failing, failure);
+    let len = run.step.saturating_mul(failing.saturating_sub(1));
     run_streams(rt.alloc(), &mut reader, &mut writer) == Err(StreamFault::Write)
-        && OUTPUT.as_bytes().starts_with(&writer.held)
-        && writer.held.len() == room
+        && has_taken(&writer, run.output.get(..len).unwrap_or(&[]), failing, 0)
 }
 
 #[test]
-fn a_write_that_fails(rt: HostRuntime) {
-    for (room, fails_when_full) in [(0, true), (0, false), (5, true), (5, false), (31, true)] {
-        assert!(rt;
-            ends_when_full(&rt, room, fails_when_full),
-            "room for {room} bytes"
-        );
+fn each_write_that_fails(rt: HostRuntime) -> Result<(), Fail> {
+    for run in &runs(&rt)? {
+        let (_, writes) = calls_of(&rt, *run)?;
+        for failing in 1..=writes {
+            for failure in [
+                Failure::Fails(ErrorKind::Other),
+                Failure::Fails(ErrorKind::StorageFull),
+                Failure::Fails(ErrorKind::OutOfMemory),
+                Failure::TakesNone,
+            ] {
+                assert!(rt;
+                    ends_in_write(&rt, *run, failing, failure),
+                    "write {failing}, {failure:?}: {run:?}"
+                );
+            }
+        }
     }
+    Ok(())
 }
 
+/// Whether a run whose flush fails writes all, and flushes no more.
+fn ends_in_flush(rt: &HostRuntime, run: Run, kind: ErrorKind) -> Result<bool, Fail> {
+    let (_, writes) = calls_of(rt, run)?;
+    let mut reader: &[u8] = run.input;
+    let mut writer = writer_of(rt, run, 0, Failure::TakesNone);
+    writer.flush = Some(kind);
+    Ok(
+        run_streams(rt.alloc(), &mut reader, &mut writer) == Err(StreamFault::Write)
+            && has_taken(&writer, run.output, writes, 1),
+    )
+}
+
+/// A flush that is interrupted is a failed one.
 #[test]
-fn a_flush_that_fails(rt: HostRuntime) {
-    let mut reader: &[u8] = INPUT;
-    let mut writer = writer_of(&rt, 99);
-    writer.fails_to_flush = true;
-    assert_eq!(rt;
-        run_streams(rt.alloc(), &mut reader, &mut writer),
-        Err(StreamFault::Write)
-    );
-    assert_eq!(rt; writer.held.as_slice(), OUTPUT.as_bytes());
+fn a_flush_that_fails(rt: HostRuntime) -> Result<(), Fail> {
+    for run in &runs(&rt)? {
+        for kind in [ErrorKind::Other, ErrorKind::Interrupted] {
+            assert!(rt; ends_in_flush(&rt, *run, kind)?, "{run:?}: {kind:?}");
+        }
+    }
+    Ok(())
+}
+
+/// Whether a run reads and writes all, where this read and this write are interrupted, with one more call of
+/// each.
+fn goes_on(rt: &HostRuntime, run: Run, read: usize, write: usize) -> Result<bool, Fail> {
+    let (reads, writes) = calls_of(rt, run)?;
+    let mut reader = reader_of(run, read, ErrorKind::Interrupted);
+    let mut writer = writer_of(rt, run, write, Failure::Fails(ErrorKind::Interrupted));
+    Ok(
+        run_streams(rt.alloc(), &mut reader, &mut writer).is_ok()
+            && reader.calls == reads.saturating_add(1)
+            && has_taken(&writer, run.output, writes.saturating_add(1), 1),
+    )
+}
+
+/// A read or a write that is interrupted is made again, and nothing is lost or written twice.
+#[test]
+fn interrupted_calls(rt: HostRuntime) -> Result<(), Fail> {
+    for run in &runs(&rt)? {
+        let (reads, writes) = calls_of(&rt, *run)?;
+        for read in 1..=reads {
+            assert!(rt; goes_on(&rt, *run, read, 1)?, "read {read}: {run:?}");
+        }
+        for write in 1..=writes {
+            assert!(rt; goes_on(&rt, *run, 1, write)?, "write {write}: {run:?}");
+        }
+    }
+    Ok(())
 }

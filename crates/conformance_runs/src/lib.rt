@@ -9,6 +9,10 @@ mod error_texts;
 #[cfg(test)]
 mod failing_streams;
 #[cfg(test)]
+mod hostile_bytes;
+#[cfg(test)]
+mod hostile_lines;
+#[cfg(test)]
 mod judged_bytes;
 #[cfg(test)]
 mod lists;

@@ -1,6 +1,6 @@
 //! The components of a path as a list, and its successive parents.
 
-use conformance::{Refusing, string};
+use conformance::{Refusing, repeated, string};
 use std::alloc::Global;
 use std::test::Fail;
 use uefi_path::{Path, PathBuf};
@@ -28,6 +28,16 @@ fn successive_parents(rt: HostRuntime) -> Result<(), Fail> {
         ("", ""),
     ] {
         assert_eq!(rt; barred_parents(&rt, text)?.as_str(), want, "{text}");
+    }
+    Ok(())
+}
+
+/// The empty path is the one parent of separators alone.
+#[test]
+fn parents_of_separators_alone(rt: HostRuntime) -> Result<(), Fail> {
+    for count in [2, 3, 4, 5, 6, 63, 64, 65] {
+        let text = repeated(rt.alloc(), "\\", count)?;
+        assert_eq!(rt; barred_parents(&rt, &text)?.as_str(), "|", "{count}");
     }
     Ok(())
 }

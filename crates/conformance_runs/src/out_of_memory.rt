@@ -16,6 +16,8 @@ use upath::{
 enum Call<'a> {
     /// One command that sets the path `a`, and 64 that push `b`.
     RunCommands,
+    /// Commands of each kind, of which the last two take none.
+    RunEachCommand,
     /// Commands that take none.
     RunCommandsWithout,
     /// Bytes, and why they are no path, if they are none.
@@ -58,6 +60,34 @@ fn runs_or_stops(heap: &Refusing<Global>) -> Result<bool, AllocError> {
     match answer {
         Ok(()) => Ok(are_components(units, 65)),
         Err(RunFault { done }) => out_of_memory(done <= 64 && are_components(units, done)),
+    }
+}
+
+/// Whether a list with a command of each kind is done, or the path is what those that were done made of it:
+/// only the first three take memory.
+fn runs_each_or_stops(heap: &Refusing<Global>) -> Result<bool, AllocError> {
+    let (Ok(first), Ok(second)) = (
+        CStr16::from_u16_with_nul(&[47, 97, 0]),
+        CStr16::from_u16_with_nul(&[98, 0]),
+    ) else {
+        return Ok(false);
+    };
+    let commands = [
+        PathCommand::From(first),
+        PathCommand::Push(Path::new(second)),
+        PathCommand::Parent,
+        PathCommand::Parent,
+        PathCommand::Clear,
+    ];
+    let mut path = PathBuf::new(heap)?;
+    let answer = run_commands(heap, &mut path, &commands);
+    let units = path.to_cstr16().to_u16_slice();
+    match answer {
+        Ok(()) => Ok(units.is_empty()),
+        Err(RunFault { done: 0 }) => out_of_memory(units.is_empty()),
+        Err(RunFault { done: 1 }) => out_of_memory(units == [92u16, 97].as_slice()),
+        Err(RunFault { done: 2 }) => out_of_memory(units == [92u16, 97, 92, 98].as_slice()),
+        Err(_) => Ok(false),
     }
 }
 
@@ -136,6 +166,7 @@ fn writes(heap: &Refusing<Global>, want: &[u8], alloc: Global) -> Result<bool, A
 fn answers(call: &Call<'_>, heap: &Refusing<Global>) -> Result<bool, AllocError> {
     match call {
         Call::RunCommands => runs_or_stops(heap),
+        Call::RunEachCommand => runs_each_or_stops(heap),
         Call::RunCommandsWithout => needs_no_memory(heap),
         Call::Judge(bytes, want) => judges(heap, bytes, *want),
         Call::Pieces(units, alloc) => lists(heap, units, *alloc),
@@ -160,7 +191,8 @@ fn ended(refusals: Refusals, least: u64, most: u64) -> bool {
 fn requests_for_judged_bytes(rt: HostRuntime) -> Result<(), Fail> {
     let illegal = PathError::IllegalChar(Char16::try_from('>')?);
     let open = JudgeError::Text(FromSliceWithNulError::NotNulTerminated);
-    let rows: [(&[u8], Option<JudgeError>, u64); 6] = [
+    let surrogate = JudgeError::Text(FromSliceWithNulError::InvalidChar(0));
+    let rows: [(&[u8], Option<JudgeError>, u64); 7] = [
         (&[0x61, 0, 0, 0], None, 1),
         (&[0, 0], Some(JudgeError::Invalid(PathError::Empty)), 1),
         (
@@ -170,6 +202,7 @@ fn requests_for_judged_bytes(rt: HostRuntime) -> Result<(), Fail> {
         ),
         (&[0x61, 0, 0], Some(JudgeError::HalfUnit), 0),
         (&[0x61, 0], Some(open), 0),
+        (&[0, 0xd8], Some(surrogate), 0),
         (&[], Some(open), 0),
     ];
     for (bytes, want, count) in rows {
@@ -183,6 +216,8 @@ fn requests_for_judged_bytes(rt: HostRuntime) -> Result<(), Fail> {
 fn requests_of_commands(rt: HostRuntime) -> Result<(), Fail> {
     let refusals = refusals_of(&rt, &Call::RunCommands, 1)?;
     assert!(rt; ended(refusals, 2, 998));
+    let refusals = refusals_of(&rt, &Call::RunEachCommand, 1)?;
+    assert!(rt; ended(refusals, 3, 98));
     let refusals = refusals_of(&rt, &Call::RunCommandsWithout, 1)?;
     assert!(rt; ended(refusals, 0, 0));
     Ok(())

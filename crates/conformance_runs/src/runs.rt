@@ -31,6 +31,12 @@ fn lines_and_what_they_print(rt: HostRuntime) -> Result<(), Fail> {
             "= \u{ffff}é\npieces 1\n| \u{ffff}é\n",
         ),
         ("from \\\\\npieces\n", "= \\\\\npieces 2\n| \n| \n"),
+        (
+            "from \\\\\\\npieces\nup\ncheck\n",
+            "= \\\\\\\npieces 3\n| \n| \n| \nparents 1\n| \n\
+             path contains an empty component\n",
+        ),
+        ("from \u{ffff}\n", "= \u{ffff}\n"),
     ] {
         assert!(rt; prints(&rt, input.as_bytes(), want)?, "{input:?}");
     }
@@ -182,32 +188,6 @@ fn refused_texts_of_each_verb(rt: HostRuntime) -> Result<(), Fail> {
         ("wat x\0", "? unknown command\n"),
     ] {
         assert!(rt; prints(&rt, input.as_bytes(), want)?, "{input:?}");
-    }
-    Ok(())
-}
-
-/// Whether a line prints that it is no UTF-8, and leaves the empty path.
-fn is_not_utf8(rt: &HostRuntime, line: &[u8]) -> Result<bool, Fail> {
-    let mut input = Vec::new(rt.alloc());
-    input.extend_from_slice(line)?;
-    input.extend_from_slice(b"\npieces")?;
-    prints(rt, &input, "? not UTF-8\npieces 0\n")
-}
-
-/// A byte that begins nothing, an overlong form, an encoded surrogate, a character beyond the last,
-/// and one that is cut short.
-#[test]
-fn lines_that_are_not_utf8(rt: HostRuntime) -> Result<(), Fail> {
-    let lines: [&[u8]; 6] = [
-        b"\xff",
-        b"from \xff",
-        b"from \xc0\xaf",
-        b"from \xed\xa0\x80",
-        b"from \xf4\x90\x80\x80",
-        b"from \xe2\x82",
-    ];
-    for line in lines {
-        assert!(rt; is_not_utf8(&rt, line)?, "{line:?}");
     }
     Ok(())
 }

@@ -1,6 +1,6 @@
 //! Strings written into sinks of characters.
 
-ghost use Rattle.std.specs.Prelude.{◌+◌, ◌<◌, ◌⊎◌, IsFalse, encode_utf8, length};
+ghost use Rattle.std.specs.Prelude.{◌≡◌, ◌+◌, ◌<◌, ◌⊎◌, IsFalse, encode_utf8, length};
 ghost use Rattle.std.specs.Char.{is_ascii_uppercase};
 
 use arrayvec::ArrayString;
@@ -101,5 +101,48 @@ fn sinks_of_a_caller(rt: HostRuntime) -> Result<(), Fail> {
     for (text, taken, all) in [("EFI", "EFI", true), ("EFi2", "EF", false), ("", "", true)] {
         assert!(rt; takes(&rt, text, taken, all)?, "{text}");
     }
+    Ok(())
+}
+
+/// A text that takes `LEN` bytes and refuses what comes then.
+#[derive(Drop)]
+struct Closing<const LEN: usize> {
+    text: ArrayString<64>,
+}
+
+impl<const LEN: usize> CharSink for Closing<LEN> {
+    ghost text = { λ sink. sink.text.bytes };
+
+    ghost may_refuse = { λ text c.
+        (64 < length text + length (encode_utf8 c)) ⊎ (length text ≡ LEN) };
+
+    fn write_char(&mut self, c: char) -> fmt::Result {
+        if self.text.len() == LEN {
+            return Err(fmt::Error);
+        }
+        match self.text.try_push(c) {
+            Ok(()) => Ok(()),
+            Err(_) => Err(fmt::Error),
+        }
+    }
+}
+
+/// Whether a sink takes these first letters of `abc`, and says whether they are all.
+fn takes_letters<const LEN: usize>(rt: &HostRuntime, taken: &str) -> Result<bool, Fail> {
+    let string = string(rt.alloc(), "abc")?;
+    let mut sink: Closing<LEN> = Closing {
+        text: ArrayString::new(),
+    };
+    let answer = string.as_cstr16().as_str_in_buf(&mut sink);
+    Ok(answer.is_ok() == (taken == "abc") && sink.text.as_str() == taken)
+}
+
+/// A sink that refuses at each character in turn, and one that refuses none.
+#[test]
+fn sinks_that_refuse_at_each_character(rt: HostRuntime) -> Result<(), Fail> {
+    assert!(rt; takes_letters::<0>(&rt, "")?);
+    assert!(rt; takes_letters::<1>(&rt, "a")?);
+    assert!(rt; takes_letters::<2>(&rt, "ab")?);
+    assert!(rt; takes_letters::<3>(&rt, "abc")?);
     Ok(())
 }

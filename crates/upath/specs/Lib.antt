@@ -9,3 +9,4 @@ pub mod Judging
 pub mod ErrorTexts
 pub mod Watched
 pub mod Streams
+pub mod ProgramEnds

@@ -16,8 +16,8 @@
 //!
 //! Data flows one way through the modules: `lines` cuts an input, `commands` reads a line, `run`
 //! keeps the path, edits it by `path_commands` and prints, `output` adds lines to what is printed,
-//! and `streams` puts a reader and a writer around a run. `judging` stands beside them, and [`laws`]
-//! apart: what users may reason by.
+//! `streams` puts a reader and a writer around a run, and `program_ends` says how a program ends after
+//! it. `judging` stands beside them, and [`laws`] apart: what users may reason by.
 #![tactic(auto)]
 
 mod commands;
@@ -26,12 +26,14 @@ pub mod laws;
 mod lines;
 mod output;
 mod path_commands;
+mod program_ends;
 mod run;
 mod streams;
 mod watched;
 
 pub use judging::{JudgeError, judge};
 pub use path_commands::{PathCommand, RunFault, all_parents, pieces, run_commands};
+pub use program_ends::ProgramEnd;
 pub use run::run_text;
 pub use streams::{StreamFault, run_streams};
 pub use watched::Watched;

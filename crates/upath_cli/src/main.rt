@@ -6,16 +6,12 @@
 
 use std::io;
 use std::process::ExitCode;
-use upath::{StreamFault, run_streams};
+use upath::{ProgramEnd, run_streams};
 
 fn main(rt: HostRuntime) -> ExitCode {
-    match run_streams(rt.alloc(), &mut rt.reader(), &mut io::writer(&rt)) {
-        Ok(()) => ExitCode::SUCCESS,
-        Err(StreamFault::Read | StreamFault::Write) => ExitCode::from(2),
-        Err(StreamFault::OutOfMemory) => {
-            // Nothing is left to do where standard error can't be written.
-            let _ = eprintln!(rt; "out of memory");
-            ExitCode::from(3)
-        }
-    }
+    let outcome = run_streams(rt.alloc(), &mut rt.reader(), &mut io::writer(&rt));
+    let end = ProgramEnd::after(outcome);
+    // Nothing is left to do where standard error can't be written.
+    let _ = eprint!(rt; "{}", end.message);
+    end.status
 }

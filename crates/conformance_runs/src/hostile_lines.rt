@@ -1,0 +1,84 @@
+//! Lines in which bytes are hidden that are no UTF-8, a character that no string of UCS-2 holds, the end of
+//! a line, or a character of more bytes than those beside it, at each place.
+
+use crate::runs::prints;
+use conformance::{hostile_places, repeated};
+use std::test::Fail;
+
+const NOT_UTF8: &str = "? not UTF-8\npieces 0\n";
+
+/// The bytes that stand among others in a line after `from `, and what it prints, and `pieces` after it:
+/// there `<` is the others before them, and `>` those after them.
+const ROWS: [(&[u8], &str); 13] = [
+    (b"a", "= <a>\npieces 1\n| <a>\n"),
+    (b"\xff", NOT_UTF8),
+    // A byte inside of no character, an overlong form, a surrogate, and a character beyond the last.
+    (b"\x80", NOT_UTF8),
+    (b"\xc0\xaf", NOT_UTF8),
+    (b"\xe0\x80\x80", NOT_UTF8),
+    (b"\xed\xa0\x80", NOT_UTF8),
+    (b"\xf4\x90\x80\x80", NOT_UTF8),
+    // Characters that are cut short.
+    (b"\xe2\x82", NOT_UTF8),
+    (b"\xf0\x9f\x98", NOT_UTF8),
+    (
+        b"\0",
+        "UCS-2 Conversion Error: Interior null terminator\npieces 0\n",
+    ),
+    (
+        b"\xf0\x9f\x98\x80",
+        "UCS-2 Conversion Error: Invalid character\npieces 0\n",
+    ),
+    (b"\xef\xbf\xbf", "= <\u{ffff}>\npieces 1\n| <\u{ffff}>\n"),
+    (b"\r\nclear\nfrom x", "= <\r\n= \n= x>\npieces 1\n| x>\n"),
+];
+
+/// The input of a row, with these others before and after its bytes.
+fn input(rt: &HostRuntime, bytes: &[u8], before: &str, after: &str) -> Result<Vec<u8>, Fail> {
+    let mut input = Vec::new(rt.alloc());
+    input.extend_from_slice(b"from ")?;
+    input.extend_from_slice(before.as_bytes())?;
+    input.extend_from_slice(bytes)?;
+    input.extend_from_slice(after.as_bytes())?;
+    input.extend_from_slice(b"\npieces")?;
+    Ok(input)
+}
+
+/// What a row prints, with these others before and after its bytes.
+fn output(rt: &HostRuntime, row: &str, before: &str, after: &str) -> Result<String, Fail> {
+    let mut output = String::new(rt.alloc());
+    for character in row.chars() {
+        match character {
+            '<' => output.push_str(before)?,
+            '>' => output.push_str(after)?,
+            _ => output.push(character)?,
+        }
+    }
+    Ok(output)
+}
+
+/// Whether each row prints what it has to, its bytes at this place among this many others.
+fn are_printed(rt: &HostRuntime, others: usize, place: usize, other: &str) -> Result<bool, Fail> {
+    let before = repeated(rt.alloc(), other, place as u64)?;
+    let after = repeated(rt.alloc(), other, others.saturating_sub(place) as u64)?;
+    for (bytes, row) in ROWS {
+        let input = input(rt, bytes, &before, &after)?;
+        if !prints(rt, &input, &output(rt, row, &before, &after)?)? {
+            return Ok(false);
+        }
+    }
+    Ok(true)
+}
+
+#[test]
+fn hostile_lines(rt: HostRuntime) -> Result<(), Fail> {
+    for (others, place) in &hostile_places(rt.alloc(), 65)? {
+        for other in ["a", "é"] {
+            assert!(rt;
+                are_printed(&rt, *others, *place, other)?,
+                "{others} others, at {place}"
+            );
+        }
+    }
+    Ok(())
+}
