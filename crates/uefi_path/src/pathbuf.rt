@@ -50,22 +50,15 @@ fn needs_separator<A: Allocator>(string: &CString16<A>) -> bool
     !text.is_empty() && text.get(text.len() - 1) != Some(SEPARATOR)
 }
 
-/// Adds a part after a string, and a separator between the two where one is missing. Where memory
-/// is refused the string is unchanged.
+/// Adds a part after a string, and a separator between the two where one is missing.
 fn append<A: Allocator>(string: &mut CString16<A>, part: Char16Slice<'_>) -> Result<(), AllocError>
     requires { IsText (units_of part) }
-    ensures ok { OnOk result (string.new ≡ appended string.old (units_of part.entry)) }
-    ensures err { OnErr result (string.new ≡ string.old) }
+    ensures { OnOk result (string.new ≡ appended string.old (units_of part.entry)) }
 {
-    let end = string.num_chars();
     if needs_separator(string) {
         string.push(SEPARATOR)?;
     }
-    if let Err(error) = string.push_part(part) {
-        string.truncate(end);
-        return Err(error);
-    }
-    Ok(())
+    string.push_part(part)
 }
 
 /// Adds each component but the last after a string, as [`append`] does.
@@ -127,16 +120,6 @@ fn append_components_but_last<A: Allocator>(
         last = component;
     }
     Ok(())
-}
-
-/// Replaces the slashes of a string whose separators, those of its slashes among them, stand at these
-/// places.
-fn replace_slashes<A: Allocator>(string: &mut CString16<A>, places: &[usize])
-    requires { places.now ≡ places_of (with_separators string.old) }
-    ensures { string.new ≡ with_separators string.old }
-{
-    let _ = places;
-    string.replace_char(SLASH, SEPARATOR);
 }
 
 /// How long a path becomes at most, when another is pushed after it.
@@ -264,7 +247,7 @@ impl<A: Allocator + Copy> PathBuf<A> {
         if add_places(&mut places, string.as_cstr16().to_u16_slice()).is_err() {
             return Err(string);
         }
-        replace_slashes(&mut string, places.as_slice());
+        string.replace_char(SLASH, SEPARATOR);
         Ok(PathBuf { string, places })
     }
 
@@ -284,7 +267,7 @@ impl<A: Allocator + Copy> PathBuf<A> {
         let mut tail = tail_of(self.alloc(), needs_separator(&self.string), path)?;
         let (end, known) = (self.string.num_chars(), self.places.len());
         add_places(&mut self.places, tail.as_cstr16().to_u16_slice())?;
-        replace_slashes(&mut tail, &self.places[known..]);
+        tail.replace_char(SLASH, SEPARATOR);
         if let Err(error) = self.string.push_str(tail.as_cstr16()) {
             self.places.truncate(known);
             return Err(error);
@@ -327,16 +310,21 @@ impl<A: Allocator + Copy> PathBuf<A> {
             IfSome parent (λ parent. length parent < length self.now)) }
         ensures successive { IfOk result (λ parent. parents_of self.now ≡ parent_chain parent) }
     {
-        if self.components().nth(1).is_none() {
+        let known = self.places.as_slice();
+        let rest = Rest::Placed(self.canonical(known));
+        let has_parent = Components::of_canonical(self.as_path(), rest).nth(1).is_some();
+        if !has_parent {
             return Ok(None);
         }
-        let (len, count) = match self.places.as_slice().last() {
+        // The last separator ends what is kept, and is left out.
+        let (len, count) = match known.last() {
             None => (0, 0),
-            Some(last) => (*last, self.places.len() - 1),
+            Some(last) => (*last, known.len() - 1),
         };
         let mut string = CString16::with_capacity(self.alloc(), len)?;
         let mut places = Vec::with_capacity(self.alloc(), count)?;
-        append_components_but_last(&mut string, &mut places, self.components())?;
+        let components = Components::of_canonical(self.as_path(), rest);
+        append_components_but_last(&mut string, &mut places, components)?;
         Ok(Some(PathBuf { string, places }))
     }
 
@@ -390,15 +378,16 @@ impl<A: Allocator + Copy> PathBuf<A> {
         ensures runs { GivesEach units_of components_left result }
         ensures no_nul { GivesNoNulIn result }
     {
-        Components::of_canonical(self.as_path(), Rest::Placed(self.canonical()))
+        let rest = self.canonical(self.places.as_slice());
+        Components::of_canonical(self.as_path(), Rest::Placed(rest))
     }
 
-    /// The canonical text, and the places of its separators. Looks at no character.
-    fn canonical(&self) -> PlacedText<'_>
+    /// The canonical text, with these places of the separators there. Looks at no character.
+    fn canonical<'a>(&'a self, places: &'a [usize]) -> PlacedText<'a>
+        requires { places.now ≡ places_of self.now }
         ensures { drop result.start (units_of result.text) ≡ canonical self.now }
     {
         let text = self.string.as_cstr16().as_slice();
-        let places = self.places.as_slice();
         if !places.is_empty() && places[0] == 0 {
             return PlacedText {
                 text,

@@ -14,11 +14,34 @@ fn becomes_separator(unit: u16) -> bool
     (unit == u16::from(SEPARATOR)) | (unit == u16::from(SLASH))
 }
 
-/// How many separators the units have once their slashes are replaced.
+/// How many units a block has.
+const BLOCK: usize = 64;
+
+/// How many separators a block has once its slashes are replaced.
+#[inline(always)]
+fn count_in_block(block: &[u16]) -> u16
+    requires { length block.now ≤ 64 }
+    ensures { result ≡ count_by becomes_separator block.now }
+{
+    let mut count = 0;
+    for unit in block {
+        count += u16::from(becomes_separator(*unit));
+    }
+    count
+}
+
+/// How many separators the units have once their slashes are replaced. Blocks with counts of their own
+/// are compiled to vector instructions.
 pub(crate) fn count_separators(units: &[u16]) -> usize
     ensures { result ≡ count_by becomes_separator units.now }
 {
-    units.iter().filter(|unit| becomes_separator(**unit)).count()
+    let mut count = 0;
+    let mut place = 0;
+    while BLOCK <= units.len() - place {
+        count += usize::from(count_in_block(&units[place..place + BLOCK]));
+        place += BLOCK;
+    }
+    count + usize::from(count_in_block(&units[place..]))
 }
 
 /// Writes the places of the separators that the units have once their slashes are replaced.

@@ -10,9 +10,9 @@ use Rattle.uefi_path.proofs.pathbuf.PathBuf.canonical.Goals as goal
 pub invariant_of-result : goal.invariant_of-result
 invariant_of-result g c =
     let text = units_of c.as_slice-text.result in
-    let places = c.as_slice-places.result.now in
+    let places = c.args.places.now in
     let same : text ≡ c.self.inside.string = c.as_slice-text.ensures.same ∙ c.as_cstr16.ensures.same in
-    let all : places ≡ places_of text = c.as_slice-places.ensures.value ∙ c.self.invariant.1 ∙ ap places_of (sym same) in
+    let all : places ≡ places_of text = c.requires ∙ ap places_of (sym (same ∙ c.self.view_is)) in
     let some : 0 < length places = grind (arith, nat_tests, c.if-not-is_empty.ensures) in
     let first =
     canonical_placed text (subst (λ ps. 0 < length ps) all some)

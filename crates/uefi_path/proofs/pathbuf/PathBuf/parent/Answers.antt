@@ -37,10 +37,10 @@ plain_parent text parent plain many made =
     }
 
 pub append_components_but_last-requires-clause-texts : goal.append_components_but_last-requires-clause-texts
-append_components_but_last-requires-clause-texts g c = c.components-2.ensures.texts
+append_components_but_last-requires-clause-texts g c = c.of_canonical-components.ensures.texts
 
 pub append_components_but_last-requires-clause-pieces : goal.append_components_but_last-requires-clause-pieces
-append_components_but_last-requires-clause-pieces g c = c.components-2.ensures.components.are_pieces
+append_components_but_last-requires-clause-pieces g c = c.of_canonical-components.ensures.components.are_pieces
 
 parent_is : (g : _) (c : goal.In_ok-append_components_but_last g) → PlainParent c.args.self.now c.append_components_but_last.new.string
 parent_is g c =
