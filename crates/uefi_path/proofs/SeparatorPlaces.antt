@@ -1,8 +1,7 @@
 -- The places of separators: how they cut a text, and what they are once it is edited.
 use Rattle.std.proofs.Common.{◌≡◌, ◌≢◌, ℕ, suc, ◌+◌, ◌-◌, ◌<◌, ◌≤◌, List, [], ◌∷◌, ◌++◌, length, get_or, take, drop, map, All, true, false, inl, inr, ap, sym, refl, subst, ◌∙◌, arith, add-zero, zero-add, append_assoc, if◌then◌else◌, set}
 use Rattle.std.specs.List.{count_by, onto_first, slice_range, slice_split}
-use Rattle.std.proofs.lemmas.Bool.{cases_Bool, eqb-false, ne_eqb}
-use Rattle.std.proofs.lemmas.Grind.{common_steps}
+use Rattle.std.proofs.lemmas.Bool.{cases_Bool, ne_eqb}
 use Rattle.std.proofs.lemmas.List.{append-nil, drop-drop, drop_more, length-drop, take-set, take_more_set}
 use Rattle.std.proofs.lemmas.List.Elements.{All-cons, All-head, All-nil, All-tail, All-weaker}
 use Rattle.std.proofs.lemmas.List.Sums.{sum_by-cons}
@@ -31,7 +30,7 @@ whole_piece start (u ∷ us) none =
           ∙ ap (onto_first u) (whole_piece (start + 1) us (none ∙ places_from-no start u us other))
     ]
 
--- how the first place cuts units: so many stand before it, and they are the first piece
+-- how the first place cuts units: those before it are the first piece
 record FirstPlace (start : ℕ) (us : List ℕ) (place : ℕ) (places : List ℕ) : Type 0 where
   before : ℕ
   at : place ≡ start + before
@@ -178,7 +177,7 @@ places_from-shift start by (u ∷ us) =
           ∙ sym (places_from-no (start + by) u us other)
     ]
 
--- a place that one of so many units from a place on has
+-- a place from `start` on and before `end`
 abbrev pub IsWithin : ℕ → ℕ → ℕ → Type 0
 IsWithin start end place = (start ≤ place) × (place < end)
 

@@ -343,8 +343,8 @@ impl<'a> Components<'a> {
     pub(crate) fn strip(self, base: Path<'_>) -> Option<Components<'a>>
         requires texts { All IsText (components_left self) }
         requires bound { length (components_left self) < 2 ^ 64 }
-        ensures starts { IsSome result
-            ↔ ((rest : List (List ℕ)) × (components_left self.entry ≡ components_of (path_text base.entry) ++ rest)) }
+        ensures starts { IsSome result ↔ ((rest : List (List ℕ))
+            × (components_left self.entry ≡ components_of (path_text base.entry) ++ rest)) }
         ensures rest { IfSome result (λ rest.
             components_left self.entry ≡ components_of (path_text base.entry) ++ components_left rest) }
         ensures texts { IfSome result (λ rest. All IsText (components_left rest)) }
@@ -398,6 +398,8 @@ impl<'a> Iterator for Components<'a> {
 
 impl<'a> fmt::Debug for Components<'a> {
     fn fmt<W: fmt::Write>(&self, f: &mut fmt::Formatter<W>) -> fmt::Result {
-        f.debug_tuple("Components").field(&self.rest.map(Rest::units)).finish()
+        f.debug_tuple("Components")
+            .field(&self.rest.map(Rest::units))
+            .finish()
     }
 }

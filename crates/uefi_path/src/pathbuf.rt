@@ -150,7 +150,8 @@ fn tail_of<A: Allocator>(
 impl<'a> Path<'a> {
     ghost use Rattle.uefi_path.specs.Views.{path_text};
 
-    /// The path in memory that it owns, each slash replaced; or `AllocError`.
+    /// The path in memory that it owns, each slash replaced; or `AllocError`. Takes memory as
+    /// [`PathBuf::from`] does.
     pub fn to_path_buf<A: Allocator + Copy>(&self, alloc: A) -> Result<PathBuf<A>, AllocError>
         ensures { IfOk result (λ path. path ≡ with_separators (path_text self.now)) }
     {
@@ -158,7 +159,8 @@ impl<'a> Path<'a> {
     }
 
     /// The path with another pushed after it, as [`PathBuf::push`] does, in memory that it owns; or
-    /// `AllocError`. The slashes of both are replaced.
+    /// `AllocError`. The slashes of both are replaced. Takes memory of the size needed for the text of
+    /// both, and for the places of their separators; linear in what both have.
     pub fn join<A: Allocator + Copy>(
         &self,
         alloc: A,
@@ -180,7 +182,8 @@ impl<'a> Path<'a> {
     /// There is none where the path has at most one component: that takes no memory and is never
     /// refused. Empty components are left out, but where the last one that is kept is empty and
     /// another is not, a separator ends the parent. It is shorter than the path, so that climbing from
-    /// parent to parent ends. Linear in the text.
+    /// parent to parent ends. Linear in the text; takes memory once for the text, and once for the places
+    /// of its separators, where it has any.
     pub fn parent<A: Allocator + Copy>(&self, alloc: A) -> Result<Option<PathBuf<A>>, AllocError>
         ensures ok { IfOk result (λ parent. parent ≡ parent_text (path_text self.now)) }
         ensures none { parent_text (path_text self.now) ≡ None → IsOk result }
@@ -217,7 +220,7 @@ impl<A: Allocator + Copy> PathBuf<A> {
         *self.places.allocator()
     }
 
-    /// The path of a string, each slash replaced, over the string's memory; or `AllocError`.
+    /// As [`PathBuf::new_from_cstring16`]; a string that comes back is let go.
     fn from_string(alloc: A, string: CString16<A>) -> Result<Self, AllocError>
         ensures { IfOk result (λ path. path ≡ with_separators string) }
     {
@@ -227,7 +230,8 @@ impl<A: Allocator + Copy> PathBuf<A> {
         }
     }
 
-    /// The path of a borrowed string, each slash replaced, in memory that it owns; or `AllocError`.
+    /// The path of a borrowed string, each slash replaced, in memory that it owns; or `AllocError`. Takes
+    /// memory once for the text, and once for the places of its separators, where it has any.
     pub fn from(alloc: A, string: CStr16<'_>) -> Result<Self, AllocError>
         ensures { IfOk result (λ path. path ≡ with_separators (text_of string.entry)) }
     {
@@ -235,10 +239,9 @@ impl<A: Allocator + Copy> PathBuf<A> {
     }
 
     /// The path of a string, each slash replaced, over the string's own memory. Where memory for the
-    /// places of its separators is refused, an `Err` with the string as it came.
+    /// places of its separators is refused, an `Err` with the string as it came, slashes and all.
     ///
-    /// One pass over the text finds them, after one that counts them, so that one request is enough, and
-    /// none for a text without.
+    /// Takes memory once, and none for a text without separators and slashes. Linear in the text.
     pub fn new_from_cstring16(alloc: A, mut string: CString16<A>) -> Result<Self, CString16<A>>
         ensures ok { IfOk result (λ path. path ≡ with_separators string) }
         ensures err { IfErr result (λ kept. kept ≡ string) }
@@ -254,8 +257,9 @@ impl<A: Allocator + Copy> PathBuf<A> {
     /// Pushes a path after this one, its slashes replaced, and a separator between the two where this
     /// one is not empty and does not end in one; or `AllocError`, and the path is unchanged.
     ///
-    /// The empty path changes nothing, takes no memory and is never refused. A push costs what it
-    /// adds, on average: of what stands already only the last character is looked at.
+    /// The empty path changes nothing, takes no memory and is never refused. Any other takes memory for
+    /// what it adds, and where text or places have no room. A push costs what it adds, on average: of
+    /// what stands already only the last character is looked at.
     pub fn push(&mut self, path: Path<'_>) -> Result<(), AllocError>
         ensures ok { OnOk result (self.new ≡ pushed self.old (path_text path.entry)) }
         ensures err { OnErr result (self.new ≡ self.old) }
@@ -301,8 +305,8 @@ impl<A: Allocator + Copy> PathBuf<A> {
         Ok(joined)
     }
 
-    /// The path without its last component, as [`Path::parent`], in memory of the same allocator. Costs
-    /// what the parent has.
+    /// The path without its last component, as [`Path::parent`], in memory of the same allocator. Looks
+    /// for no separator, and costs what the parent has.
     pub fn parent(&self) -> Result<Option<Self>, AllocError>
         ensures ok { IfOk result (λ parent. parent ≡ parent_text self.now) }
         ensures none { parent_text self.now ≡ None → IsOk result }
@@ -312,7 +316,9 @@ impl<A: Allocator + Copy> PathBuf<A> {
     {
         let known = self.places.as_slice();
         let rest = Rest::Placed(self.canonical(known));
-        let has_parent = Components::of_canonical(self.as_path(), rest).nth(1).is_some();
+        let has_parent = Components::of_canonical(self.as_path(), rest)
+            .nth(1)
+            .is_some();
         if !has_parent {
             return Ok(None);
         }
@@ -367,7 +373,8 @@ impl<A: Allocator + Copy> PathBuf<A> {
         self.string.is_empty()
     }
 
-    /// The components of the path, as [`Path::components`].
+    /// The components of the path, as [`Path::components`]. All of them together cost what there are
+    /// components: no character is looked at.
     pub fn components(&self) -> Components<'_>
         ensures same { components_left result ≡ components_of self.now }
         ensures components { AreComponents self.now (components_left result) }
@@ -431,7 +438,7 @@ impl<A: Allocator + Copy> PathBuf<A> {
     }
 }
 
-/// An equal path, in memory of the same allocator.
+/// An equal path, in memory of the same allocator, which it takes as [`PathBuf::from`] does.
 impl<A: Allocator + Copy> Clone for PathBuf<A> {
     ghost is_clone = { λ path copy. copy ≡ path };
 

@@ -1,6 +1,5 @@
 -- One place more is shifted.
-use Rattle.std.proofs.Common.{◌≡◌, ◌+◌, ◌<◌, arith, get_or, length}
-use Rattle.std.proofs.lemmas.Grind.{common_steps}
+use Rattle.std.proofs.Common.{◌+◌, ◌<◌, arith, get_or, length}
 use Rattle.std.proofs.lemmas.List.{get_or_default}
 use Rattle.std.proofs.lemmas.List.Edits.{map_over_more}
 use Rattle.uefi_path.proofs.places.shift.Goals as goal

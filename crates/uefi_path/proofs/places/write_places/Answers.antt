@@ -1,6 +1,5 @@
 -- As long as places are to be written there are units to be read.
 use Rattle.std.proofs.Common.{◌≡◌, ◌<◌, ◌≤◌, ◌+◌, ◌-◌, ◌++◌, ℕ, List, [], ◌∷◌, get_or, Bool, true, false, if◌then◌else◌, arith, ap, length, drop, take, ◌∙◌, sym, refl}
-use Rattle.std.proofs.lemmas.Grind.{common_steps}
 use Rattle.std.proofs.lemmas.List.{append-nil, length-append, length-drop, length-set, length-take, take_all}
 use Rattle.std.specs.List.{count_by}
 use Rattle.std.proofs.lemmas.List.Sums.{count_by-le-length}

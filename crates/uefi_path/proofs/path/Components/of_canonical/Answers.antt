@@ -4,7 +4,6 @@ use Rattle.std.proofs.lemmas.Grind.{common_steps}
 use Rattle.std.proofs.lemmas.List.Elements.{All-nil}
 use Rattle.uefi_text.specs.Units.{IsText, IsTextUnit}
 use Rattle.uefi_text.specs.Views.{units_of}
-use Rattle.uefi_path.specs.Separators.{canonical}
 use Rattle.uefi_path.specs.Views.{components_left, path_text, units_left}
 use Rattle.uefi_path.proofs.Splitting.{AreComponents-components_of, components_of-only, slice_split-canonical, length-slice_split-le}
 use Rattle.uefi_path.proofs.ParentSizes.{units-canonical}

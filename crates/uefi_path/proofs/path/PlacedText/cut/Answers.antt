@@ -1,5 +1,5 @@
 -- Where the first separator stands the first piece ends.
-use Rattle.std.proofs.Common.{◌≡◌, ◌<◌, ◌-◌, [], ap, arith, length, sym, take, drop, ◌∙◌, ◌∷◌, ◌+◌, get_or}
+use Rattle.std.proofs.Common.{◌≡◌, ◌<◌, [], ap, arith, length, sym, drop, ◌∙◌, ◌∷◌, ◌+◌, get_or}
 use Rattle.std.specs.List.{slice_range, slice_split}
 use Rattle.std.proofs.lemmas.Bool.Decides.{nat_tests}
 use Rattle.std.proofs.lemmas.Grind.{common_steps}

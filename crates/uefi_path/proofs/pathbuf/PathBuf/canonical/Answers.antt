@@ -1,10 +1,10 @@
 -- A separator stands first exactly where its place is 0.
-use Rattle.std.proofs.Common.{◌≡◌, ◌≢◌, ◌<◌, [], ap, arith, drop, get_or, length, subst, sym, ◌∙◌}
+use Rattle.std.proofs.Common.{◌≡◌, ◌<◌, ap, arith, drop, get_or, length, subst, sym, ◌∙◌}
 use Rattle.std.proofs.lemmas.Bool.Decides.{nat_tests}
 use Rattle.std.proofs.lemmas.List.{length-drop, take_all}
 use Rattle.uefi_text.specs.Views.{units_of}
 use Rattle.uefi_path.specs.Separators.{places_of}
-use Rattle.uefi_path.proofs.SeparatorPlaces.{canonical_placed, canonical_unplaced}
+use Rattle.uefi_path.proofs.SeparatorPlaces.{canonical_placed}
 use Rattle.uefi_path.proofs.pathbuf.PathBuf.canonical.Goals as goal
 
 pub invariant_of-result : goal.invariant_of-result

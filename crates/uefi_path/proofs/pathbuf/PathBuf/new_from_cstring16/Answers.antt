@@ -1,5 +1,5 @@
 -- No slash is left, and the places were those of the separators that there are now.
-use Rattle.std.proofs.Common.{[], ap, arith, ◌≡◌, ◌∙◌, ◌++◌, sym}
+use Rattle.std.proofs.Common.{arith, ◌≡◌}
 use Rattle.std.proofs.lemmas.Grind.{common_steps}
 use Rattle.uefi_path.specs.Separators.{places_of, with_separators}
 use Rattle.uefi_path.proofs.Splitting.{IsPlain-with_separators}
