@@ -41,11 +41,12 @@ fn shows(path: &Buffer<'_>, want: CStr16<'_>) -> bool {
     path.to_cstr16() == want
 }
 
-/// Whether the path that takes over a copy of a string has this text.
+/// Whether the path that takes over a copy of a string has this text, or the very string comes back
+/// where memory ran out.
 fn takes_over(heap: &Refusing<Global>, row: Row<'_>) -> Result<bool, AllocError> {
     match PathBuf::new_from_cstring16(heap, CString16::from_cstr16(heap, row.text)?) {
         Ok(path) => Ok(shows(&path, row.want)),
-        Err(_) => Err(AllocError),
+        Err(kept) => out_of_memory(kept.eq_cstr16(row.text)),
     }
 }
 
@@ -180,28 +181,31 @@ const PLAIN: &str = "efi\\boot\\loader\\entries\\2026\\linux\\initrd.img";
 const PLAIN_PARENT: &str = "efi\\boot\\loader\\entries\\2026\\linux";
 
 /// Each call, how many requests come before it, its texts, and how many requests it makes at least and
-/// at most. A path takes over the memory of its string, and gives it back.
+/// at most. A path takes over the memory of its string, and gives it back. Beside its text it asks for
+/// the places of its separators, where it has any.
 #[test]
 fn requests_of_each_call(rt: HostRuntime) -> Result<(), Fail> {
     for (call, setup, texts, least, most) in [
         (Call::New, 0, ["", "", ""], 1, 1),
-        (Call::NewFromCString16, 1, ["a/b", "", "a\\b"], 0, 0),
-        (Call::From, 0, ["/a\\b", "", "\\a\\b"], 1, 1),
-        (Call::ToPathBuf, 0, ["/a\\b", "", "\\a\\b"], 1, 1),
-        (Call::Join, 0, ["/a\\b", "c/d", "\\a\\b\\c\\d"], 1, 1),
-        (Call::Parent, 0, [LONG, "", LONG_PARENT], 1, 1),
-        (Call::CloneBuffer, 1, ["a\\b", "", ""], 1, 1),
-        (Call::JoinBuffer, 1, ["a\\b", "/c", "a\\b\\\\c"], 1, 1),
-        (Call::ParentOfBuffer, 1, [PLAIN, "", PLAIN_PARENT], 1, 1),
+        (Call::NewFromCString16, 1, ["a/b", "", "a\\b"], 1, 1),
+        (Call::NewFromCString16, 1, ["ab", "", "ab"], 0, 0),
+        (Call::From, 0, ["/a\\b", "", "\\a\\b"], 2, 2),
+        (Call::ToPathBuf, 0, ["/a\\b", "", "\\a\\b"], 2, 2),
+        (Call::Join, 0, ["/a\\b", "c/d", "\\a\\b\\c\\d"], 3, 4),
+        (Call::Parent, 0, [LONG, "", LONG_PARENT], 2, 2),
+        (Call::CloneBuffer, 2, ["a\\b", "", ""], 2, 2),
+        (Call::JoinBuffer, 2, ["a\\b", "/c", "a\\b\\\\c"], 3, 3),
+        (Call::ParentOfBuffer, 2, [PLAIN, "", PLAIN_PARENT], 2, 2),
+        (Call::ParentOfBuffer, 2, ["a\\b", "", "a"], 1, 1),
         (
             Call::Push,
-            1,
+            2,
             ["a\\b", "cd/ef/gh/ij", "a\\b\\cd\\ef\\gh\\ij"],
             2,
             97,
         ),
-        (Call::IntoCString16, 1, ["a/b", "", "a\\b"], 0, 0),
-        (Call::Nothing, 1, ["\\a", "", ""], 0, 0),
+        (Call::IntoCString16, 2, ["a/b", "", "a\\b"], 0, 0),
+        (Call::Nothing, 2, ["\\a", "", ""], 0, 0),
     ] {
         let count = count_of(&rt, call, setup, texts)?;
         assert!(rt; least <= count && count <= most, "{call:?}: {count}");

@@ -225,7 +225,7 @@ fn requests_of_commands(rt: HostRuntime) -> Result<(), Fail> {
 
 #[test]
 fn requests_for_parents(rt: HostRuntime) -> Result<(), Fail> {
-    let refusals = refusals_of(&rt, &Call::AllParents(&[97, 92, 98, 92, 99, 0]), 1)?;
+    let refusals = refusals_of(&rt, &Call::AllParents(&[97, 92, 98, 92, 99, 0]), 2)?;
     assert!(rt; ended(refusals, 2, 98));
     Ok(())
 }

@@ -1,4 +1,5 @@
 pub mod Splitting
+pub mod SeparatorPlaces
 pub mod Pushing
 pub mod Parents
 pub mod Joining

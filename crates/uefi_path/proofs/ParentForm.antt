@@ -111,7 +111,7 @@ plain_with_end (n ∷ ns) false plain =
     All-append (λ u. u ≢ slash) (joined (n ∷ ns)) []
     (All-joined (λ u. u ≢ slash) (n ∷ ns) separator_is_plain plain) (All-nil (λ u. u ≢ slash))
 
-plain_rejoined : (ps : List (List ℕ)) → All IsPlain ps → IsPlain (rejoined ps)
+pub plain_rejoined : (ps : List (List ℕ)) → All IsPlain ps → IsPlain (rejoined ps)
 plain_rejoined ps plain =
     plain_with_end (non_empty ps) (ends_empty ps) (All-filter is_non_empty IsPlain ps plain)
 

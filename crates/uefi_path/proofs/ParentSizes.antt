@@ -61,7 +61,7 @@ units-all_but_last piece next (third ∷ pieces) =
       length-append piece (separator ∷ joined kept),
     )
 
-units-canonical : (text : List ℕ) → length (canonical text) ≤ length text
+pub units-canonical : (text : List ℕ) → length (canonical text) ≤ length text
 units-canonical [] = omega arith
 units-canonical (unit ∷ units) = grind (arith, common_steps)
 

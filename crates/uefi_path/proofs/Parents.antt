@@ -160,7 +160,7 @@ module _ (P : ℕ → Type 0) where
   All-pieces_between [] all = All-nil (All P)
   All-pieces_between (u ∷ us) all = All-slice_split (u ∷ us) all
 
-  All-canonical : (text : List ℕ) → All P text → All P (canonical text)
+  pub All-canonical : (text : List ℕ) → All P text → All P (canonical text)
   All-canonical [] all = All-nil P
   All-canonical (u ∷ us) all =
       elim (is_separator u) as (λ b. All P (if b then us else u ∷ us))

@@ -1,20 +1,26 @@
 -- What a borrowed value shows. Other crates see these words alone, and no field.
-use Rattle.std.specs.Prelude.{ℕ, List, [], Option, Some, None}
+use Rattle.std.specs.Prelude.{ℕ, List, [], Option, Some, None, drop}
 use Rattle.std.specs.List.{slice_split}
 use Rattle.uefi_text.specs.Views.{text_of, units_of}
-use Rattle.uefi_text.specs.declared.strs.Char16Slice.{Char16Slice}
 use Rattle.uefi_path.specs.Separators.{is_separator}
 use Rattle.uefi_path.specs.declared.path.Path.{Path}
 use Rattle.uefi_path.specs.declared.path.Components.{Components}
+use Rattle.uefi_path.specs.declared.path.Rest.{Rest}
+use Rattle.uefi_path.specs.declared.path.Rest.TheVariants.{Scanned, Placed}
 
 -- the text of a path
 unfoldable pub path_text : Path → List ℕ
 path_text path = text_of path.string
 
+-- the units that are left to cut
+abbrev pub units_left : Rest → List ℕ
+units_left (Scanned text) = units_of text
+units_left (Placed placed) = drop placed.start (units_of placed.text)
+
 -- the pieces of what is left to cut, if anything is
-abbrev pub pieces_of_rest : Option Char16Slice → List (List ℕ)
+abbrev pub pieces_of_rest : Option Rest → List (List ℕ)
 pieces_of_rest None = []
-pieces_of_rest (Some rest) = slice_split is_separator (units_of rest)
+pieces_of_rest (Some rest) = slice_split is_separator (units_left rest)
 
 -- the components that are still to come
 unfoldable pub components_left : Components → List (List ℕ)

@@ -35,6 +35,7 @@
 pub mod laws;
 mod path;
 mod pathbuf;
+mod places;
 mod validation;
 
 pub use path::{Components, Path, separator_str};

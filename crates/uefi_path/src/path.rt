@@ -1,10 +1,10 @@
 //! Paths that are borrowed, and their components. `specs/Views.antt` says what each view shows.
 #![tactic(auto, unfolding(crate::specs::Views::path_text, crate::specs::Views::components_left))]
 
-ghost use Rattle.std.specs.Prelude.{◌≡◌, ℕ, ◌+◌, ◌<◌, ◌^◌, ◌↔◌, [], ◌∷◌, ◌++◌, All, List, None, Option, length, option_map, position, IfSome, IsSome, IsTrue};
-ghost use Rattle.std.specs.List.{last_or};
+ghost use Rattle.std.specs.Prelude.{◌≡◌, ℕ, ◌+◌, ◌<◌, ◌^◌, ◌↔◌, [], ◌∷◌, ◌++◌, ◌≤◌, All, List, None, Option, drop, length, option_map, position, IfSome, IsSome, IsTrue};
+ghost use Rattle.std.specs.List.{last_or, slice_split};
 ghost use Rattle.uefi_path.specs.Components.{AreComponents, IsFirstCut, StartsWith, components_of};
-ghost use Rattle.uefi_path.specs.Separators.{canonical, is_separator, separator};
+ghost use Rattle.uefi_path.specs.Separators.{canonical, is_separator, places_from, separator};
 ghost use Rattle.uefi_text.specs.Runs.{GivesEach};
 ghost use Rattle.uefi_text.specs.Units.{IsText};
 ghost use Rattle.uefi_text.specs.Views.{text_of, units_of};
@@ -26,7 +26,27 @@ pub struct Path<'a> {
 #[derive(Drop)]
 pub struct Components<'a> {
     /// What is left to cut; `None` after the last component.
-    rest: Option<Char16Slice<'a>>,
+    rest: Option<Rest<'a>>,
+}
+
+/// What is left of a text to cut into components.
+#[derive(Clone, Copy)]
+pub(crate) enum Rest<'a> {
+    /// Its separators are looked for.
+    Scanned(Char16Slice<'a>),
+
+    /// Where its separators stand is known.
+    Placed(PlacedText<'a>),
+}
+
+/// A text from a place on, and the places of the separators there, counted in the whole text.
+#[derive(Clone, Copy)]
+pub(crate) struct PlacedText<'a> {
+    pub(crate) text: Char16Slice<'a>,
+    pub(crate) start: usize,
+    pub(crate) places: &'a [usize],
+    pub ghost within: { start ≤ length (units_of text) },
+    pub ghost all: { places.now ≡ places_from start (drop start (units_of text)) },
 }
 
 impl<'a> Path<'a> {
@@ -64,10 +84,7 @@ impl<'a> Path<'a> {
         ensures no_nul { GivesNoNulIn result }
     {
         let text = self.canonical();
-        if text.is_empty() {
-            return Components { rest: None };
-        }
-        Components { rest: Some(text) }
+        Components::of_canonical(*self, Rest::Scanned(text))
     }
 
     /// The last component, or `None` where there is none. It may be empty. Takes no memory; one pass
@@ -100,14 +117,7 @@ impl<'a> Path<'a> {
         ensures runs { IfSome result (λ rest. GivesEach units_of components_left rest) }
         ensures no_nul { IfSome result (λ rest. GivesNoNulIn rest) }
     {
-        let mut rest = self.components();
-        for component in base.components() {
-            let own = rest.next()?;
-            if own != component {
-                return None;
-            }
-        }
-        Some(rest)
+        self.components().strip(base)
     }
 
     /// Whether the text is empty. A lone separator is not, though it equals the empty path.
@@ -249,6 +259,110 @@ fn first_cut(part: Char16Slice<'_>) -> Option<usize>
     find_separator(part.units())
 }
 
+impl<'a> Rest<'a> {
+    ghost use Rattle.uefi_path.specs.Views.{pieces_of_rest, units_left};
+
+    /// The units that are left.
+    fn units(self) -> Char16Slice<'a>
+        ensures { units_of result ≡ units_left self.entry }
+    {
+        match self {
+            Rest::Scanned(text) => text,
+            Rest::Placed(placed) => placed.text.part(placed.start, placed.text.len()),
+        }
+    }
+
+    /// The first component, and what is left after it.
+    fn cut(self) -> (Char16Slice<'a>, Option<Rest<'a>>)
+        ensures { slice_split is_separator (units_left self.entry)
+            ≡ units_of result.0 ∷ pieces_of_rest result.1 }
+    {
+        match self {
+            Rest::Scanned(text) => {
+                let len = text.len();
+                match first_cut(text) {
+                    None => (text, None),
+                    Some(place) => {
+                        let after = text.part(place + 1, len);
+                        (text.part(0, place), Some(Rest::Scanned(after)))
+                    }
+                }
+            }
+            Rest::Placed(placed) => placed.cut(),
+        }
+    }
+}
+
+impl<'a> PlacedText<'a> {
+    ghost use Rattle.uefi_path.specs.Views.{pieces_of_rest};
+
+    /// The first component, and what is left after it. Looks at no unit.
+    fn cut(self) -> (Char16Slice<'a>, Option<Rest<'a>>)
+        ensures { slice_split is_separator (drop self.entry.start (units_of self.entry.text))
+            ≡ units_of result.0 ∷ pieces_of_rest result.1 }
+    {
+        let len = self.text.len();
+        if self.places.is_empty() {
+            return (self.text.part(self.start, len), None);
+        }
+        let place = self.places[0];
+        let after = PlacedText {
+            text: self.text,
+            start: place + 1,
+            places: &self.places[1..],
+        };
+        (self.text.part(self.start, place), Some(Rest::Placed(after)))
+    }
+}
+
+impl<'a> Components<'a> {
+    ghost use Rattle.uefi_path.specs.Runs.{GivesNoNulIn};
+    ghost use Rattle.uefi_path.specs.Views.{components_left, path_text, units_left};
+
+    /// The components of a path, of which the rest is the canonical text.
+    pub(crate) fn of_canonical(path: Path<'_>, rest: Rest<'a>) -> Components<'a>
+        requires { units_left rest ≡ canonical (path_text path) }
+        ensures same { components_left result ≡ components_of (path_text path.entry) }
+        ensures components { AreComponents (path_text path.entry) (components_left result) }
+        ensures only { (pieces : List (List ℕ)) →
+            AreComponents (path_text path.entry) pieces → pieces ≡ components_left result }
+        ensures texts { All IsText (components_left result) }
+        ensures bound { length (components_left result) < 2 ^ 64 }
+        ensures runs { GivesEach units_of components_left result }
+        ensures no_nul { GivesNoNulIn result }
+    {
+        // The clauses of this call say that the path shows a text, and how long it can be.
+        let _text = path.string.as_slice();
+        if rest.units().is_empty() {
+            return Components { rest: None };
+        }
+        Components { rest: Some(rest) }
+    }
+
+    /// What [`Path::strip_prefix`] returns, of the components of this path.
+    pub(crate) fn strip(self, base: Path<'_>) -> Option<Components<'a>>
+        requires texts { All IsText (components_left self) }
+        requires bound { length (components_left self) < 2 ^ 64 }
+        ensures starts { IsSome result ↔ ((rest : List (List ℕ))
+            × (components_left self.entry ≡ components_of (path_text base.entry) ++ rest)) }
+        ensures rest { IfSome result (λ rest.
+            components_left self.entry ≡ components_of (path_text base.entry) ++ components_left rest) }
+        ensures texts { IfSome result (λ rest. All IsText (components_left rest)) }
+        ensures bound { IfSome result (λ rest. length (components_left rest) < 2 ^ 64) }
+        ensures runs { IfSome result (λ rest. GivesEach units_of components_left rest) }
+        ensures no_nul { IfSome result (λ rest. GivesNoNulIn rest) }
+    {
+        let mut rest = self;
+        for component in base.components() {
+            let own = rest.next()?;
+            if own != component {
+                return None;
+            }
+        }
+        Some(rest)
+    }
+}
+
 impl<'a> Iterator for Components<'a> {
     type Item = Char16Slice<'a>;
 
@@ -263,18 +377,9 @@ impl<'a> Iterator for Components<'a> {
     ghost remaining = { item_count components_left };
 
     fn next(&mut self) -> Option<Char16Slice<'a>> {
-        let rest = self.rest?;
-        let len = rest.len();
-        match first_cut(rest) {
-            None => {
-                self.rest = None;
-                Some(rest)
-            }
-            Some(place) => {
-                self.rest = Some(rest.part(place + 1, len));
-                Some(rest.part(0, place))
-            }
-        }
+        let (component, rest) = self.rest?.cut();
+        self.rest = rest;
+        Some(component)
     }
 
     /// None after the last component; before it at least one, and at most one more than there are
@@ -286,13 +391,15 @@ impl<'a> Iterator for Components<'a> {
     {
         match self.rest {
             None => (0, Some(0)),
-            Some(rest) => (1, Some(rest.units().len() + 1)),
+            Some(rest) => (1, Some(rest.units().units().len() + 1)),
         }
     }
 }
 
 impl<'a> fmt::Debug for Components<'a> {
     fn fmt<W: fmt::Write>(&self, f: &mut fmt::Formatter<W>) -> fmt::Result {
-        f.debug_tuple("Components").field(&self.rest).finish()
+        f.debug_tuple("Components")
+            .field(&self.rest.map(Rest::units))
+            .finish()
     }
 }

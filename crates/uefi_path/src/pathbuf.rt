@@ -1,17 +1,18 @@
 //! Paths that are owned, and the calls of [`Path`] that make one.
-ghost use Rattle.std.specs.Prelude.{◌≡◌, ℕ, ◌<◌, ◌^◌, ◌↔◌, [], ◌++◌, All, List, None, fold, length, option_map, IsTrue, IsOk, IsSome, IfOk, IfErr, IfSome, OnOk, OnErr};
+ghost use Rattle.std.specs.Prelude.{◌≡◌, ℕ, ◌<◌, ◌^◌, ◌↔◌, [], ◌∷◌, ◌++◌, All, List, None, drop, fold, if◌then◌else◌, length, option_map, IsTrue, IsOk, IsSome, IfOk, IfErr, IfSome, OnOk, OnErr};
 ghost use Rattle.std.specs.List.{last_or};
-ghost use Rattle.uefi_path.specs.Components.{AreComponents, StartsWith, components_of};
+ghost use Rattle.uefi_path.specs.Components.{AreComponents, IsPiece, StartsWith, components_of};
 ghost use Rattle.uefi_path.specs.Parents.{parent_text, all_but_last};
 ghost use Rattle.uefi_path.specs.Runs.{GivesNoNulIn};
 ghost use Rattle.uefi_path.specs.Pushing.{appended, needs_separator, pushed};
-ghost use Rattle.uefi_path.specs.Separators.{IsPlain, with_separators};
+ghost use Rattle.uefi_path.specs.Separators.{IsPlain, canonical, places_of, separator, with_separators};
 ghost use Rattle.uefi_path.specs.SuccessiveParents.{parent_chain, parents_of};
-ghost use Rattle.uefi_path.specs.Views.{components_left};
+ghost use Rattle.uefi_path.specs.Views.{components_left, path_text};
 ghost use Rattle.uefi_text.specs.Units.{IsText};
 ghost use Rattle.uefi_text.specs.Views.{units_of};
 
-use crate::path::{Components, Path};
+use crate::path::{Components, Path, PlacedText, Rest};
+use crate::places::{add_places, count_separators, shift_added};
 use std::alloc::{AllocError, Allocator, Global};
 use std::cmp::Ordering;
 use std::fmt;
@@ -26,19 +27,19 @@ use uefi_text::strs::{CStr16, Char16Slice};
 pub struct PathBuf<A: Allocator = Global> {
     string: CString16<A>,
 
-    /// What the string lies in, for paths that are made of this one.
-    alloc: A,
+    /// The places of all separators in the text, in ascending order.
+    places: Vec<usize, A>,
 }
 
 impl<A: Allocator> Model for PathBuf<A> {
-    ghost use Rattle.std.specs.Prelude.{ℕ, List};
-    ghost use Rattle.uefi_path.specs.Separators.{IsPlain};
+    ghost use Rattle.std.specs.Prelude.{◌≡◌, ℕ, List};
+    ghost use Rattle.uefi_path.specs.Separators.{IsPlain, places_of};
 
     ghost Value = { List ℕ };
 
     ghost view = { λ path. path.string };
 
-    ghost invariant = { λ path. IsPlain path.string };
+    ghost invariant = { λ path. IsPlain path.string × (path.places.items ≡ places_of path.string) };
 }
 
 /// Whether the string is not empty and its last character is no separator.
@@ -49,22 +50,15 @@ fn needs_separator<A: Allocator>(string: &CString16<A>) -> bool
     !text.is_empty() && text.get(text.len() - 1) != Some(SEPARATOR)
 }
 
-/// Adds a part after a string, and a separator between the two where one is missing. Where memory
-/// is refused the string is unchanged.
+/// Adds a part after a string, and a separator between the two where one is missing.
 fn append<A: Allocator>(string: &mut CString16<A>, part: Char16Slice<'_>) -> Result<(), AllocError>
     requires { IsText (units_of part) }
-    ensures ok { OnOk result (string.new ≡ appended string.old (units_of part.entry)) }
-    ensures err { OnErr result (string.new ≡ string.old) }
+    ensures { OnOk result (string.new ≡ appended string.old (units_of part.entry)) }
 {
-    let end = string.num_chars();
     if needs_separator(string) {
         string.push(SEPARATOR)?;
     }
-    if let Err(error) = string.push_part(part) {
-        string.truncate(end);
-        return Err(error);
-    }
-    Ok(())
+    string.push_part(part)
 }
 
 /// Adds each component but the last after a string, as [`append`] does.
@@ -86,11 +80,78 @@ fn append_all_but_last<A: Allocator>(
     Ok(())
 }
 
+/// Adds a component after a string, as [`append`] does, and the place of the separator between.
+fn append_component<A: Allocator>(
+    string: &mut CString16<A>,
+    places: &mut Vec<usize, A>,
+    component: Char16Slice<'_>,
+) -> Result<(), AllocError>
+    requires is_text { IsText (units_of component) }
+    requires is_piece { IsPiece (units_of component) }
+    requires places { places.old.items ≡ places_of string.old }
+    ensures string { OnOk result (string.new ≡ appended string.old (units_of component.entry)) }
+    ensures places { OnOk result (places.new.items ≡ places_of string.new) }
+{
+    if needs_separator(string) {
+        places.push(string.num_chars())?;
+        string.push(SEPARATOR)?;
+    }
+    string.push_part(component)
+}
+
+/// Adds each component but the last after a string, as [`append_component`] does.
+fn append_components_but_last<A: Allocator>(
+    string: &mut CString16<A>,
+    places: &mut Vec<usize, A>,
+    mut components: Components<'_>,
+) -> Result<(), AllocError>
+    requires texts { All IsText (components_left components) }
+    requires pieces { All IsPiece (components_left components) }
+    requires places { places.old.items ≡ places_of string.old }
+    ensures string { OnOk result (string.new
+        ≡ fold appended string.old (all_but_last (components_left components.entry))) }
+    ensures places { OnOk result (places.new.items ≡ places_of string.new) }
+{
+    let Some(mut last) = components.next() else {
+        return Ok(());
+    };
+    for component in components {
+        append_component(string, places, last)?;
+        last = component;
+    }
+    Ok(())
+}
+
+/// How long a path becomes at most, when another is pushed after it.
+fn room_for_both(path: Path<'_>, other: Path<'_>) -> usize {
+    let (first, second) = (path.to_cstr16().num_chars(), other.to_cstr16().num_chars());
+    first.saturating_add(second).saturating_add(1)
+}
+
+/// What a push adds, but that its slashes are still there: a separator where one is missing, and the path.
+fn tail_of<A: Allocator>(
+    alloc: A,
+    is_missing: bool,
+    path: Path<'_>,
+) -> Result<CString16<A>, AllocError>
+    ensures { IfOk result (λ tail. tail
+        ≡ (if is_missing then separator ∷ path_text path.entry else path_text path.entry)) }
+{
+    let string = path.to_cstr16();
+    let mut tail = CString16::with_capacity(alloc, string.num_chars().saturating_add(1))?;
+    if is_missing {
+        tail.push(SEPARATOR)?;
+    }
+    tail.push_str(string)?;
+    Ok(tail)
+}
+
 /// The calls that make an owned path.
 impl<'a> Path<'a> {
     ghost use Rattle.uefi_path.specs.Views.{path_text};
 
-    /// The path in memory that it owns, each slash replaced; or `AllocError`. One allocation.
+    /// The path in memory that it owns, each slash replaced; or `AllocError`. Takes memory as
+    /// [`PathBuf::from`] does.
     pub fn to_path_buf<A: Allocator + Copy>(&self, alloc: A) -> Result<PathBuf<A>, AllocError>
         ensures { IfOk result (λ path. path ≡ with_separators (path_text self.now)) }
     {
@@ -98,7 +159,8 @@ impl<'a> Path<'a> {
     }
 
     /// The path with another pushed after it, as [`PathBuf::push`] does, in memory that it owns; or
-    /// `AllocError`. The slashes of both are replaced. One allocation of the size needed.
+    /// `AllocError`. The slashes of both are replaced. Takes memory of the size needed for the text of
+    /// both, and for the places of their separators; linear in what both have.
     pub fn join<A: Allocator + Copy>(
         &self,
         alloc: A,
@@ -107,13 +169,9 @@ impl<'a> Path<'a> {
         ensures { IfOk result (λ joined.
             joined ≡ pushed (with_separators (path_text self.now)) (path_text path.entry)) }
     {
-        let (first, second) = (self.to_cstr16().num_chars(), path.to_cstr16().num_chars());
-        let room = first.saturating_add(second).saturating_add(1);
-        let mut joined = PathBuf {
-            string: CString16::with_capacity(alloc, room)?,
-            alloc,
-        };
-        joined.push(*self)?;
+        let mut string = CString16::with_capacity(alloc, room_for_both(*self, path))?;
+        string.push_str(self.to_cstr16())?;
+        let mut joined = PathBuf::from_string(alloc, string)?;
         joined.push(path)?;
         Ok(joined)
     }
@@ -124,7 +182,8 @@ impl<'a> Path<'a> {
     /// There is none where the path has at most one component: that takes no memory and is never
     /// refused. Empty components are left out, but where the last one that is kept is empty and
     /// another is not, a separator ends the parent. It is shorter than the path, so that climbing from
-    /// parent to parent ends. Linear in the text; one allocation.
+    /// parent to parent ends. Linear in the text; takes memory once for the text, and once for the places
+    /// of its separators, where it has any.
     pub fn parent<A: Allocator + Copy>(&self, alloc: A) -> Result<Option<PathBuf<A>>, AllocError>
         ensures ok { IfOk result (λ parent. parent ≡ parent_text (path_text self.now)) }
         ensures none { parent_text (path_text self.now) ≡ None → IsOk result }
@@ -137,7 +196,7 @@ impl<'a> Path<'a> {
         }
         let mut string = CString16::with_capacity(alloc, self.to_cstr16().num_chars())?;
         append_all_but_last(&mut string, self.components())?;
-        Ok(Some(PathBuf::from_string(alloc, string)))
+        Ok(Some(PathBuf::from_string(alloc, string)?))
     }
 }
 
@@ -152,41 +211,55 @@ impl<A: Allocator + Copy> PathBuf<A> {
     {
         Ok(PathBuf {
             string: CString16::new(alloc)?,
-            alloc,
+            places: Vec::new(alloc),
         })
     }
 
-    /// The path of a string, each slash replaced, over the string's memory.
-    fn from_string(alloc: A, mut string: CString16<A>) -> Self
-        ensures { result ≡ with_separators string }
-    {
-        string.replace_char(SLASH, SEPARATOR);
-        PathBuf { string, alloc }
+    /// What the path lies in, for paths that are made of this one.
+    fn alloc(&self) -> A {
+        *self.places.allocator()
     }
 
-    /// The path of a borrowed string, each slash replaced, in memory that it owns; or `AllocError`. One
-    /// allocation.
+    /// As [`PathBuf::new_from_cstring16`]; a string that comes back is let go.
+    fn from_string(alloc: A, string: CString16<A>) -> Result<Self, AllocError>
+        ensures { IfOk result (λ path. path ≡ with_separators string) }
+    {
+        match PathBuf::new_from_cstring16(alloc, string) {
+            Ok(path) => Ok(path),
+            Err(_) => Err(AllocError),
+        }
+    }
+
+    /// The path of a borrowed string, each slash replaced, in memory that it owns; or `AllocError`. Takes
+    /// memory once for the text, and once for the places of its separators, where it has any.
     pub fn from(alloc: A, string: CStr16<'_>) -> Result<Self, AllocError>
         ensures { IfOk result (λ path. path ≡ with_separators (text_of string.entry)) }
     {
-        Ok(PathBuf::from_string(alloc, string.to_owned(alloc)?))
+        PathBuf::from_string(alloc, string.to_owned(alloc)?)
     }
 
-    /// The path of a string, each slash replaced, over the string's own memory. An `Err` would hand
-    /// the string back as it came; none does today, since no memory is asked for.
-    pub fn new_from_cstring16(alloc: A, string: CString16<A>) -> Result<Self, CString16<A>>
+    /// The path of a string, each slash replaced, over the string's own memory. Where memory for the
+    /// places of its separators is refused, an `Err` with the string as it came, slashes and all.
+    ///
+    /// Takes memory once, and none for a text without separators and slashes. Linear in the text.
+    pub fn new_from_cstring16(alloc: A, mut string: CString16<A>) -> Result<Self, CString16<A>>
         ensures ok { IfOk result (λ path. path ≡ with_separators string) }
         ensures err { IfErr result (λ kept. kept ≡ string) }
-        ensures succeeds { IsOk result }
     {
-        Ok(PathBuf::from_string(alloc, string))
+        let mut places = Vec::new(alloc);
+        if add_places(&mut places, string.as_cstr16().to_u16_slice()).is_err() {
+            return Err(string);
+        }
+        string.replace_char(SLASH, SEPARATOR);
+        Ok(PathBuf { string, places })
     }
 
     /// Pushes a path after this one, its slashes replaced, and a separator between the two where this
     /// one is not empty and does not end in one; or `AllocError`, and the path is unchanged.
     ///
-    /// The empty path changes nothing, takes no memory and is never refused. A push costs what it
-    /// adds, on average: of what stands already only the last character is looked at.
+    /// The empty path changes nothing, takes no memory and is never refused. Any other takes memory for
+    /// what it adds, and where text or places have no room. A push costs what it adds, on average: of
+    /// what stands already only the last character is looked at.
     pub fn push(&mut self, path: Path<'_>) -> Result<(), AllocError>
         ensures ok { OnOk result (self.new ≡ pushed self.old (path_text path.entry)) }
         ensures err { OnErr result (self.new ≡ self.old) }
@@ -195,20 +268,45 @@ impl<A: Allocator + Copy> PathBuf<A> {
         if path.is_empty() {
             return Ok(());
         }
-        let end = self.string.num_chars();
-        append(&mut self.string, path.to_cstr16().as_slice())?;
-        self.string.replace_char_from(end, SLASH, SEPARATOR);
+        let mut tail = tail_of(self.alloc(), needs_separator(&self.string), path)?;
+        let (end, known) = (self.string.num_chars(), self.places.len());
+        add_places(&mut self.places, tail.as_cstr16().to_u16_slice())?;
+        tail.replace_char(SLASH, SEPARATOR);
+        if let Err(error) = self.string.push_str(tail.as_cstr16()) {
+            self.places.truncate(known);
+            return Err(error);
+        }
+        // No sum is beyond the length of the text that stands now.
+        let _len = self.string.num_chars();
+        shift_added(&mut self.places, known, end);
         Ok(())
+    }
+
+    /// An equal path, with room for another after it.
+    fn clone_with_room(&self, path: Path<'_>) -> Result<Self, AllocError>
+        ensures { IfOk result (λ copy. copy ≡ self.now) }
+    {
+        let room = room_for_both(self.as_path(), path);
+        let mut string = CString16::with_capacity(self.alloc(), room)?;
+        string.push_str(self.string.as_cstr16())?;
+        let added = count_separators(path.to_cstr16().to_u16_slice()).saturating_add(1);
+        let room = self.places.len().saturating_add(added);
+        let mut places = Vec::with_capacity(self.alloc(), room)?;
+        places.extend_from_slice(self.places.as_slice())?;
+        Ok(PathBuf { string, places })
     }
 
     /// The path with another pushed after it, as [`Path::join`], in memory of the same allocator.
     pub fn join(&self, path: Path<'_>) -> Result<Self, AllocError>
         ensures { IfOk result (λ joined. joined ≡ pushed self.now (path_text path.entry)) }
     {
-        self.as_path().join(self.alloc, path)
+        let mut joined = self.clone_with_room(path)?;
+        joined.push(path)?;
+        Ok(joined)
     }
 
-    /// The path without its last component, as [`Path::parent`], in memory of the same allocator.
+    /// The path without its last component, as [`Path::parent`], in memory of the same allocator. Looks
+    /// for no separator, and costs what the parent has.
     pub fn parent(&self) -> Result<Option<Self>, AllocError>
         ensures ok { IfOk result (λ parent. parent ≡ parent_text self.now) }
         ensures none { parent_text self.now ≡ None → IsOk result }
@@ -216,7 +314,24 @@ impl<A: Allocator + Copy> PathBuf<A> {
             IfSome parent (λ parent. length parent < length self.now)) }
         ensures successive { IfOk result (λ parent. parents_of self.now ≡ parent_chain parent) }
     {
-        self.as_path().parent(self.alloc)
+        let known = self.places.as_slice();
+        let rest = Rest::Placed(self.canonical(known));
+        let has_parent = Components::of_canonical(self.as_path(), rest)
+            .nth(1)
+            .is_some();
+        if !has_parent {
+            return Ok(None);
+        }
+        // The last separator ends what is kept, and is left out.
+        let (len, count) = match known.last() {
+            None => (0, 0),
+            Some(last) => (*last, known.len() - 1),
+        };
+        let mut string = CString16::with_capacity(self.alloc(), len)?;
+        let mut places = Vec::with_capacity(self.alloc(), count)?;
+        let components = Components::of_canonical(self.as_path(), rest);
+        append_components_but_last(&mut string, &mut places, components)?;
+        Ok(Some(PathBuf { string, places }))
     }
 
     /// Makes the path the empty one. Takes no memory and gives none back.
@@ -224,6 +339,7 @@ impl<A: Allocator + Copy> PathBuf<A> {
         ensures { self.new ≡ [] }
     {
         self.string.clear();
+        self.places.clear();
     }
 
     /// A view of the path.
@@ -246,7 +362,7 @@ impl<A: Allocator + Copy> PathBuf<A> {
     pub fn into_cstring16(self) -> CString16<A>
         ensures { result ≡ self }
     {
-        let PathBuf { string, alloc: _ } = self;
+        let PathBuf { string, places: _ } = self;
         string
     }
 
@@ -257,7 +373,8 @@ impl<A: Allocator + Copy> PathBuf<A> {
         self.string.is_empty()
     }
 
-    /// The components of the path, as [`Path::components`].
+    /// The components of the path, as [`Path::components`]. All of them together cost what there are
+    /// components: no character is looked at.
     pub fn components(&self) -> Components<'_>
         ensures same { components_left result ≡ components_of self.now }
         ensures components { AreComponents self.now (components_left result) }
@@ -268,7 +385,28 @@ impl<A: Allocator + Copy> PathBuf<A> {
         ensures runs { GivesEach units_of components_left result }
         ensures no_nul { GivesNoNulIn result }
     {
-        self.as_path().components()
+        let rest = self.canonical(self.places.as_slice());
+        Components::of_canonical(self.as_path(), Rest::Placed(rest))
+    }
+
+    /// The canonical text, with these places of the separators there. Looks at no character.
+    fn canonical<'a>(&'a self, places: &'a [usize]) -> PlacedText<'a>
+        requires { places.now ≡ places_of self.now }
+        ensures { drop result.start (units_of result.text) ≡ canonical self.now }
+    {
+        let text = self.string.as_cstr16().as_slice();
+        if !places.is_empty() && places[0] == 0 {
+            return PlacedText {
+                text,
+                start: 1,
+                places: &places[1..],
+            };
+        }
+        PlacedText {
+            text,
+            start: 0,
+            places,
+        }
     }
 
     /// The last component, as [`Path::file_name`].
@@ -276,14 +414,14 @@ impl<A: Allocator + Copy> PathBuf<A> {
         ensures same { option_map units_of result ≡ last_or None (components_of self.now) }
         ensures is_text { IfSome result (λ name. IsText (units_of name)) }
     {
-        self.as_path().file_name()
+        self.components().last()
     }
 
     /// Whether this path's components begin with those of the base, as [`Path::starts_with`].
     pub fn starts_with(&self, base: Path<'_>) -> bool
         ensures { IsTrue result ↔ StartsWith self.now (path_text base.entry) }
     {
-        self.as_path().starts_with(base)
+        self.strip_prefix(base).is_some()
     }
 
     /// The components of this path after those of the base, as [`Path::strip_prefix`].
@@ -296,18 +434,18 @@ impl<A: Allocator + Copy> PathBuf<A> {
         ensures runs { IfSome result (λ rest. GivesEach units_of components_left rest) }
         ensures no_nul { IfSome result (λ rest. GivesNoNulIn rest) }
     {
-        self.as_path().strip_prefix(base)
+        self.components().strip(base)
     }
 }
 
-/// An equal path, in memory of the same allocator. One allocation.
+/// An equal path, in memory of the same allocator, which it takes as [`PathBuf::from`] does.
 impl<A: Allocator + Copy> Clone for PathBuf<A> {
     ghost is_clone = { λ path copy. copy ≡ path };
 
     fn clone(&self) -> Result<PathBuf<A>, AllocError> {
         Ok(PathBuf {
-            string: self.string.as_cstr16().to_owned(self.alloc)?,
-            alloc: self.alloc,
+            string: self.string.as_cstr16().to_owned(self.alloc())?,
+            places: self.places.as_slice().to_vec(self.alloc())?,
         })
     }
 }

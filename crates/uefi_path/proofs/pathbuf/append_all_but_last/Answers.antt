@@ -35,7 +35,7 @@ loop-component-preserved g c =
       texts = subst (All IsText) left (All-tail IsText _ _ so_far.invariant.texts);
       added =
           ap (λ text. fold appended text (all_but_last (kept ∷ to_come)))
-          c.in_ok-append.ensures.ok
+          c.in_ok-append.ensures
           ∙ ap (λ pieces. fold appended so_far.string (all_but_last (units_of so_far.last ∷ pieces)))
           (sym left)
           ∙ so_far.invariant.added;

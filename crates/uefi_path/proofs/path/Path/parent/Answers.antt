@@ -25,11 +25,11 @@ returns-clause-ok g c =
     let added : c.append_all_but_last.new.string ≡ fold appended [] (all_but_last all) =
     grind (arith, common_steps) in
     let whole = rejoined-added all (AreComponents-components_of text).are_pieces in
-    ap Some (c.from_string.ensures ∙ ap with_separators (added ∙ whole)) ∙ sym (parent_of_components-many all many)
+    ap Some (c.in_ok-from_string.ensures ∙ ap with_separators (added ∙ whole)) ∙ sym (parent_of_components-many all many)
 
 pub returns-clause-shorter : goal.returns-clause-shorter
 returns-clause-shorter g c =
-    parent_text-shorter (path_text c.args.self.now) c.from_string.result (sym (returns-clause-ok g c))
+    parent_text-shorter (path_text c.args.self.now) c.in_ok-from_string.field-0 (sym (returns-clause-ok g c))
 
 pub returns-clause-successive : goal.returns-clause-successive
 returns-clause-successive g c =

@@ -1,0 +1,254 @@
+-- The places of separators: how they cut a text, and what they are once it is edited.
+use Rattle.std.proofs.Common.{◌≡◌, ◌≢◌, ℕ, suc, ◌+◌, ◌-◌, ◌<◌, ◌≤◌, List, [], ◌∷◌, ◌++◌, length, get_or, take, drop, map, All, true, false, inl, inr, ap, sym, refl, subst, ◌∙◌, arith, add-zero, zero-add, append_assoc, if◌then◌else◌, set}
+use Rattle.std.specs.List.{count_by, onto_first, slice_range, slice_split}
+use Rattle.std.proofs.lemmas.Bool.{cases_Bool, ne_eqb}
+use Rattle.std.proofs.lemmas.List.{append-nil, drop-drop, drop_more, length-drop, take-set, take_more_set}
+use Rattle.std.proofs.lemmas.List.Elements.{All-cons, All-head, All-nil, All-tail, All-weaker}
+use Rattle.std.proofs.lemmas.List.Sums.{sum_by-cons}
+use Rattle.std.proofs.lemmas.List.Splits.{slice_split-cons_no, slice_split-cons_yes}
+use Rattle.uefi_path.specs.Components.{IsPiece}
+use Rattle.uefi_path.specs.Pushing.{appended, needs_separator}
+use Rattle.uefi_path.specs.Separators.{becomes_separator, canonical, is_separator, places_from, places_of, separator, with_separators}
+
+-- where the units begin with a separator, so do the places
+places_from-yes : (start u : ℕ) (us : List ℕ) → is_separator u ≡ true
+    → places_from start (u ∷ us) ≡ start ∷ places_from (start + 1) us
+places_from-yes start u us cut = rw cut refl
+
+places_from-no : (start u : ℕ) (us : List ℕ) → is_separator u ≡ false
+    → places_from start (u ∷ us) ≡ places_from (start + 1) us
+places_from-no start u us other = rw other refl
+
+-- with no separator all units are one piece
+pub whole_piece : (start : ℕ) (us : List ℕ) → [] ≡ places_from start us → slice_split is_separator us ≡ us ∷ []
+whole_piece start [] none = refl
+whole_piece start (u ∷ us) none =
+    elim (cases_Bool (is_separator u)) [
+      | inl cut ↦ absurd (let at = places_from-yes start u us cut in cc)
+      | inr other ↦
+          slice_split-cons_no is_separator u us other
+          ∙ ap (onto_first u) (whole_piece (start + 1) us (none ∙ places_from-no start u us other))
+    ]
+
+-- how the first place cuts units: those before it are the first piece
+record FirstPlace (start : ℕ) (us : List ℕ) (place : ℕ) (places : List ℕ) : Type 0 where
+  before : ℕ
+  at : place ≡ start + before
+  inside : before < length us
+  pieces : slice_split is_separator us ≡ take before us ∷ slice_split is_separator (drop (suc before) us)
+  after : places ≡ places_from (place + 1) (drop (suc before) us)
+
+first_place : (start : ℕ) (us : List ℕ) (place : ℕ) (places : List ℕ) → place ∷ places ≡ places_from start us
+    → FirstPlace start us place places
+first_place start [] place places found = absurd (cc)
+first_place start (u ∷ us) place places found =
+    elim (cases_Bool (is_separator u)) [
+      | inl cut ↦
+          let all : place ∷ places ≡ start ∷ places_from (start + 1) us = found ∙ places_from-yes start u us cut in
+          let same : place ≡ start = cc in record {
+            before = 0;
+            at = omega (arith, same);
+            inside = omega arith;
+            pieces = slice_split-cons_yes is_separator u us cut;
+            after = let rest : places ≡ places_from (start + 1) us = cc in rw same rest;
+          }
+      | inr other ↦
+          let next = first_place (start + 1) us place places (found ∙ places_from-no start u us other) in record {
+            before = suc next.before;
+            at = omega (arith, next.at);
+            inside = omega (arith, next.inside);
+            pieces = slice_split-cons_no is_separator u us other ∙ ap (onto_first u) next.pieces;
+            after = next.after;
+          }
+    ]
+
+-- how the first place cuts what a text has from `start` on
+pub record PlacedCut (text : List ℕ) (start place : ℕ) (places : List ℕ) : Type 0 where
+  pub from : start ≤ place
+  pub inside : place < length text
+  pub pieces :
+      slice_split is_separator (drop start text)
+      ≡ slice_range text start place ∷ slice_split is_separator (drop (place + 1) text)
+  pub after : places ≡ places_from (place + 1) (drop (place + 1) text)
+
+pub placed_cut : (text : List ℕ) (start : ℕ) (places : List ℕ) → start ≤ length text
+    → places ≡ places_from start (drop start text) → 0 < length places
+    → PlacedCut text start (get_or places 0 0) (drop 1 places)
+placed_cut text start [] within found some = absurd (omega (arith, some))
+placed_cut text start (place ∷ places) within found some =
+    let first = first_place start (drop start text) place places found in
+    let long : length (drop start text) ≡ length text - start = length-drop start text in
+    let before : first.before ≡ place - start = omega (arith, first.at) in
+    let end : start + suc first.before ≡ place + 1 = omega (arith, first.at) in
+    let rest : drop (suc first.before) (drop start text) ≡ drop (place + 1) text =
+    drop-drop (suc first.before) start text ∙ ap (λ n. drop n text) end in record {
+      from = omega (arith, first.at);
+      inside = omega (arith, first.at, first.inside, long);
+      pieces =
+          first.pieces
+          ∙ ap (λ n. take n (drop start text) ∷ slice_split is_separator (drop (suc first.before) (drop start text))) before
+          ∙ ap (λ us. slice_range text start place ∷ slice_split is_separator us) rest;
+      after = first.after ∙ ap (places_from (place + 1)) rest;
+    }
+
+-- there are as many places as separators
+pub length-places : (start : ℕ) (us : List ℕ)
+    → length (places_from start (with_separators us)) ≡ count_by becomes_separator us
+length-places start [] = refl
+length-places start (u ∷ us) =
+    let others = length-places (start + 1) us in
+    let count : count_by becomes_separator (u ∷ us) ≡ (if becomes_separator u then 1 else 0) + count_by becomes_separator us =
+    sum_by-cons _ u us in
+    elim (cases_Bool (becomes_separator u)) [
+      | inl cut ↦
+          let one : count_by becomes_separator (u ∷ us) ≡ 1 + count_by becomes_separator us =
+          count ∙ ap (λ b. (if b then 1 else 0) + count_by becomes_separator us) cut in
+          let more = ap length (places_from-yes start _ (with_separators us) cut) in
+          omega (arith, one, more, others)
+      | inr other ↦
+          let none : count_by becomes_separator (u ∷ us) ≡ 0 + count_by becomes_separator us =
+          count ∙ ap (λ b. (if b then 1 else 0) + count_by becomes_separator us) other in
+          let same = ap length (places_from-no start _ (with_separators us) other) in
+          omega (arith, none, same, others)
+    ]
+
+-- one unit more is read: its place is written, and counts where it is that of a separator
+pub written_more : (places us : List ℕ) (count place step : ℕ) → count < length places → place < length us
+    → step ≡ (if becomes_separator (get_or us place 0) then 1 else 0)
+    → take (count + step) (set places count place) ++ places_from (place + 1) (with_separators (drop (place + 1) us))
+    ≡ take count places ++ places_from place (with_separators (drop place us))
+written_more places us count place step room inside counted =
+    let u = get_or us place 0 in
+    let rest = with_separators (drop (place + 1) us) in
+    let next : drop place us ≡ u ∷ drop (place + 1) us = drop_more us place 0 inside in
+    elim (cases_Bool (becomes_separator u)) [
+      | inl cut ↦
+          let one : step ≡ 1 = rw cut at counted in
+          let all : places_from place (with_separators (drop place us)) ≡ place ∷ places_from (place + 1) rest =
+          ap (λ vs. places_from place (with_separators vs)) next ∙ places_from-yes place _ rest cut in
+          let more : take (count + step) (set places count place) ≡ take count places ++ place ∷ [] =
+          rw one (take_more_set places count place room) in
+          rw (more, all) (append_assoc (take count places) (place ∷ []) (places_from (place + 1) rest))
+      | inr other ↦
+          let none : step ≡ 0 = rw other at counted in
+          let all : places_from place (with_separators (drop place us)) ≡ places_from (place + 1) rest =
+          ap (λ vs. places_from place (with_separators vs)) next ∙ places_from-no place _ rest other in
+          let same : take (count + step) (set places count place) ≡ take count places =
+          rw (none, add-zero) (take-set places count place) in
+          rw (same, all) refl
+    ]
+
+-- the places of both of two parts
+pub places_from-append : (start : ℕ) (us vs : List ℕ)
+    → places_from start (us ++ vs) ≡ places_from start us ++ places_from (start + length us) vs
+places_from-append start [] vs = ap (λ n. places_from n vs) (sym (add-zero start))
+places_from-append start (u ∷ us) vs =
+    let others = places_from-append (start + 1) us vs in
+    let long : start + 1 + length us ≡ start + length (u ∷ us) = omega arith in
+    let all : places_from (start + 1) (us ++ vs) ≡ places_from (start + 1) us ++ places_from (start + length (u ∷ us)) vs =
+    others ∙ ap (λ n. places_from (start + 1) us ++ places_from n vs) long in
+    elim (cases_Bool (is_separator u)) [
+      | inl cut ↦
+          places_from-yes start u (us ++ vs) cut
+          ∙ ap (λ ps. start ∷ ps) all
+          ∙ sym (ap (λ ps. ps ++ places_from (start + length (u ∷ us)) vs) (places_from-yes start u us cut))
+      | inr other ↦
+          places_from-no start u (us ++ vs) other
+          ∙ all
+          ∙ sym (ap (λ ps. ps ++ places_from (start + length (u ∷ us)) vs) (places_from-no start u us other))
+    ]
+
+-- counted from further before
+pub places_from-shift : (start by : ℕ) (us : List ℕ)
+    → map (λ place. place + by) (places_from start us) ≡ places_from (start + by) us
+places_from-shift start by [] = refl
+places_from-shift start by (u ∷ us) =
+    let next : start + 1 + by ≡ start + by + 1 = omega arith in
+    let others : map (λ place. place + by) (places_from (start + 1) us) ≡ places_from (start + by + 1) us =
+    places_from-shift (start + 1) by us ∙ ap (λ n. places_from n us) next in
+    elim (cases_Bool (is_separator u)) [
+      | inl cut ↦
+          ap (map (λ place. place + by)) (places_from-yes start u us cut)
+          ∙ ap (λ ps. (start + by) ∷ ps) others
+          ∙ sym (places_from-yes (start + by) u us cut)
+      | inr other ↦
+          ap (map (λ place. place + by)) (places_from-no start u us other)
+          ∙ others
+          ∙ sym (places_from-no (start + by) u us other)
+    ]
+
+-- a place from `start` on and before `end`
+abbrev pub IsWithin : ℕ → ℕ → ℕ → Type 0
+IsWithin start end place = (start ≤ place) × (place < end)
+
+-- each place is that of one of the units
+pub within_places : (start : ℕ) (us : List ℕ) → All (IsWithin start (start + length us)) (places_from start us)
+within_places start [] = All-nil (IsWithin start (start + 0))
+within_places start (u ∷ us) =
+    let Q : ℕ → Type 0 = IsWithin start (start + length (u ∷ us)) in
+    let others : All Q (places_from (start + 1) us) =
+    All-weaker (IsWithin (start + 1) (start + 1 + length us)) Q
+    (λ place within. (omega (arith, within.0), omega (arith, within.1))) (places_from (start + 1) us)
+    (within_places (start + 1) us) in
+    elim (cases_Bool (is_separator u)) [
+      | inl cut ↦
+          subst (All Q) (sym (places_from-yes start u us cut))
+          (All-cons Q start (places_from (start + 1) us) (omega arith, omega arith) others)
+      | inr other ↦ subst (All Q) (sym (places_from-no start u us other)) others
+    ]
+
+-- a piece has none
+pub places_from-piece : (start : ℕ) (piece : List ℕ) → IsPiece piece → places_from start piece ≡ []
+places_from-piece start [] is_piece = refl
+places_from-piece start (u ∷ us) is_piece =
+    places_from-no start u us (ne_eqb u separator (All-head (λ unit. unit ≢ separator) u us is_piece))
+    ∙ places_from-piece (start + 1) us (All-tail (λ unit. unit ≢ separator) u us is_piece)
+
+-- a piece adds the place of the separator before it, where there is one
+pub places_of-appended : (text piece : List ℕ) → IsPiece piece
+    → places_of (appended text piece) ≡ (if needs_separator text then places_of text ++ length text ∷ [] else places_of text)
+places_of-appended text piece is_piece =
+    let none = places_from-piece (length text) piece is_piece in
+    let one : places_from (length text) (separator ∷ piece) ≡ length text ∷ [] =
+    ap (λ ps. length text ∷ ps) (places_from-piece (length text + 1) piece is_piece) in
+    elim (needs_separator text)
+    as (λ b. places_of (if b then text ++ separator ∷ piece else text ++ piece)
+    ≡ (if b then places_of text ++ length text ∷ [] else places_of text)) [
+      | true ↦ places_from-append 0 text (separator ∷ piece) ∙ rw (zero-add, one) refl
+      | false ↦ places_from-append 0 text piece ∙ rw (zero-add, none) (append-nil (places_of text))
+    ]
+
+-- whether the text begins with a separator is what its first place says
+pub canonical_placed : (text : List ℕ) → 0 < length (places_of text) → get_or (places_of text) 0 0 ≡ 0
+    → (1 ≤ length text) × (drop 1 text ≡ canonical text) × (drop 1 (places_of text) ≡ places_from 1 (drop 1 text))
+canonical_placed [] some first = absurd (omega (arith, some))
+canonical_placed (u ∷ us) some first =
+    elim (cases_Bool (is_separator u)) [
+      | inl cut ↦ (
+        omega arith,
+        rw cut refl,
+        ap (drop 1) (places_from-yes 0 u us cut),
+      )
+      | inr other ↦
+          let none = places_from-no 0 u us other in
+          let later = (within_places 1 us 0 0 (omega (arith, some, ap length none))).0 in
+          absurd (omega (arith, later, first, ap (λ ps. get_or ps 0 0) none))
+    ]
+
+pub canonical_unplaced : (text : List ℕ) → (0 < length (places_of text) → get_or (places_of text) 0 0 ≢ 0)
+    → text ≡ canonical text
+canonical_unplaced [] later = refl
+canonical_unplaced (u ∷ us) later =
+    elim (cases_Bool (is_separator u)) [
+      | inl cut ↦
+          let here = places_from-yes 0 u us cut in
+          absurd (later (omega (arith, ap length here)) (ap (λ ps. get_or ps 0 0) here))
+      | inr other ↦ rw other refl
+    ]
+
+-- what stands after a text has its places after those of the text
+pub places_of-pushed : (text tail : List ℕ)
+    → places_of text ++ map (λ place. place + length text) (places_of tail) ≡ places_of (text ++ tail)
+places_of-pushed text tail =
+    ap (λ ps. places_of text ++ ps) (places_from-shift 0 (length text) tail)
+    ∙ sym (places_from-append 0 text tail)
