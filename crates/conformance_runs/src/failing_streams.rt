@@ -1,10 +1,10 @@
 //! Readers and writers of which one call fails, and would succeed if it were made again: each call in turn,
 //! where one byte goes through a call, a few do, or all. They count their calls, so that a further one is
-//! seen.
+//! seen. An interrupted call is a failed one.
 
 use std::io::{self, ErrorKind, Read, Write};
 use std::test::Fail;
-use upath::{StreamFault, run_streams};
+use upath::{StreamFault, Watched, run_streams};
 
 /// A run, and how many bytes a call of its reader gives or of its writer takes at most.
 #[derive(Clone, Copy, Debug)]
@@ -137,33 +137,60 @@ fn has_taken(writer: &FailingWriter, held: &[u8], writes: usize, flushes: usize)
     writer.held.as_slice() == held && writer.writes == writes && writer.flushes == flushes
 }
 
+/// What a run returned, and its reader and its writer after it.
+#[derive(Drop)]
+struct Ended {
+    outcome: Result<(), StreamFault>,
+    reader: FailingReader,
+    writer: FailingWriter,
+}
+
+/// A run over these, after which the marks say which of the two failed.
+fn end_of(rt: &HostRuntime, reader: FailingReader, writer: FailingWriter) -> Result<Ended, Fail> {
+    let (mut reader, mut writer) = (Watched::new(reader), Watched::new(writer));
+    let outcome = run_streams(rt.alloc(), &mut reader, &mut writer);
+    if reader.has_failed() != (outcome == Err(StreamFault::Read))
+        || writer.has_failed() != (outcome == Err(StreamFault::Write))
+    {
+        return Err("a mark".into());
+    }
+    Ok(Ended {
+        outcome,
+        reader: reader.into_inner(),
+        writer: writer.into_inner(),
+    })
+}
+
 /// How many calls a run makes of a reader and a writer that don't fail, after which all is written and
 /// flushed once.
 fn calls_of(rt: &HostRuntime, run: Run) -> Result<(usize, usize), Fail> {
-    let mut reader = reader_of(run, 0, ErrorKind::Other);
-    let mut writer = writer_of(rt, run, 0, Failure::TakesNone);
-    if run_streams(rt.alloc(), &mut reader, &mut writer).is_err()
-        || !reader.rest.is_empty()
-        || !has_taken(&writer, run.output, writer.writes, 1)
+    let reader = reader_of(run, 0, ErrorKind::Other);
+    let writer = writer_of(rt, run, 0, Failure::TakesNone);
+    let end = end_of(rt, reader, writer)?;
+    if end.outcome.is_err()
+        || !end.reader.rest.is_empty()
+        || !has_taken(&end.writer, run.output, end.writer.writes, 1)
     {
         return Err("a run without a failed call".into());
     }
-    Ok((reader.calls, writer.writes))
+    Ok((end.reader.calls, end.writer.writes))
 }
 
-/// Whether a run of which this read fails reports this, reads no more, and writes nothing.
+/// Whether a run of which this read fails reports that, reads no more, and writes nothing.
 fn ends_unwritten(
     rt: &HostRuntime,
     run: Run,
     failing: usize,
     kind: ErrorKind,
-    want: StreamFault,
-) -> bool {
-    let mut reader = reader_of(run, failing, kind);
-    let mut writer = writer_of(rt, run, 0, Failure::TakesNone);
-    run_streams(rt.alloc(), &mut reader, &mut writer) == Err(want)
-        && reader.calls == failing
-        && has_taken(&writer, b"", 0, 0)
+) -> Result<bool, Fail> {
+    let reader = reader_of(run, failing, kind);
+    let writer = writer_of(rt, run, 0, Failure::TakesNone);
+    let end = end_of(rt, reader, writer)?;
+    Ok(
+        end.outcome == Err(StreamFault::Read)
+            && end.reader.calls == failing
+            && has_taken(&end.writer, b"", 0, 0),
+    )
 }
 
 #[test]
@@ -171,16 +198,17 @@ fn each_read_that_fails(rt: HostRuntime) -> Result<(), Fail> {
     for run in &runs(&rt)? {
         let (reads, _) = calls_of(&rt, *run)?;
         for failing in 1..=reads {
-            for (kind, want) in [
-                (ErrorKind::Other, StreamFault::Read),
-                (ErrorKind::IsADirectory, StreamFault::Read),
-                (ErrorKind::UnexpectedEof, StreamFault::Read),
-                (ErrorKind::WouldBlock, StreamFault::Read),
-                (ErrorKind::OutOfMemory, StreamFault::OutOfMemory),
+            for kind in [
+                ErrorKind::Other,
+                ErrorKind::IsADirectory,
+                ErrorKind::UnexpectedEof,
+                ErrorKind::WouldBlock,
+                ErrorKind::Interrupted,
+                ErrorKind::OutOfMemory,
             ] {
                 assert!(rt;
-                    ends_unwritten(&rt, *run, failing, kind, want),
-                    "read {failing}: {run:?}"
+                    ends_unwritten(&rt, *run, failing, kind)?,
+                    "read {failing}, {kind:?}: {run:?}"
                 );
             }
         }
@@ -189,12 +217,18 @@ fn each_read_that_fails(rt: HostRuntime) -> Result<(), Fail> {
 }
 
 /// Whether a run of which this write fails writes what those before it took, and calls no more.
-fn ends_in_write(rt: &HostRuntime, run: Run, failing: usize, failure: Failure) -> bool {
-    let mut reader: &[u8] = run.input;
-    let mut writer = writer_of(rt, run, failing, failure);
+fn ends_in_write(
+    rt: &HostRuntime,
+    run: Run,
+    failing: usize,
+    failure: Failure,
+) -> Result<bool, Fail> {
+    let reader = reader_of(run, 0, ErrorKind::Other);
+    let writer = writer_of(rt, run, failing, failure);
+    let end = end_of(rt, reader, writer)?;
     let len = run.step.saturating_mul(failing.saturating_sub(1));
-    run_streams(rt.alloc(), &mut reader, &mut writer) == Err(StreamFault::Write)
-        && has_taken(&writer, run.output.get(..len).unwrap_or(&[]), failing, 0)
+    let taken = run.output.get(..len).unwrap_or(&[]);
+    Ok(end.outcome == Err(StreamFault::Write) && has_taken(&end.writer, taken, failing, 0))
 }
 
 #[test]
@@ -206,10 +240,11 @@ fn each_write_that_fails(rt: HostRuntime) -> Result<(), Fail> {
                 Failure::Fails(ErrorKind::Other),
                 Failure::Fails(ErrorKind::StorageFull),
                 Failure::Fails(ErrorKind::OutOfMemory),
+                Failure::Fails(ErrorKind::Interrupted),
                 Failure::TakesNone,
             ] {
                 assert!(rt;
-                    ends_in_write(&rt, *run, failing, failure),
+                    ends_in_write(&rt, *run, failing, failure)?,
                     "write {failing}, {failure:?}: {run:?}"
                 );
             }
@@ -221,49 +256,17 @@ fn each_write_that_fails(rt: HostRuntime) -> Result<(), Fail> {
 /// Whether a run whose flush fails writes all, and flushes no more.
 fn ends_in_flush(rt: &HostRuntime, run: Run, kind: ErrorKind) -> Result<bool, Fail> {
     let (_, writes) = calls_of(rt, run)?;
-    let mut reader: &[u8] = run.input;
     let mut writer = writer_of(rt, run, 0, Failure::TakesNone);
     writer.flush = Some(kind);
-    Ok(
-        run_streams(rt.alloc(), &mut reader, &mut writer) == Err(StreamFault::Write)
-            && has_taken(&writer, run.output, writes, 1),
-    )
+    let end = end_of(rt, reader_of(run, 0, ErrorKind::Other), writer)?;
+    Ok(end.outcome == Err(StreamFault::Write) && has_taken(&end.writer, run.output, writes, 1))
 }
 
-/// A flush that is interrupted is a failed one.
 #[test]
 fn a_flush_that_fails(rt: HostRuntime) -> Result<(), Fail> {
     for run in &runs(&rt)? {
         for kind in [ErrorKind::Other, ErrorKind::Interrupted] {
             assert!(rt; ends_in_flush(&rt, *run, kind)?, "{run:?}: {kind:?}");
-        }
-    }
-    Ok(())
-}
-
-/// Whether a run reads and writes all, where this read and this write are interrupted, with one more call of
-/// each.
-fn goes_on(rt: &HostRuntime, run: Run, read: usize, write: usize) -> Result<bool, Fail> {
-    let (reads, writes) = calls_of(rt, run)?;
-    let mut reader = reader_of(run, read, ErrorKind::Interrupted);
-    let mut writer = writer_of(rt, run, write, Failure::Fails(ErrorKind::Interrupted));
-    Ok(
-        run_streams(rt.alloc(), &mut reader, &mut writer).is_ok()
-            && reader.calls == reads.saturating_add(1)
-            && has_taken(&writer, run.output, writes.saturating_add(1), 1),
-    )
-}
-
-/// A read or a write that is interrupted is made again, and nothing is lost or written twice.
-#[test]
-fn interrupted_calls(rt: HostRuntime) -> Result<(), Fail> {
-    for run in &runs(&rt)? {
-        let (reads, writes) = calls_of(&rt, *run)?;
-        for read in 1..=reads {
-            assert!(rt; goes_on(&rt, *run, read, 1)?, "read {read}: {run:?}");
-        }
-        for write in 1..=writes {
-            assert!(rt; goes_on(&rt, *run, 1, write)?, "write {write}: {run:?}");
         }
     }
     Ok(())

@@ -7,8 +7,8 @@ use std::test::Fail;
 use uefi_path::{Path, PathBuf, PathError};
 use uefi_text::{CStr16, Char16, FromSliceWithNulError};
 use upath::{
-    JudgeError, PathCommand, RunFault, StreamFault, all_parents, judge, pieces, run_commands,
-    run_streams, run_text,
+    JudgeError, PathCommand, RunFault, StreamFault, Watched, all_parents, judge, pieces,
+    run_commands, run_streams, run_text,
 };
 
 /// A call that takes memory, or is refused before it does, and what it is given. Units have their NUL.
@@ -153,11 +153,14 @@ const INPUT: &[u8] =
 
 /// Whether a run over streams writes this, or nothing where memory ran out.
 fn writes(heap: &Refusing<Global>, want: &[u8], alloc: Global) -> Result<bool, AllocError> {
-    let mut reader: &[u8] = INPUT;
-    let mut writer = Vec::new(alloc);
-    match run_streams(heap, &mut reader, &mut writer) {
-        Ok(()) => Ok(writer.as_slice() == want),
-        Err(StreamFault::OutOfMemory) => out_of_memory(writer.is_empty()),
+    let mut reader = Watched::new(INPUT);
+    let mut writer = Watched::new(Vec::new(alloc));
+    let outcome = run_streams(heap, &mut reader, &mut writer);
+    let is_unmarked = !reader.has_failed() && !writer.has_failed();
+    let output: Vec<u8> = writer.into_inner();
+    match outcome {
+        Ok(()) => Ok(is_unmarked && output.as_slice() == want),
+        Err(StreamFault::OutOfMemory) => out_of_memory(is_unmarked && output.is_empty()),
         Err(_) => Ok(false),
     }
 }

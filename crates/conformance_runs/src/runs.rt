@@ -1,6 +1,7 @@
 //! Runs over lines.
+use crate::long_paths::writes;
 use std::test::Fail;
-use upath::{run_streams, run_text};
+use upath::run_text;
 
 /// Whether a run over these lines prints this.
 pub(crate) fn prints(rt: &HostRuntime, input: &[u8], want: &str) -> Result<bool, Fail> {
@@ -194,13 +195,6 @@ fn refused_texts_of_each_verb(rt: HostRuntime) -> Result<(), Fail> {
 
 #[test]
 fn a_run_over_streams(rt: HostRuntime) -> Result<(), Fail> {
-    let mut reader: &[u8] = b"from /a/b\npieces";
-    let mut writer = Vec::new(rt.alloc());
-    assert_eq!(rt; run_streams(rt.alloc(), &mut reader, &mut writer), Ok(()));
-    assert!(rt; reader.is_empty());
-    assert_eq!(rt;
-        writer.as_slice(),
-        "= \\a\\b\npieces 2\n| a\n| b\n".as_bytes()
-    );
+    assert!(rt; writes(&rt, b"from /a/b\npieces", b"= \\a\\b\npieces 2\n| a\n| b\n"));
     Ok(())
 }

@@ -6,11 +6,12 @@
 
 use std::io;
 use std::process::ExitCode;
-use upath::{ProgramEnd, run_streams};
+use upath::{ProgramEnd, Watched, run_streams};
 
 fn main(rt: HostRuntime) -> ExitCode {
-    let outcome = run_streams(rt.alloc(), &mut rt.reader(), &mut io::writer(&rt));
-    let end = ProgramEnd::after(outcome);
+    let mut reader = Watched::new(rt.reader());
+    let mut writer = Watched::new(io::writer(&rt));
+    let end = ProgramEnd::after(run_streams(rt.alloc(), &mut reader, &mut writer));
     // Nothing is left to do where standard error can't be written.
     let _ = eprint!(rt; "{}", end.message);
     end.status
