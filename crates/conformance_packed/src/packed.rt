@@ -15,7 +15,7 @@ const BYTES_AFTER_ONE: [u8; 13] = [
     0xff, 0x10, 0x11, 0x12, 0x13, 0x20, 0x21, 0x22, 0x23, 0x30, 0x31, 0x32, 0x33,
 ];
 
-/// Whether numbers of this kind take so many bytes, and these are the bytes of that one.
+/// Whether numbers of this kind take `size` bytes, and these are the bytes of that one.
 fn takes<T: Packed + PartialEq>(size: usize, bytes: &[u8], want: T) -> bool {
     T::SIZE == size && bytes.len() == size && T::read_le(bytes) == want
 }
@@ -79,7 +79,7 @@ fn no_items(rt: HostRuntime) -> Result<(), Fail> {
     Ok(())
 }
 
-/// Whether the bytes have room for so many numbers, as both calls say that tell.
+/// Whether the bytes have room for `len` numbers, as both calls say that tell.
 fn fits<T: Packed>(bytes: &[u8], len: usize) -> Option<bool> {
     let fits = UnalignedSlice::<T>::fits(bytes, len);
     (UnalignedSlice::<T>::try_new(bytes, len).is_some() == fits).then_some(fits)

@@ -6,8 +6,8 @@
 //! [`all_parents`] its successive parents.
 //!
 //! [`run_text`] returns what the lines of an input print, and [`run_streams`] does the same from a
-//! reader to a writer, both [`Watched`]. The contract of both is one definition, `output_of` in `specs/Output.antt`:
-//! what is printed is a function of the whole input, and of nothing else.
+//! reader to a writer, both [`Watched`]. The contract of both calls is one definition, `output_of` in
+//! `specs/Output.antt`: what is printed is a function of the whole input, and of nothing else.
 //!
 //! ```rust
 //! let output = upath::run_text(rt.alloc(), b"from \\foo\\bar\npieces\n")?;

@@ -122,7 +122,8 @@ pub fn run_streams<A: Allocator + Copy, R: Read, W: Write>(
     ensures prefix_written { IfErr result (λ fault. fault ≡ StreamFault.Write → ((input : List ℕ)
         × Consumes (R.remaining (stream_of reader.old)) (R.remaining (stream_of reader.new)) input
         × IsAtEnd (R.remaining (stream_of reader.new))
-        × AppendsPrefix (W.contents (stream_of writer.old)) (W.contents (stream_of writer.new)) (output_of input))) }
+        × AppendsPrefix
+        (W.contents (stream_of writer.old)) (W.contents (stream_of writer.new)) (output_of input))) }
     ensures prefix_read { OnErr result ((input : List ℕ)
         × Consumes (R.remaining (stream_of reader.old)) (R.remaining (stream_of reader.new)) input) }
     ensures reader_marked { IfErr result (λ fault.

@@ -47,7 +47,8 @@ impl<R: Read> Watched<R> {
     /// One read of the reader, which sets the mark where it fails, an interrupted one too.
     pub fn read(&mut self, buf: &mut [u8]) -> io::Result<usize>
         ensures bound { ReadsAtMost result buf.new }
-        ensures bytes { ReadConsumes (R.remaining (stream_of self.old)) (R.remaining (stream_of self.new)) result buf.new }
+        ensures bytes { ReadConsumes
+            (R.remaining (stream_of self.old)) (R.remaining (stream_of self.new)) result buf.new }
         ensures ok { OnOk result (is_marked self.new ≡ is_marked self.old) }
         ensures err { OnErr result (is_marked self.new ≡ true) }
     {
@@ -62,7 +63,8 @@ impl<W: Write> Watched<W> {
     /// least one byte that takes none has failed, with [`ErrorKind::WriteZero`].
     pub fn write(&mut self, buf: &[u8]) -> io::Result<usize>
         ensures bound { WritesAtMost result buf.now }
-        ensures bytes { WriteAppends (W.contents (stream_of self.old)) (W.contents (stream_of self.new)) result buf.now }
+        ensures bytes { WriteAppends
+            (W.contents (stream_of self.old)) (W.contents (stream_of self.new)) result buf.now }
         ensures some { IfOk result (λ count. 0 < length buf.now → 0 < count) }
         ensures ok { OnOk result (is_marked self.new ≡ is_marked self.old) }
         ensures err { OnErr result (is_marked self.new ≡ true) }

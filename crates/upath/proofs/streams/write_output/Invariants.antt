@@ -2,7 +2,7 @@ use Rattle.std.proofs.Common.{◌≡◌, ◌≤◌, ◌-◌, length, take}
 use Rattle.std.specs.Io.KnownBytes.{Appends}
 use Rattle.upath.proofs.streams.write_output.Given as goal
 
--- the writer took so many bytes of the output, and no call failed
+-- the writer took the first `written` bytes of the output, and no call failed
 abbrev pub invariant-loop-written : goal.invariant-loop-written
 invariant-loop-written g l =
     (l.written ≤ length l.output)
