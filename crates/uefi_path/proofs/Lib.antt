@@ -11,3 +11,6 @@ pub mod ParentChains
 pub mod ParentsOfValid
 pub mod ValidPaths
 pub mod Runs
+pub mod Rewriting
+pub mod NormalPaths
+pub mod NormalStack

@@ -172,7 +172,7 @@ with_no_end : (ps : List (List ℕ)) → joined_with_end ps false ≡ joined ps
 with_no_end [] = refl
 with_no_end (p ∷ ps) = append-nil (joined (p ∷ ps))
 
-rejoined-full : (ps : List (List ℕ)) → All IsFull ps → rejoined ps ≡ joined ps
+pub rejoined-full : (ps : List (List ℕ)) → All IsFull ps → rejoined ps ≡ joined ps
 rejoined-full ps full =
     ap (λ ns. joined_with_end ns (ends_empty ps)) (non_empty-full ps full)
     ∙ ap (joined_with_end ps) (ends-full ps full) ∙ with_no_end ps

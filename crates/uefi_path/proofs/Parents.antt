@@ -117,7 +117,7 @@ rejoined-append ps q pieces =
     (All-non_empty ps)
 
 -- pieces added one after the other to some
-added_all : (ps qs : List (List ℕ)) → All IsPiece ps → All IsPiece qs
+pub added_all : (ps qs : List (List ℕ)) → All IsPiece ps → All IsPiece qs
     → fold appended (rejoined ps) qs ≡ rejoined (ps ++ qs)
 added_all ps [] before after = ap rejoined (sym (append-nil ps))
 added_all ps (q ∷ qs) before after =

@@ -34,7 +34,7 @@ no_fault None e = refl
 no_fault (Some x) e = absurd (true≢false e)
 
 -- components without a fault
-All-good : (cs : List (List ℕ)) → first_fault cs ≡ None → All IsGood cs
+pub All-good : (cs : List (List ℕ)) → first_fault cs ≡ None → All IsGood cs
 All-good [] e = All-nil IsGood
 All-good (c ∷ cs) e =
     elim (cases_Bool (is_bad c)) [

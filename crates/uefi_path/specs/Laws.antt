@@ -6,6 +6,7 @@ use Rattle.std.specs.Ordering.{nat_cmp}
 use Rattle.std.specs.declared.cmp.Ordering.{Ordering}
 use Rattle.std.specs.declared.cmp.Ordering.TheVariants.{Equal}
 use Rattle.uefi_path.specs.Components.{AreComponents, components_of}
+use Rattle.uefi_path.specs.NormalForms.{NormalForm, Rewrites, normal_text}
 use Rattle.uefi_path.specs.Parents.{parent_text}
 use Rattle.uefi_path.specs.Pushing.{needs_separator, pushed}
 use Rattle.uefi_path.specs.Separators.{IsPlain, canonical, is_separator, separator}
@@ -157,3 +158,37 @@ AreParentsWhereSame =
 abbrev pub FewerParents : Type 0
 FewerParents = (text : List ℕ) (parents : List (List ℕ)) → IsPlain text → AreParents text parents
     → length parents ≤ length (components_of text) - 1
+
+-- each list of pieces has a normal form
+abbrev pub NormalFormsExist : Type 0
+NormalFormsExist = (pieces : List (List ℕ)) → (normal : List (List ℕ)) × NormalForm pieces normal
+
+-- and no two
+abbrev pub NormalFormsOnce : Type 0
+NormalFormsOnce = (pieces normal other : List (List ℕ)) → NormalForm pieces normal → NormalForm pieces other
+    → normal ≡ other
+
+-- two lists have the same one exactly where steps lead from both to some list
+abbrev pub NormalFormsAgree : Type 0
+NormalFormsAgree = (pieces others normal other : List (List ℕ))
+    → NormalForm pieces normal → NormalForm others other
+    → (normal ≡ other) ↔ ((common : List (List ℕ)) × Rewrites pieces common × Rewrites others common)
+
+-- the normal path of a valid one is valid
+abbrev pub NormalIsValid : Type 0
+NormalIsValid = (text : List ℕ) (normal : List (List ℕ)) → verdict text ≡ None
+    → NormalForm (components_of text) normal → verdict (normal_text normal) ≡ None
+
+-- and its own normal path
+abbrev pub NormalIsNormal : Type 0
+NormalIsNormal = (text : List ℕ) (normal : List (List ℕ)) → verdict text ≡ None
+    → NormalForm (components_of text) normal → NormalForm (components_of (normal_text normal)) normal
+
+-- the normal paths of two valid ones are equal exactly where steps lead from the components of both to
+-- some list
+abbrev pub NormalPathsAgree : Type 0
+NormalPathsAgree = (text other : List ℕ) (normal others : List (List ℕ))
+    → verdict text ≡ None → verdict other ≡ None
+    → NormalForm (components_of text) normal → NormalForm (components_of other) others
+    → (canonical (normal_text normal) ≡ canonical (normal_text others))
+    ↔ ((common : List (List ℕ)) × Rewrites (components_of text) common × Rewrites (components_of other) common)

@@ -8,3 +8,4 @@ pub mod Pushing
 pub mod Parents
 pub mod SuccessiveParents
 pub mod Laws
+pub mod NormalForms

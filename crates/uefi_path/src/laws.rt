@@ -7,6 +7,7 @@ ghost use Rattle.uefi_path.specs.Laws.{ComponentsAreJoined, JoinedAreSame, Joine
 ghost use Rattle.uefi_path.specs.Laws.{ParentIsNotDoubled, ParentIsRelative, ParentIsValid};
 ghost use Rattle.uefi_path.specs.Laws.{CanonicalIsEqual, ComponentsRebuild, ParentOfJoined, ValidWhereUnrefused};
 ghost use Rattle.uefi_path.specs.Laws.{AreParentsWhereSame, FewerParents, ParentsArePrefixes, ParentsOfAreParents, WalkingUpEnds};
+ghost use Rattle.uefi_path.specs.Laws.{NormalFormsAgree, NormalFormsExist, NormalFormsOnce, NormalIsNormal, NormalIsValid, NormalPathsAgree};
 
 /// Every text has exactly one list of components, `components_of` it: none where its canonical text
 /// is empty, else one more than separators in it.
@@ -98,4 +99,20 @@ pub fn parent_count()
     ensures parents { ParentsOfAreParents }
     ensures same { AreParentsWhereSame }
     ensures fewer { FewerParents }
+{}
+
+/// Each list of pieces has exactly one normal form. Two lists have the same one exactly where deleting
+/// `.`, and names with the `..` right after them, leads from both to some list.
+pub fn normal_unique()
+    ensures exists { NormalFormsExist }
+    ensures once { NormalFormsOnce }
+    ensures agree { NormalFormsAgree }
+{}
+
+/// The normal path of a valid path is valid, and its own normal path. Two valid paths have equal ones
+/// exactly where their components lead to some list of pieces.
+pub fn normal_once()
+    ensures valid { NormalIsValid }
+    ensures again { NormalIsNormal }
+    ensures agree { NormalPathsAgree }
 {}

@@ -33,11 +33,13 @@
 #![tactic(auto)]
 
 pub mod laws;
+mod normal;
 mod path;
 mod pathbuf;
 mod places;
 mod validation;
 
+pub use normal::NormalizeError;
 pub use path::{Components, Path, separator_str};
 pub use pathbuf::PathBuf;
 pub use uefi_text::chars::{CHARACTER_DENY_LIST, SEPARATOR};

@@ -51,7 +51,10 @@ fn needs_separator<A: Allocator>(string: &CString16<A>) -> bool
 }
 
 /// Adds a part after a string, and a separator between the two where one is missing.
-fn append<A: Allocator>(string: &mut CString16<A>, part: Char16Slice<'_>) -> Result<(), AllocError>
+pub(crate) fn append<A: Allocator>(
+    string: &mut CString16<A>,
+    part: Char16Slice<'_>,
+) -> Result<(), AllocError>
     requires { IsText (units_of part) }
     ensures { OnOk result (string.new ≡ appended string.old (units_of part.entry)) }
 {
@@ -221,7 +224,7 @@ impl<A: Allocator + Copy> PathBuf<A> {
     }
 
     /// As [`PathBuf::new_from_cstring16`]; a string that comes back is let go.
-    fn from_string(alloc: A, string: CString16<A>) -> Result<Self, AllocError>
+    pub(crate) fn from_string(alloc: A, string: CString16<A>) -> Result<Self, AllocError>
         ensures { IfOk result (λ path. path ≡ with_separators string) }
     {
         match PathBuf::new_from_cstring16(alloc, string) {

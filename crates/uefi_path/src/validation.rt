@@ -64,7 +64,7 @@ fn find_denied(component: Char16Slice<'_>) -> Option<Char16>
 }
 
 /// Why a component names no file, if it names none.
-fn find_fault(component: Char16Slice<'_>) -> Option<PathError>
+pub(crate) fn find_fault(component: Char16Slice<'_>) -> Option<PathError>
     ensures { result ≡ fault (units_of component.entry) }
 {
     if component.is_empty() {

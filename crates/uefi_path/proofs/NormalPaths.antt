@@ -1,0 +1,100 @@
+-- The normal path of a valid one: its components are the normal form, so it is valid and its own normal
+-- path.
+use Rattle.std.proofs.Common.{◌≡◌, ◌≢◌, ◌==◌, Bool, true, false, ℕ, List, [], ◌∷◌, ◌++◌, length, map, None, All, arith, refl, sym, ap, ◌∙◌, subst}
+use Rattle.std.specs.List.{fold}
+use Rattle.std.proofs.lemmas.List.Elements.{All-cons, All-head, All-nil, All-tail}
+use Rattle.std.proofs.lemmas.Bool.{ne_eqb}
+use Rattle.uefi_path.specs.Components.{IsPiece, components_of, joined, pieces_between}
+use Rattle.uefi_path.specs.Laws.{NormalIsNormal, NormalIsValid, NormalPathsAgree}
+use Rattle.uefi_path.specs.NormalForms.{NormalForm, normal_text}
+use Rattle.uefi_path.specs.Pushing.{appended}
+use Rattle.uefi_path.specs.Separators.{canonical, separator, slash, with_separators}
+use Rattle.uefi_path.specs.Verdicts.{IsGood, verdict}
+use Rattle.uefi_path.proofs.ParentForm.{components_of-joined, rejoined-full}
+use Rattle.uefi_path.proofs.Parents.{added_all}
+use Rattle.uefi_path.proofs.Pushing.{separator_is_plain, with_separators-plain}
+use Rattle.uefi_path.proofs.Rewriting.{Dot, DotDot, Kind, Name, kind, normal_forms_agree, normal_of, normal_of-only, put, put_name}
+use Rattle.uefi_path.proofs.Validity.{All-good_non_empty, All-good_piece, All-good_plain, All-joined, valid-components, valid-from}
+
+-- what holds of each piece holds of each of the normal form
+module _ (P : List ℕ → Type 0) where
+  All-put_name : (k : Kind) (p q : List ℕ) (qs : List (List ℕ)) → P p → All P (q ∷ qs)
+      → All P (put_name k p q qs)
+  All-put_name Dot p q qs here others = All-cons P p (q ∷ qs) here others
+  All-put_name DotDot p q qs here others = All-tail P q qs others
+  All-put_name Name p q qs here others = All-cons P p (q ∷ qs) here others
+
+  All-put : (k : Kind) (p : List ℕ) (ps : List (List ℕ)) → P p → All P ps → All P (put k p ps)
+  All-put Dot p ps here others = others
+  All-put DotDot p ps here others = All-cons P p ps here others
+  All-put Name p [] here others = All-cons P p [] here others
+  All-put Name p (q ∷ qs) here others = All-put_name (kind q) p q qs here others
+
+  All-normal_of : (ps : List (List ℕ)) → All P ps → All P (normal_of ps)
+  All-normal_of [] all = all
+  All-normal_of (p ∷ ps) all =
+      All-put (kind p) p (normal_of ps) (All-head P p ps all) (All-normal_of ps (All-tail P p ps all))
+
+  pub All-normal : (ps qs : List (List ℕ)) → NormalForm ps qs → All P ps → All P qs
+  All-normal ps qs form all = subst (All P) (sym (normal_of-only ps qs form)) (All-normal_of ps all)
+
+-- good pieces that are joined have themselves as components, and none are the lone separator
+components_of-normal_text : (qs : List (List ℕ)) → All IsGood qs → components_of (normal_text qs) ≡ qs
+components_of-normal_text [] good = refl
+components_of-normal_text (q ∷ qs) good = components_of-joined (q ∷ qs) good
+
+normal_text-non_empty : (qs : List (List ℕ)) → All IsGood qs → normal_text qs ≢ []
+normal_text-non_empty [] good e = cc
+normal_text-non_empty (q ∷ qs) good e =
+    let none : q ∷ qs ≡ [] = sym (components_of-joined (q ∷ qs) good) ∙ ap components_of e in cc
+
+good_normal : (text : List ℕ) (normal : List (List ℕ)) → verdict text ≡ None
+    → NormalForm (components_of text) normal → All IsGood normal
+good_normal text normal valid form =
+    All-normal IsGood (components_of text) normal form (valid-components text valid)
+
+pub normal_is_valid : NormalIsValid
+normal_is_valid text normal valid form =
+    let good = good_normal text normal valid form in
+    valid-from (normal_text normal) (normal_text-non_empty normal good)
+    (subst (All IsGood) (sym (components_of-normal_text normal good)) good)
+
+pub normal_is_normal : NormalIsNormal
+normal_is_normal text normal valid form =
+    subst (λ pieces. NormalForm pieces normal)
+    (sym (components_of-normal_text normal (good_normal text normal valid form)))
+    ((0, refl), form.1)
+
+pub normal_paths_agree : NormalPathsAgree
+normal_paths_agree text other normal others valid other_valid form other_form =
+    let agree =
+    normal_forms_agree (components_of text) (components_of other) normal others form other_form in (
+      λ same. agree.0
+          (sym (components_of-normal_text normal (good_normal text normal valid form))
+          ∙ ap pieces_between same
+          ∙ components_of-normal_text others (good_normal other others other_valid other_form)),
+      λ common. ap (λ pieces. canonical (normal_text pieces)) (agree.1 common),
+    )
+
+-- good pieces that are added one after the other to nothing are joined
+pub joined_good : (qs : List (List ℕ)) → All IsGood qs → fold appended [] qs ≡ joined qs
+joined_good qs good =
+    added_all [] qs (All-nil IsPiece) (All-good_piece qs good) ∙ rejoined-full qs (All-good_non_empty qs good)
+
+-- with the lone separator where there are none that is their text
+pub plain_normal_text : (qs : List (List ℕ)) → All IsGood qs → with_separators (normal_text qs) ≡ normal_text qs
+plain_normal_text [] good = refl
+plain_normal_text (q ∷ qs) good =
+    with_separators-plain (joined (q ∷ qs))
+    (All-joined (λ u. u ≢ slash) (q ∷ qs) separator_is_plain (All-good_plain (q ∷ qs) good))
+
+pub normal_text_of : {A : Type 0} (shown : A → List ℕ) (items : List A) (text : List ℕ) (is_empty : Bool)
+    → All IsGood (map shown items) → is_empty ≡ (length items == 0)
+    → (is_empty ≡ true → text ≡ fold appended [] (map shown items) ++ separator ∷ [])
+    → (is_empty ≡ false → text ≡ fold appended [] (map shown items))
+    → with_separators text ≡ normal_text (map shown items)
+normal_text_of shown [] text is_empty good e root others = ap with_separators (root e)
+normal_text_of shown (a ∷ items) text is_empty good e root others =
+    let some : is_empty ≡ false = e ∙ ne_eqb (length (a ∷ items)) 0 (λ none. omega (arith, none)) in
+    ap with_separators (others some ∙ joined_good (map shown (a ∷ items)) good)
+    ∙ plain_normal_text (map shown (a ∷ items)) good

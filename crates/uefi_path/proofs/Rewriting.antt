@@ -1,0 +1,246 @@
+-- Normal forms of lists of pieces: each list has exactly one. It is made from the back, each step keeps
+-- it, steps lead to it, and none leads from it.
+use Rattle.std.proofs.Common.{◌≡◌, ◌≢◌, ℕ, ◌==◌, ◌&&◌, if◌then◌else◌, List, [], ◌∷◌, ◌++◌, inl, inr, zero, suc, refl, sym, ap, ◌∙◌, subst, arith}
+use Rattle.uefi_path.specs.Laws.{NormalFormsAgree, NormalFormsExist, NormalFormsOnce}
+use Rattle.uefi_path.specs.NormalForms.{IsName, IsNormal, NormalForm, Rewrites, Step, Steps, dot, dot_dot}
+
+-- what a piece is to the steps
+pub data Kind : Type 0 where
+  Dot : Kind
+  DotDot : Kind
+  Name : Kind
+
+abbrev pub kind : List ℕ → Kind
+kind [] = Name
+kind (c ∷ []) = if c == 46 then Dot else Name
+kind (c ∷ d ∷ []) = if (c == 46) && (d == 46) then DotDot else Name
+kind (c ∷ d ∷ e ∷ rest) = Name
+
+kind-Dot : (piece : List ℕ) → kind piece ≡ Dot → piece ≡ dot
+kind-Dot [] e = cc
+kind-Dot (c ∷ []) e = grind arith
+kind-Dot (c ∷ d ∷ []) e = grind arith
+kind-Dot (c ∷ d ∷ f ∷ rest) e = cc
+
+kind-DotDot : (piece : List ℕ) → kind piece ≡ DotDot → piece ≡ dot_dot
+kind-DotDot [] e = cc
+kind-DotDot (c ∷ []) e = grind arith
+kind-DotDot (c ∷ d ∷ []) e = grind arith
+kind-DotDot (c ∷ d ∷ f ∷ rest) e = cc
+
+kind-Name : (piece : List ℕ) → kind piece ≡ Name → IsName piece
+kind-Name piece e =
+    (λ is_dot. let k = ap kind is_dot in cc, λ is_up. let k = ap kind is_up in cc)
+
+name_kind : (piece : List ℕ) → IsName piece → kind piece ≡ Name
+name_kind piece name = by_kind (kind piece) refl
+  where
+    by_kind : (k : Kind) → kind piece ≡ k → kind piece ≡ Name
+    by_kind Dot e = absurd (name.0 (kind-Dot piece e))
+    by_kind DotDot e = absurd (name.1 (kind-DotDot piece e))
+    by_kind Name e = e
+
+-- a `.`, and a name before `..`, at the front
+dot_goes : (p : List ℕ) (ps : List (List ℕ)) → p ≡ dot → Step (p ∷ ps) ps
+dot_goes p ps e =
+    inl (record { front = []; back = ps; before = ap (λ q. q ∷ ps) e; after = refl })
+
+pair_goes : (p q : List ℕ) (ps : List (List ℕ)) → IsName p → q ≡ dot_dot → Step (p ∷ q ∷ ps) ps
+pair_goes p q ps name e = inr (record {
+  front = [];
+  name = p;
+  back = ps;
+  is_name = name;
+  before = ap (λ up. p ∷ up ∷ ps) e;
+  after = refl;
+})
+
+-- a step behind one more piece
+step_behind : (p : List ℕ) (ps qs : List (List ℕ)) → Step ps qs → Step (p ∷ ps) (p ∷ qs)
+step_behind p ps qs (inl d) = inl (record {
+  front = p ∷ d.front;
+  back = d.back;
+  before = ap (λ others. p ∷ others) d.before;
+  after = ap (λ others. p ∷ others) d.after;
+})
+step_behind p ps qs (inr d) = inr (record {
+  front = p ∷ d.front;
+  name = d.name;
+  back = d.back;
+  is_name = d.is_name;
+  before = ap (λ others. p ∷ others) d.before;
+  after = ap (λ others. p ∷ others) d.after;
+})
+
+steps_behind : (n : ℕ) (p : List ℕ) (ps qs : List (List ℕ)) → Steps n ps qs → Steps n (p ∷ ps) (p ∷ qs)
+steps_behind zero p ps qs e = ap (λ others. p ∷ others) e
+steps_behind (suc n) p ps qs s =
+    (p ∷ s.0, step_behind p ps s.0 s.1, steps_behind n p s.0 qs s.2)
+
+pub steps_then : (n : ℕ) (ps qs rs : List (List ℕ)) → Steps n ps qs → Rewrites qs rs → Rewrites ps rs
+steps_then zero ps qs rs e more = subst (λ pieces. Rewrites pieces rs) (sym e) more
+steps_then (suc n) ps qs rs s more =
+    let rest = steps_then n s.0 qs rs s.2 more in (suc rest.0, (s.0, s.1, rest.1))
+
+one_step : (ps qs : List (List ℕ)) → Step ps qs → Rewrites ps qs
+one_step ps qs s = (1, (qs, s, refl))
+
+-- a normal form, made from the back: a piece before it
+abbrev pub put_name : Kind → List ℕ → List ℕ → List (List ℕ) → List (List ℕ)
+put_name Dot p q qs = p ∷ q ∷ qs
+put_name DotDot p q qs = qs
+put_name Name p q qs = p ∷ q ∷ qs
+
+abbrev pub put : Kind → List ℕ → List (List ℕ) → List (List ℕ)
+put Dot p qs = qs
+put DotDot p qs = p ∷ qs
+put Name p [] = p ∷ []
+put Name p (q ∷ qs) = put_name (kind q) p q qs
+
+abbrev pub normal_of : List (List ℕ) → List (List ℕ)
+normal_of [] = []
+normal_of (p ∷ ps) = put (kind p) p (normal_of ps)
+
+-- each step keeps it
+normal_of-behind : (front ps qs : List (List ℕ)) → normal_of ps ≡ normal_of qs
+    → normal_of (front ++ ps) ≡ normal_of (front ++ qs)
+normal_of-behind [] ps qs e = e
+normal_of-behind (f ∷ front) ps qs e = ap (put (kind f) f) (normal_of-behind front ps qs e)
+
+pub normal_of-step : (ps qs : List (List ℕ)) → Step ps qs → normal_of ps ≡ normal_of qs
+normal_of-step ps qs (inl d) =
+    ap normal_of d.before ∙ normal_of-behind d.front (dot ∷ d.back) d.back refl ∙ ap normal_of (sym d.after)
+normal_of-step ps qs (inr d) =
+    ap normal_of d.before
+    ∙ normal_of-behind d.front (d.name ∷ dot_dot ∷ d.back) d.back
+    (ap (λ k. put k d.name (dot_dot ∷ normal_of d.back)) (name_kind d.name d.is_name))
+    ∙ ap normal_of (sym d.after)
+
+normal_of-steps : (n : ℕ) (ps qs : List (List ℕ)) → Steps n ps qs → normal_of ps ≡ normal_of qs
+normal_of-steps zero ps qs e = ap normal_of e
+normal_of-steps (suc n) ps qs s = normal_of-step ps s.0 s.1 ∙ normal_of-steps n s.0 qs s.2
+
+-- a normal list is its own normal form
+tail_normal : (p : List ℕ) (ps : List (List ℕ)) → IsNormal (p ∷ ps) → IsNormal ps
+tail_normal p ps normal qs s = normal (p ∷ qs) (step_behind p ps qs s)
+
+put_name-normal : (k : Kind) (p q : List ℕ) (qs : List (List ℕ)) → IsName p → kind q ≡ k
+    → IsNormal (p ∷ q ∷ qs) → put_name k p q qs ≡ p ∷ q ∷ qs
+put_name-normal Dot p q qs name e normal = refl
+put_name-normal DotDot p q qs name e normal =
+    absurd (normal qs (pair_goes p q qs name (kind-DotDot q e)))
+put_name-normal Name p q qs name e normal = refl
+
+put-normal : (k : Kind) (p : List ℕ) (ps : List (List ℕ)) → kind p ≡ k → IsNormal (p ∷ ps)
+    → put k p ps ≡ p ∷ ps
+put-normal Dot p ps e normal = absurd (normal ps (dot_goes p ps (kind-Dot p e)))
+put-normal DotDot p ps e normal = refl
+put-normal Name p [] e normal = refl
+put-normal Name p (q ∷ qs) e normal = put_name-normal (kind q) p q qs (kind-Name p e) refl normal
+
+pub normal_of-normal : (ps : List (List ℕ)) → IsNormal ps → normal_of ps ≡ ps
+normal_of-normal [] normal = refl
+normal_of-normal (p ∷ ps) normal =
+    ap (put (kind p) p) (normal_of-normal ps (tail_normal p ps normal))
+    ∙ put-normal (kind p) p ps refl normal
+
+-- steps lead to it
+put_name_reached : (k : Kind) (p q : List ℕ) (qs : List (List ℕ)) → IsName p → kind q ≡ k
+    → Rewrites (p ∷ q ∷ qs) (put_name k p q qs)
+put_name_reached Dot p q qs name e = (0, refl)
+put_name_reached DotDot p q qs name e =
+    one_step (p ∷ q ∷ qs) qs (pair_goes p q qs name (kind-DotDot q e))
+put_name_reached Name p q qs name e = (0, refl)
+
+put_reached : (k : Kind) (p : List ℕ) (ps : List (List ℕ)) → kind p ≡ k → Rewrites (p ∷ ps) (put k p ps)
+put_reached Dot p ps e = one_step (p ∷ ps) ps (dot_goes p ps (kind-Dot p e))
+put_reached DotDot p ps e = (0, refl)
+put_reached Name p [] e = (0, refl)
+put_reached Name p (q ∷ qs) e = put_name_reached (kind q) p q qs (kind-Name p e) refl
+
+normal_of_reached : (ps : List (List ℕ)) → Rewrites ps (normal_of ps)
+normal_of_reached [] = (0, refl)
+normal_of_reached (p ∷ ps) =
+    let rest = normal_of_reached ps in
+    steps_then rest.0 (p ∷ ps) (p ∷ normal_of ps) (normal_of (p ∷ ps))
+    (steps_behind rest.0 p ps (normal_of ps) rest.1) (put_reached (kind p) p (normal_of ps) refl)
+
+-- and none leads from it
+from_nil : (front : List (List ℕ)) (p : List ℕ) (back : List (List ℕ)) → [] ≢ front ++ p ∷ back
+from_nil [] p back e = cc
+from_nil (f ∷ front) p back e = cc
+
+pub nil_normal : IsNormal []
+nil_normal qs (inl d) = from_nil d.front dot d.back d.before
+nil_normal qs (inr d) = from_nil d.front d.name (dot_dot ∷ d.back) d.before
+
+-- a piece before a normal list: no step leads from both where none begins at the piece
+behind_normal : (p : List ℕ) (ps : List (List ℕ)) → IsNormal ps → p ≢ dot
+    → ((qs : List (List ℕ)) → ps ≡ dot_dot ∷ qs → ¬ IsName p) → IsNormal (p ∷ ps)
+behind_normal p ps normal no_dot no_pair rs (inl d) = at_dot d.front d.before
+  where
+    at_dot : (front : List (List ℕ)) → p ∷ ps ≡ front ++ dot ∷ d.back → ⊥
+    at_dot [] e = let same : p ≡ dot = cc in no_dot same
+    at_dot (f ∷ front) e =
+        let others : ps ≡ front ++ dot ∷ d.back = cc in
+        normal (front ++ d.back) (inl (record { front = front; back = d.back; before = others; after = refl }))
+behind_normal p ps normal no_dot no_pair rs (inr d) = at_pair d.front d.before
+  where
+    at_pair : (front : List (List ℕ)) → p ∷ ps ≡ front ++ d.name ∷ dot_dot ∷ d.back → ⊥
+    at_pair [] e =
+        let same : d.name ≡ p = cc in
+        let others : ps ≡ dot_dot ∷ d.back = cc in
+        no_pair d.back others (subst IsName same d.is_name)
+    at_pair (f ∷ front) e =
+        let others : ps ≡ front ++ d.name ∷ dot_dot ∷ d.back = cc in
+        normal (front ++ d.back) (inr (record {
+          front = front;
+          name = d.name;
+          back = d.back;
+          is_name = d.is_name;
+          before = others;
+          after = refl;
+        }))
+
+put_name_normal : (k : Kind) (p q : List ℕ) (qs : List (List ℕ)) → IsName p → kind q ≡ k
+    → IsNormal (q ∷ qs) → IsNormal (put_name k p q qs)
+put_name_normal Dot p q qs name e normal = absurd (normal qs (dot_goes q qs (kind-Dot q e)))
+put_name_normal DotDot p q qs name e normal = tail_normal q qs normal
+put_name_normal Name p q qs name e normal =
+    behind_normal p (q ∷ qs) normal name.0
+    (λ rs same. absurd ((kind-Name q e).1 (let head : q ≡ dot_dot = cc in head)))
+
+put_normal : (k : Kind) (p : List ℕ) (ps : List (List ℕ)) → kind p ≡ k → IsNormal ps → IsNormal (put k p ps)
+put_normal Dot p ps e normal = normal
+put_normal DotDot p ps e normal =
+    let up = kind-DotDot p e in
+    behind_normal p ps normal (λ is_dot. let k = sym up ∙ is_dot in cc) (λ qs same name. name.1 up)
+put_normal Name p [] e normal = behind_normal p [] normal (kind-Name p e).0 (λ qs same. cc)
+put_normal Name p (q ∷ qs) e normal = put_name_normal (kind q) p q qs (kind-Name p e) refl normal
+
+normal_of_normal : (ps : List (List ℕ)) → IsNormal (normal_of ps)
+normal_of_normal [] = nil_normal
+normal_of_normal (p ∷ ps) = put_normal (kind p) p (normal_of ps) refl (normal_of_normal ps)
+
+-- so it is the normal form
+pub NormalForm-normal_of : (ps : List (List ℕ)) → NormalForm ps (normal_of ps)
+NormalForm-normal_of ps = (normal_of_reached ps, normal_of_normal ps)
+
+-- and no other list is
+pub normal_of-only : (ps qs : List (List ℕ)) → NormalForm ps qs → qs ≡ normal_of ps
+normal_of-only ps qs form = sym (normal_of-steps form.0.0 ps qs form.0.1 ∙ normal_of-normal qs form.1)
+
+pub normal_forms_exist : NormalFormsExist
+normal_forms_exist ps = (normal_of ps, NormalForm-normal_of ps)
+
+pub normal_forms_once : NormalFormsOnce
+normal_forms_once ps qs rs form other = normal_of-only ps qs form ∙ sym (normal_of-only ps rs other)
+
+pub normal_forms_agree : NormalFormsAgree
+normal_forms_agree ps qs ns ms form other = (
+  λ same. (ns, form.0, subst (λ rs. Rewrites qs rs) (sym same) other.0),
+  λ common. normal_of-only ps ns form
+      ∙ normal_of-steps common.1.0 ps common.0 common.1.1
+      ∙ sym (normal_of-steps common.2.0 qs common.0 common.2.1)
+      ∙ sym (normal_of-only qs ms other),
+)

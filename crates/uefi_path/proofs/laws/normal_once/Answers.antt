@@ -1,0 +1,11 @@
+use Rattle.uefi_path.proofs.NormalPaths.{normal_is_normal, normal_is_valid, normal_paths_agree}
+use Rattle.uefi_path.proofs.laws.normal_once.Goals as goal
+
+pub returns-clause-valid : goal.returns-clause-valid
+returns-clause-valid c = normal_is_valid
+
+pub returns-clause-again : goal.returns-clause-again
+returns-clause-again c = normal_is_normal
+
+pub returns-clause-agree : goal.returns-clause-agree
+returns-clause-agree c = normal_paths_agree

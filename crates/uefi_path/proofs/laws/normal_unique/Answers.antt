@@ -1,0 +1,11 @@
+use Rattle.uefi_path.proofs.Rewriting.{normal_forms_agree, normal_forms_exist, normal_forms_once}
+use Rattle.uefi_path.proofs.laws.normal_unique.Goals as goal
+
+pub returns-clause-exists : goal.returns-clause-exists
+returns-clause-exists c = normal_forms_exist
+
+pub returns-clause-once : goal.returns-clause-once
+returns-clause-once c = normal_forms_once
+
+pub returns-clause-agree : goal.returns-clause-agree
+returns-clause-agree c = normal_forms_agree

@@ -1,0 +1,64 @@
+-- Normal forms: a `.` goes, and a name goes with the `..` right after it, until neither is left.
+use Rattle.std.specs.Prelude.{◌≡◌, ◌≢◌, ℕ, List, [], ◌∷◌, ◌++◌, ◌⊎◌}
+use Rattle.std.proofs.Common.{zero, suc}
+use Rattle.uefi_path.specs.Components.{joined}
+use Rattle.uefi_path.specs.Separators.{separator}
+
+-- the piece `.`, which stays where it is
+abbrev pub dot : List ℕ
+dot = 46 ∷ []
+
+-- the piece `..`, which goes up
+abbrev pub dot_dot : List ℕ
+dot_dot = 46 ∷ 46 ∷ []
+
+-- a name: any other piece
+abbrev pub IsName : List ℕ → Type 0
+IsName piece = (piece ≢ dot) × (piece ≢ dot_dot)
+
+-- a `.` is deleted, wherever it stands
+pub record DeletesDot (old new : List (List ℕ)) : Type 0 where
+  pub front : List (List ℕ)
+  pub back : List (List ℕ)
+  pub before : old ≡ front ++ dot ∷ back
+  pub after : new ≡ front ++ back
+
+-- a name is deleted with the `..` right after it, wherever they stand
+pub record DeletesPair (old new : List (List ℕ)) : Type 0 where
+  pub front : List (List ℕ)
+  pub name : List ℕ
+  pub back : List (List ℕ)
+  pub is_name : IsName name
+  pub before : old ≡ front ++ name ∷ dot_dot ∷ back
+  pub after : new ≡ front ++ back
+
+-- one step
+abbrev pub Step : List (List ℕ) → List (List ℕ) → Type 0
+Step old new = DeletesDot old new ⊎ DeletesPair old new
+
+-- so many steps
+abbrev pub Steps : ℕ → List (List ℕ) → List (List ℕ) → Type 0
+Steps zero old new = old ≡ new
+Steps (suc count) old new = (between : List (List ℕ)) × Step old between × Steps count between new
+
+-- steps lead from a list of pieces to another
+abbrev pub Rewrites : List (List ℕ) → List (List ℕ) → Type 0
+Rewrites old new = (count : ℕ) × Steps count old new
+
+-- a normal list of pieces: no step leads from it
+abbrev pub IsNormal : List (List ℕ) → Type 0
+IsNormal pieces = (others : List (List ℕ)) → ¬ Step pieces others
+
+-- the normal form of pieces: steps lead to it, and no further
+abbrev pub NormalForm : List (List ℕ) → List (List ℕ) → Type 0
+NormalForm pieces normal = Rewrites pieces normal × IsNormal normal
+
+-- the text of normal pieces: they are joined, and none are the lone separator
+abbrev pub normal_text : List (List ℕ) → List ℕ
+normal_text [] = separator ∷ []
+normal_text (piece ∷ pieces) = joined (piece ∷ pieces)
+
+-- the last piece is a name
+abbrev pub EndsInName : List (List ℕ) → Type 0
+EndsInName pieces =
+    (front : List (List ℕ)) × (name : List ℕ) × IsName name × (pieces ≡ front ++ name ∷ [])
