@@ -1,5 +1,5 @@
 //! Tests of paths and of path buffers: components, comparison, pushes, parents, the judgement of a
-//! path, each request for memory refused in turn, and the examples of the documents.
+//! path, normal paths, each request for memory refused in turn, and the examples of the documents.
 #![tactic(auto)]
 
 #[cfg(test)]
@@ -20,6 +20,8 @@ mod hostile_paths;
 mod judgement;
 #[cfg(test)]
 mod long_paths;
+#[cfg(test)]
+mod normal_paths;
 #[cfg(test)]
 mod out_of_memory;
 #[cfg(test)]

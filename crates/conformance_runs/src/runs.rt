@@ -54,6 +54,10 @@ fn lines_that_change_the_path(rt: HostRuntime) -> Result<(), Fail> {
              path contains an empty component\n= b\nless\n",
         ),
         (
+            "from a/../b\nnorm\npieces\nclear\nnorm\nnorm \n",
+            "= a\\..\\b\n= b\npieces 3\n| a\n| ..\n| b\n= \npath is empty\n? unknown command\n",
+        ),
+        (
             "from a/b\neq a/b\ncmp \\a\\b\ncmp a\njoin \\\npieces\ncheck\nup\n",
             "= a\\b\ndifferent\nequal\ngreater\n= a\\b\\\\\npieces 4\n| a\n| b\n| \n| \n\
              path contains an empty component\nparents 3\n| a\\b\\\n| a\\b\n| a\n",

@@ -6,34 +6,34 @@ use Rattle.std.proofs.lemmas.List.Elements.{All-cons, All-head, All-nil, All-tai
 use Rattle.std.proofs.lemmas.Bool.{ne_eqb}
 use Rattle.uefi_path.specs.Components.{IsPiece, components_of, joined, pieces_between}
 use Rattle.uefi_path.specs.Laws.{NormalIsNormal, NormalIsValid, NormalPathsAgree}
-use Rattle.uefi_path.specs.NormalForms.{NormalForm, normal_text}
+use Rattle.uefi_path.specs.NormalForms.{Dot, DotDot, Kind, Name, NormalForm, before_normal, before_piece, kind, normal_of, normal_text}
 use Rattle.uefi_path.specs.Pushing.{appended}
 use Rattle.uefi_path.specs.Separators.{canonical, separator, slash, with_separators}
 use Rattle.uefi_path.specs.Verdicts.{IsGood, verdict}
 use Rattle.uefi_path.proofs.ParentForm.{components_of-joined, rejoined-full}
 use Rattle.uefi_path.proofs.Parents.{added_all}
 use Rattle.uefi_path.proofs.Pushing.{separator_is_plain, with_separators-plain}
-use Rattle.uefi_path.proofs.Rewriting.{Dot, DotDot, Kind, Name, kind, normal_forms_agree, normal_of, normal_of-only, put, put_name}
+use Rattle.uefi_path.proofs.Rewriting.{normal_forms_agree, normal_of-only}
 use Rattle.uefi_path.proofs.Validity.{All-good_non_empty, All-good_piece, All-good_plain, All-joined, valid-components, valid-from}
 
 -- what holds of each piece holds of each of the normal form
 module _ (P : List ℕ → Type 0) where
-  All-put_name : (k : Kind) (p q : List ℕ) (qs : List (List ℕ)) → P p → All P (q ∷ qs)
-      → All P (put_name k p q qs)
-  All-put_name Dot p q qs here others = All-cons P p (q ∷ qs) here others
-  All-put_name DotDot p q qs here others = All-tail P q qs others
-  All-put_name Name p q qs here others = All-cons P p (q ∷ qs) here others
+  All-before_piece : (k : Kind) (p q : List ℕ) (qs : List (List ℕ)) → P p → All P (q ∷ qs)
+      → All P (before_piece k p q qs)
+  All-before_piece Dot p q qs here others = All-cons P p (q ∷ qs) here others
+  All-before_piece DotDot p q qs here others = All-tail P q qs others
+  All-before_piece Name p q qs here others = All-cons P p (q ∷ qs) here others
 
-  All-put : (k : Kind) (p : List ℕ) (ps : List (List ℕ)) → P p → All P ps → All P (put k p ps)
-  All-put Dot p ps here others = others
-  All-put DotDot p ps here others = All-cons P p ps here others
-  All-put Name p [] here others = All-cons P p [] here others
-  All-put Name p (q ∷ qs) here others = All-put_name (kind q) p q qs here others
+  All-before_normal : (k : Kind) (p : List ℕ) (ps : List (List ℕ)) → P p → All P ps → All P (before_normal k p ps)
+  All-before_normal Dot p ps here others = others
+  All-before_normal DotDot p ps here others = All-cons P p ps here others
+  All-before_normal Name p [] here others = All-cons P p [] here others
+  All-before_normal Name p (q ∷ qs) here others = All-before_piece (kind q) p q qs here others
 
   All-normal_of : (ps : List (List ℕ)) → All P ps → All P (normal_of ps)
   All-normal_of [] all = all
   All-normal_of (p ∷ ps) all =
-      All-put (kind p) p (normal_of ps) (All-head P p ps all) (All-normal_of ps (All-tail P p ps all))
+      All-before_normal (kind p) p (normal_of ps) (All-head P p ps all) (All-normal_of ps (All-tail P p ps all))
 
   pub All-normal : (ps qs : List (List ℕ)) → NormalForm ps qs → All P ps → All P qs
   All-normal ps qs form all = subst (All P) (sym (normal_of-only ps qs form)) (All-normal_of ps all)

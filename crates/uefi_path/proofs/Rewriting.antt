@@ -1,20 +1,8 @@
 -- Normal forms of lists of pieces: each list has exactly one. It is made from the back, each step keeps
 -- it, steps lead to it, and none leads from it.
-use Rattle.std.proofs.Common.{◌≡◌, ◌≢◌, ℕ, ◌==◌, ◌&&◌, if◌then◌else◌, List, [], ◌∷◌, ◌++◌, inl, inr, zero, suc, refl, sym, ap, ◌∙◌, subst, arith}
-use Rattle.uefi_path.specs.Laws.{NormalFormsAgree, NormalFormsExist, NormalFormsOnce}
-use Rattle.uefi_path.specs.NormalForms.{IsName, IsNormal, NormalForm, Rewrites, Step, Steps, dot, dot_dot}
-
--- what a piece is to the steps
-pub data Kind : Type 0 where
-  Dot : Kind
-  DotDot : Kind
-  Name : Kind
-
-abbrev pub kind : List ℕ → Kind
-kind [] = Name
-kind (c ∷ []) = if c == 46 then Dot else Name
-kind (c ∷ d ∷ []) = if (c == 46) && (d == 46) then DotDot else Name
-kind (c ∷ d ∷ e ∷ rest) = Name
+use Rattle.std.proofs.Common.{◌≡◌, ◌≢◌, ℕ, List, [], ◌∷◌, ◌++◌, inl, inr, zero, suc, refl, sym, ap, ◌∙◌, subst, arith}
+use Rattle.uefi_path.specs.Laws.{NormalFormWhereSame, NormalFormsAgree, NormalFormsExist, NormalFormsOnce}
+use Rattle.uefi_path.specs.NormalForms.{IsName, IsNormal, Kind, Dot, DotDot, Name, NormalForm, Rewrites, Step, Steps, before_normal, before_piece, dot, dot_dot, kind, normal_of}
 
 kind-Dot : (piece : List ℕ) → kind piece ≡ Dot → piece ≡ dot
 kind-Dot [] e = cc
@@ -85,27 +73,11 @@ steps_then (suc n) ps qs rs s more =
 one_step : (ps qs : List (List ℕ)) → Step ps qs → Rewrites ps qs
 one_step ps qs s = (1, (qs, s, refl))
 
--- a normal form, made from the back: a piece before it
-abbrev pub put_name : Kind → List ℕ → List ℕ → List (List ℕ) → List (List ℕ)
-put_name Dot p q qs = p ∷ q ∷ qs
-put_name DotDot p q qs = qs
-put_name Name p q qs = p ∷ q ∷ qs
-
-abbrev pub put : Kind → List ℕ → List (List ℕ) → List (List ℕ)
-put Dot p qs = qs
-put DotDot p qs = p ∷ qs
-put Name p [] = p ∷ []
-put Name p (q ∷ qs) = put_name (kind q) p q qs
-
-abbrev pub normal_of : List (List ℕ) → List (List ℕ)
-normal_of [] = []
-normal_of (p ∷ ps) = put (kind p) p (normal_of ps)
-
 -- each step keeps it
 normal_of-behind : (front ps qs : List (List ℕ)) → normal_of ps ≡ normal_of qs
     → normal_of (front ++ ps) ≡ normal_of (front ++ qs)
 normal_of-behind [] ps qs e = e
-normal_of-behind (f ∷ front) ps qs e = ap (put (kind f) f) (normal_of-behind front ps qs e)
+normal_of-behind (f ∷ front) ps qs e = ap (before_normal (kind f) f) (normal_of-behind front ps qs e)
 
 pub normal_of-step : (ps qs : List (List ℕ)) → Step ps qs → normal_of ps ≡ normal_of qs
 normal_of-step ps qs (inl d) =
@@ -113,7 +85,7 @@ normal_of-step ps qs (inl d) =
 normal_of-step ps qs (inr d) =
     ap normal_of d.before
     ∙ normal_of-behind d.front (d.name ∷ dot_dot ∷ d.back) d.back
-    (ap (λ k. put k d.name (dot_dot ∷ normal_of d.back)) (name_kind d.name d.is_name))
+    (ap (λ k. before_normal k d.name (dot_dot ∷ normal_of d.back)) (name_kind d.name d.is_name))
     ∙ ap normal_of (sym d.after)
 
 normal_of-steps : (n : ℕ) (ps qs : List (List ℕ)) → Steps n ps qs → normal_of ps ≡ normal_of qs
@@ -124,46 +96,46 @@ normal_of-steps (suc n) ps qs s = normal_of-step ps s.0 s.1 ∙ normal_of-steps 
 tail_normal : (p : List ℕ) (ps : List (List ℕ)) → IsNormal (p ∷ ps) → IsNormal ps
 tail_normal p ps normal qs s = normal (p ∷ qs) (step_behind p ps qs s)
 
-put_name-normal : (k : Kind) (p q : List ℕ) (qs : List (List ℕ)) → IsName p → kind q ≡ k
-    → IsNormal (p ∷ q ∷ qs) → put_name k p q qs ≡ p ∷ q ∷ qs
-put_name-normal Dot p q qs name e normal = refl
-put_name-normal DotDot p q qs name e normal =
+before_piece-normal : (k : Kind) (p q : List ℕ) (qs : List (List ℕ)) → IsName p → kind q ≡ k
+    → IsNormal (p ∷ q ∷ qs) → before_piece k p q qs ≡ p ∷ q ∷ qs
+before_piece-normal Dot p q qs name e normal = refl
+before_piece-normal DotDot p q qs name e normal =
     absurd (normal qs (pair_goes p q qs name (kind-DotDot q e)))
-put_name-normal Name p q qs name e normal = refl
+before_piece-normal Name p q qs name e normal = refl
 
-put-normal : (k : Kind) (p : List ℕ) (ps : List (List ℕ)) → kind p ≡ k → IsNormal (p ∷ ps)
-    → put k p ps ≡ p ∷ ps
-put-normal Dot p ps e normal = absurd (normal ps (dot_goes p ps (kind-Dot p e)))
-put-normal DotDot p ps e normal = refl
-put-normal Name p [] e normal = refl
-put-normal Name p (q ∷ qs) e normal = put_name-normal (kind q) p q qs (kind-Name p e) refl normal
+before_normal-normal : (k : Kind) (p : List ℕ) (ps : List (List ℕ)) → kind p ≡ k → IsNormal (p ∷ ps)
+    → before_normal k p ps ≡ p ∷ ps
+before_normal-normal Dot p ps e normal = absurd (normal ps (dot_goes p ps (kind-Dot p e)))
+before_normal-normal DotDot p ps e normal = refl
+before_normal-normal Name p [] e normal = refl
+before_normal-normal Name p (q ∷ qs) e normal = before_piece-normal (kind q) p q qs (kind-Name p e) refl normal
 
 pub normal_of-normal : (ps : List (List ℕ)) → IsNormal ps → normal_of ps ≡ ps
 normal_of-normal [] normal = refl
 normal_of-normal (p ∷ ps) normal =
-    ap (put (kind p) p) (normal_of-normal ps (tail_normal p ps normal))
-    ∙ put-normal (kind p) p ps refl normal
+    ap (before_normal (kind p) p) (normal_of-normal ps (tail_normal p ps normal))
+    ∙ before_normal-normal (kind p) p ps refl normal
 
 -- steps lead to it
-put_name_reached : (k : Kind) (p q : List ℕ) (qs : List (List ℕ)) → IsName p → kind q ≡ k
-    → Rewrites (p ∷ q ∷ qs) (put_name k p q qs)
-put_name_reached Dot p q qs name e = (0, refl)
-put_name_reached DotDot p q qs name e =
+before_piece_reached : (k : Kind) (p q : List ℕ) (qs : List (List ℕ)) → IsName p → kind q ≡ k
+    → Rewrites (p ∷ q ∷ qs) (before_piece k p q qs)
+before_piece_reached Dot p q qs name e = (0, refl)
+before_piece_reached DotDot p q qs name e =
     one_step (p ∷ q ∷ qs) qs (pair_goes p q qs name (kind-DotDot q e))
-put_name_reached Name p q qs name e = (0, refl)
+before_piece_reached Name p q qs name e = (0, refl)
 
-put_reached : (k : Kind) (p : List ℕ) (ps : List (List ℕ)) → kind p ≡ k → Rewrites (p ∷ ps) (put k p ps)
-put_reached Dot p ps e = one_step (p ∷ ps) ps (dot_goes p ps (kind-Dot p e))
-put_reached DotDot p ps e = (0, refl)
-put_reached Name p [] e = (0, refl)
-put_reached Name p (q ∷ qs) e = put_name_reached (kind q) p q qs (kind-Name p e) refl
+before_normal_reached : (k : Kind) (p : List ℕ) (ps : List (List ℕ)) → kind p ≡ k → Rewrites (p ∷ ps) (before_normal k p ps)
+before_normal_reached Dot p ps e = one_step (p ∷ ps) ps (dot_goes p ps (kind-Dot p e))
+before_normal_reached DotDot p ps e = (0, refl)
+before_normal_reached Name p [] e = (0, refl)
+before_normal_reached Name p (q ∷ qs) e = before_piece_reached (kind q) p q qs (kind-Name p e) refl
 
 normal_of_reached : (ps : List (List ℕ)) → Rewrites ps (normal_of ps)
 normal_of_reached [] = (0, refl)
 normal_of_reached (p ∷ ps) =
     let rest = normal_of_reached ps in
     steps_then rest.0 (p ∷ ps) (p ∷ normal_of ps) (normal_of (p ∷ ps))
-    (steps_behind rest.0 p ps (normal_of ps) rest.1) (put_reached (kind p) p (normal_of ps) refl)
+    (steps_behind rest.0 p ps (normal_of ps) rest.1) (before_normal_reached (kind p) p (normal_of ps) refl)
 
 -- and none leads from it
 from_nil : (front : List (List ℕ)) (p : List ℕ) (back : List (List ℕ)) → [] ≢ front ++ p ∷ back
@@ -202,25 +174,25 @@ behind_normal p ps normal no_dot no_pair rs (inr d) = at_pair d.front d.before
           after = refl;
         }))
 
-put_name_normal : (k : Kind) (p q : List ℕ) (qs : List (List ℕ)) → IsName p → kind q ≡ k
-    → IsNormal (q ∷ qs) → IsNormal (put_name k p q qs)
-put_name_normal Dot p q qs name e normal = absurd (normal qs (dot_goes q qs (kind-Dot q e)))
-put_name_normal DotDot p q qs name e normal = tail_normal q qs normal
-put_name_normal Name p q qs name e normal =
+before_piece_normal : (k : Kind) (p q : List ℕ) (qs : List (List ℕ)) → IsName p → kind q ≡ k
+    → IsNormal (q ∷ qs) → IsNormal (before_piece k p q qs)
+before_piece_normal Dot p q qs name e normal = absurd (normal qs (dot_goes q qs (kind-Dot q e)))
+before_piece_normal DotDot p q qs name e normal = tail_normal q qs normal
+before_piece_normal Name p q qs name e normal =
     behind_normal p (q ∷ qs) normal name.0
     (λ rs same. absurd ((kind-Name q e).1 (let head : q ≡ dot_dot = cc in head)))
 
-put_normal : (k : Kind) (p : List ℕ) (ps : List (List ℕ)) → kind p ≡ k → IsNormal ps → IsNormal (put k p ps)
-put_normal Dot p ps e normal = normal
-put_normal DotDot p ps e normal =
+before_normal_normal : (k : Kind) (p : List ℕ) (ps : List (List ℕ)) → kind p ≡ k → IsNormal ps → IsNormal (before_normal k p ps)
+before_normal_normal Dot p ps e normal = normal
+before_normal_normal DotDot p ps e normal =
     let up = kind-DotDot p e in
     behind_normal p ps normal (λ is_dot. let k = sym up ∙ is_dot in cc) (λ qs same name. name.1 up)
-put_normal Name p [] e normal = behind_normal p [] normal (kind-Name p e).0 (λ qs same. cc)
-put_normal Name p (q ∷ qs) e normal = put_name_normal (kind q) p q qs (kind-Name p e) refl normal
+before_normal_normal Name p [] e normal = behind_normal p [] normal (kind-Name p e).0 (λ qs same. cc)
+before_normal_normal Name p (q ∷ qs) e normal = before_piece_normal (kind q) p q qs (kind-Name p e) refl normal
 
 normal_of_normal : (ps : List (List ℕ)) → IsNormal (normal_of ps)
 normal_of_normal [] = nil_normal
-normal_of_normal (p ∷ ps) = put_normal (kind p) p (normal_of ps) refl (normal_of_normal ps)
+normal_of_normal (p ∷ ps) = before_normal_normal (kind p) p (normal_of ps) refl (normal_of_normal ps)
 
 -- so it is the normal form
 pub NormalForm-normal_of : (ps : List (List ℕ)) → NormalForm ps (normal_of ps)
@@ -235,6 +207,12 @@ normal_forms_exist ps = (normal_of ps, NormalForm-normal_of ps)
 
 pub normal_forms_once : NormalFormsOnce
 normal_forms_once ps qs rs form other = normal_of-only ps qs form ∙ sym (normal_of-only ps rs other)
+
+pub normal_form_where_same : NormalFormWhereSame
+normal_form_where_same ps qs = (
+  λ form. normal_of-only ps qs form,
+  λ same. subst (NormalForm ps) (sym same) (NormalForm-normal_of ps),
+)
 
 pub normal_forms_agree : NormalFormsAgree
 normal_forms_agree ps qs ns ms form other = (

@@ -6,7 +6,7 @@ use Rattle.std.specs.Ordering.{nat_cmp}
 use Rattle.std.specs.declared.cmp.Ordering.{Ordering}
 use Rattle.std.specs.declared.cmp.Ordering.TheVariants.{Equal}
 use Rattle.uefi_path.specs.Components.{AreComponents, components_of}
-use Rattle.uefi_path.specs.NormalForms.{NormalForm, Rewrites, normal_text}
+use Rattle.uefi_path.specs.NormalForms.{NormalForm, Rewrites, normal_of, normal_text}
 use Rattle.uefi_path.specs.Parents.{parent_text}
 use Rattle.uefi_path.specs.Pushing.{needs_separator, pushed}
 use Rattle.uefi_path.specs.Separators.{IsPlain, canonical, is_separator, separator}
@@ -167,6 +167,10 @@ NormalFormsExist = (pieces : List (List ℕ)) → (normal : List (List ℕ)) × 
 abbrev pub NormalFormsOnce : Type 0
 NormalFormsOnce = (pieces normal other : List (List ℕ)) → NormalForm pieces normal → NormalForm pieces other
     → normal ≡ other
+
+-- it is `normal_of` the list, and what is no normal form is another one
+abbrev pub NormalFormWhereSame : Type 0
+NormalFormWhereSame = (pieces normal : List (List ℕ)) → NormalForm pieces normal ↔ (normal ≡ normal_of pieces)
 
 -- two lists have the same one exactly where steps lead from both to some list
 abbrev pub NormalFormsAgree : Type 0

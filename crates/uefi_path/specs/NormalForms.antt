@@ -1,5 +1,5 @@
 -- Normal forms: a `.` goes, and a name goes with the `..` right after it, until neither is left.
-use Rattle.std.specs.Prelude.{◌≡◌, ◌≢◌, ℕ, List, [], ◌∷◌, ◌++◌, ◌⊎◌}
+use Rattle.std.specs.Prelude.{◌≡◌, ◌≢◌, ℕ, ◌==◌, ◌&&◌, if◌then◌else◌, List, [], ◌∷◌, ◌++◌, ◌⊎◌}
 use Rattle.std.proofs.Common.{zero, suc}
 use Rattle.uefi_path.specs.Components.{joined}
 use Rattle.uefi_path.specs.Separators.{separator}
@@ -52,6 +52,36 @@ IsNormal pieces = (others : List (List ℕ)) → ¬ Step pieces others
 -- the normal form of pieces: steps lead to it, and no further
 abbrev pub NormalForm : List (List ℕ) → List (List ℕ) → Type 0
 NormalForm pieces normal = Rewrites pieces normal × IsNormal normal
+
+-- what a piece is to the steps
+pub data Kind : Type 0 where
+  Dot : Kind
+  DotDot : Kind
+  Name : Kind
+
+abbrev pub kind : List ℕ → Kind
+kind [] = Name
+kind (c ∷ []) = if c == 46 then Dot else Name
+kind (c ∷ d ∷ []) = if (c == 46) && (d == 46) then DotDot else Name
+kind (c ∷ d ∷ e ∷ rest) = Name
+
+-- a name before a piece of this kind and others: a `..` goes with it
+abbrev pub before_piece : Kind → List ℕ → List ℕ → List (List ℕ) → List (List ℕ)
+before_piece Dot name piece others = name ∷ piece ∷ others
+before_piece DotDot name piece others = others
+before_piece Name name piece others = name ∷ piece ∷ others
+
+-- a piece of this kind before normal pieces
+abbrev pub before_normal : Kind → List ℕ → List (List ℕ) → List (List ℕ)
+before_normal Dot piece others = others
+before_normal DotDot piece others = piece ∷ others
+before_normal Name piece [] = piece ∷ []
+before_normal Name piece (next ∷ others) = before_piece (kind next) piece next others
+
+-- the one normal form that a list of pieces has
+abbrev pub normal_of : List (List ℕ) → List (List ℕ)
+normal_of [] = []
+normal_of (piece ∷ pieces) = before_normal (kind piece) piece (normal_of pieces)
 
 -- the text of normal pieces: they are joined, and none are the lone separator
 abbrev pub normal_text : List (List ℕ) → List ℕ

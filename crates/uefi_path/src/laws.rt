@@ -7,7 +7,7 @@ ghost use Rattle.uefi_path.specs.Laws.{ComponentsAreJoined, JoinedAreSame, Joine
 ghost use Rattle.uefi_path.specs.Laws.{ParentIsNotDoubled, ParentIsRelative, ParentIsValid};
 ghost use Rattle.uefi_path.specs.Laws.{CanonicalIsEqual, ComponentsRebuild, ParentOfJoined, ValidWhereUnrefused};
 ghost use Rattle.uefi_path.specs.Laws.{AreParentsWhereSame, FewerParents, ParentsArePrefixes, ParentsOfAreParents, WalkingUpEnds};
-ghost use Rattle.uefi_path.specs.Laws.{NormalFormsAgree, NormalFormsExist, NormalFormsOnce, NormalIsNormal, NormalIsValid, NormalPathsAgree};
+ghost use Rattle.uefi_path.specs.Laws.{NormalFormWhereSame, NormalFormsAgree, NormalFormsExist, NormalFormsOnce, NormalIsNormal, NormalIsValid, NormalPathsAgree};
 
 /// Every text has exactly one list of components, `components_of` it: none where its canonical text
 /// is empty, else one more than separators in it.
@@ -101,11 +101,12 @@ pub fn parent_count()
     ensures fewer { FewerParents }
 {}
 
-/// Each list of pieces has exactly one normal form. Two lists have the same one exactly where deleting
+/// Each list of pieces has exactly one normal form, `normal_of` it. Two lists have the same one exactly where deleting
 /// `.`, and names with the `..` right after them, leads from both to some list.
 pub fn normal_unique()
     ensures exists { NormalFormsExist }
     ensures once { NormalFormsOnce }
+    ensures same { NormalFormWhereSame }
     ensures agree { NormalFormsAgree }
 {}
 

@@ -2,7 +2,7 @@
 ghost use Rattle.std.specs.Prelude.{◌≡◌, ◌↔◌, ◌++◌, ◌∷◌, All, IfErr, IfOk, IfSome, IsTrue, List, None, OnOk, Some, map, ℕ};
 ghost use Rattle.std.specs.Result.{result_err};
 ghost use Rattle.uefi_path.specs.Components.{components_of};
-ghost use Rattle.uefi_path.specs.NormalForms.{EndsInName, IsName, IsNormal, NormalForm, Rewrites, dot, dot_dot, normal_text};
+ghost use Rattle.uefi_path.specs.NormalForms.{EndsInName, IsName, IsNormal, NormalForm, Rewrites, dot, dot_dot, normal_of, normal_text};
 ghost use Rattle.uefi_path.specs.Verdicts.{IsGood, verdict};
 ghost use Rattle.uefi_path.specs.Views.{path_text};
 ghost use Rattle.uefi_path.specs.declared.normal.NormalizeError.TheVariants.{Invalid, OutOfMemory};
@@ -131,8 +131,9 @@ impl<'a> Path<'a> {
     /// reports; only then, refused memory as `OutOfMemory`. One pass over the components, and another
     /// only where memory is refused on the way. Takes memory for those that are kept on the way, and for the normal path as [`PathBuf::from`] does.
     pub fn normalize<A: Allocator + Copy>(&self, alloc: A) -> Result<PathBuf<A>, NormalizeError>
-        ensures ok { IfOk result (λ path. (normal : List (List ℕ))
-            × NormalForm (components_of (path_text self.now)) normal × (path ≡ normal_text normal)) }
+        ensures ok { IfOk result (λ path. path ≡ normal_text (normal_of (components_of (path_text self.now)))) }
+        ensures form { IfOk result (λ path. NormalForm (components_of (path_text self.now))
+            (normal_of (components_of (path_text self.now)))) }
         ensures invalid { IfSome (verdict (path_text self.now)) (λ error.
             result_err result ≡ Some (Invalid error)) }
         ensures refused { verdict (path_text self.now) ≡ None → IfErr result (λ error. error ≡ OutOfMemory) }

@@ -2,7 +2,7 @@
 use Rattle.std.specs.Prelude.{ℕ, Bool, ◌==◌, ◌+◌, if◌then◌else◌, List, Option, Some, None, take, drop, position, codes}
 use Rattle.std.specs.Str.{bytes_eq, is_utf8}
 use Rattle.upath.specs.declared.commands.Command.{Command}
-use Rattle.upath.specs.declared.commands.Command.TheVariants.{From, Push, Join, Clear, Parent, Pieces, Up, Eq, Cmp, Check, Unknown, NotUtf8}
+use Rattle.upath.specs.declared.commands.Command.TheVariants.{From, Push, Join, Clear, Parent, Pieces, Up, Eq, Cmp, Check, Norm, Unknown, NotUtf8}
 
 -- a command, with the bytes of its text where it has one
 pub data LineCommand : Type 0 where
@@ -16,6 +16,7 @@ pub data LineCommand : Type 0 where
   eq_text : List ℕ → LineCommand
   cmp_text : List ℕ → LineCommand
   check : LineCommand
+  norm : LineCommand
   unknown : LineCommand
   not_utf8 : LineCommand
 
@@ -40,6 +41,7 @@ verb_alone verb =
     else if bytes_eq verb (codes "pieces") then pieces
     else if bytes_eq verb (codes "up") then up
     else if bytes_eq verb (codes "check") then check
+    else if bytes_eq verb (codes "norm") then norm
     else unknown
 
 -- the command of a line by the place of its first space: the verb stands before it, the text is all
@@ -64,5 +66,6 @@ command_shown Up = up
 command_shown (Eq text) = eq_text text.now
 command_shown (Cmp text) = cmp_text text.now
 command_shown Check = check
+command_shown Norm = norm
 command_shown Unknown = unknown
 command_shown NotUtf8 = not_utf8

@@ -13,6 +13,7 @@ use Rattle.uefi_text.specs.FromStr.{from_str_refusal}
 use Rattle.uefi_text.specs.FromStrError.{FromStrError}
 use Rattle.uefi_path.specs.Components.{components_of}
 use Rattle.uefi_path.specs.Separators.{canonical}
+use Rattle.uefi_path.specs.NormalForms.{normal_of, normal_text}
 use Rattle.upath.specs.Lines.{lines_of}
 use Rattle.uefi_path.specs.Parents.{parent_text}
 use Rattle.uefi_path.specs.PathErrors.{path_error_text}
@@ -20,7 +21,7 @@ use Rattle.uefi_path.specs.SuccessiveParents.{parents_of}
 use Rattle.uefi_path.specs.Verdicts.{verdict}
 use Rattle.uefi_path.specs.declared.validation.PathError.{PathError}
 use Rattle.upath.specs.Edits.{Edit, from, push, join, clear, parent, after_edit}
-use Rattle.upath.specs.Commands.{LineCommand, from_text, push_text, join_text, clear_path, parent_path, pieces, up, eq_text, cmp_text, check, unknown, not_utf8, command_of}
+use Rattle.upath.specs.Commands.{LineCommand, from_text, push_text, join_text, clear_path, parent_path, pieces, up, eq_text, cmp_text, check, norm, unknown, not_utf8, command_of}
 
 -- a printed line
 abbrev pub line : List ℕ → List ℕ
@@ -65,6 +66,11 @@ abbrev pub check_line : Option PathError → List ℕ
 check_line None = line (codes "ok")
 check_line (Some error) = line (path_error_text error)
 
+-- the line of `norm`: the normal path, or why the path has none
+abbrev pub norm_line : Option PathError → List ℕ → List ℕ
+norm_line None normal = path_line normal
+norm_line (Some error) normal = line (path_error_text error)
+
 -- what is printed where a command's text may be refused
 abbrev pub printed_unless : Option FromStrError → List ℕ → List ℕ
 printed_unless None printed = printed
@@ -105,6 +111,7 @@ printed_by (cmp_text text) path =
     printed_unless (from_str_refusal (chars text))
     (cmp_line (slice_cmp nat_cmp (canonical path) (canonical (chars text))))
 printed_by check path = check_line (verdict path)
+printed_by norm path = norm_line (verdict path) (normal_text (normal_of (components_of path)))
 printed_by unknown path = line (codes "? unknown command")
 printed_by not_utf8 path = line (codes "? not UTF-8")
 

@@ -36,6 +36,9 @@ pub(crate) enum Command<'a> {
     /// `check`: the path is judged.
     Check,
 
+    /// `norm`: the normal path is printed.
+    Norm,
+
     /// A line that is no command.
     Unknown,
 
@@ -79,6 +82,7 @@ impl<'a> Command<'a> {
             "pieces" => Command::Pieces,
             "up" => Command::Up,
             "check" => Command::Check,
+            "norm" => Command::Norm,
             _ => Command::Unknown,
         }
     }

@@ -5,11 +5,13 @@ ghost use Rattle.std.specs.Str.{chars};
 ghost use Rattle.uefi_path.specs.Components.{components_of};
 ghost use Rattle.uefi_text.specs.ErrorTexts.{from_str_error_text};
 ghost use Rattle.uefi_text.specs.FromStr.{from_str_refusal};
+ghost use Rattle.uefi_path.specs.NormalForms.{normal_of, normal_text};
 ghost use Rattle.uefi_path.specs.Parents.{parent_text};
+ghost use Rattle.uefi_path.specs.PathErrors.{path_error_text};
 ghost use Rattle.uefi_path.specs.SuccessiveParents.{parents_of};
 ghost use Rattle.uefi_path.specs.Verdicts.{verdict};
 ghost use Rattle.upath.specs.Commands.{command_of, from_text, push_text, join_text, parent_path, eq_text, cmp_text};
-ghost use Rattle.upath.specs.Output.{check_line, line, output_of, parents_lines, path_after, path_line, pieces_lines, printed_by, text_line};
+ghost use Rattle.upath.specs.Output.{check_line, line, norm_line, output_of, parents_lines, path_after, path_line, pieces_lines, printed_by, text_line};
 ghost use Rattle.upath.specs.PathCommands.{after_command};
 
 use crate::commands::Command;
@@ -18,7 +20,7 @@ use crate::output::{add_line, add_text_line};
 use crate::path_commands::{PathCommand, all_parents, run_command};
 use std::alloc::{AllocError, Allocator};
 use std::cmp::Ordering;
-use uefi_path::{Path, PathBuf, validate_path};
+use uefi_path::{NormalizeError, Path, PathBuf, PathError, validate_path};
 use uefi_text::owned_strs::{CString16, FromStrError};
 
 /// A run so far: the path that the next line finds, and what was printed.
@@ -239,6 +241,16 @@ impl<A: Allocator + Copy> Run<A> {
         add_line(&mut self.output, line)
     }
 
+    /// Prints why a path is refused.
+    fn print_fault(&mut self, error: PathError) -> Result<(), AllocError>
+        ensures path { self.new.path ≡ self.old.path }
+        ensures output { OnOk result
+            (self.new.output.items ≡ self.old.output.items ++ line (path_error_text error)) }
+    {
+        let line = format!(in self.alloc(); "{error}")?;
+        add_line(&mut self.output, &line)
+    }
+
     /// `check`
     fn check(&mut self) -> Result<(), AllocError>
         ensures path { OnOk result (self.new.path ≡ self.old.path) }
@@ -247,10 +259,20 @@ impl<A: Allocator + Copy> Run<A> {
     {
         match validate_path(self.path.as_path()) {
             Ok(()) => add_line(&mut self.output, "ok"),
-            Err(error) => {
-                let line = format!(in self.alloc(); "{error}")?;
-                add_line(&mut self.output, &line)
-            }
+            Err(error) => self.print_fault(error),
+        }
+    }
+
+    /// `norm`
+    fn norm(&mut self) -> Result<(), AllocError>
+        ensures path { OnOk result (self.new.path ≡ self.old.path) }
+        ensures output { OnOk result (self.new.output.items ≡ self.old.output.items
+            ++ norm_line (verdict self.old.path) (normal_text (normal_of (components_of self.old.path)))) }
+    {
+        match self.path.as_path().normalize(self.alloc()) {
+            Ok(path) => add_text_line(&mut self.output, b"= ", path.to_cstr16().as_slice()),
+            Err(NormalizeError::Invalid(error)) => self.print_fault(error),
+            Err(NormalizeError::OutOfMemory) => Err(AllocError),
         }
     }
 
@@ -272,6 +294,7 @@ impl<A: Allocator + Copy> Run<A> {
             Command::Eq(text) => self.eq(text),
             Command::Cmp(text) => self.cmp(text),
             Command::Check => self.check(),
+            Command::Norm => self.norm(),
             Command::Unknown => add_line(&mut self.output, "? unknown command"),
             Command::NotUtf8 => add_line(&mut self.output, "? not UTF-8"),
         }
@@ -285,8 +308,8 @@ impl<A: Allocator + Copy> Run<A> {
 /// makes it its parent, and each prints it; `parent` prints `none` where there is none. These edits
 /// are those of [`crate::run_commands`]. `pieces` prints the number of components and each, `up`
 /// that of the successive parents and each; `eq T` and `cmp T` print how the path compares with
-/// that of T, taken as it stands; `check` prints whether it is accepted, or why not. A line that is
-/// not UTF-8, one that is no command and a T that is no text of UCS-2 print a line that says so and
+/// that of T, taken as it stands; `check` prints whether it is accepted, or why not, and `norm` the
+/// normal path, or why there is none. A line that is not UTF-8, one that is no command and a T that is no text of UCS-2 print a line that says so and
 /// leave the path unchanged. The only error is out of memory, and then nothing of the output is
 /// returned. Memory is linear in the input and the output; a line costs what it says, what it
 /// prints, and at most a pass over the path.

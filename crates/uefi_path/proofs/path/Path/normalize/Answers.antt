@@ -9,6 +9,7 @@ use Rattle.uefi_text.specs.Units.{IsText}
 use Rattle.uefi_text.specs.Views.{units_of}
 use Rattle.uefi_path.proofs.NormalPaths.{All-normal}
 use Rattle.uefi_path.proofs.NormalStack.{all_kept, rewrites_then}
+use Rattle.uefi_path.proofs.Rewriting.{NormalForm-normal_of, normal_of-only}
 use Rattle.uefi_path.proofs.Validity.{All-good}
 use Rattle.uefi_path.proofs.path.Path.normalize.Goals as goal
 
@@ -46,8 +47,10 @@ join_pieces-requires-clause-good g c =
 
 pub returns-in-Ok-clause-ok : goal.returns-in-Ok-clause-ok
 returns-in-Ok-clause-ok g c =
-    let so_far = c.loop-component in (
-      map units_of so_far.kept.items,
-      all_kept _ _ _ so_far.invariant.steps so_far.invariant.normal c.in-None.ensures.steps.0,
-      c.in-Ok.ensures ∙ ap (λ items. normal_text (map units_of items)) c.as_slice.ensures.value,
-    )
+    let so_far = c.loop-component.invariant in
+    let form = all_kept _ _ _ so_far.steps so_far.normal c.in-None.ensures.steps.0 in
+    c.in-Ok.ensures ∙ ap (λ items. normal_text (map units_of items)) c.as_slice.ensures.value
+    ∙ ap normal_text (normal_of-only _ _ form)
+
+pub returns-in-Ok-clause-form : goal.returns-in-Ok-clause-form
+returns-in-Ok-clause-form g c = NormalForm-normal_of _

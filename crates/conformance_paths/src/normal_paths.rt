@@ -1,0 +1,131 @@
+//! Normal paths: what is left of a path's components, why a path has none, and what memory they take.
+
+use crate::fixtures::shows;
+use conformance::{Refusing, out_of_memory, refused_in_turn, repeated, requests, string};
+use std::alloc::{AllocError, Global};
+use std::test::Fail;
+use uefi_path::{NormalizeError, Path, PathError};
+use uefi_text::{CStr16, Char16};
+
+/// Whether the normal path of a text has this text.
+fn is_normal_path(rt: &HostRuntime, text: &str, want: &str) -> Result<bool, Fail> {
+    let string = string(rt.alloc(), text)?;
+    match Path::new(string.as_cstr16()).normalize(rt.alloc()) {
+        Ok(path) => shows(rt, &path, want),
+        Err(_) => Ok(false),
+    }
+}
+
+#[test]
+fn paths_and_their_normal_paths(rt: HostRuntime) -> Result<(), Fail> {
+    for (text, want) in [
+        ("a\\..\\b", "b"),
+        ("a\\b\\..\\..\\c", "c"),
+        ("a\\.\\b\\..\\..", "\\"),
+        (".", "\\"),
+        ("\\", "\\"),
+        ("\\a\\.", "a"),
+        ("..\\a", "..\\a"),
+        ("a\\..\\..", ".."),
+        ("...\\b", "...\\b"),
+        ("\\a\\b", "a\\b"),
+        ("a\\..", "\\"),
+        ("..\\..\\a\\..\\.\\..", "..\\..\\.."),
+        ("a\\.\\..\\b", "b"),
+        (".a\\a.\\.. \\ .", ".a\\a.\\.. \\ ."),
+        ("é\\\u{ffff}\\..", "é"),
+    ] {
+        assert!(rt; is_normal_path(&rt, text, want)?, "{text}");
+    }
+    Ok(())
+}
+
+/// Whether a text has no normal path, for this reason.
+fn is_refused(rt: &HostRuntime, text: &str, why: PathError) -> Result<bool, Fail> {
+    let string = string(rt.alloc(), text)?;
+    match Path::new(string.as_cstr16()).normalize(rt.alloc()) {
+        Ok(_) => Ok(false),
+        Err(error) => Ok(error == NormalizeError::Invalid(why)),
+    }
+}
+
+#[test]
+fn paths_without_normal_path(rt: HostRuntime) -> Result<(), Fail> {
+    let slash = Char16::try_from('/')?;
+    for (text, why) in [
+        ("", PathError::Empty),
+        ("a\\\\..", PathError::EmptyComponent),
+        ("a\\..\\", PathError::EmptyComponent),
+        ("a/..", PathError::IllegalChar(slash)),
+    ] {
+        assert!(rt; is_refused(&rt, text, why)?, "{text}");
+    }
+    Ok(())
+}
+
+#[test]
+fn long_paths(rt: HostRuntime) -> Result<(), Fail> {
+    let (there, back) = (
+        repeated(rt.alloc(), "ab\\", 50_000)?,
+        repeated(rt.alloc(), "..\\", 50_000)?,
+    );
+    assert!(rt;
+        is_normal_path(
+            &rt,
+            &format!(in rt.alloc(); "{there}c")?,
+            &format!(in rt.alloc(); "{there}c")?
+        )?
+    );
+    assert!(rt; is_normal_path(&rt, &format!(in rt.alloc(); "{there}{back}c")?, "c")?);
+    Ok(())
+}
+
+/// Whether the normal path of a text has this text, or memory ran out.
+fn normalizes(
+    heap: &Refusing<Global>,
+    text: CStr16<'_>,
+    want: CStr16<'_>,
+) -> Result<bool, AllocError> {
+    match Path::new(text).normalize(heap) {
+        Ok(path) => Ok(path.to_cstr16() == want),
+        Err(error) => out_of_memory(error == NormalizeError::OutOfMemory),
+    }
+}
+
+/// How many requests the normal path of a text makes.
+fn count_requests(rt: &HostRuntime, text: &str, want: &str) -> Result<u64, Fail> {
+    let (text, want) = (string(rt.alloc(), text)?, string(rt.alloc(), want)?);
+    requests(rt.alloc(), 0, |heap| {
+        normalizes(heap, text.as_cstr16(), want.as_cstr16())
+    })
+}
+
+/// The components that are kept, the text, and the places of its separators, where it has any.
+#[test]
+fn requests_of_normal_paths(rt: HostRuntime) -> Result<(), Fail> {
+    for (text, want, count) in [
+        ("a\\b", "a\\b", 3),
+        ("a\\..\\.\\b", "b", 2),
+        (".", "\\", 2),
+        ("a\\b\\c\\d\\e\\f", "a\\b\\c\\d\\e\\f", 4),
+    ] {
+        assert_eq!(rt; count_requests(&rt, text, want)?, count, "{text}");
+    }
+    Ok(())
+}
+
+/// A fault is reported also where memory is refused before it is found.
+#[test]
+fn faults_come_before_refused_memory(rt: HostRuntime) -> Result<(), Fail> {
+    let text = string(rt.alloc(), "a\\b\\c\\d\\e\\")?;
+    let refusals = refused_in_turn(rt.alloc(), 0, |heap| {
+        let answer = Path::new(text.as_cstr16()).normalize(heap);
+        Ok(matches!(
+            answer,
+            Err(NormalizeError::Invalid(PathError::EmptyComponent))
+        ))
+    })?;
+    assert_eq!(rt; refusals.failed, 0);
+    assert!(rt; refusals.answered > 0);
+    Ok(())
+}
