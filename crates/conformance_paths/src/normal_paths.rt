@@ -92,6 +92,17 @@ fn normalizes(
     }
 }
 
+#[test]
+fn texts_of_refusals(rt: HostRuntime) -> Result<(), Fail> {
+    for (error, want) in [
+        (NormalizeError::Invalid(PathError::Empty), "path is empty"),
+        (NormalizeError::OutOfMemory, "out of memory"),
+    ] {
+        assert!(rt; error.to_string(rt.alloc())?.as_str() == want);
+    }
+    Ok(())
+}
+
 /// How many requests the normal path of a text makes.
 fn count_requests(rt: &HostRuntime, text: &str, want: &str) -> Result<u64, Fail> {
     let (text, want) = (string(rt.alloc(), text)?, string(rt.alloc(), want)?);

@@ -1,6 +1,8 @@
--- What is printed of the refusal of a path. The value of a character is in decimal.
+-- What is printed of the refusals of a path. The value of a character is in decimal.
 use Rattle.std.specs.Prelude.{ℕ, List, ◌++◌, codes}
 use Rattle.std.specs.Fmt.{decimal}
+use Rattle.uefi_path.specs.declared.normal.NormalizeError.{NormalizeError}
+use Rattle.uefi_path.specs.declared.normal.NormalizeError.TheVariants.{Invalid, OutOfMemory}
 use Rattle.uefi_path.specs.declared.validation.PathError.{PathError}
 use Rattle.uefi_path.specs.declared.validation.PathError.TheVariants.{Empty, EmptyComponent, IllegalChar}
 
@@ -9,3 +11,7 @@ path_error_text Empty = codes "path is empty"
 path_error_text EmptyComponent = codes "path contains an empty component"
 path_error_text (IllegalChar character) =
     codes "path contains an illegal character (value " ++ decimal character ++ codes ")"
+
+abbrev pub normalize_error_text : NormalizeError → List ℕ
+normalize_error_text (Invalid error) = path_error_text error
+normalize_error_text OutOfMemory = codes "out of memory"

@@ -13,6 +13,8 @@ use crate::path::Path;
 use crate::pathbuf::{PathBuf, append};
 use crate::validation::{PathError, find_fault, validate_path};
 use std::alloc::{AllocError, Allocator};
+use std::error::Error;
+use std::fmt;
 use uefi_text::chars::SEPARATOR;
 use uefi_text::owned_strs::CString16;
 use uefi_text::strs::Char16Slice;
@@ -26,6 +28,22 @@ pub enum NormalizeError {
     /// Memory is refused.
     OutOfMemory,
 }
+
+impl fmt::Display for NormalizeError {
+    ghost use Rattle.std.specs.Prelude.{Some};
+    ghost use Rattle.uefi_path.specs.PathErrors.{normalize_error_text};
+
+    ghost output = { λ error. Some (normalize_error_text error) };
+
+    fn fmt<W: fmt::Write>(&self, f: &mut fmt::Formatter<W>) -> fmt::Result {
+        match self {
+            NormalizeError::Invalid(error) => fmt::Display::fmt(error, f),
+            NormalizeError::OutOfMemory => write!(f, "out of memory"),
+        }
+    }
+}
+
+impl Error for NormalizeError {}
 
 /// Whether the piece is `.`.
 fn is_dot(piece: Char16Slice<'_>) -> bool
