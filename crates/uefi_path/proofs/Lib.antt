@@ -11,3 +11,5 @@ pub mod ParentChains
 pub mod ParentsOfValid
 pub mod ValidPaths
 pub mod Runs
+mod Counts
+pub mod TailUnits

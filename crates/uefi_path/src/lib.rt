@@ -32,12 +32,15 @@
 //! separator's place.
 #![tactic(auto)]
 
+mod counted;
 pub mod laws;
 mod path;
 mod pathbuf;
 mod places;
+mod tails;
 mod validation;
 
+pub use counted::CountedUnits;
 pub use path::{Components, Path, separator_str};
 pub use pathbuf::PathBuf;
 pub use uefi_text::chars::{CHARACTER_DENY_LIST, SEPARATOR};
