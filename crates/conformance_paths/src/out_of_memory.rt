@@ -180,6 +180,12 @@ const PLAIN: &str = "efi\\boot\\loader\\entries\\2026\\linux\\initrd.img";
 
 const PLAIN_PARENT: &str = "efi\\boot\\loader\\entries\\2026\\linux";
 
+/// A text of 64 characters, which a push makes ready in memory that it asks for, and its path.
+const LONGEST: &str = "/efi\\boot\\loader\\entries\\2026\\linux\\kernels\\v6.18-generic\\initrd";
+
+const PUSHED_LONGEST: &str =
+    "\\efi\\boot\\loader\\entries\\2026\\linux\\kernels\\v6.18-generic\\initrd";
+
 /// Each call, how many requests come before it, its texts, and how many requests it makes at least and
 /// at most. A path takes over the memory of its string, and gives it back. Beside its text it asks for
 /// the places of its separators, where it has any.
@@ -191,10 +197,10 @@ fn requests_of_each_call(rt: HostRuntime) -> Result<(), Fail> {
         (Call::NewFromCString16, 1, ["ab", "", "ab"], 0, 0),
         (Call::From, 0, ["/a\\b", "", "\\a\\b"], 2, 2),
         (Call::ToPathBuf, 0, ["/a\\b", "", "\\a\\b"], 2, 2),
-        (Call::Join, 0, ["/a\\b", "c/d", "\\a\\b\\c\\d"], 3, 4),
+        (Call::Join, 0, ["/a\\b", "c/d", "\\a\\b\\c\\d"], 2, 3),
         (Call::Parent, 0, [LONG, "", LONG_PARENT], 2, 2),
         (Call::CloneBuffer, 2, ["a\\b", "", ""], 2, 2),
-        (Call::JoinBuffer, 2, ["a\\b", "/c", "a\\b\\\\c"], 3, 3),
+        (Call::JoinBuffer, 2, ["a\\b", "/c", "a\\b\\\\c"], 2, 2),
         (Call::ParentOfBuffer, 2, [PLAIN, "", PLAIN_PARENT], 2, 2),
         (Call::ParentOfBuffer, 2, ["a\\b", "", "a"], 1, 1),
         (
@@ -204,6 +210,7 @@ fn requests_of_each_call(rt: HostRuntime) -> Result<(), Fail> {
             2,
             97,
         ),
+        (Call::Push, 1, ["", LONGEST, PUSHED_LONGEST], 3, 97),
         (Call::IntoCString16, 2, ["a/b", "", "a\\b"], 0, 0),
         (Call::Nothing, 2, ["\\a", "", ""], 0, 0),
     ] {

@@ -3,7 +3,7 @@
 use crate::fixtures::{buffer, shows};
 use conformance::string;
 use std::test::Fail;
-use uefi_path::{Path, PathBuf};
+use uefi_path::{CountedUnits, Path, PathBuf};
 
 /// Whether a borrowed path joined with another has this text.
 fn joins(rt: &HostRuntime, text: &str, other: &str, want: &str) -> Result<bool, Fail> {
@@ -27,7 +27,17 @@ fn pushes(rt: &HostRuntime, text: &str, other: &str, want: &str) -> Result<bool,
     shows(rt, &path, want)
 }
 
-/// Whether both joins and the push have this text.
+/// Whether a buffer after a push of a text whose reads are counted has this text, and the same after
+/// another of the empty text.
+fn pushes_counted(rt: &HostRuntime, text: &str, other: &str, want: &str) -> Result<bool, Fail> {
+    let (other, empty) = (string(rt.alloc(), other)?, string(rt.alloc(), "")?);
+    let mut path = buffer(rt, text)?;
+    path.push_counted(&mut CountedUnits::new(other.as_cstr16()))?;
+    path.push_counted(&mut CountedUnits::new(empty.as_cstr16()))?;
+    shows(rt, &path, want)
+}
+
+/// Whether both joins and both pushes have this text.
 pub(crate) fn joins_and_pushes(
     rt: &HostRuntime,
     text: &str,
@@ -37,7 +47,8 @@ pub(crate) fn joins_and_pushes(
     Ok(
         joins(rt, text, other, want)?
             && joins_buffer(rt, text, other, want)?
-            && pushes(rt, text, other, want)?,
+            && pushes(rt, text, other, want)?
+            && pushes_counted(rt, text, other, want)?,
     )
 }
 

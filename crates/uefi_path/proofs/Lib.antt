@@ -14,3 +14,5 @@ pub mod Runs
 pub mod Rewriting
 pub mod NormalPaths
 pub mod NormalStack
+mod Counts
+pub mod TailUnits

@@ -11,11 +11,11 @@ use Rattle.uefi_path.specs.Pushing.{appended, needs_separator}
 use Rattle.uefi_path.specs.Separators.{becomes_separator, canonical, is_separator, places_from, places_of, separator, with_separators}
 
 -- where the units begin with a separator, so do the places
-places_from-yes : (start u : ℕ) (us : List ℕ) → is_separator u ≡ true
+pub places_from-yes : (start u : ℕ) (us : List ℕ) → is_separator u ≡ true
     → places_from start (u ∷ us) ≡ start ∷ places_from (start + 1) us
 places_from-yes start u us cut = rw cut refl
 
-places_from-no : (start u : ℕ) (us : List ℕ) → is_separator u ≡ false
+pub places_from-no : (start u : ℕ) (us : List ℕ) → is_separator u ≡ false
     → places_from start (u ∷ us) ≡ places_from (start + 1) us
 places_from-no start u us other = rw other refl
 

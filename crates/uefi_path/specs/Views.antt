@@ -7,6 +7,7 @@ use Rattle.uefi_path.specs.declared.path.Path.{Path}
 use Rattle.uefi_path.specs.declared.path.Components.{Components}
 use Rattle.uefi_path.specs.declared.path.Rest.{Rest}
 use Rattle.uefi_path.specs.declared.path.Rest.TheVariants.{Scanned, Placed}
+use Rattle.uefi_path.specs.declared.counted.CountedUnits.{CountedUnits}
 
 -- the text of a path
 unfoldable pub path_text : Path → List ℕ
@@ -25,3 +26,11 @@ pieces_of_rest (Some rest) = slice_split is_separator (units_left rest)
 -- the components that are still to come
 unfoldable pub components_left : Components → List (List ℕ)
 components_left components = pieces_of_rest components.rest
+
+-- the text whose units are read
+unfoldable pub counted_text : CountedUnits → List ℕ
+counted_text units = units.units.now
+
+-- how many units were read
+unfoldable pub reads_of : CountedUnits → ℕ
+reads_of units = units.count.number

@@ -32,13 +32,16 @@
 //! separator's place.
 #![tactic(auto)]
 
+mod counted;
 pub mod laws;
 mod normal;
 mod path;
 mod pathbuf;
 mod places;
+mod tails;
 mod validation;
 
+pub use counted::CountedUnits;
 pub use normal::NormalizeError;
 pub use path::{Components, Path, separator_str};
 pub use pathbuf::PathBuf;

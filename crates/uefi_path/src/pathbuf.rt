@@ -1,18 +1,20 @@
 //! Paths that are owned, and the calls of [`Path`] that make one.
-ghost use Rattle.std.specs.Prelude.{◌≡◌, ℕ, ◌<◌, ◌^◌, ◌↔◌, [], ◌∷◌, ◌++◌, All, List, None, drop, fold, if◌then◌else◌, length, option_map, IsTrue, IsOk, IsSome, IfOk, IfErr, IfSome, OnOk, OnErr};
+ghost use Rattle.std.specs.Prelude.{◌≡◌, ◌≢◌, ℕ, ◌+◌, ◌<◌, ◌≤◌, ◌^◌, ◌↔◌, [], ◌∷◌, ◌++◌, All, List, None, drop, fold, if◌then◌else◌, length, option_map, IsTrue, IsOk, IsSome, IfOk, IfErr, IfSome, OnOk, OnErr};
 ghost use Rattle.std.specs.List.{last_or};
 ghost use Rattle.uefi_path.specs.Components.{AreComponents, IsPiece, StartsWith, components_of};
 ghost use Rattle.uefi_path.specs.Parents.{parent_text, all_but_last};
 ghost use Rattle.uefi_path.specs.Runs.{GivesNoNulIn};
 ghost use Rattle.uefi_path.specs.Pushing.{appended, needs_separator, pushed};
-ghost use Rattle.uefi_path.specs.Separators.{IsPlain, canonical, places_of, separator, with_separators};
+ghost use Rattle.uefi_path.specs.Separators.{IsPlain, canonical, places_of, with_separators};
 ghost use Rattle.uefi_path.specs.SuccessiveParents.{parent_chain, parents_of};
 ghost use Rattle.uefi_path.specs.Views.{components_left, path_text};
 ghost use Rattle.uefi_text.specs.Units.{IsText};
 ghost use Rattle.uefi_text.specs.Views.{units_of};
 
+use crate::counted::CountedUnits;
 use crate::path::{Components, Path, PlacedText, Rest};
-use crate::places::{add_places, count_separators, shift_added};
+use crate::places::{add_places, count_separators};
+use crate::tails::make_tail;
 use std::alloc::{AllocError, Allocator, Global};
 use std::cmp::Ordering;
 use std::fmt;
@@ -125,28 +127,13 @@ fn append_components_but_last<A: Allocator>(
     Ok(())
 }
 
+/// How many units the room has in which a short text is made ready to be pushed.
+const SHORT: usize = 64;
+
 /// How long a path becomes at most, when another is pushed after it.
 fn room_for_both(path: Path<'_>, other: Path<'_>) -> usize {
     let (first, second) = (path.to_cstr16().num_chars(), other.to_cstr16().num_chars());
     first.saturating_add(second).saturating_add(1)
-}
-
-/// What a push adds, but that its slashes are still there: a separator where one is missing, and the path.
-fn tail_of<A: Allocator>(
-    alloc: A,
-    is_missing: bool,
-    path: Path<'_>,
-) -> Result<CString16<A>, AllocError>
-    ensures { IfOk result (λ tail. tail
-        ≡ (if is_missing then separator ∷ path_text path.entry else path_text path.entry)) }
-{
-    let string = path.to_cstr16();
-    let mut tail = CString16::with_capacity(alloc, string.num_chars().saturating_add(1))?;
-    if is_missing {
-        tail.push(SEPARATOR)?;
-    }
-    tail.push_str(string)?;
-    Ok(tail)
 }
 
 /// The calls that make an owned path.
@@ -206,7 +193,7 @@ impl<'a> Path<'a> {
 impl<A: Allocator + Copy> PathBuf<A> {
     ghost use Rattle.uefi_text.specs.Runs.{GivesEach};
     ghost use Rattle.uefi_text.specs.Views.{text_of, units_of};
-    ghost use Rattle.uefi_path.specs.Views.{path_text, components_left};
+    ghost use Rattle.uefi_path.specs.Views.{components_left, counted_text, path_text, reads_of};
 
     /// The empty path. Takes memory for its NUL.
     pub fn new(alloc: A) -> Result<Self, AllocError>
@@ -260,29 +247,68 @@ impl<A: Allocator + Copy> PathBuf<A> {
     /// Pushes a path after this one, its slashes replaced, and a separator between the two where this
     /// one is not empty and does not end in one; or `AllocError`, and the path is unchanged.
     ///
-    /// The empty path changes nothing, takes no memory and is never refused. Any other takes memory for
-    /// what it adds, and where text or places have no room. A push costs what it adds, on average: of
-    /// what stands already only the last character is looked at.
+    /// The empty path changes nothing, takes no memory and is never refused. Any other takes memory
+    /// where text or places have no room, and a long one for what it adds. A push costs what it adds, on
+    /// average: of what stands already only the last character is looked at.
     pub fn push(&mut self, path: Path<'_>) -> Result<(), AllocError>
         ensures ok { OnOk result (self.new ≡ pushed self.old (path_text path.entry)) }
         ensures err { OnErr result (self.new ≡ self.old) }
         ensures empty { path_text path.entry ≡ [] → IsOk result }
     {
-        if path.is_empty() {
+        let mut units = CountedUnits::new(path.to_cstr16());
+        self.push_counted(&mut units)
+    }
+
+    /// Pushes the path of a text, as [`PathBuf::push`] does, and reads each of its units once. One pass
+    /// makes what is added and the places of the separators there.
+    ///
+    /// Where memory is refused fewer may be read, and never more. Of this path the last character is
+    /// looked at, which is not counted.
+    pub fn push_counted(&mut self, units: &mut CountedUnits<'_>) -> Result<(), AllocError>
+        ensures ok { OnOk result (self.new ≡ pushed self.old (counted_text units.old)) }
+        ensures err { OnErr result (self.new ≡ self.old) }
+        ensures empty { counted_text units.old ≡ [] → IsOk result }
+        ensures text { counted_text units.new ≡ counted_text units.old }
+        ensures once { OnOk result (reads_of units.new ≡ reads_of units.old + length (counted_text units.old)) }
+        ensures at_most { reads_of units.new ≤ reads_of units.old + length (counted_text units.old) }
+    {
+        let len = units.len();
+        if len == 0 {
             return Ok(());
         }
-        let mut tail = tail_of(self.alloc(), needs_separator(&self.string), path)?;
-        let (end, known) = (self.string.num_chars(), self.places.len());
-        add_places(&mut self.places, tail.as_cstr16().to_u16_slice())?;
-        tail.replace_char(SLASH, SEPARATOR);
-        if let Err(error) = self.string.push_str(tail.as_cstr16()) {
-            self.places.truncate(known);
-            return Err(error);
+        if len < SHORT {
+            return self.push_made(&mut [0; SHORT], units);
         }
-        // No sum is beyond the length of the text that stands now.
-        let _len = self.string.num_chars();
-        shift_added(&mut self.places, known, end);
-        Ok(())
+        let mut tail = Vec::new(self.alloc());
+        tail.resize(len + 1, 0)?;
+        self.push_made(&mut tail, units)
+    }
+
+    /// Makes what a push of a text adds, in this room, and adds it.
+    fn push_made(
+        &mut self,
+        room: &mut [u16],
+        units: &mut CountedUnits<'_>,
+    ) -> Result<(), AllocError>
+        requires room { length (counted_text units.now) < length room.now }
+        requires is_text { IsText (counted_text units.now) }
+        requires some { counted_text units.now ≢ [] }
+        ensures ok { OnOk result (self.new ≡ pushed self.old (counted_text units.old)) }
+        ensures err { OnErr result (self.new ≡ self.old) }
+        ensures text { counted_text units.new ≡ counted_text units.old }
+        ensures once { OnOk result (reads_of units.new ≡ reads_of units.old + length (counted_text units.old)) }
+        ensures at_most { reads_of units.new ≤ reads_of units.old + length (counted_text units.old) }
+    {
+        let (end, known) = (self.string.num_chars(), self.places.len());
+        let is_missing = needs_separator(&self.string);
+        let added = match make_tail(room, &mut self.places, end, is_missing, units) {
+            Ok(len) => self.string.push_part(Char16Slice::from_units(&room[..len])),
+            Err(error) => Err(error),
+        };
+        if added.is_err() {
+            self.places.truncate(known);
+        }
+        added
     }
 
     /// An equal path, with room for another after it.

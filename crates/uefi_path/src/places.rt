@@ -1,6 +1,6 @@
 //! The places of separators, which a path buffer keeps beside its text. They are found in one pass, before
 //! a slash is replaced, and written with no branch but the loop's.
-ghost use Rattle.std.specs.Prelude.{◌≡◌, ◌+◌, ◌<◌, ◌≤◌, ◌^◌, ◌++◌, All, OnErr, OnOk, count_by, drop, length, map, take};
+ghost use Rattle.std.specs.Prelude.{◌≡◌, ◌≤◌, ◌++◌, OnErr, OnOk, count_by, length};
 ghost use Rattle.uefi_path.specs.Separators.{becomes_separator, places_of, with_separators};
 
 use std::alloc::{AllocError, Allocator};
@@ -8,7 +8,7 @@ use uefi_text::chars::{SEPARATOR, SLASH};
 
 /// Whether the unit is a separator once slashes are replaced.
 #[inline(always)]
-fn becomes_separator(unit: u16) -> bool
+pub(crate) fn becomes_separator(unit: u16) -> bool
     ensures { result ≡ becomes_separator unit }
 {
     (unit == u16::from(SEPARATOR)) | (unit == u16::from(SLASH))
@@ -75,24 +75,4 @@ pub(crate) fn add_places<A: Allocator>(
     places.resize(all, 0)?;
     write_places(&mut places[known..], units);
     Ok(())
-}
-
-/// Adds `by` to each place.
-fn shift(places: &mut [usize], by: usize)
-    requires { All (λ place. place + by < 2 ^ 64) places.old }
-    ensures { places.new ≡ map (λ place. place + by) places.old }
-{
-    for place in places.iter_mut() {
-        *place += by;
-    }
-}
-
-/// Adds `by` to each place after the first `known` ones.
-pub(crate) fn shift_added<A: Allocator>(places: &mut Vec<usize, A>, known: usize, by: usize)
-    requires within { known ≤ length places.old.items }
-    requires fits { All (λ place. place + by < 2 ^ 64) (drop known places.old.items) }
-    ensures { places.new.items
-        ≡ take known places.old.items ++ map (λ place. place + by) (drop known places.old.items) }
-{
-    shift(&mut places[known..], by);
 }

@@ -455,6 +455,15 @@ impl<'a> Char16Slice<'a> {
     ghost use Rattle.std.specs.Str.{encode_utf8_all};
     ghost use Rattle.uefi_text.specs.Views.{units_of, units_left};
 
+    /// The characters that code units are, none of them a surrogate, as a view of the units. Looks at
+    /// none of them; takes no memory.
+    pub fn from_units(units: &'a [u16]) -> Char16Slice<'a>
+        requires { All IsChar16 units.now }
+        ensures { units_of result ≡ units.now }
+    {
+        Char16Slice { units }
+    }
+
     /// How many characters there are.
     pub fn len(&self) -> usize
         ensures { result ≡ length (units_of self.now) }

@@ -1,0 +1,103 @@
+-- What a push adds: one unit more of it is made.
+use Rattle.std.proofs.Common.{◌≡◌, ◌≢◌, ◌==◌, ℕ, ◌+◌, ◌<◌, Bool, List, [], ◌∷◌, ◌++◌, length, get_or, take, set, ap, sym, refl, zero-add, ◌∙◌, arith, true, false, if◌then◌else◌, inl, inr}
+use Rattle.std.proofs.lemmas.Bool.{cases_Bool}
+use Rattle.std.proofs.lemmas.List.{append-nil, length-map, length-take, map-append, take_more, take_more_set}
+use Rattle.std.proofs.lemmas.List.Elements.{All-append, All-cons, All-head, All-nil, All-tail}
+use Rattle.uefi_text.specs.Units.{IsText, IsTextUnit, replaced}
+use Rattle.uefi_path.specs.Pushing.{needs_separator, pushed}
+use Rattle.uefi_path.proofs.Pushing.{pushed-non_empty, separator_is_plain}
+use Rattle.uefi_path.proofs.Splitting.{IsPlain-with_separators}
+use Rattle.uefi_path.specs.Separators.{IsPlain, becomes_separator, places_from, places_of, separator, slash, with_separators}
+use Rattle.uefi_path.proofs.SeparatorPlaces.{places_from-append, places_from-no, places_from-yes}
+
+-- the text of the units so far and one more
+with_separators-more : (us : List ℕ) (i : ℕ) → i < length us
+    → with_separators (take (i + 1) us) ≡ with_separators (take i us) ++ replaced slash separator (get_or us i 0) ∷ []
+with_separators-more us i inside =
+    ap with_separators (take_more us i 0 inside)
+    ∙ map-append (replaced slash separator) (take i us) (get_or us i 0 ∷ [])
+
+-- it is written
+pub text_more : (tail us : List ℕ) (i : ℕ) → i < length tail → i < length us
+    → take i tail ≡ with_separators (take i us)
+    → take (i + 1) (set tail i (replaced slash separator (get_or us i 0))) ≡ with_separators (take (i + 1) us)
+text_more tail us i room inside so_far =
+    take_more_set tail i (replaced slash separator (get_or us i 0)) room
+    ∙ ap (λ vs. vs ++ replaced slash separator (get_or us i 0) ∷ []) so_far
+    ∙ sym (with_separators-more us i inside)
+
+-- the places with that of one unit more, which has one where it is a separator then
+places_more : (us : List ℕ) (start i : ℕ) → i < length us
+    → places_from start (with_separators (take (i + 1) us))
+    ≡ places_from start (with_separators (take i us)) ++ places_from (start + i) (replaced slash separator (get_or us i 0) ∷ [])
+places_more us start i inside =
+    let u = replaced slash separator (get_or us i 0) in
+    let before : length (with_separators (take i us)) ≡ i =
+    omega (arith, length-map (take i us) (replaced slash separator), length-take i us, inside) in
+    ap (places_from start) (with_separators-more us i inside)
+    ∙ places_from-append start (with_separators (take i us)) (u ∷ [])
+    ∙ ap (λ n. places_from start (with_separators (take i us)) ++ places_from (start + n) (u ∷ [])) before
+
+pub place_more : (us : List ℕ) (start i : ℕ) → i < length us → becomes_separator (get_or us i 0) ≡ true
+    → places_from start (with_separators (take i us)) ++ (start + i) ∷ []
+    ≡ places_from start (with_separators (take (i + 1) us))
+place_more us start i inside cut =
+    sym (places_more us start i inside
+    ∙ ap (λ ps. places_from start (with_separators (take i us)) ++ ps) (places_from-yes (start + i) _ [] cut))
+
+pub no_place_more : (us : List ℕ) (start i : ℕ) → i < length us → becomes_separator (get_or us i 0) ≡ false
+    → places_from start (with_separators (take i us)) ≡ places_from start (with_separators (take (i + 1) us))
+no_place_more us start i inside other =
+    sym (places_more us start i inside
+    ∙ ap (λ ps. places_from start (with_separators (take i us)) ++ ps) (places_from-no (start + i) _ [] other)
+    ∙ append-nil (places_from start (with_separators (take i us))))
+
+-- a separator in place of a slash is a unit of a text
+IsTextUnit-replaced : (u : ℕ) → IsTextUnit u → IsTextUnit (replaced slash separator u)
+IsTextUnit-replaced u is_unit =
+    elim (cases_Bool (u == slash)) [
+      | inl cut ↦ rw cut (omega arith, (omega arith, λ high. omega (arith, high.0)))
+      | inr other ↦ rw other is_unit
+    ]
+
+IsText-with_separators : (us : List ℕ) → IsText us → IsText (with_separators us)
+IsText-with_separators [] is_text = All-nil IsTextUnit
+IsText-with_separators (u ∷ us) is_text =
+    All-cons IsTextUnit _ (with_separators us) (IsTextUnit-replaced u (All-head IsTextUnit u us is_text))
+    (IsText-with_separators us (All-tail IsTextUnit u us is_text))
+
+-- and so is all that is added
+pub IsText-tail : (us : List ℕ) (is_missing : Bool) → IsText us
+    → IsText (if is_missing then separator ∷ with_separators us else with_separators us)
+IsText-tail us true is_text =
+    All-cons IsTextUnit separator (with_separators us) (omega arith, (omega arith, λ high. omega (arith, high.0)))
+    (IsText-with_separators us is_text)
+IsText-tail us false is_text = IsText-with_separators us is_text
+
+-- what is added after a text that is not empty itself
+pub pushed_tail : (text us : List ℕ) → us ≢ []
+    → text ++ (if needs_separator text then separator ∷ with_separators us else with_separators us) ≡ pushed text us
+pushed_tail text us some =
+    (elim (needs_separator text)
+    as (λ b. text ++ (if b then separator ∷ with_separators us else with_separators us)
+    ≡ (if b then text ++ separator ∷ with_separators us else text ++ with_separators us)) [
+      | true ↦ refl
+      | false ↦ refl
+    ])
+    ∙ sym (pushed-non_empty text us some)
+
+pub IsPlain-tail : (us : List ℕ) (is_missing : Bool)
+    → IsPlain (if is_missing then separator ∷ with_separators us else with_separators us)
+IsPlain-tail us true =
+    All-cons (λ unit. unit ≢ slash) separator (with_separators us) separator_is_plain (IsPlain-with_separators us)
+IsPlain-tail us false = IsPlain-with_separators us
+
+-- the text with what is added is plain, and has its places after those of the text
+pub added_tail : (text tail : List ℕ) (places : List ℕ) (end : ℕ) → IsPlain text → IsPlain tail
+    → places ≡ places_of text → end ≡ length text
+    → IsPlain (text ++ tail) × (places ++ places_from end tail ≡ places_of (text ++ tail))
+added_tail text tail places end plain plain_tail all last = (
+  All-append (λ unit. unit ≢ slash) text tail plain plain_tail,
+  rw (all, last)
+      (ap (λ n. places_of text ++ places_from n tail) (sym (zero-add (length text))) ∙ sym (places_from-append 0 text tail)),
+)

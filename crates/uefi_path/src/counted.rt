@@ -1,0 +1,86 @@
+//! The units of a text, and how often one was read. The count stands in contracts alone: no running
+//! program reads it, and it takes no memory.
+#![tactic(auto, unfolding(crate::specs::Views::counted_text, crate::specs::Views::reads_of))]
+
+ghost use Rattle.std.specs.Prelude.{◌≡◌, ℕ, ◌+◌, ◌<◌, ◌^◌, length, slice_index};
+ghost use Rattle.uefi_text.specs.Units.{IsText};
+ghost use Rattle.uefi_text.specs.Views.{text_of};
+
+use std::marker::Model;
+use uefi_text::strs::CStr16;
+
+/// How many units were read.
+#[derive(Drop)]
+struct ReadCount {
+    ghost number: { ℕ },
+}
+
+impl Model for ReadCount {
+    ghost use Rattle.std.specs.Borrow.{ftrue};
+
+    ghost also_owns = { λ _. ftrue };
+}
+
+impl ReadCount {
+    fn zero() -> ReadCount
+        ensures { result.number ≡ 0 }
+    {
+        ReadCount {}
+    }
+
+    /// One more.
+    #[inline(always)]
+    fn next(&self) -> ReadCount
+        ensures { result.number ≡ self.now.number + 1 }
+    {
+        ReadCount {}
+    }
+}
+
+/// The units of a text, of which each read is counted. In contracts its text is `counted_text` of it,
+/// and the count is `reads_of` it.
+#[derive(Drop)]
+pub struct CountedUnits<'a> {
+    units: &'a [u16],
+    count: ReadCount,
+    pub ghost is_text: { IsText units.now },
+    pub ghost bound: { length units.now + 1 < 2 ^ 64 },
+}
+
+impl<'a> CountedUnits<'a> {
+    ghost use Rattle.uefi_path.specs.Views.{counted_text, reads_of};
+
+    /// The units of a string's text, none of which was read. Takes no memory.
+    pub fn new(string: CStr16<'a>) -> CountedUnits<'a>
+        ensures text { counted_text result ≡ text_of string.entry }
+        ensures count { reads_of result ≡ 0 }
+    {
+        let text = string.as_slice();
+        CountedUnits {
+            units: text.units(),
+            count: ReadCount::zero(),
+        }
+    }
+
+    /// How many units the text has.
+    #[inline(always)]
+    pub fn len(&self) -> usize
+        ensures same { result ≡ length (counted_text self.now) }
+        ensures is_text { IsText (counted_text self.now) }
+        ensures bound { length (counted_text self.now) + 1 < 2 ^ 64 }
+    {
+        self.units.len()
+    }
+
+    /// The unit at a place. Counts one read.
+    #[inline(always)]
+    pub fn get(&mut self, i: usize) -> u16
+        requires { i < length (counted_text self.old) }
+        ensures unit { result ≡ slice_index (counted_text self.old) i }
+        ensures text { counted_text self.new ≡ counted_text self.old }
+        ensures count { reads_of self.new ≡ reads_of self.old + 1 }
+    {
+        self.count = self.count.next();
+        self.units[i]
+    }
+}

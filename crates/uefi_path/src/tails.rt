@@ -1,0 +1,87 @@
+//! What a push adds after a text: a separator where one is missing, and the path with its slashes
+//! replaced. It is made in one pass, and with it the places of its separators.
+ghost use Rattle.std.specs.Prelude.{◌≡◌, ◌+◌, ◌<◌, ◌≤◌, ◌^◌, ◌++◌, ◌∷◌, IfOk, OnOk, if◌then◌else◌, length, take};
+ghost use Rattle.uefi_path.specs.Separators.{places_from, separator, slash, with_separators};
+ghost use Rattle.uefi_path.specs.Views.{counted_text, reads_of};
+ghost use Rattle.uefi_text.specs.Units.{replaced};
+
+use crate::counted::CountedUnits;
+use crate::places::becomes_separator;
+use std::alloc::{AllocError, Allocator};
+use uefi_text::chars::{SEPARATOR, SLASH};
+
+/// The unit, or a separator in place of a slash.
+#[inline(always)]
+fn with_separator(unit: u16) -> u16
+    ensures { result ≡ replaced slash separator unit }
+{
+    if unit == u16::from(SLASH) {
+        u16::from(SEPARATOR)
+    } else {
+        unit
+    }
+}
+
+/// Writes the units of a text, each slash replaced, and adds the places of the separators, where the
+/// first unit has the place `start`. Reads each unit once. Where memory is refused the places that
+/// were there stay the first ones.
+fn write_replaced<A: Allocator>(
+    tail: &mut [u16],
+    places: &mut Vec<usize, A>,
+    start: usize,
+    units: &mut CountedUnits<'_>,
+) -> Result<(), AllocError>
+    requires room { length tail.now ≡ length (counted_text units.now) }
+    requires fits { start + length (counted_text units.now) < 2 ^ 64 }
+    ensures tail { OnOk result (tail.new ≡ with_separators (counted_text units.old)) }
+    ensures places { OnOk result (places.new.items
+        ≡ places.old.items ++ places_from start (with_separators (counted_text units.old))) }
+    ensures kept { take (length places.old.items) places.new.items ≡ places.old.items }
+    ensures text { counted_text units.new ≡ counted_text units.old }
+    ensures once { OnOk result (reads_of units.new ≡ reads_of units.old + length (counted_text units.old)) }
+    ensures at_most { reads_of units.new ≤ reads_of units.old + length (counted_text units.old) }
+{
+    for i in 0..tail.len() {
+        let unit = units.get(i);
+        tail[i] = with_separator(unit);
+        if becomes_separator(unit) {
+            places.push(start + i)?;
+        }
+    }
+    Ok(())
+}
+
+/// Makes what a push adds after a text that is `end` units long, at the start of the room, and returns
+/// how long that is. Adds the places of its separators. Where memory is refused the places that were
+/// there stay the first ones.
+pub(crate) fn make_tail<A: Allocator>(
+    room: &mut [u16],
+    places: &mut Vec<usize, A>,
+    end: usize,
+    is_missing: bool,
+    units: &mut CountedUnits<'_>,
+) -> Result<usize, AllocError>
+    requires room { length (counted_text units.now) < length room.now }
+    ensures tail { IfOk result (λ len. (len ≤ length room.old) × (take len room.new
+        ≡ (if is_missing then separator ∷ with_separators (counted_text units.old)
+        else with_separators (counted_text units.old)))) }
+    ensures places { OnOk result (places.new.items ≡ places.old.items ++ places_from end
+        (if is_missing then separator ∷ with_separators (counted_text units.old)
+        else with_separators (counted_text units.old))) }
+    ensures kept { take (length places.old.items) places.new.items ≡ places.old.items }
+    ensures text { counted_text units.new ≡ counted_text units.old }
+    ensures once { OnOk result (reads_of units.new ≡ reads_of units.old + length (counted_text units.old)) }
+    ensures at_most { reads_of units.new ≤ reads_of units.old + length (counted_text units.old) }
+{
+    let len = units.len();
+    let start = usize::from(is_missing);
+    if end.checked_add(room.len()).is_none() {
+        return Err(AllocError);
+    }
+    if is_missing {
+        room[0] = u16::from(SEPARATOR);
+        places.push(end)?;
+    }
+    write_replaced(&mut room[start..start + len], places, end + start, units)?;
+    Ok(start + len)
+}
