@@ -1,12 +1,12 @@
 -- The laws of paths, over the definitions that contracts of working calls cite.
-use Rattle.std.specs.Prelude.{◌≡◌, ◌≢◌, ◌↔◌, ◌⊎◌, ℕ, ◌+◌, ◌-◌, ◌≤◌, List, [], ◌∷◌, ◌++◌, length, fold, Bool, true, IsTrue, None, Some, count_by, nat_eq}
+use Rattle.std.specs.Prelude.{◌≡◌, ◌≢◌, ◌↔◌, ◌⊎◌, ℕ, ◌+◌, ◌-◌, ◌≤◌, All, List, [], ◌∷◌, ◌++◌, length, fold, Bool, true, IsTrue, None, Some, count_by, nat_eq}
 use Rattle.std.specs.Cmp.{IsEquivalence, IsTotalOrder}
 use Rattle.std.specs.Cmp.Lexicographic.{pointwise, slice_cmp}
 use Rattle.std.specs.Ordering.{nat_cmp}
 use Rattle.std.specs.declared.cmp.Ordering.{Ordering}
 use Rattle.std.specs.declared.cmp.Ordering.TheVariants.{Equal}
 use Rattle.uefi_path.specs.Components.{AreComponents, components_of}
-use Rattle.uefi_path.specs.NormalForms.{NormalForm, Rewrites, normal_of, normal_text}
+use Rattle.uefi_path.specs.NormalForms.{IsName, NormalForm, Rewrites, normal_of, normal_text}
 use Rattle.uefi_path.specs.Parents.{parent_text}
 use Rattle.uefi_path.specs.Pushing.{needs_separator, pushed}
 use Rattle.uefi_path.specs.Separators.{IsPlain, canonical, is_separator, separator}
@@ -183,7 +183,12 @@ abbrev pub NormalIsValid : Type 0
 NormalIsValid = (text : List ℕ) (normal : List (List ℕ)) → verdict text ≡ None
     → NormalForm (components_of text) normal → verdict (normal_text normal) ≡ None
 
--- and its own normal path
+-- it holds names alone, neither `.` nor `..`
+abbrev pub NormalHoldsNames : Type 0
+NormalHoldsNames = (text : List ℕ) (normal : List (List ℕ)) → verdict text ≡ None
+    → NormalForm (components_of text) normal → All IsName normal
+
+-- and is its own normal path
 abbrev pub NormalIsNormal : Type 0
 NormalIsNormal = (text : List ℕ) (normal : List (List ℕ)) → verdict text ≡ None
     → NormalForm (components_of text) normal → NormalForm (components_of (normal_text normal)) normal

@@ -9,3 +9,4 @@ pub mod Parents
 pub mod SuccessiveParents
 pub mod Laws
 pub mod NormalForms
+pub mod Climbing

@@ -87,8 +87,3 @@ normal_of (piece ∷ pieces) = before_normal (kind piece) piece (normal_of piece
 abbrev pub normal_text : List (List ℕ) → List ℕ
 normal_text [] = separator ∷ []
 normal_text (piece ∷ pieces) = joined (piece ∷ pieces)
-
--- the last piece is a name
-abbrev pub EndsInName : List (List ℕ) → Type 0
-EndsInName pieces =
-    (front : List (List ℕ)) × (name : List ℕ) × IsName name × (pieces ≡ front ++ name ∷ [])

@@ -4,13 +4,14 @@ use Rattle.std.specs.Fmt.{decimal}
 use Rattle.uefi_path.specs.declared.normal.NormalizeError.{NormalizeError}
 use Rattle.uefi_path.specs.declared.normal.NormalizeError.TheVariants.{Invalid, OutOfMemory}
 use Rattle.uefi_path.specs.declared.validation.PathError.{PathError}
-use Rattle.uefi_path.specs.declared.validation.PathError.TheVariants.{Empty, EmptyComponent, IllegalChar}
+use Rattle.uefi_path.specs.declared.validation.PathError.TheVariants.{ClimbsAboveRoot, Empty, EmptyComponent, IllegalChar}
 
 abbrev pub path_error_text : PathError → List ℕ
 path_error_text Empty = codes "path is empty"
 path_error_text EmptyComponent = codes "path contains an empty component"
 path_error_text (IllegalChar character) =
     codes "path contains an illegal character (value " ++ decimal character ++ codes ")"
+path_error_text ClimbsAboveRoot = codes "path climbs above the root"
 
 abbrev pub normalize_error_text : NormalizeError → List ℕ
 normalize_error_text (Invalid error) = path_error_text error
