@@ -16,3 +16,4 @@ pub mod NormalPaths
 pub mod NormalStack
 mod Counts
 pub mod TailUnits
+pub mod Depth

@@ -5,16 +5,17 @@ use Rattle.std.specs.List.{fold}
 use Rattle.std.proofs.lemmas.List.Elements.{All-cons, All-head, All-nil, All-tail}
 use Rattle.std.proofs.lemmas.Bool.{ne_eqb}
 use Rattle.uefi_path.specs.Components.{IsPiece, components_of, joined, pieces_between}
-use Rattle.uefi_path.specs.Laws.{NormalIsNormal, NormalIsValid, NormalPathsAgree}
-use Rattle.uefi_path.specs.NormalForms.{Dot, DotDot, Kind, Name, NormalForm, before_normal, before_piece, kind, normal_of, normal_text}
+use Rattle.uefi_path.specs.Laws.{NormalHoldsNames, NormalIsNormal, NormalIsValid, NormalPathsAgree}
+use Rattle.uefi_path.specs.NormalForms.{Dot, DotDot, IsName, Kind, Name, NormalForm, before_normal, before_piece, kind, normal_of, normal_text}
 use Rattle.uefi_path.specs.Pushing.{appended}
 use Rattle.uefi_path.specs.Separators.{canonical, separator, slash, with_separators}
 use Rattle.uefi_path.specs.Verdicts.{IsGood, verdict}
+use Rattle.uefi_path.proofs.Depth.{Stays, Stays-names, names_of_normal}
 use Rattle.uefi_path.proofs.ParentForm.{components_of-joined, rejoined-full}
 use Rattle.uefi_path.proofs.Parents.{added_all}
 use Rattle.uefi_path.proofs.Pushing.{separator_is_plain, with_separators-plain}
 use Rattle.uefi_path.proofs.Rewriting.{normal_forms_agree, normal_of-only}
-use Rattle.uefi_path.proofs.Validity.{All-good_non_empty, All-good_piece, All-good_plain, All-joined, valid-components, valid-from}
+use Rattle.uefi_path.proofs.Validity.{All-good_non_empty, All-good_piece, All-good_plain, All-joined, valid-components, valid-from, valid-parts}
 
 -- what holds of each piece holds of each of the normal form
 module _ (P : List ℕ → Type 0) where
@@ -53,11 +54,18 @@ good_normal : (text : List ℕ) (normal : List (List ℕ)) → verdict text ≡ 
 good_normal text normal valid form =
     All-normal IsGood (components_of text) normal form (valid-components text valid)
 
+pub normal_holds_names : NormalHoldsNames
+normal_holds_names text normal valid form =
+    subst (All IsName) (sym (normal_of-only (components_of text) normal form))
+    (names_of_normal (components_of text) (valid-parts text valid).1)
+
 pub normal_is_valid : NormalIsValid
 normal_is_valid text normal valid form =
     let good = good_normal text normal valid form in
+    let same = sym (components_of-normal_text normal good) in
     valid-from (normal_text normal) (normal_text-non_empty normal good)
-    (subst (All IsGood) (sym (components_of-normal_text normal good)) good)
+    (subst (All IsGood) same good)
+    (subst (λ pieces. Stays pieces 0) same (Stays-names normal 0 (normal_holds_names text normal valid form)))
 
 pub normal_is_normal : NormalIsNormal
 normal_is_normal text normal valid form =

@@ -4,23 +4,23 @@ use Rattle.std.proofs.Common.{◌≡◌, ◌≢◌, ℕ, List, [], ◌∷◌, �
 use Rattle.uefi_path.specs.Laws.{NormalFormWhereSame, NormalFormsAgree, NormalFormsExist, NormalFormsOnce}
 use Rattle.uefi_path.specs.NormalForms.{IsName, IsNormal, Kind, Dot, DotDot, Name, NormalForm, Rewrites, Step, Steps, before_normal, before_piece, dot, dot_dot, kind, normal_of}
 
-kind-Dot : (piece : List ℕ) → kind piece ≡ Dot → piece ≡ dot
+pub kind-Dot : (piece : List ℕ) → kind piece ≡ Dot → piece ≡ dot
 kind-Dot [] e = cc
 kind-Dot (c ∷ []) e = grind arith
 kind-Dot (c ∷ d ∷ []) e = grind arith
 kind-Dot (c ∷ d ∷ f ∷ rest) e = cc
 
-kind-DotDot : (piece : List ℕ) → kind piece ≡ DotDot → piece ≡ dot_dot
+pub kind-DotDot : (piece : List ℕ) → kind piece ≡ DotDot → piece ≡ dot_dot
 kind-DotDot [] e = cc
 kind-DotDot (c ∷ []) e = grind arith
 kind-DotDot (c ∷ d ∷ []) e = grind arith
 kind-DotDot (c ∷ d ∷ f ∷ rest) e = cc
 
-kind-Name : (piece : List ℕ) → kind piece ≡ Name → IsName piece
+pub kind-Name : (piece : List ℕ) → kind piece ≡ Name → IsName piece
 kind-Name piece e =
     (λ is_dot. let k = ap kind is_dot in cc, λ is_up. let k = ap kind is_up in cc)
 
-name_kind : (piece : List ℕ) → IsName piece → kind piece ≡ Name
+pub name_kind : (piece : List ℕ) → IsName piece → kind piece ≡ Name
 name_kind piece name = by_kind (kind piece) refl
   where
     by_kind : (k : Kind) → kind piece ≡ k → kind piece ≡ Name
@@ -70,7 +70,7 @@ steps_then zero ps qs rs e more = subst (λ pieces. Rewrites pieces rs) (sym e) 
 steps_then (suc n) ps qs rs s more =
     let rest = steps_then n s.0 qs rs s.2 more in (suc rest.0, (s.0, s.1, rest.1))
 
-one_step : (ps qs : List (List ℕ)) → Step ps qs → Rewrites ps qs
+pub one_step : (ps qs : List (List ℕ)) → Step ps qs → Rewrites ps qs
 one_step ps qs s = (1, (qs, s, refl))
 
 -- each step keeps it

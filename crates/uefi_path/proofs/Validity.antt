@@ -1,17 +1,17 @@
 -- Texts that name files: each of their components is good, which is that it has no fault.
 use Rattle.uefi_text.specs.Units.{replaced}
-use Rattle.std.proofs.Common.{◌≡◌, ◌≢◌, ℕ, List, [], ◌∷◌, ◌++◌, if◌then◌else◌, All, Bool, true, false, Option, None, Some, inl, inr, ap, sym, refl, subst, ◌∙◌, ◌⊎◌, is_some}
+use Rattle.std.proofs.Common.{◌≡◌, ◌≢◌, ℕ, List, [], ◌∷◌, ◌++◌, if◌then◌else◌, All, Bool, true, false, Option, None, Some, inl, inr, ap, sym, refl, subst, ◌∙◌, ◌⊎◌}
 use Rattle.std.specs.List.{find}
-use Rattle.std.specs.Option.{option_and_then, option_map}
-use Rattle.std.proofs.lemmas.Bool.{cases_Bool, cond-false, cond-true, eqb-true, false≢true, true≢false}
+use Rattle.std.specs.Option.{option_map}
+use Rattle.std.proofs.lemmas.Bool.{cases_Bool, cond-false, cond-true, eqb-true, true≢false}
 use Rattle.std.proofs.lemmas.List.Elements.{All-append, All-cons, All-head, All-nil, All-tail, All-weaker}
 use Rattle.uefi_path.specs.Components.{IsPiece, components_of, joined}
 use Rattle.uefi_path.specs.Parents.{is_non_empty}
 use Rattle.uefi_path.specs.Pushing.{appended, needs_separator, pushed}
 use Rattle.uefi_path.specs.Separators.{IsPlain, canonical, is_separator, separator, slash, with_separators}
-use Rattle.uefi_path.specs.Verdicts.{IsGood, fault, first_fault, is_bad, is_denied, verdict}
-use Rattle.uefi_path.specs.declared.validation.PathError.{PathError}
+use Rattle.uefi_path.specs.Verdicts.{IsGood, is_denied, verdict}
 use Rattle.uefi_path.specs.declared.validation.PathError.TheVariants.{IllegalChar}
+use Rattle.uefi_path.proofs.Depth.{Stays, Stays-append, fault_from, first_fault_from, good_and_stays, none_from}
 use Rattle.uefi_path.proofs.Joining.{canonical-no, canonical-yes, components_of-pushed}
 use Rattle.uefi_path.proofs.Parents.{after_separator, open_joined}
 use Rattle.uefi_path.proofs.Pushing.{separator_is_plain}
@@ -29,37 +29,21 @@ All-found_none p (u ∷ us) e =
           (All-found_none p us (sym (cond-false (p u) (Some u) (find p us) fails) ∙ e))
     ]
 
-no_fault : (o : Option PathError) → is_some o ≡ false → o ≡ None
-no_fault None e = refl
-no_fault (Some x) e = absurd (true≢false e)
+-- the verdict on a text that is not empty is that on its components
+pub verdict_from : (text : List ℕ) → text ≢ [] → verdict text ≡ fault_from (components_of text) 0
+verdict_from [] non_empty = absurd (non_empty refl)
+verdict_from (u ∷ us) non_empty = first_fault_from [] (components_of (u ∷ us)) 0 refl
 
--- components without a fault
-pub All-good : (cs : List (List ℕ)) → first_fault cs ≡ None → All IsGood cs
-All-good [] e = All-nil IsGood
-All-good (c ∷ cs) e =
-    elim (cases_Bool (is_bad c)) [
-      | inl bad ↦
-          let found : first_fault (c ∷ cs) ≡ fault c =
-          ap (option_and_then fault) (cond-true (is_bad c) (Some c) (find is_bad cs) bad) in
-          let none : fault c ≡ None = sym found ∙ e in
-          absurd (false≢true (sym (ap is_some none) ∙ bad))
-      | inr good ↦
-          let others : first_fault (c ∷ cs) ≡ first_fault cs =
-          ap (option_and_then fault) (cond-false (is_bad c) (Some c) (find is_bad cs) good) in
-          All-cons IsGood c cs (no_fault (fault c) good) (All-good cs (sym others ∙ e))
-    ]
+-- a valid text has good components, of which none climbs
+pub valid-parts : (text : List ℕ) → verdict text ≡ None
+    → All IsGood (components_of text) × Stays (components_of text) 0
+valid-parts [] valid = absurd (cc)
+valid-parts (u ∷ us) valid =
+    let all = components_of (u ∷ us) in
+    good_and_stays all 0 (sym (first_fault_from [] all 0 refl) ∙ valid)
 
-first_fault-good : (cs : List (List ℕ)) → All IsGood cs → first_fault cs ≡ None
-first_fault-good [] good = refl
-first_fault-good (c ∷ cs) good =
-    ap (option_and_then fault)
-    (cond-false (is_bad c) (Some c) (find is_bad cs) (ap is_some (All-head IsGood c cs good)))
-    ∙ first_fault-good cs (All-tail IsGood c cs good)
-
--- a valid text has good components
 pub valid-components : (text : List ℕ) → verdict text ≡ None → All IsGood (components_of text)
-valid-components [] valid = absurd (cc)
-valid-components (u ∷ us) valid = All-good (components_of (u ∷ us)) valid
+valid-components text valid = (valid-parts text valid).0
 
 -- and is not empty
 pub valid-non_empty : (text : List ℕ) → verdict text ≡ None → text ≢ []
@@ -67,9 +51,12 @@ valid-non_empty [] valid e = cc
 valid-non_empty (u ∷ us) valid e = cc
 
 -- any text like that is valid
-pub valid-from : (text : List ℕ) → text ≢ [] → All IsGood (components_of text) → verdict text ≡ None
-valid-from [] non_empty good = absurd (non_empty refl)
-valid-from (u ∷ us) non_empty good = first_fault-good (components_of (u ∷ us)) good
+pub valid-from : (text : List ℕ) → text ≢ [] → All IsGood (components_of text) → Stays (components_of text) 0
+    → verdict text ≡ None
+valid-from [] non_empty good stays = absurd (non_empty refl)
+valid-from (u ∷ us) non_empty good stays =
+    let all = components_of (u ∷ us) in
+    first_fault_from [] all 0 refl ∙ none_from all 0 good stays
 
 -- a good component is not empty
 pub good-non_empty : (c : List ℕ) → IsGood c → is_non_empty c ≡ true
@@ -188,7 +175,10 @@ valid-pushed text part valid valid_part front =
     let both =
     components_of-pushed text part (valid-plain part valid_part) (valid-open text valid) front
     in
+    let first = valid-parts text valid in
+    let second = valid-parts part valid_part in
     valid-from (pushed text part) (pushed-not_empty text part (valid-non_empty part valid_part))
     (subst (All IsGood) (sym both)
-    (All-append IsGood (components_of text) (components_of part) (valid-components text valid)
-    (valid-components part valid_part)))
+    (All-append IsGood (components_of text) (components_of part) first.0 second.0))
+    (subst (λ pieces. Stays pieces 0) (sym both)
+    (Stays-append (components_of text) (components_of part) 0 first.1 second.1))

@@ -7,7 +7,7 @@ ghost use Rattle.uefi_path.specs.Laws.{ComponentsAreJoined, JoinedAreSame, Joine
 ghost use Rattle.uefi_path.specs.Laws.{ParentIsNotDoubled, ParentIsRelative, ParentIsValid};
 ghost use Rattle.uefi_path.specs.Laws.{CanonicalIsEqual, ComponentsRebuild, ParentOfJoined, ValidWhereUnrefused};
 ghost use Rattle.uefi_path.specs.Laws.{AreParentsWhereSame, FewerParents, ParentsArePrefixes, ParentsOfAreParents, WalkingUpEnds};
-ghost use Rattle.uefi_path.specs.Laws.{NormalFormWhereSame, NormalFormsAgree, NormalFormsExist, NormalFormsOnce, NormalIsNormal, NormalIsValid, NormalPathsAgree};
+ghost use Rattle.uefi_path.specs.Laws.{NormalFormWhereSame, NormalFormsAgree, NormalFormsExist, NormalFormsOnce, NormalHoldsNames, NormalIsNormal, NormalIsValid, NormalPathsAgree};
 
 /// Every text has exactly one list of components, `components_of` it: none where its canonical text
 /// is empty, else one more than separators in it.
@@ -110,10 +110,11 @@ pub fn normal_unique()
     ensures agree { NormalFormsAgree }
 {}
 
-/// The normal path of a valid path is valid, and its own normal path. Two valid paths have equal ones
+/// The normal path of a valid path is valid, holds neither `.` nor `..`, and is its own normal path. Two valid paths have equal ones
 /// exactly where their components lead to some list of pieces.
 pub fn normal_once()
     ensures valid { NormalIsValid }
+    ensures names { NormalHoldsNames }
     ensures again { NormalIsNormal }
     ensures agree { NormalPathsAgree }
 {}

@@ -1,11 +1,10 @@
 //! Normal paths: no `.`, and no `..` right after a name. `specs/NormalForms.antt` says what they are.
-ghost use Rattle.std.specs.Prelude.{◌≡◌, ◌↔◌, ◌++◌, ◌∷◌, All, IfErr, IfOk, IfSome, IsTrue, List, None, OnOk, Some, map, ℕ};
-ghost use Rattle.std.specs.Result.{result_err};
+ghost use Rattle.std.specs.Prelude.{◌≡◌, ◌↔◌, ◌++◌, ◌∷◌, All, IfErr, IfOk, IsTrue, List, None, Some, if◌then◌else◌, length, map, ℕ};
+ghost use Rattle.uefi_path.specs.Climbing.{depth_after};
 ghost use Rattle.uefi_path.specs.Components.{components_of};
-ghost use Rattle.uefi_path.specs.NormalForms.{EndsInName, IsName, IsNormal, NormalForm, Rewrites, dot, dot_dot, normal_of, normal_text};
-ghost use Rattle.uefi_path.specs.Verdicts.{IsGood, verdict};
+ghost use Rattle.uefi_path.specs.NormalForms.{IsName, NormalForm, Rewrites, dot, dot_dot, kind, normal_of, normal_text};
+ghost use Rattle.uefi_path.specs.Verdicts.{IsGood, normal_refusal, verdict};
 ghost use Rattle.uefi_path.specs.Views.{path_text};
-ghost use Rattle.uefi_path.specs.declared.normal.NormalizeError.TheVariants.{Invalid, OutOfMemory};
 ghost use Rattle.uefi_text.specs.Units.{IsText};
 ghost use Rattle.uefi_text.specs.Views.{units_of};
 
@@ -59,45 +58,27 @@ fn is_dot_dot(piece: Char16Slice<'_>) -> bool
     matches!(piece.units(), [46, 46])
 }
 
-/// Whether the piece is a name: neither of these.
-fn is_name(piece: Char16Slice<'_>) -> bool
-    ensures { IsTrue result ↔ IsName (units_of piece.entry) }
-{
-    !is_dot(piece) && !is_dot_dot(piece)
-}
-
-/// Whether the piece goes up from a name: it is `..`, and the last of the others is a name.
-fn drops_name(others: &[Char16Slice<'_>], piece: Char16Slice<'_>) -> bool
-    ensures { IsTrue result ↔ ((units_of piece.entry ≡ dot_dot) × EndsInName (map units_of others.now)) }
-{
-    if !is_dot_dot(piece) {
-        return false;
-    }
-    match others.last() {
-        Some(last) => is_name(*last),
-        None => false,
-    }
-}
-
-/// Takes one more piece: a `.` is dropped, a `..` drops the name before it, and any other is kept.
+/// Takes one more piece after names: a `.` is dropped, a `..` drops the last name, and any other is kept.
+/// `Ok(false)` where there is no name to drop.
 fn take<'a, A: Allocator>(
-    kept: &mut Vec<Char16Slice<'a>, A>,
+    names: &mut Vec<Char16Slice<'a>, A>,
     piece: Char16Slice<'a>,
-) -> Result<(), AllocError>
-    requires { IsNormal (map units_of kept.old.items) }
-    ensures steps { OnOk result ((rest : List (List ℕ)) → Rewrites
-        (map units_of kept.old.items ++ units_of piece.entry ∷ rest) (map units_of kept.new.items ++ rest)) }
-    ensures normal { OnOk result (IsNormal (map units_of kept.new.items)) }
+) -> Result<bool, AllocError>
+    requires { All IsName (map units_of names.old.items) }
+    ensures depth { IfOk result (λ stays. depth_after (kind (units_of piece.entry)) (length names.old.items)
+        ≡ (if stays then Some (length names.new.items) else None)) }
+    ensures steps { IfOk result (λ stays. IsTrue stays → (rest : List (List ℕ)) → Rewrites
+        (map units_of names.old.items ++ units_of piece.entry ∷ rest) (map units_of names.new.items ++ rest)) }
+    ensures names { IfOk result (λ stays. All IsName (map units_of names.new.items)) }
 {
     if is_dot(piece) {
-        return Ok(());
+        return Ok(true);
     }
-    if drops_name(kept.as_slice(), piece) {
-        let _name = kept.pop();
-        return Ok(());
+    if is_dot_dot(piece) {
+        return Ok(names.pop().is_some());
     }
-    kept.push(piece)?;
-    Ok(())
+    names.push(piece)?;
+    Ok(true)
 }
 
 /// How many characters the path of these pieces has, at most.
@@ -130,8 +111,7 @@ fn join_pieces<A: Allocator + Copy>(
 
 /// Why a path has no normal path, where memory is refused: what is still to come may hold a fault.
 fn refusal(path: Path<'_>) -> NormalizeError
-    ensures invalid { IfSome (verdict (path_text path.entry)) (λ error. result ≡ Invalid error) }
-    ensures refused { verdict (path_text path.entry) ≡ None → result ≡ OutOfMemory }
+    ensures { result ≡ normal_refusal (verdict (path_text path.entry)) }
 {
     match validate_path(path) {
         Err(error) => NormalizeError::Invalid(error),
@@ -149,26 +129,27 @@ impl<'a> Path<'a> {
     /// reports; only then, refused memory as `OutOfMemory`. One pass over the components, and another
     /// only where memory is refused on the way. Takes memory for those that are kept on the way, and for the normal path as [`PathBuf::from`] does.
     pub fn normalize<A: Allocator + Copy>(&self, alloc: A) -> Result<PathBuf<A>, NormalizeError>
+        ensures valid { IfOk result (λ path. verdict (path_text self.now) ≡ None) }
         ensures ok { IfOk result (λ path. path ≡ normal_text (normal_of (components_of (path_text self.now)))) }
         ensures form { IfOk result (λ path. NormalForm (components_of (path_text self.now))
             (normal_of (components_of (path_text self.now)))) }
-        ensures invalid { IfSome (verdict (path_text self.now)) (λ error.
-            result_err result ≡ Some (Invalid error)) }
-        ensures refused { verdict (path_text self.now) ≡ None → IfErr result (λ error. error ≡ OutOfMemory) }
+        ensures err { IfErr result (λ error. error ≡ normal_refusal (verdict (path_text self.now))) }
     {
         if self.is_empty() {
             return Err(NormalizeError::Invalid(PathError::Empty));
         }
-        let mut kept = Vec::new(alloc);
+        let mut names = Vec::new(alloc);
         for component in self.components() {
             if let Some(error) = find_fault(component) {
                 return Err(NormalizeError::Invalid(error));
             }
-            if let Err(AllocError) = take(&mut kept, component) {
-                return Err(refusal(*self));
+            match take(&mut names, component) {
+                Ok(true) => {}
+                Ok(false) => return Err(NormalizeError::Invalid(PathError::ClimbsAboveRoot)),
+                Err(AllocError) => return Err(refusal(*self)),
             }
         }
-        match join_pieces(alloc, kept.as_slice()) {
+        match join_pieces(alloc, names.as_slice()) {
             Ok(path) => Ok(path),
             Err(AllocError) => Err(NormalizeError::OutOfMemory),
         }

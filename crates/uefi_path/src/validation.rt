@@ -1,6 +1,8 @@
 //! Why a path names no file.
-ghost use Rattle.std.specs.Prelude.{◌≡◌, ◌↔◌, IsOk, Option, find};
+ghost use Rattle.std.specs.Prelude.{◌≡◌, ◌+◌, ◌<◌, ◌^◌, ◌↔◌, IsOk, Option, find};
 ghost use Rattle.std.specs.Result.{result_err};
+ghost use Rattle.uefi_path.specs.Climbing.{depth_after};
+ghost use Rattle.uefi_path.specs.NormalForms.{kind};
 ghost use Rattle.uefi_path.specs.Verdicts.{IsValid, fault, is_denied, verdict};
 ghost use Rattle.uefi_path.specs.Views.{path_text};
 ghost use Rattle.uefi_text.specs.Views.{units_of};
@@ -22,6 +24,9 @@ pub enum PathError {
 
     /// A component holds this character, which no file's name may hold.
     IllegalChar(Char16),
+
+    /// A component `..` for which no name before it is left.
+    ClimbsAboveRoot,
 }
 
 impl fmt::Display for PathError {
@@ -38,6 +43,7 @@ impl fmt::Display for PathError {
                 let value = u16::from(*character);
                 write!(f, "path contains an illegal character (value {value})")
             }
+            PathError::ClimbsAboveRoot => write!(f, "path climbs above the root"),
         }
     }
 }
@@ -73,12 +79,26 @@ pub(crate) fn find_fault(component: Char16Slice<'_>) -> Option<PathError>
     find_denied(component).map(PathError::IllegalChar)
 }
 
-/// Whether each component of a path may name a file: `Ok`, or why the first that may not does not.
+/// How many names are left after a component, where there were this many before it; `None` where the
+/// component climbs above where the path starts.
+fn depth_after(depth: usize, component: Char16Slice<'_>) -> Option<usize>
+    requires { depth + 1 < 2 ^ 64 }
+    ensures { result ≡ depth_after (kind (units_of component.entry)) depth }
+{
+    match component.units() {
+        [46] => Some(depth),
+        [46, 46] => depth.checked_sub(1),
+        _ => Some(depth + 1),
+    }
+}
+
+/// Whether a path names a file: `Ok`, or why the first component that is refused is.
 ///
 /// The empty path is refused as `Empty`; the lone separator has no component and is accepted. An
-/// empty component is refused as `EmptyComponent`, and one that holds a character of
-/// [`CHARACTER_DENY_LIST`] as `IllegalChar` of its first such. `.` and `..` are names like others.
-/// One pass, which ends at the first fault; takes no memory.
+/// empty component is refused as `EmptyComponent`, one that holds a character of
+/// [`CHARACTER_DENY_LIST`] as `IllegalChar` of its first such, and a `..` as `ClimbsAboveRoot` where the
+/// components before it hold at least as many `..` as names. A `.` is no name. One pass, which ends at
+/// the first fault; takes no memory.
 pub fn validate_path(path: Path<'_>) -> Result<(), PathError>
     ensures refusal { result_err result ≡ verdict (path_text path.entry) }
     ensures valid { IsOk result ↔ IsValid (path_text path.entry) }
@@ -86,9 +106,14 @@ pub fn validate_path(path: Path<'_>) -> Result<(), PathError>
     if path.is_empty() {
         return Err(PathError::Empty);
     }
+    let mut depth = 0;
     for component in path.components() {
         if let Some(error) = find_fault(component) {
             return Err(error);
+        }
+        match depth_after(depth, component) {
+            Some(left) => depth = left,
+            None => return Err(PathError::ClimbsAboveRoot),
         }
     }
     Ok(())

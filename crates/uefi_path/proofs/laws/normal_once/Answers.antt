@@ -1,4 +1,4 @@
-use Rattle.uefi_path.proofs.NormalPaths.{normal_is_normal, normal_is_valid, normal_paths_agree}
+use Rattle.uefi_path.proofs.NormalPaths.{normal_holds_names, normal_is_normal, normal_is_valid, normal_paths_agree}
 use Rattle.uefi_path.proofs.laws.normal_once.Goals as goal
 
 pub returns-clause-valid : goal.returns-clause-valid
@@ -9,3 +9,6 @@ returns-clause-again c = normal_is_normal
 
 pub returns-clause-agree : goal.returns-clause-agree
 returns-clause-agree c = normal_paths_agree
+
+pub returns-clause-names : goal.returns-clause-names
+returns-clause-names c = normal_holds_names
