@@ -13,3 +13,4 @@ pub mod ValidPaths
 pub mod Runs
 mod Counts
 pub mod TailUnits
+pub mod SeparatorBits

@@ -1,14 +1,21 @@
 //! What a push adds after a text: a separator where one is missing, and the path with its slashes
 //! replaced. It is made in one pass, and with it the places of its separators.
 ghost use Rattle.std.specs.Prelude.{◌≡◌, ◌+◌, ◌<◌, ◌≤◌, ◌^◌, ◌++◌, ◌∷◌, IfOk, OnOk, if◌then◌else◌, length, take};
-ghost use Rattle.uefi_path.specs.Separators.{places_from, separator, slash, with_separators};
+ghost use Rattle.uefi_path.specs.Separators.{becomes_separator, places_from, separator, slash, with_separators};
 ghost use Rattle.uefi_path.specs.Views.{counted_text, reads_of};
 ghost use Rattle.uefi_text.specs.Units.{replaced};
 
 use crate::counted::CountedUnits;
-use crate::places::becomes_separator;
 use std::alloc::{AllocError, Allocator};
 use uefi_text::chars::{SEPARATOR, SLASH};
+
+/// Whether the unit is a separator once slashes are replaced.
+#[inline(always)]
+fn becomes_separator(unit: u16) -> bool
+    ensures { result ≡ becomes_separator unit }
+{
+    (unit == u16::from(SEPARATOR)) | (unit == u16::from(SLASH))
+}
 
 /// The unit, or a separator in place of a slash.
 #[inline(always)]
