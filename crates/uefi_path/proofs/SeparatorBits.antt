@@ -22,7 +22,7 @@ pub bits-replaced : (us : List ℕ) → mask_l (map (λ u. eqb u separator) (wit
 bits-replaced [] = refl
 bits-replaced (u ∷ us) = ap (λ n. cond (becomes_separator u) 1 0 + 2 * n) (bits-replaced us)
 
--- zeros behind the units set no bit
+-- zeros after the units set no bit
 no_bits : (n count : ℕ) → mask_l (map becomes_separator (drop n (replicate count 0))) ≡ 0
 no_bits zero zero = refl
 no_bits zero (suc count) = omega (arith, no_bits zero count)
@@ -134,7 +134,7 @@ count_block us at =
     ∙ ap (λ n. n + count_by becomes_separator (drop 64 (drop at us))) (sym (ones-mask_l becomes_separator block))
     ∙ ap (λ vs. count_ones (mask_l (map becomes_separator block)) + count_by becomes_separator vs) rest
 
--- where the block behind begins makes no difference where nothing stands there
+-- where the next block begins makes no difference where nothing stands there
 next_block : (at : ℕ) (block rest : List ℕ) → length block ≡ 64 ⊎ rest ≡ []
     → places_from (at + length (with_separators block)) (with_separators rest) ≡ places_from (at + 64) (with_separators rest)
 next_block at block rest (inl full) =

@@ -1,4 +1,4 @@
--- Zeros behind the last units are no separators.
+-- Zeros after the last units are no separators.
 use Rattle.std.proofs.Common.{◌≡◌, ◌-◌, ◌<◌, ◌++◌, ap, arith, drop, length, map, replicate, sym, take, ◌∙◌}
 use Rattle.std.specs.Simd.Lanes.{mask_l}
 use Rattle.std.proofs.lemmas.List.{length-drop, take_all}
