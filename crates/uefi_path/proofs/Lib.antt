@@ -14,3 +14,4 @@ pub mod Runs
 mod Counts
 pub mod TailUnits
 pub mod SeparatorBits
+pub mod TailBlocks

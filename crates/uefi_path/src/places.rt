@@ -2,23 +2,39 @@
 //! replaced, a block of units at a time: a vector comparison gives a bit for each unit.
 ghost use Rattle.std.specs.Prelude.{◌≡◌, ◌≤◌, ◌+◌, ◌<◌, ◌^◌, ◌++◌, IfOk, OnOk, count_by, drop, length, map, take};
 ghost use Rattle.std.specs.Simd.Lanes.{mask_l};
-ghost use Rattle.uefi_path.specs.Separators.{becomes_separator, bit_places, places_of, with_separators};
+ghost use Rattle.uefi_path.specs.Separators.{becomes_separator, bit_places, is_separator, places_of, with_separators};
 
 use std::alloc::{AllocError, Allocator};
 use std::simd::prelude::*;
 
 /// How many units a block has.
-const BLOCK: usize = 64;
+pub(crate) const BLOCK: usize = 64;
+
+/// The units, each slash replaced.
+#[inline(always)]
+pub(crate) fn replace_slashes(units: u16x64) -> u16x64
+    ensures { result ≡ with_separators units }
+{
+    // The code units of `/` and of `\`.
+    units
+        .simd_eq(u16x64::splat(47))
+        .select(u16x64::splat(92), units)
+}
+
+/// A bit for each unit, set where it is a separator; the first is the lowest.
+#[inline(always)]
+pub(crate) fn separators_of(units: u16x64) -> u64
+    ensures { result ≡ mask_l (map is_separator units) }
+{
+    units.simd_eq(u16x64::splat(92)).to_bitmask()
+}
 
 /// A bit for each unit, set where it is a separator once slashes are replaced; the first is the lowest.
 #[inline(always)]
 fn bits_of(units: u16x64) -> u64
     ensures { result ≡ mask_l (map becomes_separator units) }
 {
-    // The code units of `/` and of `\`.
-    let (slash, separator) = (u16x64::splat(47), u16x64::splat(92));
-    let replaced = units.simd_eq(slash).select(separator, units);
-    replaced.simd_eq(separator).to_bitmask()
+    separators_of(replace_slashes(units))
 }
 
 /// The bits of the block that begins at a place; the last block may be short.
@@ -51,13 +67,14 @@ pub(crate) fn count_separators(units: &[u16]) -> usize
 
 /// Adds the places of the bits that are set, where the lowest has the place `start`.
 #[inline(always)]
-fn add_bits<A: Allocator>(
+pub(crate) fn add_bits<A: Allocator>(
     places: &mut Vec<usize, A>,
     start: usize,
     bits: u64,
 ) -> Result<(), AllocError>
     requires { start + 64 < 2 ^ 64 }
-    ensures { OnOk result (places.new.items ≡ places.old.items ++ bit_places 64 start bits) }
+    ensures ok { OnOk result (places.new.items ≡ places.old.items ++ bit_places 64 start bits) }
+    ensures kept { take (length places.old.items) places.new.items ≡ places.old.items }
 {
     let mut left = bits;
     while left != 0 {

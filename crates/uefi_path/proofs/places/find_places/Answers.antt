@@ -13,7 +13,7 @@ loop-at-preserved g c =
     let bits = mask_l (map becomes_separator (take 64 (drop at us))) in
     let rest = places_from (at + 64) (with_separators (drop (at + 64) us)) in
     let added : c.add_bits.new.places.items ≡ before ++ bit_places 64 at bits =
-    c.in_ok-add_bits.ensures ∙ ap (λ n. before ++ bit_places 64 at n) c.bits_at.ensures in
+    c.in_ok-add_bits.ensures.ok ∙ ap (λ n. before ++ bit_places 64 at n) c.bits_at.ensures in
     ap (λ ps. ps ++ rest) added
     ∙ append_assoc before (bit_places 64 at bits) rest
     ∙ ap (λ ps. before ++ ps) (sym (places_block us at))
