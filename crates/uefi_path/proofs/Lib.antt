@@ -17,3 +17,5 @@ pub mod NormalStack
 mod Counts
 pub mod TailUnits
 pub mod Depth
+pub mod SeparatorBits
+pub mod TailBlocks

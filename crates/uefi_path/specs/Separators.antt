@@ -1,6 +1,6 @@
 -- Separators in a text: the one that is ignored at its start, the slashes that path buffers replace,
 -- and their places.
-use Rattle.std.specs.Prelude.{◌≢◌, ℕ, ◌+◌, Bool, ◌==◌, if◌then◌else◌, List, [], ◌∷◌, map, All}
+use Rattle.std.specs.Prelude.{◌≢◌, ℕ, zero, suc, ◌%◌, ◌/◌, ◌+◌, Bool, ◌==◌, if◌then◌else◌, List, [], ◌∷◌, map, All}
 use Rattle.uefi_text.specs.Units.{replaced}
 
 -- the code unit of `\`
@@ -40,3 +40,9 @@ places_from start (unit ∷ units) =
 -- the places of all separators of a text, in ascending order
 abbrev pub places_of : List ℕ → List ℕ
 places_of text = places_from 0 text
+
+-- the places of the bits that are set among the lowest `count`, where the lowest has the place `start`
+abbrev pub bit_places : ℕ → ℕ → ℕ → List ℕ
+bit_places zero start bits = []
+bit_places (suc count) start bits =
+    if bits % 2 == 1 then start ∷ bit_places count (start + 1) (bits / 2) else bit_places count (start + 1) (bits / 2)

@@ -13,7 +13,7 @@ ghost use Rattle.uefi_text.specs.Views.{units_of};
 
 use crate::counted::CountedUnits;
 use crate::path::{Components, Path, PlacedText, Rest};
-use crate::places::{add_places, count_separators};
+use crate::places::{count_separators, find_places};
 use crate::tails::make_tail;
 use std::alloc::{AllocError, Allocator, Global};
 use std::cmp::Ordering;
@@ -236,10 +236,9 @@ impl<A: Allocator + Copy> PathBuf<A> {
         ensures ok { IfOk result (λ path. path ≡ with_separators string) }
         ensures err { IfErr result (λ kept. kept ≡ string) }
     {
-        let mut places = Vec::new(alloc);
-        if add_places(&mut places, string.as_cstr16().to_u16_slice()).is_err() {
+        let Ok(places) = find_places(alloc, string.as_cstr16().to_u16_slice()) else {
             return Err(string);
-        }
+        };
         string.replace_char(SLASH, SEPARATOR);
         Ok(PathBuf { string, places })
     }

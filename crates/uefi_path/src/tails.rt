@@ -1,14 +1,26 @@
 //! What a push adds after a text: a separator where one is missing, and the path with its slashes
 //! replaced. It is made in one pass, and with it the places of its separators.
-ghost use Rattle.std.specs.Prelude.{◌≡◌, ◌+◌, ◌<◌, ◌≤◌, ◌^◌, ◌++◌, ◌∷◌, IfOk, OnOk, if◌then◌else◌, length, take};
-ghost use Rattle.uefi_path.specs.Separators.{places_from, separator, slash, with_separators};
+ghost use Rattle.std.specs.Prelude.{◌≡◌, ◌+◌, ◌<◌, ◌≤◌, ◌^◌, ◌++◌, ◌∷◌, IfOk, OnOk, drop, if◌then◌else◌, length, replicate, take};
+ghost use Rattle.uefi_path.specs.Separators.{becomes_separator, places_from, separator, slash, with_separators};
 ghost use Rattle.uefi_path.specs.Views.{counted_text, reads_of};
 ghost use Rattle.uefi_text.specs.Units.{replaced};
 
 use crate::counted::CountedUnits;
-use crate::places::becomes_separator;
+use crate::places::{BLOCK, add_bits, replace_slashes, separators_of};
 use std::alloc::{AllocError, Allocator};
+use std::simd::prelude::*;
 use uefi_text::chars::{SEPARATOR, SLASH};
+
+/// Texts that are shorter are made unit by unit.
+const SHORT: usize = 24;
+
+/// Whether the unit is a separator once slashes are replaced.
+#[inline(always)]
+fn becomes_separator(unit: u16) -> bool
+    ensures { result ≡ becomes_separator unit }
+{
+    (unit == u16::from(SEPARATOR)) | (unit == u16::from(SLASH))
+}
 
 /// The unit, or a separator in place of a slash.
 #[inline(always)]
@@ -25,7 +37,7 @@ fn with_separator(unit: u16) -> u16
 /// Writes the units of a text, each slash replaced, and adds the places of the separators, where the
 /// first unit has the place `start`. Reads each unit once. Where memory is refused the places that
 /// were there stay the first ones.
-fn write_replaced<A: Allocator>(
+fn write_units<A: Allocator>(
     tail: &mut [u16],
     places: &mut Vec<usize, A>,
     start: usize,
@@ -47,6 +59,78 @@ fn write_replaced<A: Allocator>(
         if becomes_separator(unit) {
             places.push(start + i)?;
         }
+    }
+    Ok(())
+}
+
+/// The units of the block that begins at a place, each read once, and zeros where the text ends in it.
+#[inline(always)]
+fn read_block(units: &mut CountedUnits<'_>, at: usize) -> [u16; BLOCK]
+    requires { at ≤ length (counted_text units.now) }
+    ensures block { result ≡ take 64 (drop at (counted_text units.old))
+        ++ drop (length (take 64 (drop at (counted_text units.old)))) (replicate 64 0) }
+    ensures text { counted_text units.new ≡ counted_text units.old }
+    ensures count { reads_of units.new
+        ≡ reads_of units.old + length (take 64 (drop at (counted_text units.old))) }
+{
+    let mut block = [0; BLOCK];
+    for k in 0..BLOCK.min(units.len() - at) {
+        block[k] = units.get(at + k);
+    }
+    block
+}
+
+/// Writes the block that begins at a place, as [`write_units`] does.
+#[inline(always)]
+fn write_block<A: Allocator>(
+    tail: &mut [u16],
+    places: &mut Vec<usize, A>,
+    start: usize,
+    units: &mut CountedUnits<'_>,
+    at: usize,
+) -> Result<(), AllocError>
+    requires room { length tail.now ≡ length (counted_text units.now) }
+    requires within { at ≤ length (counted_text units.now) }
+    requires fits { start + at + 64 < 2 ^ 64 }
+    ensures tail { take (at + length (take 64 (drop at (counted_text units.old)))) tail.new
+        ≡ take at tail.old ++ with_separators (take 64 (drop at (counted_text units.old))) }
+    ensures places { OnOk result (places.new.items ≡ places.old.items
+        ++ places_from (start + at) (with_separators (take 64 (drop at (counted_text units.old))))) }
+    ensures kept { take (length places.old.items) places.new.items ≡ places.old.items }
+    ensures text { counted_text units.new ≡ counted_text units.old }
+    ensures count { reads_of units.new
+        ≡ reads_of units.old + length (take 64 (drop at (counted_text units.old))) }
+{
+    let block = replace_slashes(u16x64::from_array(read_block(units, at)));
+    let len = BLOCK.min(tail.len() - at);
+    tail[at..at + len].copy_from_slice(&block.to_array()[..len]);
+    add_bits(places, start + at, separators_of(block))
+}
+
+/// What [`write_units`] does, a block at a time where the text is long, which is faster then.
+fn write_replaced<A: Allocator>(
+    tail: &mut [u16],
+    places: &mut Vec<usize, A>,
+    start: usize,
+    units: &mut CountedUnits<'_>,
+) -> Result<(), AllocError>
+    requires room { length tail.now ≡ length (counted_text units.now) }
+    requires fits { start + length (counted_text units.now) + 64 < 2 ^ 64 }
+    ensures tail { OnOk result (tail.new ≡ with_separators (counted_text units.old)) }
+    ensures places { OnOk result (places.new.items
+        ≡ places.old.items ++ places_from start (with_separators (counted_text units.old))) }
+    ensures kept { take (length places.old.items) places.new.items ≡ places.old.items }
+    ensures text { counted_text units.new ≡ counted_text units.old }
+    ensures once { OnOk result (reads_of units.new ≡ reads_of units.old + length (counted_text units.old)) }
+    ensures at_most { reads_of units.new ≤ reads_of units.old + length (counted_text units.old) }
+{
+    if tail.len() < SHORT {
+        return write_units(tail, places, start, units);
+    }
+    let mut at = 0;
+    while at < tail.len() {
+        write_block(tail, places, start, units, at)?;
+        at += BLOCK;
     }
     Ok(())
 }
@@ -75,7 +159,7 @@ pub(crate) fn make_tail<A: Allocator>(
 {
     let len = units.len();
     let start = usize::from(is_missing);
-    if end.checked_add(room.len()).is_none() {
+    if end.checked_add(room.len() + BLOCK).is_none() {
         return Err(AllocError);
     }
     if is_missing {

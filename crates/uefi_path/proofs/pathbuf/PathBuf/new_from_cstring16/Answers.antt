@@ -7,5 +7,5 @@ use Rattle.uefi_path.proofs.pathbuf.PathBuf.new_from_cstring16.Goals as goal
 
 pub invariant_of-result : goal.invariant_of-result
 invariant_of-result g c =
-    let all : c.add_places.new.places.items ≡ places_of (with_separators c.args.string) = grind (arith, common_steps) in
+    let all : c.in-Ok.places.items ≡ places_of (with_separators c.args.string) = grind (arith, common_steps) in
     rw c.replace_char.ensures (IsPlain-with_separators c.args.string, all)

@@ -1,0 +1,164 @@
+-- Separators as bits: what a vector comparison gives, and which places its bits have.
+use Rattle.std.proofs.Common.{◌≡◌, ℕ, zero, suc, ◌+◌, ◌-◌, ◌*◌, ◌/◌, ◌%◌, ◌^◌, ◌<◌, ◌≤◌, List, [], ◌∷◌, ◌++◌, length, map, take, drop, replicate, inl, inr, ap, sym, refl, ◌∙◌, arith, cond, count_ones, eqb, pow-suc, ◌⊎◌}
+use Rattle.std.specs.List.{count_by}
+use Rattle.std.specs.Int.Bits.{bit_and, and_step, and_self}
+use Rattle.std.specs.Int.Count.{count_trailing_zeros}
+use Rattle.std.specs.Simd.Lanes.{mask_l, sel_l}
+use Rattle.std.proofs.lemmas.Bool.{cases_Bool, cases_lt}
+use Rattle.std.proofs.lemmas.List.{drop-drop, drop_all, length-map, length-take, map-append, take-append-drop}
+use Rattle.std.proofs.lemmas.List.Sums.{sum_by-append}
+use Rattle.std.proofs.lemmas.Simd.{ones-mask_l}
+use Rattle.uefi_text.specs.Units.{replaced}
+use Rattle.uefi_path.specs.Separators.{becomes_separator, bit_places, places_from, separator, slash, with_separators}
+use Rattle.uefi_path.proofs.SeparatorPlaces.{places_from-append, places_from-no, places_from-yes}
+
+-- choosing a separator in each place of a slash replaces the slashes
+pub chosen : (us : List ℕ) → sel_l (map (λ u. eqb u slash) us) (replicate (length us) separator) us ≡ with_separators us
+chosen [] = refl
+chosen (u ∷ us) = ap (λ vs. replaced slash separator u ∷ vs) (chosen us)
+
+-- a unit that is a separator then is one that becomes it
+pub bits-replaced : (us : List ℕ) → mask_l (map (λ u. eqb u separator) (with_separators us)) ≡ mask_l (map becomes_separator us)
+bits-replaced [] = refl
+bits-replaced (u ∷ us) = ap (λ n. cond (becomes_separator u) 1 0 + 2 * n) (bits-replaced us)
+
+-- zeros after the units set no bit
+no_bits : (n count : ℕ) → mask_l (map becomes_separator (drop n (replicate count 0))) ≡ 0
+no_bits zero zero = refl
+no_bits zero (suc count) = omega (arith, no_bits zero count)
+no_bits (suc n) zero = refl
+no_bits (suc n) (suc count) = no_bits n count
+
+pub bits-padded : (us : List ℕ) (n count : ℕ)
+    → mask_l (map becomes_separator (us ++ drop n (replicate count 0))) ≡ mask_l (map becomes_separator us)
+bits-padded [] n count = no_bits n count
+bits-padded (u ∷ us) n count = ap (λ m. cond (becomes_separator u) 1 0 + 2 * m) (bits-padded us n count)
+
+-- no bit, no place
+pub bit_places-none : (count start : ℕ) → bit_places count start 0 ≡ []
+bit_places-none zero start = refl
+bit_places-none (suc count) start = bit_places-none count (start + 1)
+
+-- the lowest bit is set, or not
+bit_places-odd : (count start n : ℕ) → n % 2 ≡ 1 → bit_places (suc count) start n ≡ start ∷ bit_places count (start + 1) (n / 2)
+bit_places-odd count start n odd = rw odd refl
+
+bit_places-even : (count start n : ℕ) → n % 2 ≡ 0 → bit_places (suc count) start n ≡ bit_places count (start + 1) (n / 2)
+bit_places-even count start n even = rw even refl
+
+-- the bits of units have the places of their separators
+pub bit_places-units : (count start : ℕ) (us : List ℕ) → length us ≤ count
+    → bit_places count start (mask_l (map becomes_separator us)) ≡ places_from start (with_separators us)
+bit_places-units count start [] within = bit_places-none count start
+bit_places-units zero start (u ∷ us) within = absurd (omega (arith, within))
+bit_places-units (suc count) start (u ∷ us) within =
+    let m = mask_l (map becomes_separator us) in
+    let others = bit_places-units count (start + 1) us (omega (arith, within)) in
+    elim (cases_Bool (becomes_separator u)) [
+      | inl cut ↦
+          let is : mask_l (map becomes_separator (u ∷ us)) ≡ 1 + 2 * m = ap (λ b. cond b 1 0 + 2 * m) cut in
+          let half : (1 + 2 * m) / 2 ≡ m = omega arith in
+          ap (bit_places (suc count) start) is
+          ∙ bit_places-odd count start (1 + 2 * m) (omega arith)
+          ∙ ap (λ n. start ∷ bit_places count (start + 1) n) half
+          ∙ ap (λ ps. start ∷ ps) others
+          ∙ sym (places_from-yes start _ (with_separators us) cut)
+      | inr other ↦
+          let is : mask_l (map becomes_separator (u ∷ us)) ≡ 2 * m = ap (λ b. cond b 1 0 + 2 * m) other ∙ (omega arith) in
+          let half : (2 * m) / 2 ≡ m = omega arith in
+          ap (bit_places (suc count) start) is
+          ∙ bit_places-even count start (2 * m) (omega arith)
+          ∙ ap (bit_places count (start + 1)) half
+          ∙ others
+          ∙ sym (places_from-no start _ (with_separators us) other)
+    ]
+
+-- a number without its lowest bit
+abbrev pub cleared : ℕ → ℕ
+cleared n = bit_and n (n - 1)
+
+cleared-odd : (n : ℕ) → n % 2 ≡ 1 → cleared n ≡ 2 * (n / 2)
+cleared-odd n odd =
+    let half : (n - 1) / 2 ≡ n / 2 = omega (arith, odd) in
+    let low : (n - 1) % 2 ≡ 0 = omega (arith, odd) in
+    let same = ap (bit_and (n / 2)) half ∙ and_self (n / 2) in
+    omega (arith, and_step n (n - 1), same, low, odd)
+
+cleared-even : (n : ℕ) → 0 < n → n % 2 ≡ 0 → cleared n ≡ 2 * cleared (n / 2)
+cleared-even n some even =
+    let half : (n - 1) / 2 ≡ n / 2 - 1 = omega (arith, even, some) in
+    let same = ap (bit_and (n / 2)) half in
+    omega (arith, and_step n (n - 1), same, even)
+
+-- the lowest bit that is set has the first place
+pub bit_places-lowest : (count start n : ℕ) → 0 < n → n < 2 ^ count
+    → bit_places count start n ≡ (start + count_trailing_zeros count n) ∷ bit_places count start (cleared n)
+unfolding count_trailing_zeros
+bit_places-lowest zero start n some small = absurd (omega (arith, some, small))
+bit_places-lowest (suc count) start n some small = elim (cases_lt (n % 2) 1) [
+  | inl low ↦
+      let even : n % 2 ≡ 0 = omega (arith, low) in
+      let m = n / 2 in
+      let next = bit_places-lowest count (start + 1) m (omega (arith, even, some)) (omega (arith, small, pow-suc 2 count)) in
+      let c = cleared m in
+      let half : (2 * c) / 2 ≡ c = omega arith in
+      let at : start + 1 + count_trailing_zeros count m ≡ start + count_trailing_zeros (suc count) n =
+      rw even (omega arith) in
+      bit_places-even count start n even
+      ∙ next
+      ∙ ap (λ p. p ∷ bit_places count (start + 1) c) at
+      ∙ ap (λ x. (start + count_trailing_zeros (suc count) n) ∷ bit_places count (start + 1) x) (sym half)
+      ∙ ap (λ ps. (start + count_trailing_zeros (suc count) n) ∷ ps)
+      (sym (ap (bit_places (suc count) start) (cleared-even n some even) ∙ bit_places-even count start (2 * c) (omega arith)))
+  | inr high ↦
+      let odd : n % 2 ≡ 1 = omega (arith, high) in
+      let m = n / 2 in
+      let half : (2 * m) / 2 ≡ m = omega arith in
+      let at : start ≡ start + count_trailing_zeros (suc count) n = rw odd (omega arith) in
+      bit_places-odd count start n odd
+      ∙ ap (λ p. p ∷ bit_places count (start + 1) m) at
+      ∙ ap (λ x. (start + count_trailing_zeros (suc count) n) ∷ bit_places count (start + 1) x) (sym half)
+      ∙ ap (λ ps. (start + count_trailing_zeros (suc count) n) ∷ ps)
+      (sym (ap (bit_places (suc count) start) (cleared-odd n odd) ∙ bit_places-even count start (2 * m) (omega arith)))
+]
+
+-- the bits of a block count its separators
+pub count_block : (us : List ℕ) (at : ℕ)
+    → count_by becomes_separator (drop at us)
+    ≡ count_ones (mask_l (map becomes_separator (take 64 (drop at us)))) + count_by becomes_separator (drop (at + 64) us)
+count_block us at =
+    let block = take 64 (drop at us) in
+    let rest : drop 64 (drop at us) ≡ drop (at + 64) us = drop-drop 64 at us in
+    ap (count_by becomes_separator) (sym (take-append-drop 64 (drop at us)))
+    ∙ sum_by-append _ block (drop 64 (drop at us))
+    ∙ ap (λ n. n + count_by becomes_separator (drop 64 (drop at us))) (sym (ones-mask_l becomes_separator block))
+    ∙ ap (λ vs. count_ones (mask_l (map becomes_separator block)) + count_by becomes_separator vs) rest
+
+-- where the next block begins makes no difference where nothing stands there
+next_block : (at : ℕ) (block rest : List ℕ) → length block ≡ 64 ⊎ rest ≡ []
+    → places_from (at + length (with_separators block)) (with_separators rest) ≡ places_from (at + 64) (with_separators rest)
+next_block at block rest (inl full) =
+    ap (λ n. places_from (at + n) (with_separators rest)) (length-map block (replaced slash separator) ∙ full)
+next_block at block rest (inr none) = rw none refl
+
+full_or_last : (us : List ℕ) → length (take 64 us) ≡ 64 ⊎ drop 64 us ≡ []
+full_or_last us = elim (cases_lt (length us) 64) [
+  | inl less ↦ inr (drop_all 64 us (omega (arith, less)))
+  | inr enough ↦ inl (omega (arith, length-take 64 us, enough))
+]
+
+-- and they have the places of its separators
+pub places_block : (us : List ℕ) (at : ℕ)
+    → places_from at (with_separators (drop at us))
+    ≡ bit_places 64 at (mask_l (map becomes_separator (take 64 (drop at us)))) ++ places_from (at + 64) (with_separators (drop (at + 64) us))
+places_block us at =
+    let block = take 64 (drop at us) in
+    let rest = drop 64 (drop at us) in
+    let short : length block ≤ 64 = omega (arith, length-take 64 (drop at us)) in
+    let is : rest ≡ drop (at + 64) us = drop-drop 64 at us in
+    ap (λ vs. places_from at (with_separators vs)) (sym (take-append-drop 64 (drop at us)))
+    ∙ ap (places_from at) (map-append (replaced slash separator) block rest)
+    ∙ places_from-append at (with_separators block) (with_separators rest)
+    ∙ ap (λ ps. places_from at (with_separators block) ++ ps) (next_block at block rest (full_or_last (drop at us)))
+    ∙ ap (λ ps. ps ++ places_from (at + 64) (with_separators rest)) (sym (bit_places-units 64 at block short))
+    ∙ ap (λ vs. bit_places 64 at (mask_l (map becomes_separator block)) ++ places_from (at + 64) (with_separators vs)) is
