@@ -47,14 +47,23 @@ fn text_of(rt: &HostRuntime, others: usize, place: usize, middle: &str) -> Resul
     Ok(text)
 }
 
-/// Each row at each place.
+/// Whether each row is judged as it has to be, at this place among this many others.
+fn are_all_judged(rt: &HostRuntime, others: usize, place: usize) -> Result<bool, Fail> {
+    for (middle, borrowed, owned) in ROWS {
+        if !are_judged(rt, &text_of(rt, others, place, middle)?, borrowed, owned)? {
+            return Ok(false);
+        }
+    }
+    Ok(true)
+}
+
 #[test]
 fn hostile_paths(rt: HostRuntime) -> Result<(), Fail> {
     for (others, place) in &hostile_places(rt.alloc())? {
-        for (middle, borrowed, owned) in ROWS {
-            let text = text_of(&rt, *others, *place, middle)?;
-            assert!(rt; are_judged(&rt, &text, borrowed, owned)?, "{text}");
-        }
+        assert!(rt;
+            are_all_judged(&rt, *others, *place)?,
+            "{others} others, at {place}"
+        );
     }
     Ok(())
 }

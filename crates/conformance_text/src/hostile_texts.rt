@@ -139,17 +139,29 @@ fn is_told_from_latin1(hostile: &HostileText) -> bool {
         && has_no_nul(text) != hostile.units.contains(&0)
 }
 
-/// Each row at each place among others.
+/// Whether each conversion of a row's text is right, its characters at this place among this many others.
+fn is_converted(
+    rt: &HostRuntime,
+    others: usize,
+    place: usize,
+    other: (&str, u16),
+    row: Row,
+) -> Result<bool, Fail> {
+    let hostile = text_of(rt, others, place, other, row)?;
+    Ok(
+        is_told_from_latin1(&hostile)
+            && is_owned(rt, &hostile)?
+            && is_buffered_in_each(rt, &hostile)?,
+    )
+}
+
 #[test]
 fn each_text(rt: HostRuntime) -> Result<(), Fail> {
     for (others, place) in &hostile_places(rt.alloc())? {
         for other in OTHERS {
             for row in MIDDLES {
-                let hostile = text_of(&rt, *others, *place, other, row)?;
-                let is_right = is_told_from_latin1(&hostile)
-                    && is_owned(&rt, &hostile)?
-                    && is_buffered_in_each(&rt, &hostile)?;
-                assert!(rt; is_right, "{:?}", hostile.text);
+                let is_right = is_converted(&rt, *others, *place, other, row)?;
+                assert!(rt; is_right, "{:?} among {others}, at {place}", row.0);
             }
         }
     }
