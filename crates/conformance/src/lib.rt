@@ -10,7 +10,7 @@ pub mod refusals;
 pub mod refusing;
 pub mod texts;
 
-pub use hostile::{Deciding, HostileUnits, each_hostile_units, hostile_places};
+pub use hostile::{Deciding, HostileUnits, hostile_places, hostile_units};
 pub use refusals::{Refusals, out_of_memory, refused_in_turn, requests};
 pub use refusing::Refusing;
-pub use texts::{printed, repeated, string};
+pub use texts::{has_text, repeated, string};

@@ -55,32 +55,3 @@ unsafe impl<B: Allocator> Allocator for Refusing<B> {
         self.inner.deallocate(ptr, size, align);
     }
 }
-
-#[cfg(test)]
-mod tests {
-    use super::*;
-
-    fn counted<A: Allocator + Copy>(heap: A) -> Result<Vec<u16, A>, AllocError> {
-        let mut numbers = Vec::new(heap);
-        for number in 0..9u16 {
-            numbers.push(number)?;
-        }
-        Ok(numbers)
-    }
-
-    #[test]
-    fn each_request_is_refused_in_turn(rt: HostRuntime) {
-        let mut first_to_pass = None;
-        for number in 1..99u64 {
-            let heap = Refusing::new(rt.alloc(), number);
-            let is_counted = counted(&heap).is_ok();
-            assert_eq!(rt; heap.has_refused(), !is_counted, "at request {number}");
-            if is_counted {
-                first_to_pass = Some(number);
-                break;
-            }
-        }
-        // The room grows to 4, 8 and 16.
-        assert_eq!(rt; first_to_pass, Some(4));
-    }
-}

@@ -1,8 +1,8 @@
-//! Strings of Rust texts, and what they print.
+//! Strings of Rust texts, and strings compared with such.
 
 use std::alloc::Allocator;
 use std::test::Fail;
-use uefi_text::CString16;
+use uefi_text::{CStr16, CString16};
 
 /// The string of a Rust text.
 pub fn string<A: Allocator>(alloc: A, text: &str) -> Result<CString16<A>, Fail> {
@@ -18,7 +18,14 @@ pub fn repeated<A: Allocator>(alloc: A, piece: &str, count: u64) -> Result<Strin
     Ok(text)
 }
 
-/// What a string prints.
-pub fn printed<A: Allocator>(rt: &HostRuntime, string: &CString16<A>) -> Result<String, Fail> {
-    Ok(string.to_string(rt.alloc())?)
+/// Whether a string has the characters of this text.
+pub fn has_text(string: CStr16<'_>, want: &str) -> bool {
+    let mut characters = string.iter();
+    for c in want.chars() {
+        match characters.next() {
+            Some(character) if character.eq_char(c) => {}
+            _ => return false,
+        }
+    }
+    characters.next().is_none()
 }

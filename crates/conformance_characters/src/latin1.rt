@@ -47,24 +47,20 @@ fn accepted_bytes(rt: HostRuntime) -> Result<(), Fail> {
     Ok(())
 }
 
-/// Whether bytes become a string that prints this for programmers.
-fn shows(rt: &HostRuntime, bytes: &[u8], want: &str) -> Result<bool, Fail> {
-    let string = CStr8::from_bytes_with_nul(bytes)?;
-    Ok(format!(in rt.alloc(); "{string:?}")?.as_str() == want)
-}
-
 #[test]
 fn printed_for_programmers(rt: HostRuntime) -> Result<(), Fail> {
-    assert!(rt; shows(&rt, &[0xe9, 10, 0], "CStr8(['é', '\\n'])")?);
+    let string = CStr8::from_bytes_with_nul(&[0xe9, 10, 0])?;
+    let printed = format!(in rt.alloc(); "{string:?}")?;
+    assert!(rt; printed.as_str() == "CStr8(['é', '\\n'])");
     Ok(())
 }
 
-/// How many characters a text has, if all of them are of Latin-1.
-fn count_latin1(text: &str) -> Option<usize> {
+/// Whether a text is one of this many characters of Latin-1, or none of Latin-1.
+fn is_counted(text: &str, want: Option<usize>) -> bool {
     if is_latin1(text) {
-        Some(str_num_latin1_chars(text))
+        want == Some(str_num_latin1_chars(text))
     } else {
-        None
+        want.is_none()
     }
 }
 
@@ -80,15 +76,15 @@ fn texts_of_latin1(rt: HostRuntime) {
         ("\u{ffff}", None),
         ("😀", None),
     ] {
-        assert_eq!(rt; count_latin1(text), want, "{text}");
+        assert!(rt; is_counted(text, want), "{text}");
     }
 }
 
 #[test]
 fn arrays_of_latin1(rt: HostRuntime) {
-    assert_eq!(rt; str_to_latin1::<1>(""), [0]);
-    assert_eq!(rt; str_to_latin1::<2>("é"), [0xe9, 0]);
-    assert_eq!(rt; str_to_latin1::<5>("Aÿ~\u{80}"), [65, 255, 126, 128, 0]);
+    assert!(rt; str_to_latin1::<1>("") == [0]);
+    assert!(rt; str_to_latin1::<2>("é") == [0xe9, 0]);
+    assert!(rt; str_to_latin1::<5>("Aÿ~\u{80}") == [65, 255, 126, 128, 0]);
 }
 
 /// The bytes of a text, if it is three characters of Latin-1 and none of them NUL: what a caller tests
@@ -110,7 +106,7 @@ fn arrays_of_texts_that_are_tested(rt: HostRuntime) {
         ("aĀb", None),
         ("abcd", None),
     ] {
-        assert_eq!(rt; three_characters(text), want, "{text:?}");
+        assert!(rt; three_characters(text) == want, "{text:?}");
     }
 }
 
@@ -137,16 +133,13 @@ fn order_of_byte_strings(rt: HostRuntime) -> Result<(), Fail> {
     Ok(())
 }
 
-/// Whether the string of these bytes is not in the set yet. It is then.
-fn is_added<'a>(seen: &mut HashSet<CStr8<'a>>, bytes: &'a [u8]) -> Result<bool, Fail> {
-    Ok(seen.insert(CStr8::from_bytes_with_nul(bytes)?)?)
-}
-
 #[test]
 fn byte_strings_in_a_hash_set(rt: HostRuntime) -> Result<(), Fail> {
+    let rows: [(&[u8], bool); 3] = [(&[65, 0], true), (&[65, 66, 0], true), (b"A\0", false)];
     let mut seen = HashSet::new(rt.alloc());
-    assert!(rt; is_added(&mut seen, &[65, 0])?);
-    assert!(rt; is_added(&mut seen, &[65, 66, 0])?);
-    assert!(rt; !is_added(&mut seen, b"A\0")?);
+    for (bytes, is_new) in rows {
+        let string = CStr8::from_bytes_with_nul(bytes)?;
+        assert!(rt; seen.insert(string)? == is_new, "{bytes:?}");
+    }
     Ok(())
 }

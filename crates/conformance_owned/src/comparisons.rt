@@ -6,31 +6,26 @@ use std::collections::{BTreeMap, HashMap};
 use std::test::Fail;
 use uefi_text::{CStr8, CStr16, CString16, EqStrUntilNul, str_eq_until_nul};
 
-/// Whether the borrowed strings of these units stand in this order.
-fn compare(a: &[u16], b: &[u16], want: Ordering) -> Result<bool, Fail> {
+/// Whether two borrowed strings stand in this order.
+fn are_ordered(a: CStr16<'_>, b: CStr16<'_>, want: Ordering) -> bool {
+    a.cmp(&b) == want && a.partial_cmp(&b) == Some(want)
+}
+
+/// Whether two owned strings stand in this order, and are equal only where it says so, by `==` and against
+/// a borrowed one.
+fn are_owned_ordered(a: &CString16, b: &CString16, want: Ordering) -> bool {
+    let is_equal = want == Ordering::Equal;
+    a.cmp(b) == want
+        && a.partial_cmp(b) == Some(want)
+        && (a == b) == is_equal
+        && a.eq_cstr16(b.as_cstr16()) == is_equal
+}
+
+/// Whether the strings of these units stand in this order, borrowed and owned.
+fn compare(rt: &HostRuntime, a: &[u16], b: &[u16], want: Ordering) -> Result<bool, Fail> {
     let (a, b) = (CStr16::from_u16_with_nul(a)?, CStr16::from_u16_with_nul(b)?);
-    Ok(a.cmp(&b) == want && a.partial_cmp(&b) == Some(want))
-}
-
-/// The owned string of these units.
-fn owned(rt: &HostRuntime, units: &[u16]) -> Result<CString16, Fail> {
-    Ok(CStr16::from_u16_with_nul(units)?.to_owned(rt.alloc())?)
-}
-
-/// Whether two owned strings are equal, if so by `==` and against a borrowed one.
-fn are_equal(a: &CString16, b: &CString16) -> Option<bool> {
-    let equal = a == b;
-    (a.eq_cstr16(b.as_cstr16()) == equal).then_some(equal)
-}
-
-/// Whether the owned strings of these units stand in this order, and are equal only where it says so.
-fn compare_owned(rt: &HostRuntime, a: &[u16], b: &[u16], want: Ordering) -> Result<bool, Fail> {
-    let (a, b) = (owned(rt, a)?, owned(rt, b)?);
-    Ok(
-        a.cmp(&b) == want
-            && a.partial_cmp(&b) == Some(want)
-            && are_equal(&a, &b) == Some(want == Ordering::Equal),
-    )
+    let (left, right) = (a.to_owned(rt.alloc())?, b.to_owned(rt.alloc())?);
+    Ok(are_ordered(a, b, want) && are_owned_ordered(&left, &right, want))
 }
 
 #[test]
@@ -44,8 +39,7 @@ fn order(rt: HostRuntime) -> Result<(), Fail> {
         (&[97, 98, 0], &[97, 98, 0], Ordering::Equal),
     ];
     for (a, b, want) in rows {
-        assert!(rt; compare(a, b, want)?, "{a:?} and {b:?}");
-        assert!(rt; compare_owned(&rt, a, b, want)?, "{a:?} and {b:?}");
+        assert!(rt; compare(&rt, a, b, want)?, "{a:?} and {b:?}");
     }
     Ok(())
 }
@@ -72,7 +66,7 @@ fn hashed(
 fn keys_of_a_hash_map(rt: HostRuntime) -> Result<(), Fail> {
     let numbers = hash_map(&rt, &[("a", 1), ("é", 2), ("a", 3)])?;
     for (key, want) in [("a", Some(3)), ("é", Some(2)), ("ab", None)] {
-        assert_eq!(rt; hashed(&rt, &numbers, key)?, want, "{key}");
+        assert!(rt; hashed(&rt, &numbers, key)? == want, "{key}");
     }
     Ok(())
 }
@@ -99,45 +93,47 @@ fn ordered(
 fn keys_of_an_ordered_map(rt: HostRuntime) -> Result<(), Fail> {
     let numbers = ordered_map(&rt, &[("b", 1), ("ab", 2), ("b", 3)])?;
     for (key, want) in [("b", Some(3)), ("ab", Some(2)), ("a", None)] {
-        assert_eq!(rt; ordered(&rt, &numbers, key)?, want, "{key}");
+        assert!(rt; ordered(&rt, &numbers, key)? == want, "{key}");
     }
     Ok(())
 }
 
-/// What both ways to compare a string with a text say, if they agree.
-fn equals_until_nul<S: EqStrUntilNul>(string: &S, text: &str) -> Option<bool> {
-    let equal = string.eq_str_until_nul(text);
-    (str_eq_until_nul(text, string) == equal).then_some(equal)
+/// Whether both ways to compare a string with a text say this.
+fn says<S: EqStrUntilNul>(string: &S, text: &str, want: bool) -> bool {
+    string.eq_str_until_nul(text) == want && str_eq_until_nul(text, string) == want
 }
 
-/// What the string of these bytes says of a text.
-fn latin1_equals(bytes: &[u8], text: &str) -> Result<Option<bool>, Fail> {
-    Ok(equals_until_nul(&CStr8::from_bytes_with_nul(bytes)?, text))
+/// Whether each kind of string of these units or bytes says this of a text.
+fn agree(
+    rt: &HostRuntime,
+    (units, bytes): (&[u16], &[u8]),
+    text: &str,
+    want: bool,
+) -> Result<bool, Fail> {
+    let string = CStr16::from_u16_with_nul(units)?;
+    Ok(
+        says(&string, text, want)
+            && says(&CStr8::from_bytes_with_nul(bytes)?, text, want)
+            && says(&string.to_owned(rt.alloc())?, text, want),
+    )
 }
 
-/// What the string `test` says of a text, if it says so as each kind of string.
-fn test_equals(rt: &HostRuntime, text: &str) -> Result<Option<bool>, Fail> {
-    let owned = owned(rt, &[116, 101, 115, 116, 0])?;
-    let equal = equals_until_nul(&owned, text);
-    let agree = equals_until_nul(&owned.as_cstr16(), text) == equal
-        && latin1_equals(b"test\0", text)? == equal;
-    Ok(if agree { equal } else { None })
-}
-
+/// Units and bytes of one string, a text, and what each kind of string says of it.
 #[test]
 fn equal_until_nul(rt: HostRuntime) -> Result<(), Fail> {
-    for (text, want) in [
-        ("test", true),
-        ("te\0st", true),
-        ("test\0", true),
-        ("", true),
-        ("test😀", true),
-        ("hello", false),
+    let test: (&[u16], &[u8]) = (&[116, 101, 115, 116, 0], b"test\0");
+    let accented: (&[u16], &[u8]) = (&[0xe9, 0], &[0xe9, 0]);
+    for (string, text, want) in [
+        (test, "test", true),
+        (test, "te\0st", true),
+        (test, "test\0", true),
+        (test, "", true),
+        (test, "test😀", true),
+        (test, "hello", false),
+        (accented, "é", true),
+        (accented, "e", false),
     ] {
-        assert_eq!(rt; test_equals(&rt, text)?, Some(want), "{text:?}");
-    }
-    for (text, want) in [("é", true), ("e", false)] {
-        assert_eq!(rt; latin1_equals(&[0xe9, 0], text)?, Some(want), "{text}");
+        assert!(rt; agree(&rt, string, text, want)?, "{text:?}");
     }
     Ok(())
 }

@@ -4,7 +4,7 @@ ghost use Rattle.std.specs.Prelude.{◌≡◌, ◌≢◌, ◌<◌, ◌++◌, ℕ
 ghost use Rattle.std.specs.List.{filter};
 ghost use Rattle.uefi_text.specs.Views.{text_of};
 
-use conformance::{Refusing, string};
+use conformance::{Refusing, has_text, string};
 use std::alloc::{AllocError, Allocator, Global};
 use std::test::Fail;
 use uefi_text::{CStr16, CString16, Char16, Char16Slice, NUL_16};
@@ -47,7 +47,8 @@ pub(crate) fn pushed_one_by_one(rt: &HostRuntime, characters: &str) -> Result<CS
 #[test]
 fn pushed_characters(rt: HostRuntime) -> Result<(), Fail> {
     for text in ["h", "hi", "hi!"] {
-        assert!(rt; pushed_one_by_one(&rt, text)? == string(rt.alloc(), text)?);
+        let pushed = pushed_one_by_one(&rt, text)?;
+        assert!(rt; has_text(pushed.as_cstr16(), text), "{text}");
     }
     Ok(())
 }
@@ -65,40 +66,35 @@ fn pushed_and_extended_by(
 
 #[test]
 fn pushed_and_extended(rt: HostRuntime) -> Result<(), Fail> {
-    let first = pushed_one_by_one(&rt, "hi")?;
-    assert_eq!(rt; first.num_chars(), 2);
-    let mark = string(rt.alloc(), "!")?;
-    let second = pushed_and_extended_by(
-        pushed_one_by_one(&rt, "!")?,
-        first.as_cstr16(),
-        mark.as_cstr16(),
-    )?;
-    assert_eq!(rt; second.num_chars(), 4);
-    assert!(rt; second == string(rt.alloc(), "!hi!")?);
+    let hi = pushed_one_by_one(&rt, "hi")?;
+    let mark = CStr16::from_u16_with_nul(&[33, 0])?;
+    let text = pushed_and_extended_by(pushed_one_by_one(&rt, "!")?, hi.as_cstr16(), mark)?;
+    assert!(rt; hi.num_chars() == 2 && text.num_chars() == 4);
+    assert!(rt; has_text(text.as_cstr16(), "!hi!"));
     Ok(())
 }
 
-/// A text after a push of characters among which a NUL may be, if there is none: what a caller tests is
-/// what the call asks for.
-fn pushed_part(
+/// Whether a text, after a push of characters, is this, or is refused where a NUL is among them: what a
+/// caller tests is what the call asks for.
+fn is_pushed(
     rt: &HostRuntime,
     text: &str,
     part: Char16Slice<'_>,
-) -> Result<Option<CString16>, Fail> {
+    want: Option<&str>,
+) -> Result<bool, Fail> {
     let mut text = string(rt.alloc(), text)?;
     if !part.has_no_nul() {
-        return Ok(None);
+        return Ok(want.is_none());
     }
     text.push_part(part)?;
-    Ok(Some(text))
+    Ok(matches!(want, Some(want) if has_text(text.as_cstr16(), want)))
 }
 
 #[test]
 fn pushed_parts(rt: HostRuntime) -> Result<(), Fail> {
     let more = CStr16::from_u16_with_nul(&[97, 0xe9, 0])?;
-    let longer = pushed_part(&rt, "x", more.as_slice())?;
-    assert!(rt; longer == Some(string(rt.alloc(), "xaé")?));
-    assert!(rt; pushed_part(&rt, "x", more.as_slice_with_nul())?.is_none());
+    assert!(rt; is_pushed(&rt, "x", more.as_slice(), Some("xaé"))?);
+    assert!(rt; is_pushed(&rt, "x", more.as_slice_with_nul(), None)?);
     Ok(())
 }
 
@@ -132,13 +128,17 @@ fn has_units<A: Allocator>(text: &CString16<A>, units: &[u16]) -> bool {
         && text.as_cstr16().to_u16_slice_with_nul().split_last() == Some((&0, units))
 }
 
-/// The code units of `ab` and a count of `c`.
-fn ab_and(rt: &HostRuntime, count: u64) -> Result<Vec<u16>, Fail> {
-    let mut units = vec![in rt.alloc(); 97u16, 98]?;
-    for _ in 0..count {
-        units.push(99)?;
+/// Whether a string has the code units of `ab` and `count` times that of `c`, and then its NUL.
+fn is_ab_and(text: &CString16<&Refusing<Global>>, count: u64) -> bool {
+    let units = text.as_cstr16().to_u16_slice_with_nul();
+    let mut left = count;
+    for unit in units.strip_prefix(&[97u16, 98]).unwrap_or(&[]) {
+        if *unit != (if left == 0 { 0 } else { 99 }) {
+            return false;
+        }
+        left = left.saturating_sub(1);
     }
-    Ok(units)
+    units.len() as u64 == count.saturating_add(3)
 }
 
 /// Whether the units of the pushes before one that is refused stand after `ab`, where this request is
@@ -151,7 +151,7 @@ fn keeps_what_was_pushed(rt: &HostRuntime, request: u64) -> Result<bool, Fail> {
     let heap = Refusing::new(rt.alloc(), request);
     let mut text = filled(&heap, CStr16::from_u16_with_nul(&[97, 98, 0])?)?;
     let pushed = pushed_until_refused(&mut text, c);
-    Ok(heap.has_refused() && has_units(&text, &ab_and(rt, pushed)?))
+    Ok(heap.has_refused() && is_ab_and(&text, pushed))
 }
 
 /// A refused push leaves the units of those before it.
@@ -192,18 +192,22 @@ fn pushed_after_a_refusal(rt: HostRuntime) -> Result<(), Fail> {
 }
 
 /// Whether `ab` becomes these texts, extended by all characters of a string and by those of ASCII.
-fn becomes(rt: &HostRuntime, more: &str, all: &str, ascii: &str) -> Result<bool, Fail> {
-    let more = string(rt.alloc(), more)?;
+fn becomes(rt: &HostRuntime, more: CStr16<'_>, all: &str, ascii: &str) -> Result<bool, Fail> {
     let (mut by_all, mut by_ascii) = (string(rt.alloc(), "ab")?, string(rt.alloc(), "ab")?);
-    extended_by_all(&mut by_all, more.as_cstr16())?;
-    extended_by_ascii(&mut by_ascii, more.as_cstr16())?;
-    Ok(by_all == string(rt.alloc(), all)? && by_ascii == string(rt.alloc(), ascii)?)
+    extended_by_all(&mut by_all, more)?;
+    extended_by_ascii(&mut by_ascii, more)?;
+    Ok(has_text(by_all.as_cstr16(), all) && has_text(by_ascii.as_cstr16(), ascii))
 }
 
 #[test]
 fn extended_by_the_characters_of_a_string(rt: HostRuntime) -> Result<(), Fail> {
-    for (more, all, ascii) in [("", "ab", "ab"), ("céd", "abcéd", "abcd")] {
-        assert!(rt; becomes(&rt, more, all, ascii)?, "{more}");
+    let rows: [(&[u16], &str, &str); 2] = [
+        (&[0], "ab", "ab"),
+        (&[99, 0xe9, 100, 0], "abcéd", "abcd"),
+    ];
+    for (more, all, ascii) in rows {
+        let more = CStr16::from_u16_with_nul(more)?;
+        assert!(rt; becomes(&rt, more, all, ascii)?, "{all}");
     }
     Ok(())
 }

@@ -2,7 +2,7 @@
 //! text.
 
 use crate::growth::pushed_one_by_one;
-use conformance::{repeated, string};
+use conformance::{has_text, repeated, string};
 use std::test::Fail;
 use uefi_text::{CStr16, CString16, UnalignedSlice};
 
@@ -22,15 +22,13 @@ fn doubled(rt: &HostRuntime, string: CStr16<'_>) -> Result<CString16, Fail> {
 
 #[test]
 fn long_strings(rt: HostRuntime) -> Result<(), Fail> {
-    let (text, twice) = (
-        repeated(rt.alloc(), "aé", 50_000)?,
-        repeated(rt.alloc(), "aé", 100_000)?,
-    );
-    let long = string(rt.alloc(), &text)?;
-    assert_eq!(rt; long.num_chars(), 100_000);
-    assert!(rt; copies(&rt, &long)?);
-    assert!(rt; pushed_one_by_one(&rt, &text)? == long);
-    assert!(rt; doubled(&rt, long.as_cstr16())? == string(rt.alloc(), &twice)?);
+    let twice = repeated(rt.alloc(), "aé", 100_000)?;
+    let text = twice.get(..twice.len() / 2).unwrap_or("");
+    let long = pushed_one_by_one(&rt, text)?;
+    assert!(rt; long.num_chars() == 100_000 && has_text(long.as_cstr16(), text));
+    assert!(rt; copies(&rt, &long)? && string(rt.alloc(), text)? == long);
+    let doubled = doubled(&rt, long.as_cstr16())?;
+    assert!(rt; has_text(doubled.as_cstr16(), &twice));
     Ok(())
 }
 
@@ -38,12 +36,6 @@ fn long_strings(rt: HostRuntime) -> Result<(), Fail> {
 fn room_for_a_long_string(rt: HostRuntime) -> Result<(), Fail> {
     assert!(rt; CString16::with_capacity(rt.alloc(), 100_000)?.is_empty());
     Ok(())
-}
-
-/// The packed units of bytes, as many as they hold.
-fn units(bytes: &[u8]) -> Option<UnalignedSlice<'_, u16>> {
-    let len = bytes.len() / 2;
-    UnalignedSlice::<u16>::fits(bytes, len).then(|| UnalignedSlice::new(bytes, len))
 }
 
 /// Whether packed units become a string, and as many numbers as it has units.
@@ -61,12 +53,11 @@ fn are_read_as(
 
 #[test]
 fn long_packed_strings(rt: HostRuntime) -> Result<(), Fail> {
-    let text = repeated(rt.alloc(), "aé", 50_000)?;
-    let string = string(rt.alloc(), &text)?;
+    let string = string(rt.alloc(), &repeated(rt.alloc(), "aé", 50_000)?)?;
     let bytes = string.as_cstr16().as_bytes(rt.alloc())?;
-    match units(&bytes) {
-        Some(items) => assert!(rt; are_read_as(&rt, items, &string)?),
-        None => return Err("no room".into()),
-    }
+    let Some(items) = UnalignedSlice::from_unit_bytes(&bytes) else {
+        return Err("no room".into());
+    };
+    assert!(rt; are_read_as(&rt, items, &string)?);
     Ok(())
 }

@@ -1,53 +1,51 @@
 //! Owned strings as they are made, copied, cleared, changed and printed.
 
-use conformance::{printed, string};
+use conformance::{has_text, string};
 use std::test::Fail;
 use uefi_text::{CString16, Char16, NUL_16};
 
+/// Whether a string is its NUL alone.
+fn is_empty(string: &CString16) -> bool {
+    string.num_chars() == 0 && string.as_cstr16().to_u16_slice_with_nul() == [0u16].as_slice()
+}
+
+/// Whether a string that is cleared twice is empty each time.
+fn clears_twice(mut string: CString16) -> bool {
+    string.clear();
+    let is_cleared = is_empty(&string);
+    string.clear();
+    is_cleared && is_empty(&string)
+}
+
 #[test]
-fn the_empty_string(rt: HostRuntime) -> Result<(), Fail> {
+fn empty_strings(rt: HostRuntime) -> Result<(), Fail> {
     let empty = CString16::new(rt.alloc())?;
-    assert_eq!(rt; empty.as_cstr16().num_bytes(), 2);
-    assert_eq!(rt; empty.num_chars(), 0);
+    assert!(rt; is_empty(&empty) && empty.as_cstr16().num_bytes() == 2);
+    assert!(rt; clears_twice(string(rt.alloc(), "a")?));
     Ok(())
 }
 
 #[test]
 fn printed_string(rt: HostRuntime) -> Result<(), Fail> {
-    assert_eq!(rt;
-        printed(&rt, &string(rt.alloc(), "aébc")?)?.as_str(),
-        "aébc"
-    );
+    let string = string(rt.alloc(), "aébc")?;
+    assert!(rt; string.to_string(rt.alloc())?.as_str() == "aébc");
     Ok(())
 }
 
-#[test]
-fn cleared_strings(rt: HostRuntime) -> Result<(), Fail> {
-    let mut cleared = string(rt.alloc(), "a")?;
-    for _ in 0..2 {
-        cleared.clear();
-        assert_eq!(rt;
-            cleared.as_cstr16().to_u16_slice_with_nul(),
-            [0u16].as_slice()
-        );
-    }
-    Ok(())
-}
-
-/// A text with one character replaced by another, if neither is NUL.
-fn replaced(
+/// Whether a text with one character replaced by another, if neither is NUL, is this.
+fn becomes(
     rt: &HostRuntime,
     text: &str,
-    search: char,
-    replace: char,
-) -> Result<Option<CString16>, Fail> {
-    let (search, replace) = (Char16::try_from(search)?, Char16::try_from(replace)?);
+    search: Char16,
+    replace: Char16,
+    want: &str,
+) -> Result<bool, Fail> {
     if search == NUL_16 || replace == NUL_16 {
-        return Ok(None);
+        return Ok(false);
     }
     let mut string = string(rt.alloc(), text)?;
     string.replace_char(search, replace);
-    Ok(Some(string))
+    Ok(has_text(string.as_cstr16(), want))
 }
 
 #[test]
@@ -57,11 +55,8 @@ fn replaced_characters(rt: HostRuntime) -> Result<(), Fail> {
         ("foo\\bar\\foobar\\\\", '\\', '\\', "foo\\bar\\foobar\\\\"),
         ("aba", 'a', 'a', "aba"),
     ] {
-        let want = string(rt.alloc(), want)?;
-        assert!(rt;
-            replaced(&rt, text, search, replace)? == Some(want),
-            "{text}"
-        );
+        let (search, replace) = (Char16::try_from(search)?, Char16::try_from(replace)?);
+        assert!(rt; becomes(&rt, text, search, replace, want)?, "{text}");
     }
     Ok(())
 }

@@ -1,6 +1,6 @@
 //! Owned strings that are written to, and that come from vectors and lists and go back into them.
 
-use conformance::string;
+use conformance::{has_text, string};
 use std::fmt::Write;
 use std::test::Fail;
 use uefi_text::owned_strs::have_no_nul;
@@ -16,10 +16,8 @@ fn boot_entry(rt: &HostRuntime, number: u16) -> Result<CString16, Fail> {
 #[test]
 fn written_names(rt: HostRuntime) -> Result<(), Fail> {
     for (number, want) in [(0, "Boot0000"), (0x2a, "Boot002A"), (0xffff, "BootFFFF")] {
-        assert!(rt;
-            boot_entry(&rt, number)? == string(rt.alloc(), want)?,
-            "{want}"
-        );
+        let name = boot_entry(&rt, number)?;
+        assert!(rt; has_text(name.as_cstr16(), want), "{want}");
     }
     Ok(())
 }
@@ -27,7 +25,7 @@ fn written_names(rt: HostRuntime) -> Result<(), Fail> {
 /// Whether a text is written after `ab`, or refused, and what the string holds then.
 fn writes(rt: &HostRuntime, text: &str, is_written: bool, want: &str) -> Result<bool, Fail> {
     let mut held = string(rt.alloc(), "ab")?;
-    Ok(held.write_str(text).is_ok() == is_written && held == string(rt.alloc(), want)?)
+    Ok(held.write_str(text).is_ok() == is_written && has_text(held.as_cstr16(), want))
 }
 
 #[test]
@@ -47,7 +45,7 @@ fn texts_that_are_written_or_refused(rt: HostRuntime) -> Result<(), Fail> {
 fn gives_vector(rt: &HostRuntime, text: &str, units: &[u16]) -> Result<bool, Fail> {
     let vector = string(rt.alloc(), text)?.into_vec_with_nul();
     let is_right = vector.as_slice() == units;
-    Ok(is_right && CString16::try_from(vector)? == string(rt.alloc(), text)?)
+    Ok(is_right && has_text(CString16::try_from(vector)?.as_cstr16(), text))
 }
 
 #[test]
@@ -56,30 +54,31 @@ fn strings_and_their_vectors(rt: HostRuntime) -> Result<(), Fail> {
     for (text, units) in rows {
         assert!(rt; gives_vector(&rt, text, units)?, "{text}");
     }
-    let open = vec![in rt.alloc(); 65u16, 66]?;
-    assert_eq!(rt;
-        CString16::try_from(open).err(),
-        Some(FromSliceWithNulError::NotNulTerminated)
-    );
+    let open = CString16::try_from(vec![in rt.alloc(); 65u16, 66]?);
+    assert!(rt; open.err() == Some(FromSliceWithNulError::NotNulTerminated));
     Ok(())
 }
 
-/// A text extended by a list of characters, if none of them is NUL: what a caller tests is what the call
-/// asks for.
-fn extended_by(rt: &HostRuntime, text: &str, list: &[Char16]) -> Result<Option<CString16>, Fail> {
+/// Whether a text, extended by a list of characters, is this, or is refused where one of them is NUL: what
+/// a caller tests is what the call asks for.
+fn is_extended(
+    rt: &HostRuntime,
+    text: &str,
+    list: &[Char16],
+    want: Option<&str>,
+) -> Result<bool, Fail> {
     let mut text = string(rt.alloc(), text)?;
     if !have_no_nul(list) {
-        return Ok(None);
+        return Ok(want.is_none());
     }
     text.extend(list.iter().copied())?;
-    Ok(Some(text))
+    Ok(matches!(want, Some(want) if has_text(text.as_cstr16(), want)))
 }
 
 #[test]
 fn extended_by_lists(rt: HostRuntime) -> Result<(), Fail> {
     let c = Char16::try_from('é')?;
-    let longer = extended_by(&rt, "ab", &[c, c])?;
-    assert!(rt; longer == Some(string(rt.alloc(), "abéé")?));
-    assert!(rt; extended_by(&rt, "ab", &[c, NUL_16])?.is_none());
+    assert!(rt; is_extended(&rt, "ab", &[c, c], Some("abéé"))?);
+    assert!(rt; is_extended(&rt, "ab", &[c, NUL_16], None)?);
     Ok(())
 }

@@ -1,17 +1,23 @@
 //! Packed units in which one that no text holds is hidden, at each place: as owned strings, and in buffers
 //! that have room, just room, or less.
 
-use crate::packed_strings::{WAYS, leaves};
-use conformance::{HostileUnits, each_hostile_units};
+use crate::packed_strings::leaves;
+use conformance::{HostileUnits, hostile_units};
 use std::test::Fail;
 use uefi_text::{CString16, FromSliceWithNulError, UnalignedCStr16Error, UnalignedSlice};
 
-/// Why units in a buffer are no string, by why they are none.
-fn in_buffer(error: FromSliceWithNulError) -> UnalignedCStr16Error {
-    match error {
-        FromSliceWithNulError::InvalidChar(place) => UnalignedCStr16Error::InvalidChar(place),
-        FromSliceWithNulError::InteriorNul(place) => UnalignedCStr16Error::InteriorNul(place),
-        _ => UnalignedCStr16Error::NotNulTerminated,
+/// Why the units are no string in a buffer with this much room, if they are none.
+fn refusal_in(hostile: &HostileUnits, room: usize) -> Option<UnalignedCStr16Error> {
+    match hostile.refusal() {
+        _ if room < hostile.units.len() => Some(UnalignedCStr16Error::BufferTooSmall),
+        None => None,
+        Some(FromSliceWithNulError::InvalidChar(place)) => {
+            Some(UnalignedCStr16Error::InvalidChar(place))
+        }
+        Some(FromSliceWithNulError::InteriorNul(place)) => {
+            Some(UnalignedCStr16Error::InteriorNul(place))
+        }
+        Some(_) => Some(UnalignedCStr16Error::NotNulTerminated),
     }
 }
 
@@ -24,24 +30,16 @@ fn are_buffered(
     room: usize,
 ) -> Result<bool, Fail> {
     let mut after = Vec::new(rt.alloc());
-    let mut want = Some(UnalignedCStr16Error::BufferTooSmall);
     if hostile.units.len() <= room {
         after.extend_from_slice(&hostile.units)?;
-        want = hostile.refusal().map(in_buffer);
     }
     after.resize(room, 9)?;
-    for way in WAYS {
-        if !leaves(rt, way, items, &after, want)? {
-            return Ok(false);
-        }
-    }
-    Ok(true)
+    leaves(rt, items, &after, refusal_in(hostile, room))
 }
 
 /// Whether packed units are a string, or refused, in memory of their own and in buffers.
 fn are_unpacked(rt: &HostRuntime, hostile: &HostileUnits) -> Result<bool, Fail> {
-    let bytes = hostile.bytes_after(rt.alloc(), 1)?;
-    let Some(items) = bytes.get(1..).and_then(UnalignedSlice::from_unit_bytes) else {
+    let Some(items) = UnalignedSlice::from_unit_bytes(hostile.bytes_at_odd_place()) else {
         return Ok(false);
     };
     let len = hostile.units.len();
@@ -56,5 +54,8 @@ fn are_unpacked(rt: &HostRuntime, hostile: &HostileUnits) -> Result<bool, Fail> 
 
 #[test]
 fn hostile_packed_units(rt: HostRuntime) -> Result<(), Fail> {
-    each_hostile_units(rt.alloc(), |hostile| are_unpacked(&rt, hostile))
+    for hostile in &hostile_units(rt.alloc())? {
+        assert!(rt; are_unpacked(&rt, hostile)?, "{:?}", hostile.units);
+    }
+    Ok(())
 }

@@ -1,5 +1,6 @@
 //! Packed numbers: read in place, in turn and as a copy.
 
+use std::alloc::AllocError;
 use std::test::Fail;
 use uefi_text::{Packed, UnalignedSlice, UnalignedSliceIntoIter, UnalignedSliceIter};
 
@@ -79,42 +80,43 @@ fn no_items(rt: HostRuntime) -> Result<(), Fail> {
     Ok(())
 }
 
-/// Whether the bytes have room for `len` numbers, as both calls say that tell.
-fn fits<T: Packed>(bytes: &[u8], len: usize) -> Option<bool> {
-    let fits = UnalignedSlice::<T>::fits(bytes, len);
-    (UnalignedSlice::<T>::try_new(bytes, len).is_some() == fits).then_some(fits)
+/// Whether both calls say that the bytes have room for `len` numbers, or have not.
+fn fits<T: Packed>(bytes: &[u8], len: usize, want: bool) -> bool {
+    UnalignedSlice::<T>::fits(bytes, len) == want
+        && UnalignedSlice::<T>::try_new(bytes, len).is_some() == want
 }
 
 #[test]
 fn room_for_items(rt: HostRuntime) {
     for (len, want) in [(1, true), (2, false)] {
-        assert_eq!(rt; fits::<u16>(&[0x10, 0x11, 0x12], len), Some(want), "{len}");
+        assert!(rt; fits::<u16>(&[0x10, 0x11, 0x12], len, want), "{len}");
     }
     for (len, want) in [(3, true), (4, false), (usize::MAX, false)] {
-        assert_eq!(rt; fits::<u32>(&BYTES, len), Some(want), "{len}");
+        assert!(rt; fits::<u32>(&BYTES, len, want), "{len}");
     }
+    let bytes: &[u8] = &[0; 8];
     for (bytes, len, want) in [
-        (&[0u8; 8][..0], 0, true),
-        (&[0; 8][..0], usize::MAX, false),
+        (&bytes[..0], 0, true),
+        (&bytes[..0], usize::MAX, false),
         // Eight times this wraps to 8.
-        (&[0; 8], usize::MAX / 8 + 2, false),
-        (&[0; 8], 1, true),
-        (&[0; 8][..7], 1, false),
+        (bytes, usize::MAX / 8 + 2, false),
+        (bytes, 1, true),
+        (&bytes[..7], 1, false),
     ] {
-        assert_eq!(rt; fits::<u64>(bytes, len), Some(want), "{len}");
+        assert!(rt; fits::<u64>(bytes, len, want), "{len}");
     }
 }
 
-/// The code unit at a place of bytes that are even in number.
-fn unit(bytes: &[u8], index: usize) -> Option<Option<u16>> {
-    Some(UnalignedSlice::from_unit_bytes(bytes)?.get(index))
+/// Whether bytes, even in number, are code units of which this stands at a place.
+fn are_units(bytes: &[u8], index: usize, want: Option<u16>) -> bool {
+    matches!(UnalignedSlice::from_unit_bytes(bytes), Some(items) if items.get(index) == want)
 }
 
 #[test]
 fn units_of_bytes(rt: HostRuntime) {
-    assert_eq!(rt; unit(&[0x10, 0x11, 0x12, 0x13], 1), Some(Some(0x1312)));
-    assert_eq!(rt; unit(&[0x10, 0x11, 0x12, 0x13], 2), Some(None));
-    assert_eq!(rt; unit(&[0x10, 0x11, 0x12], 0), None);
+    assert!(rt; are_units(&[0x10, 0x11, 0x12, 0x13], 1, Some(0x1312)));
+    assert!(rt; are_units(&[0x10, 0x11, 0x12, 0x13], 2, None));
+    assert!(rt; UnalignedSlice::from_unit_bytes(&[0x10, 0x11, 0x12]).is_none());
 }
 
 /// Whether `left` items are left, and the next is this.
@@ -148,12 +150,6 @@ fn items_in_turn(rt: HostRuntime) {
     }
 }
 
-/// How many numbers each iterator over three counts.
-fn counts() -> (usize, usize) {
-    let items: UnalignedSlice<u32> = UnalignedSlice::new(&BYTES, 3);
-    (items.iter().count(), items.into_iter().count())
-}
-
 /// The last of packed numbers.
 fn last_of(items: UnalignedSlice<'_, u32>) -> Option<u32> {
     let mut last = None;
@@ -165,46 +161,43 @@ fn last_of(items: UnalignedSlice<'_, u32>) -> Option<u32> {
 
 #[test]
 fn loops_over_items(rt: HostRuntime) {
-    assert_eq!(rt; counts(), (3, 3));
-    assert_eq!(rt; last_of(UnalignedSlice::new(&BYTES, 3)), Some(0x33323130));
+    let items: UnalignedSlice<u32> = UnalignedSlice::new(&BYTES, 3);
+    assert!(rt; items.iter().count() == 3 && items.into_iter().count() == 3);
+    assert!(rt; last_of(items) == Some(0x33323130));
+}
+
+/// Whether a vector was made, and has these numbers.
+fn holds(copy: &Result<Vec<u32>, AllocError>, want: &[u32]) -> bool {
+    matches!(copy, Ok(copy) if copy.as_slice() == want)
 }
 
 /// Whether each way to copy packed numbers gives these.
-fn are_copied(
-    rt: &HostRuntime,
-    items: UnalignedSlice<'_, u32>,
-    want: [u32; 3],
-) -> Result<bool, Fail> {
+fn are_copied(rt: &HostRuntime, items: UnalignedSlice<'_, u32>, want: &[u32; 3]) -> bool {
     let mut copy = [0; 3];
     if items.len() != copy.len() {
-        return Ok(false);
+        return false;
     }
     items.copy_to(&mut copy);
-    let collected: Vec<u32> = items.iter().collect(rt.alloc())?;
-    Ok(
-        copy == want
-            && items.to_vec(rt.alloc())?.as_slice() == want.as_slice()
-            && items.clone()?.to_vec(rt.alloc())?.as_slice() == want.as_slice()
-            && collected.as_slice() == want.as_slice(),
-    )
+    let cloned: Result<_, _> = items.clone();
+    copy == *want
+        && holds(&items.to_vec(rt.alloc()), want)
+        && holds(&items.iter().collect(rt.alloc()), want)
+        && matches!(&cloned, Ok(items) if holds(&items.to_vec(rt.alloc()), want))
 }
 
 #[test]
-fn copies_of_items(rt: HostRuntime) -> Result<(), Fail> {
+fn copies_of_items(rt: HostRuntime) {
     let items = UnalignedSlice::new(&BYTES_AFTER_ONE[1..], 3);
-    assert!(rt; are_copied(&rt, items, NUMBERS)?);
-    Ok(())
+    assert!(rt; are_copied(&rt, items, &NUMBERS));
 }
 
 #[test]
 fn printed_for_programmers(rt: HostRuntime) -> Result<(), Fail> {
     let items: UnalignedSlice<u8> = UnalignedSlice::new(&[0xff, 0], 2);
     let mut borrowed = items.iter();
-    assert_eq!(rt; borrowed.next(), Some(255));
+    let is_first = borrowed.next() == Some(255);
     let printed = format!(in rt.alloc(); "{items:?} {borrowed:?} {:?}", items.into_iter())?;
-    assert_eq!(rt;
-        printed.as_str(),
-        "[255, 0] UnalignedSliceIter([0]) UnalignedSliceIntoIter([255, 0])"
-    );
+    let want = "[255, 0] UnalignedSliceIter([0]) UnalignedSliceIntoIter([255, 0])";
+    assert!(rt; is_first && printed.as_str() == want);
     Ok(())
 }

@@ -5,7 +5,6 @@ ghost use Rattle.std.specs.List.{filter, fold};
 ghost use Rattle.uefi_text.specs.Views.{items_of};
 
 use std::alloc::{AllocError, Allocator};
-use std::test::Fail;
 use uefi_text::{Packed, UnalignedSlice};
 
 // Contracts that a caller proves with no proof of its own.
@@ -81,40 +80,30 @@ fn last<T: Packed>(items: &UnalignedSlice<'_, T>) -> Option<T> {
     last
 }
 
-#[test]
-fn collected_items(rt: HostRuntime) -> Result<(), Fail> {
-    let items: UnalignedSlice<u16> = UnalignedSlice::new(&[7, 0, 0xff, 0xff, 8, 0], 3);
-    assert_eq!(rt;
-        collected(items, rt.alloc())?.as_slice(),
-        [7, 0xffff, 8].as_slice()
-    );
-    assert_eq!(rt;
-        collected_units(items, rt.alloc())?.as_slice(),
-        [7, 0xffff, 8].as_slice()
-    );
-    Ok(())
+/// Whether a list was collected, and has these numbers.
+fn are<T: PartialEq>(list: &Result<Vec<T>, AllocError>, want: &[T]) -> bool {
+    matches!(list, Ok(list) if list.as_slice() == want)
 }
 
 #[test]
-fn mapped_and_filtered_items(rt: HostRuntime) -> Result<(), Fail> {
+fn collected_items(rt: HostRuntime) {
     let items: UnalignedSlice<u16> = UnalignedSlice::new(&[7, 0, 0xff, 0xff, 8, 0], 3);
-    assert_eq!(rt;
-        successors(&items, rt.alloc())?.as_slice(),
-        [8, 0x10000, 9].as_slice()
-    );
-    assert_eq!(rt;
-        above_seven(&items, rt.alloc())?.as_slice(),
-        [0xffff, 8].as_slice()
-    );
-    Ok(())
+    assert!(rt; are(&collected(items, rt.alloc()), &[7, 0xffff, 8]));
+    assert!(rt; are(&collected_units(items, rt.alloc()), &[7, 0xffff, 8]));
+    assert!(rt; are(&above_seven(&items, rt.alloc()), &[0xffff, 8]));
+    assert!(rt; are(&successors(&items, rt.alloc()), &[8, 0x10000, 9]));
+}
+
+/// Whether each call says of 7, 65535 and 8 what it should.
+fn are_told(items: UnalignedSlice<'_, u16>) -> bool {
+    count_above_seven(&items) == 2
+        && place_of_seven(&items) == Some(0)
+        && !has_no_seven(&items)
+        && greatest(items) == 0xffff
+        && last(&items) == Some(8)
 }
 
 #[test]
 fn facts_of_items(rt: HostRuntime) {
-    let items: UnalignedSlice<u16> = UnalignedSlice::new(&[7, 0, 0xff, 0xff, 8, 0], 3);
-    assert_eq!(rt; count_above_seven(&items), 2);
-    assert_eq!(rt; place_of_seven(&items), Some(0));
-    assert!(rt; !has_no_seven(&items));
-    assert_eq!(rt; greatest(items), 0xffff);
-    assert_eq!(rt; last(&items), Some(8));
+    assert!(rt; are_told(UnalignedSlice::new(&[7, 0, 0xff, 0xff, 8, 0], 3)));
 }

@@ -1,7 +1,7 @@
 //! What callers do with paths of run time, with no proof of their own.
 
 use crate::fixtures::buffer;
-use conformance::string;
+use conformance::{has_text, string};
 use std::test::Fail;
 use uefi_path::{Components, Path};
 use uefi_text::CString16;
@@ -17,8 +17,9 @@ fn run_together(rt: &HostRuntime, path: Path<'_>) -> Result<CString16, Fail> {
 
 /// Whether the components of a path run together to this.
 fn runs_to(rt: &HostRuntime, text: &str, want: &str) -> Result<bool, Fail> {
-    let (text, want) = (string(rt.alloc(), text)?, string(rt.alloc(), want)?);
-    Ok(run_together(rt, Path::new(text.as_cstr16()))? == want)
+    let text = string(rt.alloc(), text)?;
+    let components = run_together(rt, Path::new(text.as_cstr16()))?;
+    Ok(has_text(components.as_cstr16(), want))
 }
 
 #[test]
@@ -29,24 +30,17 @@ fn components_run_together(rt: HostRuntime) -> Result<(), Fail> {
     Ok(())
 }
 
-/// The name of the file that a path leads to, as a string of its own.
-fn name_of(rt: &HostRuntime, path: Path<'_>) -> Result<Option<CString16>, Fail> {
-    match path.file_name() {
-        Some(name) => Ok(Some(name.to_cstring16(rt.alloc())?)),
-        None => Ok(None),
-    }
-}
-
 /// Whether a path leads to a file of this name, or to none, borrowed and owned.
 fn is_named(rt: &HostRuntime, text: &str, want: Option<&str>) -> Result<bool, Fail> {
     let path = buffer(rt, text)?;
-    Ok(match (name_of(rt, path.as_path())?, want) {
-        (Some(name), Some(want)) => {
-            name == string(rt.alloc(), want)? && path.file_name().is_some()
-        }
-        (None, None) => path.file_name().is_none(),
-        _ => false,
-    })
+    match (path.as_path().file_name(), want) {
+        (Some(name), Some(want)) => Ok(
+            path.file_name().is_some()
+                && has_text(name.to_cstring16(rt.alloc())?.as_cstr16(), want),
+        ),
+        (None, None) => Ok(path.file_name().is_none()),
+        _ => Ok(false),
+    }
 }
 
 #[test]
@@ -64,17 +58,29 @@ fn file_names(rt: HostRuntime) -> Result<(), Fail> {
     Ok(())
 }
 
-/// How many components a path has after those of a base, if it starts with them, borrowed and owned.
-fn left_after(rt: &HostRuntime, text: &str, base: &str) -> Result<Option<usize>, Fail> {
-    let (path, base) = (buffer(rt, text)?, buffer(rt, base)?);
-    let left = path.as_path().strip_prefix(base.as_path());
-    let is_same = path.starts_with(base.as_path()) == left.is_some()
-        && path.strip_prefix(base.as_path()).is_some() == left.is_some();
-    match left {
-        Some(components) if is_same => Ok(Some(components.count())),
-        None if is_same => Ok(None),
-        _ => Err("two answers".into()),
+/// Whether a path starts with another, and then has this many components after those of it.
+fn leaves(path: Path<'_>, base: Path<'_>, want: Option<usize>) -> bool {
+    match (path.strip_prefix(base), want) {
+        (Some(components), Some(want)) => components.count() == want,
+        (None, None) => true,
+        _ => false,
     }
+}
+
+/// Whether that is so of the buffers of two texts, and of a view.
+fn buffer_leaves(
+    rt: &HostRuntime,
+    text: &str,
+    base: &str,
+    want: Option<usize>,
+) -> Result<bool, Fail> {
+    let (path, base) = (buffer(rt, text)?, buffer(rt, base)?);
+    let base = base.as_path();
+    Ok(
+        path.starts_with(base) == want.is_some()
+            && path.strip_prefix(base).is_some() == want.is_some()
+            && leaves(path.as_path(), base, want),
+    )
 }
 
 #[test]
@@ -89,7 +95,7 @@ fn stripped_prefixes(rt: HostRuntime) -> Result<(), Fail> {
         ("a\\b", "b", None),
         ("", "", Some(0)),
     ] {
-        assert_eq!(rt; left_after(&rt, text, base)?, want, "{text} and {base}");
+        assert!(rt; buffer_leaves(&rt, text, base, want)?, "{text} and {base}");
     }
     Ok(())
 }

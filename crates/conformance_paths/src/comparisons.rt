@@ -4,69 +4,72 @@ use crate::fixtures::buffer;
 use conformance::string;
 use std::cmp::Ordering;
 use std::test::Fail;
-use uefi_path::Path;
+use uefi_path::{Path, PathBuf};
 
-/// Whether the borrowed paths of two texts are equal.
-fn are_equal(rt: &HostRuntime, a: &str, b: &str) -> Result<bool, Fail> {
-    let (left, right) = (string(rt.alloc(), a)?, string(rt.alloc(), b)?);
-    Ok(Path::new(left.as_cstr16()) == Path::new(right.as_cstr16()))
+/// Whether two borrowed paths stand in this order, and are equal only where it says so.
+fn are_ordered(path: Path<'_>, other: Path<'_>, want: Ordering) -> bool {
+    path.cmp(&other) == want
+        && path.partial_cmp(&other) == Some(want)
+        && (path == other) == (want == Ordering::Equal)
 }
 
-#[test]
-fn equal_paths(rt: HostRuntime) -> Result<(), Fail> {
-    for (a, b, want) in [
-        ("", "\\", true),
-        ("a\\b", "\\a\\b", true),
-        ("\\a", "\\\\a", false),
-        ("a\\b", "a\\b\\c", false),
-        ("a", "a\\", false),
-        ("a/b", "a\\b", false),
-    ] {
-        assert_eq!(rt; are_equal(&rt, a, b)?, want, "{a} and {b}");
-    }
-    Ok(())
-}
-
-#[test]
-fn unequal_buffers(rt: HostRuntime) -> Result<(), Fail> {
-    assert!(rt; buffer(&rt, "first\\second\\third")? != buffer(&rt, "\\first\\second")?);
-    Ok(())
-}
-
-/// Whether the borrowed paths of two texts stand in this order.
-pub(crate) fn compare(rt: &HostRuntime, a: &str, b: &str, want: Ordering) -> Result<bool, Fail> {
-    let (left, right) = (string(rt.alloc(), a)?, string(rt.alloc(), b)?);
-    let (path, other) = (Path::new(left.as_cstr16()), Path::new(right.as_cstr16()));
-    Ok(path.cmp(&other) == want && path.partial_cmp(&other) == Some(want))
+/// Whether two path buffers stand in this order, and are equal only where it says so.
+fn are_buffers_ordered(path: &PathBuf, other: &PathBuf, want: Ordering) -> bool {
+    path.cmp(other) == want
+        && path.partial_cmp(other) == Some(want)
+        && (path == other) == (want == Ordering::Equal)
 }
 
 /// Whether the path buffers of two texts stand in this order.
-pub(crate) fn compare_buffers(
+fn compare_buffers(rt: &HostRuntime, a: &str, b: &str, want: Ordering) -> Result<bool, Fail> {
+    let (path, other) = (buffer(rt, a)?, buffer(rt, b)?);
+    Ok(are_buffers_ordered(&path, &other, want))
+}
+
+/// Whether the borrowed paths of two texts stand in the first order, and their buffers in the second.
+pub(crate) fn compare(
     rt: &HostRuntime,
     a: &str,
     b: &str,
-    want: Ordering,
+    borrowed: Ordering,
+    owned: Ordering,
 ) -> Result<bool, Fail> {
-    let (path, other) = (buffer(rt, a)?, buffer(rt, b)?);
-    Ok(path.cmp(&other) == want && path.partial_cmp(&other) == Some(want))
+    let (path, other) = (string(rt.alloc(), a)?, string(rt.alloc(), b)?);
+    Ok(
+        are_ordered(
+            Path::new(path.as_cstr16()),
+            Path::new(other.as_cstr16()),
+            borrowed,
+        ) && compare_buffers(rt, a, b, owned)?,
+    )
 }
 
+/// A slash separates components of a buffer alone.
 #[test]
 fn ordered_by_canonical_text(rt: HostRuntime) -> Result<(), Fail> {
-    for (a, b, want) in [
-        ("a\\b", "a!", Ordering::Greater),
-        ("a", "\\a", Ordering::Equal),
-        ("\\a", "a", Ordering::Equal),
-        ("\\x", "x", Ordering::Equal),
-        ("", "\\", Ordering::Equal),
-        ("\\\\a", "\\a", Ordering::Less),
-        ("", "a", Ordering::Less),
-        ("a", "b", Ordering::Less),
-        ("\\b", "a", Ordering::Greater),
-        ("a", "a\\", Ordering::Less),
+    for (a, b, borrowed, owned) in [
+        ("a\\b", "a!", Ordering::Greater, Ordering::Greater),
+        ("a", "\\a", Ordering::Equal, Ordering::Equal),
+        ("\\a", "a", Ordering::Equal, Ordering::Equal),
+        ("\\x", "x", Ordering::Equal, Ordering::Equal),
+        ("", "\\", Ordering::Equal, Ordering::Equal),
+        ("\\\\a", "\\a", Ordering::Less, Ordering::Less),
+        ("\\a", "\\\\a", Ordering::Greater, Ordering::Greater),
+        ("", "a", Ordering::Less, Ordering::Less),
+        ("a", "b", Ordering::Less, Ordering::Less),
+        ("\\b", "a", Ordering::Greater, Ordering::Greater),
+        ("a", "a\\", Ordering::Less, Ordering::Less),
+        ("a\\b", "\\a\\b", Ordering::Equal, Ordering::Equal),
+        ("a\\b", "a\\b\\c", Ordering::Less, Ordering::Less),
+        (
+            "first\\second\\third",
+            "\\first\\second",
+            Ordering::Greater,
+            Ordering::Greater,
+        ),
+        ("a/b", "a\\b", Ordering::Less, Ordering::Equal),
     ] {
-        assert!(rt; compare(&rt, a, b, want)?, "{a} and {b}");
-        assert!(rt; compare_buffers(&rt, a, b, want)?, "{a} and {b}");
+        assert!(rt; compare(&rt, a, b, borrowed, owned)?, "{a} and {b}");
     }
     Ok(())
 }

@@ -3,7 +3,7 @@
 use crate::fixtures::buffer;
 use conformance::string;
 use std::test::Fail;
-use uefi_path::Path;
+use uefi_path::{Components, Path};
 use uefi_text::CStr16;
 
 /// The components of a path, with a bar before each.
@@ -35,58 +35,54 @@ pub(crate) fn has_components(rt: &HostRuntime, text: &str, want: &str) -> Result
     )
 }
 
+/// Whether the path of a text has this many components, and its buffer, which is as empty as the text.
+fn counts(rt: &HostRuntime, text: &str, borrowed: usize, owned: usize) -> Result<bool, Fail> {
+    let path = buffer(rt, text)?;
+    let string = string(rt.alloc(), text)?;
+    Ok(
+        path.is_empty() == text.is_empty()
+            && path.components().count() == owned
+            && path.as_path().components().count() == owned
+            && Path::new(string.as_cstr16()).components().count() == borrowed,
+    )
+}
+
+/// The components, and how many the buffer of a text has: each slash separates components of a buffer
+/// alone.
 #[test]
 fn components_of_texts(rt: HostRuntime) -> Result<(), Fail> {
-    for (text, want) in [
-        ("", ""),
-        ("\\", ""),
-        ("\\\\", "||"),
-        ("a\\", "|a|"),
-        ("foo\\bar\\hello", "|foo|bar|hello"),
-        ("\\foo\\bar\\hello", "|foo|bar|hello"),
-        ("\\hello\\foo\\bar", "|hello|foo|bar"),
-        ("abc", "|abc"),
-        ("\\\\\\a", "|||a"),
-        ("\\\\a", "||a"),
-        ("a/b\\c", "|a/b|c"),
+    for (text, want, borrowed, owned) in [
+        ("", "", 0, 0),
+        ("/", "|/", 1, 0),
+        ("\\", "", 0, 0),
+        ("\\\\", "||", 2, 2),
+        ("a\\", "|a|", 2, 2),
+        ("foo\\bar\\hello", "|foo|bar|hello", 3, 3),
+        ("\\foo\\bar\\hello", "|foo|bar|hello", 3, 3),
+        ("\\hello\\foo\\bar", "|hello|foo|bar", 3, 3),
+        ("abc", "|abc", 1, 1),
+        ("\\\\\\a", "|||a", 3, 3),
+        ("\\\\a", "||a", 2, 2),
+        ("a/b\\c", "|a/b|c", 2, 3),
+        ("a\\b", "|a|b", 2, 2),
+        ("/a//b\\", "|/a//b|", 2, 4),
     ] {
-        assert!(rt; has_components(&rt, text, want)?, "{text}");
+        let is_right = has_components(&rt, text, want)? && counts(&rt, text, borrowed, owned)?;
+        assert!(rt; is_right, "{text}");
     }
     Ok(())
 }
 
-/// How many components the path of a text has, and its buffer.
-fn counts(rt: &HostRuntime, text: &str) -> Result<(usize, usize), Fail> {
-    let string = string(rt.alloc(), text)?;
-    let path = Path::new(string.as_cstr16());
-    Ok((
-        path.components().count(),
-        buffer(rt, text)?.components().count(),
-    ))
-}
-
-/// Each slash separates components of a buffer alone. The last row is the parent of the one before it.
-#[test]
-fn counts_of_components(rt: HostRuntime) -> Result<(), Fail> {
-    for (text, borrowed, owned) in [
-        ("a\\", 2, 2),
-        ("\\\\\\a", 3, 3),
-        ("abc", 1, 1),
-        ("a/b\\c", 2, 3),
-        ("a\\b", 2, 2),
-    ] {
-        assert_eq!(rt; counts(&rt, text)?, (borrowed, owned), "{text}");
-    }
-    Ok(())
+/// Whether the components of `a\` are a name and an empty one, and no more come, however often one asks.
+fn ends_for_good(mut components: Components<'_>) -> bool {
+    matches!(components.next(), Some(name) if name.len() == 1)
+        && matches!(components.next(), Some(empty) if empty.len() == 0)
+        && components.next().is_none()
+        && components.next().is_none()
 }
 
 #[test]
 fn components_end_for_good(rt: HostRuntime) -> Result<(), Fail> {
-    let path = buffer(&rt, "a\\")?;
-    let mut components = path.components();
-    assert_eq!(rt; components.next().map(|component| component.len()), Some(1));
-    assert_eq!(rt; components.next().map(|component| component.len()), Some(0));
-    assert!(rt; components.next().is_none());
-    assert!(rt; components.next().is_none());
+    assert!(rt; ends_for_good(buffer(&rt, "a\\")?.components()));
     Ok(())
 }

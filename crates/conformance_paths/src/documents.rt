@@ -1,32 +1,42 @@
 //! The examples of the documents.
+
+use crate::fixtures::shows;
 use std::alloc::AllocError;
 use std::test::Fail;
 use uefi_path::{Path, PathBuf, validate_path};
 use uefi_text::{CStr16, CString16, FromSliceWithNulError, UnalignedSlice};
 
-#[test]
-fn the_example_of_the_readme(rt: HostRuntime) -> Result<(), Fail> {
-    // A view of code units that lie elsewhere, and the exact refusal with its place.
-    let boot = CStr16::from_u16_with_nul(&[0x62, 0x6f, 0x6f, 0x74, 0])?;
-    let broken = CStr16::from_u16_with_nul(&[0x65, 0xd800, 0]);
-    assert_eq!(rt; broken.err(), Some(FromSliceWithNulError::InvalidChar(1)));
+/// A path out of a text, and of code units that lie elsewhere.
+fn boot_path(rt: &HostRuntime, units: &[u16]) -> Result<PathBuf, Fail> {
+    // A view of the units, or the exact refusal with its place.
+    let boot = CStr16::from_u16_with_nul(units)?;
 
     // An owned string, and a path over it, in which each `/` becomes the separator.
     let folder = CString16::try_from_str(rt.alloc(), "/efi")?;
     let mut path = PathBuf::from(rt.alloc(), folder.as_cstr16())?;
     path.push(Path::new(boot))?;
-    assert!(rt; validate_path(path.as_path()).is_ok());
+    Ok(path)
+}
 
-    // Prints `\efi\boot`, and then its components, a line each.
+/// Prints a path, and then its components, a line each.
+fn print_path(rt: &HostRuntime, path: Path<'_>) -> Result<(), Fail> {
     println!(rt; "{path}")?;
     for component in path.components() {
-        for character in component.iter() {
-            print!(rt; "{character}")?;
-        }
-        println!(rt; "")?;
+        println!(rt; "{component}")?;
     }
-    assert_eq!(rt; path.to_string(rt.alloc())?.as_str(), "\\efi\\boot");
     Ok(())
+}
+
+#[test]
+fn the_example_of_the_readme(rt: HostRuntime) -> Result<(), Fail> {
+    let broken = CStr16::from_u16_with_nul(&[0x65, 0xd800, 0]);
+    assert_eq!(rt; broken.err(), Some(FromSliceWithNulError::InvalidChar(1)));
+
+    // Prints `\efi\boot`, `efi` and `boot`.
+    let path = boot_path(&rt, &[0x62, 0x6f, 0x6f, 0x74, 0])?;
+    assert!(rt; validate_path(path.as_path()).is_ok());
+    assert!(rt; shows(&path, "\\efi\\boot"));
+    print_path(&rt, path.as_path())
 }
 
 /// The path of the examples, its slash replaced.
@@ -48,15 +58,21 @@ fn the_example_of_the_strings(rt: HostRuntime) -> Result<(), Fail> {
     Ok(())
 }
 
+/// Whether the last lines of the example hold.
+fn joins_itself(buffer: &PathBuf, other: Path<'_>) -> Result<bool, AllocError> {
+    let file = buffer.join(other)?;
+    Ok(
+        buffer.as_path() == other
+            && buffer.components().count() == 2
+            && validate_path(file.as_path()).is_ok(),
+    )
+}
+
 #[test]
 fn the_example_of_the_paths(rt: HostRuntime) -> Result<(), Fail> {
     let buffer = efi_boot(&rt)?;
     let other = CString16::try_from_str(rt.alloc(), "efi\\boot")?;
-    assert!(rt; buffer.as_path() == Path::new(other.as_cstr16()));
-    assert_eq!(rt; buffer.components().count(), 2);
-
-    let file = buffer.join(Path::new(other.as_cstr16()))?;
-    assert!(rt; validate_path(file.as_path()).is_ok());
+    assert!(rt; joins_itself(&buffer, Path::new(other.as_cstr16()))?);
     Ok(())
 }
 

@@ -1,6 +1,6 @@
 //! Path buffers of Rust texts, and the texts that they have.
 
-use conformance::string;
+use conformance::{has_text, string};
 use std::alloc::AllocError;
 use std::test::Fail;
 use uefi_path::PathBuf;
@@ -14,6 +14,6 @@ pub(crate) fn buffer(rt: &HostRuntime, text: &str) -> Result<PathBuf, Fail> {
 }
 
 /// Whether a path has this text.
-pub(crate) fn shows(rt: &HostRuntime, path: &PathBuf, want: &str) -> Result<bool, Fail> {
-    Ok(path.to_cstr16() == string(rt.alloc(), want)?.as_cstr16())
+pub(crate) fn shows(path: &PathBuf, want: &str) -> bool {
+    has_text(path.to_cstr16(), want)
 }

@@ -6,72 +6,96 @@ use std::test::Fail;
 use uefi_path::{CHARACTER_DENY_LIST, Path, PathError, separator_str, validate_path};
 use uefi_text::Char16;
 
-/// The judgement of the borrowed path of a text.
-pub(crate) fn judged(rt: &HostRuntime, text: &str) -> Result<Result<(), PathError>, Fail> {
+/// Whether a path is accepted, or why it is refused, if so with the number of the character.
+#[derive(Clone, Copy)]
+pub(crate) enum Verdict {
+    Accepted,
+    Empty,
+    EmptyComponent,
+    IllegalChar(u16),
+}
+
+/// Whether a path is judged so.
+fn is_judged(path: Path<'_>, want: Verdict) -> bool {
+    let judged = validate_path(path);
+    match want {
+        Verdict::Accepted => judged == Ok(()),
+        Verdict::Empty => judged == Err(PathError::Empty),
+        Verdict::EmptyComponent => judged == Err(PathError::EmptyComponent),
+        Verdict::IllegalChar(number) => match Char16::try_from(number) {
+            Ok(character) => judged == Err(PathError::IllegalChar(character)),
+            Err(_) => false,
+        },
+    }
+}
+
+/// Whether the path of a text is judged so, and its buffer, in which each slash is replaced.
+pub(crate) fn are_judged(
+    rt: &HostRuntime,
+    text: &str,
+    borrowed: Verdict,
+    owned: Verdict,
+) -> Result<bool, Fail> {
     let string = string(rt.alloc(), text)?;
-    Ok(validate_path(Path::new(string.as_cstr16())))
+    Ok(
+        is_judged(Path::new(string.as_cstr16()), borrowed)
+            && is_judged(buffer(rt, text)?.as_path(), owned),
+    )
 }
 
-#[test]
-fn accepted_paths(rt: HostRuntime) -> Result<(), Fail> {
-    for text in ["\\", "a", "\\a", "\\a\\b", ".", "..", "a\\..\\b", "é\\ \\~"] {
-        assert_eq!(rt; judged(&rt, text)?, Ok(()), "{text}");
-    }
-    Ok(())
-}
+/// Texts, and how their paths are judged, borrowed and in a buffer.
+const ROWS: [(&str, Verdict, Verdict); 29] = [
+    ("\\", Verdict::Accepted, Verdict::Accepted),
+    ("a", Verdict::Accepted, Verdict::Accepted),
+    ("\\a", Verdict::Accepted, Verdict::Accepted),
+    ("\\a\\b", Verdict::Accepted, Verdict::Accepted),
+    (".", Verdict::Accepted, Verdict::Accepted),
+    ("..", Verdict::Accepted, Verdict::Accepted),
+    ("a\\..\\b", Verdict::Accepted, Verdict::Accepted),
+    ("é\\ \\~", Verdict::Accepted, Verdict::Accepted),
+    ("hello\\foo\\bar", Verdict::Accepted, Verdict::Accepted),
+    ("", Verdict::Empty, Verdict::Empty),
+    ("\\\\", Verdict::EmptyComponent, Verdict::EmptyComponent),
+    ("a\\\\b", Verdict::EmptyComponent, Verdict::EmptyComponent),
+    ("a\\", Verdict::EmptyComponent, Verdict::EmptyComponent),
+    ("\\\\a", Verdict::EmptyComponent, Verdict::EmptyComponent),
+    ("a\\\\b>", Verdict::EmptyComponent, Verdict::EmptyComponent),
+    (
+        "hello\\\\bar",
+        Verdict::EmptyComponent,
+        Verdict::EmptyComponent,
+    ),
+    ("x\"y", Verdict::IllegalChar(34), Verdict::IllegalChar(34)),
+    ("x*y", Verdict::IllegalChar(42), Verdict::IllegalChar(42)),
+    ("x/y", Verdict::IllegalChar(47), Verdict::Accepted),
+    ("x:y", Verdict::IllegalChar(58), Verdict::IllegalChar(58)),
+    ("x<y", Verdict::IllegalChar(60), Verdict::IllegalChar(60)),
+    ("x>y", Verdict::IllegalChar(62), Verdict::IllegalChar(62)),
+    ("x?y", Verdict::IllegalChar(63), Verdict::IllegalChar(63)),
+    ("x|y", Verdict::IllegalChar(124), Verdict::IllegalChar(124)),
+    (
+        "a>\\\\b",
+        Verdict::IllegalChar(62),
+        Verdict::IllegalChar(62),
+    ),
+    (
+        "a>b\\\\c",
+        Verdict::IllegalChar(62),
+        Verdict::IllegalChar(62),
+    ),
+    ("a/b", Verdict::IllegalChar(47), Verdict::Accepted),
+    ("a\\b?*", Verdict::IllegalChar(63), Verdict::IllegalChar(63)),
+    (
+        "hello\\f>oo\\bar",
+        Verdict::IllegalChar(62),
+        Verdict::IllegalChar(62),
+    ),
+];
 
 #[test]
-fn empty_components(rt: HostRuntime) -> Result<(), Fail> {
-    assert_eq!(rt; judged(&rt, "")?, Err(PathError::Empty));
-    for text in ["\\\\", "a\\\\b", "a\\", "\\\\a", "a\\\\b>"] {
-        assert_eq!(rt;
-            judged(&rt, text)?,
-            Err(PathError::EmptyComponent),
-            "{text}"
-        );
-    }
-    Ok(())
-}
-
-#[test]
-fn illegal_characters(rt: HostRuntime) -> Result<(), Fail> {
-    for (text, number) in [
-        ("x\"y", 34u16),
-        ("x*y", 42),
-        ("x/y", 47),
-        ("x:y", 58),
-        ("x<y", 60),
-        ("x>y", 62),
-        ("x?y", 63),
-        ("x|y", 124),
-        ("a>\\\\b", 62),
-        ("a>b\\\\c", 62),
-        ("a/b", 47),
-        ("a\\b?*", 63),
-    ] {
-        let character = Char16::try_from(number)?;
-        assert_eq!(rt;
-            judged(&rt, text)?,
-            Err(PathError::IllegalChar(character)),
-            "{text}"
-        );
-    }
-    Ok(())
-}
-
-#[test]
-fn judged_buffers(rt: HostRuntime) -> Result<(), Fail> {
-    for (text, want) in [
-        ("hello\\foo\\bar", Ok(())),
-        (
-            "hello\\f>oo\\bar",
-            Err(PathError::IllegalChar(Char16::try_from(62u16)?)),
-        ),
-        ("hello\\\\bar", Err(PathError::EmptyComponent)),
-        ("a/b", Ok(())),
-        ("", Err(PathError::Empty)),
-    ] {
-        assert_eq!(rt; validate_path(buffer(&rt, text)?.as_path()), want, "{text}");
+fn judged_paths(rt: HostRuntime) -> Result<(), Fail> {
+    for (text, borrowed, owned) in ROWS {
+        assert!(rt; are_judged(&rt, text, borrowed, owned)?, "{text}");
     }
     Ok(())
 }

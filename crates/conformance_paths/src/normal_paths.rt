@@ -11,7 +11,7 @@ use uefi_text::{CStr16, Char16};
 fn is_normal_path(rt: &HostRuntime, text: &str, want: &str) -> Result<bool, Fail> {
     let string = string(rt.alloc(), text)?;
     match Path::new(string.as_cstr16()).normalize(rt.alloc()) {
-        Ok(path) => shows(rt, &path, want),
+        Ok(path) => Ok(shows(&path, want)),
         Err(_) => Ok(false),
     }
 }
@@ -25,12 +25,10 @@ fn paths_and_their_normal_paths(rt: HostRuntime) -> Result<(), Fail> {
         (".", "\\"),
         ("\\", "\\"),
         ("\\a\\.", "a"),
-        ("..\\a", "..\\a"),
-        ("a\\..\\..", ".."),
         ("...\\b", "...\\b"),
         ("\\a\\b", "a\\b"),
         ("a\\..", "\\"),
-        ("..\\..\\a\\..\\.\\..", "..\\..\\.."),
+        ("a\\b\\..\\.\\..\\c", "c"),
         ("a\\.\\..\\b", "b"),
         (".a\\a.\\.. \\ .", ".a\\a.\\.. \\ ."),
         ("é\\\u{ffff}\\..", "é"),
@@ -57,6 +55,10 @@ fn paths_without_normal_path(rt: HostRuntime) -> Result<(), Fail> {
         ("a\\\\..", PathError::EmptyComponent),
         ("a\\..\\", PathError::EmptyComponent),
         ("a/..", PathError::IllegalChar(slash)),
+        ("..\\a", PathError::ClimbsAboveRoot),
+        ("a\\..\\..", PathError::ClimbsAboveRoot),
+        (".\\..\\a", PathError::ClimbsAboveRoot),
+        ("a\\\\..\\..", PathError::EmptyComponent),
     ] {
         assert!(rt; is_refused(&rt, text, why)?, "{text}");
     }
@@ -96,6 +98,10 @@ fn normalizes(
 fn texts_of_refusals(rt: HostRuntime) -> Result<(), Fail> {
     for (error, want) in [
         (NormalizeError::Invalid(PathError::Empty), "path is empty"),
+        (
+            NormalizeError::Invalid(PathError::ClimbsAboveRoot),
+            "path climbs above the root",
+        ),
         (NormalizeError::OutOfMemory, "out of memory"),
     ] {
         assert!(rt; error.to_string(rt.alloc())?.as_str() == want);

@@ -3,77 +3,68 @@
 use crate::fixtures::{buffer, shows};
 use conformance::string;
 use std::test::Fail;
-use uefi_path::Path;
+use uefi_path::{Path, PathBuf};
 
-/// Whether a borrowed path has this parent, or none.
-pub(crate) fn has_parent(rt: &HostRuntime, text: &str, want: Option<&str>) -> Result<bool, Fail> {
-    let text = string(rt.alloc(), text)?;
-    match (Path::new(text.as_cstr16()).parent(rt.alloc())?, want) {
-        (Some(parent), Some(want)) => shows(rt, &parent, want),
-        (None, None) => Ok(true),
-        _ => Ok(false),
-    }
-}
-
-/// Whether a buffer has this parent, or none, and is unchanged.
-pub(crate) fn buffer_has_parent(
-    rt: &HostRuntime,
-    text: &str,
-    want: Option<&str>,
-) -> Result<bool, Fail> {
-    let path = buffer(rt, text)?;
-    let is_right = match (path.parent()?, want) {
-        (Some(parent), Some(want)) => shows(rt, &parent, want)?,
+/// Whether a parent has this text, or there is none.
+fn is_parent(parent: &Option<PathBuf>, want: Option<&str>) -> bool {
+    match (parent, want) {
+        (Some(parent), Some(want)) => shows(parent, want),
         (None, None) => true,
         _ => false,
-    };
-    Ok(is_right && path == buffer(rt, text)?)
-}
-
-#[test]
-fn paths_without_parent(rt: HostRuntime) -> Result<(), Fail> {
-    for text in ["", "\\", "a", "\\a", "abc"] {
-        assert!(rt; has_parent(&rt, text, None)?, "{text}");
-        assert!(rt; buffer_has_parent(&rt, text, None)?, "{text}");
     }
-    Ok(())
 }
 
-#[test]
-fn parents_of_borrowed_paths(rt: HostRuntime) -> Result<(), Fail> {
-    for (text, want) in [
-        ("a\\", "a"),
-        ("a\\b", "a"),
-        ("\\a\\b", "a"),
-        ("a\\\\b", "a\\"),
-        ("a\\\\\\b", "a\\"),
-        ("a\\\\b\\c", "a\\b"),
-        ("a\\b\\", "a\\b"),
-        ("\\\\", ""),
-        ("\\\\a", ""),
-        ("\\\\\\a", ""),
-        ("\\\\a\\b", "a"),
-        ("a\\b\\c", "a\\b"),
-        ("a\\b\\c\\d", "a\\b\\c"),
-        ("a/b\\c", "a\\b"),
-        ("a/\\b\\c", "a\\\\b"),
-    ] {
-        assert!(rt; has_parent(&rt, text, Some(want))?, "{text}");
-    }
-    Ok(())
+/// Whether the borrowed path of a text has this parent, or none.
+fn borrowed_has_parent(rt: &HostRuntime, text: &str, want: Option<&str>) -> Result<bool, Fail> {
+    let text = string(rt.alloc(), text)?;
+    let parent = Path::new(text.as_cstr16()).parent(rt.alloc())?;
+    Ok(is_parent(&parent, want))
 }
 
+/// Whether the paths of a text, borrowed and in a buffer, have these parents, or none, and the buffer is
+/// unchanged.
+pub(crate) fn has_parent(
+    rt: &HostRuntime,
+    text: &str,
+    borrowed: Option<&str>,
+    owned: Option<&str>,
+) -> Result<bool, Fail> {
+    let path = buffer(rt, text)?;
+    Ok(
+        is_parent(&path.parent()?, owned)
+            && path == buffer(rt, text)?
+            && borrowed_has_parent(rt, text, borrowed)?,
+    )
+}
+
+/// The parents of borrowed paths, and of buffers. The two differ where a slash separates components of the
+/// buffer alone.
 #[test]
-fn parents_of_buffers(rt: HostRuntime) -> Result<(), Fail> {
-    for (text, want) in [
-        ("a\\", "a"),
-        ("\\\\\\a", ""),
-        ("a/b", "a"),
-        ("a\\\\b", "a\\"),
-        ("a/b\\c", "a\\b"),
-        ("a/\\b\\c", "a\\b"),
+fn parents(rt: HostRuntime) -> Result<(), Fail> {
+    for (text, borrowed, owned) in [
+        ("", None, None),
+        ("\\", None, None),
+        ("a", None, None),
+        ("\\a", None, None),
+        ("abc", None, None),
+        ("a\\", Some("a"), Some("a")),
+        ("a\\b", Some("a"), Some("a")),
+        ("\\a\\b", Some("a"), Some("a")),
+        ("a\\\\b", Some("a\\"), Some("a\\")),
+        ("a\\\\\\b", Some("a\\"), Some("a\\")),
+        ("a\\\\b\\c", Some("a\\b"), Some("a\\b")),
+        ("a\\b\\", Some("a\\b"), Some("a\\b")),
+        ("\\\\", Some(""), Some("")),
+        ("\\\\a", Some(""), Some("")),
+        ("\\\\\\a", Some(""), Some("")),
+        ("\\\\a\\b", Some("a"), Some("a")),
+        ("a\\b\\c", Some("a\\b"), Some("a\\b")),
+        ("a\\b\\c\\d", Some("a\\b\\c"), Some("a\\b\\c")),
+        ("a/b", None, Some("a")),
+        ("a/b\\c", Some("a\\b"), Some("a\\b")),
+        ("a/\\b\\c", Some("a\\\\b"), Some("a\\b")),
     ] {
-        assert!(rt; buffer_has_parent(&rt, text, Some(want))?, "{text}");
+        assert!(rt; has_parent(&rt, text, borrowed, owned)?, "{text}");
     }
     Ok(())
 }

@@ -2,39 +2,48 @@
 
 use crate::fixtures::{buffer, shows};
 use conformance::string;
+use std::alloc::AllocError;
 use std::test::Fail;
 use uefi_path::{CountedUnits, Path, PathBuf};
 
-/// Whether a borrowed path joined with another has this text.
-fn joins(rt: &HostRuntime, text: &str, other: &str, want: &str) -> Result<bool, Fail> {
-    let (text, other) = (string(rt.alloc(), text)?, string(rt.alloc(), other)?);
-    let joined = Path::new(text.as_cstr16()).join(rt.alloc(), Path::new(other.as_cstr16()))?;
-    shows(rt, &joined, want)
+/// Whether a path joined with another has this text, borrowed and in a buffer.
+fn joins(
+    rt: &HostRuntime,
+    path: Path<'_>,
+    other: Path<'_>,
+    want: &str,
+) -> Result<bool, AllocError> {
+    Ok(
+        shows(&path.join(rt.alloc(), other)?, want)
+            && shows(&path.to_path_buf(rt.alloc())?.join(other)?, want),
+    )
 }
 
-/// Whether a buffer joined with another path has this text.
-fn joins_buffer(rt: &HostRuntime, text: &str, other: &str, want: &str) -> Result<bool, Fail> {
-    let other = string(rt.alloc(), other)?;
-    let joined = buffer(rt, text)?.join(Path::new(other.as_cstr16()))?;
-    shows(rt, &joined, want)
+/// Whether the buffer of a path after a push of another has this text.
+fn pushes(
+    rt: &HostRuntime,
+    path: Path<'_>,
+    other: Path<'_>,
+    want: &str,
+) -> Result<bool, AllocError> {
+    let mut buffer = path.to_path_buf(rt.alloc())?;
+    buffer.push(other)?;
+    Ok(shows(&buffer, want))
 }
 
-/// Whether a buffer after a push of another path has this text.
-fn pushes(rt: &HostRuntime, text: &str, other: &str, want: &str) -> Result<bool, Fail> {
-    let other = string(rt.alloc(), other)?;
-    let mut path = buffer(rt, text)?;
-    path.push(Path::new(other.as_cstr16()))?;
-    shows(rt, &path, want)
-}
-
-/// Whether a buffer after a push of a text whose reads are counted has this text, and the same after
-/// another of the empty text.
-fn pushes_counted(rt: &HostRuntime, text: &str, other: &str, want: &str) -> Result<bool, Fail> {
-    let (other, empty) = (string(rt.alloc(), other)?, string(rt.alloc(), "")?);
-    let mut path = buffer(rt, text)?;
-    path.push_counted(&mut CountedUnits::new(other.as_cstr16()))?;
-    path.push_counted(&mut CountedUnits::new(empty.as_cstr16()))?;
-    shows(rt, &path, want)
+/// Whether the buffer of a path after a push of a text whose reads are counted has this text, and the same
+/// after another of the empty text.
+fn pushes_counted(
+    rt: &HostRuntime,
+    path: Path<'_>,
+    other: Path<'_>,
+    want: &str,
+) -> Result<bool, AllocError> {
+    let mut buffer = path.to_path_buf(rt.alloc())?;
+    buffer.push_counted(&mut CountedUnits::new(other.to_cstr16()))?;
+    let empty = PathBuf::new(rt.alloc())?;
+    buffer.push_counted(&mut CountedUnits::new(empty.to_cstr16()))?;
+    Ok(shows(&buffer, want))
 }
 
 /// Whether both joins and both pushes have this text.
@@ -44,12 +53,11 @@ pub(crate) fn joins_and_pushes(
     other: &str,
     want: &str,
 ) -> Result<bool, Fail> {
-    Ok(
-        joins(rt, text, other, want)?
-            && joins_buffer(rt, text, other, want)?
-            && pushes(rt, text, other, want)?
-            && pushes_counted(rt, text, other, want)?,
-    )
+    let (text, other) = (string(rt.alloc(), text)?, string(rt.alloc(), other)?);
+    let (path, other) = (Path::new(text.as_cstr16()), Path::new(other.as_cstr16()));
+    Ok(joins(rt, path, other, want)?
+        && pushes(rt, path, other, want)?
+        && pushes_counted(rt, path, other, want)?)
 }
 
 #[test]
@@ -86,24 +94,33 @@ fn pushed_in_turn(rt: &HostRuntime, parts: &[&str]) -> Result<PathBuf, Fail> {
     Ok(path)
 }
 
+/// Texts that are pushed in turn, and the text of the path. A path equals the one with one leading separator
+/// more.
 #[test]
 fn several_pushes(rt: HostRuntime) -> Result<(), Fail> {
-    let rows: [(&[&str], &str); 4] = [
-        (&["first", "second", "third"], "first\\second\\third"),
-        (&["\\first", "second"], "\\first\\second"),
-        (&["\\first", "", "second"], "\\first\\second"),
-        (&["first", "", "", "", "second"], "first\\second"),
+    let rows: [(&[&str], &str, &str); 5] = [
+        (
+            &["first", "second", "third"],
+            "first\\second\\third",
+            "\\first\\second\\third",
+        ),
+        (&["\\first", "second"], "\\first\\second", "first\\second"),
+        (
+            &["\\first", "", "second"],
+            "\\first\\second",
+            "first\\second",
+        ),
+        (
+            &["first", "", "", "", "second"],
+            "first\\second",
+            "\\first\\second",
+        ),
+        (&["a", "b"], "a\\b", "\\a\\b"),
     ];
-    for (parts, want) in rows {
-        assert!(rt; shows(&rt, &pushed_in_turn(&rt, parts)?, want)?, "{want}");
+    for (parts, want, equal) in rows {
+        let path = pushed_in_turn(&rt, parts)?;
+        assert!(rt; shows(&path, want) && path == buffer(&rt, equal)?, "{want}");
     }
-    Ok(())
-}
-
-/// One leading separator says nothing, nor does it where the other path is pushed together.
-#[test]
-fn pushed_and_equal(rt: HostRuntime) -> Result<(), Fail> {
-    assert!(rt; pushed_in_turn(&rt, &["a", "b"])? == buffer(&rt, "\\a\\b")?);
     Ok(())
 }
 
@@ -117,11 +134,20 @@ fn pushed_often(rt: &HostRuntime, part: &str) -> Result<PathBuf, Fail> {
     Ok(path)
 }
 
+/// Whether a path is a hundred names of two characters.
+fn is_of_a_hundred(path: &PathBuf) -> bool {
+    let mut count = 0u64;
+    for component in path.components() {
+        if component.len() != 2 {
+            return false;
+        }
+        count = count.saturating_add(1);
+    }
+    count == 100 && path.to_cstr16().num_chars() == 299
+}
+
 #[test]
 fn many_pushes(rt: HostRuntime) -> Result<(), Fail> {
-    let path = pushed_often(&rt, "ab")?;
-    assert_eq!(rt; path.components().count(), 100);
-    assert_eq!(rt; path.to_cstr16().num_chars(), 299);
-    assert!(rt; path.components().all(|component| component.len() == 2));
+    assert!(rt; is_of_a_hundred(&pushed_often(&rt, "ab")?));
     Ok(())
 }

@@ -7,7 +7,7 @@ use std::test::Fail;
 use upath::{StreamFault, Watched, run_streams};
 
 /// A run, and how many bytes a call of its reader gives or of its writer takes at most.
-#[derive(Clone, Copy, Debug)]
+#[derive(Clone, Copy)]
 struct Run {
     input: &'static [u8],
     output: &'static [u8],
@@ -65,21 +65,14 @@ impl Read for FailingReader {
     }
 }
 
-/// What a call of a writer does in place of taking bytes.
-#[derive(Clone, Copy, Debug)]
-enum Failure {
-    Fails(ErrorKind),
-    TakesNone,
-}
-
-/// Takes at most `step` bytes a call. The write of the number `failing`, counted from 1, fails, and so does
-/// the first flush where `flush` says so.
+/// Takes at most `step` bytes a call. The write of the number `failing`, counted from 1, fails, or takes none
+/// where `failure` is none, and the first flush fails where `flush` says so.
 #[derive(Drop)]
 struct FailingWriter {
     held: Vec<u8>,
     step: usize,
     failing: usize,
-    failure: Failure,
+    failure: Option<ErrorKind>,
     flush: Option<ErrorKind>,
     writes: usize,
     flushes: usize,
@@ -90,8 +83,8 @@ impl Write for FailingWriter {
         self.writes = self.writes.saturating_add(1);
         if self.writes == self.failing {
             return match self.failure {
-                Failure::Fails(kind) => Err(io::Error::from(kind)),
-                Failure::TakesNone => Ok(0),
+                Some(kind) => Err(io::Error::from(kind)),
+                None => Ok(0),
             };
         }
         let taken = self.step.min(buf.len());
@@ -120,7 +113,12 @@ fn reader_of(run: Run, failing: usize, kind: ErrorKind) -> FailingReader {
 }
 
 /// A writer of which this write fails; none at 0.
-fn writer_of(rt: &HostRuntime, run: Run, failing: usize, failure: Failure) -> FailingWriter {
+fn writer_of(
+    rt: &HostRuntime,
+    run: Run,
+    failing: usize,
+    failure: Option<ErrorKind>,
+) -> FailingWriter {
     FailingWriter {
         held: Vec::new(rt.alloc()),
         step: run.step,
@@ -165,7 +163,7 @@ fn end_of(rt: &HostRuntime, reader: FailingReader, writer: FailingWriter) -> Res
 /// flushed once.
 fn calls_of(rt: &HostRuntime, run: Run) -> Result<(usize, usize), Fail> {
     let reader = reader_of(run, 0, ErrorKind::Other);
-    let writer = writer_of(rt, run, 0, Failure::TakesNone);
+    let writer = writer_of(rt, run, 0, None);
     let end = end_of(rt, reader, writer)?;
     if end.outcome.is_err()
         || !end.reader.rest.is_empty()
@@ -184,7 +182,7 @@ fn ends_unwritten(
     kind: ErrorKind,
 ) -> Result<bool, Fail> {
     let reader = reader_of(run, failing, kind);
-    let writer = writer_of(rt, run, 0, Failure::TakesNone);
+    let writer = writer_of(rt, run, 0, None);
     let end = end_of(rt, reader, writer)?;
     Ok(
         end.outcome == Err(StreamFault::Read)
@@ -208,7 +206,8 @@ fn each_read_that_fails(rt: HostRuntime) -> Result<(), Fail> {
             ] {
                 assert!(rt;
                     ends_unwritten(&rt, *run, failing, kind)?,
-                    "read {failing}, {kind:?}: {run:?}"
+                    "read {failing}, {kind:?}, {} at a time",
+                    run.step
                 );
             }
         }
@@ -221,7 +220,7 @@ fn ends_in_write(
     rt: &HostRuntime,
     run: Run,
     failing: usize,
-    failure: Failure,
+    failure: Option<ErrorKind>,
 ) -> Result<bool, Fail> {
     let reader = reader_of(run, 0, ErrorKind::Other);
     let writer = writer_of(rt, run, failing, failure);
@@ -237,15 +236,16 @@ fn each_write_that_fails(rt: HostRuntime) -> Result<(), Fail> {
         let (_, writes) = calls_of(&rt, *run)?;
         for failing in 1..=writes {
             for failure in [
-                Failure::Fails(ErrorKind::Other),
-                Failure::Fails(ErrorKind::StorageFull),
-                Failure::Fails(ErrorKind::OutOfMemory),
-                Failure::Fails(ErrorKind::Interrupted),
-                Failure::TakesNone,
+                Some(ErrorKind::Other),
+                Some(ErrorKind::StorageFull),
+                Some(ErrorKind::OutOfMemory),
+                Some(ErrorKind::Interrupted),
+                None,
             ] {
                 assert!(rt;
                     ends_in_write(&rt, *run, failing, failure)?,
-                    "write {failing}, {failure:?}: {run:?}"
+                    "write {failing}, {failure:?}, {} at a time",
+                    run.step
                 );
             }
         }
@@ -256,7 +256,7 @@ fn each_write_that_fails(rt: HostRuntime) -> Result<(), Fail> {
 /// Whether a run whose flush fails writes all, and flushes no more.
 fn ends_in_flush(rt: &HostRuntime, run: Run, kind: ErrorKind) -> Result<bool, Fail> {
     let (_, writes) = calls_of(rt, run)?;
-    let mut writer = writer_of(rt, run, 0, Failure::TakesNone);
+    let mut writer = writer_of(rt, run, 0, None);
     writer.flush = Some(kind);
     let end = end_of(rt, reader_of(run, 0, ErrorKind::Other), writer)?;
     Ok(end.outcome == Err(StreamFault::Write) && has_taken(&end.writer, run.output, writes, 1))
@@ -266,7 +266,11 @@ fn ends_in_flush(rt: &HostRuntime, run: Run, kind: ErrorKind) -> Result<bool, Fa
 fn a_flush_that_fails(rt: HostRuntime) -> Result<(), Fail> {
     for run in &runs(&rt)? {
         for kind in [ErrorKind::Other, ErrorKind::Interrupted] {
-            assert!(rt; ends_in_flush(&rt, *run, kind)?, "{run:?}: {kind:?}");
+            assert!(rt;
+                ends_in_flush(&rt, *run, kind)?,
+                "{kind:?}, {} at a time",
+                run.step
+            );
         }
     }
     Ok(())

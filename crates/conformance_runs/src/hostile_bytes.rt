@@ -2,50 +2,39 @@
 //! soon.
 
 use crate::judged_bytes::accepts;
-use conformance::{HostileUnits, each_hostile_units};
+use conformance::{HostileUnits, hostile_units};
 use std::test::Fail;
 use uefi_path::PathError;
 use uefi_text::FromSliceWithNulError;
 use upath::{JudgeError, judge};
 
-/// Why the bytes of units are no path, if they are none.
-fn refusal(hostile: &HostileUnits) -> Option<JudgeError> {
-    match hostile.refusal() {
-        Some(error) => Some(JudgeError::Text(error)),
-        None if hostile.text().is_empty() => Some(JudgeError::Invalid(PathError::Empty)),
-        None => None,
-    }
-}
-
 /// Whether bytes are judged to be the path of the units' text, or refused.
 fn is_verdict(rt: &HostRuntime, hostile: &HostileUnits, bytes: &[u8]) -> bool {
-    match &judge(rt.alloc(), bytes) {
-        Ok(path) => {
-            refusal(hostile).is_none() && path.to_cstr16().to_u16_slice() == hostile.text()
-        }
-        Err(error) => refusal(hostile) == Some(*error),
+    let text = hostile.text();
+    match (&judge(rt.alloc(), bytes), hostile.refusal()) {
+        (Ok(path), None) => !text.is_empty() && path.to_cstr16().to_u16_slice() == text,
+        (Err(error), None) => text.is_empty() && *error == JudgeError::Invalid(PathError::Empty),
+        (Err(error), Some(refusal)) => *error == JudgeError::Text(refusal),
+        _ => false,
     }
 }
 
-/// Whether the bytes of units are judged as they have to be after `count` others, and refused without the
-/// last of them.
-fn are_judged(rt: &HostRuntime, hostile: &HostileUnits, count: usize) -> Result<bool, Fail> {
-    let all = hostile.bytes_after(rt.alloc(), count)?;
-    let bytes = all.get(count..).unwrap_or(&[]);
-    Ok(
-        is_verdict(rt, hostile, bytes)
-            && bytes.split_last().is_none_or(|(_, others)| {
-                judge(rt.alloc(), others).err() == Some(JudgeError::HalfUnit)
-            }),
-    )
+/// Whether the bytes of units are judged as they have to be, and refused without the last of them.
+fn are_judged(rt: &HostRuntime, hostile: &HostileUnits, bytes: &[u8]) -> bool {
+    let others = bytes.get(..bytes.len().saturating_sub(1)).unwrap_or(&[]);
+    is_verdict(rt, hostile, bytes)
+        && (bytes.is_empty() || judge(rt.alloc(), others).err() == Some(JudgeError::HalfUnit))
 }
 
 /// From even places of memory and from odd ones.
 #[test]
 fn hostile_bytes(rt: HostRuntime) -> Result<(), Fail> {
-    each_hostile_units(rt.alloc(), |hostile| {
-        Ok(are_judged(&rt, hostile, 0)? && are_judged(&rt, hostile, 1)?)
-    })
+    for hostile in &hostile_units(rt.alloc())? {
+        let is_right = are_judged(&rt, hostile, &hostile.bytes)
+            && are_judged(&rt, hostile, hostile.bytes_at_odd_place());
+        assert!(rt; is_right, "{:?}", hostile.units);
+    }
+    Ok(())
 }
 
 /// Whether the first bytes of a path are refused: an odd number for that, and else since no NUL ends them.
@@ -59,14 +48,10 @@ fn is_cut_short(rt: &HostRuntime, prefix: &[u8]) -> bool {
 }
 
 #[test]
-fn bytes_that_end_too_soon(rt: HostRuntime) -> Result<(), Fail> {
+fn bytes_that_end_too_soon(rt: HostRuntime) {
     let bytes: &[u8] = &[0x5c, 0, 0x61, 0, 0, 0];
     for len in 0..6usize {
-        assert!(rt;
-            is_cut_short(&rt, bytes.get(..len).unwrap_or(&[])),
-            "{len} bytes"
-        );
+        assert!(rt; is_cut_short(&rt, bytes.get(..len).unwrap_or(&[])), "{len}");
     }
-    assert!(rt; accepts(&rt, bytes, "\\a")?);
-    Ok(())
+    assert!(rt; accepts(&rt, bytes, "\\a"));
 }

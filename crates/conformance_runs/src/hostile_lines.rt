@@ -36,11 +36,15 @@ const ROWS: [(&[u8], &str); 13] = [
 /// The input of a row, with these others before and after its bytes.
 fn input(rt: &HostRuntime, bytes: &[u8], before: &str, after: &str) -> Result<Vec<u8>, Fail> {
     let mut input = Vec::new(rt.alloc());
-    input.extend_from_slice(b"from ")?;
-    input.extend_from_slice(before.as_bytes())?;
-    input.extend_from_slice(bytes)?;
-    input.extend_from_slice(after.as_bytes())?;
-    input.extend_from_slice(b"\npieces")?;
+    for part in [
+        b"from ".as_slice(),
+        before.as_bytes(),
+        bytes,
+        after.as_bytes(),
+        b"\npieces",
+    ] {
+        input.extend_from_slice(part)?;
+    }
     Ok(input)
 }
 
@@ -49,35 +53,35 @@ fn output(rt: &HostRuntime, row: &str, before: &str, after: &str) -> Result<Stri
     let mut output = String::new(rt.alloc());
     for character in row.chars() {
         match character {
-            '<' => output.push_str(before)?,
-            '>' => output.push_str(after)?,
-            _ => output.push(character)?,
-        }
+            '<' => output.push_str(before),
+            '>' => output.push_str(after),
+            _ => output.push(character),
+        }?;
     }
     Ok(output)
 }
 
-/// Whether each row prints what it has to, its bytes at this place among this many others.
-fn are_printed(rt: &HostRuntime, others: usize, place: usize, other: &str) -> Result<bool, Fail> {
-    let before = repeated(rt.alloc(), other, place as u64)?;
-    let after = repeated(rt.alloc(), other, others.saturating_sub(place) as u64)?;
+/// Whether each row prints what it has to, with these others before and after its bytes.
+fn are_printed(rt: &HostRuntime, before: &str, after: &str) -> Result<bool, Fail> {
     for (bytes, row) in ROWS {
-        let input = input(rt, bytes, &before, &after)?;
-        if !prints(rt, &input, &output(rt, row, &before, &after)?)? {
+        let output = output(rt, row, before, after)?;
+        if !prints(rt, &input(rt, bytes, before, after)?, &output) {
             return Ok(false);
         }
     }
     Ok(true)
 }
 
+/// Among others of one byte, and of two.
 #[test]
 fn hostile_lines(rt: HostRuntime) -> Result<(), Fail> {
-    for (others, place) in &hostile_places(rt.alloc(), 65)? {
-        for other in ["a", "é"] {
-            assert!(rt;
-                are_printed(&rt, *others, *place, other)?,
-                "{others} others, at {place}"
-            );
+    for (others, place) in &hostile_places(rt.alloc())? {
+        for (other, len) in [("a", 1usize), ("é", 2)] {
+            let text = repeated(rt.alloc(), other, *others as u64)?;
+            let len = place.saturating_mul(len);
+            let before = text.get(..len).unwrap_or("");
+            let after = text.get(len..).unwrap_or("");
+            assert!(rt; are_printed(&rt, before, after)?, "{text}, at {len}");
         }
     }
     Ok(())

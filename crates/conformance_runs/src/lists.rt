@@ -1,20 +1,31 @@
 //! The components of a path as a list, and its successive parents.
 
-use conformance::{Refusing, repeated, string};
+use conformance::{Refusing, has_text, repeated, string};
 use std::alloc::Global;
 use std::test::Fail;
 use uefi_path::{Path, PathBuf};
 use uefi_text::{CStr16, Char16Slice};
 use upath::{all_parents, pieces};
 
-/// The parents of the path of a text, a bar before each.
-fn barred_parents(rt: &HostRuntime, text: &str) -> Result<String, Fail> {
-    let path = PathBuf::from(rt.alloc(), string(rt.alloc(), text)?.as_cstr16())?;
-    let mut shown = String::new(rt.alloc());
-    for parent in &all_parents(rt.alloc(), &path)? {
-        write!(shown, "|{parent}")?;
+/// Whether paths have these texts, a bar before each.
+fn are_barred(paths: &[PathBuf], want: &str) -> bool {
+    let mut texts = want.split('|');
+    if texts.next() != Some("") {
+        return false;
     }
-    Ok(shown)
+    for path in paths {
+        match texts.next() {
+            Some(text) if has_text(path.to_cstr16(), text) => {}
+            _ => return false,
+        }
+    }
+    texts.next().is_none()
+}
+
+/// Whether the path of a text has these parents, a bar before each.
+fn has_parents(rt: &HostRuntime, text: &str, want: &str) -> Result<bool, Fail> {
+    let path = PathBuf::from(rt.alloc(), string(rt.alloc(), text)?.as_cstr16())?;
+    Ok(are_barred(&all_parents(rt.alloc(), &path)?, want))
 }
 
 #[test]
@@ -27,7 +38,7 @@ fn successive_parents(rt: HostRuntime) -> Result<(), Fail> {
         ("\\", ""),
         ("", ""),
     ] {
-        assert_eq!(rt; barred_parents(&rt, text)?.as_str(), want, "{text}");
+        assert!(rt; has_parents(&rt, text, want)?, "{text}");
     }
     Ok(())
 }
@@ -35,9 +46,10 @@ fn successive_parents(rt: HostRuntime) -> Result<(), Fail> {
 /// The empty path is the one parent of separators alone.
 #[test]
 fn parents_of_separators_alone(rt: HostRuntime) -> Result<(), Fail> {
-    for count in [2, 3, 4, 5, 6, 63, 64, 65] {
-        let text = repeated(rt.alloc(), "\\", count)?;
-        assert_eq!(rt; barred_parents(&rt, &text)?.as_str(), "|", "{count}");
+    let separators = repeated(rt.alloc(), "\\", 65)?;
+    for count in [2usize, 3, 4, 5, 6, 63, 64, 65] {
+        let text = separators.get(..count).unwrap_or("");
+        assert!(rt; has_parents(&rt, text, "|")?, "{count}");
     }
     Ok(())
 }
@@ -57,27 +69,21 @@ fn counts_of_components(rt: HostRuntime) -> Result<(), Fail> {
         ("a\\\\", 3),
         ("ab\\c", 2),
     ] {
-        assert_eq!(rt; count_of_pieces(&rt, text)?, count, "{text}");
+        assert!(rt; count_of_pieces(&rt, text)? == count, "{text}");
     }
     Ok(())
 }
 
-/// Whether a component is this text.
-fn is_text(
-    rt: &HostRuntime,
-    component: Option<&Char16Slice<'_>>,
-    want: &str,
-) -> Result<bool, Fail> {
-    let want = string(rt.alloc(), want)?;
-    Ok(component.is_some_and(|component| *component == want.as_cstr16().as_slice()))
-}
-
 #[test]
 fn components_as_a_list(rt: HostRuntime) -> Result<(), Fail> {
-    let text = string(rt.alloc(), "ab\\c")?;
-    let list = pieces(rt.alloc(), Path::new(text.as_cstr16()))?;
-    assert!(rt; is_text(&rt, list.first(), "ab")?);
-    assert!(rt; is_text(&rt, list.get(1), "c")?);
+    let text = CStr16::from_u16_with_nul(&[97, 98, 92, 99, 0])?;
+    let list = pieces(rt.alloc(), Path::new(text))?;
+    let is_right = match list.as_slice() {
+        [first, second] => first.units() == [97u16, 98].as_slice()
+            && second.units() == [99u16].as_slice(),
+        _ => false,
+    };
+    assert!(rt; is_right);
     Ok(())
 }
 

@@ -1,105 +1,97 @@
 //! Strings out of characters and bytes, and strings as bytes and as Rust texts.
 
-use conformance::string;
+use conformance::{has_text, string};
 use std::test::Fail;
-use uefi_text::{CStr16, Char16, FromSliceUntilNulError, FromSliceWithNulError, NUL_16};
+use uefi_text::{CStr16, Char16, FromSliceUntilNulError, FromSliceWithNulError};
 
-/// The characters of a Rust text, a NUL for each `0`.
-pub(crate) fn characters(rt: &HostRuntime, text: &str) -> Result<Vec<Char16>, Fail> {
+/// The characters that units are before the first surrogate.
+pub(crate) fn characters(rt: &HostRuntime, units: &[u16]) -> Result<Vec<Char16>, Fail> {
     let mut characters = Vec::new(rt.alloc());
-    for c in text.chars() {
-        let character = if c == '0' {
-            NUL_16
-        } else {
-            Char16::try_from(c)?
-        };
-        characters.push(character)?;
+    for unit in units {
+        match Char16::try_from(*unit) {
+            Ok(character) => characters.push(character)?,
+            Err(_) => break,
+        }
     }
     Ok(characters)
 }
 
-/// Whether the characters of a text up to their first NUL are a string of this text.
-pub(crate) fn reads_until_nul(rt: &HostRuntime, text: &str, want: &str) -> Result<bool, Fail> {
-    let read = CStr16::from_char16_until_nul(rt.alloc(), &characters(rt, text)?)?;
-    Ok(read == string(rt.alloc(), want)?)
-}
-
-/// Whether the characters of a text are refused since none is a NUL.
-fn has_no_nul(rt: &HostRuntime, text: &str) -> Result<bool, Fail> {
-    let refused = CStr16::from_char16_until_nul(rt.alloc(), &characters(rt, text)?);
-    Ok(refused.err() == Some(FromSliceUntilNulError::NoNul))
-}
-
-#[test]
-fn characters_until_nul(rt: HostRuntime) -> Result<(), Fail> {
-    for text in ["", "ab"] {
-        assert!(rt; has_no_nul(&rt, text)?, "{text}");
+/// Whether characters up to their first NUL are a string of this text, or are refused since none is a NUL.
+pub(crate) fn reads_until_nul(rt: &HostRuntime, list: &[Char16], want: Option<&str>) -> bool {
+    match (&CStr16::from_char16_until_nul(rt.alloc(), list), want) {
+        (Ok(string), Some(want)) => has_text(string.as_cstr16(), want),
+        (Err(error), None) => *error == FromSliceUntilNulError::NoNul,
+        _ => false,
     }
-    for (text, want) in [
-        ("ab0", "ab"),
-        ("a0b0", "a"),
-        ("a0b", "a"),
-        ("0", ""),
-        ("0a", ""),
-        ("é€0", "é€"),
-    ] {
-        assert!(rt; reads_until_nul(&rt, text, want)?, "{text}");
+}
+
+/// Whether characters, with their one NUL at the end, are a string of this text, or are refused.
+pub(crate) fn reads_with_nul(
+    rt: &HostRuntime,
+    list: &[Char16],
+    want: Result<&str, FromSliceWithNulError>,
+) -> bool {
+    match (&CStr16::from_char16_with_nul(rt.alloc(), list), want) {
+        (Ok(string), Ok(want)) => has_text(string.as_cstr16(), want),
+        (Err(error), Err(want)) => *error == want,
+        _ => false,
+    }
+}
+
+/// Characters, what they are up to their first NUL, and what they are as a whole.
+#[test]
+fn lists_of_characters(rt: HostRuntime) -> Result<(), Fail> {
+    let rows: [(&[u16], Option<&str>, Result<&str, FromSliceWithNulError>); 9] = [
+        (&[], None, Err(FromSliceWithNulError::NotNulTerminated)),
+        (
+            &[97, 98],
+            None,
+            Err(FromSliceWithNulError::NotNulTerminated),
+        ),
+        (&[97, 98, 0], Some("ab"), Ok("ab")),
+        (
+            &[97, 0, 98, 0],
+            Some("a"),
+            Err(FromSliceWithNulError::InteriorNul(1)),
+        ),
+        (
+            &[97, 0, 98],
+            Some("a"),
+            Err(FromSliceWithNulError::InteriorNul(1)),
+        ),
+        (&[0], Some(""), Ok("")),
+        (
+            &[0, 97],
+            Some(""),
+            Err(FromSliceWithNulError::InteriorNul(0)),
+        ),
+        (
+            &[0, 0],
+            Some(""),
+            Err(FromSliceWithNulError::InteriorNul(0)),
+        ),
+        (&[0xe9, 0x20ac, 0], Some("é€"), Ok("é€")),
+    ];
+    for (units, until, whole) in rows {
+        let list = characters(&rt, units)?;
+        let is_right = reads_until_nul(&rt, &list, until) && reads_with_nul(&rt, &list, whole);
+        assert!(rt; is_right, "{units:?}");
     }
     Ok(())
 }
 
-/// Whether the characters of a text, with their one NUL at the end, are a string of this text.
-pub(crate) fn reads_with_nul(rt: &HostRuntime, text: &str, want: &str) -> Result<bool, Fail> {
-    let read = CStr16::from_char16_with_nul(rt.alloc(), &characters(rt, text)?)?;
-    Ok(read == string(rt.alloc(), want)?)
-}
-
-/// Whether the characters of a text are refused for this cause.
-fn is_refused_with_nul(
+/// Whether bytes are refused for this cause after `count` others.
+fn is_refused_after(
     rt: &HostRuntime,
-    text: &str,
-    want: FromSliceWithNulError,
-) -> Result<bool, Fail> {
-    let refused = CStr16::from_char16_with_nul(rt.alloc(), &characters(rt, text)?);
-    Ok(refused.err() == Some(want))
-}
-
-#[test]
-fn characters_with_nul(rt: HostRuntime) -> Result<(), Fail> {
-    for (text, want) in [
-        ("", FromSliceWithNulError::NotNulTerminated),
-        ("ab", FromSliceWithNulError::NotNulTerminated),
-        ("a0b0", FromSliceWithNulError::InteriorNul(1)),
-        ("a0b", FromSliceWithNulError::InteriorNul(1)),
-        ("00", FromSliceWithNulError::InteriorNul(0)),
-    ] {
-        assert!(rt; is_refused_with_nul(&rt, text, want)?, "{text}");
-    }
-    for (text, want) in [("ab0", "ab"), ("0", ""), ("é€0", "é€")] {
-        assert!(rt; reads_with_nul(&rt, text, want)?, "{text}");
-    }
-    Ok(())
-}
-
-/// Whether bytes are refused for this cause.
-fn is_refused(rt: &HostRuntime, bytes: &[u8], want: FromSliceWithNulError) -> bool {
-    CStr16::from_bytes_with_nul(rt.alloc(), bytes).err() == Some(want)
-}
-
-/// Whether bytes are refused for this cause after one other.
-fn is_refused_after_one(
-    rt: &HostRuntime,
+    count: usize,
     bytes: &[u8],
     want: FromSliceWithNulError,
 ) -> Result<bool, Fail> {
     let mut moved = Vec::new(rt.alloc());
-    moved.push(0xff)?;
+    moved.resize(count, 0xff)?;
     moved.extend_from_slice(bytes)?;
-    Ok(
-        moved
-            .split_first()
-            .is_some_and(|(_, others)| is_refused(rt, others, want)),
-    )
+    let bytes = moved.get(count..).unwrap_or(&[]);
+    Ok(CStr16::from_bytes_with_nul(rt.alloc(), bytes).err() == Some(want))
 }
 
 /// Each row from an even place of memory and from an odd one.
@@ -124,51 +116,45 @@ fn refused_bytes(rt: HostRuntime) -> Result<(), Fail> {
         ),
     ];
     for (bytes, want) in rows {
-        assert!(rt; is_refused(&rt, bytes, want), "{bytes:?}");
-        assert!(rt;
-            is_refused_after_one(&rt, bytes, want)?,
-            "{bytes:?} after one other"
-        );
+        for count in [0, 1] {
+            assert!(rt; is_refused_after(&rt, count, bytes, want)?, "{bytes:?}");
+        }
     }
     Ok(())
 }
 
-/// Whether the string of a text gives these bytes, and they give it back.
-fn has_bytes(rt: &HostRuntime, text: &str, bytes: &[u8]) -> Result<bool, Fail> {
-    let string = string(rt.alloc(), text)?;
+/// Whether a string gives these bytes, and they give it back.
+pub(crate) fn has_bytes(rt: &HostRuntime, string: CStr16<'_>, bytes: &[u8]) -> Result<bool, Fail> {
     Ok(
-        string.as_cstr16().as_bytes(rt.alloc())?.as_slice() == bytes
-            && CStr16::from_bytes_with_nul(rt.alloc(), bytes)? == string,
+        string.as_bytes(rt.alloc())?.as_slice() == bytes
+            && CStr16::from_bytes_with_nul(rt.alloc(), bytes)?.eq_cstr16(string),
     )
 }
 
 #[test]
 fn strings_and_their_bytes(rt: HostRuntime) -> Result<(), Fail> {
-    let rows: [(&str, &[u8]); 4] = [
-        ("", &[0, 0]),
-        ("a", &[0x61, 0, 0, 0]),
-        ("AB", &[0x41, 0, 0x42, 0, 0, 0]),
-        ("é\u{ffff}", &[0xe9, 0, 0xff, 0xff, 0, 0]),
+    let rows: [(&[u16], &[u8]); 4] = [
+        (&[0], &[0, 0]),
+        (&[97, 0], &[0x61, 0, 0, 0]),
+        (&[65, 66, 0], &[0x41, 0, 0x42, 0, 0, 0]),
+        (&[0xe9, 0xffff, 0], &[0xe9, 0, 0xff, 0xff, 0, 0]),
     ];
-    for (text, bytes) in rows {
-        assert!(rt; has_bytes(&rt, text, bytes)?, "{text}");
+    for (units, bytes) in rows {
+        let string = CStr16::from_u16_with_nul(units)?;
+        assert!(rt; has_bytes(&rt, string, bytes)?, "{bytes:?}");
     }
     Ok(())
 }
 
-/// Whether the string of a text gives it back.
-pub(crate) fn gives_text(rt: &HostRuntime, text: &str) -> Result<bool, Fail> {
-    let string = string(rt.alloc(), text)?;
-    Ok(string.as_cstr16().to_rust_string(rt.alloc())?.as_str() == text)
-}
-
-/// Whether the string of a text adds its bytes after those that stand there.
-pub(crate) fn adds_text(rt: &HostRuntime, text: &str) -> Result<bool, Fail> {
-    let string = string(rt.alloc(), text)?;
+/// Whether a string gives this text, and adds its bytes after those that stand there.
+pub(crate) fn gives_text(rt: &HostRuntime, string: CStr16<'_>, text: &str) -> Result<bool, Fail> {
     let mut bytes = Vec::new(rt.alloc());
     bytes.push(b'x')?;
-    string.as_cstr16().as_slice().add_utf8_to(&mut bytes)?;
-    Ok(bytes.split_first() == Some((&b'x', text.as_bytes())))
+    string.as_slice().add_utf8_to(&mut bytes)?;
+    Ok(
+        bytes.split_first() == Some((&b'x', text.as_bytes()))
+            && string.to_rust_string(rt.alloc())?.as_str() == text,
+    )
 }
 
 #[test]
@@ -182,8 +168,8 @@ fn strings_as_rust_texts(rt: HostRuntime) -> Result<(), Fail> {
         "\u{800}",
         "aé€\u{ffff}b",
     ] {
-        assert!(rt; gives_text(&rt, text)?, "{text}");
-        assert!(rt; adds_text(&rt, text)?, "{text}");
+        let string = string(rt.alloc(), text)?;
+        assert!(rt; gives_text(&rt, string.as_cstr16(), text)?, "{text}");
     }
     Ok(())
 }

@@ -20,32 +20,22 @@ const LONG_TEXT: &str =
     "é0123456789abcdefghijklmnopqrstuvwxyz0123456789abcdefghijklmnopqrstuvwxyz€";
 
 /// What the calls work on.
-#[derive(Drop)]
-struct Inputs {
+#[derive(Clone, Copy)]
+struct Inputs<'a> {
     /// The string of `TEXT`.
-    text: CString16,
+    text: CStr16<'a>,
     /// The string of `LONG_TEXT`.
-    long: CString16,
+    long: CStr16<'a>,
     /// The characters of `TEXT`, and a NUL.
-    list: Vec<Char16>,
+    list: &'a [Char16],
     /// Characters without NUL.
-    open: Vec<Char16>,
+    open: &'a [Char16],
     /// Characters with a NUL among them.
-    inner: Vec<Char16>,
-}
-
-fn given(rt: &HostRuntime) -> Result<Inputs, Fail> {
-    Ok(Inputs {
-        text: string(rt.alloc(), TEXT)?,
-        long: string(rt.alloc(), LONG_TEXT)?,
-        list: characters(rt, "aé€0")?,
-        open: characters(rt, "ab")?,
-        inner: characters(rt, "a0b0")?,
-    })
+    inner: &'a [Char16],
 }
 
 /// A call that takes memory, or is refused before it does.
-#[derive(Clone, Copy, Debug)]
+#[derive(Clone, Copy)]
 enum Call {
     AsBytes,
     ToRustString,
@@ -122,16 +112,11 @@ fn copies_characters(heap: &Refusing<Global>, string: CStr16<'_>) -> Result<bool
 }
 
 /// Whether characters with these faults are refused for them, a string's with its NUL too.
-fn reports_faults_of_characters(heap: &Refusing<Global>, inputs: &Inputs) -> bool {
-    CStr16::from_char16_until_nul(heap, &inputs.open).err() == Some(FromSliceUntilNulError::NoNul)
-        && CStr16::from_char16_with_nul(heap, &inputs.inner).err()
+fn reports_faults_of_characters(heap: &Refusing<Global>, inputs: Inputs<'_>) -> bool {
+    CStr16::from_char16_until_nul(heap, inputs.open).err() == Some(FromSliceUntilNulError::NoNul)
+        && CStr16::from_char16_with_nul(heap, inputs.inner).err()
             == Some(FromSliceWithNulError::InteriorNul(1))
-        && inputs
-            .text
-            .as_cstr16()
-            .as_slice_with_nul()
-            .to_cstring16(heap)
-            .err()
+        && inputs.text.as_slice_with_nul().to_cstring16(heap).err()
             == Some(FromStrError::InteriorNul)
 }
 
@@ -141,16 +126,16 @@ fn reports_faults_of_bytes(heap: &Refusing<Global>) -> bool {
 }
 
 /// Whether a call gives what ample memory gives, or memory ran out.
-fn answers(call: Call, heap: &Refusing<Global>, inputs: &Inputs) -> Result<bool, AllocError> {
-    let text = inputs.text.as_cstr16();
+fn answers(call: Call, heap: &Refusing<Global>, inputs: Inputs<'_>) -> Result<bool, AllocError> {
+    let text = inputs.text;
     match call {
         Call::AsBytes => gives_bytes(heap, text),
         Call::ToRustString => gives_rust_text(heap, text),
         Call::AddUtf8To => adds_bytes(heap, text),
-        Call::AsStrInBuf => fills_sink(heap, inputs.long.as_cstr16()),
-        Call::FromChar16UntilNul => until_nul(heap, &inputs.list, text),
+        Call::AsStrInBuf => fills_sink(heap, inputs.long),
+        Call::FromChar16UntilNul => until_nul(heap, inputs.list, text),
         Call::FromChar16WithNul => {
-            outcome(CStr16::from_char16_with_nul(heap, &inputs.list), text)
+            outcome(CStr16::from_char16_with_nul(heap, inputs.list), text)
         }
         Call::FromBytesWithNul => outcome(CStr16::from_bytes_with_nul(heap, &BYTES), text),
         Call::ToCString16 => copies_characters(heap, text),
@@ -159,24 +144,40 @@ fn answers(call: Call, heap: &Refusing<Global>, inputs: &Inputs) -> Result<bool,
     }
 }
 
+/// The requests of a call, after those that come before it.
+fn count_of(rt: &HostRuntime, call: Call, setup: u64, inputs: Inputs<'_>) -> Result<u64, Fail> {
+    requests(rt.alloc(), setup, |heap| answers(call, heap, inputs))
+}
+
 /// Each call, how many requests come before it, and how many it makes at least and at most.
+const ROWS: [(Call, u64, u64, u64); 10] = [
+    (Call::AsBytes, 0, 1, 1),
+    (Call::ToRustString, 0, 1, 1),
+    (Call::AddUtf8To, 1, 1, 1),
+    (Call::AsStrInBuf, 0, 2, 99),
+    (Call::FromChar16UntilNul, 0, 1, 1),
+    (Call::FromChar16WithNul, 0, 1, 1),
+    (Call::FromBytesWithNul, 0, 1, 1),
+    (Call::ToCString16, 0, 1, 1),
+    (Call::RefusedCharacters, 0, 0, 0),
+    (Call::RefusedBytes, 0, 0, 0),
+];
+
 #[test]
 fn requests_of_each_call(rt: HostRuntime) -> Result<(), Fail> {
-    let inputs = given(&rt)?;
-    for (call, setup, least, most) in [
-        (Call::AsBytes, 0, 1, 1),
-        (Call::ToRustString, 0, 1, 1),
-        (Call::AddUtf8To, 1, 1, 1),
-        (Call::AsStrInBuf, 0, 2, 99),
-        (Call::FromChar16UntilNul, 0, 1, 1),
-        (Call::FromChar16WithNul, 0, 1, 1),
-        (Call::FromBytesWithNul, 0, 1, 1),
-        (Call::ToCString16, 0, 1, 1),
-        (Call::RefusedCharacters, 0, 0, 0),
-        (Call::RefusedBytes, 0, 0, 0),
-    ] {
-        let count = requests(rt.alloc(), setup, |heap| answers(call, heap, &inputs))?;
-        assert!(rt; least <= count && count <= most, "{call:?}: {count}");
+    let text = string(rt.alloc(), TEXT)?;
+    let long = string(rt.alloc(), LONG_TEXT)?;
+    let list = characters(&rt, &[97, 0, 98, 0, 97, 0xe9, 0x20ac, 0])?;
+    let inputs = Inputs {
+        text: text.as_cstr16(),
+        long: long.as_cstr16(),
+        list: list.get(4..).unwrap_or(&[]),
+        open: list.get(4..6).unwrap_or(&[]),
+        inner: list.get(..4).unwrap_or(&[]),
+    };
+    for (row, (call, setup, least, most)) in ROWS.into_iter().enumerate() {
+        let count = count_of(&rt, call, setup, inputs)?;
+        assert!(rt; least <= count && count <= most, "row {row}: {count}");
     }
     Ok(())
 }

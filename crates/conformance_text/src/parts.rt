@@ -1,30 +1,23 @@
 //! Characters that lie side by side: printed, compared, as keys, and read from both ends.
 
-use conformance::string;
+use conformance::has_text;
 use std::cmp::Ordering;
 use std::collections::HashSet;
 use std::test::Fail;
-use uefi_text::{CStr16, Char16, Char16Slice, FromStrError};
-
-/// Whether characters print this.
-fn prints(rt: &HostRuntime, part: Char16Slice<'_>, want: &str) -> Result<bool, Fail> {
-    Ok(part.to_string(rt.alloc())?.as_str() == want)
-}
+use uefi_text::{CStr16, Char16Slice, FromStrError};
 
 #[test]
 fn printed_parts(rt: HostRuntime) -> Result<(), Fail> {
     let string = CStr16::from_u16_with_nul(&[97, 0xe9, 0x20ac, 0])?;
-    assert!(rt; prints(&rt, string.as_slice(), "aé€")?);
-    assert!(rt; prints(&rt, string.as_slice_with_nul(), "aé€\0")?);
-    assert!(rt; prints(&rt, string.as_slice_with_nul().part(1, 2), "é")?);
+    let (text, all) = (string.as_slice(), string.as_slice_with_nul());
+    let printed = format!(in rt.alloc(); "{text} {all} {}", all.part(1, 2))?;
+    assert!(rt; printed.as_str() == "aé€ aé€\0 é");
     Ok(())
 }
 
-/// Whether the characters of two strings stand in this order.
-fn compare(a: &[u16], b: &[u16], want: Ordering) -> Result<bool, Fail> {
-    let (a, b) = (CStr16::from_u16_with_nul(a)?, CStr16::from_u16_with_nul(b)?);
-    let (a, b) = (a.as_slice(), b.as_slice());
-    Ok(a.cmp(&b) == want && a.partial_cmp(&b) == Some(want))
+/// Whether characters stand in this order.
+fn are_ordered(a: Char16Slice<'_>, b: Char16Slice<'_>, want: Ordering) -> bool {
+    a.cmp(&b) == want && a.partial_cmp(&b) == Some(want)
 }
 
 #[test]
@@ -36,7 +29,11 @@ fn order_of_parts(rt: HostRuntime) -> Result<(), Fail> {
         (&[0], &[97, 0], Ordering::Less),
     ];
     for (a, b, want) in rows {
-        assert!(rt; compare(a, b, want)?, "{a:?} and {b:?}");
+        let (left, right) = (CStr16::from_u16_with_nul(a)?, CStr16::from_u16_with_nul(b)?);
+        assert!(rt;
+            are_ordered(left.as_slice(), right.as_slice(), want),
+            "{a:?} and {b:?}"
+        );
     }
     Ok(())
 }
@@ -46,71 +43,82 @@ fn parts_in_a_hash_set(rt: HostRuntime) -> Result<(), Fail> {
     let string = CStr16::from_u16_with_nul(&[97, 98, 97, 0])?;
     let text = string.as_slice_with_nul();
     let mut seen = HashSet::new(rt.alloc());
-    assert!(rt; seen.insert(text.part(0, 1))?);
-    assert!(rt; seen.insert(text.part(1, 2))?);
-    assert!(rt; !seen.insert(text.part(2, 3))?);
+    for (part, is_new) in [
+        (text.part(0, 1), true),
+        (text.part(1, 2), true),
+        (text.part(2, 3), false),
+    ] {
+        assert!(rt; seen.insert(part)? == is_new, "{part}");
+    }
     Ok(())
+}
+
+/// Whether the characters of `abc` come from both ends, and none after them.
+fn come_from_both_ends(string: CStr16<'_>) -> bool {
+    let mut characters = string.iter();
+    characters.size_hint() == (3, Some(3))
+        && matches!(characters.next_back(), Some(c) if c.eq_char('c'))
+        && matches!(characters.next(), Some(c) if c.eq_char('a'))
+        && characters.size_hint() == (1, Some(1))
+        && matches!(characters.next_back(), Some(c) if c.eq_char('b'))
+        && characters.next_back().is_none()
+        && characters.next().is_none()
 }
 
 #[test]
 fn characters_from_both_ends(rt: HostRuntime) -> Result<(), Fail> {
     let string = CStr16::from_u16_with_nul(&[97, 98, 99, 0])?;
-    let mut characters = string.iter();
-    assert_eq!(rt; characters.size_hint(), (3, Some(3)));
-    assert_eq!(rt; characters.next_back().map(char::from), Some('c'));
-    assert_eq!(rt; characters.next().map(char::from), Some('a'));
-    assert_eq!(rt; characters.size_hint(), (1, Some(1)));
-    assert_eq!(rt; characters.next_back().map(char::from), Some('b'));
-    assert_eq!(rt; characters.next_back(), None);
-    assert_eq!(rt; characters.next(), None);
+    assert!(rt; come_from_both_ends(string));
     Ok(())
 }
 
-/// The last character of a string.
-fn last_of_string(string: CStr16<'_>) -> Option<Char16> {
-    let mut last = None;
+/// Whether this is the last character of a string.
+fn ends_string(string: CStr16<'_>, want: char) -> bool {
+    let mut is_right = false;
     for character in string {
-        last = Some(character);
+        is_right = character.eq_char(want);
     }
-    last
+    is_right
 }
 
-/// The last of characters.
-fn last_of_part(part: Char16Slice<'_>) -> Option<Char16> {
-    let mut last = None;
+/// Whether this is the last of characters.
+fn ends_part(part: Char16Slice<'_>, want: char) -> bool {
+    let mut is_right = false;
     for character in part {
-        last = Some(character);
+        is_right = character.eq_char(want);
     }
-    last
+    is_right
 }
 
 #[test]
 fn loops_over_characters(rt: HostRuntime) -> Result<(), Fail> {
     let string = CStr16::from_u16_with_nul(&[97, 0xe9, 0])?;
-    assert_eq!(rt; last_of_string(string).map(char::from), Some('é'));
-    assert_eq!(rt; last_of_part(string.as_slice()).map(char::from), Some('é'));
-    assert_eq!(rt;
-        last_of_part(string.as_slice_with_nul()).map(char::from),
-        Some('\0')
-    );
+    assert!(rt; ends_string(string, 'é'));
+    assert!(rt; ends_part(string.as_slice(), 'é'));
+    assert!(rt; ends_part(string.as_slice_with_nul(), '\0'));
     Ok(())
 }
 
-/// Whether characters become the string of a text.
-fn becomes(rt: &HostRuntime, part: Char16Slice<'_>, want: &str) -> Result<bool, Fail> {
-    Ok(part.to_cstring16(rt.alloc())? == string(rt.alloc(), want)?)
+/// Whether characters become the string of a text, or are refused for a NUL among them.
+fn becomes(rt: &HostRuntime, part: Char16Slice<'_>, want: Option<&str>) -> bool {
+    match (&part.to_cstring16(rt.alloc()), want) {
+        (Ok(string), Some(want)) => has_text(string.as_cstr16(), want),
+        (Err(error), None) => *error == FromStrError::InteriorNul,
+        _ => false,
+    }
 }
 
 #[test]
 fn parts_as_strings(rt: HostRuntime) -> Result<(), Fail> {
     let string = CStr16::from_u16_with_nul(&[97, 0xe9, 0])?;
     let all = string.as_slice_with_nul();
-    for (start, end, want) in [(0, 2, "aé"), (1, 2, "é"), (1, 1, "")] {
-        assert!(rt; becomes(&rt, all.part(start, end), want)?, "{want}");
+    for (part, want) in [
+        (all.part(0, 2), Some("aé")),
+        (all.part(1, 2), Some("é")),
+        (all.part(1, 1), Some("")),
+        (all, None),
+    ] {
+        assert!(rt; becomes(&rt, part, want), "{part}");
     }
-    assert_eq!(rt;
-        all.to_cstring16(rt.alloc()).err(),
-        Some(FromStrError::InteriorNul)
-    );
     Ok(())
 }

@@ -30,21 +30,6 @@ pub(crate) fn writes(
     Ok(CStr16::write_str(text, &mut buffer) == want && buffer.as_slice() == after)
 }
 
-/// The units of a string with its NUL, or why it was refused.
-fn units_of_text(
-    rt: &HostRuntime,
-    text: &str,
-    buffer: &mut [u16],
-) -> Result<Result<usize, FromStrWithBufError>, Fail> {
-    match CStr16::from_str_with_buf(text, buffer) {
-        Ok(string) if string.to_string(rt.alloc())?.as_str() == text => {
-            Ok(Ok(string.num_chars().saturating_add(1)))
-        }
-        Ok(_) => Err("another text".into()),
-        Err(error) => Ok(Err(error)),
-    }
-}
-
 /// Whether the text becomes a string in a buffer of nines or is refused for this cause, and the buffer
 /// then holds this.
 pub(crate) fn borrows(
@@ -54,7 +39,12 @@ pub(crate) fn borrows(
     after: &[u16],
 ) -> Result<bool, Fail> {
     let mut buffer = vec![in rt.alloc(); 9u16; after.len()]?;
-    Ok(units_of_text(rt, text, &mut buffer)? == want && buffer.as_slice() == after)
+    let is_right = match (CStr16::from_str_with_buf(text, &mut buffer), want) {
+        (Ok(string), Ok(len)) => Some(string.to_u16_slice_with_nul()) == after.get(..len),
+        (Err(error), Err(want)) => error == want,
+        _ => false,
+    };
+    Ok(is_right && buffer.as_slice() == after)
 }
 
 /// How many units are written of a text into nines, or why they are no string, and what stands

@@ -1,6 +1,6 @@
 //! Borrowed strings of code units.
 
-use conformance::string;
+use conformance::{has_text, string};
 use std::test::Fail;
 use uefi_text::{CStr16, CString16, FromSliceUntilNulError, FromSliceWithNulError, NUL_16};
 
@@ -47,13 +47,13 @@ fn prints(rt: &HostRuntime, string: CStr16<'_>, text: &str) -> Result<bool, Fail
     Ok(string.to_string(rt.alloc())?.as_str() == text && string.is_ascii() == text.is_ascii())
 }
 
-/// Whether the copy of a string equals it both ways, and the string of this text.
+/// Whether the copy of a string equals it both ways, and has this text.
 fn copies(rt: &HostRuntime, borrowed: CStr16<'_>, text: &str) -> Result<bool, Fail> {
     let owned = borrowed.to_owned(rt.alloc())?;
     Ok(
         owned.as_cstr16().eq_cstr16(borrowed)
             && borrowed.eq_cstr16(owned.as_cstr16())
-            && owned == string(rt.alloc(), text)?,
+            && has_text(owned.as_cstr16(), text),
     )
 }
 
@@ -70,110 +70,100 @@ fn accepted_units_until_nul(rt: HostRuntime) -> Result<(), Fail> {
     ];
     for (units, text) in rows {
         let string = CStr16::from_u16_until_nul(units)?;
-        assert!(rt; prints(&rt, string, text)?, "{text}");
-        assert!(rt; copies(&rt, string, text)?, "{text}");
+        assert!(rt;
+            prints(&rt, string, text)? && copies(&rt, string, text)?,
+            "{text}"
+        );
     }
-    Ok(())
-}
-
-#[test]
-fn sizes_of_a_string(rt: HostRuntime) -> Result<(), Fail> {
-    let abc = CStr16::from_u16_with_nul(&[65, 66, 67, 0])?;
-    assert_eq!(rt; abc.num_chars(), 3);
-    assert_eq!(rt; abc.num_bytes(), 8);
-    assert!(rt; !abc.eq_cstr16(CStr16::from_u16_with_nul(&[65, 66, 68, 0])?));
     Ok(())
 }
 
 /// Whether a string has these code units, the last its NUL.
 fn has_units(string: CStr16<'_>, units: &[u16]) -> bool {
+    let text = units.get(..string.num_chars()).unwrap_or(&[]);
     string.to_u16_slice_with_nul() == units
         && string.as_slice_with_nul().units() == units
-        && Some(string.as_slice().units()) == units.split_last().map(|(_, others)| others)
-        && string.num_chars().checked_add(1) == Some(units.len())
+        && string.as_slice().units() == text
+        && text.len().saturating_add(1) == units.len()
+        && string.num_bytes() == units.len().saturating_mul(2)
 }
 
-/// Whether a borrowed and an owned string are equal, and have the size of this text.
-fn have_one_size(borrowed: CStr16<'_>, owned: &CString16, text: &str) -> bool {
-    borrowed == owned.as_cstr16()
+/// Whether a borrowed and an owned string are equal, have these units, and are as empty.
+fn are_one(borrowed: CStr16<'_>, owned: &CString16, units: &[u16]) -> bool {
+    has_units(borrowed, units)
+        && has_units(owned.as_cstr16(), units)
+        && borrowed == owned.as_cstr16()
         && owned.num_chars() == borrowed.num_chars()
-        && borrowed.is_empty() == text.is_empty()
+        && borrowed.is_empty() == (units.len() == 1)
         && owned.is_empty() == borrowed.is_empty()
 }
 
+/// Units, and the text whose string they are, as borrowed, copied and made of the text.
 #[test]
 fn accepted_units(rt: HostRuntime) -> Result<(), Fail> {
-    let rows: [(&[u16], &str); 5] = [
+    let rows: [(&[u16], &str); 8] = [
         (&[65, 0], "A"),
         (&[97, 0], "a"),
         (&[0], ""),
         (&[0xd7ff, 0xe000, 0xffff, 0], "\u{d7ff}\u{e000}\u{ffff}"),
         (&[0x48, 0xe9, 0], "Hé"),
+        (&[120, 0], "x"),
+        (&[65, 66, 67, 0], "ABC"),
+        (&[97, 98, 0], "ab"),
     ];
     for (units, text) in rows {
         let borrowed = CStr16::from_u16_with_nul(units)?;
-        assert!(rt; has_units(borrowed, units), "{text}");
         assert!(rt;
-            have_one_size(borrowed, &string(rt.alloc(), text)?, text),
+            are_one(borrowed, &string(rt.alloc(), text)?, units),
+            "{text}"
+        );
+        assert!(rt;
+            are_one(borrowed, &borrowed.to_owned(rt.alloc())?, units),
             "{text}"
         );
     }
     Ok(())
 }
 
-/// Whether a string and its copy have these code units, the last their NUL.
-fn keeps_units(rt: &HostRuntime, string: &CString16, units: &[u16]) -> Result<bool, Fail> {
-    let borrowed = string.as_cstr16();
-    let copy = borrowed.to_owned(rt.alloc())?;
-    Ok(has_units(borrowed, units) && has_units(copy.as_cstr16(), units))
+/// Whether a string of three characters says so, and equals no other of three.
+fn are_three(string: CStr16<'_>, other: CStr16<'_>) -> bool {
+    string.num_chars() == 3 && string.num_bytes() == 8 && !string.eq_cstr16(other)
 }
 
 #[test]
-fn units_of_texts(rt: HostRuntime) -> Result<(), Fail> {
-    let rows: [(&str, &[u16]); 3] = [
-        ("x", &[120, 0]),
-        ("ABC", &[65, 66, 67, 0]),
-        ("ab", &[97, 98, 0]),
-    ];
-    for (text, units) in rows {
-        assert!(rt;
-            keeps_units(&rt, &string(rt.alloc(), text)?, units)?,
-            "{text}"
-        );
-    }
+fn sizes_of_a_string(rt: HostRuntime) -> Result<(), Fail> {
+    let abc = CStr16::from_u16_with_nul(&[65, 66, 67, 0])?;
+    let abd = CStr16::from_u16_with_nul(&[65, 66, 68, 0])?;
+    assert!(rt; are_three(abc, abd));
     Ok(())
+}
+
+/// Whether the characters of `H€` come in turn, and none after them, however often one asks; and none of
+/// them is the NUL.
+fn come_in_turn(string: CStr16<'_>) -> bool {
+    let mut characters = string.iter();
+    matches!(characters.next(), Some(c) if c.eq_char('H') && !c.eq_char('\0'))
+        && matches!(characters.next(), Some(c) if c.eq_char('€') && !c.eq_char('\0'))
+        && characters.next().is_none()
+        && characters.next().is_none()
+}
+
+/// Whether the characters of `H€` with its NUL are three, and the parts of them are what they should be.
+fn come_with_nul(string: CStr16<'_>) -> bool {
+    let all = string.as_slice_with_nul();
+    all.len() == 3
+        && all.get(2) == Some(NUL_16)
+        && all.get(3).is_none()
+        && all.part(0, 2) == string.as_slice()
+        && all.part(1, 1).is_empty()
+        && all.iter().count() == 3
 }
 
 #[test]
 fn characters_of_a_string(rt: HostRuntime) -> Result<(), Fail> {
     let string = CStr16::from_u16_with_nul(&[0x48, 0x20ac, 0])?;
-    let mut characters = string.iter();
-    assert_eq!(rt; characters.next().map(char::from), Some('H'));
-    assert_eq!(rt; characters.next().map(char::from), Some('€'));
-    assert_eq!(rt; characters.next(), None);
-    assert_eq!(rt; characters.next(), None);
-    Ok(())
-}
-
-#[test]
-fn characters_with_the_nul(rt: HostRuntime) -> Result<(), Fail> {
-    let string = CStr16::from_u16_with_nul(&[0x48, 0x20ac, 0])?;
-    let all = string.as_slice_with_nul();
-    assert_eq!(rt; all.len(), 3);
-    assert_eq!(rt; all.get(2), Some(NUL_16));
-    assert_eq!(rt; all.get(3), None);
-    assert!(rt; all.part(0, 2) == string.as_slice());
-    assert!(rt; all.part(1, 1).is_empty());
-    assert_eq!(rt; all.iter().count(), 3);
-    Ok(())
-}
-
-/// No character of a string is its NUL.
-#[test]
-fn characters_without_the_nul(rt: HostRuntime) -> Result<(), Fail> {
-    for character in string(rt.alloc(), "hi")?.as_cstr16().iter() {
-        assert!(rt; !character.eq_char('\0'));
-    }
+    assert!(rt; come_in_turn(string));
+    assert!(rt; come_with_nul(string));
     Ok(())
 }
 
@@ -181,9 +171,6 @@ fn characters_without_the_nul(rt: HostRuntime) -> Result<(), Fail> {
 fn printed_for_programmers(rt: HostRuntime) -> Result<(), Fail> {
     let string = string(rt.alloc(), "é\n")?;
     let printed = format!(in rt.alloc(); "{string:?} {:?}", string.as_cstr16())?;
-    assert_eq!(rt;
-        printed.as_str(),
-        "CString16(['é', '\\n']) CStr16(['é', '\\n'])"
-    );
+    assert!(rt; printed.as_str() == "CString16(['é', '\\n']) CStr16(['é', '\\n'])");
     Ok(())
 }
