@@ -13,6 +13,7 @@ pub(crate) enum Verdict {
     Empty,
     EmptyComponent,
     IllegalChar(u16),
+    ClimbsAboveRoot,
 }
 
 /// Whether a path is judged so.
@@ -26,6 +27,7 @@ fn is_judged(path: Path<'_>, want: Verdict) -> bool {
             Ok(character) => judged == Err(PathError::IllegalChar(character)),
             Err(_) => false,
         },
+        Verdict::ClimbsAboveRoot => judged == Err(PathError::ClimbsAboveRoot),
     }
 }
 
@@ -44,13 +46,15 @@ pub(crate) fn are_judged(
 }
 
 /// Texts, and how their paths are judged, borrowed and in a buffer.
-const ROWS: [(&str, Verdict, Verdict); 29] = [
+const ROWS: [(&str, Verdict, Verdict); 38] = [
     ("\\", Verdict::Accepted, Verdict::Accepted),
     ("a", Verdict::Accepted, Verdict::Accepted),
     ("\\a", Verdict::Accepted, Verdict::Accepted),
     ("\\a\\b", Verdict::Accepted, Verdict::Accepted),
     (".", Verdict::Accepted, Verdict::Accepted),
-    ("..", Verdict::Accepted, Verdict::Accepted),
+    ("a\\..", Verdict::Accepted, Verdict::Accepted),
+    ("a\\.\\..", Verdict::Accepted, Verdict::Accepted),
+    ("a\\b\\..\\..", Verdict::Accepted, Verdict::Accepted),
     ("a\\..\\b", Verdict::Accepted, Verdict::Accepted),
     ("é\\ \\~", Verdict::Accepted, Verdict::Accepted),
     ("hello\\foo\\bar", Verdict::Accepted, Verdict::Accepted),
@@ -82,6 +86,29 @@ const ROWS: [(&str, Verdict, Verdict); 29] = [
         "a>b\\\\c",
         Verdict::IllegalChar(62),
         Verdict::IllegalChar(62),
+    ),
+    ("..", Verdict::ClimbsAboveRoot, Verdict::ClimbsAboveRoot),
+    (".\\..", Verdict::ClimbsAboveRoot, Verdict::ClimbsAboveRoot),
+    (
+        "a\\..\\..\\b>",
+        Verdict::ClimbsAboveRoot,
+        Verdict::ClimbsAboveRoot,
+    ),
+    (
+        "a\\b\\..\\..\\..",
+        Verdict::ClimbsAboveRoot,
+        Verdict::ClimbsAboveRoot,
+    ),
+    ("..>", Verdict::IllegalChar(62), Verdict::IllegalChar(62)),
+    (
+        "b>\\..\\..",
+        Verdict::IllegalChar(62),
+        Verdict::IllegalChar(62),
+    ),
+    (
+        "a\\\\..\\..",
+        Verdict::EmptyComponent,
+        Verdict::EmptyComponent,
     ),
     ("a/b", Verdict::IllegalChar(47), Verdict::Accepted),
     ("a\\b?*", Verdict::IllegalChar(63), Verdict::IllegalChar(63)),

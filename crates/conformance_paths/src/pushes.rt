@@ -55,9 +55,11 @@ pub(crate) fn joins_and_pushes(
 ) -> Result<bool, Fail> {
     let (text, other) = (string(rt.alloc(), text)?, string(rt.alloc(), other)?);
     let (path, other) = (Path::new(text.as_cstr16()), Path::new(other.as_cstr16()));
-    Ok(joins(rt, path, other, want)?
-        && pushes(rt, path, other, want)?
-        && pushes_counted(rt, path, other, want)?)
+    Ok(
+        joins(rt, path, other, want)?
+            && pushes(rt, path, other, want)?
+            && pushes_counted(rt, path, other, want)?,
+    )
 }
 
 #[test]

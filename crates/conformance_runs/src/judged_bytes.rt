@@ -18,11 +18,10 @@ fn is_refused(rt: &HostRuntime, bytes: &[u8], want: JudgeError) -> bool {
 
 #[test]
 fn accepted_bytes(rt: HostRuntime) {
-    let rows: [(&[u8], &str); 4] = [
+    let rows: [(&[u8], &str); 3] = [
         (&[0x2f, 0, 0x61, 0, 0, 0], "\\a"),
         (&[0x5c, 0, 0, 0], "\\"),
         (&[0xff, 0xff, 0, 0], "\u{ffff}"),
-        (&[0x2e, 0, 0x2e, 0, 0, 0], ".."),
     ];
     for (bytes, want) in rows {
         assert!(rt; accepts(&rt, bytes, want), "{bytes:?}");
@@ -32,7 +31,7 @@ fn accepted_bytes(rt: HostRuntime) {
 #[test]
 fn refused_bytes(rt: HostRuntime) -> Result<(), Fail> {
     let illegal = PathError::IllegalChar(Char16::try_from('>')?);
-    let rows: [(&[u8], JudgeError); 11] = [
+    let rows: [(&[u8], JudgeError); 12] = [
         (&[0x61, 0, 0], JudgeError::HalfUnit),
         (&[0], JudgeError::HalfUnit),
         (
@@ -65,6 +64,10 @@ fn refused_bytes(rt: HostRuntime) -> Result<(), Fail> {
             JudgeError::Invalid(PathError::EmptyComponent),
         ),
         (&[0x61, 0, 0x3e, 0, 0, 0], JudgeError::Invalid(illegal)),
+        (
+            &[0x2e, 0, 0x2e, 0, 0, 0],
+            JudgeError::Invalid(PathError::ClimbsAboveRoot),
+        ),
     ];
     for (bytes, want) in rows {
         assert!(rt; is_refused(&rt, bytes, want), "{bytes:?}");

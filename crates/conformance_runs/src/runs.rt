@@ -57,6 +57,11 @@ fn lines_that_change_the_path(rt: HostRuntime) {
             "= a\\..\\b\n= b\npieces 3\n| a\n| ..\n| b\n= \npath is empty\n? unknown command\n",
         ),
         (
+            "from ..\\a\ncheck\nnorm\nparent\ncheck\n",
+            "= ..\\a\npath climbs above the root\npath climbs above the root\n= ..\n\
+             path climbs above the root\n",
+        ),
+        (
             "from a/b\neq a/b\ncmp \\a\\b\ncmp a\njoin \\\npieces\ncheck\nup\n",
             "= a\\b\ndifferent\nequal\ngreater\n= a\\b\\\\\npieces 4\n| a\n| b\n| \n| \n\
              path contains an empty component\nparents 3\n| a\\b\\\n| a\\b\n| a\n",

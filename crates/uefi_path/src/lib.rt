@@ -5,7 +5,9 @@
 //! equal exactly when their canonical texts are and ordered as these are, and a path's *components*
 //! are the pieces between the separators of its canonical text, empty ones too. The empty path and
 //! the lone separator have none. A `PathBuf` replaces each `/` that it takes over by a separator; a
-//! `Path` replaces nothing. [`validate_path`] says whether each component may name a file.
+//! `Path` replaces nothing. [`validate_path`] says whether each
+//! component may name a file and none climbs above where the path starts, and [`Path::normalize`] gives the
+//! one path without `.` and `..` that such a path leads to.
 //!
 //! ```rust
 //! use std::alloc::AllocError;

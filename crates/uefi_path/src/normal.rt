@@ -1,4 +1,4 @@
-//! Normal paths: no `.`, and no `..` right after a name. `specs/NormalForms.antt` says what they are.
+//! Normal paths, which hold names alone: no `.` and no `..`. `specs/NormalForms.antt` says what they are.
 ghost use Rattle.std.specs.Prelude.{◌≡◌, ◌↔◌, ◌++◌, ◌∷◌, All, IfErr, IfOk, IsTrue, List, None, Some, if◌then◌else◌, length, map, ℕ};
 ghost use Rattle.uefi_path.specs.Climbing.{depth_after};
 ghost use Rattle.uefi_path.specs.Components.{components_of};
@@ -125,9 +125,10 @@ impl<'a> Path<'a> {
     /// component `..` right after it, until neither is left. A name is any other component, and where
     /// nothing is left the path is the lone separator. The path itself stays as it is.
     ///
-    /// A path that is not valid is refused as `Invalid`, with what [`validate_path`]
-    /// reports; only then, refused memory as `OutOfMemory`. One pass over the components, and another
-    /// only where memory is refused on the way. Takes memory for those that are kept on the way, and for the normal path as [`PathBuf::from`] does.
+    /// A path that is not valid is refused as `Invalid`, with what [`validate_path`] reports; only then,
+    /// refused memory as `OutOfMemory`. One pass over the components, and another only where memory is
+    /// refused on the way. Takes memory for the names that are kept on the way, and for the normal path as
+    /// [`PathBuf::from`] does.
     pub fn normalize<A: Allocator + Copy>(&self, alloc: A) -> Result<PathBuf<A>, NormalizeError>
         ensures valid { IfOk result (λ path. verdict (path_text self.now) ≡ None) }
         ensures ok { IfOk result (λ path. path ≡ normal_text (normal_of (components_of (path_text self.now)))) }
