@@ -45,4 +45,5 @@ places_of text = places_from 0 text
 abbrev pub bit_places : ℕ → ℕ → ℕ → List ℕ
 bit_places zero start bits = []
 bit_places (suc count) start bits =
-    if bits % 2 == 1 then start ∷ bit_places count (start + 1) (bits / 2) else bit_places count (start + 1) (bits / 2)
+    if bits % 2 == 1 then start ∷ bit_places count (start + 1) (bits / 2)
+    else bit_places count (start + 1) (bits / 2)

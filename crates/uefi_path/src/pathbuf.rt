@@ -268,7 +268,8 @@ impl<A: Allocator + Copy> PathBuf<A> {
         ensures err { OnErr result (self.new ≡ self.old) }
         ensures empty { counted_text units.old ≡ [] → IsOk result }
         ensures text { counted_text units.new ≡ counted_text units.old }
-        ensures once { OnOk result (reads_of units.new ≡ reads_of units.old + length (counted_text units.old)) }
+        ensures once { OnOk result (reads_of units.new
+            ≡ reads_of units.old + length (counted_text units.old)) }
         ensures at_most { reads_of units.new ≤ reads_of units.old + length (counted_text units.old) }
     {
         let len = units.len();
@@ -295,7 +296,8 @@ impl<A: Allocator + Copy> PathBuf<A> {
         ensures ok { OnOk result (self.new ≡ pushed self.old (counted_text units.old)) }
         ensures err { OnErr result (self.new ≡ self.old) }
         ensures text { counted_text units.new ≡ counted_text units.old }
-        ensures once { OnOk result (reads_of units.new ≡ reads_of units.old + length (counted_text units.old)) }
+        ensures once { OnOk result (reads_of units.new
+            ≡ reads_of units.old + length (counted_text units.old)) }
         ensures at_most { reads_of units.new ≤ reads_of units.old + length (counted_text units.old) }
     {
         let (end, known) = (self.string.num_chars(), self.places.len());

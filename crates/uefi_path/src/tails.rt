@@ -50,7 +50,8 @@ fn write_units<A: Allocator>(
         ≡ places.old.items ++ places_from start (with_separators (counted_text units.old))) }
     ensures kept { take (length places.old.items) places.new.items ≡ places.old.items }
     ensures text { counted_text units.new ≡ counted_text units.old }
-    ensures once { OnOk result (reads_of units.new ≡ reads_of units.old + length (counted_text units.old)) }
+    ensures once { OnOk result (reads_of units.new
+        ≡ reads_of units.old + length (counted_text units.old)) }
     ensures at_most { reads_of units.new ≤ reads_of units.old + length (counted_text units.old) }
 {
     for i in 0..tail.len() {
@@ -121,7 +122,8 @@ fn write_replaced<A: Allocator>(
         ≡ places.old.items ++ places_from start (with_separators (counted_text units.old))) }
     ensures kept { take (length places.old.items) places.new.items ≡ places.old.items }
     ensures text { counted_text units.new ≡ counted_text units.old }
-    ensures once { OnOk result (reads_of units.new ≡ reads_of units.old + length (counted_text units.old)) }
+    ensures once { OnOk result (reads_of units.new
+        ≡ reads_of units.old + length (counted_text units.old)) }
     ensures at_most { reads_of units.new ≤ reads_of units.old + length (counted_text units.old) }
 {
     if tail.len() < SHORT {
@@ -154,7 +156,8 @@ pub(crate) fn make_tail<A: Allocator>(
         else with_separators (counted_text units.old))) }
     ensures kept { take (length places.old.items) places.new.items ≡ places.old.items }
     ensures text { counted_text units.new ≡ counted_text units.old }
-    ensures once { OnOk result (reads_of units.new ≡ reads_of units.old + length (counted_text units.old)) }
+    ensures once { OnOk result (reads_of units.new
+        ≡ reads_of units.old + length (counted_text units.old)) }
     ensures at_most { reads_of units.new ≤ reads_of units.old + length (counted_text units.old) }
 {
     let len = units.len();
