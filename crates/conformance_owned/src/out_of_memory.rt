@@ -223,7 +223,7 @@ fn count_of(rt: &HostRuntime, call: Call, setup: u64, part: CStr16<'_>) -> Resul
 }
 
 /// Each call, how many requests come before it, and how many it makes at least and at most.
-const ROWS: [(Call, u64, u64, u64); 32] = [
+const ROWS: &[(Call, u64, u64, u64)] = &[
     (Call::New, 0, 1, 1),
     (Call::WithCapacity, 0, 1, 1),
     (Call::TryFromStr(""), 0, 1, 1),
@@ -288,9 +288,9 @@ const ROWS: [(Call, u64, u64, u64); 32] = [
 #[test]
 fn requests_of_each_call(rt: HostRuntime) -> Result<(), Fail> {
     let part = CStr16::from_u16_with_nul(&[97, 47, 0xe9, 0])?;
-    for (row, (call, setup, least, most)) in ROWS.into_iter().enumerate() {
-        let count = count_of(&rt, call, setup, part)?;
-        assert!(rt; least <= count && count <= most, "row {row}: {count}");
+    for (row, (call, setup, least, most)) in ROWS.iter().enumerate() {
+        let count = count_of(&rt, *call, *setup, part)?;
+        assert!(rt; *least <= count && count <= *most, "row {row}: {count}");
     }
     Ok(())
 }

@@ -12,14 +12,17 @@ fn becomes(rt: &HostRuntime, text: CStr16<'_>, want: &str) -> Result<bool, Fail>
     Ok(shows(&path, want) && path == buffer(rt, want)?)
 }
 
+/// Texts, and those of their buffers.
+const REPLACED: &[(&str, &str)] = &[
+    ("", ""),
+    ("/", "\\"),
+    ("/a//b\\", "\\a\\\\b\\"),
+    ("\\hello\\foo\\bar", "\\hello\\foo\\bar"),
+];
+
 #[test]
 fn replaced_slashes(rt: HostRuntime) -> Result<(), Fail> {
-    for (text, want) in [
-        ("", ""),
-        ("/", "\\"),
-        ("/a//b\\", "\\a\\\\b\\"),
-        ("\\hello\\foo\\bar", "\\hello\\foo\\bar"),
-    ] {
+    for (text, want) in REPLACED {
         let string = string(rt.alloc(), text)?;
         assert!(rt; becomes(&rt, string.as_cstr16(), want)?, "{text}");
         assert!(rt; shows(&buffer(&rt, text)?, want), "{text}");
@@ -40,24 +43,27 @@ fn prints(rt: &HostRuntime, path: Path<'_>, want: &str) -> Result<bool, Fail> {
     Ok(format!(in rt.alloc(); "{path} {path:?} {buffer} {buffer:?}")?.as_str() == want)
 }
 
+/// Texts, and what their paths and buffers print.
+const PRINTED: &[(&str, &str)] = &[
+    ("", " Path(CStr16([]))  PathBuf(CStr16([]))"),
+    (
+        "\\a",
+        "\\a Path(CStr16(['\\\\', 'a'])) \\a PathBuf(CStr16(['\\\\', 'a']))",
+    ),
+    (
+        "/a",
+        "/a Path(CStr16(['/', 'a'])) \\a PathBuf(CStr16(['\\\\', 'a']))",
+    ),
+    (
+        "/a\\é",
+        "/a\\é Path(CStr16(['/', 'a', '\\\\', 'é'])) \
+             \\a\\é PathBuf(CStr16(['\\\\', 'a', '\\\\', 'é']))",
+    ),
+];
+
 #[test]
 fn printed_paths(rt: HostRuntime) -> Result<(), Fail> {
-    for (text, want) in [
-        ("", " Path(CStr16([]))  PathBuf(CStr16([]))"),
-        (
-            "\\a",
-            "\\a Path(CStr16(['\\\\', 'a'])) \\a PathBuf(CStr16(['\\\\', 'a']))",
-        ),
-        (
-            "/a",
-            "/a Path(CStr16(['/', 'a'])) \\a PathBuf(CStr16(['\\\\', 'a']))",
-        ),
-        (
-            "/a\\é",
-            "/a\\é Path(CStr16(['/', 'a', '\\\\', 'é'])) \
-             \\a\\é PathBuf(CStr16(['\\\\', 'a', '\\\\', 'é']))",
-        ),
-    ] {
+    for (text, want) in PRINTED {
         let string = string(rt.alloc(), text)?;
         assert!(rt; prints(&rt, Path::new(string.as_cstr16()), want)?, "{text}");
     }

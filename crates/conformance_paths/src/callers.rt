@@ -43,17 +43,20 @@ fn is_named(rt: &HostRuntime, text: &str, want: Option<&str>) -> Result<bool, Fa
     }
 }
 
+/// Paths, and the names of the files that they lead to.
+const NAMES: &[(&str, Option<&str>)] = &[
+    ("", None),
+    ("\\", None),
+    ("a", Some("a")),
+    ("\\efi\\boot\\é.efi", Some("é.efi")),
+    ("a\\", Some("")),
+    ("a/b", Some("b")),
+];
+
 #[test]
 fn file_names(rt: HostRuntime) -> Result<(), Fail> {
-    for (text, want) in [
-        ("", None),
-        ("\\", None),
-        ("a", Some("a")),
-        ("\\efi\\boot\\é.efi", Some("é.efi")),
-        ("a\\", Some("")),
-        ("a/b", Some("b")),
-    ] {
-        assert!(rt; is_named(&rt, text, want)?, "{text}");
+    for (text, want) in NAMES {
+        assert!(rt; is_named(&rt, text, *want)?, "{text}");
     }
     Ok(())
 }
@@ -83,19 +86,22 @@ fn buffer_leaves(
     )
 }
 
+/// Paths, what they may start with, and how many components are left then.
+const PREFIXES: &[(&str, &str, Option<usize>)] = &[
+    ("a\\b\\c", "a\\b", Some(1)),
+    ("\\a\\b", "a\\b", Some(0)),
+    ("a\\b", "", Some(2)),
+    ("a\\bc", "a\\b", None),
+    ("a", "a\\b", None),
+    ("a\\", "a", Some(1)),
+    ("a\\b", "b", None),
+    ("", "", Some(0)),
+];
+
 #[test]
 fn stripped_prefixes(rt: HostRuntime) -> Result<(), Fail> {
-    for (text, base, want) in [
-        ("a\\b\\c", "a\\b", Some(1)),
-        ("\\a\\b", "a\\b", Some(0)),
-        ("a\\b", "", Some(2)),
-        ("a\\bc", "a\\b", None),
-        ("a", "a\\b", None),
-        ("a\\", "a", Some(1)),
-        ("a\\b", "b", None),
-        ("", "", Some(0)),
-    ] {
-        assert!(rt; buffer_leaves(&rt, text, base, want)?, "{text} and {base}");
+    for (text, base, want) in PREFIXES {
+        assert!(rt; buffer_leaves(&rt, text, base, *want)?, "{text} and {base}");
     }
     Ok(())
 }

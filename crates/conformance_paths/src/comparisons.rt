@@ -45,31 +45,33 @@ pub(crate) fn compare(
 }
 
 /// A slash separates components of a buffer alone.
+const ORDERS: &[(&str, &str, Ordering, Ordering)] = &[
+    ("a\\b", "a!", Ordering::Greater, Ordering::Greater),
+    ("a", "\\a", Ordering::Equal, Ordering::Equal),
+    ("\\a", "a", Ordering::Equal, Ordering::Equal),
+    ("\\x", "x", Ordering::Equal, Ordering::Equal),
+    ("", "\\", Ordering::Equal, Ordering::Equal),
+    ("\\\\a", "\\a", Ordering::Less, Ordering::Less),
+    ("\\a", "\\\\a", Ordering::Greater, Ordering::Greater),
+    ("", "a", Ordering::Less, Ordering::Less),
+    ("a", "b", Ordering::Less, Ordering::Less),
+    ("\\b", "a", Ordering::Greater, Ordering::Greater),
+    ("a", "a\\", Ordering::Less, Ordering::Less),
+    ("a\\b", "\\a\\b", Ordering::Equal, Ordering::Equal),
+    ("a\\b", "a\\b\\c", Ordering::Less, Ordering::Less),
+    (
+        "first\\second\\third",
+        "\\first\\second",
+        Ordering::Greater,
+        Ordering::Greater,
+    ),
+    ("a/b", "a\\b", Ordering::Less, Ordering::Equal),
+];
+
 #[test]
 fn ordered_by_canonical_text(rt: HostRuntime) -> Result<(), Fail> {
-    for (a, b, borrowed, owned) in [
-        ("a\\b", "a!", Ordering::Greater, Ordering::Greater),
-        ("a", "\\a", Ordering::Equal, Ordering::Equal),
-        ("\\a", "a", Ordering::Equal, Ordering::Equal),
-        ("\\x", "x", Ordering::Equal, Ordering::Equal),
-        ("", "\\", Ordering::Equal, Ordering::Equal),
-        ("\\\\a", "\\a", Ordering::Less, Ordering::Less),
-        ("\\a", "\\\\a", Ordering::Greater, Ordering::Greater),
-        ("", "a", Ordering::Less, Ordering::Less),
-        ("a", "b", Ordering::Less, Ordering::Less),
-        ("\\b", "a", Ordering::Greater, Ordering::Greater),
-        ("a", "a\\", Ordering::Less, Ordering::Less),
-        ("a\\b", "\\a\\b", Ordering::Equal, Ordering::Equal),
-        ("a\\b", "a\\b\\c", Ordering::Less, Ordering::Less),
-        (
-            "first\\second\\third",
-            "\\first\\second",
-            Ordering::Greater,
-            Ordering::Greater,
-        ),
-        ("a/b", "a\\b", Ordering::Less, Ordering::Equal),
-    ] {
-        assert!(rt; compare(&rt, a, b, borrowed, owned)?, "{a} and {b}");
+    for (a, b, borrowed, owned) in ORDERS {
+        assert!(rt; compare(&rt, a, b, *borrowed, *owned)?, "{a} and {b}");
     }
     Ok(())
 }

@@ -49,25 +49,27 @@ fn counts(rt: &HostRuntime, text: &str, borrowed: usize, owned: usize) -> Result
 
 /// The components, and how many the buffer of a text has: each slash separates components of a buffer
 /// alone.
+const COMPONENTS: &[(&str, &str, usize, usize)] = &[
+    ("", "", 0, 0),
+    ("/", "|/", 1, 0),
+    ("\\", "", 0, 0),
+    ("\\\\", "||", 2, 2),
+    ("a\\", "|a|", 2, 2),
+    ("foo\\bar\\hello", "|foo|bar|hello", 3, 3),
+    ("\\foo\\bar\\hello", "|foo|bar|hello", 3, 3),
+    ("\\hello\\foo\\bar", "|hello|foo|bar", 3, 3),
+    ("abc", "|abc", 1, 1),
+    ("\\\\\\a", "|||a", 3, 3),
+    ("\\\\a", "||a", 2, 2),
+    ("a/b\\c", "|a/b|c", 2, 3),
+    ("a\\b", "|a|b", 2, 2),
+    ("/a//b\\", "|/a//b|", 2, 4),
+];
+
 #[test]
 fn components_of_texts(rt: HostRuntime) -> Result<(), Fail> {
-    for (text, want, borrowed, owned) in [
-        ("", "", 0, 0),
-        ("/", "|/", 1, 0),
-        ("\\", "", 0, 0),
-        ("\\\\", "||", 2, 2),
-        ("a\\", "|a|", 2, 2),
-        ("foo\\bar\\hello", "|foo|bar|hello", 3, 3),
-        ("\\foo\\bar\\hello", "|foo|bar|hello", 3, 3),
-        ("\\hello\\foo\\bar", "|hello|foo|bar", 3, 3),
-        ("abc", "|abc", 1, 1),
-        ("\\\\\\a", "|||a", 3, 3),
-        ("\\\\a", "||a", 2, 2),
-        ("a/b\\c", "|a/b|c", 2, 3),
-        ("a\\b", "|a|b", 2, 2),
-        ("/a//b\\", "|/a//b|", 2, 4),
-    ] {
-        let is_right = has_components(&rt, text, want)? && counts(&rt, text, borrowed, owned)?;
+    for (text, want, borrowed, owned) in COMPONENTS {
+        let is_right = has_components(&rt, text, want)? && counts(&rt, text, *borrowed, *owned)?;
         assert!(rt; is_right, "{text}");
     }
     Ok(())

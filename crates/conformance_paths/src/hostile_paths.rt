@@ -6,7 +6,7 @@ use std::test::Fail;
 
 /// What stands among other characters, how the path is judged, and how its buffer is, in which each slash
 /// is replaced.
-const ROWS: [(&str, Verdict, Verdict); 20] = [
+const ROWS: &[(&str, Verdict, Verdict)] = &[
     ("a", Verdict::Accepted, Verdict::Accepted),
     ("a\\b", Verdict::Accepted, Verdict::Accepted),
     ("\u{ffff}", Verdict::Accepted, Verdict::Accepted),
@@ -50,7 +50,7 @@ fn text_of(rt: &HostRuntime, others: usize, place: usize, middle: &str) -> Resul
 /// Whether each row is judged as it has to be, at this place among this many others.
 fn are_all_judged(rt: &HostRuntime, others: usize, place: usize) -> Result<bool, Fail> {
     for (middle, borrowed, owned) in ROWS {
-        if !are_judged(rt, &text_of(rt, others, place, middle)?, borrowed, owned)? {
+        if !are_judged(rt, &text_of(rt, others, place, middle)?, *borrowed, *owned)? {
             return Ok(false);
         }
     }

@@ -46,7 +46,7 @@ pub(crate) fn are_judged(
 }
 
 /// Texts, and how their paths are judged, borrowed and in a buffer.
-const ROWS: [(&str, Verdict, Verdict); 38] = [
+const ROWS: &[(&str, Verdict, Verdict)] = &[
     ("\\", Verdict::Accepted, Verdict::Accepted),
     ("a", Verdict::Accepted, Verdict::Accepted),
     ("\\a", Verdict::Accepted, Verdict::Accepted),
@@ -122,7 +122,7 @@ const ROWS: [(&str, Verdict, Verdict); 38] = [
 #[test]
 fn judged_paths(rt: HostRuntime) -> Result<(), Fail> {
     for (text, borrowed, owned) in ROWS {
-        assert!(rt; are_judged(&rt, text, borrowed, owned)?, "{text}");
+        assert!(rt; are_judged(&rt, text, *borrowed, *owned)?, "{text}");
     }
     Ok(())
 }

@@ -39,32 +39,34 @@ pub(crate) fn has_parent(
 
 /// The parents of borrowed paths, and of buffers. The two differ where a slash separates components of the
 /// buffer alone.
+const PARENTS: &[(&str, Option<&str>, Option<&str>)] = &[
+    ("", None, None),
+    ("\\", None, None),
+    ("a", None, None),
+    ("\\a", None, None),
+    ("abc", None, None),
+    ("a\\", Some("a"), Some("a")),
+    ("a\\b", Some("a"), Some("a")),
+    ("\\a\\b", Some("a"), Some("a")),
+    ("a\\\\b", Some("a\\"), Some("a\\")),
+    ("a\\\\\\b", Some("a\\"), Some("a\\")),
+    ("a\\\\b\\c", Some("a\\b"), Some("a\\b")),
+    ("a\\b\\", Some("a\\b"), Some("a\\b")),
+    ("\\\\", Some(""), Some("")),
+    ("\\\\a", Some(""), Some("")),
+    ("\\\\\\a", Some(""), Some("")),
+    ("\\\\a\\b", Some("a"), Some("a")),
+    ("a\\b\\c", Some("a\\b"), Some("a\\b")),
+    ("a\\b\\c\\d", Some("a\\b\\c"), Some("a\\b\\c")),
+    ("a/b", None, Some("a")),
+    ("a/b\\c", Some("a\\b"), Some("a\\b")),
+    ("a/\\b\\c", Some("a\\\\b"), Some("a\\b")),
+];
+
 #[test]
 fn parents(rt: HostRuntime) -> Result<(), Fail> {
-    for (text, borrowed, owned) in [
-        ("", None, None),
-        ("\\", None, None),
-        ("a", None, None),
-        ("\\a", None, None),
-        ("abc", None, None),
-        ("a\\", Some("a"), Some("a")),
-        ("a\\b", Some("a"), Some("a")),
-        ("\\a\\b", Some("a"), Some("a")),
-        ("a\\\\b", Some("a\\"), Some("a\\")),
-        ("a\\\\\\b", Some("a\\"), Some("a\\")),
-        ("a\\\\b\\c", Some("a\\b"), Some("a\\b")),
-        ("a\\b\\", Some("a\\b"), Some("a\\b")),
-        ("\\\\", Some(""), Some("")),
-        ("\\\\a", Some(""), Some("")),
-        ("\\\\\\a", Some(""), Some("")),
-        ("\\\\a\\b", Some("a"), Some("a")),
-        ("a\\b\\c", Some("a\\b"), Some("a\\b")),
-        ("a\\b\\c\\d", Some("a\\b\\c"), Some("a\\b\\c")),
-        ("a/b", None, Some("a")),
-        ("a/b\\c", Some("a\\b"), Some("a\\b")),
-        ("a/\\b\\c", Some("a\\\\b"), Some("a\\b")),
-    ] {
-        assert!(rt; has_parent(&rt, text, borrowed, owned)?, "{text}");
+    for (text, borrowed, owned) in PARENTS {
+        assert!(rt; has_parent(&rt, text, *borrowed, *owned)?, "{text}");
     }
     Ok(())
 }

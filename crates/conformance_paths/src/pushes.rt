@@ -62,26 +62,29 @@ pub(crate) fn joins_and_pushes(
     )
 }
 
+/// Texts, what is pushed to them, and the text of the path then.
+const PUSHES: &[(&str, &str, &str)] = &[
+    ("", "", ""),
+    ("", "a", "a"),
+    ("", "/b", "\\b"),
+    ("", "\\x", "\\x"),
+    ("", "/x/y", "\\x\\y"),
+    ("a", "", "a"),
+    ("a", "b", "a\\b"),
+    ("a\\", "b", "a\\b"),
+    ("a/", "b", "a\\b"),
+    ("a", "/b", "a\\\\b"),
+    ("a", "\\b", "a\\\\b"),
+    ("\\first", "second", "\\first\\second"),
+    ("a", "b/c", "a\\b\\c"),
+    ("\\", "x", "\\x"),
+    ("\\", "\\x", "\\\\x"),
+    ("a\\b", "c\\d", "a\\b\\c\\d"),
+];
+
 #[test]
 fn pushed_and_joined(rt: HostRuntime) -> Result<(), Fail> {
-    for (text, other, want) in [
-        ("", "", ""),
-        ("", "a", "a"),
-        ("", "/b", "\\b"),
-        ("", "\\x", "\\x"),
-        ("", "/x/y", "\\x\\y"),
-        ("a", "", "a"),
-        ("a", "b", "a\\b"),
-        ("a\\", "b", "a\\b"),
-        ("a/", "b", "a\\b"),
-        ("a", "/b", "a\\\\b"),
-        ("a", "\\b", "a\\\\b"),
-        ("\\first", "second", "\\first\\second"),
-        ("a", "b/c", "a\\b\\c"),
-        ("\\", "x", "\\x"),
-        ("\\", "\\x", "\\\\x"),
-        ("a\\b", "c\\d", "a\\b\\c\\d"),
-    ] {
+    for (text, other, want) in PUSHES {
         assert!(rt; joins_and_pushes(&rt, text, other, want)?, "{text}, {want}");
     }
     Ok(())

@@ -9,7 +9,7 @@ const NOT_UTF8: &str = "? not UTF-8\npieces 0\n";
 
 /// The bytes that stand among others in a line after `from `, and what it prints, and `pieces` after it:
 /// there `<` is the others before them, and `>` those after them.
-const ROWS: [(&[u8], &str); 13] = [
+const ROWS: &[(&[u8], &str)] = &[
     (b"a", "= <a>\npieces 1\n| <a>\n"),
     (b"\xff", NOT_UTF8),
     // A byte inside of no character, an overlong form, a surrogate, and a character beyond the last.

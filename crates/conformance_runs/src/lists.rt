@@ -28,16 +28,19 @@ fn has_parents(rt: &HostRuntime, text: &str, want: &str) -> Result<bool, Fail> {
     Ok(are_barred(&all_parents(rt.alloc(), &path)?, want))
 }
 
+/// Paths, and their parents, a bar before each.
+const PARENTS: &[(&str, &str)] = &[
+    ("\\a\\b\\c", "|a\\b|a"),
+    ("a\\\\b", "|a\\|a"),
+    ("\\\\\\a", "|"),
+    ("a\\", "|a"),
+    ("\\", ""),
+    ("", ""),
+];
+
 #[test]
 fn successive_parents(rt: HostRuntime) -> Result<(), Fail> {
-    for (text, want) in [
-        ("\\a\\b\\c", "|a\\b|a"),
-        ("a\\\\b", "|a\\|a"),
-        ("\\\\\\a", "|"),
-        ("a\\", "|a"),
-        ("\\", ""),
-        ("", ""),
-    ] {
+    for (text, want) in PARENTS {
         assert!(rt; has_parents(&rt, text, want)?, "{text}");
     }
     Ok(())

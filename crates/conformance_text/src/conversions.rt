@@ -39,42 +39,43 @@ pub(crate) fn reads_with_nul(
 }
 
 /// Characters, what they are up to their first NUL, and what they are as a whole.
+const LISTS: &[(&[u16], Option<&str>, Result<&str, FromSliceWithNulError>)] = &[
+    (&[], None, Err(FromSliceWithNulError::NotNulTerminated)),
+    (
+        &[97, 98],
+        None,
+        Err(FromSliceWithNulError::NotNulTerminated),
+    ),
+    (&[97, 98, 0], Some("ab"), Ok("ab")),
+    (
+        &[97, 0, 98, 0],
+        Some("a"),
+        Err(FromSliceWithNulError::InteriorNul(1)),
+    ),
+    (
+        &[97, 0, 98],
+        Some("a"),
+        Err(FromSliceWithNulError::InteriorNul(1)),
+    ),
+    (&[0], Some(""), Ok("")),
+    (
+        &[0, 97],
+        Some(""),
+        Err(FromSliceWithNulError::InteriorNul(0)),
+    ),
+    (
+        &[0, 0],
+        Some(""),
+        Err(FromSliceWithNulError::InteriorNul(0)),
+    ),
+    (&[0xe9, 0x20ac, 0], Some("é€"), Ok("é€")),
+];
+
 #[test]
 fn lists_of_characters(rt: HostRuntime) -> Result<(), Fail> {
-    let rows: [(&[u16], Option<&str>, Result<&str, FromSliceWithNulError>); 9] = [
-        (&[], None, Err(FromSliceWithNulError::NotNulTerminated)),
-        (
-            &[97, 98],
-            None,
-            Err(FromSliceWithNulError::NotNulTerminated),
-        ),
-        (&[97, 98, 0], Some("ab"), Ok("ab")),
-        (
-            &[97, 0, 98, 0],
-            Some("a"),
-            Err(FromSliceWithNulError::InteriorNul(1)),
-        ),
-        (
-            &[97, 0, 98],
-            Some("a"),
-            Err(FromSliceWithNulError::InteriorNul(1)),
-        ),
-        (&[0], Some(""), Ok("")),
-        (
-            &[0, 97],
-            Some(""),
-            Err(FromSliceWithNulError::InteriorNul(0)),
-        ),
-        (
-            &[0, 0],
-            Some(""),
-            Err(FromSliceWithNulError::InteriorNul(0)),
-        ),
-        (&[0xe9, 0x20ac, 0], Some("é€"), Ok("é€")),
-    ];
-    for (units, until, whole) in rows {
+    for (units, until, whole) in LISTS {
         let list = characters(&rt, units)?;
-        let is_right = reads_until_nul(&rt, &list, until) && reads_with_nul(&rt, &list, whole);
+        let is_right = reads_until_nul(&rt, &list, *until) && reads_with_nul(&rt, &list, *whole);
         assert!(rt; is_right, "{units:?}");
     }
     Ok(())
@@ -95,29 +96,30 @@ fn is_refused_after(
 }
 
 /// Each row from an even place of memory and from an odd one.
+const REFUSED_BYTES: &[(&[u8], FromSliceWithNulError)] = &[
+    (&[], FromSliceWithNulError::NotNulTerminated),
+    (&[0], FromSliceWithNulError::NotNulTerminated),
+    (&[0x41, 0, 0], FromSliceWithNulError::NotNulTerminated),
+    (&[0x41, 0, 0x42, 0], FromSliceWithNulError::NotNulTerminated),
+    (&[0x41, 0, 0, 1], FromSliceWithNulError::NotNulTerminated),
+    (&[0, 0xd8], FromSliceWithNulError::NotNulTerminated),
+    (&[0, 0xd8, 0, 0], FromSliceWithNulError::InvalidChar(0)),
+    (&[0, 0, 0, 0], FromSliceWithNulError::InteriorNul(0)),
+    (
+        &[0x41, 0, 0, 0, 0x42, 0, 0, 0],
+        FromSliceWithNulError::InteriorNul(1),
+    ),
+    (
+        &[0x41, 0, 0x42, 0, 0],
+        FromSliceWithNulError::NotNulTerminated,
+    ),
+];
+
 #[test]
 fn refused_bytes(rt: HostRuntime) -> Result<(), Fail> {
-    let rows: [(&[u8], FromSliceWithNulError); 10] = [
-        (&[], FromSliceWithNulError::NotNulTerminated),
-        (&[0], FromSliceWithNulError::NotNulTerminated),
-        (&[0x41, 0, 0], FromSliceWithNulError::NotNulTerminated),
-        (&[0x41, 0, 0x42, 0], FromSliceWithNulError::NotNulTerminated),
-        (&[0x41, 0, 0, 1], FromSliceWithNulError::NotNulTerminated),
-        (&[0, 0xd8], FromSliceWithNulError::NotNulTerminated),
-        (&[0, 0xd8, 0, 0], FromSliceWithNulError::InvalidChar(0)),
-        (&[0, 0, 0, 0], FromSliceWithNulError::InteriorNul(0)),
-        (
-            &[0x41, 0, 0, 0, 0x42, 0, 0, 0],
-            FromSliceWithNulError::InteriorNul(1),
-        ),
-        (
-            &[0x41, 0, 0x42, 0, 0],
-            FromSliceWithNulError::NotNulTerminated,
-        ),
-    ];
-    for (bytes, want) in rows {
+    for (bytes, want) in REFUSED_BYTES {
         for count in [0, 1] {
-            assert!(rt; is_refused_after(&rt, count, bytes, want)?, "{bytes:?}");
+            assert!(rt; is_refused_after(&rt, count, bytes, *want)?, "{bytes:?}");
         }
     }
     Ok(())
@@ -131,15 +133,16 @@ pub(crate) fn has_bytes(rt: &HostRuntime, string: CStr16<'_>, bytes: &[u8]) -> R
     )
 }
 
+const BYTES: &[(&[u16], &[u8])] = &[
+    (&[0], &[0, 0]),
+    (&[97, 0], &[0x61, 0, 0, 0]),
+    (&[65, 66, 0], &[0x41, 0, 0x42, 0, 0, 0]),
+    (&[0xe9, 0xffff, 0], &[0xe9, 0, 0xff, 0xff, 0, 0]),
+];
+
 #[test]
 fn strings_and_their_bytes(rt: HostRuntime) -> Result<(), Fail> {
-    let rows: [(&[u16], &[u8]); 4] = [
-        (&[0], &[0, 0]),
-        (&[97, 0], &[0x61, 0, 0, 0]),
-        (&[65, 66, 0], &[0x41, 0, 0x42, 0, 0, 0]),
-        (&[0xe9, 0xffff, 0], &[0xe9, 0, 0xff, 0xff, 0, 0]),
-    ];
-    for (units, bytes) in rows {
+    for (units, bytes) in BYTES {
         let string = CStr16::from_u16_with_nul(units)?;
         assert!(rt; has_bytes(&rt, string, bytes)?, "{bytes:?}");
     }

@@ -16,7 +16,7 @@ const OTHERS: [(&str, u16); 3] = [("A", 65), ("é", 0xe9), ("€", 0x20ac)];
 /// which a text is refused, and what that is.
 type Row = (&'static str, &'static [u16], usize, Deciding);
 
-const MIDDLES: [Row; 14] = [
+const MIDDLES: &[Row] = &[
     ("", &[], 0, Deciding::None),
     ("\u{7f}", &[0x7f], 0, Deciding::None),
     ("\u{80}", &[0x80], 0, Deciding::None),
@@ -160,7 +160,7 @@ fn each_text(rt: HostRuntime) -> Result<(), Fail> {
     for (others, place) in &hostile_places(rt.alloc())? {
         for other in OTHERS {
             for row in MIDDLES {
-                let is_right = is_converted(&rt, *others, *place, other, row)?;
+                let is_right = is_converted(&rt, *others, *place, other, *row)?;
                 assert!(rt; is_right, "{:?} among {others}, at {place}", row.0);
             }
         }

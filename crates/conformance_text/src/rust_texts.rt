@@ -49,42 +49,43 @@ pub(crate) fn borrows(
 
 /// How many units are written of a text into nines, or why they are no string, and what stands
 /// there then.
+const BUFFERS: &[(&str, Result<usize, FromStrWithBufError>, &[u16])] = &[
+    ("A", Ok(2), &[65, 0, 9, 9]),
+    ("ABC", Ok(4), &[65, 66, 67, 0]),
+    (
+        "ABCD",
+        Err(FromStrWithBufError::BufferTooSmall),
+        &[65, 66, 67, 68],
+    ),
+    (
+        "ab😀",
+        Err(FromStrWithBufError::BufferTooSmall),
+        &[97, 98, 0xd83d, 0xde00],
+    ),
+    (
+        "abc😀",
+        Err(FromStrWithBufError::BufferTooSmall),
+        &[97, 98, 99, 0xd83d],
+    ),
+    (
+        "a😀",
+        Err(FromStrWithBufError::InvalidChar(1)),
+        &[97, 0xd83d, 0xde00, 0],
+    ),
+    (
+        "a\0b",
+        Err(FromStrWithBufError::InteriorNul(1)),
+        &[97, 0, 98, 0],
+    ),
+    ("", Err(FromStrWithBufError::BufferTooSmall), &[]),
+    ("", Ok(1), &[0]),
+];
+
 #[test]
 fn texts_in_buffers(rt: HostRuntime) -> Result<(), Fail> {
-    let rows: [(&str, Result<usize, FromStrWithBufError>, &[u16]); 9] = [
-        ("A", Ok(2), &[65, 0, 9, 9]),
-        ("ABC", Ok(4), &[65, 66, 67, 0]),
-        (
-            "ABCD",
-            Err(FromStrWithBufError::BufferTooSmall),
-            &[65, 66, 67, 68],
-        ),
-        (
-            "ab😀",
-            Err(FromStrWithBufError::BufferTooSmall),
-            &[97, 98, 0xd83d, 0xde00],
-        ),
-        (
-            "abc😀",
-            Err(FromStrWithBufError::BufferTooSmall),
-            &[97, 98, 99, 0xd83d],
-        ),
-        (
-            "a😀",
-            Err(FromStrWithBufError::InvalidChar(1)),
-            &[97, 0xd83d, 0xde00, 0],
-        ),
-        (
-            "a\0b",
-            Err(FromStrWithBufError::InteriorNul(1)),
-            &[97, 0, 98, 0],
-        ),
-        ("", Err(FromStrWithBufError::BufferTooSmall), &[]),
-        ("", Ok(1), &[0]),
-    ];
-    for (text, want, after) in rows {
-        assert!(rt; writes(&rt, text, want, after)?, "{after:?}");
-        assert!(rt; borrows(&rt, text, want, after)?, "{after:?}");
+    for (text, want, after) in BUFFERS {
+        assert!(rt; writes(&rt, text, *want, after)?, "{after:?}");
+        assert!(rt; borrows(&rt, text, *want, after)?, "{after:?}");
     }
     Ok(())
 }

@@ -57,18 +57,19 @@ fn copies(rt: &HostRuntime, borrowed: CStr16<'_>, text: &str) -> Result<bool, Fa
     )
 }
 
+const ACCEPTED_UNTIL_NUL: &[(&[u16], &str)] = &[
+    (&[97, 98, 0], "ab"),
+    (&[97, 98, 99, 0], "abc"),
+    (&[0xe9, 0], "é"),
+    (&[97, 0, 98, 0], "a"),
+    (&[97, 0, 0xd800], "a"),
+    (&[0], ""),
+    (&[0xe9, 0x20ac, 0xffff, 0], "é€\u{ffff}"),
+];
+
 #[test]
 fn accepted_units_until_nul(rt: HostRuntime) -> Result<(), Fail> {
-    let rows: [(&[u16], &str); 7] = [
-        (&[97, 98, 0], "ab"),
-        (&[97, 98, 99, 0], "abc"),
-        (&[0xe9, 0], "é"),
-        (&[97, 0, 98, 0], "a"),
-        (&[97, 0, 0xd800], "a"),
-        (&[0], ""),
-        (&[0xe9, 0x20ac, 0xffff, 0], "é€\u{ffff}"),
-    ];
-    for (units, text) in rows {
+    for (units, text) in ACCEPTED_UNTIL_NUL {
         let string = CStr16::from_u16_until_nul(units)?;
         assert!(rt;
             prints(&rt, string, text)? && copies(&rt, string, text)?,
@@ -99,19 +100,20 @@ fn are_one(borrowed: CStr16<'_>, owned: &CString16, units: &[u16]) -> bool {
 }
 
 /// Units, and the text whose string they are, as borrowed, copied and made of the text.
+const ACCEPTED_UNITS: &[(&[u16], &str)] = &[
+    (&[65, 0], "A"),
+    (&[97, 0], "a"),
+    (&[0], ""),
+    (&[0xd7ff, 0xe000, 0xffff, 0], "\u{d7ff}\u{e000}\u{ffff}"),
+    (&[0x48, 0xe9, 0], "Hé"),
+    (&[120, 0], "x"),
+    (&[65, 66, 67, 0], "ABC"),
+    (&[97, 98, 0], "ab"),
+];
+
 #[test]
 fn accepted_units(rt: HostRuntime) -> Result<(), Fail> {
-    let rows: [(&[u16], &str); 8] = [
-        (&[65, 0], "A"),
-        (&[97, 0], "a"),
-        (&[0], ""),
-        (&[0xd7ff, 0xe000, 0xffff, 0], "\u{d7ff}\u{e000}\u{ffff}"),
-        (&[0x48, 0xe9, 0], "Hé"),
-        (&[120, 0], "x"),
-        (&[65, 66, 67, 0], "ABC"),
-        (&[97, 98, 0], "ab"),
-    ];
-    for (units, text) in rows {
+    for (units, text) in ACCEPTED_UNITS {
         let borrowed = CStr16::from_u16_with_nul(units)?;
         assert!(rt;
             are_one(borrowed, &string(rt.alloc(), text)?, units),
