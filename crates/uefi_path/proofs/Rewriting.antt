@@ -43,15 +43,15 @@ pair_goes p q ps name e = inr (record {
   after = refl;
 })
 
--- a step behind one more piece
-step_behind : (p : List ℕ) (ps qs : List (List ℕ)) → Step ps qs → Step (p ∷ ps) (p ∷ qs)
-step_behind p ps qs (inl d) = inl (record {
+-- a step after one more piece
+step_after : (p : List ℕ) (ps qs : List (List ℕ)) → Step ps qs → Step (p ∷ ps) (p ∷ qs)
+step_after p ps qs (inl d) = inl (record {
   front = p ∷ d.front;
   back = d.back;
   before = ap (λ others. p ∷ others) d.before;
   after = ap (λ others. p ∷ others) d.after;
 })
-step_behind p ps qs (inr d) = inr (record {
+step_after p ps qs (inr d) = inr (record {
   front = p ∷ d.front;
   name = d.name;
   back = d.back;
@@ -60,10 +60,10 @@ step_behind p ps qs (inr d) = inr (record {
   after = ap (λ others. p ∷ others) d.after;
 })
 
-steps_behind : (n : ℕ) (p : List ℕ) (ps qs : List (List ℕ)) → Steps n ps qs → Steps n (p ∷ ps) (p ∷ qs)
-steps_behind zero p ps qs e = ap (λ others. p ∷ others) e
-steps_behind (suc n) p ps qs s =
-    (p ∷ s.0, step_behind p ps s.0 s.1, steps_behind n p s.0 qs s.2)
+steps_after : (n : ℕ) (p : List ℕ) (ps qs : List (List ℕ)) → Steps n ps qs → Steps n (p ∷ ps) (p ∷ qs)
+steps_after zero p ps qs e = ap (λ others. p ∷ others) e
+steps_after (suc n) p ps qs s =
+    (p ∷ s.0, step_after p ps s.0 s.1, steps_after n p s.0 qs s.2)
 
 pub steps_then : (n : ℕ) (ps qs rs : List (List ℕ)) → Steps n ps qs → Rewrites qs rs → Rewrites ps rs
 steps_then zero ps qs rs e more = subst (λ pieces. Rewrites pieces rs) (sym e) more
@@ -74,17 +74,17 @@ pub one_step : (ps qs : List (List ℕ)) → Step ps qs → Rewrites ps qs
 one_step ps qs s = (1, (qs, s, refl))
 
 -- each step keeps it
-normal_of-behind : (front ps qs : List (List ℕ)) → normal_of ps ≡ normal_of qs
+normal_of-after : (front ps qs : List (List ℕ)) → normal_of ps ≡ normal_of qs
     → normal_of (front ++ ps) ≡ normal_of (front ++ qs)
-normal_of-behind [] ps qs e = e
-normal_of-behind (f ∷ front) ps qs e = ap (before_normal (kind f) f) (normal_of-behind front ps qs e)
+normal_of-after [] ps qs e = e
+normal_of-after (f ∷ front) ps qs e = ap (before_normal (kind f) f) (normal_of-after front ps qs e)
 
 pub normal_of-step : (ps qs : List (List ℕ)) → Step ps qs → normal_of ps ≡ normal_of qs
 normal_of-step ps qs (inl d) =
-    ap normal_of d.before ∙ normal_of-behind d.front (dot ∷ d.back) d.back refl ∙ ap normal_of (sym d.after)
+    ap normal_of d.before ∙ normal_of-after d.front (dot ∷ d.back) d.back refl ∙ ap normal_of (sym d.after)
 normal_of-step ps qs (inr d) =
     ap normal_of d.before
-    ∙ normal_of-behind d.front (d.name ∷ dot_dot ∷ d.back) d.back
+    ∙ normal_of-after d.front (d.name ∷ dot_dot ∷ d.back) d.back
     (ap (λ k. before_normal k d.name (dot_dot ∷ normal_of d.back)) (name_kind d.name d.is_name))
     ∙ ap normal_of (sym d.after)
 
@@ -94,7 +94,7 @@ normal_of-steps (suc n) ps qs s = normal_of-step ps s.0 s.1 ∙ normal_of-steps 
 
 -- a normal list is its own normal form
 tail_normal : (p : List ℕ) (ps : List (List ℕ)) → IsNormal (p ∷ ps) → IsNormal ps
-tail_normal p ps normal qs s = normal (p ∷ qs) (step_behind p ps qs s)
+tail_normal p ps normal qs s = normal (p ∷ qs) (step_after p ps qs s)
 
 before_piece-normal : (k : Kind) (p q : List ℕ) (qs : List (List ℕ)) → IsName p → kind q ≡ k
     → IsNormal (p ∷ q ∷ qs) → before_piece k p q qs ≡ p ∷ q ∷ qs
@@ -135,7 +135,7 @@ normal_of_reached [] = (0, refl)
 normal_of_reached (p ∷ ps) =
     let rest = normal_of_reached ps in
     steps_then rest.0 (p ∷ ps) (p ∷ normal_of ps) (normal_of (p ∷ ps))
-    (steps_behind rest.0 p ps (normal_of ps) rest.1) (before_normal_reached (kind p) p (normal_of ps) refl)
+    (steps_after rest.0 p ps (normal_of ps) rest.1) (before_normal_reached (kind p) p (normal_of ps) refl)
 
 -- and none leads from it
 from_nil : (front : List (List ℕ)) (p : List ℕ) (back : List (List ℕ)) → [] ≢ front ++ p ∷ back
@@ -147,16 +147,16 @@ nil_normal qs (inl d) = from_nil d.front dot d.back d.before
 nil_normal qs (inr d) = from_nil d.front d.name (dot_dot ∷ d.back) d.before
 
 -- a piece before a normal list: no step leads from both where none begins at the piece
-behind_normal : (p : List ℕ) (ps : List (List ℕ)) → IsNormal ps → p ≢ dot
+after_piece_normal : (p : List ℕ) (ps : List (List ℕ)) → IsNormal ps → p ≢ dot
     → ((qs : List (List ℕ)) → ps ≡ dot_dot ∷ qs → ¬ IsName p) → IsNormal (p ∷ ps)
-behind_normal p ps normal no_dot no_pair rs (inl d) = at_dot d.front d.before
+after_piece_normal p ps normal no_dot no_pair rs (inl d) = at_dot d.front d.before
   where
     at_dot : (front : List (List ℕ)) → p ∷ ps ≡ front ++ dot ∷ d.back → ⊥
     at_dot [] e = let same : p ≡ dot = cc in no_dot same
     at_dot (f ∷ front) e =
         let others : ps ≡ front ++ dot ∷ d.back = cc in
         normal (front ++ d.back) (inl (record { front = front; back = d.back; before = others; after = refl }))
-behind_normal p ps normal no_dot no_pair rs (inr d) = at_pair d.front d.before
+after_piece_normal p ps normal no_dot no_pair rs (inr d) = at_pair d.front d.before
   where
     at_pair : (front : List (List ℕ)) → p ∷ ps ≡ front ++ d.name ∷ dot_dot ∷ d.back → ⊥
     at_pair [] e =
@@ -179,15 +179,15 @@ before_piece_normal : (k : Kind) (p q : List ℕ) (qs : List (List ℕ)) → IsN
 before_piece_normal Dot p q qs name e normal = absurd (normal qs (dot_goes q qs (kind-Dot q e)))
 before_piece_normal DotDot p q qs name e normal = tail_normal q qs normal
 before_piece_normal Name p q qs name e normal =
-    behind_normal p (q ∷ qs) normal name.0
+    after_piece_normal p (q ∷ qs) normal name.0
     (λ rs same. absurd ((kind-Name q e).1 (let head : q ≡ dot_dot = cc in head)))
 
 before_normal_normal : (k : Kind) (p : List ℕ) (ps : List (List ℕ)) → kind p ≡ k → IsNormal ps → IsNormal (before_normal k p ps)
 before_normal_normal Dot p ps e normal = normal
 before_normal_normal DotDot p ps e normal =
     let up = kind-DotDot p e in
-    behind_normal p ps normal (λ is_dot. let k = sym up ∙ is_dot in cc) (λ qs same name. name.1 up)
-before_normal_normal Name p [] e normal = behind_normal p [] normal (kind-Name p e).0 (λ qs same. cc)
+    after_piece_normal p ps normal (λ is_dot. let k = sym up ∙ is_dot in cc) (λ qs same name. name.1 up)
+before_normal_normal Name p [] e normal = after_piece_normal p [] normal (kind-Name p e).0 (λ qs same. cc)
 before_normal_normal Name p (q ∷ qs) e normal = before_piece_normal (kind q) p q qs (kind-Name p e) refl normal
 
 normal_of_normal : (ps : List (List ℕ)) → IsNormal (normal_of ps)

@@ -200,4 +200,5 @@ NormalPathsAgree = (text other : List ℕ) (normal others : List (List ℕ))
     → verdict text ≡ None → verdict other ≡ None
     → NormalForm (components_of text) normal → NormalForm (components_of other) others
     → (canonical (normal_text normal) ≡ canonical (normal_text others))
-    ↔ ((common : List (List ℕ)) × Rewrites (components_of text) common × Rewrites (components_of other) common)
+    ↔ ((common : List (List ℕ)) × Rewrites (components_of text) common
+    × Rewrites (components_of other) common)

@@ -36,7 +36,7 @@ pub record DeletesPair (old new : List (List ℕ)) : Type 0 where
 abbrev pub Step : List (List ℕ) → List (List ℕ) → Type 0
 Step old new = DeletesDot old new ⊎ DeletesPair old new
 
--- so many steps
+-- steps, as often as the count says
 abbrev pub Steps : ℕ → List (List ℕ) → List (List ℕ) → Type 0
 Steps zero old new = old ≡ new
 Steps (suc count) old new = (between : List (List ℕ)) × Step old between × Steps count between new

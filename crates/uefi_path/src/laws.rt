@@ -101,8 +101,8 @@ pub fn parent_count()
     ensures fewer { FewerParents }
 {}
 
-/// Each list of pieces has exactly one normal form, `normal_of` it. Two lists have the same one exactly where deleting
-/// `.`, and names with the `..` right after them, leads from both to some list.
+/// Each list of pieces has exactly one normal form, `normal_of` it. Two lists have the same one
+/// exactly where deleting `.`, and names with the `..` right after them, leads from both to some list.
 pub fn normal_unique()
     ensures exists { NormalFormsExist }
     ensures once { NormalFormsOnce }
@@ -110,8 +110,9 @@ pub fn normal_unique()
     ensures agree { NormalFormsAgree }
 {}
 
-/// The normal path of a valid path is valid, holds neither `.` nor `..`, and is its own normal path. Two valid paths have equal ones
-/// exactly where their components lead to some list of pieces.
+/// The normal path of a valid path is valid, holds neither `.` nor `..`, and is its own normal path.
+/// Two valid paths have equal ones exactly where such steps lead from the components of both to some
+/// list of pieces.
 pub fn normal_once()
     ensures valid { NormalIsValid }
     ensures names { NormalHoldsNames }

@@ -68,7 +68,8 @@ fn take<'a, A: Allocator>(
     ensures depth { IfOk result (λ stays. depth_after (kind (units_of piece.entry)) (length names.old.items)
         ≡ (if stays then Some (length names.new.items) else None)) }
     ensures steps { IfOk result (λ stays. IsTrue stays → (rest : List (List ℕ)) → Rewrites
-        (map units_of names.old.items ++ units_of piece.entry ∷ rest) (map units_of names.new.items ++ rest)) }
+        (map units_of names.old.items ++ units_of piece.entry ∷ rest)
+        (map units_of names.new.items ++ rest)) }
     ensures names { IfOk result (λ stays. All IsName (map units_of names.new.items)) }
 {
     if is_dot(piece) {
@@ -131,7 +132,8 @@ impl<'a> Path<'a> {
     /// [`PathBuf::from`] does.
     pub fn normalize<A: Allocator + Copy>(&self, alloc: A) -> Result<PathBuf<A>, NormalizeError>
         ensures valid { IfOk result (λ path. verdict (path_text self.now) ≡ None) }
-        ensures ok { IfOk result (λ path. path ≡ normal_text (normal_of (components_of (path_text self.now)))) }
+        ensures ok { IfOk result (λ path.
+            path ≡ normal_text (normal_of (components_of (path_text self.now)))) }
         ensures form { IfOk result (λ path. NormalForm (components_of (path_text self.now))
             (normal_of (components_of (path_text self.now)))) }
         ensures err { IfErr result (λ error. error ≡ normal_refusal (verdict (path_text self.now))) }

@@ -309,10 +309,10 @@ impl<A: Allocator + Copy> Run<A> {
 /// are those of [`crate::run_commands`]. `pieces` prints the number of components and each, `up`
 /// that of the successive parents and each; `eq T` and `cmp T` print how the path compares with
 /// that of T, taken as it stands; `check` prints whether it is accepted, or why not, and `norm` the
-/// normal path, or why there is none. A line that is not UTF-8, one that is no command and a T that is no text of UCS-2 print a line that says so and
-/// leave the path unchanged. The only error is out of memory, and then nothing of the output is
-/// returned. Memory is linear in the input and the output; a line costs what it says, what it
-/// prints, and at most a pass over the path.
+/// normal path, or why there is none. A line that is not UTF-8, one that is no command and a T that
+/// is no text of UCS-2 print a line that says so and leave the path unchanged. The only error is out
+/// of memory, and then nothing of the output is returned. Memory is linear in the input and the
+/// output; a line costs what it says, what it prints, and at most a pass over the path.
 pub fn run_text<A: Allocator + Copy>(alloc: A, input: &[u8]) -> Result<Vec<u8, A>, AllocError>
     ensures { IfOk result (λ output. output.items ≡ output_of input.now) }
 {
