@@ -456,7 +456,9 @@ impl<'a> Char16Slice<'a> {
     ghost use Rattle.uefi_text.specs.Views.{units_of, units_left};
 
     /// The characters that code units are, none of them a surrogate, as a view of the units. Looks at
-    /// none of them; takes no memory.
+    /// none of them; takes no memory. For crates that prove of units that they are characters, as paths
+    /// do of what they add; all others have the constructors of [`CStr16`], which look.
+    #[doc(hidden)]
     pub fn from_units(units: &'a [u16]) -> Char16Slice<'a>
         requires { All IsChar16 units.now }
         ensures { units_of result ≡ units.now }
