@@ -5,7 +5,7 @@ use Rattle.std.proofs.Math.Seq.{set-append_seam, take-add}
 use Rattle.std.proofs.lemmas.Bool.{cases_lt}
 use Rattle.std.proofs.lemmas.List.{drop_more, length-append, length-drop, length-map, length-take, map-append, take-append-le, take_all, take_more}
 use Rattle.uefi_text.specs.Units.{replaced}
-use Rattle.uefi_path.specs.Separators.{bit_places, is_separator, places_from, separator, slash, with_separators}
+use Rattle.uefi_path.specs.Separators.{bit_places, is_separator, places_from, separator, slash, with_separators, word_places}
 use Rattle.uefi_path.proofs.SeparatorBits.{bit_places-units, bits-padded, bits-replaced}
 use Rattle.uefi_path.proofs.SeparatorPlaces.{places_from-append}
 
@@ -56,8 +56,9 @@ places_to_next us start at within =
 
 -- the places of a block whose slashes are replaced, with zeros after its units
 pub places_of_block : (us : List ℕ) (start n : ℕ) → length us ≤ 64
-    → bit_places 64 start (mask_l (map is_separator (with_separators (us ++ drop n (replicate 64 0)))))
+    → word_places start (mask_l (map is_separator (with_separators (us ++ drop n (replicate 64 0)))))
     ≡ places_from start (with_separators us)
+unfolding word_places
 places_of_block us start n short =
     ap (bit_places 64 start) (bits-replaced (us ++ drop n (replicate 64 0)) ∙ bits-padded us n 64)
     ∙ bit_places-units 64 start us short

@@ -128,7 +128,10 @@ fn append_components_but_last<A: Allocator>(
 }
 
 /// How many units the room has in which a short text is made ready to be pushed.
-const SHORT: usize = 64;
+const SHORT: usize = 32;
+
+/// How many it has for a longer one. What is longer still is made in memory that it asks for.
+const LONG: usize = 256;
 
 /// How long a path becomes at most, when another is pushed after it.
 fn room_for_both(path: Path<'_>, other: Path<'_>) -> usize {
@@ -278,6 +281,9 @@ impl<A: Allocator + Copy> PathBuf<A> {
         }
         if len < SHORT {
             return self.push_made(&mut [0; SHORT], units);
+        }
+        if len < LONG {
+            return self.push_made(&mut [0; LONG], units);
         }
         let mut tail = Vec::new(self.alloc());
         tail.resize(len + 1, 0)?;

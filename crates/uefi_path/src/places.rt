@@ -1,8 +1,8 @@
 //! The places of separators, which a path buffer keeps beside its text. They are found before a slash is
 //! replaced, a block of units at a time: a vector comparison gives a bit for each unit.
-ghost use Rattle.std.specs.Prelude.{◌≡◌, ◌≤◌, ◌+◌, ◌<◌, ◌^◌, ◌++◌, IfOk, OnOk, count_by, drop, length, map, take};
+ghost use Rattle.std.specs.Prelude.{◌≡◌, ℕ, ◌≤◌, ◌+◌, ◌*◌, ◌<◌, ◌^◌, ◌++◌, IfOk, OnOk, count_by, length, map, slice_index, take};
 ghost use Rattle.std.specs.Simd.Lanes.{mask_l};
-ghost use Rattle.uefi_path.specs.Separators.{becomes_separator, bit_places, is_separator, places_of, with_separators};
+ghost use Rattle.uefi_path.specs.Separators.{becomes_separator, block_bits, is_separator, places_of, with_separators, word_places};
 
 use std::alloc::{AllocError, Allocator};
 use std::simd::prelude::*;
@@ -37,13 +37,13 @@ fn bits_of(units: u16x64) -> u64
     separators_of(replace_slashes(units))
 }
 
-/// The bits of the block that begins at a place; the last block may be short.
+/// The bits of a block; the last one may be short.
 #[inline(always)]
-fn bits_at(units: &[u16], at: usize) -> u64
-    requires { at ≤ length units.now }
-    ensures { result ≡ mask_l (map becomes_separator (take 64 (drop at units.now))) }
+fn bits_of_block(units: &[u16], block: usize) -> u64
+    requires { block * 64 < length units.now }
+    ensures { result ≡ block_bits block units.now }
 {
-    let rest = &units[at..];
+    let rest = &units[block * BLOCK..];
     if BLOCK <= rest.len() {
         return bits_of(u16x64::from_slice(rest));
     }
@@ -52,17 +52,50 @@ fn bits_at(units: &[u16], at: usize) -> u64
     bits_of(u16x64::from_array(last))
 }
 
+/// How many blocks keep their bits from the pass that counts: a text of so many is read once.
+const KEPT: usize = 8;
+
+/// How many separators the units have once their slashes are replaced. Keeps the bits of the first
+/// blocks.
+#[inline(always)]
+fn count_and_keep(units: &[u16], kept: &mut [u64; KEPT]) -> usize
+    ensures count { result ≡ count_by becomes_separator units.now }
+    ensures kept { (block : ℕ) → block < 8 → block * 64 < length units.now →
+        slice_index kept.new block ≡ block_bits block units.now }
+{
+    let mut count = 0;
+    for block in 0..units.len().div_ceil(BLOCK) {
+        let bits = bits_of_block(units, block);
+        count += bits.count_ones() as usize;
+        if block < KEPT {
+            kept[block] = bits;
+        }
+    }
+    count
+}
+
 /// How many separators the units have once their slashes are replaced.
 pub(crate) fn count_separators(units: &[u16]) -> usize
     ensures { result ≡ count_by becomes_separator units.now }
 {
-    let mut count = 0;
-    let mut at = 0;
-    while at < units.len() {
-        count += bits_at(units, at).count_ones() as usize;
-        at += BLOCK;
+    count_and_keep(units, &mut [0; KEPT])
+}
+
+/// Writes the places of the bits that are set, where the lowest has the place `start`, into room for
+/// just these.
+#[inline(always)]
+fn write_bits(room: &mut [usize], start: usize, bits: u64)
+    requires fits { start + 64 < 2 ^ 64 }
+    requires room { length room.now ≡ length (word_places start bits) }
+    ensures { room.new ≡ word_places start bits }
+{
+    let mut left = bits;
+    let mut known = 0;
+    while left != 0 {
+        room[known] = start + left.trailing_zeros() as usize;
+        known += 1;
+        left &= left - 1;
     }
-    count
 }
 
 /// Adds the places of the bits that are set, where the lowest has the place `start`.
@@ -73,30 +106,32 @@ pub(crate) fn add_bits<A: Allocator>(
     bits: u64,
 ) -> Result<(), AllocError>
     requires { start + 64 < 2 ^ 64 }
-    ensures ok { OnOk result (places.new.items ≡ places.old.items ++ bit_places 64 start bits) }
+    ensures ok { OnOk result (places.new.items ≡ places.old.items ++ word_places start bits) }
     ensures kept { take (length places.old.items) places.new.items ≡ places.old.items }
 {
-    let mut left = bits;
-    while left != 0 {
-        places.push(start + left.trailing_zeros() as usize)?;
-        left &= left - 1;
-    }
+    let known = places.len();
+    places.resize(known + bits.count_ones() as usize, 0)?;
+    write_bits(&mut places[known..], start, bits);
     Ok(())
 }
 
 /// The places of the separators that the units have once their slashes are replaced. Takes memory at
-/// most once.
+/// most once. One pass over a text of up to 512 units; a longer one is read once more from there on.
 pub(crate) fn find_places<A: Allocator>(
     alloc: A,
     units: &[u16],
 ) -> Result<Vec<usize, A>, AllocError>
     ensures { IfOk result (λ places. places.items ≡ places_of (with_separators units.now)) }
 {
-    let mut places = Vec::with_capacity(alloc, count_separators(units))?;
-    let mut at = 0;
-    while at < units.len() {
-        add_bits(&mut places, at, bits_at(units, at))?;
-        at += BLOCK;
+    let mut kept = [0; KEPT];
+    let mut places = Vec::with_capacity(alloc, count_and_keep(units, &mut kept))?;
+    for block in 0..units.len().div_ceil(BLOCK) {
+        let bits = if block < KEPT {
+            kept[block]
+        } else {
+            bits_of_block(units, block)
+        };
+        add_bits(&mut places, block * BLOCK, bits)?;
     }
     Ok(places)
 }

@@ -4,7 +4,7 @@ use Rattle.std.specs.Simd.Lanes.{mask_l}
 use Rattle.std.proofs.lemmas.List.{length-map}
 use Rattle.std.proofs.lemmas.Slice.{take-put_mid}
 use Rattle.uefi_text.specs.Units.{replaced}
-use Rattle.uefi_path.specs.Separators.{bit_places, is_separator, places_from, separator, slash, with_separators}
+use Rattle.uefi_path.specs.Separators.{is_separator, places_from, separator, slash, with_separators, word_places}
 use Rattle.uefi_path.specs.Views.{counted_text}
 use Rattle.uefi_path.proofs.TailBlocks.{length-block, places_of_block, text_of_block}
 use Rattle.uefi_path.proofs.tails.write_block.Goals as goal
@@ -34,8 +34,8 @@ returns-clause-places g c =
     let from = c.args.start + c.args.at in
     let block = take 64 (drop c.args.at us) in
     let short : length block ≤ 64 = omega (arith, length-block us c.args.at) in
-    let places : bit_places 64 from c.separators_of.result ≡ places_from from (with_separators block) =
-    ap (bit_places 64 from)
+    let places : word_places from c.separators_of.result ≡ places_from from (with_separators block) =
+    ap (word_places from)
     (c.separators_of.ensures
     ∙ ap (λ vs. mask_l (map is_separator vs)) (c.replace_slashes-block.ensures ∙ ap with_separators c.read_block.ensures.block))
     ∙ places_of_block block from (length block) short in
