@@ -1,6 +1,6 @@
 //! What a push adds after a text: a separator where one is missing, and the path with its slashes
 //! replaced. It is made in one pass, and with it the places of its separators.
-ghost use Rattle.std.specs.Prelude.{◌≡◌, ◌+◌, ◌<◌, ◌≤◌, ◌^◌, ◌++◌, ◌∷◌, IfOk, OnOk, drop, if◌then◌else◌, length, replicate, take};
+ghost use Rattle.std.specs.Prelude.{◌≡◌, ◌+◌, ◌<◌, ◌≤◌, ◌^◌, ◌++◌, ◌∷◌, IfOk, OnOk, cond, drop, if◌then◌else◌, length, replicate, take};
 ghost use Rattle.uefi_path.specs.Separators.{becomes_separator, places_from, separator, slash, with_separators};
 ghost use Rattle.uefi_path.specs.Views.{counted_text, reads_of};
 ghost use Rattle.uefi_text.specs.Units.{replaced};
@@ -22,6 +22,14 @@ fn becomes_separator(unit: u16) -> bool
     (unit == u16::from(SEPARATOR)) | (unit == u16::from(SLASH))
 }
 
+/// 1 for a unit that is a separator once slashes are replaced, and 0 for any other.
+#[inline(always)]
+fn bit_of(unit: u16) -> u64
+    ensures { result ≡ cond (becomes_separator unit) 1 0 }
+{
+    if becomes_separator(unit) { 1 } else { 0 }
+}
+
 /// The unit, or a separator in place of a slash.
 #[inline(always)]
 fn with_separator(unit: u16) -> u16
@@ -34,9 +42,9 @@ fn with_separator(unit: u16) -> u16
     }
 }
 
-/// Writes the units of a text, each slash replaced, and adds the places of the separators, where the
-/// first unit has the place `start`. Reads each unit once. Where memory is refused the places that
-/// were there stay the first ones.
+/// Writes the units of a short text, each slash replaced, and adds the places of the separators, where
+/// the first unit has the place `start`. Reads each unit once, the last one first, and keeps a bit for
+/// it. Where memory is refused the places that were there stay the first ones.
 fn write_units<A: Allocator>(
     tail: &mut [u16],
     places: &mut Vec<usize, A>,
@@ -44,24 +52,40 @@ fn write_units<A: Allocator>(
     units: &mut CountedUnits<'_>,
 ) -> Result<(), AllocError>
     requires room { length tail.now ≡ length (counted_text units.now) }
-    requires fits { start + length (counted_text units.now) < 2 ^ 64 }
+    requires short { length tail.now < 64 }
+    requires fits { start + 64 < 2 ^ 64 }
     ensures tail { OnOk result (tail.new ≡ with_separators (counted_text units.old)) }
     ensures places { OnOk result (places.new.items
         ≡ places.old.items ++ places_from start (with_separators (counted_text units.old))) }
     ensures kept { take (length places.old.items) places.new.items ≡ places.old.items }
     ensures text { counted_text units.new ≡ counted_text units.old }
-    ensures once { OnOk result (reads_of units.new
-        ≡ reads_of units.old + length (counted_text units.old)) }
-    ensures at_most { reads_of units.new ≤ reads_of units.old + length (counted_text units.old) }
+    ensures count { reads_of units.new ≡ reads_of units.old + length (counted_text units.old) }
 {
-    for i in 0..tail.len() {
+    let mut bits = 0;
+    let mut i = tail.len();
+    while 0 < i {
+        i -= 1;
         let unit = units.get(i);
         tail[i] = with_separator(unit);
-        if becomes_separator(unit) {
-            places.push(start + i)?;
-        }
+        bits = 2 * bits + bit_of(unit);
     }
-    Ok(())
+    add_bits(places, start, bits)
+}
+
+/// Reads units from a place on into the first of a block, each once.
+#[inline(always)]
+fn read_units(block: &mut [u16; BLOCK], units: &mut CountedUnits<'_>, at: usize, len: usize)
+    requires within { len ≤ 64 }
+    requires inside { at + len ≤ length (counted_text units.now) }
+    ensures block { block.new ≡ take len (drop at (counted_text units.old)) ++ drop len block.old }
+    ensures text { counted_text units.new ≡ counted_text units.old }
+    ensures count { reads_of units.new ≡ reads_of units.old + len }
+{
+    // A clause of this call says that each place fits.
+    let _len = units.len();
+    for k in 0..len {
+        block[k] = units.get(at + k);
+    }
 }
 
 /// The units of the block that begins at a place, each read once, and zeros where the text ends in it.
@@ -75,8 +99,12 @@ fn read_block(units: &mut CountedUnits<'_>, at: usize) -> [u16; BLOCK]
         ≡ reads_of units.old + length (take 64 (drop at (counted_text units.old))) }
 {
     let mut block = [0; BLOCK];
-    for k in 0..BLOCK.min(units.len() - at) {
-        block[k] = units.get(at + k);
+    let len = units.len() - at;
+    if BLOCK <= len {
+        // The compiler moves a whole block by wide loads.
+        read_units(&mut block, units, at, BLOCK);
+    } else {
+        read_units(&mut block, units, at, len);
     }
     block
 }

@@ -43,7 +43,7 @@ impl fmt::Display for StreamFault {
 impl Error for StreamFault {}
 
 /// How many bytes are asked for at a read.
-const CHUNK: usize = 8192;
+const CHUNK: usize = 65536;
 
 /// All that a reader still gives. Memory is refused only after a read that gave bytes.
 fn read_input<A: Allocator, R: Read>(
