@@ -8,7 +8,7 @@ ghost use Rattle.uefi_text_encodings.specs.Units.{is_nul, nul_terminated, withou
 ghost use Rattle.uefi_text_encodings.specs.Latin1.{IsLatin1, IsLatin1String};
 
 use crate::errors::FromSliceWithNulError;
-use crate::scans::{has_byte_beyond_latin1, has_zero_byte};
+use crate::scans::{find_zero, has_byte_beyond_latin1, has_zero_byte};
 use std::cmp::Ordering;
 use std::fmt;
 use std::hash::{Hash, Hasher};
@@ -35,7 +35,7 @@ impl<'a> CStr8<'a> {
         ensures accepts { IsOk result ↔ IsLatin1String chars.now }
         ensures refusal { result_err result ≡ first_nul_refusal chars.now }
     {
-        let Some(place) = find_nul(chars) else {
+        let Some(place) = find_zero(chars) else {
             return Err(FromSliceWithNulError::NotNulTerminated);
         };
         if place + 1 != chars.len() {
@@ -57,13 +57,6 @@ impl<'a> CStr8<'a> {
     {
         &self.bytes[..self.bytes.len() - 1]
     }
-}
-
-/// The place of the first zero.
-fn find_nul(bytes: &[u8]) -> Option<usize>
-    ensures { result ≡ position is_nul bytes.now }
-{
-    bytes.iter().position(|byte| *byte == 0)
 }
 
 /// Two strings are equal exactly when their bytes are.
