@@ -28,7 +28,7 @@ pub use uefi_text_encodings::latin1::{
     CStr8, has_no_nul, is_latin1, str_num_latin1_chars, str_to_latin1,
 };
 use uefi_text_encodings::scans::{find_deciding_place, has_unit_beyond_ascii, split};
-use uefi_text_encodings::utf8::add_utf8;
+use uefi_text_encodings::utf8::{BLOCK, add_utf8, write_utf8};
 
 /// A string that is borrowed: a view of code units that are a text and its NUL. In contracts it is
 /// `text_of` it, the text without the NUL.
@@ -618,8 +618,14 @@ impl<'a> fmt::Display for Char16Slice<'a> {
     ghost output = { λ part. Some (encode_utf8_all (units_of part)) };
 
     fn fmt<W: fmt::Write>(&self, f: &mut fmt::Formatter<W>) -> fmt::Result {
-        for character in self.iter() {
-            f.write_char(char::from(character))?;
+        let mut room = [0; 3 * BLOCK];
+        let mut start = 0;
+        while start < self.units.len() {
+            let end = start + BLOCK.min(self.units.len() - start);
+            let len = write_utf8(&mut room, &self.units[start..end]);
+            // SAFETY: the bytes are UTF-8, which is proved here as the condition of the call.
+            f.write_str(unsafe { str::from_utf8_unchecked(&room[..len]) })?;
+            start = end;
         }
         Ok(())
     }

@@ -1,5 +1,5 @@
 -- What the bytes of a Rust text say of its characters.
-use Rattle.std.proofs.Common.{◌≡◌, ◌≢◌, ◌↔◌, All, ℕ, ◌<◌, ◌≤◌, ◌+◌, ◌/◌, ◌%◌, ◌==◌, ◌||◌, nat_le, ◌++◌, ◌∙◌, ap, zero, suc, Bool, true, false, List, [], ◌∷◌, get_or, length, None, arith, refl, sym, inl, inr}
+use Rattle.std.proofs.Common.{◌≡◌, ◌≢◌, ◌↔◌, All, ℕ, ◌<◌, ◌≤◌, ◌+◌, ◌*◌, take, ◌/◌, ◌%◌, ◌==◌, ◌||◌, nat_le, ◌++◌, ◌∙◌, ap, zero, suc, Bool, true, false, List, [], ◌∷◌, get_or, length, None, arith, refl, sym, inl, inr}
 use Rattle.std.specs.Char.{encode_utf8}
 use Rattle.std.specs.List.{count_by, find, fold}
 use Rattle.std.specs.Str.{chars, encode_utf8_all, IsAscii, IsUtf8}
@@ -7,6 +7,7 @@ use Rattle.std.proofs.lemmas.Bool.{cases_Bool, cases_lt, le-leb, le-ltb, lt-leb,
 use Rattle.std.proofs.lemmas.List.Elements.{All-cons, All-head, All-nil, All-tail}
 use Rattle.std.proofs.lemmas.List.{length-append}
 use Rattle.std.proofs.lemmas.List.Folds.{fold_stays}
+use Rattle.std.proofs.lemmas.List.Sums.{count_by-le-length}
 use Rattle.std.proofs.lemmas.Str.{chars-IsAscii, encode_ascii, encodes-chars}
 use Rattle.std.proofs.lemmas.Grind.{common_steps}
 use Rattle.std.proofs.Math.Utf8.{encodes}
@@ -246,3 +247,16 @@ no_zero_bytes bs utf8 =
     let same : fold zero_so_far false (encodes (chars bs)) ≡ fold zero_so_far false bs =
     ap (fold zero_so_far false) (encodes-chars bs utf8) in
     (λ e. no_nul-encodes (chars bs) (same ∙ e), λ no_nul. sym same ∙ encodes-no_nul (chars bs) no_nul)
+
+-- a prefix of units has no more bytes than all
+pub length-encode_utf8_all-take : (n : ℕ) (us : List ℕ) → length (encode_utf8_all (take n us)) ≤ length (encode_utf8_all us)
+length-encode_utf8_all-take zero us = omega arith
+length-encode_utf8_all-take (suc n) [] = omega arith
+length-encode_utf8_all-take (suc n) (u ∷ us) =
+    let others = length-encode_utf8_all-take n us in
+    omega (arith, others, length-append (encode_utf8 u) (encode_utf8_all (take n us)), length-append (encode_utf8 u) (encode_utf8_all us))
+
+-- units have at most three bytes each
+pub length-encode_utf8_all-le : (us : List ℕ) → ((k : ℕ) → get_or us k 0 < 65536) → length (encode_utf8_all us) ≤ 3 * length us
+length-encode_utf8_all-le us small =
+    omega (arith, length-encode_utf8_all us small, count_by-le-length (λ v. nat_le 0x80 v) us, count_by-le-length (λ v. nat_le 0x800 v) us)

@@ -9,6 +9,7 @@ ghost use Rattle.uefi_text_encodings.specs.Latin1.{IsLatin1, IsLatin1String};
 
 use crate::errors::FromSliceWithNulError;
 use crate::scans::{find_zero, has_byte_beyond_latin1, has_zero_byte};
+use crate::utf8::{BLOCK, write_latin1};
 use std::cmp::Ordering;
 use std::fmt;
 use std::hash::{Hash, Hasher};
@@ -147,8 +148,14 @@ impl<'a> fmt::Display for CStr8<'a> {
 
     fn fmt<W: fmt::Write>(&self, f: &mut fmt::Formatter<W>) -> fmt::Result {
         let text = self.text();
-        for byte in text {
-            f.write_char(char::from(*byte))?;
+        let mut room = [0; 3 * BLOCK];
+        let mut start = 0;
+        while start < text.len() {
+            let end = start + BLOCK.min(text.len() - start);
+            let len = write_latin1(&mut room, &text[start..end]);
+            // SAFETY: the bytes are UTF-8, which is proved here as the condition of the call.
+            f.write_str(unsafe { str::from_utf8_unchecked(&room[..len]) })?;
+            start = end;
         }
         Ok(())
     }
