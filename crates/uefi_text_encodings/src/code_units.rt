@@ -91,6 +91,31 @@ pub fn write_text(input: &str, buffer: &mut [u16]) -> Result<usize, FromStrWithB
         ≡ from_str_with_buf_refusal (chars input.now) (length buffer.old) }
     ensures buffer { buffer.new ≡ with_text (chars input.now) buffer.old }
 {
+    if input.len() < buffer.len() && is_ascii_text(input.as_bytes()) {
+        return Ok(write_ascii(input.as_bytes(), buffer));
+    }
+    write_chars(input, buffer)
+}
+
+/// The same of a text of ASCII without NUL, for which the buffer has room: its bytes are its units.
+fn write_ascii(bytes: &[u8], buffer: &mut [u16]) -> usize
+    requires { length bytes.now < length buffer.old }
+    ensures len { result ≡ length bytes.now + 1 }
+    ensures buffer { buffer.new ≡ nul_terminated bytes.now ++ drop (length bytes.now + 1) buffer.old }
+{
+    let end = bytes.len();
+    widen(&mut buffer[..end + 1], bytes);
+    buffer[end] = 0;
+    end + 1
+}
+
+/// The same, character by character.
+fn write_chars(input: &str, buffer: &mut [u16]) -> Result<usize, FromStrWithBufError>
+    ensures ok { IfOk result (λ len. len ≡ length (chars input.now) + 1) }
+    ensures refusal { result_err result
+        ≡ from_str_with_buf_refusal (chars input.now) (length buffer.old) }
+    ensures buffer { buffer.new ≡ with_text (chars input.now) buffer.old }
+{
     if buffer.is_empty() {
         return Err(FromStrWithBufError::BufferTooSmall);
     }

@@ -1,7 +1,7 @@
 //! Passes over whole slices, in forms that the compiler compiles to vector instructions: no early
 //! exit inside a block, and loops over places where the bounds are known. What they return is said
 //! by std's words, so that callers see nothing of the form.
-ghost use Rattle.std.specs.Prelude.{◌≡◌, ℕ, ◌+◌, ◌-◌, ◌*◌, ◌<◌, ◌≤◌, ◌++◌, length, take, drop, map, position, slice_index, true, false};
+ghost use Rattle.std.specs.Prelude.{IsTrue, ◌≡◌, ℕ, ◌+◌, ◌-◌, ◌*◌, ◌<◌, ◌≤◌, ◌++◌, length, take, drop, map, position, slice_index, true, false};
 ghost use Rattle.std.specs.List.{fold};
 ghost use Rattle.std.specs.Str.{IsAscii};
 ghost use Rattle.uefi_text_encodings.specs.Scans.{ascii_text_so_far, beyond_ascii_so_far, byte_beyond_latin1_so_far, decided_so_far, deciding_byte_so_far, zero_so_far};
@@ -85,6 +85,52 @@ pub(crate) fn is_ascii_text(bytes: &[u8]) -> bool
     bytes
         .iter()
         .fold(true, |so_far, byte| so_far & (0 < *byte) & (*byte < 128))
+}
+
+/// True only where units are these bytes, all of ASCII and none of them zero.
+#[inline(always)]
+fn are_same_ascii(units: &[u16], bytes: &[u8]) -> bool
+    requires { length units.now ≡ length bytes.now }
+    ensures { IsTrue result → (units.now ≡ bytes.now) × (fold ascii_text_so_far true bytes.now ≡ true) }
+{
+    let mut same = true;
+    for i in 0..units.len() {
+        same = same & (units[i] == u16::from(bytes[i])) & (0 < bytes[i]) & (bytes[i] < 128);
+    }
+    same
+}
+
+/// The length of a prefix that units and bytes have in common, of ASCII without NUL: from `start` on
+/// both are compared in blocks.
+#[inline(always)]
+fn same_ascii_blocks_end(units: &[u16], bytes: &[u8], start: usize, block: usize) -> usize
+    requires start { (start ≤ length units.now) × (start ≤ length bytes.now) }
+    requires block { 0 < block }
+    requires same { take start units.now ≡ take start bytes.now }
+    requires ascii { fold ascii_text_so_far true (take start bytes.now) ≡ true }
+    ensures within { (result ≤ length units.now) × (result ≤ length bytes.now) }
+    ensures same { take result units.now ≡ take result bytes.now }
+    ensures ascii { fold ascii_text_so_far true (take result bytes.now) ≡ true }
+{
+    let mut end = start;
+    while block <= units.len() - end
+        && block <= bytes.len() - end
+        && are_same_ascii(&units[end..end + block], &bytes[end..end + block])
+    {
+        end += block;
+    }
+    end
+}
+
+/// The length of a prefix that units and bytes have in common, of ASCII without NUL. It need not be
+/// the longest.
+pub fn same_ascii_len(units: &[u16], bytes: &[u8]) -> usize
+    ensures within { (result ≤ length units.now) × (result ≤ length bytes.now) }
+    ensures same { take result units.now ≡ take result bytes.now }
+    ensures ascii { fold ascii_text_so_far true (take result bytes.now) ≡ true }
+{
+    let start = same_ascii_blocks_end(units, bytes, 0, BLOCK);
+    same_ascii_blocks_end(units, bytes, start, SMALL_BLOCK)
 }
 
 /// Whether a byte begins a character that no UCS-2 text holds: a NUL, or a character above U+FFFF,
