@@ -1,5 +1,5 @@
 -- What the bytes of a Rust text say of its characters.
-use Rattle.std.proofs.Common.{◌≡◌, ◌≢◌, ◌↔◌, All, ℕ, ◌<◌, ◌≤◌, ◌+◌, ◌*◌, take, drop, subst, ◌/◌, ◌%◌, ◌==◌, ◌||◌, nat_le, ◌++◌, ◌∙◌, ap, zero, suc, Bool, true, false, List, [], ◌∷◌, get_or, length, None, arith, refl, sym, inl, inr}
+use Rattle.std.proofs.Common.{cond, ◌≡◌, ◌≢◌, ◌↔◌, All, ℕ, ◌<◌, ◌≤◌, ◌+◌, ◌*◌, take, drop, subst, ◌/◌, ◌%◌, ◌==◌, ◌||◌, nat_le, ◌++◌, ◌∙◌, ap, zero, suc, Bool, true, false, List, [], ◌∷◌, get_or, length, None, arith, refl, sym, inl, inr}
 use Rattle.std.specs.Char.{encode_utf8}
 use Rattle.std.specs.List.{count_by, find, fold}
 use Rattle.std.specs.Str.{chars, encode_utf8_all, IsAscii, IsUtf8}
@@ -7,7 +7,7 @@ use Rattle.std.proofs.lemmas.Bool.{cases_Bool, cases_lt, le-leb, le-ltb, lt-leb,
 use Rattle.std.proofs.lemmas.List.Elements.{All-cons, All-head, All-nil, All-tail}
 use Rattle.std.proofs.lemmas.List.{length-append, take-append-drop}
 use Rattle.std.proofs.lemmas.List.Folds.{fold_stays}
-use Rattle.std.proofs.lemmas.List.Sums.{count_by-le-length}
+use Rattle.std.proofs.lemmas.List.Sums.{count_by-le-length, fold-append}
 use Rattle.std.proofs.lemmas.Str.{chars-IsAscii, chars-append, encode_ascii, encodes-chars, IsUtf8-from_ascii, IsUtf8-past_char}
 use Rattle.std.proofs.lemmas.Grind.{common_steps}
 use Rattle.std.proofs.Math.Utf8.{encodes}
@@ -287,3 +287,15 @@ length-encode_utf8_all-take (suc n) (u ∷ us) =
 pub length-encode_utf8_all-le : (us : List ℕ) → ((k : ℕ) → get_or us k 0 < 65536) → length (encode_utf8_all us) ≤ 3 * length us
 length-encode_utf8_all-le us small =
     omega (arith, length-encode_utf8_all us small, count_by-le-length (λ v. nat_le 0x80 v) us, count_by-le-length (λ v. nat_le 0x800 v) us)
+
+-- a count goes on from what was counted
+counted-from : (p : ℕ → Bool) (xs : List ℕ) (n : ℕ) → fold (λ (a : ℕ) (x : ℕ). a + cond (p x) 1 0) n xs ≡ n + count_by p xs
+counted-from p [] n = omega arith
+counted-from p (x ∷ xs) n =
+    let here = counted-from p xs (n + cond (p x) 1 0) in
+    let there = counted-from p xs (0 + cond (p x) 1 0) in
+    omega (arith, here, there)
+
+-- what passes in both of two lists is counted in each
+pub count_by-append : (p : ℕ → Bool) (xs ys : List ℕ) → count_by p (xs ++ ys) ≡ count_by p xs + count_by p ys
+count_by-append p xs ys = fold-append (λ (a : ℕ) (x : ℕ). a + cond (p x) 1 0) 0 xs ys ∙ counted-from p ys (count_by p xs)

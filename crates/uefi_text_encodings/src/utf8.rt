@@ -7,14 +7,35 @@ ghost use Rattle.std.specs.Str.{IsAscii, encode_utf8_all};
 use crate::scans::{has_unit_beyond_ascii, narrow, widen};
 use std::alloc::{AllocError, Allocator};
 
-/// How many characters are printed at a time.
+/// How many units are counted, and how many characters are printed, at a time.
 pub const BLOCK: usize = 64;
+
+/// How many units of a block are at least so great. The count is as wide as a unit, so that it
+/// becomes vector code.
+#[inline(always)]
+fn count_in_block(units: &[u16], least: u16) -> u16
+    requires { length units.now ≤ 64 }
+    ensures { result ≡ count_by (λ unit. nat_le least unit) units.now }
+{
+    let mut count = 0;
+    for unit in units {
+        count += u16::from(least <= *unit);
+    }
+    count
+}
 
 /// How many units are at least so great.
 fn count_from(units: &[u16], least: u16) -> usize
     ensures { result ≡ count_by (λ unit. nat_le least unit) units.now }
 {
-    units.iter().filter(|unit| least <= **unit).count()
+    let mut count = 0;
+    let mut start = 0;
+    while start < units.len() {
+        let end = start + BLOCK.min(units.len() - start);
+        count += usize::from(count_in_block(&units[start..end], least));
+        start = end;
+    }
+    count
 }
 
 /// How many bytes units have in UTF-8, where that is a `usize`.
