@@ -138,7 +138,8 @@ impl<'a> CStr16<'a> {
     /// these units; half of a surrogate pair may be the last. Else its prefix holds the units and a
     /// NUL, what stands after them stays, whatever is returned, and the first character that is
     /// NUL or above U+FFFF decides: `InteriorNul` or `InvalidChar`, with the number of characters
-    /// before it. One pass, which ends where the buffer is full; takes no memory.
+    /// before it. Linear in the text, whose bytes are tested before they are decoded, and ends where
+    /// the buffer is full; takes no memory.
     pub fn write_str(input: &str, buffer: &mut [u16]) -> Result<usize, FromStrWithBufError>
         ensures ok { IfOk result (λ len. len ≡ length (chars input.now) + 1) }
         ensures accepts { IsOk result
@@ -151,8 +152,8 @@ impl<'a> CStr16<'a> {
     }
 
     /// The string of a Rust text, as a view of the buffer's prefix, which it is written to. Refused
-    /// as [`CStr16::write_str`] says, which also says what the buffer then holds. One pass; takes
-    /// no memory.
+    /// as [`CStr16::write_str`] says, which also says what the buffer then holds. Linear in the text;
+    /// takes no memory.
     pub fn from_str_with_buf(
         input: &str,
         buf: &'a mut [u16],

@@ -204,7 +204,7 @@ impl<'a, T: Packed> UnalignedSlice<'a, T> {
     }
 
     /// A vector of the items, or `AllocError` where its memory is refused: one request, for exactly
-    /// as many places as there are items. One pass.
+    /// as many places as there are items. Linear in the items.
     pub fn to_vec<A: Allocator>(&self, alloc: A) -> Result<Vec<T, A>, AllocError>
         ensures { IfOk result (λ items. map T.number items.items ≡ items_of self.now) }
     {

@@ -73,8 +73,9 @@ equal_after_ascii answer n us bs same ascii utf8 rest =
     let own : front ++ drop n us ≡ us = ap (λ (xs : List ℕ). xs ++ drop n us) (sym same) ∙ take-append-drop n us in
     let others : chars bs ≡ front ++ chars (drop n bs) = ascii_text_then n bs ascii utf8 in
     let no_nul = ascii_text_no_nul front ascii in
-    let cs = chars (drop n bs) in
-    (λ yes. subst (λ (xs : List ℕ). IsEqualUntilNul xs (chars bs)) own
-      (subst (λ (ds : List ℕ). IsEqualUntilNul (front ++ drop n us) ds) (sym others) (begins_after front (drop n us) cs no_nul (rest.0 yes))),
-    λ equal. rest.1 (before_begins front (drop n us) cs no_nul
-      (subst (λ (ds : List ℕ). IsEqualUntilNul (front ++ drop n us) ds) others (subst (λ (xs : List ℕ). IsEqualUntilNul xs (chars bs)) (sym own) equal))))
+    let cs = chars (drop n bs) in (
+      λ yes. subst (λ (xs : List ℕ). IsEqualUntilNul xs (chars bs)) own
+          (subst (λ (ds : List ℕ). IsEqualUntilNul (front ++ drop n us) ds) (sym others) (begins_after front (drop n us) cs no_nul (rest.0 yes))),
+      λ equal. rest.1 (before_begins front (drop n us) cs no_nul
+          (subst (λ (ds : List ℕ). IsEqualUntilNul (front ++ drop n us) ds) others (subst (λ (xs : List ℕ). IsEqualUntilNul xs (chars bs)) (sym own) equal))),
+    )

@@ -70,7 +70,8 @@ fn write_undecided(text: &str, units: &mut [u16]) -> usize
     requires room { length text.now < length units.old }
     ensures len { result ≡ length (chars text.now) + 1 }
     ensures within { result ≤ length units.new }
-    ensures units { units.new ≡ nul_terminated (chars text.now) ++ drop (length (chars text.now) + 1) units.old }
+    ensures units { units.new
+        ≡ nul_terminated (chars text.now) ++ drop (length (chars text.now) + 1) units.old }
 {
     let mut len = 0;
     for character in text.chars() {
@@ -99,8 +100,8 @@ pub fn units_of_text<A: Allocator>(alloc: A, text: &str) -> Result<Vec<u16, A>, 
 }
 
 /// Writes a Rust text and a NUL into the prefix of a buffer, and returns how many units they are:
-/// `CStr16::write_str` says the rest. One pass, which ends where the buffer is full; takes no
-/// memory.
+/// `CStr16::write_str` says the rest. Where the buffer has room for a unit a byte, the bytes are tested
+/// first, so that the characters are written with no test; takes no memory.
 pub fn write_text(input: &str, buffer: &mut [u16]) -> Result<usize, FromStrWithBufError>
     ensures ok { IfOk result (λ len. len ≡ length (chars input.now) + 1) }
     ensures refusal { result_err result

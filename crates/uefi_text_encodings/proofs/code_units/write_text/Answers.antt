@@ -1,11 +1,10 @@
 -- A text of ASCII is its own units, and none of its characters is refused.
-use Rattle.std.proofs.Common.{◌≡◌, ◌∙◌, ◌+◌, ◌<◌, ap, length, true, None, arith}
+use Rattle.std.proofs.Common.{◌≡◌, ◌∙◌, ap, length, true, None, arith}
 use Rattle.std.specs.List.{find, fold}
 use Rattle.std.specs.Str.{chars}
 use Rattle.std.proofs.lemmas.Grind.{common_steps}
 use Rattle.uefi_text_encodings.specs.Scans.{ascii_text_so_far}
 use Rattle.uefi_text_encodings.specs.FromStr.{is_deciding_char}
-use Rattle.uefi_text_encodings.specs.FromStrWithBuf.{from_str_with_buf_refusal, with_text}
 use Rattle.uefi_text_encodings.proofs.Utf8Bytes.{ascii_text_chars}
 use Rattle.uefi_text_encodings.proofs.Utf16.{undecided}
 use Rattle.uefi_text_encodings.proofs.Texts.{length-chars}

@@ -1,5 +1,5 @@
 -- The characters of the text are read one by one, and each is a code unit.
-use Rattle.std.proofs.Common.{◌≡◌, ◌≤◌, ◌<◌, ◌+◌, ◌++◌, ◌∙◌, ap, drop, length, set, arith, List, ℕ}
+use Rattle.std.proofs.Common.{◌≤◌, ◌<◌, ◌+◌, ◌++◌, ◌∙◌, ap, drop, length, set, arith, List, ℕ}
 use Rattle.std.proofs.lemmas.List.{length-append}
 use Rattle.std.proofs.lemmas.Str.{IsUtf8-past_char}
 use Rattle.std.proofs.lemmas.Grind.{common_steps}

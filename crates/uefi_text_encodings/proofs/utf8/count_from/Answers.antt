@@ -1,7 +1,6 @@
 -- One block more is counted.
 use Rattle.std.proofs.Common.{◌≡◌, ◌∙◌, ◌+◌, ◌-◌, ℕ, ap, sym, count_by, nat_le, take, drop, arith}
 use Rattle.std.proofs.Math.Seq.{take-add}
-use Rattle.std.proofs.lemmas.Grind.{common_steps}
 use Rattle.uefi_text_encodings.proofs.Utf8Bytes.{count_by-append}
 use Rattle.uefi_text_encodings.proofs.utf8.count_from.Goals as goal
 

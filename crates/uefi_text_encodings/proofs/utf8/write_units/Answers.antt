@@ -1,7 +1,6 @@
 -- The units are written one after the other.
-use Rattle.std.proofs.Common.{◌≡◌, ◌+◌, ◌++◌, ◌∙◌, ap, sym, get_or, length, take, arith}
+use Rattle.std.proofs.Common.{◌+◌, ◌++◌, ◌∙◌, ap, get_or, length, take, arith}
 use Rattle.std.specs.Prelude.{encode_utf8, encode_utf8_all}
-use Rattle.std.proofs.lemmas.Grind.{common_steps}
 use Rattle.std.proofs.lemmas.List.{length-append}
 use Rattle.uefi_text_encodings.proofs.Printed.{encode_utf8_all-take_more}
 use Rattle.uefi_text_encodings.proofs.Utf8Bytes.{length-encode_utf8_all-take}

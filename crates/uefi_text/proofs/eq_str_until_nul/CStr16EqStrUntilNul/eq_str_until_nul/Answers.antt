@@ -3,7 +3,6 @@ use Rattle.std.proofs.Common.{◌≡◌, ◌↔◌, ◌-◌, ap, drop, length, t
 use Rattle.std.proofs.lemmas.List.{length-drop, take_all}
 use Rattle.std.specs.List.{fold}
 use Rattle.std.specs.Str.{chars}
-use Rattle.std.proofs.lemmas.Grind.{common_steps}
 use Rattle.std.proofs.lemmas.Str.{IsCharBoundary-from_drop}
 use Rattle.uefi_text_encodings.specs.EqStrUntilNul.{IsEqualUntilNul}
 use Rattle.uefi_text_encodings.specs.Scans.{ascii_text_so_far}

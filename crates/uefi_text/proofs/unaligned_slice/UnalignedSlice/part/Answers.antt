@@ -1,7 +1,6 @@
 -- A part of the items lies in a part of the bytes.
-use Rattle.std.proofs.Common.{◌≡◌, ◌≤◌, ◌-◌, ◌*◌, ◌∙◌, ap, length, drop, arith}
+use Rattle.std.proofs.Common.{length, arith}
 use Rattle.std.proofs.lemmas.Grind.{common_steps}
-use Rattle.std.proofs.lemmas.List.{length-drop}
 use Rattle.uefi_text.specs.Views.{items_of}
 use Rattle.uefi_text_encodings.proofs.Packing.{length-packed_items, packed_items-part, part-fits}
 use Rattle.uefi_text.proofs.unaligned_slice.UnalignedSlice.part.Goals as goal
