@@ -44,7 +44,7 @@ fn undecided_blocks_end(units: &[u16], start: usize, block: usize) -> usize
 }
 
 /// Whether a unit is a NUL or a surrogate.
-pub fn is_deciding(unit: u16) -> bool
+fn is_deciding(unit: u16) -> bool
     ensures { result ≡ is_deciding unit }
 {
     unit == 0 || is_surrogate(unit)
