@@ -1,8 +1,22 @@
 //! Strings of UCS-2 against Rust texts, of which only what stands before the first NUL counts.
+ghost use Rattle.std.specs.Prelude.{◌↔◌, IsTrue};
+ghost use Rattle.std.specs.Str.{chars};
+ghost use Rattle.uefi_text_encodings.specs.EqStrUntilNul.{IsEqualUntilNul};
+
 use crate::owned_strs::CString16;
 use crate::strs::CStr16;
 use std::alloc::Allocator;
 pub use uefi_text_encodings::eq_str_until_nul::{EqStrUntilNul, str_eq_until_nul};
+use uefi_text_encodings::scans::same_ascii_len;
+
+/// Whether units are equal to a Rust text until its first NUL, unit by unit.
+fn are_equal_by_unit(units: &[u16], other: &str) -> bool
+    ensures { IsTrue result ↔ IsEqualUntilNul units.now (chars other.now) }
+{
+    let before_nul = other.chars().take_while(|c| *c != '\0');
+    let mut pairs = units.iter().zip(before_nul);
+    pairs.all(|(unit, c)| u32::from(*unit) == u32::from(c))
+}
 
 impl<'a> EqStrUntilNul for CStr16<'a> {
     ghost use Rattle.uefi_text.specs.Views.{text_of};
@@ -10,9 +24,9 @@ impl<'a> EqStrUntilNul for CStr16<'a> {
     ghost characters = { text_of };
 
     fn eq_str_until_nul(&self, other: &str) -> bool {
-        let before_nul = other.chars().take_while(|c| *c != '\0');
-        let mut pairs = self.iter().zip(before_nul);
-        pairs.all(|(own, c)| own.eq_char(c))
+        let units = self.to_u16_slice();
+        let len = same_ascii_len(units, other.as_bytes());
+        are_equal_by_unit(&units[len..], &other[len..])
     }
 }
 

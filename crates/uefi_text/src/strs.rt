@@ -28,7 +28,7 @@ pub use uefi_text_encodings::latin1::{
     CStr8, has_no_nul, is_latin1, str_num_latin1_chars, str_to_latin1,
 };
 use uefi_text_encodings::scans::{find_deciding_place, has_unit_beyond_ascii, split};
-use uefi_text_encodings::utf8::add_utf8;
+use uefi_text_encodings::utf8::{BLOCK, add_utf8, write_utf8};
 
 /// A string that is borrowed: a view of code units that are a text and its NUL. In contracts it is
 /// `text_of` it, the text without the NUL.
@@ -138,7 +138,8 @@ impl<'a> CStr16<'a> {
     /// these units; half of a surrogate pair may be the last. Else its prefix holds the units and a
     /// NUL, what stands after them stays, whatever is returned, and the first character that is
     /// NUL or above U+FFFF decides: `InteriorNul` or `InvalidChar`, with the number of characters
-    /// before it. One pass, which ends where the buffer is full; takes no memory.
+    /// before it. Linear in the text, whose bytes are tested before they are decoded, and ends where
+    /// the buffer is full; takes no memory.
     pub fn write_str(input: &str, buffer: &mut [u16]) -> Result<usize, FromStrWithBufError>
         ensures ok { IfOk result (λ len. len ≡ length (chars input.now) + 1) }
         ensures accepts { IsOk result
@@ -151,8 +152,8 @@ impl<'a> CStr16<'a> {
     }
 
     /// The string of a Rust text, as a view of the buffer's prefix, which it is written to. Refused
-    /// as [`CStr16::write_str`] says, which also says what the buffer then holds. One pass; takes
-    /// no memory.
+    /// as [`CStr16::write_str`] says, which also says what the buffer then holds. Linear in the text;
+    /// takes no memory.
     pub fn from_str_with_buf(
         input: &str,
         buf: &'a mut [u16],
@@ -618,8 +619,14 @@ impl<'a> fmt::Display for Char16Slice<'a> {
     ghost output = { λ part. Some (encode_utf8_all (units_of part)) };
 
     fn fmt<W: fmt::Write>(&self, f: &mut fmt::Formatter<W>) -> fmt::Result {
-        for character in self.iter() {
-            f.write_char(char::from(character))?;
+        let mut room = [0; 3 * BLOCK];
+        let mut start = 0;
+        while start < self.units.len() {
+            let end = start + BLOCK.min(self.units.len() - start);
+            let len = write_utf8(&mut room, &self.units[start..end]);
+            // SAFETY: the bytes are UTF-8, which is proved here as the condition of the call.
+            f.write_str(unsafe { str::from_utf8_unchecked(&room[..len]) })?;
+            start = end;
         }
         Ok(())
     }

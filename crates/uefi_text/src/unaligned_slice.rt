@@ -38,7 +38,10 @@ use std::alloc::{AllocError, Allocator};
 use std::fmt;
 use std::marker::PhantomData;
 pub use uefi_text_encodings::packed::Packed;
-use uefi_text_encodings::scans::is_deciding;
+use uefi_text_encodings::scans::find_deciding_place;
+
+/// How many units are copied to a block at a time.
+const BLOCK: usize = 64;
 
 /// A view of items that lie packed in borrowed bytes, which may begin at any place of memory. In
 /// contracts it is `items_of` it, the list of the items' numbers.
@@ -61,6 +64,18 @@ pub struct UnalignedSliceIter<'a, T: Packed> {
 #[derive(Drop)]
 pub struct UnalignedSliceIntoIter<'a, T: Packed> {
     items: UnalignedSliceIter<'a, T>,
+}
+
+/// Writes the items that bytes begin with, as many as there are places. It takes both as slices, so
+/// that neither's place and length is read again for each item.
+fn read_items<T: Packed>(bytes: &[u8], dest: &mut [T])
+    requires { length dest.old * T.SIZE ≤ length bytes.now }
+    ensures { map T.number dest.new ≡ packed_items T.SIZE (length dest.old) bytes.now }
+{
+    for place in 0..dest.len() {
+        let start = place * T::SIZE;
+        dest[place] = T::read_le(&bytes[start..start + T::SIZE]);
+    }
 }
 
 impl<'a, T: Packed> UnalignedSlice<'a, T> {
@@ -124,6 +139,18 @@ impl<'a, T: Packed> UnalignedSlice<'a, T> {
         self.len == 0
     }
 
+    /// The items from the place `start` on, up to and without the place `end`.
+    fn part(&self, start: usize, end: usize) -> Self
+        requires { (start ≤ end) × (end ≤ length (items_of self.now)) }
+        ensures { items_of result ≡ slice_range (items_of self.now) start end }
+    {
+        UnalignedSlice {
+            bytes: &self.bytes[start * T::SIZE..],
+            len: end - start,
+            items: PhantomData,
+        }
+    }
+
     /// The item at a place where there is one.
     fn item(&self, place: usize) -> T
         requires { place < length (items_of self.now) }
@@ -173,19 +200,18 @@ impl<'a, T: Packed> UnalignedSlice<'a, T> {
         requires { length dest.old ≡ length (items_of self.now) }
         ensures { map T.number dest.new ≡ items_of self.now }
     {
-        for place in 0..self.len {
-            dest[place] = self.item(place);
-        }
+        read_items(self.bytes, dest);
     }
 
     /// A vector of the items, or `AllocError` where its memory is refused: one request, for exactly
-    /// as many places as there are items. One pass.
+    /// as many places as there are items. Linear in the items.
     pub fn to_vec<A: Allocator>(&self, alloc: A) -> Result<Vec<T, A>, AllocError>
         ensures { IfOk result (λ items. map T.number items.items ≡ items_of self.now) }
     {
         let mut items = Vec::with_capacity(alloc, self.len)?;
-        for item in self.iter() {
-            items.push(item)?;
+        if self.len != 0 {
+            items.resize(self.len, self.item(0))?;
+            self.copy_to(&mut items);
         }
         Ok(items)
     }
@@ -331,17 +357,35 @@ impl<'a> UnalignedSlice<'a, u16> {
         }
     }
 
+    /// The place of the first NUL or surrogate among the items from the place `start` on, up to and
+    /// without the place `end`, counted from `start`. They are copied to a block, where they lie as
+    /// units do.
+    fn find_deciding_place_in_block(&self, start: usize, end: usize) -> Option<usize>
+        requires range { (start ≤ end) × (end ≤ length (items_of self.now)) }
+        requires block { end ≤ start + 64 }
+        ensures place { result ≡ deciding_place (slice_range (items_of self.now) start end) }
+        ensures units { (k : ℕ) → slice_index (slice_range (items_of self.now) start end) k < 2 ^ 16 }
+    {
+        let mut block = [0; BLOCK];
+        let units = &mut block[..end - start];
+        self.part(start, end).copy_to(units);
+        find_deciding_place(units)
+    }
+
     /// The place of the first NUL or surrogate.
     fn find_deciding_place(&self) -> Option<usize>
         ensures place { result ≡ deciding_place (items_of self.now) }
         ensures units { IfSome result (λ place.
             (k : ℕ) → k < place → slice_index (items_of self.now) k < 2 ^ 16) }
     {
-        for place in 0..self.len() {
-            let unit = self.item(place);
-            if is_deciding(unit) {
-                return Some(place);
+        let len = self.len();
+        let mut start = 0;
+        while start < len {
+            let end = start + BLOCK.min(len - start);
+            if let Some(place) = self.find_deciding_place_in_block(start, end) {
+                return Some(start + place);
             }
+            start = end;
         }
         None
     }

@@ -8,3 +8,4 @@ pub mod Packing
 pub mod UnitBytes
 pub mod Prefixes
 pub mod Accepting
+pub mod Writing

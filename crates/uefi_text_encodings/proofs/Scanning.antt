@@ -1,10 +1,10 @@
 -- Passes that test many elements at a time, by a fold with no early exit.
 use Rattle.std.proofs.Common.{◌≡◌, ◌↔◌, nat_le, refl, ℕ, ◌<◌, ◌≤◌, ◌+◌, ◌-◌, zero, suc, Bool, true, false, List, [], ◌∷◌, ◌++◌, length, take, drop, get_or, subst, ap, None, Some, arith, inl, inr, sym, ◌∙◌}
-use Rattle.std.specs.List.{fold, position, position_or_len}
+use Rattle.std.specs.List.{fold, position, position_or_len, slice_range}
 use Rattle.std.specs.Str.{IsAscii}
 use Rattle.std.proofs.lemmas.Bool.{cases_Bool, cases_lt}
 use Rattle.std.proofs.lemmas.List.Folds.{fold_stays}
-use Rattle.std.proofs.lemmas.List.Sums.{position_or_len_is}
+use Rattle.std.proofs.lemmas.List.Sums.{fails_before_first, passes_at_first, position_or_len_is}
 use Rattle.std.proofs.lemmas.Simd.{get_or-chunk, length-chunk}
 use Rattle.std.proofs.lemmas.Grind.{common_steps}
 use Rattle.uefi_text_encodings.specs.Scans.{beyond_ascii_so_far}
@@ -80,6 +80,55 @@ pub position-from_some : (p : ℕ → Bool) (us : List ℕ) (from place : ℕ) �
     → ((k : ℕ) → k < from → p (get_or us k 0) ≡ false) → Some place ≡ position p (drop from us)
     → Some (from + place) ≡ position p us
 position-from_some p us from place little_endian none e = let s = search_from p us from little_endian none in grind (arith, common_steps)
+
+-- what holds of the elements before a block, and of those in it, holds up to its end
+pub each_in_blocks : (P : ℕ → Type 0) (us : List ℕ) (start end : ℕ) → start ≤ end → end ≤ length us
+    → ((k : ℕ) → k < start → P (get_or us k 0)) → ((k : ℕ) → k < end - start → P (get_or (slice_range us start end) k 0))
+    → (k : ℕ) → k < end → P (get_or us k 0)
+each_in_blocks P us start end ordered inside before in_block k below =
+    elim (cases_lt k start) [
+      | inl low ↦ before k low
+      | inr high ↦
+          let at : start + (k - start) ≡ k = omega arith in
+          let same : get_or (slice_range us start end) (k - start) 0 ≡ get_or us k 0 =
+          get_or-chunk start (end - start) us (k - start) 0 (omega arith) ∙ ap (λ j. get_or us j 0) at in
+          subst P same (in_block (k - start) (omega arith))
+    ]
+
+-- where a search of a block finds nothing, and nothing passes before it, nothing passes up to its end
+pub nowhere_in_blocks : (p : ℕ → Bool) (us : List ℕ) (start end : ℕ) → start ≤ end → end ≤ length us
+    → ((k : ℕ) → k < start → p (get_or us k 0) ≡ false) → None ≡ position p (slice_range us start end)
+    → (k : ℕ) → k < end → p (get_or us k 0) ≡ false
+nowhere_in_blocks p us start end ordered inside none nowhere =
+    let block = slice_range us start end in
+    let len : length block ≡ end - start = length-chunk start (end - start) us (omega arith) in
+    let past : length block ≤ position_or_len p block = elim (cases_lt (position_or_len p block) (length block)) [
+      | inl found ↦ absurd (grind (arith, common_steps))
+      | inr past ↦ past
+    ] in
+    each_in_blocks (λ u. p u ≡ false) us start end ordered inside none (λ k h. fails_before_first p block k 0 (omega (arith, h)))
+
+-- and where it finds a place, a search of all finds that place after those before the block
+pub position-in_block : (p : ℕ → Bool) (us : List ℕ) (start end place : ℕ) → start ≤ end → end ≤ length us
+    → ((k : ℕ) → k < start → p (get_or us k 0) ≡ false) → Some place ≡ position p (slice_range us start end)
+    → (start + place < end) × (Some (start + place) ≡ position p us)
+position-in_block p us start end place ordered inside none found =
+    let block = slice_range us start end in
+    let len : length block ≡ end - start = length-chunk start (end - start) us (omega arith) in
+    let first : (position_or_len p block ≡ place) × (place < length block) = elim (cases_lt (position_or_len p block) (length block)) [
+      | inl within ↦ let same : position_or_len p block ≡ place = grind (arith, common_steps) in (same, omega arith)
+      | inr past ↦ absurd (grind (arith, common_steps))
+    ] in
+    let passes : p (get_or block place 0) ≡ true = subst (λ i. p (get_or block i 0) ≡ true) first.0 (passes_at_first p block 0 (omega (arith, first))) in
+    let same : (k : ℕ) → k < end - start → get_or block k 0 ≡ get_or us (start + k) 0 = λ k h. get_or-chunk start (end - start) us k 0 h in
+    let before : (k : ℕ) → k < start + place → p (get_or us k 0) ≡ false =
+    λ k h. elim (cases_lt k start) [
+      | inl low ↦ none k low
+      | inr high ↦
+          let at : start + (k - start) ≡ k = omega arith in
+          sym (ap p (same (k - start) (omega (arith, first)) ∙ ap (λ j. get_or us j 0) at)) ∙ fails_before_first p block (k - start) 0 (omega (arith, first))
+    ] in
+    (omega (arith, first), position-at p us (start + place) (omega (arith, first)) before (sym (ap p (same place (omega (arith, first)))) ∙ passes))
 
 ascii_units-none : (us : List ℕ) → fold beyond_ascii_so_far false us ≡ false → IsAscii us
 ascii_units-none [] e i = omega arith

@@ -3,7 +3,7 @@ use Rattle.std.proofs.Common.{◌≡◌, ◌↔◌, ℕ, ◌-◌, ◌≤◌, ◌
 use Rattle.std.specs.List.{find}
 use Rattle.std.specs.Str.{chars, IsUtf8}
 use Rattle.std.specs.Prelude.{encode_utf8}
-use Rattle.std.proofs.lemmas.Str.{chars-nil, chars_past_char}
+use Rattle.std.proofs.lemmas.Str.{chars-nil, chars_past_char, encodes-chars, length-le-encodes}
 use Rattle.std.proofs.lemmas.List.{length-append, map-append, nil_from_length, set_at, drop-append-le, take-append-le}
 use Rattle.std.proofs.Math.Seq.{take-append_seam}
 use Rattle.std.proofs.lemmas.List.Elements.{All-append, All-cons, All-drop, All-head, All-map, All-nil, All-tail, All-take, All-weaker}
@@ -144,3 +144,7 @@ IsText-unrefused cs are_scalars = (
   λ is_text. ap refusal_of_char (undecided-IsText cs is_text),
   λ none. IsText-chars cs (scalars-All cs are_scalars) (unrefused-find (find is_deciding_char cs) none),
 )
+
+-- a text has no more characters than bytes
+pub length-chars : (bs : List ℕ) → IsUtf8 bs → length (chars bs) ≤ length bs
+length-chars bs utf8 = omega (arith, length-le-encodes (chars bs), ap length (encodes-chars bs utf8))

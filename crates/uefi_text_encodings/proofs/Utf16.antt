@@ -1,5 +1,5 @@
 -- Texts as UTF-16, written into the prefix of a buffer.
-use Rattle.std.proofs.Common.{◌≡◌, ◌∙◌, ap, sym, refl, ℕ, ◌+◌, ◌<◌, ◌≤◌, if◌then◌else◌, Bool, not, List, [], ◌∷◌, ◌++◌, append_assoc, length, take, drop, get_or, set, suc, Option, Some, None, arith}
+use Rattle.std.proofs.Common.{◌≡◌, ◌∙◌, ap, sym, refl, ℕ, ◌+◌, ◌<◌, ◌≤◌, if◌then◌else◌, Bool, not, List, [], ◌∷◌, ◌++◌, append_assoc, length, take, drop, get_or, set, suc, Option, Some, None, arith, inl, inr}
 use Rattle.std.specs.Char.Escape.{encode_utf16}
 use Rattle.std.specs.List.{position, position_or_len, find}
 use Rattle.std.specs.Option.{option_or}
@@ -8,7 +8,8 @@ use Rattle.std.proofs.lemmas.List.{drop-drop, flat_map_more, length-append, leng
 use Rattle.std.proofs.lemmas.List.Folds.{find_at, position_or_len_push}
 use Rattle.std.proofs.lemmas.List.Quantifiers.{position-Some}
 use Rattle.std.proofs.lemmas.List.Sums.{prefix_len-le-length}
-use Rattle.std.proofs.lemmas.Option.{slice_get_past}
+use Rattle.std.proofs.lemmas.Option.{slice_get-get_or, slice_get_past}
+use Rattle.std.proofs.lemmas.Bool.{cases_lt, lt-ltb}
 use Rattle.std.proofs.Math.Seq.{get_or-append_seam, take-append_seam}
 use Rattle.uefi_text_encodings.proofs.UnitBytes.{set_two}
 use Rattle.uefi_text_encodings.specs.FromStr.{is_deciding_char}
@@ -120,6 +121,16 @@ find-nowhere p xs none =
     let past : length xs ≤ position_or_len p xs = grind (arith, common_steps) in
     find_at p xs ∙ slice_get_past xs (position_or_len p xs) past
 
+-- and the other way round
+position-none : (p : ℕ → Bool) (xs : List ℕ) → find p xs ≡ None → position p xs ≡ None
+position-none p xs none =
+    elim (cases_lt (position_or_len p xs) (length xs)) [
+      | inl found ↦
+          let some : find p xs ≡ Some (get_or xs (position_or_len p xs) 0) = find_at p xs ∙ slice_get-get_or xs (position_or_len p xs) 0 found in
+          absurd (grind (arith, common_steps))
+      | inr past ↦ grind (arith, common_steps)
+    ]
+
 -- one more character decides where none before it did
 pub refusal-push : (cs : List ℕ) (c len : ℕ) → len ≡ length (utf16 cs)
     → from_str_with_buf_refusal_at (cs ++ c ∷ []) (position is_deciding_char (cs ++ c ∷ []))
@@ -162,6 +173,17 @@ unrefused cs accepted = go (position is_deciding_char cs) refl accepted
         → (find is_deciding_char cs ≡ None) × (utf16 cs ≡ cs)
     go None e a = let none = find-nowhere is_deciding_char cs e in (none, utf16-undecided cs none)
     go (Some i) e a = cc
+
+-- and where such characters leave a place, they and a NUL are written before what stays
+pub undecided : (old cs : List ℕ) → find is_deciding_char cs ≡ None → length cs < length old
+    → (nul_terminated cs ++ drop (length cs + 1) old ≡ with_text cs old) × (None ≡ from_str_with_buf_refusal cs (length old))
+undecided old cs none place =
+    let units = utf16-undecided cs none in
+    let nul : length (nul_terminated cs) ≡ length cs + 1 = length-append cs (0 ∷ []) in
+    let written : with_text cs old ≡ nul_terminated cs ++ drop (length (nul_terminated cs)) old =
+    ap (λ us. with_units (nul_terminated us) old) units ∙ with_units-prefix old (nul_terminated cs) (omega arith) in
+    let nowhere : position is_deciding_char cs ≡ None = position-none is_deciding_char cs none in
+    (rw (written, nul) refl, rw (units, lt-ltb (length cs) (length old) place, nowhere) refl)
 
 -- where a buffer was large enough too, its prefix is the characters and a NUL
 pub accepted : (old cs : List ℕ) → from_str_with_buf_refusal cs (length old) ≡ None

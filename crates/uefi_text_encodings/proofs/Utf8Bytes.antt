@@ -1,13 +1,14 @@
 -- What the bytes of a Rust text say of its characters.
-use Rattle.std.proofs.Common.{◌≡◌, ◌≢◌, ◌↔◌, All, ℕ, ◌<◌, ◌≤◌, ◌+◌, ◌/◌, ◌%◌, ◌==◌, ◌||◌, nat_le, ◌++◌, ◌∙◌, ap, zero, suc, Bool, true, false, List, [], ◌∷◌, get_or, length, None, arith, refl, sym, inl, inr}
+use Rattle.std.proofs.Common.{cond, ◌≡◌, ◌≢◌, ◌↔◌, All, ℕ, ◌<◌, ◌≤◌, ◌+◌, ◌*◌, take, drop, subst, ◌/◌, ◌%◌, ◌==◌, ◌||◌, nat_le, ◌++◌, ◌∙◌, ap, zero, suc, Bool, true, false, List, [], ◌∷◌, get_or, length, None, arith, refl, sym, inl, inr}
 use Rattle.std.specs.Char.{encode_utf8}
 use Rattle.std.specs.List.{count_by, find, fold}
 use Rattle.std.specs.Str.{chars, encode_utf8_all, IsAscii, IsUtf8}
 use Rattle.std.proofs.lemmas.Bool.{cases_Bool, cases_lt, le-leb, le-ltb, lt-leb, lt-ltb}
 use Rattle.std.proofs.lemmas.List.Elements.{All-cons, All-head, All-nil, All-tail}
-use Rattle.std.proofs.lemmas.List.{length-append}
+use Rattle.std.proofs.lemmas.List.{length-append, take-append-drop}
 use Rattle.std.proofs.lemmas.List.Folds.{fold_stays}
-use Rattle.std.proofs.lemmas.Str.{chars-IsAscii, encode_ascii, encodes-chars}
+use Rattle.std.proofs.lemmas.List.Sums.{count_by-le-length, fold-append}
+use Rattle.std.proofs.lemmas.Str.{chars-IsAscii, chars-append, encode_ascii, encodes-chars, IsUtf8-from_ascii, IsUtf8-past_char}
 use Rattle.std.proofs.lemmas.Grind.{common_steps}
 use Rattle.std.proofs.Math.Utf8.{encodes}
 use Rattle.uefi_text_encodings.proofs.Scanning.{found_after}
@@ -41,6 +42,33 @@ ascii_text_undecided (b ∷ bs) e =
 -- ASCII bytes without NUL are their own characters, and none of these is refused
 pub ascii_text_chars : (bs : List ℕ) → fold ascii_text_so_far true bs ≡ true → (chars bs ≡ bs) × (find is_deciding_char bs ≡ None)
 ascii_text_chars bs e = (chars-IsAscii bs (ascii_text_ascii bs e), ascii_text_undecided bs e)
+
+-- none of them is NUL
+pub ascii_text_no_nul : (bs : List ℕ) → fold ascii_text_so_far true bs ≡ true → All (λ c. c ≢ 0) bs
+ascii_text_no_nul [] e = All-nil (λ c. c ≢ 0)
+ascii_text_no_nul (b ∷ bs) e =
+    let p = (ascii_text_cons b bs e).0 in
+    let above : 0 < b = grind (arith, common_steps) in
+    All-cons (λ c. c ≢ 0) b bs (λ is. omega (arith, is, above)) (ascii_text_no_nul bs (ascii_text_cons b bs e).1)
+
+IsUtf8-after_ascii : (front rest : List ℕ) → IsAscii front → IsUtf8 (front ++ rest) → IsUtf8 rest
+IsUtf8-after_ascii [] rest ascii utf8 = utf8
+IsUtf8-after_ascii (b ∷ front) rest ascii utf8 =
+    let one : b ∷ front ++ rest ≡ encode_utf8 b ++ (front ++ rest) = rw (encode_ascii b (ascii 0)) refl in
+    IsUtf8-after_ascii front rest (λ i. ascii (suc i)) (IsUtf8-past_char (b ∷ front ++ rest) (front ++ rest) b utf8 one)
+
+-- where they begin a Rust text, what follows them is one
+pub IsUtf8-after_ascii_text : (n : ℕ) (bs : List ℕ) → fold ascii_text_so_far true (take n bs) ≡ true → IsUtf8 bs → IsUtf8 (drop n bs)
+IsUtf8-after_ascii_text n bs ascii utf8 =
+    IsUtf8-after_ascii (take n bs) (drop n bs) (ascii_text_ascii (take n bs) ascii) (subst IsUtf8 (sym (take-append-drop n bs)) utf8)
+
+-- and they are its first characters
+pub ascii_text_then : (n : ℕ) (bs : List ℕ) → fold ascii_text_so_far true (take n bs) ≡ true → IsUtf8 bs → chars bs ≡ take n bs ++ chars (drop n bs)
+ascii_text_then n bs ascii utf8 =
+    let front = take n bs in
+    let is_ascii = ascii_text_ascii front ascii in
+    sym (ap chars (take-append-drop n bs)) ∙ chars-append front (drop n bs) (IsUtf8-from_ascii front is_ascii)
+    ∙ ap (λ (cs : List ℕ). cs ++ chars (drop n bs)) (chars-IsAscii front is_ascii)
 
 abbrev is_deciding_byte : ℕ → Bool
 is_deciding_byte byte = (byte == 0) || nat_le 0xf0 byte
@@ -246,3 +274,28 @@ no_zero_bytes bs utf8 =
     let same : fold zero_so_far false (encodes (chars bs)) ≡ fold zero_so_far false bs =
     ap (fold zero_so_far false) (encodes-chars bs utf8) in
     (λ e. no_nul-encodes (chars bs) (same ∙ e), λ no_nul. sym same ∙ encodes-no_nul (chars bs) no_nul)
+
+-- a prefix of units has no more bytes than all
+pub length-encode_utf8_all-take : (n : ℕ) (us : List ℕ) → length (encode_utf8_all (take n us)) ≤ length (encode_utf8_all us)
+length-encode_utf8_all-take zero us = omega arith
+length-encode_utf8_all-take (suc n) [] = omega arith
+length-encode_utf8_all-take (suc n) (u ∷ us) =
+    let others = length-encode_utf8_all-take n us in
+    omega (arith, others, length-append (encode_utf8 u) (encode_utf8_all (take n us)), length-append (encode_utf8 u) (encode_utf8_all us))
+
+-- units have at most three bytes each
+pub length-encode_utf8_all-le : (us : List ℕ) → ((k : ℕ) → get_or us k 0 < 65536) → length (encode_utf8_all us) ≤ 3 * length us
+length-encode_utf8_all-le us small =
+    omega (arith, length-encode_utf8_all us small, count_by-le-length (λ v. nat_le 0x80 v) us, count_by-le-length (λ v. nat_le 0x800 v) us)
+
+-- a count goes on from what was counted
+counted-from : (p : ℕ → Bool) (xs : List ℕ) (n : ℕ) → fold (λ (a : ℕ) (x : ℕ). a + cond (p x) 1 0) n xs ≡ n + count_by p xs
+counted-from p [] n = omega arith
+counted-from p (x ∷ xs) n =
+    let here = counted-from p xs (n + cond (p x) 1 0) in
+    let there = counted-from p xs (0 + cond (p x) 1 0) in
+    omega (arith, here, there)
+
+-- what passes in both of two lists is counted in each
+pub count_by-append : (p : ℕ → Bool) (xs ys : List ℕ) → count_by p (xs ++ ys) ≡ count_by p xs + count_by p ys
+count_by-append p xs ys = fold-append (λ (a : ℕ) (x : ℕ). a + cond (p x) 1 0) 0 xs ys ∙ counted-from p ys (count_by p xs)

@@ -1,5 +1,5 @@
 //! Code units of Rust texts: in a vector, where the text is one of UCS-2, or in a buffer.
-ghost use Rattle.std.specs.Prelude.{◌≡◌, ◌+◌, ◌<◌, ◌++◌, if◌then◌else◌, None, Some, drop, find, length, take, unwrap_or, IfOk, IfErr};
+ghost use Rattle.std.specs.Prelude.{◌≡◌, ◌+◌, ◌<◌, ◌≤◌, ◌++◌, if◌then◌else◌, None, Some, drop, find, length, take, unwrap_or, IfOk, IfErr};
 ghost use Rattle.std.specs.Option.{SomeIff};
 ghost use Rattle.std.specs.Char.Escape.{encode_utf16};
 ghost use Rattle.std.specs.Result.{result_err};
@@ -56,13 +56,30 @@ fn units_of_chars<A: Allocator>(alloc: A, text: &str) -> Result<Vec<u16, A>, All
     requires { find is_deciding_char (chars text.now) ≡ None }
     ensures { IfOk result (λ units. units.items ≡ nul_terminated (chars text.now)) }
 {
-    // No text has more characters than bytes.
-    let mut units = Vec::with_capacity(alloc, text.len() + 1)?;
-    for character in text.chars() {
-        units.push(character as u16)?;
-    }
-    units.push(0)?;
+    let mut units = Vec::new(alloc);
+    units.resize(text.len() + 1, 0)?;
+    let len = write_undecided(text, &mut units);
+    units.truncate(len);
     Ok(units)
+}
+
+/// Writes a text of UCS-2 and a NUL into the prefix of units, and returns how many they are. No text
+/// has more characters than bytes.
+fn write_undecided(text: &str, units: &mut [u16]) -> usize
+    requires undecided { find is_deciding_char (chars text.now) ≡ None }
+    requires room { length text.now < length units.old }
+    ensures len { result ≡ length (chars text.now) + 1 }
+    ensures within { result ≤ length units.new }
+    ensures units { units.new
+        ≡ nul_terminated (chars text.now) ++ drop (length (chars text.now) + 1) units.old }
+{
+    let mut len = 0;
+    for character in text.chars() {
+        units[len] = character as u16;
+        len += 1;
+    }
+    units[len] = 0;
+    len + 1
 }
 
 /// The units of a text of UCS-2 and a NUL, in one allocation.
@@ -83,9 +100,40 @@ pub fn units_of_text<A: Allocator>(alloc: A, text: &str) -> Result<Vec<u16, A>, 
 }
 
 /// Writes a Rust text and a NUL into the prefix of a buffer, and returns how many units they are:
-/// `CStr16::write_str` says the rest. One pass, which ends where the buffer is full; takes no
-/// memory.
+/// `CStr16::write_str` says the rest. Where the buffer has room for a unit a byte, the bytes are tested
+/// first, so that the characters are written with no test; takes no memory.
 pub fn write_text(input: &str, buffer: &mut [u16]) -> Result<usize, FromStrWithBufError>
+    ensures ok { IfOk result (λ len. len ≡ length (chars input.now) + 1) }
+    ensures refusal { result_err result
+        ≡ from_str_with_buf_refusal (chars input.now) (length buffer.old) }
+    ensures buffer { buffer.new ≡ with_text (chars input.now) buffer.old }
+{
+    if buffer.len() <= input.len() {
+        return write_chars(input, buffer);
+    }
+    if is_ascii_text(input.as_bytes()) {
+        return Ok(write_ascii(input.as_bytes(), buffer));
+    }
+    if find_deciding_char(input).is_none() {
+        return Ok(write_undecided(input, buffer));
+    }
+    write_chars(input, buffer)
+}
+
+/// The same of a text of ASCII without NUL, for which the buffer has room: its bytes are its units.
+fn write_ascii(bytes: &[u8], buffer: &mut [u16]) -> usize
+    requires { length bytes.now < length buffer.old }
+    ensures len { result ≡ length bytes.now + 1 }
+    ensures buffer { buffer.new ≡ nul_terminated bytes.now ++ drop (length bytes.now + 1) buffer.old }
+{
+    let end = bytes.len();
+    widen(&mut buffer[..end + 1], bytes);
+    buffer[end] = 0;
+    end + 1
+}
+
+/// The same, character by character.
+fn write_chars(input: &str, buffer: &mut [u16]) -> Result<usize, FromStrWithBufError>
     ensures ok { IfOk result (λ len. len ≡ length (chars input.now) + 1) }
     ensures refusal { result_err result
         ≡ from_str_with_buf_refusal (chars input.now) (length buffer.old) }

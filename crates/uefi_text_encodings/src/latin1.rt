@@ -8,7 +8,8 @@ ghost use Rattle.uefi_text_encodings.specs.Units.{is_nul, nul_terminated, withou
 ghost use Rattle.uefi_text_encodings.specs.Latin1.{IsLatin1, IsLatin1String};
 
 use crate::errors::FromSliceWithNulError;
-use crate::scans::{has_byte_beyond_latin1, has_zero_byte};
+use crate::scans::{find_zero, has_byte_beyond_latin1, has_zero_byte};
+use crate::utf8::{BLOCK, write_latin1};
 use std::cmp::Ordering;
 use std::fmt;
 use std::hash::{Hash, Hasher};
@@ -35,7 +36,7 @@ impl<'a> CStr8<'a> {
         ensures accepts { IsOk result ↔ IsLatin1String chars.now }
         ensures refusal { result_err result ≡ first_nul_refusal chars.now }
     {
-        let Some(place) = find_nul(chars) else {
+        let Some(place) = find_zero(chars) else {
             return Err(FromSliceWithNulError::NotNulTerminated);
         };
         if place + 1 != chars.len() {
@@ -57,13 +58,6 @@ impl<'a> CStr8<'a> {
     {
         &self.bytes[..self.bytes.len() - 1]
     }
-}
-
-/// The place of the first zero.
-fn find_nul(bytes: &[u8]) -> Option<usize>
-    ensures { result ≡ position is_nul bytes.now }
-{
-    bytes.iter().position(|byte| *byte == 0)
 }
 
 /// Two strings are equal exactly when their bytes are.
@@ -154,8 +148,14 @@ impl<'a> fmt::Display for CStr8<'a> {
 
     fn fmt<W: fmt::Write>(&self, f: &mut fmt::Formatter<W>) -> fmt::Result {
         let text = self.text();
-        for byte in text {
-            f.write_char(char::from(*byte))?;
+        let mut room = [0; 3 * BLOCK];
+        let mut start = 0;
+        while start < text.len() {
+            let end = start + BLOCK.min(text.len() - start);
+            let len = write_latin1(&mut room, &text[start..end]);
+            // SAFETY: the bytes are UTF-8, which is proved here as the condition of the call.
+            f.write_str(unsafe { str::from_utf8_unchecked(&room[..len]) })?;
+            start = end;
         }
         Ok(())
     }

@@ -1,17 +1,20 @@
 //! Passes over whole slices, in forms that the compiler compiles to vector instructions: no early
 //! exit inside a block, and loops over places where the bounds are known. What they return is said
 //! by std's words, so that callers see nothing of the form.
-ghost use Rattle.std.specs.Prelude.{◌≡◌, ℕ, ◌+◌, ◌-◌, ◌*◌, ◌<◌, ◌≤◌, ◌++◌, length, take, drop, map, slice_index, true, false};
+ghost use Rattle.std.specs.Prelude.{IsTrue, ◌≡◌, ℕ, ◌+◌, ◌-◌, ◌*◌, ◌<◌, ◌≤◌, ◌++◌, length, take, drop, map, position, slice_index, true, false};
 ghost use Rattle.std.specs.List.{fold};
 ghost use Rattle.std.specs.Str.{IsAscii};
 ghost use Rattle.uefi_text_encodings.specs.Scans.{ascii_text_so_far, beyond_ascii_so_far, byte_beyond_latin1_so_far, decided_so_far, deciding_byte_so_far, zero_so_far};
 ghost use Rattle.uefi_text_encodings.specs.UnitBytes.{unit_bytes};
-ghost use Rattle.uefi_text_encodings.specs.Units.{is_deciding, deciding_place, replaced};
+ghost use Rattle.uefi_text_encodings.specs.Units.{is_deciding, is_nul, deciding_place, replaced};
 
 use crate::chars::is_surrogate;
 
-/// How many units a block has.
+/// How many elements a block has.
 const BLOCK: usize = 64;
+
+/// How many a block of what is left after the last one has.
+const SMALL_BLOCK: usize = 8;
 
 /// Whether a block holds a NUL or a surrogate.
 #[inline(always)]
@@ -23,20 +26,25 @@ fn has_deciding(block: &[u16]) -> bool
     })
 }
 
-/// The length of a prefix of whole blocks that hold neither a NUL nor a surrogate.
-fn undecided_blocks_len(units: &[u16]) -> usize
+/// A place before which no unit is a NUL or a surrogate: units from `start` on are tested in blocks, up
+/// to one that holds such a unit, or to less than a block.
+#[inline(always)]
+fn undecided_blocks_end(units: &[u16], start: usize, block: usize) -> usize
+    requires start { start ≤ length units.now }
+    requires block { 0 < block }
+    requires none { (k : ℕ) → k < start → is_deciding (slice_index units.now k) ≡ false }
     ensures within { result ≤ length units.now }
     ensures none { (k : ℕ) → k < result → is_deciding (slice_index units.now k) ≡ false }
 {
-    let mut len = 0;
-    while BLOCK <= units.len() - len && !has_deciding(&units[len..len + BLOCK]) {
-        len += BLOCK;
+    let mut end = start;
+    while block <= units.len() - end && !has_deciding(&units[end..end + block]) {
+        end += block;
     }
-    len
+    end
 }
 
 /// Whether a unit is a NUL or a surrogate.
-pub fn is_deciding(unit: u16) -> bool
+fn is_deciding(unit: u16) -> bool
     ensures { result ≡ is_deciding unit }
 {
     unit == 0 || is_surrogate(unit)
@@ -53,10 +61,11 @@ fn find_deciding_place_by_unit(units: &[u16]) -> Option<usize>
 pub fn find_deciding_place(units: &[u16]) -> Option<usize>
     ensures { result ≡ deciding_place units.now }
 {
-    let len = undecided_blocks_len(units);
-    match find_deciding_place_by_unit(&units[len..]) {
+    let blocks_end = undecided_blocks_end(units, 0, BLOCK);
+    let start = undecided_blocks_end(units, blocks_end, SMALL_BLOCK);
+    match find_deciding_place_by_unit(&units[start..]) {
         None => None,
-        Some(place) => Some(len + place),
+        Some(place) => Some(start + place),
     }
 }
 
@@ -78,6 +87,52 @@ pub(crate) fn is_ascii_text(bytes: &[u8]) -> bool
         .fold(true, |so_far, byte| so_far & (0 < *byte) & (*byte < 128))
 }
 
+/// True only where units are these bytes, all of ASCII and none of them zero.
+#[inline(always)]
+fn are_same_ascii(units: &[u16], bytes: &[u8]) -> bool
+    requires { length units.now ≡ length bytes.now }
+    ensures { IsTrue result → (units.now ≡ bytes.now) × (fold ascii_text_so_far true bytes.now ≡ true) }
+{
+    let mut same = true;
+    for i in 0..units.len() {
+        same = same & (units[i] == u16::from(bytes[i])) & (0 < bytes[i]) & (bytes[i] < 128);
+    }
+    same
+}
+
+/// The length of a prefix that units and bytes have in common, of ASCII without NUL: from `start` on
+/// both are compared in blocks.
+#[inline(always)]
+fn same_ascii_blocks_end(units: &[u16], bytes: &[u8], start: usize, block: usize) -> usize
+    requires start { (start ≤ length units.now) × (start ≤ length bytes.now) }
+    requires block { 0 < block }
+    requires same { take start units.now ≡ take start bytes.now }
+    requires ascii { fold ascii_text_so_far true (take start bytes.now) ≡ true }
+    ensures within { (result ≤ length units.now) × (result ≤ length bytes.now) }
+    ensures same { take result units.now ≡ take result bytes.now }
+    ensures ascii { fold ascii_text_so_far true (take result bytes.now) ≡ true }
+{
+    let mut end = start;
+    while block <= units.len() - end
+        && block <= bytes.len() - end
+        && are_same_ascii(&units[end..end + block], &bytes[end..end + block])
+    {
+        end += block;
+    }
+    end
+}
+
+/// The length of a prefix that units and bytes have in common, of ASCII without NUL. It need not be
+/// the longest.
+pub fn same_ascii_len(units: &[u16], bytes: &[u8]) -> usize
+    ensures within { (result ≤ length units.now) × (result ≤ length bytes.now) }
+    ensures same { take result units.now ≡ take result bytes.now }
+    ensures ascii { fold ascii_text_so_far true (take result bytes.now) ≡ true }
+{
+    let start = same_ascii_blocks_end(units, bytes, 0, BLOCK);
+    same_ascii_blocks_end(units, bytes, start, SMALL_BLOCK)
+}
+
 /// Whether a byte begins a character that no UCS-2 text holds: a NUL, or a character above U+FFFF,
 /// which alone has four bytes.
 pub(crate) fn has_deciding_byte(bytes: &[u8]) -> bool
@@ -97,10 +152,47 @@ pub(crate) fn has_byte_beyond_latin1(bytes: &[u8]) -> bool
 }
 
 /// Whether a byte is zero. In UTF-8 that is the byte of a NUL, and of no other character.
+#[inline(always)]
 pub(crate) fn has_zero_byte(bytes: &[u8]) -> bool
     ensures { result ≡ fold zero_so_far false bytes.now }
 {
     bytes.iter().fold(false, |found, byte| found | (*byte == 0))
+}
+
+/// A place before which no byte is zero: bytes from `start` on are tested in blocks, up to one that
+/// holds a zero, or to less than a block.
+#[inline(always)]
+fn nonzero_blocks_end(bytes: &[u8], start: usize, block: usize) -> usize
+    requires start { start ≤ length bytes.now }
+    requires block { 0 < block }
+    requires none { (k : ℕ) → k < start → is_nul (slice_index bytes.now k) ≡ false }
+    ensures within { result ≤ length bytes.now }
+    ensures none { (k : ℕ) → k < result → is_nul (slice_index bytes.now k) ≡ false }
+{
+    let mut end = start;
+    while block <= bytes.len() - end && !has_zero_byte(&bytes[end..end + block]) {
+        end += block;
+    }
+    end
+}
+
+/// The place of the first zero, byte by byte.
+fn find_zero_by_byte(bytes: &[u8]) -> Option<usize>
+    ensures { result ≡ position is_nul bytes.now }
+{
+    bytes.iter().position(|byte| *byte == 0)
+}
+
+/// The place of the first zero.
+pub(crate) fn find_zero(bytes: &[u8]) -> Option<usize>
+    ensures { result ≡ position is_nul bytes.now }
+{
+    let blocks_end = nonzero_blocks_end(bytes, 0, BLOCK);
+    let start = nonzero_blocks_end(bytes, blocks_end, SMALL_BLOCK);
+    match find_zero_by_byte(&bytes[start..]) {
+        None => None,
+        Some(place) => Some(start + place),
+    }
 }
 
 /// Writes bytes as code units, before the last unit, which stays.

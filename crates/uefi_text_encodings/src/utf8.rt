@@ -1,18 +1,41 @@
 //! Code units as UTF-8. A unit of a text is a character of its own, so it has one, two or three
 //! bytes (Unicode Standard, section 3.9, table 3-6). How many all have is known before the first is
 //! written, so that memory is asked for once, and a refusal leaves everything unchanged.
-ghost use Rattle.std.specs.Prelude.{◌≡◌, ◌+◌, ◌<◌, ◌≤◌, ◌++◌, IfSome, IsOk, OnErr, OnOk, count_by, length, encode_utf8, nat_le};
+ghost use Rattle.std.specs.Prelude.{◌≡◌, ◌+◌, ◌<◌, ◌≤◌, ◌++◌, ◌*◌, IfSome, OnErr, OnOk, count_by, length, encode_utf8, nat_le, take};
 ghost use Rattle.std.specs.Str.{IsAscii, encode_utf8_all};
-ghost use Rattle.std.specs.Vec.{vec_capacity, vec_len};
 
-use crate::scans::{has_unit_beyond_ascii, narrow};
+use crate::scans::{has_unit_beyond_ascii, narrow, widen};
 use std::alloc::{AllocError, Allocator};
+
+/// How many units are counted, and how many characters are printed, at a time.
+pub const BLOCK: usize = 64;
+
+/// How many units of a block are at least so great. The count is as wide as a unit, so that it
+/// becomes vector code.
+#[inline(always)]
+fn count_in_block(units: &[u16], least: u16) -> u16
+    requires { length units.now ≤ 64 }
+    ensures { result ≡ count_by (λ unit. nat_le least unit) units.now }
+{
+    let mut count = 0;
+    for unit in units {
+        count += u16::from(least <= *unit);
+    }
+    count
+}
 
 /// How many units are at least so great.
 fn count_from(units: &[u16], least: u16) -> usize
     ensures { result ≡ count_by (λ unit. nat_le least unit) units.now }
 {
-    units.iter().filter(|unit| least <= **unit).count()
+    let mut count = 0;
+    let mut start = 0;
+    while start < units.len() {
+        let end = start + BLOCK.min(units.len() - start);
+        count += usize::from(count_in_block(&units[start..end], least));
+        start = end;
+    }
+    count
 }
 
 /// How many bytes units have in UTF-8, where that is a `usize`.
@@ -38,37 +61,67 @@ fn add_ascii<A: Allocator>(bytes: &mut Vec<u8, A>, units: &[u16]) -> Result<(), 
     Ok(())
 }
 
-/// Adds one unit.
-#[tactic(auto, using(crate::proofs::Utf8Bytes::unit_widths))]
-fn add_unit<A: Allocator>(bytes: &mut Vec<u8, A>, unit: u16) -> Result<(), AllocError>
-    ensures ok { OnOk result (bytes.new.items ≡ bytes.old.items ++ encode_utf8 unit) }
-    ensures len { OnOk result (vec_len bytes.new ≡ vec_len bytes.old + length (encode_utf8 unit)) }
-    ensures capacity { vec_capacity bytes.old ≤ vec_capacity bytes.new }
-    ensures full { OnErr result (vec_capacity bytes.old < vec_len bytes.old + length (encode_utf8 unit)) }
+/// Writes the UTF-8 of a unit from a place on, and returns the place after it.
+#[inline(always)]
+#[tactic(auto, using(crate::proofs::Utf8Bytes::unit_widths, crate::proofs::Writing::places_in_turn))]
+fn write_unit(bytes: &mut [u8], place: usize, unit: u16) -> usize
+    requires { place + length (encode_utf8 unit) ≤ length bytes.old }
+    ensures end { result ≡ place + length (encode_utf8 unit) }
+    ensures bytes { take result bytes.new ≡ take place bytes.old ++ encode_utf8 unit }
 {
     if unit < 0x80 {
-        return bytes.extend_from_slice(&[unit as u8]);
+        bytes[place] = unit as u8;
+        return place + 1;
     }
     if unit < 0x800 {
-        return bytes.extend_from_slice(&[(0xc0 + unit / 64) as u8, (0x80 + unit % 64) as u8]);
+        bytes[place] = (0xc0 + unit / 64) as u8;
+        bytes[place + 1] = (0x80 + unit % 64) as u8;
+        return place + 2;
     }
-    bytes.extend_from_slice(&[
-        (0xe0 + unit / 4096) as u8,
-        (0x80 + unit / 64 % 64) as u8,
-        (0x80 + unit % 64) as u8,
-    ])
+    bytes[place] = (0xe0 + unit / 4096) as u8;
+    bytes[place + 1] = (0x80 + unit / 64 % 64) as u8;
+    bytes[place + 2] = (0x80 + unit % 64) as u8;
+    place + 3
 }
 
-/// Adds units one by one, where there is room for all.
-fn add_each<A: Allocator>(bytes: &mut Vec<u8, A>, units: &[u16]) -> Result<(), AllocError>
-    requires { vec_len bytes.now + length (encode_utf8_all units.now) ≤ vec_capacity bytes.now }
-    ensures added { bytes.new.items ≡ bytes.old.items ++ encode_utf8_all units.now }
-    ensures succeeds { IsOk result }
+/// Writes the UTF-8 of units into the prefix of bytes, and returns how many bytes they are.
+fn write_units(bytes: &mut [u8], units: &[u16]) -> usize
+    requires { length (encode_utf8_all units.now) ≤ length bytes.old }
+    ensures len { result ≡ length (encode_utf8_all units.now) }
+    ensures bytes { take result bytes.new ≡ encode_utf8_all units.now }
 {
+    let mut end = 0;
     for unit in units {
-        add_unit(bytes, *unit)?;
+        end = write_unit(bytes, end, *unit);
     }
-    Ok(())
+    end
+}
+
+/// Writes the UTF-8 of units into the prefix of bytes that have room for it, and returns how many
+/// bytes they are. Units of ASCII are written all at once.
+pub fn write_utf8(bytes: &mut [u8], units: &[u16]) -> usize
+    requires { 3 * length units.now ≤ length bytes.old }
+    ensures len { result ≤ length bytes.new }
+    ensures bytes { take result bytes.new ≡ encode_utf8_all units.now }
+{
+    if has_unit_beyond_ascii(units) {
+        return write_units(bytes, units);
+    }
+    narrow(&mut bytes[..units.len()], units);
+    units.len()
+}
+
+/// The same of at most [`BLOCK`] characters of Latin-1.
+pub(crate) fn write_latin1(bytes: &mut [u8], characters: &[u8]) -> usize
+    requires block { length characters.now ≤ 64 }
+    requires room { 3 * length characters.now ≤ length bytes.old }
+    ensures len { result ≤ length bytes.new }
+    ensures bytes { take result bytes.new ≡ encode_utf8_all characters.now }
+{
+    let mut units = [0; BLOCK + 1];
+    let len = characters.len();
+    widen(&mut units[..len + 1], characters);
+    write_utf8(bytes, &units[..len])
 }
 
 /// Adds the UTF-8 of units to bytes, which stay unchanged where memory is refused.
@@ -83,6 +136,11 @@ pub fn add_utf8<A: Allocator>(bytes: &mut Vec<u8, A>, units: &[u16]) -> Result<(
     let Some(len) = utf8_len(units) else {
         return Err(AllocError);
     };
-    bytes.reserve(len)?;
-    add_each(bytes, units)
+    let start = bytes.len();
+    let Some(end) = start.checked_add(len) else {
+        return Err(AllocError);
+    };
+    bytes.resize(end, 0)?;
+    let _len = write_units(&mut bytes[start..], units);
+    Ok(())
 }

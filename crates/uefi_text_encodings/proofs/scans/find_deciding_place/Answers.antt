@@ -6,10 +6,10 @@ use Rattle.uefi_text_encodings.proofs.scans.find_deciding_place.Goals as goal
 
 pub returns-in-None : goal.returns-in-None
 returns-in-None c =
-    let len = c.undecided_blocks_len-len in
-    position-from_none is_deciding c.args.units.now len.result len.ensures.within len.ensures.none (grind (arith, common_steps))
+    let start = c.undecided_blocks_end-start in
+    position-from_none is_deciding c.args.units.now start.result start.ensures.within start.ensures.none (grind (arith, common_steps))
 
 pub returns-in-Some : goal.returns-in-Some
 returns-in-Some c =
-    let len = c.undecided_blocks_len-len in
-    position-from_some is_deciding c.args.units.now len.result c.in-Some.place len.ensures.within len.ensures.none (grind (arith, common_steps))
+    let start = c.undecided_blocks_end-start in
+    position-from_some is_deciding c.args.units.now start.result c.in-Some.place start.ensures.within start.ensures.none (grind (arith, common_steps))

@@ -1,24 +1,32 @@
--- The pairs are those of the text and of what stands before the first NUL.
-use Rattle.std.proofs.Common.{rules, tests, not}
-use Rattle.std.specs.List.{before_first}
+-- What follows the ASCII that both begin with decides.
+use Rattle.std.proofs.Common.{◌≡◌, ◌↔◌, ◌-◌, ap, drop, length, take, true, IsTrue, arith}
+use Rattle.std.proofs.lemmas.List.{length-drop, take_all}
+use Rattle.std.specs.List.{fold}
 use Rattle.std.specs.Str.{chars}
-use Rattle.std.proofs.lemmas.Iterator.{YieldsList-from_chars, YieldsList-from_zip, cases_from_all}
-use Rattle.std.proofs.lemmas.Iterator.Consumers.{YieldsList-from_first}
-use Rattle.std.proofs.lemmas.Iterator.Search.{YieldsList-from_take_while}
-use Rattle.uefi_text_encodings.specs.Units.{is_nul}
-use Rattle.uefi_text.specs.Views.{text_of, units_left}
-use Rattle.uefi_text_encodings.proofs.Prefixes.{AreSame, begins_by_pairs}
+use Rattle.std.proofs.lemmas.Str.{IsCharBoundary-from_drop}
+use Rattle.uefi_text_encodings.specs.EqStrUntilNul.{IsEqualUntilNul}
+use Rattle.uefi_text_encodings.specs.Scans.{ascii_text_so_far}
+use Rattle.uefi_text.specs.Views.{text_of}
+use Rattle.uefi_text_encodings.proofs.Prefixes.{equal_after_ascii}
+use Rattle.uefi_text_encodings.proofs.Utf8Bytes.{IsUtf8-after_ascii_text}
 use Rattle.uefi_text.proofs.eq_str_until_nul.CStr16EqStrUntilNul.eq_str_until_nul.Goals as goal
+
+pub range_from-requires : goal.range_from-requires
+range_from-requires c above =
+    let bytes = c.args.other.now in
+    let n = c.same_ascii_len-len.result in
+    let ascii : fold ascii_text_so_far true (take n bytes) ≡ true = rw c.as_bytes.ensures.value at c.same_ascii_len-len.ensures.ascii in
+    IsCharBoundary-from_drop bytes n (omega (arith, c.same_ascii_len-len.ensures.within.1, ap length c.as_bytes.ensures.value)) (IsUtf8-after_ascii_text n bytes ascii c.utf8.other)
 
 pub returns : goal.returns
 returns c =
     let text = text_of c.args.self.now in
-    let other = c.args.other.now in
-    let own = YieldsList-from_first (λ unit. unit) units_left text cc in
-    let before_nul =
-    YieldsList-from_take_while _ (λ character. not (is_nul character)) (YieldsList-from_chars other c.utf8.other (cc)) (cc) (cc)
-    (λ x b q k. search (rules, tests)) in
-    begins_by_pairs c.all.result text (before_first is_nul (chars other))
-    (cases_from_all c.all.new.self _ c.all.result AreSame (λ pair. ¬ AreSame pair) c.all.ensures.ran
-    (YieldsList-from_zip {s = c.zip-pairs.result} own before_nul)
-    (λ x q k. search (rules, tests)) (λ x q k. search (rules, tests)))
+    let bytes = c.args.other.now in
+    let n = c.same_ascii_len-len.result in
+    let ascii : fold ascii_text_so_far true (take n bytes) ≡ true = rw c.as_bytes.ensures.value at c.same_ascii_len-len.ensures.ascii in
+    let same : take n text ≡ take n bytes = rw (c.as_bytes.ensures.value, c.to_u16_slice-units.ensures) at c.same_ascii_len-len.ensures.same in
+    let whole : take (length text - n) (drop n text) ≡ drop n text =
+    take_all (length text - n) (drop n text) (omega (arith, length-drop n text)) in
+    let rest : IsTrue c.are_equal_by_unit.result ↔ IsEqualUntilNul (drop n text) (chars (drop n bytes)) =
+    rw (c.range_from.ensures.value, c.to_u16_slice-units.ensures, whole) at c.are_equal_by_unit.ensures in
+    equal_after_ascii c.are_equal_by_unit.result n text bytes same ascii c.utf8.other rest

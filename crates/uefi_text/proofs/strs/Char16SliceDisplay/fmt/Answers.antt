@@ -1,17 +1,27 @@
--- Each character follows those before it.
-use Rattle.std.proofs.Common.{rules, ap, sym, ◌∙◌, ◌++◌, ℕ, arith}
-use Rattle.std.specs.Prelude.{encode_utf8, encode_utf8_all}
+-- Each block follows those before it.
+use Rattle.std.proofs.Common.{rules, ◌≡◌, take, ap, subst, sym, ◌∙◌, ◌++◌, ◌+◌, ◌-◌, arith}
+use Rattle.std.specs.Prelude.{encode_utf8_all}
+use Rattle.std.specs.Str.{IsUtf8}
 use Rattle.std.proofs.Output.{has_written_append, has_written_of_eq}
-use Rattle.std.proofs.lemmas.Grind.{common_steps}
-use Rattle.uefi_text_encodings.proofs.Printed.{encode_utf8_all-push}
+use Rattle.uefi_text_encodings.proofs.Printed.{IsUtf8-block, encode_utf8_all-block, scalars-characters}
 use Rattle.uefi_text.proofs.strs.Char16SliceDisplay.fmt.Goals as goal
 
-pub loop-character-preserved : goal.loop-character-preserved
-loop-character-preserved g c =
-    let read = c.loop-character.yielded in
+pub from_utf8_unchecked-requires : goal.from_utf8_unchecked-requires
+from_utf8_unchecked-requires g c =
+    let part = c.args.self.now in
+    let block = IsUtf8-block part.units.now c.loop-start.start (c.loop-start.start + c.min.result - c.loop-start.start) (scalars-characters part.units.now part.are_characters) in
+    subst IsUtf8 (sym c.write_utf8-len.ensures.bytes) block
+
+pub loop-start-preserved : goal.loop-start-preserved
+loop-start-preserved g c =
+    let units = c.args.self.now.units.now in
+    let start = c.loop-start.start in
+    let n = start + c.min.result - start in
+    let end : start + n ≡ start + c.min.result = omega arith in
     record {
-      written = λ plain. has_written_of_eq _ _ (encode_utf8_all read ++ encode_utf8 c.from.result) _ _
-          (ap (λ (n : ℕ). encode_utf8_all read ++ encode_utf8 n) c.from.ensures ∙ sym (encode_utf8_all-push read c.in-Some.character))
-          (has_written_append _ c.args.f.now (encode_utf8_all read) c.loop-character.f (encode_utf8 c.from.result) _ (c.loop-character.invariant.written plain) (search rules));
-      to_come = grind (arith, common_steps);
+      within = omega arith;
+      written = λ plain. has_written_of_eq _ _ (encode_utf8_all (take start units) ++ c.from_utf8_unchecked.result.now) _ _
+          (ap (λ bytes. encode_utf8_all (take start units) ++ bytes) (c.from_utf8_unchecked.ensures ∙ c.write_utf8-len.ensures.bytes)
+          ∙ encode_utf8_all-block units start n ∙ ap (λ k. encode_utf8_all (take k units)) end)
+          (has_written_append _ c.args.f.now (encode_utf8_all (take start units)) c.loop-start.f c.from_utf8_unchecked.result.now _ (c.loop-start.invariant.written plain) (search rules));
     }

@@ -1,12 +1,14 @@
-use Rattle.std.proofs.Common.{◌≡◌, ◌++◌}
+use Rattle.std.proofs.Common.{◌≤◌, ◌-◌, length, take}
 use Rattle.std.specs.Str.{encode_utf8_all}
 use Rattle.std.specs.Fmt.{HasWritten, IsPlainFormatter}
-use Rattle.uefi_text.specs.Views.{units_of, units_left}
 use Rattle.uefi_text.proofs.strs.Char16SliceDisplay.fmt.Given as goal
 
--- the characters so far are written, and with those to come they are all
-abbrev pub invariant-loop-character : goal.invariant-loop-character
-invariant-loop-character g l = record {
-  written : IsPlainFormatter l.initial.f → HasWritten g.W.Write.write_str_gives l.initial.f (encode_utf8_all l.yielded) l.f;
-  to_come : l.yielded ++ units_left l.character-iterator ≡ units_of l.self;
+abbrev pub decreases-loop-start : goal.decreases-loop-start
+decreases-loop-start g l = length l.self.units.now - l.start
+
+-- the characters so far are written
+abbrev pub invariant-loop-start : goal.invariant-loop-start
+invariant-loop-start g l = record {
+  within : l.start ≤ length l.self.units.now;
+  written : IsPlainFormatter l.initial.f → HasWritten g.W.Write.write_str_gives l.initial.f (encode_utf8_all (take l.start l.self.units.now)) l.f;
 }

@@ -4,7 +4,7 @@ use Rattle.std.specs.Str.{chars, IsUtf8}
 use Rattle.std.specs.Str.Iter.{chars_rest}
 use Rattle.uefi_text_encodings.specs.FromStr.{is_deciding_char}
 use Rattle.uefi_text_encodings.specs.FromStrWithBuf.{from_str_with_buf_refusal_at, utf16, with_units}
-use Rattle.uefi_text_encodings.proofs.code_units.write_text.Given as goal
+use Rattle.uefi_text_encodings.proofs.code_units.write_chars.Given as goal
 
 -- the units of the characters so far were written, a place is left, and with the characters to
 -- come they are the text's

@@ -1,0 +1,16 @@
+use Rattle.std.proofs.Common.{◌≡◌, ◌≤◌, ◌-◌, length, take, true}
+use Rattle.std.specs.List.{fold}
+use Rattle.uefi_text_encodings.specs.Scans.{ascii_text_so_far}
+use Rattle.uefi_text_encodings.proofs.scans.same_ascii_blocks_end.Given as goal
+
+abbrev pub decreases-loop-end : goal.decreases-loop-end
+decreases-loop-end l = length l.units - l.end
+
+-- the prefixes so far are the same, and ASCII
+abbrev pub invariant-loop-end : goal.invariant-loop-end
+invariant-loop-end l = record {
+  in_units : l.end ≤ length l.units;
+  in_bytes : l.end ≤ length l.bytes;
+  same : take l.end l.units ≡ take l.end l.bytes;
+  ascii : fold ascii_text_so_far true (take l.end l.bytes) ≡ true;
+}
