@@ -74,8 +74,12 @@ static void print_text(const uint16_t *string, size_t count)
     size_t length = 0;
     if (uefi_utf8_from_string(string, count, utf8, sizeof utf8, &length) != UEFI_OK)
         return;
-    for (size_t i = 0; i < length; i++)
-        putchar(utf8[i] < 0x20 || utf8[i] == 0x7f ? '?' : utf8[i]);
+    for (size_t i = 0; i < length; i++) {
+        /* Two bytes encode U+0080 to U+009F, and a NUL follows the last. */
+        bool is_pair = utf8[i] == 0xc2 && utf8[i + 1] < 0xa0;
+        putchar(utf8[i] < 0x20 || utf8[i] == 0x7f || is_pair ? '?' : utf8[i]);
+        i += is_pair;
+    }
 }
 
 /* Prints the path of a file path node, whose units the bytes from `at` on are, and the verdict on it. */

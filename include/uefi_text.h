@@ -155,6 +155,26 @@ bool uefi_path_file_name(const uint16_t *text, size_t length, size_t *start);
  */
 bool uefi_path_parent_length(const uint16_t *text, size_t length, size_t *parent_length);
 
+/*
+ * Paths in a caller's buffer. Each slash of a path that is pushed becomes a separator, and a separator is added
+ * between the two where the first is not empty and does not end in one. The empty path adds nothing.
+ */
+
+/*
+ * Pushes `path` on the path that `buffer` begins with. UEFI_OK: the buffer begins with the path of both, and the
+ * places after its NUL stay. Refused, the buffer stays unchanged: UEFI_NO_NUL and UEFI_INVALID_CHAR where the buffer
+ * or then `path` begins with no string, and `*place` as uefi_string_until_nul says of it; then UEFI_BUFFER_TOO_SMALL. At
+ * UEFI_OK and UEFI_BUFFER_TOO_SMALL `*place` becomes how many units the path of both has, its NUL not counted.
+ */
+uint32_t uefi_path_push(uint16_t *buffer, size_t room, const uint16_t *path, size_t count, size_t *place);
+
+/*
+ * Writes `path`, each of its slashes replaced too, with `other` pushed on it into the first places of `buffer`, and a
+ * NUL. Returns and refuses as uefi_path_push does, `path` before `other`.
+ */
+uint32_t uefi_path_join(const uint16_t *path, size_t count, const uint16_t *other, size_t other_count,
+                        uint16_t *buffer, size_t room, size_t *place);
+
 #ifdef __cplusplus
 }
 #endif

@@ -7,7 +7,6 @@ use Rattle.std.proofs.lemmas.List.Elements.{All-head, All-weaker}
 use Rattle.std.proofs.lemmas.List.Splits.{slice_split_none, slice_split_first, slice_split-cons_yes, slice_split-cons_no, length-slice_split, join_with_byte-slice_split}
 use Rattle.std.proofs.lemmas.List.Sums.{fails_before_first, prefix_len-le-length}
 use Rattle.std.proofs.Math.Seq.{drop-nil, take-length}
-use Rattle.std.proofs.lemmas.Grind.{common_steps}
 use Rattle.uefi_path.specs.Components.{IsPiece, components_of, joined, pieces_between}
 use Rattle.uefi_path.specs.Parents.{all_but_last}
 use Rattle.uefi_path.specs.Separators.{canonical, is_separator, separator}
@@ -43,14 +42,14 @@ first_piece text start low =
           let more : count < length rest = omega (arith, length-drop start text, ltb-true (start + count) (length text) hit) in
           let next : start + (count + 1) ≡ suc (start + count) = omega arith in
           let e : drop (count + 1) rest ≡ drop (suc (start + count)) text =
-            drop-drop (count + 1) start text ∙ ap (λ n. drop n text) next in
+          drop-drop (count + 1) start text ∙ ap (λ n. drop n text) next in
           let back : start + count - start ≡ count = omega arith in
           rw hit (rw (sym e) (rw back (slice_split_first is_separator rest 0 more)))
       | inr miss ↦
           let all : count ≡ length rest = omega (arith, length-drop start text, ltb-false (start + count) (length text) miss) in
           let back : start + count - start ≡ length rest = omega arith in
           let none : All (λ v. is_separator v ≡ false) rest =
-            λ k d m. fails_before_first is_separator rest k d (omega arith) in
+          λ k d m. fails_before_first is_separator rest k d (omega arith) in
           rw miss (rw back (rw (take-length rest) (slice_split_none is_separator rest none)))
     ]
 

@@ -4,6 +4,7 @@
 //! pointer and a length, and a reason as a number of [`reasons`]. No call takes memory.
 #![tactic(auto)]
 
+pub mod buffers;
 pub mod packed;
 pub mod paths;
 pub mod reasons;

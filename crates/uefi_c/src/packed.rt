@@ -12,11 +12,7 @@ use uefi_text::UnalignedSlice;
 /// is `BUFFER_TOO_SMALL`; either leaves the buffer unchanged. What stands after the units stays. `count`
 /// becomes how many units there are, refused or not. One pass; takes no memory.
 #[unsafe(no_mangle)]
-pub extern "C" fn uefi_units_from_bytes(
-    bytes: &[u8],
-    buffer: &mut [u16],
-    count: &mut usize,
-) -> u32
+pub extern "C" fn uefi_units_from_bytes(bytes: &[u8], buffer: &mut [u16], count: &mut usize) -> u32
     ensures ok { (result ≡ OK)
         ↔ ((length bytes.now % 2 ≡ 0) × (length bytes.now / 2 ≤ length buffer.old)) }
     ensures odd { (result ≡ ODD_BYTES) ↔ (length bytes.now % 2 ≢ 0) }

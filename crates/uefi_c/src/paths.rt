@@ -94,7 +94,7 @@ pub extern "C" fn uefi_path_equal(first: &[u16], second: &[u16]) -> bool
 pub extern "C" fn uefi_path_order(first: &[u16], second: &[u16]) -> i32
     ensures order { BeginsWithString first.now → BeginsWithString second.now
         → result ≡ order_number (slice_cmp nat_cmp
-            (canonical (text_in first.now)) (canonical (text_in second.now))) }
+        (canonical (text_in first.now)) (canonical (text_in second.now))) }
     ensures none { (result ≡ pos 2) ↔ ¬ (BeginsWithString first.now × BeginsWithString second.now) }
 {
     let Ok(first) = CStr16::from_u16_until_nul(first) else {
@@ -112,7 +112,11 @@ fn component_start(text: &[u16], place: usize) -> Option<usize>
         × (components_from text.now place ≡ slice_split is_separator (drop start text.now))) }
 {
     if 0 < place {
-        return if place <= text.len() { Some(place) } else { None };
+        return if place <= text.len() {
+            Some(place)
+        } else {
+            None
+        };
     }
     match text {
         [] | [SEPARATOR] => None,

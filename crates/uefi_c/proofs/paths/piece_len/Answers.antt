@@ -1,5 +1,5 @@
 -- Where no place of a separator is found all units stand before the first one.
-use Rattle.std.proofs.Common.{length, sym, ◌∙◌}
+use Rattle.std.proofs.Common.{sym, ◌∙◌}
 use Rattle.uefi_c.proofs.Places.{none_found}
 use Rattle.uefi_c.proofs.paths.piece_len.Goals as goal
 

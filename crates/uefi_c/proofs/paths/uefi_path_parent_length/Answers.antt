@@ -1,7 +1,5 @@
 -- All components but the last stand before the last separator.
-use Rattle.std.proofs.Common.{◌≡◌, [], refl}
-use Rattle.uefi_path.specs.Components.{components_of}
-use Rattle.uefi_path.specs.Parents.{all_but_last}
+use Rattle.std.proofs.Common.{refl}
 use Rattle.uefi_c.proofs.Places.{IsLastStart, joined_parent, none_before, some_before}
 use Rattle.uefi_c.proofs.paths.uefi_path_parent_length.Goals as goal
 
