@@ -37,6 +37,22 @@ mod header {
             length: usize,
             parent_length: *mut usize,
         ) -> bool;
+        pub fn uefi_path_push(
+            buffer: *mut u16,
+            room: usize,
+            path: *const u16,
+            count: usize,
+            place: *mut usize,
+        ) -> u32;
+        pub fn uefi_path_join(
+            path: *const u16,
+            count: usize,
+            other: *const u16,
+            other_count: usize,
+            buffer: *mut u16,
+            room: usize,
+            place: *mut usize,
+        ) -> u32;
     }
 }
 
@@ -115,6 +131,46 @@ impl<'a> Iterator for Components<'a> {
     }
 }
 
+/// The path of two strings in a buffer. Where it is too small, how many units the path has.
+fn join<'a>(first: &[u16], second: &[u16], buffer: &'a mut [u16]) -> Result<&'a [u16], usize> {
+    let mut place = 0;
+    // SAFETY: each slice is passed with its length, and nothing overlaps.
+    let reason = unsafe {
+        header::uefi_path_join(
+            first.as_ptr(),
+            first.len(),
+            second.as_ptr(),
+            second.len(),
+            buffer.as_mut_ptr(),
+            buffer.len(),
+            &mut place,
+        )
+    };
+    match reason {
+        0 => Ok(&buffer[..place]),
+        _ => Err(place),
+    }
+}
+
+/// Pushes a string on the path that a buffer begins with. Where it is too small, how many units both have.
+fn push<'a>(buffer: &'a mut [u16], path: &[u16]) -> Result<&'a [u16], usize> {
+    let mut place = 0;
+    // SAFETY: each slice is passed with its length, and nothing overlaps.
+    let reason = unsafe {
+        header::uefi_path_push(
+            buffer.as_mut_ptr(),
+            buffer.len(),
+            path.as_ptr(),
+            path.len(),
+            &mut place,
+        )
+    };
+    match reason {
+        0 => Ok(&buffer[..place]),
+        _ => Err(place),
+    }
+}
+
 fn shown(text: &[u16]) -> String {
     String::from_utf16_lossy(text)
 }
@@ -144,6 +200,21 @@ fn print_path(text: &str) -> Result<(), Reason> {
     Ok(())
 }
 
+fn print_joined(first: &str, second: &str) -> Result<(), Reason> {
+    let (mut one, mut two) = ([0; 16], [0; 16]);
+    let (first, second) = (string_in(first, &mut one)?, string_in(second, &mut two)?);
+    let mut buffer = [0; 12];
+    match join(first, second, &mut buffer) {
+        Ok(path) => println!("joined {}", shown(path)),
+        Err(len) => println!("joined they have {len} units, which is too many"),
+    }
+    match push(&mut buffer, second) {
+        Ok(path) => println!("  and once more {}", shown(path)),
+        Err(len) => println!("  and once more {len} units, which is too many"),
+    }
+    Ok(())
+}
+
 fn main() {
     let long = "\\a".repeat(40);
     let texts = [
@@ -160,6 +231,18 @@ fn main() {
     for text in texts {
         if let Err(Reason(number)) = print_path(text) {
             println!("{text:?} is refused: {number}");
+        }
+    }
+    let pairs = [
+        ("/efi", "a/b"),
+        ("\\", "a"),
+        ("a\\", ""),
+        ("", "b"),
+        ("\\efi\\boot", "abc"),
+    ];
+    for (first, second) in pairs {
+        if let Err(Reason(number)) = print_joined(first, second) {
+            println!("{first:?} and {second:?} are refused: {number}");
         }
     }
 }

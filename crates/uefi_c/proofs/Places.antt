@@ -1,15 +1,16 @@
 -- Where the components of a text stand: the first of those left, and the last of all.
-use Rattle.std.proofs.Common.{◌≡◌, ◌≢◌, ℕ, zero, suc, ◌+◌, ◌-◌, ◌<◌, ◌≤◌, true, false, not, nat_lt, Bool, cond, List, [], ◌∷◌, ◌++◌, ◌⊎◌, length, take, drop, get_or, length-drop, length-take, drop-cons, All, Option, Some, None, refl, sym, ◌∙◌, ap, inl, inr, arith}
+use Rattle.std.proofs.Common.{◌≡◌, ◌≢◌, ℕ, zero, suc, ◌+◌, ◌-◌, ◌<◌, ◌≤◌, true, false, not, nat_lt, Bool, cond, List, [], ◌∷◌, ◌++◌, ◌⊎◌, length, take, drop, get_or, length-append, length-drop, length-take, drop-cons, All, Option, Some, None, refl, sym, ◌∙◌, ap, inl, inr, arith}
 use Rattle.std.specs.List.{last_or, onto_first, position, position_or_len, slice_range, slice_split}
 use Rattle.std.proofs.lemmas.Bool.{cases_Bool, ltb-true, ltb-false, ne_eqb}
 use Rattle.std.proofs.lemmas.List.{drop-drop, take-append-drop}
 use Rattle.std.proofs.lemmas.List.Elements.{All-head, All-weaker}
 use Rattle.std.proofs.lemmas.List.Splits.{slice_split_none, slice_split_first, slice_split-cons_yes, slice_split-cons_no, length-slice_split, join_with_byte-slice_split}
 use Rattle.std.proofs.lemmas.List.Sums.{fails_before_first, prefix_len-le-length}
-use Rattle.std.proofs.Math.Seq.{drop-nil, take-length}
+use Rattle.std.proofs.Math.Seq.{drop-nil, take-append_seam, take-length}
 use Rattle.uefi_path.specs.Components.{IsPiece, components_of, joined, pieces_between}
-use Rattle.uefi_path.specs.Parents.{all_but_last}
+use Rattle.uefi_path.specs.Parents.{all_but_last, parent_text}
 use Rattle.uefi_path.specs.Separators.{canonical, is_separator, separator}
+use Rattle.uefi_path.specs.SuccessiveParents.{AreParents, prefixes, shorter_prefixes}
 use Rattle.uefi_c.specs.PathPlaces.{components_from}
 
 -- the test for a separator fails at each unit of a piece
@@ -194,3 +195,30 @@ some_before text start is more e =
     slice_split-some us
     (sym (all_but_last-push (slice_split is_separator us) (drop start text))
     ∙ ap all_but_last (sym (with_parent text start is more)) ∙ e)
+
+-- the components before the last are a prefix of all, as many as there are but one
+take_others : (ps : List (List ℕ)) (q : List ℕ) → take (length (ps ++ q ∷ []) - 1) (ps ++ q ∷ []) ≡ ps
+take_others ps q =
+    let count : length (ps ++ q ∷ []) - 1 ≡ length ps = omega (arith, length-append ps (q ∷ [])) in
+    ap (λ n. take n (ps ++ q ∷ [])) count ∙ take-append_seam ps (q ∷ [])
+
+-- the first of the prefixes of components, where there are two at least
+first_prefix : (text : List ℕ) (count : ℕ) (components : List (List ℕ)) → AreParents text (prefixes count components)
+    → 0 < count → parent_text text ≡ Some (joined (take count components))
+first_prefix text zero components are some = absurd (omega arith)
+first_prefix text (suc count) components are some = are.0
+
+-- the parent of a valid path is what stands before the separator, without one at its start
+pub valid_parent : (text : List ℕ) (start : ℕ) → IsLastStart text start → 1 < start
+    → AreParents text (shorter_prefixes text)
+    → parent_text text ≡ Some (canonical (take (start - 1) text))
+valid_parent text start is more are =
+    let us = canonical (take (start - 1) text) in
+    let ps = slice_split is_separator us in
+    let all = with_parent text start is more in
+    let count = ap length all ∙ length-append ps (drop start text ∷ []) in
+    let pieces = length-slice_split is_separator us in
+    first_prefix text (length (components_of text) - 1) (components_of text) are (omega (arith, count, pieces))
+    ∙ ap (λ cs. Some (joined (take (length cs - 1) cs))) all
+    ∙ ap (λ qs. Some (joined qs)) (take_others ps (drop start text))
+    ∙ ap Some (join_with_byte-slice_split separator us)

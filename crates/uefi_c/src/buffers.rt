@@ -155,8 +155,8 @@ pub extern "C" fn uefi_path_push(buffer: &mut [u16], path: &[u16], place: &mut u
 /// the first places of a buffer, and a NUL.
 ///
 /// Units that begin with no string are refused as by `uefi_string_until_nul`, those of `path` first. Else
-/// `place` and a buffer that is too small are as in [`uefi_path_push`]. Refused, the buffer stays unchanged; what
-/// stands after the NUL stays. One pass over each; takes no memory.
+/// `place` and a buffer that is too small are as in [`uefi_path_push`]. Refused, the buffer stays
+/// unchanged; what stands after the NUL stays. One pass over each; takes no memory.
 #[unsafe(no_mangle)]
 pub extern "C" fn uefi_path_join(
     path: &[u16],

@@ -6,7 +6,7 @@ ghost use Rattle.std.specs.Ordering.{nat_cmp};
 ghost use Rattle.uefi_text.specs.FromSliceUntilNul.{until_nul_refusal};
 ghost use Rattle.uefi_text.specs.Units.{BeginsWithString};
 ghost use Rattle.uefi_path.specs.Components.{IsPiece, components_of, joined};
-ghost use Rattle.uefi_path.specs.Parents.{all_but_last};
+ghost use Rattle.uefi_path.specs.Parents.{all_but_last, parent_text};
 ghost use Rattle.uefi_path.specs.Separators.{canonical, is_separator, separator};
 ghost use Rattle.uefi_path.specs.Verdicts.{IsValid, verdict};
 ghost use Rattle.uefi_path.specs.Views.{path_text};
@@ -16,7 +16,7 @@ ghost use Rattle.uefi_c.specs.Strings.{text_in, until_nul_place};
 
 use crate::reasons::{NO_ORDER, OK, order_number, path_reason, until_nul_reason};
 use crate::strings::until_nul_place;
-use uefi_path::{Path, validate_path};
+use uefi_path::{Path, laws, validate_path};
 use uefi_text::CStr16;
 
 /// The code unit of the separator.
@@ -208,17 +208,23 @@ pub extern "C" fn uefi_path_file_name(text: &[u16], start: &mut usize) -> bool
 /// path of at most one component has.
 ///
 /// `text` are the units of the path without its NUL, any units. `len` becomes the place of the
-/// separator before the last component: the units before it are a path of all components but the last. It
+/// separator before the last component: the units before it are a path of all components but the last. Of a
+/// valid path they are the parent, but for a separator at their start. It
 /// stays unchanged where there is no parent. One pass over the last component, from its end; takes no
 /// memory.
 #[unsafe(no_mangle)]
 pub extern "C" fn uefi_path_parent_length(text: &[u16], len: &mut usize) -> bool
     ensures parent { IsTrue result
         → canonical (take len.new text.now) ≡ joined (all_but_last (components_of text.now)) }
+    ensures valid { IsTrue result → IsValid text.now
+        → parent_text text.now ≡ Some (canonical (take len.new text.now)) }
     ensures some { IsTrue result ↔ (all_but_last (components_of text.now) ≢ []) }
     ensures shorter { IsTrue result → len.new < length text.now }
     ensures unchanged { IsFalse result → len.new ≡ len.old }
 {
+    // The two laws do nothing: they say what the parent of a valid path is.
+    laws::validity();
+    laws::parents_enumerate();
     let first = last_start(text);
     if first <= 1 {
         return false;
