@@ -1,0 +1,4 @@
+pub mod Reasons
+pub mod Strings
+pub mod PathPlaces
+pub mod Buffers

@@ -1,0 +1,12 @@
+-- Places in the text of a path: where its components stand.
+use Rattle.std.specs.Prelude.{ℕ, zero, suc, nat_lt, if◌then◌else◌, List, [], length, drop}
+use Rattle.std.specs.List.{slice_split}
+use Rattle.uefi_path.specs.Components.{components_of}
+use Rattle.uefi_path.specs.Separators.{is_separator}
+
+-- the components that are still to come from a place on: all of them at the start of the text, and those
+-- between the separators from the place on after it. None are left after the end of the text
+abbrev pub components_from : List ℕ → ℕ → List (List ℕ)
+components_from text zero = components_of text
+components_from text (suc before) =
+    if nat_lt before (length text) then slice_split is_separator (drop (suc before) text) else []

@@ -1,0 +1,58 @@
+-- The numbers that a caller in C sees: reasons of refusals, and orders. The header names each.
+use Rattle.std.specs.Prelude.{ℕ, ℤ, pos, negsuc, Option, Some, None}
+use Rattle.std.specs.declared.cmp.Ordering.{Ordering}
+use Rattle.std.specs.declared.cmp.Ordering.TheVariants.{Less, Equal, Greater}
+use Rattle.uefi_text_encodings.specs.declared.errors.FromSliceUntilNulError.{FromSliceUntilNulError}
+use Rattle.uefi_text_encodings.specs.declared.errors.FromSliceUntilNulError.TheVariants as until_nul
+use Rattle.uefi_text_encodings.specs.declared.errors.FromSliceWithNulError.{FromSliceWithNulError}
+use Rattle.uefi_text_encodings.specs.declared.errors.FromSliceWithNulError.TheVariants as with_nul
+use Rattle.uefi_text_encodings.specs.declared.errors.FromStrWithBufError.{FromStrWithBufError}
+use Rattle.uefi_text_encodings.specs.declared.errors.FromStrWithBufError.TheVariants as with_buf
+use Rattle.uefi_path.specs.declared.validation.PathError.{PathError}
+use Rattle.uefi_path.specs.declared.validation.PathError.TheVariants.{Empty, EmptyComponent, IllegalChar, ClimbsAboveRoot}
+use Rattle.uefi_c.specs.declared.reasons.TheConstants.{OK, NO_NUL, INVALID_CHAR, INTERIOR_NUL, BUFFER_TOO_SMALL, PATH_EMPTY, EMPTY_COMPONENT, ILLEGAL_CHAR, CLIMBS_ABOVE_ROOT}
+
+-- the reason why units begin with no string; memory is never the reason
+abbrev pub until_nul_reason : Option FromSliceUntilNulError → ℕ
+until_nul_reason None = OK
+until_nul_reason (Some (until_nul.InvalidChar place)) = INVALID_CHAR
+until_nul_reason (Some until_nul.NoNul) = NO_NUL
+until_nul_reason (Some until_nul.OutOfMemory) = NO_NUL
+
+-- the reason why units are no string; neither memory nor a place in memory is ever the reason
+abbrev pub with_nul_reason : Option FromSliceWithNulError → ℕ
+with_nul_reason None = OK
+with_nul_reason (Some (with_nul.InvalidChar place)) = INVALID_CHAR
+with_nul_reason (Some (with_nul.InteriorNul place)) = INTERIOR_NUL
+with_nul_reason (Some with_nul.NotNulTerminated) = NO_NUL
+with_nul_reason (Some with_nul.NotAligned) = NO_NUL
+with_nul_reason (Some with_nul.OutOfMemory) = NO_NUL
+
+-- the reason why a text does not become a string in a buffer
+abbrev pub with_buf_reason : Option FromStrWithBufError → ℕ
+with_buf_reason None = OK
+with_buf_reason (Some (with_buf.InvalidChar place)) = INVALID_CHAR
+with_buf_reason (Some (with_buf.InteriorNul place)) = INTERIOR_NUL
+with_buf_reason (Some with_buf.BufferTooSmall) = BUFFER_TOO_SMALL
+
+-- the reason why a path is refused
+abbrev pub path_reason : Option PathError → ℕ
+path_reason None = OK
+path_reason (Some Empty) = PATH_EMPTY
+path_reason (Some EmptyComponent) = EMPTY_COMPONENT
+path_reason (Some (IllegalChar character)) = ILLEGAL_CHAR
+path_reason (Some ClimbsAboveRoot) = CLIMBS_ABOVE_ROOT
+
+-- the character for which a path is refused, and 0 for other reasons
+abbrev pub refused_character : Option PathError → ℕ
+refused_character None = 0
+refused_character (Some Empty) = 0
+refused_character (Some EmptyComponent) = 0
+refused_character (Some (IllegalChar character)) = character
+refused_character (Some ClimbsAboveRoot) = 0
+
+-- the number of an order
+abbrev pub order_number : Ordering → ℤ
+order_number Less = negsuc 0
+order_number Equal = pos 0
+order_number Greater = pos 1

@@ -1,0 +1,53 @@
+-- The text that units hold up to their NUL, and where reading it ends.
+use Rattle.std.specs.Prelude.{ℕ, List, length, Option, Some, None}
+use Rattle.std.specs.List.{before_first}
+use Rattle.uefi_text.specs.Units.{is_nul, without_nul}
+use Rattle.uefi_text.specs.FromSliceUntilNul.{until_nul_refusal}
+use Rattle.uefi_text.specs.FromSliceWithNul.{with_nul_refusal}
+use Rattle.uefi_text.specs.FromStrWithBuf.{from_str_with_buf_refusal}
+use Rattle.uefi_text_encodings.specs.declared.errors.FromSliceUntilNulError.{FromSliceUntilNulError}
+use Rattle.uefi_text_encodings.specs.declared.errors.FromSliceUntilNulError.TheVariants as until_nul
+use Rattle.uefi_text_encodings.specs.declared.errors.FromSliceWithNulError.{FromSliceWithNulError}
+use Rattle.uefi_text_encodings.specs.declared.errors.FromSliceWithNulError.TheVariants as with_nul
+use Rattle.uefi_text_encodings.specs.declared.errors.FromStrWithBufError.{FromStrWithBufError}
+use Rattle.uefi_text_encodings.specs.declared.errors.FromStrWithBufError.TheVariants as with_buf
+
+-- what stands before the first NUL of units, and all of them where there is none
+abbrev pub text_in : List ℕ → List ℕ
+text_in units = before_first is_nul units
+
+-- the place at which units are refused: that of the unit, or after all of them where a NUL is missing
+abbrev pub until_nul_place_at : List ℕ → Option FromSliceUntilNulError → ℕ
+until_nul_place_at units None = length (text_in units)
+until_nul_place_at units (Some (until_nul.InvalidChar place)) = place
+until_nul_place_at units (Some until_nul.NoNul) = length units
+until_nul_place_at units (Some until_nul.OutOfMemory) = length units
+
+-- where reading units up to their first NUL ends: at it, or where they are refused
+abbrev pub until_nul_place : List ℕ → ℕ
+until_nul_place units = until_nul_place_at units (until_nul_refusal units)
+
+-- the same by why units are no string
+abbrev pub with_nul_place_at : List ℕ → Option FromSliceWithNulError → ℕ
+with_nul_place_at units None = length (without_nul units)
+with_nul_place_at units (Some (with_nul.InvalidChar place)) = place
+with_nul_place_at units (Some (with_nul.InteriorNul place)) = place
+with_nul_place_at units (Some with_nul.NotNulTerminated) = length units
+with_nul_place_at units (Some with_nul.NotAligned) = length units
+with_nul_place_at units (Some with_nul.OutOfMemory) = length units
+
+-- where reading units that all have to be one string ends: at its NUL, or where they are refused
+abbrev pub with_nul_place : List ℕ → ℕ
+with_nul_place units = with_nul_place_at units (with_nul_refusal units)
+
+-- where writing characters as a string into a buffer of `room` places ends: at the NUL; after how many
+-- characters one is refused; or at the end of the buffer
+abbrev pub with_buf_place_at : List ℕ → ℕ → Option FromStrWithBufError → ℕ
+with_buf_place_at characters room None = length characters
+with_buf_place_at characters room (Some (with_buf.InvalidChar place)) = place
+with_buf_place_at characters room (Some (with_buf.InteriorNul place)) = place
+with_buf_place_at characters room (Some with_buf.BufferTooSmall) = room
+
+abbrev pub with_buf_place : List ℕ → ℕ → ℕ
+with_buf_place characters room =
+    with_buf_place_at characters room (from_str_with_buf_refusal characters room)

@@ -1,0 +1,205 @@
+//! Paths that are made in a caller's buffer: whole, or not at all. No call takes memory.
+ghost use Rattle.std.specs.Prelude.{◌≡◌, ◌+◌, ◌≤◌, ◌++◌, length, take};
+ghost use Rattle.uefi_text.specs.FromSliceUntilNul.{until_nul_refusal};
+ghost use Rattle.uefi_text.specs.UnalignedCStr16.{with_prefix};
+ghost use Rattle.uefi_text.specs.Units.{BeginsWithString, nul_terminated, replaced};
+ghost use Rattle.uefi_path.specs.Pushing.{pushed};
+ghost use Rattle.uefi_path.specs.Separators.{separator, slash, with_separators};
+ghost use Rattle.uefi_c.specs.Buffers.{length_shown, room_reason, tail_of};
+ghost use Rattle.uefi_c.specs.Reasons.{until_nul_reason};
+ghost use Rattle.uefi_c.specs.Strings.{text_in, until_nul_place};
+
+use crate::reasons::{BUFFER_TOO_SMALL, OK, until_nul_reason};
+use crate::strings::until_nul_place;
+use uefi_text::CStr16;
+
+/// The code unit of the separator.
+const SEPARATOR: u16 = 92;
+
+/// The code unit of the slash.
+const SLASH: u16 = 47;
+
+/// The unit, or a separator in place of a slash.
+fn with_separator(unit: u16) -> u16
+    ensures { result ≡ replaced slash separator unit }
+{
+    if unit == SLASH { SEPARATOR } else { unit }
+}
+
+/// Writes units, each slash replaced, into as many places.
+fn write_with_separators(places: &mut [u16], units: &[u16])
+    requires { length places.now ≡ length units.now }
+    ensures { places.new ≡ with_separators units.now }
+{
+    for i in 0..places.len() {
+        places[i] = with_separator(units[i]);
+    }
+}
+
+/// Writes units, each slash replaced, and a NUL.
+fn write_terminated(places: &mut [u16], units: &[u16])
+    requires { length places.now ≡ length units.now + 1 }
+    ensures { places.new ≡ nul_terminated (with_separators units.now) }
+{
+    let len = units.len();
+    write_with_separators(&mut places[..len], units);
+    places[len] = 0;
+}
+
+/// Writes what a push adds, and a NUL.
+fn write_tail(tail: &mut [u16], is_missing: bool, path: &[u16])
+    requires { length tail.now ≡ length (tail_of is_missing path.now) + 1 }
+    ensures { tail.new ≡ nul_terminated (tail_of is_missing path.now) }
+{
+    if is_missing {
+        tail[0] = SEPARATOR;
+        write_terminated(&mut tail[1..], path);
+    } else {
+        write_terminated(tail, path);
+    }
+}
+
+/// Whether a push of a path after a text adds a separator.
+fn is_separator_missing(text: &[u16], path: &[u16]) -> bool
+    ensures { pushed text.now path.now ≡ text.now ++ tail_of result path.now }
+{
+    !path.is_empty() && !text.is_empty() && text[text.len() - 1] != SEPARATOR
+}
+
+/// The same after a text whose slashes are replaced.
+fn is_separator_missing_replaced(text: &[u16], path: &[u16]) -> bool
+    ensures { pushed (with_separators text.now) path.now
+        ≡ with_separators text.now ++ tail_of result path.now }
+{
+    if path.is_empty() {
+        return false;
+    }
+    if text.is_empty() {
+        return false;
+    }
+    with_separator(text[text.len() - 1]) != SEPARATOR
+}
+
+/// How long a text becomes, when a path is pushed after it, or the greatest `usize` where it becomes longer.
+fn pushed_len(text: &[u16], is_missing: bool, path: &[u16]) -> usize
+    ensures len { result ≡ length_shown (text.now ++ tail_of is_missing path.now) }
+    ensures replaced { result ≡ length_shown (with_separators text.now ++ tail_of is_missing path.now) }
+{
+    text.len()
+        .saturating_add(usize::from(is_missing))
+        .saturating_add(path.len())
+}
+
+/// Writes what a push adds after the first `end` units of a buffer, and a NUL, where it has room.
+fn add_tail(buffer: &mut [u16], end: usize, is_missing: bool, path: &[u16], len: usize) -> u32
+    requires within { end ≤ length buffer.now }
+    requires len { len ≡ length_shown (take end buffer.now ++ tail_of is_missing path.now) }
+    ensures reason { result ≡ room_reason (take end buffer.old ++ tail_of is_missing path.now) buffer.old }
+    ensures buffer { buffer.new
+        ≡ with_prefix (nul_terminated (take end buffer.old ++ tail_of is_missing path.now)) buffer.old }
+{
+    if buffer.len() <= len {
+        return BUFFER_TOO_SMALL;
+    }
+    write_tail(&mut buffer[end..len + 1], is_missing, path);
+    OK
+}
+
+/// Pushes a path on the path that a buffer begins with, in place, as `PathBuf::push` does: a separator
+/// between the two where the first is not empty and does not end in one, and each slash of the second
+/// replaced. The empty path changes nothing.
+///
+/// Units that begin with no string are refused as by `uefi_string_until_nul`, those of the buffer first. Else
+/// `place` becomes how many units the path has, or the greatest `usize` where it has more, and a buffer
+/// of no more places is `BUFFER_TOO_SMALL`. Refused, the buffer stays unchanged; what stands after the
+/// NUL stays. One pass over each; takes no memory.
+#[unsafe(no_mangle)]
+pub extern "C" fn uefi_path_push(buffer: &mut [u16], path: &[u16], place: &mut usize) -> u32
+    ensures no_string { ¬ BeginsWithString buffer.old
+        → (result ≡ until_nul_reason (until_nul_refusal buffer.old))
+        × (place.new ≡ until_nul_place buffer.old) }
+    ensures no_path { BeginsWithString buffer.old → ¬ BeginsWithString path.now
+        → (result ≡ until_nul_reason (until_nul_refusal path.now))
+        × (place.new ≡ until_nul_place path.now) }
+    ensures unchanged { ¬ (BeginsWithString buffer.old × BeginsWithString path.now)
+        → buffer.new ≡ buffer.old }
+    ensures reason { BeginsWithString buffer.old → BeginsWithString path.now
+        → result ≡ room_reason (pushed (text_in buffer.old) (text_in path.now)) buffer.old }
+    ensures place { BeginsWithString buffer.old → BeginsWithString path.now
+        → place.new ≡ length_shown (pushed (text_in buffer.old) (text_in path.now)) }
+    ensures buffer { BeginsWithString buffer.old → BeginsWithString path.now → buffer.new
+        ≡ with_prefix (nul_terminated (pushed (text_in buffer.old) (text_in path.now))) buffer.old }
+{
+    let text = match CStr16::from_u16_until_nul(buffer) {
+        Ok(string) => string.to_u16_slice(),
+        Err(error) => {
+            *place = until_nul_place(error, buffer);
+            return until_nul_reason(error);
+        }
+    };
+    let path = match CStr16::from_u16_until_nul(path) {
+        Ok(string) => string.to_u16_slice(),
+        Err(error) => {
+            *place = until_nul_place(error, path);
+            return until_nul_reason(error);
+        }
+    };
+    let is_missing = is_separator_missing(text, path);
+    let len = pushed_len(text, is_missing, path);
+    let end = text.len();
+    *place = len;
+    add_tail(buffer, end, is_missing, path, len)
+}
+
+/// Writes the path of a string, each slash replaced, with another pushed after it, as `Path::join` does, into
+/// the first places of a buffer, and a NUL.
+///
+/// Units that begin with no string are refused as by `uefi_string_until_nul`, those of `path` first. Else
+/// `place` and a buffer that is too small are as in [`uefi_path_push`]. Refused, the buffer stays
+/// unchanged; what stands after the NUL stays. One pass over each; takes no memory.
+#[unsafe(no_mangle)]
+pub extern "C" fn uefi_path_join(
+    path: &[u16],
+    other: &[u16],
+    buffer: &mut [u16],
+    place: &mut usize,
+) -> u32
+    ensures no_string { ¬ BeginsWithString path.now
+        → (result ≡ until_nul_reason (until_nul_refusal path.now))
+        × (place.new ≡ until_nul_place path.now) }
+    ensures no_other { BeginsWithString path.now → ¬ BeginsWithString other.now
+        → (result ≡ until_nul_reason (until_nul_refusal other.now))
+        × (place.new ≡ until_nul_place other.now) }
+    ensures unchanged { ¬ (BeginsWithString path.now × BeginsWithString other.now)
+        → buffer.new ≡ buffer.old }
+    ensures reason { BeginsWithString path.now → BeginsWithString other.now → result
+        ≡ room_reason (pushed (with_separators (text_in path.now)) (text_in other.now)) buffer.old }
+    ensures place { BeginsWithString path.now → BeginsWithString other.now → place.new
+        ≡ length_shown (pushed (with_separators (text_in path.now)) (text_in other.now)) }
+    ensures buffer { BeginsWithString path.now → BeginsWithString other.now → buffer.new
+        ≡ with_prefix (nul_terminated (pushed (with_separators (text_in path.now)) (text_in other.now)))
+        buffer.old }
+{
+    let text = match CStr16::from_u16_until_nul(path) {
+        Ok(string) => string.to_u16_slice(),
+        Err(error) => {
+            *place = until_nul_place(error, path);
+            return until_nul_reason(error);
+        }
+    };
+    let added = match CStr16::from_u16_until_nul(other) {
+        Ok(string) => string.to_u16_slice(),
+        Err(error) => {
+            *place = until_nul_place(error, other);
+            return until_nul_reason(error);
+        }
+    };
+    let is_missing = is_separator_missing_replaced(text, added);
+    let len = pushed_len(text, is_missing, added);
+    *place = len;
+    if buffer.len() <= len {
+        return BUFFER_TOO_SMALL;
+    }
+    write_with_separators(&mut buffer[..text.len()], text);
+    add_tail(buffer, text.len(), is_missing, added, len)
+}

@@ -1,0 +1,248 @@
+//! Calls the library from Rust, as a firmware program does that builds with `rustc` alone: the functions of
+//! `include/uefi_text.h`, each in a safe wrapper of a few lines.
+//!
+//! Build: `rustc paths.rs -L crates/uefi_c/out -l static=uefi_c`. `examples/check` builds and runs it.
+
+/// What `include/uefi_text.h` declares, as far as it is called here.
+mod header {
+    extern "C" {
+        pub fn uefi_string_from_utf8(
+            bytes: *const u8,
+            byte_count: usize,
+            buffer: *mut u16,
+            room: usize,
+            place: *mut usize,
+        ) -> u32;
+        pub fn uefi_path_verdict(
+            units: *const u16,
+            count: usize,
+            place: *mut usize,
+            character: *mut u16,
+        ) -> u32;
+        pub fn uefi_path_equal(
+            first: *const u16,
+            first_count: usize,
+            second: *const u16,
+            second_count: usize,
+        ) -> bool;
+        pub fn uefi_path_next_component(
+            text: *const u16,
+            length: usize,
+            place: *mut usize,
+            start: *mut usize,
+            component_length: *mut usize,
+        ) -> bool;
+        pub fn uefi_path_parent_length(
+            text: *const u16,
+            length: usize,
+            parent_length: *mut usize,
+        ) -> bool;
+        pub fn uefi_path_push(
+            buffer: *mut u16,
+            room: usize,
+            path: *const u16,
+            count: usize,
+            place: *mut usize,
+        ) -> u32;
+        pub fn uefi_path_join(
+            path: *const u16,
+            count: usize,
+            other: *const u16,
+            other_count: usize,
+            buffer: *mut u16,
+            room: usize,
+            place: *mut usize,
+        ) -> u32;
+    }
+}
+
+/// Why a call refuses: the number of `enum uefi_reason`.
+struct Reason(u32);
+
+/// Writes a text and a NUL into a buffer, and returns the string.
+fn string_in<'a>(text: &str, buffer: &'a mut [u16]) -> Result<&'a [u16], Reason> {
+    let mut place = 0;
+    // SAFETY: both slices are passed with their lengths, and neither overlaps `place`.
+    let reason = unsafe {
+        header::uefi_string_from_utf8(
+            text.as_ptr(),
+            text.len(),
+            buffer.as_mut_ptr(),
+            buffer.len(),
+            &mut place,
+        )
+    };
+    match reason {
+        0 => Ok(&buffer[..place + 1]),
+        _ => Err(Reason(reason)),
+    }
+}
+
+/// The text of a string whose path names a file.
+fn valid_text(string: &[u16]) -> Result<&[u16], Reason> {
+    let (mut place, mut character) = (0, 0);
+    // SAFETY: the slice is passed with its length.
+    let reason = unsafe {
+        header::uefi_path_verdict(string.as_ptr(), string.len(), &mut place, &mut character)
+    };
+    match reason {
+        0 => Ok(&string[..place]),
+        _ => Err(Reason(reason)),
+    }
+}
+
+/// Whether two strings are equal as paths.
+fn are_equal(first: &[u16], second: &[u16]) -> bool {
+    // SAFETY: each slice is passed with its length.
+    unsafe { header::uefi_path_equal(first.as_ptr(), first.len(), second.as_ptr(), second.len()) }
+}
+
+/// The text of all components but the last.
+fn parent(text: &[u16]) -> Option<&[u16]> {
+    let mut len = 0;
+    // SAFETY: the slice is passed with its length.
+    let has_parent =
+        unsafe { header::uefi_path_parent_length(text.as_ptr(), text.len(), &mut len) };
+    has_parent.then(|| &text[..len])
+}
+
+/// The components of a text, in order.
+struct Components<'a> {
+    text: &'a [u16],
+    place: usize,
+}
+
+impl<'a> Iterator for Components<'a> {
+    type Item = &'a [u16];
+
+    fn next(&mut self) -> Option<&'a [u16]> {
+        let (mut start, mut len) = (0, 0);
+        // SAFETY: the slice is passed with its length, and nothing overlaps.
+        let is_there = unsafe {
+            header::uefi_path_next_component(
+                self.text.as_ptr(),
+                self.text.len(),
+                &mut self.place,
+                &mut start,
+                &mut len,
+            )
+        };
+        is_there.then(|| &self.text[start..start + len])
+    }
+}
+
+/// The path of two strings in a buffer. Where it is too small, how many units the path has.
+fn join<'a>(first: &[u16], second: &[u16], buffer: &'a mut [u16]) -> Result<&'a [u16], usize> {
+    let mut place = 0;
+    // SAFETY: each slice is passed with its length, and nothing overlaps.
+    let reason = unsafe {
+        header::uefi_path_join(
+            first.as_ptr(),
+            first.len(),
+            second.as_ptr(),
+            second.len(),
+            buffer.as_mut_ptr(),
+            buffer.len(),
+            &mut place,
+        )
+    };
+    match reason {
+        0 => Ok(&buffer[..place]),
+        _ => Err(place),
+    }
+}
+
+/// Pushes a string on the path that a buffer begins with. Where it is too small, how many units both have.
+fn push<'a>(buffer: &'a mut [u16], path: &[u16]) -> Result<&'a [u16], usize> {
+    let mut place = 0;
+    // SAFETY: each slice is passed with its length, and nothing overlaps.
+    let reason = unsafe {
+        header::uefi_path_push(
+            buffer.as_mut_ptr(),
+            buffer.len(),
+            path.as_ptr(),
+            path.len(),
+            &mut place,
+        )
+    };
+    match reason {
+        0 => Ok(&buffer[..place]),
+        _ => Err(place),
+    }
+}
+
+fn shown(text: &[u16]) -> String {
+    String::from_utf16_lossy(text)
+}
+
+fn print_path(text: &str) -> Result<(), Reason> {
+    let mut buffer = [0; 64];
+    let string = string_in(text, &mut buffer)?;
+    let path = valid_text(string)?;
+    println!("{}", shown(path));
+    for component in (Components {
+        text: path,
+        place: 0,
+    }) {
+        println!("  component {}", shown(component));
+    }
+    let mut below = path;
+    while let Some(above) = parent(below) {
+        println!("  parent {}", shown(above));
+        below = above;
+    }
+    let mut other = [0; 64];
+    let relative = string_in(text.trim_start_matches('\\'), &mut other)?;
+    println!(
+        "  equal without its first separator: {}",
+        are_equal(string, relative)
+    );
+    Ok(())
+}
+
+fn print_joined(first: &str, second: &str) -> Result<(), Reason> {
+    let (mut one, mut two) = ([0; 16], [0; 16]);
+    let (first, second) = (string_in(first, &mut one)?, string_in(second, &mut two)?);
+    let mut buffer = [0; 12];
+    match join(first, second, &mut buffer) {
+        Ok(path) => println!("joined {}", shown(path)),
+        Err(len) => println!("joined they have {len} units, which is too many"),
+    }
+    match push(&mut buffer, second) {
+        Ok(path) => println!("  and once more {}", shown(path)),
+        Err(len) => println!("  and once more {len} units, which is too many"),
+    }
+    Ok(())
+}
+
+fn main() {
+    let long = "\\a".repeat(40);
+    let texts = [
+        "\\EFI\\BOOT\\BOOTX64.EFI",
+        "kernel",
+        "\\",
+        "",
+        "a\\\\b",
+        "a:b",
+        "..\\a",
+        "a\u{1f600}",
+        &long,
+    ];
+    for text in texts {
+        if let Err(Reason(number)) = print_path(text) {
+            println!("{text:?} is refused: {number}");
+        }
+    }
+    let pairs = [
+        ("/efi", "a/b"),
+        ("\\", "a"),
+        ("a\\", ""),
+        ("", "b"),
+        ("\\efi\\boot", "abc"),
+    ];
+    for (first, second) in pairs {
+        if let Err(Reason(number)) = print_joined(first, second) {
+            println!("{first:?} and {second:?} are refused: {number}");
+        }
+    }
+}
