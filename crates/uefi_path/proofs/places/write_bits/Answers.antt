@@ -5,7 +5,7 @@ use Rattle.uefi_path.proofs.SeparatorBits.{all_written, lowest_written, room_fir
 use Rattle.uefi_path.proofs.places.write_bits.Goals as goal
 
 pub loop-left-init : goal.loop-left-init
-loop-left-init c = record { within = room_first c.args.start c.args.bits c.args.room.now c.requires.room; all = refl; }
+loop-left-init c = record { within = room_first c.args.start c.args.bits c.args.room.now c.requires.room; all = refl }
 
 pub bounds-room-known : goal.bounds-room-known
 bounds-room-known c =
