@@ -1,55 +1,55 @@
 -- What a push adds: one unit more of it is made.
-use Rattle.std.proofs.Common.{◌≡◌, ◌≢◌, ◌==◌, ℕ, ◌+◌, ◌*◌, ◌^◌, ◌<◌, ◌≤◌, Bool, cond, drop, map, List, [], ◌∷◌, ◌++◌, length, get_or, set, ap, sym, refl, zero-add, ◌∙◌, arith, true, false, if◌then◌else◌, inl, inr}
-use Rattle.std.specs.Simd.Lanes.{mask_l}
-use Rattle.std.proofs.Math.Pow.{pow_mono}
+use Rattle.std.proofs.Common.{◌≡◌, ◌≢◌, ◌==◌, ℕ, ◌+◌, ◌<◌, Bool, List, [], ◌∷◌, ◌++◌, length, get_or, take, set, ap, subst, sym, refl, zero-add, ◌∙◌, arith, true, false, if◌then◌else◌, inl, inr}
 use Rattle.std.proofs.lemmas.Bool.{cases_Bool}
-use Rattle.std.proofs.lemmas.List.{drop-set, drop_more, length-drop, length-map}
-use Rattle.std.proofs.lemmas.Simd.{mask_l-lt}
+use Rattle.std.proofs.lemmas.List.{append-nil, length-take, map-append, take_more, take_more_set}
 use Rattle.std.proofs.lemmas.List.Elements.{All-append, All-cons, All-head, All-nil, All-tail}
 use Rattle.uefi_text.specs.Units.{IsText, IsTextUnit, replaced}
+use Rattle.uefi_path.specs.Components.{IsPiece}
 use Rattle.uefi_path.specs.Pushing.{needs_separator, pushed}
 use Rattle.uefi_path.proofs.Pushing.{pushed-non_empty, separator_is_plain}
 use Rattle.uefi_path.proofs.Splitting.{IsPlain-with_separators}
-use Rattle.uefi_path.specs.Separators.{IsPlain, becomes_separator, places_from, places_of, separator, slash, with_separators, word_places}
-use Rattle.uefi_path.proofs.SeparatorBits.{bit_places-units}
-use Rattle.uefi_path.proofs.SeparatorPlaces.{places_from-append}
+use Rattle.uefi_path.specs.Separators.{IsPlain, is_separator, places_from, places_of, separator, slash, with_separators}
+use Rattle.uefi_path.proofs.SeparatorPlaces.{places_from-append, places_from-no, places_from-yes}
 
--- the text from a unit on is written once the unit is
-pub text_before : (tail us : List ℕ) (i : ℕ) → i < length tail → i < length us
-    → drop (i + 1) tail ≡ with_separators (drop (i + 1) us)
-    → drop i (set tail i (replaced slash separator (get_or us i 0))) ≡ with_separators (drop i us)
-text_before tail us i room inside so_far =
+-- one unit more is written
+pub text_more : (tail us : List ℕ) (i : ℕ) → i < length tail → i < length us
+    → take i tail ≡ with_separators (take i us)
+    → take (i + 1) (set tail i (replaced slash separator (get_or us i 0))) ≡ with_separators (take (i + 1) us)
+text_more tail us i room inside so_far =
     let u = replaced slash separator (get_or us i 0) in
-    drop-set tail i u room
-    ∙ ap (λ vs. u ∷ vs) so_far
-    ∙ sym (ap with_separators (drop_more us i 0 inside))
+    take_more_set tail i u room
+    ∙ ap (λ vs. vs ++ u ∷ []) so_far
+    ∙ sym (ap with_separators (take_more us i 0 inside) ∙ map-append (replaced slash separator) (take i us) (get_or us i 0 ∷ []))
 
--- and its bit is the lowest
-pub bits_before : (us : List ℕ) (i : ℕ) → i < length us
-    → 2 * mask_l (map becomes_separator (drop (i + 1) us)) + cond (becomes_separator (get_or us i 0)) 1 0
-    ≡ mask_l (map becomes_separator (drop i us))
-bits_before us i inside =
-    let others = mask_l (map becomes_separator (drop (i + 1) us)) in
-    let swap : 2 * others + cond (becomes_separator (get_or us i 0)) 1 0 ≡ cond (becomes_separator (get_or us i 0)) 1 0 + 2 * others =
-    omega arith in
-    swap ∙ sym (ap (λ vs. mask_l (map becomes_separator vs)) (drop_more us i 0 inside))
+-- and it is no separator
+pub piece_more : (tail : List ℕ) (i u : ℕ) → i < length tail → IsPiece (take i tail) → u ≢ separator
+    → IsPiece (take (i + 1) (set tail i u))
+piece_more tail i u room piece other =
+    subst IsPiece (sym (take_more_set tail i u room))
+    (All-append (λ unit. unit ≢ separator) (take i tail) (u ∷ []) piece
+    (All-cons (λ unit. unit ≢ separator) u [] other (All-nil (λ unit. unit ≢ separator))))
 
-pub bit_le : (b : Bool) → cond b 1 0 ≤ 1
-bit_le true = omega arith
-bit_le false = omega arith
+-- the places with that of one unit more
+places_more : (us : List ℕ) (start i : ℕ) → i < length us
+    → places_from start (take (i + 1) us) ≡ places_from start (take i us) ++ places_from (start + i) (get_or us i 0 ∷ [])
+places_more us start i inside =
+    let before : length (take i us) ≡ i = omega (arith, length-take i us, inside) in
+    ap (places_from start) (take_more us i 0 inside)
+    ∙ places_from-append start (take i us) (get_or us i 0 ∷ [])
+    ∙ ap (λ n. places_from start (take i us) ++ places_from (start + n) (get_or us i 0 ∷ [])) before
 
--- fewer than 64 bits leave room for one more
-pub bits_fit : (us : List ℕ) (i : ℕ) → length us < 64 → mask_l (map becomes_separator (drop i us)) < 2 ^ 63
-bits_fit us i short =
-    let rest = map becomes_separator (drop i us) in
-    let few : length rest ≤ 63 = omega (arith, short, length-map (drop i us) becomes_separator, length-drop i us) in
-    omega (arith, mask_l-lt rest, pow_mono few)
+pub place_more : (us : List ℕ) (start i : ℕ) → i < length us → is_separator (get_or us i 0) ≡ true
+    → places_from start (take i us) ++ (start + i) ∷ [] ≡ places_from start (take (i + 1) us)
+place_more us start i inside cut =
+    sym (places_more us start i inside
+    ∙ ap (λ ps. places_from start (take i us) ++ ps) (places_from-yes (start + i) _ [] cut))
 
--- the bits of a short text have the places of its separators
-pub places_of_bits : (us : List ℕ) (start : ℕ) → length us < 64
-    → word_places start (mask_l (map becomes_separator us)) ≡ places_from start (with_separators us)
-unfolding word_places
-places_of_bits us start short = bit_places-units 64 start us (omega (arith, short))
+pub no_place_more : (us : List ℕ) (start i : ℕ) → i < length us → is_separator (get_or us i 0) ≡ false
+    → places_from start (take i us) ≡ places_from start (take (i + 1) us)
+no_place_more us start i inside other =
+    sym (places_more us start i inside
+    ∙ ap (λ ps. places_from start (take i us) ++ ps) (places_from-no (start + i) _ [] other)
+    ∙ append-nil (places_from start (take i us)))
 
 -- a separator in place of a slash is a unit of a text
 IsTextUnit-replaced : (u : ℕ) → IsTextUnit u → IsTextUnit (replaced slash separator u)

@@ -52,7 +52,7 @@ fn bits_of_block(units: &[u16], block: usize) -> u64
     bits_of(u16x64::from_array(last))
 }
 
-/// How many blocks keep their bits from the pass that counts: a text of so many is read once.
+/// How many blocks keep their bits from the pass that counts: a text that has no more is read once.
 const KEPT: usize = 8;
 
 /// How many separators the units have once their slashes are replaced. Keeps the bits of the first
@@ -109,6 +109,9 @@ pub(crate) fn add_bits<A: Allocator>(
     ensures ok { OnOk result (places.new.items ≡ places.old.items ++ word_places start bits) }
     ensures kept { take (length places.old.items) places.new.items ≡ places.old.items }
 {
+    if bits == 0 {
+        return Ok(());
+    }
     let known = places.len();
     places.resize(known + bits.count_ones() as usize, 0)?;
     write_bits(&mut places[known..], start, bits);

@@ -1,6 +1,7 @@
 //! What a push adds after a text: a separator where one is missing, and the path with its slashes
 //! replaced. It is made in one pass, and with it the places of its separators.
-ghost use Rattle.std.specs.Prelude.{◌≡◌, ◌+◌, ◌<◌, ◌≤◌, ◌^◌, ◌++◌, ◌∷◌, IfOk, OnOk, cond, drop, if◌then◌else◌, length, replicate, take};
+ghost use Rattle.std.specs.Prelude.{◌≡◌, ◌+◌, ◌<◌, ◌≤◌, ◌^◌, ◌++◌, ◌∷◌, IfOk, OnOk, drop, false, if◌then◌else◌, length, replicate, take};
+ghost use Rattle.uefi_path.specs.Components.{IsPiece};
 ghost use Rattle.uefi_path.specs.Separators.{becomes_separator, places_from, separator, slash, with_separators};
 ghost use Rattle.uefi_path.specs.Views.{counted_text, reads_of};
 ghost use Rattle.uefi_text.specs.Units.{replaced};
@@ -22,14 +23,6 @@ fn becomes_separator(unit: u16) -> bool
     (unit == u16::from(SEPARATOR)) | (unit == u16::from(SLASH))
 }
 
-/// 1 for a unit that is a separator once slashes are replaced, and 0 for any other.
-#[inline(always)]
-fn bit_of(unit: u16) -> u64
-    ensures { result ≡ cond (becomes_separator unit) 1 0 }
-{
-    if becomes_separator(unit) { 1 } else { 0 }
-}
-
 /// The unit, or a separator in place of a slash.
 #[inline(always)]
 fn with_separator(unit: u16) -> u16
@@ -42,9 +35,46 @@ fn with_separator(unit: u16) -> u16
     }
 }
 
+/// Writes the units of a text, each slash replaced, and returns whether a separator is among them. Reads
+/// each unit once.
+#[inline(always)]
+fn copy_units(tail: &mut [u16], units: &mut CountedUnits<'_>) -> bool
+    requires { length tail.now ≡ length (counted_text units.now) }
+    ensures tail { tail.new ≡ with_separators (counted_text units.old) }
+    ensures none { result ≡ false → IsPiece tail.new }
+    ensures text { counted_text units.new ≡ counted_text units.old }
+    ensures count { reads_of units.new ≡ reads_of units.old + length (counted_text units.old) }
+{
+    let mut found = false;
+    for i in 0..tail.len() {
+        let unit = with_separator(units.get(i));
+        tail[i] = unit;
+        found |= unit == u16::from(SEPARATOR);
+    }
+    found
+}
+
+/// Adds the places of the separators among units, where the first has the place `start`.
+fn add_places<A: Allocator>(
+    places: &mut Vec<usize, A>,
+    start: usize,
+    units: &[u16],
+) -> Result<(), AllocError>
+    requires { start + length units.now < 2 ^ 64 }
+    ensures ok { OnOk result (places.new.items ≡ places.old.items ++ places_from start units.now) }
+    ensures kept { take (length places.old.items) places.new.items ≡ places.old.items }
+{
+    for i in 0..units.len() {
+        if units[i] == u16::from(SEPARATOR) {
+            places.push(start + i)?;
+        }
+    }
+    Ok(())
+}
+
 /// Writes the units of a short text, each slash replaced, and adds the places of the separators, where
-/// the first unit has the place `start`. Reads each unit once, the last one first, and keeps a bit for
-/// it. Where memory is refused the places that were there stay the first ones.
+/// the first unit has the place `start`. Reads each unit once. Where memory is refused the places that
+/// were there stay the first ones.
 fn write_units<A: Allocator>(
     tail: &mut [u16],
     places: &mut Vec<usize, A>,
@@ -52,8 +82,7 @@ fn write_units<A: Allocator>(
     units: &mut CountedUnits<'_>,
 ) -> Result<(), AllocError>
     requires room { length tail.now ≡ length (counted_text units.now) }
-    requires short { length tail.now < 64 }
-    requires fits { start + 64 < 2 ^ 64 }
+    requires fits { start + length (counted_text units.now) < 2 ^ 64 }
     ensures tail { OnOk result (tail.new ≡ with_separators (counted_text units.old)) }
     ensures places { OnOk result (places.new.items
         ≡ places.old.items ++ places_from start (with_separators (counted_text units.old))) }
@@ -61,15 +90,11 @@ fn write_units<A: Allocator>(
     ensures text { counted_text units.new ≡ counted_text units.old }
     ensures count { reads_of units.new ≡ reads_of units.old + length (counted_text units.old) }
 {
-    let mut bits = 0;
-    let mut i = tail.len();
-    while 0 < i {
-        i -= 1;
-        let unit = units.get(i);
-        tail[i] = with_separator(unit);
-        bits = 2 * bits + bit_of(unit);
+    // Most names hold no separator.
+    if copy_units(tail, units) {
+        add_places(places, start, tail)?;
     }
-    add_bits(places, start, bits)
+    Ok(())
 }
 
 /// Reads units from a place on into the first of a block, each once.
