@@ -1,0 +1,93 @@
+//! The texts that calls are timed on, in each form that a call takes.
+
+/// A text of some number of units, twice, so that two equal arguments lie at different places.
+pub struct Inputs {
+    /// The units and a NUL.
+    pub units: [Vec<u16>; 2],
+    /// The text in UTF-8.
+    pub texts: [String; 2],
+    /// The text in Latin-1 and a zero; characters above U+00FF as `?`.
+    pub latin1: [Vec<u8>; 2],
+    /// One byte, and after it the units and a NUL, the low byte first.
+    pub packed: [Vec<u8>; 2],
+    /// Room for the units and a NUL.
+    pub places: Vec<u16>,
+    pub numbers: Vec<u32>,
+    /// How many characters, or pushes, where a call counts them.
+    pub count: usize,
+}
+
+impl Inputs {
+    pub fn of(text: String) -> Inputs {
+        let units: Vec<u16> = text.encode_utf16().chain([0]).collect();
+        let latin1: Vec<u8> = text
+            .chars()
+            .map(|c| u8::try_from(c).unwrap_or(b'?'))
+            .chain([0])
+            .collect();
+        let packed: Vec<u8> = [7]
+            .into_iter()
+            .chain(units.iter().flat_map(|unit| unit.to_le_bytes()))
+            .collect();
+        Inputs {
+            places: vec![0; units.len()],
+            numbers: vec![0; units.len() / 2],
+            count: units.len() - 1,
+            units: [units.clone(), units],
+            texts: [text.clone(), text],
+            latin1: [latin1.clone(), latin1],
+            packed: [packed.clone(), packed],
+        }
+    }
+}
+
+fn text_of(characters: &[char], size: usize) -> Inputs {
+    Inputs::of(characters.iter().copied().cycle().take(size).collect())
+}
+
+pub fn ascii(size: usize) -> Inputs {
+    text_of(
+        &"The quick brown fox jumps over the lazy dog; "
+            .chars()
+            .collect::<Vec<_>>(),
+        size,
+    )
+}
+
+pub fn latin1(size: usize) -> Inputs {
+    text_of(
+        &"Größe über Maß, déjà vu à côté; señor Ibáñez "
+            .chars()
+            .collect::<Vec<_>>(),
+        size,
+    )
+}
+
+pub fn cjk(size: usize) -> Inputs {
+    text_of(
+        &"漢字仮名交じり文の例として用いる"
+            .chars()
+            .collect::<Vec<_>>(),
+        size,
+    )
+}
+
+/// A path of names of seven characters.
+pub fn path(size: usize) -> Inputs {
+    let text: String = "\\loader1\\kernel2\\initrd3"
+        .chars()
+        .cycle()
+        .take(size)
+        .collect();
+    Inputs::of(text.trim_end_matches('\\').to_owned() + if text.ends_with('\\') { "x" } else { "" })
+}
+
+/// A path of names of many lengths.
+pub fn uneven_path(size: usize) -> Inputs {
+    let text: String = "\\EFI\\BOOT\\a\\systemd-bootx64.efi\\b2\\vmlinuz-linux-lts\\c"
+        .chars()
+        .cycle()
+        .take(size)
+        .collect();
+    Inputs::of(text.trim_end_matches('\\').to_owned() + if text.ends_with('\\') { "x" } else { "" })
+}
