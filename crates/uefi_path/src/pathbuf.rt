@@ -283,11 +283,29 @@ impl<A: Allocator + Copy> PathBuf<A> {
             return self.push_made(&mut [0; SHORT], units);
         }
         if len < LONG {
-            return self.push_made(&mut [0; LONG], units);
+            return self.push_longer(units);
         }
         let mut tail = Vec::new(self.alloc());
         tail.resize(len + 1, 0)?;
         self.push_made(&mut tail, units)
+    }
+
+    /// What [`PathBuf::push_counted`] does for a longer text: a function of its own, since the compiler
+    /// clears the room as soon as a function begins.
+    #[inline(never)]
+    fn push_longer(&mut self, units: &mut CountedUnits<'_>) -> Result<(), AllocError>
+        requires long { length (counted_text units.now) < 256 }
+        requires some { counted_text units.now ≢ [] }
+        ensures ok { OnOk result (self.new ≡ pushed self.old (counted_text units.old)) }
+        ensures err { OnErr result (self.new ≡ self.old) }
+        ensures text { counted_text units.new ≡ counted_text units.old }
+        ensures once { OnOk result (reads_of units.new
+            ≡ reads_of units.old + length (counted_text units.old)) }
+        ensures at_most { reads_of units.new ≤ reads_of units.old + length (counted_text units.old) }
+    {
+        // A clause of this call says that the units are a text.
+        let _len = units.len();
+        self.push_made(&mut [0; LONG], units)
     }
 
     /// Makes what a push of a text adds, in this room, and adds it.

@@ -9,6 +9,7 @@ ghost use Rattle.uefi_text.specs.Units.{replaced};
 use crate::counted::CountedUnits;
 use crate::places::{BLOCK, add_bits, replace_slashes, separators_of};
 use std::alloc::{AllocError, Allocator};
+use std::mem;
 use std::simd::prelude::*;
 use uefi_text::chars::{SEPARATOR, SLASH};
 
@@ -45,12 +46,15 @@ fn copy_units(tail: &mut [u16], units: &mut CountedUnits<'_>) -> bool
     ensures text { counted_text units.new ≡ counted_text units.old }
     ensures count { reads_of units.new ≡ reads_of units.old + length (counted_text units.old) }
 {
+    // The compiler sees that no write to the tail changes a view that the function owns.
+    let mut own = mem::replace(units, CountedUnits::empty());
     let mut found = false;
     for i in 0..tail.len() {
-        let unit = with_separator(units.get(i));
+        let unit = with_separator(own.get(i));
         tail[i] = unit;
         found |= unit == u16::from(SEPARATOR);
     }
+    *units = own;
     found
 }
 

@@ -21,9 +21,9 @@ loop-i-preserved c =
     record {
       tail = rw is text;
       none = λ out.
-        let before : c.loop-i.found ≡ false = grind (arith, common_steps, out) in
-        let other : c.with_separator-unit.result ≢ separator = λ cut. grind (arith, common_steps, out, cut) in
-        piece_more tail i c.with_separator-unit.result room (c.loop-i.invariant.none before) other;
+          let before : c.loop-i.found ≡ false = grind (arith, common_steps, out) in
+          let other : c.with_separator-unit.result ≢ separator = λ cut. grind (arith, common_steps, out, cut) in
+          piece_more tail i c.with_separator-unit.result room (c.loop-i.invariant.none before) other;
       text = c.get.ensures.text ∙ c.loop-i.invariant.text;
       count = omega (arith, c.get.ensures.count, c.loop-i.invariant.count);
     }

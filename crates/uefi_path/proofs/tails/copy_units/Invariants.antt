@@ -9,6 +9,6 @@ abbrev pub invariant-loop-i : goal.invariant-loop-i
 invariant-loop-i l = record {
   tail : take l.i l.tail ≡ with_separators (take l.i (counted_text l.fn.units));
   none : l.found ≡ false → IsPiece (take l.i l.tail);
-  text : counted_text l.units ≡ counted_text l.fn.units;
-  count : reads_of l.units ≡ reads_of l.fn.units + l.i;
+  text : counted_text l.own ≡ counted_text l.fn.units;
+  count : reads_of l.own ≡ reads_of l.fn.units + l.i;
 }
