@@ -317,6 +317,7 @@ impl<A: Allocator> CString16<A> {
     ///
     /// Takes memory at most once, and none where there are no characters, which is never refused. A
     /// row of calls takes a time linear in what it adds, on average.
+    #[inline(always)]
     pub fn push_part(&mut self, part: Char16Slice<'_>) -> Result<(), AllocError>
         requires { All (λ unit. unit ≢ 0) (units_of part) }
         ensures ok { OnOk result (self.new ≡ self.old ++ units_of part.entry) }
