@@ -2,6 +2,7 @@ pub mod Splitting
 pub mod SeparatorPlaces
 pub mod Pushing
 pub mod Parents
+mod Drafts
 pub mod Joining
 pub mod Validity
 pub mod ParentForm

@@ -25,11 +25,11 @@ needs_separator-append (u ∷ us) v vs =
     ∙ ap (λ unit. not (is_separator unit)) (get_or-append-add (u ∷ us) (v ∷ vs) (length vs) 0)
 
 -- none is missing after a separator
-closed : (us : List ℕ) → needs_separator (us ++ separator ∷ []) ≡ false
+pub closed : (us : List ℕ) → needs_separator (us ++ separator ∷ []) ≡ false
 closed us = needs_separator-append us separator []
 
 -- one is missing after a full piece
-open_piece : (p : List ℕ) → IsPiece p → IsFull p → needs_separator p ≡ true
+pub open_piece : (p : List ℕ) → IsPiece p → IsFull p → needs_separator p ≡ true
 open_piece [] piece full = absurd (false≢true full)
 open_piece (u ∷ us) piece full =
     let last = get_or (u ∷ us) (length us) 0 in

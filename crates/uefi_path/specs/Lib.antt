@@ -5,6 +5,7 @@ pub mod Runs
 pub mod PathErrors
 pub mod Verdicts
 pub mod Pushing
+pub mod Writing
 pub mod Parents
 pub mod SuccessiveParents
 pub mod Laws

@@ -42,6 +42,7 @@ mod pathbuf;
 mod places;
 mod tails;
 mod validation;
+mod written;
 
 pub use counted::CountedUnits;
 pub use normal::NormalizeError;

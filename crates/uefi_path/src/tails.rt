@@ -26,7 +26,7 @@ fn becomes_separator(unit: u16) -> bool
 
 /// The unit, or a separator in place of a slash.
 #[inline(always)]
-fn with_separator(unit: u16) -> u16
+pub(crate) fn with_separator(unit: u16) -> u16
     ensures { result ≡ replaced slash separator unit }
 {
     if unit == u16::from(SLASH) {

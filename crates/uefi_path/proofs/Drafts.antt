@@ -1,0 +1,166 @@
+-- A text that is made of components, added one after the other: how long it is so far, and what is still to come.
+use Rattle.std.proofs.Common.{subst, IsTrue, ◌↔◌, cond, ◌≡◌, ℕ, ◌+◌, ◌≤◌, List, [], ◌∷◌, ◌++◌, length, All, Bool, true, false, not, if◌then◌else◌, inl, inr, drop, set, ◌-◌, ap, refl, sym, ◌∙◌, arith, length-append, take}
+use borrow.Rule.Slice.PartMut.{put_mid}
+use Rattle.std.specs.List.{fold}
+use Rattle.std.proofs.lemmas.Bool.{cases_Bool}
+use Rattle.std.proofs.lemmas.List.{append-nil, drop_all, length-map, map-append, take_at, take-append-drop}
+use Rattle.std.proofs.lemmas.Slice.{drop-append-drop, drop-put_mid, take-put_mid}
+use Rattle.uefi_text.specs.Units.{replaced}
+use Rattle.std.proofs.lemmas.List.Elements.{All-head, All-tail}
+use Rattle.uefi_path.specs.Components.{IsPiece}
+use Rattle.uefi_path.specs.Parents.{all_but_last, is_non_empty}
+use Rattle.uefi_path.specs.Pushing.{appended, needs_separator}
+use Rattle.uefi_path.specs.Separators.{separator, slash, with_separators}
+use Rattle.uefi_path.proofs.Parents.{after_separator, needs_separator-append, closed, open_piece}
+
+-- what is added after a text: a separator where one is missing, and the component
+abbrev pub tail_of : Bool → List ℕ → List ℕ
+tail_of is_missing piece = if is_missing then separator ∷ piece else piece
+
+pub appended_tail : (text piece : List ℕ) → appended text piece ≡ text ++ tail_of (needs_separator text) piece
+appended_tail text piece =
+    elim (needs_separator text)
+    as (λ b. (if b then text ++ separator ∷ piece else text ++ piece) ≡ text ++ tail_of b piece)
+    [ true ↦ refl | false ↦ refl ]
+
+-- how long that is
+abbrev pub missing_count : Bool → ℕ
+missing_count true = 1
+missing_count false = 0
+
+length-tail : (is_missing : Bool) (piece : List ℕ) → length (tail_of is_missing piece) ≡ missing_count is_missing + length piece
+length-tail true piece = omega arith
+length-tail false piece = omega arith
+
+-- a separator is missing after a component exactly where it is not empty
+pub needs_separator-appended : (text piece : List ℕ) → IsPiece piece
+    → needs_separator (appended text piece) ≡ is_non_empty piece
+needs_separator-appended text [] is =
+    let added = λ (b : Bool). needs_separator (if b then text ++ separator ∷ [] else text ++ []) in
+    elim (cases_Bool (needs_separator text)) [
+      | inl missing ↦ ap added missing ∙ closed text
+      | inr none ↦ ap added none ∙ ap needs_separator (append-nil text) ∙ none
+    ]
+needs_separator-appended text (u ∷ us) is =
+    let own = open_piece (u ∷ us) is refl in
+    elim (needs_separator text)
+    as (λ b. needs_separator (if b then text ++ separator ∷ u ∷ us else text ++ u ∷ us) ≡ true) [
+      | true ↦ needs_separator-append text separator (u ∷ us) ∙ after_separator (u ∷ us) own
+      | false ↦ needs_separator-append text u us ∙ own
+    ]
+
+-- a text grows
+pub fold_grows : (text : List ℕ) (pieces : List (List ℕ)) → length text ≤ length (fold appended text pieces)
+fold_grows text [] = omega arith
+fold_grows text (piece ∷ pieces) =
+    omega (
+      arith,
+      ap length (appended_tail text piece),
+      length-append text (tail_of (needs_separator text) piece),
+      fold_grows (appended text piece) pieces,
+    )
+
+-- a text so far: how long it is, whether a separator is missing after it, and that adding the pieces to
+-- come but the last makes the whole
+pub record IsDraft (text : List ℕ) (len : ℕ) (is_missing : Bool) (pieces : List (List ℕ)) (whole : List ℕ) : Type 0 where
+  pub len_is : len ≡ length text
+  pub missing : is_missing ≡ needs_separator text
+  pub are_pieces : All IsPiece pieces
+  pub to_come : fold appended text (all_but_last pieces) ≡ whole
+
+-- a test for an empty component
+non_empty_by : (is_empty : Bool) (piece : List ℕ) → (IsTrue is_empty ↔ (piece ≡ [])) → not is_empty ≡ is_non_empty piece
+non_empty_by is_empty [] is = ap not (is.1 refl)
+non_empty_by true (u ∷ us) is = absurd (omega (arith, ap length (is.0 refl)))
+non_empty_by false (u ∷ us) is = refl
+
+-- the count of a separator, by whether one is missing
+pub missing_count_is : (count : ℕ) (is_missing : Bool) → count ≡ cond is_missing 1 0 → count ≡ missing_count is_missing
+missing_count_is count true is = is
+missing_count_is count false is = is
+
+-- one component more, where another follows it
+pub draft_next : (text : List ℕ) (len : ℕ) (is_missing : Bool) (piece : List ℕ) (left : List (List ℕ)) (whole : List ℕ)
+    (next : List ℕ) (pieces : List (List ℕ)) (end : ℕ) (is_empty : Bool)
+    → IsDraft text len is_missing (piece ∷ left) whole → left ≡ next ∷ pieces
+    → end ≡ len + missing_count is_missing + length piece → (IsTrue is_empty ↔ (piece ≡ []))
+    → IsDraft (appended text piece) end (not is_empty) (next ∷ pieces) whole
+draft_next text len is_missing piece left whole next pieces end is_empty draft follows ends empty =
+    let d : IsDraft text len is_missing (piece ∷ next ∷ pieces) whole =
+    subst (λ ps. IsDraft text len is_missing (piece ∷ ps) whole) follows draft in
+    record {
+      len_is =
+          omega (
+            arith,
+            ends,
+            d.len_is,
+            ap missing_count d.missing,
+            ap length (appended_tail text piece),
+            length-append text (tail_of (needs_separator text) piece),
+            length-tail (needs_separator text) piece,
+          );
+      missing =
+          non_empty_by is_empty piece empty
+          ∙ sym (needs_separator-appended text piece (All-head IsPiece piece (next ∷ pieces) d.are_pieces));
+      are_pieces = All-tail IsPiece piece (next ∷ pieces) d.are_pieces;
+      to_come = d.to_come;
+    }
+
+-- it is no longer than the whole then
+pub draft_more_fits : (text : List ℕ) (len : ℕ) (is_missing : Bool) (piece : List ℕ) (left : List (List ℕ)) (whole : List ℕ)
+    (next : List ℕ) (pieces : List (List ℕ))
+    → IsDraft text len is_missing (piece ∷ left) whole → left ≡ next ∷ pieces
+    → len + missing_count is_missing + length piece ≤ length whole
+draft_more_fits text len is_missing piece left whole next pieces draft follows =
+    let d : IsDraft text len is_missing (piece ∷ next ∷ pieces) whole =
+    subst (λ ps. IsDraft text len is_missing (piece ∷ ps) whole) follows draft in
+    omega (
+      arith,
+      d.len_is,
+      ap missing_count d.missing,
+      ap length (appended_tail text piece),
+      length-append text (tail_of (needs_separator text) piece),
+      length-tail (needs_separator text) piece,
+      fold_grows (appended text piece) (all_but_last (next ∷ pieces)),
+      ap length d.to_come,
+    )
+
+-- a buffer that begins with a draft, each slash replaced, with one component more
+pub draft_written : (text piece old buffer places : List ℕ) (len end : ℕ) → len ≡ length text
+    → end ≡ length (appended text piece) → end ≤ length old
+    → buffer ≡ with_separators text ++ drop (length text) old
+    → places ≡ with_separators (tail_of (needs_separator text) piece)
+    → put_mid len (end - len) buffer places
+    ≡ with_separators (appended text piece) ++ drop (length (appended text piece)) old
+draft_written text piece old buffer places len end starts ends room is wrote =
+    let tail = tail_of (needs_separator text) piece in
+    let put = put_mid len (end - len) buffer places in
+    let replaces = replaced slash separator in
+    let size = length-map text replaces in
+    let added = ap length wrote ∙ length-map tail replaces in
+    let sum = ap length (appended_tail text piece) ∙ length-append text tail in
+    let all = ap length is ∙ length-append (with_separators text) (drop (length text) old) in
+    let inside : len ≤ length buffer = omega (arith, all, size, starts) in
+    let front : take end put ≡ with_separators (appended text piece) =
+    take-put_mid len (end - len) buffer places end (omega (arith, ends, starts, added, sum)) inside
+    ∙ ap (λ us. take len us ++ places) is
+    ∙ ap (λ us. us ++ places) (take_at (with_separators text) (drop (length text) old) len (omega (arith, size, starts)))
+    ∙ ap (λ us. with_separators text ++ us) wrote
+    ∙ sym (map-append replaces text tail)
+    ∙ ap with_separators (sym (appended_tail text piece)) in
+    let back : drop end put ≡ drop end old =
+    drop-put_mid len (end - len) buffer places end (omega (arith, ends, starts, sum)) inside
+    (omega (arith, ends, starts, added, sum))
+    ∙ ap (drop end) is
+    ∙ drop-append-drop (length text) old (with_separators text) end (omega (arith, ends, sum)) size in
+    sym (take-append-drop end put) ∙ ap (λ us. us ++ drop end put) front
+    ∙ ap (λ us. with_separators (appended text piece) ++ us) back
+    ∙ ap (λ n. with_separators (appended text piece) ++ drop n old) ends
+
+-- a separator that was written first stays before what is written after it
+pub separator_before : (places added : List ℕ) (k : ℕ) → length places ≡ length added + 1
+    → k ≡ length (set places 0 separator) - 1 → put_mid 1 k (set places 0 separator) added ≡ separator ∷ added
+separator_before [] added k long same = absurd (omega arith)
+separator_before (t ∷ ts) added k long same =
+    let none : drop k ts ≡ [] = drop_all k ts (omega arith) in
+    ap (λ us. separator ∷ us) (ap (λ us. added ++ us) none ∙ append-nil added)

@@ -1,0 +1,14 @@
+-- What a call reports that writes a text into a caller's buffer, where there is such a text, and what the buffer becomes.
+use Rattle.std.specs.Prelude.{ℕ, nat_lt, if◌then◌else◌, List, length, Option, Some, None, Result, Ok, Err}
+use Rattle.uefi_text.specs.UnalignedCStr16.{with_prefix}
+
+-- how many units are written; or how many the text has, where the buffer has fewer places
+abbrev pub written_len : Option (List ℕ) → List ℕ → Result (Option ℕ) ℕ
+written_len None buffer = Ok None
+written_len (Some text) buffer =
+    if nat_lt (length buffer) (length text) then Err (length text) else Ok (Some (length text))
+
+-- the buffer begins with the text; it is unchanged where there is no text or no room
+abbrev pub written_over : Option (List ℕ) → List ℕ → List ℕ
+written_over None buffer = buffer
+written_over (Some text) buffer = with_prefix text buffer
