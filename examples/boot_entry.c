@@ -48,6 +48,7 @@ static const char *reason_text(uint32_t reason)
     case UEFI_EMPTY_COMPONENT: return "a component is empty";
     case UEFI_ILLEGAL_CHAR: return "no file's name holds the character";
     case UEFI_CLIMBS_ABOVE_ROOT: return "the path climbs above the root";
+    case UEFI_NO_PARENT: return "the path has no parent";
     }
     return "unknown reason";
 }

@@ -53,6 +53,13 @@ mod header {
             room: usize,
             place: *mut usize,
         ) -> u32;
+        pub fn uefi_path_parent(
+            path: *const u16,
+            count: usize,
+            buffer: *mut u16,
+            room: usize,
+            place: *mut usize,
+        ) -> u32;
     }
 }
 
@@ -171,6 +178,25 @@ fn push<'a>(buffer: &'a mut [u16], path: &[u16]) -> Result<&'a [u16], usize> {
     }
 }
 
+/// The parent of a string's path in a buffer, each slash replaced; and how many units it has, where it has any.
+fn parent_in<'a>(path: &[u16], buffer: &'a mut [u16]) -> (Result<&'a [u16], Reason>, usize) {
+    let mut place = 0;
+    // SAFETY: each slice is passed with its length, and nothing overlaps.
+    let reason = unsafe {
+        header::uefi_path_parent(
+            path.as_ptr(),
+            path.len(),
+            buffer.as_mut_ptr(),
+            buffer.len(),
+            &mut place,
+        )
+    };
+    match reason {
+        0 => (Ok(&buffer[..place]), place),
+        _ => (Err(Reason(reason)), place),
+    }
+}
+
 fn shown(text: &[u16]) -> String {
     String::from_utf16_lossy(text)
 }
@@ -215,6 +241,17 @@ fn print_joined(first: &str, second: &str) -> Result<(), Reason> {
     Ok(())
 }
 
+fn print_parent(text: &str) -> Result<(), Reason> {
+    let mut one = [0; 16];
+    let path = string_in(text, &mut one)?;
+    let mut buffer = [0; 9];
+    match parent_in(path, &mut buffer) {
+        (Ok(parent), len) => println!("{text} has the parent {}, {len} units", shown(parent)),
+        (Err(Reason(number)), len) => println!("{text} has none: {number}, {len} units"),
+    }
+    Ok(())
+}
+
 fn main() {
     let long = "\\a".repeat(40);
     let texts = [
@@ -243,6 +280,17 @@ fn main() {
     for (first, second) in pairs {
         if let Err(Reason(number)) = print_joined(first, second) {
             println!("{first:?} and {second:?} are refused: {number}");
+        }
+    }
+    for text in [
+        "\\efi/boot\\x",
+        "a\\\\b",
+        "\\\\b",
+        "kernel",
+        "\\efi\\boot2\\x",
+    ] {
+        if let Err(Reason(number)) = print_parent(text) {
+            println!("{text:?} is refused: {number}");
         }
     }
 }

@@ -34,7 +34,8 @@ enum uefi_reason {
     UEFI_PATH_EMPTY = 7,         /* the path is empty */
     UEFI_EMPTY_COMPONENT = 8,    /* a component of the path is empty */
     UEFI_ILLEGAL_CHAR = 9,       /* a component holds a character that no file's name may hold */
-    UEFI_CLIMBS_ABOVE_ROOT = 10  /* a component ".." for which no name before it is left */
+    UEFI_CLIMBS_ABOVE_ROOT = 10, /* a component ".." for which no name before it is left */
+    UEFI_NO_PARENT = 11          /* the path has at most one component */
 };
 
 /* What an order is where one side does not begin with a string. */
@@ -174,6 +175,16 @@ uint32_t uefi_path_push(uint16_t *buffer, size_t room, const uint16_t *path, siz
  */
 uint32_t uefi_path_join(const uint16_t *path, size_t count, const uint16_t *other, size_t other_count,
                         uint16_t *buffer, size_t room, size_t *place);
+
+/*
+ * Writes the parent of `path` into the first places of `buffer`, and a NUL: all components but the last, each of
+ * their slashes replaced. Empty components are left out, but where the last that is kept is empty and another is
+ * not, a separator ends the parent. UEFI_OK, and what stands after the NUL stays; or the buffer stays unchanged:
+ * UEFI_NO_NUL and UEFI_INVALID_CHAR where `path` begins with no string, and `*place` as uefi_string_until_nul says of
+ * it; UEFI_NO_PARENT, and `*place` stays unchanged; then UEFI_BUFFER_TOO_SMALL. At UEFI_OK and UEFI_BUFFER_TOO_SMALL
+ * `*place` becomes how many units the parent has, its NUL not counted.
+ */
+uint32_t uefi_path_parent(const uint16_t *path, size_t count, uint16_t *buffer, size_t room, size_t *place);
 
 #ifdef __cplusplus
 }

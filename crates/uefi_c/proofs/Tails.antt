@@ -1,13 +1,15 @@
 -- What a push adds after a text, and how long that is.
-use Rattle.std.proofs.Common.{◌≡◌, ◌≢◌, ℕ, suc, ◌+◌, ◌-◌, ◌<◌, ◌≤◌, ◌==◌, not, Bool, true, false, if◌then◌else◌, List, [], ◌∷◌, ◌++◌, length, take, drop, get_or, set, refl, sym, ◌∙◌, ap, arith, length-append, length-drop}
+use Rattle.std.proofs.Common.{◌≡◌, ◌≢◌, ℕ, suc, ◌+◌, ◌-◌, ◌<◌, ◌≤◌, ◌==◌, not, Bool, true, false, if◌then◌else◌, List, [], ◌∷◌, ◌++◌, length, take, drop, get_or, set, Ok, Some, inl, inr, append_assoc, refl, sym, ◌∙◌, ap, arith, length-append, length-drop}
 use borrow.Rule.Slice.PartMut.{put_mid}
 use Rattle.std.proofs.Math.Seq.{drop-append-add}
-use Rattle.std.proofs.lemmas.List.{append-nil, drop-drop, drop_all, get_or-map, length-map, take_at}
-use Rattle.std.proofs.lemmas.Bool.{le-ltb}
+use Rattle.std.proofs.lemmas.List.{append-nil, drop-append-le, drop-drop, length-take, take-append-drop, drop_all, get_or-map, length-map, take_at}
+use Rattle.std.proofs.lemmas.Bool.{cases_lt, le-ltb, lt-ltb}
+use Rattle.std.proofs.lemmas.Grind.{common_steps}
 use Rattle.uefi_text.specs.Units.{nul_terminated, replaced}
 use Rattle.uefi_text.specs.UnalignedCStr16.{with_prefix}
 use Rattle.uefi_path.specs.Pushing.{needs_separator, pushed}
 use Rattle.uefi_path.specs.Separators.{is_separator, separator, slash, with_separators}
+use Rattle.uefi_path.specs.Writing.{written_len, written_over}
 use Rattle.uefi_c.specs.Buffers.{tail_of}
 
 -- the last unit decides whether a separator is missing after a text that is not empty
@@ -98,3 +100,51 @@ not_empty (u ∷ us) b is fails e = cc
 -- replacing slashes changes no length
 pub length-replaced : (text : List ℕ) → length (with_separators text) ≡ length text
 length-replaced text = length-map text (replaced slash separator)
+
+-- what stands after a place, of the units before another place and of those from there on
+drop_in_two : (buffer : List ℕ) (room n : ℕ) → n ≤ length (take room buffer)
+    → drop n (take room buffer) ++ drop room buffer ≡ drop n buffer
+drop_in_two buffer room n within =
+    sym (drop-append-le n (take room buffer) (drop room buffer) within) ∙ ap (drop n) (take-append-drop room buffer)
+
+-- a text that is written is as long as is returned, and has room
+len_written : (text buffer : List ℕ) (len : ℕ) → Ok (Some len) ≡ written_len (Some text) buffer
+    → (len ≡ length text) × (length text ≤ length buffer)
+len_written text buffer len is = elim (cases_lt (length buffer) (length text)) [
+  | inl less ↦
+      let short = lt-ltb (length buffer) (length text) less in
+      absurd (grind (arith, common_steps, is, short))
+  | inr enough ↦
+      let fits = le-ltb (length buffer) (length text) (omega (arith, enough)) in
+      (grind (arith, common_steps, is, fits), omega (arith, enough))
+]
+
+-- a NUL after a text that a buffer begins with, where the text was written before the last place
+end_written : (text buffer : List ℕ) → length text ≤ length buffer - 1
+    → with_prefix (nul_terminated (take (length text) (text ++ drop (length text) buffer))) (text ++ drop (length text) buffer)
+    ≡ with_prefix (nul_terminated text) buffer
+end_written [] [] within = refl
+end_written (t ∷ ts) [] within = absurd (omega (arith, within))
+end_written text (b ∷ bs) within =
+    let all = text ++ drop (length text) (b ∷ bs) in
+    let none = append-nil text in
+    ap (λ us. with_prefix (nul_terminated us) all) (sym (append-nil (take (length text) all)))
+    ∙ with_prefix_after text [] (b ∷ bs) (length text) refl (omega (arith, within, ap length none))
+    ∙ ap (λ us. with_prefix (nul_terminated us) (b ∷ bs)) none
+
+-- the same, by what the call returns that wrote the text
+pub ended_by_nul : (text buffer written : List ℕ) (room len : ℕ) → room ≡ length buffer - 1
+    → Ok (Some len) ≡ written_len (Some text) (take room buffer)
+    → written ≡ written_over (Some text) (take room buffer)
+    → with_prefix (nul_terminated (take len (written ++ drop room buffer))) (written ++ drop room buffer)
+    ≡ with_prefix (nul_terminated text) buffer
+ended_by_nul text buffer written room len before returned wrote =
+    let fits = len_written text (take room buffer) len returned in
+    let whole : written ++ drop room buffer ≡ text ++ drop (length text) buffer =
+    ap (λ us. us ++ drop room buffer) (wrote ∙ prefix_in text (take room buffer) fits.1)
+    ∙ append_assoc text (drop (length text) (take room buffer)) (drop room buffer)
+    ∙ ap (λ us. text ++ us) (drop_in_two buffer room (length text) fits.1) in
+    let size = length-take room buffer in
+    ap (λ us. with_prefix (nul_terminated (take len us)) us) whole
+    ∙ ap (λ n. with_prefix (nul_terminated (take n (text ++ drop (length text) buffer))) (text ++ drop (length text) buffer)) fits.0
+    ∙ end_written text buffer (omega (arith, size, fits.1, before))

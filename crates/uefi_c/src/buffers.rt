@@ -1,16 +1,18 @@
 //! Paths that are made in a caller's buffer: whole, or not at all. No call takes memory.
-ghost use Rattle.std.specs.Prelude.{◌≡◌, ◌+◌, ◌≤◌, ◌++◌, length, take};
+ghost use Rattle.std.specs.Prelude.{◌≡◌, ℕ, ◌+◌, ◌≤◌, ◌++◌, List, None, Some, length, take};
 ghost use Rattle.uefi_text.specs.FromSliceUntilNul.{until_nul_refusal};
 ghost use Rattle.uefi_text.specs.UnalignedCStr16.{with_prefix};
 ghost use Rattle.uefi_text.specs.Units.{BeginsWithString, nul_terminated, replaced};
+ghost use Rattle.uefi_path.specs.Parents.{parent_text};
 ghost use Rattle.uefi_path.specs.Pushing.{pushed};
 ghost use Rattle.uefi_path.specs.Separators.{separator, slash, with_separators};
 ghost use Rattle.uefi_c.specs.Buffers.{length_shown, room_reason, tail_of};
 ghost use Rattle.uefi_c.specs.Reasons.{until_nul_reason};
 ghost use Rattle.uefi_c.specs.Strings.{text_in, until_nul_place};
 
-use crate::reasons::{BUFFER_TOO_SMALL, OK, until_nul_reason};
+use crate::reasons::{BUFFER_TOO_SMALL, NO_PARENT, OK, until_nul_reason};
 use crate::strings::until_nul_place;
+use uefi_path::Path;
 use uefi_text::CStr16;
 
 /// The code unit of the separator.
@@ -102,6 +104,19 @@ fn add_tail(buffer: &mut [u16], end: usize, is_missing: bool, path: &[u16], len:
         return BUFFER_TOO_SMALL;
     }
     write_tail(&mut buffer[end..len + 1], is_missing, path);
+    OK
+}
+
+/// Writes a NUL after the first `len` units of a buffer, where it has room.
+fn end_text(buffer: &mut [u16], len: usize) -> u32
+    requires { len ≤ length buffer.now }
+    ensures reason { result ≡ room_reason (take len buffer.old) buffer.old }
+    ensures buffer { buffer.new ≡ with_prefix (nul_terminated (take len buffer.old)) buffer.old }
+{
+    if buffer.len() <= len {
+        return BUFFER_TOO_SMALL;
+    }
+    buffer[len] = 0;
     OK
 }
 
@@ -202,4 +217,47 @@ pub extern "C" fn uefi_path_join(
     }
     write_with_separators(&mut buffer[..text.len()], text);
     add_tail(buffer, text.len(), is_missing, added, len)
+}
+
+/// Writes the parent of a string's path, as `Path::parent` has it, into the first places of a buffer, and a NUL.
+///
+/// Units that begin with no string are refused as by `uefi_string_until_nul`, and a path of at most one
+/// component as `NO_PARENT`, which leaves `place` unchanged. Else `place` becomes how many units the parent
+/// has, and a buffer of no more places is `BUFFER_TOO_SMALL`. Refused, the buffer stays unchanged; what stands
+/// after the NUL stays. Two passes over the path; takes no memory.
+#[unsafe(no_mangle)]
+pub extern "C" fn uefi_path_parent(path: &[u16], buffer: &mut [u16], place: &mut usize) -> u32
+    ensures no_string { ¬ BeginsWithString path.now
+        → (result ≡ until_nul_reason (until_nul_refusal path.now))
+        × (place.new ≡ until_nul_place path.now)
+        × (buffer.new ≡ buffer.old) }
+    ensures none { BeginsWithString path.now → parent_text (text_in path.now) ≡ None
+        → (result ≡ NO_PARENT) × (place.new ≡ place.old) × (buffer.new ≡ buffer.old) }
+    ensures reason { BeginsWithString path.now → (parent : List ℕ) → parent_text (text_in path.now) ≡ Some parent
+        → result ≡ room_reason parent buffer.old }
+    ensures place { BeginsWithString path.now → (parent : List ℕ) → parent_text (text_in path.now) ≡ Some parent
+        → place.new ≡ length parent }
+    ensures buffer { BeginsWithString path.now → (parent : List ℕ) → parent_text (text_in path.now) ≡ Some parent
+        → buffer.new ≡ with_prefix (nul_terminated parent) buffer.old }
+{
+    let path = match CStr16::from_u16_until_nul(path) {
+        Ok(string) => Path::new(string),
+        Err(error) => {
+            *place = until_nul_place(error, path);
+            return until_nul_reason(error);
+        }
+    };
+    // The last place is left for the NUL.
+    let room = buffer.len().saturating_sub(1);
+    match path.write_parent(&mut buffer[..room]) {
+        Ok(Some(len)) => {
+            *place = len;
+            end_text(buffer, len)
+        }
+        Ok(None) => NO_PARENT,
+        Err(len) => {
+            *place = len;
+            BUFFER_TOO_SMALL
+        }
+    }
 }

@@ -39,6 +39,9 @@ pub const ILLEGAL_CHAR: u32 = 9;
 /// A component `..` for which no name before it is left.
 pub const CLIMBS_ABOVE_ROOT: u32 = 10;
 
+/// The path has at most one component, and so no parent.
+pub const NO_PARENT: u32 = 11;
+
 /// The order of two strings of which one is none.
 pub const NO_ORDER: i32 = 2;
 
