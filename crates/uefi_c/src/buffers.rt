@@ -219,12 +219,13 @@ pub extern "C" fn uefi_path_join(
     add_tail(buffer, text.len(), is_missing, added, len)
 }
 
-/// Writes the parent of a string's path, as `Path::parent` has it, into the first places of a buffer, and a NUL.
+/// Writes the parent of a string's path, as `Path::parent` has it, into the first places of a buffer, and
+/// a NUL.
 ///
 /// Units that begin with no string are refused as by `uefi_string_until_nul`, and a path of at most one
-/// component as `NO_PARENT`, which leaves `place` unchanged. Else `place` becomes how many units the parent
-/// has, and a buffer of no more places is `BUFFER_TOO_SMALL`. Refused, the buffer stays unchanged; what stands
-/// after the NUL stays. Two passes over the path; takes no memory.
+/// component as `NO_PARENT`, which leaves `place` unchanged. Else `place` becomes how many units the
+/// parent has, and a buffer of no more places is `BUFFER_TOO_SMALL`. Refused, the buffer stays
+/// unchanged; what stands after the NUL stays. Two passes over the path; takes no memory.
 #[unsafe(no_mangle)]
 pub extern "C" fn uefi_path_parent(path: &[u16], buffer: &mut [u16], place: &mut usize) -> u32
     ensures no_string { ¬ BeginsWithString path.now
@@ -233,11 +234,12 @@ pub extern "C" fn uefi_path_parent(path: &[u16], buffer: &mut [u16], place: &mut
         × (buffer.new ≡ buffer.old) }
     ensures none { BeginsWithString path.now → parent_text (text_in path.now) ≡ None
         → (result ≡ NO_PARENT) × (place.new ≡ place.old) × (buffer.new ≡ buffer.old) }
-    ensures reason { BeginsWithString path.now → (parent : List ℕ) → parent_text (text_in path.now) ≡ Some parent
-        → result ≡ room_reason parent buffer.old }
-    ensures place { BeginsWithString path.now → (parent : List ℕ) → parent_text (text_in path.now) ≡ Some parent
-        → place.new ≡ length parent }
-    ensures buffer { BeginsWithString path.now → (parent : List ℕ) → parent_text (text_in path.now) ≡ Some parent
+    ensures reason { BeginsWithString path.now → (parent : List ℕ)
+        → parent_text (text_in path.now) ≡ Some parent → result ≡ room_reason parent buffer.old }
+    ensures place { BeginsWithString path.now → (parent : List ℕ)
+        → parent_text (text_in path.now) ≡ Some parent → place.new ≡ length parent }
+    ensures buffer { BeginsWithString path.now → (parent : List ℕ)
+        → parent_text (text_in path.now) ≡ Some parent
         → buffer.new ≡ with_prefix (nul_terminated parent) buffer.old }
 {
     let path = match CStr16::from_u16_until_nul(path) {

@@ -1,4 +1,5 @@
--- What a call reports that writes a text into a caller's buffer, where there is such a text, and what the buffer becomes.
+-- What a call reports that writes a text into a caller's buffer, where there is such a text, and what the
+-- buffer becomes.
 use Rattle.std.specs.Prelude.{ℕ, nat_lt, if◌then◌else◌, List, length, Option, Some, None, Result, Ok, Err}
 use Rattle.uefi_text.specs.UnalignedCStr16.{with_prefix}
 

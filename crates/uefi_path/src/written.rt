@@ -82,8 +82,9 @@ impl<'a> Path<'a> {
     /// Writes the path without its last component, as [`Path::parent`] has it, into the first places of a
     /// buffer, and returns how many units that are. Writes no NUL; what stands after the parent stays.
     ///
-    /// `Ok(None)` where the path has at most one component, and `Err` with the length of the parent where the
-    /// buffer has fewer places; the buffer is unchanged then. Two passes over the components; takes no memory.
+    /// `Ok(None)` where the path has at most one component, and `Err` with the length of the parent where
+    /// the buffer has fewer places; the buffer is unchanged then. Two passes over the components; takes
+    /// no memory.
     pub fn write_parent(&self, buffer: &mut [u16]) -> Result<Option<usize>, usize>
         ensures len { result ≡ written_len (parent_text (path_text self.now)) buffer.old }
         ensures buffer { buffer.new ≡ written_over (parent_text (path_text self.now)) buffer.old }
