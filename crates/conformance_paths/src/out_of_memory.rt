@@ -181,11 +181,16 @@ const PLAIN: &str = "efi\\boot\\loader\\entries\\2026\\linux\\initrd.img";
 const PLAIN_PARENT: &str = "efi\\boot\\loader\\entries\\2026\\linux";
 
 /// A text of 256 characters, which a push makes ready in memory that it asks for, and its path.
-const LONGEST: &str =
-    "/efi\\boot\\loader\\entries\\2026\\linux\\kernels\\v6.18-generic\\initrd/efi\\boot\\loader\\entries\\2026\\linux\\kernels\\v6.18-generic\\initrd/efi\\boot\\loader\\entries\\2026\\linux\\kernels\\v6.18-generic\\initrd/efi\\boot\\loader\\entries\\2026\\linux\\kernels\\v6.18-generic\\initrd";
+const LONGEST: &str = "/efi\\boot\\loader\\entries\\2026\\linux\\kernels\\v6.18-generic\\initrd\
+    /efi\\boot\\loader\\entries\\2026\\linux\\kernels\\v6.18-generic\\initrd\
+    /efi\\boot\\loader\\entries\\2026\\linux\\kernels\\v6.18-generic\\initrd\
+    /efi\\boot\\loader\\entries\\2026\\linux\\kernels\\v6.18-generic\\initrd";
 
 const PUSHED_LONGEST: &str =
-    "\\efi\\boot\\loader\\entries\\2026\\linux\\kernels\\v6.18-generic\\initrd\\efi\\boot\\loader\\entries\\2026\\linux\\kernels\\v6.18-generic\\initrd\\efi\\boot\\loader\\entries\\2026\\linux\\kernels\\v6.18-generic\\initrd\\efi\\boot\\loader\\entries\\2026\\linux\\kernels\\v6.18-generic\\initrd";
+    "\\efi\\boot\\loader\\entries\\2026\\linux\\kernels\\v6.18-generic\\initrd\
+    \\efi\\boot\\loader\\entries\\2026\\linux\\kernels\\v6.18-generic\\initrd\
+    \\efi\\boot\\loader\\entries\\2026\\linux\\kernels\\v6.18-generic\\initrd\
+    \\efi\\boot\\loader\\entries\\2026\\linux\\kernels\\v6.18-generic\\initrd";
 
 /// Each call, how many requests come before it, its texts, and how many requests it makes at least and
 /// at most. A path takes over the memory of its string, and gives it back. Beside its text it asks for
