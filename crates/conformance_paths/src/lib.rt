@@ -30,3 +30,5 @@ mod parents;
 mod pushes;
 #[cfg(test)]
 mod separators;
+#[cfg(test)]
+mod written;

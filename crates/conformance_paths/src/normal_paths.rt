@@ -17,7 +17,7 @@ fn is_normal_path(rt: &HostRuntime, text: &str, want: &str) -> Result<bool, Fail
 }
 
 /// Texts, and those of their normal paths.
-const NORMAL: &[(&str, &str)] = &[
+pub(crate) const NORMAL: &[(&str, &str)] = &[
     ("a\\..\\b", "b"),
     ("a\\b\\..\\..\\c", "c"),
     ("a\\.\\b\\..\\..", "\\"),

@@ -39,7 +39,7 @@ pub(crate) fn has_parent(
 
 /// The parents of borrowed paths, and of buffers. The two differ where a slash separates components of the
 /// buffer alone.
-const PARENTS: &[(&str, Option<&str>, Option<&str>)] = &[
+pub(crate) const PARENTS: &[(&str, Option<&str>, Option<&str>)] = &[
     ("", None, None),
     ("\\", None, None),
     ("a", None, None),

@@ -3,6 +3,7 @@ pub mod SeparatorPlaces
 pub mod Pushing
 pub mod Parents
 mod Drafts
+mod IntoBuffers
 pub mod Joining
 pub mod Validity
 pub mod ParentForm
@@ -14,6 +15,9 @@ pub mod ValidPaths
 pub mod Runs
 pub mod Rewriting
 pub mod NormalPaths
+pub mod LastPieces
+mod NamesLeft
+mod NameTails
 pub mod NormalStack
 mod Counts
 pub mod TailUnits

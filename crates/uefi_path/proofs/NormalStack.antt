@@ -30,10 +30,10 @@ drops_pair kept new rest name piece popped is_name e =
     }))
 
 -- names before others
-names_before : (front back : List (List ℕ)) → All IsName (front ++ back) → All IsName front × All IsName back
-names_before [] back all = (All-nil IsName, all)
-names_before (f ∷ front) back all =
-    let rest = names_before front back (All-tail IsName f (front ++ back) all) in
+pub parts_are_names : (front back : List (List ℕ)) → All IsName (front ++ back) → All IsName front × All IsName back
+parts_are_names [] back all = (All-nil IsName, all)
+parts_are_names (f ∷ front) back all =
+    let rest = parts_are_names front back (All-tail IsName f (front ++ back) all) in
     (All-cons IsName f front (All-head IsName f (front ++ back) all) rest.0, rest.1)
 
 -- the names that are left once the last was taken, shown as lists
@@ -42,7 +42,7 @@ pub names_left : {A : Type 0} (shown : A → List ℕ) (old new : List A) (last 
 names_left shown old new None e names =
     subst (λ items. All IsName (map shown items)) (e ∙ append-nil new) names
 names_left shown old new (Some last) e names =
-    (names_before (map shown new) (shown last ∷ [])
+    (parts_are_names (map shown new) (shown last ∷ [])
     (subst (All IsName) (ap (map shown) e ∙ map_push shown new last) names)).0
 
 -- and the `..` that takes it
@@ -52,17 +52,17 @@ pub last_goes : {A : Type 0} (shown : A → List ℕ) (old new : List A) (last :
 last_goes shown old new None rest piece e names some up = absurd (false≢true some)
 last_goes shown old new (Some last) rest piece e names some up =
     let all = ap (map shown) e ∙ map_push shown new last in
-    let name = (names_before (map shown new) (shown last ∷ []) (subst (All IsName) all names)).1 in
+    let name = (parts_are_names (map shown new) (shown last ∷ []) (subst (All IsName) all names)).1 in
     drops_pair (map shown old) (map shown new) rest (shown last) piece all
     (All-head IsName (shown last) [] name) up
 
 -- no step leads from names
 pub names_normal : (names : List (List ℕ)) → All IsName names → IsNormal names
 names_normal names all others (inl d) =
-    let from = names_before d.front (dot ∷ d.back) (subst (All IsName) d.before all) in
+    let from = parts_are_names d.front (dot ∷ d.back) (subst (All IsName) d.before all) in
     (All-head IsName dot d.back from.1).0 refl
 names_normal names all others (inr d) =
-    let from = names_before d.front (d.name ∷ dot_dot ∷ d.back) (subst (All IsName) d.before all) in
+    let from = parts_are_names d.front (d.name ∷ dot_dot ∷ d.back) (subst (All IsName) d.before all) in
     (All-head IsName dot_dot d.back (All-tail IsName d.name (dot_dot ∷ d.back) from.1)).1 refl
 
 -- steps go on from where others lead to

@@ -10,4 +10,5 @@ pub mod Parents
 pub mod SuccessiveParents
 pub mod Laws
 pub mod NormalForms
+pub mod NamesLeft
 pub mod Climbing

@@ -2,6 +2,18 @@
 -- buffer becomes.
 use Rattle.std.specs.Prelude.{ℕ, nat_lt, if◌then◌else◌, List, length, Option, Some, None, Result, Ok, Err}
 use Rattle.uefi_text.specs.UnalignedCStr16.{with_prefix}
+use Rattle.uefi_path.specs.Components.{components_of}
+use Rattle.uefi_path.specs.NormalForms.{normal_of, normal_text}
+use Rattle.uefi_path.specs.Verdicts.{verdict}
+use Rattle.uefi_path.specs.declared.validation.PathError.{PathError}
+
+-- the normal path of a text, by the verdict on it: a text that is refused has none
+abbrev pub normal_where : Option PathError → List (List ℕ) → Option (List ℕ)
+normal_where None normal = Some (normal_text normal)
+normal_where (Some error) normal = None
+
+abbrev pub normal_path : List ℕ → Option (List ℕ)
+normal_path text = normal_where (verdict text) (normal_of (components_of text))
 
 -- how many units are written; or how many the text has, where the buffer has fewer places
 abbrev pub written_len : Option (List ℕ) → List ℕ → Result (Option ℕ) ℕ

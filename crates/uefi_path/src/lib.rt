@@ -36,6 +36,7 @@
 
 mod counted;
 pub mod laws;
+mod names;
 mod normal;
 mod path;
 mod pathbuf;

@@ -45,14 +45,14 @@ impl fmt::Display for NormalizeError {
 impl Error for NormalizeError {}
 
 /// Whether the piece is `.`.
-fn is_dot(piece: Char16Slice<'_>) -> bool
+pub(crate) fn is_dot(piece: Char16Slice<'_>) -> bool
     ensures { IsTrue result ↔ (units_of piece.entry ≡ dot) }
 {
     matches!(piece.units(), [46])
 }
 
 /// Whether the piece is `..`.
-fn is_dot_dot(piece: Char16Slice<'_>) -> bool
+pub(crate) fn is_dot_dot(piece: Char16Slice<'_>) -> bool
     ensures { IsTrue result ↔ (units_of piece.entry ≡ dot_dot) }
 {
     matches!(piece.units(), [46, 46])

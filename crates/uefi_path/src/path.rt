@@ -128,7 +128,7 @@ impl<'a> Path<'a> {
     }
 
     /// The text without one leading separator.
-    fn canonical(&self) -> Char16Slice<'a>
+    pub(crate) fn canonical(&self) -> Char16Slice<'a>
         ensures same { units_of result ≡ canonical (path_text self.now) }
         ensures is_text { IsText (units_of result) }
         ensures bound { length (units_of result) + 1 < 2 ^ 64 }

@@ -1,14 +1,18 @@
 //! Paths that are made in a caller's buffer: whole, or not at all. No call takes memory.
-ghost use Rattle.std.specs.Prelude.{◌≡◌, ◌+◌, ◌<◌, ◌≤◌, ◌^◌, [], ◌∷◌, ◌++◌, All, drop, fold, if◌then◌else◌, length, take};
-ghost use Rattle.uefi_path.specs.Components.{IsPiece};
+ghost use Rattle.std.specs.Prelude.{◌≡◌, ◌+◌, ◌<◌, ◌≤◌, ◌^◌, [], ◌∷◌, ◌++◌, All, drop, fold, if◌then◌else◌, length, nat_lt, take};
+ghost use Rattle.uefi_path.specs.Components.{IsPiece, joined};
+ghost use Rattle.uefi_path.specs.NamesLeft.{IsWalk, names_left};
 ghost use Rattle.uefi_path.specs.Parents.{all_but_last, parent_text};
 ghost use Rattle.uefi_path.specs.Pushing.{appended};
 ghost use Rattle.uefi_path.specs.Separators.{separator, with_separators};
+ghost use Rattle.uefi_path.specs.Verdicts.{IsGood};
 ghost use Rattle.uefi_path.specs.Views.{components_left, path_text};
-ghost use Rattle.uefi_path.specs.Writing.{written_len, written_over};
+ghost use Rattle.uefi_path.specs.Writing.{normal_path, written_len, written_over};
 
+use crate::names::NamesFromLast;
 use crate::path::{Components, Path};
 use crate::tails::with_separator;
+use crate::validation::validate_path;
 use uefi_text::chars::SEPARATOR;
 
 /// Writes units, each slash replaced, into as many places.
@@ -77,6 +81,66 @@ fn write_all_but_last(buffer: &mut [u16], mut components: Components<'_>)
     }
 }
 
+/// How many units names have, joined.
+fn names_len(mut names: NamesFromLast<'_>) -> usize
+    requires walk { IsWalk names }
+    requires good { All IsGood (names_left names) }
+    requires bound { length (joined (names_left names)) < 2 ^ 64 }
+    ensures { result ≡ length (joined (names_left names.entry)) }
+{
+    let mut len = 0;
+    while let Some(name) = names.next() {
+        // No name is empty, so a separator stands between this one and others.
+        len += name.len() + usize::from(0 < len);
+    }
+    len
+}
+
+/// Writes a separator before what stands at the end of a buffer, if anything does, and returns where that
+/// begins then.
+fn write_separator_before(buffer: &mut [u16], start: usize) -> usize
+    requires within { start ≤ length buffer.now }
+    requires room { start < length buffer.now → 0 < start }
+    ensures text { drop result buffer.new
+        ≡ (if nat_lt start (length buffer.old) then separator ∷ drop start buffer.old else []) }
+    ensures within { result ≤ length buffer.new }
+    ensures same { length buffer.new ≡ length buffer.old }
+{
+    if start == buffer.len() {
+        return start;
+    }
+    buffer[start - 1] = u16::from(SEPARATOR);
+    start - 1
+}
+
+/// Writes a name, each slash replaced, before what stands at the end of a buffer, and returns where it begins.
+fn write_name_before(buffer: &mut [u16], end: usize, name: &[u16]) -> usize
+    requires within { end ≤ length buffer.now }
+    requires room { length name.now ≤ end }
+    ensures text { drop result buffer.new ≡ with_separators name.now ++ drop end buffer.old }
+    ensures within { result ≤ length buffer.new }
+    ensures same { length buffer.new ≡ length buffer.old }
+{
+    let start = end - name.len();
+    // A name of a normal path has no slash, but a plain copy would be a call of the C library.
+    write_with_separators(&mut buffer[start..end], name);
+    start
+}
+
+/// Writes names, joined, into as many places.
+fn write_names(places: &mut [u16], mut names: NamesFromLast<'_>)
+    requires walk { IsWalk names }
+    requires good { All IsGood (names_left names) }
+    requires room { length places.now ≡ length (joined (names_left names)) }
+    ensures { places.new ≡ joined (names_left names.entry) }
+{
+    let mut start = places.len();
+    while let Some(name) = names.next() {
+        let end = write_separator_before(places, start);
+        start = write_name_before(places, end, name.units());
+    }
+}
+
 /// The calls that make a path in a caller's buffer.
 impl<'a> Path<'a> {
     /// Writes the path without its last component, as [`Path::parent`] has it, into the first places of a
@@ -100,5 +164,30 @@ impl<'a> Path<'a> {
         }
         write_all_but_last(buffer, self.components());
         Ok(Some(len))
+    }
+
+    /// Writes the normal path, as [`Path::normalize`] makes it, into the first places of a buffer, and
+    /// returns how many units that are. Writes no NUL; what stands after the path stays.
+    ///
+    /// `Ok(None)` where the path is not valid, which [`validate_path`] explains, and `Err` with the
+    /// length of the normal path where the buffer has fewer places; the buffer is unchanged then. Three
+    /// passes over the components; takes no memory.
+    pub fn write_normal(&self, buffer: &mut [u16]) -> Result<Option<usize>, usize>
+        ensures len { result ≡ written_len (normal_path (path_text self.now)) buffer.old }
+        ensures buffer { buffer.new ≡ written_over (normal_path (path_text self.now)) buffer.old }
+    {
+        if validate_path(*self).is_err() {
+            return Ok(None);
+        }
+        let names = NamesFromLast::of(*self);
+        let len = names_len(names);
+        // Where no name is left the path is the lone separator.
+        let room = len.max(1);
+        if buffer.len() < room {
+            return Err(room);
+        }
+        buffer[0] = u16::from(SEPARATOR);
+        write_names(&mut buffer[..len], names);
+        Ok(Some(room))
     }
 }

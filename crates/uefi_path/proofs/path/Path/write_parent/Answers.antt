@@ -1,7 +1,6 @@
 -- The components but the last are rejoined.
-use Rattle.std.proofs.Common.{◌≡◌, ◌<◌, ◌≤◌, ◌++◌, ℕ, List, [], Err, Ok, Some, ap, arith, drop, length, refl, sym, ◌∙◌}
+use Rattle.std.proofs.Common.{◌≡◌, ◌<◌, ◌++◌, ℕ, List, [], Err, Ok, Some, ap, arith, drop, length, refl, sym, ◌∙◌}
 use Rattle.std.specs.List.{fold}
-use Rattle.std.proofs.lemmas.Bool.{le-ltb, lt-ltb}
 use Rattle.std.proofs.lemmas.Grind.{common_steps}
 use Rattle.std.proofs.lemmas.List.{length-map}
 use Rattle.uefi_text.specs.Units.{replaced}
@@ -10,10 +9,10 @@ use Rattle.uefi_path.specs.Parents.{all_but_last, parent_text}
 use Rattle.uefi_path.specs.Pushing.{appended}
 use Rattle.uefi_path.specs.Separators.{separator, slash, with_separators}
 use Rattle.uefi_path.specs.Views.{path_text}
-use Rattle.uefi_path.specs.Writing.{written_len, written_over}
 use Rattle.uefi_path.proofs.Splitting.{AreComponents-components_of}
 use Rattle.uefi_path.proofs.ParentSizes.{parent_text-shorter}
 use Rattle.uefi_path.proofs.Parents.{parent_of_components-many, rejoined-added}
+use Rattle.uefi_path.proofs.IntoBuffers.{changed, fits, short, unchanged}
 use Rattle.uefi_path.proofs.path.Path.write_parent.Goals as goal
 
 -- the components but the last, added one after the other
@@ -26,27 +25,6 @@ parent_made text many =
     let all = components_of text in
     parent_of_components-many all many
     ∙ ap (λ us. Some (with_separators us)) (sym (rejoined-added all (AreComponents-components_of text).are_pieces))
-
--- a text that has no room, and one that has
-short : (parent : _) (text buffer : List ℕ) → parent ≡ Some text → length buffer < length text
-    → Err (length text) ≡ written_len parent buffer
-short parent text buffer is less =
-    rw is (rw (lt-ltb (length buffer) (length text) less) refl)
-
-fits : (parent : _) (text buffer : List ℕ) → parent ≡ Some text → length text ≤ length buffer
-    → Ok (Some (length text)) ≡ written_len parent buffer
-fits parent text buffer is room =
-    rw is (rw (le-ltb (length buffer) (length text) room) refl)
-
-unchanged : (parent : _) (text buffer : List ℕ) → parent ≡ Some text → length buffer < length text
-    → buffer ≡ written_over parent buffer
-unchanged parent text buffer is less =
-    rw is (rw (lt-ltb (length buffer) (length text) less) refl)
-
-changed : (parent : _) (text buffer : List ℕ) → parent ≡ Some text → length text ≤ length buffer
-    → text ++ drop (length text) buffer ≡ written_over parent buffer
-changed parent text buffer is room =
-    rw is (rw (le-ltb (length buffer) (length text) room) refl)
 
 -- as many units are made as the parent has
 made_len : (len : ℕ) (text : List ℕ) (pieces : List (List ℕ)) → len ≡ length (made pieces) → pieces ≡ components_of text

@@ -1,0 +1,221 @@
+-- The last names of a normal path, joined: how long they are, and what one more name before them adds.
+use Rattle.std.proofs.Common.{◌≡◌, ℕ, ◌+◌, ◌<◌, ◌≤◌, nat_lt, Bool, true, false, cond, if◌then◌else◌, List, [], ◌∷◌, ◌++◌, drop, length, max, set, All, append_assoc, length-append, refl, sym, ap, ◌∙◌, subst, arith}
+use Rattle.std.proofs.lemmas.Bool.{ltb-false, ltb-true}
+use Rattle.std.proofs.lemmas.List.{append-nil, drop-set-lt, length-drop}
+use Rattle.std.proofs.lemmas.List.Elements.{All-head, All-tail}
+use Rattle.uefi_path.specs.Components.{joined}
+use Rattle.uefi_path.specs.NormalForms.{Dot, DotDot, Kind, Name, before_normal, before_piece, kind, normal_of, normal_text}
+use Rattle.uefi_path.specs.Separators.{separator, with_separators}
+use Rattle.uefi_path.specs.Verdicts.{IsGood}
+use Rattle.uefi_path.proofs.Pushing.{with_separators-plain}
+use Rattle.uefi_path.proofs.Validity.{good-plain}
+
+-- a name before others that are joined, if there are any
+abbrev pub name_before : List ℕ → List ℕ → List ℕ
+name_before name [] = name
+name_before name (unit ∷ units) = name ++ separator ∷ unit ∷ units
+
+-- the last of some good names, joined, and the names before them
+pub record AreLast (whole left : List (List ℕ)) (last : List ℕ) : Type 0 where
+  pub names : List (List ℕ)
+  pub all : whole ≡ left ++ names
+  pub good : All IsGood whole
+  pub text : last ≡ joined names
+
+joined-before : (name : List ℕ) (names : List (List ℕ)) → All IsGood names
+    → joined (name ∷ names) ≡ name_before name (joined names)
+joined-before name [] good = refl
+joined-before name ([] ∷ names) good = absurd (let fault = All-head IsGood [] names good in cc)
+joined-before name ((u ∷ us) ∷ []) good = refl
+joined-before name ((u ∷ us) ∷ next ∷ names) good = refl
+
+good_after : (front back : List (List ℕ)) → All IsGood (front ++ back) → All IsGood back
+good_after [] back good = good
+good_after (f ∷ front) back good = good_after front back (All-tail IsGood f (front ++ back) good)
+
+pub no_last : (whole : List (List ℕ)) → All IsGood whole → AreLast whole whole []
+no_last whole good = record { names = []; all = sym (append-nil whole); good = good; text = refl }
+
+pub one_more : (whole left new : List (List ℕ)) (last name : List ℕ) → AreLast whole left last
+    → left ≡ new ++ name ∷ [] → AreLast whole new (name_before name last)
+one_more whole left new last name are next =
+    let all = are.all ∙ ap (λ ps. ps ++ are.names) next ∙ append_assoc new (name ∷ []) are.names in
+    let good = All-tail IsGood name are.names (good_after new (name ∷ are.names) (subst (All IsGood) all are.good)) in
+    record {
+      names = name ∷ are.names;
+      all = all;
+      good = are.good;
+      text = ap (name_before name) are.text ∙ sym (joined-before name are.names good);
+    }
+
+-- replacing slashes does nothing to it
+pub name_is_plain : (whole left new : List (List ℕ)) (last name : List ℕ) → AreLast whole left last
+    → left ≡ new ++ name ∷ [] → with_separators name ≡ name
+name_is_plain whole left new last name are next =
+    let all = are.all ∙ ap (λ ps. ps ++ are.names) next ∙ append_assoc new (name ∷ []) are.names in
+    let good = good_after new (name ∷ are.names) (subst (All IsGood) all are.good) in
+    with_separators-plain name (good-plain name (All-head IsGood name are.names good))
+
+-- they are no longer than all
+no_longer : (front back : List (List ℕ)) → length (joined back) ≤ length (joined (front ++ back))
+no_longer [] back = omega arith
+no_longer (f ∷ []) [] = omega arith
+no_longer (f ∷ []) (b ∷ back) = omega (arith, length-append f (separator ∷ joined (b ∷ back)))
+no_longer (f ∷ g ∷ front) back =
+    omega (arith, no_longer (g ∷ front) back, length-append f (separator ∷ joined (g ∷ (front ++ back))))
+
+pub last_fit : (whole left : List (List ℕ)) (last : List ℕ) → AreLast whole left last
+    → length last ≤ length (joined whole)
+last_fit whole left last are =
+    omega (arith, ap length are.text, ap (λ ps. length (joined ps)) are.all, no_longer left are.names)
+
+-- and are all of them where none is left
+pub all_last : (whole left : List (List ℕ)) (last : List ℕ) → AreLast whole left last → left ≡ []
+    → last ≡ joined whole
+all_last whole left last are none = are.text ∙ sym (ap joined (are.all ∙ ap (λ ps. ps ++ are.names) none))
+
+-- a test for whether there are any
+abbrev pub Tells : Bool → List ℕ → Type 0
+Tells some last = (some ≡ true → 0 < length last) × (some ≡ false → length last ≡ 0)
+
+pub tells_length : (len : ℕ) (last : List ℕ) → len ≡ length last → Tells (nat_lt 0 len) last
+tells_length len last e =
+    (λ some. omega (arith, e, ltb-true 0 len some), λ none. omega (arith, e, ltb-false 0 len none))
+
+pub tells_rest : (start : ℕ) (text : List ℕ) → Tells (nat_lt start (length text)) (drop start text)
+tells_rest start text = (
+  λ some. omega (arith, length-drop start text, ltb-true start (length text) some),
+  λ none. omega (arith, length-drop start text, ltb-false start (length text) none),
+)
+
+tells_true : (start : ℕ) (text : List ℕ) → start < length text → Tells true (drop start text)
+tells_true start text less =
+    (λ some. omega (arith, less, length-drop start text), λ none. absurd (let b = sym none in cc))
+
+-- how long they are with a name before them, and what that is
+length-name_before : (some : Bool) (name last : List ℕ) (count : ℕ) → Tells some last → count ≡ cond some 1 0
+    → length (name_before name last) ≡ length name + count + length last
+length-name_before true name [] count tells e = absurd (omega (arith, tells.0 refl))
+length-name_before false name [] count tells e = omega (arith, e)
+length-name_before true name (u ∷ us) count tells e = omega (arith, e, length-append name (separator ∷ u ∷ us))
+length-name_before false name (u ∷ us) count tells e = absurd (omega (arith, tells.1 refl))
+
+pub next_counted : (name last : List ℕ) (len count : ℕ) → len ≡ length last → count ≡ cond (nat_lt 0 len) 1 0
+    → len + (length name + count) ≡ length (name_before name last)
+next_counted name last len count e one =
+    omega (arith, e, length-name_before (nat_lt 0 len) name last count (tells_length len last e) one)
+
+pub next_fits : (whole left new : List (List ℕ)) (name last : List ℕ) (len count : ℕ) → AreLast whole left last
+    → left ≡ new ++ name ∷ [] → len ≡ length last → count ≡ cond (nat_lt 0 len) 1 0
+    → len + (length name + count) ≤ length (joined whole)
+next_fits whole left new name last len count are next e one =
+    omega (
+      arith,
+      next_counted name last len count e one,
+      last_fit whole new (name_before name last) (one_more whole left new last name are next),
+    )
+
+pub name_before_is : (some : Bool) (name last : List ℕ) → Tells some last
+    → name ++ (if some then separator ∷ last else []) ≡ name_before name last
+name_before_is true name [] tells = absurd (omega (arith, tells.0 refl))
+name_before_is false name [] tells = append-nil name
+name_before_is true name (u ∷ us) tells = refl
+name_before_is false name (u ∷ us) tells = absurd (omega (arith, tells.1 refl))
+
+-- places that end in the last names have room for one more
+pub room_before : (whole left new : List (List ℕ)) (name places : List ℕ) (start : ℕ)
+    → AreLast whole left (drop start places) → left ≡ new ++ name ∷ [] → length places ≡ length (joined whole)
+    → length (name_before name (drop start places)) ≤ length places
+room_before whole left new name places start are next same =
+    omega (
+      arith,
+      same,
+      last_fit whole new (name_before name (drop start places)) (one_more whole left new (drop start places) name are next),
+    )
+
+-- and for the separator after it
+pub separator_fits : (name places : List ℕ) (start : ℕ) → length (name_before name (drop start places)) ≤ length places
+    → start < length places → 0 < start
+separator_fits name places start room less =
+    omega (
+      arith,
+      room,
+      length-name_before true name (drop start places) 1 (tells_true start places less) refl,
+      length-drop start places,
+    )
+
+-- which is written first
+pub with_name : (name places text : List ℕ) (start : ℕ)
+    → text ≡ (if nat_lt start (length places) then separator ∷ drop start places else [])
+    → name ++ text ≡ name_before name (drop start places)
+with_name name places text start e =
+    ap (λ us. name ++ us) e
+    ∙ name_before_is (nat_lt start (length places)) name (drop start places) (tells_rest start places)
+
+pub name_fits : (name places new : List ℕ) (start end : ℕ) → length (name_before name (drop start places)) ≤ length places
+    → drop end new ≡ (if nat_lt start (length places) then separator ∷ drop start places else [])
+    → length new ≡ length places → end ≤ length new → length name ≤ end
+name_fits name places new start end room e same within =
+    omega (
+      arith,
+      room,
+      same,
+      ap length (with_name name places (drop end new) start e),
+      length-append name (drop end new),
+      length-drop end new,
+    )
+
+-- how many units pieces take with a separator after each
+abbrev room : List (List ℕ) → ℕ
+room [] = 0
+room (piece ∷ pieces) = length piece + 1 + room pieces
+
+room-joined : (piece : List ℕ) (pieces : List (List ℕ)) → length (joined (piece ∷ pieces)) + 1 ≡ room (piece ∷ pieces)
+room-joined piece [] = omega arith
+room-joined piece (next ∷ pieces) =
+    omega (arith, room-joined next pieces, length-append piece (separator ∷ joined (next ∷ pieces)))
+
+-- the names of a normal path take no more than the components
+room-before_piece : (k : Kind) (p q : List ℕ) (qs : List (List ℕ)) → room (before_piece k p q qs) ≤ room (p ∷ q ∷ qs)
+room-before_piece Dot p q qs = omega arith
+room-before_piece DotDot p q qs = omega arith
+room-before_piece Name p q qs = omega arith
+
+room-before_normal : (k : Kind) (p : List ℕ) (ps : List (List ℕ)) → room (before_normal k p ps) ≤ room (p ∷ ps)
+room-before_normal Dot p ps = omega arith
+room-before_normal DotDot p ps = omega arith
+room-before_normal Name p [] = omega arith
+room-before_normal Name p (q ∷ qs) = room-before_piece (kind q) p q qs
+
+room-normal_of : (ps : List (List ℕ)) → room (normal_of ps) ≤ room ps
+room-normal_of [] = omega arith
+room-normal_of (p ∷ ps) = omega (arith, room-normal_of ps, room-before_normal (kind p) p (normal_of ps))
+
+units_of_room : (ps qs : List (List ℕ)) → room ps ≤ room qs → length (joined ps) ≤ length (joined qs)
+units_of_room [] qs less = omega arith
+units_of_room (p ∷ ps) [] less = absurd (omega (arith, less))
+units_of_room (p ∷ ps) (q ∷ qs) less = omega (arith, less, room-joined p ps, room-joined q qs)
+
+pub normal_no_longer : (ps : List (List ℕ)) → length (joined (normal_of ps)) ≤ length (joined ps)
+normal_no_longer ps = units_of_room (normal_of ps) ps (room-normal_of ps)
+
+-- the text of good names: they are joined, with the lone separator where there are none
+some_units : (name : List ℕ) (names : List (List ℕ)) → All IsGood (name ∷ names)
+    → 1 ≤ length (joined (name ∷ names))
+some_units [] names good = absurd (let fault = All-head IsGood [] names good in cc)
+some_units (u ∷ us) [] good = omega arith
+some_units (u ∷ us) (next ∷ names) good = omega (arith, length-append (u ∷ us) (separator ∷ joined (next ∷ names)))
+
+pub length-normal_text : (names : List (List ℕ)) → All IsGood names
+    → length (normal_text names) ≡ max (length (joined names)) 1
+length-normal_text [] good = omega arith
+length-normal_text (name ∷ names) good = omega (arith, some_units name names good)
+
+pub normal_text_written : (names : List (List ℕ)) (buffer : List ℕ) → All IsGood names → 1 ≤ length buffer
+    → joined names ++ drop (length (joined names)) (set buffer 0 separator)
+    ≡ normal_text names ++ drop (length (normal_text names)) buffer
+normal_text_written [] [] good some = absurd (omega (arith, some))
+normal_text_written [] (b ∷ buffer) good some = refl
+normal_text_written (name ∷ names) buffer good some =
+    let text = joined (name ∷ names) in
+    ap (λ us. text ++ us) (drop-set-lt (length text) buffer 0 separator (omega (arith, some_units name names good)))

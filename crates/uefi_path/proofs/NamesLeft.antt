@@ -1,0 +1,119 @@
+-- The names of a normal path, found from the last piece on: what each piece changes.
+use Rattle.std.proofs.Common.{◌≡◌, ◌≢◌, ◌≤◌, length, ℕ, zero, suc, ◌+◌, List, [], ◌∷◌, ◌++◌, All, inl, inr, append_assoc, refl, sym, ap, ◌∙◌, subst, arith, replicate, None}
+use Rattle.std.proofs.lemmas.List.{append-nil}
+use Rattle.std.proofs.lemmas.List.Elements.{All-head}
+use Rattle.std.specs.List.{slice_split}
+use Rattle.uefi_path.specs.Components.{components_of, joined}
+use Rattle.uefi_path.specs.NamesLeft.{names_before}
+use Rattle.uefi_path.specs.NormalForms.{Dot, DotDot, IsName, Kind, Name, before_normal, before_piece, dot, dot_dot, kind, normal_of}
+use Rattle.uefi_path.specs.Separators.{canonical, is_separator}
+use Rattle.uefi_path.specs.Verdicts.{IsGood, verdict}
+use Rattle.uefi_path.proofs.Depth.{names_of_normal}
+use Rattle.uefi_path.proofs.NameTails.{normal_no_longer}
+use Rattle.uefi_path.proofs.NormalPaths.{All-normal}
+use Rattle.uefi_path.proofs.Rewriting.{NormalForm-normal_of, name_kind, normal_of-step}
+use Rattle.uefi_path.proofs.Splitting.{AreComponents-components_of, slice_split-canonical}
+use Rattle.uefi_path.proofs.Validity.{valid-components, valid-parts}
+
+-- a name after all others stays
+before_piece-push : (k : Kind) (p q : List ℕ) (qs : List (List ℕ)) (name : List ℕ)
+    → before_piece k p q (qs ++ name ∷ []) ≡ before_piece k p q qs ++ name ∷ []
+before_piece-push Dot p q qs name = refl
+before_piece-push DotDot p q qs name = refl
+before_piece-push Name p q qs name = refl
+
+before_normal-push : (k : Kind) (p : List ℕ) (qs : List (List ℕ)) (name : List ℕ) → IsName name
+    → before_normal k p (qs ++ name ∷ []) ≡ before_normal k p qs ++ name ∷ []
+before_normal-push Dot p qs name is = refl
+before_normal-push DotDot p qs name is = refl
+before_normal-push Name p [] name is = ap (λ k. before_piece k p name []) (name_kind name is)
+before_normal-push Name p (q ∷ qs) name is = before_piece-push (kind q) p q qs name
+
+normal_of-push : (ps : List (List ℕ)) (name : List ℕ) → IsName name
+    → normal_of (ps ++ name ∷ []) ≡ normal_of ps ++ name ∷ []
+normal_of-push [] name is = ap (λ k. before_normal k name []) (name_kind name is)
+normal_of-push (p ∷ ps) name is =
+    ap (before_normal (kind p) p) (normal_of-push ps name is)
+    ∙ before_normal-push (kind p) p (normal_of ps) name is
+
+-- a last `.` goes
+pub dot_before : (ps : List (List ℕ)) (piece : List ℕ) (climbs : ℕ) → piece ≡ dot
+    → names_before (ps ++ piece ∷ []) climbs ≡ names_before ps climbs
+dot_before ps piece climbs e =
+    let ups = replicate climbs dot_dot in
+    normal_of-step ((ps ++ piece ∷ []) ++ ups) (ps ++ ups)
+    (inl (record {
+      front = ps;
+      back = ups;
+      before = append_assoc ps (piece ∷ []) ups ∙ ap (λ p. ps ++ p ∷ ups) e;
+      after = refl;
+    }))
+
+-- a last `..` is one more that stands after the others
+pub dot_dot_before : (ps : List (List ℕ)) (piece : List ℕ) (climbs : ℕ) → piece ≡ dot_dot
+    → names_before (ps ++ piece ∷ []) climbs ≡ names_before ps (climbs + 1)
+dot_dot_before ps piece climbs e =
+    let ups = replicate climbs dot_dot in
+    let more : suc climbs ≡ climbs + 1 = omega arith in
+    ap normal_of (append_assoc ps (piece ∷ []) ups ∙ ap (λ p. ps ++ p ∷ ups) e)
+    ∙ ap (names_before ps) more
+
+-- a last name goes with one of them
+pub name_before : (ps : List (List ℕ)) (name : List ℕ) (climbs : ℕ) → IsName name
+    → names_before (ps ++ name ∷ []) (suc climbs) ≡ names_before ps climbs
+name_before ps name climbs is =
+    let ups = replicate climbs dot_dot in
+    normal_of-step ((ps ++ name ∷ []) ++ dot_dot ∷ ups) (ps ++ ups)
+    (inr (record {
+      front = ps;
+      name = name;
+      back = ups;
+      is_name = is;
+      before = append_assoc ps (name ∷ []) (dot_dot ∷ ups);
+      after = refl;
+    }))
+
+-- and stays where there is none
+pub last_name_before : (ps : List (List ℕ)) (name : List ℕ) → IsName name
+    → names_before (ps ++ name ∷ []) 0 ≡ names_before ps 0 ++ name ∷ []
+last_name_before ps name is =
+    ap normal_of (append-nil (ps ++ name ∷ [])) ∙ normal_of-push ps name is
+    ∙ ap (λ qs. normal_of qs ++ name ∷ []) (sym (append-nil ps))
+
+-- where no piece is left, no name is
+pub none_before : (climbs : ℕ) → All IsName (names_before [] climbs) → names_before [] climbs ≡ []
+none_before zero are = refl
+none_before (suc climbs) are = absurd ((All-head IsName dot_dot (normal_of (replicate climbs dot_dot)) are).1 refl)
+
+-- all of them, before the first one is taken
+from_start : (text us : List ℕ) → us ≡ canonical text → us ≢ []
+    → names_before (slice_split is_separator us) 0 ≡ normal_of (components_of text)
+from_start text us e some =
+    ap normal_of (append-nil (slice_split is_separator us) ∙ slice_split-canonical text us e some)
+
+-- those of a valid path are names
+pub valid_names : (text us : List ℕ) → verdict text ≡ None → us ≡ canonical text → us ≢ []
+    → All IsName (names_before (slice_split is_separator us) 0)
+valid_names text us valid e some =
+    subst (All IsName) (sym (from_start text us e some))
+    (names_of_normal (components_of text) (valid-parts text valid).1)
+
+-- and good ones
+pub good_names : (text us : List ℕ) → verdict text ≡ None → us ≡ canonical text → us ≢ []
+    → All IsGood (names_before (slice_split is_separator us) 0)
+good_names text us valid e some =
+    subst (All IsGood) (sym (from_start text us e some))
+    (All-normal IsGood (components_of text) (normal_of (components_of text))
+    (NormalForm-normal_of (components_of text)) (valid-components text valid))
+
+-- and no longer than the text
+pub names_no_longer : (text us : List ℕ) → us ≡ canonical text → us ≢ []
+    → length (joined (names_before (slice_split is_separator us) 0)) ≤ length us
+names_no_longer text us e some =
+    omega (
+      arith,
+      ap (λ ps. length (joined ps)) (from_start text us e some),
+      normal_no_longer (components_of text),
+      ap length (AreComponents-components_of text).join,
+      ap length e,
+    )

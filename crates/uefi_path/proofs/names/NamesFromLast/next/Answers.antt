@@ -1,0 +1,31 @@
+-- A name that stays is left out of those that are left.
+use Rattle.std.proofs.Common.{◌≡◌, ◌++◌, ◌∷◌, [], All, arith, sym, subst, ◌∙◌, ap}
+use Rattle.uefi_path.specs.NamesLeft.{are_left, names_before, names_left, pieces_left}
+use Rattle.uefi_path.specs.NormalForms.{IsName}
+use Rattle.uefi_path.proofs.NormalStack.{parts_are_names}
+use Rattle.uefi_text.specs.Views.{units_of}
+use Rattle.uefi_path.proofs.names.NamesFromLast.next.Goals as goal
+
+pub returns-then-keeps-clause-walk : goal.returns-then-keeps-clause-walk
+returns-then-keeps-clause-walk c =
+    let old = c.loop-self.self in
+    let new = c.keeps.new.self in
+    let last = units_of c.cut_last.result.1 in
+    let walk = c.loop-self.invariant.0 in
+    let same : names_left old ≡ names_left new ++ last ∷ [] =
+    ap (λ rest. names_before (pieces_left rest) old.climbs) c.in-Some.is
+    ∙ ap (λ pieces. names_before pieces old.climbs) c.cut_last.ensures.pieces
+    ∙ c.if-keeps.ensures.kept (pieces_left c.cut_last.result.0)
+    ∙ ap (λ rest. names_before (pieces_left rest) new.climbs ++ last ∷ []) (sym c.keeps.ensures.rest) in
+    record {
+      are_names = (parts_are_names (names_left new) (last ∷ []) (subst (All IsName) same walk.are_names)).0;
+      bound =
+          omega (
+            arith,
+            walk.bound,
+            c.cut_last.ensures.shorter,
+            c.keeps.ensures.climbs,
+            ap are_left c.in-Some.is,
+            ap are_left c.keeps.ensures.rest,
+          );
+    }
