@@ -60,6 +60,14 @@ mod header {
             room: usize,
             place: *mut usize,
         ) -> u32;
+        pub fn uefi_path_normalize(
+            path: *const u16,
+            count: usize,
+            buffer: *mut u16,
+            room: usize,
+            place: *mut usize,
+            character: *mut u16,
+        ) -> u32;
     }
 }
 
@@ -197,6 +205,26 @@ fn parent_in<'a>(path: &[u16], buffer: &'a mut [u16]) -> (Result<&'a [u16], Reas
     }
 }
 
+/// The normal path of a string's path in a buffer; or why there is none, with the place and the character.
+fn normal_in<'a>(path: &[u16], buffer: &'a mut [u16]) -> Result<&'a [u16], (Reason, usize, u16)> {
+    let (mut place, mut character) = (0, 0);
+    // SAFETY: each slice is passed with its length, and nothing overlaps.
+    let reason = unsafe {
+        header::uefi_path_normalize(
+            path.as_ptr(),
+            path.len(),
+            buffer.as_mut_ptr(),
+            buffer.len(),
+            &mut place,
+            &mut character,
+        )
+    };
+    match reason {
+        0 => Ok(&buffer[..place]),
+        _ => Err((Reason(reason), place, character)),
+    }
+}
+
 fn shown(text: &[u16]) -> String {
     String::from_utf16_lossy(text)
 }
@@ -252,6 +280,20 @@ fn print_parent(text: &str) -> Result<(), Reason> {
     Ok(())
 }
 
+fn print_normal(text: &str) -> Result<(), Reason> {
+    let mut one = [0; 24];
+    let path = string_in(text, &mut one)?;
+    let mut buffer = [u16::from(b'!'); 8];
+    match normal_in(path, &mut buffer) {
+        Ok(normal) => println!("{text} leads to {}", shown(normal)),
+        Err((Reason(number), place, character)) => {
+            println!("{text} leads to none: {number} at {place}, {character}")
+        }
+    }
+    println!("  {}", shown(&buffer).replace('\0', "|"));
+    Ok(())
+}
+
 fn main() {
     let long = "\\a".repeat(40);
     let texts = [
@@ -290,6 +332,21 @@ fn main() {
         "\\efi\\boot2\\x",
     ] {
         if let Err(Reason(number)) = print_parent(text) {
+            println!("{text:?} is refused: {number}");
+        }
+    }
+    for text in [
+        "\\efi\\.\\boot\\..\\x",
+        "a\\..\\.",
+        "a\\b\\..\\..\\efgh\\i",
+        "a\\b\\..\\..\\efgh\\ij",
+        "a\\b\\..\\..\\efgh\\ijk",
+        "a\\..\\..\\b",
+        "a\\b*\\..",
+        "",
+        "a\\\\b",
+    ] {
+        if let Err(Reason(number)) = print_normal(text) {
             println!("{text:?} is refused: {number}");
         }
     }

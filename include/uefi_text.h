@@ -186,6 +186,16 @@ uint32_t uefi_path_join(const uint16_t *path, size_t count, const uint16_t *othe
  */
 uint32_t uefi_path_parent(const uint16_t *path, size_t count, uint16_t *buffer, size_t room, size_t *place);
 
+/*
+ * Writes the normal path of `path` into the first places of `buffer`, and a NUL: each component '.' goes, and each
+ * other one goes with the '..' right after it, until neither is left; where nothing is left the path is a lone
+ * separator. UEFI_OK, and what stands after the NUL stays; or the buffer stays unchanged: as uefi_path_verdict says,
+ * where it does not accept `path`, with its `*place` and its `*character`; then UEFI_BUFFER_TOO_SMALL. At UEFI_OK and
+ * UEFI_BUFFER_TOO_SMALL `*place` becomes how many units the normal path has, its NUL not counted, and `*character` 0.
+ */
+uint32_t uefi_path_normalize(const uint16_t *path, size_t count, uint16_t *buffer, size_t room,
+                             size_t *place, uint16_t *character);
+
 #ifdef __cplusplus
 }
 #endif

@@ -1,22 +1,18 @@
 -- Where the components of a text stand: the first of those left, and the last of all.
-use Rattle.std.proofs.Common.{◌≡◌, ◌≢◌, ℕ, zero, suc, ◌+◌, ◌-◌, ◌<◌, ◌≤◌, true, false, not, nat_lt, Bool, cond, List, [], ◌∷◌, ◌++◌, ◌⊎◌, length, take, drop, get_or, length-append, length-drop, length-take, drop-cons, All, Option, Some, None, refl, sym, ◌∙◌, ap, inl, inr, arith}
-use Rattle.std.specs.List.{last_or, onto_first, position, position_or_len, slice_range, slice_split}
-use Rattle.std.proofs.lemmas.Bool.{cases_Bool, ltb-true, ltb-false, ne_eqb}
-use Rattle.std.proofs.lemmas.List.{drop-drop, take-append-drop}
-use Rattle.std.proofs.lemmas.List.Elements.{All-head, All-weaker}
-use Rattle.std.proofs.lemmas.List.Splits.{slice_split_none, slice_split_first, slice_split-cons_yes, slice_split-cons_no, length-slice_split, join_with_byte-slice_split}
+use Rattle.std.proofs.Common.{◌≡◌, ◌≢◌, ℕ, zero, suc, ◌+◌, ◌-◌, ◌<◌, ◌≤◌, true, false, not, nat_lt, Bool, cond, List, [], ◌∷◌, ◌++◌, ◌⊎◌, length, take, drop, length-append, length-drop, length-take, All, Option, Some, None, refl, sym, ◌∙◌, ap, inl, inr, arith}
+use Rattle.std.specs.List.{last_or, position, position_or_len, slice_range, slice_split}
+use Rattle.std.proofs.lemmas.Bool.{cases_Bool, ltb-true, ltb-false}
+use Rattle.std.proofs.lemmas.List.{drop-drop}
+use Rattle.std.proofs.lemmas.List.Elements.{All-head}
+use Rattle.std.proofs.lemmas.List.Splits.{slice_split_none, slice_split_first, length-slice_split, join_with_byte-slice_split}
 use Rattle.std.proofs.lemmas.List.Sums.{fails_before_first, prefix_len-le-length}
 use Rattle.std.proofs.Math.Seq.{drop-nil, take-append_seam, take-length}
 use Rattle.uefi_path.specs.Components.{IsPiece, components_of, joined, pieces_between}
 use Rattle.uefi_path.specs.Parents.{all_but_last, parent_text}
 use Rattle.uefi_path.specs.Separators.{canonical, is_separator, separator}
 use Rattle.uefi_path.specs.SuccessiveParents.{AreParents, prefixes, shorter_prefixes}
+use Rattle.uefi_path.proofs.LastPieces.{IsLastStart, around, last_piece, passes_over, without_separator}
 use Rattle.uefi_c.specs.PathPlaces.{components_from}
-
--- the test for a separator fails at each unit of a piece
-passes_over : (p : List ℕ) → IsPiece p → All (λ v. is_separator v ≡ false) p
-passes_over p piece =
-    All-weaker (λ v. v ≢ separator) (λ v. is_separator v ≡ false) (λ v h. ne_eqb v separator h) p piece
 
 -- a place that is not found stands after all units
 found_none : (n m : ℕ) (b : Bool) → nat_lt n m ≡ b → n ≤ m → cond b (Some n) None ≡ None → m ≡ n
@@ -57,30 +53,6 @@ first_piece text start low =
 slice_split-some : (us : List ℕ) → slice_split is_separator us ≢ []
 slice_split-some us e = let j = ap length e in let k = length-slice_split is_separator us in omega arith
 
-onto_first-append : (u : ℕ) (ps qs : List (List ℕ)) → ps ≢ []
-    → onto_first u (ps ++ qs) ≡ onto_first u ps ++ qs
-onto_first-append u [] qs some = absurd (some refl)
-onto_first-append u (p ∷ ps) qs some = refl
-
--- a piece after a separator is the last of all
-last_piece : (us vs : List ℕ) → IsPiece vs
-    → slice_split is_separator (us ++ separator ∷ vs) ≡ slice_split is_separator us ++ vs ∷ []
-last_piece [] vs piece =
-    slice_split-cons_yes is_separator separator vs refl
-    ∙ ap (λ ps. [] ∷ ps) (slice_split_none is_separator vs (passes_over vs piece))
-last_piece (u ∷ us) vs piece =
-    let ps = slice_split is_separator us in
-    let others = last_piece us vs piece in
-    elim (cases_Bool (is_separator u)) [
-      | inl hit ↦
-          slice_split-cons_yes is_separator u (us ++ separator ∷ vs) hit ∙ ap (λ qs. [] ∷ qs) others
-          ∙ ap (λ qs. qs ++ vs ∷ []) (sym (slice_split-cons_yes is_separator u us hit))
-      | inr miss ↦
-          slice_split-cons_no is_separator u (us ++ separator ∷ vs) miss ∙ ap (onto_first u) others
-          ∙ onto_first-append u ps (vs ∷ []) (slice_split-some us)
-          ∙ ap (λ qs. qs ++ vs ∷ []) (sym (slice_split-cons_no is_separator u us miss))
-    ]
-
 between : (us vs : List ℕ)
     → pieces_between (us ++ separator ∷ vs) ≡ slice_split is_separator (us ++ separator ∷ vs)
 between [] vs = refl
@@ -99,29 +71,11 @@ with_last (u ∷ us) vs some piece =
 -- the pieces of a text that is one piece: it, unless it is empty
 one_piece : (vs : List ℕ) → IsPiece vs → vs ≢ [] → pieces_between vs ≡ vs ∷ []
 one_piece [] piece some = absurd (some refl)
-one_piece (v ∷ vs) piece some = slice_split_none is_separator (v ∷ vs) (passes_over (v ∷ vs) piece)
+one_piece (v ∷ vs) piece some = without_separator (v ∷ vs) piece
 
 none_of_piece : (vs : List ℕ) → IsPiece vs → all_but_last (pieces_between vs) ≡ []
 none_of_piece [] piece = refl
 none_of_piece (v ∷ vs) piece = ap all_but_last (one_piece (v ∷ vs) piece (λ e. cc))
-
--- what stands after the last separator of a text, or all of it where there is none
-pub record IsLastStart (text : List ℕ) (start : ℕ) : Type 0 where
-  pub within : start ≤ length text
-  pub piece : IsPiece (drop start text)
-  pub after : 0 < start → get_or text (start - 1) 0 ≡ separator
-
--- a text around its last separator
-around : (text : List ℕ) (start : ℕ) → IsLastStart text start → 0 < start
-    → text ≡ take (start - 1) text ++ separator ∷ drop start text
-around text start is some =
-    let front = start - 1 in
-    let less : front < length text = omega (arith, is.within) in
-    let next : suc front ≡ start = omega arith in
-    sym (take-append-drop front text)
-    ∙ ap (λ us. take front text ++ us)
-    (drop-cons text front 0 less ∙ ap (λ u. u ∷ drop (suc front) text) (is.after some)
-    ∙ ap (λ n. separator ∷ drop n text) next)
 
 last_or-push : {A : Type 0} (first : Option A) (xs : List A) (x : A) → last_or first (xs ++ x ∷ []) ≡ Some x
 last_or-push first [] x = refl

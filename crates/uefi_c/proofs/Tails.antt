@@ -1,5 +1,5 @@
 -- What a push adds after a text, and how long that is.
-use Rattle.std.proofs.Common.{◌≡◌, ◌≢◌, ℕ, suc, ◌+◌, ◌-◌, ◌<◌, ◌≤◌, ◌==◌, not, Bool, true, false, if◌then◌else◌, List, [], ◌∷◌, ◌++◌, length, take, drop, get_or, set, Ok, Some, inl, inr, append_assoc, refl, sym, ◌∙◌, ap, arith, length-append, length-drop}
+use Rattle.std.proofs.Common.{◌≡◌, ◌≢◌, ℕ, suc, ◌+◌, ◌-◌, ◌<◌, ◌≤◌, ◌==◌, not, Bool, true, false, if◌then◌else◌, List, [], ◌∷◌, ◌++◌, length, take, drop, get_or, set, Option, Err, None, Ok, Some, inl, inr, append_assoc, refl, sym, ◌∙◌, ap, arith, length-append, length-drop}
 use borrow.Rule.Slice.PartMut.{put_mid}
 use Rattle.std.proofs.Math.Seq.{drop-append-add}
 use Rattle.std.proofs.lemmas.List.{append-nil, drop-append-le, drop-drop, length-take, take-append-drop, drop_all, get_or-map, length-map, take_at}
@@ -9,7 +9,12 @@ use Rattle.uefi_text.specs.Units.{nul_terminated, replaced}
 use Rattle.uefi_text.specs.UnalignedCStr16.{with_prefix}
 use Rattle.uefi_path.specs.Pushing.{needs_separator, pushed}
 use Rattle.uefi_path.specs.Separators.{is_separator, separator, slash, with_separators}
-use Rattle.uefi_path.specs.Writing.{written_len, written_over}
+use Rattle.uefi_path.specs.Components.{components_of}
+use Rattle.uefi_path.specs.NormalForms.{normal_of}
+use Rattle.uefi_path.specs.Verdicts.{IsValid, verdict}
+use Rattle.uefi_path.specs.Writing.{normal_path, normal_where, written_len, written_over}
+use Rattle.uefi_path.specs.declared.validation.PathError.{PathError}
+use Rattle.uefi_path.proofs.ValidPaths.{valid_unrefused}
 use Rattle.uefi_c.specs.Buffers.{tail_of}
 
 -- the last unit decides whether a separator is missing after a text that is not empty
@@ -148,3 +153,50 @@ ended_by_nul text buffer written room len before returned wrote =
     ap (λ us. with_prefix (nul_terminated (take len us)) us) whole
     ∙ ap (λ n. with_prefix (nul_terminated (take n (text ++ drop (length text) buffer))) (text ++ drop (length text) buffer)) fits.0
     ∙ end_written text buffer (omega (arith, size, fits.1, before))
+
+-- a text that has no room is not written
+unwritten : (text buffer : List ℕ) (len : ℕ) → Err len ≡ written_len (Some text) buffer
+    → (len ≡ length text) × (length buffer < length text)
+unwritten text buffer len is = elim (cases_lt (length buffer) (length text)) [
+  | inl less ↦
+      let short = lt-ltb (length buffer) (length text) less in
+      (grind (arith, common_steps, is, short), less)
+  | inr enough ↦
+      let fits = le-ltb (length buffer) (length text) (omega (arith, enough)) in
+      absurd (grind (arith, common_steps, is, fits))
+]
+
+pub unchanged_by_nul : (text buffer written : List ℕ) (room len : ℕ) → room ≡ length buffer - 1
+    → Err len ≡ written_len (Some text) (take room buffer) → written ≡ written_over (Some text) (take room buffer)
+    → written ++ drop room buffer ≡ with_prefix (nul_terminated text) buffer
+unchanged_by_nul text buffer written room len before returned wrote =
+    let short = (unwritten text (take room buffer) len returned).1 in
+    let all = length-append text (0 ∷ []) in
+    let same : written ≡ take room buffer = wrote ∙ rw (lt-ltb (length (take room buffer)) (length text) short) refl in
+    let none = lt-ltb (length buffer) (length (nul_terminated text))
+    (omega (arith, short, length-take room buffer, before, all)) in
+    ap (λ us. us ++ drop room buffer) same ∙ take-append-drop room buffer ∙ rw none refl
+
+-- a path that is not valid has no normal path, so none is written
+none_where : (refusal : Option PathError) (normal : List (List ℕ)) → refusal ≢ None
+    → normal_where refusal normal ≡ None
+none_where None normal refused = absurd (refused refl)
+none_where (Some error) normal refused = refl
+
+pub no_normal_path : (text : List ℕ) → ¬ IsValid text → normal_path text ≡ None
+no_normal_path text refused =
+    none_where (verdict text) (normal_of (components_of text)) (λ e. refused ((valid_unrefused text).1 e))
+
+pub nothing_written : (made : Option (List ℕ)) (buffer written : List ℕ) (room : ℕ) → made ≡ None
+    → written ≡ written_over made (take room buffer) → written ++ drop room buffer ≡ buffer
+nothing_written made buffer written room none wrote =
+    ap (λ us. us ++ drop room buffer) (wrote ∙ ap (λ m. written_over m (take room buffer)) none)
+    ∙ take-append-drop room buffer
+
+pub none_is_written : (made : Option (List ℕ)) (buffer : List ℕ) (len : ℕ) → made ≡ None
+    → Ok (Some len) ≢ written_len made buffer
+none_is_written made buffer len none is = let e = is ∙ ap (λ m. written_len m buffer) none in cc
+
+pub none_is_short : (made : Option (List ℕ)) (buffer : List ℕ) (len : ℕ) → made ≡ None
+    → Err len ≢ written_len made buffer
+none_is_short made buffer len none is = let e = is ∙ ap (λ m. written_len m buffer) none in cc

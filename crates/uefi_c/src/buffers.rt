@@ -7,9 +7,12 @@ ghost use Rattle.uefi_path.specs.Parents.{parent_text};
 ghost use Rattle.uefi_path.specs.Pushing.{pushed};
 ghost use Rattle.uefi_path.specs.Separators.{separator, slash, with_separators};
 ghost use Rattle.uefi_c.specs.Buffers.{length_shown, room_reason, tail_of};
-ghost use Rattle.uefi_c.specs.Reasons.{until_nul_reason};
+ghost use Rattle.uefi_path.specs.Verdicts.{IsValid, verdict};
+ghost use Rattle.uefi_path.specs.Writing.{normal_path};
+ghost use Rattle.uefi_c.specs.Reasons.{path_reason, refused_character, until_nul_reason};
 ghost use Rattle.uefi_c.specs.Strings.{text_in, until_nul_place};
 
+use crate::paths::judge;
 use crate::reasons::{BUFFER_TOO_SMALL, NO_PARENT, OK, until_nul_reason};
 use crate::strings::until_nul_place;
 use uefi_path::Path;
@@ -257,6 +260,66 @@ pub extern "C" fn uefi_path_parent(path: &[u16], buffer: &mut [u16], place: &mut
             end_text(buffer, len)
         }
         Ok(None) => NO_PARENT,
+        Err(len) => {
+            *place = len;
+            BUFFER_TOO_SMALL
+        }
+    }
+}
+
+/// Writes the normal path of a string's path, as `Path::normalize` makes it, into the first places of a buffer,
+/// and a NUL.
+///
+/// Units that begin with no string are refused as by `uefi_string_until_nul`, and then a path that is not
+/// valid as by `uefi_path_verdict`, with its `place` and its `character`. Else `place` becomes how many units
+/// the normal path has, and a buffer of no more places is `BUFFER_TOO_SMALL`. Refused, the buffer stays
+/// unchanged; what stands after the NUL stays. `character` becomes 0 but where a character is the reason. Three
+/// passes over the path; takes no memory.
+#[unsafe(no_mangle)]
+pub extern "C" fn uefi_path_normalize(
+    path: &[u16],
+    buffer: &mut [u16],
+    place: &mut usize,
+    character: &mut u16,
+) -> u32
+    ensures no_string { ¬ BeginsWithString path.now
+        → (result ≡ until_nul_reason (until_nul_refusal path.now))
+        × (place.new ≡ until_nul_place path.now)
+        × (character.new ≡ 0)
+        × (buffer.new ≡ buffer.old) }
+    ensures refused { BeginsWithString path.now → ¬ IsValid (text_in path.now)
+        → (result ≡ path_reason (verdict (text_in path.now)))
+        × (place.new ≡ until_nul_place path.now)
+        × (buffer.new ≡ buffer.old) }
+    ensures character { BeginsWithString path.now
+        → character.new ≡ refused_character (verdict (text_in path.now)) }
+    ensures reason { BeginsWithString path.now → (normal : List ℕ)
+        → normal_path (text_in path.now) ≡ Some normal → result ≡ room_reason normal buffer.old }
+    ensures place { BeginsWithString path.now → (normal : List ℕ)
+        → normal_path (text_in path.now) ≡ Some normal → place.new ≡ length normal }
+    ensures buffer { BeginsWithString path.now → (normal : List ℕ)
+        → normal_path (text_in path.now) ≡ Some normal
+        → buffer.new ≡ with_prefix (nul_terminated normal) buffer.old }
+{
+    *character = 0;
+    let string = match CStr16::from_u16_until_nul(path) {
+        Ok(string) => string,
+        Err(error) => {
+            *place = until_nul_place(error, path);
+            return until_nul_reason(error);
+        }
+    };
+    // The last place is left for the NUL.
+    let most = buffer.len().saturating_sub(1);
+    match Path::new(string).write_normal(&mut buffer[..most]) {
+        Ok(Some(len)) => {
+            *place = len;
+            end_text(buffer, len)
+        }
+        Ok(None) => {
+            *place = string.num_chars();
+            judge(Path::new(string), character)
+        }
         Err(len) => {
             *place = len;
             BUFFER_TOO_SMALL

@@ -23,7 +23,7 @@ use uefi_text::CStr16;
 const SEPARATOR: u16 = 92;
 
 /// Whether a path names a file: `OK`, or why not, and the character that is refused.
-fn judge(path: Path<'_>, character: &mut u16) -> u32
+pub(crate) fn judge(path: Path<'_>, character: &mut u16) -> u32
     ensures reason { result ≡ path_reason (verdict (path_text path.entry)) }
     ensures valid { (result ≡ OK) ↔ IsValid (path_text path.entry) }
     ensures character { character.new ≡ refused_character (verdict (path_text path.entry)) }

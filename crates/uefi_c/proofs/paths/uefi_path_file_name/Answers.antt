@@ -1,6 +1,7 @@
 -- What stands after the last separator is the last component.
 use Rattle.std.proofs.Common.{arith}
-use Rattle.uefi_c.proofs.Places.{IsLastStart, last_name}
+use Rattle.uefi_path.proofs.LastPieces.{IsLastStart}
+use Rattle.uefi_c.proofs.Places.{last_name}
 use Rattle.uefi_c.proofs.paths.uefi_path_file_name.Goals as goal
 
 pub returns-clause-name : goal.returns-clause-name

@@ -1,7 +1,8 @@
 -- All components but the last stand before the last separator.
 use Rattle.std.proofs.Common.{refl}
 use Rattle.uefi_path.specs.SuccessiveParents.{shorter_prefixes}
-use Rattle.uefi_c.proofs.Places.{IsLastStart, joined_parent, none_before, some_before, valid_parent}
+use Rattle.uefi_path.proofs.LastPieces.{IsLastStart}
+use Rattle.uefi_c.proofs.Places.{joined_parent, none_before, some_before, valid_parent}
 use Rattle.uefi_c.proofs.paths.uefi_path_parent_length.Goals as goal
 
 pub returns-then-first-le1-clause-some : goal.returns-then-first-le1-clause-some
