@@ -11,4 +11,5 @@ pub mod SuccessiveParents
 pub mod Laws
 pub mod NormalForms
 pub mod NamesLeft
+pub mod Glances
 pub mod Climbing

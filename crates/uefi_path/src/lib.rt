@@ -35,6 +35,7 @@
 #![tactic(auto)]
 
 mod counted;
+mod glance;
 pub mod laws;
 mod names;
 mod normal;
