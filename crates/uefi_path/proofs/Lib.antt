@@ -4,6 +4,7 @@ pub mod Pushing
 pub mod Parents
 mod Drafts
 mod IntoBuffers
+pub mod CutParents
 mod Glances
 pub mod Joining
 pub mod Validity

@@ -1,5 +1,5 @@
 //! Paths that are owned, and the calls of [`Path`] that make one.
-ghost use Rattle.std.specs.Prelude.{◌≡◌, ◌≢◌, ℕ, ◌+◌, ◌<◌, ◌≤◌, ◌^◌, ◌↔◌, [], ◌∷◌, ◌++◌, All, List, None, drop, fold, if◌then◌else◌, length, option_map, IsTrue, IsOk, IsSome, IfOk, IfErr, IfSome, OnOk, OnErr};
+ghost use Rattle.std.specs.Prelude.{◌≡◌, ◌≢◌, ℕ, ◌+◌, ◌<◌, ◌≤◌, ◌^◌, ◌↔◌, [], ◌∷◌, ◌++◌, All, List, Some, None, drop, fold, if◌then◌else◌, length, option_map, take, ◌-◌, IsTrue, IsOk, IsSome, IfOk, IfErr, IfSome, OnOk, OnErr};
 ghost use Rattle.std.specs.List.{last_or};
 ghost use Rattle.uefi_path.specs.Components.{AreComponents, IsPiece, StartsWith, components_of};
 ghost use Rattle.uefi_path.specs.Parents.{parent_text, all_but_last};
@@ -13,7 +13,7 @@ ghost use Rattle.uefi_text.specs.Views.{units_of};
 
 use crate::counted::CountedUnits;
 use crate::path::{Components, Path, PlacedText, Rest};
-use crate::places::{count_separators, find_places};
+use crate::places::{count_separators, find_places, have_neighbours};
 use crate::tails::make_tail;
 use std::alloc::{AllocError, Allocator, Global};
 use std::cmp::Ordering;
@@ -359,6 +359,38 @@ impl<A: Allocator + Copy> PathBuf<A> {
         Ok(joined)
     }
 
+    /// Where the last separator stands, if the parent is what stands before it: the path begins with a name, and no
+    /// component between two separators is empty.
+    fn cut_place(&self) -> Option<usize>
+        ensures some { IfSome result (λ last. 0 < length (places_of self.now)) }
+        ensures within { IfSome result (λ last. last < length self.now) }
+        ensures parent { IfSome result (λ last. parent_text self.now ≡ Some (take last self.now)) }
+        ensures places { IfSome result (λ last. places_of (take last self.now)
+            ≡ take (length (places_of self.now) - 1) (places_of self.now)) }
+    {
+        let all = self.places.as_slice();
+        if all.is_empty() || all[0] == 0 || have_neighbours(all) {
+            return None;
+        }
+        Some(all[all.len() - 1])
+    }
+
+    /// The path of what stands before this place.
+    fn cut_at(&self, last: usize) -> Result<Self, AllocError>
+        requires some { 0 < length (places_of self.now) }
+        requires within { last < length self.now }
+        requires places { places_of (take last self.now)
+            ≡ take (length (places_of self.now) - 1) (places_of self.now) }
+        ensures { IfOk result (λ path. path ≡ take last self.now) }
+    {
+        let all = self.places.as_slice();
+        let mut string = CString16::with_capacity(self.alloc(), last)?;
+        string.push_part(self.to_cstr16().as_slice().part(0, last))?;
+        let mut places = Vec::with_capacity(self.alloc(), all.len() - 1)?;
+        places.extend_from_slice(&all[..all.len() - 1])?;
+        Ok(PathBuf { string, places })
+    }
+
     /// The path without its last component, as [`Path::parent`], in memory of the same allocator. Looks
     /// for no separator, and costs what the parent has.
     pub fn parent(&self) -> Result<Option<Self>, AllocError>
@@ -368,6 +400,10 @@ impl<A: Allocator + Copy> PathBuf<A> {
             IfSome parent (λ parent. length parent < length self.now)) }
         ensures successive { IfOk result (λ parent. parents_of self.now ≡ parent_chain parent) }
     {
+        // Of most paths, one copy of what stands before the last separator.
+        if let Some(last) = self.cut_place() {
+            return Ok(Some(self.cut_at(last)?));
+        }
         let known = self.places.as_slice();
         let rest = Rest::Placed(self.canonical(known));
         let has_parent = Components::of_canonical(self.as_path(), rest)

@@ -1,6 +1,6 @@
 //! The places of separators, which a path buffer keeps beside its text. They are found before a slash is
 //! replaced, a block of units at a time: a vector comparison gives a bit for each unit.
-ghost use Rattle.std.specs.Prelude.{◌≡◌, ℕ, ◌≤◌, ◌+◌, ◌*◌, ◌<◌, ◌^◌, ◌++◌, IfOk, OnOk, count_by, length, map, slice_index, take};
+ghost use Rattle.std.specs.Prelude.{◌≡◌, ◌≢◌, ℕ, ◌≤◌, ◌+◌, ◌*◌, ◌<◌, ◌^◌, ◌++◌, IfOk, OnOk, count_by, false, length, map, slice_index, take};
 ghost use Rattle.std.specs.Simd.Lanes.{mask_l};
 ghost use Rattle.uefi_path.specs.Separators.{becomes_separator, block_bits, is_separator, places_of, with_separators, word_places};
 
@@ -137,4 +137,16 @@ pub(crate) fn find_places<A: Allocator>(
         add_bits(&mut places, block * BLOCK, bits)?;
     }
     Ok(places)
+}
+
+/// Whether two places one after the other are neighbours.
+pub(crate) fn have_neighbours(places: &[usize]) -> bool
+    ensures { result ≡ false → (i : ℕ) → i + 1 < length places.now
+        → slice_index places.now (i + 1) ≢ slice_index places.now i + 1 }
+{
+    let mut found = false;
+    for i in 1..places.len() {
+        found |= places[i].saturating_sub(1) == places[i - 1];
+    }
+    found
 }

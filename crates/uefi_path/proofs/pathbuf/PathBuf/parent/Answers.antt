@@ -1,5 +1,5 @@
 -- The components but the last are rejoined, and no slash is among them.
-use Rattle.std.proofs.Common.{◌≡◌, ◌≢◌, ◌<◌, ℕ, List, [], Some, ap, arith, length, subst, sym, ◌∙◌}
+use Rattle.std.proofs.Common.{◌≡◌, ◌≢◌, ◌<◌, ℕ, List, [], Some, ap, arith, rules, length, subst, sym, ◌∙◌}
 use Rattle.std.specs.List.{fold}
 use Rattle.std.proofs.lemmas.Grind.{common_steps}
 use Rattle.uefi_path.specs.Components.{components_of}
@@ -64,3 +64,8 @@ returns-clause-shorter g c =
 
 pub returns-clause-successive : goal.returns-clause-successive
 returns-clause-successive g c = parents_of-chain c.args.self.now ∙ ap parent_chain (sym (parent_is g c).is)
+
+pub returns-in-Some-clause-successive : goal.returns-in-Some-clause-successive
+returns-in-Some-clause-successive g c =
+    let is : parent_text c.args.self.now ≡ Some c.in_ok-cut_at.field-0 = search rules in
+    parents_of-chain c.args.self.now ∙ ap parent_chain is
