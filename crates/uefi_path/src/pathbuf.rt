@@ -14,7 +14,7 @@ ghost use Rattle.uefi_text.specs.Views.{units_of};
 use crate::counted::CountedUnits;
 use crate::path::{Components, Path, PlacedText, Rest};
 use crate::places::{count_separators, find_places};
-use crate::tails::make_tail;
+use crate::tails::{SHORT, make_tail};
 use std::alloc::{AllocError, Allocator, Global};
 use std::cmp::Ordering;
 use std::fmt;
@@ -127,11 +127,12 @@ fn append_components_but_last<A: Allocator>(
     Ok(())
 }
 
-/// How many units the room has in which a short text is made ready to be pushed.
-const SHORT: usize = 32;
+/// How many units the room has in which a short text is made ready to be pushed: with a separator before it
+/// and the NUL after it.
+const ROOM: usize = 32;
 
 /// How many it has for a longer one. What is longer still is made in memory that it asks for.
-const LONG: usize = 256;
+const LONG_ROOM: usize = 256;
 
 /// How long a path becomes at most, when another is pushed after it.
 fn room_for_both(path: Path<'_>, other: Path<'_>) -> usize {
@@ -280,22 +281,16 @@ impl<A: Allocator + Copy> PathBuf<A> {
             return Ok(());
         }
         if len < SHORT {
-            return self.push_made(&mut [0; SHORT], units);
+            return self.push_made(&mut [0; ROOM], units);
         }
-        if len < LONG {
-            return self.push_longer(units);
-        }
-        let mut tail = Vec::new(self.alloc());
-        tail.resize(len + 1, 0)?;
-        self.push_made(&mut tail, units)
+        self.push_longer(units)
     }
 
     /// What [`PathBuf::push_counted`] does for a longer text: a function of its own, since the compiler
     /// clears the room as soon as a function begins.
     #[inline(never)]
     fn push_longer(&mut self, units: &mut CountedUnits<'_>) -> Result<(), AllocError>
-        requires long { length (counted_text units.now) < 256 }
-        requires some { counted_text units.now ≢ [] }
+        requires { counted_text units.now ≢ [] }
         ensures ok { OnOk result (self.new ≡ pushed self.old (counted_text units.old)) }
         ensures err { OnErr result (self.new ≡ self.old) }
         ensures text { counted_text units.new ≡ counted_text units.old }
@@ -303,18 +298,26 @@ impl<A: Allocator + Copy> PathBuf<A> {
             ≡ reads_of units.old + length (counted_text units.old)) }
         ensures at_most { reads_of units.new ≤ reads_of units.old + length (counted_text units.old) }
     {
-        // A clause of this call says that the units are a text.
-        let _len = units.len();
-        self.push_made(&mut [0; LONG], units)
+        let len = units.len();
+        if len + 1 < LONG_ROOM {
+            return self.push_made(&mut [0; LONG_ROOM], units);
+        }
+        let Some(size) = len.checked_add(2) else {
+            return Err(AllocError);
+        };
+        let mut room = Vec::new(self.alloc());
+        room.resize(size, 0)?;
+        self.push_made(&mut room, units)
     }
 
     /// Makes what a push of a text adds, in this room, and adds it.
+    #[inline(always)]
     fn push_made(
         &mut self,
         room: &mut [u16],
         units: &mut CountedUnits<'_>,
     ) -> Result<(), AllocError>
-        requires room { length (counted_text units.now) < length room.now }
+        requires room { length (counted_text units.now) + 1 < length room.now }
         requires is_text { IsText (counted_text units.now) }
         requires some { counted_text units.now ≢ [] }
         ensures ok { OnOk result (self.new ≡ pushed self.old (counted_text units.old)) }
@@ -327,7 +330,7 @@ impl<A: Allocator + Copy> PathBuf<A> {
         let (end, known) = (self.string.num_chars(), self.places.len());
         let is_missing = needs_separator(&self.string);
         let added = match make_tail(room, &mut self.places, end, is_missing, units) {
-            Ok(len) => self.string.push_part(Char16Slice::from_units(&room[..len])),
+            Ok(tail) => self.string.push_str(tail),
             Err(error) => Err(error),
         };
         if added.is_err() {

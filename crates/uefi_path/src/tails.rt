@@ -5,6 +5,7 @@ ghost use Rattle.uefi_path.specs.Components.{IsPiece};
 ghost use Rattle.uefi_path.specs.Separators.{becomes_separator, places_from, separator, slash, with_separators};
 ghost use Rattle.uefi_path.specs.Views.{counted_text, reads_of};
 ghost use Rattle.uefi_text.specs.Units.{replaced};
+ghost use Rattle.uefi_text.specs.Views.{text_of};
 
 use crate::counted::CountedUnits;
 use crate::places::{BLOCK, add_bits, replace_slashes, separators_of};
@@ -12,9 +13,10 @@ use std::alloc::{AllocError, Allocator};
 use std::mem;
 use std::simd::prelude::*;
 use uefi_text::chars::{SEPARATOR, SLASH};
+use uefi_text::strs::CStr16;
 
 /// Texts that are shorter are made unit by unit.
-const SHORT: usize = 24;
+pub(crate) const SHORT: usize = 24;
 
 /// Whether the unit is a separator once slashes are replaced.
 #[inline(always)]
@@ -59,6 +61,7 @@ fn copy_units(tail: &mut [u16], units: &mut CountedUnits<'_>) -> bool
 }
 
 /// Adds the places of the separators among units, where the first has the place `start`.
+#[inline(never)]
 fn add_places<A: Allocator>(
     places: &mut Vec<usize, A>,
     start: usize,
@@ -72,31 +75,6 @@ fn add_places<A: Allocator>(
         if units[i] == u16::from(SEPARATOR) {
             places.push(start + i)?;
         }
-    }
-    Ok(())
-}
-
-/// Writes the units of a short text, each slash replaced, and adds the places of the separators, where
-/// the first unit has the place `start`. Reads each unit once. Where memory is refused the places that
-/// were there stay the first ones.
-fn write_units<A: Allocator>(
-    tail: &mut [u16],
-    places: &mut Vec<usize, A>,
-    start: usize,
-    units: &mut CountedUnits<'_>,
-) -> Result<(), AllocError>
-    requires room { length tail.now ≡ length (counted_text units.now) }
-    requires fits { start + length (counted_text units.now) < 2 ^ 64 }
-    ensures tail { OnOk result (tail.new ≡ with_separators (counted_text units.old)) }
-    ensures places { OnOk result (places.new.items
-        ≡ places.old.items ++ places_from start (with_separators (counted_text units.old))) }
-    ensures kept { take (length places.old.items) places.new.items ≡ places.old.items }
-    ensures text { counted_text units.new ≡ counted_text units.old }
-    ensures count { reads_of units.new ≡ reads_of units.old + length (counted_text units.old) }
-{
-    // Most names hold no separator.
-    if copy_units(tail, units) {
-        add_places(places, start, tail)?;
     }
     Ok(())
 }
@@ -138,7 +116,7 @@ fn read_block(units: &mut CountedUnits<'_>, at: usize) -> [u16; BLOCK]
     block
 }
 
-/// Writes the block that begins at a place, as [`write_units`] does.
+/// Writes the block that begins at a place, as [`write_replaced`] does.
 #[inline(always)]
 fn write_block<A: Allocator>(
     tail: &mut [u16],
@@ -165,7 +143,38 @@ fn write_block<A: Allocator>(
     add_bits(places, start + at, separators_of(block))
 }
 
-/// What [`write_units`] does, a block at a time where the text is long, which is faster then.
+/// What [`write_replaced`] does, a block at a time, which is faster where the text is long. A function of
+/// its own, so that a short push does not pay for the blocks on its stack.
+#[inline(never)]
+fn write_blocks<A: Allocator>(
+    tail: &mut [u16],
+    places: &mut Vec<usize, A>,
+    start: usize,
+    units: &mut CountedUnits<'_>,
+) -> Result<(), AllocError>
+    requires room { length tail.now ≡ length (counted_text units.now) }
+    requires fits { start + length (counted_text units.now) + 64 < 2 ^ 64 }
+    ensures tail { OnOk result (tail.new ≡ with_separators (counted_text units.old)) }
+    ensures places { OnOk result (places.new.items
+        ≡ places.old.items ++ places_from start (with_separators (counted_text units.old))) }
+    ensures kept { take (length places.old.items) places.new.items ≡ places.old.items }
+    ensures text { counted_text units.new ≡ counted_text units.old }
+    ensures once { OnOk result (reads_of units.new
+        ≡ reads_of units.old + length (counted_text units.old)) }
+    ensures at_most { reads_of units.new ≤ reads_of units.old + length (counted_text units.old) }
+{
+    let mut at = 0;
+    while at < tail.len() {
+        write_block(tail, places, start, units, at)?;
+        at += BLOCK;
+    }
+    Ok(())
+}
+
+/// Writes the units of a text, each slash replaced, and adds the places of the separators, where the first
+/// unit has the place `start`. Reads each unit once. Where memory is refused the places that were there
+/// stay the first ones.
+#[inline(always)]
 fn write_replaced<A: Allocator>(
     tail: &mut [u16],
     places: &mut Vec<usize, A>,
@@ -183,31 +192,31 @@ fn write_replaced<A: Allocator>(
         ≡ reads_of units.old + length (counted_text units.old)) }
     ensures at_most { reads_of units.new ≤ reads_of units.old + length (counted_text units.old) }
 {
-    if tail.len() < SHORT {
-        return write_units(tail, places, start, units);
+    if SHORT <= tail.len() {
+        return write_blocks(tail, places, start, units);
     }
-    let mut at = 0;
-    while at < tail.len() {
-        write_block(tail, places, start, units, at)?;
-        at += BLOCK;
+    // Most names hold no separator.
+    if copy_units(tail, units) {
+        add_places(places, start, tail)?;
     }
     Ok(())
 }
 
-/// Makes what a push adds after a text that is `end` units long, at the start of the room, and returns
-/// how long that is. Adds the places of its separators. Where memory is refused the places that were
-/// there stay the first ones.
-pub(crate) fn make_tail<A: Allocator>(
-    room: &mut [u16],
+/// Makes what a push adds after a text that is `end` units long, as a string at the start of the room.
+/// Adds the places of its separators. Where memory is refused the places that were there stay the first
+/// ones.
+#[inline(always)]
+pub(crate) fn make_tail<'a, A: Allocator>(
+    room: &'a mut [u16],
     places: &mut Vec<usize, A>,
     end: usize,
     is_missing: bool,
     units: &mut CountedUnits<'_>,
-) -> Result<usize, AllocError>
-    requires room { length (counted_text units.now) < length room.now }
-    ensures tail { IfOk result (λ len. (len ≤ length room.old) × (take len room.new
+) -> Result<CStr16<'a>, AllocError>
+    requires room { length (counted_text units.now) + 1 < length room.now }
+    ensures tail { IfOk result (λ tail. text_of tail
         ≡ (if is_missing then separator ∷ with_separators (counted_text units.old)
-        else with_separators (counted_text units.old)))) }
+        else with_separators (counted_text units.old))) }
     ensures places { OnOk result (places.new.items ≡ places.old.items ++ places_from end
         (if is_missing then separator ∷ with_separators (counted_text units.old)
         else with_separators (counted_text units.old))) }
@@ -227,5 +236,6 @@ pub(crate) fn make_tail<A: Allocator>(
         places.push(end)?;
     }
     write_replaced(&mut room[start..start + len], places, end + start, units)?;
-    Ok(start + len)
+    room[start + len] = 0;
+    Ok(CStr16::from_string(&room[..start + len + 1]))
 }

@@ -1,7 +1,7 @@
 use Rattle.std.proofs.Common.{◌≡◌, ◌+◌, ◌-◌, ◌++◌, length, take}
 use Rattle.uefi_path.specs.Separators.{places_from, with_separators}
 use Rattle.uefi_path.specs.Views.{counted_text, reads_of}
-use Rattle.uefi_path.proofs.tails.write_replaced.Given as goal
+use Rattle.uefi_path.proofs.tails.write_blocks.Given as goal
 
 -- the blocks so far are read, each unit once, and are written, and their places are added
 abbrev pub invariant-loop-at : goal.invariant-loop-at
