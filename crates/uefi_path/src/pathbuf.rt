@@ -14,7 +14,7 @@ ghost use Rattle.uefi_text.specs.Views.{units_of};
 use crate::counted::CountedUnits;
 use crate::path::{Components, Path, PlacedText, Rest};
 use crate::places::{count_separators, find_places};
-use crate::tails::{SHORT, make_tail};
+use crate::tails::make_tail;
 use std::alloc::{AllocError, Allocator, Global};
 use std::cmp::Ordering;
 use std::fmt;
@@ -263,7 +263,7 @@ impl<A: Allocator + Copy> PathBuf<A> {
     }
 
     /// Pushes the path of a text, as [`PathBuf::push`] does, and reads each of its units once. One pass
-    /// makes what is added and the places of the separators there.
+    /// makes what is added, and where it holds separators their places are found in that.
     ///
     /// Where memory is refused fewer may be read, and never more. Of this path the last character is
     /// looked at, which is not counted.
@@ -280,7 +280,7 @@ impl<A: Allocator + Copy> PathBuf<A> {
         if len == 0 {
             return Ok(());
         }
-        if len < SHORT {
+        if len + 1 < ROOM {
             return self.push_made(&mut [0; ROOM], units);
         }
         self.push_longer(units)

@@ -2,7 +2,7 @@
 //! replaced, a block of units at a time: a vector comparison gives a bit for each unit.
 ghost use Rattle.std.specs.Prelude.{◌≡◌, ℕ, ◌≤◌, ◌+◌, ◌*◌, ◌<◌, ◌^◌, ◌++◌, IfOk, OnOk, count_by, length, map, slice_index, take};
 ghost use Rattle.std.specs.Simd.Lanes.{mask_l};
-ghost use Rattle.uefi_path.specs.Separators.{becomes_separator, block_bits, is_separator, places_of, with_separators, word_places};
+ghost use Rattle.uefi_path.specs.Separators.{becomes_separator, block_bits, is_separator, places_from, places_of, with_separators, word_places};
 
 use std::alloc::{AllocError, Allocator};
 use std::simd::prelude::*;
@@ -12,7 +12,7 @@ pub(crate) const BLOCK: usize = 64;
 
 /// The units, each slash replaced.
 #[inline(always)]
-pub(crate) fn replace_slashes(units: u16x64) -> u16x64
+fn replace_slashes(units: u16x64) -> u16x64
     ensures { result ≡ with_separators units }
 {
     // The code units of `/` and of `\`.
@@ -23,7 +23,7 @@ pub(crate) fn replace_slashes(units: u16x64) -> u16x64
 
 /// A bit for each unit, set where it is a separator; the first is the lowest.
 #[inline(always)]
-pub(crate) fn separators_of(units: u16x64) -> u64
+fn separators_of(units: u16x64) -> u64
     ensures { result ≡ mask_l (map is_separator units) }
 {
     units.simd_eq(u16x64::splat(92)).to_bitmask()
@@ -81,26 +81,9 @@ pub(crate) fn count_separators(units: &[u16]) -> usize
     count_and_keep(units, &mut [0; KEPT])
 }
 
-/// Writes the places of the bits that are set, where the lowest has the place `start`, into room for
-/// just these.
-#[inline(always)]
-fn write_bits(room: &mut [usize], start: usize, bits: u64)
-    requires fits { start + 64 < 2 ^ 64 }
-    requires room { length room.now ≡ length (word_places start bits) }
-    ensures { room.new ≡ word_places start bits }
-{
-    let mut left = bits;
-    let mut known = 0;
-    while left != 0 {
-        room[known] = start + left.trailing_zeros() as usize;
-        known += 1;
-        left &= left - 1;
-    }
-}
-
 /// Adds the places of the bits that are set, where the lowest has the place `start`.
 #[inline(always)]
-pub(crate) fn add_bits<A: Allocator>(
+fn add_bits<A: Allocator>(
     places: &mut Vec<usize, A>,
     start: usize,
     bits: u64,
@@ -109,12 +92,31 @@ pub(crate) fn add_bits<A: Allocator>(
     ensures ok { OnOk result (places.new.items ≡ places.old.items ++ word_places start bits) }
     ensures kept { take (length places.old.items) places.new.items ≡ places.old.items }
 {
-    if bits == 0 {
-        return Ok(());
+    places.reserve(bits.count_ones() as usize)?;
+    let mut left = bits;
+    while left != 0 {
+        places.push(start + left.trailing_zeros() as usize)?;
+        left &= left - 1;
     }
-    let known = places.len();
-    places.resize(known + bits.count_ones() as usize, 0)?;
-    write_bits(&mut places[known..], start, bits);
+    Ok(())
+}
+
+/// Adds the places of the separators that units have once their slashes are replaced, where the first has
+/// the place `start`. Where memory is refused the places that were there stay the first ones.
+#[inline(never)]
+pub(crate) fn add_places_by_block<A: Allocator>(
+    places: &mut Vec<usize, A>,
+    start: usize,
+    units: &[u16],
+) -> Result<(), AllocError>
+    requires { start + length units.now + 64 < 2 ^ 64 }
+    ensures ok { OnOk result (places.new.items
+        ≡ places.old.items ++ places_from start (with_separators units.now)) }
+    ensures kept { take (length places.old.items) places.new.items ≡ places.old.items }
+{
+    for block in 0..units.len().div_ceil(BLOCK) {
+        add_bits(places, start + block * BLOCK, bits_of_block(units, block))?;
+    }
     Ok(())
 }
 

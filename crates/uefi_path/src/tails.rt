@@ -1,5 +1,6 @@
 //! What a push adds after a text: a separator where one is missing, and the path with its slashes
-//! replaced. It is made in one pass, and with it the places of its separators.
+//! replaced. It is made in one pass, which reads each unit once; the places of its separators are read off
+//! what was made.
 ghost use Rattle.std.specs.Prelude.{◌≡◌, ◌+◌, ◌<◌, ◌≤◌, ◌^◌, ◌++◌, ◌∷◌, IfOk, OnOk, drop, false, if◌then◌else◌, length, replicate, take};
 ghost use Rattle.uefi_path.specs.Components.{IsPiece};
 ghost use Rattle.uefi_path.specs.Separators.{becomes_separator, places_from, separator, slash, with_separators};
@@ -8,23 +9,14 @@ ghost use Rattle.uefi_text.specs.Units.{replaced};
 ghost use Rattle.uefi_text.specs.Views.{text_of};
 
 use crate::counted::CountedUnits;
-use crate::places::{BLOCK, add_bits, replace_slashes, separators_of};
+use crate::places::{BLOCK, add_places_by_block};
 use std::alloc::{AllocError, Allocator};
 use std::mem;
-use std::simd::prelude::*;
 use uefi_text::chars::{SEPARATOR, SLASH};
 use uefi_text::strs::CStr16;
 
-/// Texts that are shorter are made unit by unit.
-pub(crate) const SHORT: usize = 24;
-
-/// Whether the unit is a separator once slashes are replaced.
-#[inline(always)]
-fn becomes_separator(unit: u16) -> bool
-    ensures { result ≡ becomes_separator unit }
-{
-    (unit == u16::from(SEPARATOR)) | (unit == u16::from(SLASH))
-}
+/// Of texts that are shorter the places are found unit by unit, which is faster then.
+const SHORT: usize = 24;
 
 /// The unit, or a separator in place of a slash.
 #[inline(always)]
@@ -61,7 +53,6 @@ fn copy_units(tail: &mut [u16], units: &mut CountedUnits<'_>) -> bool
 }
 
 /// Adds the places of the separators among units, where the first has the place `start`.
-#[inline(never)]
 fn add_places<A: Allocator>(
     places: &mut Vec<usize, A>,
     start: usize,
@@ -75,98 +66,6 @@ fn add_places<A: Allocator>(
         if units[i] == u16::from(SEPARATOR) {
             places.push(start + i)?;
         }
-    }
-    Ok(())
-}
-
-/// Reads units from a place on into the first of a block, each once.
-#[inline(always)]
-fn read_units(block: &mut [u16; BLOCK], units: &mut CountedUnits<'_>, at: usize, len: usize)
-    requires within { len ≤ 64 }
-    requires inside { at + len ≤ length (counted_text units.now) }
-    ensures block { block.new ≡ take len (drop at (counted_text units.old)) ++ drop len block.old }
-    ensures text { counted_text units.new ≡ counted_text units.old }
-    ensures count { reads_of units.new ≡ reads_of units.old + len }
-{
-    // A clause of this call says that each place fits.
-    let _len = units.len();
-    for k in 0..len {
-        block[k] = units.get(at + k);
-    }
-}
-
-/// The units of the block that begins at a place, each read once, and zeros where the text ends in it.
-#[inline(always)]
-fn read_block(units: &mut CountedUnits<'_>, at: usize) -> [u16; BLOCK]
-    requires { at ≤ length (counted_text units.now) }
-    ensures block { result ≡ take 64 (drop at (counted_text units.old))
-        ++ drop (length (take 64 (drop at (counted_text units.old)))) (replicate 64 0) }
-    ensures text { counted_text units.new ≡ counted_text units.old }
-    ensures count { reads_of units.new
-        ≡ reads_of units.old + length (take 64 (drop at (counted_text units.old))) }
-{
-    let mut block = [0; BLOCK];
-    let len = units.len() - at;
-    if BLOCK <= len {
-        // The compiler moves a whole block by wide loads.
-        read_units(&mut block, units, at, BLOCK);
-    } else {
-        read_units(&mut block, units, at, len);
-    }
-    block
-}
-
-/// Writes the block that begins at a place, as [`write_replaced`] does.
-#[inline(always)]
-fn write_block<A: Allocator>(
-    tail: &mut [u16],
-    places: &mut Vec<usize, A>,
-    start: usize,
-    units: &mut CountedUnits<'_>,
-    at: usize,
-) -> Result<(), AllocError>
-    requires room { length tail.now ≡ length (counted_text units.now) }
-    requires within { at ≤ length (counted_text units.now) }
-    requires fits { start + at + 64 < 2 ^ 64 }
-    ensures tail { take (at + length (take 64 (drop at (counted_text units.old)))) tail.new
-        ≡ take at tail.old ++ with_separators (take 64 (drop at (counted_text units.old))) }
-    ensures places { OnOk result (places.new.items ≡ places.old.items
-        ++ places_from (start + at) (with_separators (take 64 (drop at (counted_text units.old))))) }
-    ensures kept { take (length places.old.items) places.new.items ≡ places.old.items }
-    ensures text { counted_text units.new ≡ counted_text units.old }
-    ensures count { reads_of units.new
-        ≡ reads_of units.old + length (take 64 (drop at (counted_text units.old))) }
-{
-    let block = replace_slashes(u16x64::from_array(read_block(units, at)));
-    let len = BLOCK.min(tail.len() - at);
-    tail[at..at + len].copy_from_slice(&block.to_array()[..len]);
-    add_bits(places, start + at, separators_of(block))
-}
-
-/// What [`write_replaced`] does, a block at a time, which is faster where the text is long. A function of
-/// its own, so that a short push does not pay for the blocks on its stack.
-#[inline(never)]
-fn write_blocks<A: Allocator>(
-    tail: &mut [u16],
-    places: &mut Vec<usize, A>,
-    start: usize,
-    units: &mut CountedUnits<'_>,
-) -> Result<(), AllocError>
-    requires room { length tail.now ≡ length (counted_text units.now) }
-    requires fits { start + length (counted_text units.now) + 64 < 2 ^ 64 }
-    ensures tail { OnOk result (tail.new ≡ with_separators (counted_text units.old)) }
-    ensures places { OnOk result (places.new.items
-        ≡ places.old.items ++ places_from start (with_separators (counted_text units.old))) }
-    ensures kept { take (length places.old.items) places.new.items ≡ places.old.items }
-    ensures text { counted_text units.new ≡ counted_text units.old }
-    ensures once { OnOk result (reads_of units.new
-        ≡ reads_of units.old + length (counted_text units.old)) }
-    ensures at_most { reads_of units.new ≤ reads_of units.old + length (counted_text units.old) }
-{
-    let mut at = 0;
-    while at < tail.len() {
-        write_block(tail, places, start, units, at)?;
-        at += BLOCK;
     }
     Ok(())
 }
@@ -192,14 +91,14 @@ fn write_replaced<A: Allocator>(
         ≡ reads_of units.old + length (counted_text units.old)) }
     ensures at_most { reads_of units.new ≤ reads_of units.old + length (counted_text units.old) }
 {
-    if SHORT <= tail.len() {
-        return write_blocks(tail, places, start, units);
-    }
     // Most names hold no separator.
-    if copy_units(tail, units) {
-        add_places(places, start, tail)?;
+    if !copy_units(tail, units) {
+        return Ok(());
     }
-    Ok(())
+    if tail.len() < SHORT {
+        return add_places(places, start, tail);
+    }
+    add_places_by_block(places, start, tail)
 }
 
 /// Makes what a push adds after a text that is `end` units long, as a string at the start of the room.
