@@ -1,15 +1,17 @@
 -- Separators as bits: what a vector comparison gives, and which places its bits have.
-use Rattle.std.proofs.Common.{◌≡◌, ℕ, zero, suc, ◌+◌, ◌-◌, ◌*◌, ◌/◌, ◌%◌, ◌^◌, ◌<◌, ◌≤◌, List, [], ◌∷◌, ◌++◌, length, map, take, drop, replicate, inl, inr, ap, sym, refl, ◌∙◌, arith, cond, count_ones, eqb, pow-suc, zero-add, ◌⊎◌}
+use Rattle.std.proofs.Common.{◌≡◌, ◌≢◌, ℕ, zero, suc, ◌+◌, ◌-◌, ◌*◌, ◌/◌, ◌%◌, ◌^◌, ◌<◌, ◌≤◌, List, [], ◌∷◌, ◌++◌, length, map, take, drop, replicate, inl, inr, ap, sym, refl, ◌∙◌, arith, cond, count_ones, eqb, pow-suc, zero-add, ◌⊎◌}
 use Rattle.std.specs.List.{count_by}
 use Rattle.std.specs.Int.Bits.{bit_and, and_step, and_self}
 use Rattle.std.specs.Int.Count.{count_trailing_zeros}
 use Rattle.std.specs.Simd.Lanes.{mask_l, sel_l}
 use Rattle.std.proofs.lemmas.Bool.{cases_Bool, cases_lt}
 use Rattle.std.proofs.lemmas.List.{drop-drop, drop_all, length-map, length-take, map-append, take-append-drop}
+use Rattle.std.proofs.lemmas.Grind.{common_steps}
+use Rattle.std.proofs.lemmas.List.Elements.{All-cons, All-head, All-nil, All-tail}
 use Rattle.std.proofs.lemmas.List.Sums.{sum_by-append}
 use Rattle.std.proofs.lemmas.Simd.{ones-mask_l}
 use Rattle.uefi_text.specs.Units.{replaced}
-use Rattle.uefi_path.specs.Separators.{becomes_separator, bit_places, block_bits, places_from, separator, slash, with_separators, word_places}
+use Rattle.uefi_path.specs.Separators.{IsPlain, becomes_separator, bit_places, block_bits, places_from, separator, slash, with_separators, word_places}
 use Rattle.uefi_path.proofs.SeparatorPlaces.{places_from-append, places_from-no, places_from-yes}
 
 -- choosing a separator in each place of a slash replaces the slashes
@@ -33,6 +35,24 @@ pub bits-padded : (us : List ℕ) (n count : ℕ)
     → mask_l (map becomes_separator (us ++ drop n (replicate count 0))) ≡ mask_l (map becomes_separator us)
 bits-padded [] n count = no_bits n count
 bits-padded (u ∷ us) n count = ap (λ m. cond (becomes_separator u) 1 0 + 2 * m) (bits-padded us n count)
+
+-- units before others hold no slash where all hold none
+pub IsPlain-before : (us vs : List ℕ) → IsPlain (us ++ vs) → IsPlain us
+IsPlain-before [] vs plain = All-nil (λ unit. unit ≢ slash)
+IsPlain-before (u ∷ us) vs plain =
+    All-cons (λ unit. unit ≢ slash) u us (All-head (λ unit. unit ≢ slash) u (us ++ vs) plain)
+    (IsPlain-before us vs (All-tail (λ unit. unit ≢ slash) u (us ++ vs) plain))
+
+-- where no bit is set that a slash would set, no unit is one
+pub IsPlain-no_bits : (us : List ℕ) → mask_l (map (λ u. eqb u slash) us) ≡ 0 → IsPlain us
+IsPlain-no_bits [] none = All-nil (λ unit. unit ≢ slash)
+IsPlain-no_bits (u ∷ us) none = elim (cases_Bool (eqb u slash)) [
+  | inl cut ↦ absurd (omega (arith, none, ap (λ b. cond b 1 0 + 2 * mask_l (map (λ v. eqb v slash) us)) cut))
+  | inr other ↦
+      let rest : mask_l (map (λ v. eqb v slash) us) ≡ 0 = omega (arith, none) in
+      let differs : u ≢ slash = λ same. grind (arith, common_steps, other, same) in
+      All-cons (λ unit. unit ≢ slash) u us differs (IsPlain-no_bits us rest)
+]
 
 -- no bit, no place
 pub bit_places-none : (count start : ℕ) → bit_places count start 0 ≡ []

@@ -240,10 +240,12 @@ impl<A: Allocator + Copy> PathBuf<A> {
         ensures ok { IfOk result (λ path. path ≡ with_separators string) }
         ensures err { IfErr result (λ kept. kept ≡ string) }
     {
-        let Ok(places) = find_places(alloc, string.as_cstr16().to_u16_slice()) else {
+        let Ok((places, has_slash)) = find_places(alloc, string.as_cstr16().to_u16_slice()) else {
             return Err(string);
         };
-        string.replace_char(SLASH, SEPARATOR);
+        if has_slash {
+            string.replace_char(SLASH, SEPARATOR);
+        }
         Ok(PathBuf { string, places })
     }
 

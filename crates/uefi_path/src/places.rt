@@ -1,8 +1,8 @@
 //! The places of separators, which a path buffer keeps beside its text. They are found before a slash is
 //! replaced, a block of units at a time: a vector comparison gives a bit for each unit.
-ghost use Rattle.std.specs.Prelude.{◌≡◌, ℕ, ◌≤◌, ◌+◌, ◌*◌, ◌<◌, ◌^◌, ◌++◌, IfOk, OnOk, count_by, length, map, slice_index, take};
+ghost use Rattle.std.specs.Prelude.{◌≡◌, ℕ, ◌≤◌, ◌+◌, ◌*◌, ◌<◌, ◌^◌, ◌++◌, IfOk, OnOk, count_by, drop, false, length, map, slice_index, take};
 ghost use Rattle.std.specs.Simd.Lanes.{mask_l};
-ghost use Rattle.uefi_path.specs.Separators.{becomes_separator, block_bits, is_separator, places_from, places_of, with_separators, word_places};
+ghost use Rattle.uefi_path.specs.Separators.{IsPlain, becomes_separator, block_bits, is_separator, places_from, places_of, with_separators, word_places};
 
 use std::alloc::{AllocError, Allocator};
 use std::simd::prelude::*;
@@ -37,48 +37,70 @@ fn bits_of(units: u16x64) -> u64
     separators_of(replace_slashes(units))
 }
 
-/// The bits of a block; the last one may be short.
+/// Whether a slash is among the units.
+#[inline(always)]
+fn holds_slash(units: u16x64) -> bool
+    ensures { result ≡ false → IsPlain units }
+{
+    units.simd_eq(u16x64::splat(47)).to_bitmask() != 0
+}
+
+/// The units of a block; the last one may be short, and has zeros after its units.
+#[inline(always)]
+fn block_of(units: &[u16], block: usize) -> u16x64
+    requires { block * 64 < length units.now }
+    ensures bits { mask_l (map becomes_separator result) ≡ block_bits block units.now }
+    ensures plain { IsPlain result → IsPlain (take 64 (drop (block * 64) units.now)) }
+{
+    let rest = &units[block * BLOCK..];
+    if BLOCK <= rest.len() {
+        return u16x64::from_slice(rest);
+    }
+    let mut last = [0; BLOCK];
+    last[..rest.len()].copy_from_slice(rest);
+    u16x64::from_array(last)
+}
+
+/// The bits of a block.
 #[inline(always)]
 fn bits_of_block(units: &[u16], block: usize) -> u64
     requires { block * 64 < length units.now }
     ensures { result ≡ block_bits block units.now }
 {
-    let rest = &units[block * BLOCK..];
-    if BLOCK <= rest.len() {
-        return bits_of(u16x64::from_slice(rest));
-    }
-    let mut last = [0; BLOCK];
-    last[..rest.len()].copy_from_slice(rest);
-    bits_of(u16x64::from_array(last))
+    bits_of(block_of(units, block))
 }
 
 /// How many blocks keep their bits from the pass that counts: a text that has no more is read once.
 const KEPT: usize = 8;
 
-/// How many separators the units have once their slashes are replaced. Keeps the bits of the first
-/// blocks.
+/// How many separators the units have once their slashes are replaced, and whether a slash is among them.
+/// Keeps the bits of the first blocks.
 #[inline(always)]
-fn count_and_keep(units: &[u16], kept: &mut [u64; KEPT]) -> usize
-    ensures count { result ≡ count_by becomes_separator units.now }
+fn count_and_keep(units: &[u16], kept: &mut [u64; KEPT]) -> (usize, bool)
+    ensures count { result.0 ≡ count_by becomes_separator units.now }
+    ensures plain { result.1 ≡ false → IsPlain units.now }
     ensures kept { (block : ℕ) → block < 8 → block * 64 < length units.now →
         slice_index kept.new block ≡ block_bits block units.now }
 {
     let mut count = 0;
+    let mut has_slash = false;
     for block in 0..units.len().div_ceil(BLOCK) {
-        let bits = bits_of_block(units, block);
+        let vector = block_of(units, block);
+        let bits = bits_of(vector);
         count += bits.count_ones() as usize;
+        has_slash |= holds_slash(vector);
         if block < KEPT {
             kept[block] = bits;
         }
     }
-    count
+    (count, has_slash)
 }
 
 /// How many separators the units have once their slashes are replaced.
 pub(crate) fn count_separators(units: &[u16]) -> usize
     ensures { result ≡ count_by becomes_separator units.now }
 {
-    count_and_keep(units, &mut [0; KEPT])
+    count_and_keep(units, &mut [0; KEPT]).0
 }
 
 /// Adds the places of the bits that are set, where the lowest has the place `start`.
@@ -120,16 +142,19 @@ pub(crate) fn add_places_by_block<A: Allocator>(
     Ok(())
 }
 
-/// The places of the separators that the units have once their slashes are replaced. Takes memory at
-/// most once. One pass over a text of up to 512 units; a longer one is read once more from there on.
+/// The places of the separators that the units have once their slashes are replaced, and whether a slash is
+/// among the units. Takes memory at most once. One pass over a text of up to 512 units; a longer one is
+/// read once more from there on.
 pub(crate) fn find_places<A: Allocator>(
     alloc: A,
     units: &[u16],
-) -> Result<Vec<usize, A>, AllocError>
-    ensures { IfOk result (λ places. places.items ≡ places_of (with_separators units.now)) }
+) -> Result<(Vec<usize, A>, bool), AllocError>
+    ensures places { IfOk result (λ found. found.0.items ≡ places_of (with_separators units.now)) }
+    ensures plain { IfOk result (λ found. found.1 ≡ false → IsPlain units.now) }
 {
     let mut kept = [0; KEPT];
-    let mut places = Vec::with_capacity(alloc, count_and_keep(units, &mut kept))?;
+    let (count, has_slash) = count_and_keep(units, &mut kept);
+    let mut places = Vec::with_capacity(alloc, count)?;
     for block in 0..units.len().div_ceil(BLOCK) {
         let bits = if block < KEPT {
             kept[block]
@@ -138,5 +163,5 @@ pub(crate) fn find_places<A: Allocator>(
         };
         add_bits(&mut places, block * BLOCK, bits)?;
     }
-    Ok(places)
+    Ok((places, has_slash))
 }

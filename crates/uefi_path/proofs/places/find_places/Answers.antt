@@ -11,7 +11,7 @@ bits_are g c =
     let within : c.loop-block.block * 64 < length c.args.units.now = grind (arith, common_steps) in
     elim c.if-block-lt-KEPT.branch [
       | then-block-lt-KEPT w ↦
-          let known = c.count_and_keep.ensures.kept c.loop-block.block w.if-block-lt-KEPT.true within in
+          let known = c.count_and_keep-count.ensures.kept c.loop-block.block w.if-block-lt-KEPT.true within in
           grind (arith, common_steps, known)
       | else-block-lt-KEPT w ↦ grind (arith, common_steps)
     ]
