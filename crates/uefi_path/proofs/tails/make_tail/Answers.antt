@@ -16,7 +16,17 @@ length-written : (start len : ℕ) (room text : List ℕ) → length text ≡ le
     → length (put_mid start (start + len - start) room text) ≡ length room
 length-written start len room text long inside =
     let k = start + len - start in
-    omega (arith, long, inside, length-append (take start room) (text ++ post_of start k room), length-append text (post_of start k room), length-take start room, length-drop k (drop start room), length-drop start room)
+    let others : List ℕ = post_of start k room in
+    omega (
+      arith,
+      long,
+      inside,
+      length-append (take start room) (text ++ others),
+      length-append text others,
+      length-take start room,
+      length-drop k (drop start room),
+      length-drop start room,
+    )
 
 -- the text in the room, and a NUL after it
 nul_after : (start len : ℕ) (room text : List ℕ) → length text ≡ len → start + len < length room
