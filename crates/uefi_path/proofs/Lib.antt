@@ -25,4 +25,3 @@ mod Counts
 pub mod TailUnits
 pub mod Depth
 pub mod SeparatorBits
-pub mod TailBlocks

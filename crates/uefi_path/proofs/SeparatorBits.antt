@@ -1,16 +1,17 @@
 -- Separators as bits: what a vector comparison gives, and which places its bits have.
-use Rattle.std.proofs.Common.{◌≡◌, ℕ, zero, suc, ◌+◌, ◌-◌, ◌*◌, ◌/◌, ◌%◌, ◌^◌, ◌<◌, ◌≤◌, List, [], ◌∷◌, ◌++◌, length, map, take, drop, replicate, set, append_assoc, inl, inr, ap, sym, refl, ◌∙◌, arith, cond, count_ones, eqb, pow-suc, ◌⊎◌}
+use Rattle.std.proofs.Common.{◌≡◌, ◌≢◌, ℕ, zero, suc, ◌+◌, ◌-◌, ◌*◌, ◌/◌, ◌%◌, ◌^◌, ◌<◌, ◌≤◌, List, [], ◌∷◌, ◌++◌, length, map, take, drop, replicate, inl, inr, ap, sym, refl, ◌∙◌, arith, cond, count_ones, eqb, pow-suc, zero-add, ◌⊎◌}
 use Rattle.std.specs.List.{count_by}
 use Rattle.std.specs.Int.Bits.{bit_and, and_step, and_self}
-use Rattle.std.specs.Int.Count.{count_trailing_zeros, ones_step}
+use Rattle.std.specs.Int.Count.{count_trailing_zeros}
 use Rattle.std.specs.Simd.Lanes.{mask_l, sel_l}
 use Rattle.std.proofs.lemmas.Bool.{cases_Bool, cases_lt}
-use Rattle.std.proofs.lemmas.List.{append-nil, drop-drop, drop-set-lt, drop_all, length-map, length-set, length-take, map-append, take-append-drop, take_more_set}
+use Rattle.std.proofs.lemmas.List.{drop-drop, drop_all, length-map, length-take, map-append, take-append-drop}
+use Rattle.std.proofs.lemmas.Grind.{common_steps}
+use Rattle.std.proofs.lemmas.List.Elements.{All-cons, All-head, All-nil, All-tail}
 use Rattle.std.proofs.lemmas.List.Sums.{sum_by-append}
-use Rattle.std.proofs.lemmas.Nat.{ones_le_self}
 use Rattle.std.proofs.lemmas.Simd.{ones-mask_l}
 use Rattle.uefi_text.specs.Units.{replaced}
-use Rattle.uefi_path.specs.Separators.{becomes_separator, bit_places, block_bits, places_from, separator, slash, with_separators, word_places}
+use Rattle.uefi_path.specs.Separators.{IsPlain, becomes_separator, bit_places, block_bits, places_from, separator, slash, with_separators, word_places}
 use Rattle.uefi_path.proofs.SeparatorPlaces.{places_from-append, places_from-no, places_from-yes}
 
 -- choosing a separator in each place of a slash replaces the slashes
@@ -34,6 +35,24 @@ pub bits-padded : (us : List ℕ) (n count : ℕ)
     → mask_l (map becomes_separator (us ++ drop n (replicate count 0))) ≡ mask_l (map becomes_separator us)
 bits-padded [] n count = no_bits n count
 bits-padded (u ∷ us) n count = ap (λ m. cond (becomes_separator u) 1 0 + 2 * m) (bits-padded us n count)
+
+-- units before others hold no slash where all hold none
+pub IsPlain-before : (us vs : List ℕ) → IsPlain (us ++ vs) → IsPlain us
+IsPlain-before [] vs plain = All-nil (λ unit. unit ≢ slash)
+IsPlain-before (u ∷ us) vs plain =
+    All-cons (λ unit. unit ≢ slash) u us (All-head (λ unit. unit ≢ slash) u (us ++ vs) plain)
+    (IsPlain-before us vs (All-tail (λ unit. unit ≢ slash) u (us ++ vs) plain))
+
+-- where no bit is set that a slash would set, no unit is one
+pub IsPlain-no_bits : (us : List ℕ) → mask_l (map (λ u. eqb u slash) us) ≡ 0 → IsPlain us
+IsPlain-no_bits [] none = All-nil (λ unit. unit ≢ slash)
+IsPlain-no_bits (u ∷ us) none = elim (cases_Bool (eqb u slash)) [
+  | inl cut ↦ absurd (omega (arith, none, ap (λ b. cond b 1 0 + 2 * mask_l (map (λ v. eqb v slash) us)) cut))
+  | inr other ↦
+      let rest : mask_l (map (λ v. eqb v slash) us) ≡ 0 = omega (arith, none) in
+      let differs : u ≢ slash = λ same. grind (arith, common_steps, other, same) in
+      All-cons (λ unit. unit ≢ slash) u us differs (IsPlain-no_bits us rest)
+]
 
 -- no bit, no place
 pub bit_places-none : (count start : ℕ) → bit_places count start 0 ≡ []
@@ -133,76 +152,6 @@ pub word_places-none : (start : ℕ) → word_places start 0 ≡ []
 unfolding word_places
 word_places-none start = bit_places-none 64 start
 
--- what a room holds once the places of a word's bits stand from one of its places on
-abbrev pub with_word : ℕ → ℕ → ℕ → List ℕ → List ℕ
-with_word start n known room =
-    take known room ++ (word_places start n ++ drop (known + length (word_places start n)) room)
-
--- the same, whether the lowest is written already or not
-pub lowest_written : (start n known : ℕ) (room : List ℕ) → 0 < n → n < 2 ^ 64 → known < length room
-    → with_word start (cleared n) (known + 1) (set room known (start + count_trailing_zeros 64 n))
-    ≡ with_word start n known room
-lowest_written start n known room some small less =
-    let p = start + count_trailing_zeros 64 n in
-    let ps = word_places start (cleared n) in
-    let more = length ps in
-    let after : known + 1 + more ≡ known + length (p ∷ ps) = omega arith in
-    ap (λ vs. vs ++ (ps ++ drop (known + 1 + more) (set room known p))) (take_more_set room known p less)
-    ∙ ap (λ vs. (take known room ++ p ∷ []) ++ (ps ++ vs)) (drop-set-lt (known + 1 + more) room known p (omega arith))
-    ∙ append_assoc (take known room) (p ∷ []) (ps ++ drop (known + 1 + more) room)
-    ∙ ap (λ k. take known room ++ (p ∷ (ps ++ drop k room))) after
-    ∙ ap (λ qs. take known room ++ (qs ++ drop (known + length qs) room)) (sym (word_places-lowest start n some small))
-
--- what fills the room from the first place on
-pub written_first : (start n : ℕ) (room : List ℕ) → length room ≡ length (word_places start n)
-    → with_word start n 0 room ≡ word_places start n
-written_first start n room fits =
-    ap (λ vs. word_places start n ++ vs) (drop_all (0 + length (word_places start n)) room (omega (arith, fits)))
-    ∙ append-nil (word_places start n)
-
-pub room_first : (start n : ℕ) (room : List ℕ) → length room ≡ length (word_places start n)
-    → 0 + length (word_places start n) ≤ length room
-room_first start n room fits = omega (arith, fits)
-
--- room for the bits is room for all but the lowest, after its place
-pub room_for_others : (start n known p : ℕ) (room : List ℕ) → 0 < n → n < 2 ^ 64
-    → known + length (word_places start n) ≤ length room
-    → known + 1 + length (word_places start (cleared n)) ≤ length (set room known p)
-room_for_others start n known p room some small within =
-    omega (arith, ap length (word_places-lowest start n some small), within, length-set room known p)
-
--- there is room for a place where a bit is left
-pub room_for_lowest : (start n known size : ℕ) → 0 < n → n < 2 ^ 64
-    → known + length (word_places start n) ≤ size → known < size
-room_for_lowest start n known size some small within =
-    omega (arith, ap length (word_places-lowest start n some small), within)
-
--- once no bit is left, the room is as it is
-pub all_written : (start known : ℕ) (room : List ℕ) → with_word start 0 known room ≡ room
-all_written start known room =
-    ap (λ ps. take known room ++ (ps ++ drop (known + length ps) room)) (word_places-none start)
-    ∙ ap (λ k. take known room ++ drop k room) (omega arith)
-    ∙ take-append-drop known room
-
--- there are as many places as bits
-length-bit_places : (count start n : ℕ) → n < 2 ^ count → length (bit_places count start n) ≡ count_ones n
-length-bit_places zero start n small = omega (arith, ones_le_self n, small)
-length-bit_places (suc count) start n small =
-    let m = n / 2 in
-    let next = length-bit_places count (start + 1) m (omega (arith, small, pow-suc 2 count)) in
-    elim (cases_lt (n % 2) 1) [
-      | inl low ↦
-          let even : n % 2 ≡ 0 = omega (arith, low) in
-          omega (arith, ap length (bit_places-even count start n even), next, ones_step n, even)
-      | inr high ↦
-          let odd : n % 2 ≡ 1 = omega (arith, high) in
-          omega (arith, ap length (bit_places-odd count start n odd), next, ones_step n, odd)
-    ]
-
-pub length-word_places : (start n : ℕ) → n < 2 ^ 64 → length (word_places start n) ≡ count_ones n
-unfolding word_places
-length-word_places start n small = length-bit_places 64 start n small
-
 -- the bits of a block are those of its units
 pub block_bits-is : (us : List ℕ) (block : ℕ)
     → block_bits block us ≡ mask_l (map becomes_separator (take 64 (drop (block * 64) us)))
@@ -238,22 +187,36 @@ full_or_last us = elim (cases_lt (length us) 64) [
 ]
 
 -- and they have the places of its separators
-pub places_block : (us : List ℕ) (block : ℕ)
+pub places_block : (us : List ℕ) (start block : ℕ)
+    → places_from (start + block * 64) (with_separators (drop (block * 64) us))
+    ≡ word_places (start + block * 64) (block_bits block us)
+    ++ places_from (start + (block + 1) * 64) (with_separators (drop ((block + 1) * 64) us))
+unfolding block_bits word_places
+places_block us start block =
+    let at = start + block * 64 in
+    let units = take 64 (drop (block * 64) us) in
+    let rest = drop 64 (drop (block * 64) us) in
+    let short : length units ≤ 64 = omega (arith, length-take 64 (drop (block * 64) us)) in
+    let same : block * 64 + 64 ≡ (block + 1) * 64 = omega arith in
+    let next : at + 64 ≡ start + (block + 1) * 64 = omega arith in
+    let is : rest ≡ drop ((block + 1) * 64) us = drop-drop 64 (block * 64) us ∙ ap (λ n. drop n us) same in
+    ap (λ vs. places_from at (with_separators vs)) (sym (take-append-drop 64 (drop (block * 64) us)))
+    ∙ ap (places_from at) (map-append (replaced slash separator) units rest)
+    ∙ places_from-append at (with_separators units) (with_separators rest)
+    ∙ ap (λ ps. places_from at (with_separators units) ++ ps) (next_block at units rest (full_or_last (drop (block * 64) us)))
+    ∙ ap (λ ps. ps ++ places_from (at + 64) (with_separators rest)) (sym (bit_places-units 64 at units short))
+    ∙ ap (λ n. bit_places 64 at (mask_l (map becomes_separator units)) ++ places_from n (with_separators rest)) next
+    ∙ ap (λ vs. bit_places 64 at (mask_l (map becomes_separator units)) ++ places_from (start + (block + 1) * 64) (with_separators vs)) is
+
+-- the same where the first unit has the place 0
+pub places_block-first : (us : List ℕ) (block : ℕ)
     → places_from (block * 64) (with_separators (drop (block * 64) us))
     ≡ word_places (block * 64) (block_bits block us)
     ++ places_from ((block + 1) * 64) (with_separators (drop ((block + 1) * 64) us))
-unfolding block_bits word_places
-places_block us block =
-    let at = block * 64 in
-    let units = take 64 (drop at us) in
-    let rest = drop 64 (drop at us) in
-    let short : length units ≤ 64 = omega (arith, length-take 64 (drop at us)) in
-    let next : at + 64 ≡ (block + 1) * 64 = omega arith in
-    let is : rest ≡ drop ((block + 1) * 64) us = drop-drop 64 at us ∙ ap (λ n. drop n us) next in
-    ap (λ vs. places_from at (with_separators vs)) (sym (take-append-drop 64 (drop at us)))
-    ∙ ap (places_from at) (map-append (replaced slash separator) units rest)
-    ∙ places_from-append at (with_separators units) (with_separators rest)
-    ∙ ap (λ ps. places_from at (with_separators units) ++ ps) (next_block at units rest (full_or_last (drop at us)))
-    ∙ ap (λ ps. ps ++ places_from (at + 64) (with_separators rest)) (sym (bit_places-units 64 at units short))
-    ∙ ap (λ n. bit_places 64 at (mask_l (map becomes_separator units)) ++ places_from n (with_separators rest)) next
-    ∙ ap (λ vs. bit_places 64 at (mask_l (map becomes_separator units)) ++ places_from ((block + 1) * 64) (with_separators vs)) is
+places_block-first us block =
+    let here = zero-add (block * 64) in
+    let after = places_from (0 + (block + 1) * 64) (with_separators (drop ((block + 1) * 64) us)) in
+    ap (λ n. places_from n (with_separators (drop (block * 64) us))) (sym here)
+    ∙ places_block us 0 block
+    ∙ ap (λ n. word_places n (block_bits block us) ++ after) here
+    ∙ ap (λ n. word_places (block * 64) (block_bits block us) ++ places_from n (with_separators (drop ((block + 1) * 64) us))) (zero-add ((block + 1) * 64))

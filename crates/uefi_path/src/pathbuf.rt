@@ -127,11 +127,12 @@ fn append_components_but_last<A: Allocator>(
     Ok(())
 }
 
-/// How many units the room has in which a short text is made ready to be pushed.
-const SHORT: usize = 32;
+/// How many units the room has in which a short text is made ready to be pushed: with a separator before it
+/// and the NUL after it.
+const ROOM: usize = 32;
 
 /// How many it has for a longer one. What is longer still is made in memory that it asks for.
-const LONG: usize = 256;
+const LONG_ROOM: usize = 256;
 
 /// How long a path becomes at most, when another is pushed after it.
 fn room_for_both(path: Path<'_>, other: Path<'_>) -> usize {
@@ -239,10 +240,12 @@ impl<A: Allocator + Copy> PathBuf<A> {
         ensures ok { IfOk result (λ path. path ≡ with_separators string) }
         ensures err { IfErr result (λ kept. kept ≡ string) }
     {
-        let Ok(places) = find_places(alloc, string.as_cstr16().to_u16_slice()) else {
+        let Ok((places, has_slash)) = find_places(alloc, string.as_cstr16().to_u16_slice()) else {
             return Err(string);
         };
-        string.replace_char(SLASH, SEPARATOR);
+        if has_slash {
+            string.replace_char(SLASH, SEPARATOR);
+        }
         Ok(PathBuf { string, places })
     }
 
@@ -262,7 +265,7 @@ impl<A: Allocator + Copy> PathBuf<A> {
     }
 
     /// Pushes the path of a text, as [`PathBuf::push`] does, and reads each of its units once. One pass
-    /// makes what is added and the places of the separators there.
+    /// makes what is added, and where it holds separators their places are found in that.
     ///
     /// Where memory is refused fewer may be read, and never more. Of this path the last character is
     /// looked at, which is not counted.
@@ -279,23 +282,17 @@ impl<A: Allocator + Copy> PathBuf<A> {
         if len == 0 {
             return Ok(());
         }
-        if len < SHORT {
-            return self.push_made(&mut [0; SHORT], units);
+        if len + 1 < ROOM {
+            return self.push_made(&mut [0; ROOM], units);
         }
-        if len < LONG {
-            return self.push_longer(units);
-        }
-        let mut tail = Vec::new(self.alloc());
-        tail.resize(len + 1, 0)?;
-        self.push_made(&mut tail, units)
+        self.push_longer(units)
     }
 
     /// What [`PathBuf::push_counted`] does for a longer text: a function of its own, since the compiler
     /// clears the room as soon as a function begins.
     #[inline(never)]
     fn push_longer(&mut self, units: &mut CountedUnits<'_>) -> Result<(), AllocError>
-        requires long { length (counted_text units.now) < 256 }
-        requires some { counted_text units.now ≢ [] }
+        requires { counted_text units.now ≢ [] }
         ensures ok { OnOk result (self.new ≡ pushed self.old (counted_text units.old)) }
         ensures err { OnErr result (self.new ≡ self.old) }
         ensures text { counted_text units.new ≡ counted_text units.old }
@@ -303,18 +300,26 @@ impl<A: Allocator + Copy> PathBuf<A> {
             ≡ reads_of units.old + length (counted_text units.old)) }
         ensures at_most { reads_of units.new ≤ reads_of units.old + length (counted_text units.old) }
     {
-        // A clause of this call says that the units are a text.
-        let _len = units.len();
-        self.push_made(&mut [0; LONG], units)
+        let len = units.len();
+        if len + 1 < LONG_ROOM {
+            return self.push_made(&mut [0; LONG_ROOM], units);
+        }
+        let Some(size) = len.checked_add(2) else {
+            return Err(AllocError);
+        };
+        let mut room = Vec::new(self.alloc());
+        room.resize(size, 0)?;
+        self.push_made(&mut room, units)
     }
 
     /// Makes what a push of a text adds, in this room, and adds it.
+    #[inline(always)]
     fn push_made(
         &mut self,
         room: &mut [u16],
         units: &mut CountedUnits<'_>,
     ) -> Result<(), AllocError>
-        requires room { length (counted_text units.now) < length room.now }
+        requires room { length (counted_text units.now) + 1 < length room.now }
         requires is_text { IsText (counted_text units.now) }
         requires some { counted_text units.now ≢ [] }
         ensures ok { OnOk result (self.new ≡ pushed self.old (counted_text units.old)) }
@@ -327,7 +332,7 @@ impl<A: Allocator + Copy> PathBuf<A> {
         let (end, known) = (self.string.num_chars(), self.places.len());
         let is_missing = needs_separator(&self.string);
         let added = match make_tail(room, &mut self.places, end, is_missing, units) {
-            Ok(len) => self.string.push_part(Char16Slice::from_units(&room[..len])),
+            Ok(tail) => self.string.push_str(tail),
             Err(error) => Err(error),
         };
         if added.is_err() {

@@ -309,7 +309,13 @@ impl<A: Allocator> CString16<A> {
         ensures err { OnErr result (self.new ≡ self.old) }
         ensures empty { text_of string.entry ≡ [] → IsOk result }
     {
-        self.push_part(string.as_slice())
+        let end = self.num_chars();
+        let units = string.to_u16_slice_with_nul();
+        // The first unit takes the place of the NUL, and the others bring their own: one request, and
+        // nothing to undo where it is refused.
+        self.units.extend_from_slice(&units[1..])?;
+        self.units[end] = units[0];
+        Ok(())
     }
 
     /// Adds characters, none of them NUL, after the text. Where memory is refused the string is

@@ -122,8 +122,11 @@ impl<'a> CStr16<'a> {
         Ok(CStr16 { units })
     }
 
-    /// The string of units that are known to be one.
-    pub(crate) fn from_string(units: &'a [u16]) -> CStr16<'a>
+    /// The string of units that are known to be one, as a view of them. Looks at none of them; takes no
+    /// memory. For crates that prove of units that they are a string, as paths do of what they add; all
+    /// others have the constructors above, which look.
+    #[doc(hidden)]
+    pub fn from_string(units: &'a [u16]) -> CStr16<'a>
         requires { IsString units.now }
         ensures { text_of result ≡ without_nul units.now }
     {
@@ -455,17 +458,6 @@ impl<'a> fmt::Debug for CStr16Iter<'a> {
 impl<'a> Char16Slice<'a> {
     ghost use Rattle.std.specs.Str.{encode_utf8_all};
     ghost use Rattle.uefi_text.specs.Views.{units_of, units_left};
-
-    /// The characters that code units are, none of them a surrogate, as a view of the units. Looks at
-    /// none of them; takes no memory. For crates that prove of units that they are characters, as paths
-    /// do of what they add; all others have the constructors of [`CStr16`], which look.
-    #[doc(hidden)]
-    pub fn from_units(units: &'a [u16]) -> Char16Slice<'a>
-        requires { All IsChar16 units.now }
-        ensures { units_of result ≡ units.now }
-    {
-        Char16Slice { units }
-    }
 
     /// How many characters there are.
     pub fn len(&self) -> usize

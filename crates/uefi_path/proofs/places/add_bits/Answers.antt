@@ -1,24 +1,41 @@
--- There are as many places as bits.
-use Rattle.std.proofs.Common.{◌≡◌, ◌+◌, ◌<◌, ◌^◌, arith, count_ones, length, [], ◌++◌, ap, sym, ◌∙◌}
+-- One bit more has its place added.
+use Rattle.std.proofs.Common.{◌≡◌, ◌+◌, ◌<◌, ◌≤◌, ◌^◌, ◌++◌, ◌∷◌, [], ap, append_assoc, arith, length, sym, take, ◌∙◌}
+use Rattle.std.specs.Int.Count.{count_trailing_zeros}
 use Rattle.std.proofs.lemmas.Grind.{common_steps}
-use Rattle.std.proofs.lemmas.List.{append-nil, length-drop}
+use Rattle.std.proofs.lemmas.List.{append-nil, length-take, take-append-le}
 use Rattle.uefi_path.specs.Separators.{word_places}
-use Rattle.uefi_path.proofs.SeparatorBits.{length-word_places, word_places-none}
+use Rattle.uefi_path.proofs.SeparatorBits.{cleared, word_places-lowest, word_places-none}
 use Rattle.uefi_path.proofs.places.add_bits.Goals as goal
 
-pub write_bits-requires-clause-room : goal.write_bits-requires-clause-room
-write_bits-requires-clause-room g c =
-    let bits = c.args.bits in
-    let small : bits < 2 ^ 64 = omega (arith, c.ranges.bits.fits) in
-    let many = length-word_places c.args.start bits small in
-    let known = c.len-known.result in
-    let room = c.deref_mut.result.now in
-    let long : length room ≡ known + count_ones bits = grind (arith, common_steps) in
-    omega (arith, many, long, length-drop known room)
+pub loop-left-preserved : goal.loop-left-preserved
+loop-left-preserved g c =
+    let start = c.args.start in
+    let left = c.loop-left.left in
+    let before = c.loop-left.places.items in
+    let known = c.args.places.now.items in
+    let some : 0 < left = omega (arith, c.loop-left-test.true) in
+    let small : left < 2 ^ 64 = omega (arith, c.loop-left.auto.left-fits) in
+    let place = start + count_trailing_zeros 64 left in
+    let others = word_places start (cleared left) in
+    let added : c.push.new.self.items ≡ before ++ place ∷ [] = grind (arith, common_steps) in
+    let more : length known ≤ length before =
+    omega (arith, length-take (length known) before, ap length c.loop-left.invariant.kept) in
+    record {
+      places =
+          ap (λ ps. ps ++ others) added
+          ∙ append_assoc before (place ∷ []) others
+          ∙ ap (λ ps. before ++ ps) (sym (word_places-lowest start left some small))
+          ∙ c.loop-left.invariant.places;
+      kept =
+          ap (take (length known)) added
+          ∙ take-append-le (length known) before (place ∷ []) more
+          ∙ c.loop-left.invariant.kept;
+    }
 
-pub returns-then-bits-eq0-clause-ok : goal.returns-then-bits-eq0-clause-ok
-returns-then-bits-eq0-clause-ok g c =
-    let before = c.args.places.now.items in
-    let none : word_places c.args.start c.args.bits ≡ [] =
-    ap (word_places c.args.start) c.if-bits-eq0.true ∙ word_places-none c.args.start in
-    sym (append-nil before) ∙ ap (λ ps. before ++ ps) (sym none)
+pub returns-clause-ok : goal.returns-clause-ok
+returns-clause-ok g c =
+    let start = c.args.start in
+    let none : c.loop-left.left ≡ 0 = omega (arith, c.loop-left-test.false) in
+    sym (append-nil c.loop-left.places.items)
+    ∙ ap (λ ps. c.loop-left.places.items ++ ps) (sym (ap (word_places start) none ∙ word_places-none start))
+    ∙ c.loop-left.invariant.places

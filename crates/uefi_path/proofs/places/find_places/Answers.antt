@@ -2,7 +2,7 @@
 use Rattle.std.proofs.Common.{◌≡◌, ◌+◌, ◌*◌, ◌<◌, ◌++◌, ap, append_assoc, arith, drop, length, sym, ◌∙◌}
 use Rattle.std.proofs.lemmas.Grind.{common_steps}
 use Rattle.uefi_path.specs.Separators.{block_bits, places_from, with_separators, word_places}
-use Rattle.uefi_path.proofs.SeparatorBits.{places_block}
+use Rattle.uefi_path.proofs.SeparatorBits.{places_block-first}
 use Rattle.uefi_path.proofs.places.find_places.Goals as goal
 use Rattle.uefi_path.proofs.places.find_places.Goals.{then-block-lt-KEPT, else-block-lt-KEPT}
 
@@ -11,7 +11,7 @@ bits_are g c =
     let within : c.loop-block.block * 64 < length c.args.units.now = grind (arith, common_steps) in
     elim c.if-block-lt-KEPT.branch [
       | then-block-lt-KEPT w ↦
-          let known = c.count_and_keep.ensures.kept c.loop-block.block w.if-block-lt-KEPT.true within in
+          let known = c.count_and_keep-count.ensures.kept c.loop-block.block w.if-block-lt-KEPT.true within in
           grind (arith, common_steps, known)
       | else-block-lt-KEPT w ↦ grind (arith, common_steps)
     ]
@@ -27,5 +27,5 @@ loop-block-preserved g c =
     c.in_ok-add_bits.ensures.ok ∙ ap (λ n. before ++ word_places (block * 64) n) (bits_are g c) in
     ap (λ ps. ps ++ rest) added
     ∙ append_assoc before own rest
-    ∙ ap (λ ps. before ++ ps) (sym (places_block us block))
+    ∙ ap (λ ps. before ++ ps) (sym (places_block-first us block))
     ∙ c.loop-block.invariant

@@ -1,44 +1,29 @@
--- One block more is read, and written.
-use Rattle.std.proofs.Common.{◌≡◌, ◌+◌, ◌++◌, ◌≤◌, ap, append_assoc, arith, drop, length, sym, take, ◌∙◌}
-use Rattle.std.proofs.lemmas.List.{length-take}
+-- Units without a separator add no place, and of what was replaced nothing is left to replace.
+use Rattle.std.proofs.Common.{◌≡◌, ◌++◌, OnOk, ap, arith, false, subst, sym, ◌∙◌}
+use Rattle.std.proofs.lemmas.Grind.{common_steps}
+use Rattle.std.proofs.lemmas.List.{append-nil}
+use Rattle.uefi_path.specs.Components.{IsPiece}
 use Rattle.uefi_path.specs.Separators.{places_from, with_separators}
 use Rattle.uefi_path.specs.Views.{counted_text}
-use Rattle.uefi_path.proofs.TailBlocks.{length_to_next, places_to_next, take_to_next, text_to_next}
+use Rattle.uefi_path.proofs.Pushing.{with_separators-plain}
+use Rattle.uefi_path.proofs.SeparatorPlaces.{places_from-piece}
+use Rattle.uefi_path.proofs.Splitting.{IsPlain-with_separators}
 use Rattle.uefi_path.proofs.tails.write_replaced.Goals as goal
 
-pub returns-in_err-write_block-clause-at_most : goal.returns-in_err-write_block-clause-at_most
-returns-in_err-write_block-clause-at_most g c =
-    let us = counted_text c.args.units.now in
-    let at = c.loop-at.at in
-    let same = ap (λ vs. length (take 64 (drop at vs))) c.loop-at.invariant.text in
-    omega (arith, c.write_block.ensures.count, c.loop-at.invariant.count, same, length_to_next us at, length-take (at + 64) us)
+pub returns-then-not-copy_units-clause-places : goal.returns-then-not-copy_units-clause-places
+returns-then-not-copy_units-clause-places g c =
+    let text = with_separators (counted_text c.args.units.now) in
+    let before = c.args.places.now.items in
+    let none : c.copy_units.result ≡ false = grind (arith, common_steps) in
+    let piece : IsPiece text = subst IsPiece c.copy_units.ensures.tail (c.copy_units.ensures.none none) in
+    sym (append-nil before) ∙ ap (λ ps. before ++ ps) (sym (places_from-piece c.args.start text piece))
 
-pub loop-at-preserved : goal.loop-at-preserved
-loop-at-preserved g c =
+pub returns-clause-places : goal.returns-clause-places
+returns-clause-places g c =
     let us = counted_text c.args.units.now in
-    let at = c.loop-at.at in
-    let start = c.args.start in
-    let before = c.loop-at.tail in
-    let after = c.write_block.new.tail in
-    let within : at ≤ length us = omega (arith, c.loop-at-test.true, c.loop-at.auto.tail, c.requires.room) in
-    let size : length after ≡ length us = omega (arith, c.write_block.auto.tail, c.loop-at.auto.tail, c.requires.room) in
-    let same = c.loop-at.invariant.text in
-    let wrote = rw same at c.write_block.ensures.tail in
-    let added : c.write_block.new.places.items ≡ c.loop-at.places.items ++ places_from (start + at) (with_separators (take 64 (drop at us))) =
-    rw same at c.in_ok-write_block.ensures.places in
-    let known = c.args.places.now.items in
-    let counted = ap (λ vs. length (take 64 (drop at vs))) same in
-    record {
-      tail =
-          sym (take_to_next after us at size within)
-          ∙ wrote
-          ∙ ap (λ vs. vs ++ with_separators (take 64 (drop at us))) c.loop-at.invariant.tail
-          ∙ text_to_next us at;
-      places =
-          added
-          ∙ ap (λ ps. ps ++ places_from (start + at) (with_separators (take 64 (drop at us)))) c.loop-at.invariant.places
-          ∙ append_assoc known (places_from start (with_separators (take at us))) (places_from (start + at) (with_separators (take 64 (drop at us))))
-          ∙ ap (λ ps. known ++ ps) (places_to_next us start at within);
-      text = c.write_block.ensures.text ∙ same;
-      count = omega (arith, c.write_block.ensures.count, c.loop-at.invariant.count, counted, length_to_next us at);
-    }
+    let before = c.args.places.now.items in
+    let same : with_separators c.copy_units.new.tail ≡ with_separators us =
+    ap with_separators c.copy_units.ensures.tail ∙ with_separators-plain (with_separators us) (IsPlain-with_separators us) in
+    subst
+    (λ vs. OnOk c.add_places_by_block.result (c.add_places_by_block.new.places.items ≡ before ++ places_from c.args.start vs))
+    same c.add_places_by_block.ensures.ok
