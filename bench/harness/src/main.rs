@@ -1,18 +1,27 @@
 //! Times each call of this library beside the same call of the Rust crate `uefi`, in turns.
 //!
 //! Both sides run the same loop: `rounds` calls, each on one of two equal inputs, chosen by what the
-//! calls before it returned. The least of 41 runs is taken, and the totals of the answers are
+//! calls before it returned. The least of many runs is taken, and the totals of the answers are
 //! compared. What a side does once before its rounds, as views of the inputs, is timed with no round
-//! and taken off. Arguments are parts of the names of calls; without any, all are timed.
+//! and taken off. Without the feature `original`, or where the crate has no such call, ours is timed
+//! alone.
+//!
+//! The first argument is the folder that `speed.csv`, `speed.md` and `speed.svg` are written to. The
+//! others are parts of the names of calls; without any, all are timed.
 mod calls;
+mod files;
 mod inputs;
+#[cfg(feature = "original")]
 mod original;
+mod plot;
 
 use inputs::Inputs;
-use std::time::Instant;
+use std::path::Path;
+use std::time::{Duration, Instant};
 
-/// How many runs the least is taken of.
+/// How many runs the least is taken of, and for how long runs are made: at least both.
 const RUNS: usize = 41;
+const TIME: Duration = Duration::from_millis(200);
 
 /// How long one run is to take at least, in nanoseconds.
 const LEAST_RUN: u128 = 40_000;
@@ -24,8 +33,24 @@ pub struct Call {
     pub name: &'static str,
     pub sizes: &'static [usize],
     pub inputs: fn(usize) -> Inputs,
-    pub original: Run,
+    pub original: Option<Run>,
     pub ours: Run,
+}
+
+/// What one call took on one size, in nanoseconds.
+pub struct Row {
+    pub name: &'static str,
+    pub size: usize,
+    pub original: Option<f64>,
+    pub ours: f64,
+    /// Whether both sides returned the same.
+    pub same: bool,
+}
+
+impl Row {
+    pub fn ratio(&self) -> Option<f64> {
+        self.original.map(|original| self.ours / original)
+    }
 }
 
 fn time(run: Run, inputs: &mut Inputs, rounds: usize) -> (u128, usize) {
@@ -34,7 +59,7 @@ fn time(run: Run, inputs: &mut Inputs, rounds: usize) -> (u128, usize) {
     (start.elapsed().as_nanos(), total)
 }
 
-/// As many rounds as the original takes the least run for.
+/// As many rounds as a side takes the least run for.
 fn rounds_of(run: Run, inputs: &mut Inputs) -> usize {
     let mut rounds = 2;
     while rounds < 1 << 20 && time(run, inputs, rounds).0 < LEAST_RUN {
@@ -44,13 +69,19 @@ fn rounds_of(run: Run, inputs: &mut Inputs) -> usize {
 }
 
 /// The least times of a side so far, in nanoseconds: with no round, and with all.
-#[derive(Clone, Copy)]
 struct Least {
     setup: u128,
     whole: u128,
 }
 
 impl Least {
+    fn new() -> Least {
+        Least {
+            setup: u128::MAX,
+            whole: u128::MAX,
+        }
+    }
+
     fn update(&mut self, run: Run, inputs: &mut Inputs, rounds: usize) -> usize {
         self.setup = self.setup.min(time(run, inputs, 0).0);
         let (whole, total) = time(run, inputs, rounds);
@@ -64,40 +95,60 @@ impl Least {
     }
 }
 
-fn compare(call: &Call, size: usize) {
+fn measure(call: &Call, size: usize) -> Row {
     let mut inputs = (call.inputs)(size);
-    let rounds = rounds_of(call.original, &mut inputs);
-    let mut original = Least {
-        setup: u128::MAX,
-        whole: u128::MAX,
-    };
-    let mut ours = original;
-    let mut same = true;
-    for _ in 0..RUNS {
-        let answer = original.update(call.original, &mut inputs, rounds);
-        same &= answer == ours.update(call.ours, &mut inputs, rounds);
+    let rounds = rounds_of(call.original.unwrap_or(call.ours), &mut inputs);
+    let (mut original, mut ours, mut same) = (Least::new(), Least::new(), true);
+    let (start, mut runs) = (Instant::now(), 0);
+    while runs < RUNS || start.elapsed() < TIME {
+        runs += 1;
+        let theirs = call
+            .original
+            .map(|run| original.update(run, &mut inputs, rounds));
+        let answer = ours.update(call.ours, &mut inputs, rounds);
+        same &= theirs.is_none_or(|theirs| theirs == answer);
     }
-    let (original, ours) = (original.call(rounds), ours.call(rounds));
+    Row {
+        name: call.name,
+        size,
+        original: call.original.map(|_| original.call(rounds)),
+        ours: ours.call(rounds),
+        same,
+    }
+}
+
+fn print(row: &Row) {
+    let column = |number: Option<f64>, places| {
+        number.map_or("-".to_owned(), |number| format!("{number:.places$}"))
+    };
     println!(
-        "{:34} {size:>8} {original:>12.1} {ours:>12.1} {:>7.3}{}",
-        call.name,
-        ours / original,
-        if same { "" } else { "  ANSWERS DIFFER" }
+        "{:34} {:>8} {:>12} {:>12.1} {:>7}{}",
+        row.name,
+        row.size,
+        column(row.original, 1),
+        row.ours,
+        column(row.ratio(), 3),
+        if row.same { "" } else { "  ANSWERS DIFFER" }
     );
 }
 
-fn main() {
-    let wanted: Vec<String> = std::env::args().skip(1).collect();
+fn main() -> std::io::Result<()> {
+    let mut arguments = std::env::args().skip(1);
+    let folder = arguments.next().expect("the folder of the files");
+    let wanted: Vec<String> = arguments.collect();
+    let is_wanted =
+        |name: &str| wanted.is_empty() || wanted.iter().any(|word| name.contains(word.as_str()));
     println!(
         "{:34} {:>8} {:>12} {:>12} {:>7}",
         "call", "size", "original ns", "ours ns", "ratio"
     );
-    for call in calls::CALLS {
-        if !wanted.is_empty() && !wanted.iter().any(|word| call.name.contains(word.as_str())) {
-            continue;
-        }
-        for size in call.sizes {
-            compare(call, *size);
+    let mut rows = Vec::new();
+    for call in calls::CALLS.iter().filter(|call| is_wanted(call.name)) {
+        for &size in call.sizes {
+            let row = measure(call, size);
+            print(&row);
+            rows.push(row);
         }
     }
+    files::write(Path::new(&folder), &rows)
 }

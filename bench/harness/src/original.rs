@@ -3,10 +3,9 @@ use crate::inputs::Inputs;
 use std::fmt::Write;
 use std::hint::black_box;
 use std::mem::MaybeUninit;
-use uefi::data_types::chars::Char16;
-use uefi::data_types::strs::{CStr8, CStr16, EqStrUntilNul};
-use uefi::data_types::{CString16, UnalignedSlice};
-use uefi::fs::path::{Path, PathBuf, validate_path};
+use uefi::data_types::{EqStrUntilNul, UnalignedSlice};
+use uefi::fs::{Path, PathBuf, SEPARATOR};
+use uefi::{CStr8, CStr16, CString16, Char16};
 
 fn repeat(rounds: usize, mut call: impl FnMut(usize) -> usize) -> usize {
     let mut total = 0usize;
@@ -174,8 +173,6 @@ pub fn push_str(inputs: &mut Inputs, rounds: usize) -> usize {
     repeat(rounds, |k| pushed_len(&mut string, strings[k]))
 }
 
-const SEPARATOR: Char16 = uefi::fs::path::SEPARATOR;
-
 #[inline(never)]
 fn pushed_one(string: &mut CString16, character: Char16) -> usize {
     string.push(character);
@@ -333,16 +330,6 @@ fn parent_len(path: &Path) -> usize {
 pub fn parent(inputs: &mut Inputs, rounds: usize) -> usize {
     let paths = paths(inputs);
     repeat(rounds, |k| parent_len(paths[k]))
-}
-
-#[inline(never)]
-fn is_valid(path: &Path) -> bool {
-    validate_path(path).is_ok()
-}
-
-pub fn validate(inputs: &mut Inputs, rounds: usize) -> usize {
-    let paths = paths(inputs);
-    repeat(rounds, |k| usize::from(is_valid(paths[k])))
 }
 
 #[inline(never)]

@@ -100,22 +100,23 @@ pub fn units_of_text<A: Allocator>(alloc: A, text: &str) -> Result<Vec<u16, A>, 
 }
 
 /// Writes a Rust text and a NUL into the prefix of a buffer, and returns how many units they are:
-/// `CStr16::write_str` says the rest. Where the buffer has room for a unit a byte, the bytes are tested
-/// first, so that the characters are written with no test; takes no memory.
+/// `CStr16::write_str` says the rest. The bytes are tested first, so that the characters are written
+/// with no test, unless the buffer is so small that most of them are not looked at: a character takes
+/// at most four bytes. Takes no memory.
 pub fn write_text(input: &str, buffer: &mut [u16]) -> Result<usize, FromStrWithBufError>
     ensures ok { IfOk result (λ len. len ≡ length (chars input.now) + 1) }
     ensures refusal { result_err result
         ≡ from_str_with_buf_refusal (chars input.now) (length buffer.old) }
     ensures buffer { buffer.new ≡ with_text (chars input.now) buffer.old }
 {
-    if buffer.len() <= input.len() {
+    if buffer.len() <= input.len() / 4 {
         return write_chars(input, buffer);
     }
-    if is_ascii_text(input.as_bytes()) {
+    if input.len() < buffer.len() && is_ascii_text(input.as_bytes()) {
         return Ok(write_ascii(input.as_bytes(), buffer));
     }
     if find_deciding_char(input).is_none() {
-        return Ok(write_undecided(input, buffer));
+        return write_accepted(input, buffer);
     }
     write_chars(input, buffer)
 }
@@ -130,6 +131,29 @@ fn write_ascii(bytes: &[u8], buffer: &mut [u16]) -> usize
     widen(&mut buffer[..end + 1], bytes);
     buffer[end] = 0;
     end + 1
+}
+
+/// The same of a text of which no character is refused.
+fn write_accepted(input: &str, buffer: &mut [u16]) -> Result<usize, FromStrWithBufError>
+    requires { find is_deciding_char (chars input.now) ≡ None }
+    ensures ok { IfOk result (λ len. len ≡ length (chars input.now) + 1) }
+    ensures refusal { result_err result
+        ≡ from_str_with_buf_refusal (chars input.now) (length buffer.old) }
+    ensures buffer { buffer.new ≡ with_text (chars input.now) buffer.old }
+{
+    if buffer.is_empty() {
+        return Err(FromStrWithBufError::BufferTooSmall);
+    }
+    let mut place = 0;
+    for character in input.chars() {
+        buffer[place] = character as u16;
+        place += 1;
+        if buffer.len() == place {
+            return Err(FromStrWithBufError::BufferTooSmall);
+        }
+    }
+    buffer[place] = 0;
+    Ok(place + 1)
 }
 
 /// The same, character by character.

@@ -1,13 +1,10 @@
 -- A text of ASCII is its own units, and none of its characters is refused.
-use Rattle.std.proofs.Common.{◌≡◌, ◌∙◌, ap, length, true, None, arith}
-use Rattle.std.specs.List.{find, fold}
-use Rattle.std.specs.Str.{chars}
+use Rattle.std.proofs.Common.{◌≡◌, ap, length, true, arith}
+use Rattle.std.specs.List.{fold}
 use Rattle.std.proofs.lemmas.Grind.{common_steps}
 use Rattle.uefi_text_encodings.specs.Scans.{ascii_text_so_far}
-use Rattle.uefi_text_encodings.specs.FromStr.{is_deciding_char}
 use Rattle.uefi_text_encodings.proofs.Utf8Bytes.{ascii_text_chars}
 use Rattle.uefi_text_encodings.proofs.Utf16.{undecided}
-use Rattle.uefi_text_encodings.proofs.Texts.{length-chars}
 use Rattle.uefi_text_encodings.proofs.code_units.write_text.Goals as goal
 
 pub returns-then-is_ascii_text-clause-ok : goal.returns-then-is_ascii_text-clause-ok
@@ -28,16 +25,3 @@ returns-then-is_ascii_text-clause-buffer c =
     let text = ascii_text_chars c.args.input.now all in
     let written = (undecided c.args.buffer.now c.args.input.now text.1 (omega arith)).0 in
     rw text.0 (grind (arith, common_steps))
-
--- And a text of which no character is refused is its own units too.
-pub returns-then-is_none-clause-refusal : goal.returns-then-is_none-clause-refusal
-returns-then-is_none-clause-refusal c =
-    let text = chars c.args.input.now in
-    let none : find is_deciding_char text ≡ None = grind (arith, common_steps) in
-    (undecided c.args.buffer.now text none (omega (arith, length-chars c.args.input.now c.utf8.input))).1
-
-pub returns-then-is_none-clause-buffer : goal.returns-then-is_none-clause-buffer
-returns-then-is_none-clause-buffer c =
-    let text = chars c.args.input.now in
-    let none : find is_deciding_char text ≡ None = grind (arith, common_steps) in
-    c.write_undecided.ensures.units ∙ (undecided c.args.buffer.now text none (omega (arith, length-chars c.args.input.now c.utf8.input))).0
