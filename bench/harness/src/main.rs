@@ -23,7 +23,7 @@ use std::time::{Duration, Instant};
 const RUNS: usize = 41;
 const TIME: Duration = Duration::from_millis(200);
 
-/// How long one run is to take at least, in nanoseconds.
+/// How long the rounds of a run are to take at least, in nanoseconds.
 const LEAST_RUN: u128 = 40_000;
 
 pub type Run = fn(&mut Inputs, usize) -> usize;
@@ -59,15 +59,6 @@ fn time(run: Run, inputs: &mut Inputs, rounds: usize) -> (u128, usize) {
     (start.elapsed().as_nanos(), total)
 }
 
-/// As many rounds as a side takes the least run for.
-fn rounds_of(run: Run, inputs: &mut Inputs) -> usize {
-    let mut rounds = 2;
-    while rounds < 1 << 20 && time(run, inputs, rounds).0 < LEAST_RUN {
-        rounds *= 2;
-    }
-    rounds
-}
-
 /// The least times of a side so far, in nanoseconds: with no round, and with all.
 struct Least {
     setup: u128,
@@ -89,10 +80,30 @@ impl Least {
         total
     }
 
-    /// What one call takes, without what is done once before all.
-    fn call(&self, rounds: usize) -> f64 {
-        self.whole.saturating_sub(self.setup) as f64 / rounds as f64
+    /// What the rounds take, without what is done once before them.
+    fn rounds(&self) -> u128 {
+        self.whole.saturating_sub(self.setup)
     }
+
+    fn call(&self, rounds: usize) -> f64 {
+        self.rounds() as f64 / rounds as f64
+    }
+}
+
+/// As many rounds as a side takes the least run for, and as long as what it does once.
+fn rounds_of(run: Run, inputs: &mut Inputs) -> usize {
+    let mut rounds = 2;
+    while rounds < 1 << 20 {
+        let mut least = Least::new();
+        for _ in 0..3 {
+            least.update(run, inputs, rounds);
+        }
+        if least.rounds() >= LEAST_RUN.max(least.setup) {
+            break;
+        }
+        rounds *= 2;
+    }
+    rounds
 }
 
 fn measure(call: &Call, size: usize) -> Row {
