@@ -12,7 +12,11 @@ const ROWS: &[(&str, Verdict, Verdict)] = &[
     ("\u{ffff}", Verdict::Accepted, Verdict::Accepted),
     ("\\.\\b", Verdict::Accepted, Verdict::Accepted),
     ("a\\..\\b", Verdict::Accepted, Verdict::Accepted),
-    ("\\..\\..\\", Verdict::ClimbsAboveRoot, Verdict::ClimbsAboveRoot),
+    (
+        "\\..\\..\\",
+        Verdict::ClimbsAboveRoot,
+        Verdict::ClimbsAboveRoot,
+    ),
     ("a/b", Verdict::IllegalChar(47), Verdict::Accepted),
     ("\"", Verdict::IllegalChar(34), Verdict::IllegalChar(34)),
     ("*", Verdict::IllegalChar(42), Verdict::IllegalChar(42)),

@@ -18,7 +18,8 @@ fn begins_with(buffer: &[u16], text: &[u16]) -> bool {
     }
 }
 
-/// Whether a call that was to write this text, if there is one, answers as it has to, and leaves the buffer so.
+/// Whether a call that was to write this text, if there is one, answers as it has to, and leaves the
+/// buffer so.
 fn is_written(
     answer: Result<Option<usize>, usize>,
     buffer: &[u16],

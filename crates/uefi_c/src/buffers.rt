@@ -267,14 +267,14 @@ pub extern "C" fn uefi_path_parent(path: &[u16], buffer: &mut [u16], place: &mut
     }
 }
 
-/// Writes the normal path of a string's path, as `Path::normalize` makes it, into the first places of a buffer,
-/// and a NUL.
+/// Writes the normal path of a string's path, as `Path::normalize` makes it, into the first places of a
+/// buffer, and a NUL.
 ///
 /// Units that begin with no string are refused as by `uefi_string_until_nul`, and then a path that is not
 /// valid as by `uefi_path_verdict`, with its `place` and its `character`. Else `place` becomes how many units
 /// the normal path has, and a buffer of no more places is `BUFFER_TOO_SMALL`. Refused, the buffer stays
-/// unchanged; what stands after the NUL stays. `character` becomes 0 but where a character is the reason. Three
-/// passes over the path; takes no memory.
+/// unchanged; what stands after the NUL stays. `character` becomes 0 but where a character is the
+/// reason. Three passes over the path; takes no memory.
 #[unsafe(no_mangle)]
 pub extern "C" fn uefi_path_normalize(
     path: &[u16],

@@ -7,7 +7,7 @@ use Rattle.uefi_path.specs.NormalForms.{IsName, dot_dot, normal_of}
 use Rattle.uefi_path.specs.Separators.{is_separator}
 use Rattle.uefi_path.specs.declared.names.NamesFromLast.{NamesFromLast}
 
--- the names that stay of pieces, where so many `..` stand after them
+-- the names that stay of pieces, where `climbs` times `..` stands after them
 abbrev pub names_before : List (List ℕ) → ℕ → List (List ℕ)
 names_before pieces climbs = normal_of (pieces ++ replicate climbs dot_dot)
 

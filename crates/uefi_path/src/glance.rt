@@ -1,5 +1,6 @@
-//! A glance at a path, which shows of most valid ones that they are: whole blocks of units are tested at once, in
-//! forms that become vector code. What a glance does not show says nothing: [`validate_path`] goes on then.
+//! A glance at a path, which shows of most valid ones that they are: whole blocks of units are tested at
+//! once, in forms that become vector code. What a glance does not show says nothing: [`validate_path`]
+//! goes on then.
 //!
 //! [`validate_path`]: crate::validation::validate_path
 ghost use Rattle.std.specs.Prelude.{◌≡◌, ◌≢◌, ◌+◌, ◌<◌, ◌^◌, ℕ, [], IsTrue, List, None, false, length, slice_index};
@@ -46,8 +47,8 @@ fn has_separator_before(units: &[u16], after: &[u16], unit: u16) -> bool
     found
 }
 
-/// Whether a component after the first one is empty or begins with a dot, where each unit of `after` stands after that of
-/// `units`.
+/// Whether a component after the first one is empty or begins with a dot, where each unit of `after`
+/// stands after that of `units`.
 #[inline(always)]
 fn has_hidden_start(units: &[u16], after: &[u16]) -> bool
     requires { length units.now ≡ length after.now }
@@ -58,8 +59,8 @@ fn has_hidden_start(units: &[u16], after: &[u16]) -> bool
         || has_separator_before(units, after, DOT)
 }
 
-/// Whether units show no fault: none is denied in a name, but for separators, and no component but the first is empty
-/// or begins with a dot.
+/// Whether units show no fault: none is denied in a name, but for separators, and no component but the
+/// first is empty or begins with a dot.
 #[inline(always)]
 fn show_no_fault(units: &[u16]) -> bool
     ensures { IsTrue result → AreShown units.now }
@@ -91,7 +92,8 @@ fn long_shows_valid(units: &[u16]) -> bool
         return false;
     }
     let mut start = 0;
-    // Each block begins with the last unit of the one before it, so that each unit is seen with its neighbour.
+    // Each block begins with the last unit of the one before it, so that each unit is seen with its
+    // neighbour.
     while start + BLOCK < len {
         if !show_no_fault(&units[start..start + BLOCK]) {
             return false;

@@ -79,7 +79,8 @@ impl<'a> NamesFromLast<'a> {
     /// Whether the piece that was cut stays, which is a name that no `..` takes.
     fn keeps(&mut self, piece: Char16Slice<'_>) -> bool
         requires { self.now.climbs + 1 < 2 ^ 64 }
-        ensures kept { (pieces : List (List ℕ)) → names_before (pieces ++ units_of piece.entry ∷ []) self.old.climbs
+        ensures kept { (pieces : List (List ℕ)) →
+            names_before (pieces ++ units_of piece.entry ∷ []) self.old.climbs
             ≡ names_before pieces self.new.climbs ++ (if result then units_of piece.entry ∷ [] else []) }
         ensures climbs { self.new.climbs ≤ self.old.climbs + length (units_of piece.entry) }
         ensures rest { self.new.rest ≡ self.old.rest }

@@ -364,8 +364,8 @@ impl<A: Allocator + Copy> PathBuf<A> {
         Ok(joined)
     }
 
-    /// Where the last separator stands, if the parent is what stands before it: the path begins with a name, and no
-    /// component between two separators is empty.
+    /// Where the last separator stands, if the parent is what stands before it: the path begins with a
+    /// name, and no component between two separators is empty.
     fn cut_place(&self) -> Option<usize>
         ensures some { IfSome result (λ last. 0 < length (places_of self.now)) }
         ensures within { IfSome result (λ last. last < length self.now) }

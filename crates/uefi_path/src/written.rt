@@ -113,7 +113,8 @@ fn write_separator_before(buffer: &mut [u16], start: usize) -> usize
     start - 1
 }
 
-/// Writes a name, each slash replaced, before what stands at the end of a buffer, and returns where it begins.
+/// Writes a name, each slash replaced, before what stands at the end of a buffer, and returns where it
+/// begins.
 fn write_name_before(buffer: &mut [u16], end: usize, name: &[u16]) -> usize
     requires within { end ≤ length buffer.now }
     requires room { length name.now ≤ end }
