@@ -274,7 +274,7 @@ pub extern "C" fn uefi_path_parent(path: &[u16], buffer: &mut [u16], place: &mut
 /// valid as by `uefi_path_verdict`, with its `place` and its `character`. Else `place` becomes how many units
 /// the normal path has, and a buffer of no more places is `BUFFER_TOO_SMALL`. Refused, the buffer stays
 /// unchanged; what stands after the NUL stays. `character` becomes 0 but where a character is the
-/// reason. Three passes over the path; takes no memory.
+/// reason. Two passes over the path after those of `uefi_path_verdict`; takes no memory.
 #[unsafe(no_mangle)]
 pub extern "C" fn uefi_path_normalize(
     path: &[u16],

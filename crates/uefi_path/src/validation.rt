@@ -98,9 +98,9 @@ fn depth_after(depth: usize, component: Char16Slice<'_>) -> Option<usize>
 /// The empty path is refused as `Empty`; the lone separator has no component and is accepted. An
 /// empty component is refused as `EmptyComponent`, one that holds a character of
 /// [`CHARACTER_DENY_LIST`] as `IllegalChar` of its first such, and a `..` as `ClimbsAboveRoot` where the
-/// components before it hold at least as many `..` as names. A `.` is no name. A pass that sees most valid
-/// paths as such ends some hundred characters after the first fault at the latest, and one that explains a
-/// refusal ends at it; takes no memory.
+/// components before it hold at least as many `..` as names. A `.` is no name. At most two passes: one of
+/// a longer path sees most valid ones as such, and ends with the 128 characters that hold a fault; the other
+/// explains a refusal, and ends at the fault. Takes no memory.
 pub fn validate_path(path: Path<'_>) -> Result<(), PathError>
     ensures refusal { result_err result ≡ verdict (path_text path.entry) }
     ensures valid { IsOk result ↔ IsValid (path_text path.entry) }

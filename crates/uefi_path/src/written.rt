@@ -171,8 +171,8 @@ impl<'a> Path<'a> {
     /// returns how many units that are. Writes no NUL; what stands after the path stays.
     ///
     /// `Ok(None)` where the path is not valid, which [`validate_path`] explains, and `Err` with the
-    /// length of the normal path where the buffer has fewer places; the buffer is unchanged then. Three
-    /// passes over the components; takes no memory.
+    /// length of the normal path where the buffer has fewer places; the buffer is unchanged then. Two
+    /// passes over the components after those of [`validate_path`]; takes no memory.
     pub fn write_normal(&self, buffer: &mut [u16]) -> Result<Option<usize>, usize>
         ensures len { result ≡ written_len (normal_path (path_text self.now)) buffer.old }
         ensures buffer { buffer.new ≡ written_over (normal_path (path_text self.now)) buffer.old }
