@@ -13,7 +13,7 @@ fn fills_sink(rt: &HostRuntime, string: CStr16<'_>, text: &str) -> bool {
 
 #[test]
 fn long_texts(rt: HostRuntime) -> Result<(), Fail> {
-    for piece in ["ab", "aé"] {
+    for piece in ["ab", "aé", "漢字", "a漢"] {
         let text = repeated(rt.alloc(), piece, 50_000)?;
         let string = string(rt.alloc(), &text)?;
         let is_right = gives_text(&rt, string.as_cstr16(), &text)?

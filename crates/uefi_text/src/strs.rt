@@ -3,7 +3,7 @@
 //! each view shows.
 #![tactic(auto, unfolding(crate::specs::Views::text_of, crate::specs::Views::units_of, crate::specs::Views::units_left))]
 
-ghost use Rattle.std.specs.Prelude.{◌≡◌, ◌<◌, ◌≤◌, ◌+◌, ◌*◌, ◌^◌, ◌↔◌, ◌==◌, ◌≢◌, ◌++◌, if◌then◌else◌, [], ℕ, List, Option, All, length, position, slice_get, slice_index, slice_range, take, IsTrue, IsOk, IfOk, IfSome, OnErr, OnOk, Some};
+ghost use Rattle.std.specs.Prelude.{◌≡◌, ◌<◌, ◌≤◌, ◌+◌, ◌*◌, ◌^◌, ◌↔◌, ◌==◌, ◌≢◌, ◌++◌, if◌then◌else◌, [], ℕ, List, Option, All, length, position, slice_get, slice_index, slice_range, take, IsTrue, IsOk, IfOk, IfSome, OnErr, OnOk, Some, false, true};
 ghost use Rattle.std.specs.Char.Escape.{encode_utf16};
 ghost use Rattle.std.specs.Result.{result_err};
 ghost use Rattle.std.specs.Str.{chars};
@@ -272,15 +272,21 @@ impl<'a> CStr16<'a> {
     }
 
     /// Adds the characters of the text to a sink, in order, up to the first that it refuses. The sink
-    /// then holds those before it, and is left there. One pass; takes no memory but the sink's.
+    /// then holds those before it, and is left there. The UTF-8 of 64 characters at a time is offered to
+    /// the sink; those that it does not take as a whole are written one by one. Takes no memory but the
+    /// sink's.
     pub fn as_str_in_buf<W: CharSink>(&self, buf: &mut W) -> fmt::Result
         ensures ok { OnOk result (W.text buf.new ≡ W.text buf.old ++ encode_utf8_all (text_of self.now)) }
         ensures err { OnErr result ((k : ℕ) × (k < length (text_of self.now))
             × (W.text buf.new ≡ W.text buf.old ++ encode_utf8_all (take k (text_of self.now)))
             × W.may_refuse (W.text buf.new) (slice_index (text_of self.now) k)) }
     {
-        for c in self.iter() {
-            buf.write_char(char::from(c))?;
+        let characters = self.as_slice();
+        let mut start = 0;
+        while start < characters.len() {
+            let end = start + BLOCK.min(characters.len() - start);
+            characters.part(start, end).write_block_to(buf)?;
+            start = end;
         }
         Ok(())
     }
@@ -512,6 +518,48 @@ impl<'a> Char16Slice<'a> {
         ensures err { OnErr result (bytes.new.items ≡ bytes.old.items) }
     {
         add_utf8(bytes, self.units)
+    }
+
+    /// Adds at most [`BLOCK`] characters to a sink at once, where it takes them so.
+    #[inline(always)]
+    fn write_whole_to<W: CharSink>(&self, sink: &mut W) -> bool
+        requires { length (units_of self.now) ≤ 64 }
+        ensures all { result ≡ true
+            → W.text sink.new ≡ W.text sink.old ++ encode_utf8_all (units_of self.now) }
+        ensures none { result ≡ false → W.text sink.new ≡ W.text sink.old }
+    {
+        let mut room = [0; 3 * BLOCK];
+        let len = write_utf8(&mut room, self.units);
+        // SAFETY: the bytes are UTF-8, which is proved here as the condition of the call.
+        sink.write_whole(unsafe { str::from_utf8_unchecked(&room[..len]) })
+    }
+
+    /// Adds at most [`BLOCK`] characters to a sink, up to the first that it refuses.
+    #[inline(always)]
+    fn write_block_to<W: CharSink>(&self, sink: &mut W) -> fmt::Result
+        requires { length (units_of self.now) ≤ 64 }
+        ensures ok { OnOk result (W.text sink.new ≡ W.text sink.old ++ encode_utf8_all (units_of self.now)) }
+        ensures err { OnErr result ((k : ℕ) × (k < length (units_of self.now))
+            × (W.text sink.new ≡ W.text sink.old ++ encode_utf8_all (take k (units_of self.now)))
+            × W.may_refuse (W.text sink.new) (slice_index (units_of self.now) k)) }
+    {
+        if self.write_whole_to(sink) {
+            return Ok(());
+        }
+        self.write_each_to(sink)
+    }
+
+    /// Adds the characters to a sink, one by one, up to the first that it refuses.
+    fn write_each_to<W: CharSink>(&self, sink: &mut W) -> fmt::Result
+        ensures ok { OnOk result (W.text sink.new ≡ W.text sink.old ++ encode_utf8_all (units_of self.now)) }
+        ensures err { OnErr result ((k : ℕ) × (k < length (units_of self.now))
+            × (W.text sink.new ≡ W.text sink.old ++ encode_utf8_all (take k (units_of self.now)))
+            × W.may_refuse (W.text sink.new) (slice_index (units_of self.now) k)) }
+    {
+        for c in self.iter() {
+            sink.write_char(char::from(c))?;
+        }
+        Ok(())
     }
 
     /// The characters from the place `start` on, up to and without the place `end`.

@@ -1,5 +1,6 @@
 pub mod Scanning
 pub mod Utf8Bytes
+pub mod Parts
 pub mod Deciding
 pub mod Texts
 pub mod Utf16
@@ -9,3 +10,4 @@ pub mod UnitBytes
 pub mod Prefixes
 pub mod Accepting
 pub mod Writing
+pub mod Decoding

@@ -17,7 +17,7 @@ use Rattle.uefi_text_encodings.specs.Latin1.{IsLatin1}
 use Rattle.uefi_text_encodings.specs.Scans.{ascii_text_so_far, byte_beyond_latin1_so_far, deciding_byte_so_far, zero_so_far}
 
 -- the first byte is ASCII and not NUL, and so are the others
-ascii_text_cons : (b : ℕ) (bs : List ℕ) → fold ascii_text_so_far true (b ∷ bs) ≡ true
+pub ascii_text_cons : (b : ℕ) (bs : List ℕ) → fold ascii_text_so_far true (b ∷ bs) ≡ true
     → (ascii_text_so_far true b ≡ true) × (fold ascii_text_so_far true bs ≡ true)
 ascii_text_cons b bs e =
     let stuck : fold ascii_text_so_far false bs ≡ false = fold_stays ascii_text_so_far false (λ _. refl) bs in

@@ -1,6 +1,6 @@
 //! Places that take characters one by one: a [`String`], an [`ArrayString`] of fixed room, or a
 //! caller's own. What a call leaves in one is said by the trait's clauses alone.
-ghost use Rattle.std.specs.Prelude.{◌≡◌, ℕ, ◌+◌, ◌<◌, ◌≤◌, ◌++◌, ◌↔◌, List, IsOk, OnErr, OnOk, encode_utf8, length, string_bytes, ⊤};
+ghost use Rattle.std.specs.Prelude.{◌≡◌, ℕ, ◌+◌, ◌<◌, ◌≤◌, ◌++◌, ◌↔◌, List, IsOk, OnErr, OnOk, encode_utf8, false, length, string_bytes, true, ⊤};
 
 use arrayvec::ArrayString;
 use std::alloc::Allocator;
@@ -20,6 +20,16 @@ pub trait CharSink {
         ensures ok { OnOk result (text self.new ≡ text self.old ++ encode_utf8 c) }
         ensures err { OnErr result (text self.new ≡ text self.old) }
         ensures refused { OnErr result (may_refuse (text self.old) c) };
+
+    /// Adds all of a Rust text at once, or returns `false` and leaves the text unchanged. Its caller
+    /// then adds the characters one by one, up to the first that is refused. A sink without a quicker
+    /// way always returns `false`, as it does where this method is left out.
+    fn write_whole(&mut self, string: &str) -> bool
+        ensures all { result ≡ true → text self.new ≡ text self.old ++ string.now }
+        ensures none { result ≡ false → text self.new ≡ text self.old }
+    {
+        false
+    }
 }
 
 /// Any character may be refused, and is only where its memory is: a contract cannot say that memory
@@ -34,6 +44,11 @@ impl<A: Allocator> CharSink for String<A> {
             Ok(()) => Ok(()),
             Err(_) => Err(fmt::Error),
         }
+    }
+
+    /// Asks for no memory: a text that would need more is left to `write_char`.
+    fn write_whole(&mut self, string: &str) -> bool {
+        string.len() <= self.capacity() - self.len() && self.push_str(string).is_ok()
     }
 }
 
@@ -53,5 +68,9 @@ impl<const N: usize> CharSink for ArrayString<N> {
             Ok(()) => Ok(()),
             Err(_) => Err(fmt::Error),
         }
+    }
+
+    fn write_whole(&mut self, string: &str) -> bool {
+        self.try_push_str(string).is_ok()
     }
 }

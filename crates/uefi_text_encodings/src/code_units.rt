@@ -1,9 +1,9 @@
 //! Code units of Rust texts: in a vector, where the text is one of UCS-2, or in a buffer.
-ghost use Rattle.std.specs.Prelude.{◌≡◌, ◌+◌, ◌<◌, ◌≤◌, ◌++◌, if◌then◌else◌, None, Some, drop, find, length, take, unwrap_or, IfOk, IfErr};
+ghost use Rattle.std.specs.Prelude.{◌∷◌, ◌≡◌, ◌+◌, ◌<◌, ◌≤◌, ◌++◌, if◌then◌else◌, None, Some, drop, find, length, take, unwrap_or, IfOk, IfErr, IfSome};
 ghost use Rattle.std.specs.Option.{SomeIff};
 ghost use Rattle.std.specs.Char.Escape.{encode_utf16};
 ghost use Rattle.std.specs.Result.{result_err};
-ghost use Rattle.std.specs.Str.{chars};
+ghost use Rattle.std.specs.Str.{chars, IsUtf8};
 ghost use Rattle.uefi_text_encodings.specs.Units.{IsText, nul_terminated};
 ghost use Rattle.uefi_text_encodings.specs.FromStr.{is_deciding_char, from_str_refusal};
 ghost use Rattle.uefi_text_encodings.specs.FromStrWithBuf.{from_str_with_buf_refusal, refusal_of_char_at, with_text, with_units};
@@ -11,6 +11,7 @@ ghost use Rattle.uefi_text_encodings.specs.FromStrWithBuf.{from_str_with_buf_ref
 use crate::errors::{FromStrError, FromStrWithBufError};
 use crate::scans::{has_deciding_byte, is_ascii_text, widen};
 use std::alloc::{AllocError, Allocator};
+use std::simd::prelude::*;
 
 /// The first character that no UCS-2 text holds. Characters are decoded only where a byte gives
 /// cause to.
@@ -63,6 +64,121 @@ fn units_of_chars<A: Allocator>(alloc: A, text: &str) -> Result<Vec<u16, A>, All
     Ok(units)
 }
 
+/// The first eight characters of a text of UCS-2, where each has three bytes.
+#[inline(always)]
+fn first_eight(text: &str) -> Option<[u16; 8]>
+    requires { find is_deciding_char (chars text.now) ≡ None }
+    ensures { IfSome result (λ units. (length units ≡ 8) × (24 ≤ length text.now)
+        × (chars text.now ≡ units ++ chars (drop 24 text.now)) × IsUtf8 (drop 24 text.now)) }
+{
+    let bytes = text.as_bytes();
+    if bytes.len() < 24 {
+        return None;
+    }
+    let front = u8x16::from_slice(bytes);
+    let back = u8x16::from_slice(&bytes[8..]);
+    let first: u8x8 = front.shuffle(back, [0, 3, 6, 9, 12, 15, 26, 29]);
+    if first.simd_lt(u8x8::splat(0xe0)).to_bitmask() != 0 {
+        return None;
+    }
+    let second: u8x8 = front.shuffle(back, [1, 4, 7, 10, 13, 24, 27, 30]);
+    let third: u8x8 = front.shuffle(back, [2, 5, 8, 11, 14, 25, 28, 31]);
+    let high = first.cast::<u16>() * u16x8::splat(4096);
+    let middle = second.cast::<u16>() * u16x8::splat(64);
+    // What the bytes have beside the bits of the character is 0xe0, 0x80 and 0x80, modulo 2^16.
+    let units = high + middle + third.cast::<u16>() - u16x8::splat(0x2080);
+    Some(units.to_array())
+}
+
+/// Whether most characters of the first 64 bytes have three bytes: then most others are likely to.
+#[inline(always)]
+fn look_wide(bytes: &[u8]) -> bool {
+    64 <= bytes.len()
+        && 18
+            <= u8x64::from_slice(bytes)
+                .simd_ge(u8x64::splat(0xe0))
+                .to_bitmask()
+                .count_ones()
+}
+
+/// What follows the first eight characters of a text, where each has three bytes.
+#[inline(always)]
+fn after_eight(text: &str) -> &str
+    requires long { 24 ≤ length text.now }
+    requires utf8 { IsUtf8 (drop 24 text.now) }
+    ensures { result.now ≡ drop 24 text.now }
+{
+    // SAFETY: the bytes are UTF-8, which is a condition on the caller.
+    unsafe { str::from_utf8_unchecked(&text.as_bytes()[24..]) }
+}
+
+/// The first character of a text of UCS-2, and what follows it.
+#[inline(always)]
+fn first_unit(text: &str) -> Option<(u16, &str)>
+    requires { find is_deciding_char (chars text.now) ≡ None }
+    ensures { IfSome result (λ first.
+        (chars text.now ≡ first.0 ∷ chars first.1.now) × IsUtf8 first.1.now) }
+{
+    let mut characters = text.chars();
+    let character = characters.next()?;
+    Some((character as u16, characters.as_str()))
+}
+
+/// Writes eight units from a place on.
+#[inline(always)]
+fn write_eight(units: &mut [u16], place: usize, eight: [u16; 8])
+    requires { place + 8 ≤ length units.old }
+    ensures { units.new ≡ take place units.old ++ (eight ++ drop (place + 8) units.old) }
+{
+    units[place..place + 8].copy_from_slice(&eight);
+}
+
+/// Writes characters of a text of UCS-2 into the prefix of units, up to near the end of the text or of
+/// the units. Returns how many were written, and what follows them. Writes none where most look narrower
+/// than three bytes: then it is quicker to decode all of them one by one.
+#[inline(always)]
+fn write_front<'a>(text: &'a str, units: &mut [u16]) -> (usize, &'a str)
+    requires undecided { find is_deciding_char (chars text.now) ≡ None }
+    requires some { 0 < length units.old }
+    ensures place { result.0 < length units.new }
+    ensures count { result.0 ≤ length (chars text.now) }
+    ensures rest { take result.0 (chars text.now) ++ chars result.1.now ≡ chars text.now }
+    ensures units { units.new ≡ take result.0 (chars text.now) ++ drop result.0 units.old }
+{
+    if look_wide(text.as_bytes()) {
+        return write_wide(text, units);
+    }
+    (0, text)
+}
+
+/// The same, eight characters at a time where each has three bytes.
+#[inline(never)]
+fn write_wide<'a>(text: &'a str, units: &mut [u16]) -> (usize, &'a str)
+    requires undecided { find is_deciding_char (chars text.now) ≡ None }
+    requires some { 0 < length units.old }
+    ensures place { result.0 < length units.new }
+    ensures count { result.0 ≤ length (chars text.now) }
+    ensures rest { take result.0 (chars text.now) ++ chars result.1.now ≡ chars text.now }
+    ensures units { units.new ≡ take result.0 (chars text.now) ++ drop result.0 units.old }
+{
+    let mut rest = text;
+    let mut len = 0;
+    while 8 < units.len() - len {
+        if let Some(eight) = first_eight(rest) {
+            write_eight(units, len, eight);
+            rest = after_eight(rest);
+            len += 8;
+        } else if let Some((unit, others)) = first_unit(rest) {
+            units[len] = unit;
+            rest = others;
+            len += 1;
+        } else {
+            break;
+        }
+    }
+    (len, rest)
+}
+
 /// Writes a text of UCS-2 and a NUL into the prefix of units, and returns how many they are. No text
 /// has more characters than bytes.
 fn write_undecided(text: &str, units: &mut [u16]) -> usize
@@ -73,8 +189,9 @@ fn write_undecided(text: &str, units: &mut [u16]) -> usize
     ensures units { units.new
         ≡ nul_terminated (chars text.now) ++ drop (length (chars text.now) + 1) units.old }
 {
-    let mut len = 0;
-    for character in text.chars() {
+    let (start, rest) = write_front(text, units);
+    let mut len = start;
+    for character in rest.chars() {
         units[len] = character as u16;
         len += 1;
     }
@@ -144,8 +261,9 @@ fn write_accepted(input: &str, buffer: &mut [u16]) -> Result<usize, FromStrWithB
     if buffer.is_empty() {
         return Err(FromStrWithBufError::BufferTooSmall);
     }
-    let mut place = 0;
-    for character in input.chars() {
+    let (start, rest) = write_front(input, buffer);
+    let mut place = start;
+    for character in rest.chars() {
         buffer[place] = character as u16;
         place += 1;
         if buffer.len() == place {

@@ -9,6 +9,7 @@ ghost use Rattle.uefi_text_encodings.specs.UnitBytes.{unit_bytes};
 ghost use Rattle.uefi_text_encodings.specs.Units.{is_deciding, is_nul, deciding_place, replaced};
 
 use crate::chars::is_surrogate;
+use std::simd::prelude::*;
 
 /// How many elements a block has.
 const BLOCK: usize = 64;
@@ -69,19 +70,81 @@ pub fn find_deciding_place(units: &[u16]) -> Option<usize>
     }
 }
 
+/// How many units of a short text are looked at together.
+const UNITS_PART: usize = 8;
+
+/// How many bytes of a short text are looked at together.
+const BYTES_PART: usize = 16;
+
+/// Whether one of these units is beyond ASCII.
+#[inline(always)]
+fn has_beyond_ascii_part(units: u16x8) -> bool
+    ensures { result ≡ fold beyond_ascii_so_far false units }
+{
+    units.simd_ge(u16x8::splat(0x80)).to_bitmask() != 0
+}
+
+/// Whether a unit is beyond ASCII, where there are eight or more: the last eight are looked at together,
+/// after each whole part.
+#[inline(always)]
+fn has_unit_beyond_ascii_by_part(units: &[u16]) -> bool
+    requires { 8 ≤ length units.now }
+    ensures { result ≡ fold beyond_ascii_so_far false units.now }
+{
+    for part in 0..units.len() / UNITS_PART {
+        if has_beyond_ascii_part(u16x8::from_slice(&units[part * UNITS_PART..])) {
+            return true;
+        }
+    }
+    has_beyond_ascii_part(u16x8::from_slice(&units[units.len() - UNITS_PART..]))
+}
+
 /// Whether a unit is beyond ASCII.
 pub fn has_unit_beyond_ascii(units: &[u16]) -> bool
     ensures { result ≡ fold beyond_ascii_so_far false units.now }
 {
+    // Longer texts are looked at in longer parts, which the compiler chooses.
+    if UNITS_PART <= units.len() && units.len() < BLOCK {
+        return has_unit_beyond_ascii_by_part(units);
+    }
     units
         .iter()
         .fold(false, |found, unit| found | (0x80 <= *unit))
+}
+
+/// Whether each of these bytes is ASCII and not NUL.
+#[inline(always)]
+fn is_ascii_text_part(bytes: u8x16) -> bool
+    ensures { result ≡ fold ascii_text_so_far true bytes }
+{
+    let zeros = bytes.simd_eq(u8x16::splat(0)).to_bitmask();
+    let beyond = bytes.simd_ge(u8x16::splat(128)).to_bitmask();
+    (zeros == 0) & (beyond == 0)
+}
+
+/// Whether each byte is ASCII and not NUL, where there are sixteen or more: the last sixteen are looked at
+/// together, after each whole part.
+#[inline(always)]
+fn is_ascii_text_by_part(bytes: &[u8]) -> bool
+    requires { 16 ≤ length bytes.now }
+    ensures { result ≡ fold ascii_text_so_far true bytes.now }
+{
+    for part in 0..bytes.len() / BYTES_PART {
+        if !is_ascii_text_part(u8x16::from_slice(&bytes[part * BYTES_PART..])) {
+            return false;
+        }
+    }
+    is_ascii_text_part(u8x16::from_slice(&bytes[bytes.len() - BYTES_PART..]))
 }
 
 /// Whether each byte is ASCII and not NUL.
 pub(crate) fn is_ascii_text(bytes: &[u8]) -> bool
     ensures { result ≡ fold ascii_text_so_far true bytes.now }
 {
+    // Longer texts are looked at in longer parts, which the compiler chooses.
+    if BYTES_PART <= bytes.len() && bytes.len() < 2 * BLOCK {
+        return is_ascii_text_by_part(bytes);
+    }
     bytes
         .iter()
         .fold(true, |so_far, byte| so_far & (0 < *byte) & (*byte < 128))

@@ -1,11 +1,12 @@
 //! Code units as UTF-8. A unit of a text is a character of its own, so it has one, two or three
 //! bytes (Unicode Standard, section 3.9, table 3-6). How many all have is known before the first is
 //! written, so that memory is asked for once, and a refusal leaves everything unchanged.
-ghost use Rattle.std.specs.Prelude.{◌≡◌, ◌+◌, ◌<◌, ◌≤◌, ◌++◌, ◌*◌, IfSome, OnErr, OnOk, count_by, length, encode_utf8, nat_le, take};
+ghost use Rattle.std.specs.Prelude.{◌≡◌, ℕ, ◌+◌, ◌<◌, ◌≤◌, ◌++◌, ◌*◌, IfSome, OnErr, OnOk, count_by, length, encode_utf8, nat_le, slice_index, take, true};
 ghost use Rattle.std.specs.Str.{IsAscii, encode_utf8_all};
 
 use crate::scans::{has_unit_beyond_ascii, narrow, widen};
 use std::alloc::{AllocError, Allocator};
+use std::simd::prelude::*;
 
 /// How many units are counted, and how many characters are printed, at a time.
 pub const BLOCK: usize = 64;
@@ -84,17 +85,114 @@ fn write_unit(bytes: &mut [u8], place: usize, unit: u16) -> usize
     place + 3
 }
 
-/// Writes the UTF-8 of units into the prefix of bytes, and returns how many bytes they are.
-fn write_units(bytes: &mut [u8], units: &[u16]) -> usize
+/// Writes the UTF-8 of units from a place on, one by one, and returns the place after them.
+#[inline(always)]
+fn write_each(bytes: &mut [u8], place: usize, units: &[u16]) -> usize
+    requires { place + length (encode_utf8_all units.now) ≤ length bytes.old }
+    ensures end { result ≡ place + length (encode_utf8_all units.now) }
+    ensures bytes { take result bytes.new ≡ take place bytes.old ++ encode_utf8_all units.now }
+{
+    let mut end = place;
+    for unit in units {
+        end = write_unit(bytes, end, *unit);
+    }
+    end
+}
+
+/// Whether each unit has three bytes.
+#[inline(always)]
+fn have_three_bytes(units: &[u16]) -> bool
+    ensures { result ≡ true → (k : ℕ) → k < length units.now → 0x800 ≤ slice_index units.now k }
+{
+    let mut all = true;
+    for unit in units {
+        all &= 0x800 <= *unit;
+    }
+    all
+}
+
+/// The UTF-8 of eight units that have three bytes each, the first 16 bytes and the last 8.
+#[inline(always)]
+fn eight_of_three_bytes(units: u16x8) -> (u8x16, u8x8)
+    requires { (k : ℕ) → k < 8 → 0x800 ≤ slice_index units k }
+    ensures { result.0 ++ result.1 ≡ encode_utf8_all units }
+{
+    let low_six = u16x8::splat(63);
+    let first = ((units >> u16x8::splat(12)) + u16x8::splat(0xe0)).cast::<u8>();
+    let second = (((units >> u16x8::splat(6)) & low_six) + u16x8::splat(0x80)).cast::<u8>();
+    let third = ((units & low_six) + u16x8::splat(0x80)).cast::<u8>();
+    let firsts: u8x16 = first.shuffle(
+        second,
+        [0, 1, 2, 3, 4, 5, 6, 7, 8, 9, 10, 11, 12, 13, 14, 15],
+    );
+    let thirds: u8x16 = third.swizzle([0, 1, 2, 3, 4, 5, 6, 7, 0, 1, 2, 3, 4, 5, 6, 7]);
+    let front = firsts.shuffle(
+        thirds,
+        [0, 8, 16, 1, 9, 17, 2, 10, 18, 3, 11, 19, 4, 12, 20, 5],
+    );
+    let back = firsts.shuffle(thirds, [13, 21, 6, 14, 22, 7, 15, 23]);
+    (front, back)
+}
+
+/// Writes lanes from a place on.
+#[inline(always)]
+fn store<const N: usize>(bytes: &mut [u8], place: usize, lanes: Simd<u8, N>)
+    requires { place + N ≤ length bytes.old }
+    ensures { take (place + N) bytes.new ≡ take place bytes.old ++ lanes.entry }
+{
+    lanes.copy_to_slice(&mut bytes[place..]);
+}
+
+/// Writes the UTF-8 of eight units from a place on, and returns the place after them.
+#[inline(always)]
+fn write_eight(bytes: &mut [u8], place: usize, units: &[u16]) -> usize
+    requires eight { length units.now ≡ 8 }
+    requires room { place + length (encode_utf8_all units.now) ≤ length bytes.old }
+    ensures end { result ≡ place + length (encode_utf8_all units.now) }
+    ensures bytes { take result bytes.new ≡ take place bytes.old ++ encode_utf8_all units.now }
+{
+    if !have_three_bytes(units) {
+        return write_each(bytes, place, units);
+    }
+    let (front, back) = eight_of_three_bytes(u16x8::from_slice(units));
+    store(bytes, place, front);
+    store(bytes, place + 16, back);
+    place + 24
+}
+
+/// Writes the UTF-8 of units into the prefix of bytes, eight units at a time, and returns how many
+/// bytes they are. The quickest where most units have three bytes.
+#[inline(never)]
+fn write_wide(bytes: &mut [u8], units: &[u16]) -> usize
     requires { length (encode_utf8_all units.now) ≤ length bytes.old }
     ensures len { result ≡ length (encode_utf8_all units.now) }
     ensures bytes { take result bytes.new ≡ encode_utf8_all units.now }
 {
     let mut end = 0;
-    for unit in units {
-        end = write_unit(bytes, end, *unit);
+    let mut start = 0;
+    while 8 <= units.len() - start {
+        end = write_eight(bytes, end, &units[start..start + 8]);
+        start += 8;
     }
-    end
+    write_each(bytes, end, &units[start..])
+}
+
+/// The same, unit by unit. The quickest where most units have one or two bytes.
+fn write_narrow(bytes: &mut [u8], units: &[u16]) -> usize
+    requires { length (encode_utf8_all units.now) ≤ length bytes.old }
+    ensures len { result ≡ length (encode_utf8_all units.now) }
+    ensures bytes { take result bytes.new ≡ encode_utf8_all units.now }
+{
+    write_each(bytes, 0, units)
+}
+
+/// Whether the first unit, the one in the middle and the last have three bytes: then most others are
+/// likely to.
+fn look_wide(units: &[u16]) -> bool {
+    !units.is_empty()
+        && 0x800 <= units[0]
+        && 0x800 <= units[units.len() / 2]
+        && 0x800 <= units[units.len() - 1]
 }
 
 /// Writes the UTF-8 of units into the prefix of bytes that have room for it, and returns how many
@@ -104,11 +202,14 @@ pub fn write_utf8(bytes: &mut [u8], units: &[u16]) -> usize
     ensures len { result ≤ length bytes.new }
     ensures bytes { take result bytes.new ≡ encode_utf8_all units.now }
 {
-    if has_unit_beyond_ascii(units) {
-        return write_units(bytes, units);
+    if !has_unit_beyond_ascii(units) {
+        narrow(&mut bytes[..units.len()], units);
+        return units.len();
     }
-    narrow(&mut bytes[..units.len()], units);
-    units.len()
+    if look_wide(units) {
+        return write_wide(bytes, units);
+    }
+    write_narrow(bytes, units)
 }
 
 /// The same of at most [`BLOCK`] characters of Latin-1.
@@ -141,6 +242,11 @@ pub fn add_utf8<A: Allocator>(bytes: &mut Vec<u8, A>, units: &[u16]) -> Result<(
         return Err(AllocError);
     };
     bytes.resize(end, 0)?;
-    let _len = write_units(&mut bytes[start..], units);
+    // Where three units have eight bytes or more on average, at least two of three have three bytes.
+    let _len = if units.len() <= len / 8 * 3 {
+        write_wide(&mut bytes[start..], units)
+    } else {
+        write_narrow(&mut bytes[start..], units)
+    };
     Ok(())
 }
