@@ -13,6 +13,7 @@ pub mod ParentSizes
 pub mod Rebuilding
 pub mod ParentChains
 pub mod ParentsOfValid
+pub mod ParentCounts
 pub mod ValidPaths
 pub mod Runs
 pub mod Rewriting

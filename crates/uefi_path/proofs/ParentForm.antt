@@ -185,30 +185,34 @@ prefix_full ps pieces full =
 one_is_full : (ps : List (List ℕ)) → All IsFull ps → ps ≢ [] ∷ []
 one_is_full ps full e = false≢true (All-head IsFull [] [] (subst (All IsFull) e full))
 
--- joined good components, which have themselves as components
+-- joined full pieces have themselves as components
+pub components_of-full : (ps : List (List ℕ)) → All IsPiece ps → All IsFull ps → components_of (joined ps) ≡ ps
+components_of-full ps pieces full =
+    ap pieces_between (prefix_full ps pieces full)
+    ∙ pieces_between-joined ps pieces (one_is_full ps full)
+
 pub components_of-joined : (cs : List (List ℕ)) → All IsGood cs → components_of (joined cs) ≡ cs
-components_of-joined cs good =
-    let pieces = All-good_piece cs good in
-    let full = All-good_non_empty cs good in
-    ap pieces_between (prefix_full cs pieces full)
-    ∙ pieces_between-joined cs pieces (one_is_full cs full)
+components_of-joined cs good = components_of-full cs (All-good_piece cs good) (All-good_non_empty cs good)
 
 -- begin with no separator
 pub prefix_good : (cs : List (List ℕ)) → All IsGood cs → canonical (joined cs) ≡ joined cs
 prefix_good cs good = prefix_full cs (All-good_piece cs good) (All-good_non_empty cs good)
 
--- and two or more of them have the joined others above
+-- and two or more of them, none of them with a slash, have the joined others above
+pub parent_of_components-full : (ps : List (List ℕ)) → All IsFull ps → All IsPlain ps → 1 < length ps
+    → parent_of_components ps ≡ Some (joined (all_but_last ps))
+parent_of_components-full ps full plain many =
+    let others = all_but_last ps in
+    parent_of_components-many ps many
+    ∙ ap (λ us. Some (with_separators us)) (rejoined-full others (All-all_but_last IsFull ps full))
+    ∙ ap (λ us. Some us)
+    (with_separators-plain (joined others)
+    (All-joined (λ u. u ≢ slash) others separator_is_plain (All-all_but_last IsPlain ps plain)))
+
 pub parent_of_components-good : (cs : List (List ℕ)) → All IsGood cs → 1 < length cs
     → parent_of_components cs ≡ Some (joined (all_but_last cs))
-parent_of_components-good cs good many =
-    let others = All-all_but_last IsGood cs good in
-    parent_of_components-many cs many
-    ∙ ap (λ us. Some (with_separators us))
-    (rejoined-full (all_but_last cs) (All-good_non_empty (all_but_last cs) others))
-    ∙ ap (λ us. Some us)
-    (with_separators-plain (joined (all_but_last cs))
-    (All-joined (λ u. u ≢ slash) (all_but_last cs) separator_is_plain
-    (All-good_plain (all_but_last cs) others)))
+parent_of_components-good cs good =
+    parent_of_components-full cs (All-good_non_empty cs good) (All-good_plain cs good)
 
 pub length-all_but_last : (ps : List (List ℕ)) → length (all_but_last ps) ≡ length ps - 1
 length-all_but_last [] = refl

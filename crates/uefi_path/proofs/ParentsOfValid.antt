@@ -3,10 +3,12 @@ use Rattle.std.proofs.Common.{◌≡◌, ℕ, zero, suc, ◌+◌, ◌-◌, ◌<�
 use Rattle.std.proofs.lemmas.List.{length-take-le, take_all}
 use Rattle.std.proofs.lemmas.List.Elements.{All-take}
 use Rattle.std.proofs.lemmas.Option.{none-some, same_Some}
-use Rattle.uefi_path.proofs.ParentForm.{parent_of_components-good, components_of-joined}
-use Rattle.uefi_path.proofs.Validity.{valid-components}
-use Rattle.uefi_path.specs.Components.{components_of, joined}
+use Rattle.uefi_path.proofs.ParentForm.{components_of-full, parent_of_components-full}
+use Rattle.uefi_path.proofs.Parents.{IsFull}
+use Rattle.uefi_path.proofs.Validity.{All-good_non_empty, All-good_piece, All-good_plain, valid-components}
+use Rattle.uefi_path.specs.Components.{IsPiece, components_of, joined}
 use Rattle.uefi_path.specs.Parents.{parent_text, parent_of_components, all_but_last}
+use Rattle.uefi_path.specs.Separators.{IsPlain}
 use Rattle.uefi_path.specs.Verdicts.{IsGood, verdict}
 use Rattle.uefi_path.specs.SuccessiveParents.{AreParents, prefixes, shorter_prefixes}
 
@@ -38,21 +40,23 @@ parent_of_components-one [] = refl
 parent_of_components-one (c ∷ cs) = refl
 
 -- the parents of a text of `count` components and one more, the first of all
-parents_of_some : (text : List ℕ) (count : ℕ) (cs : List (List ℕ)) → All IsGood cs → count < length cs
-    → components_of text ≡ take (suc count) cs → AreParents text (prefixes count cs)
-parents_of_some text zero cs good below e = ap parent_of_components e ∙ parent_of_components-one cs
-parents_of_some text (suc count) cs good below e =
-    let more : length (take (suc (suc count)) cs) ≡ suc (suc count) =
-    length-take-le (suc (suc count)) cs (omega (arith, below)) in
-    let many : 1 < length (take (suc (suc count)) cs) = omega (arith, more) in
-    let here : parent_text text ≡ Some (joined (take (suc count) cs)) =
+pub parents_of_some : (text : List ℕ) (count : ℕ) (ps : List (List ℕ)) → All IsPiece ps → All IsFull ps
+    → All IsPlain ps → count < length ps → components_of text ≡ take (suc count) ps
+    → AreParents text (prefixes count ps)
+parents_of_some text zero ps pieces full plain below e =
+    ap parent_of_components e ∙ parent_of_components-one ps
+parents_of_some text (suc count) ps pieces full plain below e =
+    let kept = take (suc (suc count)) ps in
+    let more : length kept ≡ suc (suc count) = length-take-le (suc (suc count)) ps (omega (arith, below)) in
+    let here : parent_text text ≡ Some (joined (take (suc count) ps)) =
     ap parent_of_components e
-    ∙ parent_of_components-good (take (suc (suc count)) cs) (All-take IsGood (suc (suc count)) cs good)
-    many
-    ∙ ap (λ ps. Some (joined ps)) (all_but_last-take count cs (omega (arith, below))) in (
+    ∙ parent_of_components-full kept (All-take IsFull (suc (suc count)) ps full)
+    (All-take IsPlain (suc (suc count)) ps plain) (omega (arith, more))
+    ∙ ap (λ qs. Some (joined qs)) (all_but_last-take count ps (omega (arith, below))) in (
       here,
-      parents_of_some (joined (take (suc count) cs)) count cs good (omega (arith, below))
-          (components_of-joined (take (suc count) cs) (All-take IsGood (suc count) cs good)),
+      parents_of_some (joined (take (suc count) ps)) count ps pieces full plain (omega (arith, below))
+          (components_of-full (take (suc count) ps) (All-take IsPiece (suc count) ps pieces)
+          (All-take IsFull (suc count) ps full)),
     )
 
 from_all : (text : List ℕ) (cs : List (List ℕ)) → All IsGood cs → components_of text ≡ cs
@@ -61,7 +65,8 @@ from_all text [] good e = ap parent_of_components e
 from_all text (c ∷ cs) good e =
     let fewer : length cs ≡ length (c ∷ cs) - 1 = omega arith in
     subst (λ count. AreParents text (prefixes count (c ∷ cs))) fewer
-    (parents_of_some text (length cs) (c ∷ cs) good (omega arith)
+    (parents_of_some text (length cs) (c ∷ cs) (All-good_piece (c ∷ cs) good)
+    (All-good_non_empty (c ∷ cs) good) (All-good_plain (c ∷ cs) good) (omega arith)
     (e ∙ sym (take_all (suc (length cs)) (c ∷ cs) (omega arith))))
 
 pub AreParents-prefixes : (text : List ℕ) → verdict text ≡ None → AreParents text (shorter_prefixes text)

@@ -1,15 +1,14 @@
 -- An iterator that takes the first item of what it shows gives all of it in order.
-use Rattle.std.proofs.Common.{◌≡◌, ◌≢◌, ℕ, List, [], ◌∷◌, All, Option, None, Some, length, get_or, map, inl, inr, ap, sym, refl, subst, ◌∙◌, arith}
+use Rattle.std.proofs.Common.{◌≡◌, ◌≢◌, ℕ, List, [], ◌∷◌, ◌++◌, All, Option, None, Some, length, get_or, inl, inr, ap, sym, refl, subst, ◌∙◌, arith}
 use Rattle.std.specs.List.{HoldsAt, last_or}
 use Rattle.std.specs.Option.{IfSome, option_map}
-use Rattle.std.specs.Iterator.{Drains, YieldsFirstBy}
+use Rattle.std.specs.Iterator.{YieldsFirstBy}
 use Rattle.std.specs.Iterator.Runs.{AllItems, EachRunFrom, ItemsMapTo}
 use Rattle.std.proofs.iter.runs.Lists.{at_some}
 use Rattle.std.proofs.iter.runs.Made.{took}
 use Rattle.std.proofs.iter.runs.Sources.{from_front}
 use Rattle.std.proofs.lemmas.Bool.{cases_lt}
 use Rattle.std.proofs.lemmas.Grind.{common_steps}
-use Rattle.std.proofs.lemmas.Iterator.{items_from_drains}
 use Rattle.std.proofs.lemmas.Iterator.Consumers.{YieldsList-from_first, YieldsList-so_far}
 use Rattle.std.proofs.lemmas.List.Elements.{All-head, All-nil, All-tail, All-weaker}
 use Rattle.uefi_text.specs.Runs.{GivesEach}
@@ -31,7 +30,7 @@ gives_each view left here run seen from =
     (in_order, rw run.long front)
 
 -- no unit of a text is NUL
-no_nul : (text : List ℕ) → IsText text → All (λ unit. unit ≢ 0) text
+pub no_nul : (text : List ℕ) → IsText text → All (λ unit. unit ≢ 0) text
 no_nul text is_text =
     All-weaker IsTextUnit (λ unit. unit ≢ 0) (λ unit is_unit. omega (arith, is_unit.0)) text is_text
 
@@ -51,21 +50,10 @@ gives_all P other view left here of_other of_all run seen from k =
           subst P (sym (same ∙ none)) of_other
     ])
 
--- the last of some items, seen, is the last of what is seen
-last_or-map : {A B : Type 0} (view : A → B) (first : Option A) (items : List A)
-    → option_map view (last_or first items) ≡ last_or (option_map view first) (map view items)
-last_or-map view first [] = refl
-last_or-map view first (item ∷ items) = last_or-map view (Some item) items
-
--- the last item that it gives is the last of what it shows
-pub last_given : {S A B : Type 0} (view : A → B) (left : S → List B) (here : S) (last : Option A)
-    → (items : List A) × Drains (YieldsFirstBy view left) here items × (last ≡ last_or None items)
-    → option_map view last ≡ last_or None (left here)
-last_given view left here last given =
-    let all =
-    items_from_drains given.0 (given.1.1.0, given.1.1.1, λ _. (given.1.0, given.1.1.2))
-    (YieldsList-from_first view left (left here) refl) in
-    ap (option_map view) given.2 ∙ last_or-map view None given.0 ∙ ap (last_or None) all
+-- the last of items
+pub last_or-push : {A : Type 0} (first : Option A) (items : List A) (item : A) → last_or first (items ++ item ∷ []) ≡ Some item
+last_or-push first [] item = refl
+last_or-push first (other ∷ items) item = last_or-push (Some other) items item
 
 -- what holds of each holds of the last, if there is one
 IfSome-last_or : {A : Type 0} (P : A → Type 0) (first : Option A) (items : List A) → IfSome first P → All P items

@@ -1,47 +1,122 @@
 -- Separators as bits: what a vector comparison gives, and which places its bits have.
-use Rattle.std.proofs.Common.{◌≡◌, ◌≢◌, ℕ, zero, suc, ◌+◌, ◌-◌, ◌*◌, ◌/◌, ◌%◌, ◌^◌, ◌<◌, ◌≤◌, List, [], ◌∷◌, ◌++◌, length, map, take, drop, replicate, inl, inr, ap, sym, refl, ◌∙◌, arith, cond, count_ones, eqb, pow-suc, zero-add, ◌⊎◌}
+use Rattle.std.proofs.Common.{◌≡◌, ◌≢◌, ℕ, zero, suc, ◌+◌, ◌-◌, ◌*◌, ◌/◌, ◌%◌, ◌^◌, ◌<◌, ◌≤◌, List, [], ◌∷◌, ◌++◌, length, map, take, drop, inl, inr, ap, sym, refl, ◌∙◌, arith, cond, count_ones, eqb, pow-suc, zero-add, ◌⊎◌, Bool, true, false, div-one, mul_assoc, mul_comm, mul-one, lt_of_lt_of_le, mod-eq_of_lt, pow_mono, get_or, subst, ◌||◌}
+use Rattle.std.proofs.Math.Nat.{div-div-eq-div-mul, zero-div}
+use Rattle.std.proofs.Math.Seq.{take-add}
+use Rattle.std.proofs.lemmas.Bool.Decides.{eqb_tells}
 use Rattle.std.specs.List.{count_by}
 use Rattle.std.specs.Int.Bits.{bit_and, and_step, and_self}
 use Rattle.std.specs.Int.Count.{count_trailing_zeros}
-use Rattle.std.specs.Simd.Lanes.{mask_l, sel_l}
+use Rattle.std.specs.Simd.Lanes.{mask_l}
 use Rattle.std.proofs.lemmas.Bool.{cases_Bool, cases_lt}
-use Rattle.std.proofs.lemmas.List.{drop-drop, drop_all, length-map, length-take, map-append, take-append-drop}
+use Rattle.std.proofs.lemmas.List.{drop-drop, drop_all, length-map, length-take, length-take-le, take_more, map-append, take-append-drop}
 use Rattle.std.proofs.lemmas.Grind.{common_steps}
-use Rattle.std.proofs.lemmas.List.Elements.{All-cons, All-head, All-nil, All-tail}
+use Rattle.std.proofs.lemmas.List.Elements.{All-append, All-cons, All-nil}
 use Rattle.std.proofs.lemmas.List.Sums.{sum_by-append}
-use Rattle.std.proofs.lemmas.Simd.{ones-mask_l}
+use Rattle.std.proofs.lemmas.Simd.{mask_l-lt, ones-mask_l}
 use Rattle.uefi_text.specs.Units.{replaced}
 use Rattle.uefi_path.specs.Separators.{IsPlain, becomes_separator, bit_places, block_bits, places_from, separator, slash, with_separators, word_places}
 use Rattle.uefi_path.proofs.SeparatorPlaces.{places_from-append, places_from-no, places_from-yes}
 
--- choosing a separator in each place of a slash replaces the slashes
-pub chosen : (us : List ℕ) → sel_l (map (λ u. eqb u slash) us) (replicate (length us) separator) us ≡ with_separators us
-chosen [] = refl
-chosen (u ∷ us) = ap (λ vs. replaced slash separator u ∷ vs) (chosen us)
+-- slashes and separators together are the units that become separators
+both_at : (u n m : ℕ) → cond (eqb u slash) 1 0 + 2 * n + (cond (eqb u separator) 1 0 + 2 * m)
+    ≡ cond (becomes_separator u) 1 0 + 2 * (n + m)
+both_at u n m = elim (eqb_tells u slash) [
+  | inl is ↦ rw is.1 (omega arith)
+  | inr differs ↦ rw differs.0 (omega arith)
+]
 
--- a unit that is a separator then is one that becomes it
-pub bits-replaced : (us : List ℕ) → mask_l (map (λ u. eqb u separator) (with_separators us)) ≡ mask_l (map becomes_separator us)
-bits-replaced [] = refl
-bits-replaced (u ∷ us) = ap (λ n. cond (becomes_separator u) 1 0 + 2 * n) (bits-replaced us)
+pub bits-both : (us : List ℕ) → mask_l (map (λ u. eqb u slash) us) + mask_l (map (λ u. eqb u separator) us)
+    ≡ mask_l (map becomes_separator us)
+bits-both [] = refl
+bits-both (u ∷ us) =
+    both_at u (mask_l (map (λ v. eqb v slash) us)) (mask_l (map (λ v. eqb v separator) us))
+    ∙ ap (λ n. cond (becomes_separator u) 1 0 + 2 * n) (bits-both us)
 
--- zeros after the units set no bit
-no_bits : (n count : ℕ) → mask_l (map becomes_separator (drop n (replicate count 0))) ≡ 0
-no_bits zero zero = refl
-no_bits zero (suc count) = omega (arith, no_bits zero count)
-no_bits (suc n) zero = refl
-no_bits (suc n) (suc count) = no_bits n count
+-- the bits of at most 64 units are a word
+pub bits-fit : (us : List ℕ) → length us ≤ 64 → mask_l (map becomes_separator us) < 2 ^ 64
+bits-fit us short =
+    let all = map becomes_separator us in
+    lt_of_lt_of_le (mask_l-lt all) (pow_mono {i = length all} {j = 64} (omega (arith, short, length-map us becomes_separator)))
 
-pub bits-padded : (us : List ℕ) (n count : ℕ)
-    → mask_l (map becomes_separator (us ++ drop n (replicate count 0))) ≡ mask_l (map becomes_separator us)
-bits-padded [] n count = no_bits n count
-bits-padded (u ∷ us) n count = ap (λ m. cond (becomes_separator u) 1 0 + 2 * m) (bits-padded us n count)
+-- the bits of units after others stand above theirs
+pub bits-append : (us vs : List ℕ) → mask_l (map becomes_separator (us ++ vs))
+    ≡ mask_l (map becomes_separator us) + mask_l (map becomes_separator vs) * 2 ^ length us
+bits-append [] vs = omega (arith, mul-one (mask_l (map becomes_separator vs)))
+bits-append (u ∷ us) vs =
+    let after = mask_l (map becomes_separator vs) in
+    omega (
+      arith,
+      bits-append us vs,
+      ap (λ n. after * n) (pow-suc 2 (length us)),
+      mul_assoc after (2 ^ length us) 2,
+    )
 
--- units before others hold no slash where all hold none
-pub IsPlain-before : (us vs : List ℕ) → IsPlain (us ++ vs) → IsPlain us
-IsPlain-before [] vs plain = All-nil (λ unit. unit ≢ slash)
-IsPlain-before (u ∷ us) vs plain =
-    All-cons (λ unit. unit ≢ slash) u us (All-head (λ unit. unit ≢ slash) u (us ++ vs) plain)
-    (IsPlain-before us vs (All-tail (λ unit. unit ≢ slash) u (us ++ vs) plain))
+-- so they are shifted and added
+pub bits-shifted : (us vs : List ℕ) (done : ℕ) → length us ≡ done → length (us ++ vs) ≤ 64
+    → mask_l (map becomes_separator us) + mask_l (map becomes_separator vs) * 2 ^ done % 2 ^ 64
+    ≡ mask_l (map becomes_separator (us ++ vs))
+bits-shifted us vs done long short =
+    let first = mask_l (map becomes_separator us) in
+    let next = mask_l (map becomes_separator vs) in
+    let whole : mask_l (map becomes_separator (us ++ vs)) ≡ first + next * 2 ^ done =
+    bits-append us vs ∙ ap (λ n. first + next * 2 ^ n) long in
+    ap (λ n. first + n) (mod-eq_of_lt (omega (arith, whole, bits-fit (us ++ vs) short))) ∙ sym whole
+
+-- one unit more
+pub bits-next : (us : List ℕ) (done bit : ℕ) → bit ≡ cond (becomes_separator (get_or us done 0)) 1 0
+    → done < length us → done < 64
+    → mask_l (map becomes_separator (take done us)) + bit * 2 ^ done % 2 ^ 64
+    ≡ mask_l (map becomes_separator (take (done + 1) us))
+bits-next us done bit is within short =
+    let last = get_or us done 0 ∷ [] in
+    let same : bit ≡ mask_l (map becomes_separator last) = omega (arith, is) in
+    let more = take_more us done 0 within in
+    let fits : length (take done us ++ last) ≤ 64 = omega (arith, ap length more, length-take (done + 1) us, short) in
+    ap (λ n. mask_l (map becomes_separator (take done us)) + n * 2 ^ done % 2 ^ 64) same
+    ∙ bits-shifted (take done us) last done (length-take-le done us (omega (arith, within))) fits
+    ∙ ap (λ vs. mask_l (map becomes_separator vs)) (sym more)
+
+-- some more
+pub bits-more : (us : List ℕ) (done more : ℕ) → done + more ≤ length us → done + more ≤ 64
+    → mask_l (map becomes_separator (take done us))
+    + mask_l (map becomes_separator (take more (drop done us))) * 2 ^ done % 2 ^ 64
+    ≡ mask_l (map becomes_separator (take (done + more) us))
+bits-more us done more within short =
+    let both = take-add done more us in
+    let fits : length (take done us ++ take more (drop done us)) ≤ 64 =
+    omega (arith, ap length both, length-take (done + more) us, short) in
+    bits-shifted (take done us) (take more (drop done us)) done (length-take-le done us (omega (arith, within))) fits
+    ∙ ap (λ vs. mask_l (map becomes_separator vs)) (sym both)
+
+-- a separator or a slash
+pub becomes-either : (u : ℕ) → (eqb u slash || eqb u separator) ≡ becomes_separator u
+becomes-either u = elim (eqb_tells u slash) [
+  | inl is ↦ rw is.0 refl
+  | inr differs ↦ rw differs.0 refl
+]
+
+-- no slash among units and after them
+pub IsPlain-more : (us : List ℕ) (done more : ℕ) → IsPlain (take done us) → IsPlain (take more (drop done us))
+    → IsPlain (take (done + more) us)
+IsPlain-more us done more before here =
+    subst IsPlain (sym (take-add done more us))
+    (All-append (λ unit. unit ≢ slash) (take done us) (take more (drop done us)) before here)
+
+halved : (b : Bool) (n : ℕ) → (cond b 1 0 + 2 * n) / 2 ≡ n
+halved true n = omega arith
+halved false n = omega arith
+
+-- without the lowest bits, those of the units after the first
+pub bits-drop : (count : ℕ) (us : List ℕ)
+    → mask_l (map becomes_separator us) / 2 ^ count ≡ mask_l (map becomes_separator (drop count us))
+bits-drop zero us = div-one (mask_l (map becomes_separator us))
+bits-drop (suc count) [] = zero-div (2 ^ suc count)
+bits-drop (suc count) (u ∷ us) =
+    let all = mask_l (map becomes_separator (u ∷ us)) in
+    ap (λ n. all / n) (pow-suc 2 count ∙ mul_comm (2 ^ count) 2)
+    ∙ sym (div-div-eq-div-mul all 2 (2 ^ count))
+    ∙ ap (λ n. n / 2 ^ count) (halved (becomes_separator u) (mask_l (map becomes_separator us)))
+    ∙ bits-drop count us
 
 -- where no bit is set that a slash would set, no unit is one
 pub IsPlain-no_bits : (us : List ℕ) → mask_l (map (λ u. eqb u slash) us) ≡ 0 → IsPlain us
@@ -220,3 +295,9 @@ places_block-first us block =
     ∙ places_block us 0 block
     ∙ ap (λ n. word_places n (block_bits block us) ++ after) here
     ∙ ap (λ n. word_places (block * 64) (block_bits block us) ++ places_from n (with_separators (drop ((block + 1) * 64) us))) (zero-add ((block + 1) * 64))
+
+-- the bits of all units of a short text have the places of its separators
+pub word_places-units : (us : List ℕ) → length us ≤ 64
+    → word_places 0 (mask_l (map becomes_separator us)) ≡ places_from 0 (with_separators us)
+unfolding word_places
+word_places-units us short = bit_places-units 64 0 us short

@@ -35,7 +35,7 @@ fn has_either(units: &[u16], first: u16, second: u16) -> bool
 
 /// Whether a separator stands before this unit, where each unit of `after` stands after that of `units`.
 #[inline(always)]
-fn has_separator_before(units: &[u16], after: &[u16], unit: u16) -> bool
+pub(crate) fn has_separator_before(units: &[u16], after: &[u16], unit: u16) -> bool
     requires { length units.now ≡ length after.now }
     ensures { result ≡ false → (k : ℕ) → k < length units.now
         → slice_index units.now k ≡ separator → slice_index after.now k ≢ unit }

@@ -34,6 +34,7 @@
 //! separator's place.
 #![tactic(auto)]
 
+mod bits;
 mod counted;
 mod glance;
 pub mod laws;

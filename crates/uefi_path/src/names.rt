@@ -41,7 +41,7 @@ fn last_start(units: &[u16]) -> usize
 }
 
 /// What stands before the last piece of a text, if anything does, and that piece.
-fn cut_last(text: Char16Slice<'_>) -> (Option<Char16Slice<'_>>, Char16Slice<'_>)
+pub(crate) fn cut_last(text: Char16Slice<'_>) -> (Option<Char16Slice<'_>>, Char16Slice<'_>)
     ensures pieces { slice_split is_separator (units_of text.entry)
         ≡ pieces_left result.0 ++ units_of result.1 ∷ [] }
     ensures shorter { are_left result.0 + length (units_of result.1) ≤ length (units_of text.entry) }

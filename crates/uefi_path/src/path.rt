@@ -9,6 +9,7 @@ ghost use Rattle.uefi_text.specs.Runs.{GivesEach};
 ghost use Rattle.uefi_text.specs.Units.{IsText};
 ghost use Rattle.uefi_text.specs.Views.{text_of, units_of};
 
+use crate::names::cut_last;
 use std::cmp::Ordering;
 use std::fmt;
 use uefi_text::chars::SEPARATOR;
@@ -87,13 +88,17 @@ impl<'a> Path<'a> {
         Components::of_canonical(*self, Rest::Scanned(text))
     }
 
-    /// The last component, or `None` where there is none. It may be empty. Takes no memory; one pass
-    /// over the text.
+    /// The last component, or `None` where there is none. It may be empty. Takes no memory; costs what that
+    /// component has, and no other is looked at.
     pub fn file_name(&self) -> Option<Char16Slice<'a>>
         ensures same { option_map units_of result ≡ last_or None (components_of (path_text self.now)) }
         ensures is_text { IfSome result (λ name. IsText (units_of name)) }
     {
-        self.components().last()
+        let canonical = self.canonical();
+        if canonical.is_empty() {
+            return None;
+        }
+        Some(cut_last(canonical).1)
     }
 
     /// Whether this path's components are those of the base, and then maybe more. So `\a\bc` starts

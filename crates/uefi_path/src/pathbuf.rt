@@ -1,19 +1,21 @@
 //! Paths that are owned, and the calls of [`Path`] that make one.
-ghost use Rattle.std.specs.Prelude.{◌≡◌, ◌≢◌, ℕ, ◌+◌, ◌<◌, ◌≤◌, ◌^◌, ◌↔◌, [], ◌∷◌, ◌++◌, All, List, Some, None, drop, fold, if◌then◌else◌, length, option_map, take, ◌-◌, IsTrue, IsOk, IsSome, IfOk, IfErr, IfSome, OnOk, OnErr};
-ghost use Rattle.std.specs.List.{last_or};
+ghost use Rattle.std.specs.Prelude.{◌≡◌, ◌≢◌, ℕ, ◌+◌, ◌<◌, ◌≤◌, ◌^◌, ◌↔◌, [], ◌∷◌, ◌++◌, All, List, Some, None, drop, fold, false, if◌then◌else◌, length, map, option_map, ◌-◌, IsTrue, IsOk, IsSome, IfOk, IfErr, IfSome, OnOk, OnErr};
+ghost use Rattle.std.specs.List.{last_or, slice_range, slice_split};
 ghost use Rattle.uefi_path.specs.Components.{AreComponents, IsPiece, StartsWith, components_of};
-ghost use Rattle.uefi_path.specs.Parents.{parent_text, all_but_last};
+ghost use Rattle.uefi_path.specs.Parents.{all_but_last, is_non_empty, parent_text};
 ghost use Rattle.uefi_path.specs.Runs.{GivesNoNulIn};
 ghost use Rattle.uefi_path.specs.Pushing.{appended, needs_separator, pushed};
-ghost use Rattle.uefi_path.specs.Separators.{IsPlain, canonical, places_of, with_separators};
+ghost use Rattle.uefi_path.specs.Separators.{IsPlain, canonical, is_separator, places_of, with_separators};
 ghost use Rattle.uefi_path.specs.SuccessiveParents.{parent_chain, parents_of};
 ghost use Rattle.uefi_path.specs.Views.{components_left, path_text};
 ghost use Rattle.uefi_text.specs.Units.{IsText};
 ghost use Rattle.uefi_text.specs.Views.{units_of};
 
 use crate::counted::CountedUnits;
+use crate::glance::has_separator_before;
+use crate::names::cut_last;
 use crate::path::{Components, Path, PlacedText, Rest};
-use crate::places::{count_separators, find_places, have_neighbours};
+use crate::places::{count_from, count_separators, find_places, have_neighbours};
 use crate::tails::make_tail;
 use std::alloc::{AllocError, Allocator, Global};
 use std::cmp::Ordering;
@@ -127,6 +129,22 @@ fn append_components_but_last<A: Allocator>(
     Ok(())
 }
 
+/// Whether a separator stands first or last among units, or two are neighbours, or there are no units: then
+/// one of the pieces between them is empty.
+fn has_empty_piece(units: &[u16]) -> bool
+    ensures { result ≡ false
+        → All (λ piece. IsTrue (is_non_empty piece)) (slice_split is_separator units.now) }
+{
+    if units.is_empty() {
+        return true;
+    }
+    let last = units.len() - 1;
+    if units[0] == u16::from(SEPARATOR) || units[last] == u16::from(SEPARATOR) {
+        return true;
+    }
+    has_separator_before(&units[..last], &units[1..], u16::from(SEPARATOR))
+}
+
 /// How many units the room has in which a short text is made ready to be pushed: with a separator before it
 /// and the NUL after it.
 const ROOM: usize = 32;
@@ -185,11 +203,16 @@ impl<'a> Path<'a> {
             IfSome parent (λ parent. length parent < length (path_text self.now))) }
         ensures successive { IfOk result (λ parent. parents_of (path_text self.now) ≡ parent_chain parent) }
     {
-        if self.components().nth(1).is_none() {
+        let (Some(front), _) = cut_last(self.canonical()) else {
             return Ok(None);
+        };
+        let mut string = CString16::with_capacity(alloc, front.len())?;
+        if has_empty_piece(front.units()) {
+            append_all_but_last(&mut string, self.components())?;
+        } else {
+            // Of most paths, one copy of what stands before the last separator.
+            string.push_part(front)?;
         }
-        let mut string = CString16::with_capacity(alloc, self.to_cstr16().num_chars())?;
-        append_all_but_last(&mut string, self.components())?;
         Ok(Some(PathBuf::from_string(alloc, string)?))
     }
 }
@@ -240,7 +263,8 @@ impl<A: Allocator + Copy> PathBuf<A> {
         ensures ok { IfOk result (λ path. path ≡ with_separators string) }
         ensures err { IfErr result (λ kept. kept ≡ string) }
     {
-        let Ok((places, has_slash)) = find_places(alloc, string.as_cstr16().to_u16_slice()) else {
+        let (places, has_slash) = find_places(alloc, string.as_cstr16().to_u16_slice());
+        let Ok(places) = places else {
             return Err(string);
         };
         if has_slash {
@@ -364,50 +388,65 @@ impl<A: Allocator + Copy> PathBuf<A> {
         Ok(joined)
     }
 
-    /// Where the last separator stands, if the parent is what stands before it: the path begins with a
-    /// name, and no component between two separators is empty.
-    fn cut_place(&self) -> Option<usize>
-        ensures some { IfSome result (λ last. 0 < length (places_of self.now)) }
-        ensures within { IfSome result (λ last. last < length self.now) }
-        ensures parent { IfSome result (λ last. parent_text self.now ≡ Some (take last self.now)) }
-        ensures places { IfSome result (λ last. places_of (take last self.now)
-            ≡ take (length (places_of self.now) - 1) (places_of self.now)) }
+    /// Where the parent begins and ends in the text, if it is a part of it: no two separators are neighbours.
+    /// It ends at the last separator, and begins after one that stands first: so it begins where as many
+    /// separators stand before it as units.
+    fn cut_places(&self) -> Option<(usize, usize)>
+        ensures some { IfSome result (λ cut. cut.0 < length (places_of self.now)) }
+        ensures ordered { IfSome result (λ cut. cut.0 ≤ cut.1) }
+        ensures within { IfSome result (λ cut. cut.1 < length self.now) }
+        ensures plain { IfSome result (λ cut. IsPlain self.now) }
+        ensures parent { IfSome result (λ cut.
+            parent_text self.now ≡ Some (slice_range self.now cut.0 cut.1)) }
+        ensures places { IfSome result (λ cut. places_of (slice_range self.now cut.0 cut.1)
+            ≡ map (λ place. place - cut.0)
+            (slice_range (places_of self.now) cut.0 (length (places_of self.now) - 1))) }
     {
         let all = self.places.as_slice();
-        if all.is_empty() || all[0] == 0 || have_neighbours(all) {
+        if all.is_empty() || have_neighbours(all) {
             return None;
         }
-        Some(all[all.len() - 1])
+        let start = usize::from(all[0] == 0);
+        if all.len() == start {
+            return None;
+        }
+        Some((start, all[all.len() - 1]))
     }
 
-    /// The path of what stands before this place.
-    fn cut_at(&self, last: usize) -> Result<Self, AllocError>
-        requires some { 0 < length (places_of self.now) }
-        requires within { last < length self.now }
-        requires places { places_of (take last self.now)
-            ≡ take (length (places_of self.now) - 1) (places_of self.now) }
-        ensures { IfOk result (λ path. path ≡ take last self.now) }
+    /// The path of what stands between these places, of which the first is as [`PathBuf::cut_places`] says.
+    fn cut_at(&self, start: usize, end: usize) -> Result<Self, AllocError>
+        requires some { start < length (places_of self.now) }
+        requires ordered { start ≤ end }
+        requires within { end < length self.now }
+        requires places { places_of (slice_range self.now start end) ≡ map (λ place. place - start)
+            (slice_range (places_of self.now) start (length (places_of self.now) - 1)) }
+        ensures { IfOk result (λ path. path ≡ slice_range self.now start end) }
     {
         let all = self.places.as_slice();
-        let mut string = CString16::with_capacity(self.alloc(), last)?;
-        string.push_part(self.to_cstr16().as_slice().part(0, last))?;
-        let mut places = Vec::with_capacity(self.alloc(), all.len() - 1)?;
-        places.extend_from_slice(&all[..all.len() - 1])?;
+        let mut string = CString16::with_capacity(self.alloc(), end - start)?;
+        string.push_part(self.to_cstr16().as_slice().part(start, end))?;
+        let kept = &all[start..all.len() - 1];
+        let mut places = Vec::with_capacity(self.alloc(), kept.len())?;
+        places.extend_from_slice(kept)?;
+        count_from(&mut places, start);
         Ok(PathBuf { string, places })
     }
 
     /// The path without its last component, as [`Path::parent`], in memory of the same allocator. Looks
-    /// for no separator, and costs what the parent has.
+    /// for no separator, and costs what the parent has. A parent of n components has n - 1 successive
+    /// parents, or none where n is 0.
     pub fn parent(&self) -> Result<Option<Self>, AllocError>
         ensures ok { IfOk result (λ parent. parent ≡ parent_text self.now) }
         ensures none { parent_text self.now ≡ None → IsOk result }
         ensures shorter { IfOk result (λ parent.
             IfSome parent (λ parent. length parent < length self.now)) }
         ensures successive { IfOk result (λ parent. parents_of self.now ≡ parent_chain parent) }
+        ensures count { IfOk result (λ parent. IfSome parent (λ parent.
+            length (parents_of parent) ≡ length (components_of parent) - 1)) }
     {
         // Of most paths, one copy of what stands before the last separator.
-        if let Some(last) = self.cut_place() {
-            return Ok(Some(self.cut_at(last)?));
+        if let Some((start, end)) = self.cut_places() {
+            return Ok(Some(self.cut_at(start, end)?));
         }
         let known = self.places.as_slice();
         let rest = Rest::Placed(self.canonical(known));
@@ -509,7 +548,7 @@ impl<A: Allocator + Copy> PathBuf<A> {
         ensures same { option_map units_of result ≡ last_or None (components_of self.now) }
         ensures is_text { IfSome result (λ name. IsText (units_of name)) }
     {
-        self.components().last()
+        self.as_path().file_name()
     }
 
     /// Whether this path's components begin with those of the base, as [`Path::starts_with`].

@@ -1,74 +1,11 @@
 //! The places of separators, which a path buffer keeps beside its text. They are found before a slash is
-//! replaced, a block of units at a time: a vector comparison gives a bit for each unit.
-ghost use Rattle.std.specs.Prelude.{◌≡◌, ◌≢◌, ℕ, ◌≤◌, ◌+◌, ◌*◌, ◌<◌, ◌^◌, ◌++◌, IfOk, OnOk, count_by, drop, false, length, map, slice_index, take};
+//! replaced, from the bits of a block of units at a time.
+ghost use Rattle.std.specs.Prelude.{◌≡◌, ◌≢◌, ℕ, ◌≤◌, ◌+◌, ◌-◌, ◌*◌, ◌<◌, ◌^◌, ◌++◌, IfOk, OnOk, count_by, drop, false, length, map, slice_index, take};
 ghost use Rattle.std.specs.Simd.Lanes.{mask_l};
 ghost use Rattle.uefi_path.specs.Separators.{IsPlain, becomes_separator, block_bits, is_separator, places_from, places_of, with_separators, word_places};
 
+use crate::bits::{BLOCK, see, see_short};
 use std::alloc::{AllocError, Allocator};
-use std::simd::prelude::*;
-
-/// How many units a block has.
-pub(crate) const BLOCK: usize = 64;
-
-/// The units, each slash replaced.
-#[inline(always)]
-fn replace_slashes(units: u16x64) -> u16x64
-    ensures { result ≡ with_separators units }
-{
-    // The code units of `/` and of `\`.
-    units
-        .simd_eq(u16x64::splat(47))
-        .select(u16x64::splat(92), units)
-}
-
-/// A bit for each unit, set where it is a separator; the first is the lowest.
-#[inline(always)]
-fn separators_of(units: u16x64) -> u64
-    ensures { result ≡ mask_l (map is_separator units) }
-{
-    units.simd_eq(u16x64::splat(92)).to_bitmask()
-}
-
-/// A bit for each unit, set where it is a separator once slashes are replaced; the first is the lowest.
-#[inline(always)]
-fn bits_of(units: u16x64) -> u64
-    ensures { result ≡ mask_l (map becomes_separator units) }
-{
-    separators_of(replace_slashes(units))
-}
-
-/// Whether a slash is among the units.
-#[inline(always)]
-fn holds_slash(units: u16x64) -> bool
-    ensures { result ≡ false → IsPlain units }
-{
-    units.simd_eq(u16x64::splat(47)).to_bitmask() != 0
-}
-
-/// The units of a block; the last one may be short, and has zeros after its units.
-#[inline(always)]
-fn block_of(units: &[u16], block: usize) -> u16x64
-    requires { block * 64 < length units.now }
-    ensures bits { mask_l (map becomes_separator result) ≡ block_bits block units.now }
-    ensures plain { IsPlain result → IsPlain (take 64 (drop (block * 64) units.now)) }
-{
-    let rest = &units[block * BLOCK..];
-    if BLOCK <= rest.len() {
-        return u16x64::from_slice(rest);
-    }
-    let mut last = [0; BLOCK];
-    last[..rest.len()].copy_from_slice(rest);
-    u16x64::from_array(last)
-}
-
-/// The bits of a block.
-#[inline(always)]
-fn bits_of_block(units: &[u16], block: usize) -> u64
-    requires { block * 64 < length units.now }
-    ensures { result ≡ block_bits block units.now }
-{
-    bits_of(block_of(units, block))
-}
 
 /// How many blocks keep their bits from the pass that counts: a text that has no more is read once.
 const KEPT: usize = 8;
@@ -85,12 +22,11 @@ fn count_and_keep(units: &[u16], kept: &mut [u64; KEPT]) -> (usize, bool)
     let mut count = 0;
     let mut has_slash = false;
     for block in 0..units.len().div_ceil(BLOCK) {
-        let vector = block_of(units, block);
-        let bits = bits_of(vector);
-        count += bits.count_ones() as usize;
-        has_slash |= holds_slash(vector);
+        let seen = see(units, block);
+        count += seen.bits.count_ones() as usize;
+        has_slash |= seen.has_slash;
         if block < KEPT {
-            kept[block] = bits;
+            kept[block] = seen.bits;
         }
     }
     (count, has_slash)
@@ -137,9 +73,43 @@ pub(crate) fn add_places_by_block<A: Allocator>(
     ensures kept { take (length places.old.items) places.new.items ≡ places.old.items }
 {
     for block in 0..units.len().div_ceil(BLOCK) {
-        add_bits(places, start + block * BLOCK, bits_of_block(units, block))?;
+        add_bits(places, start + block * BLOCK, see(units, block).bits)?;
     }
     Ok(())
+}
+
+/// The places of the bits that are set, where the lowest has the place 0. Takes memory at most once.
+#[inline(always)]
+fn places_of_bits<A: Allocator>(alloc: A, bits: u64) -> Result<Vec<usize, A>, AllocError>
+    ensures { IfOk result (λ places. places.items ≡ word_places 0 bits) }
+{
+    let mut places = Vec::with_capacity(alloc, bits.count_ones() as usize)?;
+    add_bits(&mut places, 0, bits)?;
+    Ok(places)
+}
+
+/// The places of the separators that the units have once their slashes are replaced, of which there are
+/// `count`. The bits of the first blocks are known. Takes memory at most once.
+fn places_by_block<A: Allocator>(
+    alloc: A,
+    units: &[u16],
+    count: usize,
+    kept: &[u64; KEPT],
+) -> Result<Vec<usize, A>, AllocError>
+    requires { (block : ℕ) → block < 8 → block * 64 < length units.now →
+        slice_index kept.now block ≡ block_bits block units.now }
+    ensures { IfOk result (λ places. places.items ≡ places_of (with_separators units.now)) }
+{
+    let mut places = Vec::with_capacity(alloc, count)?;
+    for block in 0..units.len().div_ceil(BLOCK) {
+        let bits = if block < KEPT {
+            kept[block]
+        } else {
+            see(units, block).bits
+        };
+        add_bits(&mut places, block * BLOCK, bits)?;
+    }
+    Ok(places)
 }
 
 /// The places of the separators that the units have once their slashes are replaced, and whether a slash is
@@ -148,22 +118,17 @@ pub(crate) fn add_places_by_block<A: Allocator>(
 pub(crate) fn find_places<A: Allocator>(
     alloc: A,
     units: &[u16],
-) -> Result<(Vec<usize, A>, bool), AllocError>
-    ensures places { IfOk result (λ found. found.0.items ≡ places_of (with_separators units.now)) }
-    ensures plain { IfOk result (λ found. found.1 ≡ false → IsPlain units.now) }
+) -> (Result<Vec<usize, A>, AllocError>, bool)
+    ensures places { IfOk result.0 (λ places. places.items ≡ places_of (with_separators units.now)) }
+    ensures plain { result.1 ≡ false → IsPlain units.now }
 {
+    if units.len() < BLOCK {
+        let seen = see_short(units);
+        return (places_of_bits(alloc, seen.bits), seen.has_slash);
+    }
     let mut kept = [0; KEPT];
     let (count, has_slash) = count_and_keep(units, &mut kept);
-    let mut places = Vec::with_capacity(alloc, count)?;
-    for block in 0..units.len().div_ceil(BLOCK) {
-        let bits = if block < KEPT {
-            kept[block]
-        } else {
-            bits_of_block(units, block)
-        };
-        add_bits(&mut places, block * BLOCK, bits)?;
-    }
-    Ok((places, has_slash))
+    (places_by_block(alloc, units, count, &kept), has_slash)
 }
 
 /// Whether two places one after the other are neighbours.
@@ -176,4 +141,17 @@ pub(crate) fn have_neighbours(places: &[usize]) -> bool
         found |= places[i].saturating_sub(1) == places[i - 1];
     }
     found
+}
+
+/// Counts places from one of the units on.
+#[tactic(auto, using(std::proofs::lemmas::List::Edits::map_over_more, std::proofs::lemmas::List::take_all, std::proofs::lemmas::List::drop_all))]
+pub(crate) fn count_from(places: &mut [usize], start: usize)
+    ensures { places.new ≡ map (λ place. place - start) places.old }
+{
+    if start == 0 {
+        return;
+    }
+    for place in places.iter_mut() {
+        *place = place.saturating_sub(start);
+    }
 }

@@ -8,8 +8,9 @@ ghost use Rattle.uefi_path.specs.Views.{counted_text, reads_of};
 ghost use Rattle.uefi_text.specs.Units.{replaced};
 ghost use Rattle.uefi_text.specs.Views.{text_of};
 
+use crate::bits::BLOCK;
 use crate::counted::CountedUnits;
-use crate::places::{BLOCK, add_places_by_block};
+use crate::places::add_places_by_block;
 use std::alloc::{AllocError, Allocator};
 use std::mem;
 use uefi_text::chars::{SEPARATOR, SLASH};

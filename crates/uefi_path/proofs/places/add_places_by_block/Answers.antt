@@ -15,7 +15,7 @@ loop-block-preserved g c =
     let rest = places_from (start + (block + 1) * 64) (with_separators (drop ((block + 1) * 64) us)) in
     let own = word_places (start + block * 64) (block_bits block us) in
     let added : c.add_bits.new.places.items ≡ before ++ own =
-    c.in_ok-add_bits.ensures.ok ∙ ap (λ n. before ++ word_places (start + block * 64) n) c.bits_of_block.ensures in
+    c.in_ok-add_bits.ensures.ok ∙ ap (λ n. before ++ word_places (start + block * 64) n) c.see.ensures.bits in
     let more : length known ≤ length before =
     omega (arith, length-take (length known) before, ap length c.loop-block.invariant.kept) in
     record {

@@ -13,23 +13,23 @@ use Rattle.uefi_path.proofs.places.count_and_keep.Goals.{then-block-lt-KEPT, els
 pub overflow_add-count : goal.overflow_add-count
 overflow_add-count c =
     let us = c.args.units.now in
-    let bits = ap count_ones (c.bits_of-bits.ensures ∙ c.block_of-vector.ensures.bits) in
+    let bits = ap count_ones c.see-seen.ensures.bits in
     omega (arith, bits, count_block us c.loop-block.block, c.loop-block.invariant.count, count_by-le-length becomes_separator us)
 
 pub loop-block-preserved : goal.loop-block-preserved
 loop-block-preserved c =
     let us = c.args.units.now in
     let now = c.loop-block.block in
-    let bits = ap count_ones (c.bits_of-bits.ensures ∙ c.block_of-vector.ensures.bits) in
+    let bits = ap count_ones c.see-seen.ensures.bits in
     record {
       count = omega (arith, bits, count_block us now, c.loop-block.invariant.count);
       plain = λ none.
           let before : c.loop-block.has_slash ≡ false = grind (arith, common_steps, none) in
-          let here : c.holds_slash-has_slash.result ≡ false = grind (arith, common_steps, none) in
+          let here : c.see-seen.result.has_slash ≡ false = grind (arith, common_steps, none) in
           let next : now * 64 + 64 ≡ (now + 1) * 64 = omega arith in
           subst IsPlain (sym (take-add (now * 64) 64 us) ∙ ap (λ n. take n us) next)
           (All-append (λ unit. unit ≢ slash) (take (now * 64) us) (take 64 (drop (now * 64) us)) (c.loop-block.invariant.plain before)
-          (c.block_of-vector.ensures.plain (c.holds_slash-has_slash.ensures here)));
+          (c.see-seen.ensures.plain here));
       kept = λ block within before. elim (cases_lt block now) [
         | inl less ↦
             let known = c.loop-block.invariant.kept block within less in
@@ -40,7 +40,7 @@ loop-block-preserved c =
         | inr enough ↦
             let same : block ≡ now = omega (arith, enough, before) in
             elim c.if-block-lt-KEPT.branch [
-              | then-block-lt-KEPT w ↦ grind (arith, common_steps, same, c.bits_of-bits.ensures, c.block_of-vector.ensures.bits)
+              | then-block-lt-KEPT w ↦ grind (arith, common_steps, same, c.see-seen.ensures.bits)
               | else-block-lt-KEPT w ↦ absurd (omega (arith, w.if-block-lt-KEPT.false, within, same))
             ]
       ];

@@ -12,7 +12,7 @@ text_is g c = elim c.if-has_slash.branch [
   | then-has_slash w ↦ grind (arith, common_steps)
   | else-has_slash w ↦
       let same : c.to_u16_slice.result.now ≡ c.args.string = c.to_u16_slice.ensures ∙ c.as_cstr16.ensures.same in
-      let plain : IsPlain c.args.string = subst IsPlain same (c.in-Ok.ensures.plain w.if-has_slash.false) in
+      let plain : IsPlain c.args.string = subst IsPlain same (c.find_places-places.ensures.plain w.if-has_slash.false) in
       let kept : c.if-has_slash.string ≡ c.args.string = grind (arith, common_steps) in
       kept ∙ sym (with_separators-plain c.args.string plain)
 ]

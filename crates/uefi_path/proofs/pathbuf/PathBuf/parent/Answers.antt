@@ -9,6 +9,7 @@ use Rattle.uefi_path.specs.Separators.{IsPlain, slash}
 use Rattle.uefi_path.specs.SuccessiveParents.{parent_chain}
 use Rattle.uefi_path.proofs.Splitting.{AreComponents-components_of}
 use Rattle.uefi_path.proofs.ParentChains.{parents_of-chain}
+use Rattle.uefi_path.proofs.ParentCounts.{count_of_parent}
 use Rattle.uefi_path.proofs.ParentForm.{plain_rejoined}
 use Rattle.uefi_path.proofs.ParentSizes.{parent_text-shorter}
 use Rattle.uefi_path.proofs.Parents.{All-all_but_last, All-components_of, parent_of_components-many, rejoined-added}
@@ -69,3 +70,13 @@ pub returns-in-Some-clause-successive : goal.returns-in-Some-clause-successive
 returns-in-Some-clause-successive g c =
     let is : parent_text c.args.self.now ≡ Some c.in_ok-cut_at.field-0 = search rules in
     parents_of-chain c.args.self.now ∙ ap parent_chain is
+
+pub returns-clause-count : goal.returns-clause-count
+returns-clause-count g c =
+    count_of_parent c.args.self.now c.append_components_but_last.new.string
+    (subst IsPlain c.self.view_is c.self.invariant.0) (sym (parent_is g c).is)
+
+pub returns-in-Some-clause-count : goal.returns-in-Some-clause-count
+returns-in-Some-clause-count g c =
+    let is : parent_text c.args.self.now ≡ Some c.in_ok-cut_at.field-0 = search rules in
+    count_of_parent c.args.self.now c.in_ok-cut_at.field-0 c.in-Some.ensures.plain is

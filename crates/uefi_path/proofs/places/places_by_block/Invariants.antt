@@ -1,6 +1,6 @@
 use Rattle.std.proofs.Common.{◌≡◌, ◌*◌, ◌++◌, drop}
 use Rattle.uefi_path.specs.Separators.{places_from, places_of, with_separators}
-use Rattle.uefi_path.proofs.places.find_places.Given as goal
+use Rattle.uefi_path.proofs.places.places_by_block.Given as goal
 
 -- the places so far, and those to come
 abbrev pub invariant-loop-block : goal.invariant-loop-block

@@ -1,0 +1,107 @@
+-- How many successive parents a parent of a plain text has: one fewer than components.
+use Rattle.std.proofs.Common.{◌≡◌, ◌≢◌, ℕ, zero, suc, ◌-◌, List, [], ◌∷◌, ◌++◌, length, All, Bool, true, false, if◌then◌else◌, Some, ap, sym, refl, subst, ◌∙◌, ◌<◌, arith}
+use Rattle.std.specs.List.{slice_split}
+use Rattle.std.proofs.lemmas.Bool.{false≢true}
+use Rattle.std.proofs.lemmas.List.{append-nil, length-append, take_all}
+use Rattle.std.proofs.lemmas.List.Elements.{All-filter, All-head}
+use Rattle.uefi_path.specs.Components.{IsPiece, components_of, joined, pieces_between}
+use Rattle.uefi_path.specs.Parents.{parent_text, parent_of_components, all_but_last, ends_empty, is_non_empty, non_empty, joined_with_end, rejoined}
+use Rattle.uefi_path.specs.Separators.{IsPlain, is_separator, separator, slash, with_separators}
+use Rattle.uefi_path.specs.SuccessiveParents.{AreParents, parents_of, prefixes}
+use Rattle.uefi_path.proofs.ParentChains.{AreParents-parents_of}
+use Rattle.uefi_path.proofs.ParentForm.{all_but_last-push, components_of-full, parent_text-plain, prefix_with_end, rejoined-full, split_with_end}
+use Rattle.uefi_path.proofs.Parents.{All-IsPiece-non_empty, All-all_but_last, All-components_of, All-non_empty, IsFull, parent_of_components-many}
+use Rattle.uefi_path.proofs.ParentsOfValid.{parents_of_some, parents_once}
+use Rattle.uefi_path.proofs.Pushing.{separator_is_plain, with_separators-plain}
+use Rattle.uefi_path.proofs.Splitting.{AreComponents-components_of}
+use Rattle.uefi_path.proofs.Validity.{All-joined}
+
+-- what stands between the separators of full pieces that are joined, and of the end after them
+filled : (n : List ℕ) (ns : List (List ℕ)) (more : List ℕ) → IsFull n → joined (n ∷ ns) ++ more ≢ []
+filled [] ns more full e = false≢true full
+filled (u ∷ us) [] more full e = cc
+filled (u ∷ us) (m ∷ ms) more full e = cc
+
+between : (us : List ℕ) → us ≢ [] → pieces_between us ≡ slice_split is_separator us
+between [] some = absurd (some refl)
+between (u ∷ us) some = refl
+
+components_with_end : (n : List ℕ) (ns : List (List ℕ)) (ends : Bool) → All IsPiece (n ∷ ns)
+    → All IsFull (n ∷ ns)
+    → components_of (joined_with_end (n ∷ ns) ends) ≡ (n ∷ ns) ++ (if ends then [] ∷ [] else [])
+components_with_end n ns ends pieces full =
+    let text = joined_with_end (n ∷ ns) ends in
+    ap pieces_between (prefix_with_end (n ∷ ns) ends pieces full)
+    ∙ between text
+    (filled n ns (if ends then separator ∷ [] else []) (All-head IsFull n ns full))
+    ∙ split_with_end n ns ends pieces
+
+length-prefixes : (count : ℕ) (ps : List (List ℕ)) → length (prefixes count ps) ≡ count
+length-prefixes zero ps = refl
+length-prefixes (suc count) ps = ap suc (length-prefixes count ps)
+
+count-of : (text : List ℕ) (parents : List (List ℕ)) → AreParents text parents
+    → length (parents_of text) ≡ length parents
+count-of text parents are =
+    ap length (parents_once text (parents_of text) parents (AreParents-parents_of text) are)
+
+module _ (n : List ℕ) (ns : List (List ℕ)) (pieces : All IsPiece (n ∷ ns)) (full : All IsFull (n ∷ ns))
+    (plain : All IsPlain (n ∷ ns)) where
+  parents_without_end : (text : List ℕ) → components_of text ≡ n ∷ ns
+      → AreParents text (prefixes (length ns) (n ∷ ns))
+  parents_without_end text e =
+      parents_of_some text (length ns) (n ∷ ns) pieces full plain (omega arith)
+      (e ∙ sym (take_all (suc (length ns)) (n ∷ ns) (omega arith)))
+
+  -- the separator at the end is left out first
+  first_parent : (text : List ℕ) → components_of text ≡ (n ∷ ns) ++ [] ∷ []
+      → parent_text text ≡ Some (joined (n ∷ ns))
+  first_parent text e =
+      ap parent_of_components e
+      ∙ parent_of_components-many ((n ∷ ns) ++ [] ∷ [])
+      (omega (arith, length-append (n ∷ ns) ([] ∷ [])))
+      ∙ ap (λ ps. Some (with_separators (rejoined ps))) (all_but_last-push (n ∷ ns) [])
+      ∙ ap (λ us. Some (with_separators us)) (rejoined-full (n ∷ ns) full)
+      ∙ ap (λ us. Some us)
+      (with_separators-plain (joined (n ∷ ns))
+      (All-joined (λ u. u ≢ slash) (n ∷ ns) separator_is_plain plain))
+
+  count_with_end : (ends : Bool) → let text = joined_with_end (n ∷ ns) ends in
+      length (parents_of text) ≡ length (components_of text) - 1
+  count_with_end true =
+      let text = joined_with_end (n ∷ ns) true in
+      let all = components_with_end n ns true pieces full in
+      let others = parents_without_end (joined (n ∷ ns)) (components_of-full (n ∷ ns) pieces full) in
+      omega (
+        arith,
+        count-of text (joined (n ∷ ns) ∷ prefixes (length ns) (n ∷ ns)) (first_parent text all, others),
+        length-prefixes (length ns) (n ∷ ns),
+        ap length all,
+        length-append (n ∷ ns) ([] ∷ []),
+      )
+  count_with_end false =
+      let text = joined_with_end (n ∷ ns) false in
+      let all = components_with_end n ns false pieces full ∙ append-nil (n ∷ ns) in
+      omega (
+        arith,
+        count-of text (prefixes (length ns) (n ∷ ns)) (parents_without_end text all),
+        length-prefixes (length ns) (n ∷ ns),
+        ap length all,
+      )
+
+count_joined : (ns : List (List ℕ)) (ends : Bool) → All IsPiece ns → All IsFull ns → All IsPlain ns
+    → let text = joined_with_end ns ends in
+    length (parents_of text) ≡ length (components_of text) - 1
+count_joined [] ends pieces full plain = refl
+count_joined (n ∷ ns) ends pieces full plain = count_with_end n ns pieces full plain ends
+
+pub count_of_parent : (text parent : List ℕ) → IsPlain text → parent_text text ≡ Some parent
+    → length (parents_of parent) ≡ length (components_of parent) - 1
+count_of_parent text parent plain e =
+    let kept = all_but_last (components_of text) in
+    let is : (parent ≡ rejoined kept) × (1 < length (components_of text)) = parent_text-plain text parent plain e in
+    let pieces = All-all_but_last IsPiece (components_of text) (AreComponents-components_of text).are_pieces in
+    let plains = All-all_but_last IsPlain (components_of text) (All-components_of (λ u. u ≢ slash) text plain) in
+    subst (λ t. length (parents_of t) ≡ length (components_of t) - 1) (sym is.0)
+    (count_joined (non_empty kept) (ends_empty kept) (All-IsPiece-non_empty kept pieces) (All-non_empty kept)
+    (All-filter is_non_empty IsPlain kept plains))
