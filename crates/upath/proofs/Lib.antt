@@ -1,2 +1,3 @@
 pub mod LineEnds
 pub mod CommandCuts
+pub mod ParentWalks

@@ -1,5 +1,5 @@
 //! A run over lines: the path between them, and what each one prints.
-ghost use Rattle.std.specs.Prelude.{◌≡◌, ◌++◌, [], List, ℕ, length, Some, None, IfOk, OnOk, MatchOption, codes, is_some};
+ghost use Rattle.std.specs.Prelude.{◌≡◌, ◌-◌, ◌++◌, [], List, ℕ, length, Some, None, IfOk, IfSome, OnOk, MatchOption, codes, is_some};
 ghost use Rattle.std.specs.List.{flat_map};
 ghost use Rattle.std.specs.Str.{chars};
 ghost use Rattle.uefi_path.specs.Components.{components_of};
@@ -8,7 +8,7 @@ ghost use Rattle.uefi_text.specs.FromStr.{from_str_refusal};
 ghost use Rattle.uefi_path.specs.NormalForms.{normal_of, normal_text};
 ghost use Rattle.uefi_path.specs.Parents.{parent_text};
 ghost use Rattle.uefi_path.specs.PathErrors.{path_error_text};
-ghost use Rattle.uefi_path.specs.SuccessiveParents.{parents_of};
+ghost use Rattle.uefi_path.specs.SuccessiveParents.{parent_chain, parents_of};
 ghost use Rattle.uefi_path.specs.Verdicts.{verdict};
 ghost use Rattle.upath.specs.Commands.{command_of, from_text, push_text, join_text, parent_path, eq_text, cmp_text};
 ghost use Rattle.upath.specs.Output.{check_line, line, norm_line, output_of, parents_lines, path_after, path_line, pieces_lines, printed_by, text_line};
@@ -17,7 +17,7 @@ ghost use Rattle.upath.specs.PathCommands.{after_command};
 use crate::commands::Command;
 use crate::lines::Lines;
 use crate::output::{add_line, add_text_line};
-use crate::path_commands::{PathCommand, all_parents, run_command};
+use crate::path_commands::{PathCommand, run_command};
 use std::alloc::{AllocError, Allocator};
 use std::cmp::Ordering;
 use uefi_path::{NormalizeError, Path, PathBuf, PathError, validate_path};
@@ -58,16 +58,29 @@ fn add_component_lines<A: Allocator + Copy>(
     Ok(())
 }
 
-/// Adds a line for each path.
-fn add_path_lines<A: Allocator + Copy>(
+/// How many successive parents a path has whose first parent this is.
+fn count_parents<A: Allocator + Copy>(parent: &Option<PathBuf<A>>) -> usize
+    requires { IfSome parent.now (λ parent.
+        length (parents_of parent) ≡ length (components_of parent) - 1) }
+    ensures { result ≡ length (parent_chain parent.now) }
+{
+    match parent {
+        None => 0,
+        Some(parent) => count_components(parent).max(1),
+    }
+}
+
+/// Adds a line for a path, if there is one, for its parent, and so on. Holds one of them at a time.
+fn add_parent_lines<A: Allocator + Copy>(
     output: &mut Vec<u8, A>,
-    paths: &[PathBuf<A>],
+    mut next: Option<PathBuf<A>>,
 ) -> Result<(), AllocError>
     ensures { OnOk result (output.new.items
-        ≡ output.old.items ++ flat_map (text_line (codes "| ")) paths.now) }
+        ≡ output.old.items ++ flat_map (text_line (codes "| ")) (parent_chain next)) }
 {
-    for path in paths {
+    while let Some(path) = next {
         add_text_line(output, b"| ", path.to_cstr16().as_slice())?;
+        next = path.parent()?;
     }
     Ok(())
 }
@@ -89,6 +102,7 @@ impl<A: Allocator + Copy> Run<A> {
     }
 
     /// The string of a command's text. Where the text is refused this prints why, and returns `None`.
+    #[inline(always)]
     fn read_text(&mut self, text: &str) -> Result<Option<CString16<A>>, AllocError>
         ensures path { OnOk result (self.new.path ≡ self.old.path) }
         ensures text { IfOk result (λ string. MatchOption string
@@ -201,11 +215,11 @@ impl<A: Allocator + Copy> Run<A> {
         ensures output { OnOk result
             (self.new.output.items ≡ self.old.output.items ++ parents_lines (parents_of self.old.path)) }
     {
-        let parents = all_parents(self.alloc(), &self.path)?;
-        let count = parents.len();
+        let parent = self.path.parent()?;
+        let count = count_parents(&parent);
         let line = format!(in self.alloc(); "parents {count}")?;
         add_line(&mut self.output, &line)?;
-        add_path_lines(&mut self.output, &parents)
+        add_parent_lines(&mut self.output, parent)
     }
 
     /// `eq T`

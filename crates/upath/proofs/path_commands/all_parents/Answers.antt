@@ -1,16 +1,9 @@
 -- Each parent is followed by its own.
-use Rattle.std.proofs.Common.{◌≡◌, ◌<◌, ℕ, ◌+◌, List, Option, None, Some, ap, length, arith}
-use Rattle.std.specs.Option.{IfSome}
+use Rattle.std.proofs.Common.{◌≡◌, ap, length, arith}
 use Rattle.std.proofs.lemmas.Grind.{common_steps}
 use Rattle.uefi_path.specs.SuccessiveParents.{parents_of}
-use Rattle.upath.proofs.path_commands.all_parents.Invariants.{most_left}
+use Rattle.upath.proofs.ParentWalks.{fewer_left, most_left}
 use Rattle.upath.proofs.path_commands.all_parents.Goals as goal
-
--- fewer are left after a parent that is shorter
-fewer_left : (next : Option (List ℕ)) (most : ℕ) → IfSome next (λ parent. length parent < most)
-    → most_left next < most + 1
-fewer_left None most shorter = omega arith
-fewer_left (Some parent) most shorter = omega (arith, shorter)
 
 pub loop-next-smaller : goal.loop-next-smaller
 loop-next-smaller g c =
