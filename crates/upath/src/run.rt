@@ -70,7 +70,7 @@ fn count_parents<A: Allocator + Copy>(parent: &Option<PathBuf<A>>) -> usize
     }
 }
 
-/// Adds a line for a path, if there is one, for its parent, and so on. Holds one of them at a time.
+/// Adds a line for a path, if there is one, for its parent, and so on. Holds two of them at most.
 fn add_parent_lines<A: Allocator + Copy>(
     output: &mut Vec<u8, A>,
     mut next: Option<PathBuf<A>>,
