@@ -1,3 +1,4 @@
 pub mod LineEnds
 pub mod CommandCuts
 pub mod ParentWalks
+pub mod PrintedLines

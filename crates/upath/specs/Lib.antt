@@ -1,5 +1,4 @@
 pub mod Lines
-pub mod LinesLeft
 pub mod Edits
 pub mod Commands
 pub mod Output

@@ -121,6 +121,10 @@ printed_from path [] = []
 printed_from path (first ∷ others) =
     printed_by (command_of first) path ++ printed_from (path_after (command_of first) path) others
 
+-- what a run prints in all, of which this is printed, from this path on, and these bytes are to come
+abbrev pub output_with : List ℕ → List ℕ → List ℕ → List ℕ
+output_with output path bytes = output ++ printed_from path (lines_of bytes)
+
 -- what a run over an input prints
 abbrev pub output_of : List ℕ → List ℕ
 output_of input = printed_from [] (lines_of input)

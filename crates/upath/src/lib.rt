@@ -14,13 +14,15 @@
 //! assert_eq!(rt; output.as_slice(), b"= \\foo\\bar\npieces 2\n| foo\n| bar\n".as_slice());
 //! ```
 //!
-//! Data flows one way through the modules: `lines` cuts an input, `commands` reads a line, `run`
-//! keeps the path, edits it by `path_commands` and prints, `output` adds lines to what is printed,
-//! `streams` puts a reader and a writer around a run, and `program_ends` says how a program ends after
+//! Data flows one way through the modules: `lines` finds where a line ends, `commands` reads a line,
+//! `run` keeps the path, edits it by `path_commands` and prints, `output` adds lines to what is
+//! printed, `inputs` runs the lines of an input that is there or that comes in parts, `streams` puts
+//! a reader and a writer around that, and `program_ends` says how a program ends after
 //! it. `judging` stands beside them, and [`laws`] apart: what users may reason by.
 #![tactic(auto)]
 
 mod commands;
+mod inputs;
 mod judging;
 pub mod laws;
 mod lines;
@@ -31,9 +33,9 @@ mod run;
 mod streams;
 mod watched;
 
+pub use inputs::run_text;
 pub use judging::{JudgeError, judge};
 pub use path_commands::{PathCommand, RunFault, all_parents, pieces, run_commands};
 pub use program_ends::ProgramEnd;
-pub use run::run_text;
 pub use streams::{StreamFault, run_streams};
 pub use watched::Watched;

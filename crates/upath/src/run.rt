@@ -1,4 +1,4 @@
-//! A run over lines: the path between them, and what each one prints.
+//! A run line by line: the path between the lines, and what each one prints.
 ghost use Rattle.std.specs.Prelude.{◌≡◌, ◌-◌, ◌++◌, [], List, ℕ, length, Some, None, IfOk, IfSome, OnOk, MatchOption, codes, is_some};
 ghost use Rattle.std.specs.List.{flat_map};
 ghost use Rattle.std.specs.Str.{chars};
@@ -11,11 +11,10 @@ ghost use Rattle.uefi_path.specs.PathErrors.{path_error_text};
 ghost use Rattle.uefi_path.specs.SuccessiveParents.{parent_chain, parents_of};
 ghost use Rattle.uefi_path.specs.Verdicts.{verdict};
 ghost use Rattle.upath.specs.Commands.{command_of, from_text, push_text, join_text, parent_path, eq_text, cmp_text};
-ghost use Rattle.upath.specs.Output.{check_line, line, norm_line, output_of, parents_lines, path_after, path_line, pieces_lines, printed_by, text_line};
+ghost use Rattle.upath.specs.Output.{check_line, line, norm_line, parents_lines, path_after, path_line, pieces_lines, printed_by, text_line};
 ghost use Rattle.upath.specs.PathCommands.{after_command};
 
 use crate::commands::Command;
-use crate::lines::Lines;
 use crate::output::{add_line, add_text_line};
 use crate::path_commands::{PathCommand, run_command};
 use std::alloc::{AllocError, Allocator};
@@ -25,7 +24,7 @@ use uefi_text::owned_strs::{CString16, FromStrError};
 
 /// A run so far: the path that the next line finds, and what was printed.
 #[derive(Drop)]
-struct Run<A: Allocator + Copy> {
+pub(crate) struct Run<A: Allocator + Copy> {
     path: PathBuf<A>,
     output: Vec<u8, A>,
 }
@@ -87,7 +86,7 @@ fn add_parent_lines<A: Allocator + Copy>(
 
 impl<A: Allocator + Copy> Run<A> {
     /// A run before its first line.
-    fn new(alloc: A) -> Result<Run<A>, AllocError>
+    pub(crate) fn new(alloc: A) -> Result<Run<A>, AllocError>
         ensures path { IfOk result (λ run. run.path ≡ []) }
         ensures output { IfOk result (λ run. run.output.items ≡ []) }
     {
@@ -291,7 +290,7 @@ impl<A: Allocator + Copy> Run<A> {
     }
 
     /// Runs a line.
-    fn line(&mut self, line: &[u8]) -> Result<(), AllocError>
+    pub(crate) fn line(&mut self, line: &[u8]) -> Result<(), AllocError>
         ensures path { OnOk result (self.new.path ≡ path_after (command_of line.now) self.old.path) }
         ensures output { OnOk result
             (self.new.output.items
@@ -313,27 +312,12 @@ impl<A: Allocator + Copy> Run<A> {
             Command::NotUtf8 => add_line(&mut self.output, "? not UTF-8"),
         }
     }
-}
 
-/// What the lines of an input print, from the empty path on.
-///
-/// Lines end at a line feed, and no other byte ends or trims one. `from T` makes the path that of
-/// T, its slashes replaced, `push T` and `join T` push that onto it, `clear` empties it, `parent`
-/// makes it its parent, and each prints it; `parent` prints `none` where there is none. These edits
-/// are those of [`crate::run_commands`]. `pieces` prints the number of components and each, `up`
-/// that of the successive parents and each; `eq T` and `cmp T` print how the path compares with
-/// that of T, taken as it stands; `check` prints whether it is accepted, or why not, and `norm` the
-/// normal path, or why there is none. A line that is not UTF-8, one that is no command and a T that
-/// is no text of UCS-2 print a line that says so and leave the path unchanged. The only error is out
-/// of memory, and then nothing of the output is returned. Memory is linear in the input and the
-/// output; a line costs what it says, what it prints, and at most a pass over the path.
-pub fn run_text<A: Allocator + Copy>(alloc: A, input: &[u8]) -> Result<Vec<u8, A>, AllocError>
-    ensures { IfOk result (λ output. output.items ≡ output_of input.now) }
-{
-    let mut run = Run::new(alloc)?;
-    for line in Lines::new(input) {
-        run.line(line)?;
+    /// What was printed.
+    pub(crate) fn into_output(self) -> Vec<u8, A>
+        ensures { result ≡ self.output }
+    {
+        let Run { path: _, output } = self;
+        output
     }
-    let Run { path: _, output } = run;
-    Ok(output)
 }

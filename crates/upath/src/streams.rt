@@ -5,7 +5,7 @@ ghost use Rattle.upath.specs.Output.{output_of};
 ghost use Rattle.upath.specs.Streams.{AppendsPrefix};
 ghost use Rattle.upath.specs.Watched.{is_marked, stream_of};
 
-use crate::run::run_text;
+use crate::inputs::PartialRun;
 use crate::watched::Watched;
 use std::alloc::Allocator;
 use std::error::Error;
@@ -21,7 +21,7 @@ pub enum StreamFault {
     /// A write or the flush failed. A prefix of the output may have been written.
     Write,
 
-    /// A request for memory was refused, while reading or later. Nothing was written.
+    /// A request for memory was refused before a read failed. Nothing was written.
     OutOfMemory,
 }
 
@@ -45,13 +45,15 @@ impl Error for StreamFault {}
 /// How many bytes are asked for at a read.
 const CHUNK: usize = 65536;
 
-/// All that a reader still gives. Memory is refused only after a read that gave bytes.
-fn read_input<A: Allocator, R: Read>(
+/// What the lines of all that a reader still gives print. They run while they are read, so the input is
+/// not kept.
+fn run_input<A: Allocator + Copy, R: Read>(
     alloc: A,
     reader: &mut Watched<R>,
 ) -> Result<Vec<u8, A>, StreamFault>
-    ensures input { IfOk result (λ input. Consumes
-        (R.remaining (stream_of reader.old)) (R.remaining (stream_of reader.new)) input.items) }
+    ensures output { IfOk result (λ output. ((input : List ℕ)
+        × Consumes (R.remaining (stream_of reader.old)) (R.remaining (stream_of reader.new)) input
+        × (output.items ≡ output_of input))) }
     ensures end { OnOk result (IsAtEnd (R.remaining (stream_of reader.new))) }
     ensures unmarked { OnOk result (is_marked reader.new ≡ is_marked reader.old) }
     ensures prefix { OnErr result ((input : List ℕ) × Consumes
@@ -61,19 +63,25 @@ fn read_input<A: Allocator, R: Read>(
     ensures refused { IfErr result (λ fault.
         fault ≢ StreamFault.Read → is_marked reader.new ≡ is_marked reader.old) }
 {
-    let mut input = Vec::new(alloc);
+    let Ok(mut run) = PartialRun::new(alloc) else {
+        return Err(StreamFault::OutOfMemory);
+    };
     let mut chunk = [0; CHUNK];
     'chunks: loop {
         let Ok(count) = reader.read(&mut chunk) else {
             return Err(StreamFault::Read);
         };
         if count == 0 {
-            return Ok(input);
+            break;
         }
-        if input.extend_from_slice(&chunk[..count]).is_err() {
+        let Ok(()) = run.add(&chunk[..count]) else {
             return Err(StreamFault::OutOfMemory);
-        }
+        };
     }
+    let Ok(output) = run.finish() else {
+        return Err(StreamFault::OutOfMemory);
+    };
+    Ok(output)
 }
 
 /// Writes bytes and flushes.
@@ -99,7 +107,7 @@ fn write_output<W: Write>(writer: &mut Watched<W>, output: &[u8]) -> Result<(), 
     Ok(())
 }
 
-/// Reads a reader to its end, writes what [`run_text`] returns to the whole of it, and nothing else, and
+/// Reads a reader to its end, writes what [`crate::run_text`] returns to the whole of it, and nothing else, and
 /// flushes. The marks of both are unset before.
 ///
 /// [`StreamFault::Read`] comes only where the reader's mark is set then, and [`StreamFault::Write`] only
@@ -131,9 +139,6 @@ pub fn run_streams<A: Allocator + Copy, R: Read, W: Write>(
         × (fault ≢ StreamFault.Read → is_marked reader.new ≡ false)) }
     ensures writer_marked { IfErr result (λ fault. fault ≡ StreamFault.Write → is_marked writer.new ≡ true) }
 {
-    let input = read_input(alloc, reader)?;
-    let Ok(output) = run_text(alloc, &input) else {
-        return Err(StreamFault::OutOfMemory);
-    };
+    let output = run_input(alloc, reader)?;
     write_output(writer, &output)
 }

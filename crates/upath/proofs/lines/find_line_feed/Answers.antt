@@ -1,5 +1,5 @@
 use Rattle.upath.proofs.LineEnds.{position-IsFirstByte}
 use Rattle.upath.proofs.lines.find_line_feed.Goals as goal
 
-pub returns : goal.returns
-returns c = position-IsFirstByte c.args.bytes.now c.memchr.result c.memchr.ensures
+pub returns-clause-place : goal.returns-clause-place
+returns-clause-place c = position-IsFirstByte c.args.bytes.now c.memchr.result c.memchr.ensures

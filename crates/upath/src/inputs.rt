@@ -1,0 +1,105 @@
+//! A run over an input, whole or in parts: a line may begin in one part and end in another.
+ghost use Rattle.std.specs.Prelude.{◌≡◌, ◌<◌, ◌≤◌, ◌+◌, ◌++◌, [], List, ℕ, length, IfOk, OnOk};
+ghost use Rattle.upath.specs.Commands.{command_of};
+ghost use Rattle.upath.specs.Lines.{IsUnended};
+ghost use Rattle.upath.specs.Output.{output_of, output_with, path_after, printed_by};
+
+use crate::lines::find_line_feed;
+use crate::run::Run;
+use std::alloc::{AllocError, Allocator};
+
+/// A run of the lines that have ended, and the line that has not.
+#[derive(Drop)]
+pub(crate) struct PartialRun<A: Allocator + Copy> {
+    run: Run<A>,
+
+    /// What is there of the line that has not ended: it holds no line feed.
+    begun: Vec<u8, A>,
+}
+
+impl<A: Allocator + Copy> PartialRun<A> {
+    /// A run before the first part.
+    pub(crate) fn new(alloc: A) -> Result<PartialRun<A>, AllocError>
+        ensures path { IfOk result (λ partial. partial.run.path ≡ []) }
+        ensures output { IfOk result (λ partial. partial.run.output.items ≡ []) }
+        ensures begun { IfOk result (λ partial. partial.begun.items ≡ []) }
+    {
+        Ok(PartialRun {
+            run: Run::new(alloc)?,
+            begun: Vec::new(alloc),
+        })
+    }
+
+    /// Runs the line that ends with these bytes.
+    fn end_line(&mut self, end: &[u8]) -> Result<(), AllocError>
+        ensures path { OnOk result (self.new.run.path
+            ≡ path_after (command_of (self.old.begun.items ++ end.now)) self.old.run.path) }
+        ensures output { OnOk result (self.new.run.output.items ≡ self.old.run.output.items
+            ++ printed_by (command_of (self.old.begun.items ++ end.now)) self.old.run.path) }
+        ensures begun { OnOk result (self.new.begun.items ≡ []) }
+    {
+        if self.begun.is_empty() {
+            return self.run.line(end);
+        }
+        self.begun.extend_from_slice(end)?;
+        self.run.line(&self.begun)?;
+        self.begun.clear();
+        Ok(())
+    }
+
+    /// Runs the lines that end in a part, and keeps what follows them. One pass over the part. Where
+    /// nothing is printed, no line ended.
+    pub(crate) fn add(&mut self, part: &[u8]) -> Result<(), AllocError>
+        requires { IsUnended self.old.begun.items }
+        ensures unended { OnOk result (IsUnended self.new.begun.items) }
+        ensures output { OnOk result ((rest : List ℕ) →
+            output_with self.new.run.output.items self.new.run.path (self.new.begun.items ++ rest)
+            ≡ output_with self.old.run.output.items self.old.run.path
+            (self.old.begun.items ++ (part.now ++ rest))) }
+        ensures longer { OnOk result (
+            length self.old.run.output.items ≤ length self.new.run.output.items) }
+        ensures begun { OnOk result (
+            length self.new.run.output.items ≤ length self.old.run.output.items
+            → length self.new.begun.items ≡ length self.old.begun.items + length part.now) }
+    {
+        let mut rest = part;
+        while let Some(end) = find_line_feed(rest) {
+            self.end_line(&rest[..end])?;
+            rest = &rest[end + 1..];
+        }
+        self.begun.extend_from_slice(rest)
+    }
+
+    /// Runs the last line where no line feed ends it, and returns what the run printed.
+    pub(crate) fn finish(self) -> Result<Vec<u8, A>, AllocError>
+        requires { IsUnended self.begun.items }
+        ensures { IfOk result (λ output. output.items
+            ≡ output_with self.run.output.items self.run.path self.begun.items) }
+    {
+        let PartialRun { mut run, begun } = self;
+        if !begun.is_empty() {
+            run.line(&begun)?;
+        }
+        Ok(run.into_output())
+    }
+}
+
+/// What the lines of an input print, from the empty path on.
+///
+/// Lines end at a line feed, and no other byte ends or trims one. `from T` makes the path that of
+/// T, its slashes replaced, `push T` and `join T` push that onto it, `clear` empties it, `parent`
+/// makes it its parent, and each prints it; `parent` prints `none` where there is none. These edits
+/// are those of [`crate::run_commands`]. `pieces` prints the number of components and each, `up`
+/// that of the successive parents and each; `eq T` and `cmp T` print how the path compares with
+/// that of T, taken as it stands; `check` prints whether it is accepted, or why not, and `norm` the
+/// normal path, or why there is none. A line that is not UTF-8, one that is no command and a T that
+/// is no text of UCS-2 print a line that says so and leave the path unchanged. The only error is out
+/// of memory, and then nothing of the output is returned. Memory is linear in the input and the
+/// output; a line costs what it says, what it prints, and at most a pass over the path.
+pub fn run_text<A: Allocator + Copy>(alloc: A, input: &[u8]) -> Result<Vec<u8, A>, AllocError>
+    ensures { IfOk result (λ output. output.items ≡ output_of input.now) }
+{
+    let mut run = PartialRun::new(alloc)?;
+    run.add(input)?;
+    run.finish()
+}
