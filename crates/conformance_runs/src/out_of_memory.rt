@@ -3,6 +3,7 @@
 
 use conformance::{Refusals, Refusing, out_of_memory, refused_in_turn};
 use std::alloc::{AllocError, Global};
+use std::io::{self, Read};
 use std::test::Fail;
 use uefi_path::{Path, PathBuf, PathError};
 use uefi_text::{CStr16, Char16, FromSliceWithNulError};
@@ -151,9 +152,25 @@ const INPUT: &[u8] =
     b"from \\foo\\bar\npieces\neq foo\nfrom a\xc3\xa9/c\npieces\neq \xf0\x9f\x98\x80\nwhat\n\
       \xff\npush b\njoin c/d\nup\nparent\ncmp a\ncheck\nclear\ncheck\n";
 
+/// Gives few bytes a call, so that most lines are not given whole.
+#[derive(Drop)]
+struct FewBytes {
+    rest: &'static [u8],
+}
+
+impl Read for FewBytes {
+    fn read(&mut self, buf: &mut [u8]) -> io::Result<usize> {
+        let len = buf.len().min(self.rest.len()).min(5);
+        let (given, others) = self.rest.split_at(len);
+        buf[..len].copy_from_slice(given);
+        self.rest = others;
+        Ok(len)
+    }
+}
+
 /// Whether a run over streams writes this, or nothing where memory ran out.
 fn writes(heap: &Refusing<Global>, want: &[u8], alloc: Global) -> Result<bool, AllocError> {
-    let mut reader = Watched::new(INPUT);
+    let mut reader = Watched::new(FewBytes { rest: INPUT });
     let mut writer = Watched::new(Vec::new(alloc));
     let outcome = run_streams(heap, &mut reader, &mut writer);
     let is_unmarked = !reader.has_failed() && !writer.has_failed();
