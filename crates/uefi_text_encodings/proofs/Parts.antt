@@ -1,7 +1,7 @@
 -- Passes that look at the parts of a list, and then at its end: what the parts pass, all of it passes.
-use Rattle.std.proofs.Common.{◌≡◌, ℕ, ◌+◌, ◌-◌, ◌*◌, ◌≤◌, Bool, true, false, not, ◌&&◌, List, [], ◌∷◌, length, map, take, drop, All, T, ap, sym, refl, subst, ◌∙◌, arith, inl, inr, cond, eqb, leb, nat_le, nat_lt, replicate}
+use Rattle.std.proofs.Common.{◌≡◌, ℕ, ◌+◌, ◌-◌, ◌*◌, ◌≤◌, Bool, true, false, not, ◌&&◌, List, [], ◌∷◌, length, map, take, drop, All, ap, sym, refl, subst, ◌∙◌, arith, inl, inr, eqb, leb, nat_le, nat_lt, replicate, zero, suc, ◌<◌, Fits, w8}
 use Rattle.std.specs.List.{fold}
-use Rattle.std.specs.Simd.Lanes.{mask_l, zip2}
+use Rattle.std.specs.Simd.Lanes.{Each1, mask_l, zip2}
 use Rattle.std.proofs.lemmas.Bool.{cases_Bool, eq-eqb, eqb-true, false_from_ne_true, false≢true}
 use Rattle.std.proofs.Math.Seq.{take-add}
 use Rattle.std.proofs.lemmas.Bool.Decides.{eqb_tells}
@@ -53,6 +53,18 @@ pub zip2_splat_first : {X : Type 0} (t : X → X → Bool) (xs : List X) (n : �
     → zip2 t (replicate n y) xs ≡ map (t y) xs
 zip2_splat_first t xs n y long = ap (λ k. zip2 t (replicate k y) xs) (sym long) ∙ splat_first t y xs
 
+-- an operation of each lane with one number
+pub zip2_splat : {X Y : Type 0} (f : X → X → Y) (xs : List X) (n : ℕ) (y : X) → length xs ≡ n → zip2 f xs (replicate n y) ≡ map (λ x. f x y) xs
+zip2_splat f [] n y long = refl
+zip2_splat f (x ∷ xs) zero y long = absurd (omega (arith, long))
+zip2_splat f (x ∷ xs) (suc n) y long = ap (λ us. f x y ∷ us) (zip2_splat f xs n y (omega (arith, long)))
+
+-- lanes that are tested after an operation
+pub tested_lanes : (f : ℕ → ℕ) (test p : ℕ → Bool) → ((b : ℕ) → b < 256 → test (f b) ≡ p b) → (bs : List ℕ) → Each1 (Fits w8) bs
+    → map test (map f bs) ≡ map p bs
+tested_lanes f test p same [] fit = refl
+tested_lanes f test p same (b ∷ bs) fit = let first = same b fit.0.fits in let others = tested_lanes f test p same bs fit.1 in cc
+
 odd : (n : ℕ) → eqb (1 + 2 * n) 0 ≡ false
 odd n = false_from_ne_true (eqb (1 + 2 * n) 0) (λ e. absurd (omega (arith, eqb-true (1 + 2 * n) 0 e)))
 
@@ -64,16 +76,17 @@ even n = elim (eqb_tells n 0) [
       ∙ sym differs.0
 ]
 
--- no bit is set exactly where no unit is beyond ASCII
-pub beyond_ascii_bits : (us : List ℕ) → not (eqb (mask_l (map (λ u. leb 128 u) us)) 0) ≡ fold beyond_ascii_so_far false us
-beyond_ascii_bits [] = refl
-beyond_ascii_bits (u ∷ us) =
-    let others = mask_l (map (λ v. leb 128 v) us) in
-    elim (cases_Bool (leb 128 u)) [
+-- no bit is set exactly where a fold that keeps what it found finds nothing
+pub found_bits : (p : ℕ → Bool) (step : Bool → ℕ → Bool) → ((u : ℕ) → step true u ≡ true) → ((u : ℕ) → step false u ≡ p u) → (us : List ℕ)
+    → not (eqb (mask_l (map p us)) 0) ≡ fold step false us
+found_bits p step kept first [] = refl
+found_bits p step kept first (u ∷ us) =
+    let others = mask_l (map p us) in
+    elim (cases_Bool (p u)) [
       | inl found ↦
-          let stuck : fold beyond_ascii_so_far true us ≡ true = fold_stays beyond_ascii_so_far true (λ _. refl) us in
-          rw found (ap not (odd others) ∙ sym stuck)
-      | inr other ↦ rw other (ap not (even others) ∙ beyond_ascii_bits us)
+          let stuck : fold step true us ≡ true = fold_stays step true kept us in
+          rw found (ap not (odd others) ∙ sym (ap (λ b. fold step b us) (first u ∙ found) ∙ stuck))
+      | inr other ↦ rw other (ap not (even others) ∙ found_bits p step kept first us ∙ sym (ap (λ b. fold step b us) (first u ∙ other)))
     ]
 
 -- and neither of both where each byte is ASCII and not NUL
@@ -86,7 +99,7 @@ ascii_text_bits (b ∷ bs) =
     let beyond = mask_l (map (λ v. leb 128 v) bs) in
     let stuck : fold ascii_text_so_far false bs ≡ false = fold_stays ascii_text_so_far false (λ _. refl) bs in
     elim (eqb_tells b 0) [
-      | inl zero ↦ rw zero.1 (ap (λ x. x && eqb (0 + 2 * beyond) 0) (odd zeros) ∙ sym stuck)
+      | inl nul ↦ rw nul.1 (ap (λ x. x && eqb (0 + 2 * beyond) 0) (odd zeros) ∙ sym stuck)
       | inr differs ↦
           let above : nat_lt 0 b ≡ true = grind (arith, common_steps, differs.1) in
           elim (cases_Bool (leb 128 b)) [

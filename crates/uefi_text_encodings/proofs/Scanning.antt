@@ -3,8 +3,10 @@ use Rattle.std.proofs.Common.{◌≡◌, ◌↔◌, nat_le, refl, ℕ, ◌<◌, 
 use Rattle.std.specs.List.{fold, position, position_or_len, slice_range}
 use Rattle.std.specs.Str.{IsAscii}
 use Rattle.std.proofs.lemmas.Bool.{cases_Bool, cases_lt}
+use Rattle.std.proofs.Math.Seq.{take-add}
+use Rattle.std.proofs.lemmas.List.{take-append-drop}
 use Rattle.std.proofs.lemmas.List.Folds.{fold_stays}
-use Rattle.std.proofs.lemmas.List.Sums.{fails_before_first, passes_at_first, position_or_len_is}
+use Rattle.std.proofs.lemmas.List.Sums.{fails_before_first, fold-append, passes_at_first, position_or_len_is}
 use Rattle.std.proofs.lemmas.Simd.{get_or-chunk, length-chunk}
 use Rattle.std.proofs.lemmas.Grind.{common_steps}
 use Rattle.uefi_text_encodings.specs.Scans.{beyond_ascii_so_far}
@@ -47,6 +49,27 @@ module _ (p : ℕ → Bool) (step : Bool → ℕ → Bool) (kept : (u : ℕ) →
             let e : get_or (take n (drop from us)) i 0 ≡ get_or us k 0 = get_or-chunk from n us i 0 short ∙ same in
             subst (λ u. p u ≡ false) e (none_in_block (take n (drop from us)) clear i long)
       ]
+
+-- where a fold found nothing so far, it finds in a part more what it finds in that alone
+pub found_so_far : (step : Bool → ℕ → Bool) (us : List ℕ) (at n : ℕ) → fold step false (take at us) ≡ false
+    → fold step false (take (at + n) us) ≡ fold step false (take n (drop at us))
+found_so_far step us at n none =
+    ap (fold step false) (take-add at n us) ∙ fold-append step false (take at us) (take n (drop at us))
+    ∙ ap (λ found. fold step found (take n (drop at us))) none
+
+-- and in all of a list what it finds after that
+pub found_in_rest : (step : Bool → ℕ → Bool) (us : List ℕ) (at : ℕ) → fold step false (take at us) ≡ false
+    → fold step false us ≡ fold step false (drop at us)
+found_in_rest step us at none =
+    ap (fold step false) (sym (take-append-drop at us)) ∙ fold-append step false (take at us) (drop at us)
+    ∙ ap (λ found. fold step found (drop at us)) none
+
+-- what is found in a prefix is found
+pub found_in_front : (step : Bool → ℕ → Bool) → ((u : ℕ) → step true u ≡ true) → (us : List ℕ) (n : ℕ)
+    → fold step false (take n us) ≡ true → fold step false us ≡ true
+found_in_front step kept us n found =
+    ap (fold step false) (sym (take-append-drop n us)) ∙ fold-append step false (take n us) (drop n us)
+    ∙ ap (λ so_far. fold step so_far (drop n us)) found ∙ fold_stays step true kept (drop n us)
 
 -- where an element passes and none before it does, a search ends there
 pub position-at : (p : ℕ → Bool) (us : List ℕ) (i : ℕ) → i < length us → ((k : ℕ) → k < i → p (get_or us k 0) ≡ false)

@@ -1,6 +1,7 @@
 -- Texts, as characters and as code units, and the strings that they are stored as.
 use Rattle.std.proofs.Common.{◌≡◌, ◌↔◌, ℕ, ◌-◌, ◌≤◌, ◌≢◌, Bool, true, false, List, [], ◌∷◌, ◌++◌, length, map, None, Option, Some, All, arith, sym, ◌∙◌, ap, refl, subst, ◌==◌, if◌then◌else◌, set, append_assoc, take, drop}
 use Rattle.std.specs.List.{find}
+use Rattle.std.specs.Option.{SomeIff}
 use Rattle.std.specs.Str.{chars, IsUtf8}
 use Rattle.std.specs.Prelude.{encode_utf8}
 use Rattle.std.proofs.lemmas.Str.{chars-nil, chars_past_char, encodes-chars, length-le-encodes}
@@ -148,3 +149,8 @@ IsText-unrefused cs are_scalars = (
 -- a text has no more characters than bytes
 pub length-chars : (bs : List ℕ) → IsUtf8 bs → length (chars bs) ≤ length bs
 length-chars bs utf8 = omega (arith, length-le-encodes (chars bs), ap length (encodes-chars bs utf8))
+
+-- a value where one condition holds is one where another does that says the same
+pub SomeIff-same : {P Q : Type 0} (found : Option ℕ) (n m : ℕ) → P ↔ Q → n ≡ m → SomeIff found P n → SomeIff found Q m
+SomeIff-same None n m same is none = λ q. none (same.1 q)
+SomeIff-same (Some k) n m same is some = (same.0 some.0, some.1 ∙ is)

@@ -1,6 +1,7 @@
 -- What the bytes of a Rust text say of its characters.
-use Rattle.std.proofs.Common.{cond, ◌≡◌, ◌≢◌, ◌↔◌, All, ℕ, ◌<◌, ◌≤◌, ◌+◌, ◌*◌, take, drop, subst, ◌/◌, ◌%◌, ◌==◌, ◌||◌, nat_le, ◌++◌, ◌∙◌, ap, zero, suc, Bool, true, false, List, [], ◌∷◌, get_or, length, None, arith, refl, sym, inl, inr}
+use Rattle.std.proofs.Common.{◌⊎◌, cond, ◌≡◌, ◌≢◌, ◌↔◌, All, ℕ, ◌<◌, ◌≤◌, ◌+◌, ◌*◌, take, drop, subst, ◌/◌, ◌%◌, ◌==◌, ◌||◌, nat_le, ◌++◌, ◌∙◌, ap, zero, suc, Bool, true, false, List, [], ◌∷◌, get_or, length, None, arith, refl, sym, inl, inr}
 use Rattle.std.specs.Char.{encode_utf8}
+use Rattle.std.specs.Fmt.{is_char_start}
 use Rattle.std.specs.List.{count_by, find, fold}
 use Rattle.std.specs.Str.{chars, encode_utf8_all, IsAscii, IsUtf8}
 use Rattle.std.proofs.lemmas.Bool.{cases_Bool, cases_lt, le-leb, le-ltb, lt-leb, lt-ltb}
@@ -299,3 +300,96 @@ counted-from p (x ∷ xs) n =
 -- what passes in both of two lists is counted in each
 pub count_by-append : (p : ℕ → Bool) (xs ys : List ℕ) → count_by p (xs ++ ys) ≡ count_by p xs + count_by p ys
 count_by-append p xs ys = fold-append (λ (a : ℕ) (x : ℕ). a + cond (p x) 1 0) 0 xs ys ∙ counted-from p ys (count_by p xs)
+
+-- a count begins with what the first element adds
+counted-cons : (p : ℕ → Bool) (x : ℕ) (xs : List ℕ) → count_by p (x ∷ xs) ≡ cond (p x) 1 0 + count_by p xs
+counted-cons p x xs = omega (arith, counted-from p xs (0 + cond (p x) 1 0))
+
+-- the first byte of a character is counted
+first_counted : (b : ℕ) (bs : List ℕ) → b < 128 ⊎ 192 ≤ b → count_by is_char_start (b ∷ bs) ≡ 1 + count_by is_char_start bs
+first_counted b bs is =
+    let first : is_char_start b ≡ true = elim is [ inl low ↦ grind (arith, common_steps) | inr high ↦ grind (arith, common_steps) ] in
+    counted-cons is_char_start b bs ∙ ap (λ t. cond t 1 0 + count_by is_char_start bs) first
+
+-- and no byte inside of it is
+inside_passed : (b : ℕ) (bs : List ℕ) → 128 ≤ b → b < 192 → count_by is_char_start (b ∷ bs) ≡ count_by is_char_start bs
+inside_passed b bs above below =
+    let inside : is_char_start b ≡ false = grind (arith, common_steps) in
+    omega (arith, counted-cons is_char_start b bs, ap {B = ℕ} (λ t. cond t 1 0) inside)
+
+-- so one is counted of each
+char_counted : (c : ℕ) (bs : List ℕ) → count_by is_char_start (encode_utf8 c ++ bs) ≡ 1 + count_by is_char_start bs
+char_counted c bs =
+    elim (cases_lt c 128) [
+      | inl low ↦ rw (encode_ascii c low) (first_counted c bs (inl low))
+      | inr high ↦
+          elim (cases_lt c 2048) [
+            | inl low ↦
+                rw (encode_utf8-two c high low)
+                (first_counted (192 + c / 64) ((128 + c % 64) ∷ bs) (inr (omega arith))
+                ∙ ap (λ (n : ℕ). 1 + n) (inside_passed (128 + c % 64) bs (omega arith) (omega arith)))
+            | inr higher ↦
+                elim (cases_lt c 65536) [
+                  | inl low ↦
+                      rw (encode_utf8-three c higher low)
+                      (first_counted (224 + c / 4096) ((128 + c / 64 % 64) ∷ (128 + c % 64) ∷ bs) (inr (omega arith))
+                      ∙ ap (λ (n : ℕ). 1 + n)
+                      (inside_passed (128 + c / 64 % 64) ((128 + c % 64) ∷ bs) (omega arith) (omega arith)
+                      ∙ inside_passed (128 + c % 64) bs (omega arith) (omega arith)))
+                  | inr highest ↦
+                      rw (encode_utf8-four c highest)
+                      (first_counted (240 + c / 262144) ((128 + c / 4096 % 64) ∷ (128 + c / 64 % 64) ∷ (128 + c % 64) ∷ bs) (inr (omega arith))
+                      ∙ ap (λ (n : ℕ). 1 + n)
+                      (inside_passed (128 + c / 4096 % 64) ((128 + c / 64 % 64) ∷ (128 + c % 64) ∷ bs) (omega arith) (omega arith)
+                      ∙ inside_passed (128 + c / 64 % 64) ((128 + c % 64) ∷ bs) (omega arith) (omega arith)
+                      ∙ inside_passed (128 + c % 64) bs (omega arith) (omega arith)))
+                ]
+          ]
+    ]
+
+counted-encodes : (cs : List ℕ) → count_by is_char_start (encodes cs) ≡ length cs
+counted-encodes [] = refl
+counted-encodes (c ∷ cs) = let others = counted-encodes cs in omega (arith, char_counted c (encodes cs), others)
+
+-- a text has as many characters as bytes that begin one
+pub counted_chars : (bs : List ℕ) → IsUtf8 bs → count_by is_char_start bs ≡ length (chars bs)
+counted_chars bs utf8 = ap (count_by is_char_start) (sym (encodes-chars bs utf8)) ∙ counted-encodes (chars bs)
+
+-- a byte that does not decide is passed over
+undecided_byte : (b : ℕ) (bs : List ℕ) → 0 < b → b < 240 → fold deciding_byte_so_far false (b ∷ bs) ≡ fold deciding_byte_so_far false bs
+undecided_byte b bs above below =
+    let other : is_deciding_byte b ≡ false = grind (arith, common_steps) in
+    ap (λ t. fold deciding_byte_so_far t bs) other
+
+-- and so is a character that does not
+undecided_char : (c : ℕ) (bs : List ℕ) → 0 < c → c < 65536
+    → fold deciding_byte_so_far false (encode_utf8 c ++ bs) ≡ fold deciding_byte_so_far false bs
+undecided_char c bs above small =
+    elim (cases_lt c 128) [
+      | inl low ↦ rw (encode_ascii c low) (undecided_byte c bs above (omega arith))
+      | inr high ↦
+          elim (cases_lt c 2048) [
+            | inl low ↦
+                rw (encode_utf8-two c high low)
+                (undecided_byte (192 + c / 64) ((128 + c % 64) ∷ bs) (omega arith) (omega arith)
+                ∙ undecided_byte (128 + c % 64) bs (omega arith) (omega arith))
+            | inr higher ↦
+                rw (encode_utf8-three c higher small)
+                (undecided_byte (224 + c / 4096) ((128 + c / 64 % 64) ∷ (128 + c % 64) ∷ bs) (omega arith) (omega arith)
+                ∙ undecided_byte (128 + c / 64 % 64) ((128 + c % 64) ∷ bs) (omega arith) (omega arith)
+                ∙ undecided_byte (128 + c % 64) bs (omega arith) (omega arith))
+          ]
+    ]
+
+encodes-undecided : (cs : List ℕ) → find is_deciding_char cs ≡ None → fold deciding_byte_so_far false (encodes cs) ≡ false
+encodes-undecided [] none = refl
+encodes-undecided (c ∷ cs) none =
+    let first : is_deciding_char c ≡ false = grind (arith, common_steps) in
+    let rest : find is_deciding_char cs ≡ None = grind (arith, common_steps) in
+    let above : 0 < c = grind (arith, common_steps) in
+    let small : c < 65536 = grind (arith, common_steps) in
+    undecided_char c (encodes cs) above small ∙ encodes-undecided cs rest
+
+-- where no character of a text decides, no byte does
+pub undecided_chars : (bs : List ℕ) → IsUtf8 bs → find is_deciding_char (chars bs) ≡ None → fold deciding_byte_so_far false bs ≡ false
+undecided_chars bs utf8 none = ap (fold deciding_byte_so_far false) (sym (encodes-chars bs utf8)) ∙ encodes-undecided (chars bs) none

@@ -9,7 +9,7 @@ ghost use Rattle.uefi_text_encodings.specs.FromStr.{is_deciding_char, from_str_r
 ghost use Rattle.uefi_text_encodings.specs.FromStrWithBuf.{from_str_with_buf_refusal, refusal_of_char_at, with_text, with_units};
 
 use crate::errors::{FromStrError, FromStrWithBufError};
-use crate::scans::{has_deciding_byte, is_ascii_text, widen};
+use crate::scans::{count_undecided_chars, has_deciding_byte, is_ascii_text, widen};
 use std::alloc::{AllocError, Allocator};
 use std::simd::prelude::*;
 
@@ -31,15 +31,19 @@ fn find_deciding_char_by_char(text: &str) -> Option<char>
     text.chars().find(|c| *c == '\0' || *c > '\u{ffff}')
 }
 
+/// How many characters a text has of which none is refused; `None` exactly for other texts. Bytes are
+/// looked at, and none of them is decoded.
+fn undecided_len(text: &str) -> Option<usize>
+    ensures { SomeIff result (find is_deciding_char (chars text.now) ≡ None) (length (chars text.now)) }
+{
+    count_undecided_chars(text.as_bytes())
+}
+
 /// How many units a text of UCS-2 has, which is how many characters; `None` exactly for other texts.
 pub fn text_len(text: &str) -> Option<usize>
     ensures { SomeIff result (IsText (chars text.now)) (length (chars text.now)) }
 {
-    let refused = find_deciding_char(text);
-    match refused {
-        Some(_) => None,
-        None => Some(text.chars().count()),
-    }
+    undecided_len(text)
 }
 
 /// The units of ASCII bytes without NUL, and a NUL.
@@ -52,15 +56,15 @@ fn units_of_ascii<A: Allocator>(alloc: A, bytes: &[u8]) -> Result<Vec<u16, A>, A
     Ok(units)
 }
 
-/// The units of a text of UCS-2, and a NUL.
-fn units_of_chars<A: Allocator>(alloc: A, text: &str) -> Result<Vec<u16, A>, AllocError>
-    requires { find is_deciding_char (chars text.now) ≡ None }
+/// The units of a text of UCS-2 of so many characters, and a NUL.
+fn units_of_chars<A: Allocator>(alloc: A, text: &str, len: usize) -> Result<Vec<u16, A>, AllocError>
+    requires undecided { find is_deciding_char (chars text.now) ≡ None }
+    requires len { length (chars text.now) ≡ len }
     ensures { IfOk result (λ units. units.items ≡ nul_terminated (chars text.now)) }
 {
     let mut units = Vec::new(alloc);
-    units.resize(text.len() + 1, 0)?;
-    let len = write_undecided(text, &mut units);
-    units.truncate(len);
+    units.resize(len + 1, 0)?;
+    write_undecided(text, &mut units);
     Ok(units)
 }
 
@@ -179,15 +183,13 @@ fn write_wide<'a>(text: &'a str, units: &mut [u16]) -> (usize, &'a str)
     (len, rest)
 }
 
-/// Writes a text of UCS-2 and a NUL into the prefix of units, and returns how many they are. No text
-/// has more characters than bytes.
-fn write_undecided(text: &str, units: &mut [u16]) -> usize
+/// Writes a text of UCS-2 and a NUL into units that are as many. Its loop is quicker in a function of
+/// its own.
+#[inline(never)]
+fn write_undecided(text: &str, units: &mut [u16])
     requires undecided { find is_deciding_char (chars text.now) ≡ None }
-    requires room { length text.now < length units.old }
-    ensures len { result ≡ length (chars text.now) + 1 }
-    ensures within { result ≤ length units.new }
-    ensures units { units.new
-        ≡ nul_terminated (chars text.now) ++ drop (length (chars text.now) + 1) units.old }
+    requires room { length (chars text.now) + 1 ≡ length units.old }
+    ensures { units.new ≡ nul_terminated (chars text.now) }
 {
     let (start, rest) = write_front(text, units);
     let mut len = start;
@@ -196,10 +198,20 @@ fn write_undecided(text: &str, units: &mut [u16]) -> usize
         len += 1;
     }
     units[len] = 0;
-    len + 1
 }
 
-/// The units of a text of UCS-2 and a NUL, in one allocation.
+/// Why a text that is not one of UCS-2 is refused.
+fn refusal_of_text(text: &str) -> FromStrError
+    requires { ¬ (find is_deciding_char (chars text.now) ≡ None) }
+    ensures { Some result ≡ from_str_refusal (chars text.now) }
+{
+    match find_deciding_char_by_char(text) {
+        Some('\0') => FromStrError::InteriorNul,
+        _ => FromStrError::InvalidChar,
+    }
+}
+
+/// The units of a text of UCS-2 and a NUL, in one allocation of just their room.
 pub fn units_of_text<A: Allocator>(alloc: A, text: &str) -> Result<Vec<u16, A>, FromStrError>
     ensures ok { IfOk result (λ units. units.items ≡ nul_terminated (chars text.now)) }
     ensures accepted { IfOk result (λ _. find is_deciding_char (chars text.now) ≡ None) }
@@ -209,11 +221,10 @@ pub fn units_of_text<A: Allocator>(alloc: A, text: &str) -> Result<Vec<u16, A>, 
     if is_ascii_text(text.as_bytes()) {
         return units_of_ascii(alloc, text.as_bytes()).map_err(|_| FromStrError::OutOfMemory);
     }
-    match find_deciding_char(text) {
-        Some('\0') => Err(FromStrError::InteriorNul),
-        Some(_) => Err(FromStrError::InvalidChar),
-        None => units_of_chars(alloc, text).map_err(|_| FromStrError::OutOfMemory),
-    }
+    let Some(len) = undecided_len(text) else {
+        return Err(refusal_of_text(text));
+    };
+    units_of_chars(alloc, text, len).map_err(|_| FromStrError::OutOfMemory)
 }
 
 /// Writes a Rust text and a NUL into the prefix of a buffer, and returns how many units they are:

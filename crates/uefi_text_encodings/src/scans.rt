@@ -1,8 +1,10 @@
 //! Passes over whole slices, in forms that the compiler compiles to vector instructions: no early
 //! exit inside a block, and loops over places where the bounds are known. What they return is said
 //! by std's words, so that callers see nothing of the form.
-ghost use Rattle.std.specs.Prelude.{IsTrue, ◌≡◌, ℕ, ◌+◌, ◌-◌, ◌*◌, ◌<◌, ◌≤◌, ◌++◌, length, take, drop, map, position, slice_index, true, false};
+ghost use Rattle.std.specs.Prelude.{IsTrue, ◌≡◌, ℕ, ◌+◌, ◌-◌, ◌*◌, ◌<◌, ◌≤◌, ◌++◌, count_by, length, take, drop, map, position, slice_index, true, false};
+ghost use Rattle.std.specs.Fmt.{is_char_start};
 ghost use Rattle.std.specs.List.{fold};
+ghost use Rattle.std.specs.Option.{SomeIff};
 ghost use Rattle.std.specs.Str.{IsAscii};
 ghost use Rattle.uefi_text_encodings.specs.Scans.{ascii_text_so_far, beyond_ascii_so_far, byte_beyond_latin1_so_far, decided_so_far, deciding_byte_so_far, zero_so_far};
 ghost use Rattle.uefi_text_encodings.specs.UnitBytes.{unit_bytes};
@@ -76,6 +78,9 @@ const UNITS_PART: usize = 8;
 /// How many bytes of a short text are looked at together.
 const BYTES_PART: usize = 16;
 
+/// How many bytes are looked at together where characters are counted.
+const COUNT_PART: usize = 32;
+
 /// Whether one of these units is beyond ASCII.
 #[inline(always)]
 fn has_beyond_ascii_part(units: u16x8) -> bool
@@ -141,9 +146,13 @@ fn is_ascii_text_by_part(bytes: &[u8]) -> bool
 pub(crate) fn is_ascii_text(bytes: &[u8]) -> bool
     ensures { result ≡ fold ascii_text_so_far true bytes.now }
 {
-    // Longer texts are looked at in longer parts, which the compiler chooses.
     if BYTES_PART <= bytes.len() && bytes.len() < 2 * BLOCK {
         return is_ascii_text_by_part(bytes);
+    }
+    // Most texts beyond ASCII show it at their start. Others are looked at in longer parts, which the
+    // compiler chooses.
+    if BYTES_PART <= bytes.len() && !is_ascii_text_part(u8x16::from_slice(bytes)) {
+        return false;
     }
     bytes
         .iter()
@@ -202,6 +211,65 @@ pub(crate) fn has_deciding_byte(bytes: &[u8]) -> bool
     ensures { result ≡ fold deciding_byte_so_far false bytes.now }
 {
     bytes.iter().fold(false, |found, byte| found | (*byte == 0) | (0xf0 <= *byte))
+}
+
+/// The same of bytes that are looked at together.
+#[inline(always)]
+fn has_deciding_byte_part(bytes: u8x32) -> bool
+    ensures { result ≡ fold deciding_byte_so_far false bytes }
+{
+    // One less than zero is 0xff in a lane, so that one comparison finds both.
+    (bytes - u8x32::splat(1))
+        .simd_ge(u8x32::splat(0xef))
+        .to_bitmask()
+        != 0
+}
+
+/// How many characters begin in bytes that are looked at together.
+#[inline(always)]
+fn count_chars_part(bytes: u8x32) -> u32
+    ensures { result ≡ count_by is_char_start bytes }
+{
+    // The bytes inside of characters, from 0x80 up to 0xbf, become the greatest.
+    (bytes + u8x32::splat(0x40))
+        .simd_lt(u8x32::splat(0xc0))
+        .to_bitmask()
+        .count_ones()
+}
+
+/// How many characters begin in less than a part, byte by byte; `None` exactly where one of them is
+/// one that no UCS-2 text holds. The count is as wide as a byte, so that this becomes vector code.
+#[inline(always)]
+fn count_undecided_chars_by_byte(bytes: &[u8]) -> Option<u8>
+    requires { length bytes.now < 32 }
+    ensures { SomeIff result (fold deciding_byte_so_far false bytes.now ≡ false) (count_by is_char_start bytes.now) }
+{
+    let mut found = false;
+    let mut count = 0;
+    for byte in bytes {
+        found = found | (*byte == 0) | (0xf0 <= *byte);
+        count += u8::from((*byte < 0x80) | (0xc0 <= *byte));
+    }
+    if found { None } else { Some(count) }
+}
+
+/// How many characters begin in bytes of UTF-8; `None` exactly where one of them is one that no UCS-2
+/// text holds.
+pub(crate) fn count_undecided_chars(bytes: &[u8]) -> Option<usize>
+    ensures { SomeIff result (fold deciding_byte_so_far false bytes.now ≡ false) (count_by is_char_start bytes.now) }
+{
+    let mut count = 0;
+    for part in 0..bytes.len() / COUNT_PART {
+        let some = u8x32::from_slice(&bytes[part * COUNT_PART..]);
+        if has_deciding_byte_part(some) {
+            return None;
+        }
+        count += count_chars_part(some) as usize;
+    }
+    match count_undecided_chars_by_byte(&bytes[bytes.len() / COUNT_PART * COUNT_PART..]) {
+        None => None,
+        Some(rest) => Some(count + usize::from(rest)),
+    }
 }
 
 /// Whether a byte begins a character above U+00FF: one of 0xc4 or more. Below that are the bytes

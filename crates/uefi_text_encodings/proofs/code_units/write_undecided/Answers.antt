@@ -1,8 +1,8 @@
 -- The characters that follow the first ones are read one by one, and each is a code unit.
-use Rattle.std.proofs.Common.{◌≡◌, ◌≤◌, ◌<◌, ◌+◌, ◌++◌, ◌∷◌, [], ◌∙◌, ap, append_assoc, drop, length, set, sym, take, arith, List, ℕ}
-use Rattle.std.proofs.lemmas.List.{length-append, length-set, length-take-le}
+use Rattle.std.proofs.Common.{append-nil, ◌≡◌, ◌≤◌, ◌<◌, ◌+◌, ◌++◌, ◌∷◌, [], ◌∙◌, ap, append_assoc, drop, length, set, sym, take, arith, List, ℕ}
+use Rattle.std.proofs.lemmas.List.{drop_all, length-append, length-take-le}
 use Rattle.std.proofs.lemmas.Str.{IsUtf8-past_char}
-use Rattle.uefi_text_encodings.proofs.Texts.{char_fits, chars_end, chars_step, length-chars}
+use Rattle.uefi_text_encodings.proofs.Texts.{char_fits, chars_end, chars_step}
 use Rattle.uefi_text_encodings.proofs.Writing.{place_next}
 use Rattle.std.specs.Str.{chars}
 use Rattle.std.specs.Str.Iter.{chars_rest}
@@ -32,7 +32,7 @@ bounds-units-len c =
     let n = count all c.loop-character.yielded _ _ c.write_front-start.ensures.count so_far.counted in
     let step = chars_step read _ _ _ _ so_far.utf8 c.in-Some.ensures.steps.0 so_far.to_come in
     let place = fewer read (chars (chars_rest c.next.new.self)) all c.in-Some.character c.loop-character.len n step in
-    omega (arith, place, c.requires.room, length-chars c.args.text.now c.utf8.text, c.loop-character.auto.units)
+    omega (arith, place, c.requires.room, c.loop-character.auto.units)
 
 pub loop-character-preserved : goal.loop-character-preserved
 loop-character-preserved c =
@@ -45,7 +45,7 @@ loop-character-preserved c =
     let joined = append_assoc front yielded (character ∷ []) in
     let step = chars_step (front ++ yielded) _ _ _ _ so_far.utf8 c.in-Some.ensures.steps.0 so_far.to_come in
     let inside : c.loop-character.len < length c.args.units.now =
-    omega (arith, fewer (front ++ yielded) (chars (chars_rest c.next.new.self)) all character c.loop-character.len n step, c.requires.room, length-chars c.args.text.now c.utf8.text) in
+    omega (arith, fewer (front ++ yielded) (chars (chars_rest c.next.new.self)) all character c.loop-character.len n step, c.requires.room) in
     record {
       counted = omega (arith, so_far.counted, length-append yielded (character ∷ []));
       written = ap (λ (units : List ℕ). set units c.loop-character.len character) so_far.written
@@ -64,19 +64,13 @@ ended c =
     let n = count text c.loop-character.yielded _ _ c.write_front-start.ensures.count so_far.counted in
     let all = chars_end read _ _ c.in-None.ensures.steps.0.0 so_far.to_come in
     let len : c.loop-character.len ≡ length text = n ∙ ap length all in
-    (len, omega (arith, c.requires.room, length-chars c.args.text.now c.utf8.text, len))
+    (len, omega (arith, c.requires.room, len))
 
 pub bounds-units-len-2 : goal.bounds-units-len-2
 bounds-units-len-2 c = omega (arith, (ended c).1, c.loop-character.auto.units)
 
-pub returns-clause-len : goal.returns-clause-len
-returns-clause-len c = ap (λ (n : ℕ). n + 1) (ended c).0
-
-pub returns-clause-within : goal.returns-clause-within
-returns-clause-within c = omega (arith, (ended c).1, c.loop-character.auto.units, length-set c.loop-character.units c.loop-character.len 0)
-
-pub returns-clause-units : goal.returns-clause-units
-returns-clause-units c =
+pub returns : goal.returns
+returns c =
     let text = chars c.args.text.now in
     let so_far = c.loop-character.invariant in
     let old = c.args.units.now in
@@ -86,4 +80,5 @@ returns-clause-units c =
     ap (λ (units : List ℕ). set units c.loop-character.len 0) so_far.written
     ∙ place_next read old c.loop-character.len 0 n (ended c).1
     ∙ ap (λ (front : List ℕ). nul_terminated front ++ drop (c.loop-character.len + 1) old) all
-    ∙ ap (λ (n : ℕ). nul_terminated text ++ drop (n + 1) old) (ended c).0
+    ∙ ap (λ (rest : List ℕ). nul_terminated text ++ rest) (drop_all (c.loop-character.len + 1) old (omega (arith, (ended c).0, c.requires.room)))
+    ∙ append-nil (nul_terminated text)

@@ -1,5 +1,5 @@
 -- A part with another byte decides; else the end does.
-use Rattle.std.proofs.Common.{◌≡◌, ◌+◌, ◌-◌, ◌*◌, ◌/◌, ◌∙◌, inl, inr, All, ap, arith, drop, false, length, subst, sym, take, true}
+use Rattle.std.proofs.Common.{◌≡◌, ◌+◌, ◌-◌, ◌*◌, ◌∙◌, inl, inr, All, arith, drop, false, length, subst, sym, take, true}
 use Rattle.std.proofs.lemmas.Bool.{cases_Bool}
 use Rattle.uefi_text_encodings.proofs.Parts.{IsAsciiText, fails_where_part, good_part, is_ascii_text, is_ascii_text-complete, is_ascii_text-sound, passes_where_end}
 use Rattle.uefi_text_encodings.proofs.scans.is_ascii_text_by_part.Goals as goal

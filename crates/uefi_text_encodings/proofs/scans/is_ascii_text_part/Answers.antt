@@ -1,5 +1,5 @@
 -- What vector comparisons give, lane by lane.
-use Rattle.std.proofs.Common.{◌≡◌, ◌%◌, ◌^◌, ◌∙◌, ap, arith, eqb, leb, length, map, replicate, w16, w8}
+use Rattle.std.proofs.Common.{◌≡◌, ◌%◌, ◌^◌, ◌∙◌, ap, arith, eqb, leb, length, map, replicate, w8}
 use Rattle.std.specs.Simd.Lanes.{mask_l}
 use Rattle.std.proofs.lemmas.List.{length-map}
 use Rattle.std.proofs.lemmas.Simd.{bitmask_splat, mask_l-mod, tops_compared}

@@ -1,0 +1,36 @@
+-- What a vector comparison gives, lane by lane.
+use Rattle.std.proofs.Common.{◌≡◌, ◌+◌, ◌%◌, ◌<◌, ◌∙◌, ℕ, arith, inl, inr, length, ltb, map, replicate, w8}
+use Rattle.std.specs.Fmt.{is_char_start}
+use Rattle.std.specs.Simd.Lanes.{zip2}
+use Rattle.std.proofs.lemmas.Bool.{cases_lt}
+use Rattle.std.proofs.lemmas.Grind.{common_steps}
+use Rattle.std.proofs.lemmas.List.{length-map}
+use Rattle.std.proofs.lemmas.Simd.{bitmask_splat, ones-mask_l}
+use Rattle.uefi_text_encodings.proofs.Parts.{tested_lanes, zip2_splat}
+use Rattle.uefi_text_encodings.proofs.scans.count_chars_part.Goals as goal
+
+-- a byte with what is inside of characters as the greatest
+abbrev turned : ℕ → ℕ
+turned b = (b + 64) % 256
+
+starts : (b : ℕ) → b < 256 → ltb (turned b) 192 ≡ is_char_start b
+starts b small =
+    elim (cases_lt b 128) [
+      | inl ascii ↦
+          let same : turned b ≡ b + 64 = omega arith in rw same (grind (arith, common_steps))
+      | inr high ↦
+          elim (cases_lt b 192) [
+            | inl inside ↦ let same : turned b ≡ b + 64 = omega arith in rw same (grind (arith, common_steps))
+            | inr first ↦ let low : turned b < 192 = omega arith in grind (arith, common_steps)
+          ]
+    ]
+
+pub returns : goal.returns
+returns c =
+    let bs = c.args.bytes in
+    let long : length bs ≡ 32 = c.fits-bytes.0 in
+    let us = map turned bs in
+    let lanes : zip2 (λ (a b : ℕ). (a + b) % 256) bs (replicate 32 64) ≡ us = zip2_splat (λ (a b : ℕ). (a + b) % 256) bs 32 64 long in
+    let count : length us ≡ 32 = length-map bs turned ∙ long in
+    rw (lanes, bitmask_splat w8 ltb us 32 192 count (omega arith), tested_lanes turned (λ b. ltb b 192) is_char_start starts bs c.fits-bytes.1)
+    (ones-mask_l is_char_start bs)
