@@ -23,10 +23,11 @@
 //! item is one more `impl`, and every call here holds of it as it stands.
 #![tactic(auto, using(uefi_text_encodings::proofs::Packing::packing), unfolding(crate::specs::Views::items_of, crate::specs::Views::items_left, crate::specs::Views::into_iter_items_left))]
 
-ghost use Rattle.std.specs.Prelude.{◌≡◌, ℕ, ◌+◌, ◌*◌, ◌^◌, ◌<◌, ◌≤◌, ◌↔◌, [], length, map, slice_index, slice_get, slice_range, IfOk, IfErr, IfSome, IsSome, IsTrue};
+ghost use Rattle.std.specs.Prelude.{◌≡◌, ℕ, ◌+◌, ◌++◌, ◌*◌, ◌^◌, ◌<◌, ◌≤◌, ◌↔◌, [], length, map, slice_index, slice_get, slice_range, IfOk, IfErr, IfSome, IsSome, IsTrue};
 ghost use Rattle.std.specs.Iterator.{UpTo, YieldsFirstBy, item_count};
 ghost use Rattle.std.specs.Iterator.SizeHint.{IsWithinCount};
 ghost use Rattle.std.specs.Option.{option_map};
+ghost use Rattle.std.specs.Vec.{vec_len, vec_capacity};
 ghost use Rattle.uefi_text_encodings.specs.Packed.{little_endian, packed_items};
 ghost use Rattle.uefi_text.specs.Runs.{GivesEach};
 ghost use Rattle.uefi_text_encodings.specs.UnalignedCStr16.{refusal_in_buffer};
@@ -75,6 +76,19 @@ fn read_items<T: Packed>(bytes: &[u8], dest: &mut [T])
     for place in 0..dest.len() {
         let start = place * T::SIZE;
         dest[place] = T::read_le(&bytes[start..start + T::SIZE]);
+    }
+}
+
+/// Appends the first `len` items of bytes to a vector that has room for them.
+fn push_items<T: Packed, A: Allocator>(bytes: &[u8], len: usize, items: &mut Vec<T, A>)
+    requires fits { len * T.SIZE ≤ length bytes.now }
+    requires room { vec_len items.old + len ≤ vec_capacity items.old }
+    ensures { map T.number items.new.items
+        ≡ map T.number items.old.items ++ packed_items T.SIZE len bytes.now }
+{
+    for place in 0..len {
+        let start = place * T::SIZE;
+        items.push_reserved(T::read_le(&bytes[start..start + T::SIZE]));
     }
 }
 
@@ -209,10 +223,7 @@ impl<'a, T: Packed> UnalignedSlice<'a, T> {
         ensures { IfOk result (λ items. map T.number items.items ≡ items_of self.now) }
     {
         let mut items = Vec::with_capacity(alloc, self.len)?;
-        if self.len != 0 {
-            items.resize(self.len, self.item(0))?;
-            self.copy_to(&mut items);
-        }
+        push_items(self.bytes, self.len, &mut items);
         Ok(items)
     }
 }
@@ -334,7 +345,7 @@ fn refusal_in_buffer(error: FromSliceWithNulError) -> UnalignedCStr16Error
 
 /// Packed code units as strings.
 impl<'a> UnalignedSlice<'a, u16> {
-    ghost use Rattle.std.specs.Prelude.{None, drop, unwrap_or, ◌++◌, ◌%◌};
+    ghost use Rattle.std.specs.Prelude.{None, drop, unwrap_or, ◌%◌};
     ghost use Rattle.std.specs.Result.{result_err};
     ghost use Rattle.uefi_text_encodings.specs.FromSliceWithNul.{with_nul_refusal};
     ghost use Rattle.uefi_text_encodings.specs.UnalignedCStr16.{unaligned_refusal, with_prefix};
