@@ -1,6 +1,7 @@
 //! Code units of Rust texts: in a vector, where the text is one of UCS-2, or in a buffer.
 ghost use Rattle.std.specs.Prelude.{◌∷◌, ◌≡◌, ◌+◌, ◌<◌, ◌≤◌, ◌++◌, if◌then◌else◌, None, Some, drop, find, length, take, unwrap_or, IfOk, IfErr, IfSome};
 ghost use Rattle.std.specs.Option.{SomeIff};
+ghost use Rattle.std.specs.Vec.{vec_len, vec_capacity};
 ghost use Rattle.std.specs.Char.Escape.{encode_utf16};
 ghost use Rattle.std.specs.Result.{result_err};
 ghost use Rattle.std.specs.Str.{chars, IsUtf8};
@@ -46,13 +47,25 @@ pub fn text_len(text: &str) -> Option<usize>
     undecided_len(text)
 }
 
+/// Appends bytes as units to a vector that has room for them, so that none is filled before.
+fn push_bytes<A: Allocator>(units: &mut Vec<u16, A>, bytes: &[u8])
+    requires { vec_len units.old + length bytes.now ≤ vec_capacity units.old }
+    ensures items { units.new.items ≡ units.old.items ++ bytes.now }
+    ensures len { vec_len units.new ≡ vec_len units.old + length bytes.now }
+    ensures capacity { vec_capacity units.new ≡ vec_capacity units.old }
+{
+    for place in 0..bytes.len() {
+        units.push_reserved(u16::from(bytes[place]));
+    }
+}
+
 /// The units of ASCII bytes without NUL, and a NUL.
 fn units_of_ascii<A: Allocator>(alloc: A, bytes: &[u8]) -> Result<Vec<u16, A>, AllocError>
     ensures { IfOk result (λ units. units.items ≡ nul_terminated bytes.now) }
 {
-    let mut units = Vec::new(alloc);
-    units.resize(bytes.len() + 1, 0)?;
-    widen(&mut units, bytes);
+    let mut units = Vec::with_capacity(alloc, bytes.len() + 1)?;
+    push_bytes(&mut units, bytes);
+    units.push_reserved(0);
     Ok(units)
 }
 
