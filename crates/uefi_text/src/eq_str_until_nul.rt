@@ -6,6 +6,7 @@ ghost use Rattle.uefi_text_encodings.specs.EqStrUntilNul.{IsEqualUntilNul};
 use crate::owned_strs::CString16;
 use crate::strs::CStr16;
 use std::alloc::Allocator;
+use uefi_text_encodings::code_units::same_front;
 pub use uefi_text_encodings::eq_str_until_nul::{EqStrUntilNul, str_eq_until_nul};
 use uefi_text_encodings::scans::same_ascii_len;
 
@@ -18,6 +19,14 @@ fn are_equal_by_unit(units: &[u16], other: &str) -> bool
     pairs.all(|(unit, c)| u32::from(*unit) == u32::from(c))
 }
 
+/// The same, where both may begin with many characters of three bytes: those are compared in blocks.
+fn are_equal_by_block(units: &[u16], other: &str) -> bool
+    ensures { IsTrue result ↔ IsEqualUntilNul units.now (chars other.now) }
+{
+    let (len, rest) = same_front(units, other);
+    are_equal_by_unit(&units[len..], rest)
+}
+
 impl<'a> EqStrUntilNul for CStr16<'a> {
     ghost use Rattle.uefi_text.specs.Views.{text_of};
 
@@ -26,7 +35,7 @@ impl<'a> EqStrUntilNul for CStr16<'a> {
     fn eq_str_until_nul(&self, other: &str) -> bool {
         let units = self.to_u16_slice();
         let len = same_ascii_len(units, other.as_bytes());
-        are_equal_by_unit(&units[len..], &other[len..])
+        are_equal_by_block(&units[len..], &other[len..])
     }
 }
 

@@ -65,6 +65,14 @@ before_begins (c ∷ front) us cs no_nul begins =
     before_begins front us cs (All-tail (λ c. c ≢ 0) c front no_nul)
     (shorter c c (front ++ us) (before_first is_nul (front ++ cs)) (subst (OneIsPrefixOfOther (c ∷ front ++ us)) first begins)).1
 
+-- where both begin with the same elements, none of them NUL, what follows these decides
+pub equal_after_front : (answer : Bool) (front us cs : List ℕ) → All (λ c. c ≢ 0) front → IsTrue answer ↔ IsEqualUntilNul us cs
+    → IsTrue answer ↔ IsEqualUntilNul (front ++ us) (front ++ cs)
+equal_after_front answer front us cs no_nul rest = (
+  λ yes. begins_after front us cs no_nul (rest.0 yes),
+  λ equal. rest.1 (before_begins front us cs no_nul equal),
+)
+
 -- a text and a Rust text that begin with the same ASCII without NUL are compared by what follows it
 pub equal_after_ascii : (answer : Bool) (n : ℕ) (us bs : List ℕ) → take n us ≡ take n bs → fold ascii_text_so_far true (take n bs) ≡ true → IsUtf8 bs
     → IsTrue answer ↔ IsEqualUntilNul (drop n us) (chars (drop n bs)) → IsTrue answer ↔ IsEqualUntilNul us (chars bs)

@@ -74,7 +74,7 @@ ascii_text_then n bs ascii utf8 =
 abbrev is_deciding_byte : ℕ → Bool
 is_deciding_byte byte = (byte == 0) || nat_le 0xf0 byte
 
-encode_utf8-four : (c : ℕ) → 65536 ≤ c
+pub encode_utf8-four : (c : ℕ) → 65536 ≤ c
     → encode_utf8 c ≡ (240 + c / 262144) ∷ (128 + c / 4096 % 64) ∷ (128 + c / 64 % 64) ∷ (128 + c % 64) ∷ []
 unfolding encode_utf8
 encode_utf8-four c low =

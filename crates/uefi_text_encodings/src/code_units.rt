@@ -1,5 +1,5 @@
 //! Code units of Rust texts: in a vector, where the text is one of UCS-2, or in a buffer.
-ghost use Rattle.std.specs.Prelude.{◌∷◌, ◌≡◌, ◌+◌, ◌<◌, ◌≤◌, ◌++◌, if◌then◌else◌, None, Some, drop, find, length, take, unwrap_or, IfOk, IfErr, IfSome};
+ghost use Rattle.std.specs.Prelude.{All, IsTrue, ◌≢◌, ◌∷◌, ◌≡◌, ◌+◌, ◌<◌, ◌≤◌, ◌++◌, if◌then◌else◌, None, Some, drop, find, length, take, unwrap_or, IfOk, IfErr, IfSome};
 ghost use Rattle.std.specs.Option.{SomeIff};
 ghost use Rattle.std.specs.Vec.{vec_len, vec_capacity};
 ghost use Rattle.std.specs.Char.Escape.{encode_utf16};
@@ -81,12 +81,12 @@ fn units_of_chars<A: Allocator>(alloc: A, text: &str, len: usize) -> Result<Vec<
     Ok(units)
 }
 
-/// The first eight characters of a text of UCS-2, where each has three bytes.
+/// The first eight characters of a text, where each has three bytes: none of them is NUL.
 #[inline(always)]
 fn first_eight(text: &str) -> Option<[u16; 8]>
-    requires { find is_deciding_char (chars text.now) ≡ None }
     ensures { IfSome result (λ units. (length units ≡ 8) × (24 ≤ length text.now)
-        × (chars text.now ≡ units ++ chars (drop 24 text.now)) × IsUtf8 (drop 24 text.now)) }
+        × (chars text.now ≡ units ++ chars (drop 24 text.now)) × IsUtf8 (drop 24 text.now)
+        × All (λ unit. unit ≢ 0) units) }
 {
     let bytes = text.as_bytes();
     if bytes.len() < 24 {
@@ -95,7 +95,9 @@ fn first_eight(text: &str) -> Option<[u16; 8]>
     let front = u8x16::from_slice(bytes);
     let back = u8x16::from_slice(&bytes[8..]);
     let first: u8x8 = front.shuffle(back, [0, 3, 6, 9, 12, 15, 26, 29]);
-    if first.simd_lt(u8x8::splat(0xe0)).to_bitmask() != 0 {
+    // Such a character begins with a byte from 0xe0 up to 0xef.
+    let others = (first - u8x8::splat(0xe0)).simd_ge(u8x8::splat(0x10));
+    if others.to_bitmask() != 0 {
         return None;
     }
     let second: u8x8 = front.shuffle(back, [1, 4, 7, 10, 13, 24, 27, 30]);
@@ -147,7 +149,7 @@ fn write_eight(units: &mut [u16], place: usize, eight: [u16; 8])
     requires { place + 8 ≤ length units.old }
     ensures { units.new ≡ take place units.old ++ (eight ++ drop (place + 8) units.old) }
 {
-    units[place..place + 8].copy_from_slice(&eight);
+    u16x8::from_array(eight).copy_to_slice(&mut units[place..]);
 }
 
 /// Writes characters of a text of UCS-2 into the prefix of units, up to near the end of the text or of
@@ -353,4 +355,71 @@ fn write_char(character: char, buffer: &mut [u16], place: usize) -> usize
         buffer[place + 1] = units[1];
     }
     units.len()
+}
+
+/// Whether eight units are these.
+#[inline(always)]
+fn are_same(units: &[u16], others: &[u16; 8]) -> bool
+    requires { length units.now ≡ 8 }
+    ensures { IsTrue result → units.now ≡ others.now }
+{
+    let mut same = true;
+    for i in 0..8 {
+        same &= units[i] == others[i];
+    }
+    same
+}
+
+/// What follows the first character of a text, where that is this unit and no NUL.
+#[inline(always)]
+fn after_same(unit: u16, text: &str) -> Option<&str>
+    ensures { IfSome result (λ rest.
+        (chars text.now ≡ unit ∷ chars rest.now) × IsUtf8 rest.now × (unit ≢ 0)) }
+{
+    let mut characters = text.chars();
+    let character = characters.next()?;
+    if unit == 0 || u32::from(character) != u32::from(unit) {
+        return None;
+    }
+    Some(characters.as_str())
+}
+
+/// A prefix that units and a text have in common, without NUL: how long it is, and what follows it in
+/// the text. It need not be the longest, and is empty where most characters look narrower than three
+/// bytes: then it is quicker to compare all of them one by one.
+pub fn same_front<'a>(units: &[u16], text: &'a str) -> (usize, &'a str)
+    ensures within { result.0 ≤ length units.now }
+    ensures same { chars text.now ≡ take result.0 units.now ++ chars result.1.now }
+    ensures no_nul { All (λ unit. unit ≢ 0) (take result.0 units.now) }
+{
+    if look_wide(text.as_bytes()) {
+        return same_wide(units, text);
+    }
+    (0, text)
+}
+
+/// The same, eight characters at a time where each has three bytes.
+#[inline(never)]
+fn same_wide<'a>(units: &[u16], text: &'a str) -> (usize, &'a str)
+    ensures within { result.0 ≤ length units.now }
+    ensures same { chars text.now ≡ take result.0 units.now ++ chars result.1.now }
+    ensures no_nul { All (λ unit. unit ≢ 0) (take result.0 units.now) }
+{
+    let mut rest = text;
+    let mut end = 0;
+    while 8 <= units.len() - end {
+        if let Some(eight) = first_eight(rest) {
+            if !are_same(&units[end..end + 8], &eight) {
+                break;
+            }
+            rest = after_eight(rest);
+            end += 8;
+        } else if let Some(others) = after_same(units[end], rest) {
+            rest = others;
+            end += 1;
+        } else {
+            break;
+        }
+    }
+    (end, rest)
 }

@@ -7,10 +7,6 @@ use Rattle.uefi_text_encodings.proofs.Writing.{place_left, place_next}
 use Rattle.uefi_text_encodings.specs.FromStr.{is_deciding_char}
 use Rattle.uefi_text_encodings.proofs.code_units.write_wide.Goals as goal
 
-pub first_eight-requires : goal.first_eight-requires
-first_eight-requires c =
-    find-none_back is_deciding_char (take c.loop-units.len (chars c.args.text.now)) _ (ap (find is_deciding_char) c.loop-units.invariant.to_come ∙ c.requires.undecided)
-
 pub first_unit-requires : goal.first_unit-requires
 first_unit-requires c =
     find-none_back is_deciding_char (take c.loop-units.len (chars c.args.text.now)) _ (ap (find is_deciding_char) c.loop-units.invariant.to_come ∙ c.requires.undecided)

@@ -1,8 +1,8 @@
 -- What vector comparisons give, lane by lane.
-use Rattle.std.proofs.Common.{◌≡◌, ◌%◌, ◌^◌, ◌∙◌, ap, arith, eqb, leb, length, map, refl, replicate, w16, w8}
+use Rattle.std.proofs.Common.{◌≡◌, ◌%◌, ◌^◌, ◌∙◌, ap, arith, leb, length, map, refl, replicate, w16}
 use Rattle.std.specs.Simd.Lanes.{mask_l}
 use Rattle.std.proofs.lemmas.List.{length-map}
-use Rattle.std.proofs.lemmas.Simd.{bitmask_splat, mask_l-mod, tops_compared}
+use Rattle.std.proofs.lemmas.Simd.{mask_l-mod, tops_compared}
 use Rattle.uefi_text_encodings.specs.Scans.{beyond_ascii_so_far}
 use Rattle.uefi_text_encodings.proofs.Parts.{found_bits, zip2_splat_first}
 use Rattle.uefi_text_encodings.proofs.scans.has_beyond_ascii_part.Goals as goal

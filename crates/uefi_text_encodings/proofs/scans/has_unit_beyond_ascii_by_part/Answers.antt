@@ -1,5 +1,5 @@
 -- A part with a unit beyond ASCII decides; else the end does.
-use Rattle.std.proofs.Common.{◌≡◌, ◌+◌, ◌-◌, ◌*◌, ◌/◌, ◌∙◌, inl, inr, All, ap, arith, drop, false, length, not, subst, sym, take, true}
+use Rattle.std.proofs.Common.{◌≡◌, ◌+◌, ◌-◌, ◌*◌, ◌∙◌, inl, inr, All, ap, arith, drop, false, length, not, subst, sym, take, true}
 use Rattle.std.specs.List.{fold}
 use Rattle.std.proofs.lemmas.Bool.{cases_Bool}
 use Rattle.std.proofs.lemmas.Grind.{common_steps}

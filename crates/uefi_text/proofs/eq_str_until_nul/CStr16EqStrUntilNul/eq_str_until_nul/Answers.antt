@@ -27,6 +27,6 @@ returns c =
     let same : take n text ≡ take n bytes = rw (c.as_bytes.ensures.value, c.to_u16_slice-units.ensures) at c.same_ascii_len-len.ensures.same in
     let whole : take (length text - n) (drop n text) ≡ drop n text =
     take_all (length text - n) (drop n text) (omega (arith, length-drop n text)) in
-    let rest : IsTrue c.are_equal_by_unit.result ↔ IsEqualUntilNul (drop n text) (chars (drop n bytes)) =
-    rw (c.range_from.ensures.value, c.to_u16_slice-units.ensures, whole) at c.are_equal_by_unit.ensures in
-    equal_after_ascii c.are_equal_by_unit.result n text bytes same ascii c.utf8.other rest
+    let rest : IsTrue c.are_equal_by_block.result ↔ IsEqualUntilNul (drop n text) (chars (drop n bytes)) =
+    rw (c.range_from.ensures.value, c.to_u16_slice-units.ensures, whole) at c.are_equal_by_block.ensures in
+    equal_after_ascii c.are_equal_by_block.result n text bytes same ascii c.utf8.other rest
