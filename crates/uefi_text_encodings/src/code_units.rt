@@ -1,4 +1,5 @@
-//! Code units of Rust texts: in a vector, where the text is one of UCS-2, or in a buffer.
+//! Code units of Rust texts: in a vector, where the text is one of UCS-2, or in a buffer; and compared
+//! with others.
 ghost use Rattle.std.specs.Prelude.{All, IsTrue, ◌≢◌, ◌∷◌, ◌≡◌, ◌+◌, ◌<◌, ◌≤◌, ◌++◌, if◌then◌else◌, None, Some, drop, find, length, take, unwrap_or, IfOk, IfErr, IfSome};
 ghost use Rattle.std.specs.Option.{SomeIff};
 ghost use Rattle.std.specs.Vec.{vec_len, vec_capacity};
