@@ -3,7 +3,7 @@ ghost use Rattle.std.specs.Prelude.{◌≡◌, ◌≢◌, ◌↔◌, ◌/◌, �
 ghost use Rattle.uefi_text.specs.UnitBytes.{units_of_bytes};
 
 use crate::reasons::{BUFFER_TOO_SMALL, ODD_BYTES, OK};
-use uefi_text::UnalignedSlice;
+use uefi_text::unaligned_slice::read_items;
 
 /// Copies the code units that bytes encode, two bytes each with the low one first, into the prefix of a
 /// buffer. The bytes may begin at any place of memory.
@@ -30,6 +30,7 @@ pub extern "C" fn uefi_units_from_bytes(bytes: &[u8], buffer: &mut [u16], count:
     if buffer.len() < len {
         return BUFFER_TOO_SMALL;
     }
-    UnalignedSlice::new(bytes, len).copy_to(&mut buffer[..len]);
+    // `UnalignedSlice::copy_to` would be a call of `memmove`.
+    read_items(bytes, &mut buffer[..len]);
     OK
 }

@@ -44,6 +44,10 @@ use uefi_text_encodings::scans::find_deciding_place;
 /// How many units are copied to a block at a time.
 const BLOCK: usize = 64;
 
+/// How many items are copied at a time. They pass through a block of their own, which nothing else
+/// shares: so the compiler makes one call of `memmove` for each block, and leaves the block out.
+const COPIED: usize = 1024;
+
 /// A view of items that lie packed in borrowed bytes, which may begin at any place of memory. In
 /// contracts it is `items_of` it, the list of the items' numbers.
 #[derive(Copy)]
@@ -67,9 +71,11 @@ pub struct UnalignedSliceIntoIter<'a, T: Packed> {
     items: UnalignedSliceIter<'a, T>,
 }
 
-/// Writes the items that bytes begin with, as many as there are places. It takes both as slices, so
-/// that neither's place and length is read again for each item.
-fn read_items<T: Packed>(bytes: &[u8], dest: &mut [T])
+/// Writes the items that bytes begin with, as many as there are places, one after the other. It takes
+/// both as slices, so that neither's place and length is read again for each item. It makes no call of
+/// `memmove`, and is public for the exports to C alone, which can't have one.
+#[doc(hidden)]
+pub fn read_items<T: Packed>(bytes: &[u8], dest: &mut [T])
     requires { length dest.old * T.SIZE ≤ length bytes.now }
     ensures { map T.number dest.new ≡ packed_items T.SIZE (length dest.old) bytes.now }
 {
@@ -79,16 +85,84 @@ fn read_items<T: Packed>(bytes: &[u8], dest: &mut [T])
     }
 }
 
-/// Appends the first `len` items of bytes to a vector that has room for them.
-fn push_items<T: Packed, A: Allocator>(bytes: &[u8], len: usize, items: &mut Vec<T, A>)
+/// Reads the items that bytes begin with into a block, as many as `dest` has places, and copies them
+/// to `dest`.
+fn read_block<T: Packed>(bytes: &[u8], block: &mut [T], dest: &mut [T])
+    requires fits { length dest.old * T.SIZE ≤ length bytes.now }
+    requires block { length dest.old ≤ length block.old }
+    ensures items { map T.number dest.new ≡ packed_items T.SIZE (length dest.old) bytes.now }
+    ensures len { length dest.new ≡ length dest.old }
+    ensures block { length block.new ≡ length block.old }
+{
+    let items = &mut block[..dest.len()];
+    read_items(bytes, items);
+    dest.copy_from_slice(items);
+}
+
+/// Writes the items that bytes begin with, as many as there are places, a block at a time.
+fn read_blocks<T: Packed>(bytes: &[u8], block: &mut [T], dest: &mut [T])
+    requires fits { length dest.old * T.SIZE ≤ length bytes.now }
+    requires block { 0 < length block.old }
+    ensures { map T.number dest.new ≡ packed_items T.SIZE (length dest.old) bytes.now }
+{
+    let len = dest.len();
+    let mut start = 0;
+    while start < len {
+        let count = block.len().min(len - start);
+        read_block(
+            &bytes[start * T::SIZE..],
+            block,
+            &mut dest[start..start + count],
+        );
+        start += count;
+    }
+}
+
+/// Appends items to a vector that has room for them.
+fn push_all<T: Copy, A: Allocator>(items: &mut Vec<T, A>, added: &[T])
+    requires { vec_len items.old + length added.now ≤ vec_capacity items.old }
+    ensures items { items.new.items ≡ items.old.items ++ added.now }
+    ensures len { vec_len items.new ≡ vec_len items.old + length added.now }
+    ensures capacity { vec_capacity items.new ≡ vec_capacity items.old }
+{
+    for place in 0..added.len() {
+        items.push_reserved(added[place]);
+    }
+}
+
+/// Reads the items that bytes begin with into a block, as many as it has places, and appends them to
+/// a vector that has room for them.
+fn push_block<T: Packed, A: Allocator>(bytes: &[u8], block: &mut [T], items: &mut Vec<T, A>)
+    requires fits { length block.old * T.SIZE ≤ length bytes.now }
+    requires room { vec_len items.old + length block.old ≤ vec_capacity items.old }
+    ensures items { map T.number items.new.items
+        ≡ map T.number items.old.items ++ packed_items T.SIZE (length block.old) bytes.now }
+    ensures len { vec_len items.new ≡ vec_len items.old + length block.old }
+    ensures capacity { vec_capacity items.new ≡ vec_capacity items.old }
+    ensures block { length block.new ≡ length block.old }
+{
+    read_items(bytes, block);
+    push_all(items, block);
+}
+
+/// Appends the first `len` items of bytes to a vector that has room for them, a block at a time.
+fn push_blocks<T: Packed, A: Allocator>(
+    bytes: &[u8],
+    len: usize,
+    block: &mut [T],
+    items: &mut Vec<T, A>,
+)
     requires fits { len * T.SIZE ≤ length bytes.now }
     requires room { vec_len items.old + len ≤ vec_capacity items.old }
+    requires block { 0 < length block.old }
     ensures { map T.number items.new.items
         ≡ map T.number items.old.items ++ packed_items T.SIZE len bytes.now }
 {
-    for place in 0..len {
-        let start = place * T::SIZE;
-        items.push_reserved(T::read_le(&bytes[start..start + T::SIZE]));
+    let mut start = 0;
+    while start < len {
+        let count = block.len().min(len - start);
+        push_block(&bytes[start * T::SIZE..], &mut block[..count], items);
+        start += count;
     }
 }
 
@@ -208,13 +282,25 @@ impl<'a, T: Packed> UnalignedSlice<'a, T> {
         UnalignedSliceIter { rest: *self }
     }
 
+    /// Writes the items into `dest`, one after the other: for a few items, where a call of `memmove`
+    /// gains nothing.
+    fn copy_each_to(&self, dest: &mut [T])
+        requires { length dest.old ≡ length (items_of self.now) }
+        ensures { map T.number dest.new ≡ items_of self.now }
+    {
+        read_items(self.bytes, dest);
+    }
+
     /// Writes the items into `dest`, which has to have as many places as there are items. One pass;
     /// takes no memory.
     pub fn copy_to(&self, dest: &mut [T])
         requires { length dest.old ≡ length (items_of self.now) }
         ensures { map T.number dest.new ≡ items_of self.now }
     {
-        read_items(self.bytes, dest);
+        if !dest.is_empty() {
+            let mut block = [self.item(0); COPIED];
+            read_blocks(self.bytes, &mut block, dest);
+        }
     }
 
     /// A vector of the items, or `AllocError` where its memory is refused: one request, for exactly
@@ -223,7 +309,10 @@ impl<'a, T: Packed> UnalignedSlice<'a, T> {
         ensures { IfOk result (λ items. map T.number items.items ≡ items_of self.now) }
     {
         let mut items = Vec::with_capacity(alloc, self.len)?;
-        push_items(self.bytes, self.len, &mut items);
+        if self.len != 0 {
+            let mut block = [self.item(0); COPIED];
+            push_blocks(self.bytes, self.len, &mut block, &mut items);
+        }
         Ok(items)
     }
 }
@@ -379,7 +468,7 @@ impl<'a> UnalignedSlice<'a, u16> {
     {
         let mut block = [0; BLOCK];
         let units = &mut block[..end - start];
-        self.part(start, end).copy_to(units);
+        self.part(start, end).copy_each_to(units);
         find_deciding_place(units)
     }
 

@@ -1,5 +1,6 @@
 //! Numbers that lie in bytes, the low byte first: what may be an item of a packed slice.
-ghost use Rattle.std.specs.Prelude.{◌≡◌, ℕ, ◌<◌, length};
+ghost use Rattle.std.specs.Prelude.{◌≡◌, ℕ, ◌*◌, ◌^◌, ◌<◌, length};
+ghost use Rattle.std.specs.Mem.{type_size};
 ghost use Rattle.std.proofs.Common.{arith};
 ghost use Rattle.uefi_text_encodings.specs.Packed.{EncodesOnce, little_endian};
 ghost use Rattle.uefi_text_encodings.specs.PackedLaws.{encodes_once};
@@ -27,6 +28,9 @@ pub trait Packed: Copy {
 
     /// Equal numbers come from equal bytes.
     ghost encoded_once: { EncodesOnce SIZE };
+
+    /// A block of 1,024 values fits in memory, so that values can be copied a block at a time.
+    ghost block_fits: { 1024 * type_size Self.row < 2 ^ 63 };
 }
 
 /// One byte, whose number is the value itself.
@@ -44,6 +48,8 @@ impl Packed for u8 {
     ghost size_above_zero = { Prim.omega arith };
 
     ghost encoded_once = { encodes_once 1 };
+
+    ghost block_fits = { Prim.omega arith };
 }
 
 /// Two bytes, whose number is the value itself.
@@ -61,6 +67,8 @@ impl Packed for u16 {
     ghost size_above_zero = { Prim.omega arith };
 
     ghost encoded_once = { encodes_once 2 };
+
+    ghost block_fits = { Prim.omega arith };
 }
 
 /// Four bytes, whose number is the value itself.
@@ -78,6 +86,8 @@ impl Packed for u32 {
     ghost size_above_zero = { Prim.omega arith };
 
     ghost encoded_once = { encodes_once 4 };
+
+    ghost block_fits = { Prim.omega arith };
 }
 
 /// Eight bytes, whose number is the value itself.
@@ -97,4 +107,6 @@ impl Packed for u64 {
     ghost size_above_zero = { Prim.omega arith };
 
     ghost encoded_once = { encodes_once 8 };
+
+    ghost block_fits = { Prim.omega arith };
 }

@@ -1,0 +1,59 @@
+-- Each block writes the items from its start on, and after the last one that is all of them.
+use borrow.Rule.Slice.PartMut.{put_mid, same_len_mid}
+use Rattle.std.proofs.Common.{◌≡◌, ◌∙◌, ◌+◌, ◌-◌, ◌*◌, ◌≤◌, ◌++◌, ap, sym, length, map, take, drop, arith, take-add}
+use Rattle.std.proofs.lemmas.List.{map-append, take_all}
+use Rattle.std.proofs.lemmas.Slice.{take-put_mid}
+use Rattle.std.proofs.lemmas.Grind.{common_steps}
+use Rattle.uefi_text_encodings.specs.Packed.{packed_items}
+use Rattle.uefi_text_encodings.proofs.Packing.{length-packed_items, packed_items-part, part-fits}
+use Rattle.uefi_text.proofs.unaligned_slice.read_blocks.Goals as goal
+
+pub read_block-requires-clause-fits : goal.read_block-requires-clause-fits
+read_block-requires-clause-fits g c =
+    let size = g.T.Packed.SIZE in
+    let start = c.loop-start.start in
+    let count = c.min-count.result in
+    let len = length c.args.dest.now in
+    let same : start + count - start ≡ count = omega arith in
+    let fits = part-fits size start (start + count) len (length c.args.bytes.now) (omega arith) (omega arith) c.requires.fits in
+    let fits_count : count * size ≤ length c.args.bytes.now - start * size = rw (← same) fits in
+    let places : length (take (start + count - start) (drop start c.loop-start.dest)) ≡ count = grind (arith, common_steps) in
+    grind (arith, common_steps)
+
+pub loop-start-preserved : goal.loop-start-preserved
+loop-start-preserved g c =
+    let number = g.T.Packed.number in
+    let size = g.T.Packed.SIZE in
+    let start = c.loop-start.start in
+    let count = c.min-count.result in
+    let bytes = c.args.bytes.now in
+    let dest = c.loop-start.dest in
+    let new = c.read_block.new.dest in
+    let so_far = c.loop-start.invariant in
+    let len = length c.args.dest.now in
+    let items = packed_items size len bytes in
+    let same : start + count - start ≡ count = omega arith in
+    let part = packed_items-part size start (start + count) len bytes (omega arith) (omega arith) in
+    let of_count : packed_items size count (drop (start * size) bytes) ≡ take count (drop start items) = rw (← same) part in
+    let places : length (take (start + count - start) (drop start dest)) ≡ count = grind (arith, common_steps) in
+    let rest : take (length bytes - start * c.SIZE.result) (drop (start * c.SIZE.result) bytes) ≡ drop (start * size) bytes = grind (arith, common_steps) in
+    let read : packed_items size (length (take (start + count - start) (drop start dest))) (take (length bytes - start * c.SIZE.result) (drop (start * c.SIZE.result) bytes)) ≡ take count (drop start items) = rw (places, rest) of_count in
+    let written : map number new ≡ take count (drop start items) = c.read_block.ensures.items ∙ read in
+    let as_many : length new ≡ count = c.read_block.ensures.len ∙ places in
+    let front : take (start + count) (put_mid start (start + count - start) dest new) ≡ take start dest ++ new =
+    take-put_mid start (start + count - start) dest new (start + count) (omega (arith, as_many)) (omega (arith, so_far.len, so_far.within)) in
+    record {
+      within = omega arith;
+      len = same_len_mid start (start + count - start) dest new c.read_block.ensures.len ∙ so_far.len;
+      block = grind (arith, common_steps);
+      items = ap (map number) front ∙ map-append number (take start dest) new ∙ ap (λ xs. xs ++ map number new) so_far.items ∙ ap (λ xs. take start items ++ xs) written ∙ sym (take-add start count items);
+    }
+
+pub returns : goal.returns
+returns g c =
+    let len = length c.args.dest.now in
+    let count = length-packed_items g.T.Packed.SIZE len c.args.bytes.now in
+    let so_far = c.loop-start.invariant in
+    let places = take_all c.loop-start.start c.loop-start.dest (omega (arith, so_far.len, so_far.within)) in
+    let items = take_all c.loop-start.start (packed_items g.T.Packed.SIZE len c.args.bytes.now) (omega (arith, so_far.within)) in
+    sym (ap (map g.T.Packed.number) places) ∙ so_far.items ∙ items
