@@ -48,6 +48,9 @@ const BLOCK: usize = 64;
 /// shares: so the compiler makes one call of `memmove` for each block, and leaves the block out.
 const COPIED: usize = 1024;
 
+/// Fewer items than these are copied one after the other, where a call costs more than it saves.
+const SHORT: usize = 64;
+
 /// A view of items that lie packed in borrowed bytes, which may begin at any place of memory. In
 /// contracts it is `items_of` it, the list of the items' numbers.
 #[derive(Copy)]
@@ -115,6 +118,20 @@ fn read_blocks<T: Packed>(bytes: &[u8], block: &mut [T], dest: &mut [T])
             &mut dest[start..start + count],
         );
         start += count;
+    }
+}
+
+/// Appends the first `len` items of bytes to a vector that has room for them, one after the
+/// other.
+fn push_items<T: Packed, A: Allocator>(bytes: &[u8], len: usize, items: &mut Vec<T, A>)
+    requires fits { len * T.SIZE ≤ length bytes.now }
+    requires room { vec_len items.old + len ≤ vec_capacity items.old }
+    ensures { map T.number items.new.items
+        ≡ map T.number items.old.items ++ packed_items T.SIZE len bytes.now }
+{
+    for place in 0..len {
+        let start = place * T::SIZE;
+        items.push_reserved(T::read_le(&bytes[start..start + T::SIZE]));
     }
 }
 
@@ -297,7 +314,9 @@ impl<'a, T: Packed> UnalignedSlice<'a, T> {
         requires { length dest.old ≡ length (items_of self.now) }
         ensures { map T.number dest.new ≡ items_of self.now }
     {
-        if !dest.is_empty() {
+        if dest.len() < SHORT {
+            self.copy_each_to(dest);
+        } else {
             let mut block = [self.item(0); COPIED];
             read_blocks(self.bytes, &mut block, dest);
         }
@@ -309,7 +328,9 @@ impl<'a, T: Packed> UnalignedSlice<'a, T> {
         ensures { IfOk result (λ items. map T.number items.items ≡ items_of self.now) }
     {
         let mut items = Vec::with_capacity(alloc, self.len)?;
-        if self.len != 0 {
+        if self.len < SHORT {
+            push_items(self.bytes, self.len, &mut items);
+        } else {
             let mut block = [self.item(0); COPIED];
             push_blocks(self.bytes, self.len, &mut block, &mut items);
         }
