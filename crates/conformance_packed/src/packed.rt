@@ -191,6 +191,41 @@ fn copies_of_items(rt: HostRuntime) {
     assert!(rt; are_copied(&rt, items, &NUMBERS));
 }
 
+/// Whether both copies of packed numbers are what the iterator gives.
+fn are_as_iterated(rt: &HostRuntime, items: UnalignedSlice<'_, u16>) -> Result<bool, AllocError> {
+    let want: Vec<u16> = items.iter().collect(rt.alloc())?;
+    let mut copy = Vec::new(rt.alloc());
+    copy.resize(items.len(), 0)?;
+    if copy.len() != items.len() {
+        return Ok(false);
+    }
+    items.copy_to(&mut copy);
+    Ok(
+        copy.as_slice() == want.as_slice()
+            && items.to_vec(rt.alloc())?.as_slice() == want.as_slice(),
+    )
+}
+
+/// Numbers of items around those from which on they are copied in another way.
+const MANY: &[usize] = &[63, 64, 65, 1023, 1024, 1025, 2048, 2100];
+
+#[test]
+fn copies_of_many_items(rt: HostRuntime) -> Result<(), Fail> {
+    let mut bytes = Vec::new(rt.alloc());
+    for place in 0..4201_u32 {
+        bytes.push((place % 251) as u8)?;
+    }
+    // Items that begin at an odd place.
+    let odd = bytes.get(1..).unwrap_or(&[]);
+    for len in MANY {
+        let Some(items) = UnalignedSlice::try_new(odd, *len) else {
+            return Err("too few bytes".into());
+        };
+        assert!(rt; are_as_iterated(&rt, items)?, "{len}");
+    }
+    Ok(())
+}
+
 #[test]
 fn printed_for_programmers(rt: HostRuntime) -> Result<(), Fail> {
     let items: UnalignedSlice<u8> = UnalignedSlice::new(&[0xff, 0], 2);

@@ -216,6 +216,23 @@ fn write_undecided(text: &str, units: &mut [u16])
     units[len] = 0;
 }
 
+/// A text of fewer bytes gets room for as many units as it has bytes, which costs less than to count its
+/// characters.
+const FEW: usize = 64;
+
+/// The units of a text of UCS-2 of few bytes, and a NUL.
+fn units_of_few_chars<A: Allocator>(alloc: A, text: &str) -> Result<Vec<u16, A>, AllocError>
+    requires { find is_deciding_char (chars text.now) ≡ None }
+    ensures { IfOk result (λ units. units.items ≡ nul_terminated (chars text.now)) }
+{
+    let mut units = Vec::with_capacity(alloc, text.len() + 1)?;
+    for character in text.chars() {
+        units.push_reserved(character as u16);
+    }
+    units.push_reserved(0);
+    Ok(units)
+}
+
 /// Why a text that is not one of UCS-2 is refused.
 fn refusal_of_text(text: &str) -> FromStrError
     requires { ¬ (find is_deciding_char (chars text.now) ≡ None) }
@@ -227,7 +244,8 @@ fn refusal_of_text(text: &str) -> FromStrError
     }
 }
 
-/// The units of a text of UCS-2 and a NUL, in one allocation of just their room.
+/// The units of a text of UCS-2 and a NUL, in one allocation. It has just their room, unless the text is
+/// short.
 pub fn units_of_text<A: Allocator>(alloc: A, text: &str) -> Result<Vec<u16, A>, FromStrError>
     ensures ok { IfOk result (λ units. units.items ≡ nul_terminated (chars text.now)) }
     ensures accepted { IfOk result (λ _. find is_deciding_char (chars text.now) ≡ None) }
@@ -236,6 +254,12 @@ pub fn units_of_text<A: Allocator>(alloc: A, text: &str) -> Result<Vec<u16, A>, 
 {
     if is_ascii_text(text.as_bytes()) {
         return units_of_ascii(alloc, text.as_bytes()).map_err(|_| FromStrError::OutOfMemory);
+    }
+    if text.len() < FEW {
+        if find_deciding_char(text).is_some() {
+            return Err(refusal_of_text(text));
+        }
+        return units_of_few_chars(alloc, text).map_err(|_| FromStrError::OutOfMemory);
     }
     let Some(len) = undecided_len(text) else {
         return Err(refusal_of_text(text));
