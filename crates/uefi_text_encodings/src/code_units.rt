@@ -70,7 +70,7 @@ fn units_of_ascii<A: Allocator>(alloc: A, bytes: &[u8]) -> Result<Vec<u16, A>, A
     Ok(units)
 }
 
-/// The units of a text of UCS-2 of so many characters, and a NUL.
+/// The units of a text of UCS-2, which has `len` characters, and a NUL.
 fn units_of_chars<A: Allocator>(alloc: A, text: &str, len: usize) -> Result<Vec<u16, A>, AllocError>
     requires undecided { find is_deciding_char (chars text.now) ≡ None }
     requires len { length (chars text.now) ≡ len }

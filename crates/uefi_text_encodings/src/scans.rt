@@ -242,7 +242,8 @@ fn count_chars_part(bytes: u8x32) -> u32
 #[inline(always)]
 fn count_undecided_chars_by_byte(bytes: &[u8]) -> Option<u8>
     requires { length bytes.now < 32 }
-    ensures { SomeIff result (fold deciding_byte_so_far false bytes.now ≡ false) (count_by is_char_start bytes.now) }
+    ensures { SomeIff result (fold deciding_byte_so_far false bytes.now ≡ false)
+        (count_by is_char_start bytes.now) }
 {
     let mut found = false;
     let mut count = 0;
@@ -256,7 +257,8 @@ fn count_undecided_chars_by_byte(bytes: &[u8]) -> Option<u8>
 /// How many characters begin in bytes of UTF-8; `None` exactly where one of them is one that no UCS-2
 /// text holds.
 pub(crate) fn count_undecided_chars(bytes: &[u8]) -> Option<usize>
-    ensures { SomeIff result (fold deciding_byte_so_far false bytes.now ≡ false) (count_by is_char_start bytes.now) }
+    ensures { SomeIff result (fold deciding_byte_so_far false bytes.now ≡ false)
+        (count_by is_char_start bytes.now) }
 {
     let mut count = 0;
     for part in 0..bytes.len() / COUNT_PART {

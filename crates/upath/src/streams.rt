@@ -107,8 +107,8 @@ fn write_output<W: Write>(writer: &mut Watched<W>, output: &[u8]) -> Result<(), 
     Ok(())
 }
 
-/// Reads a reader to its end, writes what [`crate::run_text`] returns to the whole of it, and nothing else, and
-/// flushes. The marks of both are unset before.
+/// Reads a reader to its end, writes what [`crate::run_text`] returns to the whole of it, and nothing
+/// else, and flushes. The marks of both are unset before.
 ///
 /// [`StreamFault::Read`] comes only where the reader's mark is set then, and [`StreamFault::Write`] only
 /// where the writer's is: what was written is a prefix of the output. After any other result both marks

@@ -28,7 +28,9 @@ loop-start-preserved g c =
     let of_count : packed_items size count (drop (start * size) bytes) ≡ take count (drop start items) = rw (← same) part in
     let places : length (take count c.loop-start.block) ≡ count = grind (arith, common_steps) in
     let rest : take (length bytes - start * c.SIZE.result) (drop (start * c.SIZE.result) bytes) ≡ drop (start * size) bytes = grind (arith, common_steps) in
-    let added : packed_items size (length (take count c.loop-start.block)) (take (length bytes - start * c.SIZE.result) (drop (start * c.SIZE.result) bytes)) ≡ take count (drop start items) = rw (places, rest) of_count in
+    let added : packed_items size (length (take count c.loop-start.block))
+    (take (length bytes - start * c.SIZE.result) (drop (start * c.SIZE.result) bytes))
+    ≡ take count (drop start items) = rw (places, rest) of_count in
     let pushed = c.push_block.ensures.items ∙ ap (λ xs. map g.T.Packed.number c.loop-start.items.items ++ xs) added in
     let so_far = ap (λ xs. xs ++ take count (drop start items)) c.loop-start.invariant.items in
     record {

@@ -37,7 +37,9 @@ loop-start-preserved g c =
     let of_count : packed_items size count (drop (start * size) bytes) ≡ take count (drop start items) = rw (← same) part in
     let places : length (take (start + count - start) (drop start dest)) ≡ count = grind (arith, common_steps) in
     let rest : take (length bytes - start * c.SIZE.result) (drop (start * c.SIZE.result) bytes) ≡ drop (start * size) bytes = grind (arith, common_steps) in
-    let read : packed_items size (length (take (start + count - start) (drop start dest))) (take (length bytes - start * c.SIZE.result) (drop (start * c.SIZE.result) bytes)) ≡ take count (drop start items) = rw (places, rest) of_count in
+    let read : packed_items size (length (take (start + count - start) (drop start dest)))
+    (take (length bytes - start * c.SIZE.result) (drop (start * c.SIZE.result) bytes))
+    ≡ take count (drop start items) = rw (places, rest) of_count in
     let written : map number new ≡ take count (drop start items) = c.read_block.ensures.items ∙ read in
     let as_many : length new ≡ count = c.read_block.ensures.len ∙ places in
     let front : take (start + count) (put_mid start (start + count - start) dest new) ≡ take start dest ++ new =
@@ -46,7 +48,9 @@ loop-start-preserved g c =
       within = omega arith;
       len = same_len_mid start (start + count - start) dest new c.read_block.ensures.len ∙ so_far.len;
       block = grind (arith, common_steps);
-      items = ap (map number) front ∙ map-append number (take start dest) new ∙ ap (λ xs. xs ++ map number new) so_far.items ∙ ap (λ xs. take start items ++ xs) written ∙ sym (take-add start count items);
+      items = ap (map number) front ∙ map-append number (take start dest) new
+          ∙ ap (λ xs. xs ++ map number new) so_far.items
+          ∙ ap (λ xs. take start items ++ xs) written ∙ sym (take-add start count items);
     }
 
 pub returns : goal.returns
