@@ -121,7 +121,7 @@ printed_from path [] = []
 printed_from path (first ∷ others) =
     printed_by (command_of first) path ++ printed_from (path_after (command_of first) path) others
 
--- what a run prints in all, of which this is printed, from this path on, and these bytes are to come
+-- what a run prints in all: what is printed so far, and what the bytes to come print from its path on
 abbrev pub output_with : List ℕ → List ℕ → List ℕ → List ℕ
 output_with output path bytes = output ++ printed_from path (lines_of bytes)
 
