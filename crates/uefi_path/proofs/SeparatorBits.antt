@@ -8,14 +8,14 @@ use Rattle.std.specs.Int.Bits.{bit_and, and_step, and_self}
 use Rattle.std.specs.Int.Count.{count_trailing_zeros}
 use Rattle.std.specs.Simd.Lanes.{mask_l}
 use Rattle.std.proofs.lemmas.Bool.{cases_Bool, cases_lt}
-use Rattle.std.proofs.lemmas.List.{drop-drop, drop_all, length-map, length-take, length-take-le, take_more, map-append, take-append-drop}
+use Rattle.std.proofs.lemmas.List.{drop-drop, drop_all, length-drop, length-map, take_all, length-take, length-take-le, take_more, map-append, take-append-drop}
 use Rattle.std.proofs.lemmas.Grind.{common_steps}
 use Rattle.std.proofs.lemmas.List.Elements.{All-append, All-cons, All-nil}
 use Rattle.std.proofs.lemmas.List.Sums.{sum_by-append}
 use Rattle.std.proofs.lemmas.Simd.{mask_l-lt, ones-mask_l}
 use Rattle.uefi_text.specs.Units.{replaced}
-use Rattle.uefi_path.specs.Separators.{IsPlain, becomes_separator, bit_places, block_bits, places_from, separator, slash, with_separators, word_places}
-use Rattle.uefi_path.proofs.SeparatorPlaces.{places_from-append, places_from-no, places_from-yes}
+use Rattle.uefi_path.specs.Separators.{IsPlain, becomes_separator, bit_places, block_bits, is_separator, places_from, separator, slash, with_separators, word_places}
+use Rattle.uefi_path.proofs.SeparatorPlaces.{PlacedCut, placed_cut, places_from-append, places_from-no, places_from-yes}
 
 -- slashes and separators together are the units that become separators
 both_at : (u n m : ℕ) → cond (eqb u slash) 1 0 + 2 * n + (cond (eqb u separator) 1 0 + 2 * m)
@@ -33,60 +33,60 @@ bits-both (u ∷ us) =
     ∙ ap (λ n. cond (becomes_separator u) 1 0 + 2 * n) (bits-both us)
 
 -- the bits of at most 64 units are a word
-pub bits-fit : (us : List ℕ) → length us ≤ 64 → mask_l (map becomes_separator us) < 2 ^ 64
-bits-fit us short =
-    let all = map becomes_separator us in
-    lt_of_lt_of_le (mask_l-lt all) (pow_mono {i = length all} {j = 64} (omega (arith, short, length-map us becomes_separator)))
+pub bits-fit : (test : ℕ → Bool) (us : List ℕ) → length us ≤ 64 → mask_l (map test us) < 2 ^ 64
+bits-fit test us short =
+    let all = map test us in
+    lt_of_lt_of_le (mask_l-lt all) (pow_mono {i = length all} {j = 64} (omega (arith, short, length-map us test)))
 
 -- the bits of units after others stand above theirs
-pub bits-append : (us vs : List ℕ) → mask_l (map becomes_separator (us ++ vs))
-    ≡ mask_l (map becomes_separator us) + mask_l (map becomes_separator vs) * 2 ^ length us
-bits-append [] vs = omega (arith, mul-one (mask_l (map becomes_separator vs)))
-bits-append (u ∷ us) vs =
-    let after = mask_l (map becomes_separator vs) in
+pub bits-append : (test : ℕ → Bool) (us vs : List ℕ) → mask_l (map test (us ++ vs))
+    ≡ mask_l (map test us) + mask_l (map test vs) * 2 ^ length us
+bits-append test [] vs = omega (arith, mul-one (mask_l (map test vs)))
+bits-append test (u ∷ us) vs =
+    let after = mask_l (map test vs) in
     omega (
       arith,
-      bits-append us vs,
+      bits-append test us vs,
       ap (λ n. after * n) (pow-suc 2 (length us)),
       mul_assoc after (2 ^ length us) 2,
     )
 
 -- so they are shifted and added
-pub bits-shifted : (us vs : List ℕ) (done : ℕ) → length us ≡ done → length (us ++ vs) ≤ 64
-    → mask_l (map becomes_separator us) + mask_l (map becomes_separator vs) * 2 ^ done % 2 ^ 64
-    ≡ mask_l (map becomes_separator (us ++ vs))
-bits-shifted us vs done long short =
-    let first = mask_l (map becomes_separator us) in
-    let next = mask_l (map becomes_separator vs) in
-    let whole : mask_l (map becomes_separator (us ++ vs)) ≡ first + next * 2 ^ done =
-    bits-append us vs ∙ ap (λ n. first + next * 2 ^ n) long in
-    ap (λ n. first + n) (mod-eq_of_lt (omega (arith, whole, bits-fit (us ++ vs) short))) ∙ sym whole
+pub bits-shifted : (test : ℕ → Bool) (us vs : List ℕ) (done : ℕ) → length us ≡ done → length (us ++ vs) ≤ 64
+    → mask_l (map test us) + mask_l (map test vs) * 2 ^ done % 2 ^ 64
+    ≡ mask_l (map test (us ++ vs))
+bits-shifted test us vs done long short =
+    let first = mask_l (map test us) in
+    let next = mask_l (map test vs) in
+    let whole : mask_l (map test (us ++ vs)) ≡ first + next * 2 ^ done =
+    bits-append test us vs ∙ ap (λ n. first + next * 2 ^ n) long in
+    ap (λ n. first + n) (mod-eq_of_lt (omega (arith, whole, bits-fit test (us ++ vs) short))) ∙ sym whole
 
 -- one unit more
-pub bits-next : (us : List ℕ) (done bit : ℕ) → bit ≡ cond (becomes_separator (get_or us done 0)) 1 0
+pub bits-next : (test : ℕ → Bool) (us : List ℕ) (done bit : ℕ) → bit ≡ cond (test (get_or us done 0)) 1 0
     → done < length us → done < 64
-    → mask_l (map becomes_separator (take done us)) + bit * 2 ^ done % 2 ^ 64
-    ≡ mask_l (map becomes_separator (take (done + 1) us))
-bits-next us done bit is within short =
+    → mask_l (map test (take done us)) + bit * 2 ^ done % 2 ^ 64
+    ≡ mask_l (map test (take (done + 1) us))
+bits-next test us done bit is within short =
     let last = get_or us done 0 ∷ [] in
-    let same : bit ≡ mask_l (map becomes_separator last) = omega (arith, is) in
+    let same : bit ≡ mask_l (map test last) = omega (arith, is) in
     let more = take_more us done 0 within in
     let fits : length (take done us ++ last) ≤ 64 = omega (arith, ap length more, length-take (done + 1) us, short) in
-    ap (λ n. mask_l (map becomes_separator (take done us)) + n * 2 ^ done % 2 ^ 64) same
-    ∙ bits-shifted (take done us) last done (length-take-le done us (omega (arith, within))) fits
-    ∙ ap (λ vs. mask_l (map becomes_separator vs)) (sym more)
+    ap (λ n. mask_l (map test (take done us)) + n * 2 ^ done % 2 ^ 64) same
+    ∙ bits-shifted test (take done us) last done (length-take-le done us (omega (arith, within))) fits
+    ∙ ap (λ vs. mask_l (map test vs)) (sym more)
 
 -- some more
-pub bits-more : (us : List ℕ) (done more : ℕ) → done + more ≤ length us → done + more ≤ 64
-    → mask_l (map becomes_separator (take done us))
-    + mask_l (map becomes_separator (take more (drop done us))) * 2 ^ done % 2 ^ 64
-    ≡ mask_l (map becomes_separator (take (done + more) us))
-bits-more us done more within short =
+pub bits-more : (test : ℕ → Bool) (us : List ℕ) (done more : ℕ) → done + more ≤ length us → done + more ≤ 64
+    → mask_l (map test (take done us))
+    + mask_l (map test (take more (drop done us))) * 2 ^ done % 2 ^ 64
+    ≡ mask_l (map test (take (done + more) us))
+bits-more test us done more within short =
     let both = take-add done more us in
     let fits : length (take done us ++ take more (drop done us)) ≤ 64 =
     omega (arith, ap length both, length-take (done + more) us, short) in
-    bits-shifted (take done us) (take more (drop done us)) done (length-take-le done us (omega (arith, within))) fits
-    ∙ ap (λ vs. mask_l (map becomes_separator vs)) (sym both)
+    bits-shifted test (take done us) (take more (drop done us)) done (length-take-le done us (omega (arith, within))) fits
+    ∙ ap (λ vs. mask_l (map test vs)) (sym both)
 
 -- a separator or a slash
 pub becomes-either : (u : ℕ) → (eqb u slash || eqb u separator) ≡ becomes_separator u
@@ -107,16 +107,16 @@ halved true n = omega arith
 halved false n = omega arith
 
 -- without the lowest bits, those of the units after the first
-pub bits-drop : (count : ℕ) (us : List ℕ)
-    → mask_l (map becomes_separator us) / 2 ^ count ≡ mask_l (map becomes_separator (drop count us))
-bits-drop zero us = div-one (mask_l (map becomes_separator us))
-bits-drop (suc count) [] = zero-div (2 ^ suc count)
-bits-drop (suc count) (u ∷ us) =
-    let all = mask_l (map becomes_separator (u ∷ us)) in
+pub bits-drop : (test : ℕ → Bool) (count : ℕ) (us : List ℕ)
+    → mask_l (map test us) / 2 ^ count ≡ mask_l (map test (drop count us))
+bits-drop test zero us = div-one (mask_l (map test us))
+bits-drop test (suc count) [] = zero-div (2 ^ suc count)
+bits-drop test (suc count) (u ∷ us) =
+    let all = mask_l (map test (u ∷ us)) in
     ap (λ n. all / n) (pow-suc 2 count ∙ mul_comm (2 ^ count) 2)
     ∙ sym (div-div-eq-div-mul all 2 (2 ^ count))
-    ∙ ap (λ n. n / 2 ^ count) (halved (becomes_separator u) (mask_l (map becomes_separator us)))
-    ∙ bits-drop count us
+    ∙ ap (λ n. n / 2 ^ count) (halved (test u) (mask_l (map test us)))
+    ∙ bits-drop test count us
 
 -- where no bit is set that a slash would set, no unit is one
 pub IsPlain-no_bits : (us : List ℕ) → mask_l (map (λ u. eqb u slash) us) ≡ 0 → IsPlain us
@@ -143,30 +143,42 @@ bit_places-even count start n even = rw even refl
 
 -- the bits of units have the places of their separators
 pub bit_places-units : (count start : ℕ) (us : List ℕ) → length us ≤ count
-    → bit_places count start (mask_l (map becomes_separator us)) ≡ places_from start (with_separators us)
+    → bit_places count start (mask_l (map is_separator us)) ≡ places_from start us
 bit_places-units count start [] within = bit_places-none count start
 bit_places-units zero start (u ∷ us) within = absurd (omega (arith, within))
 bit_places-units (suc count) start (u ∷ us) within =
-    let m = mask_l (map becomes_separator us) in
+    let m = mask_l (map is_separator us) in
     let others = bit_places-units count (start + 1) us (omega (arith, within)) in
-    elim (cases_Bool (becomes_separator u)) [
+    elim (cases_Bool (is_separator u)) [
       | inl cut ↦
-          let is : mask_l (map becomes_separator (u ∷ us)) ≡ 1 + 2 * m = ap (λ b. cond b 1 0 + 2 * m) cut in
+          let is : mask_l (map is_separator (u ∷ us)) ≡ 1 + 2 * m = ap (λ b. cond b 1 0 + 2 * m) cut in
           let half : (1 + 2 * m) / 2 ≡ m = omega arith in
           ap (bit_places (suc count) start) is
           ∙ bit_places-odd count start (1 + 2 * m) (omega arith)
           ∙ ap (λ n. start ∷ bit_places count (start + 1) n) half
           ∙ ap (λ ps. start ∷ ps) others
-          ∙ sym (places_from-yes start _ (with_separators us) cut)
+          ∙ sym (places_from-yes start u us cut)
       | inr other ↦
-          let is : mask_l (map becomes_separator (u ∷ us)) ≡ 2 * m = ap (λ b. cond b 1 0 + 2 * m) other ∙ (omega arith) in
+          let is : mask_l (map is_separator (u ∷ us)) ≡ 2 * m = ap (λ b. cond b 1 0 + 2 * m) other ∙ (omega arith) in
           let half : (2 * m) / 2 ≡ m = omega arith in
           ap (bit_places (suc count) start) is
           ∙ bit_places-even count start (2 * m) (omega arith)
           ∙ ap (bit_places count (start + 1)) half
           ∙ others
-          ∙ sym (places_from-no start _ (with_separators us) other)
+          ∙ sym (places_from-no start u us other)
     ]
+
+-- the units that become separators are the separators once slashes are replaced
+separators_of-replaced : (us : List ℕ) → map becomes_separator us ≡ map is_separator (with_separators us)
+separators_of-replaced [] = refl
+separators_of-replaced (u ∷ us) = ap (λ bits. becomes_separator u ∷ bits) (separators_of-replaced us)
+
+-- so their bits have the places of these
+bit_places-replaced : (count start : ℕ) (us : List ℕ) → length us ≤ count
+    → bit_places count start (mask_l (map becomes_separator us)) ≡ places_from start (with_separators us)
+bit_places-replaced count start us within =
+    ap (λ bits. bit_places count start (mask_l bits)) (separators_of-replaced us)
+    ∙ bit_places-units count start (with_separators us) (omega (arith, within, length-map us (replaced slash separator)))
 
 -- a number without its lowest bit
 abbrev pub cleared : ℕ → ℕ
@@ -249,17 +261,85 @@ count_block us block =
     ∙ ap (λ vs. count_ones (mask_l (map becomes_separator units)) + count_by becomes_separator vs) rest
 
 -- where the next block begins makes no difference where nothing stands there
-next_block : (at : ℕ) (block rest : List ℕ) → length block ≡ 64 ⊎ rest ≡ []
-    → places_from (at + length (with_separators block)) (with_separators rest) ≡ places_from (at + 64) (with_separators rest)
-next_block at block rest (inl full) =
-    ap (λ n. places_from (at + n) (with_separators rest)) (length-map block (replaced slash separator) ∙ full)
-next_block at block rest (inr none) = rw none refl
+next_block : (width at : ℕ) (block rest : List ℕ) → length block ≡ width ⊎ rest ≡ []
+    → places_from (at + length block) rest ≡ places_from (at + width) rest
+next_block width at block rest (inl full) = ap (λ n. places_from (at + n) rest) full
+next_block width at block rest (inr none) = rw none refl
 
-full_or_last : (us : List ℕ) → length (take 64 us) ≡ 64 ⊎ drop 64 us ≡ []
-full_or_last us = elim (cases_lt (length us) 64) [
-  | inl less ↦ inr (drop_all 64 us (omega (arith, less)))
-  | inr enough ↦ inl (omega (arith, length-take 64 us, enough))
+full_or_last : (width : ℕ) (us : List ℕ) → length (take width us) ≡ width ⊎ drop width us ≡ []
+full_or_last width us = elim (cases_lt (length us) width) [
+  | inl less ↦ inr (drop_all width us (omega (arith, less)))
+  | inr enough ↦ inl (omega (arith, length-take width us, enough))
 ]
+
+replaced_full_or_last : (width : ℕ) (us : List ℕ)
+    → length (with_separators (take width us)) ≡ width ⊎ with_separators (drop width us) ≡ []
+replaced_full_or_last width us = elim (full_or_last width us) [
+  | inl full ↦ inl (length-map (take width us) (replaced slash separator) ∙ full)
+  | inr none ↦ inr (ap with_separators none)
+]
+
+-- the bits of the 16 units from a place on have the places of their separators
+pub places_ahead : (us : List ℕ) (at : ℕ)
+    → word_places at (mask_l (map is_separator (take 16 (drop at us)))) ++ places_from (at + 16) (drop (at + 16) us)
+    ≡ places_from at (drop at us)
+unfolding word_places
+places_ahead us at =
+    let left = drop at us in
+    let units = take 16 left in
+    let rest = drop 16 left in
+    let bits = bit_places 64 at (mask_l (map is_separator units)) in
+    let short : length units ≤ 64 = omega (arith, length-take 16 left) in
+    ap (λ vs. bits ++ places_from (at + 16) vs) (sym (drop-drop 16 at us))
+    ∙ ap (λ ps. ps ++ places_from (at + 16) rest) (bit_places-units 64 at units short)
+    ∙ ap (λ ps. places_from at units ++ ps) (sym (next_block 16 at units rest (full_or_last 16 left)))
+    ∙ sym (places_from-append at units rest)
+    ∙ ap (places_from at) (take-append-drop 16 left)
+
+-- the bits of the first units, and above them those of the last without those that are there already
+pub bits-both_ends : (us : List ℕ) (width : ℕ) → width ≤ length us → length us < 2 * width → width ≤ 32
+    → mask_l (map is_separator (take width us))
+    + mask_l (map is_separator (take width (drop (length us - width) us))) / 2 ^ (2 * width - length us) * 2 ^ width % 2 ^ 64
+    ≡ mask_l (map is_separator us)
+bits-both_ends us width within fewer word =
+    let over = 2 * width - length us in
+    let last = take width (drop (length us - width) us) in
+    let first = mask_l (map is_separator (take width us)) in
+    let whole = take-append-drop width us in
+    let rest : drop over last ≡ drop width us =
+    ap (drop over) (take_all width (drop (length us - width) us) (omega (arith, length-drop (length us - width) us, within)))
+    ∙ drop-drop over (length us - width) us
+    ∙ ap (λ n. drop n us) (omega (arith, within, fewer)) in
+    ap (λ n. first + n * 2 ^ width % 2 ^ 64) (bits-drop is_separator over last)
+    ∙ ap (λ vs. first + mask_l (map is_separator vs) * 2 ^ width % 2 ^ 64) rest
+    ∙ bits-shifted is_separator (take width us) (drop width us) width (length-take-le width us within)
+    (omega (arith, ap length whole, fewer, word))
+    ∙ ap (λ vs. mask_l (map is_separator vs)) whole
+
+-- the bits of the last units of a text from a place on, where they are fewer than those that are looked at
+pub bits-end : (us : List ℕ) (width start : ℕ) → width ≤ length us → start ≤ length us → length us - start < width
+    → mask_l (map is_separator (take width (drop (length us - width) us))) / 2 ^ (width - (length us - start))
+    ≡ mask_l (map is_separator (take width (drop start us)))
+bits-end us width start within inside fewer =
+    let over = width - (length us - start) in
+    let last = take width (drop (length us - width) us) in
+    let rest : drop over last ≡ drop start us =
+    ap (drop over) (take_all width (drop (length us - width) us) (omega (arith, length-drop (length us - width) us, within)))
+    ∙ drop-drop over (length us - width) us
+    ∙ ap (λ n. drop n us) (omega (arith, within, inside, fewer)) in
+    bits-drop is_separator over last
+    ∙ ap (λ vs. mask_l (map is_separator vs))
+    (rest ∙ sym (take_all width (drop start us) (omega (arith, length-drop start us, fewer))))
+
+-- how the lowest bit cuts what a text has from `start` on
+pub seen_cut : (text : List ℕ) (start base bits : ℕ) (others : List ℕ) → start ≤ length text
+    → word_places base bits ++ others ≡ places_from start (drop start text) → 0 < bits → bits < 2 ^ 64
+    → PlacedCut text start (base + count_trailing_zeros 64 bits) (word_places base (cleared bits) ++ others)
+seen_cut text start base bits others within found some fits =
+    let all : (base + count_trailing_zeros 64 bits) ∷ (word_places base (cleared bits) ++ others)
+    ≡ places_from start (drop start text) =
+    sym (ap (λ ps. ps ++ others) (word_places-lowest base bits some fits)) ∙ found in
+    placed_cut text start _ within all (omega arith)
 
 -- and they have the places of its separators
 pub places_block : (us : List ℕ) (start block : ℕ)
@@ -278,8 +358,8 @@ places_block us start block =
     ap (λ vs. places_from at (with_separators vs)) (sym (take-append-drop 64 (drop (block * 64) us)))
     ∙ ap (places_from at) (map-append (replaced slash separator) units rest)
     ∙ places_from-append at (with_separators units) (with_separators rest)
-    ∙ ap (λ ps. places_from at (with_separators units) ++ ps) (next_block at units rest (full_or_last (drop (block * 64) us)))
-    ∙ ap (λ ps. ps ++ places_from (at + 64) (with_separators rest)) (sym (bit_places-units 64 at units short))
+    ∙ ap (λ ps. places_from at (with_separators units) ++ ps) (next_block 64 at (with_separators units) (with_separators rest) (replaced_full_or_last 64 (drop (block * 64) us)))
+    ∙ ap (λ ps. ps ++ places_from (at + 64) (with_separators rest)) (sym (bit_places-replaced 64 at units short))
     ∙ ap (λ n. bit_places 64 at (mask_l (map becomes_separator units)) ++ places_from n (with_separators rest)) next
     ∙ ap (λ vs. bit_places 64 at (mask_l (map becomes_separator units)) ++ places_from (start + (block + 1) * 64) (with_separators vs)) is
 
@@ -300,4 +380,4 @@ places_block-first us block =
 pub word_places-units : (us : List ℕ) → length us ≤ 64
     → word_places 0 (mask_l (map becomes_separator us)) ≡ places_from 0 (with_separators us)
 unfolding word_places
-word_places-units us short = bit_places-units 64 0 us short
+word_places-units us short = bit_places-replaced 64 0 us short

@@ -91,6 +91,14 @@ placed_cut text start (place ∷ places) within found some =
       after = first.after ∙ ap (places_from (place + 1)) rest;
     }
 
+-- the same where only the first places are at hand
+pub known_cut : (text : List ℕ) (start : ℕ) (places others : List ℕ) → start ≤ length text
+    → places ++ others ≡ places_from start (drop start text) → 0 < length places
+    → PlacedCut text start (get_or places 0 0) (drop 1 places ++ others)
+known_cut text start [] others within found some = absurd (omega (arith, some))
+known_cut text start (place ∷ places) others within found some =
+    placed_cut text start (place ∷ (places ++ others)) within found (omega arith)
+
 -- there are as many places as separators
 pub length-places : (start : ℕ) (us : List ℕ)
     → length (places_from start (with_separators us)) ≡ count_by becomes_separator us

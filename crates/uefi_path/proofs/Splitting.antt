@@ -1,14 +1,13 @@
 -- The components of a text: there is exactly one list of them, what stands between the separators.
-use Rattle.std.proofs.Common.{◌≡◌, ◌≢◌, ℕ, ◌+◌, ◌<◌, ◌≤◌, false, List, [], ◌∷◌, length, None, Some, arith, sym, ◌∙◌, ap, refl, All, subst, inl, inr, get_or, nat_lt, Option}
-use Rattle.std.specs.List.{slice_range, slice_split, onto_first, position, before_first, after_first, position_or_len}
-use Rattle.std.proofs.lemmas.Bool.{cases_Bool, ltb-true, eqb-false, ne_eqb}
+use Rattle.std.proofs.Common.{◌≡◌, ◌≢◌, ℕ, ◌+◌, ◌≤◌, false, List, [], ◌∷◌, length, Some, arith, sym, ◌∙◌, ap, refl, All, subst, inl, inr, get_or}
+use Rattle.std.specs.List.{slice_split, onto_first}
+use Rattle.std.proofs.lemmas.Bool.{cases_Bool, eqb-false, ne_eqb}
 use Rattle.std.proofs.lemmas.List.Elements.{All-nil, All-cons, All-head, All-tail, All-map, All-weaker}
-use Rattle.std.proofs.lemmas.List.Splits.{length-slice_split, slice_split_none, slice_split_at, slice_split_first, slice_split-cons_yes, slice_split-cons_no, join_with_byte-slice_split}
-use Rattle.std.proofs.lemmas.List.Sums.{fails_before_first, count_by-le-length}
-use Rattle.std.proofs.lemmas.Option.{cond_some}
+use Rattle.std.proofs.lemmas.List.Splits.{length-slice_split, slice_split_none, slice_split_at, slice_split-cons_yes, slice_split-cons_no, join_with_byte-slice_split}
+use Rattle.std.proofs.lemmas.List.Sums.{count_by-le-length}
 use Rattle.std.proofs.lemmas.Grind.{common_steps}
 use Rattle.uefi_text.specs.Units.{replaced}
-use Rattle.uefi_path.specs.Components.{joined, IsPiece, AreComponents, components_of, hint_of_pieces, pieces_between, IsFirstCut}
+use Rattle.uefi_path.specs.Components.{joined, IsPiece, AreComponents, components_of, hint_of_pieces, pieces_between}
 use Rattle.uefi_path.specs.Separators.{separator, slash, is_separator, canonical, with_separators, IsPlain}
 
 -- lists of which the first gets another first element: what holds of it and of theirs holds of all
@@ -97,35 +96,6 @@ pub slice_split-canonical : (text us : List ℕ) → us ≡ canonical text → (
     → slice_split is_separator us ≡ components_of text
 slice_split-canonical text [] e ne = absurd (ne refl)
 slice_split-canonical text (u ∷ us) e ne = ap pieces_between e
-
--- with no separator all units are one piece
-no_cut : (us : List ℕ) → position is_separator us ≡ None → slice_split is_separator us ≡ us ∷ []
-no_cut us none =
-    let past : length us ≤ position_or_len is_separator us = grind (arith, common_steps) in
-    slice_split_none is_separator us (λ k d h. fails_before_first is_separator us k d (omega arith))
-
--- the first piece ends at the first separator
-cut_at : (us : List ℕ) (place : ℕ) → position is_separator us ≡ Some place
-    → IsFirstCut us (Some place)
-cut_at us place found =
-    let first = position_or_len is_separator us in
-    let at = cond_some (nat_lt first (length us)) first place found in
-    let inside : first < length us = ltb-true _ _ at.0 in
-    let before : before_first is_separator us ≡ slice_range us 0 place =
-    grind (arith, common_steps) in
-    let after : after_first is_separator us ≡ slice_range us (place + 1) (length us) =
-    grind (arith, common_steps) in
-    let pieces_after = slice_split is_separator (after_first is_separator us) in (
-      omega (arith, inside, at.1),
-      slice_split_first is_separator us 0 inside
-          ∙ ap (λ piece. piece ∷ pieces_after) before
-          ∙ ap (λ rest. slice_range us 0 place ∷ slice_split is_separator rest) after,
-    )
-
-pub IsFirstCut-position : (us : List ℕ) (cut : Option ℕ) → cut ≡ position is_separator us
-    → IsFirstCut us cut
-IsFirstCut-position us None e = no_cut us (sym e)
-IsFirstCut-position us (Some place) e = cut_at us place (sym e)
 
 -- there is at most one piece more than units
 pub length-slice_split-le : (us : List ℕ) → length (slice_split is_separator us) ≤ length us + 1

@@ -1,5 +1,5 @@
 -- The components of a path.
-use Rattle.std.specs.Prelude.{◌≡◌, ◌≢◌, ℕ, ◌+◌, ◌<◌, List, [], ◌∷◌, ◌++◌, length, All, Option, Some, None, slice_range}
+use Rattle.std.specs.Prelude.{◌≡◌, ◌≢◌, ℕ, ◌+◌, List, [], ◌∷◌, ◌++◌, length, All, Option, Some}
 use Rattle.std.specs.List.{join_with_byte, slice_split}
 use Rattle.uefi_path.specs.Separators.{separator, is_separator, canonical}
 
@@ -36,11 +36,3 @@ StartsWith text base =
 abbrev pub hint_of_pieces : List (List ℕ) → ℕ × Option ℕ
 hint_of_pieces [] = (0, Some 0)
 hint_of_pieces (piece ∷ pieces) = (1, Some (length (joined (piece ∷ pieces)) + 1))
-
--- how the first piece of units ends: at no separator, and it is all of them, or at the first one
-abbrev pub IsFirstCut : List ℕ → Option ℕ → Type 0
-IsFirstCut units None = slice_split is_separator units ≡ units ∷ []
-IsFirstCut units (Some place) =
-    (place < length units)
-    × (slice_split is_separator units
-    ≡ slice_range units 0 place ∷ slice_split is_separator (slice_range units (place + 1) (length units)))

@@ -6,7 +6,6 @@ use Rattle.uefi_path.specs.Separators.{is_separator}
 use Rattle.uefi_path.specs.declared.path.Path.{Path}
 use Rattle.uefi_path.specs.declared.path.Components.{Components}
 use Rattle.uefi_path.specs.declared.path.Rest.{Rest}
-use Rattle.uefi_path.specs.declared.path.Rest.TheVariants.{Scanned, Placed}
 use Rattle.uefi_path.specs.declared.counted.CountedUnits.{CountedUnits}
 
 -- the text of a path
@@ -15,8 +14,7 @@ path_text path = text_of path.string
 
 -- the units that are left to cut
 abbrev pub units_left : Rest → List ℕ
-units_left (Scanned text) = units_of text
-units_left (Placed placed) = drop placed.start (units_of placed.text)
+units_left rest = drop rest.start (units_of rest.text)
 
 -- the pieces of what is left to cut, if anything is
 abbrev pub pieces_of_rest : Option Rest → List (List ℕ)

@@ -1,7 +1,7 @@
 //! Separators as bits: a vector comparison gives one for each of the units of a block.
-ghost use Rattle.std.specs.Prelude.{◌≡◌, ◌*◌, ◌/◌, ◌<◌, drop, false, length, map, take};
+ghost use Rattle.std.specs.Prelude.{◌≡◌, ◌*◌, ◌/◌, ◌<◌, ◌≤◌, ◌+◌, drop, false, length, map, take};
 ghost use Rattle.std.specs.Simd.Lanes.{mask_l};
-ghost use Rattle.uefi_path.specs.Separators.{IsPlain, becomes_separator, block_bits};
+ghost use Rattle.uefi_path.specs.Separators.{IsPlain, becomes_separator, block_bits, is_separator};
 
 use std::simd::prelude::*;
 
@@ -131,4 +131,69 @@ pub(crate) fn see(units: &[u16], block: usize) -> Seen
         bits: last.bits >> (BLOCK - rest.len()),
         has_slash: last.has_slash,
     }
+}
+
+/// How many units are looked at together where components are cut.
+pub(crate) const SEEN: usize = 16;
+
+/// A bit for each of the first units, set where it is a separator; the first is the lowest.
+#[inline(always)]
+fn see_first<const N: usize>(units: &[u16]) -> u64
+    requires within { N ≤ length units.now }
+    requires word { N ≤ 64 }
+    ensures { result ≡ mask_l (map is_separator (take N units.now)) }
+{
+    Simd::<u16, N>::from_slice(units)
+        .simd_eq(Simd::<u16, N>::splat(92))
+        .to_bitmask()
+}
+
+/// The bits of units that are more than half of a vector's, and not all of two.
+#[inline(always)]
+fn see_both_ends<const N: usize>(units: &[u16]) -> u64
+    requires within { N ≤ length units.now }
+    requires fewer { length units.now < 2 * N }
+    requires word { N ≤ 32 }
+    ensures { result ≡ mask_l (map is_separator units.now) }
+{
+    let len = units.len();
+    let last = see_first::<N>(&units[len - N..]) >> (2 * N - len);
+    see_first::<N>(units) + (last << N)
+}
+
+/// The bits of fewer units than are looked at together.
+#[inline(always)]
+fn see_few(units: &[u16]) -> u64
+    requires { length units.now < 16 }
+    ensures { result ≡ mask_l (map is_separator units.now) }
+{
+    if 8 <= units.len() {
+        return see_both_ends::<8>(units);
+    }
+    if 4 <= units.len() {
+        return see_both_ends::<4>(units);
+    }
+    let mut bits = 0;
+    for i in 0..units.len() {
+        bits += u64::from(units[i] == 92) << i;
+    }
+    bits
+}
+
+/// A bit for each of the 16 units from a place on, or of those up to the end, set where it is a
+/// separator; the first is the lowest.
+#[inline(always)]
+pub(crate) fn see_ahead(units: &[u16], start: usize) -> u64
+    requires { start ≤ length units.now }
+    ensures { result ≡ mask_l (map is_separator (take 16 (drop start units.now))) }
+{
+    let rest = &units[start..];
+    if SEEN <= rest.len() {
+        return see_first::<SEEN>(rest);
+    }
+    if units.len() < SEEN {
+        return see_few(rest);
+    }
+    // The bits of the last units, without those that stand before the place.
+    see_first::<SEEN>(&units[units.len() - SEEN..]) >> (SEEN - rest.len())
 }

@@ -3,12 +3,13 @@
 
 ghost use Rattle.std.specs.Prelude.{◌≡◌, ℕ, ◌+◌, ◌<◌, ◌^◌, ◌↔◌, [], ◌∷◌, ◌++◌, ◌≤◌, All, List, None, Option, drop, length, option_map, position, IfSome, IsSome, IsTrue};
 ghost use Rattle.std.specs.List.{last_or, slice_split};
-ghost use Rattle.uefi_path.specs.Components.{AreComponents, IsFirstCut, StartsWith, components_of};
-ghost use Rattle.uefi_path.specs.Separators.{canonical, is_separator, places_from, separator};
+ghost use Rattle.uefi_path.specs.Components.{AreComponents, StartsWith, components_of};
+ghost use Rattle.uefi_path.specs.Separators.{canonical, is_separator, places_from, separator, word_places};
 ghost use Rattle.uefi_text.specs.Runs.{GivesEach};
 ghost use Rattle.uefi_text.specs.Units.{IsText};
 ghost use Rattle.uefi_text.specs.Views.{text_of, units_of};
 
+use crate::bits::{SEEN, see_ahead};
 use crate::names::cut_last;
 use std::cmp::Ordering;
 use std::fmt;
@@ -30,24 +31,25 @@ pub struct Components<'a> {
     rest: Option<Rest<'a>>,
 }
 
-/// What is left of a text to cut into components.
+/// What is left of a text to cut into components: its units from a place on. Of the separators there
+/// the first ones are known by their places, the next ones by bits, and all others stand after the 16
+/// units that have the bits.
 #[derive(Clone, Copy)]
-pub(crate) enum Rest<'a> {
-    /// Its separators are looked for.
-    Scanned(Char16Slice<'a>),
+pub(crate) struct Rest<'a> {
+    text: Char16Slice<'a>,
+    start: usize,
 
-    /// Where its separators stand is known.
-    Placed(PlacedText<'a>),
-}
+    /// Places, counted in the whole text.
+    places: &'a [usize],
 
-/// A text from a place on, and the places of the separators there, counted in the whole text.
-#[derive(Clone, Copy)]
-pub(crate) struct PlacedText<'a> {
-    pub(crate) text: Char16Slice<'a>,
-    pub(crate) start: usize,
-    pub(crate) places: &'a [usize],
-    pub ghost within: { start ≤ length (units_of text) },
-    pub ghost all: { places.now ≡ places_from start (drop start (units_of text)) },
+    /// The place of the unit that has the lowest bit.
+    base: usize,
+    bits: u64,
+    pub ghost within: { (start ≤ length (units_of text)) × (base ≤ length (units_of text)) },
+    pub ghost word: { bits < 2 ^ 64 },
+    pub ghost all: { places.now
+        ++ (word_places base bits ++ places_from (base + 16) (drop (base + 16) (units_of text)))
+        ≡ places_from start (drop start (units_of text)) },
 }
 
 impl<'a> Path<'a> {
@@ -85,7 +87,7 @@ impl<'a> Path<'a> {
         ensures no_nul { GivesNoNulIn result }
     {
         let text = self.canonical();
-        Components::of_canonical(*self, Rest::Scanned(text))
+        Components::of_canonical(*self, Rest::of(text))
     }
 
     /// The last component, or `None` where there is none. It may be empty. Takes no memory; costs what that
@@ -250,73 +252,116 @@ pub fn separator_str() -> CStr16<'static>
     CStr16::from_u16_with_nul(&[92, 0]).unwrap()
 }
 
-/// The place of the first separator.
-fn find_separator(units: &[u16]) -> Option<usize>
-    ensures { result ≡ position is_separator units.now }
-{
-    units.iter().position(|unit| *unit == u16::from(SEPARATOR))
-}
-
-/// Where the first of several pieces ends.
-fn first_cut(part: Char16Slice<'_>) -> Option<usize>
-    ensures { IsFirstCut (units_of part.entry) result }
-{
-    find_separator(part.units())
-}
-
 impl<'a> Rest<'a> {
     ghost use Rattle.uefi_path.specs.Views.{pieces_of_rest, units_left};
+
+    /// A whole text, of which the first separators are looked for.
+    fn of(text: Char16Slice<'a>) -> Rest<'a>
+        ensures { units_left result ≡ units_of text.entry }
+    {
+        Rest {
+            text,
+            start: 0,
+            places: &[],
+            base: 0,
+            bits: see_ahead(text.units(), 0),
+        }
+    }
+
+    /// A text from a place on, of which all separators are known by their places. Looks at no unit.
+    pub(crate) fn placed(text: Char16Slice<'a>, start: usize, places: &'a [usize]) -> Rest<'a>
+        requires within { start ≤ length (units_of text) }
+        requires all { places.now ≡ places_from start (drop start (units_of text)) }
+        ensures { units_left result ≡ drop start (units_of text.entry) }
+    {
+        Rest {
+            text,
+            start,
+            places,
+            base: text.len(),
+            bits: 0,
+        }
+    }
 
     /// The units that are left.
     fn units(self) -> Char16Slice<'a>
         ensures { units_of result ≡ units_left self.entry }
     {
-        match self {
-            Rest::Scanned(text) => text,
-            Rest::Placed(placed) => placed.text.part(placed.start, placed.text.len()),
-        }
+        self.text.part(self.start, self.text.len())
     }
 
-    /// The first component, and what is left after it.
-    fn cut(self) -> (Char16Slice<'a>, Option<Rest<'a>>)
+    /// The last component, where no separator is left.
+    #[inline(always)]
+    fn last(self) -> Char16Slice<'a>
+        requires no_place { self.places.now ≡ [] }
+        requires no_bit { self.bits ≡ 0 }
+        requires end { length (units_of self.text) ≤ self.base + 16 }
+        ensures { slice_split is_separator (units_left self.entry) ≡ units_of result ∷ [] }
+    {
+        self.units()
+    }
+
+    /// The first component, and what is left after it, where a separator is known by its place.
+    #[inline(always)]
+    fn cut_placed(self) -> (Char16Slice<'a>, Rest<'a>)
+        requires { 0 < length self.places.now }
         ensures { slice_split is_separator (units_left self.entry)
-            ≡ units_of result.0 ∷ pieces_of_rest result.1 }
+            ≡ units_of result.0 ∷ slice_split is_separator (units_left result.1) }
     {
-        match self {
-            Rest::Scanned(text) => {
-                let len = text.len();
-                match first_cut(text) {
-                    None => (text, None),
-                    Some(place) => {
-                        let after = text.part(place + 1, len);
-                        (text.part(0, place), Some(Rest::Scanned(after)))
-                    }
-                }
-            }
-            Rest::Placed(placed) => placed.cut(),
-        }
-    }
-}
-
-impl<'a> PlacedText<'a> {
-    ghost use Rattle.uefi_path.specs.Views.{pieces_of_rest};
-
-    /// The first component, and what is left after it. Looks at no unit.
-    fn cut(self) -> (Char16Slice<'a>, Option<Rest<'a>>)
-        ensures { slice_split is_separator (drop self.entry.start (units_of self.entry.text))
-            ≡ units_of result.0 ∷ pieces_of_rest result.1 }
-    {
-        let len = self.text.len();
-        if self.places.is_empty() {
-            return (self.text.part(self.start, len), None);
-        }
+        // The clauses of this call say how long the text can be.
+        let _len = self.text.len();
         let place = self.places[0];
-        let after = PlacedText {
+        let after = Rest {
             text: self.text,
             start: place + 1,
             places: &self.places[1..],
+            base: self.base,
+            bits: self.bits,
         };
-        (self.text.part(self.start, place), Some(Rest::Placed(after)))
+        (self.text.part(self.start, place), after)
+    }
+
+    /// The same, where the first separator is known by its bit.
+    #[inline(always)]
+    fn cut_seen(self) -> (Char16Slice<'a>, Rest<'a>)
+        requires no_place { self.places.now ≡ [] }
+        requires some { 0 < self.bits }
+        ensures { slice_split is_separator (units_left self.entry)
+            ≡ units_of result.0 ∷ slice_split is_separator (units_left result.1) }
+    {
+        let _len = self.text.len();
+        let place = self.base + self.bits.trailing_zeros() as usize;
+        let component = self.text.part(self.start, place);
+        let after = Rest {
+            text: self.text,
+            start: place + 1,
+            places: self.places,
+            base: self.base,
+            bits: self.bits & (self.bits - 1),
+        };
+        (component, after)
+    }
+
+    /// The same, once the next 16 units are looked at, where no separator is known.
+    #[inline(always)]
+    fn look_on(self) -> Rest<'a>
+        requires no_place { self.places.now ≡ [] }
+        requires no_bit { self.bits ≡ 0 }
+        requires more { self.base + 16 < length (units_of self.text) }
+        ensures same { units_left result ≡ units_left self.entry }
+        ensures no_place { result.places.now ≡ [] }
+        ensures text { units_of result.text ≡ units_of self.entry.text }
+        ensures base { result.base ≡ self.entry.base + 16 }
+    {
+        let _len = self.text.len();
+        let base = self.base + SEEN;
+        Rest {
+            text: self.text,
+            start: self.start,
+            places: self.places,
+            base,
+            bits: see_ahead(self.text.units(), base),
+        }
     }
 }
 
@@ -382,8 +427,21 @@ impl<'a> Iterator for Components<'a> {
     ghost remaining = { item_count components_left };
 
     fn next(&mut self) -> Option<Char16Slice<'a>> {
-        let (component, rest) = self.rest?.cut();
-        self.rest = rest;
+        let mut rest = self.rest?;
+        if !rest.places.is_empty() {
+            let (component, after) = rest.cut_placed();
+            self.rest = Some(after);
+            return Some(component);
+        }
+        while rest.bits == 0 {
+            if rest.text.len() - rest.base <= SEEN {
+                self.rest = None;
+                return Some(rest.last());
+            }
+            rest = rest.look_on();
+        }
+        let (component, after) = rest.cut_seen();
+        self.rest = Some(after);
         Some(component)
     }
 

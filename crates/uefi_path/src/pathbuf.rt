@@ -14,7 +14,7 @@ ghost use Rattle.uefi_text.specs.Views.{units_of};
 use crate::counted::CountedUnits;
 use crate::glance::has_separator_before;
 use crate::names::cut_last;
-use crate::path::{Components, Path, PlacedText, Rest};
+use crate::path::{Components, Path, Rest};
 use crate::places::{count_from, count_separators, find_places, have_neighbours};
 use crate::tails::make_tail;
 use std::alloc::{AllocError, Allocator, Global};
@@ -220,7 +220,7 @@ impl<'a> Path<'a> {
 impl<A: Allocator + Copy> PathBuf<A> {
     ghost use Rattle.uefi_text.specs.Runs.{GivesEach};
     ghost use Rattle.uefi_text.specs.Views.{text_of, units_of};
-    ghost use Rattle.uefi_path.specs.Views.{components_left, counted_text, path_text, reads_of};
+    ghost use Rattle.uefi_path.specs.Views.{components_left, counted_text, path_text, reads_of, units_left};
 
     /// The empty path. Takes memory for its NUL.
     pub fn new(alloc: A) -> Result<Self, AllocError>
@@ -449,7 +449,7 @@ impl<A: Allocator + Copy> PathBuf<A> {
             return Ok(Some(self.cut_at(start, end)?));
         }
         let known = self.places.as_slice();
-        let rest = Rest::Placed(self.canonical(known));
+        let rest = self.canonical(known);
         let has_parent = Components::of_canonical(self.as_path(), rest)
             .nth(1)
             .is_some();
@@ -519,28 +519,20 @@ impl<A: Allocator + Copy> PathBuf<A> {
         ensures runs { GivesEach units_of components_left result }
         ensures no_nul { GivesNoNulIn result }
     {
-        let rest = self.canonical(self.places.as_slice());
-        Components::of_canonical(self.as_path(), Rest::Placed(rest))
+        let places = self.places.as_slice();
+        Components::of_canonical(self.as_path(), self.canonical(places))
     }
 
     /// The canonical text, with these places of the separators there. Looks at no character.
-    fn canonical<'a>(&'a self, places: &'a [usize]) -> PlacedText<'a>
+    fn canonical<'a>(&'a self, places: &'a [usize]) -> Rest<'a>
         requires { places.now ≡ places_of self.now }
-        ensures { drop result.start (units_of result.text) ≡ canonical self.now }
+        ensures { units_left result ≡ canonical self.now }
     {
         let text = self.string.as_cstr16().as_slice();
         if !places.is_empty() && places[0] == 0 {
-            return PlacedText {
-                text,
-                start: 1,
-                places: &places[1..],
-            };
+            return Rest::placed(text, 1, &places[1..]);
         }
-        PlacedText {
-            text,
-            start: 0,
-            places,
-        }
+        Rest::placed(text, 0, places)
     }
 
     /// The last component, as [`Path::file_name`].

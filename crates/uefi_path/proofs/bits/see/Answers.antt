@@ -61,7 +61,7 @@ returns-clause-bits c =
     let at = c.args.block * 64 in
     let before = 64 - length (take (length us - at) (drop at us)) in
     ap (λ n. n / 2 ^ before) c.see_block-last.ensures.bits
-    ∙ bits-drop before (take 64 (drop (length us - 64) us))
+    ∙ bits-drop becomes_separator before (take 64 (drop (length us - 64) us))
     ∙ ap (λ vs. mask_l (map becomes_separator vs))
     (the_end us at c.if-units-lt-BLOCK.false c.requires c.if-rest-ge-BLOCK.false)
     ∙ sym (block_bits-is us c.args.block)

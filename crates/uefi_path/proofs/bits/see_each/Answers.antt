@@ -16,12 +16,12 @@ more c =
     let bit : c.from.result ≡ cond (becomes_separator (get_or us i 0)) 1 0 =
     grind (arith, common_steps, c.from.ensures, becomes-either (get_or us i 0)) in
     ap (λ n. n + c.from.result * 2 ^ i % 2 ^ 64) c.loop-i.invariant.bits
-    ∙ bits-next us i c.from.result bit c.loop-i-test.true (omega (arith, c.loop-i-test.true, c.requires))
+    ∙ bits-next becomes_separator us i c.from.result bit c.loop-i-test.true (omega (arith, c.loop-i-test.true, c.requires))
 
 pub overflow_add-bits : goal.overflow_add-bits
 overflow_add-bits c =
     let done = take (c.loop-i.i + 1) c.args.units.now in
-    omega (arith, more c, bits-fit done (omega (arith, length-take (c.loop-i.i + 1) c.args.units.now, c.requires)))
+    omega (arith, more c, bits-fit becomes_separator done (omega (arith, length-take (c.loop-i.i + 1) c.args.units.now, c.requires)))
 
 pub loop-i-preserved : goal.loop-i-preserved
 loop-i-preserved c =

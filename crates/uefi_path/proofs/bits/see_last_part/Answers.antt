@@ -21,7 +21,7 @@ returns-clause-bits c =
     let us = c.args.units.now in
     let left = 8 - length us % 8 in
     ap (λ n. n / 2 ^ left) c.see_part-seen.ensures.bits
-    ∙ bits-drop left (take 8 (drop (length us - 8) us))
+    ∙ bits-drop becomes_separator left (take 8 (drop (length us - 8) us))
     ∙ ap (λ vs. mask_l (map becomes_separator vs)) (the_last us c.if-len-lt-PART.false)
 
 pub returns-clause-plain : goal.returns-clause-plain

@@ -2,7 +2,7 @@
 use Rattle.std.proofs.Common.{arith, eqb, w16}
 use Rattle.std.proofs.lemmas.Grind.{common_steps}
 use Rattle.std.proofs.lemmas.Simd.{bitmask_splat}
-use Rattle.uefi_path.specs.Separators.{separator, slash}
+use Rattle.uefi_path.specs.Separators.{becomes_separator, separator, slash}
 use Rattle.uefi_path.proofs.SeparatorBits.{IsPlain-no_bits, bits-both, bits-fit}
 use Rattle.uefi_path.proofs.bits.see_part.Goals as goal
 
@@ -14,7 +14,7 @@ overflow_add-result c =
       bitmask_splat w16 eqb us 8 slash c.fits-units.0 (omega arith),
       bitmask_splat w16 eqb us 8 separator c.fits-units.0 (omega arith),
       bits-both us,
-      bits-fit us (omega (arith, c.fits-units.0)),
+      bits-fit becomes_separator us (omega (arith, c.fits-units.0)),
     )
 
 pub returns-clause-bits : goal.returns-clause-bits

@@ -16,7 +16,7 @@ part_more us part bits seen some short before here =
     let next : part * 8 + 8 ≡ (part + 1) * 8 = omega arith in
     ap (λ n. n + seen * 2 ^ (part * 8) % 2 ^ 64) before
     ∙ ap (λ n. mask_l (map becomes_separator (take (part * 8) us)) + n * 2 ^ (part * 8) % 2 ^ 64) here
-    ∙ bits-more us (part * 8) 8 (omega (arith, some)) (omega (arith, some, short))
+    ∙ bits-more becomes_separator us (part * 8) 8 (omega (arith, some)) (omega (arith, some, short))
     ∙ ap (λ n. mask_l (map becomes_separator (take n us))) next
 
 last_more : (us : List ℕ) (part bits seen : ℕ) → part ≡ length us / 8 → length us < 64
@@ -28,7 +28,7 @@ last_more us part bits seen all short before here =
     let whole = take-append-drop done us in
     ap (λ n. n + seen * 2 ^ done % 2 ^ 64) (before ∙ ap (λ n. mask_l (map becomes_separator (take (n * 8) us))) all)
     ∙ ap (λ n. mask_l (map becomes_separator (take done us)) + n * 2 ^ done % 2 ^ 64) here
-    ∙ bits-shifted (take done us) (drop done us) done (length-take-le done us (omega arith))
+    ∙ bits-shifted becomes_separator (take done us) (drop done us) done (length-take-le done us (omega arith))
     (omega (arith, ap length whole, short))
     ∙ ap (λ vs. mask_l (map becomes_separator vs)) whole
 
@@ -43,7 +43,7 @@ pub overflow_add-bits : goal.overflow_add-bits
 overflow_add-bits c =
     let next = (c.loop-part.part + 1) * 8 in
     let us = c.args.units.now in
-    omega (arith, part_bits c, bits-fit (take next us) (omega (arith, length-take next us, c.requires)))
+    omega (arith, part_bits c, bits-fit becomes_separator (take next us) (omega (arith, length-take next us, c.requires)))
 
 pub loop-part-preserved : goal.loop-part-preserved
 loop-part-preserved c =
@@ -72,7 +72,7 @@ all_bits c =
     c.loop-part.invariant.bits c.see_last_part-last.ensures.bits
 
 pub overflow_add-bits-2 : goal.overflow_add-bits-2
-overflow_add-bits-2 c = omega (arith, all_bits c, bits-fit c.args.units.now (omega (arith, c.requires)))
+overflow_add-bits-2 c = omega (arith, all_bits c, bits-fit becomes_separator c.args.units.now (omega (arith, c.requires)))
 
 pub returns-clause-bits : goal.returns-clause-bits
 returns-clause-bits c = all_bits c
