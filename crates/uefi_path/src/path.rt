@@ -426,6 +426,7 @@ impl<'a> Iterator for Components<'a> {
 
     ghost remaining = { item_count components_left };
 
+    #[inline(always)]
     fn next(&mut self) -> Option<Char16Slice<'a>> {
         let mut rest = self.rest?;
         if !rest.places.is_empty() {
