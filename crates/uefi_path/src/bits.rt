@@ -180,19 +180,28 @@ fn see_few(units: &[u16]) -> u64
     bits
 }
 
-/// A bit for each of the 16 units from a place on, or of those up to the end, set where it is a
-/// separator; the first is the lowest.
+/// A bit for each of the first 16 units, or of all where they are fewer, set where it is a separator; the
+/// first is the lowest.
 #[inline(always)]
-pub(crate) fn see_ahead(units: &[u16], start: usize) -> u64
-    requires { start ≤ length units.now }
+pub(crate) fn see_start(units: &[u16]) -> u64
+    ensures { result ≡ mask_l (map is_separator (take 16 units.now)) }
+{
+    if SEEN <= units.len() {
+        return see_first::<SEEN>(units);
+    }
+    see_few(units)
+}
+
+/// The same of the units from a place on, where the text has 16 or more.
+#[inline(always)]
+pub(crate) fn see_next(units: &[u16], start: usize) -> u64
+    requires inside { start ≤ length units.now }
+    requires long { 16 ≤ length units.now }
     ensures { result ≡ mask_l (map is_separator (take 16 (drop start units.now))) }
 {
     let rest = &units[start..];
     if SEEN <= rest.len() {
         return see_first::<SEEN>(rest);
-    }
-    if units.len() < SEEN {
-        return see_few(rest);
     }
     // The bits of the last units, without those that stand before the place.
     see_first::<SEEN>(&units[units.len() - SEEN..]) >> (SEEN - rest.len())

@@ -9,7 +9,7 @@ ghost use Rattle.uefi_text.specs.Runs.{GivesEach};
 ghost use Rattle.uefi_text.specs.Units.{IsText};
 ghost use Rattle.uefi_text.specs.Views.{text_of, units_of};
 
-use crate::bits::{SEEN, see_ahead};
+use crate::bits::{SEEN, see_next, see_start};
 use crate::names::cut_last;
 use std::cmp::Ordering;
 use std::fmt;
@@ -264,7 +264,7 @@ impl<'a> Rest<'a> {
             start: 0,
             places: &[],
             base: 0,
-            bits: see_ahead(text.units(), 0),
+            bits: see_start(text.units()),
         }
     }
 
@@ -360,7 +360,7 @@ impl<'a> Rest<'a> {
             start: self.start,
             places: self.places,
             base,
-            bits: see_ahead(self.text.units(), base),
+            bits: see_next(self.text.units(), base),
         }
     }
 }

@@ -15,15 +15,15 @@ invariant_of-result c =
     let rest = c.args.self in
     let us = units_of rest.text in
     let base = rest.base + 16 in
-    let seen = c.see_ahead.ensures ∙ ap (λ vs. mask_l (map is_separator (take 16 (drop base vs)))) c.units.ensures in
+    let seen = c.see_next.ensures ∙ ap (λ vs. mask_l (map is_separator (take 16 (drop base vs)))) c.units.ensures in
     let later = places_from (base + 16) (drop (base + 16) us) in
     let unseen = places_from base (drop base us) in
     let none = ap (λ n. word_places rest.base n) c.requires.no_bit ∙ word_places-none rest.base in
     record {
       within = (rest.within.0, omega (arith, c.requires.more));
-      word = omega (arith, c.see_ahead.type_inv);
+      word = omega (arith, c.see_next.type_inv);
       all =
-          ap (λ ps. ps ++ (word_places base c.see_ahead.result ++ later)) c.requires.no_place
+          ap (λ ps. ps ++ (word_places base c.see_next.result ++ later)) c.requires.no_place
           ∙ ap (λ n. word_places base n ++ later) seen
           ∙ places_ahead us base
           ∙ sym (ap (λ ps. ps ++ unseen) none)

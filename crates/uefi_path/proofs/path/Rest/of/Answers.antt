@@ -10,9 +10,9 @@ pub invariant_of-result : goal.invariant_of-result
 unfolding word_places
 invariant_of-result c =
     let us = units_of c.args.text in
-    let seen = c.see_ahead.ensures ∙ ap (λ vs. mask_l (map is_separator (take 16 vs))) c.units.ensures in
+    let seen = c.see_start.ensures ∙ ap (λ vs. mask_l (map is_separator (take 16 vs))) c.units.ensures in
     record {
       within = (omega arith, omega arith);
-      word = omega (arith, c.see_ahead.type_inv);
+      word = omega (arith, c.see_start.type_inv);
       all = ap (λ n. word_places 0 n ++ places_from 16 (drop 16 us)) seen ∙ places_ahead us 0;
     }

@@ -5,7 +5,7 @@ use Rattle.std.specs.Simd.Lanes.{mask_l}
 use Rattle.std.proofs.Common.{map}
 use Rattle.uefi_path.specs.Separators.{is_separator}
 use Rattle.uefi_path.proofs.SeparatorBits.{bits-end}
-use Rattle.uefi_path.proofs.bits.see_ahead.Goals as goal
+use Rattle.uefi_path.proofs.bits.see_next.Goals as goal
 
 pub returns : goal.returns
 returns c =
@@ -20,5 +20,5 @@ returns c =
     let count : 16 - length (take (length us - start) (drop start us)) ≡ 16 - (length us - start) =
     omega (arith, long, left) in
     rw (last, count)
-    (bits-end us 16 start (omega (arith, c.if-units-lt-SEEN.false)) c.requires
+    (bits-end us 16 start c.requires.long c.requires.inside
     (omega (arith, c.if-rest-ge-SEEN.false, long, left)))
