@@ -148,7 +148,7 @@ fn see_first<const N: usize>(units: &[u16]) -> u64
         .to_bitmask()
 }
 
-/// The bits of units that are more than half of a vector's, and not all of two.
+/// The bits of units that fill a vector, and do not fill two.
 #[inline(always)]
 fn see_both_ends<const N: usize>(units: &[u16]) -> u64
     requires within { N ≤ length units.now }

@@ -342,7 +342,7 @@ impl<'a> Rest<'a> {
         (component, after)
     }
 
-    /// The same, once the next 16 units are looked at, where no separator is known.
+    /// What is left, once the next 16 units are looked at, where no separator is known.
     #[inline(always)]
     fn look_on(self) -> Rest<'a>
         requires no_place { self.places.now ≡ [] }
