@@ -295,6 +295,24 @@ impl<A: Allocator> CString16<A> {
         ensures ok { OnOk result (self.new ≡ self.old ++ c ∷ []) }
         ensures err { OnErr result (self.new ≡ self.old) }
     {
+        if self.units.len() == self.units.capacity() {
+            return self.push_to_full(c);
+        }
+        let end = self.num_chars();
+        self.units.push_reserved(0);
+        self.units[end] = u16::from(c);
+        Ok(())
+    }
+
+    /// The same where the vector may have no room. It is rarely so, and a call with room saves no
+    /// registers.
+    #[cold]
+    #[inline(never)]
+    fn push_to_full(&mut self, c: Char16) -> Result<(), AllocError>
+        requires { c ≢ 0 }
+        ensures ok { OnOk result (self.new ≡ self.old ++ c ∷ []) }
+        ensures err { OnErr result (self.new ≡ self.old) }
+    {
         let end = self.num_chars();
         self.units.push(0)?;
         self.units[end] = u16::from(c);

@@ -3,8 +3,9 @@
 //! each view shows.
 #![tactic(auto, unfolding(crate::specs::Views::text_of, crate::specs::Views::units_of, crate::specs::Views::units_left))]
 
-ghost use Rattle.std.specs.Prelude.{◌≡◌, ◌<◌, ◌≤◌, ◌+◌, ◌*◌, ◌^◌, ◌↔◌, ◌==◌, ◌≢◌, ◌++◌, if◌then◌else◌, [], ℕ, List, Option, All, length, position, slice_get, slice_index, slice_range, take, IsTrue, IsOk, IfOk, IfSome, OnErr, OnOk, Some, false, true};
+ghost use Rattle.std.specs.Prelude.{◌≡◌, ◌<◌, ◌≤◌, ◌+◌, ◌*◌, ◌^◌, ◌↔◌, ◌==◌, ◌≢◌, ◌++◌, if◌then◌else◌, [], nat_eq, ℕ, List, Option, All, length, position, slice_get, slice_index, slice_range, take, IsTrue, IsOk, IfOk, IfSome, OnErr, OnOk, Some, false, true};
 ghost use Rattle.std.specs.Char.Escape.{encode_utf16};
+ghost use Rattle.std.specs.Cmp.Lexicographic.{pointwise};
 ghost use Rattle.std.specs.Result.{result_err};
 ghost use Rattle.std.specs.Str.{chars};
 ghost use Rattle.uefi_text_encodings.specs.FromStr.{is_deciding_char};
@@ -55,6 +56,14 @@ pub(crate) fn check_deciding_unit(
         return Err(FromSliceWithNulError::InteriorNul(place));
     }
     Ok(())
+}
+
+/// Whether two runs of units are the same. Their order passes equal units in strides, and a test at the
+/// start of a stride is a jump: nothing waits for it.
+fn are_same(one: &[u16], two: &[u16]) -> bool
+    ensures { result ≡ pointwise nat_eq one.now two.now }
+{
+    one.len() == two.len() && one.cmp(two).is_eq()
 }
 
 /// The characters of a string that are still to come. In contracts it is `units_left` of it.
@@ -325,7 +334,7 @@ impl<'a> PartialEq for CStr16<'a> {
     ghost laws = { Prim.search (comparing, rules) };
 
     fn eq(&self, other: &Self) -> bool {
-        self.to_u16_slice() == other.to_u16_slice()
+        are_same(self.to_u16_slice(), other.to_u16_slice())
     }
 }
 
@@ -586,7 +595,7 @@ impl<'a> PartialEq for Char16Slice<'a> {
     ghost laws = { Prim.search (comparing, rules) };
 
     fn eq(&self, other: &Self) -> bool {
-        self.units == other.units
+        are_same(self.units, other.units)
     }
 }
 

@@ -58,6 +58,14 @@ pub nul_terminated-push : (text : List ℕ) (unit : ℕ)
     → set (nul_terminated text ++ 0 ∷ []) (length text) unit ≡ nul_terminated (text ++ unit ∷ [])
 nul_terminated-push text unit = rw (append_assoc text, append_assoc text) (set_at text 0 (0 ∷ []) unit (length text) refl)
 
+-- what a unit of a text makes of a string there is one
+pub IsString-pushed : (text units : List ℕ) (end unit : ℕ) → IsText text → IsTextUnit unit
+    → units ≡ nul_terminated text ++ 0 ∷ [] → end ≡ length text → IsString (set units end unit)
+IsString-pushed text units end unit is_text is_unit grown at_end =
+    let written : set units end unit ≡ nul_terminated (text ++ unit ∷ []) = rw (grown, at_end) (nul_terminated-push text unit) in
+    IsString-made _ (text ++ unit ∷ []) written
+    (All-append IsTextUnit text (unit ∷ []) is_text (All-cons IsTextUnit unit [] is_unit (All-nil IsTextUnit)))
+
 -- a unit of a text stays one where another takes its place
 IsTextUnit-replaced : (search replace u : ℕ) → IsTextUnit u → IsTextUnit replace → IsTextUnit (replaced search replace u)
 IsTextUnit-replaced search replace u old new = elim (u == search) as (λ b. IsTextUnit (if b then replace else u)) [ true ↦ new | false ↦ old ]
