@@ -23,7 +23,7 @@
 //! item is one more `impl`, and every call here holds of it as it stands.
 #![tactic(auto, using(uefi_text_encodings::proofs::Packing::packing), unfolding(crate::specs::Views::items_of, crate::specs::Views::items_left, crate::specs::Views::into_iter_items_left))]
 
-ghost use Rattle.std.specs.Prelude.{◌≡◌, ℕ, ◌+◌, ◌++◌, ◌*◌, ◌^◌, ◌<◌, ◌≤◌, ◌↔◌, [], length, map, slice_index, slice_get, slice_range, IfOk, IfErr, IfSome, IsSome, IsTrue};
+ghost use Rattle.std.specs.Prelude.{◌≡◌, ℕ, ◌+◌, ◌++◌, ◌*◌, ◌^◌, ◌<◌, ◌≤◌, ◌↔◌, [], length, map, take, slice_index, slice_get, slice_range, IfOk, IfErr, IfSome, IsSome, IsTrue};
 ghost use Rattle.std.specs.Iterator.{UpTo, YieldsFirstBy, item_count};
 ghost use Rattle.std.specs.Iterator.SizeHint.{IsWithinCount};
 ghost use Rattle.std.specs.Option.{option_map};
@@ -48,7 +48,7 @@ const BLOCK: usize = 64;
 /// shares: so the compiler makes one call of `memmove` for each block, and leaves the block out.
 const COPIED: usize = 1024;
 
-/// Fewer items than these are copied one after the other, where a call costs more than it saves.
+/// Fewer items than these become a vector one after the other, where a call costs more than it saves.
 const SHORT: usize = 64;
 
 /// A view of items that lie packed in borrowed bytes, which may begin at any place of memory. In
@@ -119,6 +119,35 @@ fn read_blocks<T: Packed>(bytes: &[u8], block: &mut [T], dest: &mut [T])
         );
         start += count;
     }
+}
+
+/// Writes `N` items of bytes to the places from `start` on, through a block of their own: so they are
+/// read and written some at a time.
+#[inline(always)]
+fn read_few<T: Packed, const N: usize>(bytes: &[u8], dest: &mut [T], start: usize, first: T)
+    requires fits { length dest.old * T.SIZE ≤ length bytes.now }
+    requires places { start + N ≤ length dest.old }
+    requires block { N ≤ 1024 }
+    ensures items { map T.number (take (start + N) dest.new) ≡ map T.number (take start dest.old)
+        ++ slice_range (packed_items T.SIZE (length dest.old) bytes.now) start (start + N) }
+    ensures len { length dest.new ≡ length dest.old }
+{
+    let mut block = [first; N];
+    read_items(&bytes[start * T::SIZE..], &mut block);
+    dest[start..start + N].copy_from_slice(&block);
+}
+
+/// Writes the items that bytes begin with, as many as there are places, which are `N` up to twice `N`:
+/// the first `N` and the last `N`. Those that are among both are written twice.
+#[inline(always)]
+fn read_ends<T: Packed, const N: usize>(bytes: &[u8], dest: &mut [T], first: T)
+    requires fits { length dest.old * T.SIZE ≤ length bytes.now }
+    requires places { (N ≤ length dest.old) × (length dest.old ≤ 2 * N) }
+    requires block { N ≤ 1024 }
+    ensures { map T.number dest.new ≡ packed_items T.SIZE (length dest.old) bytes.now }
+{
+    read_few::<T, N>(bytes, dest, 0, first);
+    read_few::<T, N>(bytes, dest, dest.len() - N, first);
 }
 
 /// Appends the first `len` items of bytes to a vector that has room for them, one after the
@@ -308,17 +337,31 @@ impl<'a, T: Packed> UnalignedSlice<'a, T> {
         read_items(self.bytes, dest);
     }
 
+    /// The same of an item or more: for so many that calls of `memmove` gain. A copy of few items saves
+    /// no registers for it.
+    #[inline(never)]
+    fn copy_many_to(&self, dest: &mut [T])
+        requires same { length dest.old ≡ length (items_of self.now) }
+        requires some { 0 < length dest.old }
+        ensures { map T.number dest.new ≡ items_of self.now }
+    {
+        let mut block = [self.item(0); COPIED];
+        read_blocks(self.bytes, &mut block, dest);
+    }
+
     /// Writes the items into `dest`, which has to have as many places as there are items. One pass;
     /// takes no memory.
     pub fn copy_to(&self, dest: &mut [T])
         requires { length dest.old ≡ length (items_of self.now) }
         ensures { map T.number dest.new ≡ items_of self.now }
     {
-        if dest.len() < SHORT {
-            self.copy_each_to(dest);
-        } else {
-            let mut block = [self.item(0); COPIED];
-            read_blocks(self.bytes, &mut block, dest);
+        match dest.len() {
+            ..4 => self.copy_each_to(dest),
+            4..=8 => read_ends::<T, 4>(self.bytes, dest, self.item(0)),
+            9..=16 => read_ends::<T, 8>(self.bytes, dest, self.item(0)),
+            17..=32 => read_ends::<T, 16>(self.bytes, dest, self.item(0)),
+            33..=64 => read_ends::<T, 32>(self.bytes, dest, self.item(0)),
+            _ => self.copy_many_to(dest),
         }
     }
 
