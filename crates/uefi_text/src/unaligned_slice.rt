@@ -48,7 +48,7 @@ const BLOCK: usize = 64;
 /// shares: so the compiler makes one call of `memmove` for each block, and leaves the block out.
 const COPIED: usize = 1024;
 
-/// Fewer items than these become a vector one after the other, where a call costs more than it saves.
+/// Fewer items than these become a vector without a call, which costs more than it saves.
 const SHORT: usize = 64;
 
 /// A view of items that lie packed in borrowed bytes, which may begin at any place of memory. In
@@ -102,25 +102,6 @@ fn read_block<T: Packed>(bytes: &[u8], block: &mut [T], dest: &mut [T])
     dest.copy_from_slice(items);
 }
 
-/// Writes the items that bytes begin with, as many as there are places, a block at a time.
-fn read_blocks<T: Packed>(bytes: &[u8], block: &mut [T], dest: &mut [T])
-    requires fits { length dest.old * T.SIZE ≤ length bytes.now }
-    requires block { 0 < length block.old }
-    ensures { map T.number dest.new ≡ packed_items T.SIZE (length dest.old) bytes.now }
-{
-    let len = dest.len();
-    let mut start = 0;
-    while start < len {
-        let count = block.len().min(len - start);
-        read_block(
-            &bytes[start * T::SIZE..],
-            block,
-            &mut dest[start..start + count],
-        );
-        start += count;
-    }
-}
-
 /// Writes `N` items of bytes to the places from `start` on, through a block of their own: so they are
 /// read and written some at a time.
 #[inline(always)]
@@ -150,17 +131,42 @@ fn read_ends<T: Packed, const N: usize>(bytes: &[u8], dest: &mut [T], first: T)
     read_few::<T, N>(bytes, dest, dest.len() - N, first);
 }
 
-/// Appends the first `len` items of bytes to a vector that has room for them, one after the
-/// other.
-fn push_items<T: Packed, A: Allocator>(bytes: &[u8], len: usize, items: &mut Vec<T, A>)
-    requires fits { len * T.SIZE ≤ length bytes.now }
-    requires room { vec_len items.old + len ≤ vec_capacity items.old }
-    ensures { map T.number items.new.items
-        ≡ map T.number items.old.items ++ packed_items T.SIZE len bytes.now }
+/// Writes the items that bytes begin with, as many as there are places, at most a block: at once, or
+/// where they are few without a call, which costs more than it saves.
+#[inline(always)]
+fn read_some<T: Packed>(bytes: &[u8], dest: &mut [T])
+    requires fits { length dest.old * T.SIZE ≤ length bytes.now }
+    requires block { length dest.old ≤ 1024 }
+    ensures items { map T.number dest.new ≡ packed_items T.SIZE (length dest.old) bytes.now }
+    ensures len { length dest.new ≡ length dest.old }
 {
-    for place in 0..len {
-        let start = place * T::SIZE;
-        items.push_reserved(T::read_le(&bytes[start..start + T::SIZE]));
+    if dest.len() < 4 {
+        read_items(bytes, dest);
+        return;
+    }
+    let first = T::read_le(&bytes[..T::SIZE]);
+    match dest.len() {
+        ..=8 => read_ends::<T, 4>(bytes, dest, first),
+        9..=16 => read_ends::<T, 8>(bytes, dest, first),
+        17..=32 => read_ends::<T, 16>(bytes, dest, first),
+        33..=64 => read_ends::<T, 32>(bytes, dest, first),
+        _ => read_block(bytes, &mut [first; COPIED], dest),
+    }
+}
+
+/// Writes the items that bytes begin with, as many as there are places, a block at a time. A copy of
+/// fewer items saves no registers for it.
+#[inline(never)]
+fn read_blocks<T: Packed>(bytes: &[u8], dest: &mut [T])
+    requires { length dest.old * T.SIZE ≤ length bytes.now }
+    ensures { map T.number dest.new ≡ packed_items T.SIZE (length dest.old) bytes.now }
+{
+    let len = dest.len();
+    let mut start = 0;
+    while start < len {
+        let count = COPIED.min(len - start);
+        read_some(&bytes[start * T::SIZE..], &mut dest[start..start + count]);
+        start += count;
     }
 }
 
@@ -191,7 +197,56 @@ fn push_block<T: Packed, A: Allocator>(bytes: &[u8], block: &mut [T], items: &mu
     push_all(items, block);
 }
 
+/// Appends the next `N` of the first `len` items of bytes to a vector that has room for them, if so
+/// many are left.
+#[inline(always)]
+fn push_next<T: Packed, A: Allocator, const N: usize>(
+    bytes: &[u8],
+    len: usize,
+    first: T,
+    items: &mut Vec<T, A>,
+)
+    requires fits { len * T.SIZE ≤ length bytes.now }
+    requires room { len ≤ vec_capacity items.old }
+    requires block { N ≤ 1024 }
+    requires within { vec_len items.old ≤ len }
+    requires so_far { map T.number items.old.items
+        ≡ take (vec_len items.old) (packed_items T.SIZE len bytes.now) }
+    ensures within { vec_len items.new ≤ len }
+    ensures so_far { map T.number items.new.items
+        ≡ take (vec_len items.new) (packed_items T.SIZE len bytes.now) }
+    ensures left { len < vec_len items.old + 2 * N → len < vec_len items.new + N }
+    ensures capacity { vec_capacity items.new ≡ vec_capacity items.old }
+{
+    let start = items.len();
+    if N <= len - start {
+        push_block(&bytes[start * T::SIZE..], &mut [first; N], items);
+    }
+}
+
+/// Appends the first `len` items of bytes, fewer than [`SHORT`], to an empty vector that has room for
+/// them: each piece half as long as the one before.
+fn push_few<T: Packed, A: Allocator>(bytes: &[u8], len: usize, items: &mut Vec<T, A>)
+    requires few { len < 64 }
+    requires fits { len * T.SIZE ≤ length bytes.now }
+    requires room { len ≤ vec_capacity items.old }
+    requires empty { vec_len items.old ≡ 0 }
+    ensures { map T.number items.new.items ≡ packed_items T.SIZE len bytes.now }
+{
+    if len == 0 {
+        return;
+    }
+    let first = T::read_le(&bytes[..T::SIZE]);
+    push_next::<T, A, 32>(bytes, len, first, items);
+    push_next::<T, A, 16>(bytes, len, first, items);
+    push_next::<T, A, 8>(bytes, len, first, items);
+    push_next::<T, A, 4>(bytes, len, first, items);
+    push_next::<T, A, 2>(bytes, len, first, items);
+    push_next::<T, A, 1>(bytes, len, first, items);
+}
+
 /// Appends the first `len` items of bytes to a vector that has room for them, a block at a time.
+#[inline(never)]
 fn push_blocks<T: Packed, A: Allocator>(
     bytes: &[u8],
     len: usize,
@@ -337,42 +392,28 @@ impl<'a, T: Packed> UnalignedSlice<'a, T> {
         read_items(self.bytes, dest);
     }
 
-    /// The same of an item or more: for so many that calls of `memmove` gain. A copy of few items saves
-    /// no registers for it.
-    #[inline(never)]
-    fn copy_many_to(&self, dest: &mut [T])
-        requires same { length dest.old ≡ length (items_of self.now) }
-        requires some { 0 < length dest.old }
-        ensures { map T.number dest.new ≡ items_of self.now }
-    {
-        let mut block = [self.item(0); COPIED];
-        read_blocks(self.bytes, &mut block, dest);
-    }
-
     /// Writes the items into `dest`, which has to have as many places as there are items. One pass;
     /// takes no memory.
     pub fn copy_to(&self, dest: &mut [T])
         requires { length dest.old ≡ length (items_of self.now) }
         ensures { map T.number dest.new ≡ items_of self.now }
     {
-        match dest.len() {
-            ..4 => self.copy_each_to(dest),
-            4..=8 => read_ends::<T, 4>(self.bytes, dest, self.item(0)),
-            9..=16 => read_ends::<T, 8>(self.bytes, dest, self.item(0)),
-            17..=32 => read_ends::<T, 16>(self.bytes, dest, self.item(0)),
-            33..=64 => read_ends::<T, 32>(self.bytes, dest, self.item(0)),
-            _ => self.copy_many_to(dest),
+        if dest.len() <= COPIED {
+            read_some(self.bytes, dest);
+        } else {
+            read_blocks(self.bytes, dest);
         }
     }
 
     /// A vector of the items, or `AllocError` where its memory is refused: one request, for exactly
     /// as many places as there are items. Linear in the items.
+    #[inline(always)]
     pub fn to_vec<A: Allocator>(&self, alloc: A) -> Result<Vec<T, A>, AllocError>
         ensures { IfOk result (λ items. map T.number items.items ≡ items_of self.now) }
     {
         let mut items = Vec::with_capacity(alloc, self.len)?;
         if self.len < SHORT {
-            push_items(self.bytes, self.len, &mut items);
+            push_few(self.bytes, self.len, &mut items);
         } else {
             let mut block = [self.item(0); COPIED];
             push_blocks(self.bytes, self.len, &mut block, &mut items);

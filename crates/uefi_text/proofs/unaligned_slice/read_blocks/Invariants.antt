@@ -1,4 +1,4 @@
-use Rattle.std.proofs.Common.{◌≡◌, ◌-◌, ◌<◌, ◌≤◌, length, map, take}
+use Rattle.std.proofs.Common.{◌≡◌, ◌-◌, ◌≤◌, length, map, take}
 use Rattle.uefi_text_encodings.specs.Packed.{packed_items}
 use Rattle.uefi_text.proofs.unaligned_slice.read_blocks.Given as goal
 
@@ -7,7 +7,6 @@ abbrev pub invariant-loop-start : goal.invariant-loop-start
 invariant-loop-start g l = record {
   within : l.start ≤ l.len;
   len : length l.dest ≡ l.len;
-  block : 0 < length l.block;
   items : map g.T.Packed.number (take l.start l.dest) ≡ take l.start (packed_items g.T.Packed.SIZE l.len l.bytes);
 }
 

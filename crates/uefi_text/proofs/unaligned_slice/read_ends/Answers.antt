@@ -25,7 +25,7 @@ returns g c =
     subst (λ n. map number (take n front) ≡ take n items) from_start (simp unary_clauses at c.read_few.ensures.items) in
     let before : map number (take last front) ≡ take last items =
     sym (ap (map number) (take-take last count front beyond)) ∙ sym (take-map number last (take count front))
-        ∙ ap (take last) so_far ∙ take-take last count items beyond in
+    ∙ ap (take last) so_far ∙ take-take last count items beyond in
     let left : length (drop last items) ≡ len - last = length-drop last items ∙ ap (λ n. n - last) (length-packed_items size len c.args.bytes.now) in
     let after : take (last + count - last) (drop last items) ≡ drop last items = take_all _ (drop last items) (omega (arith, left, to_end)) in
     let as_many : length new ≡ len = c.read_few-2.ensures.len ∙ as_long in
@@ -33,4 +33,4 @@ returns g c =
     let read : map number (take (last + count) new) ≡ map number (take last front) ++ take (last + count - last) (drop last items) =
     c.read_few-2.ensures.items ∙ ap (λ xs. map number (take last front) ++ take (last + count - last) (drop last xs)) same_items in
     sym (ap (map number) all) ∙ read ∙ ap (λ xs. map number (take last front) ++ xs) after
-        ∙ ap (λ xs. xs ++ drop last items) before ∙ take-append-drop last items
+    ∙ ap (λ xs. xs ++ drop last items) before ∙ take-append-drop last items

@@ -47,5 +47,5 @@ returns-clause-items g c =
     let front : take (start + count) (put_mid start (start + count - start) dest new) ≡ take start dest ++ new =
     take-put_mid start (start + count - start) dest new (start + count) (omega (arith, as_many)) (omega (arith, inside)) in
     ap (map number) front ∙ map-append number (take start dest) new
-        ∙ ap (λ xs. map number (take start dest) ++ xs) written
-        ∙ ap (λ n. map number (take start dest) ++ take n (drop start items)) (sym same)
+    ∙ ap (λ xs. map number (take start dest) ++ xs) written
+    ∙ ap (λ n. map number (take start dest) ++ take n (drop start items)) (sym same)
