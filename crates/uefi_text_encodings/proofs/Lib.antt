@@ -11,3 +11,5 @@ pub mod Prefixes
 pub mod Accepting
 pub mod Writing
 pub mod Decoding
+pub mod Lanes
+pub mod TwoBytes

@@ -1,7 +1,8 @@
 -- Elements written one after the other.
 use Rattle.std.proofs.lemmas.Grind.{elements}
-use Rattle.std.proofs.Common.{◌≡◌, ℕ, ◌+◌, ◌<◌, List, [], ◌∷◌, ◌++◌, append_assoc, length, take, drop, set, ap, ◌∙◌, arith}
-use Rattle.std.proofs.lemmas.List.{length-append, length-drop, length-set, take_more_set}
+use Rattle.std.proofs.Common.{◌≡◌, ℕ, ◌+◌, ◌<◌, ◌≤◌, List, [], ◌∷◌, ◌++◌, append_assoc, length, take, drop, set, ap, sym, ◌∙◌, arith}
+use Rattle.std.proofs.lemmas.List.{length-append, length-drop, length-set, length-take, length-take-le, take-take, take_more_set}
+use Rattle.std.proofs.Math.Seq.{take-append-add}
 
 pub place_two : (xs : List ℕ) (n a b : ℕ) → n + 1 < length xs → take (n + 2) (set (set xs n a) (n + 1) b) ≡ take n xs ++ a ∷ b ∷ []
 place_two xs n a b inside =
@@ -29,3 +30,13 @@ place_next front old n a count inside = grind (arith, elements)
 pub place_left : (front old buffer : List ℕ) (n : ℕ) → n ≡ length front → n < length buffer → buffer ≡ front ++ drop n old → n < length old
 place_left front old buffer n count left so_far =
     omega (arith, count, left, length-drop n old, ap length so_far ∙ length-append front (drop n old))
+
+-- what is written of lanes that are stored at a place, where the first of them are meant
+pub place_part : (xs before lanes : List ℕ) (place n len : ℕ) → length before ≡ place → place + n ≤ length xs → len ≡ length (take len lanes)
+    → take (place + n) xs ≡ before ++ lanes → take (place + len) xs ≡ before ++ take len lanes
+place_part xs before lanes place n len at room part stored =
+    let count : place + n ≡ length before + length lanes =
+    sym (length-take-le (place + n) xs room) ∙ ap length stored ∙ length-append before lanes in
+    let short : len ≤ length lanes = omega (arith, part, length-take len lanes) in
+    sym (take-take (place + len) (place + n) xs (omega (arith, short, at, count))) ∙ ap (take (place + len)) stored
+    ∙ ap (λ k. take (k + len) (before ++ lanes)) (sym at) ∙ take-append-add before lanes len

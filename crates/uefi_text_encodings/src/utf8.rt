@@ -5,6 +5,7 @@ ghost use Rattle.std.specs.Prelude.{◌≡◌, ℕ, ◌+◌, ◌<◌, ◌≤◌,
 ghost use Rattle.std.specs.Str.{IsAscii, encode_utf8_all};
 
 use crate::scans::{has_unit_beyond_ascii, narrow, widen};
+use crate::two_bytes::eight_of_two_bytes;
 use std::alloc::{AllocError, Allocator};
 use std::simd::prelude::*;
 
@@ -143,56 +144,46 @@ fn store<const N: usize>(bytes: &mut [u8], place: usize, lanes: Simd<u8, N>)
     lanes.copy_to_slice(&mut bytes[place..]);
 }
 
-/// Writes the UTF-8 of eight units from a place on, and returns the place after them.
+/// Writes the UTF-8 of eight units from a place on, where 16 bytes have room, and returns the place
+/// after them.
 #[inline(always)]
 fn write_eight(bytes: &mut [u8], place: usize, units: &[u16]) -> usize
     requires eight { length units.now ≡ 8 }
+    requires lanes { place + 16 ≤ length bytes.old }
     requires room { place + length (encode_utf8_all units.now) ≤ length bytes.old }
     ensures end { result ≡ place + length (encode_utf8_all units.now) }
     ensures bytes { take result bytes.new ≡ take place bytes.old ++ encode_utf8_all units.now }
 {
+    let lanes = u16x8::from_slice(units);
+    if lanes.simd_ge(u16x8::splat(0x800)).to_bitmask() == 0 {
+        let (front, len) = eight_of_two_bytes(lanes);
+        store(bytes, place, front);
+        return place + len;
+    }
     if !have_three_bytes(units) {
         return write_each(bytes, place, units);
     }
-    let (front, back) = eight_of_three_bytes(u16x8::from_slice(units));
+    let (front, back) = eight_of_three_bytes(lanes);
     store(bytes, place, front);
     store(bytes, place + 16, back);
     place + 24
 }
 
 /// Writes the UTF-8 of units into the prefix of bytes, eight units at a time, and returns how many
-/// bytes they are. The quickest where most units have three bytes.
+/// bytes they are.
 #[inline(never)]
-fn write_wide(bytes: &mut [u8], units: &[u16]) -> usize
+fn write_by_eight(bytes: &mut [u8], units: &[u16]) -> usize
     requires { length (encode_utf8_all units.now) ≤ length bytes.old }
     ensures len { result ≡ length (encode_utf8_all units.now) }
     ensures bytes { take result bytes.new ≡ encode_utf8_all units.now }
 {
     let mut end = 0;
     let mut start = 0;
-    while 8 <= units.len() - start {
+    while 8 <= units.len() - start && 16 <= bytes.len() - end {
         end = write_eight(bytes, end, &units[start..start + 8]);
         start += 8;
     }
     write_each(bytes, end, &units[start..])
-}
-
-/// The same, unit by unit. The quickest where most units have one or two bytes.
-fn write_narrow(bytes: &mut [u8], units: &[u16]) -> usize
-    requires { length (encode_utf8_all units.now) ≤ length bytes.old }
-    ensures len { result ≡ length (encode_utf8_all units.now) }
-    ensures bytes { take result bytes.new ≡ encode_utf8_all units.now }
-{
-    write_each(bytes, 0, units)
-}
-
-/// Whether the first unit, the one in the middle and the last have three bytes: then most others are
-/// likely to.
-fn look_wide(units: &[u16]) -> bool {
-    !units.is_empty()
-        && 0x800 <= units[0]
-        && 0x800 <= units[units.len() / 2]
-        && 0x800 <= units[units.len() - 1]
 }
 
 /// Writes the UTF-8 of units into the prefix of bytes that have room for it, and returns how many
@@ -206,10 +197,7 @@ pub fn write_utf8(bytes: &mut [u8], units: &[u16]) -> usize
         narrow(&mut bytes[..units.len()], units);
         return units.len();
     }
-    if look_wide(units) {
-        return write_wide(bytes, units);
-    }
-    write_narrow(bytes, units)
+    write_by_eight(bytes, units)
 }
 
 /// The same of at most [`BLOCK`] characters of Latin-1.
@@ -242,11 +230,6 @@ pub fn add_utf8<A: Allocator>(bytes: &mut Vec<u8, A>, units: &[u16]) -> Result<(
         return Err(AllocError);
     };
     bytes.resize(end, 0)?;
-    // Where three units have eight bytes or more on average, at least two of three have three bytes.
-    let _len = if units.len() <= len / 8 * 3 {
-        write_wide(&mut bytes[start..], units)
-    } else {
-        write_narrow(&mut bytes[start..], units)
-    };
+    write_by_eight(&mut bytes[start..], units);
     Ok(())
 }

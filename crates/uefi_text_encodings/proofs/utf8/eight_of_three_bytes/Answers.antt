@@ -1,18 +1,12 @@
 -- Each unit gives its three bytes, and the shuffles put them side by side.
-use Rattle.std.proofs.Common.{◌≡◌, ℕ, ◌+◌, ◌/◌, ◌%◌, ◌^◌, ◌<◌, ◌≤◌, ◌∙◌, List, [], ◌∷◌, ◌++◌, length, map, replicate, get_or, bit_and, Fits, w8, w16, sym, subst, refl, arith}
+use Rattle.std.proofs.Common.{◌≡◌, ℕ, ◌+◌, ◌/◌, ◌%◌, ◌<◌, ◌≤◌, ◌∙◌, List, [], ◌∷◌, ◌++◌, length, map, replicate, get_or, bit_and, Fits, w8, w16, sym, subst, refl, arith}
 use Rattle.std.specs.Prelude.{encode_utf8, encode_utf8_all}
 use Rattle.std.specs.Simd.Lanes.{Each1, pick_l, zip2}
 use Rattle.std.proofs.lemmas.Nat.{and_mask}
 use Rattle.std.proofs.lemmas.Simd.{Each1-get_or}
+use Rattle.uefi_text_encodings.proofs.Lanes.{each_of_eight, eight, shifted, sum}
 use Rattle.uefi_text_encodings.proofs.Utf8Bytes.{encode_utf8-three}
 use Rattle.uefi_text_encodings.proofs.utf8.eight_of_three_bytes.Goals as goal
-
--- what is done to a lane
-abbrev shifted : ℕ → ℕ → ℕ
-shifted a b = a / 2 ^ b
-
-abbrev sum : ℕ → ℕ → ℕ
-sum a b = (a + b) % 2 ^ 16
 
 abbrev first : ℕ → ℕ
 first u = sum (shifted u 12) 224
@@ -35,20 +29,6 @@ third_is u = omega (arith, and_mask u 6)
 -- a unit that has three bytes
 abbrev IsThree : ℕ → Type 0
 IsThree u = (0x800 ≤ u) × (u < 65536)
-
--- eight lanes, one by one
-eight : (us : List ℕ) → length us ≡ 8
-    → us ≡ get_or us 0 0 ∷ get_or us 1 0 ∷ get_or us 2 0 ∷ get_or us 3 0 ∷ get_or us 4 0 ∷ get_or us 5 0 ∷ get_or us 6 0 ∷ get_or us 7 0 ∷ []
-eight [] e = absurd (omega (arith, e))
-eight (a ∷ []) e = absurd (omega (arith, e))
-eight (a ∷ b ∷ []) e = absurd (omega (arith, e))
-eight (a ∷ b ∷ c ∷ []) e = absurd (omega (arith, e))
-eight (a ∷ b ∷ c ∷ d ∷ []) e = absurd (omega (arith, e))
-eight (a ∷ b ∷ c ∷ d ∷ f ∷ []) e = absurd (omega (arith, e))
-eight (a ∷ b ∷ c ∷ d ∷ f ∷ g ∷ []) e = absurd (omega (arith, e))
-eight (a ∷ b ∷ c ∷ d ∷ f ∷ g ∷ h ∷ []) e = absurd (omega (arith, e))
-eight (a ∷ b ∷ c ∷ d ∷ f ∷ g ∷ h ∷ i ∷ []) e = refl
-eight (a ∷ b ∷ c ∷ d ∷ f ∷ g ∷ h ∷ i ∷ j ∷ us) e = absurd (omega (arith, e))
 
 -- the three bytes of each lane, and those of all, as the code shuffles them
 abbrev firsts : List ℕ → List ℕ
@@ -85,12 +65,6 @@ shuffled_is us long are =
     subst (λ vs. shuffled vs ≡ encode_utf8_all vs) (sym (eight us long))
     (shuffled_eight _ _ _ _ _ _ _ _ (are 0 (omega arith)) (are 1 (omega arith)) (are 2 (omega arith)) (are 3 (omega arith))
     (are 4 (omega arith)) (are 5 (omega arith)) (are 6 (omega arith)) (are 7 (omega arith)))
-
--- what holds of each of eight lanes
-each_of_eight : (P : ℕ → Type 0) (f : ℕ → ℕ) (us : List ℕ) → ((k : ℕ) → k < 8 → P (f (get_or us k 0)))
-    → Each1 P (f (get_or us 0 0) ∷ f (get_or us 1 0) ∷ f (get_or us 2 0) ∷ f (get_or us 3 0) ∷ f (get_or us 4 0) ∷ f (get_or us 5 0) ∷ f (get_or us 6 0) ∷ f (get_or us 7 0) ∷ [])
-each_of_eight P f us are =
-    (are 0 (omega arith), (are 1 (omega arith), (are 2 (omega arith), (are 3 (omega arith), (are 4 (omega arith), (are 5 (omega arith), (are 6 (omega arith), (are 7 (omega arith), tt))))))))
 
 pub overflow_cast-first : goal.overflow_cast-first
 overflow_cast-first c =

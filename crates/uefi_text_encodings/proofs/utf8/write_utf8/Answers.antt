@@ -8,11 +8,8 @@ use Rattle.uefi_text_encodings.proofs.Utf8Bytes.{length-encode_utf8_all-le}
 use Rattle.uefi_text_encodings.specs.Scans.{beyond_ascii_so_far}
 use Rattle.uefi_text_encodings.proofs.utf8.write_utf8.Goals as goal
 
-pub write_wide-requires : goal.write_wide-requires
-write_wide-requires c = omega (arith, length-encode_utf8_all-le c.args.units.now (λ k. omega (arith, c.type_inv.units k)), c.requires)
-
-pub write_narrow-requires : goal.write_narrow-requires
-write_narrow-requires c = omega (arith, length-encode_utf8_all-le c.args.units.now (λ k. omega (arith, c.type_inv.units k)), c.requires)
+pub write_by_eight-requires : goal.write_by_eight-requires
+write_by_eight-requires c = omega (arith, length-encode_utf8_all-le c.args.units.now (λ k. omega (arith, c.type_inv.units k)), c.requires)
 
 pub narrow-requires-clause-ascii : goal.narrow-requires-clause-ascii
 narrow-requires-clause-ascii c =

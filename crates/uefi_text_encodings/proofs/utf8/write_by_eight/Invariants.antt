@@ -1,6 +1,6 @@
 use Rattle.std.proofs.Common.{◌≡◌, ◌≤◌, ◌-◌, length, take}
 use Rattle.std.specs.Str.{encode_utf8_all}
-use Rattle.uefi_text_encodings.proofs.utf8.write_wide.Given as goal
+use Rattle.uefi_text_encodings.proofs.utf8.write_by_eight.Given as goal
 
 abbrev pub decreases-loop-start : goal.decreases-loop-start
 decreases-loop-start l = length l.units - l.start

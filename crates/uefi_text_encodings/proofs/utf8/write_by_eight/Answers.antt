@@ -4,7 +4,7 @@ use Rattle.std.specs.Prelude.{encode_utf8_all}
 use Rattle.std.proofs.lemmas.List.{length-append, take_all}
 use Rattle.uefi_text_encodings.proofs.Printed.{encode_utf8_all-block}
 use Rattle.uefi_text_encodings.proofs.Utf8Bytes.{length-encode_utf8_all-take}
-use Rattle.uefi_text_encodings.proofs.utf8.write_wide.Goals as goal
+use Rattle.uefi_text_encodings.proofs.utf8.write_by_eight.Goals as goal
 
 -- the bytes of some units more, and how many they are
 more : (units : List ℕ) (start n next : ℕ) → start + n ≡ next
