@@ -112,6 +112,10 @@ pub fn has_unit_beyond_ascii(units: &[u16]) -> bool
     if UNITS_PART <= units.len() && units.len() < BLOCK {
         return has_unit_beyond_ascii_by_part(units);
     }
+    // Most texts beyond ASCII show it at their start.
+    if UNITS_PART <= units.len() && has_beyond_ascii_part(u16x8::from_slice(units)) {
+        return true;
+    }
     units
         .iter()
         .fold(false, |found, unit| found | (0x80 <= *unit))

@@ -9,46 +9,38 @@ use crate::two_bytes::eight_of_two_bytes;
 use std::alloc::{AllocError, Allocator};
 use std::simd::prelude::*;
 
-/// How many units are counted, and how many characters are printed, at a time.
+/// How many characters are printed at a time.
 pub const BLOCK: usize = 64;
 
-/// How many units of a block are at least so great. The count is as wide as a unit, so that it
+/// How many units are counted at a time: as many as a count of 16 bits holds.
+const COUNTED: usize = 0x7fff;
+
+/// How many bytes some units have in UTF-8 beside one each. The count is as wide as a unit, so that it
 /// becomes vector code.
 #[inline(always)]
-fn count_in_block(units: &[u16], least: u16) -> u16
-    requires { length units.now ≤ 64 }
-    ensures { result ≡ count_by (λ unit. nat_le least unit) units.now }
+fn more_bytes(units: &[u16]) -> u16
+    requires { length units.now ≤ 0x7fff }
+    ensures { result ≡ count_by (λ unit. nat_le 0x80 unit) units.now + count_by (λ unit. nat_le 0x800 unit) units.now }
 {
     let mut count = 0;
     for unit in units {
-        count += u16::from(least <= *unit);
+        count += u16::from(0x80 <= *unit) + u16::from(0x800 <= *unit);
     }
     count
 }
 
-/// How many units are at least so great.
-fn count_from(units: &[u16], least: u16) -> usize
-    ensures { result ≡ count_by (λ unit. nat_le least unit) units.now }
+/// How many bytes units have in UTF-8: one each, a second from U+0080 on, and a third from U+0800 on.
+fn utf8_len(units: &[u16]) -> usize
+    ensures { result ≡ length (encode_utf8_all units.now) }
 {
-    let mut count = 0;
+    let mut len = units.len();
     let mut start = 0;
     while start < units.len() {
-        let end = start + BLOCK.min(units.len() - start);
-        count += usize::from(count_in_block(&units[start..end], least));
+        let end = start + COUNTED.min(units.len() - start);
+        len += usize::from(more_bytes(&units[start..end]));
         start = end;
     }
-    count
-}
-
-/// How many bytes units have in UTF-8, where that is a `usize`.
-fn utf8_len(units: &[u16]) -> Option<usize>
-    ensures { IfSome result (λ len. len ≡ length (encode_utf8_all units.now)) }
-{
-    // One byte each, a second from U+0080 on, and a third from U+0800 on.
-    units
-        .len()
-        .checked_add(count_from(units, 0x80))?
-        .checked_add(count_from(units, 0x800))
+    len
 }
 
 /// Adds units of ASCII.
@@ -100,18 +92,6 @@ fn write_each(bytes: &mut [u8], place: usize, units: &[u16]) -> usize
     end
 }
 
-/// Whether each unit has three bytes.
-#[inline(always)]
-fn have_three_bytes(units: &[u16]) -> bool
-    ensures { result ≡ true → (k : ℕ) → k < length units.now → 0x800 ≤ slice_index units.now k }
-{
-    let mut all = true;
-    for unit in units {
-        all &= 0x800 <= *unit;
-    }
-    all
-}
-
 /// The UTF-8 of eight units that have three bytes each, the first 16 bytes and the last 8.
 #[inline(always)]
 fn eight_of_three_bytes(units: u16x8) -> (u8x16, u8x8)
@@ -155,18 +135,19 @@ fn write_eight(bytes: &mut [u8], place: usize, units: &[u16]) -> usize
     ensures bytes { take result bytes.new ≡ take place bytes.old ++ encode_utf8_all units.now }
 {
     let lanes = u16x8::from_slice(units);
-    if lanes.simd_ge(u16x8::splat(0x800)).to_bitmask() == 0 {
-        let (front, len) = eight_of_two_bytes(lanes);
+    let three = lanes.simd_ge(u16x8::splat(0x800)).to_bitmask();
+    if three == 0xff {
+        let (front, back) = eight_of_three_bytes(lanes);
         store(bytes, place, front);
-        return place + len;
+        store(bytes, place + 16, back);
+        return place + 24;
     }
-    if !have_three_bytes(units) {
+    if three != 0 {
         return write_each(bytes, place, units);
     }
-    let (front, back) = eight_of_three_bytes(lanes);
+    let (front, len) = eight_of_two_bytes(lanes);
     store(bytes, place, front);
-    store(bytes, place + 16, back);
-    place + 24
+    place + len
 }
 
 /// Writes the UTF-8 of units into the prefix of bytes, eight units at a time, and returns how many
@@ -222,11 +203,8 @@ pub fn add_utf8<A: Allocator>(bytes: &mut Vec<u8, A>, units: &[u16]) -> Result<(
     if !has_unit_beyond_ascii(units) {
         return add_ascii(bytes, units);
     }
-    let Some(len) = utf8_len(units) else {
-        return Err(AllocError);
-    };
     let start = bytes.len();
-    let Some(end) = start.checked_add(len) else {
+    let Some(end) = start.checked_add(utf8_len(units)) else {
         return Err(AllocError);
     };
     bytes.resize(end, 0)?;
