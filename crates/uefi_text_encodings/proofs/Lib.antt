@@ -13,3 +13,4 @@ pub mod Writing
 pub mod Decoding
 pub mod Lanes
 pub mod TwoBytes
+pub mod ShortChars

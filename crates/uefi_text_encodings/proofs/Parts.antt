@@ -1,8 +1,9 @@
 -- Passes that look at the parts of a list, and then at its end: what the parts pass, all of it passes.
-use Rattle.std.proofs.Common.{◌≡◌, ℕ, ◌+◌, ◌-◌, ◌*◌, ◌≤◌, Bool, true, false, not, ◌&&◌, List, [], ◌∷◌, length, map, take, drop, All, ap, sym, refl, subst, ◌∙◌, arith, inl, inr, eqb, leb, nat_le, nat_lt, replicate, zero, suc, ◌<◌, Fits, w8}
+use Rattle.std.proofs.Common.{◌≡◌, ℕ, ◌+◌, ◌-◌, ◌*◌, ◌%◌, ◌≤◌, Bool, true, false, not, ◌&&◌, List, [], ◌∷◌, length, map, take, drop, All, ap, sym, refl, subst, ◌∙◌, arith, inl, inr, eqb, leb, ltb, nat_le, nat_lt, replicate, zero, suc, ◌<◌, Fits, w8}
+use Rattle.std.specs.Fmt.{is_char_start}
 use Rattle.std.specs.List.{fold}
 use Rattle.std.specs.Simd.Lanes.{Each1, mask_l, zip2}
-use Rattle.std.proofs.lemmas.Bool.{cases_Bool, eq-eqb, eqb-true, false_from_ne_true, false≢true}
+use Rattle.std.proofs.lemmas.Bool.{cases_Bool, cases_lt, eq-eqb, eqb-true, false_from_ne_true, false≢true}
 use Rattle.std.proofs.Math.Seq.{take-add}
 use Rattle.std.proofs.lemmas.Bool.Decides.{eqb_tells}
 use Rattle.std.proofs.lemmas.Grind.{common_steps}
@@ -64,6 +65,22 @@ pub tested_lanes : (f : ℕ → ℕ) (test p : ℕ → Bool) → ((b : ℕ) → 
     → map test (map f bs) ≡ map p bs
 tested_lanes f test p same [] fit = refl
 tested_lanes f test p same (b ∷ bs) fit = let first = same b fit.0.fits in let others = tested_lanes f test p same bs fit.1 in cc
+
+-- a byte with what is inside of characters as the greatest
+abbrev pub turned : ℕ → ℕ
+turned b = (b + 64) % 256
+
+pub starts : (b : ℕ) → b < 256 → ltb (turned b) 192 ≡ is_char_start b
+starts b small =
+    elim (cases_lt b 128) [
+      | inl ascii ↦
+          let same : turned b ≡ b + 64 = omega arith in rw same (grind (arith, common_steps))
+      | inr high ↦
+          elim (cases_lt b 192) [
+            | inl inside ↦ let same : turned b ≡ b + 64 = omega arith in rw same (grind (arith, common_steps))
+            | inr first ↦ let low : turned b < 192 = omega arith in grind (arith, common_steps)
+          ]
+    ]
 
 odd : (n : ℕ) → eqb (1 + 2 * n) 0 ≡ false
 odd n = false_from_ne_true (eqb (1 + 2 * n) 0) (λ e. absurd (omega (arith, eqb-true (1 + 2 * n) 0 e)))

@@ -1,6 +1,7 @@
 pub mod Units
 pub use Rattle.uefi_text_encodings.specs.Units
 pub mod Scans
+pub mod ShortChars
 pub mod Latin1
 pub mod FromSliceUntilNul
 pub mod FromSliceWithNul

@@ -6,24 +6,8 @@ use Rattle.std.proofs.lemmas.Bool.{cases_lt}
 use Rattle.std.proofs.lemmas.Grind.{common_steps}
 use Rattle.std.proofs.lemmas.List.{length-map}
 use Rattle.std.proofs.lemmas.Simd.{bitmask_splat, ones-mask_l}
-use Rattle.uefi_text_encodings.proofs.Parts.{tested_lanes, zip2_splat}
+use Rattle.uefi_text_encodings.proofs.Parts.{starts, tested_lanes, turned, zip2_splat}
 use Rattle.uefi_text_encodings.proofs.scans.count_chars_part.Goals as goal
-
--- a byte with what is inside of characters as the greatest
-abbrev turned : ℕ → ℕ
-turned b = (b + 64) % 256
-
-starts : (b : ℕ) → b < 256 → ltb (turned b) 192 ≡ is_char_start b
-starts b small =
-    elim (cases_lt b 128) [
-      | inl ascii ↦
-          let same : turned b ≡ b + 64 = omega arith in rw same (grind (arith, common_steps))
-      | inr high ↦
-          elim (cases_lt b 192) [
-            | inl inside ↦ let same : turned b ≡ b + 64 = omega arith in rw same (grind (arith, common_steps))
-            | inr first ↦ let low : turned b < 192 = omega arith in grind (arith, common_steps)
-          ]
-    ]
 
 pub returns : goal.returns
 returns c =
