@@ -14,3 +14,4 @@ pub mod Decoding
 pub mod Lanes
 pub mod TwoBytes
 pub mod ShortChars
+pub mod ShortTexts

@@ -82,6 +82,10 @@ starts b small =
           ]
     ]
 
+-- one less than a byte, where zero is followed by the greatest
+abbrev pub before : ℕ → ℕ
+before b = (b + 255) % 256
+
 odd : (n : ℕ) → eqb (1 + 2 * n) 0 ≡ false
 odd n = false_from_ne_true (eqb (1 + 2 * n) 0) (λ e. absurd (omega (arith, eqb-true (1 + 2 * n) 0 e)))
 

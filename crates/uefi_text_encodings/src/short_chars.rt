@@ -1,10 +1,11 @@
 //! Characters of one or two bytes of UTF-8, read sixteen bytes at a time: each lane holds the unit of
 //! the character that would begin there, and the lanes in which one begins are moved to the left.
-ghost use Rattle.std.specs.Prelude.{All, ℕ, ◌≡◌, ◌≤◌, ◌<◌, ◌+◌, ◌*◌, ◌/◌, ◌%◌, ◌++◌, List, Bool, length, map, take, drop};
+ghost use Rattle.std.specs.Prelude.{All, ℕ, ◌≢◌, ◌≡◌, ◌≤◌, ◌<◌, ◌+◌, ◌*◌, ◌/◌, ◌%◌, ◌++◌, List, Bool, length, map, take, drop, false, IfSome};
 ghost use Rattle.std.specs.Fmt.{is_char_start};
 ghost use Rattle.std.specs.Int.RustNames.{count_ones};
 ghost use Rattle.std.specs.List.{range_with_len};
 ghost use Rattle.std.specs.Simd.Lanes.{mask_l, zip2};
+ghost use Rattle.std.specs.Str.{chars, IsUtf8};
 ghost use Rattle.uefi_text_encodings.specs.ShortChars.{chosen, short_unit, short_units};
 
 use std::simd::prelude::*;
@@ -343,4 +344,44 @@ pub(crate) fn units_begun(bytes: u8x16, next: u8x16) -> ((u16x8, usize), (u16x8,
             (starts / 256).count_ones() as usize,
         ),
     )
+}
+
+/// Whether a byte is zero, or begins a character of three bytes or more.
+#[inline(always)]
+fn has_long(bytes: u8x16) -> bool
+    ensures { result ≡ false → All (λ byte. (0 < byte) × (byte < 0xe0)) bytes }
+{
+    // One less than zero is 0xff in a lane, so that one comparison finds both.
+    (bytes - u8x16::splat(1))
+        .simd_ge(u8x16::splat(0xdf))
+        .to_bitmask()
+        != 0
+}
+
+/// The characters that begin in the first 16 bytes of a text, where none of them is NUL or has three
+/// bytes or more: those that begin in the first eight bytes, those that begin in the others, and what
+/// follows them.
+#[inline(always)]
+pub(crate) fn first_short(text: &str) -> Option<((u16x8, usize), (u16x8, usize), &str)>
+    ensures { IfSome result (λ first. (first.0.1 ≤ 8) × (first.1.1 ≤ 8)
+        × (chars text.now ≡ (take first.0.1 first.0.0 ++ take first.1.1 first.1.0) ++ chars first.2.now)
+        × IsUtf8 first.2.now × All (λ unit. unit ≢ 0) (take first.0.1 first.0.0 ++ take first.1.1 first.1.0)) }
+{
+    let bytes = text.as_bytes();
+    if bytes.len() <= 16 {
+        return None;
+    }
+    let front = u8x16::from_slice(bytes);
+    if has_long(front) {
+        return None;
+    }
+    let (first, second) = units_begun(front, u8x16::from_slice(&bytes[1..]));
+    // A character of two bytes that begins with the last of them ends after it.
+    let end = if bytes[15] < 0xc0 { 16 } else { 17 };
+    // SAFETY: the bytes from there on are UTF-8, since a character ends before them.
+    Some((
+        first,
+        second,
+        unsafe { str::from_utf8_unchecked(&bytes[end..]) },
+    ))
 }

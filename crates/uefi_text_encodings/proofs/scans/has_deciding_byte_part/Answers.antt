@@ -6,12 +6,8 @@ use Rattle.std.proofs.lemmas.Grind.{common_steps}
 use Rattle.std.proofs.lemmas.List.{length-map}
 use Rattle.std.proofs.lemmas.Simd.{mask_l-mod, tops_compared}
 use Rattle.uefi_text_encodings.specs.Scans.{deciding_byte_so_far}
-use Rattle.uefi_text_encodings.proofs.Parts.{found_bits, tested_lanes, zip2_splat, zip2_splat_first}
+use Rattle.uefi_text_encodings.proofs.Parts.{before, found_bits, tested_lanes, zip2_splat, zip2_splat_first}
 use Rattle.uefi_text_encodings.proofs.scans.has_deciding_byte_part.Goals as goal
-
--- one less than a byte, where zero is followed by the greatest
-abbrev before : ℕ → ℕ
-before b = (b + 255) % 256
 
 decides : (b : ℕ) → b < 256 → leb 239 (before b) ≡ ((b == 0) || nat_le 0xf0 b)
 decides zero small = refl
