@@ -246,7 +246,6 @@ fn push_few<T: Packed, A: Allocator>(bytes: &[u8], len: usize, items: &mut Vec<T
 }
 
 /// Appends the first `len` items of bytes to a vector that has room for them, a block at a time.
-#[inline(never)]
 fn push_blocks<T: Packed, A: Allocator>(
     bytes: &[u8],
     len: usize,
@@ -407,7 +406,6 @@ impl<'a, T: Packed> UnalignedSlice<'a, T> {
 
     /// A vector of the items, or `AllocError` where its memory is refused: one request, for exactly
     /// as many places as there are items. Linear in the items.
-    #[inline(always)]
     pub fn to_vec<A: Allocator>(&self, alloc: A) -> Result<Vec<T, A>, AllocError>
         ensures { IfOk result (λ items. map T.number items.items ≡ items_of self.now) }
     {
