@@ -1,7 +1,7 @@
 -- Elements written one after the other.
 use Rattle.std.proofs.lemmas.Grind.{elements}
-use Rattle.std.proofs.Common.{◌≡◌, ℕ, ◌+◌, ◌<◌, ◌≤◌, List, [], ◌∷◌, ◌++◌, append_assoc, length, take, drop, set, ap, sym, ◌∙◌, arith}
-use Rattle.std.proofs.lemmas.List.{length-append, length-drop, length-set, length-take, length-take-le, take-take, take_more_set}
+use Rattle.std.proofs.Common.{◌≡◌, ℕ, ◌+◌, ◌-◌, ◌<◌, ◌≤◌, List, [], ◌∷◌, ◌++◌, append_assoc, length, take, drop, set, ap, sym, ◌∙◌, arith}
+use Rattle.std.proofs.lemmas.List.{length-append, length-drop, length-set, length-take, length-take-le, take-take, take_at, take_more_set}
 use Rattle.std.proofs.Math.Seq.{take-append-add}
 
 pub place_two : (xs : List ℕ) (n a b : ℕ) → n + 1 < length xs → take (n + 2) (set (set xs n a) (n + 1) b) ≡ take n xs ++ a ∷ b ∷ []
@@ -40,3 +40,17 @@ place_part xs before lanes place n len at room part stored =
     let short : len ≤ length lanes = omega (arith, part, length-take len lanes) in
     sym (take-take (place + len) (place + n) xs (omega (arith, short, at, count))) ∙ ap (take (place + len)) stored
     ∙ ap (λ k. take (k + len) (before ++ lanes)) (sym at) ∙ take-append-add before lanes len
+
+-- of eight lanes that are written from a place on, the first ones
+pub lanes_written : (old lanes new : List ℕ) (place n : ℕ) → place + 8 ≤ length old → length lanes ≡ 8 → n ≤ 8
+    → new ≡ take place old ++ (lanes ++ drop (place + 8) old)
+    → (take (place + n) new ≡ take place old ++ take n lanes) × (length new ≡ length old)
+lanes_written old lanes new place n room long few is =
+    let rest = drop (place + 8) old in
+    let front : length (take place old) ≡ place = length-take-le place old (omega (arith, room)) in
+    let joined : new ≡ (take place old ++ lanes) ++ rest = is ∙ sym (append_assoc (take place old) lanes rest) in
+    let both : length (take place old ++ lanes) ≡ place + 8 = length-append (take place old) lanes ∙ omega (arith, front, long) in
+    let part : take (place + 8) new ≡ take place old ++ lanes = ap (take (place + 8)) joined ∙ take_at (take place old ++ lanes) rest (place + 8) both in
+    let left : length rest ≡ length old - (place + 8) = length-drop (place + 8) old in
+    let as_long : length new ≡ length old = ap length joined ∙ length-append (take place old ++ lanes) rest ∙ omega (arith, both, left, room) in
+    (place_part new (take place old) lanes place 8 n front (omega (arith, as_long, room)) (sym (length-take-le n lanes (omega (arith, long, few)))) part, as_long)

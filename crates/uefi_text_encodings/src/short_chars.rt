@@ -117,7 +117,9 @@ fn has_long(bytes: u8x16) -> bool
 pub(crate) fn first_short(text: &str) -> Option<((u16x8, usize), (u16x8, usize), &str)>
     ensures { IfSome result (λ first. (first.0.1 ≤ 8) × (first.1.1 ≤ 8)
         × (chars text.now ≡ (take first.0.1 first.0.0 ++ take first.1.1 first.1.0) ++ chars first.2.now)
-        × IsUtf8 first.2.now × All (λ unit. unit ≢ 0) (take first.0.1 first.0.0 ++ take first.1.1 first.1.0)) }
+        × IsUtf8 first.2.now × All (λ unit. unit ≢ 0) (take first.0.1 first.0.0 ++ take first.1.1 first.1.0)
+        × (length first.2.now < length text.now)
+        × (length first.0.0 ≡ 8) × (length first.1.0 ≡ 8)) }
 {
     let bytes = text.as_bytes();
     if bytes.len() <= 16 {
@@ -136,4 +138,40 @@ pub(crate) fn first_short(text: &str) -> Option<((u16x8, usize), (u16x8, usize),
         second,
         unsafe { str::from_utf8_unchecked(&bytes[end..]) },
     ))
+}
+
+/// How many units are read to a block of their own, so that those do not last which a vector writes
+/// beyond the last character.
+pub(crate) const BLOCK: usize = 80;
+
+/// Writes the characters that a text begins with to a block, while each has one or two bytes and none is
+/// NUL. Returns how many were written, and what follows them.
+#[inline(always)]
+pub(crate) fn read_block<'a>(text: &'a str, block: &mut [u16; 80]) -> (usize, &'a str)
+    ensures within { result.0 ≤ length block.new }
+    ensures len { length block.new ≡ length block.old }
+    ensures same { chars text.now ≡ take result.0 block.new ++ chars result.1.now }
+    ensures no_nul { All (λ unit. unit ≢ 0) (take result.0 block.new) }
+{
+    let mut rest = text;
+    let mut len = 0;
+    while 16 <= BLOCK - len {
+        let Some((first, second, others)) = first_short(rest) else {
+            break;
+        };
+        write_lanes(block, len, first.0);
+        write_lanes(block, len + first.1, second.0);
+        len += first.1 + second.1;
+        rest = others;
+    }
+    (len, rest)
+}
+
+/// Writes eight units from a place on.
+#[inline(always)]
+fn write_lanes(units: &mut [u16], place: usize, lanes: u16x8)
+    requires { place + 8 ≤ length units.old }
+    ensures { units.new ≡ take place units.old ++ (lanes ++ drop (place + 8) units.old) }
+{
+    lanes.copy_to_slice(&mut units[place..]);
 }

@@ -1,5 +1,5 @@
 -- The units that begin in the first 16 bytes, and the text after them.
-use Rattle.std.proofs.Common.{◌≢◌, All, ◌≡◌, ◌-◌, ◌++◌, ◌∙◌, List, ℕ, length, take, drop, ap, sym, subst, arith, inl, inr, refl}
+use Rattle.std.proofs.Common.{◌≢◌, All, ◌≡◌, ◌≤◌, ◌<◌, ◌-◌, ◌++◌, ◌∙◌, List, ℕ, length, take, drop, ap, sym, subst, arith, inl, inr, refl}
 use Rattle.std.specs.Str.{chars, IsUtf8}
 use Rattle.std.proofs.lemmas.List.{length-drop, take_all}
 use Rattle.uefi_text_encodings.proofs.ShortTexts.{first_sixteen}
@@ -33,10 +33,20 @@ returns c =
       | else-bytes-lt192 w ↦ inr (w.end-is, w.if-bytes-lt192.false)
     ]) in
     let units = c.units_begun.ensures.units in
-    let rest = c.from_utf8_unchecked.ensures ∙ rest_is bs end in (
+    let rest = c.from_utf8_unchecked.ensures ∙ rest_is bs end in
+    let at_end : 16 ≤ end = elim c.if-bytes-lt192.branch [
+      | then-bytes-lt192 w ↦ omega (arith, w.end-is)
+      | else-bytes-lt192 w ↦ omega (arith, w.end-is)
+    ] in
+    let long : 16 < length bs = c.if-bytes-le16.false in
+    let shorter : length c.from_utf8_unchecked.result.now ≡ length bs - end = ap length rest ∙ length-drop end bs in
+    let same_text : length bs ≡ length c.args.text.now = ap length c.as_bytes-bytes.ensures.value in (
       c.units_begun.ensures.few.0,
       c.units_begun.ensures.few.1,
       ap chars (sym c.as_bytes-bytes.ensures.value) ∙ front.0 ∙ (λ i. sym units i ++ chars (sym rest i)),
       subst IsUtf8 (sym rest) front.1,
       subst (All (λ c. c ≢ 0)) (sym units) front.2,
+      omega (arith, at_end, shorter, long, same_text),
+      omega arith,
+      omega arith,
     )
