@@ -5,7 +5,7 @@ use Rattle.std.specs.Prelude.{encode_utf8}
 use Rattle.std.specs.Simd.Lanes.{Each1, mask_l}
 use Rattle.std.specs.Str.{chars, encode_utf8_all, IsUtf8}
 use Rattle.std.proofs.lemmas.Bool.{cases_Bool, cases_lt, false≢true, le-leb}
-use Rattle.std.proofs.lemmas.List.Elements.{All-cons, All-nil}
+use Rattle.std.proofs.lemmas.List.Elements.{All-append, All-cons, All-nil}
 use Rattle.std.proofs.Math.Utf8.{scalar, scalars, scalar_cases}
 use Rattle.std.proofs.lemmas.Grind.{common_steps, elements}
 use Rattle.std.proofs.lemmas.Str.{chars_past_char, encode_ascii, IsUtf8-past_char}
@@ -140,7 +140,16 @@ read_more all new more len n count inside to_come =
     let first : take (len + n) all ≡ front ++ new = ap (take (len + n)) (sym split) ∙ take_at (front ++ new) more (len + n) (sym sum) in
     (first, ap (λ (us : List ℕ). us ++ more) first ∙ split, omega (arith, sum, ap length split, length-append (front ++ new) more))
 
--- eight elements more, after those that are written before what stays
-pub place_eight : (front old eight units new : List ℕ) (n : ℕ) → n ≡ length front → length eight ≡ 8 → n + 8 ≤ length old
-    → units ≡ front ++ drop n old → new ≡ take n units ++ (eight ++ drop (n + 8) units) → new ≡ (front ++ eight) ++ drop (n + 8) old
-place_eight front old eight units new n count long room so_far is = grind (arith, elements)
+-- more elements, after those that are written before what stays
+pub place_more : (front old more units new : List ℕ) (n k : ℕ) → n ≡ length front → length more ≡ k → n + k ≤ length old
+    → units ≡ front ++ drop n old → new ≡ take n units ++ (more ++ drop (n + k) units) → new ≡ (front ++ more) ++ drop (n + k) old
+place_more front old more units new n k count long room so_far is = grind (arith, elements)
+
+-- what both have so far, and the same after it
+pub same_more : (units new : List ℕ) (len n : ℕ) (rest text : List ℕ) → take (len + n) units ≡ take len units ++ new → All (λ unit. unit ≢ 0) new
+    → All (λ unit. unit ≢ 0) (take len units) → text ≡ take len units ++ (new ++ rest)
+    → (text ≡ take (len + n) units ++ rest) × All (λ unit. unit ≢ 0) (take (len + n) units)
+same_more units new len n rest text more others so_far is = (
+  is ∙ sym (append_assoc (take len units) new rest) ∙ ap (λ (front : List ℕ). front ++ rest) (sym more),
+  subst (All (λ unit. unit ≢ 0)) (sym more) (All-append (λ unit. unit ≢ 0) (take len units) new so_far others),
+)

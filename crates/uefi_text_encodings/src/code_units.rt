@@ -12,6 +12,7 @@ ghost use Rattle.uefi_text_encodings.specs.FromStrWithBuf.{from_str_with_buf_ref
 
 use crate::errors::{FromStrError, FromStrWithBufError};
 use crate::scans::{count_undecided_chars, has_deciding_byte, is_ascii_text, widen};
+use crate::short_chars::{BLOCK, read_block};
 use std::alloc::{AllocError, Allocator};
 use std::simd::prelude::*;
 
@@ -110,15 +111,15 @@ fn first_eight(text: &str) -> Option<[u16; 8]>
     Some(units.to_array())
 }
 
-/// Whether most characters of the first 64 bytes have three bytes: then most others are likely to.
+/// How many of the first 64 bytes begin characters of three bytes; `None` of a shorter text. What follows
+/// is likely to be alike.
 #[inline(always)]
-fn look_wide(bytes: &[u8]) -> bool {
-    64 <= bytes.len()
-        && 18
-            <= u8x64::from_slice(bytes)
-                .simd_ge(u8x64::splat(0xe0))
-                .to_bitmask()
-                .count_ones()
+fn count_long(bytes: &[u8]) -> Option<u32> {
+    if bytes.len() < 64 {
+        return None;
+    }
+    let long = u8x64::from_slice(bytes).simd_ge(u8x64::splat(0xe0));
+    Some(long.to_bitmask().count_ones())
 }
 
 /// What follows the first eight characters of a text, where each has three bytes.
@@ -154,8 +155,8 @@ fn write_eight(units: &mut [u16], place: usize, eight: [u16; 8])
 }
 
 /// Writes characters of a text of UCS-2 into the prefix of units, up to near the end of the text or of
-/// the units. Returns how many were written, and what follows them. Writes none where most look narrower
-/// than three bytes: then it is quicker to decode all of them one by one.
+/// the units. Returns how many were written, and what follows them. Writes none where some look as if
+/// they had three bytes, and others fewer: then it is quicker to decode all of them one by one.
 #[inline(always)]
 fn write_front<'a>(text: &'a str, units: &mut [u16]) -> (usize, &'a str)
     requires undecided { find is_deciding_char (chars text.now) ≡ None }
@@ -165,10 +166,11 @@ fn write_front<'a>(text: &'a str, units: &mut [u16]) -> (usize, &'a str)
     ensures rest { take result.0 (chars text.now) ++ chars result.1.now ≡ chars text.now }
     ensures units { units.new ≡ take result.0 (chars text.now) ++ drop result.0 units.old }
 {
-    if look_wide(text.as_bytes()) {
-        return write_wide(text, units);
+    match count_long(text.as_bytes()) {
+        Some(18..) => write_wide(text, units),
+        Some(0) => write_short(text, units),
+        _ => (0, text),
     }
-    (0, text)
 }
 
 /// The same, eight characters at a time where each has three bytes.
@@ -192,6 +194,39 @@ fn write_wide<'a>(text: &'a str, units: &mut [u16]) -> (usize, &'a str)
             units[len] = unit;
             rest = others;
             len += 1;
+        } else {
+            break;
+        }
+    }
+    (len, rest)
+}
+
+/// The same, a block of characters of one or two bytes at a time.
+#[inline(never)]
+fn write_short<'a>(text: &'a str, units: &mut [u16]) -> (usize, &'a str)
+    requires undecided { find is_deciding_char (chars text.now) ≡ None }
+    requires some { 0 < length units.old }
+    ensures place { result.0 < length units.new }
+    ensures count { result.0 ≤ length (chars text.now) }
+    ensures rest { take result.0 (chars text.now) ++ chars result.1.now ≡ chars text.now }
+    ensures units { units.new ≡ take result.0 (chars text.now) ++ drop result.0 units.old }
+{
+    let mut block = [0; BLOCK];
+    let mut rest = text;
+    let mut len = 0;
+    while 1 < units.len() - len {
+        let (count, others) = read_block(rest, &mut block);
+        if count == 0 {
+            let Some((unit, others)) = first_unit(rest) else {
+                break;
+            };
+            units[len] = unit;
+            rest = others;
+            len += 1;
+        } else if count < units.len() - len {
+            units[len..len + count].copy_from_slice(&block[..count]);
+            rest = others;
+            len += count;
         } else {
             break;
         }
@@ -417,10 +452,11 @@ pub fn same_front<'a>(units: &[u16], text: &'a str) -> (usize, &'a str)
     ensures same { chars text.now ≡ take result.0 units.now ++ chars result.1.now }
     ensures no_nul { All (λ unit. unit ≢ 0) (take result.0 units.now) }
 {
-    if look_wide(text.as_bytes()) {
-        return same_wide(units, text);
+    match count_long(text.as_bytes()) {
+        Some(18..) => same_wide(units, text),
+        Some(0) => same_short(units, text),
+        _ => (0, text),
     }
-    (0, text)
 }
 
 /// The same, eight characters at a time where each has three bytes.
@@ -442,6 +478,34 @@ fn same_wide<'a>(units: &[u16], text: &'a str) -> (usize, &'a str)
         } else if let Some(others) = after_same(units[end], rest) {
             rest = others;
             end += 1;
+        } else {
+            break;
+        }
+    }
+    (end, rest)
+}
+
+/// The same, a block of characters of one or two bytes at a time.
+#[inline(never)]
+fn same_short<'a>(units: &[u16], text: &'a str) -> (usize, &'a str)
+    ensures within { result.0 ≤ length units.now }
+    ensures same { chars text.now ≡ take result.0 units.now ++ chars result.1.now }
+    ensures no_nul { All (λ unit. unit ≢ 0) (take result.0 units.now) }
+{
+    let mut block = [0; BLOCK];
+    let mut rest = text;
+    let mut end = 0;
+    while end < units.len() {
+        let (count, others) = read_block(rest, &mut block);
+        if count == 0 {
+            let Some(others) = after_same(units[end], rest) else {
+                break;
+            };
+            rest = others;
+            end += 1;
+        } else if count <= units.len() - end && units[end..end + count] == block[..count] {
+            rest = others;
+            end += count;
         } else {
             break;
         }

@@ -151,6 +151,7 @@ pub(crate) fn read_block<'a>(text: &'a str, block: &mut [u16; 80]) -> (usize, &'
     ensures within { result.0 ≤ length block.new }
     ensures len { length block.new ≡ length block.old }
     ensures same { chars text.now ≡ take result.0 block.new ++ chars result.1.now }
+    ensures utf8 { IsUtf8 result.1.now }
     ensures no_nul { All (λ unit. unit ≢ 0) (take result.0 block.new) }
 {
     let mut rest = text;

@@ -3,17 +3,9 @@ use Rattle.std.proofs.Common.{◌≡◌, ◌≢◌, ◌+◌, ◌-◌, ◌++◌, 
 use Rattle.std.specs.Str.{chars}
 use Rattle.std.proofs.Math.Seq.{take-add}
 use Rattle.std.proofs.lemmas.List.{take_more}
-use Rattle.std.proofs.lemmas.List.Elements.{All-append, All-cons, All-nil}
+use Rattle.std.proofs.lemmas.List.Elements.{All-cons, All-nil}
+use Rattle.uefi_text_encodings.proofs.Decoding.{same_more}
 use Rattle.uefi_text_encodings.proofs.code_units.same_wide.Goals as goal
-
--- what both have so far, and the same after it
-longer : (units new : List ℕ) (len n : ℕ) (rest text : List ℕ) → take (len + n) units ≡ take len units ++ new → All (λ unit. unit ≢ 0) new
-    → All (λ unit. unit ≢ 0) (take len units) → text ≡ take len units ++ (new ++ rest)
-    → (text ≡ take (len + n) units ++ rest) × All (λ unit. unit ≢ 0) (take (len + n) units)
-longer units new len n rest text more others so_far is = (
-  is ∙ sym (append_assoc (take len units) new rest) ∙ ap (λ (front : List ℕ). front ++ rest) (sym more),
-  subst (All (λ unit. unit ≢ 0)) (sym more) (All-append (λ unit. unit ≢ 0) (take len units) new so_far others),
-)
 
 pub loop-end-preserved-in-Some : goal.loop-end-preserved-in-Some
 loop-end-preserved-in-Some c =
@@ -27,7 +19,7 @@ loop-end-preserved-in-Some c =
     let more : take (len + 8) units ≡ take len units ++ eight = take-add len 8 units ∙ ap (λ (us : List ℕ). take len units ++ us) same in
     let is : chars c.args.text.now ≡ take len units ++ (eight ++ chars rest) =
     so_far.same ∙ ap (λ (cs : List ℕ). take len units ++ cs) (c.in-Some.ensures.2 ∙ ap (λ bs. eight ++ chars bs) (sym c.after_eight-rest.ensures)) in
-    let all = longer units eight len 8 (chars rest) (chars c.args.text.now) more c.in-Some.ensures.4 so_far.no_nul is in
+    let all = same_more units eight len 8 (chars rest) (chars c.args.text.now) more c.in-Some.ensures.4 so_far.no_nul is in
     record { within = omega arith; utf8 = c.after_eight-rest.utf8; same = all.0; no_nul = all.1 }
 
 pub loop-end-preserved : goal.loop-end-preserved
@@ -42,5 +34,5 @@ loop-end-preserved c =
     let is : chars c.args.text.now ≡ take len units ++ (unit ∷ [] ++ chars rest) =
     so_far.same ∙ ap (λ (cs : List ℕ). take len units ++ cs) first.0 in
     let alone = All-cons (λ unit. unit ≢ 0) unit [] first.2 (All-nil (λ unit. unit ≢ 0)) in
-    let all = longer units (unit ∷ []) len 1 (chars rest) (chars c.args.text.now) more alone so_far.no_nul is in
+    let all = same_more units (unit ∷ []) len 1 (chars rest) (chars c.args.text.now) more alone so_far.no_nul is in
     record { within = omega arith; utf8 = first.1; same = all.0; no_nul = all.1 }

@@ -2,7 +2,7 @@
 use Rattle.std.proofs.Common.{◌≡◌, ◌≤◌, ◌+◌, ◌++◌, ◌∷◌, [], ◌∙◌, List, ℕ, ap, arith, drop, find, length, set, sym, refl, take}
 use Rattle.std.specs.Str.{chars}
 use Rattle.std.proofs.lemmas.List.{length-append, length-drop, length-take-le, length-set}
-use Rattle.uefi_text_encodings.proofs.Decoding.{find-none_back, place_eight, read_more}
+use Rattle.uefi_text_encodings.proofs.Decoding.{find-none_back, place_more, read_more}
 use Rattle.uefi_text_encodings.proofs.Writing.{place_left, place_next}
 use Rattle.uefi_text_encodings.specs.FromStr.{is_deciding_char}
 use Rattle.uefi_text_encodings.proofs.code_units.write_wide.Goals as goal
@@ -29,7 +29,7 @@ loop-units-preserved-in-Some c =
       utf8 = c.after_eight-rest.utf8;
       count = more.2;
       to_come = more.1;
-      written = place_eight (take len all) c.args.units.now c.in-Some.eight _ _ len (sym front) eight.0 room so_far.written c.write_eight.ensures
+      written = place_more (take len all) c.args.units.now c.in-Some.eight _ _ len 8 (sym front) eight.0 room so_far.written c.write_eight.ensures
           ∙ ap (λ (us : List ℕ). us ++ drop (len + 8) c.args.units.now) (sym more.0);
     }
 
