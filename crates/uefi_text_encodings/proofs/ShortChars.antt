@@ -1,5 +1,5 @@
 -- Lanes that are moved to the left by a table of places, and the units that they hold.
-use Rattle.std.proofs.Common.{◌≡◌, ℕ, zero, suc, ◌+◌, ◌*◌, ◌/◌, ◌%◌, ◌<◌, ◌≤◌, Bool, true, false, ◌&&◌, cond, eqb, leb, ltb, All, Fits, w8, List, [], ◌∷◌, ◌++◌, length, map, get_or, take, drop, replicate, refl, sym, subst, ap, ◌∙◌, ◌^◌, arith}
+use Rattle.std.proofs.Common.{◌≡◌, ℕ, zero, suc, ◌+◌, ◌*◌, ◌/◌, ◌%◌, ◌<◌, ◌≤◌, Bool, true, false, ◌&&◌, eqb, leb, ltb, All, Fits, w8, List, [], ◌∷◌, ◌++◌, length, map, get_or, take, drop, replicate, refl, sym, subst, ap, ◌∙◌, ◌^◌, arith}
 use Rattle.std.specs.Int.RustNames.{count_ones}
 use Rattle.std.specs.List.{range_with_len}
 use Rattle.std.specs.Simd.Lanes.{Each1, all_below, mask_l, pick_l, zip2}

@@ -1,5 +1,5 @@
 -- Texts that begin with characters of one or two bytes, read several bytes at once.
-use Rattle.std.proofs.Common.{◌⊎◌, All, Bool, true, false, cond, leb, nat_lt, ◌≢◌, ◌≡◌, ℕ, zero, suc, ◌+◌, ◌*◌, ◌/◌, ◌%◌, ◌<◌, ◌≤◌, ◌∙◌, List, [], ◌∷◌, ◌++◌, length, map, get_or, take, drop, ap, sym, subst, refl, inl, inr, arith}
+use Rattle.std.proofs.Common.{◌⊎◌, All, true, false, cond, leb, nat_lt, ◌≢◌, ◌≡◌, ℕ, zero, suc, ◌+◌, ◌*◌, ◌/◌, ◌%◌, ◌<◌, ◌≤◌, ◌∙◌, List, [], ◌∷◌, ◌++◌, length, map, get_or, take, drop, ap, sym, subst, refl, inl, inr, arith}
 use Rattle.std.specs.Fmt.{is_char_start}
 use Rattle.std.specs.Prelude.{encode_utf8}
 use Rattle.std.specs.Simd.Lanes.{Each1, zip2}

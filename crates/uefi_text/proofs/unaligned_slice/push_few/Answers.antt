@@ -1,5 +1,5 @@
 -- Fewer than twice the last piece are left before it, so none after it.
-use Rattle.std.proofs.Common.{◌≡◌, ◌∙◌, ◌<◌, ◌+◌, ◌*◌, arith}
+use Rattle.std.proofs.Common.{◌∙◌, ◌<◌, ◌+◌, arith}
 use Rattle.std.proofs.lemmas.List.{take_all}
 use Rattle.std.specs.Vec.{vec_len}
 use Rattle.uefi_text_encodings.specs.Packed.{packed_items}

@@ -1,9 +1,7 @@
 -- What a vector comparison gives, lane by lane.
-use Rattle.std.proofs.Common.{◌≡◌, ◌+◌, ◌%◌, ◌<◌, ◌∙◌, ℕ, arith, inl, inr, length, ltb, map, replicate, w8}
+use Rattle.std.proofs.Common.{◌≡◌, ◌+◌, ◌%◌, ◌∙◌, ℕ, arith, length, ltb, map, replicate, w8}
 use Rattle.std.specs.Fmt.{is_char_start}
 use Rattle.std.specs.Simd.Lanes.{zip2}
-use Rattle.std.proofs.lemmas.Bool.{cases_lt}
-use Rattle.std.proofs.lemmas.Grind.{common_steps}
 use Rattle.std.proofs.lemmas.List.{length-map}
 use Rattle.std.proofs.lemmas.Simd.{bitmask_splat, ones-mask_l}
 use Rattle.uefi_text_encodings.proofs.Parts.{starts, tested_lanes, turned, zip2_splat}

@@ -1,5 +1,5 @@
 -- The units that begin in the first 16 bytes, and the text after them.
-use Rattle.std.proofs.Common.{◌≢◌, All, ◌≡◌, ◌≤◌, ◌<◌, ◌-◌, ◌++◌, ◌∙◌, List, ℕ, length, take, drop, ap, sym, subst, arith, inl, inr, refl}
+use Rattle.std.proofs.Common.{◌≢◌, All, ◌≡◌, ◌≤◌, ◌<◌, ◌-◌, ◌++◌, ◌∙◌, List, ℕ, length, take, drop, ap, sym, subst, arith, inl, inr}
 use Rattle.std.specs.Str.{chars, IsUtf8}
 use Rattle.std.proofs.lemmas.List.{length-drop, take_all}
 use Rattle.uefi_text_encodings.proofs.ShortTexts.{first_sixteen}

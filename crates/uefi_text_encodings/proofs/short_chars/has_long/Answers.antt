@@ -1,5 +1,5 @@
 -- What a vector comparison gives, lane by lane.
-use Rattle.std.proofs.Common.{All, Fits, false, not, eqb, ◌≡◌, ◌+◌, ◌-◌, ◌%◌, ◌<◌, ◌^◌, ◌∙◌, List, [], ◌∷◌, ℕ, zero, suc, ap, arith, leb, length, map, replicate, sym, w8}
+use Rattle.std.proofs.Common.{Fits, false, not, eqb, ◌≡◌, ◌+◌, ◌-◌, ◌%◌, ◌<◌, ◌^◌, ◌∙◌, List, [], ◌∷◌, ℕ, zero, suc, ap, arith, leb, length, map, replicate, sym, w8}
 use Rattle.std.specs.Simd.Lanes.{Each1, mask_l, zip2}
 use Rattle.std.proofs.lemmas.Bool.{eqb-true, false≢true, leb-false, not-false}
 use Rattle.std.proofs.lemmas.List.{length-map}

@@ -1,11 +1,10 @@
 -- The places of both halves, where those of the second are counted from 8 on.
-use Rattle.std.proofs.Common.{◌≡◌, ℕ, ◌+◌, ◌/◌, ◌%◌, ◌<◌, ◌≤◌, ◌++◌, ◌∙◌, All, Bool, List, arith, ap, drop, length, map, replicate, subst, sym, take}
+use Rattle.std.proofs.Common.{◌≡◌, ℕ, ◌/◌, ◌%◌, ◌<◌, ◌≤◌, ◌++◌, ◌∙◌, All, List, arith, ap, drop, length, map, subst, sym, take}
 use Rattle.std.specs.Int.RustNames.{count_ones}
 use Rattle.std.specs.List.{range_with_len}
-use Rattle.std.specs.Simd.Lanes.{Each1, mask_l, pick_l, zip2}
+use Rattle.std.specs.Simd.Lanes.{Each1}
 use Rattle.std.proofs.lemmas.List.{drop_at, length-drop, length-take-le, take-append-le, take-map}
 use Rattle.std.proofs.lemmas.Simd.{Each1-from_get_or, Each1-get_or}
-use Rattle.uefi_text_encodings.specs.ShortChars.{chosen}
 use Rattle.uefi_text_encodings.proofs.ShortChars.{chosen-map, few_bits, further, halves, two_rows, two_rows-below}
 use Rattle.uefi_text_encodings.proofs.short_chars.places.Goals as goal
 

@@ -1,7 +1,6 @@
 -- The characters of sixteen bytes more are in the block.
 use Rattle.std.proofs.Common.{◌≡◌, ◌≢◌, ◌+◌, ◌≤◌, ◌++◌, ◌∙◌, All, List, ℕ, ap, append_assoc, arith, length, subst, sym, take}
 use Rattle.std.specs.Str.{chars}
-use Rattle.std.proofs.lemmas.Grind.{common_steps}
 use Rattle.std.proofs.lemmas.List.Elements.{All-append}
 use Rattle.uefi_text_encodings.proofs.Writing.{lanes_written}
 use Rattle.uefi_text_encodings.proofs.short_chars.read_block.Goals as goal
@@ -27,7 +26,7 @@ loop-len-preserved c =
     let more = take n first.0 ++ take m second.0 in
     let written : take (len + (n + m)) new ≡ take len block ++ more =
     ap (λ k. take k new) (sym count) ∙ two.0 ∙ ap (λ (us : List ℕ). us ++ take m second.0) one.0
-        ∙ append_assoc (take len block) (take n first.0) (take m second.0) in
+    ∙ append_assoc (take len block) (take n first.0) (take m second.0) in
     record {
       within = omega (arith, room, one.1, two.1, begun.0, begun.1);
       len = two.1 ∙ one.1 ∙ so_far.len;

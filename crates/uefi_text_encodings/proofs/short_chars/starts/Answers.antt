@@ -1,5 +1,5 @@
 -- What a vector comparison gives, lane by lane.
-use Rattle.std.proofs.Common.{◌≡◌, ◌+◌, ◌%◌, ◌<◌, ◌∙◌, ℕ, ap, arith, length, ltb, map, replicate, w8}
+use Rattle.std.proofs.Common.{◌≡◌, ◌+◌, ◌%◌, ◌∙◌, ℕ, ap, arith, length, ltb, map, replicate, w8}
 use Rattle.std.specs.Fmt.{is_char_start}
 use Rattle.std.specs.Simd.Lanes.{mask_l, zip2}
 use Rattle.std.proofs.lemmas.List.{length-map}

@@ -1,5 +1,5 @@
 -- What each lane holds.
-use Rattle.std.proofs.Common.{◌≡◌, ℕ, ◌+◌, ◌*◌, ◌/◌, ◌%◌, ◌^◌, ◌<◌, ◌≤◌, ◌∙◌, List, [], ◌∷◌, suc, zero, cond, length, map, replicate, bit_and, ltb, Fits, w8, refl, inl, inr, arith}
+use Rattle.std.proofs.Common.{◌≡◌, ℕ, ◌+◌, ◌*◌, ◌/◌, ◌%◌, ◌^◌, ◌<◌, List, [], ◌∷◌, suc, zero, cond, length, map, replicate, bit_and, ltb, Fits, w8, refl, inl, inr, arith}
 use Rattle.std.specs.Simd.Lanes.{Each1, sel_l, top, zip2}
 use Rattle.std.proofs.lemmas.Bool.{cases_lt, le-ltb, lt-ltb}
 use Rattle.std.proofs.lemmas.Nat.{and_mask}

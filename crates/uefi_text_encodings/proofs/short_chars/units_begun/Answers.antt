@@ -1,10 +1,9 @@
 -- The lanes in which a character begins are moved to the left of each half.
-use Rattle.std.proofs.Common.{◌≡◌, ℕ, ◌+◌, ◌/◌, ◌%◌, ◌^◌, ◌<◌, ◌≤◌, ◌++◌, ◌∙◌, All, Bool, Fits, List, [], ◌∷◌, arith, ap, drop, length, map, rules, subst, sym, take, w8, w16}
+use Rattle.std.proofs.Common.{◌≡◌, ℕ, ◌/◌, ◌%◌, ◌^◌, ◌<◌, ◌∙◌, All, Fits, List, [], ◌∷◌, arith, ap, drop, length, map, rules, subst, sym, take, w8, w16}
 use Rattle.std.specs.Fmt.{is_char_start}
-use Rattle.std.specs.Int.RustNames.{count_ones}
 use Rattle.std.specs.Simd.Lanes.{Each1, mask_l, pick_l, zip2}
 use Rattle.std.proofs.lemmas.List.{length-drop, length-map, length-take-le}
-use Rattle.std.proofs.lemmas.Simd.{Each1-from_get_or, Each1-get_or, SwzOk-from_below, length-zip2, mask_l-lt, swz_l}
+use Rattle.std.proofs.lemmas.Simd.{Each1-from_get_or, Each1-get_or, SwzOk-from_below, length-zip2, mask_l-lt}
 use Rattle.uefi_text_encodings.specs.ShortChars.{short_unit}
 use Rattle.uefi_text_encodings.proofs.ShortChars.{begun, few_bits, halves, swizzled, units_moved, units_of}
 use Rattle.uefi_text_encodings.proofs.short_chars.units_begun.Goals as goal
