@@ -11,7 +11,7 @@ ghost use Rattle.uefi_text_encodings.specs.FromStr.{is_deciding_char, from_str_r
 ghost use Rattle.uefi_text_encodings.specs.FromStrWithBuf.{from_str_with_buf_refusal, refusal_of_char_at, with_text, with_units};
 
 use crate::errors::{FromStrError, FromStrWithBufError};
-use crate::scans::{count_undecided_chars, has_deciding_byte, is_ascii_text, widen};
+use crate::scans::{copy_units, count_undecided_chars, has_deciding_byte, is_ascii_text, widen};
 use crate::short_chars::{BLOCK, read_block};
 use std::alloc::{AllocError, Allocator};
 use std::simd::prelude::*;
@@ -224,7 +224,7 @@ fn write_short<'a>(text: &'a str, units: &mut [u16]) -> (usize, &'a str)
             rest = others;
             len += 1;
         } else if count < units.len() - len {
-            units[len..len + count].copy_from_slice(&block[..count]);
+            copy_units(&mut units[len..len + count], &block[..count]);
             rest = others;
             len += count;
         } else {

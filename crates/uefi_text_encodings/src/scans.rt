@@ -332,6 +332,18 @@ pub(crate) fn find_zero(bytes: &[u8]) -> Option<usize>
     }
 }
 
+/// Copies units. A call of its own of two slices, so that the compiler makes no call of `memcpy` of it:
+/// callers in C need not have that.
+#[inline(never)]
+pub(crate) fn copy_units(units: &mut [u16], others: &[u16])
+    requires { length units.old ≡ length others.now }
+    ensures { units.new ≡ others.now }
+{
+    for i in 0..others.len() {
+        units[i] = others[i];
+    }
+}
+
 /// Writes bytes as code units, before the last unit, which stays.
 pub(crate) fn widen(units: &mut [u16], bytes: &[u8])
     requires { length units.now ≡ length bytes.now + 1 }

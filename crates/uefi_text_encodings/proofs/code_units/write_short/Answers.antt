@@ -52,11 +52,11 @@ loop-units-preserved c =
     let left : length units ≡ len + (length old - len) = ap length so_far.written ∙ length-append (take len all) (drop len old) ∙ omega (arith, front, length-drop len old) in
     let fits : count < length units - len = c.if-count-units.true in
     let room : len + count ≤ length old = omega (arith, left, fits, so_far.place) in
-    let copied : c.copy_from_slice.new.self ≡ read = c.copy_from_slice.ensures.after in
+    let copied : c.copy_units.new.units ≡ read = c.copy_units.ensures in
     let same : len + count - len ≡ count = omega arith in
-    let is : put_mid len (len + count - len) units c.copy_from_slice.new.self ≡ take len units ++ (read ++ drop (len + count) units) =
+    let is : put_mid len (len + count - len) units c.copy_units.new.units ≡ take len units ++ (read ++ drop (len + count) units) =
     (λ i. take len units ++ (copied i ++ drop (same i) (drop len units))) ∙ ap (λ (us : List ℕ). take len units ++ (read ++ us)) (drop-drop count len units) in
-    let as_long = same_len_mid len (len + count - len) units c.copy_from_slice.new.self c.copy_from_slice.ensures.len in
+    let as_long = same_len_mid len (len + count - len) units c.copy_units.new.units (ap length c.copy_units.ensures ∙ long ∙ sym (length-take-le (len + count - len) (drop len units) (omega (arith, same, fits, length-drop len units)) ∙ same)) in
     record {
       place = omega (arith, as_long, fits);
       utf8 = block.utf8;
