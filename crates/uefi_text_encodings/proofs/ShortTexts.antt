@@ -69,7 +69,7 @@ begins_short a b rest utf8 short = first utf8.0 utf8.1.0 utf8.1.1
               ]
         ]
 
--- one where the last of so many bytes begins a character of two bytes, which then ends after them
+-- one where the last of the first n bytes begins a character of two bytes, which then ends after them
 abbrev more : ℕ → ℕ
 more b = cond (leb 192 b) 1 0
 

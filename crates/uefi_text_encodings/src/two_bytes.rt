@@ -9,7 +9,11 @@ use std::simd::prelude::*;
 macro_rules! rows {
     ([] $([$($place:tt)*] [$($zero:tt)*])*) => { [$([$($place,)* $($zero),*]),*] };
     ([$first:tt $second:tt $($next:tt)*] $([$($place:tt)*] [$zero:tt $($zeros:tt)*])*) => {
-        rows!([$($next)*] $([$($place)* $first] [$zero $($zeros)*])* $([$($place)* $first $second] [$($zeros)*])*)
+        rows!(
+            [$($next)*]
+            $([$($place)* $first] [$zero $($zeros)*])*
+            $([$($place)* $first $second] [$($zeros)*])*
+        )
     };
 }
 

@@ -20,7 +20,8 @@ const COUNTED: usize = 0x7fff;
 #[inline(always)]
 fn more_bytes(units: &[u16]) -> u16
     requires { length units.now ≤ 0x7fff }
-    ensures { result ≡ count_by (λ unit. nat_le 0x80 unit) units.now + count_by (λ unit. nat_le 0x800 unit) units.now }
+    ensures { result ≡ count_by (λ unit. nat_le 0x80 unit) units.now
+        + count_by (λ unit. nat_le 0x800 unit) units.now }
 {
     let mut count = 0;
     for unit in units {

@@ -56,7 +56,9 @@ loop-units-preserved c =
     let same : len + count - len ≡ count = omega arith in
     let is : put_mid len (len + count - len) units c.copy_units.new.units ≡ take len units ++ (read ++ drop (len + count) units) =
     (λ i. take len units ++ (copied i ++ drop (same i) (drop len units))) ∙ ap (λ (us : List ℕ). take len units ++ (read ++ us)) (drop-drop count len units) in
-    let as_long = same_len_mid len (len + count - len) units c.copy_units.new.units (ap length c.copy_units.ensures ∙ long ∙ sym (length-take-le (len + count - len) (drop len units) (omega (arith, same, fits, length-drop len units)) ∙ same)) in
+    let part : length (take (len + count - len) (drop len units)) ≡ count =
+    length-take-le (len + count - len) (drop len units) (omega (arith, same, fits, length-drop len units)) ∙ same in
+    let as_long = same_len_mid len (len + count - len) units c.copy_units.new.units (ap length c.copy_units.ensures ∙ long ∙ sym part) in
     record {
       place = omega (arith, as_long, fits);
       utf8 = block.utf8;

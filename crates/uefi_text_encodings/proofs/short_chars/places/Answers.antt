@@ -9,7 +9,7 @@ use Rattle.uefi_text_encodings.proofs.ShortChars.{chosen-map, few_bits, further,
 use Rattle.uefi_text_encodings.proofs.short_chars.places.Goals as goal
 
 low_places : (row : List ℕ) → All (λ p. p < 8) row → Each1 (λ p. p < 8) row
-low_places row all = Each1-from_get_or (λ p. p < 8) row 0 (λ i inside. all i 0 inside)
+low_places places all = Each1-from_get_or (λ p. p < 8) places 0 (λ i inside. all i 0 inside)
 
 pub returns-clause-below : goal.returns-clause-below
 returns-clause-below c =
