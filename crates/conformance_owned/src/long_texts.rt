@@ -4,7 +4,7 @@
 use crate::growth::pushed_one_by_one;
 use conformance::{has_text, repeated, string};
 use std::test::Fail;
-use uefi_text::{CStr16, CString16, UnalignedSlice};
+use uefi_text::{CStr16, CString16, EqStrUntilNul, UnalignedSlice};
 
 /// Whether copies of a string equal it.
 fn copies(rt: &HostRuntime, string: &CString16) -> Result<bool, Fail> {
@@ -29,6 +29,51 @@ fn long_strings(rt: HostRuntime) -> Result<(), Fail> {
     assert!(rt; copies(&rt, &long)? && string(rt.alloc(), text)? == long);
     let doubled = doubled(&rt, long.as_cstr16())?;
     assert!(rt; has_text(doubled.as_cstr16(), &twice));
+    Ok(())
+}
+
+/// Pieces of texts, of characters of one, two and three bytes, the first of which stands in each place
+/// of eight.
+const PIECES: &[&str] = &[
+    "é",
+    "aé",
+    "abé",
+    "abcdefgé",
+    "éabcdefgh",
+    "漢",
+    "a漢",
+    "é漢",
+    "abcdefg漢",
+    "aé漢",
+];
+
+/// A text, so many times, and then its end.
+fn ended(rt: &HostRuntime, text: &str, times: u64, end: &str) -> Result<String, Fail> {
+    let mut ended = repeated(rt.alloc(), text, times)?;
+    ended.push_str(end)?;
+    Ok(ended)
+}
+
+/// Whether a text is that of the string that it makes, and not one with another end.
+fn is_kept(rt: &HostRuntime, text: &str, other: &str) -> Result<bool, Fail> {
+    let string = string(rt.alloc(), text)?;
+    Ok(
+        string.num_chars() == text.chars().count()
+            && has_text(string.as_cstr16(), text)
+            && string.eq_str_until_nul(text)
+            && !string.eq_str_until_nul(other),
+    )
+}
+
+#[test]
+fn texts_of_characters_of_each_width(rt: HostRuntime) -> Result<(), Fail> {
+    for piece in PIECES {
+        for times in [1, 7, 8, 9, 40, 1000] {
+            let text = ended(&rt, piece, times, "b")?;
+            let other = ended(&rt, piece, times, "c")?;
+            assert!(rt; is_kept(&rt, &text, &other)?, "{piece} {times}");
+        }
+    }
     Ok(())
 }
 

@@ -207,17 +207,20 @@ fn are_as_iterated(rt: &HostRuntime, items: UnalignedSlice<'_, u16>) -> Result<b
 }
 
 /// Numbers of items around those from which on they are copied in another way.
-const MANY: &[usize] = &[63, 64, 65, 1023, 1024, 1025, 2048, 2100];
+const COUNTS: &[usize] = &[
+    0, 1, 3, 4, 5, 8, 9, 16, 17, 31, 32, 33, 63, 64, 65, 1023, 1024, 1025, 4095, 4096, 4097, 8192,
+    8200,
+];
 
 #[test]
-fn copies_of_many_items(rt: HostRuntime) -> Result<(), Fail> {
+fn copies_of_few_and_many_items(rt: HostRuntime) -> Result<(), Fail> {
     let mut bytes = Vec::new(rt.alloc());
-    for place in 0..4201_u32 {
+    for place in 0..16401_u32 {
         bytes.push((place % 251) as u8)?;
     }
     // Items that begin at an odd place.
     let odd = bytes.get(1..).unwrap_or(&[]);
-    for len in MANY {
+    for len in COUNTS {
         let Some(items) = UnalignedSlice::try_new(odd, *len) else {
             return Err("too few bytes".into());
         };
