@@ -46,7 +46,11 @@ const BLOCK: usize = 64;
 
 /// How many items are copied at a time. They pass through a block of their own, which nothing else
 /// shares: so the compiler makes one call of `memmove` for each block, and leaves the block out.
-const COPIED: usize = 1024;
+const COPIED: usize = 4096;
+
+/// As many items and fewer are copied through a block of this length, which a compiler that does not
+/// leave it out fills sooner.
+const COPIED_AT_ONCE: usize = 1024;
 
 /// Fewer items than these become a vector without a call, which costs more than it saves.
 const SHORT: usize = 64;
@@ -150,7 +154,7 @@ fn read_some<T: Packed>(bytes: &[u8], dest: &mut [T])
         9..=16 => read_ends::<T, 8>(bytes, dest, first),
         17..=32 => read_ends::<T, 16>(bytes, dest, first),
         33..=64 => read_ends::<T, 32>(bytes, dest, first),
-        _ => read_block(bytes, &mut [first; COPIED], dest),
+        _ => read_block(bytes, &mut [first; COPIED_AT_ONCE], dest),
     }
 }
 
@@ -162,10 +166,15 @@ fn read_blocks<T: Packed>(bytes: &[u8], dest: &mut [T])
     ensures { map T.number dest.new ≡ packed_items T.SIZE (length dest.old) bytes.now }
 {
     let len = dest.len();
+    if len == 0 {
+        return;
+    }
+    let first = T::read_le(&bytes[..T::SIZE]);
     let mut start = 0;
     while start < len {
         let count = COPIED.min(len - start);
-        read_some(&bytes[start * T::SIZE..], &mut dest[start..start + count]);
+        let items = &mut dest[start..start + count];
+        read_block(&bytes[start * T::SIZE..], &mut [first; COPIED], items);
         start += count;
     }
 }
@@ -397,7 +406,7 @@ impl<'a, T: Packed> UnalignedSlice<'a, T> {
         requires { length dest.old ≡ length (items_of self.now) }
         ensures { map T.number dest.new ≡ items_of self.now }
     {
-        if dest.len() <= COPIED {
+        if dest.len() <= COPIED_AT_ONCE {
             read_some(self.bytes, dest);
         } else {
             read_blocks(self.bytes, dest);

@@ -29,8 +29,8 @@ pub trait Packed: Copy {
     /// Equal numbers come from equal bytes.
     ghost encoded_once: { EncodesOnce SIZE };
 
-    /// A block of 1,024 values fits in memory, so that values can be copied a block at a time.
-    ghost block_fits: { 1024 * type_size Self.row < 2 ^ 63 };
+    /// A block of 4,096 values fits in memory, so that values can be copied a block at a time.
+    ghost block_fits: { 4096 * type_size Self.row < 2 ^ 63 };
 }
 
 /// One byte, whose number is the value itself.

@@ -8,8 +8,8 @@ use Rattle.uefi_text_encodings.specs.Packed.{packed_items}
 use Rattle.uefi_text_encodings.proofs.Packing.{length-packed_items, packed_items-part, part-fits}
 use Rattle.uefi_text.proofs.unaligned_slice.read_blocks.Goals as goal
 
-pub read_some-requires-clause-fits : goal.read_some-requires-clause-fits
-read_some-requires-clause-fits g c =
+pub read_block-requires-clause-fits : goal.read_block-requires-clause-fits
+read_block-requires-clause-fits g c =
     let size = g.T.Packed.SIZE in
     let start = c.loop-start.start in
     let count = c.min-count.result in
@@ -28,7 +28,7 @@ loop-start-preserved g c =
     let count = c.min-count.result in
     let bytes = c.args.bytes.now in
     let dest = c.loop-start.dest in
-    let new = c.read_some.new.dest in
+    let new = c.read_block.new.dest in
     let so_far = c.loop-start.invariant in
     let len = length c.args.dest.now in
     let items = packed_items size len bytes in
@@ -36,17 +36,17 @@ loop-start-preserved g c =
     let part = packed_items-part size start (start + count) len bytes (omega arith) (omega arith) in
     let of_count : packed_items size count (drop (start * size) bytes) ≡ take count (drop start items) = rw (← same) part in
     let places : length (take (start + count - start) (drop start dest)) ≡ count = grind (arith, common_steps) in
-    let rest : take (length bytes - start * c.SIZE.result) (drop (start * c.SIZE.result) bytes) ≡ drop (start * size) bytes = grind (arith, common_steps) in
+    let rest : take (length bytes - start * c.SIZE-in-loop-start.result) (drop (start * c.SIZE-in-loop-start.result) bytes) ≡ drop (start * size) bytes = grind (arith, common_steps) in
     let read : packed_items size (length (take (start + count - start) (drop start dest)))
-    (take (length bytes - start * c.SIZE.result) (drop (start * c.SIZE.result) bytes))
+    (take (length bytes - start * c.SIZE-in-loop-start.result) (drop (start * c.SIZE-in-loop-start.result) bytes))
     ≡ take count (drop start items) = rw (places, rest) of_count in
-    let written : map number new ≡ take count (drop start items) = c.read_some.ensures.items ∙ read in
-    let as_many : length new ≡ count = c.read_some.ensures.len ∙ places in
+    let written : map number new ≡ take count (drop start items) = c.read_block.ensures.items ∙ read in
+    let as_many : length new ≡ count = c.read_block.ensures.len ∙ places in
     let front : take (start + count) (put_mid start (start + count - start) dest new) ≡ take start dest ++ new =
     take-put_mid start (start + count - start) dest new (start + count) (omega (arith, as_many)) (omega (arith, so_far.len, so_far.within)) in
     record {
       within = omega arith;
-      len = same_len_mid start (start + count - start) dest new c.read_some.ensures.len ∙ so_far.len;
+      len = same_len_mid start (start + count - start) dest new c.read_block.ensures.len ∙ so_far.len;
       items = ap (map number) front ∙ map-append number (take start dest) new
           ∙ ap (λ xs. xs ++ map number new) so_far.items
           ∙ ap (λ xs. take start items ++ xs) written ∙ sym (take-add start count items);
