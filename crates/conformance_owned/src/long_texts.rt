@@ -47,7 +47,7 @@ const PIECES: &[&str] = &[
     "aé漢",
 ];
 
-/// A text, so many times, and then its end.
+/// `times` copies of a text, and then its end.
 fn ended(rt: &HostRuntime, text: &str, times: u64, end: &str) -> Result<String, Fail> {
     let mut ended = repeated(rt.alloc(), text, times)?;
     ended.push_str(end)?;
