@@ -155,15 +155,38 @@ fn is_converted(
     )
 }
 
-#[test]
-fn each_text(rt: HostRuntime) -> Result<(), Fail> {
-    for (others, place) in &hostile_places(rt.alloc())? {
+/// Converts the text of each row at each of these places, where a place comes after how many others there are.
+fn convert_each(rt: &HostRuntime, places: &[(usize, usize)]) -> Result<(), Fail> {
+    for (others, place) in places {
         for other in OTHERS {
             for row in MIDDLES {
-                let is_right = is_converted(&rt, *others, *place, other, *row)?;
+                let is_right = is_converted(rt, *others, *place, other, *row)?;
                 assert!(rt; is_right, "{:?} among {others}, at {place}", row.0);
             }
         }
     }
     Ok(())
+}
+
+#[test]
+fn each_text(rt: HostRuntime) -> Result<(), Fail> {
+    convert_each(&rt, &hostile_places(rt.alloc())?)
+}
+
+/// Places around the blocks in which long texts are looked at, the first of them and the last.
+const LONG_PLACES: &[(usize, usize)] = &[
+    (255, 255),
+    (256, 0),
+    (256, 255),
+    (256, 256),
+    (257, 256),
+    (511, 257),
+    (512, 512),
+    (513, 512),
+    (600, 300),
+];
+
+#[test]
+fn each_long_text(rt: HostRuntime) -> Result<(), Fail> {
+    convert_each(&rt, LONG_PLACES)
 }

@@ -5,13 +5,14 @@ use Rattle.std.proofs.Math.Seq.{take-add}
 use Rattle.std.proofs.lemmas.Bool.Decides.{eqb_tells}
 use Rattle.std.specs.List.{count_by}
 use Rattle.std.specs.Int.Bits.{bit_and, and_step, and_self}
-use Rattle.std.specs.Int.Count.{count_trailing_zeros}
+use Rattle.std.specs.Int.Count.{count_trailing_zeros, ones_step}
 use Rattle.std.specs.Simd.Lanes.{mask_l}
 use Rattle.std.proofs.lemmas.Bool.{cases_Bool, cases_lt}
 use Rattle.std.proofs.lemmas.List.{drop-drop, drop_all, length-drop, length-map, take_all, length-take, length-take-le, take_more, map-append, take-append-drop}
 use Rattle.std.proofs.lemmas.Grind.{common_steps}
 use Rattle.std.proofs.lemmas.List.Elements.{All-append, All-cons, All-nil}
 use Rattle.std.proofs.lemmas.List.Sums.{sum_by-append}
+use Rattle.std.proofs.lemmas.Nat.{ones_le_self}
 use Rattle.std.proofs.lemmas.Simd.{mask_l-lt, ones-mask_l}
 use Rattle.uefi_text.specs.Units.{replaced}
 use Rattle.uefi_path.specs.Separators.{IsPlain, becomes_separator, bit_places, block_bits, is_separator, places_from, separator, slash, with_separators, word_places}
@@ -228,6 +229,25 @@ bit_places-lowest (suc count) start n some small = elim (cases_lt (n % 2) 1) [
       ∙ ap (λ ps. (start + count_trailing_zeros (suc count) n) ∷ ps)
       (sym (ap (bit_places (suc count) start) (cleared-odd n odd) ∙ bit_places-even count start (2 * m) (omega arith)))
 ]
+
+-- as many places as bits that are set
+length-bit_places : (count start n : ℕ) → n < 2 ^ count → length (bit_places count start n) ≡ count_ones n
+length-bit_places zero start n small = omega (arith, small, ones_le_self n)
+length-bit_places (suc count) start n small =
+    let step = ones_step n in
+    let half = length-bit_places count (start + 1) (n / 2) (omega (arith, small, pow-suc 2 count)) in
+    elim (cases_lt (n % 2) 1) [
+      | inl low ↦
+          let even : n % 2 ≡ 0 = omega (arith, low) in
+          omega (arith, ap length (bit_places-even count start n even), half, step, even)
+      | inr high ↦
+          let odd : n % 2 ≡ 1 = omega (arith, high) in
+          omega (arith, ap length (bit_places-odd count start n odd), half, step, odd)
+    ]
+
+pub length-word_places : (start n : ℕ) → n < 2 ^ 64 → length (word_places start n) ≡ count_ones n
+unfolding word_places
+length-word_places start n small = length-bit_places 64 start n small
 
 -- the lowest bit of a word has the first place
 pub word_places-lowest : (start n : ℕ) → 0 < n → n < 2 ^ 64

@@ -53,7 +53,7 @@ fn add_bits<A: Allocator>(
     places.reserve(bits.count_ones() as usize)?;
     let mut left = bits;
     while left != 0 {
-        places.push(start + left.trailing_zeros() as usize)?;
+        places.push_reserved(start + left.trailing_zeros() as usize);
         left &= left - 1;
     }
     Ok(())

@@ -71,6 +71,19 @@ found_in_front step kept us n found =
     ap (fold step false) (sym (take-append-drop n us)) ∙ fold-append step false (take n us) (drop n us)
     ∙ ap (λ so_far. fold step so_far (drop n us)) found ∙ fold_stays step true kept (drop n us)
 
+-- a block whose answer the fold keeps answers for all
+pub decided_by_block : (step : Bool → ℕ → Bool) (start answer : Bool) → ((u : ℕ) → step answer u ≡ answer) → (us block rest : List ℕ)
+    → us ≡ block ++ rest → fold step start block ≡ answer → fold step start us ≡ answer
+decided_by_block step start answer kept us block rest parts decided =
+    ap (fold step start) parts ∙ fold-append step start block rest
+    ∙ ap (λ so_far. fold step so_far rest) decided ∙ fold_stays step answer kept rest
+
+-- and one whose answer is that before it leaves it to the rest
+pub left_by_block : (step : Bool → ℕ → Bool) (start : Bool) (us block rest : List ℕ) → us ≡ block ++ rest
+    → fold step start block ≡ start → fold step start us ≡ fold step start rest
+left_by_block step start us block rest parts same =
+    ap (fold step start) parts ∙ fold-append step start block rest ∙ ap (λ so_far. fold step so_far rest) same
+
 -- where an element passes and none before it does, a search ends there
 pub position-at : (p : ℕ → Bool) (us : List ℕ) (i : ℕ) → i < length us → ((k : ℕ) → k < i → p (get_or us k 0) ≡ false)
     → p (get_or us i 0) ≡ true → Some i ≡ position p us

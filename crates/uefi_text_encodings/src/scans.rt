@@ -81,6 +81,10 @@ const BYTES_PART: usize = 16;
 /// How many bytes are looked at together where characters are counted.
 const COUNT_PART: usize = 32;
 
+/// How many elements of a long text are looked at before the answer so far is: none after that are where
+/// it can't change any more.
+const LONG_BLOCK: usize = 256;
+
 /// Whether one of these units is beyond ASCII.
 #[inline(always)]
 fn has_beyond_ascii_part(units: u16x8) -> bool
@@ -104,6 +108,28 @@ fn has_unit_beyond_ascii_by_part(units: &[u16]) -> bool
     has_beyond_ascii_part(u16x8::from_slice(&units[units.len() - UNITS_PART..]))
 }
 
+/// Whether a unit of a block is beyond ASCII.
+#[inline(always)]
+fn has_beyond_ascii_block(units: &[u16]) -> bool
+    ensures { result ≡ fold beyond_ascii_so_far false units.now }
+{
+    units
+        .iter()
+        .fold(false, |found, unit| found | (0x80 <= *unit))
+}
+
+/// Whether a unit is beyond ASCII, a block at a time, up to one that holds such a unit.
+fn has_unit_beyond_ascii_by_block(units: &[u16]) -> bool
+    ensures { result ≡ fold beyond_ascii_so_far false units.now }
+{
+    for block in units.chunks(LONG_BLOCK) {
+        if has_beyond_ascii_block(block) {
+            return true;
+        }
+    }
+    false
+}
+
 /// Whether a unit is beyond ASCII.
 pub fn has_unit_beyond_ascii(units: &[u16]) -> bool
     ensures { result ≡ fold beyond_ascii_so_far false units.now }
@@ -116,9 +142,7 @@ pub fn has_unit_beyond_ascii(units: &[u16]) -> bool
     if UNITS_PART <= units.len() && has_beyond_ascii_part(u16x8::from_slice(units)) {
         return true;
     }
-    units
-        .iter()
-        .fold(false, |found, unit| found | (0x80 <= *unit))
+    has_unit_beyond_ascii_by_block(units)
 }
 
 /// Whether each of these bytes is ASCII and not NUL.
@@ -146,6 +170,28 @@ fn is_ascii_text_by_part(bytes: &[u8]) -> bool
     is_ascii_text_part(u8x16::from_slice(&bytes[bytes.len() - BYTES_PART..]))
 }
 
+/// Whether each byte of a block is ASCII and not NUL.
+#[inline(always)]
+fn is_ascii_text_block(bytes: &[u8]) -> bool
+    ensures { result ≡ fold ascii_text_so_far true bytes.now }
+{
+    bytes
+        .iter()
+        .fold(true, |so_far, byte| so_far & (0 < *byte) & (*byte < 128))
+}
+
+/// Whether each byte is ASCII and not NUL, a block at a time, up to one that holds another.
+fn is_ascii_text_by_block(bytes: &[u8]) -> bool
+    ensures { result ≡ fold ascii_text_so_far true bytes.now }
+{
+    for block in bytes.chunks(LONG_BLOCK) {
+        if !is_ascii_text_block(block) {
+            return false;
+        }
+    }
+    true
+}
+
 /// Whether each byte is ASCII and not NUL.
 pub(crate) fn is_ascii_text(bytes: &[u8]) -> bool
     ensures { result ≡ fold ascii_text_so_far true bytes.now }
@@ -158,9 +204,7 @@ pub(crate) fn is_ascii_text(bytes: &[u8]) -> bool
     if BYTES_PART <= bytes.len() && !is_ascii_text_part(u8x16::from_slice(bytes)) {
         return false;
     }
-    bytes
-        .iter()
-        .fold(true, |so_far, byte| so_far & (0 < *byte) & (*byte < 128))
+    is_ascii_text_by_block(bytes)
 }
 
 /// True only where units are these bytes, all of ASCII and none of them zero.
@@ -209,12 +253,25 @@ pub fn same_ascii_len(units: &[u16], bytes: &[u8]) -> usize
     same_ascii_blocks_end(units, bytes, start, SMALL_BLOCK)
 }
 
-/// Whether a byte begins a character that no UCS-2 text holds: a NUL, or a character above U+FFFF,
+/// Whether a byte of a block begins a character that no UCS-2 text holds: a NUL, or a character above U+FFFF,
 /// which alone has four bytes.
-pub(crate) fn has_deciding_byte(bytes: &[u8]) -> bool
+#[inline(always)]
+fn has_deciding_byte_block(bytes: &[u8]) -> bool
     ensures { result ≡ fold deciding_byte_so_far false bytes.now }
 {
     bytes.iter().fold(false, |found, byte| found | (*byte == 0) | (0xf0 <= *byte))
+}
+
+/// The same of a whole text, a block at a time, up to one that holds such a byte.
+pub(crate) fn has_deciding_byte(bytes: &[u8]) -> bool
+    ensures { result ≡ fold deciding_byte_so_far false bytes.now }
+{
+    for block in bytes.chunks(LONG_BLOCK) {
+        if has_deciding_byte_block(block) {
+            return true;
+        }
+    }
+    false
 }
 
 /// The same of bytes that are looked at together.
@@ -278,9 +335,10 @@ pub(crate) fn count_undecided_chars(bytes: &[u8]) -> Option<usize>
     }
 }
 
-/// Whether a byte begins a character above U+00FF: one of 0xc4 or more. Below that are the bytes
+/// Whether a byte of a block begins a character above U+00FF: one of 0xc4 or more. Below that are the bytes
 /// that begin a character of Latin-1, and those inside of characters.
-pub(crate) fn has_byte_beyond_latin1(bytes: &[u8]) -> bool
+#[inline(always)]
+fn has_byte_beyond_latin1_block(bytes: &[u8]) -> bool
     ensures { result ≡ fold byte_beyond_latin1_so_far false bytes.now }
 {
     bytes
@@ -288,12 +346,36 @@ pub(crate) fn has_byte_beyond_latin1(bytes: &[u8]) -> bool
         .fold(false, |found, byte| found | (0xc4 <= *byte))
 }
 
-/// Whether a byte is zero. In UTF-8 that is the byte of a NUL, and of no other character.
+/// The same of a whole text, a block at a time, up to one that holds such a byte.
+pub(crate) fn has_byte_beyond_latin1(bytes: &[u8]) -> bool
+    ensures { result ≡ fold byte_beyond_latin1_so_far false bytes.now }
+{
+    for block in bytes.chunks(LONG_BLOCK) {
+        if has_byte_beyond_latin1_block(block) {
+            return true;
+        }
+    }
+    false
+}
+
+/// Whether a byte of a block is zero. In UTF-8 that is the byte of a NUL, and of no other character.
 #[inline(always)]
-pub(crate) fn has_zero_byte(bytes: &[u8]) -> bool
+fn has_zero_byte_block(bytes: &[u8]) -> bool
     ensures { result ≡ fold zero_so_far false bytes.now }
 {
     bytes.iter().fold(false, |found, byte| found | (*byte == 0))
+}
+
+/// The same of a whole text, a block at a time, up to one that holds a zero.
+pub(crate) fn has_zero_byte(bytes: &[u8]) -> bool
+    ensures { result ≡ fold zero_so_far false bytes.now }
+{
+    for block in bytes.chunks(LONG_BLOCK) {
+        if has_zero_byte_block(block) {
+            return true;
+        }
+    }
+    false
 }
 
 /// A place before which no byte is zero: bytes from `start` on are tested in blocks, up to one that
@@ -307,7 +389,7 @@ fn nonzero_blocks_end(bytes: &[u8], start: usize, block: usize) -> usize
     ensures none { (k : ℕ) → k < result → is_nul (slice_index bytes.now k) ≡ false }
 {
     let mut end = start;
-    while block <= bytes.len() - end && !has_zero_byte(&bytes[end..end + block]) {
+    while block <= bytes.len() - end && !has_zero_byte_block(&bytes[end..end + block]) {
         end += block;
     }
     end

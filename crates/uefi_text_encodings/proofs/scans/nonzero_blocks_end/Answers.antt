@@ -14,5 +14,5 @@ loop-end-preserved c =
       within = omega arith;
       none =
           λ k h. none_in_blocks is_nul zero_so_far (λ _. refl) (λ _. refl) bs from n inside c.loop-end.invariant.none
-          (sym c.if-not-has_zero_byte.ensures) k (omega (arith, h));
+          (sym c.if-not-has_zero_byte_block.ensures) k (omega (arith, h));
     }

@@ -1,0 +1,10 @@
+use Rattle.std.proofs.Common.{◌≡◌, false}
+use Rattle.std.specs.List.{fold}
+use Rattle.std.specs.Slice.Iter.{chunks_rest}
+use Rattle.uefi_text_encodings.specs.Scans.{zero_so_far}
+use Rattle.uefi_text_encodings.proofs.scans.has_zero_byte.Given as goal
+
+-- nothing is found so far: what is left decides
+abbrev pub invariant-loop-block : goal.invariant-loop-block
+invariant-loop-block l =
+    fold zero_so_far false l.bytes ≡ fold zero_so_far false (chunks_rest l.block-iterator)
