@@ -1,6 +1,6 @@
 //! The calls that are timed, and the ones of this library behind C functions.
 use crate::Call;
-use crate::inputs::{Inputs, ascii, cjk, latin1, path, uneven_path};
+use crate::inputs::{Inputs, ascii, cjk, early_emoji, early_latin1, latin1, path, uneven_path};
 
 /// The call of the Rust crate, where the harness is built with that crate.
 #[cfg(feature = "original")]
@@ -51,6 +51,7 @@ unsafe extern "C" {
     -> usize;
     fn ours_display(_: *const u16, _: usize, _: *const u16, _: usize, rounds: usize) -> usize;
     fn ours_to_string(_: *const u16, _: usize, _: *const u16, _: usize, rounds: usize) -> usize;
+    fn ours_is_ascii(_: *const u16, _: usize, _: *const u16, _: usize, rounds: usize) -> usize;
     fn ours_eq(_: *const u16, _: usize, _: *const u16, _: usize, rounds: usize) -> usize;
     fn ours_cmp(_: *const u16, _: usize, _: *const u16, _: usize, rounds: usize) -> usize;
     fn ours_eq_str_until_nul(
@@ -190,6 +191,19 @@ mod ours {
         // SAFETY: each pointer comes with the length of the slice that it is of.
         unsafe {
             ours_to_string(
+                inputs.units[0].as_ptr(),
+                inputs.units[0].len(),
+                inputs.units[1].as_ptr(),
+                inputs.units[1].len(),
+                rounds,
+            )
+        }
+    }
+
+    pub fn is_ascii(inputs: &mut Inputs, rounds: usize) -> usize {
+        // SAFETY: each pointer comes with the length of the slice that it is of.
+        unsafe {
+            ours_is_ascii(
                 inputs.units[0].as_ptr(),
                 inputs.units[0].len(),
                 inputs.units[1].as_ptr(),
@@ -590,6 +604,20 @@ pub const CALLS: &[Call] = &[
         ours: ours::to_string,
     },
     Call {
+        name: "is_ascii",
+        sizes: SIZES,
+        inputs: ascii,
+        original: original!(is_ascii),
+        ours: ours::is_ascii,
+    },
+    Call {
+        name: "is_ascii early",
+        sizes: SIZES,
+        inputs: early_latin1,
+        original: original!(is_ascii),
+        ours: ours::is_ascii,
+    },
+    Call {
         name: "eq",
         sizes: SIZES,
         inputs: ascii,
@@ -663,6 +691,13 @@ pub const CALLS: &[Call] = &[
         name: "try_from_str cjk",
         sizes: SIZES,
         inputs: cjk,
+        original: original!(try_from_str),
+        ours: ours::try_from_str,
+    },
+    Call {
+        name: "try_from_str refused",
+        sizes: SIZES,
+        inputs: early_emoji,
         original: original!(try_from_str),
         ours: ours::try_from_str,
     },

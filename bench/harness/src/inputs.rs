@@ -72,6 +72,22 @@ pub fn cjk(size: usize) -> Inputs {
     )
 }
 
+/// A text of ASCII, but for one character at its front: the thirtieth, or the last of a shorter text.
+fn ascii_but(character: char, size: usize) -> Inputs {
+    let place = 29.min(size - 1);
+    let letters = |count: usize| "a".repeat(count);
+    Inputs::of(letters(place) + &character.to_string() + &letters(size - 1 - place))
+}
+
+pub fn early_latin1(size: usize) -> Inputs {
+    ascii_but('é', size)
+}
+
+/// With a character that no string of UCS-2 holds.
+pub fn early_emoji(size: usize) -> Inputs {
+    ascii_but('😀', size)
+}
+
 /// A path of names of seven characters.
 pub fn path(size: usize) -> Inputs {
     let text: String = "\\loader1\\kernel2\\initrd3"

@@ -89,6 +89,16 @@ pub fn to_string(inputs: &mut Inputs, rounds: usize) -> usize {
 }
 
 #[inline(never)]
+fn ascii_answer(string: &CStr16) -> usize {
+    if string.is_ascii() { 1 } else { 3 }
+}
+
+pub fn is_ascii(inputs: &mut Inputs, rounds: usize) -> usize {
+    let strings = views(inputs);
+    repeat(rounds, |k| ascii_answer(strings[k]))
+}
+
+#[inline(never)]
 fn are_equal(one: &CStr16, two: &CStr16) -> bool {
     one == two
 }

@@ -111,15 +111,45 @@ fn first_eight(text: &str) -> Option<[u16; 8]>
     Some(units.to_array())
 }
 
-/// How many of the first 64 bytes begin characters of three bytes; `None` of a shorter text. What follows
-/// is likely to be alike.
+/// How wide the characters of a text are likely to be, by those at its front.
+enum Width {
+    /// One or two bytes each.
+    Short,
+    /// Most of them three bytes.
+    Wide,
+    /// Some three bytes, or too few to tell.
+    Mixed,
+}
+
+/// How many of the first `N` bytes begin characters of three bytes.
 #[inline(always)]
-fn count_long(bytes: &[u8]) -> Option<u32> {
-    if bytes.len() < 64 {
-        return None;
+fn count_long<const N: usize>(bytes: &[u8]) -> u32
+    requires within { N ≤ length bytes.now }
+    requires word { N ≤ 64 }
+{
+    let long = Simd::<u8, N>::from_slice(bytes).simd_ge(Simd::<u8, N>::splat(0xe0));
+    long.to_bitmask().count_ones()
+}
+
+/// How wide the characters of a text are likely to be. Where all of them are of three bytes, five or
+/// six begin in sixteen bytes.
+#[inline(always)]
+fn likely_width(bytes: &[u8]) -> Width {
+    if 64 <= bytes.len() {
+        match count_long::<64>(bytes) {
+            0 => Width::Short,
+            18.. => Width::Wide,
+            _ => Width::Mixed,
+        }
+    } else if 16 <= bytes.len() {
+        match count_long::<16>(bytes) {
+            0 => Width::Short,
+            5.. => Width::Wide,
+            _ => Width::Mixed,
+        }
+    } else {
+        Width::Mixed
     }
-    let long = u8x64::from_slice(bytes).simd_ge(u8x64::splat(0xe0));
-    Some(long.to_bitmask().count_ones())
 }
 
 /// What follows the first eight characters of a text, where each has three bytes.
@@ -166,10 +196,10 @@ fn write_front<'a>(text: &'a str, units: &mut [u16]) -> (usize, &'a str)
     ensures rest { take result.0 (chars text.now) ++ chars result.1.now ≡ chars text.now }
     ensures units { units.new ≡ take result.0 (chars text.now) ++ drop result.0 units.old }
 {
-    match count_long(text.as_bytes()) {
-        Some(18..) => write_wide(text, units),
-        Some(0) => write_short(text, units),
-        _ => (0, text),
+    match likely_width(text.as_bytes()) {
+        Width::Wide => write_wide(text, units),
+        Width::Short => write_short(text, units),
+        Width::Mixed => (0, text),
     }
 }
 
@@ -452,10 +482,10 @@ pub fn same_front<'a>(units: &[u16], text: &'a str) -> (usize, &'a str)
     ensures same { chars text.now ≡ take result.0 units.now ++ chars result.1.now }
     ensures no_nul { All (λ unit. unit ≢ 0) (take result.0 units.now) }
 {
-    match count_long(text.as_bytes()) {
-        Some(18..) => same_wide(units, text),
-        Some(0) => same_short(units, text),
-        _ => (0, text),
+    match likely_width(text.as_bytes()) {
+        Width::Wide => same_wide(units, text),
+        Width::Short => same_short(units, text),
+        Width::Mixed => (0, text),
     }
 }
 

@@ -81,9 +81,12 @@ const BYTES_PART: usize = 16;
 /// How many bytes are looked at together where characters are counted.
 const COUNT_PART: usize = 32;
 
-/// How many elements of a long text are looked at before the answer so far is: none after that are where
-/// it can't change any more.
-const LONG_BLOCK: usize = 256;
+/// How many units of a long text are looked at before the answer so far is: none after them are looked at
+/// where it can't change any more.
+const UNITS_BLOCK: usize = 128;
+
+/// The same of bytes.
+const BYTES_BLOCK: usize = 256;
 
 /// Whether one of these units is beyond ASCII.
 #[inline(always)]
@@ -122,7 +125,7 @@ fn has_beyond_ascii_block(units: &[u16]) -> bool
 fn has_unit_beyond_ascii_by_block(units: &[u16]) -> bool
     ensures { result ≡ fold beyond_ascii_so_far false units.now }
 {
-    for block in units.chunks(LONG_BLOCK) {
+    for block in units.chunks(UNITS_BLOCK) {
         if has_beyond_ascii_block(block) {
             return true;
         }
@@ -184,7 +187,7 @@ fn is_ascii_text_block(bytes: &[u8]) -> bool
 fn is_ascii_text_by_block(bytes: &[u8]) -> bool
     ensures { result ≡ fold ascii_text_so_far true bytes.now }
 {
-    for block in bytes.chunks(LONG_BLOCK) {
+    for block in bytes.chunks(BYTES_BLOCK) {
         if !is_ascii_text_block(block) {
             return false;
         }
@@ -266,7 +269,7 @@ fn has_deciding_byte_block(bytes: &[u8]) -> bool
 pub(crate) fn has_deciding_byte(bytes: &[u8]) -> bool
     ensures { result ≡ fold deciding_byte_so_far false bytes.now }
 {
-    for block in bytes.chunks(LONG_BLOCK) {
+    for block in bytes.chunks(BYTES_BLOCK) {
         if has_deciding_byte_block(block) {
             return true;
         }
@@ -350,7 +353,7 @@ fn has_byte_beyond_latin1_block(bytes: &[u8]) -> bool
 pub(crate) fn has_byte_beyond_latin1(bytes: &[u8]) -> bool
     ensures { result ≡ fold byte_beyond_latin1_so_far false bytes.now }
 {
-    for block in bytes.chunks(LONG_BLOCK) {
+    for block in bytes.chunks(BYTES_BLOCK) {
         if has_byte_beyond_latin1_block(block) {
             return true;
         }
@@ -370,7 +373,7 @@ fn has_zero_byte_block(bytes: &[u8]) -> bool
 pub(crate) fn has_zero_byte(bytes: &[u8]) -> bool
     ensures { result ≡ fold zero_so_far false bytes.now }
 {
-    for block in bytes.chunks(LONG_BLOCK) {
+    for block in bytes.chunks(BYTES_BLOCK) {
         if has_zero_byte_block(block) {
             return true;
         }
