@@ -112,6 +112,7 @@ fn first_eight(text: &str) -> Option<[u16; 8]>
 }
 
 /// How wide the characters of a text are likely to be, by those at its front.
+#[derive(Clone, Copy)]
 enum Width {
     /// One or two bytes each.
     Short,
@@ -282,8 +283,14 @@ fn write_undecided(text: &str, units: &mut [u16])
 }
 
 /// A text of fewer bytes gets room for as many units as it has bytes, which costs less than to count its
-/// characters.
+/// characters, unless they are written eight at a time.
 const FEW: usize = 64;
+
+/// Whether the characters of a text are pushed one by one, and not counted first.
+#[inline(always)]
+fn is_few(bytes: &[u8]) -> bool {
+    bytes.len() < FEW && !matches!(likely_width(bytes), Width::Wide)
+}
 
 /// The units of a text of UCS-2 of few bytes, and a NUL.
 fn units_of_few_chars<A: Allocator>(alloc: A, text: &str) -> Result<Vec<u16, A>, AllocError>
@@ -320,7 +327,7 @@ pub fn units_of_text<A: Allocator>(alloc: A, text: &str) -> Result<Vec<u16, A>, 
     if is_ascii_text(text.as_bytes()) {
         return units_of_ascii(alloc, text.as_bytes()).map_err(|_| FromStrError::OutOfMemory);
     }
-    if text.len() < FEW {
+    if is_few(text.as_bytes()) {
         if find_deciding_char(text).is_some() {
             return Err(refusal_of_text(text));
         }
