@@ -155,7 +155,8 @@ fn is_converted(
     )
 }
 
-/// Converts the text of each row at each of these places, where a place comes after how many others there are.
+/// Converts the text of each row at each of these places: how many others there are, and how many of them
+/// stand before it.
 fn convert_each(rt: &HostRuntime, places: &[(usize, usize)]) -> Result<(), Fail> {
     for (others, place) in places {
         for other in OTHERS {

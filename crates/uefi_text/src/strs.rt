@@ -246,7 +246,7 @@ impl<'a> CStr16<'a> {
         self.num_chars() == 0
     }
 
-    /// Whether each character is one of ASCII. One pass.
+    /// Whether each character is one of ASCII. One pass, which ends soon after the first that is not.
     #[tactic(auto, using(uefi_text_encodings::proofs::Scanning::ascii_units), unfolding(crate::specs::Views::text_of))]
     pub fn is_ascii(&self) -> bool
         ensures { IsTrue result ↔ IsAscii (text_of self.now) }

@@ -12,7 +12,7 @@ ghost use Rattle.uefi_text_encodings.specs.FromStrWithBuf.{from_str_with_buf_ref
 
 use crate::errors::{FromStrError, FromStrWithBufError};
 use crate::scans::{copy_units, count_undecided_chars, has_deciding_byte, is_ascii_text, widen};
-use crate::short_chars::{BLOCK, read_block};
+use crate::short_chars::{BLOCK, read_block, write_lanes};
 use std::alloc::{AllocError, Allocator};
 use std::simd::prelude::*;
 
@@ -176,15 +176,6 @@ fn first_unit(text: &str) -> Option<(u16, &str)>
     Some((character as u16, characters.as_str()))
 }
 
-/// Writes eight units from a place on.
-#[inline(always)]
-fn write_eight(units: &mut [u16], place: usize, eight: [u16; 8])
-    requires { place + 8 ≤ length units.old }
-    ensures { units.new ≡ take place units.old ++ (eight ++ drop (place + 8) units.old) }
-{
-    u16x8::from_array(eight).copy_to_slice(&mut units[place..]);
-}
-
 /// Writes characters of a text of UCS-2 into the prefix of units, up to near the end of the text or of
 /// the units. Returns how many were written, and what follows them. Writes none where some look as if
 /// they had three bytes, and others fewer: then it is quicker to decode all of them one by one.
@@ -218,7 +209,7 @@ fn write_wide<'a>(text: &'a str, units: &mut [u16]) -> (usize, &'a str)
     let mut len = 0;
     while 8 < units.len() - len {
         if let Some(eight) = first_eight(rest) {
-            write_eight(units, len, eight);
+            write_lanes(units, len, u16x8::from_array(eight));
             rest = after_eight(rest);
             len += 8;
         } else if let Some((unit, others)) = first_unit(rest) {

@@ -172,7 +172,7 @@ impl<'a> fmt::Debug for CStr8<'a> {
 }
 
 /// Whether each character of a Rust text is one of Latin-1, which has those up to U+00FF. One pass
-/// over the bytes; takes no memory.
+/// over the bytes, which ends soon after the first that decides; takes no memory.
 #[tactic(auto, using(crate::proofs::Utf8Bytes::latin1_bytes))]
 pub fn is_latin1(s: &str) -> bool
     ensures { IsTrue result ↔ IsLatin1 (chars s.now) }
@@ -180,7 +180,8 @@ pub fn is_latin1(s: &str) -> bool
     !has_byte_beyond_latin1(s.as_bytes())
 }
 
-/// Whether no character of a Rust text is NUL. One pass over the bytes; takes no memory.
+/// Whether no character of a Rust text is NUL. One pass over the bytes, which ends soon after the first
+/// that is; takes no memory.
 #[tactic(auto, using(crate::proofs::Utf8Bytes::no_zero_bytes))]
 pub fn has_no_nul(s: &str) -> bool
     ensures { IsTrue result ↔ All (λ c. c ≢ 0) (chars s.now) }

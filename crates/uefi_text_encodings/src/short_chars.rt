@@ -170,7 +170,7 @@ pub(crate) fn read_block<'a>(text: &'a str, block: &mut [u16; 80]) -> (usize, &'
 
 /// Writes eight units from a place on.
 #[inline(always)]
-fn write_lanes(units: &mut [u16], place: usize, lanes: u16x8)
+pub(crate) fn write_lanes(units: &mut [u16], place: usize, lanes: u16x8)
     requires { place + 8 ≤ length units.old }
     ensures { units.new ≡ take place units.old ++ (lanes ++ drop (place + 8) units.old) }
 {

@@ -29,7 +29,7 @@ loop-units-preserved-in-Some c =
       utf8 = c.after_eight-rest.utf8;
       count = more.2;
       to_come = more.1;
-      written = place_more (take len all) c.args.units.now c.in-Some.eight _ _ len 8 (sym front) eight.0 room so_far.written c.write_eight.ensures
+      written = place_more (take len all) c.args.units.now c.in-Some.eight _ _ len 8 (sym front) eight.0 room so_far.written c.write_lanes.ensures
           ∙ ap (λ (us : List ℕ). us ++ drop (len + 8) c.args.units.now) (sym more.0);
     }
 
