@@ -52,6 +52,8 @@ unsafe extern "C" {
     fn ours_display(_: *const u16, _: usize, _: *const u16, _: usize, rounds: usize) -> usize;
     fn ours_to_string(_: *const u16, _: usize, _: *const u16, _: usize, rounds: usize) -> usize;
     fn ours_is_ascii(_: *const u16, _: usize, _: *const u16, _: usize, rounds: usize) -> usize;
+    fn ours_iter(_: *const u16, _: usize, _: *const u16, _: usize, rounds: usize) -> usize;
+    fn ours_unaligned_iter(_: *const u8, _: usize, _: *const u8, _: usize, rounds: usize) -> usize;
     fn ours_eq(_: *const u16, _: usize, _: *const u16, _: usize, rounds: usize) -> usize;
     fn ours_cmp(_: *const u16, _: usize, _: *const u16, _: usize, rounds: usize) -> usize;
     fn ours_eq_str_until_nul(
@@ -213,6 +215,19 @@ mod ours {
         }
     }
 
+    pub fn iter(inputs: &mut Inputs, rounds: usize) -> usize {
+        // SAFETY: each pointer comes with the length of the slice that it is of.
+        unsafe {
+            ours_iter(
+                inputs.units[0].as_ptr(),
+                inputs.units[0].len(),
+                inputs.units[1].as_ptr(),
+                inputs.units[1].len(),
+                rounds,
+            )
+        }
+    }
+
     pub fn eq(inputs: &mut Inputs, rounds: usize) -> usize {
         // SAFETY: each pointer comes with the length of the slice that it is of.
         unsafe {
@@ -327,6 +342,19 @@ mod ours {
     pub fn replace_char(inputs: &mut Inputs, rounds: usize) -> usize {
         // SAFETY: each pointer comes with the length of the slice that it is of.
         unsafe { ours_replace_char(inputs.units[0].as_ptr(), inputs.units[0].len(), rounds) }
+    }
+
+    pub fn unaligned_iter(inputs: &mut Inputs, rounds: usize) -> usize {
+        // SAFETY: each pointer comes with the length of the slice that it is of.
+        unsafe {
+            ours_unaligned_iter(
+                inputs.packed[0][1..].as_ptr(),
+                inputs.packed[0].len() - 1,
+                inputs.packed[1][1..].as_ptr(),
+                inputs.packed[1].len() - 1,
+                rounds,
+            )
+        }
     }
 
     pub fn to_vec_u16(inputs: &mut Inputs, rounds: usize) -> usize {
@@ -618,6 +646,13 @@ pub const CALLS: &[Call] = &[
         ours: ours::is_ascii,
     },
     Call {
+        name: "iter",
+        sizes: SIZES,
+        inputs: ascii,
+        original: original!(iter),
+        ours: ours::iter,
+    },
+    Call {
         name: "eq",
         sizes: SIZES,
         inputs: ascii,
@@ -728,6 +763,13 @@ pub const CALLS: &[Call] = &[
         inputs: path,
         original: original!(replace_char),
         ours: ours::replace_char,
+    },
+    Call {
+        name: "unaligned_iter",
+        sizes: SIZES,
+        inputs: ascii,
+        original: original!(unaligned_iter),
+        ours: ours::unaligned_iter,
     },
     Call {
         name: "to_vec_u16",

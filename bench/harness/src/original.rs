@@ -99,6 +99,18 @@ pub fn is_ascii(inputs: &mut Inputs, rounds: usize) -> usize {
 }
 
 #[inline(never)]
+fn sum_of_characters(string: &CStr16) -> usize {
+    string.iter().fold(0, |sum: usize, character| {
+        sum.wrapping_add(usize::from(u16::from(*character)))
+    })
+}
+
+pub fn iter(inputs: &mut Inputs, rounds: usize) -> usize {
+    let strings = views(inputs);
+    repeat(rounds, |k| sum_of_characters(strings[k]))
+}
+
+#[inline(never)]
 fn are_equal(one: &CStr16, two: &CStr16) -> bool {
     one == two
 }
@@ -234,6 +246,18 @@ pub fn replace_char(inputs: &mut Inputs, rounds: usize) -> usize {
 #[inline(never)]
 fn last_of_vec<T: Copy>(slice: &UnalignedSlice<'_, T>) -> Option<T> {
     black_box(slice.to_vec()).last().copied()
+}
+
+#[inline(never)]
+fn sum_of_items(slice: &UnalignedSlice<'_, u16>) -> usize {
+    slice
+        .iter()
+        .fold(0, |sum: usize, item| sum.wrapping_add(usize::from(item)))
+}
+
+pub fn unaligned_iter(inputs: &mut Inputs, rounds: usize) -> usize {
+    let slices = packed::<u16>(inputs);
+    repeat(rounds, |k| sum_of_items(&slices[k]))
 }
 
 pub fn to_vec_u16(inputs: &mut Inputs, rounds: usize) -> usize {
