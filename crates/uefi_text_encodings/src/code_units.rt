@@ -275,7 +275,7 @@ fn write_undecided(text: &str, units: &mut [u16])
 
 /// A text of fewer bytes gets room for as many units as it has bytes, which costs less than to count its
 /// characters, unless they are written eight at a time.
-const FEW: usize = 64;
+const FEW: usize = 32;
 
 /// Whether the characters of a text are pushed one by one, and not counted first.
 #[inline(always)]
