@@ -11,7 +11,9 @@ ghost use Rattle.uefi_text_encodings.specs.FromStr.{is_deciding_char, from_str_r
 ghost use Rattle.uefi_text_encodings.specs.FromStrWithBuf.{from_str_with_buf_refusal, refusal_of_char_at, with_text, with_units};
 
 use crate::errors::{FromStrError, FromStrWithBufError};
-use crate::scans::{copy_units, count_undecided_chars, has_deciding_byte, is_ascii_text, widen};
+use crate::scans::{
+    copy_units, count_undecided_chars, has_deciding_byte, is_ascii_text, look_at_few, widen,
+};
 use crate::short_chars::{BLOCK, read_block, write_lanes};
 use std::alloc::{AllocError, Allocator};
 use std::simd::prelude::*;
@@ -307,6 +309,26 @@ fn refusal_of_text(text: &str) -> FromStrError
     }
 }
 
+/// A text of fewer bytes is looked at once.
+const FEWEST: usize = 16;
+
+/// The units of a text of few bytes and a NUL, as [`units_of_text`] gives them.
+fn units_of_short_text<A: Allocator>(alloc: A, text: &str) -> Result<Vec<u16, A>, FromStrError>
+    ensures ok { IfOk result (λ units. units.items ≡ nul_terminated (chars text.now)) }
+    ensures accepted { IfOk result (λ _. find is_deciding_char (chars text.now) ≡ None) }
+    ensures refusal { IfErr result (λ error.
+        error ≡ unwrap_or (from_str_refusal (chars text.now)) FromStrError.OutOfMemory) }
+{
+    let (is_ascii, decides) = look_at_few(text.as_bytes());
+    if is_ascii {
+        return units_of_ascii(alloc, text.as_bytes()).map_err(|_| FromStrError::OutOfMemory);
+    }
+    if decides {
+        return Err(refusal_of_text(text));
+    }
+    units_of_few_chars(alloc, text).map_err(|_| FromStrError::OutOfMemory)
+}
+
 /// The units of a text of UCS-2 and a NUL, in one allocation. It has just their room, unless the text is
 /// short.
 pub fn units_of_text<A: Allocator>(alloc: A, text: &str) -> Result<Vec<u16, A>, FromStrError>
@@ -315,6 +337,9 @@ pub fn units_of_text<A: Allocator>(alloc: A, text: &str) -> Result<Vec<u16, A>, 
     ensures refusal { IfErr result (λ error.
         error ≡ unwrap_or (from_str_refusal (chars text.now)) FromStrError.OutOfMemory) }
 {
+    if text.len() < FEWEST {
+        return units_of_short_text(alloc, text);
+    }
     if is_ascii_text(text.as_bytes()) {
         return units_of_ascii(alloc, text.as_bytes()).map_err(|_| FromStrError::OutOfMemory);
     }

@@ -277,7 +277,23 @@ pub(crate) fn has_deciding_byte(bytes: &[u8]) -> bool
     false
 }
 
-/// The same of bytes that are looked at together.
+/// Whether each byte is ASCII and not NUL, and whether one begins a character that no UCS-2 text holds. One
+/// pass, which costs less than two where there are few bytes.
+#[inline(always)]
+pub(crate) fn look_at_few(bytes: &[u8]) -> (bool, bool)
+    ensures ascii { result.0 ≡ fold ascii_text_so_far true bytes.now }
+    ensures decides { result.1 ≡ fold deciding_byte_so_far false bytes.now }
+{
+    let mut is_ascii = true;
+    let mut decides = false;
+    for byte in bytes {
+        is_ascii = is_ascii & (0 < *byte) & (*byte < 128);
+        decides = decides | (*byte == 0) | (0xf0 <= *byte);
+    }
+    (is_ascii, decides)
+}
+
+/// Whether one of some bytes that are looked at together begins a character that no UCS-2 text holds.
 #[inline(always)]
 fn has_deciding_byte_part(bytes: u8x32) -> bool
     ensures { result ≡ fold deciding_byte_so_far false bytes }
