@@ -50,39 +50,35 @@ module _ (p : ℕ → Bool) (step : Bool → ℕ → Bool) (kept : (u : ℕ) →
             subst (λ u. p u ≡ false) e (none_in_block (take n (drop from us)) clear i long)
       ]
 
--- where a fold found nothing so far, it finds in a part more what it finds in that alone
-pub found_so_far : (step : Bool → ℕ → Bool) (us : List ℕ) (at n : ℕ) → fold step false (take at us) ≡ false
-    → fold step false (take (at + n) us) ≡ fold step false (take n (drop at us))
-found_so_far step us at n none =
-    ap (fold step false) (take-add at n us) ∙ fold-append step false (take at us) (take n (drop at us))
-    ∙ ap (λ found. fold step found (take n (drop at us))) none
-
--- and in all of a list what it finds after that
-pub found_in_rest : (step : Bool → ℕ → Bool) (us : List ℕ) (at : ℕ) → fold step false (take at us) ≡ false
-    → fold step false us ≡ fold step false (drop at us)
-found_in_rest step us at none =
-    ap (fold step false) (sym (take-append-drop at us)) ∙ fold-append step false (take at us) (drop at us)
-    ∙ ap (λ found. fold step found (drop at us)) none
-
--- what is found in a prefix is found
-pub found_in_front : (step : Bool → ℕ → Bool) → ((u : ℕ) → step true u ≡ true) → (us : List ℕ) (n : ℕ)
-    → fold step false (take n us) ≡ true → fold step false us ≡ true
-found_in_front step kept us n found =
-    ap (fold step false) (sym (take-append-drop n us)) ∙ fold-append step false (take n us) (drop n us)
-    ∙ ap (λ so_far. fold step so_far (drop n us)) found ∙ fold_stays step true kept (drop n us)
-
--- a block whose answer the fold keeps answers for all
+-- where the answer of a fold stays as it is, a block that has it answers for all
 pub decided_by_block : (step : Bool → ℕ → Bool) (start answer : Bool) → ((u : ℕ) → step answer u ≡ answer) → (us block rest : List ℕ)
     → us ≡ block ++ rest → fold step start block ≡ answer → fold step start us ≡ answer
 decided_by_block step start answer kept us block rest parts decided =
     ap (fold step start) parts ∙ fold-append step start block rest
     ∙ ap (λ so_far. fold step so_far rest) decided ∙ fold_stays step answer kept rest
 
--- and one whose answer is that before it leaves it to the rest
+-- and one that changes nothing leaves it to the rest
 pub left_by_block : (step : Bool → ℕ → Bool) (start : Bool) (us block rest : List ℕ) → us ≡ block ++ rest
     → fold step start block ≡ start → fold step start us ≡ fold step start rest
 left_by_block step start us block rest parts same =
     ap (fold step start) parts ∙ fold-append step start block rest ∙ ap (λ so_far. fold step so_far rest) same
+
+-- where a fold found nothing so far, it finds in a part more what it finds in that alone
+pub found_so_far : (step : Bool → ℕ → Bool) (us : List ℕ) (at n : ℕ) → fold step false (take at us) ≡ false
+    → fold step false (take (at + n) us) ≡ fold step false (take n (drop at us))
+found_so_far step us at n none =
+    left_by_block step false (take (at + n) us) (take at us) (take n (drop at us)) (take-add at n us) none
+
+-- and in all of a list what it finds after that
+pub found_in_rest : (step : Bool → ℕ → Bool) (us : List ℕ) (at : ℕ) → fold step false (take at us) ≡ false
+    → fold step false us ≡ fold step false (drop at us)
+found_in_rest step us at none = left_by_block step false us (take at us) (drop at us) (sym (take-append-drop at us)) none
+
+-- what is found in a prefix is found
+pub found_in_front : (step : Bool → ℕ → Bool) → ((u : ℕ) → step true u ≡ true) → (us : List ℕ) (n : ℕ)
+    → fold step false (take n us) ≡ true → fold step false us ≡ true
+found_in_front step kept us n found =
+    decided_by_block step false true kept us (take n us) (drop n us) (sym (take-append-drop n us)) found
 
 -- where an element passes and none before it does, a search ends there
 pub position-at : (p : ℕ → Bool) (us : List ℕ) (i : ℕ) → i < length us → ((k : ℕ) → k < i → p (get_or us k 0) ≡ false)

@@ -81,8 +81,7 @@ const BYTES_PART: usize = 16;
 /// How many bytes are looked at together where characters are counted.
 const COUNT_PART: usize = 32;
 
-/// How many units of a long text are looked at before the answer so far is: none after them are looked at
-/// where it can't change any more.
+/// How many units of a long text are tested at a time: no more are read where one of them decides.
 const UNITS_BLOCK: usize = 128;
 
 /// The same of bytes.
