@@ -155,26 +155,8 @@ fn is_converted(
     )
 }
 
-/// Converts the text of each row at each of these places: how many others there are, and how many of them
-/// stand before it.
-fn convert_each(rt: &HostRuntime, places: &[(usize, usize)]) -> Result<(), Fail> {
-    for (others, place) in places {
-        for other in OTHERS {
-            for row in MIDDLES {
-                let is_right = is_converted(rt, *others, *place, other, *row)?;
-                assert!(rt; is_right, "{:?} among {others}, at {place}", row.0);
-            }
-        }
-    }
-    Ok(())
-}
-
-#[test]
-fn each_text(rt: HostRuntime) -> Result<(), Fail> {
-    convert_each(&rt, &hostile_places(rt.alloc())?)
-}
-
-/// Places around the blocks in which long texts are looked at, the first of them and the last.
+/// Places around the blocks in which long texts are looked at, the first of them and the last: how many
+/// others there are, and how many of them stand before it.
 const LONG_PLACES: &[(usize, usize)] = &[
     (255, 255),
     (256, 0),
@@ -188,6 +170,16 @@ const LONG_PLACES: &[(usize, usize)] = &[
 ];
 
 #[test]
-fn each_long_text(rt: HostRuntime) -> Result<(), Fail> {
-    convert_each(&rt, LONG_PLACES)
+fn each_text(rt: HostRuntime) -> Result<(), Fail> {
+    let mut places = hostile_places(rt.alloc())?;
+    places.extend_from_slice(LONG_PLACES)?;
+    for (others, place) in &places {
+        for other in OTHERS {
+            for row in MIDDLES {
+                let is_right = is_converted(&rt, *others, *place, other, *row)?;
+                assert!(rt; is_right, "{:?} among {others}, at {place}", row.0);
+            }
+        }
+    }
+    Ok(())
 }
