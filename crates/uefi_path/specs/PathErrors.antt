@@ -6,6 +6,7 @@ use Rattle.uefi_path.specs.declared.normal.NormalizeError.TheVariants.{Invalid, 
 use Rattle.uefi_path.specs.declared.validation.PathError.{PathError}
 use Rattle.uefi_path.specs.declared.validation.PathError.TheVariants.{ClimbsAboveRoot, Empty, EmptyComponent, IllegalChar}
 
+-- what is printed of the refusal of a path
 abbrev pub path_error_text : PathError → List ℕ
 path_error_text Empty = codes "path is empty"
 path_error_text EmptyComponent = codes "path contains an empty component"
@@ -13,6 +14,7 @@ path_error_text (IllegalChar character) =
     codes "path contains an illegal character (value " ++ decimal character ++ codes ")"
 path_error_text ClimbsAboveRoot = codes "path climbs above the root"
 
+-- what is printed where a path has no normal path
 abbrev pub normalize_error_text : NormalizeError → List ℕ
 normalize_error_text (Invalid error) = path_error_text error
 normalize_error_text OutOfMemory = codes "out of memory"

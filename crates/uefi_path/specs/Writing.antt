@@ -12,6 +12,7 @@ abbrev pub normal_where : Option PathError → List (List ℕ) → Option (List 
 normal_where None normal = Some (normal_text normal)
 normal_where (Some error) normal = None
 
+-- the normal path of a text, where the text is not refused
 abbrev pub normal_path : List ℕ → Option (List ℕ)
 normal_path text = normal_where (verdict text) (normal_of (components_of text))
 

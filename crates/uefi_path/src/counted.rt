@@ -37,8 +37,10 @@ impl ReadCount {
     }
 }
 
-/// The units of a text, of which each read is counted. In contracts its text is `counted_text` of it,
-/// and the count is `reads_of` it.
+/// The code units of a text, of which contracts count each read. It is there so that
+/// [`crate::PathBuf::push_counted`] can promise to read each unit of what it pushes once. The count
+/// stands in contracts alone: no running program has it. A contract sees the text as `counted_text`
+/// of it, and the number of reads as `reads_of` it.
 #[derive(Drop)]
 pub struct CountedUnits<'a> {
     units: &'a [u16],
@@ -50,7 +52,7 @@ pub struct CountedUnits<'a> {
 impl<'a> CountedUnits<'a> {
     ghost use Rattle.uefi_path.specs.Views.{counted_text, reads_of};
 
-    /// The units of a string's text, none of which was read. Takes no memory.
+    /// The units of a string's text, none of them read. Takes no memory.
     pub fn new(string: CStr16<'a>) -> CountedUnits<'a>
         ensures text { counted_text result ≡ text_of string.entry }
         ensures count { reads_of result ≡ 0 }
@@ -71,7 +73,7 @@ impl<'a> CountedUnits<'a> {
         CountedUnits { units: &[], count }
     }
 
-    /// How many units the text has.
+    /// The number of units.
     #[inline(always)]
     pub fn len(&self) -> usize
         ensures same { result ≡ length (counted_text self.now) }
@@ -81,7 +83,7 @@ impl<'a> CountedUnits<'a> {
         self.units.len()
     }
 
-    /// The unit at a place. Counts one read.
+    /// The unit at an index below [`CountedUnits::len`]. Counts one read.
     #[inline(always)]
     pub fn get(&mut self, i: usize) -> u16
         requires { i < length (counted_text self.old) }

@@ -1,5 +1,5 @@
-//! The laws by which users of paths reason, over the definitions that the contracts of the working
-//! calls cite. Each law is a function that does nothing: its contract is the law.
+//! The laws by which users of paths reason. They speak of the definitions that the contracts of the
+//! working calls cite. Each law is a function that does nothing: its contract is the law.
 ghost use Rattle.uefi_path.specs.Laws.{AreComponentsWhereSame, ComponentsOnce, NoComponentsOfEmpty, OneMoreThanSeparators, TextsHaveComponents};
 ghost use Rattle.uefi_path.specs.Laws.{EqualWhereSameCanonical, EqualityIsEquivalence, OrderIsTotal, OrderTiesEqual, SameParent};
 ghost use Rattle.uefi_path.specs.Laws.{EmptyAfterIsUnit, EmptyBeforeIsUnit, PushingIsAssociative};

@@ -1,13 +1,14 @@
 //! Paths over UCS-2 strings, as UEFI firmware encodes them: components between backslashes.
 //!
 //! A [`Path`] is a view of a string of `uefi_text`, and a [`PathBuf`] owns one. One leading
-//! [`SEPARATOR`] says nothing: the *canonical text* of a path is its text without it, two paths are
-//! equal exactly when their canonical texts are and ordered as these are, and a path's *components*
+//! [`SEPARATOR`] makes no difference: the *canonical text* of a path is its text without it. Two paths are
+//! equal exactly when their canonical texts are, and they are ordered as these are. A path's *components*
 //! are the pieces between the separators of its canonical text, empty ones too. The empty path and
-//! the lone separator have none. A `PathBuf` replaces each `/` that it takes over by a separator; a
-//! `Path` replaces nothing. [`validate_path`] says whether each
-//! component may name a file and none climbs above where the path starts, and [`Path::normalize`] gives the
-//! one path without `.` and `..` that such a path leads to.
+//! the lone separator have none.
+//!
+//! A `PathBuf` replaces each `/` that it takes over by a separator; a `Path` replaces nothing.
+//! [`validate_path`] says whether each component may name a file and none climbs above where the path
+//! starts. [`Path::normalize`] gives the one path without `.` and `..` that such a path leads to.
 //!
 //! ```rust
 //! use std::alloc::AllocError;
@@ -29,9 +30,9 @@
 //! [`laws`] are what users may reason by: one list of components for each text, equality and order,
 //! what joining does, and what climbing does.
 //!
-//! In contracts a [`PathBuf`] is its text, `path_text` is that of a [`Path`], and `components_left`
-//! are the pieces that [`Components`] still gives. No clause outside this crate speaks of a
-//! separator's place.
+//! A contract sees a [`PathBuf`] as its text, a [`Path`] as `path_text` of it, and [`Components`] as
+//! `components_left` of it: the pieces that are still to come. Only this crate knows the places of the
+//! separators: no clause outside speaks of one.
 #![tactic(auto)]
 
 mod bits;

@@ -21,13 +21,14 @@ use uefi_text::strs::Char16Slice;
 /// Why a path has no normal path.
 #[derive(Clone, Copy, Debug, PartialEq, Eq)]
 pub enum NormalizeError {
-    /// The path is not valid.
+    /// The path is not valid, for this reason.
     Invalid(PathError),
 
-    /// Memory is refused.
+    /// The path is valid, and a request for memory was refused.
     OutOfMemory,
 }
 
+/// Writes the reason.
 impl fmt::Display for NormalizeError {
     ghost use Rattle.std.specs.Prelude.{Some};
     ghost use Rattle.uefi_path.specs.PathErrors.{normalize_error_text};
@@ -120,16 +121,16 @@ fn refusal(path: Path<'_>) -> NormalizeError
     }
 }
 
-/// The call that makes a normal path.
+/// Normal paths.
 impl<'a> Path<'a> {
-    /// The normal path, in memory that it owns: each component `.` goes, and each name goes with the
-    /// component `..` right after it, until neither is left. A name is any other component, and where
-    /// nothing is left the path is the lone separator. The path itself stays as it is.
+    /// The normal path, which is owned: each component `.` is deleted, and each name with a `..`
+    /// right after it, until neither is left. A name is any component but `.` and `..`. Where
+    /// nothing is left the normal path is the lone separator.
     ///
-    /// A path that is not valid is refused as `Invalid`, with what [`validate_path`] reports; only then,
-    /// refused memory as `OutOfMemory`. One pass over the components, and another only where memory is
-    /// refused on the way. Takes memory for the names that are kept on the way, and for the normal path as
-    /// [`PathBuf::from`] does.
+    /// A path that is not valid is refused as `Invalid`, with the reason that [`validate_path`]
+    /// reports; `OutOfMemory` comes last. One pass over the components, and another only where
+    /// memory is refused on the way. Takes memory for the names that are kept on the way, and for
+    /// the normal path as [`PathBuf::from`] does.
     pub fn normalize<A: Allocator + Copy>(&self, alloc: A) -> Result<PathBuf<A>, NormalizeError>
         ensures valid { IfOk result (λ path. verdict (path_text self.now) ≡ None) }
         ensures ok { IfOk result (λ path.

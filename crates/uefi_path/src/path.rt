@@ -16,15 +16,15 @@ use std::fmt;
 use uefi_text::chars::SEPARATOR;
 use uefi_text::strs::{CStr16, Char16Slice};
 
-/// A path that is borrowed: any string, read as components between separators. In contracts it is
-/// `path_text` of it.
+/// A borrowed path: any string, read as components between separators. A contract sees it as
+/// `path_text` of it: its whole text, a leading separator among it.
 #[derive(Clone, Copy)]
 pub struct Path<'a> {
     string: CStr16<'a>,
 }
 
-/// The components of a path that are still to come, in order. In contracts it is `components_left`
-/// of it.
+/// An iterator over the components of a path. A contract sees it as `components_left` of it: what
+/// is still to come.
 #[derive(Drop)]
 pub struct Components<'a> {
     /// What is left to cut; `None` after the last component.
@@ -56,14 +56,14 @@ impl<'a> Path<'a> {
     ghost use Rattle.uefi_path.specs.Runs.{GivesNoNulIn};
     ghost use Rattle.uefi_path.specs.Views.{path_text, components_left};
 
-    /// The path of a string, which is taken as it stands: no slash is replaced.
+    /// The path of a string. No slash is replaced. Takes no memory.
     pub fn new(string: CStr16<'a>) -> Path<'a>
         ensures { path_text result ≡ text_of string.entry }
     {
         Path { string }
     }
 
-    /// The string of the path.
+    /// The string of the path. Takes no memory.
     pub fn to_cstr16(&self) -> CStr16<'a>
         ensures same { text_of result ≡ path_text self.now }
         ensures is_text { IsText (text_of result) }
@@ -73,9 +73,10 @@ impl<'a> Path<'a> {
         self.string
     }
 
-    /// The components of the path: the pieces between the separators of its canonical text, empty
-    /// ones too. There is no other list of pieces without separators, and not the one empty piece,
-    /// that joins to that text. Takes no memory; all of them together cost one pass over the text.
+    /// The components: the pieces between the separators of the canonical text, empty ones too, and
+    /// none of the empty text. They are the only list of pieces without separators that joins to
+    /// that text, where a list of one empty piece does not count. Takes no memory; all of them
+    /// together cost one pass over the text.
     pub fn components(&self) -> Components<'a>
         ensures same { components_left result ≡ components_of (path_text self.now) }
         ensures components { AreComponents (path_text self.now) (components_left result) }
@@ -90,8 +91,8 @@ impl<'a> Path<'a> {
         Components::of_canonical(*self, Rest::of(text))
     }
 
-    /// The last component, or `None` where there is none. It may be empty. Takes no memory; costs what that
-    /// component has, and no other is looked at.
+    /// The last component, or `None` where there is none. It may be empty. Takes no memory, and
+    /// reads that component alone.
     pub fn file_name(&self) -> Option<Char16Slice<'a>>
         ensures same { option_map units_of result ≡ last_or None (components_of (path_text self.now)) }
         ensures is_text { IfSome result (λ name. IsText (units_of name)) }
@@ -103,18 +104,18 @@ impl<'a> Path<'a> {
         Some(cut_last(canonical).1)
     }
 
-    /// Whether this path's components are those of the base, and then maybe more. So `\a\bc` starts
-    /// with `a` and with `\a\bc`, and not with `\a\b`; and every path starts with the empty one. Takes
-    /// no memory; at most one pass over each, which ends at the first components that differ.
+    /// Whether the components of this path begin with those of the base. So `\a\bc` starts with `a`
+    /// and with `\a\bc`, and not with `\a\b`; and every path starts with the empty one. Takes no
+    /// memory; at most one pass over each, which ends at the first components that differ.
     pub fn starts_with(&self, base: Path<'_>) -> bool
         ensures { IsTrue result ↔ StartsWith (path_text self.now) (path_text base.entry) }
     {
         self.strip_prefix(base).is_some()
     }
 
-    /// The components of this path after those of the base, where the base's are the first of this
-    /// path's, as [`Path::starts_with`] says; else `None`. Takes no memory; at most one pass over each,
-    /// which ends at the first components that differ.
+    /// The components of this path after those of the base, where it starts with the base, as
+    /// [`Path::starts_with`] says; else `None`. Takes no memory; at most one pass over each, which
+    /// ends at the first components that differ.
     pub fn strip_prefix(&self, base: Path<'_>) -> Option<Components<'a>>
         ensures starts { IsSome result ↔ StartsWith (path_text self.now) (path_text base.entry) }
         ensures rest { IfSome result (λ rest. components_of (path_text self.now)
@@ -239,13 +240,14 @@ impl<'a> fmt::Display for Path<'a> {
     }
 }
 
+/// Prints the string of the path.
 impl<'a> fmt::Debug for Path<'a> {
     fn fmt<W: fmt::Write>(&self, f: &mut fmt::Formatter<W>) -> fmt::Result {
         f.debug_tuple("Path").field(&self.string).finish()
     }
 }
 
-/// The string of the separator alone.
+/// The string of one separator. Takes no memory.
 pub fn separator_str() -> CStr16<'static>
     ensures { text_of result ≡ separator ∷ [] }
 {
@@ -413,6 +415,7 @@ impl<'a> Components<'a> {
     }
 }
 
+/// Gives the components in order, and then `None` for ever.
 impl<'a> Iterator for Components<'a> {
     type Item = Char16Slice<'a>;
 
@@ -446,8 +449,8 @@ impl<'a> Iterator for Components<'a> {
         Some(component)
     }
 
-    /// None after the last component; before it at least one, and at most one more than there are
-    /// characters left, since a separator stands between two.
+    /// After the last component none are left. Before it there is at least one, and at most one
+    /// more than characters are left: a separator stands between two.
     fn size_hint(&self) -> (usize, Option<usize>)
         ensures lower { IsWithinCount result.0 (item_count components_left self.now) }
         ensures upper { IfSome result.1 (UpTo (item_count components_left self.now)) }
@@ -460,6 +463,7 @@ impl<'a> Iterator for Components<'a> {
     }
 }
 
+/// Prints the text that is left to cut into components.
 impl<'a> fmt::Debug for Components<'a> {
     fn fmt<W: fmt::Write>(&self, f: &mut fmt::Formatter<W>) -> fmt::Result {
         f.debug_tuple("Components")

@@ -25,8 +25,8 @@ use uefi_text::chars::{SEPARATOR, SLASH};
 use uefi_text::owned_strs::CString16;
 use uefi_text::strs::{CStr16, Char16Slice};
 
-/// A path that is owned, and whose text never holds a slash: each one that it takes over becomes a
-/// separator. In contracts it is its text.
+/// An owned path. Each `/` that it takes over becomes a separator, so its text never holds one. A
+/// contract sees it as its text.
 #[derive(Drop)]
 pub struct PathBuf<A: Allocator = Global> {
     string: CString16<A>,
@@ -158,11 +158,11 @@ fn room_for_both(path: Path<'_>, other: Path<'_>) -> usize {
     first.saturating_add(second).saturating_add(1)
 }
 
-/// The calls that make an owned path.
+/// Owned paths of a borrowed one.
 impl<'a> Path<'a> {
     ghost use Rattle.uefi_path.specs.Views.{path_text};
 
-    /// The path in memory that it owns, each slash replaced; or `AllocError`. Takes memory as
+    /// Copies the path, each slash replaced; or returns `AllocError`. Takes memory as
     /// [`PathBuf::from`] does.
     pub fn to_path_buf<A: Allocator + Copy>(&self, alloc: A) -> Result<PathBuf<A>, AllocError>
         ensures { IfOk result (λ path. path ≡ with_separators (path_text self.now)) }
@@ -188,14 +188,14 @@ impl<'a> Path<'a> {
         Ok(joined)
     }
 
-    /// The path without its last component, in memory that it owns with each slash replaced; or
-    /// `AllocError`.
+    /// The parent, each slash replaced; or `AllocError`.
     ///
-    /// There is none where the path has at most one component: that takes no memory and is never
-    /// refused. Empty components are left out, but where the last one that is kept is empty and
-    /// another is not, a separator ends the parent. It is shorter than the path, so that climbing from
-    /// parent to parent ends. Linear in the text; takes memory once for the text, and once for the places
-    /// of its separators, where it has any.
+    /// The parent is the path without its last component. A path of at most one component has none:
+    /// that takes no memory and is never refused. Of the components before the last the empty ones
+    /// are left out; where the last of them is empty and another is not, a separator ends the
+    /// parent. So the parent of `a\\b` is `a\`. A parent is shorter than the path, so climbing from
+    /// parent to parent ends. Linear in the text; takes memory once for the text, and once for the
+    /// places of its separators, where it has any.
     pub fn parent<A: Allocator + Copy>(&self, alloc: A) -> Result<Option<PathBuf<A>>, AllocError>
         ensures ok { IfOk result (λ parent. parent ≡ parent_text (path_text self.now)) }
         ensures none { parent_text (path_text self.now) ≡ None → IsOk result }
@@ -222,7 +222,7 @@ impl<A: Allocator + Copy> PathBuf<A> {
     ghost use Rattle.uefi_text.specs.Views.{text_of, units_of};
     ghost use Rattle.uefi_path.specs.Views.{components_left, counted_text, path_text, reads_of, units_left};
 
-    /// The empty path. Takes memory for its NUL.
+    /// The empty path, or `AllocError`: its NUL takes memory.
     pub fn new(alloc: A) -> Result<Self, AllocError>
         ensures { IfOk result (λ path. path ≡ []) }
     {
@@ -247,16 +247,16 @@ impl<A: Allocator + Copy> PathBuf<A> {
         }
     }
 
-    /// The path of a borrowed string, each slash replaced, in memory that it owns; or `AllocError`. Takes
-    /// memory once for the text, and once for the places of its separators, where it has any.
+    /// Copies a string into a path, each slash replaced; or returns `AllocError`. Takes memory once
+    /// for the text, and once for the places of its separators, where it has any.
     pub fn from(alloc: A, string: CStr16<'_>) -> Result<Self, AllocError>
         ensures { IfOk result (λ path. path ≡ with_separators (text_of string.entry)) }
     {
         PathBuf::from_string(alloc, string.to_owned(alloc)?)
     }
 
-    /// The path of a string, each slash replaced, over the string's own memory. Where memory for the
-    /// places of its separators is refused, an `Err` with the string as it came, slashes and all.
+    /// Takes over a string as a path, each slash replaced, without a copy. Where memory for the
+    /// places of its separators is refused, the result is an `Err` with the unchanged string.
     ///
     /// Takes memory once, and none for a text without separators and slashes. Linear in the text.
     pub fn new_from_cstring16(alloc: A, mut string: CString16<A>) -> Result<Self, CString16<A>>
@@ -273,12 +273,13 @@ impl<A: Allocator + Copy> PathBuf<A> {
         Ok(PathBuf { string, places })
     }
 
-    /// Pushes a path after this one, its slashes replaced, and a separator between the two where this
-    /// one is not empty and does not end in one; or `AllocError`, and the path is unchanged.
+    /// Pushes a path after this one, its slashes replaced, with a separator between the two where
+    /// this one is not empty and does not end in one; or returns `AllocError`, and the path is
+    /// unchanged.
     ///
     /// The empty path changes nothing, takes no memory and is never refused. Any other takes memory
-    /// where text or places have no room, and a long one for what it adds. A push costs what it adds, on
-    /// average: of what stands already only the last character is looked at.
+    /// where text or places have no room, and a long one for what it adds. A push costs what it
+    /// adds, on average: of what stands already it reads the last character alone.
     pub fn push(&mut self, path: Path<'_>) -> Result<(), AllocError>
         ensures ok { OnOk result (self.new ≡ pushed self.old (path_text path.entry)) }
         ensures err { OnErr result (self.new ≡ self.old) }
@@ -288,11 +289,12 @@ impl<A: Allocator + Copy> PathBuf<A> {
         self.push_counted(&mut units)
     }
 
-    /// Pushes the path of a text, as [`PathBuf::push`] does, and reads each of its units once. One pass
-    /// makes what is added, and where it holds separators their places are found in that.
+    /// Pushes a text as [`PathBuf::push`] pushes its path, and reads each of its units once: the
+    /// count of reads rises by their number.
     ///
-    /// Where memory is refused fewer may be read, and never more. Of this path the last character is
-    /// looked at, which is not counted.
+    /// Where memory is refused the count rises by at most that. The last character of this path is
+    /// read too, which is not counted. One pass makes what is added; where that holds separators,
+    /// their places are found in it.
     pub fn push_counted(&mut self, units: &mut CountedUnits<'_>) -> Result<(), AllocError>
         ensures ok { OnOk result (self.new ≡ pushed self.old (counted_text units.old)) }
         ensures err { OnErr result (self.new ≡ self.old) }
@@ -468,7 +470,7 @@ impl<A: Allocator + Copy> PathBuf<A> {
         Ok(Some(PathBuf { string, places }))
     }
 
-    /// Makes the path the empty one. Takes no memory and gives none back.
+    /// Makes the path empty. Takes no memory and gives none back.
     pub fn clear(&mut self)
         ensures { self.new ≡ [] }
     {
@@ -476,7 +478,7 @@ impl<A: Allocator + Copy> PathBuf<A> {
         self.places.clear();
     }
 
-    /// A view of the path.
+    /// Borrows the path. Takes no memory.
     pub fn as_path(&self) -> Path<'_>
         ensures same { path_text result ≡ self.now }
         ensures plain { IsPlain self.now }
@@ -484,7 +486,7 @@ impl<A: Allocator + Copy> PathBuf<A> {
         Path::new(self.string.as_cstr16())
     }
 
-    /// The string of the path.
+    /// Borrows the string of the path. Takes no memory.
     pub fn to_cstr16(&self) -> CStr16<'_>
         ensures same { text_of result ≡ self.now }
         ensures is_text { IsText (text_of result) }
@@ -492,7 +494,7 @@ impl<A: Allocator + Copy> PathBuf<A> {
         self.string.as_cstr16()
     }
 
-    /// The string that the path owns. Takes no memory.
+    /// Gives back the string that the path owns. Takes no memory.
     pub fn into_cstring16(self) -> CString16<A>
         ensures { result ≡ self }
     {
@@ -507,8 +509,8 @@ impl<A: Allocator + Copy> PathBuf<A> {
         self.string.is_empty()
     }
 
-    /// The components of the path, as [`Path::components`]. All of them together cost what there are
-    /// components: no character is looked at.
+    /// The components, as [`Path::components`]. All of them together cost time linear in their
+    /// number: no character is read.
     pub fn components(&self) -> Components<'_>
         ensures same { components_left result ≡ components_of self.now }
         ensures components { AreComponents self.now (components_left result) }
@@ -543,7 +545,7 @@ impl<A: Allocator + Copy> PathBuf<A> {
         self.as_path().file_name()
     }
 
-    /// Whether this path's components begin with those of the base, as [`Path::starts_with`].
+    /// Whether the components of this path begin with those of the base, as [`Path::starts_with`].
     pub fn starts_with(&self, base: Path<'_>) -> bool
         ensures { IsTrue result ↔ StartsWith self.now (path_text base.entry) }
     {
@@ -564,7 +566,7 @@ impl<A: Allocator + Copy> PathBuf<A> {
     }
 }
 
-/// An equal path, in memory of the same allocator, which it takes as [`PathBuf::from`] does.
+/// Copies the path, in memory of the same allocator, which it takes as [`PathBuf::from`] does.
 impl<A: Allocator + Copy> Clone for PathBuf<A> {
     ghost is_clone = { λ path copy. copy ≡ path };
 
@@ -576,7 +578,7 @@ impl<A: Allocator + Copy> Clone for PathBuf<A> {
     }
 }
 
-/// As the equality of [`Path`].
+/// Equality is that of [`Path`].
 impl<A: Allocator + Copy> PartialEq for PathBuf<A> {
     ghost use Rattle.std.proofs.Common.{rules};
     ghost use Rattle.std.specs.Prelude.{nat_eq};
@@ -600,7 +602,7 @@ impl<A: Allocator + Copy> Eq for PathBuf<A> {
     ghost laws = { Prim.search (comparing, rules) };
 }
 
-/// As the order of [`Path`].
+/// The order is that of [`Path`].
 impl<A: Allocator + Copy> PartialOrd for PathBuf<A> {
     ghost use Rattle.std.proofs.Common.{rules};
     ghost use Rattle.std.specs.Ordering.{nat_cmp, as_partial_cmp, on};
@@ -650,6 +652,7 @@ impl<A: Allocator + Copy> fmt::Display for PathBuf<A> {
     }
 }
 
+/// Prints the string of the path.
 impl<A: Allocator + Copy> fmt::Debug for PathBuf<A> {
     fn fmt<W: fmt::Write>(&self, f: &mut fmt::Formatter<W>) -> fmt::Result {
         f.debug_tuple("PathBuf").field(&self.to_cstr16()).finish()

@@ -1,4 +1,4 @@
-//! Why a path names no file.
+//! Which paths are accepted, and why the others are refused.
 ghost use Rattle.std.specs.Prelude.{◌≡◌, ◌+◌, ◌<◌, ◌^◌, ◌↔◌, IsOk, Option, find};
 ghost use Rattle.std.specs.Result.{result_err};
 ghost use Rattle.uefi_path.specs.Climbing.{depth_after};
@@ -23,13 +23,15 @@ pub enum PathError {
     /// A component is empty.
     EmptyComponent,
 
-    /// A component holds this character, which no file's name may hold.
+    /// A component holds this character of [`CHARACTER_DENY_LIST`].
     IllegalChar(Char16),
 
-    /// A component `..` for which no name before it is left.
+    /// A component `..` climbs above where the path starts: the components before it hold at least
+    /// as many `..` as names.
     ClimbsAboveRoot,
 }
 
+/// Writes the reason, with the number of an illegal character in decimal.
 impl fmt::Display for PathError {
     ghost use Rattle.std.specs.Prelude.{Some};
     ghost use Rattle.uefi_path.specs.PathErrors.{path_error_text};
@@ -93,14 +95,16 @@ fn depth_after(depth: usize, component: Char16Slice<'_>) -> Option<usize>
     }
 }
 
-/// Whether a path names a file: `Ok`, or why the first component that is refused is.
+/// Whether a path is accepted: `Ok`, or the fault of its first component that has one.
 ///
-/// The empty path is refused as `Empty`; the lone separator has no component and is accepted. An
+/// The empty path is refused as `Empty`. The lone separator has no component and is accepted. An
 /// empty component is refused as `EmptyComponent`, one that holds a character of
-/// [`CHARACTER_DENY_LIST`] as `IllegalChar` of its first such, and a `..` as `ClimbsAboveRoot` where the
-/// components before it hold at least as many `..` as names. A `.` is no name. At most two passes: one of
-/// a longer path sees most valid ones as such, and ends with the 128 characters that hold a fault; the other
-/// explains a refusal, and ends at the fault. Takes no memory.
+/// [`CHARACTER_DENY_LIST`] as `IllegalChar` of its first such, and a `..` as `ClimbsAboveRoot`
+/// where the components before it hold at least as many `..` as names. A `.` is no name.
+///
+/// At most two passes. A longer path first takes a fast pass, which accepts most valid paths, and
+/// stops at the 128 characters that hold a fault. Where it does not accept, a walk over the
+/// components decides, and stops at the fault. Takes no memory.
 pub fn validate_path(path: Path<'_>) -> Result<(), PathError>
     ensures refusal { result_err result ≡ verdict (path_text path.entry) }
     ensures valid { IsOk result ↔ IsValid (path_text path.entry) }

@@ -142,14 +142,14 @@ fn write_names(places: &mut [u16], mut names: NamesFromLast<'_>)
     }
 }
 
-/// The calls that make a path in a caller's buffer.
+/// Paths in a caller's buffer. No call takes memory.
 impl<'a> Path<'a> {
-    /// Writes the path without its last component, as [`Path::parent`] has it, into the first places of a
-    /// buffer, and returns how many units that are. Writes no NUL; what stands after the parent stays.
+    /// Writes the parent, which [`Path::parent`] makes, to the start of a buffer, and returns how
+    /// many units it has. Writes no NUL; what follows the parent is unchanged.
     ///
-    /// `Ok(None)` where the path has at most one component, and `Err` with the length of the parent where
-    /// the buffer has fewer places; the buffer is unchanged then. Two passes over the components; takes
-    /// no memory.
+    /// `Ok(None)` where the path has at most one component, and `Err` with the length of the parent
+    /// where the buffer has fewer places: the buffer is then unchanged. Two passes over the
+    /// components.
     pub fn write_parent(&self, buffer: &mut [u16]) -> Result<Option<usize>, usize>
         ensures len { result ≡ written_len (parent_text (path_text self.now)) buffer.old }
         ensures buffer { buffer.new ≡ written_over (parent_text (path_text self.now)) buffer.old }
@@ -167,12 +167,12 @@ impl<'a> Path<'a> {
         Ok(Some(len))
     }
 
-    /// Writes the normal path, as [`Path::normalize`] makes it, into the first places of a buffer, and
-    /// returns how many units that are. Writes no NUL; what stands after the path stays.
+    /// Writes the normal path, which [`Path::normalize`] makes, to the start of a buffer, and
+    /// returns how many units it has. Writes no NUL; what follows the path is unchanged.
     ///
     /// `Ok(None)` where the path is not valid, which [`validate_path`] explains, and `Err` with the
-    /// length of the normal path where the buffer has fewer places; the buffer is unchanged then. Two
-    /// passes over the components after those of [`validate_path`]; takes no memory.
+    /// length of the normal path where the buffer has fewer places: the buffer is then unchanged.
+    /// Two passes over the components after those of [`validate_path`].
     pub fn write_normal(&self, buffer: &mut [u16]) -> Result<Option<usize>, usize>
         ensures len { result ≡ written_len (normal_path (path_text self.now)) buffer.old }
         ensures buffer { buffer.new ≡ written_over (normal_path (path_text self.now)) buffer.old }

@@ -1,4 +1,4 @@
-//! Strings of UCS-2 against Rust texts, of which only what stands before the first NUL counts.
+//! Comparison of strings of UCS-2 with Rust texts, up to the first NUL.
 ghost use Rattle.std.specs.Prelude.{◌↔◌, IsTrue};
 ghost use Rattle.std.specs.Str.{chars};
 ghost use Rattle.uefi_text_encodings.specs.EqStrUntilNul.{IsEqualUntilNul};
@@ -27,6 +27,7 @@ fn are_equal_by_block(units: &[u16], other: &str) -> bool
     are_equal_by_unit(&units[len..], rest)
 }
 
+/// Compares the characters of the text.
 impl<'a> EqStrUntilNul for CStr16<'a> {
     ghost use Rattle.uefi_text.specs.Views.{text_of};
 
@@ -39,6 +40,7 @@ impl<'a> EqStrUntilNul for CStr16<'a> {
     }
 }
 
+/// Compares the characters of the text.
 impl<A: Allocator> EqStrUntilNul for CString16<A> {
     ghost characters = { λ text. text };
 

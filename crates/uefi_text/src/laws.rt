@@ -1,5 +1,5 @@
-//! The laws by which users of strings reason, over the definitions that the contracts of the working
-//! calls cite. Each law is a function that does nothing: its contract is the law.
+//! The laws by which users of strings reason. They speak of the definitions that the contracts of
+//! the working calls cite. Each law is a function that does nothing: its contract is the law.
 ghost use Rattle.uefi_text.specs.Laws.{AcceptedWhereEncoded, EncodeOneText, EncodedOnce, TextWhereUnrefused, TextsAreCharacters, TextsAreEncoded};
 
 /// Every text is encoded by exactly one list of bytes, no bytes encode two texts, and bytes are accepted

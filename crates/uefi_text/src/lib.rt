@@ -17,15 +17,14 @@
 //! assert_eq!(rt; broken.err(), Some(FromSliceWithNulError::InvalidChar(1)));
 //! ```
 //!
-//! Strings come out of code units, characters, bytes and Rust texts, borrowed where nothing has to be
-//! copied, and each refusal says what is wrong and where. They go back into bytes, Rust texts and any
-//! [`CharSink`]. A [`CStr8`] is a string of Latin-1, and [`EqStrUntilNul`] compares all of them with
+//! Strings are made of code units, characters, bytes and Rust texts, and borrowed where nothing has to be
+//! copied. Each refusal says what is wrong and where. Strings become bytes, Rust texts, or what any
+//! [`CharSink`] holds. A [`CStr8`] is a string of Latin-1, and [`EqStrUntilNul`] compares all of them with
 //! Rust texts. An [`UnalignedSlice`] reads numbers that lie packed in bytes, at any place of memory.
 //!
-//! In contracts every value is the list of code units that it shows: `text_of` of a [`CStr16`],
-//! `units_of` of a [`Char16Slice`], `units_left` of a [`CStr16Iter`], and a [`CString16`] is its
-//! text. An [`UnalignedSlice`] is `items_of` it, its numbers. No clause outside this crate speaks
-//! of a NUL's place, of a buffer or of a capacity.
+//! A contract sees each value as a list: a [`CString16`] as its text, a [`CStr16`] as `text_of` it, a
+//! [`Char16Slice`] as `units_of` it, a [`CStr16Iter`] as `units_left` of it, and an [`UnalignedSlice`] as
+//! `items_of` it. No clause outside this crate speaks of a NUL's place, of a buffer or of a capacity.
 #![tactic(auto)]
 
 pub mod eq_str_until_nul;

@@ -1,4 +1,4 @@
-//! NUL-terminated strings of UCS-2 that are owned. A string keeps its NUL in the vector, which nothing
+//! Owned NUL-terminated strings of UCS-2. A string keeps its NUL in its vector, which nothing
 //! outside this module sees.
 ghost use Rattle.std.specs.Prelude.{◌≡◌, ◌≢◌, ℕ, ◌+◌, ◌<◌, ◌↔◌, ◌++◌, [], All, Contains, List, None, length, map, find, position, unwrap_or, IsTrue, IfOk, IfErr, ◌∷◌, take, IsOk, OnOk, OnErr, drop};
 ghost use Rattle.std.specs.Str.{chars};
@@ -18,8 +18,8 @@ use uefi_text_encodings::code_units::{text_len, units_of_text, write_text};
 pub use uefi_text_encodings::errors::FromStrError;
 use uefi_text_encodings::scans::replace_units_from;
 
-/// A string that is owned, over the memory of its allocator, which it keeps. In contracts it is its
-/// text, without the NUL.
+/// An owned string, in memory of its allocator, which it keeps. After every call, refused or not,
+/// it holds a text and its one NUL. A contract sees it as the text.
 #[derive(Drop)]
 pub struct CString16<A: Allocator = Global> {
     units: Vec<u16, A>,
@@ -50,8 +50,8 @@ fn all_are_text(characters: &[Char16]) -> bool
     characters.iter().all(|character| *character != NUL_16)
 }
 
-/// Whether none of the characters is NUL, as [`CString16::extend`] asks of what is added. One pass,
-/// which ends at the first NUL.
+/// Whether none of the characters is NUL, which [`CString16::extend`] requires of what it adds. One
+/// pass, which ends at the first NUL; takes no memory.
 pub fn have_no_nul(characters: &[Char16]) -> bool
     ensures all { IsTrue result ↔ All (λ c. c ≢ 0) characters.now }
     ensures copied { IsTrue result → CopiesNoNul characters.now }
@@ -94,18 +94,18 @@ fn units_of_characters<A: Allocator>(
     Ok(units)
 }
 
-/// The ways from characters, and from a borrowed string, into a string that is owned.
+/// Owned strings of characters and of a borrowed string.
 impl<'a> CStr16<'a> {
     ghost use Rattle.std.specs.List.{before_first};
     ghost use Rattle.uefi_text_encodings.specs.FromSliceUntilNul.{missing_nul_refusal};
     ghost use Rattle.uefi_text_encodings.specs.FromSliceWithNul.{first_nul_refusal};
     ghost use Rattle.uefi_text.specs.Views.{text_of};
 
-    /// The string of the characters up to the first NUL, in memory that it owns.
+    /// Copies the characters up to the first NUL into an owned string.
     ///
     /// Where there is no NUL the result is `NoNul`, and where memory is refused `OutOfMemory`. What
-    /// follows the NUL is not looked at. `InvalidChar` is never returned: no character is a surrogate.
-    /// All is looked at before memory is asked for, in one request.
+    /// follows the NUL is not read. `InvalidChar` is never returned: no character is a surrogate.
+    /// The NUL is found before memory is asked for, in one request.
     pub fn from_char16_until_nul<A: Allocator>(
         alloc: A,
         characters: &[Char16],
@@ -127,12 +127,12 @@ impl<'a> CStr16<'a> {
         }
     }
 
-    /// The string that all of the characters encode, in memory that it owns.
+    /// Copies characters, of which the last is their one NUL, into an owned string.
     ///
-    /// The first NUL decides: before the last place it is refused as `InteriorNul` with its place, and
-    /// where there is none the result is `NotNulTerminated`; `OutOfMemory` comes last. `InvalidChar` is
-    /// never returned: no character is a surrogate. All is looked at before memory is asked for, in one
-    /// request.
+    /// The first NUL decides. Before the last place it is refused as `InteriorNul` with its index,
+    /// and where there is none the result is `NotNulTerminated`; `OutOfMemory` comes last.
+    /// `InvalidChar` is never returned: no character is a surrogate. The NUL is found before memory
+    /// is asked for, in one request.
     pub fn from_char16_with_nul<A: Allocator>(
         alloc: A,
         characters: &[Char16],
@@ -157,7 +157,7 @@ impl<'a> CStr16<'a> {
         }
     }
 
-    /// An equal owned string. One allocation.
+    /// Copies the string, or returns `AllocError`. One allocation.
     pub fn to_owned<A: Allocator>(&self, alloc: A) -> Result<CString16<A>, AllocError>
         ensures { IfOk result (λ string. string ≡ text_of self.now) }
     {
@@ -168,15 +168,15 @@ impl<'a> CStr16<'a> {
     }
 }
 
-/// The way from characters that lie side by side into a string that is owned.
+/// Owned strings of characters that lie side by side.
 impl<'a> Char16Slice<'a> {
     ghost use Rattle.uefi_text.specs.Views.{units_of};
 
-    /// The string of the characters, in memory that it owns.
+    /// Copies the characters into an owned string.
     ///
-    /// Where a NUL is among them the result is `InteriorNul`, and where memory is refused `OutOfMemory`.
-    /// `InvalidChar` is never returned: no character is a surrogate. All is looked at before memory is
-    /// asked for, in one request.
+    /// Where a NUL is among them the result is `InteriorNul`, and where memory is refused
+    /// `OutOfMemory`. `InvalidChar` is never returned: no character is a surrogate. All are tested
+    /// before memory is asked for, in one request.
     pub fn to_cstring16<A: Allocator>(&self, alloc: A) -> Result<CString16<A>, FromStrError>
         ensures ok { IfOk result (λ string. string ≡ units_of self.now) }
         ensures accepted { IfOk result (λ _. from_str_refusal (units_of self.now) ≡ None) }
@@ -212,7 +212,7 @@ impl<A: Allocator> CString16<A> {
         CString16 { units }
     }
 
-    /// The empty string. Takes memory for its NUL.
+    /// The empty string, or `AllocError`: its NUL takes memory.
     pub fn new(alloc: A) -> Result<Self, AllocError>
         ensures { IfOk result (λ string. string ≡ []) }
     {
@@ -221,7 +221,8 @@ impl<A: Allocator> CString16<A> {
         Ok(CString16 { units })
     }
 
-    /// The empty string, with room for `characters` of them and the NUL. One allocation.
+    /// The empty string, with room for this many characters and the NUL; or `AllocError`. One
+    /// allocation.
     pub fn with_capacity(alloc: A, characters: usize) -> Result<Self, AllocError>
         ensures { IfOk result (λ string. string ≡ []) }
     {
@@ -233,11 +234,11 @@ impl<A: Allocator> CString16<A> {
         Ok(CString16 { units })
     }
 
-    /// The string of a Rust text.
+    /// Encodes a Rust text as an owned string.
     ///
-    /// The first character that is NUL or above U+FFFF decides: `InteriorNul` or `InvalidChar`.
-    /// Where there is none the result is the string of these characters, or `OutOfMemory`. The
-    /// whole text is tested before memory is asked for, in one allocation.
+    /// The first character that is NUL or above U+FFFF decides: the text is refused as
+    /// `InteriorNul` or as `InvalidChar`. Where there is none the text can only be refused as
+    /// `OutOfMemory`. The whole text is tested before memory is asked for, in one request.
     pub fn try_from_str(alloc: A, text: &str) -> Result<Self, FromStrError>
         ensures ok { IfOk result (λ string. string ≡ chars text.now) }
         ensures accepted { IfOk result (λ _. from_str_refusal (chars text.now) ≡ None) }
@@ -251,10 +252,10 @@ impl<A: Allocator> CString16<A> {
         Ok(CString16 { units })
     }
 
-    /// The string that all of the units encode, in the memory that they lie in.
+    /// Takes over a vector of units as a string, without a copy.
     ///
-    /// Refused exactly as [`CStr16::from_u16_with_nul`] refuses them, and a refused vector is let
-    /// go. One pass, which ends at the first unit that is a NUL or a surrogate; takes no memory.
+    /// Refused exactly as [`CStr16::from_u16_with_nul`] refuses the units; a refused vector is
+    /// dropped. One pass, which ends at the first NUL or surrogate; takes no memory.
     pub fn try_from_vec(units: Vec<u16, A>) -> Result<Self, FromSliceWithNulError>
         ensures ok { IfOk result (λ string. nul_terminated string ≡ units.items) }
         ensures accepts { IsOk result ↔ IsString units.items }
@@ -264,21 +265,21 @@ impl<A: Allocator> CString16<A> {
         Ok(CString16 { units })
     }
 
-    /// The units of the text and its NUL, in the memory that they lie in. Takes no memory.
+    /// Gives back the vector: the units of the text and its NUL. Takes no memory.
     pub fn into_vec_with_nul(self) -> Vec<u16, A>
         ensures { result.items ≡ nul_terminated self }
     {
         self.units
     }
 
-    /// An owned string that is equal to the borrowed one. One allocation.
+    /// Copies a borrowed string, or returns `AllocError`. One allocation.
     pub fn from_cstr16(alloc: A, string: CStr16<'_>) -> Result<Self, AllocError>
         ensures { IfOk result (λ copy. copy ≡ text_of string.entry) }
     {
         string.to_owned(alloc)
     }
 
-    /// Makes the string the empty one. Takes no memory and gives none back.
+    /// Makes the string empty. Takes no memory and gives none back.
     pub fn clear(&mut self)
         ensures { self.new ≡ [] }
     {
@@ -286,10 +287,9 @@ impl<A: Allocator> CString16<A> {
         self.units[0] = 0;
     }
 
-    /// Adds a character after the text. Where memory is refused the string is unchanged.
+    /// Appends a character other than NUL; or returns `AllocError`, and the string is unchanged.
     ///
-    /// Takes memory where the vector is full; a row of pushes takes a constant time each, on
-    /// average.
+    /// Takes memory where the vector is full. Many pushes take a constant time each, on average.
     pub fn push(&mut self, c: Char16) -> Result<(), AllocError>
         requires { c ≢ 0 }
         ensures ok { OnOk result (self.new ≡ self.old ++ c ∷ []) }
@@ -319,9 +319,9 @@ impl<A: Allocator> CString16<A> {
         Ok(())
     }
 
-    /// Adds a text after the text. Where memory is refused the string is unchanged.
+    /// Appends the text of a string; or returns `AllocError`, and the string is unchanged.
     ///
-    /// Takes memory at most once, and none for the empty text, which is never refused.
+    /// Takes memory at most once. The empty text takes none and is never refused.
     pub fn push_str(&mut self, string: CStr16<'_>) -> Result<(), AllocError>
         ensures ok { OnOk result (self.new ≡ self.old ++ text_of string.entry) }
         ensures err { OnErr result (self.new ≡ self.old) }
@@ -336,11 +336,11 @@ impl<A: Allocator> CString16<A> {
         Ok(())
     }
 
-    /// Adds characters, none of them NUL, after the text. Where memory is refused the string is
-    /// unchanged. [`Char16Slice::has_no_nul`] tests the characters, and those of a text hold none.
+    /// Appends characters, none of them NUL; or returns `AllocError`, and the string is unchanged.
+    /// [`Char16Slice::has_no_nul`] tests the characters, and those of a text hold none.
     ///
-    /// Takes memory at most once, and none where there are no characters, which is never refused. A
-    /// row of calls takes a time linear in what it adds, on average.
+    /// Takes memory at most once. Where there are no characters it takes none and is never refused.
+    /// Many calls take time linear in what they add, on average.
     #[inline(always)]
     pub fn push_part(&mut self, part: Char16Slice<'_>) -> Result<(), AllocError>
         requires { All (λ unit. unit ≢ 0) (units_of part) }
@@ -355,8 +355,8 @@ impl<A: Allocator> CString16<A> {
         self.units.extend_from_slice(&[0])
     }
 
-    /// Keeps the first `len` characters, or all where there are no more. Takes no memory and
-    /// gives none back.
+    /// Keeps the first `len` characters, or all where there are no more. Takes no memory and gives
+    /// none back.
     pub fn truncate(&mut self, len: usize)
         ensures { self.new ≡ take len self.old }
     {
@@ -366,10 +366,11 @@ impl<A: Allocator> CString16<A> {
         }
     }
 
-    /// Adds the characters that an iterator gives, none of them NUL, after the text. [`have_no_nul`]
-    /// tests those of a slice.
+    /// Appends the characters that an iterator gives, none of them NUL. [`have_no_nul`] tests those
+    /// of a slice.
     ///
-    /// Where memory is refused the characters before that one have been added, and stay.
+    /// Takes memory as [`CString16::push`] does for each. Where memory is refused the result is
+    /// `AllocError`, and the string keeps the characters that were appended before.
     pub fn extend<I: Iterator<Item = Char16> + Drop>(
         &mut self,
         characters: I,
@@ -388,7 +389,7 @@ impl<A: Allocator> CString16<A> {
         Ok(())
     }
 
-    /// Writes `replace` in each place of `search`. One pass; takes no memory.
+    /// Replaces each `search` by `replace`; neither may be NUL. One pass; takes no memory.
     pub fn replace_char(&mut self, search: Char16, replace: Char16)
         requires search_no_nul { search ≢ 0 }
         requires replace_no_nul { replace ≢ 0 }
@@ -397,8 +398,8 @@ impl<A: Allocator> CString16<A> {
         self.replace_char_from(0, search, replace);
     }
 
-    /// Writes `replace` in each place of `search`, from the place `start` on. One pass over what
-    /// stands there; takes no memory.
+    /// Replaces each `search` by `replace` from index `start` on; neither may be NUL. One pass over
+    /// what stands there; takes no memory.
     pub fn replace_char_from(&mut self, start: usize, search: Char16, replace: Char16)
         requires search_no_nul { search ≢ 0 }
         requires replace_no_nul { replace ≢ 0 }
@@ -414,7 +415,7 @@ impl<A: Allocator> CString16<A> {
         }
     }
 
-    /// How many characters the text has, the NUL not counted.
+    /// The number of characters of the text, the NUL not counted.
     pub fn num_chars(&self) -> usize
         ensures { result ≡ length self.now }
     {
@@ -428,7 +429,7 @@ impl<A: Allocator> CString16<A> {
         self.num_chars() == 0
     }
 
-    /// A view of the string, whose text holds no NUL and no surrogate.
+    /// Borrows the string. Its text holds no NUL and no surrogate. Takes no memory.
     pub fn as_cstr16(&self) -> CStr16<'_>
         ensures same { text_of result ≡ self.now }
         ensures is_text { IsText self.now }
@@ -436,7 +437,7 @@ impl<A: Allocator> CString16<A> {
         CStr16::from_string(self.units.as_slice())
     }
 
-    /// Whether the borrowed string has the same text.
+    /// Whether the borrowed string has the same text. Takes no memory.
     pub fn eq_cstr16(&self, other: CStr16<'_>) -> bool
         ensures { IsTrue result ↔ (self.now ≡ text_of other.entry) }
     {
@@ -444,7 +445,8 @@ impl<A: Allocator> CString16<A> {
     }
 }
 
-/// An equal string, over a clone of the allocator. One allocation for the string.
+/// Copies the string, over a clone of the allocator; or returns `AllocError`. One allocation for
+/// the string.
 impl<A: Allocator + Clone> Clone for CString16<A> {
     ghost is_clone = { λ string copy. copy ≡ string };
 
@@ -541,11 +543,11 @@ impl<A: Allocator> TryFrom<Vec<u16, A>> for CString16<A> {
     }
 }
 
-/// Adds a Rust text after the text. Where it holds a NUL or a character above U+FFFF, or memory is
-/// refused, the result is an error, and the string is unchanged.
+/// Appends a Rust text. Where it holds a NUL or a character above U+FFFF, or memory is refused, the
+/// result is an error, and the string is unchanged.
 ///
-/// What `write!` prints comes in parts, and an error leaves those before it. The text is looked at
-/// before memory is asked for, at most once.
+/// `write!` prints in parts, and an error leaves the parts before it. Each part is tested before
+/// memory is asked for, at most once.
 impl<A: Allocator> fmt::Write for CString16<A> {
     ghost use Rattle.std.specs.Str.{encode_utf8_all};
 

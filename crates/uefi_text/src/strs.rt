@@ -1,6 +1,6 @@
-//! NUL-terminated strings of UCS-2 that are borrowed; what of Latin-1 stands in the layer below is
-//! re-exported. The fields of the views are private to this module, and `specs/Views.antt` says what
-//! each view shows.
+//! Borrowed NUL-terminated strings of UCS-2, and views of their characters. The strings of Latin-1
+//! and the errors come from the layer below. `specs/Views.antt` says what a contract sees of each
+//! view.
 #![tactic(auto, unfolding(crate::specs::Views::text_of, crate::specs::Views::units_of, crate::specs::Views::units_left))]
 
 ghost use Rattle.std.specs.Prelude.{◌≡◌, ◌<◌, ◌≤◌, ◌+◌, ◌*◌, ◌^◌, ◌↔◌, ◌==◌, ◌≢◌, ◌++◌, if◌then◌else◌, [], nat_eq, ℕ, List, Option, All, length, position, slice_get, slice_index, slice_range, take, IsTrue, IsOk, IfOk, IfSome, OnErr, OnOk, Some, false, true};
@@ -31,8 +31,11 @@ pub use uefi_text_encodings::latin1::{
 use uefi_text_encodings::scans::{find_deciding_place, has_unit_beyond_ascii, split};
 use uefi_text_encodings::utf8::{BLOCK, add_utf8, write_utf8};
 
-/// A string that is borrowed: a view of code units that are a text and its NUL. In contracts it is
-/// `text_of` it, the text without the NUL.
+/// A borrowed string: a view of code units that are a text and its NUL (UEFI Specification 2.10,
+/// section 2.3.1). A contract sees it as `text_of` it: the text without the NUL.
+///
+/// A call that takes an allocator takes memory, and [`CStr16::as_str_in_buf`] what its sink takes.
+/// No other call does.
 #[derive(Clone, Copy)]
 pub struct CStr16<'a> {
     units: &'a [u16],
@@ -66,7 +69,8 @@ fn are_same(one: &[u16], two: &[u16]) -> bool
     one.len() == two.len() && one.cmp(two).is_eq()
 }
 
-/// The characters of a string that are still to come. In contracts it is `units_left` of it.
+/// An iterator over characters, from either end. A contract sees it as `units_left` of it: the code
+/// units that are still to come.
 #[derive(Drop)]
 pub struct CStr16Iter<'a> {
     units: &'a [u16],
@@ -74,7 +78,8 @@ pub struct CStr16Iter<'a> {
 }
 
 /// Characters that lie side by side, such as a text, a string with its NUL or a component of a
-/// path. In contracts it is `units_of` it, their code units.
+/// path. A contract sees it as `units_of` it: their code units. A call that takes an allocator
+/// takes memory, and [`Char16Slice::add_utf8_to`] may. No other call does.
 #[derive(Clone, Copy)]
 pub struct Char16Slice<'a> {
     units: &'a [u16],
@@ -92,11 +97,11 @@ impl<'a> CStr16<'a> {
     ghost use Rattle.uefi_text_encodings.specs.FromStrWithBuf.{from_str_with_buf_refusal, with_text};
     ghost use Rattle.uefi_text.specs.Views.{text_of, units_of, units_left};
 
-    /// The string up to the first NUL, as a view of the units up to and with it.
+    /// Borrows the units up to the first NUL, and with it, as a string.
     ///
-    /// The first unit that is a NUL or a surrogate decides: a surrogate is refused as `InvalidChar` with
-    /// its place; what follows a NUL is not looked at. Where there is no such unit the result is `NoNul`.
-    /// One pass, which ends at that unit; takes no memory.
+    /// The first NUL or surrogate decides. A NUL ends the string, and what follows it is not read.
+    /// A surrogate is refused as `InvalidChar` with its index. Where there is neither the result is
+    /// `NoNul`. One pass, which ends at that unit; takes no memory.
     pub fn from_u16_until_nul(units: &'a [u16]) -> Result<CStr16<'a>, FromSliceUntilNulError>
         ensures ok { IfOk result (λ string. text_of string ≡ before_first is_nul units.now) }
         ensures accepts { IsOk result ↔ BeginsWithString units.now }
@@ -113,12 +118,12 @@ impl<'a> CStr16<'a> {
         })
     }
 
-    /// The string that all of the units encode, as a view of them.
+    /// Borrows all of the units as a string.
     ///
-    /// The first unit that is a NUL or a surrogate decides: a surrogate is refused as
-    /// `InvalidChar`, a NUL before the last place as `InteriorNul`, each with its place. Where
-    /// there is no such unit the result is `NotNulTerminated`. One pass, which ends at that unit;
-    /// takes no memory.
+    /// The first NUL or surrogate decides. A NUL at the last place ends the string. One before it
+    /// is refused as `InteriorNul`, and a surrogate as `InvalidChar`, each with its index. Where
+    /// there is neither the result is `NotNulTerminated`. One pass, which ends at that unit; takes
+    /// no memory.
     pub fn from_u16_with_nul(units: &'a [u16]) -> Result<CStr16<'a>, FromSliceWithNulError>
         ensures ok { IfOk result (λ string. nul_terminated (text_of string) ≡ units.now) }
         ensures accepts { IsOk result ↔ IsString units.now }
@@ -142,16 +147,16 @@ impl<'a> CStr16<'a> {
         CStr16 { units }
     }
 
-    /// Writes a Rust text as a string into the prefix of a buffer, and returns how many units the
-    /// string has, its NUL counted.
+    /// Encodes a Rust text as a string at the start of a buffer, and returns the number of units,
+    /// the NUL counted.
     ///
-    /// A buffer with no more places than the text has units in UTF-16 (Unicode Standard, section
-    /// 3.9) is `BufferTooSmall`, whatever the text holds, and all of it then holds the first of
-    /// these units; half of a surrogate pair may be the last. Else its prefix holds the units and a
-    /// NUL, what stands after them stays, whatever is returned, and the first character that is
-    /// NUL or above U+FFFF decides: `InteriorNul` or `InvalidChar`, with the number of characters
-    /// before it. Linear in the text, whose bytes are tested before they are decoded, and ends where
-    /// the buffer is full; takes no memory.
+    /// The UTF-16 of the text (Unicode Standard, section 3.9) has to have fewer units than the
+    /// buffer has places. Else the result is `BufferTooSmall`, whatever the text holds, and the
+    /// buffer holds the first of these units; half of a surrogate pair may be the last. Where there
+    /// is room the buffer begins with the units and a NUL, and what follows them is unchanged,
+    /// whatever is returned. The first character that is NUL or above U+FFFF then decides:
+    /// `InteriorNul` or `InvalidChar`, with the number of characters before it. Linear in the text,
+    /// and stops where the buffer is full; takes no memory.
     pub fn write_str(input: &str, buffer: &mut [u16]) -> Result<usize, FromStrWithBufError>
         ensures ok { IfOk result (λ len. len ≡ length (chars input.now) + 1) }
         ensures accepts { IsOk result
@@ -163,9 +168,9 @@ impl<'a> CStr16<'a> {
         write_text(input, buffer)
     }
 
-    /// The string of a Rust text, as a view of the buffer's prefix, which it is written to. Refused
-    /// as [`CStr16::write_str`] says, which also says what the buffer then holds. Linear in the text;
-    /// takes no memory.
+    /// Encodes a Rust text at the start of a buffer, and borrows it from there as a string.
+    /// [`CStr16::write_str`] says when it is refused and what the buffer then holds. Linear in the
+    /// text; takes no memory.
     pub fn from_str_with_buf(
         input: &str,
         buf: &'a mut [u16],
@@ -224,14 +229,15 @@ impl<'a> CStr16<'a> {
         self.as_slice().iter()
     }
 
-    /// How many characters the text has, the NUL not counted.
+    /// The number of characters of the text, the NUL not counted.
     pub fn num_chars(&self) -> usize
         ensures { result ≡ length (text_of self.now) }
     {
         self.units.len() - 1
     }
 
-    /// How many bytes the string has, two for each character and two for the NUL.
+    /// The number of bytes of the string: two for each character and two for the NUL. It has to fit
+    /// a `usize`, as it does for every slice in memory; [`CStr16::num_chars`] is the test.
     pub fn num_bytes(&self) -> usize
         requires { 2 * (length (text_of self.now) + 1) < 2 ^ 64 }
         ensures { result ≡ 2 * (length (text_of self.now) + 1) }
@@ -246,7 +252,7 @@ impl<'a> CStr16<'a> {
         self.num_chars() == 0
     }
 
-    /// Whether each character is one of ASCII. One pass, which ends soon after the first that is not.
+    /// Whether every character is ASCII. One pass, which ends soon after the first that is not.
     #[tactic(auto, using(uefi_text_encodings::proofs::Scanning::ascii_units), unfolding(crate::specs::Views::text_of))]
     pub fn is_ascii(&self) -> bool
         ensures { IsTrue result ↔ IsAscii (text_of self.now) }
@@ -254,8 +260,8 @@ impl<'a> CStr16<'a> {
         !has_unit_beyond_ascii(self.to_u16_slice())
     }
 
-    /// The bytes of the string, two for each character and for the NUL, the low one first on every
-    /// machine; or `AllocError`. One pass, into one allocation of that size.
+    /// The string as bytes, the low byte first on every machine: two for each character and two for
+    /// the NUL; or `AllocError`. One pass, into one allocation of that size.
     pub fn as_bytes<A: Allocator>(&self, alloc: A) -> Result<Vec<u8, A>, AllocError>
         ensures { IfOk result (λ bytes. bytes.items ≡ unit_bytes (nul_terminated (text_of self.now))) }
     {
@@ -268,8 +274,8 @@ impl<'a> CStr16<'a> {
         Ok(bytes)
     }
 
-    /// The characters of the text as a Rust text, or `AllocError`. One allocation, for which their
-    /// bytes in UTF-8 are counted first.
+    /// The text as a Rust `String`, or `AllocError`. One allocation at most: the bytes in UTF-8 are
+    /// counted first.
     pub fn to_rust_string<A: Allocator>(&self, alloc: A) -> Result<String<A>, AllocError>
         ensures bytes { IfOk result (λ text. string_bytes text ≡ encode_utf8_all (text_of self.now)) }
         ensures characters { IfOk result (λ text. chars (string_bytes text) ≡ text_of self.now) }
@@ -280,10 +286,11 @@ impl<'a> CStr16<'a> {
         Ok(unsafe { String::from_utf8_unchecked(bytes) })
     }
 
-    /// Adds the characters of the text to a sink, in order, up to the first that it refuses. The sink
-    /// then holds those before it, and is left there. The UTF-8 of 64 characters at a time is offered to
-    /// the sink; those that it does not take as a whole are written one by one. Takes no memory but the
-    /// sink's.
+    /// Writes the characters of the text to a sink, in order, up to the first that it refuses. The
+    /// sink then holds those before it.
+    ///
+    /// The sink is offered 64 characters at a time, by [`CharSink::write_whole`]. Those that it
+    /// does not take so are written one by one. Takes no memory but the sink's.
     pub fn as_str_in_buf<W: CharSink>(&self, buf: &mut W) -> fmt::Result
         ensures ok { OnOk result (W.text buf.new ≡ W.text buf.old ++ encode_utf8_all (text_of self.now)) }
         ensures err { OnErr result ((k : ℕ) × (k < length (text_of self.now))
@@ -423,6 +430,7 @@ impl<'a> fmt::Debug for CStr16<'a> {
     }
 }
 
+/// Gives the characters from the front, and then `None` for ever.
 impl<'a> Iterator for CStr16Iter<'a> {
     type Item = Char16;
 
@@ -451,6 +459,7 @@ impl<'a> Iterator for CStr16Iter<'a> {
     }
 }
 
+/// Gives the characters from the back.
 impl<'a> DoubleEndedIterator for CStr16Iter<'a> {
     ghost use Rattle.std.specs.Iterator.{YieldsLast};
     ghost use Rattle.uefi_text.specs.Views.{units_left};
@@ -464,6 +473,7 @@ impl<'a> DoubleEndedIterator for CStr16Iter<'a> {
     }
 }
 
+/// Prints the code units that are left.
 impl<'a> fmt::Debug for CStr16Iter<'a> {
     fn fmt<W: fmt::Write>(&self, f: &mut fmt::Formatter<W>) -> fmt::Result {
         f.debug_tuple("CStr16Iter").field(&self.units).finish()
@@ -474,7 +484,7 @@ impl<'a> Char16Slice<'a> {
     ghost use Rattle.std.specs.Str.{encode_utf8_all};
     ghost use Rattle.uefi_text.specs.Views.{units_of, units_left};
 
-    /// How many characters there are.
+    /// The number of characters.
     pub fn len(&self) -> usize
         ensures { result ≡ length (units_of self.now) }
     {
@@ -488,7 +498,7 @@ impl<'a> Char16Slice<'a> {
         self.units.is_empty()
     }
 
-    /// The character at a place, or `None` from the length on.
+    /// The character at an index, or `None` from the length on.
     pub fn get(&self, i: usize) -> Option<Char16>
         ensures { result ≡ slice_get (units_of self.now) i }
     {
@@ -520,8 +530,8 @@ impl<'a> Char16Slice<'a> {
         self.units
     }
 
-    /// Adds the characters in UTF-8 to bytes, which stay unchanged where memory is refused. One
-    /// request at most, and none where the bytes have room.
+    /// Appends the characters in UTF-8 to bytes; or `AllocError`, and the bytes are unchanged. One
+    /// request for memory at most, and none where the bytes have room.
     pub fn add_utf8_to<A: Allocator>(&self, bytes: &mut Vec<u8, A>) -> Result<(), AllocError>
         ensures ok { OnOk result (bytes.new.items ≡ bytes.old.items ++ encode_utf8_all (units_of self.now)) }
         ensures err { OnErr result (bytes.new.items ≡ bytes.old.items) }
@@ -571,7 +581,7 @@ impl<'a> Char16Slice<'a> {
         Ok(())
     }
 
-    /// The characters from the place `start` on, up to and without the place `end`.
+    /// The characters from index `start` on, up to and without index `end`.
     pub fn part(&self, start: usize, end: usize) -> Char16Slice<'a>
         requires { (start ≤ end) × (end ≤ length (units_of self.now)) }
         ensures { units_of result ≡ slice_range (units_of self.now) start end }
@@ -681,6 +691,7 @@ impl<'a> fmt::Display for Char16Slice<'a> {
     }
 }
 
+/// Prints the characters as a list, each as a Rust character.
 impl<'a> fmt::Debug for Char16Slice<'a> {
     fn fmt<W: fmt::Write>(&self, f: &mut fmt::Formatter<W>) -> fmt::Result {
         f.debug_list().entries(self.iter()).finish()

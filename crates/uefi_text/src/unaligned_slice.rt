@@ -2,8 +2,8 @@
 //!
 //! The tables and device paths of firmware are packed: a number of several bytes begins where the
 //! field before it ends, at an odd place of memory as well as at an even one, so that no slice of
-//! such numbers can be borrowed. An [`UnalignedSlice`] borrows the bytes in its stead, and puts an item
-//! together each time that one is asked for, the low byte first on every machine.
+//! such numbers can be borrowed. An [`UnalignedSlice`] borrows the bytes instead, and decodes an item each
+//! time that one is asked for, the low byte first on every machine.
 //!
 //! ```rust
 //! use uefi_text::UnalignedSlice;
@@ -18,9 +18,9 @@
 //! }
 //! ```
 //!
-//! In contracts a slice is `items_of` it, the list of its items' numbers. The trait [`Packed`] says
-//! what can be an item: how many bytes it takes, and which number they encode. A further kind of
-//! item is one more `impl`, and every call here holds of it as it stands.
+//! A contract sees a slice as `items_of` it: the list of its items' numbers. The trait [`Packed`] says
+//! what can be an item: how many bytes it takes, and which number they encode. Every contract here holds
+//! for each type that implements it.
 #![tactic(auto, using(uefi_text_encodings::proofs::Packing::packing), unfolding(crate::specs::Views::items_of, crate::specs::Views::items_left, crate::specs::Views::into_iter_items_left))]
 
 ghost use Rattle.std.specs.Prelude.{◌≡◌, ℕ, ◌+◌, ◌++◌, ◌*◌, ◌^◌, ◌<◌, ◌≤◌, ◌↔◌, [], length, map, take, slice_index, slice_get, slice_range, IfOk, IfErr, IfSome, IsSome, IsTrue};
@@ -55,8 +55,9 @@ const COPIED_AT_ONCE: usize = 1024;
 /// Fewer items than these become a vector without a call, which costs more than it saves.
 const SHORT: usize = 64;
 
-/// A view of items that lie packed in borrowed bytes, which may begin at any place of memory. In
-/// contracts it is `items_of` it, the list of the items' numbers.
+/// A view of items that lie packed in borrowed bytes, which may begin at any address. A contract
+/// sees it as `items_of` it: the list of the items' numbers. A call that takes an allocator takes
+/// memory, and no other does.
 #[derive(Copy)]
 pub struct UnalignedSlice<'a, T: Packed> {
     bytes: &'a [u8],
@@ -65,14 +66,15 @@ pub struct UnalignedSlice<'a, T: Packed> {
     pub ghost in_bytes: { len * T.SIZE ≤ length bytes.now },
 }
 
-/// The items of a packed slice that are still to come. In contracts it is `items_left` of it.
+/// An iterator over the items of a packed slice. A contract sees it as `items_left` of it: what is
+/// still to come.
 #[derive(Drop)]
 pub struct UnalignedSliceIter<'a, T: Packed> {
     rest: UnalignedSlice<'a, T>,
 }
 
-/// The same, of a packed slice that was given away. In contracts it is `into_iter_items_left` of
-/// it.
+/// The iterator that a packed slice itself becomes. A contract sees it as `into_iter_items_left` of
+/// it: what is still to come.
 #[derive(Drop)]
 pub struct UnalignedSliceIntoIter<'a, T: Packed> {
     items: UnalignedSliceIter<'a, T>,
@@ -279,7 +281,7 @@ impl<'a, T: Packed> UnalignedSlice<'a, T> {
     ghost use Rattle.uefi_text.specs.Views.{items_of, items_left};
 
     /// Whether the bytes have room for `len` items: whether `len` times `SIZE`, as a whole number
-    /// that never wraps, is at most the number of bytes. Takes no memory.
+    /// that never wraps, is at most the number of bytes.
     pub fn fits(bytes: &[u8], len: usize) -> bool
         ensures { IsTrue result ↔ (len * T.SIZE ≤ length bytes.now) }
     {
@@ -290,8 +292,8 @@ impl<'a, T: Packed> UnalignedSlice<'a, T> {
     }
 
     /// A view of the first `len` items of the bytes, which lie one after the other from their
-    /// start. The bytes after the items are never read. The bytes have to have room, as `fits`
-    /// tests. Takes no memory.
+    /// start. The bytes after them are never read. The bytes have to have room for the items, which
+    /// [`UnalignedSlice::fits`] tests.
     pub fn new(bytes: &'a [u8], len: usize) -> Self
         requires { len * T.SIZE ≤ length bytes.now }
         ensures items { items_of result ≡ packed_items T.SIZE len bytes.now }
@@ -306,8 +308,8 @@ impl<'a, T: Packed> UnalignedSlice<'a, T> {
         }
     }
 
-    /// The view that [`UnalignedSlice::new`] makes of the first `len` items of the bytes, or `None`
-    /// exactly where the bytes have no room for them. Takes no memory.
+    /// The view of [`UnalignedSlice::new`], or `None` exactly where the bytes have no room for the
+    /// items.
     pub fn try_new(bytes: &'a [u8], len: usize) -> Option<Self>
         ensures fits { IsSome result ↔ (len * T.SIZE ≤ length bytes.now) }
         ensures items { IfSome result (λ slice. items_of slice ≡ packed_items T.SIZE len bytes.now) }
@@ -322,14 +324,14 @@ impl<'a, T: Packed> UnalignedSlice<'a, T> {
         }
     }
 
-    /// How many items there are. Takes no memory.
+    /// The number of items.
     pub fn len(&self) -> usize
         ensures { result ≡ length (items_of self.now) }
     {
         self.len
     }
 
-    /// Whether there are no items. Takes no memory.
+    /// Whether there are no items.
     pub fn is_empty(&self) -> bool
         ensures { IsTrue result ↔ (items_of self.now ≡ []) }
     {
@@ -357,7 +359,7 @@ impl<'a, T: Packed> UnalignedSlice<'a, T> {
         T::read_le(&self.bytes[start..start + T::SIZE])
     }
 
-    /// The item at the place `index`, or `None` from the length on. Takes no memory.
+    /// The item at an index, or `None` from the length on.
     pub fn get(&self, index: usize) -> Option<T>
         ensures { option_map T.number result ≡ slice_get (items_of self.now) index }
     {
@@ -381,8 +383,8 @@ impl<'a, T: Packed> UnalignedSlice<'a, T> {
         Some(T::read_le(first))
     }
 
-    /// The items in order, each once, and then `None` for ever. The iterator may outlive the view,
-    /// since it borrows the same bytes. Takes no memory.
+    /// The items in order, each once, and then `None` for ever. The iterator borrows the bytes, so
+    /// it may outlive this view.
     pub fn iter(&self) -> UnalignedSliceIter<'a, T>
         ensures same { items_left result ≡ items_of self.now }
         ensures bound { length (items_left result) < 2 ^ 64 }
@@ -400,8 +402,7 @@ impl<'a, T: Packed> UnalignedSlice<'a, T> {
         read_items(self.bytes, dest);
     }
 
-    /// Writes the items into `dest`, which has to have as many places as there are items. One pass;
-    /// takes no memory.
+    /// Writes the items to `dest`, which has to have as many places as there are items. One pass.
     pub fn copy_to(&self, dest: &mut [T])
         requires { length dest.old ≡ length (items_of self.now) }
         ensures { map T.number dest.new ≡ items_of self.now }
@@ -413,8 +414,8 @@ impl<'a, T: Packed> UnalignedSlice<'a, T> {
         }
     }
 
-    /// A vector of the items, or `AllocError` where its memory is refused: one request, for exactly
-    /// as many places as there are items. Linear in the items.
+    /// The items as a vector, or `AllocError`. One request for memory, of exactly the size of the
+    /// items, and none where there are no items. Linear in the items.
     pub fn to_vec<A: Allocator>(&self, alloc: A) -> Result<Vec<T, A>, AllocError>
         ensures { IfOk result (λ items. map T.number items.items ≡ items_of self.now) }
     {
@@ -429,7 +430,7 @@ impl<'a, T: Packed> UnalignedSlice<'a, T> {
     }
 }
 
-/// The items in order, each once, and then `None` for ever. Takes no memory.
+/// The items in order, each once, and then `None` for ever.
 impl<'a, T: Packed> IntoIterator for UnalignedSlice<'a, T> {
     type Item = T;
 
@@ -445,7 +446,7 @@ impl<'a, T: Packed> IntoIterator for UnalignedSlice<'a, T> {
     }
 }
 
-/// A clone shows the same items. It takes no memory, and is never refused.
+/// The clone shows the same items. It takes no memory, and is never refused.
 impl<'a, T: Packed> Clone for UnalignedSlice<'a, T> {
     ghost use Rattle.std.specs.Prelude.{⊤};
 
@@ -465,6 +466,7 @@ impl<'a, T: Packed + fmt::Debug> fmt::Debug for UnalignedSlice<'a, T> {
     }
 }
 
+/// Gives the items from the front, and then `None` for ever.
 impl<'a, T: Packed> Iterator for UnalignedSliceIter<'a, T> {
     type Item = T;
 
@@ -489,6 +491,7 @@ impl<'a, T: Packed> Iterator for UnalignedSliceIter<'a, T> {
     }
 }
 
+/// Prints the items that are left.
 impl<'a, T: Packed + fmt::Debug> fmt::Debug for UnalignedSliceIter<'a, T> {
     fn fmt<W: fmt::Write>(&self, f: &mut fmt::Formatter<W>) -> fmt::Result {
         f.debug_tuple("UnalignedSliceIter")
@@ -497,6 +500,7 @@ impl<'a, T: Packed + fmt::Debug> fmt::Debug for UnalignedSliceIter<'a, T> {
     }
 }
 
+/// Gives the items from the front, and then `None` for ever.
 impl<'a, T: Packed> Iterator for UnalignedSliceIntoIter<'a, T> {
     type Item = T;
 
@@ -521,6 +525,7 @@ impl<'a, T: Packed> Iterator for UnalignedSliceIntoIter<'a, T> {
     }
 }
 
+/// Prints the items that are left.
 impl<'a, T: Packed + fmt::Debug> fmt::Debug for UnalignedSliceIntoIter<'a, T> {
     fn fmt<W: fmt::Write>(&self, f: &mut fmt::Formatter<W>) -> fmt::Result {
         f.debug_tuple("UnalignedSliceIntoIter")
@@ -555,8 +560,8 @@ impl<'a> UnalignedSlice<'a, u16> {
     ghost use Rattle.uefi_text_encodings.specs.Units.{IsString, IsText, deciding_place, nul_terminated};
     ghost use Rattle.uefi_text.specs.Views.{items_of, text_of};
 
-    /// The code units that all of the bytes encode, two bytes for each, the low one first; `None`
-    /// exactly where the bytes are odd in number. Takes no memory.
+    /// The code units that all of the bytes encode, two bytes for each, the low one first; or
+    /// `None` exactly where the bytes are odd in number.
     pub fn from_unit_bytes(bytes: &'a [u8]) -> Option<Self>
         ensures even { IsSome result ↔ (length bytes.now % 2 ≡ 0) }
         ensures items { IfSome result (λ slice. items_of slice ≡ units_of_bytes bytes.now) }
@@ -613,9 +618,9 @@ impl<'a> UnalignedSlice<'a, u16> {
         check_deciding_unit(self.item(place), place, self.len())
     }
 
-    /// The string that the items encode, in memory that it owns; refused as by
-    /// [`CStr16::from_u16_with_nul`]. All items are looked at before memory is asked for, in one
-    /// request.
+    /// Copies the items into an owned string. Refused as [`CStr16::from_u16_with_nul`] refuses the
+    /// same units; `OutOfMemory` comes last. All items are tested before memory is asked for, in
+    /// one request.
     pub fn to_cstring16<A: Allocator>(
         &self,
         alloc: A,
@@ -647,11 +652,11 @@ impl<'a> UnalignedSlice<'a, u16> {
         self.copy_to(&mut buffer[..len]);
     }
 
-    /// Writes the string that the items encode into the prefix of a buffer.
+    /// Copies the items to the start of a buffer, and says whether they are a string.
     ///
-    /// A buffer of fewer places than there are items is `BufferTooSmall` and stays unchanged. Else
-    /// its prefix holds the items, what stands after them stays, and the first item that is a NUL
-    /// or a surrogate decides, as in [`CStr16::from_u16_with_nul`]. Takes no memory.
+    /// A buffer of fewer places than there are items is refused as `BufferTooSmall` and is
+    /// unchanged. Else the buffer begins with the items, what follows them is unchanged, and the
+    /// first NUL or surrogate decides, as in [`CStr16::from_u16_with_nul`].
     #[tactic(auto)]
     pub fn write_cstr16(&self, buffer: &mut [u16]) -> Result<(), UnalignedCStr16Error>
         ensures buffer { buffer.new ≡ with_prefix (items_of self.now) buffer.old }
@@ -670,9 +675,8 @@ impl<'a> UnalignedSlice<'a, u16> {
         }
     }
 
-    /// The string that the items encode, as a view of the buffer's prefix, which they are copied to.
-    /// Refused as [`UnalignedSlice::write_cstr16`] says, which also says what the buffer then
-    /// holds. Takes no memory.
+    /// Copies the items to the start of a buffer, and borrows them from there as a string.
+    /// [`UnalignedSlice::write_cstr16`] says when they are refused and what the buffer then holds.
     pub fn to_cstr16<'b>(&self, buffer: &'b mut [u16]) -> Result<CStr16<'b>, UnalignedCStr16Error>
         ensures ok { IfOk result (λ string. nul_terminated (text_of string) ≡ items_of self.now) }
         ensures accepts { IsOk result
@@ -699,12 +703,12 @@ impl<'a> CStr16<'a> {
     ghost use Rattle.uefi_text_encodings.specs.Units.{IsString, nul_terminated};
     ghost use Rattle.uefi_text.specs.Views.{items_of, text_of};
 
-    /// The string that bytes encode from wherever they lie, two for each code unit, the low one first,
-    /// in memory that it owns.
+    /// Decodes bytes at any address, two for each code unit and the low one first, into an owned
+    /// string.
     ///
-    /// Bytes that are odd in number, or do not end in two zeros, are refused as `NotNulTerminated`
-    /// before a unit is looked at; else the units decide as for [`CStr16::from_u16_with_nul`], and
-    /// `OutOfMemory` comes last. `NotAligned` is never returned. All bytes are looked at before memory
+    /// Bytes that are odd in number, or do not end in two zeros, are refused as `NotNulTerminated`,
+    /// whatever units stand before. Else the units decide as in [`CStr16::from_u16_with_nul`], and
+    /// `OutOfMemory` comes last. `NotAligned` is never returned. All bytes are tested before memory
     /// is asked for, in one request.
     pub fn from_bytes_with_nul<A: Allocator>(
         alloc: A,
@@ -724,7 +728,7 @@ impl<'a> CStr16<'a> {
         UnalignedSlice::new(bytes, bytes.len() / 2).to_cstring16(alloc)
     }
 
-    /// As [`UnalignedSlice::to_cstr16`]. Takes no memory.
+    /// [`UnalignedSlice::to_cstr16`] of the slice. Takes no memory.
     pub fn from_unaligned_slice(
         source: &UnalignedSlice<'_, u16>,
         buffer: &'a mut [u16],
@@ -744,7 +748,7 @@ impl<A: Allocator> CString16<A> {
     ghost use Rattle.uefi_text_encodings.specs.Units.{IsString, nul_terminated};
     ghost use Rattle.uefi_text.specs.Views.{items_of};
 
-    /// As [`UnalignedSlice::to_cstring16`], with one request for memory.
+    /// [`UnalignedSlice::to_cstring16`] of the slice, with one request for memory.
     pub fn try_from_unaligned(
         alloc: A,
         source: &UnalignedSlice<'_, u16>,

@@ -1,29 +1,29 @@
-//! Places that take characters one by one: a [`String`], an [`ArrayString`] of fixed room, or a
-//! caller's own. What a call leaves in one is said by the trait's clauses alone.
+//! Sinks of characters: a [`String`], an [`ArrayString`] of fixed room, or a caller's own type. A
+//! call that writes to a sink relies on the trait's clauses alone.
 ghost use Rattle.std.specs.Prelude.{◌≡◌, ℕ, ◌+◌, ◌<◌, ◌≤◌, ◌++◌, ◌↔◌, List, IsOk, OnErr, OnOk, encode_utf8, false, length, string_bytes, true, ⊤};
 
 use arrayvec::ArrayString;
 use std::alloc::Allocator;
 use std::fmt;
 
-/// A place that takes characters. In contracts it is `text` of it, the bytes of what it holds in
-/// UTF-8.
+/// What characters can be written to. A contract sees a sink as `text` of it: the UTF-8 of what it
+/// holds.
 pub trait CharSink {
-    /// The text that it holds.
+    /// The UTF-8 of what it holds.
     ghost text: { Self → List ℕ };
 
-    /// Where this holds of a text and a character, the character may be refused after that text.
+    /// Whether a character may be refused after a text. A sink says here where it may.
     ghost may_refuse: { List ℕ → ℕ → Type 0 };
 
-    /// Adds a character after the text, or refuses it and leaves the text unchanged.
+    /// Appends a character; or returns an error, and the text is unchanged.
     fn write_char(&mut self, c: char) -> fmt::Result
         ensures ok { OnOk result (text self.new ≡ text self.old ++ encode_utf8 c) }
         ensures err { OnErr result (text self.new ≡ text self.old) }
         ensures refused { OnErr result (may_refuse (text self.old) c) };
 
-    /// Adds all of a Rust text at once, or returns `false` and leaves the text unchanged. Its caller
-    /// then adds the characters one by one, up to the first that is refused. A sink without a quicker
-    /// way always returns `false`, as it does where this method is left out.
+    /// Appends a whole Rust text; or returns `false`, and the text is unchanged. The caller then
+    /// appends the characters one by one, up to the first that is refused. The default always
+    /// returns `false`.
     fn write_whole(&mut self, string: &str) -> bool
         ensures all { result ≡ true → text self.new ≡ text self.old ++ string.now }
         ensures none { result ≡ false → text self.new ≡ text self.old }
@@ -32,8 +32,8 @@ pub trait CharSink {
     }
 }
 
-/// Any character may be refused, and is only where its memory is: a contract cannot say that memory
-/// is there.
+/// Any character may be refused: no contract can say that memory is there. It is refused only where
+/// memory is.
 impl<A: Allocator> CharSink for String<A> {
     ghost text = { string_bytes };
 
@@ -52,7 +52,7 @@ impl<A: Allocator> CharSink for String<A> {
     }
 }
 
-/// A character is refused exactly where the text with it would pass `N` bytes. Takes no memory.
+/// Refuses a character exactly where the text with it would pass `N` bytes. Takes no memory.
 impl<const N: usize> CharSink for ArrayString<N> {
     ghost text = { λ string. string.bytes };
 

@@ -1,8 +1,8 @@
-//! Characters of Latin-1 and of UCS-2, and the constants: the module `chars` of `uefi_text`.
+//! Characters of Latin-1 and of UCS-2, and their constants.
 //!
-//! The fields of [`Char8`] and [`Char16`] are private to this module, so the constants of the crates
-//! above are written here too. `specs/Units.antt` says what a code unit, a text and a NUL-terminated
-//! string are, for all the crates above.
+//! A [`Char8`] is any byte, and a [`Char16`] is any code unit that is no surrogate. The fields of
+//! both are private to this module, so that the constants of all crates stand here.
+//! `specs/Units.antt` defines code units, texts and NUL-terminated strings.
 
 ghost use Rattle.std.specs.Prelude.{◌≡◌, ◌<◌, ◌≤◌, ◌^◌, ◌↔◌, IsTrue};
 ghost use Rattle.std.specs.Result.{OkIff};
@@ -12,10 +12,11 @@ use std::error::Error;
 use std::fmt;
 use std::marker::Model;
 
-/// A character or a code unit that the type asked for does not have.
+/// The error of a conversion to a character that the target type does not have.
 #[derive(Clone, Copy, Debug, PartialEq, Eq)]
 pub struct CharConversionError;
 
+/// Writes `CharConversionError`.
 impl fmt::Display for CharConversionError {
     ghost use Rattle.std.specs.Prelude.{Some, codes};
 
@@ -28,7 +29,8 @@ impl fmt::Display for CharConversionError {
 
 impl Error for CharConversionError {}
 
-/// A character of Latin-1: any byte. The default is NUL. In contracts it is its number.
+/// A character of Latin-1: any byte. It is equal, ordered and hashed by its number, and its default
+/// is NUL. A contract sees it as its number. No call of it takes memory.
 #[derive(Clone, Copy, PartialEq, Eq, PartialOrd, Ord, Hash)]
 pub struct Char8 {
     byte: u8,
@@ -47,7 +49,7 @@ impl Model for Char8 {
 }
 
 impl Char8 {
-    /// Whether this is a Rust character: their numbers are equal.
+    /// Whether this character and a Rust character have the same number.
     pub fn eq_char(&self, other: char) -> bool
         ensures { IsTrue result ↔ (self.now ≡ other) }
     {
@@ -55,6 +57,7 @@ impl Char8 {
     }
 }
 
+/// NUL.
 impl Default for Char8 {
     ghost is_default = { λ c. c ≡ 0 };
 
@@ -63,7 +66,8 @@ impl Default for Char8 {
     }
 }
 
-/// `Ok` exactly up to U+00FF.
+/// `Ok` exactly for the characters up to U+00FF, which keep their number; else
+/// `CharConversionError`.
 impl TryFrom<char> for Char8 {
     type Error = CharConversionError;
 
@@ -79,6 +83,7 @@ impl TryFrom<char> for Char8 {
     }
 }
 
+/// The number stays the same.
 impl From<u8> for Char8 {
     ghost from_gives = { λ value result. result ≡ value };
 
@@ -87,6 +92,7 @@ impl From<u8> for Char8 {
     }
 }
 
+/// The number stays the same.
 impl From<Char8> for u8 {
     ghost from_gives = { λ value result. (result ≡ value) × (value < 2 ^ 8) };
 
@@ -95,6 +101,7 @@ impl From<Char8> for u8 {
     }
 }
 
+/// The number stays the same.
 impl From<Char8> for char {
     ghost from_gives = { λ value result. result ≡ value };
 
@@ -103,7 +110,7 @@ impl From<Char8> for char {
     }
 }
 
-/// Writes the one character.
+/// Writes the character.
 impl fmt::Display for Char8 {
     ghost use Rattle.std.specs.Prelude.{Some, encode_utf8};
 
@@ -114,18 +121,19 @@ impl fmt::Display for Char8 {
     }
 }
 
-/// Prints as the Rust character does.
+/// Prints as the Rust character with the same number does.
 impl fmt::Debug for Char8 {
     fn fmt<W: fmt::Write>(&self, f: &mut fmt::Formatter<W>) -> fmt::Result {
         fmt::Debug::fmt(&char::from(*self), f)
     }
 }
 
-/// The character that ends a Latin-1 string.
+/// The character that ends a string of Latin-1.
 pub const NUL_8: Char8 = Char8 { byte: 0 };
 
-/// A character of UCS-2: a code unit that is no surrogate. The default is NUL. In contracts it is
-/// its number.
+/// A character of UCS-2: a code unit that is no surrogate (UEFI Specification 2.10, section 2.3.1).
+/// It is equal, ordered and hashed by its number, and its default is NUL. A contract sees it as its
+/// number. No call of it takes memory.
 #[derive(Clone, Copy, PartialEq, Eq, PartialOrd, Ord, Hash)]
 pub struct Char16 {
     unit: u16,
@@ -167,7 +175,8 @@ impl Char16 {
         Char16 { unit }
     }
 
-    /// The UCS-2 character of a Rust character: `Ok` exactly up to U+FFFF.
+    /// The UCS-2 character with the number of a Rust character: `Ok` exactly up to U+FFFF, else
+    /// `CharConversionError`.
     pub fn try_from_char(value: char) -> Result<Self, CharConversionError>
         ensures { OkIff result (value < 2 ^ 16) value }
     {
@@ -181,14 +190,14 @@ impl Char16 {
         }
     }
 
-    /// Whether the character is one of ASCII: its number is at most 127.
+    /// Whether the character is ASCII: its number is at most 127.
     pub fn is_ascii(&self) -> bool
         ensures { IsTrue result ↔ (self.now < 2 ^ 7) }
     {
         self.unit < 0x80
     }
 
-    /// Whether this is a Rust character: their numbers are equal.
+    /// Whether this character and a Rust character have the same number.
     pub fn eq_char(&self, other: char) -> bool
         ensures { IsTrue result ↔ (self.now ≡ other) }
     {
@@ -196,6 +205,7 @@ impl Char16 {
     }
 }
 
+/// NUL.
 impl Default for Char16 {
     ghost is_default = { λ c. c ≡ 0 };
 
@@ -215,7 +225,8 @@ impl TryFrom<char> for Char16 {
     }
 }
 
-/// `Ok` exactly for the code units that are no surrogates.
+/// `Ok` exactly for the code units that are no surrogates, which keep their number; else
+/// `CharConversionError`.
 impl TryFrom<u16> for Char16 {
     type Error = CharConversionError;
 
@@ -230,6 +241,7 @@ impl TryFrom<u16> for Char16 {
     }
 }
 
+/// The number stays the same.
 impl From<Char16> for u16 {
     ghost from_gives = { λ value result. (result ≡ value) × IsChar16 value };
 
@@ -238,6 +250,7 @@ impl From<Char16> for u16 {
     }
 }
 
+/// The number stays the same.
 impl From<Char16> for char {
     ghost from_gives = { λ value result. result ≡ value };
 
@@ -246,7 +259,7 @@ impl From<Char16> for char {
     }
 }
 
-/// Writes the one character.
+/// Writes the character.
 impl fmt::Display for Char16 {
     ghost use Rattle.std.specs.Prelude.{Some, encode_utf8};
 
@@ -257,14 +270,14 @@ impl fmt::Display for Char16 {
     }
 }
 
-/// Prints as the Rust character does.
+/// Prints as the Rust character with the same number does.
 impl fmt::Debug for Char16 {
     fn fmt<W: fmt::Write>(&self, f: &mut fmt::Formatter<W>) -> fmt::Result {
         fmt::Debug::fmt(&char::from(*self), f)
     }
 }
 
-/// The character that ends a string.
+/// The character that ends a string of UCS-2.
 pub const NUL_16: Char16 = Char16 { unit: 0 };
 
 /// The separator between the components of a path, `\`.
@@ -273,7 +286,7 @@ pub const SEPARATOR: Char16 = Char16 { unit: 92 };
 /// The separator of other systems, `/`, which path buffers replace by [`SEPARATOR`].
 pub const SLASH: Char16 = Char16 { unit: 47 };
 
-/// The characters that no name of a file holds: NUL and `"*/:<>?\|`.
+/// The characters that no file name holds: NUL and `"*/:<>?\|`.
 pub const CHARACTER_DENY_LIST: [Char16; 10] = [
     NUL_16,
     Char16 { unit: 34 },

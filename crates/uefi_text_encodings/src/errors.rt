@@ -3,20 +3,21 @@
 use std::error::Error;
 use std::fmt;
 
-/// Why no prefix of the code units is a NUL-terminated string. A place is an index into what was handed
-/// in.
+/// Why code units or characters do not begin with a NUL-terminated string. A number is an index
+/// into what was passed.
 #[derive(Clone, Copy, Debug, PartialEq, Eq)]
 pub enum FromSliceUntilNulError {
-    /// The first unit that no text holds is a surrogate, at this place.
+    /// The first NUL or surrogate is a surrogate, at this index.
     InvalidChar(usize),
 
-    /// No unit is a NUL.
+    /// There is neither a NUL nor a surrogate.
     NoNul,
 
     /// A request for memory was refused. No call that borrows returns it.
     OutOfMemory,
 }
 
+/// Writes the reason, with its number in decimal.
 impl fmt::Display for FromSliceUntilNulError {
     ghost use Rattle.std.specs.Prelude.{Some};
     ghost use Rattle.uefi_text_encodings.specs.ErrorTexts.{from_slice_until_nul_error_text};
@@ -34,25 +35,28 @@ impl fmt::Display for FromSliceUntilNulError {
 
 impl Error for FromSliceUntilNulError {}
 
-/// Why code units or bytes are no NUL-terminated string. A place is an index into what was handed in.
+/// Why code units, characters or bytes are no NUL-terminated string. A number is the index of a
+/// code unit or a character, or of a byte of Latin-1.
 #[derive(Clone, Copy, Debug, PartialEq, Eq)]
 pub enum FromSliceWithNulError {
-    /// The first unit that no text holds is a surrogate, at this place.
+    /// The first NUL or surrogate is a surrogate, at this index.
     InvalidChar(usize),
 
-    /// The first unit that no text holds is a NUL, at this place, and more units follow it.
+    /// The first NUL or surrogate is a NUL, at this index, and more follows it.
     InteriorNul(usize),
 
-    /// No unit is a NUL.
+    /// There is neither a NUL nor a surrogate. Of the bytes of a string of UCS-2: they are odd in
+    /// number, or do not end in two zeros.
     NotNulTerminated,
 
-    /// The slice is not aligned. Kept for the original's callers: no call of this crate returns it.
+    /// The slice is not aligned. The Rust crate has this reason; no call here returns it.
     NotAligned,
 
     /// A request for memory was refused. No call that borrows returns it.
     OutOfMemory,
 }
 
+/// Writes the reason, with its number in decimal.
 impl fmt::Display for FromSliceWithNulError {
     ghost use Rattle.std.specs.Prelude.{Some};
     ghost use Rattle.uefi_text_encodings.specs.ErrorTexts.{from_slice_with_nul_error_text};
@@ -72,22 +76,23 @@ impl fmt::Display for FromSliceWithNulError {
 
 impl Error for FromSliceWithNulError {}
 
-/// Why packed code units do not become a string in a buffer. A place is an index into them.
+/// Why packed code units do not become a string in a buffer. A number is the index of an item.
 #[derive(Clone, Copy, Debug, PartialEq, Eq)]
 pub enum UnalignedCStr16Error {
-    /// The first unit that no text holds is a surrogate, at this place.
+    /// The first NUL or surrogate is a surrogate, at this index.
     InvalidChar(usize),
 
-    /// The first unit that no text holds is a NUL, at this place, and more units follow it.
+    /// The first NUL or surrogate is a NUL, at this index, and more follows it.
     InteriorNul(usize),
 
-    /// No unit is a NUL.
+    /// There is neither a NUL nor a surrogate.
     NotNulTerminated,
 
     /// The buffer has fewer places than there are units.
     BufferTooSmall,
 }
 
+/// Writes the reason, with its number in decimal.
 impl fmt::Display for UnalignedCStr16Error {
     ghost use Rattle.std.specs.Prelude.{Some};
     ghost use Rattle.uefi_text_encodings.specs.ErrorTexts.{unaligned_cstr16_error_text};
@@ -106,19 +111,21 @@ impl fmt::Display for UnalignedCStr16Error {
 
 impl Error for UnalignedCStr16Error {}
 
-/// Why a Rust text does not become a string in a buffer. A place is a number of characters.
+/// Why a Rust text does not become a string in a buffer. A number counts the characters before the
+/// refused one.
 #[derive(Clone, Copy, Debug, PartialEq, Eq)]
 pub enum FromStrWithBufError {
-    /// The first character that no UCS-2 text holds is above U+FFFF, after this many others.
+    /// The first character that is NUL or above U+FFFF is above U+FFFF.
     InvalidChar(usize),
 
-    /// The first character that no UCS-2 text holds is a NUL, after this many others.
+    /// The first character that is NUL or above U+FFFF is a NUL.
     InteriorNul(usize),
 
     /// The buffer has too few places for the text and its NUL.
     BufferTooSmall,
 }
 
+/// Writes the reason, with its number in decimal.
 impl fmt::Display for FromStrWithBufError {
     ghost use Rattle.std.specs.Prelude.{Some};
     ghost use Rattle.uefi_text_encodings.specs.ErrorTexts.{from_str_with_buf_error_text};
@@ -136,19 +143,20 @@ impl fmt::Display for FromStrWithBufError {
 
 impl Error for FromStrWithBufError {}
 
-/// Why a Rust text is no UCS-2 string.
+/// Why a Rust text, or characters, do not become an owned string.
 #[derive(Clone, Copy, Debug, PartialEq, Eq)]
 pub enum FromStrError {
-    /// The first character that no UCS-2 text holds is above U+FFFF.
+    /// The first character that is NUL or above U+FFFF is above U+FFFF.
     InvalidChar,
 
-    /// The first character that no UCS-2 text holds is a NUL.
+    /// The first character that is NUL or above U+FFFF is a NUL.
     InteriorNul,
 
-    /// The text is one of UCS-2, and a request for memory was refused.
+    /// The text can be encoded, and a request for memory was refused.
     OutOfMemory,
 }
 
+/// Writes the reason.
 impl fmt::Display for FromStrError {
     ghost use Rattle.std.specs.Prelude.{Some};
     ghost use Rattle.uefi_text_encodings.specs.ErrorTexts.{from_str_error_text};

@@ -1,4 +1,4 @@
-//! Latin-1: strings of it that are borrowed, and the calls on Rust texts of it.
+//! Borrowed strings of Latin-1, and calls on Rust texts of Latin-1.
 #![tactic(auto, unfolding(crate::specs::Views::bytes_of))]
 
 ghost use Rattle.std.specs.Prelude.{◌≡◌, ◌≢◌, ◌<◌, ◌+◌, ◌^◌, ◌↔◌, All, length, position, IsTrue, IsOk, IfOk};
@@ -14,8 +14,8 @@ use std::cmp::Ordering;
 use std::fmt;
 use std::hash::{Hash, Hasher};
 
-/// A Latin-1 string that is borrowed: a view of bytes of which exactly the last is zero. In contracts it is
-/// `bytes_of` it, all its bytes.
+/// A borrowed string of Latin-1: a view of bytes of which the last, and no other, is zero. A
+/// contract sees it as `bytes_of` it: all its bytes, the zero included. No call of it takes memory.
 #[derive(Clone, Copy)]
 pub struct CStr8<'a> {
     bytes: &'a [u8],
@@ -26,11 +26,11 @@ impl<'a> CStr8<'a> {
     ghost use Rattle.uefi_text_encodings.specs.FromSliceWithNul.{first_nul_refusal};
     ghost use Rattle.uefi_text_encodings.specs.Views.{bytes_of};
 
-    /// The string that all of the bytes encode, as a view of them.
+    /// Borrows all of the bytes as a string.
     ///
-    /// The first zero decides: before the last place it is refused as `InteriorNul` with its place, even
-    /// where the bytes don't end in zero. Where there is none the result is `NotNulTerminated`. One pass,
-    /// which ends at the first zero; takes no memory.
+    /// The first zero decides. At the last place it ends the string. Before the last place it is
+    /// refused as `InteriorNul` with its index, even where the bytes don't end in zero. Where there
+    /// is none the result is `NotNulTerminated`. One pass, which ends at the first zero.
     pub fn from_bytes_with_nul(chars: &'a [u8]) -> Result<CStr8<'a>, FromSliceWithNulError>
         ensures ok { IfOk result (λ string. bytes_of string ≡ chars.now) }
         ensures accepts { IsOk result ↔ IsLatin1String chars.now }
@@ -101,6 +101,7 @@ impl<'a> PartialOrd for CStr8<'a> {
     }
 }
 
+/// `Equal` exactly for equal strings.
 impl<'a> Ord for CStr8<'a> {
     ghost use Rattle.std.proofs.Common.{rules};
     ghost use Rattle.std.specs.Ordering.{nat_cmp, on};
@@ -137,7 +138,7 @@ impl<'a> Hash for CStr8<'a> {
     }
 }
 
-/// Writes the character of each byte but the last.
+/// Writes the character of each byte before the zero.
 impl<'a> fmt::Display for CStr8<'a> {
     ghost use Rattle.std.specs.Prelude.{Some};
     ghost use Rattle.std.specs.Str.{encode_utf8_all};
@@ -171,8 +172,8 @@ impl<'a> fmt::Debug for CStr8<'a> {
     }
 }
 
-/// Whether each character of a Rust text is one of Latin-1, which has those up to U+00FF. One pass
-/// over the bytes, which ends soon after the first that decides; takes no memory.
+/// Whether every character of a Rust text is one of Latin-1: at most U+00FF. One pass over the
+/// bytes, which ends soon after the first that decides; takes no memory.
 #[tactic(auto, using(crate::proofs::Utf8Bytes::latin1_bytes))]
 pub fn is_latin1(s: &str) -> bool
     ensures { IsTrue result ↔ IsLatin1 (chars s.now) }
@@ -180,8 +181,8 @@ pub fn is_latin1(s: &str) -> bool
     !has_byte_beyond_latin1(s.as_bytes())
 }
 
-/// Whether no character of a Rust text is NUL. One pass over the bytes, which ends soon after the first
-/// that is; takes no memory.
+/// Whether no character of a Rust text is NUL. One pass over the bytes, which ends soon after the
+/// first NUL; takes no memory.
 #[tactic(auto, using(crate::proofs::Utf8Bytes::no_zero_bytes))]
 pub fn has_no_nul(s: &str) -> bool
     ensures { IsTrue result ↔ All (λ c. c ≢ 0) (chars s.now) }
@@ -189,8 +190,8 @@ pub fn has_no_nul(s: &str) -> bool
     !has_zero_byte(s.as_bytes())
 }
 
-/// How many characters a Rust text of Latin-1 has, a NUL among them counted, which is how many bytes
-/// it takes in Latin-1. One pass; takes no memory.
+/// The number of characters of a Rust text of Latin-1, each NUL counted, which is the number of
+/// bytes that it takes in Latin-1. [`is_latin1`] tests the condition. One pass; takes no memory.
 #[tactic(auto, using(std::proofs::lemmas::Str::chars_from_encodes))]
 pub fn str_num_latin1_chars(s: &str) -> usize
     requires { IsLatin1 (chars s.now) }
@@ -201,10 +202,10 @@ pub fn str_num_latin1_chars(s: &str) -> usize
     s.chars().count()
 }
 
-/// The characters of a Rust text of Latin-1 that holds no NUL, each as one byte, and a NUL after
-/// them. `N` is one more than their number. One pass; takes no memory.
+/// Encodes a Rust text of Latin-1 that holds no NUL: a byte for each character, and a NUL after
+/// them. `N` has to be one more than the number of characters. One pass; takes no memory.
 ///
-/// [`is_latin1`], [`has_no_nul`] and [`str_num_latin1_chars`] test what is asked of the text.
+/// [`is_latin1`], [`has_no_nul`] and [`str_num_latin1_chars`] test the conditions.
 pub fn str_to_latin1<const N: usize>(s: &str) -> [u8; N]
     requires latin1 { IsLatin1 (chars s.now) }
     requires no_nul { All (λ c. c ≢ 0) (chars s.now) }

@@ -1,7 +1,7 @@
 //! The layer of `uefi_text` below strings of UCS-2: characters, Latin-1, UTF-8, the code units of Rust
 //! texts, numbers packed in bytes, and the reasons for which bytes, units and texts are refused.
 //!
-//! Callers use `uefi_text`, which re-exports what is theirs: the module [`chars`], [`CStr8`] and the
+//! Callers use `uefi_text`, which re-exports what they need: the module [`chars`], [`CStr8`] and the
 //! calls on Latin-1 of [`latin1`], the reasons of [`errors`], [`CharSink`], [`EqStrUntilNul`] and
 //! [`Packed`]. The other modules are passes over whole slices and texts, which strings are made of. They
 //! are public for the layer above alone, and hidden from the documentation: nothing promises that they

@@ -1,12 +1,13 @@
-//! Numbers that lie in bytes, the low byte first: what may be an item of a packed slice.
+//! Little-endian numbers in bytes: what can be an item of a packed slice.
 ghost use Rattle.std.specs.Prelude.{◌≡◌, ℕ, ◌*◌, ◌^◌, ◌<◌, length};
 ghost use Rattle.std.specs.Mem.{type_size};
 ghost use Rattle.std.proofs.Common.{arith};
 ghost use Rattle.uefi_text_encodings.specs.Packed.{EncodesOnce, little_endian};
 ghost use Rattle.uefi_text_encodings.specs.PackedLaws.{encodes_once};
 
-/// A number that lies in a fixed count of bytes, the low byte first: `u8`, `u16`, `u32` and `u64`.
-/// In contracts a value is `number` of it.
+/// A number that takes a fixed count of bytes, the low byte first: `u8`, `u16`, `u32` and `u64`. A
+/// contract sees a value as `number` of it. An implementation for a type of your own proves the
+/// three laws at the end.
 pub trait Packed: Copy {
     /// How many bytes a value takes.
     const SIZE: usize;
@@ -17,8 +18,8 @@ pub trait Packed: Copy {
     /// The number of a value.
     ghost number: { Self → ℕ };
 
-    /// The value that exactly `SIZE` bytes encode, the low byte first on every machine: the sum of
-    /// each byte times 256 to the power of its place. Takes no memory.
+    /// Decodes exactly `SIZE` bytes, the low byte first on every machine: the sum of each byte
+    /// times 256 to the power of its index. Takes no memory.
     fn read_le(bytes: &[u8]) -> Self
         requires { length bytes.now ≡ SIZE }
         ensures { number result ≡ little_endian bytes.now };

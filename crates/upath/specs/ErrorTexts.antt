@@ -8,6 +8,7 @@ use Rattle.upath.specs.declared.judging.JudgeError.TheVariants as judge
 use Rattle.upath.specs.declared.streams.StreamFault.{StreamFault}
 use Rattle.upath.specs.declared.streams.StreamFault.TheVariants as stream
 
+-- what is printed of the refusal of bytes
 abbrev pub judge_error_text : JudgeError → List ℕ
 judge_error_text judge.HalfUnit = codes "odd number of bytes"
 judge_error_text (judge.Text error) = from_slice_with_nul_error_text error
@@ -18,6 +19,7 @@ judge_error_text judge.OutOfMemory = codes "out of memory"
 abbrev pub run_fault_text : ℕ → List ℕ
 run_fault_text done = codes "out of memory after " ++ decimal done ++ codes " commands"
 
+-- what is printed of a run over streams that ended early
 abbrev pub stream_fault_text : StreamFault → List ℕ
 stream_fault_text stream.Read = codes "a read failed"
 stream_fault_text stream.Write = codes "a write failed"

@@ -15,17 +15,18 @@ pub enum JudgeError {
     /// The bytes are odd in number.
     HalfUnit,
 
-    /// The code units that the bytes encode are no string. Never holds `OutOfMemory`.
+    /// The code units that the bytes encode are no string, for this reason, which is never
+    /// `OutOfMemory`.
     Text(FromSliceWithNulError),
 
-    /// The path of the string is refused.
+    /// The path of the string is refused, for this reason.
     Invalid(PathError),
 
     /// A request for memory was refused.
     OutOfMemory,
 }
 
-/// Says what the reason within says of itself.
+/// Writes the reason; of `Text` and `Invalid`, the one within.
 impl fmt::Display for JudgeError {
     ghost use Rattle.std.specs.Prelude.{Some};
     ghost use Rattle.upath.specs.ErrorTexts.{judge_error_text};
@@ -60,13 +61,13 @@ fn read_string<A: Allocator>(alloc: A, bytes: &[u8]) -> Result<CString16<A>, Jud
     }
 }
 
-/// The path of a string that lies in bytes, two for each code unit, the low one first, from wherever
-/// they lie: its text with each slash replaced, which `validate_path` accepts.
+/// Decodes bytes at any address as a string, two for each code unit and the low one first, and
+/// returns its path, each slash replaced, where [`validate_path`] accepts that.
 ///
-/// What is refused, in this order: an odd number of bytes, as `HalfUnit`; units that are no string, as
-/// `Text` of what [`uefi_text::CStr16::from_u16_with_nul`] says of them; out of memory, as
-/// `OutOfMemory`; a path that is not accepted, as `Invalid` of the reason. The bytes are looked at before
-/// memory is asked for.
+/// The refusals come in this order. An odd number of bytes is `HalfUnit`. Units that are no string
+/// are `Text` of what [`uefi_text::CStr16::from_u16_with_nul`] says of them. Refused memory is
+/// `OutOfMemory`. A path that is not accepted is `Invalid` of the reason. The bytes are tested
+/// before memory is asked for.
 pub fn judge<A: Allocator + Copy>(alloc: A, bytes: &[u8]) -> Result<PathBuf<A>, JudgeError>
     ensures ok { IfOk result (λ path. IsPathOf bytes.now path) }
     ensures refusal { IfErr result (λ error. IsRefusalOf bytes.now error) }

@@ -13,32 +13,33 @@ use std::fmt;
 use uefi_path::{Path, PathBuf, laws};
 use uefi_text::{CStr16, Char16Slice};
 
-/// What a path buffer is told to become.
+/// An edit of a path buffer.
 #[derive(Clone, Copy, Debug)]
 pub enum PathCommand<'a> {
-    /// The path of a string, its slashes replaced.
+    /// The path becomes that of a string, each slash replaced.
     From(CStr16<'a>),
 
-    /// Itself with another path pushed.
+    /// Another path is pushed, as [`PathBuf::push`] does.
     Push(Path<'a>),
 
-    /// What it joined with another path is.
+    /// The path becomes [`PathBuf::join`] of it and another.
     Join(Path<'a>),
 
-    /// The empty path.
+    /// The path becomes empty.
     Clear,
 
-    /// Its parent; it stays where it has none.
+    /// The path becomes its parent, and is unchanged where it has none.
     Parent,
 }
 
-/// A list of commands was cut short: out of memory.
+/// A list of commands was cut short, since a request for memory was refused.
 #[derive(Clone, Copy, Debug, PartialEq, Eq)]
 pub struct RunFault {
     /// How many commands were done.
     pub done: usize,
 }
 
+/// Writes `out of memory after N commands`, N in decimal.
 impl fmt::Display for RunFault {
     ghost use Rattle.std.specs.Prelude.{Some};
     ghost use Rattle.upath.specs.ErrorTexts.{run_fault_text};
@@ -78,10 +79,11 @@ pub(crate) fn run_command<A: Allocator + Copy>(
     Ok(())
 }
 
-/// Does commands one after the other, and leaves the path that folding their meaning over it gives.
+/// Does commands on a path, one after the other: the path becomes what folding their meaning over
+/// it gives.
 ///
-/// Where memory is refused the error says how many commands were done, fewer than all; the path is
-/// then what these made of it. `Clear`, `Push` of an empty path and `Parent` of a path that has none
+/// Where memory is refused the error says how many commands were done, fewer than all, and the path
+/// is what these made of it. `Clear`, `Push` of an empty path and `Parent` of a path that has none
 /// take no memory. Costs what the commands cost.
 pub fn run_commands<A: Allocator + Copy>(
     alloc: A,
@@ -102,8 +104,9 @@ pub fn run_commands<A: Allocator + Copy>(
     Ok(())
 }
 
-/// The components of a path as a list, or `AllocError`. There is no other list of pieces without
-/// separators, and not the one empty piece, that joins to the path's canonical text.
+/// The components of a path as a list, or `AllocError`. They are the only list of pieces without
+/// separators that joins to the path's canonical text, where a list of one empty piece does not
+/// count. Takes memory for the list.
 pub fn pieces<'a, A: Allocator>(
     alloc: A,
     path: Path<'a>,

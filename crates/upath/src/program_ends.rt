@@ -1,4 +1,4 @@
-//! How a program ends that ends with a run.
+//! How a program that ends with a run ends itself.
 ghost use Rattle.std.specs.Prelude.{◌≡◌};
 ghost use Rattle.std.specs.Process.{exit_status};
 ghost use Rattle.std.specs.Result.{result_err};
@@ -7,20 +7,20 @@ ghost use Rattle.upath.specs.ProgramEnds.{message_after, status_after};
 use crate::streams::StreamFault;
 use std::process::ExitCode;
 
-/// What a program that ends with a run tells whoever started it.
+/// How a program ends that ends with a run: its status, and what standard error gets.
 #[derive(Clone, Copy)]
 pub struct ProgramEnd {
     /// The status that the process ends with.
     pub status: ExitCode,
 
-    /// All that standard error gets. It may be empty.
+    /// What is written to standard error. It may be empty.
     pub message: &'static str,
 }
 
 impl ProgramEnd {
-    /// How a program ends after this result of [`crate::run_streams`]: with 0 and nothing on standard error
-    /// where all was written; with 2 and nothing where a read, a write or the flush failed; with 3 and
-    /// `out of memory`, and a line feed, where a request for memory was refused.
+    /// The end of a program after this result of [`crate::run_streams`]: status 0 and no message
+    /// where all was written; 2 and no message where a read, a write or the flush failed; 3 and the
+    /// line `out of memory` where a request for memory was refused.
     pub fn after(outcome: Result<(), StreamFault>) -> ProgramEnd
         ensures status { exit_status result.status ≡ status_after (result_err outcome) }
         ensures message { result.message.now ≡ message_after (result_err outcome) }

@@ -25,6 +25,7 @@ pub enum StreamFault {
     OutOfMemory,
 }
 
+/// Writes what failed.
 impl fmt::Display for StreamFault {
     ghost use Rattle.std.specs.Prelude.{Some};
     ghost use Rattle.upath.specs.ErrorTexts.{stream_fault_text};
@@ -107,13 +108,13 @@ fn write_output<W: Write>(writer: &mut Watched<W>, output: &[u8]) -> Result<(), 
     Ok(())
 }
 
-/// Reads a reader to its end, writes what [`crate::run_text`] returns to the whole of it, and nothing
-/// else, and flushes. The marks of both are unset before.
+/// Reads a reader to its end, writes what [`crate::run_text`] returns for all of it, and nothing
+/// else, and flushes. Neither mark may be set before, which [`Watched::has_failed`] tests.
 ///
-/// [`StreamFault::Read`] comes only where the reader's mark is set then, and [`StreamFault::Write`] only
-/// where the writer's is: what was written is a prefix of the output. After any other result both marks
-/// are unset. Nothing was written where a read failed or memory was refused. No failed call is made
-/// again, an interrupted one neither, and no call comes after it.
+/// [`StreamFault::Read`] comes only where the reader's mark is set then, and [`StreamFault::Write`]
+/// only where the writer's is: what was written is a prefix of the output. After any other result
+/// neither mark is set. Nothing was written where a read failed or memory was refused. No failed
+/// call is made again, not even an interrupted one, and no call comes after it.
 pub fn run_streams<A: Allocator + Copy, R: Read, W: Write>(
     alloc: A,
     reader: &mut Watched<R>,

@@ -1,4 +1,4 @@
-//! Readers and writers of which one can tell afterwards whether a call failed.
+//! Wrappers of readers and writers that record failed calls.
 ghost use Rattle.std.specs.Prelude.{◌≡◌, ◌<◌, IfOk, OnOk, OnErr, false, length, true};
 ghost use Rattle.std.specs.Io.{ReadsAtMost, WritesAtMost};
 ghost use Rattle.std.specs.Io.KnownBytes.{Keeps, ReadConsumes, WriteAppends};
@@ -6,7 +6,8 @@ ghost use Rattle.upath.specs.Watched.{is_marked, stream_of};
 
 use std::io::{self, ErrorKind, Read, Write};
 
-/// A reader or a writer, and a mark that is set once a call of it fails, and then stays.
+/// A wrapper of a reader or a writer that records failed calls. The first failed call sets a mark,
+/// which then stays set.
 ///
 /// Each call returns an `Err` exactly where it sets the mark. None is made again.
 #[derive(Drop)]
@@ -16,7 +17,7 @@ pub struct Watched<T> {
 }
 
 impl<T> Watched<T> {
-    /// The stream, of which no call has failed yet.
+    /// Wraps a stream, with no mark: no call has failed yet.
     pub fn new(stream: T) -> Self
         ensures stream { stream_of result ≡ stream }
         ensures unmarked { is_marked result ≡ false }
@@ -27,14 +28,14 @@ impl<T> Watched<T> {
         }
     }
 
-    /// Whether a call failed.
+    /// Whether a call failed: the mark.
     pub fn has_failed(&self) -> bool
         ensures { result ≡ is_marked self.now }
     {
         self.failed
     }
 
-    /// The stream. The mark is lost.
+    /// Gives back the stream. The mark is lost.
     pub fn into_inner(self) -> T
         ensures { result ≡ stream_of self }
     {
@@ -44,7 +45,7 @@ impl<T> Watched<T> {
 }
 
 impl<R: Read> Watched<R> {
-    /// One read of the reader, which sets the mark where it fails, an interrupted one too.
+    /// One read of the reader. Where it fails, an interrupted one too, the mark is set.
     pub fn read(&mut self, buf: &mut [u8]) -> io::Result<usize>
         ensures bound { ReadsAtMost result buf.new }
         ensures bytes { ReadConsumes
@@ -59,8 +60,8 @@ impl<R: Read> Watched<R> {
 }
 
 impl<W: Write> Watched<W> {
-    /// One write of the writer, which sets the mark where it fails, an interrupted one too. A write of at
-    /// least one byte that takes none has failed, with [`ErrorKind::WriteZero`].
+    /// One write of the writer. Where it fails, an interrupted one too, the mark is set. A write of
+    /// at least one byte that takes none has failed, with [`ErrorKind::WriteZero`].
     pub fn write(&mut self, buf: &[u8]) -> io::Result<usize>
         ensures bound { WritesAtMost result buf.now }
         ensures bytes { WriteAppends
@@ -77,7 +78,7 @@ impl<W: Write> Watched<W> {
         outcome
     }
 
-    /// One flush of the writer, which sets the mark where it fails.
+    /// One flush of the writer. Where it fails the mark is set.
     pub fn flush(&mut self) -> io::Result<()>
         ensures bytes { Keeps (W.contents (stream_of self.old)) (W.contents (stream_of self.new)) }
         ensures ok { OnOk result (is_marked self.new ≡ is_marked self.old) }
