@@ -18,6 +18,12 @@
 #include <stddef.h>
 #include <stdint.h>
 
+/* The version of this library: its numbers, and its text. */
+#define UEFI_TEXT_VERSION_MAJOR 0
+#define UEFI_TEXT_VERSION_MINOR 1
+#define UEFI_TEXT_VERSION_PATCH 0
+#define UEFI_TEXT_VERSION "0.1.0"
+
 #ifdef __cplusplus
 extern "C" {
 #endif
