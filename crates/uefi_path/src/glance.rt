@@ -1,6 +1,6 @@
-//! A glance at a path, which shows of most valid ones that they are: whole blocks of units are tested at
-//! once, in forms that become vector code. What a glance does not show says nothing: [`validate_path`]
-//! goes on then.
+//! A fast pass over a path, which accepts most valid ones: it tests whole blocks of units at once, in forms
+//! that become vector code. It never refuses: where it does not accept, [`validate_path`] walks over the
+//! components.
 //!
 //! [`validate_path`]: crate::validation::validate_path
 ghost use Rattle.std.specs.Prelude.{◌≡◌, ◌≢◌, ◌+◌, ◌<◌, ◌^◌, ℕ, [], IsTrue, List, None, false, length, slice_index};
@@ -14,7 +14,7 @@ use uefi_text::chars::SEPARATOR;
 /// Shorter texts are judged faster component by component.
 const SHORT: usize = 48;
 
-/// How many units are tested before a fault among them ends the glance.
+/// How many units are tested before a fault among them ends the pass.
 const BLOCK: usize = 129;
 
 /// The code unit of `.`.

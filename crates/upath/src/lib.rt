@@ -1,11 +1,11 @@
-//! What programs do with the paths of UEFI firmware: bytes judged, lists of commands, lines of
-//! commands in and lines of results out, and the laws to reason by.
+//! What programs do with the paths of UEFI firmware: they judge bytes, run lists of commands, and read
+//! lines of commands and print what each gives.
 //!
 //! [`judge`] takes bytes from outside, and returns the path that they encode or why they encode none.
 //! [`run_commands`] does a list of commands on a path, [`pieces`] lists its components and
 //! [`all_parents`] its successive parents.
 //!
-//! [`run_text`] returns what the lines of an input print, and [`run_streams`] does the same from a
+//! [`run_text`] returns what the lines of an input print, and [`run_streams`] writes the same from a
 //! reader to a writer, both [`Watched`]. The contract of both calls is one definition, `output_of` in
 //! `specs/Output.antt`: what is printed is a function of the whole input, and of nothing else.
 //!
@@ -14,11 +14,7 @@
 //! assert_eq!(rt; output.as_slice(), b"= \\foo\\bar\npieces 2\n| foo\n| bar\n".as_slice());
 //! ```
 //!
-//! Data flows one way through the modules: `lines` finds where a line ends, `commands` reads a line,
-//! `run` keeps the path, edits it by `path_commands` and prints, `output` adds lines to what is
-//! printed, `inputs` runs the lines of an input that is there or that comes in parts, `streams` puts
-//! a reader and a writer around that, and `program_ends` says how a program ends after
-//! it. `judging` stands beside them, and [`laws`] apart: what users may reason by.
+//! [`ProgramEnd`] says how a program ends after such a run, and [`laws`] are what users may reason by.
 #![tactic(auto)]
 
 mod commands;
