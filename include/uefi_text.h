@@ -44,7 +44,7 @@ enum uefi_reason {
     UEFI_NO_PARENT = 11          /* the path has at most one component */
 };
 
-/* What an order is where one side does not begin with a string. */
+/* The order of two strings or paths, where one side does not begin with a string. */
 enum { UEFI_NO_ORDER = 2 };
 
 /* Strings. */
@@ -119,8 +119,8 @@ bool uefi_string_equal_until_nul(const uint16_t *units, size_t count,
 bool uefi_utf8_is_latin1(const uint8_t *bytes, size_t byte_count);
 
 /*
- * Paths. Components stand between separators, '\'. One separator at the start of a path says nothing. A slash
- * is no separator, but in what the calls on buffers write.
+ * Paths. Components stand between separators, '\'. One separator at the start of a path is ignored. A slash is
+ * no separator; the calls that write a path replace each by one.
  */
 
 /*

@@ -48,7 +48,7 @@ with_buf_place_at characters room (Some (with_buf.InvalidChar place)) = place
 with_buf_place_at characters room (Some (with_buf.InteriorNul place)) = place
 with_buf_place_at characters room (Some with_buf.BufferTooSmall) = room
 
--- the same by the characters and the room alone
+-- where writing characters as a string into a buffer of `room` places ends, by these alone
 abbrev pub with_buf_place : List ℕ → ℕ → ℕ
 with_buf_place characters room =
     with_buf_place_at characters room (from_str_with_buf_refusal characters room)

@@ -17,22 +17,22 @@ use Rattle.uefi_path.specs.Verdicts.{IsGood, IsValid, verdict}
 abbrev pub TextsHaveComponents : Type 0
 TextsHaveComponents = (text : List ℕ) → (pieces : List (List ℕ)) × AreComponents text pieces
 
--- and no two lists of them
+-- no text has two lists of components
 abbrev pub ComponentsOnce : Type 0
 ComponentsOnce = (text : List ℕ) (pieces others : List (List ℕ))
     → AreComponents text pieces → AreComponents text others → pieces ≡ others
 
--- that list is `components_of`, and what is no such list is another one
+-- `components_of` a text is its list of components, and no other list is
 abbrev pub AreComponentsWhereSame : Type 0
 AreComponentsWhereSame =
     (text : List ℕ) (pieces : List (List ℕ)) → AreComponents text pieces ↔ (pieces ≡ components_of text)
 
--- an empty canonical text has none
+-- a text whose canonical text is empty has no component
 abbrev pub NoComponentsOfEmpty : Type 0
 NoComponentsOfEmpty = (text : List ℕ) (pieces : List (List ℕ)) → AreComponents text pieces
     → canonical text ≡ [] → length pieces ≡ 0
 
--- and any other has one more than separators
+-- any other text has one component more than separators
 abbrev pub OneMoreThanSeparators : Type 0
 OneMoreThanSeparators = (text : List ℕ) (pieces : List (List ℕ)) → AreComponents text pieces
     → canonical text ≢ [] → length pieces ≡ count_by is_separator (canonical text) + 1
@@ -57,7 +57,7 @@ path_order text other = slice_cmp nat_cmp (canonical text) (canonical other)
 abbrev pub OrderIsTotal : Type 0
 OrderIsTotal = IsTotalOrder path_order
 
--- neither is less exactly where the canonical texts are the same
+-- of two paths neither is less exactly where their canonical texts are the same
 abbrev pub OrderTiesEqual : Type 0
 OrderTiesEqual =
     (text other : List ℕ) → (path_order text other ≡ Equal) ↔ (canonical text ≡ canonical other)
@@ -66,7 +66,7 @@ OrderTiesEqual =
 abbrev pub EqualityIsEquivalence : Type 0
 EqualityIsEquivalence = IsEquivalence path_equal
 
--- and holds exactly where the canonical texts are the same
+-- two paths are equal exactly where their canonical texts are the same
 abbrev pub EqualWhereSameCanonical : Type 0
 EqualWhereSameCanonical =
     (text other : List ℕ) → IsTrue (path_equal text other) ↔ (canonical text ≡ canonical other)
@@ -80,7 +80,7 @@ PushingIsAssociative = (first second third : List ℕ) → IsPlain second
 abbrev pub EmptyAfterIsUnit : Type 0
 EmptyAfterIsUnit = (text : List ℕ) → pushed text [] ≡ text
 
--- nor does it before a plain one
+-- the empty path before a plain path changes nothing
 abbrev pub EmptyBeforeIsUnit : Type 0
 EmptyBeforeIsUnit = (text : List ℕ) → IsPlain text → pushed [] text ≡ text
 
@@ -112,7 +112,7 @@ abbrev pub ParentIsRelative : Type 0
 ParentIsRelative = (text parent : List ℕ) → IsPlain text → parent_text text ≡ Some parent
     → IsRelative parent
 
--- and holds no two separators in a row
+-- a parent of a plain text holds no two separators in a row
 abbrev pub ParentIsNotDoubled : Type 0
 ParentIsNotDoubled = (text parent before after : List ℕ) → IsPlain text → parent_text text ≡ Some parent
     → parent ≢ before ++ separator ∷ separator ∷ after
@@ -132,7 +132,7 @@ abbrev pub ParentOfJoined : Type 0
 ParentOfJoined = (text piece : List ℕ) → verdict text ≡ None → components_of text ≢ []
     → IsGood piece → parent_text (pushed text piece) ≡ Some (canonical text)
 
--- which is an equal path
+-- the canonical text of a valid text is an equal path
 abbrev pub CanonicalIsEqual : Type 0
 CanonicalIsEqual = (text : List ℕ) → verdict text ≡ None → canonical (canonical text) ≡ canonical text
 
@@ -145,16 +145,16 @@ ParentsArePrefixes = (text : List ℕ) (parents : List (List ℕ)) → verdict t
 abbrev pub WalkingUpEnds : Type 0
 WalkingUpEnds = (text : List ℕ) → (parents : List (List ℕ)) × AreParents text parents
 
--- `parents_of` are the successive parents
+-- `parents_of` a text are its successive parents
 abbrev pub ParentsOfAreParents : Type 0
 ParentsOfAreParents = (text : List ℕ) → AreParents text (parents_of text)
 
--- and no other list is
+-- no other list than `parents_of` a text is that of its successive parents
 abbrev pub AreParentsWhereSame : Type 0
 AreParentsWhereSame =
     (text : List ℕ) (parents : List (List ℕ)) → AreParents text parents ↔ (parents ≡ parents_of text)
 
--- a plain text has fewer of them than components, or none of either
+-- a plain text has fewer successive parents than components, or none of either
 abbrev pub FewerParents : Type 0
 FewerParents = (text : List ℕ) (parents : List (List ℕ)) → IsPlain text → AreParents text parents
     → length parents ≤ length (components_of text) - 1
@@ -163,16 +163,16 @@ FewerParents = (text : List ℕ) (parents : List (List ℕ)) → IsPlain text �
 abbrev pub NormalFormsExist : Type 0
 NormalFormsExist = (pieces : List (List ℕ)) → (normal : List (List ℕ)) × NormalForm pieces normal
 
--- and no two
+-- no list of pieces has two normal forms
 abbrev pub NormalFormsOnce : Type 0
 NormalFormsOnce = (pieces normal other : List (List ℕ)) → NormalForm pieces normal → NormalForm pieces other
     → normal ≡ other
 
--- it is `normal_of` the list, and what is no normal form is another one
+-- `normal_of` a list of pieces is its normal form, and no other list is
 abbrev pub NormalFormWhereSame : Type 0
 NormalFormWhereSame = (pieces normal : List (List ℕ)) → NormalForm pieces normal ↔ (normal ≡ normal_of pieces)
 
--- two lists have the same one exactly where steps lead from both to some list
+-- two lists have the same normal form exactly where steps lead from both to some list
 abbrev pub NormalFormsAgree : Type 0
 NormalFormsAgree = (pieces others normal other : List (List ℕ))
     → NormalForm pieces normal → NormalForm others other
@@ -183,12 +183,12 @@ abbrev pub NormalIsValid : Type 0
 NormalIsValid = (text : List ℕ) (normal : List (List ℕ)) → verdict text ≡ None
     → NormalForm (components_of text) normal → verdict (normal_text normal) ≡ None
 
--- it holds names alone, neither `.` nor `..`
+-- the normal path of a valid one holds names alone, neither `.` nor `..`
 abbrev pub NormalHoldsNames : Type 0
 NormalHoldsNames = (text : List ℕ) (normal : List (List ℕ)) → verdict text ≡ None
     → NormalForm (components_of text) normal → All IsName normal
 
--- and is its own normal path
+-- the normal path of a valid one is its own normal path
 abbrev pub NormalIsNormal : Type 0
 NormalIsNormal = (text : List ℕ) (normal : List (List ℕ)) → verdict text ≡ None
     → NormalForm (components_of text) normal → NormalForm (components_of (normal_text normal)) normal

@@ -10,7 +10,7 @@ use Rattle.uefi_text_encodings.specs.UnitBytes.{BytesEncode, unit_bytes_refusal}
 abbrev pub TextsAreEncoded : Type 0
 TextsAreEncoded = (text : List ℕ) → IsText text → (bytes : List ℕ) × BytesEncode bytes text
 
--- and no other bytes do
+-- a text is encoded by one list of bytes alone
 abbrev pub EncodedOnce : Type 0
 EncodedOnce = (text bytes other : List ℕ) → BytesEncode bytes text → BytesEncode other text → bytes ≡ other
 

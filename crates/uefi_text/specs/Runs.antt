@@ -20,7 +20,7 @@ GivesAll view left here items = (left here ≡ items) × (length (left here) < 2
 abbrev pub GivesNoNul : {S : Type 0} → (S → Option ℕ → S → Type 0) → S → Type 0
 GivesNoNul steps here = EachRunFrom steps here (λ run. AllItems run (λ c. c ≢ 0))
 
--- nor does a run of copied items of a slice, from where these are left
+-- no run of copied items of a slice, from where these are left, gives a NUL
 abbrev pub CopiesNoNul : List ℕ → Type 0
 CopiesNoNul characters = EveryRun (copied_steps (iter_steps {A = ℕ})) (λ run.
     iter_rest (copied_source run.from) ≡ characters → AllItems run (λ c. c ≢ 0))

@@ -31,6 +31,6 @@ module _ {T : Type 0} {P : _} where
   unfoldable pub items_left : UnalignedSliceIter T P → List ℕ
   items_left iter = items_of iter.rest
 
-  -- the same, of the iterator that a slice is made into
+  -- the numbers of the items that are still to come of the iterator that a slice becomes
   unfoldable pub into_iter_items_left : UnalignedSliceIntoIter T P → List ℕ
   into_iter_items_left iter = items_left iter.items

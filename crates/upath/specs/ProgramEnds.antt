@@ -3,7 +3,7 @@ use Rattle.std.specs.Prelude.{ℕ, List, [], Option, Some, None, codes}
 use Rattle.upath.specs.declared.streams.StreamFault.{StreamFault}
 use Rattle.upath.specs.declared.streams.StreamFault.TheVariants.{Read, Write, OutOfMemory}
 
--- its status, by why the run ended early, if it did
+-- the program's status, by why the run ended early, if it did
 abbrev pub status_after : Option StreamFault → ℕ
 status_after None = 0
 status_after (Some Read) = 2
