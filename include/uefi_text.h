@@ -120,7 +120,7 @@ bool uefi_utf8_is_latin1(const uint8_t *bytes, size_t byte_count);
 
 /*
  * Paths. Components stand between separators, '\'. One separator at the start of a path is ignored. A slash is
- * no separator; the calls that write a path replace each by one.
+ * no separator; the calls that write a path write a separator in its place.
  */
 
 /*
