@@ -45,8 +45,8 @@ pub enum FromSliceWithNulError {
     /// The first NUL or surrogate is a NUL, at this index, and more follows it.
     InteriorNul(usize),
 
-    /// There is neither a NUL nor a surrogate. Of the bytes of a string of UCS-2: they are odd in
-    /// number, or do not end in two zeros.
+    /// There is neither a NUL nor a surrogate; or bytes that have to be a string of UCS-2 are odd
+    /// in number, or do not end in two zeros.
     NotNulTerminated,
 
     /// The slice is not aligned. The Rust crate has this reason; no call here returns it.
