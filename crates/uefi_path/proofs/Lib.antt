@@ -21,7 +21,6 @@ pub mod NormalPaths
 pub mod LastPieces
 mod NamesLeft
 mod NameTails
-pub mod NormalStack
 mod Counts
 pub mod TailUnits
 pub mod Depth

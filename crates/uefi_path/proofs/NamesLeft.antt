@@ -8,9 +8,11 @@ use Rattle.uefi_path.specs.NamesLeft.{names_before}
 use Rattle.uefi_path.specs.NormalForms.{Dot, DotDot, IsName, Kind, Name, before_normal, before_piece, dot, dot_dot, kind, normal_of}
 use Rattle.uefi_path.specs.Separators.{canonical, is_separator}
 use Rattle.uefi_path.specs.Verdicts.{IsGood, verdict}
+use Rattle.uefi_text.specs.Units.{IsText, IsTextUnit}
 use Rattle.uefi_path.proofs.Depth.{names_of_normal}
 use Rattle.uefi_path.proofs.NameTails.{normal_no_longer}
 use Rattle.uefi_path.proofs.NormalPaths.{All-normal}
+use Rattle.uefi_path.proofs.Parents.{All-slice_split}
 use Rattle.uefi_path.proofs.Rewriting.{NormalForm-normal_of, name_kind, normal_of-step}
 use Rattle.uefi_path.proofs.Splitting.{AreComponents-components_of, slice_split-canonical}
 use Rattle.uefi_path.proofs.Validity.{valid-components, valid-parts}
@@ -105,6 +107,15 @@ good_names text us valid e some =
     subst (All IsGood) (sym (from_start text us e some))
     (All-normal IsGood (components_of text) (normal_of (components_of text))
     (NormalForm-normal_of (components_of text)) (valid-components text valid))
+
+-- and texts, as the path is
+pub text_names : (text us : List ℕ) → us ≡ canonical text → us ≢ [] → IsText us
+    → All IsText (names_before (slice_split is_separator us) 0)
+text_names text us e some is_text =
+    subst (All IsText) (sym (from_start text us e some))
+    (All-normal IsText (components_of text) (normal_of (components_of text))
+    (NormalForm-normal_of (components_of text))
+    (subst (All IsText) (slice_split-canonical text us e some) (All-slice_split IsTextUnit us is_text)))
 
 -- and no longer than the text
 pub names_no_longer : (text us : List ℕ) → us ≡ canonical text → us ≢ []

@@ -10,6 +10,7 @@ use Rattle.uefi_path.specs.NormalForms.{Dot, DotDot, IsName, Kind, Name, NormalF
 use Rattle.uefi_path.specs.Pushing.{appended}
 use Rattle.uefi_path.specs.Separators.{canonical, separator, slash, with_separators}
 use Rattle.uefi_path.specs.Verdicts.{IsGood, verdict}
+use Rattle.uefi_text.specs.Units.{IsText, IsTextUnit}
 use Rattle.uefi_path.proofs.Depth.{Stays, Stays-names, names_of_normal}
 use Rattle.uefi_path.proofs.ParentForm.{components_of-joined, rejoined-full}
 use Rattle.uefi_path.proofs.Parents.{added_all}
@@ -84,25 +85,17 @@ normal_paths_agree text other normal others valid other_valid form other_form =
       λ common. ap (λ pieces. canonical (normal_text pieces)) (agree.1 common),
     )
 
--- good pieces that are added one after the other to nothing are joined
-pub joined_good : (qs : List (List ℕ)) → All IsGood qs → fold appended [] qs ≡ joined qs
-joined_good qs good =
-    added_all [] qs (All-nil IsPiece) (All-good_piece qs good) ∙ rejoined-full qs (All-good_non_empty qs good)
-
--- with the lone separator where there are none that is their text
+-- the path of good names holds no slash
 pub plain_normal_text : (qs : List (List ℕ)) → All IsGood qs → with_separators (normal_text qs) ≡ normal_text qs
 plain_normal_text [] good = refl
 plain_normal_text (q ∷ qs) good =
     with_separators-plain (joined (q ∷ qs))
     (All-joined (λ u. u ≢ slash) (q ∷ qs) separator_is_plain (All-good_plain (q ∷ qs) good))
 
-pub normal_text_of : {A : Type 0} (shown : A → List ℕ) (items : List A) (text : List ℕ) (is_empty : Bool)
-    → All IsGood (map shown items) → is_empty ≡ (length items == 0)
-    → (is_empty ≡ true → text ≡ fold appended [] (map shown items) ++ separator ∷ [])
-    → (is_empty ≡ false → text ≡ fold appended [] (map shown items))
-    → with_separators text ≡ normal_text (map shown items)
-normal_text_of shown [] text is_empty good e root others = ap with_separators (root e)
-normal_text_of shown (a ∷ items) text is_empty good e root others =
-    let some : is_empty ≡ false = e ∙ ne_eqb (length (a ∷ items)) 0 (λ none. omega (arith, none)) in
-    ap with_separators (others some ∙ joined_good (map shown (a ∷ items)) good)
-    ∙ plain_normal_text (map shown (a ∷ items)) good
+-- and names that are texts make a text
+separator_is_text : IsTextUnit separator
+separator_is_text = (omega arith, (omega arith, λ surrogate. omega (arith, surrogate)))
+
+pub IsText-normal_text : (names : List (List ℕ)) → All IsText names → IsText (normal_text names)
+IsText-normal_text [] texts = All-cons IsTextUnit separator [] separator_is_text (All-nil IsTextUnit)
+IsText-normal_text (q ∷ qs) texts = All-joined IsTextUnit (q ∷ qs) separator_is_text texts

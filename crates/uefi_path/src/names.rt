@@ -1,17 +1,17 @@
 //! The names of a normal path, found from the last component on. A `..` there says how many names before it
 //! go, so that none has to be kept on the way: no call takes memory.
-ghost use Rattle.std.specs.Prelude.{◌≡◌, ◌+◌, ◌-◌, ◌<◌, ◌≤◌, ◌^◌, ◌++◌, ◌∷◌, [], All, IsNone, List, None, ℕ, drop, if◌then◌else◌, length, option_map, slice_index};
+ghost use Rattle.std.specs.Prelude.{◌≡◌, ◌↔◌, ◌+◌, ◌-◌, ◌<◌, ◌≤◌, ◌^◌, ◌++◌, ◌∷◌, [], All, IsNone, IsTrue, List, None, ℕ, drop, if◌then◌else◌, length, option_map, slice_index};
 ghost use Rattle.std.specs.List.{slice_split};
 ghost use Rattle.std.specs.Option.{option_to_list};
 ghost use Rattle.uefi_path.specs.Components.{IsPiece, components_of, joined};
 ghost use Rattle.uefi_path.specs.NamesLeft.{IsWalk, are_left, names_before, names_left, pieces_left};
-ghost use Rattle.uefi_path.specs.NormalForms.{normal_of};
+ghost use Rattle.uefi_path.specs.NormalForms.{dot, dot_dot, normal_of};
 ghost use Rattle.uefi_path.specs.Separators.{is_separator, separator};
 ghost use Rattle.uefi_path.specs.Verdicts.{IsGood, verdict};
 ghost use Rattle.uefi_path.specs.Views.{path_text};
+ghost use Rattle.uefi_text.specs.Units.{IsText};
 ghost use Rattle.uefi_text.specs.Views.{units_of};
 
-use crate::normal::{is_dot, is_dot_dot};
 use crate::path::Path;
 use uefi_text::chars::SEPARATOR;
 use uefi_text::strs::Char16Slice;
@@ -25,6 +25,20 @@ pub(crate) struct NamesFromLast<'a> {
 
     /// How many names before it go: the `..` that were cut and took none yet.
     climbs: usize,
+}
+
+/// Whether the piece is `.`.
+fn is_dot(piece: Char16Slice<'_>) -> bool
+    ensures { IsTrue result ↔ (units_of piece.entry ≡ dot) }
+{
+    matches!(piece.units(), [46])
+}
+
+/// Whether the piece is `..`.
+fn is_dot_dot(piece: Char16Slice<'_>) -> bool
+    ensures { IsTrue result ↔ (units_of piece.entry ≡ dot_dot) }
+{
+    matches!(piece.units(), [46, 46])
 }
 
 /// Where the last piece of units begins.
@@ -61,7 +75,8 @@ impl<'a> NamesFromLast<'a> {
         ensures names { names_left result ≡ normal_of (components_of (path_text path.entry)) }
         ensures walk { IsWalk result }
         ensures good { All IsGood (names_left result) }
-        ensures bound { length (joined (names_left result)) < 2 ^ 64 }
+        ensures texts { All IsText (names_left result) }
+        ensures bound { length (joined (names_left result)) + 1 < 2 ^ 64 }
     {
         let text = path.canonical();
         if text.is_empty() {

@@ -1,22 +1,22 @@
 //! Normal paths, which hold names alone: no `.` and no `..`. `specs/NormalForms.antt` says what they are.
-ghost use Rattle.std.specs.Prelude.{◌≡◌, ◌↔◌, ◌++◌, ◌∷◌, All, IfErr, IfOk, IsTrue, List, None, Some, if◌then◌else◌, length, map, ℕ};
-ghost use Rattle.uefi_path.specs.Climbing.{depth_after};
-ghost use Rattle.uefi_path.specs.Components.{components_of};
-ghost use Rattle.uefi_path.specs.NormalForms.{IsName, NormalForm, Rewrites, dot, dot_dot, kind, normal_of, normal_text};
+ghost use Rattle.std.specs.Prelude.{◌≡◌, ◌+◌, ◌<◌, ◌^◌, All, IfErr, IfOk, None, length, max};
+ghost use Rattle.uefi_path.specs.Components.{components_of, joined};
+ghost use Rattle.uefi_path.specs.NamesLeft.{IsWalk, names_left};
+ghost use Rattle.uefi_path.specs.NormalForms.{NormalForm, normal_of, normal_text};
 ghost use Rattle.uefi_path.specs.Verdicts.{IsGood, normal_refusal, verdict};
 ghost use Rattle.uefi_path.specs.Views.{path_text};
-ghost use Rattle.uefi_text.specs.Units.{IsText};
-ghost use Rattle.uefi_text.specs.Views.{units_of};
+ghost use Rattle.uefi_text.specs.Units.{IsText, nul_terminated};
 
+use crate::names::NamesFromLast;
 use crate::path::Path;
-use crate::pathbuf::{PathBuf, append};
-use crate::validation::{PathError, find_fault, validate_path};
+use crate::pathbuf::PathBuf;
+use crate::validation::{PathError, validate_path};
+use crate::written::{names_len, write_names};
 use std::alloc::{AllocError, Allocator};
 use std::error::Error;
 use std::fmt;
 use uefi_text::chars::SEPARATOR;
 use uefi_text::owned_strs::CString16;
-use uefi_text::strs::Char16Slice;
 
 /// Why a path has no normal path.
 #[derive(Clone, Copy, Debug, PartialEq, Eq)]
@@ -45,80 +45,33 @@ impl fmt::Display for NormalizeError {
 
 impl Error for NormalizeError {}
 
-/// Whether the piece is `.`.
-pub(crate) fn is_dot(piece: Char16Slice<'_>) -> bool
-    ensures { IsTrue result ↔ (units_of piece.entry ≡ dot) }
+/// Writes the normal path of names, which have `len` units joined, and a NUL into as many places.
+fn write_string(units: &mut [u16], len: usize, names: NamesFromLast<'_>)
+    requires walk { IsWalk names }
+    requires good { All IsGood (names_left names) }
+    requires len { len ≡ length (joined (names_left names)) }
+    requires room { length units.now ≡ max len 1 + 1 }
+    ensures { units.new ≡ nul_terminated (normal_text (names_left names.entry)) }
 {
-    matches!(piece.units(), [46])
+    // Where no name is left the path is the lone separator.
+    units[0] = u16::from(SEPARATOR);
+    units[len.max(1)] = 0;
+    write_names(&mut units[..len], names);
 }
 
-/// Whether the piece is `..`.
-pub(crate) fn is_dot_dot(piece: Char16Slice<'_>) -> bool
-    ensures { IsTrue result ↔ (units_of piece.entry ≡ dot_dot) }
+/// The path of names, joined, in memory that it owns.
+fn join_names<A: Allocator + Copy>(alloc: A, names: NamesFromLast<'_>) -> Result<PathBuf<A>, AllocError>
+    requires walk { IsWalk names }
+    requires good { All IsGood (names_left names) }
+    requires texts { All IsText (names_left names) }
+    requires bound { length (joined (names_left names)) + 1 < 2 ^ 64 }
+    ensures { IfOk result (λ path. path ≡ normal_text (names_left names.entry)) }
 {
-    matches!(piece.units(), [46, 46])
-}
-
-/// Takes one more piece after names: a `.` is dropped, a `..` drops the last name, and any other is kept.
-/// `Ok(false)` where there is no name to drop.
-fn take<'a, A: Allocator>(
-    names: &mut Vec<Char16Slice<'a>, A>,
-    piece: Char16Slice<'a>,
-) -> Result<bool, AllocError>
-    requires { All IsName (map units_of names.old.items) }
-    ensures depth { IfOk result (λ stays. depth_after (kind (units_of piece.entry)) (length names.old.items)
-        ≡ (if stays then Some (length names.new.items) else None)) }
-    ensures steps { IfOk result (λ stays. IsTrue stays → (rest : List (List ℕ)) → Rewrites
-        (map units_of names.old.items ++ units_of piece.entry ∷ rest)
-        (map units_of names.new.items ++ rest)) }
-    ensures names { IfOk result (λ stays. All IsName (map units_of names.new.items)) }
-{
-    if is_dot(piece) {
-        return Ok(true);
-    }
-    if is_dot_dot(piece) {
-        return Ok(names.pop().is_some());
-    }
-    names.push(piece)?;
-    Ok(true)
-}
-
-/// How many characters the path of these pieces has, at most.
-fn joined_len(pieces: &[Char16Slice<'_>]) -> usize {
-    let mut len = 0usize;
-    for piece in pieces {
-        len = len.saturating_add(piece.len()).saturating_add(1);
-    }
-    len.saturating_sub(1).max(1)
-}
-
-/// The path of normal pieces.
-fn join_pieces<A: Allocator + Copy>(
-    alloc: A,
-    pieces: &[Char16Slice<'_>],
-) -> Result<PathBuf<A>, AllocError>
-    requires texts { All IsText (map units_of pieces.now) }
-    requires good { All IsGood (map units_of pieces.now) }
-    ensures { IfOk result (λ path. path ≡ normal_text (map units_of pieces.now)) }
-{
-    let mut string = CString16::with_capacity(alloc, joined_len(pieces))?;
-    for piece in pieces {
-        append(&mut string, *piece)?;
-    }
-    if pieces.is_empty() {
-        string.push(SEPARATOR)?;
-    }
-    PathBuf::from_string(alloc, string)
-}
-
-/// Why a path has no normal path, where memory is refused: what is still to come may hold a fault.
-fn refusal(path: Path<'_>) -> NormalizeError
-    ensures { result ≡ normal_refusal (verdict (path_text path.entry)) }
-{
-    match validate_path(path) {
-        Err(error) => NormalizeError::Invalid(error),
-        Ok(()) => NormalizeError::OutOfMemory,
-    }
+    let len = names_len(names);
+    let mut units = Vec::new(alloc);
+    units.resize(len.max(1) + 1, 0)?;
+    write_string(&mut units, len, names);
+    PathBuf::from_string(alloc, CString16::try_from_vec(units).unwrap())
 }
 
 /// Normal paths.
@@ -128,9 +81,9 @@ impl<'a> Path<'a> {
     /// nothing is left the normal path is the lone separator.
     ///
     /// A path that is not valid is refused as `Invalid`, with the reason that [`validate_path`]
-    /// reports; `OutOfMemory` comes last. One pass over the components, and another only where
-    /// memory is refused on the way. Takes memory for the names that are kept on the way, and for
-    /// the normal path as [`PathBuf::from`] does.
+    /// reports; `OutOfMemory` comes last. Two passes over the components after those of
+    /// [`validate_path`]. Takes memory as [`PathBuf::from`] does: once for the text, and once for the
+    /// places of its separators, where it has any.
     pub fn normalize<A: Allocator + Copy>(&self, alloc: A) -> Result<PathBuf<A>, NormalizeError>
         ensures valid { IfOk result (λ path. verdict (path_text self.now) ≡ None) }
         ensures ok { IfOk result (λ path.
@@ -139,21 +92,10 @@ impl<'a> Path<'a> {
             (normal_of (components_of (path_text self.now)))) }
         ensures err { IfErr result (λ error. error ≡ normal_refusal (verdict (path_text self.now))) }
     {
-        if self.is_empty() {
-            return Err(NormalizeError::Invalid(PathError::Empty));
+        if let Err(error) = validate_path(*self) {
+            return Err(NormalizeError::Invalid(error));
         }
-        let mut names = Vec::new(alloc);
-        for component in self.components() {
-            if let Some(error) = find_fault(component) {
-                return Err(NormalizeError::Invalid(error));
-            }
-            match take(&mut names, component) {
-                Ok(true) => {}
-                Ok(false) => return Err(NormalizeError::Invalid(PathError::ClimbsAboveRoot)),
-                Err(AllocError) => return Err(refusal(*self)),
-            }
-        }
-        match join_pieces(alloc, names.as_slice()) {
+        match join_names(alloc, NamesFromLast::of(*self)) {
             Ok(path) => Ok(path),
             Err(AllocError) => Err(NormalizeError::OutOfMemory),
         }

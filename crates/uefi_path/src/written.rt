@@ -82,7 +82,7 @@ fn write_all_but_last(buffer: &mut [u16], mut components: Components<'_>)
 }
 
 /// How many units names have, joined.
-fn names_len(mut names: NamesFromLast<'_>) -> usize
+pub(crate) fn names_len(mut names: NamesFromLast<'_>) -> usize
     requires walk { IsWalk names }
     requires good { All IsGood (names_left names) }
     requires bound { length (joined (names_left names)) < 2 ^ 64 }
@@ -129,7 +129,7 @@ fn write_name_before(buffer: &mut [u16], end: usize, name: &[u16]) -> usize
 }
 
 /// Writes names, joined, into as many places.
-fn write_names(places: &mut [u16], mut names: NamesFromLast<'_>)
+pub(crate) fn write_names(places: &mut [u16], mut names: NamesFromLast<'_>)
     requires walk { IsWalk names }
     requires good { All IsGood (names_left names) }
     requires room { length places.now ≡ length (joined (names_left names)) }

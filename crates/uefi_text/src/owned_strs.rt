@@ -259,6 +259,8 @@ impl<A: Allocator> CString16<A> {
     pub fn try_from_vec(units: Vec<u16, A>) -> Result<Self, FromSliceWithNulError>
         ensures ok { IfOk result (λ string. nul_terminated string ≡ units.items) }
         ensures accepts { IsOk result ↔ IsString units.items }
+        ensures made { (text : List ℕ) → IsText text → units.items ≡ nul_terminated text
+            → IsOk result × IfOk result (λ string. string ≡ text) }
         ensures refusal { result_err result ≡ with_nul_refusal units.items }
     {
         CStr16::from_u16_with_nul(units.as_slice())?;

@@ -1,8 +1,9 @@
 -- A name that stays is left out of those that are left.
-use Rattle.std.proofs.Common.{◌≡◌, ◌++◌, ◌∷◌, [], All, arith, sym, subst, ◌∙◌, ap}
+use Rattle.std.proofs.Common.{◌≡◌, ◌++◌, ◌∷◌, [], All, length, arith, sym, subst, ◌∙◌, ap}
+use Rattle.std.proofs.Math.Seq.{take-append_seam}
+use Rattle.std.proofs.lemmas.List.Elements.{All-take}
 use Rattle.uefi_path.specs.NamesLeft.{are_left, names_before, names_left, pieces_left}
 use Rattle.uefi_path.specs.NormalForms.{IsName}
-use Rattle.uefi_path.proofs.NormalStack.{parts_are_names}
 use Rattle.uefi_text.specs.Views.{units_of}
 use Rattle.uefi_path.proofs.names.NamesFromLast.next.Goals as goal
 
@@ -18,7 +19,9 @@ returns-then-keeps-clause-walk c =
     ∙ c.if-keeps.ensures.kept (pieces_left c.cut_last.result.0)
     ∙ ap (λ rest. names_before (pieces_left rest) new.climbs ++ last ∷ []) (sym c.keeps.ensures.rest) in
     record {
-      are_names = (parts_are_names (names_left new) (last ∷ []) (subst (All IsName) same walk.are_names)).0;
+      are_names =
+          subst (All IsName) (take-append_seam (names_left new) (last ∷ []))
+          (All-take IsName (length (names_left new)) _ (subst (All IsName) same walk.are_names));
       bound =
           omega (
             arith,

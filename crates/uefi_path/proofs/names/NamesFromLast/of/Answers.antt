@@ -2,7 +2,7 @@
 use Rattle.std.proofs.Common.{arith}
 use Rattle.std.proofs.lemmas.Bool.{false≢true}
 use Rattle.uefi_path.specs.Views.{path_text}
-use Rattle.uefi_path.proofs.NamesLeft.{good_names, names_no_longer, valid_names}
+use Rattle.uefi_path.proofs.NamesLeft.{good_names, names_no_longer, text_names, valid_names}
 use Rattle.uefi_text.specs.Views.{units_of}
 use Rattle.uefi_path.proofs.names.NamesFromLast.of.Goals as goal
 
@@ -28,3 +28,9 @@ returns-clause-bound c =
     let fits = names_no_longer (path_text c.args.path) (units_of text.result) text.ensures.same
     (λ none. false≢true (c.if-is_empty.ensures.1 none)) in
     omega (arith, fits, text.ensures.bound)
+
+pub returns-clause-texts : goal.returns-clause-texts
+returns-clause-texts c =
+    let text = c.canonical-text in
+    text_names (path_text c.args.path) (units_of text.result) text.ensures.same
+    (λ none. false≢true (c.if-is_empty.ensures.1 none)) text.ensures.is_text
