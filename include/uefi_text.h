@@ -156,9 +156,10 @@ bool uefi_path_next_component(const uint16_t *text, size_t length,
 bool uefi_path_file_name(const uint16_t *text, size_t length, size_t *start);
 
 /*
- * The path of all components but the last: true, and it is the first `*parent_length` units of the text, which are
- * the parent of a path that uefi_path_verdict accepts; or false where the path has at most one component, and
- * `*parent_length` stays unchanged. `length` units are the text without its NUL, any units.
+ * The path of all components but the last: true, and it is the units before the last separator, the first
+ * `*parent_length` of the text. Of a path that uefi_path_verdict accepts they are the parent, but for a separator at
+ * their start, which the parent lacks. Or false where the path has at most one component, and `*parent_length` stays
+ * unchanged. `length` units are the text without its NUL, any units.
  */
 bool uefi_path_parent_length(const uint16_t *text, size_t length, size_t *parent_length);
 

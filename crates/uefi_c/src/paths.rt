@@ -46,7 +46,7 @@ pub(crate) fn judge(path: Path<'_>, character: &mut u16) -> u32
 /// Units that begin with no string are refused as by [`uefi_string_until_nul`], and then the path as by
 /// `validate_path`. `place` becomes what [`uefi_string_until_nul`] says, which is the length of the text
 /// where only the path is refused. `character` becomes the character of `ILLEGAL_CHAR`, and 0 else. One pass
-/// over the units and one over the components, which ends at the first fault; takes no memory.
+/// over the units, and those of `validate_path`, two at most; takes no memory.
 #[unsafe(no_mangle)]
 pub extern "C" fn uefi_path_verdict(units: &[u16], place: &mut usize, character: &mut u16) -> u32
     ensures no_string { ¬ BeginsWithString units.now

@@ -95,7 +95,7 @@ impl<A: Allocator + Copy> PartialRun<A> {
 /// normal path, or why there is none. A line that is not UTF-8, one that is no command and a T that
 /// is no text of UCS-2 print a line that says so and leave the path unchanged. The only error is out
 /// of memory, and then nothing of the output is returned. Memory is linear in the input and the
-/// output; a line costs what it says, what it prints, and at most a pass over the path.
+/// output; a line costs what it says, what it prints, and at most two passes over the path.
 pub fn run_text<A: Allocator + Copy>(alloc: A, input: &[u8]) -> Result<Vec<u8, A>, AllocError>
     ensures { IfOk result (λ output. output.items ≡ output_of input.now) }
 {

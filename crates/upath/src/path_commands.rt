@@ -121,8 +121,8 @@ pub fn pieces<'a, A: Allocator>(
 }
 
 /// The parent of a path, the parent of that, and so on until there is none; or `AllocError`. Of a
-/// valid path these are its shorter prefixes, the longest first. One request for each parent, and
-/// those of the list; costs what the parents are long.
+/// valid path these are its shorter prefixes, the longest first. Takes memory as [`PathBuf::parent`] does
+/// for each, and for the list; costs what the parents are long.
 pub fn all_parents<A: Allocator + Copy>(
     alloc: A,
     path: &PathBuf<A>,
