@@ -285,8 +285,7 @@ impl<A: Allocator + Copy> PathBuf<A> {
         ensures err { OnErr result (self.new ≡ self.old) }
         ensures empty { path_text path.entry ≡ [] → IsOk result }
     {
-        let mut units = CountedUnits::new(path.to_cstr16());
-        self.push_counted(&mut units)
+        self.push_counted(&mut CountedUnits::new(path.to_cstr16()))
     }
 
     /// Pushes a text as [`PathBuf::push`] pushes its path, and reads each of its units once: the
