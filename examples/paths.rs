@@ -3,6 +3,8 @@
 //!
 //! Build: `rustc paths.rs -L crates/uefi_c/out -l static=uefi_c`. `examples/check` builds and runs it.
 
+use std::ops::Range;
+
 /// What `include/uefi_text.h` declares, as far as it is called here.
 mod header {
     extern "C" {
@@ -121,6 +123,16 @@ fn parent(text: &[u16]) -> Option<&[u16]> {
     has_parent.then(|| &text[..len])
 }
 
+/// Where the next component of a text stands from a place on, if there is one, and the place moves on.
+fn next_component(text: &[u16], place: &mut usize) -> Option<Range<usize>> {
+    let (mut start, mut len) = (0, 0);
+    // SAFETY: the slice is passed with its length, and nothing overlaps.
+    let is_there = unsafe {
+        header::uefi_path_next_component(text.as_ptr(), text.len(), place, &mut start, &mut len)
+    };
+    is_there.then(|| start..start + len)
+}
+
 /// The components of a text, in order.
 struct Components<'a> {
     text: &'a [u16],
@@ -131,18 +143,7 @@ impl<'a> Iterator for Components<'a> {
     type Item = &'a [u16];
 
     fn next(&mut self) -> Option<&'a [u16]> {
-        let (mut start, mut len) = (0, 0);
-        // SAFETY: the slice is passed with its length, and nothing overlaps.
-        let is_there = unsafe {
-            header::uefi_path_next_component(
-                self.text.as_ptr(),
-                self.text.len(),
-                &mut self.place,
-                &mut start,
-                &mut len,
-            )
-        };
-        is_there.then(|| &self.text[start..start + len])
+        next_component(self.text, &mut self.place).map(|places| &self.text[places])
     }
 }
 
@@ -254,6 +255,24 @@ fn print_path(text: &str) -> Result<(), Reason> {
     Ok(())
 }
 
+/// Prints where the components of a text stand, each with the place at which the next call goes on, and how
+/// many units its parent has.
+fn print_places(text: &str) {
+    let units: Vec<u16> = text.encode_utf16().collect();
+    let mut place = 0;
+    let mut shown = String::new();
+    while let Some(component) = next_component(&units, &mut place) {
+        shown += &format!(" {component:?} then {place},");
+    }
+    match parent(&units) {
+        Some(parent) => println!(
+            "{text} has components at{shown} and a parent of {}",
+            parent.len()
+        ),
+        None => println!("{text} has components at{shown} and no parent"),
+    }
+}
+
 fn print_joined(first: &str, second: &str) -> Result<(), Reason> {
     let (mut one, mut two) = ([0; 16], [0; 16]);
     let (first, second) = (string_in(first, &mut one)?, string_in(second, &mut two)?);
@@ -311,6 +330,11 @@ fn main() {
         if let Err(Reason(number)) = print_path(text) {
             println!("{text:?} is refused: {number}");
         }
+    }
+    for text in [
+        "", "\\", "kernel", "\\\\", "\\\\a", "\\\\\\a", "a\\b\\a", "a\\\\b", "\\a\\",
+    ] {
+        print_places(text);
     }
     let pairs = [
         ("/efi", "a/b"),

@@ -1,5 +1,5 @@
 //! Paths in units that C holds: the verdict on one, how two compare, and where its components stand.
-ghost use Rattle.std.specs.Prelude.{◌≡◌, ◌≢◌, ◌↔◌, ◌+◌, ◌-◌, ◌<◌, ◌≤◌, ◌⊎◌, ◌∷◌, [], pos, All, IsFalse, IsTrue, MatchOption, None, Some, drop, length, slice_index, slice_range, take};
+ghost use Rattle.std.specs.Prelude.{◌≡◌, ◌≢◌, ◌↔◌, ◌+◌, ◌-◌, ◌<◌, ◌≤◌, ◌⊎◌, ◌∷◌, [], pos, All, IsFalse, IfSome, IsTrue, MatchOption, None, Some, drop, length, slice_index, slice_range, take};
 ghost use Rattle.std.specs.Cmp.Lexicographic.{slice_cmp};
 ghost use Rattle.std.specs.List.{last_or, position, position_or_len, slice_split};
 ghost use Rattle.std.specs.Ordering.{nat_cmp};
@@ -10,7 +10,7 @@ ghost use Rattle.uefi_path.specs.Parents.{all_but_last, parent_text};
 ghost use Rattle.uefi_path.specs.Separators.{canonical, is_separator, separator};
 ghost use Rattle.uefi_path.specs.Verdicts.{IsValid, verdict};
 ghost use Rattle.uefi_path.specs.Views.{path_text};
-ghost use Rattle.uefi_c.specs.PathPlaces.{components_from};
+ghost use Rattle.uefi_c.specs.PathPlaces.{component_place, components_from};
 ghost use Rattle.uefi_c.specs.Reasons.{order_number, path_reason, refused_character, until_nul_reason};
 ghost use Rattle.uefi_c.specs.Strings.{text_in, until_nul_place};
 
@@ -108,8 +108,10 @@ pub extern "C" fn uefi_path_order(first: &[u16], second: &[u16]) -> i32
 
 /// Where the next component begins, if there is one.
 fn component_start(text: &[u16], place: usize) -> Option<usize>
-    ensures { MatchOption result (components_from text.now place ≡ []) (λ start. (start ≤ length text.now)
+    ensures left { MatchOption result
+        (components_from text.now place ≡ []) (λ start. (start ≤ length text.now)
         × (components_from text.now place ≡ slice_split is_separator (drop start text.now))) }
+    ensures place { IfSome result (λ start. start ≡ component_place text.now place) }
 {
     if 0 < place {
         return if place <= text.len() {
@@ -146,7 +148,8 @@ fn piece_len(units: &[u16]) -> usize
 /// The next component of a path, from a place in its text on: whether there is one.
 ///
 /// `text` are the units of the path without its NUL, any units. `place` is 0 at first. Where there is a
-/// component it is the `len` units from `start` on, and `place` becomes the place of the next one; else
+/// component it is the `len` units from `start` on, which is `place`, but 1 where a separator begins the text
+/// and `place` is 0; and `place` becomes the place of the next one, after the separator that ends it. Else
 /// all three stay unchanged. An empty component is one, too. One pass over the component; takes no memory.
 #[unsafe(no_mangle)]
 pub extern "C" fn uefi_path_next_component(
@@ -157,6 +160,8 @@ pub extern "C" fn uefi_path_next_component(
 ) -> bool
     ensures next { IsTrue result → components_from text.now place.old
         ≡ slice_range text.now start.new (start.new + len.new) ∷ components_from text.now place.new }
+    ensures start { IsTrue result → start.new ≡ component_place text.now place.old }
+    ensures after { IsTrue result → place.new ≡ start.new + len.new + 1 }
     ensures within { IsTrue result → start.new + len.new ≤ length text.now }
     ensures none { IsFalse result → (components_from text.now place.old ≡ [])
         × (place.new ≡ place.old) × (start.new ≡ start.old) × (len.new ≡ len.old) }
@@ -219,6 +224,8 @@ pub extern "C" fn uefi_path_parent_length(text: &[u16], len: &mut usize) -> bool
     ensures valid { IsTrue result → IsValid text.now
         → parent_text text.now ≡ Some (canonical (take len.new text.now)) }
     ensures some { IsTrue result ↔ (all_but_last (components_of text.now) ≢ []) }
+    ensures separator { IsTrue result → slice_index text.now len.new ≡ separator }
+    ensures last { IsTrue result → IsPiece (drop (len.new + 1) text.now) }
     ensures shorter { IsTrue result → len.new < length text.now }
     ensures unchanged { IsFalse result → len.new ≡ len.old }
 {

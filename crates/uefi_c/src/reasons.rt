@@ -1,5 +1,5 @@
 //! Why a call refuses, as numbers: the header's `enum uefi_reason` has the same.
-ghost use Rattle.std.specs.Prelude.{◌≡◌, Some};
+ghost use Rattle.std.specs.Prelude.{◌≡◌, Some, pos};
 ghost use Rattle.uefi_c.specs.Reasons.{order_number, path_reason, refused_character, until_nul_reason, with_buf_reason, with_nul_reason};
 
 use std::cmp::Ordering;
@@ -44,6 +44,24 @@ pub const NO_PARENT: u32 = 11;
 
 /// The order of two strings of which one is none.
 pub const NO_ORDER: i32 = 2;
+
+/// Does nothing: its clauses are the numbers that `include/uefi_text.h` gives the reasons.
+#[doc(hidden)]
+pub fn numbers()
+    ensures ok { OK ≡ 0 }
+    ensures no_nul { NO_NUL ≡ 1 }
+    ensures invalid_char { INVALID_CHAR ≡ 2 }
+    ensures interior_nul { INTERIOR_NUL ≡ 3 }
+    ensures buffer_too_small { BUFFER_TOO_SMALL ≡ 4 }
+    ensures not_utf8 { NOT_UTF8 ≡ 5 }
+    ensures odd_bytes { ODD_BYTES ≡ 6 }
+    ensures path_empty { PATH_EMPTY ≡ 7 }
+    ensures empty_component { EMPTY_COMPONENT ≡ 8 }
+    ensures illegal_char { ILLEGAL_CHAR ≡ 9 }
+    ensures climbs { CLIMBS_ABOVE_ROOT ≡ 10 }
+    ensures no_parent { NO_PARENT ≡ 11 }
+    ensures no_order { NO_ORDER ≡ pos 2 }
+{}
 
 /// The reason why units begin with no string.
 pub(crate) fn until_nul_reason(error: FromSliceUntilNulError) -> u32

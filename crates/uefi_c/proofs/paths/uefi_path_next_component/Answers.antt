@@ -16,4 +16,4 @@ returns-clause-next c = λ _.
     c.piece_len-count.ensures.len ∙ ap (position_or_len is_separator) rest in
     rw count
     (rw (add-one (start + position_or_len is_separator (drop start text)))
-    (c.in-Some.ensures.1 ∙ first_piece text start c.in-Some.ensures.0))
+    (c.in-Some.ensures.left.1 ∙ first_piece text start c.in-Some.ensures.left.0))
