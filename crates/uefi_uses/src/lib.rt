@@ -5,12 +5,15 @@
 //! `uefi_path` and `upath`, with no proof file, and on no field or lemma of theirs.
 #![tactic(auto)]
 
-ghost use Rattle.std.specs.Prelude.{◌≡◌, ◌↔◌, List, ℕ, None, IfOk, IsTrue};
+ghost use Rattle.std.specs.Prelude.{◌≡◌, ◌↔◌, ◌⊎◌, List, ℕ, None, Some, IfErr, IfOk, IsTrue, option_map};
+ghost use Rattle.std.specs.Result.{result_err};
 ghost use Rattle.std.specs.Str.{chars};
 ghost use Rattle.uefi_path.specs.Pushing.{pushed};
 ghost use Rattle.uefi_path.specs.Separators.{canonical, with_separators};
 ghost use Rattle.uefi_path.specs.Verdicts.{verdict};
 ghost use Rattle.uefi_path.specs.Views.{path_text};
+ghost use Rattle.uefi_text.specs.FromStr.{from_str_refusal};
+ghost use Rattle.uefi_text.specs.Units.{IsText};
 ghost use Rattle.upath.specs.Judging.{IsPathOf};
 
 use std::alloc::Allocator;
@@ -32,7 +35,8 @@ pub enum EntryError {
 }
 
 /// The path of a menu's entry: the file pushed on the folder, each slash replaced by a separator, as
-/// `validate_path` accepts it.
+/// `validate_path` accepts it; or what the folder is refused for, then the file, then the path of both,
+/// unless memory is refused before.
 pub fn entry_path<A: Allocator + Copy>(
     alloc: A,
     folder: &str,
@@ -41,6 +45,15 @@ pub fn entry_path<A: Allocator + Copy>(
     ensures path { IfOk result (λ path.
         path ≡ pushed (with_separators (chars folder.now)) (chars file.now)) }
     ensures accepted { IfOk result (λ path. verdict path ≡ None) }
+    ensures folder { ¬ IsText (chars folder.now)
+        → result_err result ≡ option_map EntryError.Text (from_str_refusal (chars folder.now)) }
+    ensures file { IfErr result (λ error. IsText (chars folder.now) → ¬ IsText (chars file.now)
+        → (error ≡ EntryError.Text FromStrError.OutOfMemory)
+        ⊎ (option_map EntryError.Text (from_str_refusal (chars file.now)) ≡ Some error)) }
+    ensures refused { IfErr result (λ error. IsText (chars folder.now) → IsText (chars file.now)
+        → (error ≡ EntryError.Text FromStrError.OutOfMemory) ⊎ (error ≡ EntryError.OutOfMemory)
+        ⊎ (option_map EntryError.Path
+        (verdict (pushed (with_separators (chars folder.now)) (chars file.now))) ≡ Some error)) }
 {
     let folder = CString16::try_from_str(alloc, folder).map_err(EntryError::Text)?;
     let file = CString16::try_from_str(alloc, file).map_err(EntryError::Text)?;

@@ -21,6 +21,31 @@ fn entries(rt: HostRuntime) -> Result<(), Fail> {
     Ok(())
 }
 
+/// Folders and files of which one is no text, or the path of both is refused.
+#[test]
+fn refused_entries(rt: HostRuntime) {
+    for (folder, file, want) in [
+        ("a\0", "b", EntryError::Text(FromStrError::InteriorNul)),
+        ("a\0", "😀", EntryError::Text(FromStrError::InteriorNul)),
+        ("a", "😀", EntryError::Text(FromStrError::InvalidChar)),
+        ("a?", "b\0", EntryError::Text(FromStrError::InteriorNul)),
+        ("", "", EntryError::Path(PathError::Empty)),
+        ("a/", "/b", EntryError::Path(PathError::EmptyComponent)),
+        ("a", "../..", EntryError::Path(PathError::ClimbsAboveRoot)),
+    ] {
+        let entry = entry_path(rt.alloc(), folder, file);
+        assert!(rt; entry.err() == Some(want), "{folder:?}, {file:?}");
+    }
+}
+
+#[test]
+fn printed_refusals(rt: HostRuntime) -> Result<(), Fail> {
+    let refusal = EntryError::Path(PathError::Empty);
+    let printed = format!(in rt.alloc(); "{refusal:?} {:?}", EntryError::OutOfMemory)?;
+    assert!(rt; printed.as_str() == "Path(Empty) OutOfMemory");
+    Ok(())
+}
+
 #[test]
 fn stored_entries(rt: HostRuntime) -> Result<(), Fail> {
     let text = CString16::try_from_str(rt.alloc(), "a")?;
