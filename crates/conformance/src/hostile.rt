@@ -7,8 +7,8 @@ use uefi_text::{CStr16, CString16, FromSliceWithNulError};
 
 /// How many others stand beside what is hostile: few, and about as many as one block or two hold in which
 /// passes over slices go.
-const LENGTHS: [usize; 20] = [
-    0, 1, 2, 3, 4, 7, 8, 9, 15, 16, 17, 31, 32, 33, 63, 64, 65, 127, 128, 129,
+const LENGTHS: [usize; 21] = [
+    0, 1, 2, 3, 4, 5, 7, 8, 9, 15, 16, 17, 31, 32, 33, 63, 64, 65, 127, 128, 129,
 ];
 
 /// What the first unit is that is a NUL or a surrogate.
@@ -111,7 +111,7 @@ pub fn hostile_places(alloc: Global) -> Result<Vec<(usize, usize)>, Fail> {
     let mut places = Vec::new(alloc);
     for others in LENGTHS {
         for place in 0..=others {
-            if others < 5 || place % 8 == 0 || place % 8 == 7 || place == others {
+            if others < 6 || place % 8 == 0 || place % 8 == 7 || place == others {
                 places.push((others, place))?;
             }
         }
