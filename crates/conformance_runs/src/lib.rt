@@ -22,3 +22,5 @@ mod long_paths;
 mod out_of_memory;
 #[cfg(test)]
 mod runs;
+#[cfg(test)]
+mod watched_streams;
