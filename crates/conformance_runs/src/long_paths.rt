@@ -42,8 +42,19 @@ fn commands_on_long_paths(rt: HostRuntime) -> Result<(), Fail> {
         PathCommand::Push(Path::new(long.as_cstr16())),
         PathCommand::From(long.as_cstr16()),
         PathCommand::Join(Path::new(long.as_cstr16())),
+        // The last component of that is empty.
+        PathCommand::Parent,
+        PathCommand::Clear,
     ];
-    for (count, want) in [(1, &text), (2, &twice), (3, &text), (4, &twice)] {
+    let parent = twice.strip_suffix("\\").unwrap_or("");
+    for (count, want) in [
+        (1, text.as_str()),
+        (2, twice.as_str()),
+        (3, text.as_str()),
+        (4, twice.as_str()),
+        (5, parent),
+        (6, ""),
+    ] {
         assert!(rt; leads_to(&rt, "", &commands, count, want)?, "{count}");
     }
     Ok(())
@@ -63,6 +74,67 @@ pub(crate) fn writes(rt: &HostRuntime, input: &[u8], want: &[u8]) -> bool {
     let mut writer = Watched::new(Vec::new(rt.alloc()));
     let is_done = run_streams(rt.alloc(), &mut reader, &mut writer).is_ok();
     is_done && reader.into_inner().is_empty() && writer.into_inner().as_slice() == want
+}
+
+/// Lines of each verb, and what they print, where a long name stands for each `@`.
+const LONG_LINES: &[(&str, &str)] = &[
+    (
+        "from /@\npush @\njoin b/c\nparent\nclear\n",
+        "= \\@\n= \\@\\@\n= \\@\\@\\b\\c\n= @\\@\\b\n= \n",
+    ),
+    (
+        "push @\nparent\njoin @\nparent\nparent",
+        "= @\nnone\n= @\\@\n= @\nnone\n",
+    ),
+    (
+        "from @\\b\neq \\@\\b\neq @\ncmp @\ncmp \\@\\b\ncmp @\\c",
+        "= @\\b\nequal\ndifferent\ngreater\nequal\nless\n",
+    ),
+    (
+        "from @\\b\\c\npieces\nup\ncheck\nnorm",
+        "= @\\b\\c\npieces 3\n| @\n| b\n| c\nparents 2\n| @\\b\n| @\nok\n= @\\b\\c\n",
+    ),
+    (
+        "from @\\..\\b\nnorm\nfrom @\\>\ncheck\nnorm",
+        "= @\\..\\b\n= b\n= @\\>\npath contains an illegal character (value 62)\n\
+             path contains an illegal character (value 62)\n",
+    ),
+    (
+        "@\nfrom @\0\nfrom @😀\n",
+        "? unknown command\nUCS-2 Conversion Error: Interior null terminator\n\
+             UCS-2 Conversion Error: Invalid character\n",
+    ),
+];
+
+/// Whether lines print this, with a long name for each `@`, by a run over them and over streams.
+fn prints_long(rt: &HostRuntime, input: &str, want: &str, name: &str) -> Result<bool, Fail> {
+    let input = input.replace(rt.alloc(), '@', name)?;
+    let want = want.replace(rt.alloc(), '@', name)?;
+    Ok(prints(rt, input.as_bytes(), &want) && writes(rt, input.as_bytes(), want.as_bytes()))
+}
+
+#[test]
+fn each_verb_on_long_names(rt: HostRuntime) -> Result<(), Fail> {
+    for name in ["aé", "漢b"] {
+        let name = repeated(rt.alloc(), name, 50_000)?;
+        for (input, want) in LONG_LINES {
+            assert!(rt; prints_long(&rt, input, want, &name)?, "{input:?}");
+        }
+    }
+    Ok(())
+}
+
+/// 50,000 components, a line each.
+#[test]
+fn each_verb_on_many_names(rt: HostRuntime) -> Result<(), Fail> {
+    let names = repeated(rt.alloc(), "\\a", 50_000)?;
+    let lines = repeated(rt.alloc(), "| a\n", 50_000)?;
+    let plain = names.strip_prefix("\\").unwrap_or("");
+    let input = format!(in rt.alloc(); "from {names}\npieces\ncheck\nnorm\neq {plain}\n")?;
+    let want = format!(in rt.alloc(); "= {names}\npieces 50000\n{lines}ok\n= {plain}\nequal\n")?;
+    assert!(rt; prints(&rt, input.as_bytes(), &want));
+    assert!(rt; writes(&rt, input.as_bytes(), want.as_bytes()));
+    Ok(())
 }
 
 /// The input of one long line, and what it prints.

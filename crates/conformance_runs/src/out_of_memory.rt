@@ -27,10 +27,10 @@ enum Call<'a> {
     Pieces(&'a [u16], Global),
     /// The units of a path of three components.
     AllParents(&'a [u16]),
-    /// What the run prints.
-    RunText(&'a [u8]),
-    /// What the run writes, and a heap for that.
-    RunStreams(&'a [u8], Global),
+    /// An input, and what the run prints.
+    RunText(&'static [u8], &'a [u8]),
+    /// An input, what the run writes, and a heap for that.
+    RunStreams(&'static [u8], &'a [u8], Global),
 }
 
 /// Whether units are `a` and `\\b` after it, again and again, `count` components in all.
@@ -150,7 +150,13 @@ fn has_two_parents(heap: &Refusing<Global>, units: &[u16]) -> Result<bool, Alloc
 
 const INPUT: &[u8] =
     b"from \\foo\\bar\npieces\neq foo\nfrom a\xc3\xa9/c\npieces\neq \xf0\x9f\x98\x80\nwhat\n\
-      \xff\npush b\njoin c/d\nup\nparent\ncmp a\ncheck\nclear\ncheck\n";
+      \xff\npush b\njoin c/d\nup\nnorm\nparent\ncmp a\ncheck\nclear\ncheck\n";
+
+/// The first example, and what it prints.
+const EXAMPLE: (&[u8], &[u8]) = (
+    b"from \\foo\\bar\npieces\n",
+    b"= \\foo\\bar\npieces 2\n| foo\n| bar\n",
+);
 
 /// Gives few bytes a call, so that most lines are not given whole.
 #[derive(Drop)]
@@ -169,8 +175,13 @@ impl Read for FewBytes {
 }
 
 /// Whether a run over streams writes this, or nothing where memory ran out.
-fn writes(heap: &Refusing<Global>, want: &[u8], alloc: Global) -> Result<bool, AllocError> {
-    let mut reader = Watched::new(FewBytes { rest: INPUT });
+fn writes(
+    heap: &Refusing<Global>,
+    input: &'static [u8],
+    want: &[u8],
+    alloc: Global,
+) -> Result<bool, AllocError> {
+    let mut reader = Watched::new(FewBytes { rest: input });
     let mut writer = Watched::new(Vec::new(alloc));
     let outcome = run_streams(heap, &mut reader, &mut writer);
     let is_unmarked = !reader.has_failed() && !writer.has_failed();
@@ -191,8 +202,8 @@ fn answers(call: &Call<'_>, heap: &Refusing<Global>) -> Result<bool, AllocError>
         Call::Judge(bytes, want) => judges(heap, bytes, *want),
         Call::Pieces(units, alloc) => lists(heap, units, *alloc),
         Call::AllParents(units) => has_two_parents(heap, units),
-        Call::RunText(want) => Ok(run_text(heap, INPUT)?.as_slice() == *want),
-        Call::RunStreams(want, alloc) => writes(heap, want, *alloc),
+        Call::RunText(input, want) => Ok(run_text(heap, input)?.as_slice() == *want),
+        Call::RunStreams(input, want, alloc) => writes(heap, input, want, *alloc),
     }
 }
 
@@ -206,14 +217,22 @@ fn ended(refusals: Refusals, least: u64, most: u64) -> bool {
     refusals.answered == 0 && least <= refusals.failed && refusals.failed <= most
 }
 
-/// One request, which comes after what the bytes are refused for and before the verdict on the path.
+/// One request, and one for the places of separators, which come after what the bytes are refused for and
+/// before the verdict on the path.
 #[test]
 fn requests_for_judged_bytes(rt: HostRuntime) -> Result<(), Fail> {
     let illegal = PathError::IllegalChar(Char16::try_from('>')?);
     let open = JudgeError::Text(FromSliceWithNulError::NotNulTerminated);
     let surrogate = JudgeError::Text(FromSliceWithNulError::InvalidChar(0));
-    let rows: [(&[u8], Option<JudgeError>, u64); 7] = [
+    let rows: [(&[u8], Option<JudgeError>, u64); 10] = [
         (&[0x61, 0, 0, 0], None, 1),
+        (&[0x61, 0, 0x5c, 0, 0x62, 0, 0, 0], None, 2),
+        (&[0x2f, 0, 0x62, 0, 0, 0], None, 2),
+        (
+            &[0x61, 0, 0x5c, 0, 0x3e, 0, 0, 0],
+            Some(JudgeError::Invalid(illegal)),
+            2,
+        ),
         (&[0, 0], Some(JudgeError::Invalid(PathError::Empty)), 1),
         (
             &[0x61, 0, 0x3e, 0, 0, 0],
@@ -264,12 +283,18 @@ fn requests_for_components(rt: HostRuntime) -> Result<(), Fail> {
     Ok(())
 }
 
+/// Whether each refused request ended a run over an input and one over streams.
+fn runs_end(rt: &HostRuntime, input: &'static [u8], want: &[u8], least: u64) -> Result<bool, Fail> {
+    let whole = refusals_of(rt, &Call::RunText(input, want), 0)?;
+    let parts = refusals_of(rt, &Call::RunStreams(input, want, rt.alloc()), 0)?;
+    Ok(ended(whole, least, 998) && ended(parts, least.saturating_add(1), 998))
+}
+
 #[test]
 fn requests_of_runs(rt: HostRuntime) -> Result<(), Fail> {
     let want = run_text(rt.alloc(), INPUT)?;
-    let refusals = refusals_of(&rt, &Call::RunText(&want), 0)?;
-    assert!(rt; ended(refusals, 6, 998));
-    let refusals = refusals_of(&rt, &Call::RunStreams(&want, rt.alloc()), 0)?;
-    assert!(rt; ended(refusals, 7, 998));
+    assert!(rt; runs_end(&rt, INPUT, &want, 6)?);
+    let (input, want) = EXAMPLE;
+    assert!(rt; runs_end(&rt, input, want, 3)?);
     Ok(())
 }
