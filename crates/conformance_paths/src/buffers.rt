@@ -3,7 +3,7 @@
 use crate::fixtures::{buffer, shows};
 use conformance::string;
 use std::test::Fail;
-use uefi_path::{Path, PathBuf, PathError};
+use uefi_path::{NormalizeError, Path, PathBuf, PathError};
 use uefi_text::{CStr16, Char16};
 
 /// Whether the path buffers of a string, copied and taken over, have this text.
@@ -61,6 +61,34 @@ const PRINTED: &[(&str, &str)] = &[
     ),
 ];
 
+/// Components print what is left of the text, and nothing after the last.
+#[test]
+fn printed_components(rt: HostRuntime) -> Result<(), Fail> {
+    let path = buffer(&rt, "\\a\\é")?;
+    let mut components = path.components();
+    for want in [
+        "Components(Some(['a', '\\\\', 'é']))",
+        "Components(Some(['é']))",
+        "Components(None)",
+    ] {
+        assert!(rt;
+            format!(in rt.alloc(); "{components:?}")?.as_str() == want,
+            "{want}"
+        );
+        let _next = components.next();
+    }
+    Ok(())
+}
+
+/// What the reasons of refusals print for programmers.
+#[test]
+fn printed_refusals(rt: HostRuntime) -> Result<(), Fail> {
+    let refusal = NormalizeError::Invalid(PathError::IllegalChar(Char16::try_from('>')?));
+    let printed = format!(in rt.alloc(); "{refusal:?} {:?}", PathError::Empty)?;
+    assert!(rt; printed.as_str() == "Invalid(IllegalChar('>')) Empty");
+    Ok(())
+}
+
 #[test]
 fn printed_paths(rt: HostRuntime) -> Result<(), Fail> {
     for (text, want) in PRINTED {
@@ -76,6 +104,21 @@ fn clears_twice(mut path: PathBuf) -> bool {
     let is_empty = path.is_empty() && shows(&path, "");
     path.clear();
     is_empty && path.is_empty()
+}
+
+/// The empty path after a push of `first`.
+fn pushed_first(rt: &HostRuntime) -> Result<PathBuf, Fail> {
+    let first = string(rt.alloc(), "first")?;
+    let mut path = PathBuf::new(rt.alloc())?;
+    path.push(Path::new(first.as_cstr16()))?;
+    Ok(path)
+}
+
+#[test]
+fn pushed_and_cleared(rt: HostRuntime) -> Result<(), Fail> {
+    let path = pushed_first(&rt)?;
+    assert!(rt; shows(&path, "first") && clears_twice(path));
+    Ok(())
 }
 
 /// A copy keeps its text while the path is cleared.

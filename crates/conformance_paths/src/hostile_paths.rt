@@ -64,6 +64,32 @@ fn are_all_judged(rt: &HostRuntime, others: usize, place: usize) -> Result<bool,
     Ok(true)
 }
 
+/// How many characters paths have around 48, from which on a glance comes before the walk, and around the
+/// blocks of that.
+const SIZES: &[usize] = &[47, 48, 49, 127, 128, 129, 256, 257, 258];
+
+/// Whether each row is judged as it has to be, in paths of this size: at the start, at the end and between.
+fn are_all_judged_in(rt: &HostRuntime, size: usize) -> Result<bool, Fail> {
+    for (middle, borrowed, owned) in ROWS {
+        let others = size.saturating_sub(middle.chars().count());
+        for place in [0, 1, others / 2, others.saturating_sub(1), others] {
+            let text = text_of(rt, others, place, middle)?;
+            if !are_judged(rt, &text, *borrowed, *owned)? {
+                return Ok(false);
+            }
+        }
+    }
+    Ok(true)
+}
+
+#[test]
+fn hostile_paths_around_the_glance(rt: HostRuntime) -> Result<(), Fail> {
+    for size in SIZES {
+        assert!(rt; are_all_judged_in(&rt, *size)?, "{size} characters");
+    }
+    Ok(())
+}
+
 #[test]
 fn hostile_paths(rt: HostRuntime) -> Result<(), Fail> {
     for (others, place) in &hostile_places(rt.alloc())? {

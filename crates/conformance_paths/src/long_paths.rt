@@ -38,3 +38,17 @@ fn parents_of_long_paths(rt: HostRuntime) -> Result<(), Fail> {
     assert!(rt; want.is_some() && has_parent(&rt, &text, want, want)?);
     Ok(())
 }
+
+/// Each other component is empty and left out, and the separator at the end stands for the last of them.
+#[test]
+fn parents_of_long_paths_with_empty_components(rt: HostRuntime) -> Result<(), Fail> {
+    let mut text = repeated(rt.alloc(), "a\\\\", 33_334)?;
+    text.push_str("b")?;
+    let want = repeated(rt.alloc(), "a\\", 33_334)?;
+    assert!(rt; has_parent(&rt, &text, Some(&want), Some(&want))?);
+    let mut text = repeated(rt.alloc(), "\\", 50_000)?;
+    assert!(rt; has_parent(&rt, &text, Some(""), Some(""))?);
+    text.push_str(&repeated(rt.alloc(), "ab", 50_000)?)?;
+    assert!(rt; has_parent(&rt, &text, Some(""), Some(""))?);
+    Ok(())
+}

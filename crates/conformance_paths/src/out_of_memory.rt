@@ -2,10 +2,10 @@
 //! gives what ample memory gives. A call on a buffer asks the buffer's own allocator. All calls stand in
 //! one table.
 
-use conformance::{Refusing, out_of_memory, requests, string};
+use conformance::{Refusing, out_of_memory, repeated, requests, string};
 use std::alloc::{AllocError, Global};
 use std::test::Fail;
-use uefi_path::{Path, PathBuf};
+use uefi_path::{CountedUnits, NormalizeError, Path, PathBuf};
 use uefi_text::{CStr16, CString16};
 
 /// A path buffer with an allocator that refuses a request.
@@ -24,6 +24,9 @@ enum Call {
     JoinBuffer,
     ParentOfBuffer,
     Push,
+    PushCounted,
+    Normalize,
+    Clear,
     IntoCString16,
     Nothing,
 }
@@ -109,6 +112,34 @@ fn pushes(heap: &Refusing<Global>, row: Row<'_>) -> Result<bool, AllocError> {
     }
 }
 
+/// The same of a push whose reads are counted.
+fn pushes_counted(heap: &Refusing<Global>, row: Row<'_>) -> Result<bool, AllocError> {
+    let mut path = filled(heap, row.text)?;
+    match path.push_counted(&mut CountedUnits::new(row.other)) {
+        Ok(()) => Ok(shows(&path, row.want)),
+        Err(_) => out_of_memory(shows(&path, row.text)),
+    }
+}
+
+/// Whether a path has this normal path, or memory ran out.
+fn normalizes(heap: &Refusing<Global>, row: Row<'_>) -> Result<bool, AllocError> {
+    match Path::new(row.text).normalize(heap) {
+        Ok(path) => Ok(shows(&path, row.want)),
+        Err(error) => out_of_memory(error == NormalizeError::OutOfMemory),
+    }
+}
+
+/// Whether a buffer that is cleared is empty, and takes the path that it held.
+fn clears_and_takes(heap: &Refusing<Global>, row: Row<'_>) -> Result<bool, AllocError> {
+    let mut path = PathBuf::from(heap, row.text)?;
+    path.clear();
+    let is_empty = path.is_empty();
+    match path.push(Path::new(row.text)) {
+        Ok(()) => Ok(is_empty && shows(&path, row.want)),
+        Err(_) => out_of_memory(is_empty && path.is_empty()),
+    }
+}
+
 /// Whether the string of a buffer has its text.
 fn gives_back(heap: &Refusing<Global>, row: Row<'_>) -> Result<bool, AllocError> {
     Ok(
@@ -153,6 +184,9 @@ fn answers(call: Call, heap: &Refusing<Global>, row: Row<'_>) -> Result<bool, Al
         Call::Parent => Ok(is_parent(path.parent(heap)?, row.want)),
         Call::CloneBuffer | Call::JoinBuffer | Call::ParentOfBuffer => reads(call, heap, row),
         Call::Push => pushes(heap, row),
+        Call::PushCounted => pushes_counted(heap, row),
+        Call::Normalize => normalizes(heap, row),
+        Call::Clear => clears_and_takes(heap, row),
         Call::IntoCString16 => gives_back(heap, row),
         Call::Nothing => needs_no_memory(heap, row),
     }
@@ -192,36 +226,152 @@ const PUSHED_LONGEST: &str =
     \\efi\\boot\\loader\\entries\\2026\\linux\\kernels\\v6.18-generic\\initrd\
     \\efi\\boot\\loader\\entries\\2026\\linux\\kernels\\v6.18-generic\\initrd";
 
-/// Each call, how many requests come before it, its texts, and how many requests it makes at least and
-/// at most. A path takes over the memory of its string, and gives it back. Beside its text it asks for
-/// the places of its separators, where it has any.
+/// A call, how many requests come before it, its texts, and how many requests it makes at least and at most.
+type Counted = (Call, u64, [&'static str; 3], u64, u64);
+
+/// A path takes over the memory of its string, and gives it back. Beside its text it asks for the places of
+/// its separators, where it has any.
+const ROWS: &[Counted] = &[
+    (Call::New, 0, ["", "", ""], 1, 1),
+    (Call::NewFromCString16, 1, ["a/b", "", "a\\b"], 1, 1),
+    (Call::NewFromCString16, 1, ["a/bc", "", "a\\bc"], 1, 1),
+    (Call::NewFromCString16, 1, ["ab", "", "ab"], 0, 0),
+    (Call::From, 0, ["/a\\b", "", "\\a\\b"], 2, 2),
+    (Call::ToPathBuf, 0, ["/a\\b", "", "\\a\\b"], 2, 2),
+    (Call::Join, 0, ["/a\\b", "c/d", "\\a\\b\\c\\d"], 2, 3),
+    (
+        Call::Join,
+        0,
+        ["a\\b", "\\\\\\\\\\\\\\", "a\\b\\\\\\\\\\\\\\\\"],
+        3,
+        9,
+    ),
+    (Call::Parent, 0, [LONG, "", LONG_PARENT], 2, 2),
+    (Call::Parent, 0, ["a\\\\b", "", "a\\"], 2, 2),
+    (Call::Parent, 0, ["\\\\b", "", ""], 1, 1),
+    (Call::CloneBuffer, 2, ["a\\b", "", ""], 2, 2),
+    (Call::JoinBuffer, 2, ["a\\b", "/c", "a\\b\\\\c"], 2, 2),
+    (
+        Call::JoinBuffer,
+        2,
+        ["a\\b", "\\\\\\\\\\\\\\", "a\\b\\\\\\\\\\\\\\\\"],
+        2,
+        2,
+    ),
+    (Call::ParentOfBuffer, 2, [PLAIN, "", PLAIN_PARENT], 2, 2),
+    (Call::ParentOfBuffer, 2, ["a\\b", "", "a"], 1, 1),
+    (Call::ParentOfBuffer, 2, ["a\\\\b", "", "a\\"], 2, 2),
+    (
+        Call::Push,
+        2,
+        ["a\\b", "cd/ef/gh/ij", "a\\b\\cd\\ef\\gh\\ij"],
+        2,
+        97,
+    ),
+    (Call::Push, 1, ["", LONGEST, PUSHED_LONGEST], 3, 97),
+    (Call::PushCounted, 2, ["a\\b", "c", "a\\b\\c"], 2, 2),
+    (Call::PushCounted, 1, ["", LONGEST, PUSHED_LONGEST], 3, 97),
+    (Call::Normalize, 0, ["a\\..\\b", "", "b"], 2, 2),
+    (Call::Normalize, 0, ["a\\b", "", "a\\b"], 3, 3),
+    (Call::Clear, 2, ["a\\b", "", "a\\b"], 0, 0),
+    (Call::IntoCString16, 2, ["a/b", "", "a\\b"], 0, 0),
+    (Call::Nothing, 2, ["\\a", "", ""], 0, 0),
+    (Call::Nothing, 1, ["b", "", ""], 0, 0),
+];
+
 #[test]
 fn requests_of_each_call(rt: HostRuntime) -> Result<(), Fail> {
-    for (call, setup, texts, least, most) in [
-        (Call::New, 0, ["", "", ""], 1, 1),
-        (Call::NewFromCString16, 1, ["a/b", "", "a\\b"], 1, 1),
-        (Call::NewFromCString16, 1, ["ab", "", "ab"], 0, 0),
-        (Call::From, 0, ["/a\\b", "", "\\a\\b"], 2, 2),
-        (Call::ToPathBuf, 0, ["/a\\b", "", "\\a\\b"], 2, 2),
-        (Call::Join, 0, ["/a\\b", "c/d", "\\a\\b\\c\\d"], 2, 3),
-        (Call::Parent, 0, [LONG, "", LONG_PARENT], 2, 2),
-        (Call::CloneBuffer, 2, ["a\\b", "", ""], 2, 2),
-        (Call::JoinBuffer, 2, ["a\\b", "/c", "a\\b\\\\c"], 2, 2),
-        (Call::ParentOfBuffer, 2, [PLAIN, "", PLAIN_PARENT], 2, 2),
-        (Call::ParentOfBuffer, 2, ["a\\b", "", "a"], 1, 1),
-        (
-            Call::Push,
-            2,
-            ["a\\b", "cd/ef/gh/ij", "a\\b\\cd\\ef\\gh\\ij"],
-            2,
-            97,
-        ),
-        (Call::Push, 1, ["", LONGEST, PUSHED_LONGEST], 3, 97),
-        (Call::IntoCString16, 2, ["a/b", "", "a\\b"], 0, 0),
-        (Call::Nothing, 2, ["\\a", "", ""], 0, 0),
-    ] {
-        let count = count_of(&rt, call, setup, texts)?;
-        assert!(rt; least <= count && count <= most, "{call:?}: {count}");
+    for (call, setup, texts, least, most) in ROWS {
+        let count = count_of(&rt, *call, *setup, *texts)?;
+        assert!(rt; *least <= count && count <= *most, "{call:?}: {count}");
+    }
+    Ok(())
+}
+
+/// The same of texts in which each `@` is a name of some length, and each `#` a path of as many names.
+const ROWS_OF_EACH_SIZE: &[Counted] = &[
+    (Call::NewFromCString16, 1, ["@", "", "@"], 0, 0),
+    (Call::NewFromCString16, 1, ["#", "", "#"], 1, 1),
+    (Call::NewFromCString16, 1, ["@/@", "", "@\\@"], 1, 1),
+    (Call::From, 0, ["@", "", "@"], 1, 1),
+    (Call::From, 0, ["/#", "", "\\#"], 2, 2),
+    (Call::ToPathBuf, 0, ["#/a", "", "#\\a"], 2, 2),
+    (Call::Parent, 0, ["#\\@", "", "#"], 2, 2),
+    (Call::Parent, 0, ["@\\b", "", "@"], 1, 1),
+    (Call::Parent, 0, ["#\\\\@", "", "#\\"], 2, 2),
+    (Call::Parent, 0, ["\\\\#\\b", "", "#"], 2, 2),
+    (Call::CloneBuffer, 2, ["#", "", ""], 2, 2),
+    (Call::JoinBuffer, 2, ["#", "b", "#\\b"], 2, 2),
+    (Call::ParentOfBuffer, 2, ["#\\@", "", "#"], 2, 2),
+    (Call::ParentOfBuffer, 2, ["@\\b", "", "@"], 1, 1),
+    (Call::ParentOfBuffer, 2, ["#\\\\@", "", "#\\"], 2, 2),
+    (Call::ParentOfBuffer, 2, ["\\\\#\\b", "", "#"], 2, 2),
+    (Call::Push, 2, ["#", "b", "#\\b"], 2, 2),
+    (Call::PushCounted, 2, ["#", "b", "#\\b"], 2, 2),
+    (Call::Normalize, 0, ["@", "", "@"], 2, 2),
+    (Call::Normalize, 0, ["@\\..", "", "\\"], 3, 3),
+    (Call::IntoCString16, 2, ["#", "", "#"], 0, 0),
+    (Call::Nothing, 1, ["@", "", ""], 0, 0),
+];
+
+/// A text in which each `@` and each `#` is replaced by these.
+fn spread(rt: &HostRuntime, text: &str, name: &str, names: &str) -> Result<String, Fail> {
+    let whole = text.replace(rt.alloc(), '@', name)?;
+    Ok(whole.replace(rt.alloc(), '#', names)?)
+}
+
+/// How many requests a call makes, each `@` and `#` of its texts replaced by these.
+fn spread_count(rt: &HostRuntime, row: &Counted, name: &str, names: &str) -> Result<u64, Fail> {
+    let (call, setup, [text, other, want], _, _) = row;
+    let (text, other) = (
+        spread(rt, text, name, names)?,
+        spread(rt, other, name, names)?,
+    );
+    let want = spread(rt, want, name, names)?;
+    count_of(
+        rt,
+        *call,
+        *setup,
+        [text.as_str(), other.as_str(), want.as_str()],
+    )
+}
+
+/// The first of the rows whose call makes another number of requests, and how many.
+fn find_wrong(rt: &HostRuntime, size: u64) -> Result<Option<(usize, u64)>, Fail> {
+    let name = repeated(rt.alloc(), "a", size)?;
+    let mut names = repeated(rt.alloc(), "ab\\", size)?;
+    names.push('c')?;
+    for (row, counted) in ROWS_OF_EACH_SIZE.iter().enumerate() {
+        let (_, _, _, least, most) = counted;
+        let count = spread_count(rt, counted, &name, &names)?;
+        if count < *least || *most < count {
+            return Ok(Some((row, count)));
+        }
+    }
+    Ok(None)
+}
+
+#[test]
+fn requests_of_calls_of_each_size(rt: HostRuntime) -> Result<(), Fail> {
+    for size in [10, 63, 64, 65, 70, 300, 513, 5000] {
+        let wrong = find_wrong(&rt, size)?;
+        assert!(rt; wrong.is_none(), "{size}: {wrong:?}");
+    }
+    Ok(())
+}
+
+/// A buffer that was cleared has room for what it held: a push of that asks for no more than what is added
+/// takes while it is made.
+#[test]
+fn requests_after_clearing(rt: HostRuntime) -> Result<(), Fail> {
+    for (size, count) in [(10, 0), (64, 0), (84, 0), (85, 1), (300, 1), (5000, 1)] {
+        let mut names = repeated(rt.alloc(), "ab\\", size)?;
+        names.push('c')?;
+        assert_eq!(rt;
+            count_of(&rt, Call::Clear, 2, [&names, "", &names])?,
+            count,
+            "{size}"
+        );
     }
     Ok(())
 }
