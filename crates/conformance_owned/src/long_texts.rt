@@ -3,13 +3,16 @@
 
 use crate::growth::pushed_one_by_one;
 use conformance::{has_text, repeated, string};
+use std::fmt::Write;
 use std::test::Fail;
 use uefi_text::{CStr16, CString16, EqStrUntilNul, UnalignedSlice};
 
 /// Whether copies of a string equal it.
 fn copies(rt: &HostRuntime, string: &CString16) -> Result<bool, Fail> {
     let copy = CString16::from_cstr16(rt.alloc(), string.as_cstr16())?;
-    Ok(copy == *string && copy.clone()? == *string)
+    let owned = string.as_cstr16().to_owned(rt.alloc())?;
+    let characters = string.as_cstr16().as_slice().to_cstring16(rt.alloc())?;
+    Ok(copy == *string && copy.clone()? == *string && owned == *string && characters == *string)
 }
 
 /// The empty string after a push of a string, and then extended by its characters.
@@ -29,6 +32,27 @@ fn long_strings(rt: HostRuntime) -> Result<(), Fail> {
     assert!(rt; copies(&rt, &long)? && string(rt.alloc(), text)? == long);
     let doubled = doubled(&rt, long.as_cstr16())?;
     assert!(rt; has_text(doubled.as_cstr16(), &twice));
+    Ok(())
+}
+
+/// The empty string after a text is written to it, formatted into it and pushed on it as a part.
+fn written_thrice(rt: &HostRuntime, text: &str) -> Result<CString16, Fail> {
+    let part = string(rt.alloc(), text)?;
+    let mut written = CString16::new(rt.alloc())?;
+    written.write_str(text)?;
+    write!(written, "{text}")?;
+    written.push_part(part.as_cstr16().as_slice())?;
+    Ok(written)
+}
+
+#[test]
+fn long_texts_that_are_written(rt: HostRuntime) -> Result<(), Fail> {
+    for piece in ["ab", "aé", "漢字", "a漢"] {
+        let text = repeated(rt.alloc(), piece, 50_000)?;
+        let thrice = repeated(rt.alloc(), piece, 150_000)?;
+        let written = written_thrice(&rt, &text)?;
+        assert!(rt; has_text(written.as_cstr16(), &thrice), "{piece}");
+    }
     Ok(())
 }
 

@@ -2,7 +2,7 @@
 //! refused, which gives what ample memory gives. All calls stand in one table.
 
 use crate::growth::filled;
-use conformance::{Refusing, has_text, out_of_memory, requests};
+use conformance::{Refusing, has_text, out_of_memory, repeated, requests, string};
 use std::alloc::{AllocError, Global};
 use std::fmt::Write;
 use std::iter;
@@ -13,10 +13,10 @@ use uefi_text::{
 
 /// A call that takes memory, or is refused before it does, and what it is given.
 #[derive(Clone, Copy)]
-enum Call {
+enum Call<'a> {
     New,
     WithCapacity,
-    TryFromStr(&'static str),
+    TryFromStr(&'a str),
     /// A text, and why it is refused.
     RefusedStr(&'static str, FromStrError),
     /// Units, and why they are refused, if they are.
@@ -35,6 +35,7 @@ enum Call {
     ToVecOfNothing,
     TryFromUnaligned,
     ToCString16,
+    PartToCString16,
 }
 
 /// Whether a text becomes a string of it, or memory ran out.
@@ -85,12 +86,20 @@ fn clears(heap: &Refusing<Global>, borrowed: CStr16<'_>) -> Result<bool, AllocEr
     Ok(is_empty && is_still_empty && text.eq_cstr16(borrowed))
 }
 
+/// Whether a string has the units of a part, and then these.
+fn is_part_and(text: &CString16<&Refusing<Global>>, part: CStr16<'_>, more: &[u16]) -> bool {
+    text.as_cstr16()
+        .to_u16_slice()
+        .strip_prefix(part.to_u16_slice())
+        == Some(more)
+}
+
 /// Whether a string with room for a part takes it, and a second one only with more memory, unchanged
 /// where that is refused.
 fn grows_from_room(heap: &Refusing<Global>, part: CStr16<'_>) -> Result<bool, AllocError> {
     let mut text = filled(heap, part)?;
     match text.push_str(part) {
-        Ok(()) => Ok(has_text(text.as_cstr16(), "a/éa/é")),
+        Ok(()) => Ok(is_part_and(&text, part, part.to_u16_slice())),
         Err(_) => out_of_memory(text.eq_cstr16(part)),
     }
 }
@@ -105,7 +114,7 @@ fn pushes_character(heap: &Refusing<Global>, part: CStr16<'_>) -> Result<bool, A
         return Ok(false);
     }
     match text.push(c) {
-        Ok(()) => Ok(has_text(text.as_cstr16(), "a/éc")),
+        Ok(()) => Ok(is_part_and(&text, part, &[99])),
         Err(_) => out_of_memory(text.eq_cstr16(part)),
     }
 }
@@ -114,35 +123,40 @@ fn pushes_character(heap: &Refusing<Global>, part: CStr16<'_>) -> Result<bool, A
 fn pushes_part(heap: &Refusing<Global>, part: CStr16<'_>) -> Result<bool, AllocError> {
     let mut text = filled(heap, part)?;
     match text.push_part(part.as_slice()) {
-        Ok(()) => Ok(has_text(text.as_cstr16(), "a/éa/é")),
+        Ok(()) => Ok(is_part_and(&text, part, part.to_u16_slice())),
         Err(_) => out_of_memory(text.eq_cstr16(part)),
     }
 }
 
-/// Whether a push of the empty string changes nothing.
+/// Whether a push of the empty string changes nothing, nor does one of no characters.
 fn pushes_nothing(heap: &Refusing<Global>, part: CStr16<'_>) -> Result<bool, AllocError> {
     let mut text = filled(heap, part)?;
     let Ok(empty) = CStr16::from_u16_with_nul(&[0]) else {
         return Ok(false);
     };
     text.push_str(empty)?;
-    Ok(text.eq_cstr16(part))
+    let is_unchanged = text.eq_cstr16(part);
+    text.push_part(empty.as_slice())?;
+    Ok(is_unchanged && text.eq_cstr16(part))
 }
 
 /// Whether a text is written after a string, or the string is unchanged where memory ran out.
 fn writes(heap: &Refusing<Global>, part: CStr16<'_>) -> Result<bool, AllocError> {
     let mut text = filled(heap, part)?;
-    match text.write_str("Boot0001") {
-        Ok(()) => Ok(has_text(text.as_cstr16(), "a/éBoot0001")),
+    match text.write_str("Boot") {
+        Ok(()) => Ok(is_part_and(&text, part, &[66, 111, 111, 116])),
         Err(_) => out_of_memory(text.eq_cstr16(part)),
     }
 }
 
-/// Whether these are the units of `a/é` and of nothing but `c` after it.
-fn is_part_and_c(units: &[u16]) -> bool {
-    units
-        .strip_prefix(&[97u16, 47, 0xe9])
-        .is_some_and(|others| others.iter().all(|unit| *unit == 99))
+/// How many times `c` stands after the units of a part, if these are such.
+fn count_of_c(units: &[u16], part: CStr16<'_>) -> Option<usize> {
+    let others = units.strip_prefix(part.to_u16_slice())?;
+    if others.iter().all(|unit| *unit == 99) {
+        Some(others.len())
+    } else {
+        None
+    }
 }
 
 /// Whether a string is extended by 64 times `c`, or by fewer where memory ran out.
@@ -152,51 +166,79 @@ fn extends_by_64(heap: &Refusing<Global>, part: CStr16<'_>) -> Result<bool, Allo
     };
     let mut text = filled(heap, part)?;
     let is_whole = c != NUL_16 && text.extend(iter::repeat_n(c, 64)).is_ok();
-    let units = text.as_cstr16().to_u16_slice();
-    let is_right = is_part_and_c(units) && is_whole == (units.len() == 67);
+    let count = count_of_c(text.as_cstr16().to_u16_slice(), part);
     if is_whole {
-        Ok(is_right)
+        Ok(count == Some(64))
     } else {
-        out_of_memory(is_right)
+        out_of_memory(matches!(count, Some(count) if count < 64))
     }
 }
 
-/// Three packed numbers.
-const BYTES: [u8; 12] = [
-    0x10, 0x11, 0x12, 0x13, 0x20, 0x21, 0x22, 0x23, 0x30, 0x31, 0x32, 0x33,
-];
-
-/// Whether the first of the packed numbers become a vector.
-fn numbers(heap: &Refusing<Global>, want: &[u32]) -> Result<bool, AllocError> {
-    let Some(items) = UnalignedSlice::<u32>::try_new(&BYTES, want.len()) else {
-        return Ok(false);
-    };
-    Ok(items.to_vec(heap)?.as_slice() == want)
+/// The packed units of a string and its NUL, after one other byte.
+fn packed(rt: &HostRuntime, part: CStr16<'_>) -> Result<Vec<u8>, AllocError> {
+    let mut bytes = Vec::new(rt.alloc());
+    bytes.push(0xff)?;
+    for unit in part.to_u16_slice_with_nul() {
+        bytes.extend_from_slice(&unit.to_le_bytes())?;
+    }
+    Ok(bytes)
 }
 
-/// Whether the packed units of `test` become it by either call, or memory ran out.
-fn becomes_test(heap: &Refusing<Global>, by_source: bool) -> Result<bool, AllocError> {
-    let items: UnalignedSlice<u16> = UnalignedSlice::new(
-        &[0x74, 0, 0x65, 0, 0x73, 0, 0x74, 0, 0, 0],
-        5,
-    );
+/// Whether the first `len` packed units of a string become a vector.
+fn becomes_vector(
+    heap: &Refusing<Global>,
+    part: CStr16<'_>,
+    bytes: &[u8],
+    len: usize,
+) -> Result<bool, AllocError> {
+    let Some(items) = UnalignedSlice::<u16>::try_new(bytes, len) else {
+        return Ok(false);
+    };
+    Ok(Some(items.to_vec(heap)?.as_slice()) == part.to_u16_slice_with_nul().get(..len))
+}
+
+/// Whether the packed units of a string become it by either call, or memory ran out.
+fn becomes_part(
+    heap: &Refusing<Global>,
+    part: CStr16<'_>,
+    bytes: &[u8],
+    by_source: bool,
+) -> Result<bool, AllocError> {
+    let Some(items) = UnalignedSlice::from_unit_bytes(bytes) else {
+        return Ok(false);
+    };
     let answer = if by_source {
         items.to_cstring16(heap)
     } else {
         CString16::try_from_unaligned(heap, &items)
     };
     match answer {
-        Ok(string) => Ok(has_text(string.as_cstr16(), "test")),
+        Ok(string) => Ok(string.eq_cstr16(part)),
         Err(FromSliceWithNulError::OutOfMemory) => Err(AllocError),
         Err(_) => Ok(false),
     }
 }
 
-/// Whether a call gives what ample memory gives, or memory ran out. The part is `a/é`.
-fn answers(call: Call, heap: &Refusing<Global>, part: CStr16<'_>) -> Result<bool, AllocError> {
+/// Whether the characters of a string become an equal one, or memory ran out.
+fn copies_characters(heap: &Refusing<Global>, part: CStr16<'_>) -> Result<bool, AllocError> {
+    match part.as_slice().to_cstring16(heap) {
+        Ok(copy) => Ok(copy.eq_cstr16(part)),
+        Err(FromStrError::OutOfMemory) => Err(AllocError),
+        Err(_) => Ok(false),
+    }
+}
+
+/// Whether a call gives what ample memory gives, or memory ran out. The part is not empty, and the bytes are
+/// its packed units.
+fn answers(
+    call: Call<'_>,
+    heap: &Refusing<Global>,
+    part: CStr16<'_>,
+    bytes: &[u8],
+) -> Result<bool, AllocError> {
     match call {
         Call::New => Ok(CString16::new(heap)?.is_empty()),
-        Call::WithCapacity => Ok(CString16::with_capacity(heap, 9)?.is_empty()),
+        Call::WithCapacity => Ok(CString16::with_capacity(heap, part.num_chars())?.is_empty()),
         Call::TryFromStr(text) => becomes(heap, text),
         Call::RefusedStr(text, want) => Ok(is_refused(heap, text, want)),
         Call::TryFromVec(units, want) => takes_over(heap, units, want),
@@ -210,41 +252,30 @@ fn answers(call: Call, heap: &Refusing<Global>, part: CStr16<'_>) -> Result<bool
         Call::PushNothing => pushes_nothing(heap, part),
         Call::WriteStr => writes(heap, part),
         Call::Extend => extends_by_64(heap, part),
-        Call::ToVec => numbers(heap, &[0x13121110, 0x23222120, 0x33323130]),
-        Call::ToVecOfNothing => numbers(heap, &[]),
-        Call::TryFromUnaligned => becomes_test(heap, false),
-        Call::ToCString16 => becomes_test(heap, true),
+        Call::ToVec => becomes_vector(heap, part, bytes, part.num_chars()),
+        Call::ToVecOfNothing => becomes_vector(heap, part, bytes, 0),
+        Call::TryFromUnaligned => becomes_part(heap, part, bytes, false),
+        Call::ToCString16 => becomes_part(heap, part, bytes, true),
+        Call::PartToCString16 => copies_characters(heap, part),
     }
 }
 
 /// The requests of a call, after those that come before it.
-fn count_of(rt: &HostRuntime, call: Call, setup: u64, part: CStr16<'_>) -> Result<u64, Fail> {
-    requests(rt.alloc(), setup, |heap| answers(call, heap, part))
+fn count_of(rt: &HostRuntime, call: Call<'_>, setup: u64, part: CStr16<'_>) -> Result<u64, Fail> {
+    let packed = packed(rt, part)?;
+    let bytes = packed.get(1..).unwrap_or(&[]);
+    requests(rt.alloc(), setup, |heap| answers(call, heap, part, bytes))
 }
 
 /// Each call, how many requests come before it, and how many it makes at least and at most.
-const ROWS: &[(Call, u64, u64, u64)] = &[
+const ROWS: &[(Call<'static>, u64, u64, u64)] = &[
     (Call::New, 0, 1, 1),
-    (Call::WithCapacity, 0, 1, 1),
     (Call::TryFromStr(""), 0, 1, 1),
     (Call::TryFromStr("a"), 0, 1, 1),
     (Call::TryFromStr("\\foo\\bar"), 0, 1, 1),
     (Call::TryFromStr("é"), 0, 1, 1),
     (Call::TryFromStr("a\u{ffff}é"), 0, 1, 1),
-    (Call::FromCStr16, 0, 1, 1),
-    (Call::ToOwned, 0, 1, 1),
-    (Call::Clone, 1, 1, 1),
-    (Call::Clear, 1, 0, 0),
-    (Call::Push, 1, 1, 1),
-    (Call::PushStr, 1, 1, 1),
-    (Call::PushPart, 1, 1, 1),
-    (Call::PushNothing, 1, 0, 0),
-    (Call::WriteStr, 1, 1, 1),
-    (Call::Extend, 1, 2, 96),
-    (Call::ToVec, 0, 1, 1),
     (Call::ToVecOfNothing, 0, 0, 0),
-    (Call::TryFromUnaligned, 0, 1, 1),
-    (Call::ToCString16, 0, 1, 1),
     // The whole text is tested before memory is asked for.
     (Call::RefusedStr("x\0", FromStrError::InteriorNul), 0, 0, 0),
     (Call::RefusedStr("é\0", FromStrError::InteriorNul), 0, 0, 0),
@@ -285,12 +316,90 @@ const ROWS: &[(Call, u64, u64, u64)] = &[
     ),
 ];
 
+/// The same of each call on a part, however long that is.
+const ROWS_ON_A_PART: &[(Call<'static>, u64, u64, u64)] = &[
+    (Call::WithCapacity, 0, 1, 1),
+    (Call::FromCStr16, 0, 1, 1),
+    (Call::ToOwned, 0, 1, 1),
+    (Call::Clone, 1, 1, 1),
+    (Call::Clear, 1, 0, 0),
+    (Call::Push, 1, 1, 1),
+    (Call::PushStr, 1, 1, 1),
+    (Call::PushPart, 1, 1, 1),
+    (Call::PushNothing, 1, 0, 0),
+    (Call::WriteStr, 1, 1, 1),
+    (Call::Extend, 1, 1, 96),
+    (Call::ToVec, 0, 1, 1),
+    (Call::TryFromUnaligned, 0, 1, 1),
+    (Call::ToCString16, 0, 1, 1),
+    (Call::PartToCString16, 0, 1, 1),
+];
+
+/// The first of the rows whose call makes another number of requests, and how many.
+fn find_wrong(
+    rt: &HostRuntime,
+    rows: &[(Call<'static>, u64, u64, u64)],
+    part: CStr16<'_>,
+) -> Result<Option<(usize, u64)>, Fail> {
+    for (row, (call, setup, least, most)) in rows.iter().enumerate() {
+        let count = count_of(rt, *call, *setup, part)?;
+        if count < *least || *most < count {
+            return Ok(Some((row, count)));
+        }
+    }
+    Ok(None)
+}
+
+/// How many units the parts have, around the blocks in which units and bytes are looked at and written.
+const SIZES: &[u64] = &[1, 3, 10, 63, 64, 65, 70, 300, 5000];
+
 #[test]
 fn requests_of_each_call(rt: HostRuntime) -> Result<(), Fail> {
     let part = CStr16::from_u16_with_nul(&[97, 47, 0xe9, 0])?;
-    for (row, (call, setup, least, most)) in ROWS.iter().enumerate() {
-        let count = count_of(&rt, *call, *setup, part)?;
-        assert!(rt; *least <= count && count <= *most, "row {row}: {count}");
+    assert_eq!(rt; find_wrong(&rt, ROWS, part)?, None);
+    assert_eq!(rt; find_wrong(&rt, ROWS_ON_A_PART, part)?, None);
+    Ok(())
+}
+
+#[test]
+fn requests_of_calls_on_parts(rt: HostRuntime) -> Result<(), Fail> {
+    for size in SIZES {
+        for piece in ["a", "é", "漢"] {
+            let part = string(rt.alloc(), &repeated(rt.alloc(), piece, *size)?)?;
+            let wrong = find_wrong(&rt, ROWS_ON_A_PART, part.as_cstr16())?;
+            assert!(rt; wrong.is_none(), "{size} times {piece}: {wrong:?}");
+        }
+    }
+    Ok(())
+}
+
+/// Pieces of texts, and what follows them: characters of one width, and one of another.
+const PIECES: [&str; 6] = ["a", "é", "漢", "aé", "a漢", "é漢"];
+
+const ENDS: [&str; 4] = ["", "b", "ÿ", "\u{ffff}"];
+
+/// Whether a text of this many pieces takes one request, whatever follows them.
+fn are_asked_for_once(rt: &HostRuntime, piece: &str, size: u64) -> Result<bool, Fail> {
+    let part = CStr16::from_u16_with_nul(&[97, 0])?;
+    for end in ENDS {
+        let mut text = repeated(rt.alloc(), piece, size)?;
+        text.push_str(end)?;
+        if count_of(rt, Call::TryFromStr(&text), 0, part)? != 1 {
+            return Ok(false);
+        }
+    }
+    Ok(true)
+}
+
+#[test]
+fn requests_of_texts(rt: HostRuntime) -> Result<(), Fail> {
+    for size in SIZES {
+        for piece in PIECES {
+            assert!(rt;
+                are_asked_for_once(&rt, piece, *size)?,
+                "{size} times {piece}"
+            );
+        }
     }
     Ok(())
 }
