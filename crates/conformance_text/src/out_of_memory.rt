@@ -3,17 +3,12 @@
 //! request, after every other cause of refusal.
 
 use crate::conversions::characters;
-use conformance::{Refusing, out_of_memory, requests, string};
+use conformance::{Refusing, out_of_memory, repeated, requests, string};
 use std::alloc::{AllocError, Global};
 use std::test::Fail;
 use uefi_text::{
     CStr16, CString16, Char16, FromSliceUntilNulError, FromSliceWithNulError, FromStrError,
 };
-
-const TEXT: &str = "aé€";
-
-/// Its bytes as a string.
-const BYTES: [u8; 8] = [0x61, 0, 0xe9, 0, 0xac, 0x20, 0, 0];
 
 /// Longer than a text grows to at once.
 const LONG_TEXT: &str =
@@ -22,11 +17,15 @@ const LONG_TEXT: &str =
 /// What the calls work on.
 #[derive(Clone, Copy)]
 struct Inputs<'a> {
-    /// The string of `TEXT`.
+    /// A text that is not empty.
+    rust: &'a str,
+    /// Its string.
     text: CStr16<'a>,
+    /// The bytes of that.
+    bytes: &'a [u8],
     /// The string of `LONG_TEXT`.
     long: CStr16<'a>,
-    /// The characters of `TEXT`, and a NUL.
+    /// The characters of the text, and a NUL.
     list: &'a [Char16],
     /// Characters without NUL.
     open: &'a [Char16],
@@ -40,6 +39,7 @@ enum Call {
     AsBytes,
     ToRustString,
     AddUtf8To,
+    AddUtf8ToRoom,
     AsStrInBuf,
     FromChar16UntilNul,
     FromChar16WithNul,
@@ -49,21 +49,25 @@ enum Call {
     RefusedBytes,
 }
 
-fn gives_bytes(heap: &Refusing<Global>, string: CStr16<'_>) -> Result<bool, AllocError> {
-    Ok(string.as_bytes(heap)?.as_slice() == BYTES.as_slice())
+fn gives_bytes(heap: &Refusing<Global>, inputs: Inputs<'_>) -> Result<bool, AllocError> {
+    Ok(inputs.text.as_bytes(heap)?.as_slice() == inputs.bytes)
 }
 
-fn gives_rust_text(heap: &Refusing<Global>, string: CStr16<'_>) -> Result<bool, AllocError> {
-    Ok(string.to_rust_string(heap)?.as_str() == TEXT)
+fn gives_rust_text(heap: &Refusing<Global>, inputs: Inputs<'_>) -> Result<bool, AllocError> {
+    Ok(inputs.text.to_rust_string(heap)?.as_str() == inputs.rust)
 }
 
-/// Whether a list with room for one byte gets the bytes of a string after it, or is unchanged where
+/// Whether a list of one byte, with this much room, gets the bytes of a text after it, or is unchanged where
 /// memory ran out.
-fn adds_bytes(heap: &Refusing<Global>, string: CStr16<'_>) -> Result<bool, AllocError> {
-    let mut bytes = Vec::with_capacity(heap, 1)?;
+fn adds_bytes(
+    heap: &Refusing<Global>,
+    inputs: Inputs<'_>,
+    room: usize,
+) -> Result<bool, AllocError> {
+    let mut bytes = Vec::with_capacity(heap, room)?;
     bytes.push(b'x')?;
-    match string.as_slice().add_utf8_to(&mut bytes) {
-        Ok(()) => Ok(bytes.as_slice() == "xaé€".as_bytes()),
+    match inputs.text.as_slice().add_utf8_to(&mut bytes) {
+        Ok(()) => Ok(bytes.split_first() == Some((&b'x', inputs.rust.as_bytes()))),
         Err(_) => out_of_memory(bytes.as_slice() == b"x".as_slice()),
     }
 }
@@ -129,15 +133,16 @@ fn reports_faults_of_bytes(heap: &Refusing<Global>) -> bool {
 fn answers(call: Call, heap: &Refusing<Global>, inputs: Inputs<'_>) -> Result<bool, AllocError> {
     let text = inputs.text;
     match call {
-        Call::AsBytes => gives_bytes(heap, text),
-        Call::ToRustString => gives_rust_text(heap, text),
-        Call::AddUtf8To => adds_bytes(heap, text),
+        Call::AsBytes => gives_bytes(heap, inputs),
+        Call::ToRustString => gives_rust_text(heap, inputs),
+        Call::AddUtf8To => adds_bytes(heap, inputs, 1),
+        Call::AddUtf8ToRoom => adds_bytes(heap, inputs, inputs.rust.len().saturating_add(1)),
         Call::AsStrInBuf => fills_sink(heap, inputs.long),
         Call::FromChar16UntilNul => until_nul(heap, inputs.list, text),
         Call::FromChar16WithNul => {
             outcome(CStr16::from_char16_with_nul(heap, inputs.list), text)
         }
-        Call::FromBytesWithNul => outcome(CStr16::from_bytes_with_nul(heap, &BYTES), text),
+        Call::FromBytesWithNul => outcome(CStr16::from_bytes_with_nul(heap, inputs.bytes), text),
         Call::ToCString16 => copies_characters(heap, text),
         Call::RefusedCharacters => Ok(reports_faults_of_characters(heap, inputs)),
         Call::RefusedBytes => Ok(reports_faults_of_bytes(heap)),
@@ -150,10 +155,11 @@ fn count_of(rt: &HostRuntime, call: Call, setup: u64, inputs: Inputs<'_>) -> Res
 }
 
 /// Each call, how many requests come before it, and how many it makes at least and at most.
-const ROWS: [(Call, u64, u64, u64); 10] = [
+const ROWS: &[(Call, u64, u64, u64)] = &[
     (Call::AsBytes, 0, 1, 1),
     (Call::ToRustString, 0, 1, 1),
     (Call::AddUtf8To, 1, 1, 1),
+    (Call::AddUtf8ToRoom, 1, 0, 0),
     (Call::AsStrInBuf, 0, 2, 99),
     (Call::FromChar16UntilNul, 0, 1, 1),
     (Call::FromChar16WithNul, 0, 1, 1),
@@ -163,21 +169,43 @@ const ROWS: [(Call, u64, u64, u64); 10] = [
     (Call::RefusedBytes, 0, 0, 0),
 ];
 
+/// The first of the rows whose call makes another number of requests, and how many, where the calls work on
+/// a text.
+fn find_wrong(rt: &HostRuntime, rust: &str) -> Result<Option<(usize, u64)>, Fail> {
+    let text = string(rt.alloc(), rust)?;
+    let long = string(rt.alloc(), LONG_TEXT)?;
+    let bytes = text.as_cstr16().as_bytes(rt.alloc())?;
+    let list = characters(rt, text.as_cstr16().to_u16_slice_with_nul())?;
+    let other = characters(rt, &[97, 0, 98, 0])?;
+    let inputs = Inputs {
+        rust,
+        text: text.as_cstr16(),
+        bytes: &bytes,
+        long: long.as_cstr16(),
+        list: &list,
+        open: other.get(..1).unwrap_or(&[]),
+        inner: &other,
+    };
+    for (row, (call, setup, least, most)) in ROWS.iter().enumerate() {
+        let count = count_of(rt, *call, *setup, inputs)?;
+        if count < *least || *most < count {
+            return Ok(Some((row, count)));
+        }
+    }
+    Ok(None)
+}
+
+/// How many times a piece stands in a text, around the blocks in which units are looked at and written.
+const SIZES: &[u64] = &[1, 3, 10, 63, 64, 65, 70, 300, 5000];
+
 #[test]
 fn requests_of_each_call(rt: HostRuntime) -> Result<(), Fail> {
-    let text = string(rt.alloc(), TEXT)?;
-    let long = string(rt.alloc(), LONG_TEXT)?;
-    let list = characters(&rt, &[97, 0, 98, 0, 97, 0xe9, 0x20ac, 0])?;
-    let inputs = Inputs {
-        text: text.as_cstr16(),
-        long: long.as_cstr16(),
-        list: list.get(4..).unwrap_or(&[]),
-        open: list.get(4..6).unwrap_or(&[]),
-        inner: list.get(..4).unwrap_or(&[]),
-    };
-    for (row, (call, setup, least, most)) in ROWS.into_iter().enumerate() {
-        let count = count_of(&rt, call, setup, inputs)?;
-        assert!(rt; least <= count && count <= most, "row {row}: {count}");
+    assert_eq!(rt; find_wrong(&rt, "aé€")?, None);
+    for size in SIZES {
+        for piece in ["a", "é", "漢", "aé", "é漢"] {
+            let wrong = find_wrong(&rt, &repeated(rt.alloc(), piece, *size)?)?;
+            assert!(rt; wrong.is_none(), "{size} times {piece}: {wrong:?}");
+        }
     }
     Ok(())
 }

@@ -90,6 +90,19 @@ fn texts_in_buffers(rt: HostRuntime) -> Result<(), Fail> {
     Ok(())
 }
 
+/// Buffers with more places than a block has: those after the NUL stay.
+#[test]
+fn texts_in_large_buffers(rt: HostRuntime) -> Result<(), Fail> {
+    for room in [63usize, 64, 65, 300, 301, 4097, 100_000] {
+        let mut after = Vec::new(rt.alloc());
+        after.extend_from_slice(&[97, 0xe9, 0])?;
+        after.resize(room, 9)?;
+        assert!(rt; writes(&rt, "aé", Ok(3), &after)?, "{room} places");
+        assert!(rt; borrows(&rt, "aé", Ok(3), &after)?, "{room} places");
+    }
+    Ok(())
+}
+
 /// In nines with room for each number of units from none on.
 #[test]
 fn a_refused_text_in_buffers_of_each_length(rt: HostRuntime) -> Result<(), Fail> {
