@@ -229,6 +229,40 @@ fn copies_of_few_and_many_items(rt: HostRuntime) -> Result<(), Fail> {
     Ok(())
 }
 
+/// Whether as many packed numbers as these bytes hold become a vector of them.
+fn become_a_vector<T: Packed + PartialEq + Drop>(
+    rt: &HostRuntime,
+    bytes: &[u8],
+    len: usize,
+) -> Result<bool, AllocError> {
+    let Some(items) = UnalignedSlice::<T>::try_new(bytes, len) else {
+        return Ok(false);
+    };
+    let numbers = items.to_vec(rt.alloc())?;
+    for (index, number) in numbers.iter().enumerate() {
+        if items.get(index) != Some(*number) {
+            return Ok(false);
+        }
+    }
+    Ok(numbers.len() == len)
+}
+
+/// 100,000 items of each size, from an odd place.
+#[test]
+fn long_vectors_of_items(rt: HostRuntime) -> Result<(), Fail> {
+    let mut bytes = Vec::new(rt.alloc());
+    for place in 0..800_001_u32 {
+        bytes.push((place % 251) as u8)?;
+    }
+    let odd = bytes.get(1..).unwrap_or(&[]);
+    let is_right = become_a_vector::<u8>(&rt, odd, 100_000)?
+        && become_a_vector::<u16>(&rt, odd, 100_000)?
+        && become_a_vector::<u32>(&rt, odd, 100_000)?
+        && become_a_vector::<u64>(&rt, odd, 100_000)?;
+    assert!(rt; is_right);
+    Ok(())
+}
+
 #[test]
 fn printed_for_programmers(rt: HostRuntime) -> Result<(), Fail> {
     let items: UnalignedSlice<u8> = UnalignedSlice::new(&[0xff, 0], 2);

@@ -130,6 +130,21 @@ fn strings_in_buffers(rt: HostRuntime) -> Result<(), Fail> {
     Ok(())
 }
 
+/// Buffers with more places than a block has, of each way from packed units to a string.
+#[test]
+fn strings_in_large_buffers(rt: HostRuntime) -> Result<(), Fail> {
+    let Some(items) = UnalignedSlice::from_unit_bytes(&TEST_AFTER_ONE[1..]) else {
+        return Err("odd bytes".into());
+    };
+    for room in [63usize, 64, 65, 300, 301, 4097, 100_000] {
+        let mut after = Vec::new(rt.alloc());
+        after.extend_from_slice(&[0x74, 0x65, 0x73, 0x74, 0])?;
+        after.resize(room, 9)?;
+        assert!(rt; leaves(&rt, &items, &after, None)?, "{room} places");
+    }
+    Ok(())
+}
+
 /// Whether packed units are refused for this cause, and no memory is asked for.
 fn is_refused(rt: &HostRuntime, bytes: &[u8], want: FromSliceWithNulError) -> bool {
     let Some(items) = UnalignedSlice::from_unit_bytes(bytes) else {
