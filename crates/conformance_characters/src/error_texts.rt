@@ -78,6 +78,27 @@ fn texts_of_buffer_errors(rt: HostRuntime) -> Result<(), Fail> {
     Ok(())
 }
 
+/// What each refusal prints for programmers.
+#[test]
+fn printed_for_programmers(rt: HostRuntime) -> Result<(), Fail> {
+    let (whole, until) = (
+        FromSliceWithNulError::InteriorNul(12),
+        FromSliceUntilNulError::NoNul,
+    );
+    let slices = format!(in rt.alloc(); "{whole:?} {until:?}")?;
+    assert!(rt; slices.as_str() == "InteriorNul(12) NoNul");
+    let (packed, text) = (
+        UnalignedCStr16Error::BufferTooSmall,
+        FromStrWithBufError::InvalidChar(7),
+    );
+    let buffers = format!(in rt.alloc(); "{packed:?} {text:?}")?;
+    assert!(rt; buffers.as_str() == "BufferTooSmall InvalidChar(7)");
+    let (owned, character) = (FromStrError::InvalidChar, CharConversionError);
+    let texts = format!(in rt.alloc(); "{owned:?} {character:?}")?;
+    assert!(rt; texts.as_str() == "InvalidChar CharConversionError");
+    Ok(())
+}
+
 #[test]
 fn texts_of_conversion_errors(rt: HostRuntime) -> Result<(), Fail> {
     for (error, want) in [
