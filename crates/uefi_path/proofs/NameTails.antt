@@ -1,14 +1,12 @@
 -- The last names of a normal path, joined: how long they are, and what one more name before them adds.
-use Rattle.std.proofs.Common.{◌≡◌, ℕ, ◌+◌, ◌<◌, ◌≤◌, nat_lt, Bool, true, false, cond, if◌then◌else◌, ◌-◌, List, [], ◌∷◌, ◌++◌, drop, length, max, replicate, set, take, All, append_assoc, length-append, refl, sym, ap, ◌∙◌, subst, arith}
-use Rattle.std.proofs.Math.Seq.{take-length}
+use Rattle.std.proofs.Common.{◌≡◌, ℕ, ◌+◌, ◌<◌, ◌≤◌, nat_lt, Bool, true, false, cond, if◌then◌else◌, List, [], ◌∷◌, ◌++◌, drop, length, max, set, take, All, append_assoc, length-append, refl, sym, ap, ◌∙◌, subst, arith}
 use Rattle.std.proofs.lemmas.Bool.{ltb-false, ltb-true}
-use Rattle.std.proofs.lemmas.List.{append-nil, drop-replicate, drop-set-lt, length-drop, length-replicate}
+use Rattle.std.proofs.lemmas.List.{append-nil, drop-set-lt, length-drop}
 use Rattle.std.proofs.lemmas.List.Elements.{All-head, All-tail}
 use Rattle.uefi_path.specs.Components.{joined}
 use Rattle.uefi_path.specs.NormalForms.{Dot, DotDot, Kind, Name, before_normal, before_piece, kind, normal_of, normal_text}
 use Rattle.uefi_path.specs.Separators.{separator, with_separators}
 use Rattle.uefi_path.specs.Verdicts.{IsGood}
-use Rattle.uefi_text.specs.Units.{nul_terminated}
 use Rattle.uefi_path.proofs.Pushing.{with_separators-plain}
 use Rattle.uefi_path.proofs.Validity.{good-plain}
 

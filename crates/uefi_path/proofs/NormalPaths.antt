@@ -1,22 +1,18 @@
 -- The normal path of a valid one: its components are the normal form, so it is valid and its own normal
 -- path.
-use Rattle.std.proofs.Common.{◌≡◌, ◌≢◌, ◌==◌, Bool, true, false, ℕ, List, [], ◌∷◌, ◌++◌, length, map, None, All, arith, refl, sym, ap, ◌∙◌, subst}
-use Rattle.std.specs.List.{fold}
+use Rattle.std.proofs.Common.{◌≡◌, ◌≢◌, ℕ, List, [], ◌∷◌, ◌++◌, None, All, arith, refl, sym, ap, ◌∙◌, subst}
 use Rattle.std.proofs.lemmas.List.Elements.{All-cons, All-head, All-nil, All-tail}
-use Rattle.std.proofs.lemmas.Bool.{ne_eqb}
-use Rattle.uefi_path.specs.Components.{IsPiece, components_of, joined, pieces_between}
+use Rattle.uefi_path.specs.Components.{components_of, joined, pieces_between}
 use Rattle.uefi_path.specs.Laws.{NormalHoldsNames, NormalIsNormal, NormalIsValid, NormalPathsAgree}
 use Rattle.uefi_path.specs.NormalForms.{Dot, DotDot, IsName, Kind, Name, NormalForm, before_normal, before_piece, kind, normal_of, normal_text}
-use Rattle.uefi_path.specs.Pushing.{appended}
 use Rattle.uefi_path.specs.Separators.{canonical, separator, slash, with_separators}
 use Rattle.uefi_path.specs.Verdicts.{IsGood, verdict}
 use Rattle.uefi_text.specs.Units.{IsText, IsTextUnit}
 use Rattle.uefi_path.proofs.Depth.{Stays, Stays-names, names_of_normal}
-use Rattle.uefi_path.proofs.ParentForm.{components_of-joined, rejoined-full}
-use Rattle.uefi_path.proofs.Parents.{added_all}
+use Rattle.uefi_path.proofs.ParentForm.{components_of-joined}
 use Rattle.uefi_path.proofs.Pushing.{separator_is_plain, with_separators-plain}
 use Rattle.uefi_path.proofs.Rewriting.{normal_forms_agree, normal_of-only}
-use Rattle.uefi_path.proofs.Validity.{All-good_non_empty, All-good_piece, All-good_plain, All-joined, valid-components, valid-from, valid-parts}
+use Rattle.uefi_path.proofs.Validity.{All-good_plain, All-joined, valid-components, valid-from, valid-parts}
 
 -- what holds of each piece holds of each of the normal form
 module _ (P : List ℕ → Type 0) where

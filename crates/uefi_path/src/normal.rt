@@ -60,7 +60,10 @@ fn write_string(units: &mut [u16], len: usize, names: NamesFromLast<'_>)
 }
 
 /// The path of names, joined, in memory that it owns.
-fn join_names<A: Allocator + Copy>(alloc: A, names: NamesFromLast<'_>) -> Result<PathBuf<A>, AllocError>
+fn join_names<A: Allocator + Copy>(
+    alloc: A,
+    names: NamesFromLast<'_>,
+) -> Result<PathBuf<A>, AllocError>
     requires walk { IsWalk names }
     requires good { All IsGood (names_left names) }
     requires texts { All IsText (names_left names) }
