@@ -28,7 +28,7 @@ pub use uefi_text_encodings::errors::{
 pub use uefi_text_encodings::latin1::{
     CStr8, has_no_nul, is_latin1, str_num_latin1_chars, str_to_latin1,
 };
-use uefi_text_encodings::scans::{find_deciding_place, has_unit_beyond_ascii, split};
+use uefi_text_encodings::scans::{find_deciding_place, is_ascii, split};
 use uefi_text_encodings::utf8::{BLOCK, add_utf8, write_utf8};
 
 /// A borrowed string: a view of code units that are a text and its NUL (UEFI Specification 2.10,
@@ -253,11 +253,10 @@ impl<'a> CStr16<'a> {
     }
 
     /// Whether every character is ASCII. One pass, which ends soon after the first that is not.
-    #[tactic(auto, using(uefi_text_encodings::proofs::Scanning::ascii_units), unfolding(crate::specs::Views::text_of))]
     pub fn is_ascii(&self) -> bool
         ensures { IsTrue result ↔ IsAscii (text_of self.now) }
     {
-        !has_unit_beyond_ascii(self.to_u16_slice())
+        is_ascii(self.to_u16_slice())
     }
 
     /// The string as bytes, the low byte first on every machine: two for each character and two for

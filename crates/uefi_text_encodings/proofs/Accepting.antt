@@ -127,11 +127,6 @@ first_nul-memory elements error is = (
         let last : i + 1 ≡ length elements = grind (arith, common_steps) in
         IsLatin1String-nul_last elements i e last
 
--- a string has exactly its last unit a NUL
-pub IsNulTerminated-string : (units : List ℕ) → IsString units → IsNulTerminated units
-IsNulTerminated-string units string =
-    (string.0, All-weaker IsTextUnit (λ u. u ≢ 0) (λ u unit. grind (arith, common_steps)) (without_nul units) string.1)
-
 -- characters of Rust are out of memory exactly where they are a text
 pub from_str-memory : (cs : List ℕ) → scalars cs ≡ true → (error : FromStrError)
     → error ≡ unwrap_or (from_str_refusal cs) from_str.OutOfMemory → (error ≡ from_str.OutOfMemory) ↔ IsText cs
@@ -156,9 +151,6 @@ from_str-characters (u ∷ us) are_characters =
 -- characters of UCS-2 are characters
 scalar-IsChar16 : (u : ℕ) → IsChar16 u → scalar u ≡ true
 scalar-IsChar16 u character = grind (arith, common_steps)
-
-pub scalars-IsChar16 : (units : List ℕ) → All IsChar16 units → scalars units ≡ true
-scalars-IsChar16 units are_characters = scalars-All units (All-weaker IsChar16 IsScalar scalar-IsChar16 units are_characters)
 
 -- characters are accepted at a buffer exactly where they are a text, and fewer than its places
 pub with_buf-accepts : (cs : List ℕ) (room : ℕ) → scalars cs ≡ true

@@ -1,6 +1,5 @@
 -- Characters of three bytes, read several at once.
-use Rattle.std.proofs.Common.{append_assoc, Bool, true, false, leb, All, ◌≢◌, ◌≡◌, ℕ, zero, suc, ◌+◌, ◌*◌, ◌/◌, ◌%◌, ◌<◌, ◌≤◌, ◌∙◌, List, [], ◌∷◌, ◌++◌, length, map, get_or, take, drop, cond, None, ap, sym, subst, refl, inl, inr, arith}
-use Rattle.std.specs.List.{find}
+use Rattle.std.proofs.Common.{append_assoc, Bool, true, false, leb, All, ◌≢◌, ◌≡◌, ℕ, zero, suc, ◌+◌, ◌*◌, ◌/◌, ◌%◌, ◌<◌, ◌≤◌, ◌∙◌, List, [], ◌∷◌, ◌++◌, length, map, get_or, take, drop, cond, ap, sym, subst, refl, inl, inr, arith}
 use Rattle.std.specs.Prelude.{encode_utf8}
 use Rattle.std.specs.Simd.Lanes.{Each1, mask_l}
 use Rattle.std.specs.Str.{chars, encode_utf8_all, IsUtf8}
@@ -13,6 +12,7 @@ use Rattle.std.specs.List.{range_with_len}
 use Rattle.std.specs.Simd.Lanes.{pick_l}
 use Rattle.std.proofs.lemmas.List.{length-append, length-take-le, take-append-drop, take_at}
 use Rattle.std.proofs.lemmas.Simd.{pick_l-range_with_len}
+use Rattle.uefi_text_encodings.specs.FromStr.{IsAcceptedChar}
 use Rattle.uefi_text_encodings.proofs.Utf8Bytes.{encode_utf8-two, encode_utf8-three, encode_utf8-four}
 
 -- the unit that three bytes have, as it is computed in a lane of 16 bits
@@ -34,13 +34,13 @@ other_below a low =
 other_above : (a : ℕ) → 240 ≤ a → a < 256 → is_other a ≡ true
 other_above a high small = le-leb 16 ((a + 32) % 256) (omega arith)
 
--- where a text begins with such a byte, three bytes are its first character, which is not NUL
+-- where a text begins with such a byte, three bytes are its first character, which a UCS-2 text holds
 pub three_bytes : (a b c : ℕ) (rest : List ℕ) → IsUtf8 (a ∷ b ∷ c ∷ rest) → is_other a ≡ false
-    → (chars (a ∷ b ∷ c ∷ rest) ≡ lane a b c ∷ chars rest) × IsUtf8 rest × (lane a b c ≢ 0)
+    → (chars (a ∷ b ∷ c ∷ rest) ≡ lane a b c ∷ chars rest) × IsUtf8 rest × IsAcceptedChar (lane a b c)
 three_bytes a b c rest utf8 wide = first utf8.0 utf8.1.0 utf8.1.1
   where
     first : (cs : List ℕ) → scalars cs ≡ true → encode_utf8_all cs ≡ a ∷ b ∷ c ∷ rest
-        → (chars (a ∷ b ∷ c ∷ rest) ≡ lane a b c ∷ chars rest) × IsUtf8 rest × (lane a b c ≢ 0)
+        → (chars (a ∷ b ∷ c ∷ rest) ≡ lane a b c ∷ chars rest) × IsUtf8 rest × IsAcceptedChar (lane a b c)
     first [] are_scalars is = absurd (cc)
     first (u ∷ us) are_scalars is =
         elim (cases_lt u 128) [
@@ -68,7 +68,7 @@ three_bytes a b c rest utf8 wide = first utf8.0 utf8.1.0 utf8.1.1
                           let read : chars (a ∷ b ∷ c ∷ rest) ≡ u ∷ chars rest = chars_past_char (a ∷ b ∷ c ∷ rest) rest u utf8 begins in (
                             read ∙ ap (λ v. v ∷ chars rest) unit,
                             IsUtf8-past_char (a ∷ b ∷ c ∷ rest) rest u utf8 begins,
-                            λ zero_lane. omega (arith, higher, unit, zero_lane),
+                            omega (arith, higher, small, unit),
                           )
                       | inr highest ↦
                           let first_scalar : scalar u ≡ true = grind (arith, common_steps) in
@@ -92,8 +92,8 @@ lanes zero bytes = []
 lanes (suc n) bytes = lane (get_or bytes 0 0) (get_or bytes 1 0) (get_or bytes 2 0) ∷ lanes n (drop 3 bytes)
 
 pub decoded : (n : ℕ) (bs : List ℕ) → 3 * n ≤ length bs → Wide n bs → IsUtf8 bs
-    → (chars bs ≡ lanes n bs ++ chars (drop (3 * n) bs)) × IsUtf8 (drop (3 * n) bs) × All (λ c. c ≢ 0) (lanes n bs)
-decoded zero bs long wide utf8 = (refl, utf8, All-nil (λ c. c ≢ 0))
+    → (chars bs ≡ lanes n bs ++ chars (drop (3 * n) bs)) × IsUtf8 (drop (3 * n) bs) × All IsAcceptedChar (lanes n bs)
+decoded zero bs long wide utf8 = (refl, utf8, All-nil IsAcceptedChar)
 decoded (suc n) [] long wide utf8 = absurd (omega (arith, long))
 decoded (suc n) (a ∷ []) long wide utf8 = absurd (omega (arith, long))
 decoded (suc n) (a ∷ b ∷ []) long wide utf8 = absurd (omega (arith, long))
@@ -104,7 +104,7 @@ decoded (suc n) (a ∷ b ∷ c ∷ rest) long wide utf8 =
     let after : drop (3 * suc n) (a ∷ b ∷ c ∷ rest) ≡ drop (3 * n) rest = ap (λ k. drop k (a ∷ b ∷ c ∷ rest)) next in (
       first.0 ∙ ap (λ (us : List ℕ). lane a b c ∷ us) (others.0 ∙ ap (λ (bs : List ℕ). lanes n rest ++ chars bs) (sym after)),
       subst IsUtf8 (sym after) others.1,
-      All-cons (λ c. c ≢ 0) (lane a b c) (lanes n rest) first.2 others.2,
+      All-cons IsAcceptedChar (lane a b c) (lanes n rest) first.2 others.2,
     )
 
 -- where no bit is set, no lane passes
@@ -121,13 +121,6 @@ none_set p (u ∷ us) none = elim (cases_Bool (p u)) [
 -- the first 24 bytes, one by one
 pub twenty_four : (bs : List ℕ) → 24 ≤ length bs → pick_l 0 bs (range_with_len 0 24) ++ drop 24 bs ≡ bs
 twenty_four bs long = ap (λ (front : List ℕ). front ++ drop 24 bs) (pick_l-range_with_len 0 bs 0 24 (omega (arith, long))) ∙ take-append-drop 24 bs
-
--- where nothing is found among all elements, nothing is among the last
-pub find-none_back : (p : ℕ → Bool) (xs ys : List ℕ) → find p (xs ++ ys) ≡ None → find p ys ≡ None
-find-none_back p [] ys none = none
-find-none_back p (x ∷ xs) ys none =
-    let rest : find p (xs ++ ys) ≡ None = grind (arith, common_steps) in
-    find-none_back p xs ys rest
 
 -- some elements more of a list of which the first were read
 pub read_more : (all new more : List ℕ) (len n : ℕ) → n ≡ length new → len ≤ length all → take len all ++ (new ++ more) ≡ all

@@ -1,6 +1,5 @@
 pub mod Scanning
 pub mod Utf8Bytes
-pub mod Parts
 pub mod Deciding
 pub mod Texts
 pub mod Utf16
@@ -12,6 +11,3 @@ pub mod Accepting
 pub mod Writing
 pub mod Decoding
 pub mod Lanes
-pub mod TwoBytes
-pub mod ShortChars
-pub mod ShortTexts

@@ -3,12 +3,12 @@ use Rattle.std.proofs.Common.{◌≡◌, ◌≢◌, ◌∙◌, ◌++◌, ap, sym
 use Rattle.std.specs.List.{AllWithin, HoldsAt, zip}
 use Rattle.std.proofs.lemmas.Bool.{false≢true}
 use Rattle.std.proofs.lemmas.List.Elements.{All-cons, All-head, All-nil, All-tail}
-use Rattle.std.specs.List.{before_first, fold}
+use Rattle.std.specs.List.{before_first}
 use Rattle.std.specs.Str.{chars, IsUtf8}
 use Rattle.std.proofs.lemmas.List.{take-append-drop}
 use Rattle.std.proofs.lemmas.Grind.{common_steps}
 use Rattle.uefi_text_encodings.specs.EqStrUntilNul.{IsEqualUntilNul, OneIsPrefixOfOther}
-use Rattle.uefi_text_encodings.specs.Scans.{ascii_text_so_far}
+use Rattle.uefi_text_encodings.specs.Scans.{IsAsciiTextByte}
 use Rattle.uefi_text_encodings.specs.Units.{is_nul}
 use Rattle.uefi_text_encodings.proofs.Utf8Bytes.{ascii_text_no_nul, ascii_text_then}
 
@@ -74,7 +74,7 @@ equal_after_front answer front us cs no_nul rest = (
 )
 
 -- a text and a Rust text that begin with the same ASCII without NUL are compared by what follows it
-pub equal_after_ascii : (answer : Bool) (n : ℕ) (us bs : List ℕ) → take n us ≡ take n bs → fold ascii_text_so_far true (take n bs) ≡ true → IsUtf8 bs
+pub equal_after_ascii : (answer : Bool) (n : ℕ) (us bs : List ℕ) → take n us ≡ take n bs → All IsAsciiTextByte (take n bs) → IsUtf8 bs
     → IsTrue answer ↔ IsEqualUntilNul (drop n us) (chars (drop n bs)) → IsTrue answer ↔ IsEqualUntilNul us (chars bs)
 equal_after_ascii answer n us bs same ascii utf8 rest =
     let front = take n bs in

@@ -1,84 +1,92 @@
--- Passes that test many elements at a time, by a fold with no early exit.
-use Rattle.std.proofs.Common.{◌≡◌, ◌↔◌, nat_le, refl, ℕ, ◌<◌, ◌≤◌, ◌+◌, ◌-◌, zero, suc, Bool, true, false, List, [], ◌∷◌, ◌++◌, length, take, drop, get_or, subst, ap, None, Some, arith, inl, inr, sym, ◌∙◌}
-use Rattle.std.specs.List.{fold, position, position_or_len, slice_range}
+-- Passes that test or count a block of elements at a time.
+use Rattle.std.proofs.Common.{inl, inr, ◌≡◌, ◌↔◌, ◌||◌, ◌+◌, ◌-◌, ◌<◌, ◌≤◌, ◌∙◌, ℕ, zero, suc, Bool, true, false, not, All, IsTrue, List, [], ◌∷◌, Some, None, ap, get_or, sym, subst, refl, drop, length, take, arith, position}
+use Rattle.std.specs.List.{fold, list_any, position_or_len, slice_range}
+use Rattle.std.specs.Option.{is_some}
 use Rattle.std.specs.Str.{IsAscii}
-use Rattle.std.proofs.lemmas.Bool.{cases_Bool, cases_lt}
 use Rattle.std.proofs.Math.Seq.{take-add}
-use Rattle.std.proofs.lemmas.List.{take-append-drop}
-use Rattle.std.proofs.lemmas.List.Folds.{fold_stays}
-use Rattle.std.proofs.lemmas.List.Sums.{fails_before_first, fold-append, passes_at_first, position_or_len_is}
-use Rattle.std.proofs.lemmas.Simd.{get_or-chunk, length-chunk}
+use Rattle.std.proofs.lemmas.Bool.{cases_Bool, cases_lt, false≢true}
 use Rattle.std.proofs.lemmas.Grind.{common_steps}
-use Rattle.uefi_text_encodings.specs.Scans.{beyond_ascii_so_far}
+use Rattle.std.proofs.lemmas.List.Elements.{All-cons, All-nil}
+use Rattle.std.proofs.lemmas.List.Folds.{list_any-append, list_any_none}
+use Rattle.std.proofs.lemmas.List.Sums.{fails_before_first, passes_at_first, position_or_len_is}
+use Rattle.std.proofs.lemmas.Simd.{get_or-chunk, length-chunk}
+use Rattle.uefi_text_encodings.specs.Scans.{is_beyond_ascii}
 
--- a fold that keeps what it found, and begins with a test
-module _ (p : ℕ → Bool) (step : Bool → ℕ → Bool) (kept : (u : ℕ) → step true u ≡ true) (first : (u : ℕ) → step false u ≡ p u) where
-  -- where it found nothing, the first element does not pass, and it finds nothing in the others
-  pub found_cons : (u : ℕ) (us : List ℕ) → fold step false (u ∷ us) ≡ false → (p u ≡ false) × (fold step false us ≡ false)
-  found_cons u us e =
-      let stuck : fold step true us ≡ true = fold_stays step true kept us in
-      let one : step false u ≡ p u = first u in
-      elim (cases_Bool (step false u)) [
-        | inl found ↦ let f : fold step (step false u) us ≡ false = e in absurd (grind (arith, common_steps))
-        | inr other ↦ (sym one ∙ other, grind (arith, common_steps))
-      ]
+-- a fold that keeps what it found has found it before or among the elements
+fold_or : {X : Type 0} (p : X → Bool) (so_far : Bool) (xs : List X) → fold (λ found x. found || p x) so_far xs ≡ (so_far || list_any p xs)
+fold_or p true [] = refl
+fold_or p false [] = refl
+fold_or p true (x ∷ xs) = fold_or p true xs
+fold_or p false (x ∷ xs) = fold_or p (p x) xs
 
-  -- and nothing after any prefix
-  pub found_after : (us vs : List ℕ) → fold step false (us ++ vs) ≡ false → fold step false vs ≡ false
-  found_after [] vs e = e
-  found_after (u ∷ us) vs e = found_after us vs (found_cons u (us ++ vs) e).1
+pub any_folded : {X : Type 0} (p : X → Bool) (xs : List X) → fold (λ found x. found || p x) false xs ≡ list_any p xs
+any_folded p xs = fold_or p false xs
 
-  none_in_block : (us : List ℕ) → fold step false us ≡ false → (k : ℕ) → k < length us → p (get_or us k 0) ≡ false
-  none_in_block [] e k h = absurd (omega (arith, h))
-  none_in_block (u ∷ us) e zero h = (found_cons u us e).0
-  none_in_block (u ∷ us) e (suc k) h = none_in_block us (found_cons u us e).1 k (omega (arith, h))
+-- one more block without an element that passes
+pub clear_more : {X : Type 0} (p : X → Bool) (xs : List X) (end n : ℕ) → list_any p (take end xs) ≡ false
+    → list_any p (take n (drop end xs)) ≡ false → list_any p (take (end + n) xs) ≡ false
+clear_more p xs end n before clear =
+    ap (list_any p) (take-add end n xs) ∙ list_any-append p (take end xs) (take n (drop end xs)) ∙ (λ i. before i || clear i)
 
-  -- one block more in which it found nothing
-  pub none_in_blocks : (us : List ℕ) (from n : ℕ) → from + n ≤ length us
-      → ((k : ℕ) → k < from → p (get_or us k 0) ≡ false) → fold step false (take n (drop from us)) ≡ false → (k : ℕ)
-      → k < from + n → p (get_or us k 0) ≡ false
-  none_in_blocks us from n inside none clear k h =
-      elim (cases_lt k from) [
-        | inl low ↦ none k low
-        | inr high ↦
-            let i = k - from in
-            let short : i < n = omega (arith, h, high) in
-            let at : from + i ≡ k = omega (arith, high) in
-            let long : i < length (take n (drop from us)) = omega (arith, short, length-chunk from n us inside) in
-            let same : get_or us (from + i) 0 ≡ get_or us k 0 = ap (λ j. get_or us j 0) at in
-            let e : get_or (take n (drop from us)) i 0 ≡ get_or us k 0 = get_or-chunk from n us i 0 short ∙ same in
-            subst (λ u. p u ≡ false) e (none_in_block (take n (drop from us)) clear i long)
-      ]
+-- where none before a place passes, a search may begin at that place
+search_from : {X : Type 0} (p : X → Bool) (xs : List X) (start : ℕ) → start ≤ length xs → list_any p (take start xs) ≡ false
+    → position_or_len p xs ≡ start + position_or_len p (drop start xs)
+search_from p xs zero inside clear = grind (arith, common_steps)
+search_from p [] (suc n) inside clear = absurd (omega (arith, inside))
+search_from p (x ∷ xs) (suc n) inside clear = elim (cases_Bool (p x)) [
+  | inl passes ↦ absurd (false≢true (sym clear ∙ ap (λ b. b || list_any p (take n xs)) passes))
+  | inr fails ↦
+      let rest = search_from p xs n (omega (arith, inside)) (sym (ap (λ b. b || list_any p (take n xs)) fails) ∙ clear) in
+      grind (arith, common_steps)
+]
 
--- where the answer of a fold stays as it is, a block that has it answers for all
-pub decided_by_block : (step : Bool → ℕ → Bool) (start answer : Bool) → ((u : ℕ) → step answer u ≡ answer) → (us block rest : List ℕ)
-    → us ≡ block ++ rest → fold step start block ≡ answer → fold step start us ≡ answer
-decided_by_block step start answer kept us block rest parts decided =
-    ap (fold step start) parts ∙ fold-append step start block rest
-    ∙ ap (λ so_far. fold step so_far rest) decided ∙ fold_stays step answer kept rest
+pub position-from_none : {X : Type 0} (p : X → Bool) (xs : List X) (start : ℕ) → start ≤ length xs → list_any p (take start xs) ≡ false
+    → None ≡ position p (drop start xs) → None ≡ position p xs
+position-from_none p xs start inside clear none = let from = search_from p xs start inside clear in grind (arith, common_steps)
 
--- and one that changes nothing leaves it to the rest
-pub left_by_block : (step : Bool → ℕ → Bool) (start : Bool) (us block rest : List ℕ) → us ≡ block ++ rest
-    → fold step start block ≡ start → fold step start us ≡ fold step start rest
-left_by_block step start us block rest parts same =
-    ap (fold step start) parts ∙ fold-append step start block rest ∙ ap (λ so_far. fold step so_far rest) same
+pub position-from_some : {X : Type 0} (p : X → Bool) (xs : List X) (start place : ℕ) → start ≤ length xs → list_any p (take start xs) ≡ false
+    → Some place ≡ position p (drop start xs) → Some (start + place) ≡ position p xs
+position-from_some p xs start place inside clear some = let from = search_from p xs start inside clear in grind (arith, common_steps)
 
--- where a fold found nothing so far, it finds in a part more what it finds in that alone
-pub found_so_far : (step : Bool → ℕ → Bool) (us : List ℕ) (at n : ℕ) → fold step false (take at us) ≡ false
-    → fold step false (take (at + n) us) ≡ fold step false (take n (drop at us))
-found_so_far step us at n none =
-    left_by_block step false (take (at + n) us) (take at us) (take n (drop at us)) (take-add at n us) none
+-- a search finds a place exactly where an element passes
+pub is_some-position : {X : Type 0} (p : X → Bool) (xs : List X) → is_some (position p xs) ≡ list_any p xs
+is_some-position p [] = refl
+is_some-position p (x ∷ xs) = elim (cases_Bool (p x)) [
+  | inl passes ↦ rw passes (grind (arith, common_steps))
+  | inr fails ↦ let rest = is_some-position p xs in rw fails (grind (arith, common_steps))
+]
 
--- and in all of a list what it finds after that
-pub found_in_rest : (step : Bool → ℕ → Bool) (us : List ℕ) (at : ℕ) → fold step false (take at us) ≡ false
-    → fold step false us ≡ fold step false (drop at us)
-found_in_rest step us at none = left_by_block step false us (take at us) (drop at us) (sym (take-append-drop at us)) none
+-- a search finds nothing exactly where no element passes
+pub none_passes : {X : Type 0} (p : X → Bool) (xs : List X) → list_any p xs ≡ false → All (λ x. p x ≡ false) xs
+none_passes p [] clear = All-nil (λ x. p x ≡ false)
+none_passes p (x ∷ xs) clear = elim (cases_Bool (p x)) [
+  | inl passes ↦ absurd (false≢true (sym clear ∙ ap (λ b. b || list_any p xs) passes))
+  | inr fails ↦ All-cons (λ x. p x ≡ false) x xs fails (none_passes p xs (sym (ap (λ b. b || list_any p xs) fails) ∙ clear))
+]
 
--- what is found in a prefix is found
-pub found_in_front : (step : Bool → ℕ → Bool) → ((u : ℕ) → step true u ≡ true) → (us : List ℕ) (n : ℕ)
-    → fold step false (take n us) ≡ true → fold step false us ≡ true
-found_in_front step kept us n found =
-    decided_by_block step false true kept us (take n us) (drop n us) (sym (take-append-drop n us)) found
+-- where what fails is what a property says, none passes exactly where all have the property
+pub none_passes-is : (p : ℕ → Bool) (P : ℕ → Type 0) → ((x : ℕ) → (p x ≡ false) ↔ P x) → (xs : List ℕ)
+    → (list_any p xs ≡ false) ↔ All P xs
+none_passes-is p P same xs = (
+  λ clear. λ k d inside. (same (get_or xs k d)).0 (none_passes p xs clear k d inside),
+  λ all. list_any_none p xs (λ k d inside. (same (get_or xs k d)).1 (all k d inside)),
+)
+
+-- a test that found nothing
+pub not_found : {P : Type 0} (found any : Bool) → found ≡ any → (any ≡ false) ↔ P → IsTrue (not found) ↔ P
+not_found true any is same = (λ yes. absurd (false≢true yes), λ p. absurd (false≢true (sym (same.1 p) ∙ sym is)))
+not_found false any is same = (λ _. same.0 (sym is), λ _. refl)
+
+-- a unit is ASCII exactly where it is not beyond it
+pub ascii_units : (us : List ℕ) → (list_any is_beyond_ascii us ≡ false) ↔ IsAscii us
+ascii_units us =
+    let both = none_passes-is is_beyond_ascii (λ u. u < 128) (λ u. (λ within. grind (arith, common_steps), λ below. grind (arith, common_steps))) us in (
+      λ clear. λ i. elim (cases_lt i (length us)) [
+        | inl inside ↦ both.0 clear i 0 inside
+        | inr past ↦ grind (arith, common_steps)
+      ],
+      λ ascii. both.1 (λ k d inside. grind (arith, common_steps, ascii k)),
+    )
 
 -- where an element passes and none before it does, a search ends there
 pub position-at : (p : ℕ → Bool) (us : List ℕ) (i : ℕ) → i < length us → ((k : ℕ) → k < i → p (get_or us k 0) ≡ false)
@@ -92,26 +100,6 @@ pub position-nowhere : (p : ℕ → Bool) (us : List ℕ) → ((k : ℕ) → k <
 position-nowhere p us none =
     let e : position_or_len p us ≡ length us = position_or_len_is p us (length us) 0 (omega arith) none (λ h. absurd (omega (arith, h))) in
     grind (arith, common_steps)
-
--- where no element before a place passes, a search may begin at that place
-search_from : (p : ℕ → Bool) (us : List ℕ) (from : ℕ) → from ≤ length us
-    → ((k : ℕ) → k < from → p (get_or us k 0) ≡ false)
-    → position_or_len p us ≡ from + position_or_len p (drop from us)
-search_from p us zero little_endian none = grind (arith, common_steps)
-search_from p [] (suc n) little_endian none = absurd (omega (arith, little_endian))
-search_from p (u ∷ us) (suc n) little_endian none =
-    let first : p u ≡ false = none 0 (omega arith) in
-    let rest = search_from p us n (omega (arith, little_endian)) (λ k h. none (suc k) (omega (arith, h))) in
-    grind (arith, common_steps)
-
-pub position-from_none : (p : ℕ → Bool) (us : List ℕ) (from : ℕ) → from ≤ length us
-    → ((k : ℕ) → k < from → p (get_or us k 0) ≡ false) → None ≡ position p (drop from us) → None ≡ position p us
-position-from_none p us from little_endian none e = let s = search_from p us from little_endian none in grind (arith, common_steps)
-
-pub position-from_some : (p : ℕ → Bool) (us : List ℕ) (from place : ℕ) → from ≤ length us
-    → ((k : ℕ) → k < from → p (get_or us k 0) ≡ false) → Some place ≡ position p (drop from us)
-    → Some (from + place) ≡ position p us
-position-from_some p us from place little_endian none e = let s = search_from p us from little_endian none in grind (arith, common_steps)
 
 -- what holds of the elements before a block, and of those in it, holds up to its end
 pub each_in_blocks : (P : ℕ → Type 0) (us : List ℕ) (start end : ℕ) → start ≤ end → end ≤ length us
@@ -162,20 +150,3 @@ position-in_block p us start end place ordered inside none found =
     ] in
     (omega (arith, first), position-at p us (start + place) (omega (arith, first)) before (sym (ap p (same place (omega (arith, first)))) ∙ passes))
 
-ascii_units-none : (us : List ℕ) → fold beyond_ascii_so_far false us ≡ false → IsAscii us
-ascii_units-none [] e i = omega arith
-ascii_units-none (u ∷ us) e zero =
-    let first = (found_cons (λ v. nat_le 0x80 v) beyond_ascii_so_far (λ _. refl) (λ _. refl) u us e).0 in
-    grind (arith, common_steps)
-ascii_units-none (u ∷ us) e (suc i) = ascii_units-none us (found_cons (λ v. nat_le 0x80 v) beyond_ascii_so_far (λ _. refl) (λ _. refl) u us e).1 i
-
-none-ascii_units : (us : List ℕ) → IsAscii us → fold beyond_ascii_so_far false us ≡ false
-none-ascii_units [] ascii = refl
-none-ascii_units (u ∷ us) ascii =
-    let first : u < 0x80 = ascii 0 in
-    let rest = none-ascii_units us (λ i. ascii (suc i)) in
-    grind (arith, common_steps)
-
--- units are ASCII exactly where none is found beyond it
-pub ascii_units : (us : List ℕ) → (fold beyond_ascii_so_far false us ≡ false) ↔ IsAscii us
-ascii_units us = (ascii_units-none us, none-ascii_units us)

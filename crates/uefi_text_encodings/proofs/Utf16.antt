@@ -115,14 +115,6 @@ utf16-undecided (c ∷ cs) none =
     let others = utf16-undecided cs rest in
     grind (arith, common_steps)
 
--- where nothing is found among all elements, nothing is among the first
-pub find-none_front : (p : ℕ → Bool) (xs ys : List ℕ) → find p (xs ++ ys) ≡ None → find p xs ≡ None
-find-none_front p [] ys none = refl
-find-none_front p (x ∷ xs) ys none =
-    let rest : find p (xs ++ ys) ≡ None = grind (arith, common_steps) in
-    let others = find-none_front p xs ys rest in
-    grind (arith, common_steps)
-
 -- where no place is found, no element is
 find-nowhere : (p : ℕ → Bool) (xs : List ℕ) → position p xs ≡ None → find p xs ≡ None
 find-nowhere p xs none =
@@ -193,19 +185,18 @@ undecided old cs none place =
     let nowhere : position is_deciding_char cs ≡ None = position-none is_deciding_char cs none in
     (rw (written, nul) refl, rw (units, lt-ltb (length cs) (length old) place, nowhere) refl)
 
--- where they leave none, the buffer is too small for them and what follows
-pub undecided_full : (old buffer front rest : List ℕ) (place : ℕ) → find is_deciding_char (front ++ rest) ≡ None
-    → place ≡ length front → place ≤ length old → length buffer ≡ place → buffer ≡ front ++ drop place old
-    → (buffer ≡ with_text (front ++ rest) old) × (Some BufferTooSmall ≡ from_str_with_buf_refusal (front ++ rest) (length old))
-undecided_full old buffer front rest place none count room full so_far =
-    let same = utf16-undecided front (find-none_front is_deciding_char front rest none) in
-    let left : length (drop place old) ≡ 0 = omega (arith, full, count, ap length so_far ∙ length-append front (drop place old)) in
-    let filled : length old ≤ length (utf16 front) = omega (arith, count, left, length-drop place old, ap length same) in
-    let end = non_empty old front rest filled in
-    let prefix = with_units-prefix old front (omega (arith, count, room)) in
-    let written : buffer ≡ with_units (utf16 front) old =
-    so_far ∙ ap (λ n. front ++ drop n old) count ∙ sym prefix ∙ ap (λ us. with_units us old) (sym same) in
-    (written ∙ end.0, end.1)
+-- characters of which none is refused, written before what stays, are what was read so far
+pub front_written : (old buffer cs : List ℕ) (len : ℕ) → find is_deciding_char cs ≡ None → len ≡ length cs → len < length buffer
+    → buffer ≡ cs ++ drop len old
+    → (len ≡ length (utf16 cs)) × (buffer ≡ with_units (utf16 cs) old) × (None ≡ from_str_with_buf_refusal_at cs (position is_deciding_char cs))
+front_written old buffer cs len none count place so_far =
+    let units = utf16-undecided cs none in
+    let room : length cs ≤ length old = omega (arith, count, place, ap length so_far ∙ length-append cs (drop len old), length-drop len old) in
+    let nowhere : position is_deciding_char cs ≡ None = position-none is_deciding_char cs none in (
+      count ∙ ap length (sym units),
+      so_far ∙ ap (λ n. cs ++ drop n old) count ∙ sym (with_units-prefix old cs room) ∙ ap (λ us. with_units us old) (sym units),
+      rw nowhere refl,
+    )
 
 -- where a buffer was large enough too, its prefix is the characters and a NUL
 pub accepted : (old cs : List ℕ) → from_str_with_buf_refusal cs (length old) ≡ None

@@ -30,27 +30,3 @@ place_next front old n a count inside = grind (arith, elements)
 pub place_left : (front old buffer : List ℕ) (n : ℕ) → n ≡ length front → n < length buffer → buffer ≡ front ++ drop n old → n < length old
 place_left front old buffer n count left so_far =
     omega (arith, count, left, length-drop n old, ap length so_far ∙ length-append front (drop n old))
-
--- what is written of lanes that are stored at a place, where the first of them are meant
-pub place_part : (xs before lanes : List ℕ) (place n len : ℕ) → length before ≡ place → place + n ≤ length xs → len ≡ length (take len lanes)
-    → take (place + n) xs ≡ before ++ lanes → take (place + len) xs ≡ before ++ take len lanes
-place_part xs before lanes place n len at room part stored =
-    let count : place + n ≡ length before + length lanes =
-    sym (length-take-le (place + n) xs room) ∙ ap length stored ∙ length-append before lanes in
-    let short : len ≤ length lanes = omega (arith, part, length-take len lanes) in
-    sym (take-take (place + len) (place + n) xs (omega (arith, short, at, count))) ∙ ap (take (place + len)) stored
-    ∙ ap (λ k. take (k + len) (before ++ lanes)) (sym at) ∙ take-append-add before lanes len
-
--- of eight lanes that are written from a place on, the first ones
-pub lanes_written : (old lanes new : List ℕ) (place n : ℕ) → place + 8 ≤ length old → length lanes ≡ 8 → n ≤ 8
-    → new ≡ take place old ++ (lanes ++ drop (place + 8) old)
-    → (take (place + n) new ≡ take place old ++ take n lanes) × (length new ≡ length old)
-lanes_written old lanes new place n room long few is =
-    let rest = drop (place + 8) old in
-    let front : length (take place old) ≡ place = length-take-le place old (omega (arith, room)) in
-    let joined : new ≡ (take place old ++ lanes) ++ rest = is ∙ sym (append_assoc (take place old) lanes rest) in
-    let both : length (take place old ++ lanes) ≡ place + 8 = length-append (take place old) lanes ∙ omega (arith, front, long) in
-    let part : take (place + 8) new ≡ take place old ++ lanes = ap (take (place + 8)) joined ∙ take_at (take place old ++ lanes) rest (place + 8) both in
-    let left : length rest ≡ length old - (place + 8) = length-drop (place + 8) old in
-    let as_long : length new ≡ length old = ap length joined ∙ length-append (take place old ++ lanes) rest ∙ omega (arith, both, left, room) in
-    (place_part new (take place old) lanes place 8 n front (omega (arith, as_long, room)) (sym (length-take-le n lanes (omega (arith, long, few)))) part, as_long)

@@ -1,27 +1,26 @@
--- Steps of the passes that look at many elements at once. Only private clauses cite them.
-use Rattle.std.specs.Prelude.{ℕ, Bool, ◌&&◌, ◌||◌, ◌==◌, nat_le, nat_lt}
+-- Classes of bytes and units that passes look for. Only private clauses cite them.
+use Rattle.std.specs.Prelude.{ℕ, Bool, ◌<◌, ◌||◌, ◌==◌, nat_le}
 
--- whether all bytes so far, and this one, are ASCII and not NUL
-abbrev pub ascii_text_so_far : Bool → ℕ → Bool
-ascii_text_so_far so_far byte = (so_far && nat_lt 0 byte) && nat_lt byte 128
+-- a byte of ASCII that is not NUL
+abbrev pub IsAsciiTextByte : ℕ → Type 0
+IsAsciiTextByte byte = (0 < byte) × (byte < 128)
 
--- whether a unit so far, or this one, is one that no text holds
-abbrev pub decided_so_far : Bool → ℕ → Bool
-decided_so_far so_far unit = (so_far || (unit == 0)) || (nat_le 0xd800 unit && nat_le unit 0xdfff)
+-- the test for any other byte
+abbrev pub is_no_ascii_text : ℕ → Bool
+is_no_ascii_text byte = (byte == 0) || nat_le 128 byte
 
--- whether a byte so far, or this one, begins a character that no UCS-2 text holds: NUL, or one of
--- four bytes
-abbrev pub deciding_byte_so_far : Bool → ℕ → Bool
-deciding_byte_so_far so_far byte = (so_far || (byte == 0)) || nat_le 0xf0 byte
+-- the test for a byte that begins a character which no UCS-2 text holds: NUL, or one of four bytes
+abbrev pub is_deciding_byte : ℕ → Bool
+is_deciding_byte byte = (byte == 0) || nat_le 0xf0 byte
 
--- whether a byte so far, or this one, begins a character above U+00FF: one of 0xc4 or more
-abbrev pub byte_beyond_latin1_so_far : Bool → ℕ → Bool
-byte_beyond_latin1_so_far so_far byte = so_far || nat_le 0xc4 byte
+-- the test for a byte that begins a character above U+00FF
+abbrev pub is_beyond_latin1_byte : ℕ → Bool
+is_beyond_latin1_byte byte = nat_le 0xc4 byte
 
--- whether a byte so far, or this one, is zero
-abbrev pub zero_so_far : Bool → ℕ → Bool
-zero_so_far so_far byte = so_far || (byte == 0)
+-- the test for a unit beyond ASCII
+abbrev pub is_beyond_ascii : ℕ → Bool
+is_beyond_ascii unit = nat_le 0x80 unit
 
--- whether a unit so far, or this one, is beyond ASCII
-abbrev pub beyond_ascii_so_far : Bool → ℕ → Bool
-beyond_ascii_so_far so_far unit = so_far || nat_le 0x80 unit
+-- the test for a unit that has three bytes of UTF-8
+abbrev pub is_of_three_bytes : ℕ → Bool
+is_of_three_bytes unit = nat_le 0x800 unit

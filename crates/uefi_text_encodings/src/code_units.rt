@@ -1,5 +1,5 @@
 //! Code units of Rust texts: in a vector, where the text is one of UCS-2, or in a buffer; and compared
-//! with others.
+//! with others. Characters are decoded one by one, or eight at a time where each has three bytes.
 ghost use Rattle.std.specs.Prelude.{All, IsTrue, ◌≢◌, ◌∷◌, ◌≡◌, ◌+◌, ◌<◌, ◌≤◌, ◌++◌, if◌then◌else◌, None, Some, drop, find, length, take, unwrap_or, IfOk, IfErr, IfSome};
 ghost use Rattle.std.specs.Option.{SomeIff};
 ghost use Rattle.std.specs.Vec.{vec_len, vec_capacity};
@@ -7,30 +7,16 @@ ghost use Rattle.std.specs.Char.Escape.{encode_utf16};
 ghost use Rattle.std.specs.Result.{result_err};
 ghost use Rattle.std.specs.Str.{chars, IsUtf8};
 ghost use Rattle.uefi_text_encodings.specs.Units.{IsText, nul_terminated};
-ghost use Rattle.uefi_text_encodings.specs.FromStr.{is_deciding_char, from_str_refusal};
+ghost use Rattle.uefi_text_encodings.specs.FromStr.{IsAcceptedChar, is_deciding_char, from_str_refusal};
 ghost use Rattle.uefi_text_encodings.specs.FromStrWithBuf.{from_str_with_buf_refusal, refusal_of_char_at, with_text, with_units};
 
 use crate::errors::{FromStrError, FromStrWithBufError};
-use crate::scans::{
-    copy_units, count_undecided_chars, has_deciding_byte, is_ascii_text, look_at_few, widen,
-};
-use crate::short_chars::{BLOCK, read_block, write_lanes};
+use crate::scans::{count_undecided_chars, is_ascii_text, widen};
 use std::alloc::{AllocError, Allocator};
 use std::simd::prelude::*;
 
-/// The first character that no UCS-2 text holds. Characters are decoded only where a byte gives
-/// cause to.
+/// The first character that no UCS-2 text holds.
 fn find_deciding_char(text: &str) -> Option<char>
-    ensures { result ≡ find is_deciding_char (chars text.now) }
-{
-    if !has_deciding_byte(text.as_bytes()) {
-        return None;
-    }
-    find_deciding_char_by_char(text)
-}
-
-/// The same, character by character.
-fn find_deciding_char_by_char(text: &str) -> Option<char>
     ensures { result ≡ find is_deciding_char (chars text.now) }
 {
     text.chars().find(|c| *c == '\0' || *c > '\u{ffff}')
@@ -81,19 +67,20 @@ fn units_of_chars<A: Allocator>(alloc: A, text: &str, len: usize) -> Result<Vec<
 {
     let mut units = Vec::new(alloc);
     units.resize(len + 1, 0)?;
-    write_undecided(text, &mut units);
+    let _len = write_chars(text, &mut units);
     Ok(units)
 }
 
-/// The first eight characters of a text, where each has three bytes: none of them is NUL.
+/// The first eight characters of a text, where each has three bytes.
 #[inline(always)]
 fn first_eight(text: &str) -> Option<[u16; 8]>
     ensures { IfSome result (λ units. (length units ≡ 8) × (24 ≤ length text.now)
         × (chars text.now ≡ units ++ chars (drop 24 text.now)) × IsUtf8 (drop 24 text.now)
-        × All (λ unit. unit ≢ 0) units) }
+        × All IsAcceptedChar units) }
 {
     let bytes = text.as_bytes();
-    if bytes.len() < 24 {
+    // Most other texts show with their first byte that they do not begin so.
+    if bytes.len() < 24 || bytes[0] < 0xe0 {
         return None;
     }
     let front = u8x16::from_slice(bytes);
@@ -113,48 +100,6 @@ fn first_eight(text: &str) -> Option<[u16; 8]>
     Some(units.to_array())
 }
 
-/// How wide the characters of a text are likely to be, by those at its front.
-#[derive(Clone, Copy)]
-enum Width {
-    /// One or two bytes each.
-    Short,
-    /// Most of them three bytes.
-    Wide,
-    /// Some three bytes, or too few to tell.
-    Mixed,
-}
-
-/// How many of the first `N` bytes begin characters of three bytes.
-#[inline(always)]
-fn count_long<const N: usize>(bytes: &[u8]) -> u32
-    requires within { N ≤ length bytes.now }
-    requires word { N ≤ 64 }
-{
-    let long = Simd::<u8, N>::from_slice(bytes).simd_ge(Simd::<u8, N>::splat(0xe0));
-    long.to_bitmask().count_ones()
-}
-
-/// How wide the characters of a text are likely to be. Where all of them are of three bytes, five or
-/// six begin in sixteen bytes.
-#[inline(always)]
-fn likely_width(bytes: &[u8]) -> Width {
-    if 64 <= bytes.len() {
-        match count_long::<64>(bytes) {
-            0 => Width::Short,
-            18.. => Width::Wide,
-            _ => Width::Mixed,
-        }
-    } else if 16 <= bytes.len() {
-        match count_long::<16>(bytes) {
-            0 => Width::Short,
-            5.. => Width::Wide,
-            _ => Width::Mixed,
-        }
-    } else {
-        Width::Mixed
-    }
-}
-
 /// What follows the first eight characters of a text, where each has three bytes.
 #[inline(always)]
 fn after_eight(text: &str) -> &str
@@ -166,45 +111,38 @@ fn after_eight(text: &str) -> &str
     unsafe { str::from_utf8_unchecked(&text.as_bytes()[24..]) }
 }
 
-/// The first character of a text of UCS-2, and what follows it.
+/// The first character of a text, and what follows it, where a UCS-2 text holds that character.
 #[inline(always)]
 fn first_unit(text: &str) -> Option<(u16, &str)>
-    requires { find is_deciding_char (chars text.now) ≡ None }
     ensures { IfSome result (λ first.
-        (chars text.now ≡ first.0 ∷ chars first.1.now) × IsUtf8 first.1.now) }
+        (chars text.now ≡ first.0 ∷ chars first.1.now) × IsUtf8 first.1.now × IsAcceptedChar first.0) }
 {
     let mut characters = text.chars();
-    let character = characters.next()?;
+    let character = u32::from(characters.next()?);
+    if character == 0 || 0xffff < character {
+        return None;
+    }
     Some((character as u16, characters.as_str()))
 }
 
-/// Writes characters of a text of UCS-2 into the prefix of units, up to near the end of the text or of
-/// the units. Returns how many were written, and what follows them. Writes none where some look as if
-/// they had three bytes, and others fewer: then it is quicker to decode all of them one by one.
+/// Writes eight units from a place on.
 #[inline(always)]
-fn write_front<'a>(text: &'a str, units: &mut [u16]) -> (usize, &'a str)
-    requires undecided { find is_deciding_char (chars text.now) ≡ None }
-    requires some { 0 < length units.old }
-    ensures place { result.0 < length units.new }
-    ensures count { result.0 ≤ length (chars text.now) }
-    ensures rest { take result.0 (chars text.now) ++ chars result.1.now ≡ chars text.now }
-    ensures units { units.new ≡ take result.0 (chars text.now) ++ drop result.0 units.old }
+fn write_lanes(units: &mut [u16], place: usize, lanes: u16x8)
+    requires { place + 8 ≤ length units.old }
+    ensures { units.new ≡ take place units.old ++ (lanes ++ drop (place + 8) units.old) }
 {
-    match likely_width(text.as_bytes()) {
-        Width::Wide => write_wide(text, units),
-        Width::Short => write_short(text, units),
-        Width::Mixed => (0, text),
-    }
+    lanes.copy_to_slice(&mut units[place..]);
 }
 
-/// The same, eight characters at a time where each has three bytes.
+/// Writes characters of a text into the prefix of units, up to one that no UCS-2 text holds, or to near the
+/// end of the units. Returns how many were written, and what follows them.
 #[inline(never)]
-fn write_wide<'a>(text: &'a str, units: &mut [u16]) -> (usize, &'a str)
-    requires undecided { find is_deciding_char (chars text.now) ≡ None }
+fn write_front<'a>(text: &'a str, units: &mut [u16]) -> (usize, &'a str)
     requires some { 0 < length units.old }
     ensures place { result.0 < length units.new }
     ensures count { result.0 ≤ length (chars text.now) }
     ensures rest { take result.0 (chars text.now) ++ chars result.1.now ≡ chars text.now }
+    ensures accepted { All IsAcceptedChar (take result.0 (chars text.now)) }
     ensures units { units.new ≡ take result.0 (chars text.now) ++ drop result.0 units.old }
 {
     let mut rest = text;
@@ -225,129 +163,26 @@ fn write_wide<'a>(text: &'a str, units: &mut [u16]) -> (usize, &'a str)
     (len, rest)
 }
 
-/// The same, a block of characters of one or two bytes at a time.
-#[inline(never)]
-fn write_short<'a>(text: &'a str, units: &mut [u16]) -> (usize, &'a str)
-    requires undecided { find is_deciding_char (chars text.now) ≡ None }
-    requires some { 0 < length units.old }
-    ensures place { result.0 < length units.new }
-    ensures count { result.0 ≤ length (chars text.now) }
-    ensures rest { take result.0 (chars text.now) ++ chars result.1.now ≡ chars text.now }
-    ensures units { units.new ≡ take result.0 (chars text.now) ++ drop result.0 units.old }
-{
-    let mut block = [0; BLOCK];
-    let mut rest = text;
-    let mut len = 0;
-    while 1 < units.len() - len {
-        let (count, others) = read_block(rest, &mut block);
-        if count == 0 {
-            let Some((unit, others)) = first_unit(rest) else {
-                break;
-            };
-            units[len] = unit;
-            rest = others;
-            len += 1;
-        } else if count < units.len() - len {
-            copy_units(&mut units[len..len + count], &block[..count]);
-            rest = others;
-            len += count;
-        } else {
-            break;
-        }
-    }
-    (len, rest)
-}
-
-/// Writes a text of UCS-2 and a NUL into units that are as many. Its loop is quicker in a function of
-/// its own.
-#[inline(never)]
-fn write_undecided(text: &str, units: &mut [u16])
-    requires undecided { find is_deciding_char (chars text.now) ≡ None }
-    requires room { length (chars text.now) + 1 ≡ length units.old }
-    ensures { units.new ≡ nul_terminated (chars text.now) }
-{
-    let (start, rest) = write_front(text, units);
-    let mut len = start;
-    for character in rest.chars() {
-        units[len] = character as u16;
-        len += 1;
-    }
-    units[len] = 0;
-}
-
-/// A text of fewer bytes gets room for as many units as it has bytes, which costs less than to count its
-/// characters, unless they are written eight at a time.
-const FEW: usize = 32;
-
-/// Whether the characters of a text are pushed one by one, and not counted first.
-#[inline(always)]
-fn is_few(bytes: &[u8]) -> bool {
-    bytes.len() < FEW && !matches!(likely_width(bytes), Width::Wide)
-}
-
-/// The units of a text of UCS-2 of few bytes, and a NUL.
-fn units_of_few_chars<A: Allocator>(alloc: A, text: &str) -> Result<Vec<u16, A>, AllocError>
-    requires { find is_deciding_char (chars text.now) ≡ None }
-    ensures { IfOk result (λ units. units.items ≡ nul_terminated (chars text.now)) }
-{
-    let mut units = Vec::with_capacity(alloc, text.len() + 1)?;
-    for character in text.chars() {
-        units.push_reserved(character as u16);
-    }
-    units.push_reserved(0);
-    Ok(units)
-}
-
 /// Why a text that is not one of UCS-2 is refused.
 fn refusal_of_text(text: &str) -> FromStrError
     requires { ¬ (find is_deciding_char (chars text.now) ≡ None) }
     ensures { Some result ≡ from_str_refusal (chars text.now) }
 {
-    match find_deciding_char_by_char(text) {
+    match find_deciding_char(text) {
         Some('\0') => FromStrError::InteriorNul,
         _ => FromStrError::InvalidChar,
     }
 }
 
-/// A text of fewer bytes is looked at once.
-const FEWEST: usize = 16;
-
-/// The units of a text of few bytes and a NUL, as [`units_of_text`] gives them.
-fn units_of_short_text<A: Allocator>(alloc: A, text: &str) -> Result<Vec<u16, A>, FromStrError>
-    ensures ok { IfOk result (λ units. units.items ≡ nul_terminated (chars text.now)) }
-    ensures accepted { IfOk result (λ _. find is_deciding_char (chars text.now) ≡ None) }
-    ensures refusal { IfErr result (λ error.
-        error ≡ unwrap_or (from_str_refusal (chars text.now)) FromStrError.OutOfMemory) }
-{
-    let (is_ascii, decides) = look_at_few(text.as_bytes());
-    if is_ascii {
-        return units_of_ascii(alloc, text.as_bytes()).map_err(|_| FromStrError::OutOfMemory);
-    }
-    if decides {
-        return Err(refusal_of_text(text));
-    }
-    units_of_few_chars(alloc, text).map_err(|_| FromStrError::OutOfMemory)
-}
-
-/// The units of a text of UCS-2 and a NUL, in one allocation. It has just their room, unless the text is
-/// short.
+/// The units of a text of UCS-2 and a NUL, in one allocation, which has just their room.
 pub fn units_of_text<A: Allocator>(alloc: A, text: &str) -> Result<Vec<u16, A>, FromStrError>
     ensures ok { IfOk result (λ units. units.items ≡ nul_terminated (chars text.now)) }
     ensures accepted { IfOk result (λ _. find is_deciding_char (chars text.now) ≡ None) }
     ensures refusal { IfErr result (λ error.
         error ≡ unwrap_or (from_str_refusal (chars text.now)) FromStrError.OutOfMemory) }
 {
-    if text.len() < FEWEST {
-        return units_of_short_text(alloc, text);
-    }
     if is_ascii_text(text.as_bytes()) {
         return units_of_ascii(alloc, text.as_bytes()).map_err(|_| FromStrError::OutOfMemory);
-    }
-    if is_few(text.as_bytes()) {
-        if find_deciding_char(text).is_some() {
-            return Err(refusal_of_text(text));
-        }
-        return units_of_few_chars(alloc, text).map_err(|_| FromStrError::OutOfMemory);
     }
     let Some(len) = undecided_len(text) else {
         return Err(refusal_of_text(text));
@@ -356,28 +191,21 @@ pub fn units_of_text<A: Allocator>(alloc: A, text: &str) -> Result<Vec<u16, A>, 
 }
 
 /// Writes a Rust text and a NUL into the prefix of a buffer, and returns how many units they are:
-/// `CStr16::write_str` says the rest. The bytes are tested first, so that the characters are written
-/// with no test, unless the buffer is so small that most of them are not looked at: a character takes
-/// at most four bytes. Takes no memory.
+/// `CStr16::write_str` says the rest. Takes no memory.
 pub fn write_text(input: &str, buffer: &mut [u16]) -> Result<usize, FromStrWithBufError>
     ensures ok { IfOk result (λ len. len ≡ length (chars input.now) + 1) }
     ensures refusal { result_err result
         ≡ from_str_with_buf_refusal (chars input.now) (length buffer.old) }
     ensures buffer { buffer.new ≡ with_text (chars input.now) buffer.old }
 {
-    if buffer.len() <= input.len() / 4 {
-        return write_chars(input, buffer);
-    }
     if input.len() < buffer.len() && is_ascii_text(input.as_bytes()) {
         return Ok(write_ascii(input.as_bytes(), buffer));
-    }
-    if find_deciding_char(input).is_none() {
-        return write_accepted(input, buffer);
     }
     write_chars(input, buffer)
 }
 
-/// The same of a text of ASCII without NUL, for which the buffer has room: its bytes are its units.
+/// Does what [`write_text`] does, for a text of ASCII without NUL for which the buffer has room: its bytes
+/// are its units.
 fn write_ascii(bytes: &[u8], buffer: &mut [u16]) -> usize
     requires { length bytes.now < length buffer.old }
     ensures len { result ≡ length bytes.now + 1 }
@@ -389,31 +217,8 @@ fn write_ascii(bytes: &[u8], buffer: &mut [u16]) -> usize
     end + 1
 }
 
-/// The same of a text of which no character is refused.
-fn write_accepted(input: &str, buffer: &mut [u16]) -> Result<usize, FromStrWithBufError>
-    requires { find is_deciding_char (chars input.now) ≡ None }
-    ensures ok { IfOk result (λ len. len ≡ length (chars input.now) + 1) }
-    ensures refusal { result_err result
-        ≡ from_str_with_buf_refusal (chars input.now) (length buffer.old) }
-    ensures buffer { buffer.new ≡ with_text (chars input.now) buffer.old }
-{
-    if buffer.is_empty() {
-        return Err(FromStrWithBufError::BufferTooSmall);
-    }
-    let (start, rest) = write_front(input, buffer);
-    let mut place = start;
-    for character in rest.chars() {
-        buffer[place] = character as u16;
-        place += 1;
-        if buffer.len() == place {
-            return Err(FromStrWithBufError::BufferTooSmall);
-        }
-    }
-    buffer[place] = 0;
-    Ok(place + 1)
-}
-
-/// The same, character by character.
+/// Does what [`write_text`] does, for any text: the prefix of it that is one of UCS-2 at once, and then
+/// character by character.
 fn write_chars(input: &str, buffer: &mut [u16]) -> Result<usize, FromStrWithBufError>
     ensures ok { IfOk result (λ len. len ≡ length (chars input.now) + 1) }
     ensures refusal { result_err result
@@ -423,9 +228,10 @@ fn write_chars(input: &str, buffer: &mut [u16]) -> Result<usize, FromStrWithBufE
     if buffer.is_empty() {
         return Err(FromStrWithBufError::BufferTooSmall);
     }
-    let mut len = 0;
+    let (start, rest) = write_front(input, buffer);
+    let mut len = start;
     let mut refusal = None;
-    for character in input.chars() {
+    for character in rest.chars() {
         // Every character before the first that is refused is one unit.
         refusal = refusal.or(refusal_of_char(character, len));
         len += write_char(character, buffer, len);
@@ -483,38 +289,10 @@ fn are_same(units: &[u16], others: &[u16; 8]) -> bool
     same
 }
 
-/// What follows the first character of a text, where that is this unit and no NUL.
-#[inline(always)]
-fn after_same(unit: u16, text: &str) -> Option<&str>
-    ensures { IfSome result (λ rest.
-        (chars text.now ≡ unit ∷ chars rest.now) × IsUtf8 rest.now × (unit ≢ 0)) }
-{
-    let mut characters = text.chars();
-    let character = characters.next()?;
-    if unit == 0 || u32::from(character) != u32::from(unit) {
-        return None;
-    }
-    Some(characters.as_str())
-}
-
 /// A prefix that units and a text have in common, without NUL: how long it is, and what follows it in
-/// the text. It need not be the longest, and is empty where most characters look narrower than three
-/// bytes: then it is quicker to compare all of them one by one.
-pub fn same_front<'a>(units: &[u16], text: &'a str) -> (usize, &'a str)
-    ensures within { result.0 ≤ length units.now }
-    ensures same { chars text.now ≡ take result.0 units.now ++ chars result.1.now }
-    ensures no_nul { All (λ unit. unit ≢ 0) (take result.0 units.now) }
-{
-    match likely_width(text.as_bytes()) {
-        Width::Wide => same_wide(units, text),
-        Width::Short => same_short(units, text),
-        Width::Mixed => (0, text),
-    }
-}
-
-/// The same, eight characters at a time where each has three bytes.
+/// the text. It need not be the longest.
 #[inline(never)]
-fn same_wide<'a>(units: &[u16], text: &'a str) -> (usize, &'a str)
+pub fn same_front<'a>(units: &[u16], text: &'a str) -> (usize, &'a str)
     ensures within { result.0 ≤ length units.now }
     ensures same { chars text.now ≡ take result.0 units.now ++ chars result.1.now }
     ensures no_nul { All (λ unit. unit ≢ 0) (take result.0 units.now) }
@@ -528,37 +306,12 @@ fn same_wide<'a>(units: &[u16], text: &'a str) -> (usize, &'a str)
             }
             rest = after_eight(rest);
             end += 8;
-        } else if let Some(others) = after_same(units[end], rest) {
-            rest = others;
-            end += 1;
-        } else {
-            break;
-        }
-    }
-    (end, rest)
-}
-
-/// The same, a block of characters of one or two bytes at a time.
-#[inline(never)]
-fn same_short<'a>(units: &[u16], text: &'a str) -> (usize, &'a str)
-    ensures within { result.0 ≤ length units.now }
-    ensures same { chars text.now ≡ take result.0 units.now ++ chars result.1.now }
-    ensures no_nul { All (λ unit. unit ≢ 0) (take result.0 units.now) }
-{
-    let mut block = [0; BLOCK];
-    let mut rest = text;
-    let mut end = 0;
-    while end < units.len() {
-        let (count, others) = read_block(rest, &mut block);
-        if count == 0 {
-            let Some(others) = after_same(units[end], rest) else {
+        } else if let Some((unit, others)) = first_unit(rest) {
+            if units[end] != unit {
                 break;
-            };
+            }
             rest = others;
             end += 1;
-        } else if count <= units.len() - end && units[end..end + count] == block[..count] {
-            rest = others;
-            end += count;
         } else {
             break;
         }

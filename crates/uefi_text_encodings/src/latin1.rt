@@ -8,7 +8,7 @@ ghost use Rattle.uefi_text_encodings.specs.Units.{is_nul, nul_terminated, withou
 ghost use Rattle.uefi_text_encodings.specs.Latin1.{IsLatin1, IsLatin1String};
 
 use crate::errors::FromSliceWithNulError;
-use crate::scans::{find_zero, has_byte_beyond_latin1, has_zero_byte};
+use crate::scans::{find_zero, has_byte_beyond_latin1, has_zero};
 use crate::utf8::{BLOCK, write_latin1};
 use std::cmp::Ordering;
 use std::fmt;
@@ -187,7 +187,7 @@ pub fn is_latin1(s: &str) -> bool
 pub fn has_no_nul(s: &str) -> bool
     ensures { IsTrue result ↔ All (λ c. c ≢ 0) (chars s.now) }
 {
-    !has_zero_byte(s.as_bytes())
+    !has_zero(s.as_bytes())
 }
 
 /// The number of characters of a Rust text of Latin-1, each NUL counted, which is the number of

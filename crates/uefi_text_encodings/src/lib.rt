@@ -20,8 +20,6 @@ pub mod latin1;
 pub mod packed;
 #[doc(hidden)]
 pub mod scans;
-mod short_chars;
-mod two_bytes;
 #[doc(hidden)]
 pub mod utf8;
 

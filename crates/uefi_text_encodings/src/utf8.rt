@@ -4,44 +4,19 @@
 ghost use Rattle.std.specs.Prelude.{◌≡◌, ℕ, ◌+◌, ◌<◌, ◌≤◌, ◌++◌, ◌*◌, IfSome, OnErr, OnOk, count_by, length, encode_utf8, nat_le, slice_index, take, true};
 ghost use Rattle.std.specs.Str.{IsAscii, encode_utf8_all};
 
-use crate::scans::{has_unit_beyond_ascii, narrow, widen};
-use crate::two_bytes::eight_of_two_bytes;
+use crate::scans::{count_wide, is_ascii, narrow, widen};
 use std::alloc::{AllocError, Allocator};
 use std::simd::prelude::*;
 
 /// How many characters are printed at a time.
 pub const BLOCK: usize = 64;
 
-/// How many units are counted at a time: as many as a count of 16 bits holds.
-const COUNTED: usize = 0x7fff;
-
-/// How many bytes some units have in UTF-8 beside one each. The count is as wide as a unit, so that it
-/// becomes vector code.
-#[inline(always)]
-fn more_bytes(units: &[u16]) -> u16
-    requires { length units.now ≤ 0x7fff }
-    ensures { result ≡ count_by (λ unit. nat_le 0x80 unit) units.now
-        + count_by (λ unit. nat_le 0x800 unit) units.now }
-{
-    let mut count = 0;
-    for unit in units {
-        count += u16::from(0x80 <= *unit) + u16::from(0x800 <= *unit);
-    }
-    count
-}
-
 /// How many bytes units have in UTF-8: one each, a second from U+0080 on, and a third from U+0800 on.
 fn utf8_len(units: &[u16]) -> usize
     ensures { result ≡ length (encode_utf8_all units.now) }
 {
-    let mut len = units.len();
-    let mut start = 0;
-    while start < units.len() {
-        let end = start + COUNTED.min(units.len() - start);
-        len += usize::from(more_bytes(&units[start..end]));
-        start = end;
-    }
-    len
+    let (two, three) = count_wide(units);
+    units.len() + two + three
 }
 
 /// Adds units of ASCII.
@@ -125,30 +100,26 @@ fn store<const N: usize>(bytes: &mut [u8], place: usize, lanes: Simd<u8, N>)
     lanes.copy_to_slice(&mut bytes[place..]);
 }
 
-/// Writes the UTF-8 of eight units from a place on, where 16 bytes have room, and returns the place
-/// after them.
+/// Writes the UTF-8 of at most eight units from a place on, and returns the place after them. Eight that
+/// have three bytes each are written together.
 #[inline(always)]
-fn write_eight(bytes: &mut [u8], place: usize, units: &[u16]) -> usize
-    requires eight { length units.now ≡ 8 }
-    requires lanes { place + 16 ≤ length bytes.old }
+fn write_few(bytes: &mut [u8], place: usize, units: &[u16]) -> usize
+    requires few { length units.now ≤ 8 }
     requires room { place + length (encode_utf8_all units.now) ≤ length bytes.old }
     ensures end { result ≡ place + length (encode_utf8_all units.now) }
     ensures bytes { take result bytes.new ≡ take place bytes.old ++ encode_utf8_all units.now }
 {
-    let lanes = u16x8::from_slice(units);
-    let three = lanes.simd_ge(u16x8::splat(0x800)).to_bitmask();
-    if three == 0xff {
-        let (front, back) = eight_of_three_bytes(lanes);
-        store(bytes, place, front);
-        store(bytes, place + 16, back);
-        return place + 24;
-    }
-    if three != 0 {
+    if units.len() < 8 {
         return write_each(bytes, place, units);
     }
-    let (front, len) = eight_of_two_bytes(lanes);
+    let lanes = u16x8::from_slice(units);
+    if lanes.simd_ge(u16x8::splat(0x800)).to_bitmask() != 0xff {
+        return write_each(bytes, place, units);
+    }
+    let (front, back) = eight_of_three_bytes(lanes);
     store(bytes, place, front);
-    place + len
+    store(bytes, place + 16, back);
+    place + 24
 }
 
 /// Writes the UTF-8 of units into the prefix of bytes, eight units at a time, and returns how many
@@ -160,12 +131,10 @@ fn write_by_eight(bytes: &mut [u8], units: &[u16]) -> usize
     ensures bytes { take result bytes.new ≡ encode_utf8_all units.now }
 {
     let mut end = 0;
-    let mut start = 0;
-    while 8 <= units.len() - start && 16 <= bytes.len() - end {
-        end = write_eight(bytes, end, &units[start..start + 8]);
-        start += 8;
+    for few in units.chunks(8) {
+        end = write_few(bytes, end, few);
     }
-    write_each(bytes, end, &units[start..])
+    end
 }
 
 /// Writes the UTF-8 of units into the prefix of bytes that have room for it, and returns how many
@@ -175,14 +144,14 @@ pub fn write_utf8(bytes: &mut [u8], units: &[u16]) -> usize
     ensures len { result ≤ length bytes.new }
     ensures bytes { take result bytes.new ≡ encode_utf8_all units.now }
 {
-    if !has_unit_beyond_ascii(units) {
+    if is_ascii(units) {
         narrow(&mut bytes[..units.len()], units);
         return units.len();
     }
     write_by_eight(bytes, units)
 }
 
-/// The same of at most [`BLOCK`] characters of Latin-1.
+/// Does what [`write_utf8`] does, of at most [`BLOCK`] characters of Latin-1.
 pub(crate) fn write_latin1(bytes: &mut [u8], characters: &[u8]) -> usize
     requires block { length characters.now ≤ 64 }
     requires room { 3 * length characters.now ≤ length bytes.old }
@@ -196,12 +165,11 @@ pub(crate) fn write_latin1(bytes: &mut [u8], characters: &[u8]) -> usize
 }
 
 /// Adds the UTF-8 of units to bytes, which stay unchanged where memory is refused.
-#[tactic(auto, using(crate::proofs::Scanning::ascii_units))]
 pub fn add_utf8<A: Allocator>(bytes: &mut Vec<u8, A>, units: &[u16]) -> Result<(), AllocError>
     ensures ok { OnOk result (bytes.new.items ≡ bytes.old.items ++ encode_utf8_all units.now) }
     ensures err { OnErr result (bytes.new.items ≡ bytes.old.items) }
 {
-    if !has_unit_beyond_ascii(units) {
+    if is_ascii(units) {
         return add_ascii(bytes, units);
     }
     let start = bytes.len();

@@ -1,8 +1,9 @@
 -- The bytes of eight characters are read from two parts that overlap.
-use Rattle.std.proofs.Common.{All, leb, replicate, ◌+◌, ◌%◌, ◌^◌, ◌≢◌, false, ◌≡◌, ◌≤◌, ◌∙◌, ◌++◌, ℕ, List, [], ◌∷◌, ap, arith, drop, get_or, length, map, refl, subst, sym, take, w8}
+use Rattle.std.proofs.Common.{All, leb, replicate, ◌+◌, ◌%◌, ◌^◌, false, ◌≡◌, ◌≤◌, ◌∙◌, ◌++◌, ℕ, List, [], ◌∷◌, ap, arith, drop, get_or, length, map, refl, subst, sym, take, w8}
 use Rattle.std.specs.Simd.Lanes.{Each1, mask_l}
 use Rattle.std.specs.Str.{chars}
 use Rattle.std.proofs.lemmas.Simd.{mask_l-mod, tops_compared}
+use Rattle.uefi_text_encodings.specs.FromStr.{IsAcceptedChar}
 use Rattle.uefi_text_encodings.proofs.Decoding.{Wide, decoded, is_other, lane, lanes, none_set, twenty_four}
 use Rattle.uefi_text_encodings.proofs.code_units.first_eight.Goals as goal
 
@@ -42,5 +43,5 @@ returns c =
       long_text,
       all.0 ∙ ap (λ (us : List ℕ). us ++ chars (drop 24 text)) (sym are),
       all.1,
-      subst (All (λ c. c ≢ 0)) (sym are) all.2,
+      subst (All IsAcceptedChar) (sym are) all.2,
     )

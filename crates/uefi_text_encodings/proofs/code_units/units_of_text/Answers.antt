@@ -1,12 +1,12 @@
-use Rattle.std.proofs.Common.{◌≡◌, true, arith}
-use Rattle.std.specs.List.{fold}
+-- A text of ASCII is its own units, and none of its characters is refused.
+use Rattle.std.proofs.Common.{All, subst, arith}
 use Rattle.std.proofs.lemmas.Grind.{common_steps}
-use Rattle.uefi_text_encodings.specs.Scans.{ascii_text_so_far}
+use Rattle.uefi_text_encodings.specs.Scans.{IsAsciiTextByte}
 use Rattle.uefi_text_encodings.proofs.Utf8Bytes.{ascii_text_chars}
 use Rattle.uefi_text_encodings.proofs.code_units.units_of_text.Goals as goal
 
 pub returns-then-is_ascii_text : goal.returns-then-is_ascii_text
 returns-then-is_ascii_text g c =
-    let ascii : fold ascii_text_so_far true c.args.text.now ≡ true = grind (arith, common_steps) in
-    let text = ascii_text_chars c.args.text.now ascii in
-    grind (arith, common_steps, text.0, text.1)
+    let text = ascii_text_chars c.args.text.now (subst (All IsAsciiTextByte) c.as_bytes.ensures.value (c.is_ascii_text.ensures.0 c.if-is_ascii_text.true)) in
+    let same = c.as_bytes-then-is_ascii_text.ensures.value in
+    grind (arith, common_steps, text.0, text.1, same)

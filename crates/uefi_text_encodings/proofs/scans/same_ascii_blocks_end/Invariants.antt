@@ -1,6 +1,5 @@
-use Rattle.std.proofs.Common.{◌≡◌, ◌≤◌, ◌-◌, length, take, true}
-use Rattle.std.specs.List.{fold}
-use Rattle.uefi_text_encodings.specs.Scans.{ascii_text_so_far}
+use Rattle.std.proofs.Common.{All, ◌≡◌, ◌≤◌, ◌-◌, length, take}
+use Rattle.uefi_text_encodings.specs.Scans.{IsAsciiTextByte}
 use Rattle.uefi_text_encodings.proofs.scans.same_ascii_blocks_end.Given as goal
 
 abbrev pub decreases-loop-end : goal.decreases-loop-end
@@ -12,5 +11,5 @@ invariant-loop-end l = record {
   in_units : l.end ≤ length l.units;
   in_bytes : l.end ≤ length l.bytes;
   same : take l.end l.units ≡ take l.end l.bytes;
-  ascii : fold ascii_text_so_far true (take l.end l.bytes) ≡ true;
+  ascii : All IsAsciiTextByte (take l.end l.bytes);
 }
