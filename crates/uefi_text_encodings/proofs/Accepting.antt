@@ -1,17 +1,16 @@
 -- What constructors accept, from what they refuse.
-use Rattle.std.specs.Char.{IsScalar}
 use Rattle.std.specs.List.{find, list_any}
 use Rattle.std.specs.Option.{unwrap_or}
 use Rattle.std.specs.Result.{IsOk, result_err}
-use Rattle.std.proofs.Common.{◌≡◌, ◌≢◌, ◌↔◌, ℕ, zero, suc, ◌+◌, ◌<◌, ◌==◌, ◌^◌, ◌∙◌, if◌then◌else◌, Bool, ap, sym, refl, true, false, All, List, [], ◌∷◌, ◌++◌, append_assoc, length, get_or, take, drop, None, Option, Some, Ok, Err, Result, position, Contains, inl, inr, arith}
+use Rattle.std.proofs.Common.{◌≡◌, ◌↔◌, ℕ, zero, suc, ◌+◌, ◌<◌, ◌==◌, ◌^◌, ◌∙◌, if◌then◌else◌, Bool, ap, sym, refl, true, false, All, List, [], ◌∷◌, ◌++◌, append_assoc, length, get_or, take, drop, None, Option, Some, Ok, Err, Result, position, Contains, inl, inr, arith}
 use Rattle.std.proofs.lemmas.Bool.{cases_Bool, false≢true, lt-ltb}
 use Rattle.std.proofs.lemmas.List.{get_or_append_left, length-append, take-append-drop, take_more}
-use Rattle.std.proofs.lemmas.List.Elements.{All-head, All-tail, All-weaker}
+use Rattle.std.proofs.lemmas.List.Elements.{All-head, All-tail}
 use Rattle.std.proofs.lemmas.List.Quantifiers.{position-Some}
 use Rattle.std.proofs.lemmas.Grind.{common_steps}
 use Rattle.std.proofs.Math.Seq.{get_or-append_seam}
 use Rattle.std.proofs.Math.Utf8.{scalar, scalars}
-use Rattle.uefi_text_encodings.specs.Units.{BeginsWithString, IsChar16, IsNulTerminated, IsString, IsText, IsTextUnit, deciding_place, is_deciding, is_nul, nul_terminated, without_nul}
+use Rattle.uefi_text_encodings.specs.Units.{BeginsWithString, IsChar16, IsNulTerminated, IsString, IsText, IsTextUnit, deciding_place, is_deciding, is_nul, nul_terminated}
 use Rattle.uefi_text_encodings.specs.FromSliceUntilNul.{missing_nul_refusal, missing_nul_refusal_at, until_nul_refusal}
 use Rattle.uefi_text_encodings.specs.FromSliceWithNul.{first_nul_refusal, first_nul_refusal_at, with_nul_refusal}
 use Rattle.uefi_text_encodings.specs.FromStr.{from_str_refusal, is_deciding_char, refusal_of_char}
@@ -26,7 +25,7 @@ use Rattle.uefi_text_encodings.specs.declared.errors.FromStrError.{FromStrError}
 use Rattle.uefi_text_encodings.specs.declared.errors.FromStrError.TheVariants as from_str
 use Rattle.uefi_text_encodings.proofs.Deciding.{IsLatin1String-nul_last, IsText-before, first_nul_refusal-IsLatin1String, with_nul_refusal-IsString, with_nul_refusal-memory}
 use Rattle.uefi_text_encodings.proofs.Scanning.{position-at, position-nowhere}
-use Rattle.uefi_text_encodings.proofs.Texts.{IsText-chars, scalars-All, undecided-IsText}
+use Rattle.uefi_text_encodings.proofs.Texts.{IsText-chars, undecided-IsText}
 use Rattle.uefi_text_encodings.proofs.UnitBytes.{accepted_encodes, encoded_accepted}
 use Rattle.uefi_text_encodings.proofs.Utf16.{unrefused, utf16-undecided}
 

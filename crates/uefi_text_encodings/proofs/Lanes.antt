@@ -1,11 +1,6 @@
 -- Vectors of eight units, lane by lane.
-use Rattle.std.proofs.Common.{◌≡◌, ℕ, ◌+◌, ◌*◌, ◌/◌, ◌%◌, ◌^◌, ◌<◌, ◌≤◌, ◌∙◌, Bool, true, cond, leb, List, [], ◌∷◌, length, map, replicate, get_or, ap, sym, refl, inl, inr, w16, arith}
-use Rattle.std.specs.Simd.Lanes.{Each1, mask_l, top, zip2}
-use Rattle.std.proofs.lemmas.Bool.{cases_Bool, leb-true}
-use Rattle.std.proofs.lemmas.List.{length-map}
-use Rattle.std.proofs.Math.Nat.{two-pow-succ}
-use Rattle.std.proofs.lemmas.Simd.{Each1-get_or, mask_l-mod, tops_compared}
-use Rattle.std.proofs.lemmas.Simd.{zip2_splat_left}
+use Rattle.std.proofs.Common.{◌≡◌, ℕ, ◌+◌, ◌/◌, ◌%◌, ◌^◌, ◌<◌, List, [], ◌∷◌, length, get_or, refl, arith}
+use Rattle.std.specs.Simd.Lanes.{Each1}
 
 -- what is done to a lane
 abbrev pub shifted : ℕ → ℕ → ℕ

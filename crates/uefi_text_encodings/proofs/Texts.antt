@@ -1,5 +1,5 @@
 -- Texts, as characters and as code units, and the strings that they are stored as.
-use Rattle.std.proofs.Common.{◌≡◌, ◌↔◌, ℕ, ◌-◌, ◌≤◌, ◌≢◌, Bool, true, false, List, [], ◌∷◌, ◌++◌, length, map, None, Option, Some, All, arith, sym, ◌∙◌, ap, refl, subst, ◌==◌, if◌then◌else◌, set, append_assoc, take, drop}
+use Rattle.std.proofs.Common.{◌≡◌, ◌↔◌, ℕ, ◌-◌, ◌≤◌, ◌≢◌, true, false, List, [], ◌∷◌, ◌++◌, length, map, None, Option, Some, All, arith, sym, ◌∙◌, ap, refl, subst, ◌==◌, if◌then◌else◌, set, append_assoc, take, drop}
 use Rattle.std.specs.List.{find}
 use Rattle.std.specs.Option.{SomeIff}
 use Rattle.std.specs.Str.{chars, IsUtf8}

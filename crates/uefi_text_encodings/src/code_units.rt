@@ -71,16 +71,14 @@ fn units_of_chars<A: Allocator>(alloc: A, text: &str, len: usize) -> Result<Vec<
     Ok(units)
 }
 
-/// The first eight characters of a text, where each has three bytes.
+/// Reads the first eight characters of a text, where each has three bytes, and returns what follows them.
 #[inline(always)]
-fn first_eight(text: &str) -> Option<[u16; 8]>
-    ensures { IfSome result (λ units. (length units ≡ 8) × (24 ≤ length text.now)
-        × (chars text.now ≡ units ++ chars (drop 24 text.now)) × IsUtf8 (drop 24 text.now)
-        × All IsAcceptedChar units) }
+fn read_wide<'a>(text: &'a str, eight: &mut [u16; 8]) -> Option<&'a str>
+    ensures { IfSome result (λ rest. (chars text.now ≡ eight.new ++ chars rest.now) × IsUtf8 rest.now
+        × All IsAcceptedChar eight.new) }
 {
     let bytes = text.as_bytes();
-    // Most other texts show with their first byte that they do not begin so.
-    if bytes.len() < 24 || bytes[0] < 0xe0 {
+    if bytes.len() < 24 {
         return None;
     }
     let front = u8x16::from_slice(bytes);
@@ -97,32 +95,40 @@ fn first_eight(text: &str) -> Option<[u16; 8]>
     let middle = second.cast::<u16>() * u16x8::splat(64);
     // What the bytes have beside the bits of the character is 0xe0, 0x80 and 0x80, modulo 2^16.
     let units = high + middle + third.cast::<u16>() - u16x8::splat(0x2080);
-    Some(units.to_array())
+    *eight = units.to_array();
+    // SAFETY: the bytes from there on are UTF-8, since a character ends before them.
+    Some(unsafe { str::from_utf8_unchecked(&bytes[24..]) })
 }
 
-/// What follows the first eight characters of a text, where each has three bytes.
+/// Reads the first eight characters of a text one by one, where a UCS-2 text holds each of them, and
+/// returns what follows them.
 #[inline(always)]
-fn after_eight(text: &str) -> &str
-    requires long { 24 ≤ length text.now }
-    requires utf8 { IsUtf8 (drop 24 text.now) }
-    ensures { result.now ≡ drop 24 text.now }
-{
-    // SAFETY: the bytes are UTF-8, which is a condition on the caller.
-    unsafe { str::from_utf8_unchecked(&text.as_bytes()[24..]) }
-}
-
-/// The first character of a text, and what follows it, where a UCS-2 text holds that character.
-#[inline(always)]
-fn first_unit(text: &str) -> Option<(u16, &str)>
-    ensures { IfSome result (λ first.
-        (chars text.now ≡ first.0 ∷ chars first.1.now) × IsUtf8 first.1.now × IsAcceptedChar first.0) }
+fn read_each<'a>(text: &'a str, eight: &mut [u16; 8]) -> Option<&'a str>
+    ensures { IfSome result (λ rest. (chars text.now ≡ eight.new ++ chars rest.now) × IsUtf8 rest.now
+        × All IsAcceptedChar eight.new) }
 {
     let mut characters = text.chars();
-    let character = u32::from(characters.next()?);
-    if character == 0 || 0xffff < character {
-        return None;
+    for place in 0..8 {
+        let character = u32::from(characters.next()?);
+        if character == 0 || 0xffff < character {
+            return None;
+        }
+        eight[place] = character as u16;
     }
-    Some((character as u16, characters.as_str()))
+    Some(characters.as_str())
+}
+
+/// Reads the first eight characters of a text, where a UCS-2 text holds each of them, and returns what
+/// follows them.
+#[inline(always)]
+fn read_eight<'a>(text: &'a str, eight: &mut [u16; 8]) -> Option<&'a str>
+    ensures { IfSome result (λ rest. (chars text.now ≡ eight.new ++ chars rest.now) × IsUtf8 rest.now
+        × All IsAcceptedChar eight.new) }
+{
+    match read_wide(text, eight) {
+        Some(rest) => Some(rest),
+        None => read_each(text, eight),
+    }
 }
 
 /// Writes eight units from a place on.
@@ -134,8 +140,9 @@ fn write_lanes(units: &mut [u16], place: usize, lanes: u16x8)
     lanes.copy_to_slice(&mut units[place..]);
 }
 
-/// Writes characters of a text into the prefix of units, up to one that no UCS-2 text holds, or to near the
-/// end of the units. Returns how many were written, and what follows them.
+/// Writes characters of a text into the prefix of units, eight at a time, up to one that no UCS-2 text
+/// holds, or to near the end of the text or of the units. Returns how many were written, and what follows
+/// them.
 #[inline(never)]
 fn write_front<'a>(text: &'a str, units: &mut [u16]) -> (usize, &'a str)
     requires some { 0 < length units.old }
@@ -145,20 +152,16 @@ fn write_front<'a>(text: &'a str, units: &mut [u16]) -> (usize, &'a str)
     ensures accepted { All IsAcceptedChar (take result.0 (chars text.now)) }
     ensures units { units.new ≡ take result.0 (chars text.now) ++ drop result.0 units.old }
 {
+    let mut eight = [0; 8];
     let mut rest = text;
     let mut len = 0;
     while 8 < units.len() - len {
-        if let Some(eight) = first_eight(rest) {
-            write_lanes(units, len, u16x8::from_array(eight));
-            rest = after_eight(rest);
-            len += 8;
-        } else if let Some((unit, others)) = first_unit(rest) {
-            units[len] = unit;
-            rest = others;
-            len += 1;
-        } else {
+        let Some(others) = read_eight(rest, &mut eight) else {
             break;
-        }
+        };
+        write_lanes(units, len, u16x8::from_array(eight));
+        rest = others;
+        len += 8;
     }
     (len, rest)
 }
@@ -297,24 +300,18 @@ pub fn same_front<'a>(units: &[u16], text: &'a str) -> (usize, &'a str)
     ensures same { chars text.now ≡ take result.0 units.now ++ chars result.1.now }
     ensures no_nul { All (λ unit. unit ≢ 0) (take result.0 units.now) }
 {
+    let mut eight = [0; 8];
     let mut rest = text;
     let mut end = 0;
     while 8 <= units.len() - end {
-        if let Some(eight) = first_eight(rest) {
-            if !are_same(&units[end..end + 8], &eight) {
-                break;
-            }
-            rest = after_eight(rest);
-            end += 8;
-        } else if let Some((unit, others)) = first_unit(rest) {
-            if units[end] != unit {
-                break;
-            }
-            rest = others;
-            end += 1;
-        } else {
+        let Some(others) = read_eight(rest, &mut eight) else {
+            break;
+        };
+        if !are_same(&units[end..end + 8], &eight) {
             break;
         }
+        rest = others;
+        end += 8;
     }
     (end, rest)
 }

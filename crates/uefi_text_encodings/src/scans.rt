@@ -3,7 +3,7 @@
 //! by std's words, so that callers see nothing of the form.
 //!
 //! What a pass looks for is a [`Class`] of elements: all classes share one pass, and one proof.
-ghost use Rattle.std.specs.Prelude.{IsTrue, ◌≡◌, ◌↔◌, ◌||◌, ℕ, ◌+◌, ◌*◌, ◌<◌, ◌≤◌, ◌++◌, All, Bool, Option, None, count_by, fold, length, take, drop, map, position, false};
+ghost use Rattle.std.specs.Prelude.{IsTrue, ◌≡◌, ◌↔◌, ◌||◌, ℕ, ◌+◌, ◌-◌, ◌*◌, ◌<◌, ◌≤◌, ◌++◌, All, Bool, Option, None, count_by, fold, length, take, drop, map, position, true, false};
 ghost use Rattle.std.specs.Fmt.{is_char_start};
 ghost use Rattle.std.specs.List.{list_any};
 ghost use Rattle.std.specs.Option.{SomeIff};
@@ -48,22 +48,14 @@ fn clear_blocks_end<T: Copy, C: Class<T>>(elements: &[T], start: usize, block: u
     requires clear { list_any C.holds (take start elements.now) ≡ false }
     ensures within { result ≤ length elements.now }
     ensures clear { list_any C.holds (take result elements.now) ≡ false }
+    ensures found { block ≤ length elements.now - result
+        → list_any C.holds (take block (drop result elements.now)) ≡ true }
 {
     let mut end = start;
     while block <= elements.len() - end && !block_has::<T, C>(&elements[end..end + block]) {
         end += block;
     }
     end
-}
-
-/// A place before which no element is in the class, and after which one follows soon, or the end.
-#[inline(always)]
-fn clear_len<T: Copy, C: Class<T>>(elements: &[T]) -> usize
-    ensures within { result ≤ length elements.now }
-    ensures clear { list_any C.holds (take result elements.now) ≡ false }
-{
-    let blocks_end = clear_blocks_end::<T, C>(elements, 0, BLOCK);
-    clear_blocks_end::<T, C>(elements, blocks_end, SMALL_BLOCK)
 }
 
 /// The place of the first element in the class, one by one.
@@ -78,11 +70,20 @@ fn find_one_by_one<T: Copy, C: Class<T>>(elements: &[T]) -> Option<usize>
 fn find_first<T: Copy, C: Class<T>>(elements: &[T]) -> Option<usize>
     ensures { result ≡ position C.holds elements.now }
 {
-    let start = clear_len::<T, C>(elements);
+    let blocks_end = clear_blocks_end::<T, C>(elements, 0, BLOCK);
+    let start = clear_blocks_end::<T, C>(elements, blocks_end, SMALL_BLOCK);
     match find_one_by_one::<T, C>(&elements[start..]) {
         None => None,
         Some(place) => Some(start + place),
     }
+}
+
+/// Whether an element is in the class, one by one.
+#[inline(always)]
+fn has_one_by_one<T: Copy, C: Class<T>>(elements: &[T]) -> bool
+    ensures { result ≡ list_any C.holds elements.now }
+{
+    elements.iter().any(|element| C::holds(*element))
 }
 
 /// Whether an element is in the class.
@@ -90,7 +91,15 @@ fn find_first<T: Copy, C: Class<T>>(elements: &[T]) -> Option<usize>
 fn has_any<T: Copy, C: Class<T>>(elements: &[T]) -> bool
     ensures { result ≡ list_any C.holds elements.now }
 {
-    find_first::<T, C>(elements).is_some()
+    let blocks_end = clear_blocks_end::<T, C>(elements, 0, BLOCK);
+    if BLOCK <= elements.len() - blocks_end {
+        return true;
+    }
+    let start = clear_blocks_end::<T, C>(elements, blocks_end, SMALL_BLOCK);
+    if SMALL_BLOCK <= elements.len() - start {
+        return true;
+    }
+    has_one_by_one::<T, C>(&elements[start..])
 }
 
 /// How many elements of a block are in the class.

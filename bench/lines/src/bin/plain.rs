@@ -1,13 +1,16 @@
 //! What the line program prints, by the standard library alone: `docs/SPECIFICATION.md`, "The line
-//! program", has the rules.
+//! program", has the rules. Written for speed: units go straight into one output buffer, and no line
+//! takes memory of its own.
 use std::cmp::Ordering;
 use std::fmt::{self, Display};
-use std::io::{self, BufWriter, Read, Write};
+use std::io::{self, BufRead, Write};
 use std::process::ExitCode;
 
 const SEPARATOR: u16 = b'\\' as u16;
 const SLASH: u16 = b'/' as u16;
 const DOT: u16 = b'.' as u16;
+/// How much is read, and printed, at a time.
+const ROOM: usize = 1 << 16;
 const DENIED: &[u8] = b"\"*/:<>?|";
 
 enum TextError {
@@ -44,9 +47,14 @@ impl Display for PathError {
     }
 }
 
-/// The code units of a text of UCS-2.
-fn units_of(text: &str) -> Result<Vec<u16>, TextError> {
-    let mut units = Vec::with_capacity(text.len());
+/// The code units of a text of UCS-2, in place of what `units` held.
+fn read_units(units: &mut Vec<u16>, text: &str) -> Result<(), TextError> {
+    units.clear();
+    if text.is_ascii() && !text.contains('\0') {
+        units.extend(text.bytes().map(u16::from));
+        return Ok(());
+    }
+    units.reserve(text.len());
     for character in text.chars() {
         match u16::try_from(u32::from(character)) {
             Ok(0) => return Err(TextError::InteriorNul),
@@ -54,11 +62,34 @@ fn units_of(text: &str) -> Result<Vec<u16>, TextError> {
             Err(_) => return Err(TextError::InvalidChar),
         }
     }
-    Ok(units)
+    Ok(())
 }
 
-fn text_of(units: &[u16]) -> String {
-    String::from_utf16(units).expect("a path holds no surrogates")
+/// Adds the UTF-8 of units, which hold no surrogate: one to three bytes each.
+fn add_units(output: &mut Vec<u8>, units: &[u16]) {
+    if units.iter().all(|&unit| unit < 0x80) {
+        output.extend(units.iter().map(|&unit| unit as u8));
+        return;
+    }
+    output.reserve(3 * units.len());
+    for &unit in units {
+        match unit {
+            ..0x80 => output.push(unit as u8),
+            ..0x800 => output.extend([0xc0 | (unit >> 6) as u8, 0x80 | (unit & 63) as u8]),
+            _ => output.extend([
+                0xe0 | (unit >> 12) as u8,
+                0x80 | (unit >> 6 & 63) as u8,
+                0x80 | (unit & 63) as u8,
+            ]),
+        }
+    }
+}
+
+/// Adds a line of a mark and units.
+fn add_line(output: &mut Vec<u8>, mark: &[u8; 2], units: &[u16]) {
+    output.extend(mark);
+    add_units(output, units);
+    output.push(b'\n');
 }
 
 fn replace_slashes(units: &mut [u16]) {
@@ -81,24 +112,27 @@ fn components(path: &[u16]) -> impl Iterator<Item = &[u16]> {
     text.split(|&unit| unit == SEPARATOR).take(left)
 }
 
-fn push(path: &mut Vec<u16>, mut part: Vec<u16>) {
+fn push(path: &mut Vec<u16>, part: &[u16]) {
     if part.is_empty() {
         return;
     }
-    replace_slashes(&mut part);
     if path.last().is_some_and(|&last| last != SEPARATOR) {
         path.push(SEPARATOR);
     }
-    path.append(&mut part);
+    let start = path.len();
+    path.extend_from_slice(part);
+    replace_slashes(&mut path[start..]);
 }
 
-/// The components but the last, without the empty ones; after them stands a separator where the last
-/// of those is empty.
-fn parent(path: &[u16]) -> Option<Vec<u16>> {
+/// The components but the last, without the empty ones, in place of what `parent` held; after them
+/// stands a separator where the last of those is empty. False where the path has none.
+fn read_parent(parent: &mut Vec<u16>, path: &[u16]) -> bool {
+    parent.clear();
     let text = canonical(path);
-    let end = text.iter().rposition(|&unit| unit == SEPARATOR)?;
+    let Some(end) = text.iter().rposition(|&unit| unit == SEPARATOR) else {
+        return false;
+    };
     let kept = &text[..end];
-    let mut parent = Vec::with_capacity(kept.len());
     let is_name = |name: &&[u16]| !name.is_empty();
     for name in kept.split(|&unit| unit == SEPARATOR).filter(is_name) {
         if !parent.is_empty() {
@@ -109,7 +143,7 @@ fn parent(path: &[u16]) -> Option<Vec<u16>> {
     if !parent.is_empty() && kept.ends_with(&[SEPARATOR]) {
         parent.push(SEPARATOR);
     }
-    Some(parent)
+    true
 }
 
 fn is_denied(unit: u16) -> bool {
@@ -137,116 +171,152 @@ fn validate(path: &[u16]) -> Result<(), PathError> {
     Ok(())
 }
 
-fn normalize(path: &[u16]) -> Result<Vec<u16>, PathError> {
+/// The normal path, in place of what `normal` held.
+fn read_normal(normal: &mut Vec<u16>, path: &[u16]) -> Result<(), PathError> {
     validate(path)?;
-    let mut kept: Vec<&[u16]> = Vec::new();
+    normal.clear();
     for component in components(path) {
         match component {
             [DOT] => {}
-            [DOT, DOT] => drop(kept.pop()),
-            _ => kept.push(component),
+            [DOT, DOT] => {
+                let end = normal.iter().rposition(|&unit| unit == SEPARATOR);
+                normal.truncate(end.unwrap_or(0));
+            }
+            _ => {
+                if !normal.is_empty() {
+                    normal.push(SEPARATOR);
+                }
+                normal.extend_from_slice(component);
+            }
         }
     }
-    if kept.is_empty() {
-        return Ok(vec![SEPARATOR]);
-    }
-    Ok(kept.join(&SEPARATOR))
-}
-
-fn write_path(output: &mut impl Write, path: &[u16]) -> io::Result<()> {
-    writeln!(output, "= {}", text_of(path))
-}
-
-fn write_parents(output: &mut impl Write, path: &[u16]) -> io::Result<()> {
-    let parents: Vec<Vec<u16>> = std::iter::successors(parent(path), |path| parent(path)).collect();
-    writeln!(output, "parents {}", parents.len())?;
-    for parent in &parents {
-        writeln!(output, "| {}", text_of(parent))?;
+    if normal.is_empty() {
+        normal.push(SEPARATOR);
     }
     Ok(())
 }
 
-/// A verb with a text.
-fn run_text(
-    output: &mut impl Write,
-    path: &mut Vec<u16>,
-    verb: &str,
-    text: &str,
-) -> io::Result<()> {
-    if !["from", "push", "join", "eq", "cmp"].contains(&verb) {
-        return writeln!(output, "? unknown command");
-    }
-    let mut units = match units_of(text) {
-        Ok(units) => units,
-        Err(error) => return writeln!(output, "{error}"),
-    };
-    match verb {
-        "eq" if canonical(path) == canonical(&units) => writeln!(output, "equal"),
-        "eq" => writeln!(output, "different"),
-        "cmp" => match canonical(path).cmp(canonical(&units)) {
-            Ordering::Less => writeln!(output, "less"),
-            Ordering::Equal => writeln!(output, "equal"),
-            Ordering::Greater => writeln!(output, "greater"),
-        },
-        "from" => {
-            replace_slashes(&mut units);
-            *path = units;
-            write_path(output, path)
-        }
-        _ => {
-            push(path, units);
-            write_path(output, path)
-        }
-    }
+/// The path between the lines, what is printed, and buffers that each line uses again.
+#[derive(Default)]
+struct Run {
+    path: Vec<u16>,
+    output: Vec<u8>,
+    units: Vec<u16>,
+    next: Vec<u16>,
+    lines: Vec<u8>,
 }
 
-/// A verb without a text.
-fn run_verb(output: &mut impl Write, path: &mut Vec<u16>, verb: &str) -> io::Result<()> {
-    match verb {
-        "clear" => {
-            path.clear();
-            write_path(output, path)
+impl Run {
+    fn add(&mut self, line: impl Display) {
+        writeln!(self.output, "{line}").expect("a vector takes what is written");
+    }
+
+    fn add_path(&mut self) {
+        add_line(&mut self.output, b"= ", &self.path);
+    }
+
+    fn add_parents(&mut self) {
+        self.lines.clear();
+        let mut count = 0;
+        self.units.clone_from(&self.path);
+        while read_parent(&mut self.next, &self.units) {
+            add_line(&mut self.lines, b"| ", &self.next);
+            std::mem::swap(&mut self.units, &mut self.next);
+            count += 1;
         }
-        "parent" => match parent(path) {
-            Some(parent) => {
-                *path = parent;
-                write_path(output, path)
+        self.add(format_args!("parents {count}"));
+        self.output.append(&mut self.lines);
+    }
+
+    /// A verb with a text.
+    fn run_text(&mut self, verb: &str, text: &str) {
+        if !["from", "push", "join", "eq", "cmp"].contains(&verb) {
+            return self.add("? unknown command");
+        }
+        if let Err(error) = read_units(&mut self.units, text) {
+            return self.add(error);
+        }
+        match verb {
+            "eq" if canonical(&self.path) == canonical(&self.units) => self.add("equal"),
+            "eq" => self.add("different"),
+            "cmp" => match canonical(&self.path).cmp(canonical(&self.units)) {
+                Ordering::Less => self.add("less"),
+                Ordering::Equal => self.add("equal"),
+                Ordering::Greater => self.add("greater"),
+            },
+            "from" => {
+                replace_slashes(&mut self.units);
+                std::mem::swap(&mut self.path, &mut self.units);
+                self.add_path();
             }
-            None => writeln!(output, "none"),
-        },
-        "pieces" => {
-            writeln!(output, "pieces {}", components(path).count())?;
-            components(path).try_for_each(|piece| writeln!(output, "| {}", text_of(piece)))
+            _ => {
+                push(&mut self.path, &self.units);
+                self.add_path();
+            }
         }
-        "up" => write_parents(output, path),
-        "check" => match validate(path) {
-            Ok(()) => writeln!(output, "ok"),
-            Err(error) => writeln!(output, "{error}"),
-        },
-        "norm" => match normalize(path) {
-            Ok(normal) => write_path(output, &normal),
-            Err(error) => writeln!(output, "{error}"),
-        },
-        _ => writeln!(output, "? unknown command"),
+    }
+
+    /// A verb without a text.
+    fn run_verb(&mut self, verb: &str) {
+        match verb {
+            "clear" => {
+                self.path.clear();
+                self.add_path();
+            }
+            "parent" => {
+                if read_parent(&mut self.next, &self.path) {
+                    std::mem::swap(&mut self.path, &mut self.next);
+                    self.add_path();
+                } else {
+                    self.add("none");
+                }
+            }
+            "pieces" => {
+                self.add(format_args!("pieces {}", components(&self.path).count()));
+                for piece in components(&self.path) {
+                    add_line(&mut self.output, b"| ", piece);
+                }
+            }
+            "up" => self.add_parents(),
+            "check" => match validate(&self.path) {
+                Ok(()) => self.add("ok"),
+                Err(error) => self.add(error),
+            },
+            "norm" => match read_normal(&mut self.next, &self.path) {
+                Ok(()) => add_line(&mut self.output, b"= ", &self.next),
+                Err(error) => self.add(error),
+            },
+            _ => self.add("? unknown command"),
+        }
+    }
+
+    fn run_line(&mut self, line: &[u8]) {
+        match std::str::from_utf8(line) {
+            Err(_) => self.add("? not UTF-8"),
+            Ok(line) => match line.split_once(' ') {
+                Some((verb, text)) => self.run_text(verb, text),
+                None => self.run_verb(line),
+            },
+        }
     }
 }
 
 fn run() -> io::Result<()> {
-    let mut input = Vec::new();
-    io::stdin().lock().read_to_end(&mut input)?;
-    let mut output = BufWriter::new(io::stdout().lock());
-    let mut path = Vec::new();
-    for line in input.split_inclusive(|&byte| byte == b'\n') {
-        let line = line.strip_suffix(b"\n").unwrap_or(line);
-        match std::str::from_utf8(line) {
-            Err(_) => writeln!(output, "? not UTF-8")?,
-            Ok(line) => match line.split_once(' ') {
-                Some((verb, text)) => run_text(&mut output, &mut path, verb, text)?,
-                None => run_verb(&mut output, &mut path, line)?,
-            },
+    let mut input = io::BufReader::with_capacity(ROOM, io::stdin().lock());
+    let mut out = io::stdout().lock();
+    let mut run = Run::default();
+    let mut line = Vec::new();
+    // The search for the end of a line is std's, which is one of many bytes at a time.
+    while input.read_until(b'\n', &mut line)? != 0 {
+        run.run_line(line.strip_suffix(b"\n").unwrap_or(&line));
+        line.clear();
+        if ROOM <= run.output.len() {
+            out.write_all(&run.output)?;
+            run.output.clear();
         }
     }
-    output.flush()
+    out.write_all(&run.output)?;
+    out.flush()
 }
 
 fn main() -> ExitCode {

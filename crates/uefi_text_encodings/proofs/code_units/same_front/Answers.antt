@@ -1,9 +1,8 @@
--- Eight characters more are the same, or one.
-use Rattle.std.proofs.Common.{◌≡◌, ◌≢◌, ◌+◌, ◌-◌, ◌++◌, ◌∷◌, [], ◌∙◌, List, ℕ, ap, arith, drop, sym, take}
+-- Eight characters more are the same.
+use Rattle.std.proofs.Common.{◌≡◌, ◌≢◌, ◌+◌, ◌-◌, ◌++◌, ◌∙◌, List, ℕ, ap, arith, drop, sym, take}
 use Rattle.std.specs.Str.{chars}
 use Rattle.std.proofs.Math.Seq.{take-add}
-use Rattle.std.proofs.lemmas.List.{take_more}
-use Rattle.std.proofs.lemmas.List.Elements.{All-cons, All-nil, All-weaker}
+use Rattle.std.proofs.lemmas.List.Elements.{All-weaker}
 use Rattle.uefi_text_encodings.specs.FromStr.{IsAcceptedChar}
 use Rattle.uefi_text_encodings.proofs.Decoding.{same_more}
 use Rattle.uefi_text_encodings.proofs.code_units.same_front.Goals as goal
@@ -11,33 +10,17 @@ use Rattle.uefi_text_encodings.proofs.code_units.same_front.Goals as goal
 no_nul : (unit : ℕ) → IsAcceptedChar unit → unit ≢ 0
 no_nul unit is = λ zero_unit. omega (arith, is, zero_unit)
 
-pub loop-end-preserved-in-Some : goal.loop-end-preserved-in-Some
-loop-end-preserved-in-Some c =
-    let units = c.args.units.now in
-    let len = c.loop-end.end in
-    let eight = c.in-Some.eight in
-    let so_far = c.loop-end.invariant in
-    let rest = c.after_eight-rest.result.now in
-    let count : len + 8 - len ≡ 8 = omega arith in
-    let same : take 8 (drop len units) ≡ eight = ap (λ n. take n (drop len units)) (sym count) ∙ c.are_same.ensures c.if-not-are_same.false in
-    let more : take (len + 8) units ≡ take len units ++ eight = take-add len 8 units ∙ ap (λ (us : List ℕ). take len units ++ us) same in
-    let is : chars c.args.text.now ≡ take len units ++ (eight ++ chars rest) =
-    so_far.same ∙ ap (λ (cs : List ℕ). take len units ++ cs) (c.in-Some.ensures.2 ∙ ap (λ bs. eight ++ chars bs) (sym c.after_eight-rest.ensures)) in
-    let all = same_more units eight len 8 (chars rest) (chars c.args.text.now) more (All-weaker IsAcceptedChar (λ unit. unit ≢ 0) no_nul eight c.in-Some.ensures.4) so_far.no_nul is in
-    record { within = omega arith; utf8 = c.after_eight-rest.utf8; same = all.0; no_nul = all.1 }
-
 pub loop-end-preserved : goal.loop-end-preserved
 loop-end-preserved c =
     let units = c.args.units.now in
     let len = c.loop-end.end in
-    let unit = c.in-Some-first_unit.unit in
+    let eight = c.read_eight.new.eight in
     let so_far = c.loop-end.invariant in
-    let first = c.in-Some-first_unit.ensures in
-    let rest = c.in-Some-first_unit.others.now in
-    let more : take (len + 1) units ≡ take len units ++ unit ∷ [] =
-    take_more units len 0 (omega arith) ∙ ap (λ (u : ℕ). take len units ++ u ∷ []) c.if-units-end.false in
-    let is : chars c.args.text.now ≡ take len units ++ (unit ∷ [] ++ chars rest) =
-    so_far.same ∙ ap (λ (cs : List ℕ). take len units ++ cs) first.0 in
-    let alone = All-cons (λ unit. unit ≢ 0) unit [] (no_nul unit first.2) (All-nil (λ unit. unit ≢ 0)) in
-    let all = same_more units (unit ∷ []) len 1 (chars rest) (chars c.args.text.now) more alone so_far.no_nul is in
-    record { within = omega arith; utf8 = first.1; same = all.0; no_nul = all.1 }
+    let read = c.in-Some.ensures in
+    let rest = c.in-Some.others.now in
+    let count : len + 8 - len ≡ 8 = omega arith in
+    let same : take 8 (drop len units) ≡ eight = ap (λ n. take n (drop len units)) (sym count) ∙ c.are_same.ensures c.if-not-are_same.false in
+    let more : take (len + 8) units ≡ take len units ++ eight = take-add len 8 units ∙ ap (λ (us : List ℕ). take len units ++ us) same in
+    let is : chars c.args.text.now ≡ take len units ++ (eight ++ chars rest) = so_far.same ∙ ap (λ (cs : List ℕ). take len units ++ cs) read.0 in
+    let all = same_more units eight len 8 (chars rest) (chars c.args.text.now) more (All-weaker IsAcceptedChar (λ unit. unit ≢ 0) no_nul eight read.2) so_far.no_nul is in
+    record { within = omega arith; utf8 = read.1; same = all.0; no_nul = all.1 }

@@ -13,3 +13,10 @@ loop-end-preserved g c =
       clear = clear_more p c.args.elements.now from c.args.block c.loop-end.invariant.clear
           (ap (λ n. list_any p (take n (drop from c.args.elements.now))) (sym len) ∙ sym (any_folded p _) ∙ sym c.if-not-block_has.ensures);
     }
+
+pub returns-else-not-block_has-clause-found : goal.returns-else-not-block_has-clause-found
+returns-else-not-block_has-clause-found g c more =
+    let p = g.C.Class.holds in
+    let from = c.loop-end.end in
+    let len : from + c.args.block - from ≡ c.args.block = omega arith in
+    ap (λ n. list_any p (take n (drop from c.args.elements.now))) (sym len) ∙ sym (any_folded p _) ∙ sym c.block_has.ensures ∙ c.if-not-block_has.false
