@@ -11,7 +11,7 @@ ghost use Rattle.uefi_text_encodings.specs.FromStr.{IsAcceptedChar, is_deciding_
 ghost use Rattle.uefi_text_encodings.specs.FromStrWithBuf.{from_str_with_buf_refusal, refusal_of_char_at, with_text, with_units};
 
 use crate::errors::{FromStrError, FromStrWithBufError};
-use crate::scans::{count_undecided_chars, is_ascii_text, widen};
+use crate::scans::{count_undecided_chars, has_deciding_byte, is_ascii_text, widen};
 use std::alloc::{AllocError, Allocator};
 use std::simd::prelude::*;
 
@@ -59,15 +59,36 @@ fn units_of_ascii<A: Allocator>(alloc: A, bytes: &[u8]) -> Result<Vec<u16, A>, A
     Ok(units)
 }
 
-/// The units of a text of UCS-2, which has `len` characters, and a NUL.
-fn units_of_chars<A: Allocator>(alloc: A, text: &str, len: usize) -> Result<Vec<u16, A>, AllocError>
+/// Texts of fewer bytes get room for as many units as they have bytes: to count their characters costs
+/// more.
+const FEW: usize = 32;
+
+/// How many units are room enough for a text of UCS-2 without its NUL, and for all but short texts just
+/// enough; `None` exactly for other texts.
+fn room_for(text: &str) -> Option<usize>
+    ensures some { IfSome result (λ room.
+        (length (chars text.now) ≤ room) × (room ≤ length text.now) × (find is_deciding_char (chars text.now) ≡ None)) }
+    ensures none { result ≡ None → ¬ (find is_deciding_char (chars text.now) ≡ None) }
+{
+    if FEW <= text.len() {
+        return undecided_len(text);
+    }
+    if has_deciding_byte(text.as_bytes()) {
+        return None;
+    }
+    Some(text.len())
+}
+
+/// The units of a text of UCS-2 and a NUL, in a vector that gets this much room.
+fn units_of_chars<A: Allocator>(alloc: A, text: &str, room: usize) -> Result<Vec<u16, A>, AllocError>
     requires undecided { find is_deciding_char (chars text.now) ≡ None }
-    requires len { length (chars text.now) ≡ len }
+    requires room { length (chars text.now) < room }
     ensures { IfOk result (λ units. units.items ≡ nul_terminated (chars text.now)) }
 {
     let mut units = Vec::new(alloc);
-    units.resize(len + 1, 0)?;
-    let _len = write_chars(text, &mut units);
+    units.resize(room, 0)?;
+    let len = write_chars(text, &mut units).unwrap_or(0);
+    units.truncate(len);
     Ok(units)
 }
 
@@ -177,7 +198,8 @@ fn refusal_of_text(text: &str) -> FromStrError
     }
 }
 
-/// The units of a text of UCS-2 and a NUL, in one allocation, which has just their room.
+/// The units of a text of UCS-2 and a NUL, in one allocation. It has just their room, unless the text is
+/// short.
 pub fn units_of_text<A: Allocator>(alloc: A, text: &str) -> Result<Vec<u16, A>, FromStrError>
     ensures ok { IfOk result (λ units. units.items ≡ nul_terminated (chars text.now)) }
     ensures accepted { IfOk result (λ _. find is_deciding_char (chars text.now) ≡ None) }
@@ -187,10 +209,10 @@ pub fn units_of_text<A: Allocator>(alloc: A, text: &str) -> Result<Vec<u16, A>, 
     if is_ascii_text(text.as_bytes()) {
         return units_of_ascii(alloc, text.as_bytes()).map_err(|_| FromStrError::OutOfMemory);
     }
-    let Some(len) = undecided_len(text) else {
+    let Some(room) = room_for(text) else {
         return Err(refusal_of_text(text));
     };
-    units_of_chars(alloc, text, len).map_err(|_| FromStrError::OutOfMemory)
+    units_of_chars(alloc, text, room + 1).map_err(|_| FromStrError::OutOfMemory)
 }
 
 /// Writes a Rust text and a NUL into the prefix of a buffer, and returns how many units they are:

@@ -291,13 +291,20 @@ pub(crate) fn has_byte_beyond_latin1(bytes: &[u8]) -> bool
     has_any::<u8, BeyondLatin1>(bytes)
 }
 
+/// Whether a byte begins a character that no UCS-2 text holds.
+pub(crate) fn has_deciding_byte(bytes: &[u8]) -> bool
+    ensures { result ≡ list_any is_deciding_byte bytes.now }
+{
+    has_any::<u8, DecidingByte>(bytes)
+}
+
 /// How many characters begin in bytes of UTF-8; `None` exactly where one of them is one that no UCS-2
 /// text holds.
 pub(crate) fn count_undecided_chars(bytes: &[u8]) -> Option<usize>
     ensures { SomeIff result (list_any is_deciding_byte bytes.now ≡ false)
         (count_by is_char_start bytes.now) }
 {
-    if has_any::<u8, DecidingByte>(bytes) {
+    if has_deciding_byte(bytes) {
         return None;
     }
     Some(count::<u8, CharStart>(bytes))
