@@ -109,6 +109,6 @@ fn printed_characters(rt: HostRuntime) -> Result<(), Fail> {
 #[test]
 fn printed_for_programmers(rt: HostRuntime) -> Result<(), Fail> {
     let printed = format!(in rt.alloc(); "{:?} {:?}", Char8::from(0xe9), Char16::try_from('\n')?)?;
-    assert!(rt; printed.as_str() == "'é' '\\n'");
+    assert!(rt; printed.as_str() == r"'é' '\n'");
     Ok(())
 }

@@ -51,7 +51,7 @@ fn accepted_bytes(rt: HostRuntime) -> Result<(), Fail> {
 fn printed_for_programmers(rt: HostRuntime) -> Result<(), Fail> {
     let string = CStr8::from_bytes_with_nul(&[0xe9, 10, 0])?;
     let printed = format!(in rt.alloc(); "{string:?}")?;
-    assert!(rt; printed.as_str() == "CStr8(['é', '\\n'])");
+    assert!(rt; printed.as_str() == r"CStr8(['é', '\n'])");
     Ok(())
 }
 

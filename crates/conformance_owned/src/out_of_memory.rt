@@ -272,7 +272,7 @@ const ROWS: &[(Call<'static>, u64, u64, u64)] = &[
     (Call::New, 0, 1, 1),
     (Call::TryFromStr(""), 0, 1, 1),
     (Call::TryFromStr("a"), 0, 1, 1),
-    (Call::TryFromStr("\\foo\\bar"), 0, 1, 1),
+    (Call::TryFromStr(r"\foo\bar"), 0, 1, 1),
     (Call::TryFromStr("é"), 0, 1, 1),
     (Call::TryFromStr("a\u{ffff}é"), 0, 1, 1),
     (Call::ToVecOfNothing, 0, 0, 0),

@@ -51,8 +51,8 @@ fn becomes(
 #[test]
 fn replaced_characters(rt: HostRuntime) -> Result<(), Fail> {
     for (text, search, replace, want) in [
-        ("foo/bar/foobar//", '/', '\\', "foo\\bar\\foobar\\\\"),
-        ("foo\\bar\\foobar\\\\", '\\', '\\', "foo\\bar\\foobar\\\\"),
+        ("foo/bar/foobar//", '/', '\\', r"foo\bar\foobar\\"),
+        (r"foo\bar\foobar\\", '\\', '\\', r"foo\bar\foobar\\"),
         ("aba", 'a', 'a', "aba"),
     ] {
         let (search, replace) = (Char16::try_from(search)?, Char16::try_from(replace)?);

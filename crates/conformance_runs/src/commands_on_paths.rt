@@ -33,8 +33,8 @@ fn a_list_of_commands(rt: HostRuntime) -> Result<(), Fail> {
     ];
     for (count, want) in [
         (0, ""),
-        (1, "\\a"),
-        (2, "\\a\\b"),
+        (1, r"\a"),
+        (2, r"\a\b"),
         (3, "a"),
         (4, "a"),
         (5, ""),
@@ -52,8 +52,8 @@ fn commands_on_a_path_that_ends_in_a_separator(rt: HostRuntime) -> Result<(), Fa
         PathCommand::Join(Path::new(second.as_cstr16())),
         PathCommand::Parent,
     ];
-    for (count, want) in [(1, "q\\x"), (2, "q\\x\\\\y"), (3, "q\\x\\")] {
-        assert!(rt; leads_to(&rt, "q\\", &commands, count, want)?, "{count}");
+    for (count, want) in [(1, r"q\x"), (2, r"q\x\\y"), (3, r"q\x\")] {
+        assert!(rt; leads_to(&rt, r"q\", &commands, count, want)?, "{count}");
     }
     Ok(())
 }

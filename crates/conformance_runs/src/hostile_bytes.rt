@@ -53,5 +53,5 @@ fn bytes_that_end_too_soon(rt: HostRuntime) {
     for len in 0..6usize {
         assert!(rt; is_cut_short(&rt, bytes.get(..len).unwrap_or(&[])), "{len}");
     }
-    assert!(rt; accepts(&rt, bytes, "\\a"));
+    assert!(rt; accepts(&rt, bytes, r"\a"));
 }

@@ -19,8 +19,8 @@ fn is_refused(rt: &HostRuntime, bytes: &[u8], want: JudgeError) -> bool {
 #[test]
 fn accepted_bytes(rt: HostRuntime) {
     let rows: [(&[u8], &str); 3] = [
-        (&[0x2f, 0, 0x61, 0, 0, 0], "\\a"),
-        (&[0x5c, 0, 0, 0], "\\"),
+        (&[0x2f, 0, 0x61, 0, 0, 0], r"\a"),
+        (&[0x5c, 0, 0, 0], r"\"),
         (&[0xff, 0xff, 0, 0], "\u{ffff}"),
     ];
     for (bytes, want) in rows {

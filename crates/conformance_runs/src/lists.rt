@@ -30,11 +30,11 @@ fn has_parents(rt: &HostRuntime, text: &str, want: &str) -> Result<bool, Fail> {
 
 /// Paths, and their parents, a bar before each.
 const PARENTS: &[(&str, &str)] = &[
-    ("\\a\\b\\c", "|a\\b|a"),
-    ("a\\\\b", "|a\\|a"),
-    ("\\\\\\a", "|"),
-    ("a\\", "|a"),
-    ("\\", ""),
+    (r"\a\b\c", r"|a\b|a"),
+    (r"a\\b", r"|a\|a"),
+    (r"\\\a", "|"),
+    (r"a\", "|a"),
+    (r"\", ""),
     ("", ""),
 ];
 
@@ -49,7 +49,7 @@ fn successive_parents(rt: HostRuntime) -> Result<(), Fail> {
 /// The empty path is the one parent of separators alone.
 #[test]
 fn parents_of_separators_alone(rt: HostRuntime) -> Result<(), Fail> {
-    let separators = repeated(rt.alloc(), "\\", 65)?;
+    let separators = repeated(rt.alloc(), r"\", 65)?;
     for count in [2usize, 3, 4, 5, 6, 63, 64, 65] {
         let text = separators.get(..count).unwrap_or("");
         assert!(rt; has_parents(&rt, text, "|")?, "{count}");
@@ -65,13 +65,7 @@ pub(crate) fn count_of_pieces(rt: &HostRuntime, text: &str) -> Result<usize, Fai
 
 #[test]
 fn counts_of_components(rt: HostRuntime) -> Result<(), Fail> {
-    for (text, count) in [
-        ("", 0),
-        ("\\", 0),
-        ("\\a\\b", 2),
-        ("a\\\\", 3),
-        ("ab\\c", 2),
-    ] {
+    for (text, count) in [("", 0), (r"\", 0), (r"\a\b", 2), (r"a\\", 3), (r"ab\c", 2)] {
         assert!(rt; count_of_pieces(&rt, text)? == count, "{text}");
     }
     Ok(())
@@ -113,7 +107,7 @@ fn lists_twice_refused(
 /// The request that is refused and the one for less are refused together: the list ends, or is whole.
 #[test]
 fn each_request_for_components_and_the_next(rt: HostRuntime) -> Result<(), Fail> {
-    let text = string(rt.alloc(), "a\\b\\c\\d\\e\\f\\g\\h\\i\\j\\k\\l")?;
+    let text = string(rt.alloc(), r"a\b\c\d\e\f\g\h\i\j\k\l")?;
     let path = Path::new(text.as_cstr16());
     let want = pieces(rt.alloc(), path)?;
     let mut refused = 0u64;

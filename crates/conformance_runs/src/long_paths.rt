@@ -11,7 +11,7 @@ use upath::{PathCommand, Watched, all_parents, run_streams};
 
 #[test]
 fn long_lists_of_components(rt: HostRuntime) -> Result<(), Fail> {
-    let text = repeated(rt.alloc(), "\\a", 50_000)?;
+    let text = repeated(rt.alloc(), r"\a", 50_000)?;
     assert!(rt; count_of_pieces(&rt, &text)? == 50_000);
     Ok(())
 }
@@ -25,7 +25,7 @@ fn count_of_parents(rt: &HostRuntime, text: &str) -> Result<usize, Fail> {
 #[test]
 fn parents_of_long_paths(rt: HostRuntime) -> Result<(), Fail> {
     let mut text = repeated(rt.alloc(), "ab", 50_000)?;
-    text.push_str("\\c\\d")?;
+    text.push_str(r"\c\d")?;
     assert!(rt; count_of_parents(&rt, &text)? == 2);
     Ok(())
 }
@@ -33,8 +33,8 @@ fn parents_of_long_paths(rt: HostRuntime) -> Result<(), Fail> {
 #[test]
 fn commands_on_long_paths(rt: HostRuntime) -> Result<(), Fail> {
     let (text, twice) = (
-        repeated(rt.alloc(), "ab\\", 33_334)?,
-        repeated(rt.alloc(), "ab\\", 66_668)?,
+        repeated(rt.alloc(), r"ab\", 33_334)?,
+        repeated(rt.alloc(), r"ab\", 66_668)?,
     );
     let long = string(rt.alloc(), &text)?;
     let commands = [
@@ -46,7 +46,7 @@ fn commands_on_long_paths(rt: HostRuntime) -> Result<(), Fail> {
         PathCommand::Parent,
         PathCommand::Clear,
     ];
-    let parent = twice.strip_suffix("\\").unwrap_or("");
+    let parent = twice.strip_suffix(r"\").unwrap_or("");
     for (count, want) in [
         (1, text.as_str()),
         (2, twice.as_str()),
@@ -62,7 +62,7 @@ fn commands_on_long_paths(rt: HostRuntime) -> Result<(), Fail> {
 
 #[test]
 fn long_bytes_that_are_judged(rt: HostRuntime) -> Result<(), Fail> {
-    let text = repeated(rt.alloc(), "\\a", 50_000)?;
+    let text = repeated(rt.alloc(), r"\a", 50_000)?;
     let bytes = string(rt.alloc(), &text)?.as_cstr16().as_bytes(rt.alloc())?;
     assert!(rt; accepts(&rt, &bytes, &text));
     Ok(())
@@ -127,9 +127,9 @@ fn each_verb_on_long_names(rt: HostRuntime) -> Result<(), Fail> {
 /// 50,000 components, a line each.
 #[test]
 fn each_verb_on_many_names(rt: HostRuntime) -> Result<(), Fail> {
-    let names = repeated(rt.alloc(), "\\a", 50_000)?;
+    let names = repeated(rt.alloc(), r"\a", 50_000)?;
     let lines = repeated(rt.alloc(), "| a\n", 50_000)?;
-    let plain = names.strip_prefix("\\").unwrap_or("");
+    let plain = names.strip_prefix(r"\").unwrap_or("");
     let input = format!(in rt.alloc(); "from {names}\npieces\ncheck\nnorm\neq {plain}\n")?;
     let want = format!(in rt.alloc(); "= {names}\npieces 50000\n{lines}ok\n= {plain}\nequal\n")?;
     assert!(rt; prints(&rt, input.as_bytes(), &want));

@@ -8,86 +8,149 @@ pub(crate) fn prints(rt: &HostRuntime, input: &[u8], want: &str) -> bool {
     matches!(&run_text(rt.alloc(), input), Ok(output) if output.as_slice() == want.as_bytes())
 }
 
-/// Lines, and what they print.
-const PRINTED: &[(&str, &str)] = &[
-    (
-        "from \\foo\\bar\npieces\n",
-        "= \\foo\\bar\npieces 2\n| foo\n| bar\n",
-    ),
-    (
-        "from /a\\b\neq a\\b\neq \\\\a\\b\npush\npieces",
-        "= \\a\\b\nequal\ndifferent\n? unknown command\npieces 2\n| a\n| b\n",
-    ),
-    (
-        "from a😀\n\nfrom \npieces\neq \\\n",
-        "UCS-2 Conversion Error: Invalid character\n? unknown command\n= \npieces 0\nequal\n",
-    ),
-    (
-        "from x\0\nclear \n",
-        "UCS-2 Conversion Error: Interior null terminator\n? unknown command\n",
-    ),
-    (
-        "from \u{ffff}é\npieces\n",
-        "= \u{ffff}é\npieces 1\n| \u{ffff}é\n",
-    ),
-    ("from \\\\\npieces\n", "= \\\\\npieces 2\n| \n| \n"),
-    (
-        "from \\\\\\\npieces\nup\ncheck\n",
-        "= \\\\\\\npieces 3\n| \n| \n| \nparents 1\n| \n\
-             path contains an empty component\n",
-    ),
-    ("from \u{ffff}\n", "= \u{ffff}\n"),
-];
+/// Lines of one run, each with the lines that it prints.
+type Transcript = &'static [(&'static str, &'static [&'static str])];
 
-#[test]
-fn lines_and_what_they_print(rt: HostRuntime) {
-    for (input, want) in PRINTED {
-        assert!(rt; prints(&rt, input.as_bytes(), want), "{input:?}");
+/// Whether the lines of a transcript print what it says.
+fn holds(rt: &HostRuntime, transcript: Transcript) -> Result<bool, Fail> {
+    let mut input = String::new(rt.alloc());
+    let mut want = String::new(rt.alloc());
+    for (line, printed) in transcript {
+        input.push_str(line)?;
+        input.push('\n')?;
+        for printed_line in *printed {
+            want.push_str(printed_line)?;
+            want.push('\n')?;
+        }
     }
+    Ok(prints(rt, input.as_bytes(), want.as_str()))
 }
 
-/// Lines, and what they print.
-const CHANGES: &[(&str, &str)] = &[
-    (
-        "from a\npush \nparent\nclear\ncmp \\\njoin \\x\nfrom \\\njoin \\x\ncmp x\n\
-             check\nfrom b\ncmp \\c\n",
-        "= a\n= a\nnone\n= \nequal\n= \\x\n= \\\n= \\\\x\nless\n\
-             path contains an empty component\n= b\nless\n",
-    ),
-    (
-        "from a/../b\nnorm\npieces\nclear\nnorm\nnorm \n",
-        "= a\\..\\b\n= b\npieces 3\n| a\n| ..\n| b\n= \npath is empty\n? unknown command\n",
-    ),
-    (
-        "from ..\\a\ncheck\nnorm\nparent\ncheck\n",
-        "= ..\\a\npath climbs above the root\npath climbs above the root\n= ..\n\
-             path climbs above the root\n",
-    ),
-    (
-        "from a/b\neq a/b\ncmp \\a\\b\ncmp a\njoin \\\npieces\ncheck\nup\n",
-        "= a\\b\ndifferent\nequal\ngreater\n= a\\b\\\\\npieces 4\n| a\n| b\n| \n| \n\
-             path contains an empty component\nparents 3\n| a\\b\\\n| a\\b\n| a\n",
-    ),
-    (
-        "from /a\npush b\nup\nparent\nparent\npieces\ncheck\n",
-        "= \\a\n= \\a\\b\nparents 1\n| a\n= a\nnone\npieces 1\n| a\nok\n",
-    ),
-    (
-        "check\npush a>b\ncheck\njoin c/d\nclear\ncheck\n",
-        "path is empty\n= a>b\npath contains an illegal character (value 62)\n\
-             = a>b\\c\\d\n= \npath is empty\n",
-    ),
-    (
-        "from a\\b\ncmp a!\nfrom a\ncmp \\a\ncmp \\\\a\n",
-        "= a\\b\ngreater\n= a\nequal\ngreater\n",
-    ),
+/// Runs that read the path.
+const PRINTED: &[Transcript] = &[
+    &[
+        (r"from \foo\bar", &[r"= \foo\bar"]),
+        ("pieces", &["pieces 2", "| foo", "| bar"]),
+    ],
+    &[
+        (r"from /a\b", &[r"= \a\b"]),
+        (r"eq a\b", &["equal"]),
+        (r"eq \\a\b", &["different"]),
+        ("push", &["? unknown command"]),
+        ("pieces", &["pieces 2", "| a", "| b"]),
+    ],
+    &[
+        ("from a😀", &["UCS-2 Conversion Error: Invalid character"]),
+        ("", &["? unknown command"]),
+        ("from ", &["= "]),
+        ("pieces", &["pieces 0"]),
+        (r"eq \", &["equal"]),
+    ],
+    &[
+        (
+            "from x\0",
+            &["UCS-2 Conversion Error: Interior null terminator"],
+        ),
+        ("clear ", &["? unknown command"]),
+    ],
+    &[
+        ("from \u{ffff}é", &["= \u{ffff}é"]),
+        ("pieces", &["pieces 1", "| \u{ffff}é"]),
+    ],
+    &[
+        (r"from \\", &[r"= \\"]),
+        ("pieces", &["pieces 2", "| ", "| "]),
+    ],
+    &[
+        (r"from \\\", &[r"= \\\"]),
+        ("pieces", &["pieces 3", "| ", "| ", "| "]),
+        ("up", &["parents 1", "| "]),
+        ("check", &["path contains an empty component"]),
+    ],
+    &[("from \u{ffff}", &["= \u{ffff}"])],
 ];
 
 #[test]
-fn lines_that_change_the_path(rt: HostRuntime) {
-    for (input, want) in CHANGES {
-        assert!(rt; prints(&rt, input.as_bytes(), want), "{input:?}");
+fn lines_and_what_they_print(rt: HostRuntime) -> Result<(), Fail> {
+    for transcript in PRINTED {
+        assert!(rt; holds(&rt, *transcript)?, "{transcript:?}");
     }
+    Ok(())
+}
+
+/// Runs that change the path.
+const CHANGES: &[Transcript] = &[
+    &[
+        ("from a", &["= a"]),
+        ("push ", &["= a"]),
+        ("parent", &["none"]),
+        ("clear", &["= "]),
+        (r"cmp \", &["equal"]),
+        (r"join \x", &[r"= \x"]),
+        (r"from \", &[r"= \"]),
+        (r"join \x", &[r"= \\x"]),
+        ("cmp x", &["less"]),
+        ("check", &["path contains an empty component"]),
+        ("from b", &["= b"]),
+        (r"cmp \c", &["less"]),
+    ],
+    &[
+        ("from a/../b", &[r"= a\..\b"]),
+        ("norm", &["= b"]),
+        ("pieces", &["pieces 3", "| a", "| ..", "| b"]),
+        ("clear", &["= "]),
+        ("norm", &["path is empty"]),
+        ("norm ", &["? unknown command"]),
+    ],
+    &[
+        (r"from ..\a", &[r"= ..\a"]),
+        ("check", &["path climbs above the root"]),
+        ("norm", &["path climbs above the root"]),
+        ("parent", &["= .."]),
+        ("check", &["path climbs above the root"]),
+    ],
+    &[
+        ("from a/b", &[r"= a\b"]),
+        ("eq a/b", &["different"]),
+        (r"cmp \a\b", &["equal"]),
+        ("cmp a", &["greater"]),
+        (r"join \", &[r"= a\b\\"]),
+        ("pieces", &["pieces 4", "| a", "| b", "| ", "| "]),
+        ("check", &["path contains an empty component"]),
+        ("up", &["parents 3", r"| a\b\", r"| a\b", "| a"]),
+    ],
+    &[
+        ("from /a", &[r"= \a"]),
+        ("push b", &[r"= \a\b"]),
+        ("up", &["parents 1", "| a"]),
+        ("parent", &["= a"]),
+        ("parent", &["none"]),
+        ("pieces", &["pieces 1", "| a"]),
+        ("check", &["ok"]),
+    ],
+    &[
+        ("check", &["path is empty"]),
+        ("push a>b", &["= a>b"]),
+        ("check", &["path contains an illegal character (value 62)"]),
+        ("join c/d", &[r"= a>b\c\d"]),
+        ("clear", &["= "]),
+        ("check", &["path is empty"]),
+    ],
+    &[
+        (r"from a\b", &[r"= a\b"]),
+        ("cmp a!", &["greater"]),
+        ("from a", &["= a"]),
+        (r"cmp \a", &["equal"]),
+        (r"cmp \\a", &["greater"]),
+    ],
+];
+
+#[test]
+fn lines_that_change_the_path(rt: HostRuntime) -> Result<(), Fail> {
+    for transcript in CHANGES {
+        assert!(rt; holds(&rt, *transcript)?, "{transcript:?}");
+    }
+    Ok(())
 }
 
 #[test]

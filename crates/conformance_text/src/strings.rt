@@ -174,10 +174,10 @@ fn printed_for_programmers(rt: HostRuntime) -> Result<(), Fail> {
     let string = string(rt.alloc(), "é\n")?;
     let borrowed = string.as_cstr16();
     let printed = format!(in rt.alloc(); "{string:?} {borrowed:?}")?;
-    assert!(rt; printed.as_str() == "CString16(['é', '\\n']) CStr16(['é', '\\n'])");
+    assert!(rt; printed.as_str() == r"CString16(['é', '\n']) CStr16(['é', '\n'])");
     let mut left = borrowed.iter();
     let _first = left.next();
     let printed = format!(in rt.alloc(); "{:?} {left:?}", borrowed.as_slice_with_nul())?;
-    assert!(rt; printed.as_str() == "['é', '\\n', '\\0'] CStr16Iter([10])");
+    assert!(rt; printed.as_str() == r"['é', '\n', '\0'] CStr16Iter([10])");
     Ok(())
 }
