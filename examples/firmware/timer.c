@@ -7,7 +7,7 @@
 
 #include "lines.h"
 
-enum { TURNS = 5000, TEXT = 2400, PERIOD = 500, MOST = 3000 };
+enum { TURNS = 2500, TEXT = 2400, PERIOD = 500, MOST = 3000 };
 
 typedef struct timer TIMER;
 struct timer {
@@ -51,8 +51,9 @@ static void put_count(const char *what, size_t wrong)
     lines_put(" wrong\n");
 }
 
-/* How many conversions of a text of three-byte characters differ from the first, and how many sums of it. */
-static void count_wrong(size_t *library, size_t *planted)
+/* How many conversions of a text of three-byte characters differ from the first, and how many sums of it. No interrupt comes
+ * while the first ones are made. */
+static void count_wrong(EFI_BOOT_SERVICES *services, size_t *library, size_t *planted)
 {
     static uint8_t text[TEXT];
     static uint16_t first[MOST], units[MOST];
@@ -60,8 +61,11 @@ static void count_wrong(size_t *library, size_t *planted)
     size_t first_length = 0, length = 0;
     for (size_t i = 0; i < TEXT; i++)
         text[i] = piece[i % sizeof piece];
+    EFI_TPL level = services->RaiseTPL(TPL_HIGH_LEVEL);
     uint32_t sum = planted_sum(text, TEXT);
-    if (uefi_string_from_utf8(text, TEXT, first, MOST, &first_length) != UEFI_OK)
+    uint32_t reason = uefi_string_from_utf8(text, TEXT, first, MOST, &first_length);
+    services->RestoreTPL(level);
+    if (reason != UEFI_OK)
         *library = TURNS;
     for (size_t turn = 0; turn < TURNS; turn++) {
         bool is_right = uefi_string_from_utf8(text, TEXT, units, MOST, &length) == UEFI_OK && length == first_length;
@@ -91,7 +95,7 @@ EFI_STATUS efi_main(EFI_HANDLE handle, EFI_SYSTEM_TABLE *system_table)
     services->SetTimer(event, TimerPeriodic, 2 * PERIOD);
     timer->get_period(timer, &period);
     timer->set_period(timer, PERIOD);
-    count_wrong(&library, &planted);
+    count_wrong(services, &library, &planted);
     timer->set_period(timer, period);
     services->CloseEvent(event);
     put_count("library: ", library);
