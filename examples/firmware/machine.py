@@ -55,7 +55,7 @@ class Machine:
         code, template = FIRMWARE[processor]
         with open(template, "rb") as file:
             flash.write_bytes(variables.with_variables(file.read(), entries))
-        self.said, self.deadline = b"", time.monotonic() + 100
+        self.said, self.deadline = b"", time.monotonic() + 55
         self.process = subprocess.Popen(
             [*MACHINES[processor], "-accel", "tcg", "-m", "256", "-display", "none", "-monitor", "none", "-serial", "stdio",
              "-net", "none", "-no-reboot", "-drive", f"if=pflash,format=raw,readonly=on,file={code}",
