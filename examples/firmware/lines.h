@@ -7,7 +7,7 @@
 /* Whether a file is there. */
 enum lines_found { LINES_THERE, LINES_FOLDER, LINES_NOT_THERE, LINES_NO_DISK, LINES_UNKNOWN };
 
-/* The most units of a name that file systems of firmware hold. Some of them copy a longer one over what lies beside it. */
+/* The most units of a name that FAT holds. The menu relies on no file system to refuse a longer one. */
 enum { LINES_MOST_NAME = 255 };
 
 /* A program brings both: how a unit is printed, and how a file is looked for, by its normal path, which ends in a NUL. */
