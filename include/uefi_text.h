@@ -13,9 +13,13 @@
  *   function and no other processor.
  * - Nothing that a call writes overlaps anything else that it is given. What it only reads may overlap.
  *
- * No call takes memory, keeps a pointer or writes anything but what its comment names. The library needs no other one:
- * `rt lib` builds it for programs of Linux, on a processor of x86-64-v2, and tools/firmware-lib for firmware, where
- * interrupts run on the stack of a call. Firmware has to link the second.
+ * No call takes memory, keeps a pointer or writes anything but what its comment names. The library needs no other one, and
+ * lies anywhere in memory. It is built in two ways:
+ *
+ * - For programs of Linux, by `rt lib`: ELF, the convention of System V, a processor of x86-64-v2. It may keep data below
+ *   its stack pointer, where an interrupt of firmware writes: no firmware may link it.
+ * - For firmware, by tools/firmware-lib: ELF and COFF, every processor of x86-64 and of aarch64, and nothing below the stack
+ *   pointer. In COFF the convention is that of Windows, which UEFI has too.
  *
  * A unit is a code unit of UCS-2. A text holds neither a NUL nor a surrogate (0xd800 to 0xdfff), and a string
  * is a text and its NUL. "Units begin with a string" where their first NUL or surrogate is a NUL: what
