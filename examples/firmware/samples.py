@@ -93,6 +93,10 @@ DESCRIPTIONS = ["debian", "", "Windows Boot Manager", "Überprüfung ▶", "a" *
                 "\ud800x", "bell\a", "é", "\uffff", "in\0side"]
 
 
+def random_bytes(source, count):
+    return bytes(source.randrange(256) for _ in range(count))
+
+
 def any_path(source):
     words = [source.choice(WORDS[:10] if source.random() < 0.8 else WORDS) for _ in range(source.randrange(6))]
     return path(source.choice(["\\", "\\", "\\", "", "/"]) + source.choice(["\\"] * 9 + ["/"]).join(words))
@@ -105,9 +109,9 @@ def any_node(source):
         lambda: node(1, 1, bytes([source.randrange(8), source.randrange(32)])),
         lambda: node(3, 18, struct.pack("<HHH", source.randrange(6), 0xFFFF, 0)),
         lambda: node(3, 24, source.choice([b"", b"http://boot.example/a.efi"])),
-        lambda: node(4, 3, source.randbytes(16 + source.randrange(5))),
+        lambda: node(4, 3, random_bytes(source, 16 + source.randrange(5))),
         lambda: node(5, 1, struct.pack("<HH", 2, 0) + b"BBS disk\0"),
-        lambda: node(source.randrange(256), source.randrange(256), source.randbytes(source.randrange(12))),
+        lambda: node(source.randrange(256), source.randrange(256), random_bytes(source, source.randrange(12))),
     ])()
 
 
@@ -121,7 +125,7 @@ def any_nodes(source):
 
 
 def any_entry(source):
-    data = source.choice([b"", b"", b"", source.randbytes(source.randrange(40)), text("root=/dev/sda1")])
+    data = source.choice([b"", b"", b"", random_bytes(source, source.randrange(40)), text("root=/dev/sda1")])
     return entry(source.choice(DESCRIPTIONS), any_nodes(source), source.choice([1, 1, 1, 0, 0x101, 9]), data)
 
 
@@ -140,7 +144,7 @@ def mutated(source, made):
         elif kind == 3:
             del made[at : at + source.randrange(1, 5)]
         elif kind == 4:
-            made[at:at] = source.choice([b"\0", b"\0\0", END, source.randbytes(3), DISK])
+            made[at:at] = source.choice([b"\0", b"\0\0", END, random_bytes(source, 3), DISK])
         elif kind == 5 and 6 <= len(made):
             made[4:6] = struct.pack("<H", source.choice([0, 1, 4, len(made), 0x7FFF, 0x8000, 0xFFFF, source.randrange(300)]))
         elif at + 4 <= len(made):
