@@ -218,10 +218,10 @@ static void start(uint16_t number)
     }
 }
 
-/* Shows each entry of BootOrder, whatever it holds. */
+/* Shows each entry of BootOrder, whatever it holds, but those after many. */
 static void show_entries(void)
 {
-    static uint16_t order[MOST_ENTRIES];
+    static uint16_t order[READER_MOST_UNITS];
     size_t size = 0;
     EFI_STATUS status = read_variable("BootOrder", order, sizeof order, &size);
     if (status != EFI_SUCCESS) {
@@ -229,7 +229,7 @@ static void show_entries(void)
         put_status(status);
     }
     entry_count = 0;
-    for (size_t i = 0; i < size / 2; i++) {
+    for (size_t i = 0; i < size / 2 && i < MOST_ENTRIES; i++) {
         size_t bytes = 0;
         status = read_entry(order[i], &bytes);
         if (status != EFI_SUCCESS) {
@@ -240,6 +240,10 @@ static void show_entries(void)
         }
         bool can_start = lines_show(&reader, order[i], variable, bytes);
         entries[entry_count++] = (struct entry){order[i], can_start};
+    }
+    if (MOST_ENTRIES < size / 2) {
+        lines_put_number(size / 2 - MOST_ENTRIES);
+        lines_put(" more are left out\n");
     }
 }
 
