@@ -19,6 +19,8 @@ MACHINES = {
     "x86_64": ["qemu-system-x86_64", "-machine", "q35", "-cpu", "qemu64,-sse3"],
     "aarch64": ["qemu-system-aarch64", "-machine", "virt", "-cpu", "cortex-a57"],
 }
+# Where the programs lie on the disk.
+FILES = {"/EFI/menu.efi": "menu", "/EFI/order.efi": "order", "/EFI/tools/hello.efi": "hello"}
 ESCAPES = re.compile(rb"\x1b\[[0-9;=?]*[A-Za-z]")
 DOWN, UP, ENTER = b"\x1b[B", b"\x1b[A", b"\r"
 
@@ -48,19 +50,33 @@ def folders_of(name):
     return ["/" + "/".join(parts[: i + 1]) for i in range(len(parts))]
 
 
+def variables_of(entries, order):
+    """The variables of the entries, by their numbers, and of their order.
+
+    The firmware deletes what it takes for malformed among the entries of BootOrder, so that one has two at first, and the
+    program of the first writes TestOrder into it.
+    """
+    made = [(f"Boot{number:04X}", data) for number, data in entries]
+    return made + [(name, struct.pack(f"<{len(them)}H", *them)) for name, them in (("BootOrder", order[:2]), ("TestOrder", order))]
+
+
+def command(processor, disk, flash, entries, serial):
+    """The command that starts a machine, whose flash is written with these variables."""
+    code, template = FIRMWARE[processor]
+    with open(template, "rb") as file:
+        flash.write_bytes(variables.with_variables(file.read(), entries))
+    return [*MACHINES[processor], "-accel", "tcg", "-m", "256", "-display", "none", "-serial", serial, "-net", "none", "-no-reboot",
+            "-drive", f"if=pflash,format=raw,readonly=on,file={code}", "-drive", f"if=pflash,format=raw,file={flash}",
+            "-drive", f"if=none,id=disk,format=raw,file={disk}", "-device", "virtio-blk-pci,drive=disk"]
+
+
 class Machine:
     """Runs with the variables in its flash. `lines` is what its serial line printed, without what a terminal obeys."""
 
     def __init__(self, processor, disk, flash, entries):
-        code, template = FIRMWARE[processor]
-        with open(template, "rb") as file:
-            flash.write_bytes(variables.with_variables(file.read(), entries))
         self.said, self.deadline = b"", time.monotonic() + 55
         self.process = subprocess.Popen(
-            [*MACHINES[processor], "-accel", "tcg", "-m", "256", "-display", "none", "-monitor", "none", "-serial", "stdio",
-             "-net", "none", "-no-reboot", "-drive", f"if=pflash,format=raw,readonly=on,file={code}",
-             "-drive", f"if=pflash,format=raw,file={flash}", "-drive", f"if=none,id=disk,format=raw,file={disk}",
-             "-device", "virtio-blk-pci,drive=disk"],
+            [*command(processor, disk, flash, entries, "stdio"), "-monitor", "none"],
             stdin=subprocess.PIPE, stdout=subprocess.PIPE, stderr=subprocess.STDOUT)
 
     def __enter__(self):
