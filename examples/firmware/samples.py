@@ -1,7 +1,8 @@
 #!/usr/bin/env python3
 """Boot entries for the tests of the reader and the menu (UEFI Specification 2.10, sections 3.1.3, 10.2 and 10.3).
 
-usage: samples.py COUNT FILE    writes COUNT entries, made and mutated by a fixed seed, each after its length in four bytes
+usage: samples.py COUNT FILE    writes these, large ones, and COUNT that are made and mutated by a fixed seed, each after
+                                its length in four bytes
 
 `named` has those that the menu is tested with, each with what it shows.
 """
@@ -160,9 +161,24 @@ def many(count):
         yield made if i % 4 == 0 else mutated(source, made)
 
 
+def large():
+    """Entries about as long as the reader takes, and as long as their parts can be."""
+    most = 16384
+    head = len(entry("", path("\\a") + END))
+    for size in (most - 1, most, most + 1):
+        yield entry("", path("\\a") + END, data=bytes(size - head))
+        yield entry("d" * ((size - head) // 2), path("\\a") + END)[:size]
+        yield entry("", path("\\" + "p" * ((size - head) // 2)) + END)
+        yield entry("", path("\\." * ((size - head) // 4)) + path("\\a") + END)
+        yield entry("", b"".join(path("\\b") for _ in range(size // 10)) + END)
+        yield bytes([1, 0, 0, 0, 0, 0]) + b"\xd8" * (size - 6)
+    yield b""
+    yield bytes(65536)
+
+
 if __name__ == "__main__":
     if len(sys.argv) != 3:
         raise SystemExit(__doc__.strip())
     with open(sys.argv[2], "wb") as file:
-        for each in [*named(), *many(int(sys.argv[1]))]:
+        for each in [*named(), *large(), *many(int(sys.argv[1]))]:
             file.write(struct.pack("<I", len(each)) + each)
