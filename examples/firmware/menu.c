@@ -12,6 +12,8 @@ _Static_assert(sizeof(CHAR16) == 2 && sizeof(UINTN) == sizeof(size_t), "the type
 
 enum { MOST_ENTRIES = 256, MOST_TARGET = 2048, NODE_HEADER = 4, END_OF_PATH = 0x7f };
 enum { KEY_UP = 1, KEY_DOWN = 2, MEDIA = 4, FILE_PATH = 4 };
+/* What a boot manager gives an entry to start, in seconds, and a number for it that is not the firmware's. */
+enum { WATCHDOG_SECONDS = 300, WATCHDOG_CODE = 0x10000 };
 
 struct entry {
     uint16_t number;
@@ -193,7 +195,10 @@ static EFI_STATUS start_file(EFI_HANDLE volume, const uint16_t *normal, size_t l
         loaded->LoadOptions = variable + reader.end;
         loaded->LoadOptionsSize = (UINT32)(size - reader.end);
     }
-    return services->StartImage(started, NULL, NULL);
+    services->SetWatchdogTimer(WATCHDOG_SECONDS, WATCHDOG_CODE, 0, NULL);
+    status = services->StartImage(started, NULL, NULL);
+    services->SetWatchdogTimer(0, 0, 0, NULL);
+    return status;
 }
 
 /* Starts the first file of an entry that is there. The variable is read again, and judged again. */
