@@ -1,28 +1,70 @@
 /*
  * Strings, packed code units and paths as UEFI firmware holds them.
  *
- * Each call is proved to do what its comment says, for every input that a caller may pass, and none takes
- * memory or keeps a pointer: the archive has no undefined symbol.
+ * Each call is proved to do what its comment says, for every input, where its caller keeps these rules. No call can test
+ * them:
  *
- * A caller passes, always: pointers that are not null, also where the count is 0; as many elements as the
- * count says; and nothing that a call writes overlaps anything else that it is given.
+ * - A pointer is never null, also where the count is 0.
+ * - It is aligned as its type asks: one to units, and one to a character, to two bytes, one to a size to eight. Bytes lie
+ *   anywhere. The path in a device path node may begin at an odd address: uefi_units_from_bytes makes units of it first.
+ * - The memory has as many elements as the count or the room says, of at most PTRDIFF_MAX bytes. All of it is initialised,
+ *   also a buffer, or a size that a call only writes; with which values is up to the caller.
+ * - Nobody else writes what a call is given while it runs, and nobody reads what it writes: no interrupt, no event's
+ *   function and no other processor.
+ * - Nothing that a call writes overlaps anything else that it is given. What it only reads may overlap.
+ *
+ * No call takes memory, keeps a pointer or writes anything but what its comment names. The library needs no other one, and
+ * lies anywhere in memory. It is built in two ways:
+ *
+ * - For programs of Linux, by `rt lib`: ELF, the convention of System V, a processor of x86-64-v2. It may keep data below
+ *   its stack pointer, where an interrupt of firmware writes: no firmware may link it.
+ * - For firmware, by tools/firmware-lib: ELF and COFF, every processor of x86-64 and of aarch64, and nothing below the stack
+ *   pointer. In COFF the convention is that of Windows, which UEFI has too.
  *
  * A unit is a code unit of UCS-2. A text holds neither a NUL nor a surrogate (0xd800 to 0xdfff), and a string
  * is a text and its NUL. "Units begin with a string" where their first NUL or surrogate is a NUL: what
- * follows it is not read.
+ * follows it makes no difference.
  */
 #ifndef UEFI_TEXT_H
 #define UEFI_TEXT_H
 
+#ifndef UEFI_TEXT_TYPES
 #include <stdbool.h>
 #include <stddef.h>
 #include <stdint.h>
 
+/*
+ * The types of the calls: a byte, a unit, a size (an unsigned number as wide as a pointer), whether something holds, a
+ * reason, and an order. An includer may write others of the same size and sign first, and define UEFI_TEXT_TYPES: under
+ * EDK II UINT8, CHAR16, UINTN, BOOLEAN, UINT32 and INT32, which need no header of the compiler; in C++ char16_t for a unit.
+ */
+typedef uint8_t uefi_byte;
+typedef uint16_t uefi_unit;
+typedef size_t uefi_size;
+typedef bool uefi_bool;
+typedef uint32_t uefi_result;
+typedef int32_t uefi_order;
+#endif
+
+#ifndef UEFI_CALL
+/*
+ * The convention of the calls: that of the library for the kind of object that the compiler writes, which is System V's in
+ * ELF for x86-64, and else the one that is usual for the kind. It holds also where the compiler is told to use another one.
+ */
+#if defined(__x86_64__) && defined(__ELF__)
+#define UEFI_CALL __attribute__((sysv_abi))
+#elif defined(__x86_64__) && defined(_WIN32) && defined(__GNUC__)
+#define UEFI_CALL __attribute__((ms_abi))
+#else
+#define UEFI_CALL
+#endif
+#endif
+
 /* The version of this library: its numbers, and its text. */
 #define UEFI_TEXT_VERSION_MAJOR 0
 #define UEFI_TEXT_VERSION_MINOR 1
-#define UEFI_TEXT_VERSION_PATCH 0
-#define UEFI_TEXT_VERSION "0.1.0"
+#define UEFI_TEXT_VERSION_PATCH 1
+#define UEFI_TEXT_VERSION "0.1.1"
 
 #ifdef __cplusplus
 extern "C" {
@@ -50,54 +92,55 @@ enum { UEFI_NO_ORDER = 2 };
 /* Strings. */
 
 /*
- * Whether all `count` units are one string: UEFI_OK, UEFI_NO_NUL, UEFI_INVALID_CHAR or UEFI_INTERIOR_NUL, by
- * the first unit that is a NUL or a surrogate. `*place` becomes the length of the text, the index of the
- * refused unit, or `count` where no unit is a NUL.
+ * Whether all `count` units are one string, by the first unit that is a NUL or a surrogate. UEFI_OK, and `*place` becomes
+ * the length of the text; UEFI_NO_NUL where no unit is either, and `*place` becomes `count`; or UEFI_INVALID_CHAR for a
+ * surrogate and UEFI_INTERIOR_NUL for a NUL that is not the last unit, and `*place` becomes the index of that unit.
  */
-uint32_t uefi_string_with_nul(const uint16_t *units, size_t count, size_t *place);
+uefi_result UEFI_CALL uefi_string_with_nul(const uefi_unit *units, uefi_size count, uefi_size *place);
 
 /*
- * Whether the units begin with a string: UEFI_OK, UEFI_NO_NUL or UEFI_INVALID_CHAR. `*place` becomes the length
- * of the text, the index of the refused unit, or `count` where no unit is a NUL.
+ * Whether the units begin with a string, by the first unit that is a NUL or a surrogate. UEFI_OK, and `*place` becomes the
+ * length of the text; UEFI_NO_NUL where no unit is either, and `*place` becomes `count`; or UEFI_INVALID_CHAR for a
+ * surrogate, and `*place` becomes its index.
  */
-uint32_t uefi_string_until_nul(const uint16_t *units, size_t count, size_t *place);
+uefi_result UEFI_CALL uefi_string_until_nul(const uefi_unit *units, uefi_size count, uefi_size *place);
 
 /* Whether both begin with a string, and have the same text. */
-bool uefi_string_equal(const uint16_t *first, size_t first_count,
-                       const uint16_t *second, size_t second_count);
+uefi_bool UEFI_CALL uefi_string_equal(const uefi_unit *first, uefi_size first_count,
+                                      const uefi_unit *second, uefi_size second_count);
 
 /*
  * -1, 0 or 1 where the first text is less than, equal to or greater than the second, unit by unit;
  * UEFI_NO_ORDER where one side does not begin with a string.
  */
-int32_t uefi_string_order(const uint16_t *first, size_t first_count,
-                          const uint16_t *second, size_t second_count);
+uefi_order UEFI_CALL uefi_string_order(const uefi_unit *first, uefi_size first_count,
+                                       const uefi_unit *second, uefi_size second_count);
 
 /* Whether the units begin with a string whose text is ASCII. */
-bool uefi_string_is_ascii(const uint16_t *units, size_t count);
+uefi_bool UEFI_CALL uefi_string_is_ascii(const uefi_unit *units, uefi_size count);
 
 /* Packed code units. */
 
 /*
  * Copies the units that bytes encode, two bytes each with the low one first, from wherever the bytes begin
  * into the first places of `buffer`. UEFI_OK, and the places after the units stay; UEFI_ODD_BYTES, or then
- * UEFI_BUFFER_TOO_SMALL, and the buffer stays unchanged. `*count` becomes how many units there are.
+ * UEFI_BUFFER_TOO_SMALL, and the buffer stays unchanged. `*count` becomes half of `byte_count`, rounded down.
  */
-uint32_t uefi_units_from_bytes(const uint8_t *bytes, size_t byte_count,
-                               uint16_t *buffer, size_t room, size_t *count);
+uefi_result UEFI_CALL uefi_units_from_bytes(const uefi_byte *bytes, uefi_size byte_count,
+                                            uefi_unit *buffer, uefi_size room, uefi_size *count);
 
 /* Texts in UTF-8. */
 
 /*
- * Writes a text in UTF-8 and a NUL into the first places of `buffer`, and leaves the places after them.
- * UEFI_OK, and `*place` becomes the length of the text; or
+ * Writes a text in UTF-8 as units, and a NUL, into the first places of `buffer`. UEFI_OK, the places after the NUL stay,
+ * and `*place` becomes the length of the text; or, the first that holds,
  * UEFI_NOT_UTF8: the buffer stays unchanged, and `*place` becomes how many bytes before the fault are UTF-8;
- * UEFI_BUFFER_TOO_SMALL: each place of the buffer holds a unit of the text, and `*place` becomes `room`;
- * UEFI_INVALID_CHAR, UEFI_INTERIOR_NUL: the buffer holds the text's UTF-16 and a NUL, and `*place` becomes how
- * many characters stand before the first that is above U+FFFF or NUL.
+ * UEFI_BUFFER_TOO_SMALL: each place of the buffer holds a unit of the text's UTF-16, and `*place` becomes `room`;
+ * UEFI_INVALID_CHAR or UEFI_INTERIOR_NUL, by the first character that is above U+FFFF or NUL: the buffer holds the text's
+ * UTF-16 and a NUL, the places after these stay, and `*place` becomes how many characters stand before that one.
  */
-uint32_t uefi_string_from_utf8(const uint8_t *bytes, size_t byte_count,
-                               uint16_t *buffer, size_t room, size_t *place);
+uefi_result UEFI_CALL uefi_string_from_utf8(const uefi_byte *bytes, uefi_size byte_count,
+                                            uefi_unit *buffer, uefi_size room, uefi_size *place);
 
 /*
  * Writes the text of the string that units begin with, in UTF-8 and with a NUL, into the first places of
@@ -105,18 +148,18 @@ uint32_t uefi_string_from_utf8(const uint8_t *bytes, size_t byte_count,
  * bytes stay unchanged: UEFI_NO_NUL and UEFI_INVALID_CHAR as uefi_string_until_nul says, `*place` too; then
  * UEFI_BUFFER_TOO_SMALL, and `*place` becomes how many bytes have to stand before the NUL.
  */
-uint32_t uefi_utf8_from_string(const uint16_t *units, size_t count,
-                               uint8_t *bytes, size_t room, size_t *place);
+uefi_result UEFI_CALL uefi_utf8_from_string(const uefi_unit *units, uefi_size count,
+                                            uefi_byte *bytes, uefi_size room, uefi_size *place);
 
 /*
  * Whether the units begin with a string, the bytes are UTF-8, and one of the two is a prefix of the other: the
  * string's text, and what the bytes encode up to their first NUL, or all of it where they have none.
  */
-bool uefi_string_equal_until_nul(const uint16_t *units, size_t count,
-                                 const uint8_t *bytes, size_t byte_count);
+uefi_bool UEFI_CALL uefi_string_equal_until_nul(const uefi_unit *units, uefi_size count,
+                                                const uefi_byte *bytes, uefi_size byte_count);
 
 /* Whether the bytes are UTF-8, and each character is one of Latin-1, which has those up to U+00FF. */
-bool uefi_utf8_is_latin1(const uint8_t *bytes, size_t byte_count);
+uefi_bool UEFI_CALL uefi_utf8_is_latin1(const uefi_byte *bytes, uefi_size byte_count);
 
 /*
  * Paths. Components stand between separators, '\'. One separator at the start of a path is ignored. A slash is
@@ -130,38 +173,39 @@ bool uefi_utf8_is_latin1(const uint8_t *bytes, size_t byte_count);
  * the text where the path is judged. `*character` becomes the first illegal character of the component, and 0
  * but for UEFI_ILLEGAL_CHAR.
  */
-uint32_t uefi_path_verdict(const uint16_t *units, size_t count, size_t *place, uint16_t *character);
+uefi_result UEFI_CALL uefi_path_verdict(const uefi_unit *units, uefi_size count, uefi_size *place, uefi_unit *character);
 
 /* Whether both begin with a string, and are equal as paths. */
-bool uefi_path_equal(const uint16_t *first, size_t first_count,
-                     const uint16_t *second, size_t second_count);
+uefi_bool UEFI_CALL uefi_path_equal(const uefi_unit *first, uefi_size first_count,
+                                    const uefi_unit *second, uefi_size second_count);
 
 /* As uefi_string_order, of the texts without one separator at their start. */
-int32_t uefi_path_order(const uint16_t *first, size_t first_count,
-                        const uint16_t *second, size_t second_count);
+uefi_order UEFI_CALL uefi_path_order(const uefi_unit *first, uefi_size first_count,
+                                     const uefi_unit *second, uefi_size second_count);
 
 /*
  * The next component of a path, from `*place` in its text on; set `*place` to 0 first. `length` units are the text
  * without its NUL, any units. True, and the component is the `*component_length` units from `*start` on, and `*place`
  * becomes where to go on; or false after the last one, and all three stay unchanged.
  */
-bool uefi_path_next_component(const uint16_t *text, size_t length,
-                              size_t *place, size_t *start, size_t *component_length);
+uefi_bool UEFI_CALL uefi_path_next_component(const uefi_unit *text, uefi_size length,
+                                             uefi_size *place, uefi_size *start, uefi_size *component_length);
 
 /*
  * The last component of a path, which may be empty: true, and it stands from `*start` to the end of the text; or
  * false where the path has no component, and `*start` stays unchanged. `length` units are the text without its
  * NUL, any units.
  */
-bool uefi_path_file_name(const uint16_t *text, size_t length, size_t *start);
+uefi_bool UEFI_CALL uefi_path_file_name(const uefi_unit *text, uefi_size length, uefi_size *start);
 
 /*
- * The path of all components but the last: true, and it is the units before the last separator, the first
- * `*parent_length` of the text. Of a path that uefi_path_verdict accepts they are the parent, but for a separator at
- * their start, which the parent lacks. Or false where the path has at most one component, and `*parent_length` stays
- * unchanged. `length` units are the text without its NUL, any units.
+ * Where the parent of a path ends in its text: true, and `*parent_length` becomes the place of the last separator; or
+ * false where the path has at most one component, and `*parent_length` stays unchanged. The units before that place are a
+ * path of all components but the last. Of a path that uefi_path_verdict accepts the parent is these units without one
+ * separator at their start: of '\a\b' they are the two units '\a', and the parent is the one unit 'a'. `length` units are
+ * the text without its NUL, any units.
  */
-bool uefi_path_parent_length(const uint16_t *text, size_t length, size_t *parent_length);
+uefi_bool UEFI_CALL uefi_path_parent_length(const uefi_unit *text, uefi_size length, uefi_size *parent_length);
 
 /*
  * Paths in a caller's buffer. Each slash of a path that is pushed becomes a separator, and a separator is added
@@ -174,14 +218,14 @@ bool uefi_path_parent_length(const uint16_t *text, size_t length, size_t *parent
  * or then `path` begins with no string, and `*place` as uefi_string_until_nul says of it; then UEFI_BUFFER_TOO_SMALL. At
  * UEFI_OK and UEFI_BUFFER_TOO_SMALL `*place` becomes how many units the path of both has, its NUL not counted.
  */
-uint32_t uefi_path_push(uint16_t *buffer, size_t room, const uint16_t *path, size_t count, size_t *place);
+uefi_result UEFI_CALL uefi_path_push(uefi_unit *buffer, uefi_size room, const uefi_unit *path, uefi_size count, uefi_size *place);
 
 /*
  * Writes `path`, each of its slashes replaced too, with `other` pushed on it into the first places of `buffer`, and a
  * NUL. Returns and refuses as uefi_path_push does, `path` before `other`.
  */
-uint32_t uefi_path_join(const uint16_t *path, size_t count, const uint16_t *other, size_t other_count,
-                        uint16_t *buffer, size_t room, size_t *place);
+uefi_result UEFI_CALL uefi_path_join(const uefi_unit *path, uefi_size count, const uefi_unit *other, uefi_size other_count,
+                                     uefi_unit *buffer, uefi_size room, uefi_size *place);
 
 /*
  * Writes the parent of `path` into the first places of `buffer`, and a NUL: all components but the last, each of
@@ -191,7 +235,7 @@ uint32_t uefi_path_join(const uint16_t *path, size_t count, const uint16_t *othe
  * it; UEFI_NO_PARENT, and `*place` stays unchanged; then UEFI_BUFFER_TOO_SMALL. At UEFI_OK and UEFI_BUFFER_TOO_SMALL
  * `*place` becomes how many units the parent has, its NUL not counted.
  */
-uint32_t uefi_path_parent(const uint16_t *path, size_t count, uint16_t *buffer, size_t room, size_t *place);
+uefi_result UEFI_CALL uefi_path_parent(const uefi_unit *path, uefi_size count, uefi_unit *buffer, uefi_size room, uefi_size *place);
 
 /*
  * Writes the normal path of `path` into the first places of `buffer`, and a NUL: each component '.' goes, and each
@@ -200,8 +244,8 @@ uint32_t uefi_path_parent(const uint16_t *path, size_t count, uint16_t *buffer, 
  * where it does not accept `path`, with its `*place` and its `*character`; then UEFI_BUFFER_TOO_SMALL. At UEFI_OK and
  * UEFI_BUFFER_TOO_SMALL `*place` becomes how many units the normal path has, its NUL not counted, and `*character` 0.
  */
-uint32_t uefi_path_normalize(const uint16_t *path, size_t count, uint16_t *buffer, size_t room,
-                             size_t *place, uint16_t *character);
+uefi_result UEFI_CALL uefi_path_normalize(const uefi_unit *path, uefi_size count, uefi_unit *buffer, uefi_size room,
+                                          uefi_size *place, uefi_unit *character);
 
 #ifdef __cplusplus
 }

@@ -1,0 +1,58 @@
+"""Builds the programs beside this file for firmware, over the archives of tools/firmware-lib."""
+import pathlib
+import subprocess
+
+HERE = pathlib.Path(__file__).resolve().parent
+TOP = HERE.parent.parent
+GNU_EFI = ["-I/usr/include/efi", "-I/usr/include/efi/x86_64"]
+STRICT = ["-O2", "-Wall", "-Wextra", "-Werror", f"-I{TOP / 'include'}"]
+FREESTANDING = ["-std=c11", "-ffreestanding", "-fno-stack-protector", "-fshort-wchar", *STRICT, *GNU_EFI]
+SECTIONS = [".text", ".sdata", ".data", ".dynamic", ".dynsym", ".rel", ".rela", ".rel.*", ".rela.*", ".reloc"]
+PROGRAMS = {"menu": ["menu", "lines", "reader", "memory"], "hello": ["hello"], "order": ["order"],
+            "timer": ["timer", "planted", "lines", "reader", "memory"]}
+
+
+class Wrong(Exception):
+    """Something is not as it has to be."""
+
+
+def run(*words, **how):
+    ran = subprocess.run([str(it) for it in words], stdout=subprocess.PIPE, stderr=subprocess.STDOUT, **how)
+    if ran.returncode:
+        said = ran.stdout.decode(errors="replace").splitlines()
+        said = [it for it in said if "REFUSED" in it] or said
+        raise Wrong(f"status {ran.returncode} of {pathlib.Path(words[0]).name}: " + "\n".join(said[:12]))
+    return ran.stdout.decode(errors="replace")
+
+
+def by_gnu_efi(name, room, archives):
+    """Builds a program of PROGRAMS in a folder, by gcc and gnu-efi: its file."""
+    objects = []
+    for it in PROGRAMS[name]:
+        # The planted function alone is not told that there is no red zone.
+        told = [] if it == "planted" else ["-mno-red-zone"]
+        objects.append(room / f"{it}.o")
+        run("gcc", *FREESTANDING, "-fpic", "-DGNU_EFI_USE_MS_ABI", *told, "-c", HERE / f"{it}.c", "-o", objects[-1])
+    made = room / f"{name}.so"
+    run("ld", "-nostdlib", "-znocombreloc", "-T", "/usr/lib/elf_x86_64_efi.lds", "-shared", "-Bsymbolic", "--no-undefined",
+        "--exclude-libs", "ALL", "/usr/lib/crt0-efi-x86_64.o", *objects, "-o", made, archives / "x86_64/libuefi_c.a",
+        "-L/usr/lib", "-lgnuefi")
+    run("objcopy", *(word for it in SECTIONS for word in ("-j", it)), "--target", "efi-app-x86_64", "--subsystem=10",
+        made, room / f"{name}.efi")
+    return room / f"{name}.efi"
+
+
+def by_lld(processor):
+    """The same by clang and lld-link, for a processor."""
+    def build(name, room, archives):
+        # gnu-efi has no header for aarch64 on x86-64: that of x86-64 fits, but for the convention.
+        (room / "aarch64").mkdir(exist_ok=True)
+        (room / "aarch64/efibind.h").write_text("#include <x86_64/efibind.h>\n")
+        convention = [] if processor == "x86_64" else ["-DEFIAPI=", f"-I{room}"]
+        objects = [room / f"{it}.obj" for it in PROGRAMS[name]]
+        for it, made in zip(PROGRAMS[name], objects):
+            run("clang", f"--target={processor}-unknown-windows", *FREESTANDING, *convention, "-c", HERE / f"{it}.c", "-o", made)
+        run("lld-link", "-subsystem:efi_application", "-entry:efi_main", "-nodefaultlib", *objects,
+            archives / processor / "uefi_c.lib", f"-out:{room / name}.efi")
+        return room / f"{name}.efi"
+    return build

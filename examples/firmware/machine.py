@@ -1,0 +1,107 @@
+"""A machine of QEMU's with firmware of EDK II: its disk, its flash, and its serial line as one reads and writes it."""
+import os
+import re
+import select
+import struct
+import subprocess
+import time
+
+import samples
+import variables
+
+FIRMWARE = {
+    "x86_64": ("/usr/share/OVMF/OVMF_CODE_4M.fd", "/usr/share/OVMF/OVMF_VARS_4M.fd"),
+    # The first has the form of a flash of 64 MiB. Of the second only the headers are taken.
+    "aarch64": ("/usr/share/AAVMF/AAVMF_CODE.fd", "/usr/share/AAVMF/AAVMF_VARS.snakeoil.fd"),
+}
+# qemu64 is QEMU's least processor of x86-64, here without SSE3 as well.
+MACHINES = {
+    "x86_64": ["qemu-system-x86_64", "-machine", "q35", "-cpu", "qemu64,-sse3"],
+    "aarch64": ["qemu-system-aarch64", "-machine", "virt", "-cpu", "cortex-a57"],
+}
+# Where the programs lie on the disk.
+FILES = {"/EFI/menu.efi": "menu", "/EFI/order.efi": "order", "/EFI/tools/hello.efi": "hello"}
+ESCAPES = re.compile(rb"\x1b\[[0-9;=?]*[A-Za-z]")
+DOWN, UP, ENTER = b"\x1b[B", b"\x1b[A", b"\r"
+
+
+class Silent(Exception):
+    """What was waited for did not come."""
+
+
+def make_disk(path, files):
+    """A disk with an MBR and one partition, the system partition, with these files: path in it and path here."""
+    fat = path.with_suffix(".fat")
+    fat.write_bytes(bytes(samples.SECTORS * 512))
+    run = lambda *words: subprocess.run([str(it) for it in words], check=True, capture_output=True)
+    run("mformat", "-i", fat, "::")
+    folders = {parent for name in files for parent in folders_of(name)}
+    for folder in sorted(folders, key=len):
+        run("mmd", "-i", fat, f"::{folder}")
+    for name, source in files.items():
+        run("mcopy", "-i", fat, source, f"::{name}")
+    partition = struct.pack("<B3sB3sII", 0, b"\xfe\xff\xff", 0xEF, b"\xfe\xff\xff", samples.FIRST_SECTOR, samples.SECTORS)
+    record = bytes(440) + struct.pack("<IH", samples.SIGNATURE, 0) + partition + bytes(48) + b"\x55\xaa"
+    path.write_bytes(record + bytes((samples.FIRST_SECTOR - 1) * 512) + fat.read_bytes())
+
+
+def folders_of(name):
+    parts = name.strip("/").split("/")[:-1]
+    return ["/" + "/".join(parts[: i + 1]) for i in range(len(parts))]
+
+
+def variables_of(entries, order):
+    """The variables of the entries, by their numbers, and of their order.
+
+    The firmware deletes what it takes for malformed among the entries of BootOrder, so that one has two at first, and the
+    program of the first writes TestOrder into it.
+    """
+    made = [(f"Boot{number:04X}", data) for number, data in entries]
+    return made + [(name, struct.pack(f"<{len(them)}H", *them)) for name, them in (("BootOrder", order[:2]), ("TestOrder", order))]
+
+
+def command(processor, disk, flash, entries, serial):
+    """The command that starts a machine, whose flash is written with these variables."""
+    code, template = FIRMWARE[processor]
+    with open(template, "rb") as file:
+        flash.write_bytes(variables.with_variables(file.read(), entries))
+    return [*MACHINES[processor], "-accel", "tcg", "-m", "256", "-display", "none", "-serial", serial, "-net", "none", "-no-reboot",
+            "-drive", f"if=pflash,format=raw,readonly=on,file={code}", "-drive", f"if=pflash,format=raw,file={flash}",
+            "-drive", f"if=none,id=disk,format=raw,file={disk}", "-device", "virtio-blk-pci,drive=disk"]
+
+
+class Machine:
+    """Runs with the variables in its flash. `lines` is what its serial line printed, without what a terminal obeys."""
+
+    def __init__(self, processor, disk, flash, entries):
+        self.said, self.deadline = b"", time.monotonic() + 55
+        self.process = subprocess.Popen(
+            [*command(processor, disk, flash, entries, "stdio"), "-monitor", "none"],
+            stdin=subprocess.PIPE, stdout=subprocess.PIPE, stderr=subprocess.STDOUT)
+
+    def __enter__(self):
+        return self
+
+    def __exit__(self, *_):
+        self.process.kill()
+        self.process.wait()
+
+    def text(self):
+        return ESCAPES.sub(b"", self.said).replace(b"\r", b"").decode(errors="replace")
+
+    def wait_for(self, words, after=0):
+        """Reads on until a line is printed after the first `after` characters: how many there are with it."""
+        wanted = f"\n{words}\n"
+        while (found := self.text().find(wanted, after)) < 0:
+            left = self.deadline - time.monotonic()
+            if left <= 0 or not select.select([self.process.stdout], [], [], left)[0]:
+                raise Silent(f"it never prints '{words}'; at the end it prints\n{self.text()[-600:]}")
+            part = os.read(self.process.stdout.fileno(), 65536)
+            if not part:
+                raise Silent(f"it ends before it prints '{words}':\n{self.text()[-600:]}")
+            self.said += part
+        return found + len(wanted) - 1
+
+    def press(self, keys):
+        self.process.stdin.write(keys)
+        self.process.stdin.flush()
