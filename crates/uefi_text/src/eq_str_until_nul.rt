@@ -19,7 +19,7 @@ fn are_equal_by_unit(units: &[u16], other: &str) -> bool
     pairs.all(|(unit, c)| u32::from(*unit) == u32::from(c))
 }
 
-/// The same, where both may begin with many characters of three bytes: those are compared in blocks.
+/// Whether units are equal to a Rust text until its first NUL: eight at a time, and then unit by unit.
 fn are_equal_by_block(units: &[u16], other: &str) -> bool
     ensures { IsTrue result ↔ IsEqualUntilNul units.now (chars other.now) }
 {

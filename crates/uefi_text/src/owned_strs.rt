@@ -44,7 +44,7 @@ fn find_nul(characters: &[Char16]) -> Option<usize>
 }
 
 /// Whether each character is another than NUL.
-fn all_are_text(characters: &[Char16]) -> bool
+fn hold_no_nul(characters: &[Char16]) -> bool
     ensures { IsTrue result ↔ All (λ c. c ≢ 0) characters.now }
 {
     characters.iter().all(|character| *character != NUL_16)
@@ -56,7 +56,7 @@ pub fn have_no_nul(characters: &[Char16]) -> bool
     ensures all { IsTrue result ↔ All (λ c. c ≢ 0) characters.now }
     ensures copied { IsTrue result → CopiesNoNul characters.now }
 {
-    all_are_text(characters)
+    hold_no_nul(characters)
 }
 
 /// Writes a text of UCS-2 and its NUL into units, from a place on up to their end.
@@ -306,8 +306,8 @@ impl<A: Allocator> CString16<A> {
         Ok(())
     }
 
-    /// The same where the vector may have no room. It is rarely so, and a call with room saves no
-    /// registers.
+    /// Does what [`CString16::push`] does where the vector may have no room. It is rarely so, and a call
+    /// with room saves no registers.
     #[cold]
     #[inline(never)]
     fn push_to_full(&mut self, c: Char16) -> Result<(), AllocError>

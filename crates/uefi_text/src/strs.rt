@@ -29,7 +29,7 @@ pub use uefi_text_encodings::latin1::{
     CStr8, has_no_nul, is_latin1, str_num_latin1_chars, str_to_latin1,
 };
 use uefi_text_encodings::scans::{find_deciding_place, is_ascii, split};
-use uefi_text_encodings::utf8::{BLOCK, add_utf8, write_utf8};
+use uefi_text_encodings::utf8::{PRINTED, add_utf8, write_utf8};
 
 /// A borrowed string: a view of code units that are a text and its NUL (UEFI Specification 2.10,
 /// section 2.3.1). A contract sees it as `text_of` it: the text without the NUL.
@@ -299,7 +299,7 @@ impl<'a> CStr16<'a> {
         let characters = self.as_slice();
         let mut start = 0;
         while start < characters.len() {
-            let end = start + BLOCK.min(characters.len() - start);
+            let end = start + PRINTED.min(characters.len() - start);
             characters.part(start, end).write_block_to(buf)?;
             start = end;
         }
@@ -538,7 +538,7 @@ impl<'a> Char16Slice<'a> {
         add_utf8(bytes, self.units)
     }
 
-    /// Adds at most [`BLOCK`] characters to a sink at once, where it takes them so.
+    /// Adds at most [`PRINTED`] characters to a sink at once, where it takes them so.
     #[inline(always)]
     fn write_whole_to<W: CharSink>(&self, sink: &mut W) -> bool
         requires { length (units_of self.now) ≤ 64 }
@@ -546,13 +546,13 @@ impl<'a> Char16Slice<'a> {
             → W.text sink.new ≡ W.text sink.old ++ encode_utf8_all (units_of self.now) }
         ensures none { result ≡ false → W.text sink.new ≡ W.text sink.old }
     {
-        let mut room = [0; 3 * BLOCK];
+        let mut room = [0; 3 * PRINTED];
         let len = write_utf8(&mut room, self.units);
         // SAFETY: the bytes are UTF-8, which is proved here as the condition of the call.
         sink.write_whole(unsafe { str::from_utf8_unchecked(&room[..len]) })
     }
 
-    /// Adds at most [`BLOCK`] characters to a sink, up to the first that it refuses.
+    /// Adds at most [`PRINTED`] characters to a sink, up to the first that it refuses.
     #[inline(always)]
     fn write_block_to<W: CharSink>(&self, sink: &mut W) -> fmt::Result
         requires { length (units_of self.now) ≤ 64 }
@@ -677,10 +677,10 @@ impl<'a> fmt::Display for Char16Slice<'a> {
     ghost output = { λ part. Some (encode_utf8_all (units_of part)) };
 
     fn fmt<W: fmt::Write>(&self, f: &mut fmt::Formatter<W>) -> fmt::Result {
-        let mut room = [0; 3 * BLOCK];
+        let mut room = [0; 3 * PRINTED];
         let mut start = 0;
         while start < self.units.len() {
-            let end = start + BLOCK.min(self.units.len() - start);
+            let end = start + PRINTED.min(self.units.len() - start);
             let len = write_utf8(&mut room, &self.units[start..end]);
             // SAFETY: the bytes are UTF-8, which is proved here as the condition of the call.
             f.write_str(unsafe { str::from_utf8_unchecked(&room[..len]) })?;

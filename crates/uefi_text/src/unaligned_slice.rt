@@ -41,8 +41,8 @@ use std::marker::PhantomData;
 pub use uefi_text_encodings::packed::Packed;
 use uefi_text_encodings::scans::find_deciding_place;
 
-/// How many units are copied to a block at a time.
-const BLOCK: usize = 64;
+/// How many units are copied out and tested at a time.
+const TESTED: usize = 64;
 
 /// How many items are copied at a time. They pass through a block of their own, which nothing else
 /// shares: so the compiler makes one call of `memmove` for each block, and leaves the block out.
@@ -53,7 +53,7 @@ const COPIED: usize = 4096;
 const COPIED_AT_ONCE: usize = 1024;
 
 /// Fewer items than these become a vector without a call, which costs more than it saves.
-const SHORT: usize = 64;
+const FEW_ITEMS: usize = 64;
 
 /// A view of items that lie packed in borrowed bytes, which may begin at any address. A contract
 /// sees it as `items_of` it: the list of the items' numbers. A call that takes an allocator takes
@@ -235,7 +235,7 @@ fn push_next<T: Packed, A: Allocator, const N: usize>(
     }
 }
 
-/// Appends the first `len` items of bytes, fewer than [`SHORT`], to an empty vector that has room for
+/// Appends the first `len` items of bytes, fewer than [`FEW_ITEMS`], to an empty vector that has room for
 /// them: each piece half as long as the one before.
 fn push_few<T: Packed, A: Allocator>(bytes: &[u8], len: usize, items: &mut Vec<T, A>)
     requires few { len < 64 }
@@ -420,7 +420,7 @@ impl<'a, T: Packed> UnalignedSlice<'a, T> {
         ensures { IfOk result (λ items. map T.number items.items ≡ items_of self.now) }
     {
         let mut items = Vec::with_capacity(alloc, self.len)?;
-        if self.len < SHORT {
+        if self.len < FEW_ITEMS {
             push_few(self.bytes, self.len, &mut items);
         } else {
             let mut block = [self.item(0); COPIED];
@@ -583,7 +583,7 @@ impl<'a> UnalignedSlice<'a, u16> {
         ensures place { result ≡ deciding_place (slice_range (items_of self.now) start end) }
         ensures units { (k : ℕ) → slice_index (slice_range (items_of self.now) start end) k < 2 ^ 16 }
     {
-        let mut block = [0; BLOCK];
+        let mut block = [0; TESTED];
         let units = &mut block[..end - start];
         self.part(start, end).copy_each_to(units);
         find_deciding_place(units)
@@ -598,7 +598,7 @@ impl<'a> UnalignedSlice<'a, u16> {
         let len = self.len();
         let mut start = 0;
         while start < len {
-            let end = start + BLOCK.min(len - start);
+            let end = start + TESTED.min(len - start);
             if let Some(place) = self.find_deciding_place_in_block(start, end) {
                 return Some(start + place);
             }

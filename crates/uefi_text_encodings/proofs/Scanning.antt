@@ -158,4 +158,3 @@ position-in_block p us start end place ordered inside none found =
           sym (ap p (same (k - start) (omega (arith, first)) ∙ ap (λ j. get_or us j 0) at)) ∙ fails_before_first p block (k - start) 0 (omega (arith, first))
     ] in
     (omega (arith, first), position-at p us (start + place) (omega (arith, first)) before (sym (ap p (same place (omega (arith, first)))) ∙ passes))
-

@@ -66,8 +66,8 @@ const FEW: usize = 32;
 /// How many units are room enough for a text of UCS-2 without its NUL, and for all but short texts just
 /// enough; `None` exactly for other texts.
 fn room_for(text: &str) -> Option<usize>
-    ensures some { IfSome result (λ room.
-        (length (chars text.now) ≤ room) × (room ≤ length text.now) × (find is_deciding_char (chars text.now) ≡ None)) }
+    ensures some { IfSome result (λ room. (length (chars text.now) ≤ room) × (room ≤ length text.now)
+        × (find is_deciding_char (chars text.now) ≡ None)) }
     ensures none { result ≡ None → ¬ (find is_deciding_char (chars text.now) ≡ None) }
 {
     if FEW <= text.len() {
@@ -80,7 +80,11 @@ fn room_for(text: &str) -> Option<usize>
 }
 
 /// The units of a text of UCS-2 and a NUL, in a vector that gets this much room.
-fn units_of_chars<A: Allocator>(alloc: A, text: &str, room: usize) -> Result<Vec<u16, A>, AllocError>
+fn units_of_chars<A: Allocator>(
+    alloc: A,
+    text: &str,
+    room: usize,
+) -> Result<Vec<u16, A>, AllocError>
     requires undecided { find is_deciding_char (chars text.now) ≡ None }
     requires room { length (chars text.now) < room }
     ensures { IfOk result (λ units. units.items ≡ nul_terminated (chars text.now)) }

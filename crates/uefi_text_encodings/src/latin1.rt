@@ -9,7 +9,7 @@ ghost use Rattle.uefi_text_encodings.specs.Latin1.{IsLatin1, IsLatin1String};
 
 use crate::errors::FromSliceWithNulError;
 use crate::scans::{find_zero, has_byte_beyond_latin1, has_zero};
-use crate::utf8::{BLOCK, write_latin1};
+use crate::utf8::{PRINTED, write_latin1};
 use std::cmp::Ordering;
 use std::fmt;
 use std::hash::{Hash, Hasher};
@@ -149,10 +149,10 @@ impl<'a> fmt::Display for CStr8<'a> {
 
     fn fmt<W: fmt::Write>(&self, f: &mut fmt::Formatter<W>) -> fmt::Result {
         let text = self.text();
-        let mut room = [0; 3 * BLOCK];
+        let mut room = [0; 3 * PRINTED];
         let mut start = 0;
         while start < text.len() {
-            let end = start + BLOCK.min(text.len() - start);
+            let end = start + PRINTED.min(text.len() - start);
             let len = write_latin1(&mut room, &text[start..end]);
             // SAFETY: the bytes are UTF-8, which is proved here as the condition of the call.
             f.write_str(unsafe { str::from_utf8_unchecked(&room[..len]) })?;

@@ -36,7 +36,9 @@ trait Class<T> {
 fn block_has<T: Copy, C: Class<T>>(block: &[T]) -> bool
     ensures { result ≡ fold (λ found element. found || C.holds element) false block.now }
 {
-    block.iter().fold(false, |found, element| found | C::holds(*element))
+    block
+        .iter()
+        .fold(false, |found, element| found | C::holds(*element))
 }
 
 /// A place before which no element is in the class: elements from `start` on are tested in blocks, up to
@@ -260,7 +262,10 @@ pub(crate) fn count_wide(units: &[u16]) -> (usize, usize)
     ensures two { result.0 ≡ count_by is_beyond_ascii units.now }
     ensures three { result.1 ≡ count_by is_of_three_bytes units.now }
 {
-    (count::<u16, BeyondAscii>(units), count::<u16, OfThreeBytes>(units))
+    (
+        count::<u16, BeyondAscii>(units),
+        count::<u16, OfThreeBytes>(units),
+    )
 }
 
 /// The place of the first zero.

@@ -9,7 +9,7 @@ use std::alloc::{AllocError, Allocator};
 use std::simd::prelude::*;
 
 /// How many characters are printed at a time.
-pub const BLOCK: usize = 64;
+pub const PRINTED: usize = 64;
 
 /// How many bytes units have in UTF-8: one each, a second from U+0080 on, and a third from U+0800 on.
 fn utf8_len(units: &[u16]) -> usize
@@ -151,14 +151,14 @@ pub fn write_utf8(bytes: &mut [u8], units: &[u16]) -> usize
     write_by_eight(bytes, units)
 }
 
-/// Does what [`write_utf8`] does, of at most [`BLOCK`] characters of Latin-1.
+/// Does what [`write_utf8`] does, of at most [`PRINTED`] characters of Latin-1.
 pub(crate) fn write_latin1(bytes: &mut [u8], characters: &[u8]) -> usize
     requires block { length characters.now ≤ 64 }
     requires room { 3 * length characters.now ≤ length bytes.old }
     ensures len { result ≤ length bytes.new }
     ensures bytes { take result bytes.new ≡ encode_utf8_all characters.now }
 {
-    let mut units = [0; BLOCK + 1];
+    let mut units = [0; PRINTED + 1];
     let len = characters.len();
     widen(&mut units[..len + 1], characters);
     write_utf8(bytes, &units[..len])

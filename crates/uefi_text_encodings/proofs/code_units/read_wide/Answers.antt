@@ -1,5 +1,5 @@
 -- The bytes of eight characters are read from two parts that overlap.
-use Rattle.std.proofs.Common.{All, cond, leb, replicate, ◌+◌, ◌-◌, ◌%◌, ◌^◌, false, ◌≡◌, ◌≤◌, ◌∙◌, ◌++◌, ℕ, List, [], ◌∷◌, ap, arith, drop, get_or, length, map, refl, subst, sym, take, w8}
+use Rattle.std.proofs.Common.{All, Bool, cond, leb, replicate, ◌+◌, ◌-◌, ◌%◌, ◌^◌, false, ◌≡◌, ◌≤◌, ◌∙◌, ◌++◌, ℕ, List, [], ◌∷◌, ap, arith, drop, get_or, length, map, refl, subst, sym, take, w8}
 use Rattle.std.specs.Simd.Lanes.{Each1, mask_l, top, zip2}
 use Rattle.std.specs.Str.{chars, IsUtf8}
 use Rattle.std.proofs.lemmas.List.{length-drop, take_all}
@@ -40,8 +40,12 @@ text_after bs text same long utf8 bits =
 after : (bs text : List ℕ) → bs ≡ text → take (length bs - 24) (drop 24 bs) ≡ drop 24 text
 after bs text same = take_all (length bs - 24) (drop 24 bs) (omega (arith, length-drop 24 bs)) ∙ ap (drop 24) same
 
+-- the comparison of the first bytes, as vectors make it
+abbrev tops : List ℕ → List Bool
+tops bs = map (top 7) (zip2 (λ (a b : ℕ). cond (leb a b) 255 0) (replicate 8 16) (map (λ a. (a + 32) % 256) (firsts bs)))
+
 -- no bit is set where each first byte begins a character of three bytes
-unset : (bs : List ℕ) → mask_l (map (top 7) (zip2 (λ (a b : ℕ). cond (leb a b) 255 0) (replicate 8 16) (map (λ a. (a + 32) % 256) (firsts bs)))) % 2 ^ 64 ≡ 0 → mask_l (map (leb 16) (map (λ a. (a + 32) % 256) (firsts bs))) ≡ 0
+unset : (bs : List ℕ) → mask_l (tops bs) % 2 ^ 64 ≡ 0 → mask_l (map (leb 16) (map (λ a. (a + 32) % 256) (firsts bs))) ≡ 0
 unset bs none =
     let us = map (λ a. (a + 32) % 256) (firsts bs) in
     sym (mask_l-mod (map (leb 16) us) 64 (omega arith)) ∙ sym (ap (λ ms. mask_l ms % 2 ^ 64) (tops_compared w8 leb (replicate 8 16) us)) ∙ none
