@@ -59,7 +59,7 @@ IsTextUnit-replaced u is_unit =
       | inr other ↦ rw other is_unit
     ]
 
-IsText-with_separators : (us : List ℕ) → IsText us → IsText (with_separators us)
+pub IsText-with_separators : (us : List ℕ) → IsText us → IsText (with_separators us)
 IsText-with_separators [] is_text = All-nil IsTextUnit
 IsText-with_separators (u ∷ us) is_text =
     All-cons IsTextUnit _ (with_separators us) (IsTextUnit-replaced u (All-head IsTextUnit u us is_text))

@@ -391,6 +391,13 @@ impl<'a> Components<'a> {
         Components { rest: Some(rest) }
     }
 
+    /// These components, to walk over them once more.
+    pub(crate) fn copy(&self) -> Components<'a>
+        ensures { components_left result ≡ components_left self.now }
+    {
+        Components { rest: self.rest }
+    }
+
     /// What [`Path::strip_prefix`] returns, of the components of this path.
     pub(crate) fn strip(self, base: Path<'_>) -> Option<Components<'a>>
         requires texts { All IsText (components_left self) }

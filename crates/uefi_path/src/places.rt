@@ -130,28 +130,3 @@ pub(crate) fn find_places<A: Allocator>(
     let (count, has_slash) = count_and_keep(units, &mut kept);
     (places_by_block(alloc, units, count, &kept), has_slash)
 }
-
-/// Whether two places one after the other are neighbours.
-pub(crate) fn have_neighbours(places: &[usize]) -> bool
-    ensures { result ≡ false → (i : ℕ) → i + 1 < length places.now
-        → slice_index places.now (i + 1) ≢ slice_index places.now i + 1 }
-{
-    let mut found = false;
-    for i in 1..places.len() {
-        found |= places[i].saturating_sub(1) == places[i - 1];
-    }
-    found
-}
-
-/// Counts places from one of the units on.
-#[tactic(auto, using(std::proofs::lemmas::List::Edits::map_over_more, std::proofs::lemmas::List::take_all, std::proofs::lemmas::List::drop_all))]
-pub(crate) fn count_from(places: &mut [usize], start: usize)
-    ensures { places.new ≡ map (λ place. place - start) places.old }
-{
-    if start == 0 {
-        return;
-    }
-    for place in places.iter_mut() {
-        *place = place.saturating_sub(start);
-    }
-}

@@ -1,9 +1,8 @@
 //! Paths that are made in a caller's buffer: whole, or not at all. No call takes memory.
-ghost use Rattle.std.specs.Prelude.{◌≡◌, ◌+◌, ◌<◌, ◌≤◌, ◌^◌, [], ◌∷◌, ◌++◌, All, drop, fold, if◌then◌else◌, length, nat_lt, take};
+ghost use Rattle.std.specs.Prelude.{◌≡◌, ◌+◌, ◌<◌, ◌≤◌, ◌^◌, [], ◌∷◌, ◌++◌, All, IfSome, drop, if◌then◌else◌, length, nat_lt, option_map};
 ghost use Rattle.uefi_path.specs.Components.{IsPiece, joined};
 ghost use Rattle.uefi_path.specs.NamesLeft.{IsWalk, names_left};
-ghost use Rattle.uefi_path.specs.Parents.{all_but_last, parent_text};
-ghost use Rattle.uefi_path.specs.Pushing.{appended};
+ghost use Rattle.uefi_path.specs.Parents.{parent_of_components, parent_text};
 ghost use Rattle.uefi_path.specs.Separators.{separator, with_separators};
 ghost use Rattle.uefi_path.specs.Verdicts.{IsGood};
 ghost use Rattle.uefi_path.specs.Views.{components_left, path_text};
@@ -38,14 +37,17 @@ fn write_component(places: &mut [u16], is_missing: bool, component: &[u16])
     }
 }
 
-/// How long the components but the last are, once they are added one after the other.
-fn parent_len(mut components: Components<'_>) -> usize
+/// How long the parent of a path of these components is, which one of at most one component has not.
+pub(crate) fn parent_len(mut components: Components<'_>) -> Option<usize>
     requires pieces { All IsPiece (components_left components) }
-    requires bound { length (fold appended [] (all_but_last (components_left components))) < 2 ^ 64 }
-    ensures { result ≡ length (fold appended [] (all_but_last (components_left components.entry))) }
+    requires bound { length (joined (components_left components)) < 2 ^ 64 }
+    ensures { result ≡ option_map length (parent_of_components (components_left components.entry)) }
 {
+    if components.copy().nth(1).is_none() {
+        return None;
+    }
     let Some(mut last) = components.next() else {
-        return 0;
+        return None;
     };
     let mut len = 0;
     let mut is_missing = false;
@@ -55,17 +57,15 @@ fn parent_len(mut components: Components<'_>) -> usize
         is_missing = !last.is_empty();
         last = component;
     }
-    len
+    Some(len)
 }
 
-/// Writes the components but the last, added one after the other, each slash replaced.
-fn write_all_but_last(buffer: &mut [u16], mut components: Components<'_>)
+/// Writes the parent of a path of these components to the start of a buffer, each slash replaced.
+pub(crate) fn write_all_but_last(buffer: &mut [u16], mut components: Components<'_>)
     requires pieces { All IsPiece (components_left components) }
-    requires room { length (fold appended [] (all_but_last (components_left components)))
-        ≤ length buffer.now }
-    ensures { buffer.new
-        ≡ with_separators (fold appended [] (all_but_last (components_left components.entry)))
-        ++ drop (length (fold appended [] (all_but_last (components_left components.entry)))) buffer.old }
+    requires room { IfSome (parent_of_components (components_left components))
+        (λ parent. length parent ≤ length buffer.now) }
+    ensures { buffer.new ≡ written_over (parent_of_components (components_left components.entry)) buffer.old }
 {
     let Some(mut last) = components.next() else {
         return;
@@ -154,12 +154,11 @@ impl<'a> Path<'a> {
         ensures len { result ≡ written_len (parent_text (path_text self.now)) buffer.old }
         ensures buffer { buffer.new ≡ written_over (parent_text (path_text self.now)) buffer.old }
     {
-        if self.components().nth(1).is_none() {
-            return Ok(None);
-        }
         // A clause of this call says how long the path can be.
         let _text = self.to_cstr16().as_slice();
-        let len = parent_len(self.components());
+        let Some(len) = parent_len(self.components()) else {
+            return Ok(None);
+        };
         if buffer.len() < len {
             return Err(len);
         }

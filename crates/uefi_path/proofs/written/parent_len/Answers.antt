@@ -1,5 +1,5 @@
 -- Each component is held back until the next one comes.
-use Rattle.std.proofs.Common.{◌≡◌, ◌∷◌, [], refl, ap, arith, length, subst, sym, All, ◌+◌}
+use Rattle.std.proofs.Common.{◌≡◌, ◌∷◌, [], refl, ap, arith, length, subst, sym, All, ◌+◌, ◌<◌, ◌∙◌}
 use Rattle.std.specs.List.{fold}
 use Rattle.std.proofs.lemmas.Grind.{common_steps}
 use Rattle.uefi_text.specs.Views.{units_of}
@@ -7,7 +7,7 @@ use Rattle.uefi_path.specs.Components.{IsPiece}
 use Rattle.uefi_path.specs.Parents.{all_but_last}
 use Rattle.uefi_path.specs.Pushing.{appended}
 use Rattle.uefi_path.specs.Views.{components_left}
-use Rattle.uefi_path.proofs.Drafts.{draft_more_fits, draft_next, missing_count, missing_count_is}
+use Rattle.uefi_path.proofs.Drafts.{draft_done, draft_more_fits, draft_next, made_len, made_shorter, missing_count, missing_count_is}
 use Rattle.uefi_path.proofs.written.parent_len.Goals as goal
 
 pub loop-component-init : goal.loop-component-init
@@ -47,7 +47,8 @@ overflow_add-len-in-loop-component c =
     grind (arith, common_steps, c.in-Some-component.ensures.steps) in
     let count = missing_count_is c.from.result so_far.is_missing (grind (arith, common_steps, c.from.ensures)) in
     let fits = draft_more_fits so_far.invariant.0 _ _ _ _ _ _ _ so_far.invariant.1 left in
-    omega (arith, fits, count, c.len.ensures, c.requires.bound)
+    let shorter = made_shorter (components_left c.args.components) c.requires.pieces in
+    omega (arith, fits, shorter, count, c.len.ensures, c.requires.bound)
 
 pub overflow_add-len : goal.overflow_add-len
 overflow_add-len c =
@@ -58,4 +59,13 @@ overflow_add-len c =
     grind (arith, common_steps, c.in-Some-component.ensures.steps) in
     let count = missing_count_is c.from.result so_far.is_missing (grind (arith, common_steps, c.from.ensures)) in
     let fits = draft_more_fits so_far.invariant.0 _ _ _ _ _ _ _ so_far.invariant.1 left in
-    omega (arith, fits, count, c.len.ensures, c.requires.bound)
+    let shorter = made_shorter (components_left c.args.components) c.requires.pieces in
+    omega (arith, fits, shorter, count, c.len.ensures, c.requires.bound)
+
+pub returns : goal.returns
+returns c =
+    let pieces = components_left c.args.components in
+    let many : 1 < length pieces = grind (arith, common_steps) in
+    let draft = c.loop-component.invariant.1 in
+    let whole = draft_done _ _ _ _ _ _ draft c.in-None.ensures.steps.0 in
+    made_len pieces c.loop-component.len c.requires.pieces many (draft.len_is ∙ ap length whole)
