@@ -4,7 +4,6 @@ pub mod Pushing
 pub mod Parents
 pub mod Drafts
 mod IntoBuffers
-mod Glances
 pub mod Joining
 pub mod Validity
 pub mod ParentForm

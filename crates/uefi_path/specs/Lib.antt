@@ -11,5 +11,4 @@ pub mod SuccessiveParents
 pub mod Laws
 pub mod NormalForms
 pub mod NamesLeft
-pub mod Glances
 pub mod Climbing

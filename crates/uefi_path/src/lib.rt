@@ -37,7 +37,6 @@
 
 mod bits;
 mod counted;
-mod glance;
 pub mod laws;
 mod names;
 mod normal;

@@ -327,7 +327,10 @@ impl<A: Allocator + Copy> PathBuf<A> {
         let path = self.as_path();
         // A clause of this call says how long the path can be.
         let _text = path.to_cstr16().as_slice();
-        parent_of(self.alloc(), Components::of_canonical(path, self.canonical(known)))
+        parent_of(
+            self.alloc(),
+            Components::of_canonical(path, self.canonical(known)),
+        )
     }
 
     /// Makes the path empty. Takes no memory and gives none back.

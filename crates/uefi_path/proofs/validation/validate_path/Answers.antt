@@ -58,8 +58,3 @@ returns-clause-refusal c = accepted c
 
 pub returns-clause-valid : goal.returns-clause-valid
 returns-clause-valid c = accepted_valid {T = Unit {0}} (Ok tt) (path_text c.args.path) (accepted c)
-
-pub returns-then-shows_valid-clause-valid : goal.returns-then-shows_valid-clause-valid
-returns-then-shows_valid-clause-valid c =
-    accepted_valid {T = Unit {0}} (Ok tt) (path_text c.args.path)
-    (sym (c.if-shows_valid.ensures refl (path_text c.args.path) (c.units.ensures ∙ c.canonical.ensures.same)))
