@@ -1,4 +1,5 @@
 pub mod Separators
+pub mod SeparatorsLeft
 pub mod Components
 pub mod Views
 pub mod Runs

@@ -13,7 +13,7 @@ ghost use Rattle.uefi_text.specs.Views.{units_of};
 
 use crate::counted::CountedUnits;
 use crate::path::{Components, Path, Rest};
-use crate::places::{count_separators, find_places};
+use crate::separators::{add_places, count_separators};
 use crate::tails::make_tail;
 use crate::written::{parent_len, write_all_but_last};
 use std::alloc::{AllocError, Allocator, Global};
@@ -75,12 +75,9 @@ fn parent_of<A: Allocator + Copy>(
     Ok(Some(PathBuf::from_string(alloc, string)?))
 }
 
-/// How many units the room has in which a short text is made ready to be pushed: with a separator before it
-/// and the NUL after it.
-const ROOM: usize = 32;
-
-/// How many it has for a longer one. What is longer still is made in memory that it asks for.
-const LONG_ROOM: usize = 256;
+/// How many units the room has in which a text is made ready to be pushed: with a separator before it and the
+/// NUL after it. What is longer is made in memory that it asks for.
+const ROOM: usize = 256;
 
 /// How long a path becomes at most, when another is pushed after it.
 fn room_for_both(path: Path<'_>, other: Path<'_>) -> usize {
@@ -185,13 +182,12 @@ impl<A: Allocator + Copy> PathBuf<A> {
         ensures ok { IfOk result (λ path. path ≡ with_separators string) }
         ensures err { IfErr result (λ kept. kept ≡ string) }
     {
-        let (places, has_slash) = find_places(alloc, string.as_cstr16().to_u16_slice());
-        let Ok(places) = places else {
+        let count = count_separators(string.as_cstr16().to_u16_slice());
+        let Ok(mut places) = Vec::with_capacity(alloc, count) else {
             return Err(string);
         };
-        if has_slash {
-            string.replace_char(SLASH, SEPARATOR);
-        }
+        string.replace_char(SLASH, SEPARATOR);
+        add_places(&mut places, string.as_cstr16().to_u16_slice(), 0);
         Ok(PathBuf { string, places })
     }
 
@@ -232,25 +228,6 @@ impl<A: Allocator + Copy> PathBuf<A> {
         if len + 1 < ROOM {
             return self.push_made(&mut [0; ROOM], units);
         }
-        self.push_longer(units)
-    }
-
-    /// What [`PathBuf::push_counted`] does for a longer text: a function of its own, since the compiler
-    /// clears the room as soon as a function begins.
-    #[inline(never)]
-    fn push_longer(&mut self, units: &mut CountedUnits<'_>) -> Result<(), AllocError>
-        requires { counted_text units.now ≢ [] }
-        ensures ok { OnOk result (self.new ≡ pushed self.old (counted_text units.old)) }
-        ensures err { OnErr result (self.new ≡ self.old) }
-        ensures text { counted_text units.new ≡ counted_text units.old }
-        ensures once { OnOk result (reads_of units.new
-            ≡ reads_of units.old + length (counted_text units.old)) }
-        ensures at_most { reads_of units.new ≤ reads_of units.old + length (counted_text units.old) }
-    {
-        let len = units.len();
-        if len + 1 < LONG_ROOM {
-            return self.push_made(&mut [0; LONG_ROOM], units);
-        }
         let Some(size) = len.checked_add(2) else {
             return Err(AllocError);
         };
@@ -276,16 +253,16 @@ impl<A: Allocator + Copy> PathBuf<A> {
             ≡ reads_of units.old + length (counted_text units.old)) }
         ensures at_most { reads_of units.new ≤ reads_of units.old + length (counted_text units.old) }
     {
-        let (end, known) = (self.string.num_chars(), self.places.len());
-        let is_missing = needs_separator(&self.string);
-        let added = match make_tail(room, &mut self.places, end, is_missing, units) {
-            Ok(tail) => self.string.push_str(tail),
-            Err(error) => Err(error),
-        };
-        if added.is_err() {
-            self.places.truncate(known);
-        }
-        added
+        let end = self.string.num_chars();
+        let tail = make_tail(room, needs_separator(&self.string), units);
+        self.places.reserve(count_separators(tail.to_u16_slice()))?;
+        self.string.push_str(tail)?;
+        add_places(
+            &mut self.places,
+            self.string.as_cstr16().to_u16_slice(),
+            end,
+        );
+        Ok(())
     }
 
     /// An equal path, with room for another after it.

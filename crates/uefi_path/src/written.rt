@@ -10,7 +10,7 @@ ghost use Rattle.uefi_path.specs.Writing.{normal_path, written_len, written_over
 
 use crate::names::NamesFromLast;
 use crate::path::{Components, Path};
-use crate::tails::with_separator;
+use crate::separators::with_separator;
 use crate::validation::validate_path;
 use uefi_text::chars::SEPARATOR;
 

@@ -10,7 +10,7 @@ use Rattle.uefi_path.proofs.TailUnits.{IsText-tail}
 use Rattle.uefi_text.specs.Units.{nul_terminated, replaced, without_nul}
 use Rattle.uefi_text_encodings.proofs.Texts.{IsString-made, without_nul-nul_terminated}
 use Rattle.uefi_path.proofs.tails.make_tail.Goals as goal
-use Rattle.uefi_path.proofs.tails.make_tail.Goals.{then-is_missing+in_ok-push, else-is_missing}
+use Rattle.uefi_path.proofs.tails.make_tail.Goals.{then-is_missing, else-is_missing}
 
 length-written : (start len : ℕ) (room text : List ℕ) → length text ≡ len → start + len < length room
     → length (put_mid start (start + len - start) room text) ≡ length room
@@ -37,17 +37,17 @@ nul_after start len room text long inside =
     ∙ ap (λ us. us ++ 0 ∷ []) (take-put_mid start (start + len - start) room text (start + len) (omega (arith, long)) (omega (arith, inside)))
 
 pub from_string-requires : goal.from_string-requires
-from_string-requires g c =
+from_string-requires c =
     let us = counted_text c.args.units.now in
     let start = c.from-start.result in
     let len = c.len-len.result in
     let before = c.if-is_missing.room in
-    let text = c.write_replaced.new.tail in
+    let text = c.copy_units.new.tail in
     let tail : List ℕ = if c.args.is_missing then separator ∷ with_separators us else with_separators us in
     let is : text ≡ with_separators us = grind (arith, common_steps) in
     let long : length text ≡ len = ap length is ∙ length-map us (replaced slash separator) ∙ sym c.len-len.ensures.same in
     elim c.if-is_missing.branch [
-      | then-is_missing+in_ok-push w ↦
+      | then-is_missing w ↦
           let one : start ≡ 1 = grind (arith, common_steps) in
           let first = take_more_set c.args.room.now 0 separator (omega (arith, c.requires.room)) in
           let inside : start + len < length before = omega (arith, one, c.requires.room, c.len-len.ensures.same, c.if-is_missing.auto.room) in
@@ -63,17 +63,17 @@ from_string-requires g c =
     ]
 
 pub returns-clause-tail : goal.returns-clause-tail
-returns-clause-tail g c =
+returns-clause-tail c =
     let us = counted_text c.args.units.now in
     let start = c.from-start.result in
     let len = c.len-len.result in
     let before = c.if-is_missing.room in
-    let text = c.write_replaced.new.tail in
+    let text = c.copy_units.new.tail in
     let tail : List ℕ = if c.args.is_missing then separator ∷ with_separators us else with_separators us in
     let is : text ≡ with_separators us = grind (arith, common_steps) in
     let long : length text ≡ len = ap length is ∙ length-map us (replaced slash separator) ∙ sym c.len-len.ensures.same in
     elim c.if-is_missing.branch [
-      | then-is_missing+in_ok-push w ↦
+      | then-is_missing w ↦
           let one : start ≡ 1 = grind (arith, common_steps) in
           let first = take_more_set c.args.room.now 0 separator (omega (arith, c.requires.room)) in
           let inside : start + len < length before = omega (arith, one, c.requires.room, c.len-len.ensures.same, c.if-is_missing.auto.room) in
