@@ -1,5 +1,5 @@
 -- Separators as bits: what a vector comparison gives, and where the first of them stands.
-use Rattle.std.proofs.Common.{◌≡◌, ℕ, zero, suc, ◌+◌, ◌-◌, ◌*◌, ◌/◌, ◌^◌, ◌<◌, ◌≤◌, Bool, true, false, not, List, [], ◌∷◌, ◌++◌, length, map, take, drop, inl, inr, ap, sym, refl, ◌∙◌, arith, cond, add-zero, div-one, pow-suc, mul_comm, add_comm, subst, lt_of_lt_of_le, pow_mono}
+use Rattle.std.proofs.Common.{◌≡◌, ℕ, zero, suc, ◌+◌, ◌-◌, ◌*◌, ◌/◌, ◌^◌, ◌<◌, ◌≤◌, Bool, true, false, not, List, [], ◌∷◌, ◌++◌, length, map, take, drop, inl, inr, ap, sym, ◌∙◌, arith, cond, add-zero, div-one, pow-suc, mul_comm, add_comm, subst, lt_of_lt_of_le, pow_mono}
 use Rattle.std.proofs.Math.Nat.{div-div-eq-div-mul, zero-div}
 use Rattle.std.specs.List.{prefix_len, slice_range}
 use Rattle.std.specs.Simd.Lanes.{mask_l}

@@ -1,14 +1,12 @@
 -- The places of separators: how they cut a text, and what they are once it is edited.
-use Rattle.std.proofs.Common.{◌≡◌, ◌≢◌, ℕ, suc, ◌+◌, ◌-◌, ◌<◌, ◌≤◌, List, [], ◌∷◌, ◌++◌, length, get_or, take, drop, map, All, true, false, inl, inr, ap, sym, refl, subst, ◌∙◌, arith, add-zero, zero-add, append_assoc, if◌then◌else◌, set}
+use Rattle.std.proofs.Common.{◌≡◌, ◌≢◌, ℕ, suc, ◌+◌, ◌-◌, ◌<◌, ◌≤◌, List, [], ◌∷◌, ◌++◌, length, get_or, take, drop, All, true, false, inl, inr, ap, sym, refl, subst, ◌∙◌, arith, add-zero, if◌then◌else◌}
 use Rattle.std.specs.List.{count_by, onto_first, slice_range, slice_split}
-use Rattle.std.proofs.lemmas.Bool.{cases_Bool, ne_eqb}
-use Rattle.std.proofs.lemmas.List.{append-nil, drop-drop, drop_more, length-drop, take-set, take_more_set}
-use Rattle.std.proofs.lemmas.List.Elements.{All-cons, All-head, All-nil, All-tail, All-weaker}
+use Rattle.std.proofs.lemmas.Bool.{cases_Bool}
+use Rattle.std.proofs.lemmas.List.{drop-drop, length-drop}
+use Rattle.std.proofs.lemmas.List.Elements.{All-cons, All-nil, All-weaker}
 use Rattle.std.proofs.lemmas.List.Sums.{sum_by-cons}
 use Rattle.std.proofs.lemmas.List.Splits.{slice_split-cons_no, slice_split-cons_yes}
-use Rattle.uefi_path.specs.Components.{IsPiece}
-use Rattle.uefi_path.specs.Pushing.{appended, needs_separator}
-use Rattle.uefi_path.specs.Separators.{becomes_separator, canonical, is_separator, places_from, places_of, separator, with_separators}
+use Rattle.uefi_path.specs.Separators.{becomes_separator, canonical, is_separator, places_from, places_of, with_separators}
 
 -- where the units begin with a separator, so do the places
 pub places_from-yes : (start u : ℕ) (us : List ℕ) → is_separator u ≡ true

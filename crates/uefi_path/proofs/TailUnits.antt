@@ -1,11 +1,10 @@
 -- What a push adds: one unit more of it is made.
-use Rattle.std.proofs.Common.{◌≡◌, ◌≢◌, ◌==◌, ℕ, ◌+◌, ◌<◌, Bool, List, [], ◌∷◌, ◌++◌, length, get_or, take, drop, set, ap, subst, sym, refl, zero-add, ◌∙◌, arith, true, false, if◌then◌else◌, inl, inr}
+use Rattle.std.proofs.Common.{◌≡◌, ◌≢◌, ◌==◌, ℕ, ◌+◌, ◌<◌, Bool, List, [], ◌∷◌, ◌++◌, length, get_or, take, drop, set, ap, sym, refl, zero-add, ◌∙◌, arith, true, false, if◌then◌else◌, inl, inr}
 use Rattle.std.proofs.lemmas.Bool.{cases_Bool}
-use Rattle.std.proofs.lemmas.List.{drop_at, length-take, map-append, take_more, take_more_set}
+use Rattle.std.proofs.lemmas.List.{drop_at, map-append, take_more, take_more_set}
 use Rattle.std.proofs.lemmas.List.Elements.{All-append, All-cons, All-head, All-nil, All-tail}
 use Rattle.std.specs.List.{count_by}
 use Rattle.uefi_text.specs.Units.{IsText, IsTextUnit, replaced}
-use Rattle.uefi_path.specs.Components.{IsPiece}
 use Rattle.uefi_path.specs.Pushing.{needs_separator, pushed}
 use Rattle.uefi_path.proofs.Pushing.{pushed-non_empty, separator_is_plain, with_separators-plain}
 use Rattle.uefi_path.proofs.Splitting.{IsPlain-with_separators}

@@ -1,13 +1,9 @@
 -- The units that are written are the text of the parent and its NUL.
-use Rattle.std.proofs.Common.{◌≡◌, ◌≢◌, ◌<◌, ◌+◌, ◌++◌, ◌∷◌, [], ℕ, List, All, IfOk, IsOk, Option, Result, None, Some, ap, arith, drop, length, option_map, replicate, subst, sym, ◌∙◌}
+use Rattle.std.proofs.Common.{◌≡◌, ◌+◌, IfOk, Some, ap, arith, length, option_map, replicate, subst, sym, ◌∙◌}
 use Rattle.std.proofs.lemmas.Grind.{common_steps}
-use Rattle.uefi_text.specs.Units.{IsText, IsTextUnit, nul_terminated}
-use Rattle.uefi_path.specs.Components.{joined}
 use Rattle.uefi_path.specs.Parents.{parent_of_components}
-use Rattle.uefi_path.specs.Separators.{IsPlain, with_separators}
-use Rattle.uefi_path.specs.Views.{components_left}
-use Rattle.uefi_path.specs.Writing.{written_over}
-use Rattle.uefi_path.proofs.Drafts.{IsMade, is_made, written_string}
+use Rattle.uefi_path.specs.Separators.{with_separators}
+use Rattle.uefi_path.proofs.Drafts.{is_made, written_string}
 use Rattle.uefi_path.proofs.pathbuf.parent_of.Goals as goal
 use Rattle.uefi_path.proofs.pathbuf.parent_of.Goals.{After-try_from_vec}
 

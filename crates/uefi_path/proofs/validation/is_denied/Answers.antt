@@ -1,5 +1,5 @@
 -- The table says of each character of ASCII what the list says.
-use Rattle.std.proofs.Common.{◌≡◌, ◌<◌, ◌+◌, ℕ, zero, suc, Bool, true, List, [], ◌∷◌, length, get_or, false, ap, refl, add-zero, arith, cond, sym, zero-add, ◌∙◌}
+use Rattle.std.proofs.Common.{◌≡◌, ◌<◌, ◌+◌, ℕ, zero, suc, Bool, List, [], ◌∷◌, get_or, false, ap, refl, add-zero, arith, sym, zero-add, ◌∙◌}
 use Rattle.uefi_path.specs.Verdicts.{is_denied}
 use Rattle.uefi_path.proofs.validation.is_denied.Goals as goal
 

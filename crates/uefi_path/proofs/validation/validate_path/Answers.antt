@@ -1,5 +1,5 @@
 -- The verdict is the fault of the component that was looked at last, and what is accepted is valid.
-use Rattle.std.proofs.Common.{◌≢◌, [], Ok, Err, refl, rules, sym, ◌∙◌}
+use Rattle.std.proofs.Common.{◌≢◌, [], Ok, Err, rules, sym, ◌∙◌}
 use Rattle.uefi_path.specs.Components.{components_of}
 use Rattle.uefi_path.specs.Views.{components_left, path_text}
 use Rattle.uefi_path.specs.declared.validation.PathError.TheVariants.{ClimbsAboveRoot}

@@ -1,8 +1,7 @@
 -- No slash is left, and there is room for the places of all separators.
-use Rattle.std.proofs.Common.{◌≡◌, ◌≤◌, ◌++◌, ap, arith, length, rules, subst, sym, ◌∙◌}
-use Rattle.std.specs.Vec.{vec_capacity, vec_len}
+use Rattle.std.proofs.Common.{◌++◌, ap, arith, length, subst, sym, ◌∙◌}
 use Rattle.std.specs.List.{count_by}
-use Rattle.uefi_path.specs.Separators.{IsPlain, becomes_separator, places_from, with_separators}
+use Rattle.uefi_path.specs.Separators.{IsPlain, becomes_separator, places_from}
 use Rattle.uefi_path.proofs.SeparatorPlaces.{length-places}
 use Rattle.uefi_path.proofs.Splitting.{IsPlain-with_separators}
 use Rattle.uefi_path.proofs.pathbuf.PathBuf.new_from_cstring16.Goals as goal

@@ -2,7 +2,7 @@
 use Rattle.std.proofs.Common.{◌≡◌, ◌++◌, arith, drop, length, ap, subst, sym, ◌∙◌}
 use Rattle.uefi_text.specs.Views.{text_of}
 use Rattle.std.specs.List.{count_by}
-use Rattle.uefi_path.specs.Separators.{IsPlain, becomes_separator, places_from, separator, with_separators}
+use Rattle.uefi_path.specs.Separators.{IsPlain, becomes_separator, places_from}
 use Rattle.uefi_path.specs.Views.{counted_text}
 use Rattle.uefi_path.proofs.TailUnits.{IsPlain-tail, added_tail, count_of_tail, tail_of_text}
 use Rattle.uefi_path.proofs.pathbuf.PathBuf.push_made.Goals as goal
