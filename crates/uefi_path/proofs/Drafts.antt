@@ -209,18 +209,9 @@ made_shorter (p ∷ q ∷ ps) are =
       parent_of_components-shorter (p ∷ q ∷ ps) (with_separators text) (parent_made (p ∷ q ∷ ps) are (omega arith)),
     )
 
-pub made_fits : (pieces : List (List ℕ)) (room : ℕ) → All IsPiece pieces
-    → IfSome (parent_of_components pieces) (λ parent. length parent ≤ room) → length (made pieces) ≤ room
-made_fits [] room are fits = omega arith
-made_fits (p ∷ []) room are fits = omega arith
-made_fits (p ∷ q ∷ ps) room are fits =
-    let text = made (p ∷ q ∷ ps) in
-    let P : Option (List ℕ) → Type 0 = λ parent. IfSome parent (λ parent. length parent ≤ room) in
-    omega (arith, length-map text (replaced slash separator), subst P (parent_made (p ∷ q ∷ ps) are (omega arith)) fits)
-
 -- a buffer that begins with it
 pub made_written : (pieces : List (List ℕ)) (old buffer : List ℕ) → All IsPiece pieces
-    → IfSome (parent_of_components pieces) (λ parent. length parent ≤ length old)
+    → length (made pieces) ≤ length old
     → buffer ≡ with_separators (made pieces) ++ drop (length (made pieces)) old
     → buffer ≡ written_over (parent_of_components pieces) old
 made_written [] old buffer are fits is = is
@@ -230,7 +221,7 @@ made_written (p ∷ q ∷ ps) old buffer are fits is =
     let size = length-map text (replaced slash separator) in
     is
     ∙ ap (λ n. with_separators text ++ drop n old) (sym size)
-    ∙ changed _ _ old (parent_made (p ∷ q ∷ ps) are (omega arith)) (omega (arith, size, made_fits (p ∷ q ∷ ps) (length old) are fits))
+    ∙ changed _ _ old (parent_made (p ∷ q ∷ ps) are (omega arith)) (omega (arith, size, fits))
 
 -- a parent, by its length
 pub record IsMade (pieces : List (List ℕ)) (len : ℕ) : Type 0 where
@@ -262,14 +253,17 @@ is_made (p ∷ q ∷ ps) len texts are known =
     }
 
 -- written over NULs, one of them after it, it is a string
-pub written_string : (pieces : List (List ℕ)) (len : ℕ) (old new : List ℕ) (made : IsMade pieces len) → old ≡ replicate (len + 1) 0
-    → new ≡ written_over (parent_of_components pieces) old → new ≡ nul_terminated made.parent
-written_string pieces len old new made zeros is =
+pub written_string : (pieces : List (List ℕ)) (len : ℕ) (old new : List ℕ) (told : Option ℕ) (made : IsMade pieces len)
+    → old ≡ replicate (len + 1) 0 → told ≡ option_map length (parent_of_components pieces)
+    → (IfSome told (λ len. len ≤ length old) → new ≡ written_over (parent_of_components pieces) old)
+    → new ≡ nul_terminated made.parent
+written_string pieces len old new told made zeros is wrote =
     let size : length old ≡ len + 1 = ap length zeros ∙ length-replicate (len + 1) 0 in
+    let one : len + 1 - length made.parent ≡ 1 = omega (arith, made.long) in
     let nul : drop (length made.parent) old ≡ 0 ∷ [] =
     ap (drop (length made.parent)) zeros
     ∙ drop-replicate (length made.parent) (len + 1) 0
-    ∙ ap (λ n. replicate n 0) (let one : len + 1 - length made.parent ≡ 1 = omega (arith, made.long) in one) in
-    is
-    ∙ sym (changed _ _ old made.is (omega (arith, made.long, size)))
-    ∙ ap (λ us. made.parent ++ us) nul
+    ∙ ap (λ n. replicate n 0) one in
+    let fits : IfSome told (λ len. len ≤ length old) =
+    subst (λ told. IfSome told (λ len. len ≤ length old)) (sym (is ∙ ap (option_map length) made.is)) (omega (arith, made.long, size)) in
+    wrote fits ∙ sym (changed _ _ old made.is (omega (arith, made.long, size))) ∙ ap (λ us. made.parent ++ us) nul

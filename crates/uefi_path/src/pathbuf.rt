@@ -15,7 +15,7 @@ use crate::counted::CountedUnits;
 use crate::path::{Components, Path, Rest};
 use crate::separators::{add_places, count_separators};
 use crate::tails::make_tail;
-use crate::written::{parent_len, write_all_but_last};
+use crate::written::write_all_but_last;
 use std::alloc::{AllocError, Allocator, Global};
 use std::cmp::Ordering;
 use std::fmt;
@@ -65,7 +65,7 @@ fn parent_of<A: Allocator + Copy>(
     ensures ok { IfOk result (λ parent. parent ≡ parent_of_components (components_left components.entry)) }
     ensures none { parent_of_components (components_left components.entry) ≡ None → IsOk result }
 {
-    let Some(len) = parent_len(components.copy()) else {
+    let Some(len) = write_all_but_last(&mut [], components.copy()) else {
         return Ok(None);
     };
     let mut units = Vec::new(alloc);

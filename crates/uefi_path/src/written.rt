@@ -37,48 +37,35 @@ fn write_component(places: &mut [u16], is_missing: bool, component: &[u16])
     }
 }
 
-/// How long the parent of a path of these components is, which one of at most one component has not.
-pub(crate) fn parent_len(mut components: Components<'_>) -> Option<usize>
+/// How long the parent of a path of these components is, which one of at most one component has not. Writes it
+/// to the start of a buffer, each slash replaced, where it has room.
+pub(crate) fn write_all_but_last(
+    buffer: &mut [u16],
+    mut components: Components<'_>,
+) -> Option<usize>
     requires pieces { All IsPiece (components_left components) }
     requires bound { length (joined (components_left components)) < 2 ^ 64 }
-    ensures { result ≡ option_map length (parent_of_components (components_left components.entry)) }
+    ensures len { result ≡ option_map length (parent_of_components (components_left components.entry)) }
+    ensures buffer { IfSome result (λ len. len ≤ length buffer.old)
+        → buffer.new ≡ written_over (parent_of_components (components_left components.entry)) buffer.old }
 {
     if components.copy().nth(1).is_none() {
         return None;
     }
-    let Some(mut last) = components.next() else {
-        return None;
-    };
+    let mut last = components.next()?;
     let mut len = 0;
     let mut is_missing = false;
     for component in components {
-        len += usize::from(is_missing) + last.len();
+        let end = len + usize::from(is_missing) + last.len();
+        if end <= buffer.len() {
+            write_component(&mut buffer[len..end], is_missing, last.units());
+        }
+        len = end;
         // No component holds a separator.
         is_missing = !last.is_empty();
         last = component;
     }
     Some(len)
-}
-
-/// Writes the parent of a path of these components to the start of a buffer, each slash replaced.
-pub(crate) fn write_all_but_last(buffer: &mut [u16], mut components: Components<'_>)
-    requires pieces { All IsPiece (components_left components) }
-    requires room { IfSome (parent_of_components (components_left components))
-        (λ parent. length parent ≤ length buffer.now) }
-    ensures { buffer.new ≡ written_over (parent_of_components (components_left components.entry)) buffer.old }
-{
-    let Some(mut last) = components.next() else {
-        return;
-    };
-    let mut len = 0;
-    let mut is_missing = false;
-    for component in components {
-        let end = len + usize::from(is_missing) + last.len();
-        write_component(&mut buffer[len..end], is_missing, last.units());
-        len = end;
-        is_missing = !last.is_empty();
-        last = component;
-    }
 }
 
 /// How many units names have, joined.
@@ -156,7 +143,7 @@ impl<'a> Path<'a> {
     {
         // A clause of this call says how long the path can be.
         let _text = self.to_cstr16().as_slice();
-        let Some(len) = parent_len(self.components()) else {
+        let Some(len) = write_all_but_last(&mut [], self.components()) else {
             return Ok(None);
         };
         if buffer.len() < len {
