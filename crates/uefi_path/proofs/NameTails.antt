@@ -33,9 +33,6 @@ good_after : (front back : List (List ℕ)) → All IsGood (front ++ back) → A
 good_after [] back good = good
 good_after (f ∷ front) back good = good_after front back (All-tail IsGood f (front ++ back) good)
 
-pub no_last : (whole : List (List ℕ)) → All IsGood whole → AreLast whole whole []
-no_last whole good = record { names = []; all = sym (append-nil whole); good = good; text = refl }
-
 pub one_more : (whole left new : List (List ℕ)) (last name : List ℕ) → AreLast whole left last
     → left ≡ new ++ name ∷ [] → AreLast whole new (name_before name last)
 one_more whole left new last name are next =

@@ -51,15 +51,6 @@ dot_before ps piece climbs e =
       after = refl;
     }))
 
--- a last `..` is one more that stands after the others
-pub dot_dot_before : (ps : List (List ℕ)) (piece : List ℕ) (climbs : ℕ) → piece ≡ dot_dot
-    → names_before (ps ++ piece ∷ []) climbs ≡ names_before ps (climbs + 1)
-dot_dot_before ps piece climbs e =
-    let ups = replicate climbs dot_dot in
-    let more : suc climbs ≡ climbs + 1 = omega arith in
-    ap normal_of (append_assoc ps (piece ∷ []) ups ∙ ap (λ p. ps ++ p ∷ ups) e)
-    ∙ ap (names_before ps) more
-
 -- a last name goes with one of them
 pub name_before : (ps : List (List ℕ)) (name : List ℕ) (climbs : ℕ) → IsName name
     → names_before (ps ++ name ∷ []) (suc climbs) ≡ names_before ps climbs

@@ -164,14 +164,3 @@ canonical_placed (u ∷ us) some first =
           let later = (within_places 1 us 0 0 (omega (arith, some, ap length none))).0 in
           absurd (omega (arith, later, first, ap (λ ps. get_or ps 0 0) none))
     ]
-
-pub canonical_unplaced : (text : List ℕ) → (0 < length (places_of text) → get_or (places_of text) 0 0 ≢ 0)
-    → text ≡ canonical text
-canonical_unplaced [] later = refl
-canonical_unplaced (u ∷ us) later =
-    elim (cases_Bool (is_separator u)) [
-      | inl cut ↦
-          let here = places_from-yes 0 u us cut in
-          absurd (later (omega (arith, ap length here)) (ap (λ ps. get_or ps 0 0) here))
-      | inr other ↦ rw other refl
-    ]

@@ -43,18 +43,6 @@ IsText-tail us true is_text =
     (IsText-with_separators us is_text)
 IsText-tail us false is_text = IsText-with_separators us is_text
 
--- what is added after a text that is not empty itself
-pub pushed_tail : (text us : List ℕ) → us ≢ []
-    → text ++ (if needs_separator text then separator ∷ with_separators us else with_separators us) ≡ pushed text us
-pushed_tail text us some =
-    (elim (needs_separator text)
-    as (λ b. text ++ (if b then separator ∷ with_separators us else with_separators us)
-    ≡ (if b then text ++ separator ∷ with_separators us else text ++ with_separators us)) [
-      | true ↦ refl
-      | false ↦ refl
-    ])
-    ∙ sym (pushed-non_empty text us some)
-
 pub IsPlain-tail : (us : List ℕ) (is_missing : Bool)
     → IsPlain (if is_missing then separator ∷ with_separators us else with_separators us)
 IsPlain-tail us true =

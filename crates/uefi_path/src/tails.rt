@@ -42,11 +42,8 @@ pub(crate) fn make_tail<'a>(
     ensures count { reads_of units.new ≡ reads_of units.old + length (counted_text units.old) }
 {
     let len = units.len();
-    let start = usize::from(is_missing);
-    if is_missing {
-        room[0] = u16::from(SEPARATOR);
-    }
-    copy_units(&mut room[start..start + len], units);
-    room[start + len] = 0;
-    CStr16::from_string(&room[..start + len + 1])
+    room[0] = u16::from(SEPARATOR);
+    copy_units(&mut room[1..len + 1], units);
+    room[len + 1] = 0;
+    CStr16::from_string(&room[usize::from(!is_missing)..len + 2])
 }
