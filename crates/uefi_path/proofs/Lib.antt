@@ -4,6 +4,7 @@ pub mod Pushing
 pub mod Parents
 pub mod Drafts
 mod IntoBuffers
+pub mod CutParents
 pub mod Joining
 pub mod Validity
 pub mod ParentForm

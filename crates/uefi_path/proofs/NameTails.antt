@@ -66,11 +66,6 @@ pub last_fit : (whole left : List (List ℕ)) (last : List ℕ) → AreLast whol
 last_fit whole left last are =
     omega (arith, ap length are.text, ap (λ ps. length (joined ps)) are.all, no_longer left are.names)
 
--- and are all of them where none is left
-pub all_last : (whole left : List (List ℕ)) (last : List ℕ) → AreLast whole left last → left ≡ []
-    → last ≡ joined whole
-all_last whole left last are none = are.text ∙ sym (ap joined (are.all ∙ ap (λ ps. ps ++ are.names) none))
-
 -- a test for whether there are any
 abbrev pub Tells : Bool → List ℕ → Type 0
 Tells some last = (some ≡ true → 0 < length last) × (some ≡ false → length last ≡ 0)
@@ -84,10 +79,6 @@ tells_rest start text = (
   λ some. omega (arith, length-drop start text, ltb-true start (length text) some),
   λ none. omega (arith, length-drop start text, ltb-false start (length text) none),
 )
-
-tells_true : (start : ℕ) (text : List ℕ) → start < length text → Tells true (drop start text)
-tells_true start text less =
-    (λ some. omega (arith, less, length-drop start text), λ none. absurd (let b = sym none in cc))
 
 -- how long they are with a name before them, and what that is
 length-name_before : (some : Bool) (name last : List ℕ) (count : ℕ) → Tells some last → count ≡ cond some 1 0
@@ -119,48 +110,13 @@ name_before_is false name [] tells = append-nil name
 name_before_is true name (u ∷ us) tells = refl
 name_before_is false name (u ∷ us) tells = absurd (omega (arith, tells.1 refl))
 
--- places that end in the last names have room for one more
-pub room_before : (whole left new : List (List ℕ)) (name places : List ℕ) (start : ℕ)
-    → AreLast whole left (drop start places) → left ≡ new ++ name ∷ [] → length places ≡ length (joined whole)
-    → length (name_before name (drop start places)) ≤ length places
-room_before whole left new name places start are next same =
-    omega (
-      arith,
-      same,
-      last_fit whole new (name_before name (drop start places)) (one_more whole left new (drop start places) name are next),
-    )
-
--- and for the separator after it
-pub separator_fits : (name places : List ℕ) (start : ℕ) → length (name_before name (drop start places)) ≤ length places
-    → start < length places → 0 < start
-separator_fits name places start room less =
-    omega (
-      arith,
-      room,
-      length-name_before true name (drop start places) 1 (tells_true start places less) refl,
-      length-drop start places,
-    )
-
--- which is written first
+-- with the separator that was written before them
 pub with_name : (name places text : List ℕ) (start : ℕ)
     → text ≡ (if nat_lt start (length places) then separator ∷ drop start places else [])
     → name ++ text ≡ name_before name (drop start places)
 with_name name places text start e =
     ap (λ us. name ++ us) e
     ∙ name_before_is (nat_lt start (length places)) name (drop start places) (tells_rest start places)
-
-pub name_fits : (name places new : List ℕ) (start end : ℕ) → length (name_before name (drop start places)) ≤ length places
-    → drop end new ≡ (if nat_lt start (length places) then separator ∷ drop start places else [])
-    → length new ≡ length places → end ≤ length new → length name ≤ end
-name_fits name places new start end room e same within =
-    omega (
-      arith,
-      room,
-      same,
-      ap length (with_name name places (drop end new) start e),
-      length-append name (drop end new),
-      length-drop end new,
-    )
 
 -- how many units pieces take with a separator after each
 abbrev room : List (List ℕ) → ℕ

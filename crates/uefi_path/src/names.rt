@@ -1,6 +1,6 @@
 //! The names of a normal path, found from the last component on. A `..` there says how many names before it
 //! go, so that none has to be kept on the way: no call takes memory.
-ghost use Rattle.std.specs.Prelude.{◌≡◌, ◌↔◌, ◌+◌, ◌-◌, ◌<◌, ◌≤◌, ◌^◌, ◌++◌, ◌∷◌, [], All, IsNone, IsTrue, List, None, ℕ, drop, if◌then◌else◌, length, option_map, slice_index};
+ghost use Rattle.std.specs.Prelude.{◌≡◌, ◌↔◌, ◌+◌, ◌-◌, ◌<◌, ◌≤◌, ◌^◌, ◌++◌, ◌∷◌, [], All, IfSome, IsNone, IsTrue, List, None, ℕ, drop, if◌then◌else◌, length, option_map, slice_index, take};
 ghost use Rattle.std.specs.List.{slice_split};
 ghost use Rattle.std.specs.Option.{option_to_list};
 ghost use Rattle.uefi_path.specs.Components.{IsPiece, components_of, joined};
@@ -59,6 +59,7 @@ pub(crate) fn cut_last(text: Char16Slice<'_>) -> (Option<Char16Slice<'_>>, Char1
     ensures pieces { slice_split is_separator (units_of text.entry)
         ≡ pieces_left result.0 ++ units_of result.1 ∷ [] }
     ensures shorter { are_left result.0 + length (units_of result.1) ≤ length (units_of text.entry) }
+    ensures first { IfSome result.0 (λ front. units_of front ≡ take (are_left result.0) (units_of text.entry)) }
 {
     let start = last_start(text.units());
     let last = text.part(start, text.len());

@@ -325,6 +325,15 @@ impl<'a> Components<'a> {
         Components { rest: Some(rest) }
     }
 
+    /// The pieces between the separators of a text, of which there is one where it has none.
+    pub(crate) fn between(text: Char16Slice<'a>) -> Components<'a>
+        ensures { components_left result ≡ slice_split is_separator (units_of text.entry) }
+    {
+        Components {
+            rest: Some(Rest::of(text)),
+        }
+    }
+
     /// These components, to walk over them once more.
     pub(crate) fn copy(&self) -> Components<'a>
         ensures { components_left result ≡ components_left self.now }

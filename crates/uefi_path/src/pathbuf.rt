@@ -2,7 +2,7 @@
 ghost use Rattle.std.specs.Prelude.{◌≡◌, ◌≢◌, ℕ, ◌+◌, ◌<◌, ◌≤◌, ◌^◌, ◌↔◌, [], ◌∷◌, ◌++◌, All, List, Some, None, drop, fold, false, if◌then◌else◌, length, map, option_map, ◌-◌, IsTrue, IsOk, IsSome, IfOk, IfErr, IfSome, OnOk, OnErr};
 ghost use Rattle.std.specs.List.{last_or, slice_range, slice_split};
 ghost use Rattle.uefi_path.specs.Components.{AreComponents, IsPiece, StartsWith, components_of, joined};
-ghost use Rattle.uefi_path.specs.Parents.{parent_of_components, parent_text};
+ghost use Rattle.uefi_path.specs.Parents.{is_non_empty, parent_of_components, parent_text};
 ghost use Rattle.uefi_path.specs.Runs.{GivesNoNulIn};
 ghost use Rattle.uefi_path.specs.Pushing.{appended, needs_separator, pushed};
 ghost use Rattle.uefi_path.specs.Separators.{IsPlain, canonical, is_separator, places_of, with_separators};
@@ -12,6 +12,7 @@ ghost use Rattle.uefi_text.specs.Units.{IsText};
 ghost use Rattle.uefi_text.specs.Views.{units_of};
 
 use crate::counted::CountedUnits;
+use crate::names::cut_last;
 use crate::path::{Components, Path, Rest};
 use crate::separators::{add_places, count_separators};
 use crate::tails::make_tail;
@@ -75,9 +76,34 @@ fn parent_of<A: Allocator + Copy>(
     Ok(Some(PathBuf::from_string(alloc, string)?))
 }
 
-/// How many units the room has in which a text is made ready to be pushed: with a separator before it and the
-/// NUL after it. What is longer is made in memory that it asks for.
-const ROOM: usize = 256;
+/// Copies a part of a path, each slash replaced.
+fn copy_part<A: Allocator + Copy>(alloc: A, part: Char16Slice<'_>) -> Result<PathBuf<A>, AllocError>
+    requires { IsText (units_of part) }
+    ensures { IfOk result (λ path. path ≡ with_separators (units_of part.entry)) }
+{
+    let mut string = CString16::with_capacity(alloc, part.len())?;
+    string.push_part(part)?;
+    PathBuf::from_string(alloc, string)
+}
+
+/// Whether a component is empty.
+fn has_empty(components: Components<'_>) -> bool
+    ensures { result ≡ false → All (λ piece. IsTrue (is_non_empty piece)) (components_left components.entry) }
+{
+    for component in components {
+        if component.is_empty() {
+            return true;
+        }
+    }
+    false
+}
+
+/// How many units the room has in which a short text is made ready to be pushed: with a separator before it
+/// and the NUL after it.
+const ROOM: usize = 32;
+
+/// How many it has for a longer one. What is longer still is made in memory that it asks for.
+const LONG_ROOM: usize = 256;
 
 /// How long a path becomes at most, when another is pushed after it.
 fn room_for_both(path: Path<'_>, other: Path<'_>) -> usize {
@@ -130,9 +156,16 @@ impl<'a> Path<'a> {
             IfSome parent (λ parent. length parent < length (path_text self.now))) }
         ensures successive { IfOk result (λ parent. parents_of (path_text self.now) ≡ parent_chain parent) }
     {
-        // A clause of this call says how long the path can be.
-        let _text = self.to_cstr16().as_slice();
-        parent_of(alloc, self.components())
+        let (Some(front), _) = cut_last(self.canonical()) else {
+            return Ok(None);
+        };
+        if has_empty(Components::between(front)) {
+            // A clause of this call says how long the path can be.
+            let _text = self.to_cstr16().as_slice();
+            return parent_of(alloc, self.components());
+        }
+        // Of most paths, one copy of what stands before the last separator.
+        Ok(Some(copy_part(alloc, front)?))
     }
 }
 
@@ -227,6 +260,25 @@ impl<A: Allocator + Copy> PathBuf<A> {
         }
         if len + 1 < ROOM {
             return self.push_made(&mut [0; ROOM], units);
+        }
+        self.push_longer(units)
+    }
+
+    /// What [`PathBuf::push_counted`] does for a longer text: a function of its own, since the compiler
+    /// clears the room as soon as a function begins.
+    #[inline(never)]
+    fn push_longer(&mut self, units: &mut CountedUnits<'_>) -> Result<(), AllocError>
+        requires { counted_text units.now ≢ [] }
+        ensures ok { OnOk result (self.new ≡ pushed self.old (counted_text units.old)) }
+        ensures err { OnErr result (self.new ≡ self.old) }
+        ensures text { counted_text units.new ≡ counted_text units.old }
+        ensures once { OnOk result (reads_of units.new
+            ≡ reads_of units.old + length (counted_text units.old)) }
+        ensures at_most { reads_of units.new ≤ reads_of units.old + length (counted_text units.old) }
+    {
+        let len = units.len();
+        if len + 1 < LONG_ROOM {
+            return self.push_made(&mut [0; LONG_ROOM], units);
         }
         let Some(size) = len.checked_add(2) else {
             return Err(AllocError);

@@ -12,7 +12,7 @@ use std::simd::prelude::*;
 use uefi_text::chars::{SEPARATOR, SLASH};
 
 /// How many units are looked at together where a text has as many.
-const BLOCK: usize = 16;
+const BLOCK: usize = 64;
 
 /// How many where it has fewer: the last ones are looked at one by one.
 const SMALL_BLOCK: usize = 8;

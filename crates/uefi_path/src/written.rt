@@ -1,5 +1,5 @@
 //! Paths that are made in a caller's buffer: whole, or not at all. No call takes memory.
-ghost use Rattle.std.specs.Prelude.{◌≡◌, ◌+◌, ◌<◌, ◌≤◌, ◌^◌, [], ◌∷◌, ◌++◌, All, IfSome, drop, if◌then◌else◌, length, nat_lt, option_map};
+ghost use Rattle.std.specs.Prelude.{◌≡◌, ◌+◌, ◌-◌, ◌<◌, ◌≤◌, ◌^◌, [], ◌∷◌, ◌++◌, All, IfSome, drop, if◌then◌else◌, length, nat_lt, option_map};
 ghost use Rattle.uefi_path.specs.Components.{IsPiece, joined};
 ghost use Rattle.uefi_path.specs.NamesLeft.{IsWalk, names_left};
 ghost use Rattle.uefi_path.specs.Parents.{parent_of_components, parent_text};
@@ -68,21 +68,6 @@ pub(crate) fn write_all_but_last(
     Some(len)
 }
 
-/// How many units names have, joined.
-pub(crate) fn names_len(mut names: NamesFromLast<'_>) -> usize
-    requires walk { IsWalk names }
-    requires good { All IsGood (names_left names) }
-    requires bound { length (joined (names_left names)) < 2 ^ 64 }
-    ensures { result ≡ length (joined (names_left names.entry)) }
-{
-    let mut len = 0;
-    while let Some(name) = names.next() {
-        // No name is empty, so a separator stands between this one and others.
-        len += name.len() + usize::from(0 < len);
-    }
-    len
-}
-
 /// Writes a separator before what stands at the end of a buffer, if anything does, and returns where that
 /// begins then.
 fn write_separator_before(buffer: &mut [u16], start: usize) -> usize
@@ -90,6 +75,7 @@ fn write_separator_before(buffer: &mut [u16], start: usize) -> usize
     requires room { start < length buffer.now → 0 < start }
     ensures text { drop result buffer.new
         ≡ (if nat_lt start (length buffer.old) then separator ∷ drop start buffer.old else []) }
+    ensures place { result ≡ (if nat_lt start (length buffer.old) then start - 1 else start) }
     ensures within { result ≤ length buffer.new }
     ensures same { length buffer.new ≡ length buffer.old }
 {
@@ -100,33 +86,37 @@ fn write_separator_before(buffer: &mut [u16], start: usize) -> usize
     start - 1
 }
 
-/// Writes a name, each slash replaced, before what stands at the end of a buffer, and returns where it
-/// begins.
-fn write_name_before(buffer: &mut [u16], end: usize, name: &[u16]) -> usize
+/// Writes a name, each slash replaced, before what stands at the end of a buffer.
+fn write_name_before(buffer: &mut [u16], end: usize, name: &[u16])
     requires within { end ≤ length buffer.now }
     requires room { length name.now ≤ end }
-    ensures text { drop result buffer.new ≡ with_separators name.now ++ drop end buffer.old }
-    ensures within { result ≤ length buffer.new }
+    ensures text { drop (end - length name.now) buffer.new ≡ with_separators name.now ++ drop end buffer.old }
     ensures same { length buffer.new ≡ length buffer.old }
 {
-    let start = end - name.len();
     // A name of a normal path has no slash, but a plain copy would be a call of the C library.
-    write_with_separators(&mut buffer[start..end], name);
-    start
+    write_with_separators(&mut buffer[end - name.len()..end], name);
 }
 
-/// Writes names, joined, into as many places.
-pub(crate) fn write_names(places: &mut [u16], mut names: NamesFromLast<'_>)
+/// How many units names have, joined. Writes them into places, where these are as many.
+pub(crate) fn write_names(places: &mut [u16], mut names: NamesFromLast<'_>) -> usize
     requires walk { IsWalk names }
     requires good { All IsGood (names_left names) }
-    requires room { length places.now ≡ length (joined (names_left names)) }
-    ensures { places.new ≡ joined (names_left names.entry) }
+    requires bound { length (joined (names_left names)) < 2 ^ 64 }
+    ensures len { result ≡ length (joined (names_left names.entry)) }
+    ensures places { length places.old ≡ length (joined (names_left names.entry))
+        → places.new ≡ joined (names_left names.entry) }
 {
-    let mut start = places.len();
+    let mut len = 0;
     while let Some(name) = names.next() {
-        let end = write_separator_before(places, start);
-        start = write_name_before(places, end, name.units());
+        // No name is empty, so a separator stands between this one and others.
+        let all = len + (name.len() + usize::from(0 < len));
+        if all <= places.len() {
+            let end = write_separator_before(places, places.len() - len);
+            write_name_before(places, end, name.units());
+        }
+        len = all;
     }
+    len
 }
 
 /// Paths in a caller's buffer. No call takes memory.
@@ -167,14 +157,14 @@ impl<'a> Path<'a> {
             return Ok(None);
         }
         let names = NamesFromLast::of(*self);
-        let len = names_len(names);
+        let len = write_names(&mut [], names);
         // Where no name is left the path is the lone separator.
         let room = len.max(1);
         if buffer.len() < room {
             return Err(room);
         }
         buffer[0] = u16::from(SEPARATOR);
-        write_names(&mut buffer[..len], names);
+        let _len = write_names(&mut buffer[..len], names);
         Ok(Some(room))
     }
 }
