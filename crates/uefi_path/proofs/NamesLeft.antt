@@ -1,5 +1,5 @@
 -- The names of a normal path, found from the last piece on: what each piece changes.
-use Rattle.std.proofs.Common.{◌≡◌, ◌≢◌, ◌≤◌, length, ℕ, zero, suc, ◌+◌, List, [], ◌∷◌, ◌++◌, All, inl, inr, append_assoc, refl, sym, ap, ◌∙◌, subst, arith, replicate, None}
+use Rattle.std.proofs.Common.{◌≡◌, ◌≢◌, ◌≤◌, length, ℕ, zero, suc, List, [], ◌∷◌, ◌++◌, All, inl, inr, append_assoc, refl, sym, ap, ◌∙◌, subst, arith, replicate, None}
 use Rattle.std.proofs.lemmas.List.{append-nil}
 use Rattle.std.proofs.lemmas.List.Elements.{All-head}
 use Rattle.std.specs.List.{slice_split}

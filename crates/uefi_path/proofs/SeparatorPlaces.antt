@@ -1,5 +1,5 @@
 -- The places of separators: how they cut a text, and what they are once it is edited.
-use Rattle.std.proofs.Common.{◌≡◌, ◌≢◌, ℕ, suc, ◌+◌, ◌-◌, ◌<◌, ◌≤◌, List, [], ◌∷◌, ◌++◌, length, get_or, take, drop, All, true, false, inl, inr, ap, sym, refl, subst, ◌∙◌, arith, add-zero, if◌then◌else◌}
+use Rattle.std.proofs.Common.{◌≡◌, ℕ, suc, ◌+◌, ◌-◌, ◌<◌, ◌≤◌, List, [], ◌∷◌, ◌++◌, length, get_or, take, drop, All, true, false, inl, inr, ap, sym, refl, subst, ◌∙◌, arith, add-zero, if◌then◌else◌}
 use Rattle.std.specs.List.{count_by, onto_first, slice_range, slice_split}
 use Rattle.std.proofs.lemmas.Bool.{cases_Bool}
 use Rattle.std.proofs.lemmas.List.{drop-drop, length-drop}

@@ -1,12 +1,11 @@
 -- What a push adds: one unit more of it is made.
-use Rattle.std.proofs.Common.{◌≡◌, ◌≢◌, ◌==◌, ℕ, ◌+◌, ◌<◌, Bool, List, [], ◌∷◌, ◌++◌, length, get_or, take, drop, set, ap, sym, refl, zero-add, ◌∙◌, arith, true, false, if◌then◌else◌, inl, inr}
+use Rattle.std.proofs.Common.{◌≡◌, ◌≢◌, ◌==◌, ℕ, ◌+◌, ◌<◌, Bool, List, [], ◌∷◌, ◌++◌, length, get_or, take, drop, set, ap, sym, zero-add, ◌∙◌, arith, true, false, if◌then◌else◌, inl, inr}
 use Rattle.std.proofs.lemmas.Bool.{cases_Bool}
 use Rattle.std.proofs.lemmas.List.{drop_at, map-append, take_more, take_more_set}
 use Rattle.std.proofs.lemmas.List.Elements.{All-append, All-cons, All-head, All-nil, All-tail}
 use Rattle.std.specs.List.{count_by}
 use Rattle.uefi_text.specs.Units.{IsText, IsTextUnit, replaced}
-use Rattle.uefi_path.specs.Pushing.{needs_separator, pushed}
-use Rattle.uefi_path.proofs.Pushing.{pushed-non_empty, separator_is_plain, with_separators-plain}
+use Rattle.uefi_path.proofs.Pushing.{separator_is_plain, with_separators-plain}
 use Rattle.uefi_path.proofs.Splitting.{IsPlain-with_separators}
 use Rattle.uefi_path.specs.Separators.{IsPlain, becomes_separator, places_from, places_of, separator, slash, with_separators}
 use Rattle.uefi_path.proofs.SeparatorPlaces.{length-places, places_from-append}

@@ -11,5 +11,6 @@ pub mod Parents
 pub mod SuccessiveParents
 pub mod Laws
 pub mod NormalForms
+pub mod CutPieces
 pub mod NamesLeft
 pub mod Climbing

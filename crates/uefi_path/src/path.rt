@@ -10,8 +10,7 @@ ghost use Rattle.uefi_text.specs.Runs.{GivesEach};
 ghost use Rattle.uefi_text.specs.Units.{IsText};
 ghost use Rattle.uefi_text.specs.Views.{text_of, units_of};
 
-use crate::names::cut_last;
-use crate::separators::Separators;
+use crate::separators::{Separators, cut_last};
 use std::cmp::Ordering;
 use std::fmt;
 use uefi_text::chars::SEPARATOR;

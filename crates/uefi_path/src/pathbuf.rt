@@ -12,9 +12,8 @@ ghost use Rattle.uefi_text.specs.Units.{IsText};
 ghost use Rattle.uefi_text.specs.Views.{units_of};
 
 use crate::counted::CountedUnits;
-use crate::names::cut_last;
 use crate::path::{Components, Path, Rest};
-use crate::separators::{add_places, count_separators};
+use crate::separators::{add_places, count_separators, cut_last};
 use crate::tails::make_tail;
 use crate::written::write_all_but_last;
 use std::alloc::{AllocError, Allocator, Global};

@@ -1,15 +1,19 @@
 //! Separators: which units become them, and where they stand. A vector comparison looks at a block of units.
-ghost use Rattle.std.specs.Prelude.{◌≡◌, ◌<◌, ◌≤◌, ◌+◌, ◌-◌, ◌++◌, ◌∷◌, [], IsNone, count_by, drop, length, map, take};
-ghost use Rattle.std.specs.List.{slice_range};
+ghost use Rattle.std.specs.Prelude.{◌≡◌, ◌<◌, ◌≤◌, ◌+◌, ◌-◌, ◌++◌, ◌∷◌, [], IfSome, IsNone, count_by, drop, length, map, slice_index, take};
+ghost use Rattle.std.specs.List.{slice_range, slice_split};
+ghost use Rattle.uefi_path.specs.Components.{IsPiece};
+ghost use Rattle.uefi_path.specs.CutPieces.{are_left, pieces_left};
 ghost use Rattle.std.specs.Option.{option_to_list};
 ghost use Rattle.std.specs.Simd.Lanes.{mask_l};
 ghost use Rattle.std.specs.Vec.{vec_capacity, vec_len};
 ghost use Rattle.uefi_path.specs.Separators.{becomes_separator, is_separator, places_from, separator, slash};
 ghost use Rattle.uefi_text.specs.Units.{replaced};
+ghost use Rattle.uefi_text.specs.Views.{units_of};
 
 use std::alloc::Allocator;
 use std::simd::prelude::*;
 use uefi_text::chars::{SEPARATOR, SLASH};
+use uefi_text::strs::Char16Slice;
 
 /// How many units are looked at together where a text has as many.
 const BLOCK: usize = 64;
@@ -46,6 +50,7 @@ fn count_in_block(units: &[u16]) -> u16
 }
 
 /// How many units are separators once slashes are replaced.
+#[inline(always)]
 pub(crate) fn count_separators(units: &[u16]) -> usize
     ensures { result ≡ count_by becomes_separator units.now }
 {
@@ -214,13 +219,43 @@ impl<'a> Separators<'a> {
 }
 
 /// Adds the places of the separators that units have from `start` on, for which there is room.
+#[inline(always)]
 pub(crate) fn add_places<A: Allocator>(places: &mut Vec<usize, A>, units: &[u16], start: usize)
     requires within { start ≤ length units.now }
-    requires room { vec_len places.now + length (places_from start (drop start units.now)) ≤ vec_capacity places.now }
+    requires room { vec_len places.now + length (places_from start (drop start units.now))
+        ≤ vec_capacity places.now }
     ensures { places.new.items ≡ places.old.items ++ places_from start (drop start units.now) }
 {
     let mut separators = Separators::of(units, start);
     while let Some(place) = separators.next() {
         places.push_reserved(place);
     }
+}
+
+/// Where the last piece of units begins.
+fn last_start(units: &[u16]) -> usize
+    ensures within { result ≤ length units.now }
+    ensures piece { IsPiece (drop result units.now) }
+    ensures after { 0 < result → slice_index units.now (result - 1) ≡ separator }
+{
+    let mut start = units.len();
+    while 0 < start && units[start - 1] != u16::from(SEPARATOR) {
+        start -= 1;
+    }
+    start
+}
+
+/// What stands before the last piece of a text, if anything does, and that piece.
+pub(crate) fn cut_last(text: Char16Slice<'_>) -> (Option<Char16Slice<'_>>, Char16Slice<'_>)
+    ensures pieces { slice_split is_separator (units_of text.entry)
+        ≡ pieces_left result.0 ++ units_of result.1 ∷ [] }
+    ensures shorter { are_left result.0 + length (units_of result.1) ≤ length (units_of text.entry) }
+    ensures first { IfSome result.0 (λ front. units_of front ≡ take (are_left result.0) (units_of text.entry)) }
+{
+    let start = last_start(text.units());
+    let last = text.part(start, text.len());
+    if start == 0 {
+        return (None, last);
+    }
+    (Some(text.part(0, start - 1)), last)
 }

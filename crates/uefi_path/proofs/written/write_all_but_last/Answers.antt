@@ -1,5 +1,5 @@
 -- Each component is held back until the next one comes.
-use Rattle.std.proofs.Common.{◌≡◌, ◌∷◌, [], ℕ, refl, ap, arith, length, subst, sym, ◌∙◌, All, ◌+◌, ◌≤◌, ◌<◌, ◌++◌, drop}
+use Rattle.std.proofs.Common.{◌≡◌, ◌∷◌, [], refl, ap, arith, length, subst, sym, ◌∙◌, All, ◌+◌, ◌<◌, ◌++◌, drop}
 use Rattle.std.specs.List.{fold}
 use Rattle.std.proofs.lemmas.Grind.{common_steps}
 use Rattle.uefi_text.specs.Views.{units_of}

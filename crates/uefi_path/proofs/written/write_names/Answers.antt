@@ -1,8 +1,7 @@
 -- A name and the separator after it are counted, and have room before the names that stand there.
-use Rattle.std.proofs.Common.{◌≡◌, ◌++◌, ◌+◌, ◌-◌, cond, nat_lt, [], drop, length, arith, refl, sym, ap, subst, ◌∙◌}
+use Rattle.std.proofs.Common.{◌≡◌, ◌++◌, ◌+◌, ◌-◌, cond, nat_lt, drop, length, arith, ap, ◌∙◌}
 use Rattle.std.proofs.lemmas.Bool.Decides.{nat_tests}
 use Rattle.std.proofs.lemmas.Grind.{common_steps}
-use Rattle.uefi_path.specs.NamesLeft.{names_left}
 use Rattle.uefi_path.specs.Separators.{with_separators}
 use Rattle.uefi_path.proofs.NameTails.{name_before, name_is_plain, next_counted, next_fits, one_more, with_name}
 use Rattle.uefi_text.specs.Views.{units_of}

@@ -1,9 +1,9 @@
 -- The parent of the components is that of the text, or what stands before the last separator.
 use Rattle.std.proofs.Common.{◌≡◌, ◌∷◌, ◌++◌, [], All, IfOk, ap, subst, sym, ◌∙◌, Some}
 use Rattle.std.specs.List.{slice_split}
-use Rattle.uefi_path.specs.NamesLeft.{pieces_left}
-use Rattle.uefi_path.specs.Parents.{parent_of_components, parent_text}
-use Rattle.uefi_path.specs.Separators.{canonical, is_separator}
+use Rattle.uefi_path.specs.CutPieces.{pieces_left}
+use Rattle.uefi_path.specs.Parents.{parent_of_components}
+use Rattle.uefi_path.specs.Separators.{is_separator}
 use Rattle.uefi_path.specs.SuccessiveParents.{parent_chain}
 use Rattle.uefi_path.specs.Views.{path_text}
 use Rattle.uefi_text.specs.Views.{units_of}

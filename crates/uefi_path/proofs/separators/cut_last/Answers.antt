@@ -2,7 +2,7 @@
 use Rattle.std.proofs.Common.{subst}
 use Rattle.uefi_path.proofs.LastPieces.{IsLastStart, cut_none, cut_some}
 use Rattle.uefi_text.specs.Views.{units_of}
-use Rattle.uefi_path.proofs.names.cut_last.Goals as goal
+use Rattle.uefi_path.proofs.separators.cut_last.Goals as goal
 
 pub returns-then-start-eq0-clause-pieces : goal.returns-then-start-eq0-clause-pieces
 returns-then-start-eq0-clause-pieces c =

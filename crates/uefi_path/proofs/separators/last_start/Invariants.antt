@@ -1,7 +1,7 @@
 -- What was passed has no separator.
 use Rattle.std.proofs.Common.{◌≤◌, drop, length}
 use Rattle.uefi_path.specs.Components.{IsPiece}
-use Rattle.uefi_path.proofs.names.last_start.Given as goal
+use Rattle.uefi_path.proofs.separators.last_start.Given as goal
 
 abbrev pub invariant-loop-start : goal.invariant-loop-start
 invariant-loop-start l = (l.start ≤ length l.units) × IsPiece (drop l.start l.units)
