@@ -1,9 +1,9 @@
 -- A text that is made of components, added one after the other: how long it is so far, and what is still to come.
-use Rattle.std.proofs.Common.{subst, IsTrue, ◌↔◌, cond, ◌≡◌, ℕ, ◌+◌, ◌≤◌, List, [], ◌∷◌, ◌++◌, length, All, Bool, true, false, not, if◌then◌else◌, inl, inr, drop, set, ◌-◌, ap, refl, sym, ◌∙◌, arith, length-append, take, ◌<◌, Some, Option, replicate}
+use Rattle.std.proofs.Common.{subst, IsTrue, ◌↔◌, cond, ◌≡◌, ℕ, ◌+◌, ◌≤◌, List, [], ◌∷◌, ◌++◌, length, All, Bool, true, false, not, if◌then◌else◌, inl, inr, drop, set, ◌-◌, ap, refl, sym, ◌∙◌, arith, length-append, take, ◌<◌, Some, Option, replicate, add_comm, append_assoc}
 use borrow.Rule.Slice.PartMut.{put_mid}
 use Rattle.std.specs.List.{fold}
 use Rattle.std.proofs.lemmas.Bool.{cases_Bool}
-use Rattle.std.proofs.lemmas.List.{drop-replicate, length-replicate, append-nil, drop_all, length-map, map-append, take_at, take-append-drop}
+use Rattle.std.proofs.lemmas.List.{drop_at, drop-drop, drop-replicate, length-replicate, append-nil, drop_all, length-map, map-append, take_at, take-append-drop}
 use Rattle.std.proofs.lemmas.Slice.{drop-append-drop, drop-put_mid, take-put_mid}
 use Rattle.uefi_text.specs.Units.{replaced}
 use Rattle.std.proofs.lemmas.List.Elements.{All-head, All-tail}
@@ -35,8 +35,7 @@ appended_tail text piece =
 
 -- how long that is
 abbrev pub missing_count : Bool → ℕ
-missing_count true = 1
-missing_count false = 0
+missing_count is_missing = cond is_missing 1 0
 
 length-tail : (is_missing : Bool) (piece : List ℕ) → length (tail_of is_missing piece) ≡ missing_count is_missing + length piece
 length-tail true piece = omega arith
@@ -83,11 +82,6 @@ non_empty_by : (is_empty : Bool) (piece : List ℕ) → (IsTrue is_empty ↔ (pi
 non_empty_by is_empty [] is = ap not (is.1 refl)
 non_empty_by true (u ∷ us) is = absurd (omega (arith, ap length (is.0 refl)))
 non_empty_by false (u ∷ us) is = refl
-
--- the count of a separator, by whether one is missing
-pub missing_count_is : (count : ℕ) (is_missing : Bool) → count ≡ cond is_missing 1 0 → count ≡ missing_count is_missing
-missing_count_is count true is = is
-missing_count_is count false is = is
 
 -- one component more, where another follows it
 pub draft_next : (text : List ℕ) (len : ℕ) (is_missing : Bool) (piece : List ℕ) (left : List (List ℕ)) (whole : List ℕ)
@@ -150,28 +144,20 @@ pub draft_written : (text piece old buffer places : List ℕ) (len end : ℕ) �
     ≡ with_separators (appended text piece) ++ drop (length (appended text piece)) old
 draft_written text piece old buffer places len end starts ends room is wrote =
     let tail = tail_of (needs_separator text) piece in
-    let put = put_mid len (end - len) buffer places in
     let replaces = replaced slash separator in
-    let size = length-map text replaces in
-    let added = ap length wrote ∙ length-map tail replaces in
-    let sum = ap length (appended_tail text piece) ∙ length-append text tail in
-    let all = ap length is ∙ length-append (with_separators text) (drop (length text) old) in
-    let inside : len ≤ length buffer = omega (arith, all, size, starts) in
-    let front : take end put ≡ with_separators (appended text piece) =
-    take-put_mid len (end - len) buffer places end (omega (arith, ends, starts, added, sum)) inside
-    ∙ ap (λ us. take len us ++ places) is
-    ∙ ap (λ us. us ++ places) (take_at (with_separators text) (drop (length text) old) len (omega (arith, size, starts)))
-    ∙ ap (λ us. with_separators text ++ us) wrote
-    ∙ sym (map-append replaces text tail)
-    ∙ ap with_separators (sym (appended_tail text piece)) in
-    let back : drop end put ≡ drop end old =
-    drop-put_mid len (end - len) buffer places end (omega (arith, ends, starts, sum)) inside
-    (omega (arith, ends, starts, added, sum))
-    ∙ ap (drop end) is
-    ∙ drop-append-drop (length text) old (with_separators text) end (omega (arith, ends, sum)) size in
-    sym (take-append-drop end put) ∙ ap (λ us. us ++ drop end put) front
-    ∙ ap (λ us. with_separators (appended text piece) ++ us) back
-    ∙ ap (λ n. with_separators (appended text piece) ++ drop n old) ends
+    let front = with_separators text in
+    let size : length front ≡ len = length-map text replaces ∙ sym starts in
+    let sum : length (appended text piece) ≡ length text + length tail = ap length (appended_tail text piece) ∙ length-append text tail in
+    let rest : end - len + length text ≡ end = omega (arith, starts, ends, sum) in
+    ap (λ us. put_mid len (end - len) us places) is
+    ∙ ap (λ us. us ++ (places ++ drop (end - len) (drop len (front ++ drop (length text) old)))) (take_at front (drop (length text) old) len size)
+    ∙ ap (λ us. front ++ (places ++ drop (end - len) us)) (drop_at front (drop (length text) old) len size)
+    ∙ ap (λ us. front ++ (places ++ us)) (drop-drop (end - len) (length text) old)
+    ∙ ap (λ n. front ++ (places ++ drop n old)) (add_comm (length text) (end - len) ∙ rest ∙ ends)
+    ∙ ap (λ us. front ++ (us ++ drop (length (appended text piece)) old)) wrote
+    ∙ sym (append_assoc front (with_separators tail) (drop (length (appended text piece)) old))
+    ∙ ap (λ us. us ++ drop (length (appended text piece)) old)
+    (sym (map-append replaces text tail) ∙ ap with_separators (sym (appended_tail text piece)))
 
 -- a separator that was written first stays before what is written after it
 pub separator_before : (places added : List ℕ) (k : ℕ) → length places ≡ length added + 1

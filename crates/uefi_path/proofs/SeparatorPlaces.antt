@@ -1,5 +1,5 @@
 -- The places of separators: how they cut a text, and what they are once it is edited.
-use Rattle.std.proofs.Common.{◌≡◌, ℕ, suc, ◌+◌, ◌-◌, ◌<◌, ◌≤◌, List, [], ◌∷◌, ◌++◌, length, get_or, take, drop, All, true, false, inl, inr, ap, sym, refl, subst, ◌∙◌, arith, add-zero, if◌then◌else◌}
+use Rattle.std.proofs.Common.{◌≡◌, ◌≢◌, ℕ, suc, ◌+◌, ◌-◌, ◌<◌, ◌≤◌, List, [], ◌∷◌, ◌++◌, length, get_or, take, drop, All, true, false, inl, inr, ap, sym, refl, subst, ◌∙◌, arith, add-zero, if◌then◌else◌}
 use Rattle.std.specs.List.{count_by, onto_first, slice_range, slice_split}
 use Rattle.std.proofs.lemmas.Bool.{cases_Bool}
 use Rattle.std.proofs.lemmas.List.{drop-drop, length-drop}
@@ -128,26 +128,6 @@ places_from-append start (u ∷ us) vs =
           ∙ sym (ap (λ ps. ps ++ places_from (start + length (u ∷ us)) vs) (places_from-no start u us other))
     ]
 
--- a place from `start` on and before `end`
-abbrev pub IsWithin : ℕ → ℕ → ℕ → Type 0
-IsWithin start end place = (start ≤ place) × (place < end)
-
--- each place is that of one of the units
-pub within_places : (start : ℕ) (us : List ℕ) → All (IsWithin start (start + length us)) (places_from start us)
-within_places start [] = All-nil (IsWithin start (start + 0))
-within_places start (u ∷ us) =
-    let Q : ℕ → Type 0 = IsWithin start (start + length (u ∷ us)) in
-    let others : All Q (places_from (start + 1) us) =
-    All-weaker (IsWithin (start + 1) (start + 1 + length us)) Q
-    (λ place within. (omega (arith, within.0), omega (arith, within.1))) (places_from (start + 1) us)
-    (within_places (start + 1) us) in
-    elim (cases_Bool (is_separator u)) [
-      | inl cut ↦
-          subst (All Q) (sym (places_from-yes start u us cut))
-          (All-cons Q start (places_from (start + 1) us) (omega arith, omega arith) others)
-      | inr other ↦ subst (All Q) (sym (places_from-no start u us other)) others
-    ]
-
 -- whether the text begins with a separator is what its first place says
 pub canonical_placed : (text : List ℕ) → 0 < length (places_of text) → get_or (places_of text) 0 0 ≡ 0
     → (1 ≤ length text) × (drop 1 text ≡ canonical text) × (drop 1 (places_of text) ≡ places_from 1 (drop 1 text))
@@ -161,6 +141,9 @@ canonical_placed (u ∷ us) some first =
       )
       | inr other ↦
           let none = places_from-no 0 u us other in
-          let later = (within_places 1 us 0 0 (omega (arith, some, ap length none))).0 in
-          absurd (omega (arith, later, first, ap (λ ps. get_or ps 0 0) none))
+          absurd (later (places_from 1 us) refl (omega (arith, some, ap length none)) (sym (ap (λ ps. get_or ps 0 0) none) ∙ first))
     ]
+  where
+    later : (places : List ℕ) → places ≡ places_from 1 us → 0 < length places → get_or places 0 0 ≢ 0
+    later [] are some first = absurd (omega (arith, some))
+    later (place ∷ places) are some first = omega (arith, (first_place 1 us place places are).at, first)

@@ -16,7 +16,7 @@ use uefi_text::chars::{SEPARATOR, SLASH};
 use uefi_text::strs::Char16Slice;
 
 /// How many units are looked at together where a text has as many.
-const BLOCK: usize = 64;
+const BLOCK: usize = 16;
 
 /// How many where it has fewer: the last ones are looked at one by one.
 const SMALL_BLOCK: usize = 8;

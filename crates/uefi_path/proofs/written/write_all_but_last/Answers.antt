@@ -8,7 +8,7 @@ use Rattle.uefi_path.specs.Parents.{all_but_last}
 use Rattle.uefi_path.specs.Pushing.{appended, needs_separator}
 use Rattle.uefi_path.specs.Separators.{with_separators}
 use Rattle.uefi_path.specs.Views.{components_left}
-use Rattle.uefi_path.proofs.Drafts.{draft_done, draft_more_fits, draft_next, draft_written, made_len, made_shorter, made_written, missing_count, missing_count_is, tail_of}
+use Rattle.uefi_path.proofs.Drafts.{draft_done, draft_more_fits, draft_next, draft_written, made_len, made_shorter, made_written, missing_count, tail_of}
 use Rattle.uefi_path.proofs.written.write_all_but_last.Goals as goal
 use Rattle.uefi_path.proofs.written.write_all_but_last.Goals.{then-end-buffer, else-end-buffer}
 
@@ -33,7 +33,7 @@ overflow_add-end c =
     let so_far = c.loop-component in
     let left : components_left so_far.component-iterator ≡ units_of c.in-Some.component ∷ components_left c.next-in-loop-component.new.self =
     grind (arith, common_steps, c.in-Some.ensures.steps) in
-    let count = missing_count_is c.from.result so_far.is_missing (grind (arith, common_steps, c.from.ensures)) in
+    let count : c.from.result ≡ missing_count so_far.is_missing = grind (arith, common_steps, c.from.ensures) in
     let fits = draft_more_fits so_far.invariant.0 _ _ _ _ _ _ _ so_far.invariant.1 left in
     omega (arith, fits, made_shorter (components_left c.args.components) c.requires.pieces, count, c.requires.bound)
 
@@ -42,7 +42,7 @@ overflow_add-end-in-loop-component c =
     let so_far = c.loop-component in
     let left : components_left so_far.component-iterator ≡ units_of c.in-Some.component ∷ components_left c.next-in-loop-component.new.self =
     grind (arith, common_steps, c.in-Some.ensures.steps) in
-    let count = missing_count_is c.from.result so_far.is_missing (grind (arith, common_steps, c.from.ensures)) in
+    let count : c.from.result ≡ missing_count so_far.is_missing = grind (arith, common_steps, c.from.ensures) in
     let fits = draft_more_fits so_far.invariant.0 _ _ _ _ _ _ _ so_far.invariant.1 left in
     omega (arith, fits, made_shorter (components_left c.args.components) c.requires.pieces, count, c.len.ensures, c.requires.bound)
 
@@ -54,7 +54,7 @@ loop-component-preserved c =
     let old = c.args.buffer.now in
     let left : components_left so_far.component-iterator ≡ units_of c.in-Some.component ∷ components_left c.next-in-loop-component.new.self =
     grind (arith, common_steps, c.in-Some.ensures.steps) in
-    let count = missing_count_is c.from.result so_far.is_missing (grind (arith, common_steps, c.from.ensures)) in
+    let count : c.from.result ≡ missing_count so_far.is_missing = grind (arith, common_steps, c.from.ensures) in
     let end = so_far.len + c.from.result + c.len.result in
     let ends : end ≡ so_far.len + missing_count so_far.is_missing + length last =
     omega (arith, count, c.len.ensures) in
