@@ -287,12 +287,3 @@ module _ (all left : List (List ℕ)) (depth : ℕ) (same : fault_from left dept
 
   pub none_here : left ≡ [] → fault_from all 0 ≡ None
   none_here e = sym same ∙ ap (λ pieces. fault_from pieces depth) e
-
-  pub good_here : (c : List ℕ) (cs : List (List ℕ)) (next : ℕ) → left ≡ c ∷ cs → fault c ≡ None
-      → depth_after (kind c) depth ≡ Some next → fault_from cs next ≡ fault_from all 0
-  good_here c cs next e good stays =
-      sym
-      (ap (λ pieces. fault_from pieces depth) e
-      ∙ ap (λ o. option_or o (fault_at_depth (depth_after (kind c) depth) (fault_from cs))) good
-      ∙ ap (λ o. fault_at_depth o (fault_from cs)) stays)
-      ∙ same

@@ -1,17 +1,27 @@
 -- A text that is made of components, added one after the other: how long it is so far, and what is still to come.
-use Rattle.std.proofs.Common.{subst, IsTrue, ◌↔◌, cond, ◌≡◌, ℕ, ◌+◌, ◌≤◌, List, [], ◌∷◌, ◌++◌, length, All, Bool, true, false, not, if◌then◌else◌, inl, inr, drop, set, ◌-◌, ap, refl, sym, ◌∙◌, arith, length-append, take}
+use Rattle.std.proofs.Common.{subst, IsTrue, ◌↔◌, cond, ◌≡◌, ℕ, ◌+◌, ◌≤◌, List, [], ◌∷◌, ◌++◌, length, All, Bool, true, false, not, if◌then◌else◌, inl, inr, drop, set, ◌-◌, ap, refl, sym, ◌∙◌, arith, length-append, take, ◌<◌, Some, Option, replicate, add_comm, append_assoc}
 use borrow.Rule.Slice.PartMut.{put_mid}
 use Rattle.std.specs.List.{fold}
 use Rattle.std.proofs.lemmas.Bool.{cases_Bool}
-use Rattle.std.proofs.lemmas.List.{append-nil, drop_all, length-map, map-append, take_at, take-append-drop}
+use Rattle.std.proofs.lemmas.List.{drop_at, drop-drop, drop-replicate, length-replicate, append-nil, drop_all, length-map, map-append, take_at, take-append-drop}
 use Rattle.std.proofs.lemmas.Slice.{drop-append-drop, drop-put_mid, take-put_mid}
 use Rattle.uefi_text.specs.Units.{replaced}
 use Rattle.std.proofs.lemmas.List.Elements.{All-head, All-tail}
-use Rattle.uefi_path.specs.Components.{IsPiece}
-use Rattle.uefi_path.specs.Parents.{all_but_last, is_non_empty}
+use Rattle.uefi_path.specs.Components.{IsPiece, joined}
+use Rattle.uefi_path.specs.Writing.{written_over}
+use Rattle.std.specs.Option.{IfSome, option_map}
+use Rattle.uefi_path.specs.Parents.{all_but_last, is_non_empty, parent_of_components, rejoined}
 use Rattle.uefi_path.specs.Pushing.{appended, needs_separator}
 use Rattle.uefi_path.specs.Separators.{separator, slash, with_separators}
-use Rattle.uefi_path.proofs.Parents.{after_separator, needs_separator-append, closed, open_piece}
+use Rattle.uefi_path.proofs.Parents.{after_separator, needs_separator-append, closed, open_piece, All-all_but_last, parent_of_components-many, rejoined-added}
+use Rattle.uefi_text.specs.Units.{IsText, IsTextUnit, nul_terminated}
+use Rattle.uefi_path.proofs.ParentForm.{All-rejoined}
+use Rattle.uefi_path.proofs.Pushing.{with_separators-plain}
+use Rattle.uefi_path.proofs.Splitting.{IsPlain-with_separators}
+use Rattle.uefi_path.proofs.TailUnits.{IsText-with_separators}
+use Rattle.std.proofs.lemmas.Option.{same_Some}
+use Rattle.uefi_path.proofs.IntoBuffers.{changed}
+use Rattle.uefi_path.proofs.ParentSizes.{parent_of_components-shorter}
 
 -- what is added after a text: a separator where one is missing, and the component
 abbrev pub tail_of : Bool → List ℕ → List ℕ
@@ -25,8 +35,7 @@ appended_tail text piece =
 
 -- how long that is
 abbrev pub missing_count : Bool → ℕ
-missing_count true = 1
-missing_count false = 0
+missing_count is_missing = cond is_missing 1 0
 
 length-tail : (is_missing : Bool) (piece : List ℕ) → length (tail_of is_missing piece) ≡ missing_count is_missing + length piece
 length-tail true piece = omega arith
@@ -74,11 +83,6 @@ non_empty_by is_empty [] is = ap not (is.1 refl)
 non_empty_by true (u ∷ us) is = absurd (omega (arith, ap length (is.0 refl)))
 non_empty_by false (u ∷ us) is = refl
 
--- the count of a separator, by whether one is missing
-pub missing_count_is : (count : ℕ) (is_missing : Bool) → count ≡ cond is_missing 1 0 → count ≡ missing_count is_missing
-missing_count_is count true is = is
-missing_count_is count false is = is
-
 -- one component more, where another follows it
 pub draft_next : (text : List ℕ) (len : ℕ) (is_missing : Bool) (piece : List ℕ) (left : List (List ℕ)) (whole : List ℕ)
     (next : List ℕ) (pieces : List (List ℕ)) (end : ℕ) (is_empty : Bool)
@@ -105,6 +109,12 @@ draft_next text len is_missing piece left whole next pieces end is_empty draft f
       are_pieces = All-tail IsPiece piece (next ∷ pieces) d.are_pieces;
       to_come = d.to_come;
     }
+
+-- it is the whole, where no other follows
+pub draft_done : (text : List ℕ) (len : ℕ) (is_missing : Bool) (piece : List ℕ) (left : List (List ℕ)) (whole : List ℕ)
+    → IsDraft text len is_missing (piece ∷ left) whole → left ≡ [] → text ≡ whole
+draft_done text len is_missing piece left whole draft none =
+    ap (λ ps. fold appended text (all_but_last (piece ∷ ps))) (sym none) ∙ draft.to_come
 
 -- it is no longer than the whole then
 pub draft_more_fits : (text : List ℕ) (len : ℕ) (is_missing : Bool) (piece : List ℕ) (left : List (List ℕ)) (whole : List ℕ)
@@ -134,28 +144,20 @@ pub draft_written : (text piece old buffer places : List ℕ) (len end : ℕ) �
     ≡ with_separators (appended text piece) ++ drop (length (appended text piece)) old
 draft_written text piece old buffer places len end starts ends room is wrote =
     let tail = tail_of (needs_separator text) piece in
-    let put = put_mid len (end - len) buffer places in
     let replaces = replaced slash separator in
-    let size = length-map text replaces in
-    let added = ap length wrote ∙ length-map tail replaces in
-    let sum = ap length (appended_tail text piece) ∙ length-append text tail in
-    let all = ap length is ∙ length-append (with_separators text) (drop (length text) old) in
-    let inside : len ≤ length buffer = omega (arith, all, size, starts) in
-    let front : take end put ≡ with_separators (appended text piece) =
-    take-put_mid len (end - len) buffer places end (omega (arith, ends, starts, added, sum)) inside
-    ∙ ap (λ us. take len us ++ places) is
-    ∙ ap (λ us. us ++ places) (take_at (with_separators text) (drop (length text) old) len (omega (arith, size, starts)))
-    ∙ ap (λ us. with_separators text ++ us) wrote
-    ∙ sym (map-append replaces text tail)
-    ∙ ap with_separators (sym (appended_tail text piece)) in
-    let back : drop end put ≡ drop end old =
-    drop-put_mid len (end - len) buffer places end (omega (arith, ends, starts, sum)) inside
-    (omega (arith, ends, starts, added, sum))
-    ∙ ap (drop end) is
-    ∙ drop-append-drop (length text) old (with_separators text) end (omega (arith, ends, sum)) size in
-    sym (take-append-drop end put) ∙ ap (λ us. us ++ drop end put) front
-    ∙ ap (λ us. with_separators (appended text piece) ++ us) back
-    ∙ ap (λ n. with_separators (appended text piece) ++ drop n old) ends
+    let front = with_separators text in
+    let size : length front ≡ len = length-map text replaces ∙ sym starts in
+    let sum : length (appended text piece) ≡ length text + length tail = ap length (appended_tail text piece) ∙ length-append text tail in
+    let rest : end - len + length text ≡ end = omega (arith, starts, ends, sum) in
+    ap (λ us. put_mid len (end - len) us places) is
+    ∙ ap (λ us. us ++ (places ++ drop (end - len) (drop len (front ++ drop (length text) old)))) (take_at front (drop (length text) old) len size)
+    ∙ ap (λ us. front ++ (places ++ drop (end - len) us)) (drop_at front (drop (length text) old) len size)
+    ∙ ap (λ us. front ++ (places ++ us)) (drop-drop (end - len) (length text) old)
+    ∙ ap (λ n. front ++ (places ++ drop n old)) (add_comm (length text) (end - len) ∙ rest ∙ ends)
+    ∙ ap (λ us. front ++ (us ++ drop (length (appended text piece)) old)) wrote
+    ∙ sym (append_assoc front (with_separators tail) (drop (length (appended text piece)) old))
+    ∙ ap (λ us. us ++ drop (length (appended text piece)) old)
+    (sym (map-append replaces text tail) ∙ ap with_separators (sym (appended_tail text piece)))
 
 -- a separator that was written first stays before what is written after it
 pub separator_before : (places added : List ℕ) (k : ℕ) → length places ≡ length added + 1
@@ -164,3 +166,90 @@ separator_before [] added k long same = absurd (omega arith)
 separator_before (t ∷ ts) added k long same =
     let none : drop k ts ≡ [] = drop_all k ts (omega arith) in
     ap (λ us. separator ∷ us) (ap (λ us. added ++ us) none ∙ append-nil added)
+
+-- the components but the last, added one after the other
+abbrev pub made : List (List ℕ) → List ℕ
+made pieces = fold appended [] (all_but_last pieces)
+
+-- their parent, where there are two or more
+parent_made : (pieces : List (List ℕ)) → All IsPiece pieces → 1 < length pieces
+    → parent_of_components pieces ≡ Some (with_separators (made pieces))
+parent_made pieces are many =
+    parent_of_components-many pieces many ∙ ap (λ us. Some (with_separators us)) (sym (rejoined-added pieces are))
+
+pub made_len : (pieces : List (List ℕ)) (len : ℕ) → All IsPiece pieces → 1 < length pieces → len ≡ length (made pieces)
+    → Some len ≡ option_map length (parent_of_components pieces)
+made_len pieces len are many counted =
+    ap Some (counted ∙ sym (length-map (made pieces) (replaced slash separator)))
+    ∙ sym (ap (option_map length) (parent_made pieces are many))
+
+-- how long it is
+pub made_shorter : (pieces : List (List ℕ)) → All IsPiece pieces → length (made pieces) ≤ length (joined pieces)
+made_shorter [] are = omega arith
+made_shorter (p ∷ []) are = omega arith
+made_shorter (p ∷ q ∷ ps) are =
+    let text = made (p ∷ q ∷ ps) in
+    omega (
+      arith,
+      length-map text (replaced slash separator),
+      parent_of_components-shorter (p ∷ q ∷ ps) (with_separators text) (parent_made (p ∷ q ∷ ps) are (omega arith)),
+    )
+
+-- a buffer that begins with it
+pub made_written : (pieces : List (List ℕ)) (old buffer : List ℕ) → All IsPiece pieces
+    → length (made pieces) ≤ length old
+    → buffer ≡ with_separators (made pieces) ++ drop (length (made pieces)) old
+    → buffer ≡ written_over (parent_of_components pieces) old
+made_written [] old buffer are fits is = is
+made_written (p ∷ []) old buffer are fits is = is
+made_written (p ∷ q ∷ ps) old buffer are fits is =
+    let text = made (p ∷ q ∷ ps) in
+    let size = length-map text (replaced slash separator) in
+    is
+    ∙ ap (λ n. with_separators text ++ drop n old) (sym size)
+    ∙ changed _ _ old (parent_made (p ∷ q ∷ ps) are (omega arith)) (omega (arith, size, fits))
+
+-- a parent, by its length
+pub record IsMade (pieces : List (List ℕ)) (len : ℕ) : Type 0 where
+  pub parent : List ℕ
+  pub is : parent_of_components pieces ≡ Some parent
+  pub long : len ≡ length parent
+  pub shorter : len < length (joined pieces)
+  pub is_text : IsText parent
+  pub plain : with_separators parent ≡ parent
+
+pub is_made : (pieces : List (List ℕ)) (len : ℕ) → All IsText pieces → All IsPiece pieces
+    → option_map length (parent_of_components pieces) ≡ Some len → IsMade pieces len
+is_made [] len texts are known = absurd (cc)
+is_made (p ∷ []) len texts are known = absurd (cc)
+is_made (p ∷ q ∷ ps) len texts are known =
+    let kept = rejoined (all_but_last (p ∷ q ∷ ps)) in
+    let text = with_separators kept in
+    let long : length text ≡ len = same_Some _ _ known in
+    record {
+      parent = text;
+      is = refl;
+      long = sym long;
+      shorter = omega (arith, long, parent_of_components-shorter (p ∷ q ∷ ps) text refl);
+      is_text =
+          IsText-with_separators kept
+          (All-rejoined IsTextUnit (all_but_last (p ∷ q ∷ ps)) (omega arith, (omega arith, λ high. omega (arith, high.0)))
+          (All-all_but_last IsText (p ∷ q ∷ ps) texts));
+      plain = with_separators-plain text (IsPlain-with_separators kept);
+    }
+
+-- written over NULs, one of them after it, it is a string
+pub written_string : (pieces : List (List ℕ)) (len : ℕ) (old new : List ℕ) (told : Option ℕ) (made : IsMade pieces len)
+    → old ≡ replicate (len + 1) 0 → told ≡ option_map length (parent_of_components pieces)
+    → (IfSome told (λ len. len ≤ length old) → new ≡ written_over (parent_of_components pieces) old)
+    → new ≡ nul_terminated made.parent
+written_string pieces len old new told made zeros is wrote =
+    let size : length old ≡ len + 1 = ap length zeros ∙ length-replicate (len + 1) 0 in
+    let one : len + 1 - length made.parent ≡ 1 = omega (arith, made.long) in
+    let nul : drop (length made.parent) old ≡ 0 ∷ [] =
+    ap (drop (length made.parent)) zeros
+    ∙ drop-replicate (length made.parent) (len + 1) 0
+    ∙ ap (λ n. replicate n 0) one in
+    let fits : IfSome told (λ len. len ≤ length old) =
+    subst (λ told. IfSome told (λ len. len ≤ length old)) (sym (is ∙ ap (option_map length) made.is)) (omega (arith, made.long, size)) in
+    wrote fits ∙ sym (changed _ _ old made.is (omega (arith, made.long, size))) ∙ ap (λ us. made.parent ++ us) nul

@@ -9,11 +9,7 @@ use Rattle.std.proofs.Math.Seq.{take-length}
 use Rattle.uefi_path.specs.Components.{IsPiece}
 use Rattle.uefi_path.specs.Separators.{is_separator, separator}
 use Rattle.uefi_path.proofs.Joining.{slice_split-append}
-
--- the test for a separator fails at each unit of a piece
-pub passes_over : (p : List ℕ) → IsPiece p → All (λ v. is_separator v ≡ false) p
-passes_over p piece =
-    All-weaker (λ v. v ≢ separator) (λ v. is_separator v ≡ false) (λ v h. ne_eqb v separator h) p piece
+use Rattle.uefi_path.proofs.Splitting.{passes_over}
 
 -- a piece after a separator is the last of all
 pub last_piece : (us vs : List ℕ) → IsPiece vs

@@ -2,10 +2,9 @@ pub mod Splitting
 pub mod SeparatorPlaces
 pub mod Pushing
 pub mod Parents
-mod Drafts
+pub mod Drafts
 mod IntoBuffers
 pub mod CutParents
-mod Glances
 pub mod Joining
 pub mod Validity
 pub mod ParentForm

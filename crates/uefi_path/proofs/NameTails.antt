@@ -1,6 +1,6 @@
 -- The last names of a normal path, joined: how long they are, and what one more name before them adds.
-use Rattle.std.proofs.Common.{◌≡◌, ℕ, ◌+◌, ◌<◌, ◌≤◌, nat_lt, Bool, true, false, cond, if◌then◌else◌, List, [], ◌∷◌, ◌++◌, drop, length, max, set, take, All, append_assoc, length-append, refl, sym, ap, ◌∙◌, subst, arith}
-use Rattle.std.proofs.lemmas.Bool.{ltb-false, ltb-true}
+use Rattle.std.proofs.Common.{◌≡◌, ℕ, ◌+◌, ◌-◌, ◌<◌, ◌≤◌, nat_lt, Bool, true, false, cond, if◌then◌else◌, List, [], ◌∷◌, ◌++◌, drop, length, max, set, All, append_assoc, length-append, refl, sym, ap, ◌∙◌, subst, arith}
+use Rattle.std.proofs.lemmas.Bool.{le-ltb, lt-ltb}
 use Rattle.std.proofs.lemmas.List.{append-nil, drop-set-lt, length-drop}
 use Rattle.std.proofs.lemmas.List.Elements.{All-head, All-tail}
 use Rattle.uefi_path.specs.Components.{joined}
@@ -32,9 +32,6 @@ joined-before name ((u ∷ us) ∷ next ∷ names) good = refl
 good_after : (front back : List (List ℕ)) → All IsGood (front ++ back) → All IsGood back
 good_after [] back good = good
 good_after (f ∷ front) back good = good_after front back (All-tail IsGood f (front ++ back) good)
-
-pub no_last : (whole : List (List ℕ)) → All IsGood whole → AreLast whole whole []
-no_last whole good = record { names = []; all = sym (append-nil whole); good = good; text = refl }
 
 pub one_more : (whole left new : List (List ℕ)) (last name : List ℕ) → AreLast whole left last
     → left ≡ new ++ name ∷ [] → AreLast whole new (name_before name last)
@@ -69,41 +66,13 @@ pub last_fit : (whole left : List (List ℕ)) (last : List ℕ) → AreLast whol
 last_fit whole left last are =
     omega (arith, ap length are.text, ap (λ ps. length (joined ps)) are.all, no_longer left are.names)
 
--- and are all of them where none is left
-pub all_last : (whole left : List (List ℕ)) (last : List ℕ) → AreLast whole left last → left ≡ []
-    → last ≡ joined whole
-all_last whole left last are none = are.text ∙ sym (ap joined (are.all ∙ ap (λ ps. ps ++ are.names) none))
-
--- a test for whether there are any
-abbrev pub Tells : Bool → List ℕ → Type 0
-Tells some last = (some ≡ true → 0 < length last) × (some ≡ false → length last ≡ 0)
-
-pub tells_length : (len : ℕ) (last : List ℕ) → len ≡ length last → Tells (nat_lt 0 len) last
-tells_length len last e =
-    (λ some. omega (arith, e, ltb-true 0 len some), λ none. omega (arith, e, ltb-false 0 len none))
-
-pub tells_rest : (start : ℕ) (text : List ℕ) → Tells (nat_lt start (length text)) (drop start text)
-tells_rest start text = (
-  λ some. omega (arith, length-drop start text, ltb-true start (length text) some),
-  λ none. omega (arith, length-drop start text, ltb-false start (length text) none),
-)
-
-tells_true : (start : ℕ) (text : List ℕ) → start < length text → Tells true (drop start text)
-tells_true start text less =
-    (λ some. omega (arith, less, length-drop start text), λ none. absurd (let b = sym none in cc))
-
--- how long they are with a name before them, and what that is
-length-name_before : (some : Bool) (name last : List ℕ) (count : ℕ) → Tells some last → count ≡ cond some 1 0
-    → length (name_before name last) ≡ length name + count + length last
-length-name_before true name [] count tells e = absurd (omega (arith, tells.0 refl))
-length-name_before false name [] count tells e = omega (arith, e)
-length-name_before true name (u ∷ us) count tells e = omega (arith, e, length-append name (separator ∷ u ∷ us))
-length-name_before false name (u ∷ us) count tells e = absurd (omega (arith, tells.1 refl))
-
+-- how long they are with a name before them
 pub next_counted : (name last : List ℕ) (len count : ℕ) → len ≡ length last → count ≡ cond (nat_lt 0 len) 1 0
     → len + (length name + count) ≡ length (name_before name last)
-next_counted name last len count e one =
-    omega (arith, e, length-name_before (nat_lt 0 len) name last count (tells_length len last e) one)
+next_counted name [] len count e one =
+    omega (arith, e, one ∙ ap (λ b. cond b 1 0) (le-ltb 0 len (omega (arith, e))))
+next_counted name (u ∷ us) len count e one =
+    omega (arith, e, one ∙ ap (λ b. cond b 1 0) (lt-ltb 0 len (omega (arith, e))), length-append name (separator ∷ u ∷ us))
 
 pub next_fits : (whole left new : List (List ℕ)) (name last : List ℕ) (len count : ℕ) → AreLast whole left last
     → left ≡ new ++ name ∷ [] → len ≡ length last → count ≡ cond (nat_lt 0 len) 1 0
@@ -115,55 +84,16 @@ next_fits whole left new name last len count are next e one =
       last_fit whole new (name_before name last) (one_more whole left new last name are next),
     )
 
-pub name_before_is : (some : Bool) (name last : List ℕ) → Tells some last
-    → name ++ (if some then separator ∷ last else []) ≡ name_before name last
-name_before_is true name [] tells = absurd (omega (arith, tells.0 refl))
-name_before_is false name [] tells = append-nil name
-name_before_is true name (u ∷ us) tells = refl
-name_before_is false name (u ∷ us) tells = absurd (omega (arith, tells.1 refl))
-
--- places that end in the last names have room for one more
-pub room_before : (whole left new : List (List ℕ)) (name places : List ℕ) (start : ℕ)
-    → AreLast whole left (drop start places) → left ≡ new ++ name ∷ [] → length places ≡ length (joined whole)
-    → length (name_before name (drop start places)) ≤ length places
-room_before whole left new name places start are next same =
-    omega (
-      arith,
-      same,
-      last_fit whole new (name_before name (drop start places)) (one_more whole left new (drop start places) name are next),
-    )
-
--- and for the separator after it
-pub separator_fits : (name places : List ℕ) (start : ℕ) → length (name_before name (drop start places)) ≤ length places
-    → start < length places → 0 < start
-separator_fits name places start room less =
-    omega (
-      arith,
-      room,
-      length-name_before true name (drop start places) 1 (tells_true start places less) refl,
-      length-drop start places,
-    )
-
--- which is written first
+-- and what that is, with the separator that was written before them
 pub with_name : (name places text : List ℕ) (start : ℕ)
     → text ≡ (if nat_lt start (length places) then separator ∷ drop start places else [])
     → name ++ text ≡ name_before name (drop start places)
-with_name name places text start e =
-    ap (λ us. name ++ us) e
-    ∙ name_before_is (nat_lt start (length places)) name (drop start places) (tells_rest start places)
-
-pub name_fits : (name places new : List ℕ) (start end : ℕ) → length (name_before name (drop start places)) ≤ length places
-    → drop end new ≡ (if nat_lt start (length places) then separator ∷ drop start places else [])
-    → length new ≡ length places → end ≤ length new → length name ≤ end
-name_fits name places new start end room e same within =
-    omega (
-      arith,
-      room,
-      same,
-      ap length (with_name name places (drop end new) start e),
-      length-append name (drop end new),
-      length-drop end new,
-    )
+with_name name places text start e = ap (λ us. name ++ us) e ∙ before (drop start places) (length-drop start places)
+  where
+    before : (last : List ℕ) → length last ≡ length places - start
+        → name ++ (if nat_lt start (length places) then separator ∷ last else []) ≡ name_before name last
+    before [] none = rw (le-ltb start (length places) (omega (arith, none))) (append-nil name)
+    before (u ∷ us) some = rw (lt-ltb start (length places) (omega (arith, some))) refl
 
 -- how many units pieces take with a separator after each
 abbrev room : List (List ℕ) → ℕ

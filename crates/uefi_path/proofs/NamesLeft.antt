@@ -1,5 +1,5 @@
 -- The names of a normal path, found from the last piece on: what each piece changes.
-use Rattle.std.proofs.Common.{◌≡◌, ◌≢◌, ◌≤◌, length, ℕ, zero, suc, ◌+◌, List, [], ◌∷◌, ◌++◌, All, inl, inr, append_assoc, refl, sym, ap, ◌∙◌, subst, arith, replicate, None}
+use Rattle.std.proofs.Common.{◌≡◌, ◌≢◌, ◌≤◌, length, ℕ, zero, suc, List, [], ◌∷◌, ◌++◌, All, inl, inr, append_assoc, refl, sym, ap, ◌∙◌, subst, arith, replicate, None}
 use Rattle.std.proofs.lemmas.List.{append-nil}
 use Rattle.std.proofs.lemmas.List.Elements.{All-head}
 use Rattle.std.specs.List.{slice_split}
@@ -50,15 +50,6 @@ dot_before ps piece climbs e =
       before = append_assoc ps (piece ∷ []) ups ∙ ap (λ p. ps ++ p ∷ ups) e;
       after = refl;
     }))
-
--- a last `..` is one more that stands after the others
-pub dot_dot_before : (ps : List (List ℕ)) (piece : List ℕ) (climbs : ℕ) → piece ≡ dot_dot
-    → names_before (ps ++ piece ∷ []) climbs ≡ names_before ps (climbs + 1)
-dot_dot_before ps piece climbs e =
-    let ups = replicate climbs dot_dot in
-    let more : suc climbs ≡ climbs + 1 = omega arith in
-    ap normal_of (append_assoc ps (piece ∷ []) ups ∙ ap (λ p. ps ++ p ∷ ups) e)
-    ∙ ap (names_before ps) more
 
 -- a last name goes with one of them
 pub name_before : (ps : List (List ℕ)) (name : List ℕ) (climbs : ℕ) → IsName name

@@ -1,6 +1,6 @@
 -- The normal path of a valid one: its components are the normal form, so it is valid and its own normal
 -- path.
-use Rattle.std.proofs.Common.{◌≡◌, ◌≢◌, ℕ, List, [], ◌∷◌, ◌++◌, None, All, arith, refl, sym, ap, ◌∙◌, subst}
+use Rattle.std.proofs.Common.{◌≡◌, ◌≢◌, ℕ, List, [], ◌∷◌, None, All, arith, refl, sym, ap, ◌∙◌, subst}
 use Rattle.std.proofs.lemmas.List.Elements.{All-cons, All-head, All-nil, All-tail}
 use Rattle.uefi_path.specs.Components.{components_of, joined, pieces_between}
 use Rattle.uefi_path.specs.Laws.{NormalHoldsNames, NormalIsNormal, NormalIsValid, NormalPathsAgree}

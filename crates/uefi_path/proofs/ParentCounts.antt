@@ -1,5 +1,5 @@
 -- How many successive parents a parent of a plain text has: one fewer than components.
-use Rattle.std.proofs.Common.{◌≡◌, ◌≢◌, ℕ, zero, suc, ◌-◌, List, [], ◌∷◌, ◌++◌, length, All, Bool, true, false, if◌then◌else◌, Some, ap, sym, refl, subst, ◌∙◌, ◌<◌, arith}
+use Rattle.std.proofs.Common.{◌≡◌, ◌≢◌, ℕ, zero, suc, ◌-◌, List, [], ◌∷◌, ◌++◌, length, All, Bool, true, false, if◌then◌else◌, None, Some, Option, Result, IfOk, IfSome, ap, sym, refl, subst, ◌∙◌, ◌<◌, arith}
 use Rattle.std.specs.List.{slice_split}
 use Rattle.std.proofs.lemmas.Bool.{false≢true}
 use Rattle.std.proofs.lemmas.List.{append-nil, length-append, take_all}
@@ -7,10 +7,12 @@ use Rattle.std.proofs.lemmas.List.Elements.{All-filter, All-head}
 use Rattle.uefi_path.specs.Components.{IsPiece, components_of, joined, pieces_between}
 use Rattle.uefi_path.specs.Parents.{parent_text, parent_of_components, all_but_last, ends_empty, is_non_empty, non_empty, joined_with_end, rejoined}
 use Rattle.uefi_path.specs.Separators.{IsPlain, is_separator, separator, slash, with_separators}
-use Rattle.uefi_path.specs.SuccessiveParents.{AreParents, parents_of, prefixes}
-use Rattle.uefi_path.proofs.ParentChains.{AreParents-parents_of}
+use Rattle.uefi_path.specs.SuccessiveParents.{AreParents, parent_chain, parents_of, prefixes}
+use Rattle.uefi_path.proofs.ParentChains.{AreParents-parents_of, parents_of-chain}
 use Rattle.uefi_path.proofs.ParentForm.{all_but_last-push, components_of-full, parent_text-plain, prefix_with_end, rejoined-full, split_with_end}
 use Rattle.uefi_path.proofs.Parents.{All-IsPiece-non_empty, All-all_but_last, All-components_of, All-non_empty, IsFull, parent_of_components-many}
+use Rattle.uefi_path.proofs.ParentSizes.{parent_text-shorter}
+use Rattle.std.proofs.lemmas.Result.{IfOk-weaker}
 use Rattle.uefi_path.proofs.ParentsOfValid.{parents_of_some, parents_once}
 use Rattle.uefi_path.proofs.Pushing.{separator_is_plain, with_separators-plain}
 use Rattle.uefi_path.proofs.Splitting.{AreComponents-components_of}
@@ -95,7 +97,7 @@ count_joined : (ns : List (List ℕ)) (ends : Bool) → All IsPiece ns → All I
 count_joined [] ends pieces full plain = refl
 count_joined (n ∷ ns) ends pieces full plain = count_with_end n ns pieces full plain ends
 
-pub count_of_parent : (text parent : List ℕ) → IsPlain text → parent_text text ≡ Some parent
+count_of_parent : (text parent : List ℕ) → IsPlain text → parent_text text ≡ Some parent
     → length (parents_of parent) ≡ length (components_of parent) - 1
 count_of_parent text parent plain e =
     let kept = all_but_last (components_of text) in
@@ -105,3 +107,25 @@ count_of_parent text parent plain e =
     subst (λ t. length (parents_of t) ≡ length (components_of t) - 1) (sym is.0)
     (count_joined (non_empty kept) (ends_empty kept) (All-IsPiece-non_empty kept pieces) (All-non_empty kept)
     (All-filter is_non_empty IsPlain kept plains))
+
+-- what a call says of the parent that it returns
+module _ {E : Type 0} (result : Result (Option (List ℕ)) E) (text : List ℕ) (is : IfOk result (λ parent. parent ≡ parent_text text)) where
+  pub shorter_parent : IfOk result (λ parent. IfSome parent (λ parent. length parent < length text))
+  shorter_parent = IfOk-weaker result _ _ (λ parent e. some parent (sym e)) is
+    where
+      some : (parent : Option (List ℕ)) → parent_text text ≡ parent → IfSome parent (λ parent. length parent < length text)
+      some None e = tt
+      some (Some parent) e = parent_text-shorter text parent e
+
+  pub successive_parents : IfOk result (λ parent. parents_of text ≡ parent_chain parent)
+  successive_parents =
+      IfOk-weaker result _ _ (λ parent e. parents_of-chain text ∙ ap parent_chain (sym e)) is
+
+  pub counted_parents : IsPlain text
+      → IfOk result (λ parent. IfSome parent (λ parent. length (parents_of parent) ≡ length (components_of parent) - 1))
+  counted_parents plain = IfOk-weaker result _ _ (λ parent e. some parent (sym e)) is
+    where
+      some : (parent : Option (List ℕ)) → parent_text text ≡ parent
+          → IfSome parent (λ parent. length (parents_of parent) ≡ length (components_of parent) - 1)
+      some None e = tt
+      some (Some parent) e = count_of_parent text parent plain e

@@ -101,20 +101,22 @@ rejoined_not_doubled ps before after pieces =
     not_doubled (rejoined ps) before after
     (full_but_last (non_empty ps) (ends_empty ps) (All-IsPiece-non_empty ps pieces) (All-non_empty ps))
 
-plain_with_end : (ns : List (List ℕ)) (ends : Bool) → All IsPlain ns
-    → IsPlain (joined_with_end ns ends)
-plain_with_end [] ends plain = All-nil (λ u. u ≢ slash)
-plain_with_end (n ∷ ns) true plain =
-    All-append (λ u. u ≢ slash) (joined (n ∷ ns)) (separator ∷ [])
-    (All-joined (λ u. u ≢ slash) (n ∷ ns) separator_is_plain plain)
-    (All-cons (λ u. u ≢ slash) separator [] separator_is_plain (All-nil (λ u. u ≢ slash)))
-plain_with_end (n ∷ ns) false plain =
-    All-append (λ u. u ≢ slash) (joined (n ∷ ns)) []
-    (All-joined (λ u. u ≢ slash) (n ∷ ns) separator_is_plain plain) (All-nil (λ u. u ≢ slash))
+-- what holds of the separator and of each unit of pieces holds of what they are rejoined to
+All-joined_with_end : (P : ℕ → Type 0) (ns : List (List ℕ)) (ends : Bool) → P separator → All (All P) ns
+    → All P (joined_with_end ns ends)
+All-joined_with_end P [] ends of_separator all = All-nil P
+All-joined_with_end P (n ∷ ns) true of_separator all =
+    All-append P (joined (n ∷ ns)) (separator ∷ []) (All-joined P (n ∷ ns) of_separator all)
+    (All-cons P separator [] of_separator (All-nil P))
+All-joined_with_end P (n ∷ ns) false of_separator all =
+    All-append P (joined (n ∷ ns)) [] (All-joined P (n ∷ ns) of_separator all) (All-nil P)
 
-pub plain_rejoined : (ps : List (List ℕ)) → All IsPlain ps → IsPlain (rejoined ps)
-plain_rejoined ps plain =
-    plain_with_end (non_empty ps) (ends_empty ps) (All-filter is_non_empty IsPlain ps plain)
+pub All-rejoined : (P : ℕ → Type 0) (ps : List (List ℕ)) → P separator → All (All P) ps → All P (rejoined ps)
+All-rejoined P ps of_separator all =
+    All-joined_with_end P (non_empty ps) (ends_empty ps) of_separator (All-filter is_non_empty (All P) ps all)
+
+plain_rejoined : (ps : List (List ℕ)) → All IsPlain ps → IsPlain (rejoined ps)
+plain_rejoined ps plain = All-rejoined (λ u. u ≢ slash) ps separator_is_plain plain
 
 -- a parent of pieces: those but the last, of two or more, rejoined
 abbrev IsRejoined : List (List ℕ) → List ℕ → Type 0

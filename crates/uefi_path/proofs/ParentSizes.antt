@@ -65,7 +65,7 @@ pub units-canonical : (text : List ℕ) → length (canonical text) ≤ length t
 units-canonical [] = omega arith
 units-canonical (unit ∷ units) = grind (arith, common_steps)
 
-parent_of_components-shorter : (pieces : List (List ℕ)) (parent : List ℕ) → parent_of_components pieces ≡ Some parent
+pub parent_of_components-shorter : (pieces : List (List ℕ)) (parent : List ℕ) → parent_of_components pieces ≡ Some parent
     → length parent < length (joined pieces)
 parent_of_components-shorter [] parent is = absurd (grind (arith, common_steps))
 parent_of_components-shorter (piece ∷ []) parent is = absurd (grind (arith, common_steps))
@@ -143,7 +143,7 @@ fewer_parent_text text parent plain e =
       is.1,
     )
 
-parent_of_components-with_separators : (ps : List (List ℕ)) (parent : List ℕ) → parent_of_components ps ≡ Some parent
+pub parent_of_components-with_separators : (ps : List (List ℕ)) (parent : List ℕ) → parent_of_components ps ≡ Some parent
     → IsPlain parent
 parent_of_components-with_separators [] parent e = absurd (cc)
 parent_of_components-with_separators (p ∷ []) parent e = absurd (cc)

@@ -1,39 +1,11 @@
 -- What was pushed onto a text: which units it has, and what replacing its slashes does.
-use Rattle.std.proofs.Common.{◌≡◌, ◌≢◌, ℕ, List, [], ◌∷◌, ◌++◌, length, All, true, false, take, drop, if◌then◌else◌, ap, refl, ◌∙◌, arith}
+use Rattle.std.proofs.Common.{◌≡◌, ◌≢◌, ℕ, List, [], ◌∷◌, ◌++◌, All, true, false, if◌then◌else◌, ap, refl, ◌∙◌, arith}
 use Rattle.std.proofs.lemmas.Grind.{common_steps}
-use Rattle.std.proofs.lemmas.List.{drop-append-le, drop_all, take-append-le, take_all}
 use Rattle.std.proofs.lemmas.List.Elements.{All-append, All-cons, All-head, All-tail}
 use Rattle.uefi_text.specs.Units.{replaced}
 use Rattle.uefi_path.specs.Separators.{IsPlain, separator, slash, with_separators}
 use Rattle.uefi_path.specs.Pushing.{appended, needs_separator, pushed}
 use Rattle.uefi_path.proofs.Splitting.{IsPlain-with_separators}
-
--- a text whose slashes are replaced, but for those in its first `count` units
-abbrev with_separators_after : ℕ → List ℕ → List ℕ
-with_separators_after count text = take count text ++ with_separators (drop count text)
-
--- only what was added stands after the text
-with_separators_added : (text more : List ℕ) → with_separators_after (length text) (text ++ more) ≡ text ++ with_separators more
-with_separators_added text more =
-    let none : drop (length text) text ≡ [] = drop_all (length text) text (omega arith) in
-    let before : take (length text) (text ++ more) ≡ text =
-    take-append-le (length text) text more (omega arith)
-    ∙ take_all (length text) text (omega arith) in
-    let after : drop (length text) (text ++ more) ≡ more =
-    drop-append-le (length text) text more (omega arith) ∙ ap (λ us. us ++ more) none in
-    rw (before, after) refl
-
--- replacing the slashes after the text replaces those of the part
-pub with_separators-appended : (text part : List ℕ)
-    → take (length text) (appended text part) ++ with_separators (drop (length text) (appended text part))
-    ≡ appended text (with_separators part)
-with_separators-appended text part =
-    elim (needs_separator text)
-    as (λ b. with_separators_after (length text) (if b then text ++ separator ∷ part else text ++ part)
-    ≡ (if b then text ++ separator ∷ with_separators part else text ++ with_separators part)) [
-      | true ↦ with_separators_added text (separator ∷ part)
-      | false ↦ with_separators_added text part
-    ]
 
 -- what holds of the separator and of each unit holds of each of both
 pub All-appended : (P : ℕ → Type 0) (text part : List ℕ) → P separator → All P text → All P part

@@ -1,14 +1,12 @@
 -- The places of separators: how they cut a text, and what they are once it is edited.
-use Rattle.std.proofs.Common.{◌≡◌, ◌≢◌, ℕ, suc, ◌+◌, ◌-◌, ◌<◌, ◌≤◌, List, [], ◌∷◌, ◌++◌, length, get_or, take, drop, map, All, true, false, inl, inr, ap, sym, refl, subst, ◌∙◌, arith, add-zero, zero-add, append_assoc, if◌then◌else◌, set}
+use Rattle.std.proofs.Common.{◌≡◌, ◌≢◌, ℕ, suc, ◌+◌, ◌-◌, ◌<◌, ◌≤◌, List, [], ◌∷◌, ◌++◌, length, get_or, take, drop, All, true, false, inl, inr, ap, sym, refl, subst, ◌∙◌, arith, add-zero, if◌then◌else◌}
 use Rattle.std.specs.List.{count_by, onto_first, slice_range, slice_split}
-use Rattle.std.proofs.lemmas.Bool.{cases_Bool, ne_eqb}
-use Rattle.std.proofs.lemmas.List.{append-nil, drop-drop, drop_more, length-drop, take-set, take_more_set}
-use Rattle.std.proofs.lemmas.List.Elements.{All-cons, All-head, All-nil, All-tail, All-weaker}
+use Rattle.std.proofs.lemmas.Bool.{cases_Bool}
+use Rattle.std.proofs.lemmas.List.{drop-drop, length-drop}
+use Rattle.std.proofs.lemmas.List.Elements.{All-cons, All-nil, All-weaker}
 use Rattle.std.proofs.lemmas.List.Sums.{sum_by-cons}
 use Rattle.std.proofs.lemmas.List.Splits.{slice_split-cons_no, slice_split-cons_yes}
-use Rattle.uefi_path.specs.Components.{IsPiece}
-use Rattle.uefi_path.specs.Pushing.{appended, needs_separator}
-use Rattle.uefi_path.specs.Separators.{becomes_separator, canonical, is_separator, places_from, places_of, separator, with_separators}
+use Rattle.uefi_path.specs.Separators.{becomes_separator, canonical, is_separator, places_from, places_of, with_separators}
 
 -- where the units begin with a separator, so do the places
 pub places_from-yes : (start u : ℕ) (us : List ℕ) → is_separator u ≡ true
@@ -71,11 +69,9 @@ pub record PlacedCut (text : List ℕ) (start place : ℕ) (places : List ℕ) :
       ≡ slice_range text start place ∷ slice_split is_separator (drop (place + 1) text)
   pub after : places ≡ places_from (place + 1) (drop (place + 1) text)
 
-pub placed_cut : (text : List ℕ) (start : ℕ) (places : List ℕ) → start ≤ length text
-    → places ≡ places_from start (drop start text) → 0 < length places
-    → PlacedCut text start (get_or places 0 0) (drop 1 places)
-placed_cut text start [] within found some = absurd (omega (arith, some))
-placed_cut text start (place ∷ places) within found some =
+pub placed_cut : (text : List ℕ) (start place : ℕ) (places : List ℕ) → start ≤ length text
+    → place ∷ places ≡ places_from start (drop start text) → PlacedCut text start place places
+placed_cut text start place places within found =
     let first = first_place start (drop start text) place places found in
     let long : length (drop start text) ≡ length text - start = length-drop start text in
     let before : first.before ≡ place - start = omega (arith, first.at) in
@@ -90,14 +86,6 @@ placed_cut text start (place ∷ places) within found some =
           ∙ ap (λ us. slice_range text start place ∷ slice_split is_separator us) rest;
       after = first.after ∙ ap (places_from (place + 1)) rest;
     }
-
--- the same where only the first places are at hand
-pub known_cut : (text : List ℕ) (start : ℕ) (places others : List ℕ) → start ≤ length text
-    → places ++ others ≡ places_from start (drop start text) → 0 < length places
-    → PlacedCut text start (get_or places 0 0) (drop 1 places ++ others)
-known_cut text start [] others within found some = absurd (omega (arith, some))
-known_cut text start (place ∷ places) others within found some =
-    placed_cut text start (place ∷ (places ++ others)) within found (omega arith)
 
 -- there are as many places as separators
 pub length-places : (start : ℕ) (us : List ℕ)
@@ -120,32 +108,6 @@ length-places start (u ∷ us) =
           omega (arith, none, same, others)
     ]
 
--- one unit more is read: its place is written, and counts where it is that of a separator
-pub written_more : (places us : List ℕ) (count place step : ℕ) → count < length places → place < length us
-    → step ≡ (if becomes_separator (get_or us place 0) then 1 else 0)
-    → take (count + step) (set places count place) ++ places_from (place + 1) (with_separators (drop (place + 1) us))
-    ≡ take count places ++ places_from place (with_separators (drop place us))
-written_more places us count place step room inside counted =
-    let u = get_or us place 0 in
-    let rest = with_separators (drop (place + 1) us) in
-    let next : drop place us ≡ u ∷ drop (place + 1) us = drop_more us place 0 inside in
-    elim (cases_Bool (becomes_separator u)) [
-      | inl cut ↦
-          let one : step ≡ 1 = rw cut at counted in
-          let all : places_from place (with_separators (drop place us)) ≡ place ∷ places_from (place + 1) rest =
-          ap (λ vs. places_from place (with_separators vs)) next ∙ places_from-yes place _ rest cut in
-          let more : take (count + step) (set places count place) ≡ take count places ++ place ∷ [] =
-          rw one (take_more_set places count place room) in
-          rw (more, all) (append_assoc (take count places) (place ∷ []) (places_from (place + 1) rest))
-      | inr other ↦
-          let none : step ≡ 0 = rw other at counted in
-          let all : places_from place (with_separators (drop place us)) ≡ places_from (place + 1) rest =
-          ap (λ vs. places_from place (with_separators vs)) next ∙ places_from-no place _ rest other in
-          let same : take (count + step) (set places count place) ≡ take count places =
-          rw (none, add-zero) (take-set places count place) in
-          rw (same, all) refl
-    ]
-
 -- the places of both of two parts
 pub places_from-append : (start : ℕ) (us vs : List ℕ)
     → places_from start (us ++ vs) ≡ places_from start us ++ places_from (start + length us) vs
@@ -166,66 +128,6 @@ places_from-append start (u ∷ us) vs =
           ∙ sym (ap (λ ps. ps ++ places_from (start + length (u ∷ us)) vs) (places_from-no start u us other))
     ]
 
--- counted from further before
-pub places_from-shift : (start by : ℕ) (us : List ℕ)
-    → map (λ place. place + by) (places_from start us) ≡ places_from (start + by) us
-places_from-shift start by [] = refl
-places_from-shift start by (u ∷ us) =
-    let next : start + 1 + by ≡ start + by + 1 = omega arith in
-    let others : map (λ place. place + by) (places_from (start + 1) us) ≡ places_from (start + by + 1) us =
-    places_from-shift (start + 1) by us ∙ ap (λ n. places_from n us) next in
-    elim (cases_Bool (is_separator u)) [
-      | inl cut ↦
-          ap (map (λ place. place + by)) (places_from-yes start u us cut)
-          ∙ ap (λ ps. (start + by) ∷ ps) others
-          ∙ sym (places_from-yes (start + by) u us cut)
-      | inr other ↦
-          ap (map (λ place. place + by)) (places_from-no start u us other)
-          ∙ others
-          ∙ sym (places_from-no (start + by) u us other)
-    ]
-
--- a place from `start` on and before `end`
-abbrev pub IsWithin : ℕ → ℕ → ℕ → Type 0
-IsWithin start end place = (start ≤ place) × (place < end)
-
--- each place is that of one of the units
-pub within_places : (start : ℕ) (us : List ℕ) → All (IsWithin start (start + length us)) (places_from start us)
-within_places start [] = All-nil (IsWithin start (start + 0))
-within_places start (u ∷ us) =
-    let Q : ℕ → Type 0 = IsWithin start (start + length (u ∷ us)) in
-    let others : All Q (places_from (start + 1) us) =
-    All-weaker (IsWithin (start + 1) (start + 1 + length us)) Q
-    (λ place within. (omega (arith, within.0), omega (arith, within.1))) (places_from (start + 1) us)
-    (within_places (start + 1) us) in
-    elim (cases_Bool (is_separator u)) [
-      | inl cut ↦
-          subst (All Q) (sym (places_from-yes start u us cut))
-          (All-cons Q start (places_from (start + 1) us) (omega arith, omega arith) others)
-      | inr other ↦ subst (All Q) (sym (places_from-no start u us other)) others
-    ]
-
--- a piece has none
-pub places_from-piece : (start : ℕ) (piece : List ℕ) → IsPiece piece → places_from start piece ≡ []
-places_from-piece start [] is_piece = refl
-places_from-piece start (u ∷ us) is_piece =
-    places_from-no start u us (ne_eqb u separator (All-head (λ unit. unit ≢ separator) u us is_piece))
-    ∙ places_from-piece (start + 1) us (All-tail (λ unit. unit ≢ separator) u us is_piece)
-
--- a piece adds the place of the separator before it, where there is one
-pub places_of-appended : (text piece : List ℕ) → IsPiece piece
-    → places_of (appended text piece) ≡ (if needs_separator text then places_of text ++ length text ∷ [] else places_of text)
-places_of-appended text piece is_piece =
-    let none = places_from-piece (length text) piece is_piece in
-    let one : places_from (length text) (separator ∷ piece) ≡ length text ∷ [] =
-    ap (λ ps. length text ∷ ps) (places_from-piece (length text + 1) piece is_piece) in
-    elim (needs_separator text)
-    as (λ b. places_of (if b then text ++ separator ∷ piece else text ++ piece)
-    ≡ (if b then places_of text ++ length text ∷ [] else places_of text)) [
-      | true ↦ places_from-append 0 text (separator ∷ piece) ∙ rw (zero-add, one) refl
-      | false ↦ places_from-append 0 text piece ∙ rw (zero-add, none) (append-nil (places_of text))
-    ]
-
 -- whether the text begins with a separator is what its first place says
 pub canonical_placed : (text : List ℕ) → 0 < length (places_of text) → get_or (places_of text) 0 0 ≡ 0
     → (1 ≤ length text) × (drop 1 text ≡ canonical text) × (drop 1 (places_of text) ≡ places_from 1 (drop 1 text))
@@ -239,24 +141,9 @@ canonical_placed (u ∷ us) some first =
       )
       | inr other ↦
           let none = places_from-no 0 u us other in
-          let later = (within_places 1 us 0 0 (omega (arith, some, ap length none))).0 in
-          absurd (omega (arith, later, first, ap (λ ps. get_or ps 0 0) none))
+          absurd (later (places_from 1 us) refl (omega (arith, some, ap length none)) (sym (ap (λ ps. get_or ps 0 0) none) ∙ first))
     ]
-
-pub canonical_unplaced : (text : List ℕ) → (0 < length (places_of text) → get_or (places_of text) 0 0 ≢ 0)
-    → text ≡ canonical text
-canonical_unplaced [] later = refl
-canonical_unplaced (u ∷ us) later =
-    elim (cases_Bool (is_separator u)) [
-      | inl cut ↦
-          let here = places_from-yes 0 u us cut in
-          absurd (later (omega (arith, ap length here)) (ap (λ ps. get_or ps 0 0) here))
-      | inr other ↦ rw other refl
-    ]
-
--- what stands after a text has its places after those of the text
-pub places_of-pushed : (text tail : List ℕ)
-    → places_of text ++ map (λ place. place + length text) (places_of tail) ≡ places_of (text ++ tail)
-places_of-pushed text tail =
-    ap (λ ps. places_of text ++ ps) (places_from-shift 0 (length text) tail)
-    ∙ sym (places_from-append 0 text tail)
+  where
+    later : (places : List ℕ) → places ≡ places_from 1 us → 0 < length places → get_or places 0 0 ≢ 0
+    later [] are some first = absurd (omega (arith, some))
+    later (place ∷ places) are some first = omega (arith, (first_place 1 us place places are).at, first)

@@ -46,7 +46,7 @@ not_one_empty : (u : ℕ) (us : List ℕ) → slice_split is_separator (u ∷ us
 not_one_empty u us e = let j = joined-slice_split (u ∷ us) in let k = ap joined e in cc
 
 -- the test for a separator fails at each unit of a piece
-passes_over : (p : List ℕ) → IsPiece p → All (λ v. is_separator v ≡ false) p
+pub passes_over : (p : List ℕ) → IsPiece p → All (λ v. is_separator v ≡ false) p
 passes_over p piece =
     All-weaker IsNoSeparator (λ v. is_separator v ≡ false) (λ v h. ne_eqb v separator h) p piece
 

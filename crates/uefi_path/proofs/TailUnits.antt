@@ -1,15 +1,14 @@
 -- What a push adds: one unit more of it is made.
-use Rattle.std.proofs.Common.{◌≡◌, ◌≢◌, ◌==◌, ℕ, ◌+◌, ◌<◌, Bool, List, [], ◌∷◌, ◌++◌, length, get_or, take, set, ap, subst, sym, refl, zero-add, ◌∙◌, arith, true, false, if◌then◌else◌, inl, inr}
+use Rattle.std.proofs.Common.{◌≡◌, ◌≢◌, ◌==◌, ℕ, ◌+◌, ◌<◌, Bool, List, [], ◌∷◌, ◌++◌, length, get_or, take, drop, set, ap, sym, zero-add, ◌∙◌, arith, true, false, if◌then◌else◌, inl, inr}
 use Rattle.std.proofs.lemmas.Bool.{cases_Bool}
-use Rattle.std.proofs.lemmas.List.{append-nil, length-take, map-append, take_more, take_more_set}
+use Rattle.std.proofs.lemmas.List.{drop_at, map-append, take_more, take_more_set}
 use Rattle.std.proofs.lemmas.List.Elements.{All-append, All-cons, All-head, All-nil, All-tail}
+use Rattle.std.specs.List.{count_by}
 use Rattle.uefi_text.specs.Units.{IsText, IsTextUnit, replaced}
-use Rattle.uefi_path.specs.Components.{IsPiece}
-use Rattle.uefi_path.specs.Pushing.{needs_separator, pushed}
-use Rattle.uefi_path.proofs.Pushing.{pushed-non_empty, separator_is_plain}
+use Rattle.uefi_path.proofs.Pushing.{separator_is_plain, with_separators-plain}
 use Rattle.uefi_path.proofs.Splitting.{IsPlain-with_separators}
-use Rattle.uefi_path.specs.Separators.{IsPlain, is_separator, places_from, places_of, separator, slash, with_separators}
-use Rattle.uefi_path.proofs.SeparatorPlaces.{places_from-append, places_from-no, places_from-yes}
+use Rattle.uefi_path.specs.Separators.{IsPlain, becomes_separator, places_from, places_of, separator, slash, with_separators}
+use Rattle.uefi_path.proofs.SeparatorPlaces.{length-places, places_from-append}
 
 -- one unit more is written
 pub text_more : (tail us : List ℕ) (i : ℕ) → i < length tail → i < length us
@@ -21,36 +20,6 @@ text_more tail us i room inside so_far =
     ∙ ap (λ vs. vs ++ u ∷ []) so_far
     ∙ sym (ap with_separators (take_more us i 0 inside) ∙ map-append (replaced slash separator) (take i us) (get_or us i 0 ∷ []))
 
--- and it is no separator
-pub piece_more : (tail : List ℕ) (i u : ℕ) → i < length tail → IsPiece (take i tail) → u ≢ separator
-    → IsPiece (take (i + 1) (set tail i u))
-piece_more tail i u room piece other =
-    subst IsPiece (sym (take_more_set tail i u room))
-    (All-append (λ unit. unit ≢ separator) (take i tail) (u ∷ []) piece
-    (All-cons (λ unit. unit ≢ separator) u [] other (All-nil (λ unit. unit ≢ separator))))
-
--- the places with that of one unit more
-places_more : (us : List ℕ) (start i : ℕ) → i < length us
-    → places_from start (take (i + 1) us) ≡ places_from start (take i us) ++ places_from (start + i) (get_or us i 0 ∷ [])
-places_more us start i inside =
-    let before : length (take i us) ≡ i = omega (arith, length-take i us, inside) in
-    ap (places_from start) (take_more us i 0 inside)
-    ∙ places_from-append start (take i us) (get_or us i 0 ∷ [])
-    ∙ ap (λ n. places_from start (take i us) ++ places_from (start + n) (get_or us i 0 ∷ [])) before
-
-pub place_more : (us : List ℕ) (start i : ℕ) → i < length us → is_separator (get_or us i 0) ≡ true
-    → places_from start (take i us) ++ (start + i) ∷ [] ≡ places_from start (take (i + 1) us)
-place_more us start i inside cut =
-    sym (places_more us start i inside
-    ∙ ap (λ ps. places_from start (take i us) ++ ps) (places_from-yes (start + i) _ [] cut))
-
-pub no_place_more : (us : List ℕ) (start i : ℕ) → i < length us → is_separator (get_or us i 0) ≡ false
-    → places_from start (take i us) ≡ places_from start (take (i + 1) us)
-no_place_more us start i inside other =
-    sym (places_more us start i inside
-    ∙ ap (λ ps. places_from start (take i us) ++ ps) (places_from-no (start + i) _ [] other)
-    ∙ append-nil (places_from start (take i us)))
-
 -- a separator in place of a slash is a unit of a text
 IsTextUnit-replaced : (u : ℕ) → IsTextUnit u → IsTextUnit (replaced slash separator u)
 IsTextUnit-replaced u is_unit =
@@ -59,7 +28,7 @@ IsTextUnit-replaced u is_unit =
       | inr other ↦ rw other is_unit
     ]
 
-IsText-with_separators : (us : List ℕ) → IsText us → IsText (with_separators us)
+pub IsText-with_separators : (us : List ℕ) → IsText us → IsText (with_separators us)
 IsText-with_separators [] is_text = All-nil IsTextUnit
 IsText-with_separators (u ∷ us) is_text =
     All-cons IsTextUnit _ (with_separators us) (IsTextUnit-replaced u (All-head IsTextUnit u us is_text))
@@ -73,18 +42,6 @@ IsText-tail us true is_text =
     (IsText-with_separators us is_text)
 IsText-tail us false is_text = IsText-with_separators us is_text
 
--- what is added after a text that is not empty itself
-pub pushed_tail : (text us : List ℕ) → us ≢ []
-    → text ++ (if needs_separator text then separator ∷ with_separators us else with_separators us) ≡ pushed text us
-pushed_tail text us some =
-    (elim (needs_separator text)
-    as (λ b. text ++ (if b then separator ∷ with_separators us else with_separators us)
-    ≡ (if b then text ++ separator ∷ with_separators us else text ++ with_separators us)) [
-      | true ↦ refl
-      | false ↦ refl
-    ])
-    ∙ sym (pushed-non_empty text us some)
-
 pub IsPlain-tail : (us : List ℕ) (is_missing : Bool)
     → IsPlain (if is_missing then separator ∷ with_separators us else with_separators us)
 IsPlain-tail us true =
@@ -92,11 +49,20 @@ IsPlain-tail us true =
 IsPlain-tail us false = IsPlain-with_separators us
 
 -- the text with what is added is plain, and has its places after those of the text
-pub added_tail : (text tail : List ℕ) (places : List ℕ) (end : ℕ) → IsPlain text → IsPlain tail
-    → places ≡ places_of text → end ≡ length text
-    → IsPlain (text ++ tail) × (places ++ places_from end tail ≡ places_of (text ++ tail))
+pub tail_of_text : (text tail : List ℕ) (end : ℕ) → end ≡ length text → drop end (text ++ tail) ≡ tail
+tail_of_text text tail end last = drop_at text tail end (sym last)
+
+pub added_tail : (text tail places : List ℕ) (end : ℕ) → IsPlain text → IsPlain tail → places ≡ places_of text
+    → end ≡ length text → IsPlain (text ++ tail) × (places ++ places_from end (drop end (text ++ tail)) ≡ places_of (text ++ tail))
 added_tail text tail places end plain plain_tail all last = (
   All-append (λ unit. unit ≢ slash) text tail plain plain_tail,
-  rw (all, last)
-      (ap (λ n. places_of text ++ places_from n tail) (sym (zero-add (length text))) ∙ sym (places_from-append 0 text tail)),
+  ap (λ us. places ++ places_from end us) (tail_of_text text tail end last)
+      ∙ ap (λ ps. ps ++ places_from end tail) all
+      ∙ ap (λ n. places_of text ++ places_from n tail) (last ∙ sym (zero-add (length text)))
+      ∙ sym (places_from-append 0 text tail),
 )
+
+-- there are as many of them as were counted
+pub count_of_tail : (tail : List ℕ) (end : ℕ) → IsPlain tail → length (places_from end tail) ≡ count_by becomes_separator tail
+count_of_tail tail end plain =
+    ap (λ us. length (places_from end us)) (sym (with_separators-plain tail plain)) ∙ length-places end tail

@@ -1,4 +1,5 @@
 pub mod Separators
+pub mod SeparatorsLeft
 pub mod Components
 pub mod Views
 pub mod Runs
@@ -10,6 +11,6 @@ pub mod Parents
 pub mod SuccessiveParents
 pub mod Laws
 pub mod NormalForms
+pub mod CutPieces
 pub mod NamesLeft
-pub mod Glances
 pub mod Climbing

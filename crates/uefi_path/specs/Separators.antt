@@ -1,7 +1,6 @@
 -- Separators in a text: the one that is ignored at its start, the slashes that path buffers replace,
 -- and their places.
-use Rattle.std.specs.Prelude.{◌≢◌, ℕ, zero, suc, ◌%◌, ◌/◌, ◌+◌, ◌*◌, Bool, ◌==◌, if◌then◌else◌, List, [], ◌∷◌, map, take, drop, All}
-use Rattle.std.specs.Simd.Lanes.{mask_l}
+use Rattle.std.specs.Prelude.{◌≢◌, ℕ, ◌+◌, Bool, ◌==◌, if◌then◌else◌, List, [], ◌∷◌, map, All}
 use Rattle.uefi_text.specs.Units.{replaced}
 
 -- the code unit of `\`
@@ -41,18 +40,3 @@ places_from start (unit ∷ units) =
 -- the places of all separators of a text, in ascending order
 abbrev pub places_of : List ℕ → List ℕ
 places_of text = places_from 0 text
-
--- the bits of a block of 64 units: the first is the lowest, and one is set where its unit becomes a separator
-unfoldable pub block_bits : ℕ → List ℕ → ℕ
-block_bits block units = mask_l (map becomes_separator (take 64 (drop (block * 64) units)))
-
--- the places of the bits that are set among the lowest `count`, where the lowest has the place `start`
-abbrev pub bit_places : ℕ → ℕ → ℕ → List ℕ
-bit_places zero start bits = []
-bit_places (suc count) start bits =
-    if bits % 2 == 1 then start ∷ bit_places count (start + 1) (bits / 2)
-    else bit_places count (start + 1) (bits / 2)
-
--- those of a word of 64 bits
-unfoldable pub word_places : ℕ → ℕ → List ℕ
-word_places start bits = bit_places 64 start bits

@@ -35,15 +35,13 @@
 //! separators: no clause outside speaks of one.
 #![tactic(auto)]
 
-mod bits;
 mod counted;
-mod glance;
 pub mod laws;
 mod names;
 mod normal;
 mod path;
 mod pathbuf;
-mod places;
+mod separators;
 mod tails;
 mod validation;
 mod written;

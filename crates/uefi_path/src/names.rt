@@ -1,10 +1,11 @@
 //! The names of a normal path, found from the last component on. A `..` there says how many names before it
 //! go, so that none has to be kept on the way: no call takes memory.
-ghost use Rattle.std.specs.Prelude.{◌≡◌, ◌↔◌, ◌+◌, ◌-◌, ◌<◌, ◌≤◌, ◌^◌, ◌++◌, ◌∷◌, [], All, IsNone, IsTrue, List, None, ℕ, drop, if◌then◌else◌, length, option_map, slice_index};
+ghost use Rattle.std.specs.Prelude.{◌≡◌, ◌↔◌, ◌+◌, ◌-◌, ◌<◌, ◌≤◌, ◌^◌, ◌++◌, ◌∷◌, [], All, IfSome, IsNone, IsTrue, List, None, ℕ, drop, if◌then◌else◌, length, option_map, slice_index, take};
 ghost use Rattle.std.specs.List.{slice_split};
 ghost use Rattle.std.specs.Option.{option_to_list};
 ghost use Rattle.uefi_path.specs.Components.{IsPiece, components_of, joined};
-ghost use Rattle.uefi_path.specs.NamesLeft.{IsWalk, are_left, names_before, names_left, pieces_left};
+ghost use Rattle.uefi_path.specs.CutPieces.{are_left, pieces_left};
+ghost use Rattle.uefi_path.specs.NamesLeft.{IsWalk, names_before, names_left};
 ghost use Rattle.uefi_path.specs.NormalForms.{dot, dot_dot, normal_of};
 ghost use Rattle.uefi_path.specs.Separators.{is_separator, separator};
 ghost use Rattle.uefi_path.specs.Verdicts.{IsGood, verdict};
@@ -13,7 +14,7 @@ ghost use Rattle.uefi_text.specs.Units.{IsText};
 ghost use Rattle.uefi_text.specs.Views.{units_of};
 
 use crate::path::Path;
-use uefi_text::chars::SEPARATOR;
+use crate::separators::cut_last;
 use uefi_text::strs::Char16Slice;
 
 /// The names of a normal path that are still to come, from the last one on. In contracts they are
@@ -39,33 +40,6 @@ fn is_dot_dot(piece: Char16Slice<'_>) -> bool
     ensures { IsTrue result ↔ (units_of piece.entry ≡ dot_dot) }
 {
     matches!(piece.units(), [46, 46])
-}
-
-/// Where the last piece of units begins.
-fn last_start(units: &[u16]) -> usize
-    ensures within { result ≤ length units.now }
-    ensures piece { IsPiece (drop result units.now) }
-    ensures after { 0 < result → slice_index units.now (result - 1) ≡ separator }
-{
-    let mut start = units.len();
-    while 0 < start && units[start - 1] != u16::from(SEPARATOR) {
-        start -= 1;
-    }
-    start
-}
-
-/// What stands before the last piece of a text, if anything does, and that piece.
-pub(crate) fn cut_last(text: Char16Slice<'_>) -> (Option<Char16Slice<'_>>, Char16Slice<'_>)
-    ensures pieces { slice_split is_separator (units_of text.entry)
-        ≡ pieces_left result.0 ++ units_of result.1 ∷ [] }
-    ensures shorter { are_left result.0 + length (units_of result.1) ≤ length (units_of text.entry) }
-{
-    let start = last_start(text.units());
-    let last = text.part(start, text.len());
-    if start == 0 {
-        return (None, last);
-    }
-    (Some(text.part(0, start - 1)), last)
 }
 
 impl<'a> NamesFromLast<'a> {

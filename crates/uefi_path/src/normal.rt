@@ -11,7 +11,7 @@ use crate::names::NamesFromLast;
 use crate::path::Path;
 use crate::pathbuf::PathBuf;
 use crate::validation::{PathError, validate_path};
-use crate::written::{names_len, write_names};
+use crate::written::write_names;
 use std::alloc::{AllocError, Allocator};
 use std::error::Error;
 use std::fmt;
@@ -50,13 +50,14 @@ fn write_string(units: &mut [u16], len: usize, names: NamesFromLast<'_>)
     requires walk { IsWalk names }
     requires good { All IsGood (names_left names) }
     requires len { len ≡ length (joined (names_left names)) }
+    requires bound { len < 2 ^ 64 }
     requires room { length units.now ≡ max len 1 + 1 }
     ensures { units.new ≡ nul_terminated (normal_text (names_left names.entry)) }
 {
     // Where no name is left the path is the lone separator.
     units[0] = u16::from(SEPARATOR);
     units[len.max(1)] = 0;
-    write_names(&mut units[..len], names);
+    let _len = write_names(&mut units[..len], names);
 }
 
 /// The path of names, joined, in memory that it owns.
@@ -70,7 +71,7 @@ fn join_names<A: Allocator + Copy>(
     requires bound { length (joined (names_left names)) + 1 < 2 ^ 64 }
     ensures { IfOk result (λ path. path ≡ normal_text (names_left names.entry)) }
 {
-    let len = names_len(names);
+    let len = write_names(&mut [], names);
     let mut units = Vec::new(alloc);
     units.resize(len.max(1) + 1, 0)?;
     write_string(&mut units, len, names);

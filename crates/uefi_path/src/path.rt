@@ -4,13 +4,13 @@
 ghost use Rattle.std.specs.Prelude.{◌≡◌, ℕ, ◌+◌, ◌<◌, ◌^◌, ◌↔◌, [], ◌∷◌, ◌++◌, ◌≤◌, All, List, None, Option, drop, length, option_map, position, IfSome, IsSome, IsTrue};
 ghost use Rattle.std.specs.List.{last_or, slice_split};
 ghost use Rattle.uefi_path.specs.Components.{AreComponents, StartsWith, components_of};
-ghost use Rattle.uefi_path.specs.Separators.{canonical, is_separator, places_from, separator, word_places};
+ghost use Rattle.uefi_path.specs.Separators.{canonical, is_separator, places_from, separator};
+ghost use Rattle.uefi_path.specs.SeparatorsLeft.{places_left};
 ghost use Rattle.uefi_text.specs.Runs.{GivesEach};
 ghost use Rattle.uefi_text.specs.Units.{IsText};
 ghost use Rattle.uefi_text.specs.Views.{text_of, units_of};
 
-use crate::bits::{SEEN, see_next, see_start};
-use crate::names::cut_last;
+use crate::separators::{Separators, cut_last};
 use std::cmp::Ordering;
 use std::fmt;
 use uefi_text::chars::SEPARATOR;
@@ -31,25 +31,16 @@ pub struct Components<'a> {
     rest: Option<Rest<'a>>,
 }
 
-/// What is left of a text to cut into components: its units from a place on. Of the separators there
-/// the first ones are known by their places, the next ones by bits, and all others stand after the 16
-/// units that have the bits.
+/// What is left of a text to cut into components: its units from a place on.
 #[derive(Clone, Copy)]
 pub(crate) struct Rest<'a> {
     text: Char16Slice<'a>,
     start: usize,
 
-    /// Places, counted in the whole text.
-    places: &'a [usize],
-
-    /// The place of the unit that has the lowest bit.
-    base: usize,
-    bits: u64,
-    pub ghost within: { (start ≤ length (units_of text)) × (base ≤ length (units_of text)) },
-    pub ghost word: { bits < 2 ^ 64 },
-    pub ghost all: { places.now
-        ++ (word_places base bits ++ places_from (base + 16) (drop (base + 16) (units_of text)))
-        ≡ places_from start (drop start (units_of text)) },
+    /// Those among these units. Their places are counted in the whole text.
+    separators: Separators<'a>,
+    pub ghost within: { start ≤ length (units_of text) },
+    pub ghost all: { places_left separators ≡ places_from start (drop start (units_of text)) },
 }
 
 impl<'a> Path<'a> {
@@ -257,16 +248,14 @@ pub fn separator_str() -> CStr16<'static>
 impl<'a> Rest<'a> {
     ghost use Rattle.uefi_path.specs.Views.{pieces_of_rest, units_left};
 
-    /// A whole text, of which the first separators are looked for.
+    /// A whole text, in which the separators are looked for.
     fn of(text: Char16Slice<'a>) -> Rest<'a>
         ensures { units_left result ≡ units_of text.entry }
     {
         Rest {
             text,
             start: 0,
-            places: &[],
-            base: 0,
-            bits: see_start(text.units()),
+            separators: Separators::of(text.units(), 0),
         }
     }
 
@@ -279,9 +268,7 @@ impl<'a> Rest<'a> {
         Rest {
             text,
             start,
-            places,
-            base: text.len(),
-            bits: 0,
+            separators: Separators::at(places),
         }
     }
 
@@ -292,78 +279,24 @@ impl<'a> Rest<'a> {
         self.text.part(self.start, self.text.len())
     }
 
-    /// The last component, where no separator is left.
+    /// The first component, and what is left after it.
     #[inline(always)]
-    fn last(self) -> Char16Slice<'a>
-        requires no_place { self.places.now ≡ [] }
-        requires no_bit { self.bits ≡ 0 }
-        requires end { length (units_of self.text) ≤ self.base + 16 }
-        ensures { slice_split is_separator (units_left self.entry) ≡ units_of result ∷ [] }
-    {
-        self.units()
-    }
-
-    /// The first component, and what is left after it, where a separator is known by its place.
-    #[inline(always)]
-    fn cut_placed(self) -> (Char16Slice<'a>, Rest<'a>)
-        requires { 0 < length self.places.now }
+    fn cut(self) -> (Char16Slice<'a>, Option<Rest<'a>>)
         ensures { slice_split is_separator (units_left self.entry)
-            ≡ units_of result.0 ∷ slice_split is_separator (units_left result.1) }
+            ≡ units_of result.0 ∷ pieces_of_rest result.1 }
     {
         // The clauses of this call say how long the text can be.
         let _len = self.text.len();
-        let place = self.places[0];
+        let mut separators = self.separators;
+        let Some(place) = separators.next() else {
+            return (self.units(), None);
+        };
         let after = Rest {
             text: self.text,
             start: place + 1,
-            places: &self.places[1..],
-            base: self.base,
-            bits: self.bits,
+            separators,
         };
-        (self.text.part(self.start, place), after)
-    }
-
-    /// The same, where the first separator is known by its bit.
-    #[inline(always)]
-    fn cut_seen(self) -> (Char16Slice<'a>, Rest<'a>)
-        requires no_place { self.places.now ≡ [] }
-        requires some { 0 < self.bits }
-        ensures { slice_split is_separator (units_left self.entry)
-            ≡ units_of result.0 ∷ slice_split is_separator (units_left result.1) }
-    {
-        let _len = self.text.len();
-        let place = self.base + self.bits.trailing_zeros() as usize;
-        let component = self.text.part(self.start, place);
-        let after = Rest {
-            text: self.text,
-            start: place + 1,
-            places: self.places,
-            base: self.base,
-            bits: self.bits & (self.bits - 1),
-        };
-        (component, after)
-    }
-
-    /// What is left, once the next 16 units are looked at, where no separator is known.
-    #[inline(always)]
-    fn look_on(self) -> Rest<'a>
-        requires no_place { self.places.now ≡ [] }
-        requires no_bit { self.bits ≡ 0 }
-        requires more { self.base + 16 < length (units_of self.text) }
-        ensures same { units_left result ≡ units_left self.entry }
-        ensures no_place { result.places.now ≡ [] }
-        ensures text { units_of result.text ≡ units_of self.entry.text }
-        ensures base { result.base ≡ self.entry.base + 16 }
-    {
-        let _len = self.text.len();
-        let base = self.base + SEEN;
-        Rest {
-            text: self.text,
-            start: self.start,
-            places: self.places,
-            base,
-            bits: see_next(self.text.units(), base),
-        }
+        (self.text.part(self.start, place), Some(after))
     }
 }
 
@@ -389,6 +322,22 @@ impl<'a> Components<'a> {
             return Components { rest: None };
         }
         Components { rest: Some(rest) }
+    }
+
+    /// The pieces between the separators of a text, of which there is one where it has none.
+    pub(crate) fn between(text: Char16Slice<'a>) -> Components<'a>
+        ensures { components_left result ≡ slice_split is_separator (units_of text.entry) }
+    {
+        Components {
+            rest: Some(Rest::of(text)),
+        }
+    }
+
+    /// These components, to walk over them once more.
+    pub(crate) fn copy(&self) -> Components<'a>
+        ensures { components_left result ≡ components_left self.now }
+    {
+        Components { rest: self.rest }
     }
 
     /// What [`Path::strip_prefix`] returns, of the components of this path.
@@ -431,21 +380,8 @@ impl<'a> Iterator for Components<'a> {
 
     #[inline(always)]
     fn next(&mut self) -> Option<Char16Slice<'a>> {
-        let mut rest = self.rest?;
-        if !rest.places.is_empty() {
-            let (component, after) = rest.cut_placed();
-            self.rest = Some(after);
-            return Some(component);
-        }
-        while rest.bits == 0 {
-            if rest.text.len() - rest.base <= SEEN {
-                self.rest = None;
-                return Some(rest.last());
-            }
-            rest = rest.look_on();
-        }
-        let (component, after) = rest.cut_seen();
-        self.rest = Some(after);
+        let (component, after) = self.rest?.cut();
+        self.rest = after;
         Some(component)
     }
 

@@ -1,8 +1,8 @@
 //! Paths that are owned, and the calls of [`Path`] that make one.
 ghost use Rattle.std.specs.Prelude.{◌≡◌, ◌≢◌, ℕ, ◌+◌, ◌<◌, ◌≤◌, ◌^◌, ◌↔◌, [], ◌∷◌, ◌++◌, All, List, Some, None, drop, fold, false, if◌then◌else◌, length, map, option_map, ◌-◌, IsTrue, IsOk, IsSome, IfOk, IfErr, IfSome, OnOk, OnErr};
 ghost use Rattle.std.specs.List.{last_or, slice_range, slice_split};
-ghost use Rattle.uefi_path.specs.Components.{AreComponents, IsPiece, StartsWith, components_of};
-ghost use Rattle.uefi_path.specs.Parents.{all_but_last, is_non_empty, parent_text};
+ghost use Rattle.uefi_path.specs.Components.{AreComponents, IsPiece, StartsWith, components_of, joined};
+ghost use Rattle.uefi_path.specs.Parents.{is_non_empty, parent_of_components, parent_text};
 ghost use Rattle.uefi_path.specs.Runs.{GivesNoNulIn};
 ghost use Rattle.uefi_path.specs.Pushing.{appended, needs_separator, pushed};
 ghost use Rattle.uefi_path.specs.Separators.{IsPlain, canonical, is_separator, places_of, with_separators};
@@ -12,11 +12,10 @@ ghost use Rattle.uefi_text.specs.Units.{IsText};
 ghost use Rattle.uefi_text.specs.Views.{units_of};
 
 use crate::counted::CountedUnits;
-use crate::glance::has_separator_before;
-use crate::names::cut_last;
 use crate::path::{Components, Path, Rest};
-use crate::places::{count_from, count_separators, find_places, have_neighbours};
+use crate::separators::{add_places, count_separators, cut_last};
 use crate::tails::make_tail;
+use crate::written::write_all_but_last;
 use std::alloc::{AllocError, Allocator, Global};
 use std::cmp::Ordering;
 use std::fmt;
@@ -54,95 +53,48 @@ fn needs_separator<A: Allocator>(string: &CString16<A>) -> bool
     !text.is_empty() && text.get(text.len() - 1) != Some(SEPARATOR)
 }
 
-/// Adds a part after a string, and a separator between the two where one is missing.
-pub(crate) fn append<A: Allocator>(
-    string: &mut CString16<A>,
-    part: Char16Slice<'_>,
-) -> Result<(), AllocError>
-    requires { IsText (units_of part) }
-    ensures { OnOk result (string.new ≡ appended string.old (units_of part.entry)) }
-{
-    if needs_separator(string) {
-        string.push(SEPARATOR)?;
-    }
-    string.push_part(part)
-}
-
-/// Adds each component but the last after a string, as [`append`] does.
-fn append_all_but_last<A: Allocator>(
-    string: &mut CString16<A>,
-    mut components: Components<'_>,
-) -> Result<(), AllocError>
-    requires { All IsText (components_left components) }
-    ensures { OnOk result (string.new
-        ≡ fold appended string.old (all_but_last (components_left components.entry))) }
-{
-    let Some(mut last) = components.next() else {
-        return Ok(());
-    };
-    for component in components {
-        append(string, last)?;
-        last = component;
-    }
-    Ok(())
-}
-
-/// Adds a component after a string, as [`append`] does, and the place of the separator between.
-fn append_component<A: Allocator>(
-    string: &mut CString16<A>,
-    places: &mut Vec<usize, A>,
-    component: Char16Slice<'_>,
-) -> Result<(), AllocError>
-    requires is_text { IsText (units_of component) }
-    requires is_piece { IsPiece (units_of component) }
-    requires places { places.old.items ≡ places_of string.old }
-    ensures string { OnOk result (string.new ≡ appended string.old (units_of component.entry)) }
-    ensures places { OnOk result (places.new.items ≡ places_of string.new) }
-{
-    if needs_separator(string) {
-        places.push(string.num_chars())?;
-        string.push(SEPARATOR)?;
-    }
-    string.push_part(component)
-}
-
-/// Adds each component but the last after a string, as [`append_component`] does.
-fn append_components_but_last<A: Allocator>(
-    string: &mut CString16<A>,
-    places: &mut Vec<usize, A>,
-    mut components: Components<'_>,
-) -> Result<(), AllocError>
+/// The parent of a path of these components, each slash replaced. Takes memory once for the text, and once for
+/// the places of its separators, where it has any.
+fn parent_of<A: Allocator + Copy>(
+    alloc: A,
+    components: Components<'_>,
+) -> Result<Option<PathBuf<A>>, AllocError>
     requires texts { All IsText (components_left components) }
     requires pieces { All IsPiece (components_left components) }
-    requires places { places.old.items ≡ places_of string.old }
-    ensures string { OnOk result (string.new
-        ≡ fold appended string.old (all_but_last (components_left components.entry))) }
-    ensures places { OnOk result (places.new.items ≡ places_of string.new) }
+    requires bound { length (joined (components_left components)) < 2 ^ 64 }
+    ensures ok { IfOk result (λ parent. parent ≡ parent_of_components (components_left components.entry)) }
+    ensures none { parent_of_components (components_left components.entry) ≡ None → IsOk result }
 {
-    let Some(mut last) = components.next() else {
-        return Ok(());
+    let Some(len) = write_all_but_last(&mut [], components.copy()) else {
+        return Ok(None);
     };
-    for component in components {
-        append_component(string, places, last)?;
-        last = component;
-    }
-    Ok(())
+    let mut units = Vec::new(alloc);
+    units.resize(len + 1, 0)?;
+    write_all_but_last(&mut units, components);
+    let string = CString16::try_from_vec(units).unwrap();
+    Ok(Some(PathBuf::from_string(alloc, string)?))
 }
 
-/// Whether a separator stands first or last among units, or two are neighbours, or there are no units: then
-/// one of the pieces between them is empty.
-fn has_empty_piece(units: &[u16]) -> bool
-    ensures { result ≡ false
-        → All (λ piece. IsTrue (is_non_empty piece)) (slice_split is_separator units.now) }
+/// Copies a part of a path, each slash replaced.
+fn copy_part<A: Allocator + Copy>(alloc: A, part: Char16Slice<'_>) -> Result<PathBuf<A>, AllocError>
+    requires { IsText (units_of part) }
+    ensures { IfOk result (λ path. path ≡ with_separators (units_of part.entry)) }
 {
-    if units.is_empty() {
-        return true;
+    let mut string = CString16::with_capacity(alloc, part.len())?;
+    string.push_part(part)?;
+    PathBuf::from_string(alloc, string)
+}
+
+/// Whether a component is empty.
+fn has_empty(components: Components<'_>) -> bool
+    ensures { result ≡ false → All (λ piece. IsTrue (is_non_empty piece)) (components_left components.entry) }
+{
+    for component in components {
+        if component.is_empty() {
+            return true;
+        }
     }
-    let last = units.len() - 1;
-    if units[0] == u16::from(SEPARATOR) || units[last] == u16::from(SEPARATOR) {
-        return true;
-    }
-    has_separator_before(&units[..last], &units[1..], u16::from(SEPARATOR))
+    false
 }
 
 /// How many units the room has in which a short text is made ready to be pushed: with a separator before it
@@ -206,14 +158,13 @@ impl<'a> Path<'a> {
         let (Some(front), _) = cut_last(self.canonical()) else {
             return Ok(None);
         };
-        let mut string = CString16::with_capacity(alloc, front.len())?;
-        if has_empty_piece(front.units()) {
-            append_all_but_last(&mut string, self.components())?;
-        } else {
-            // Of most paths, one copy of what stands before the last separator.
-            string.push_part(front)?;
+        if has_empty(Components::between(front)) {
+            // A clause of this call says how long the path can be.
+            let _text = self.to_cstr16().as_slice();
+            return parent_of(alloc, self.components());
         }
-        Ok(Some(PathBuf::from_string(alloc, string)?))
+        // Of most paths, one copy of what stands before the last separator.
+        Ok(Some(copy_part(alloc, front)?))
     }
 }
 
@@ -263,13 +214,12 @@ impl<A: Allocator + Copy> PathBuf<A> {
         ensures ok { IfOk result (λ path. path ≡ with_separators string) }
         ensures err { IfErr result (λ kept. kept ≡ string) }
     {
-        let (places, has_slash) = find_places(alloc, string.as_cstr16().to_u16_slice());
-        let Ok(places) = places else {
+        let count = count_separators(string.as_cstr16().to_u16_slice());
+        let Ok(mut places) = Vec::with_capacity(alloc, count) else {
             return Err(string);
         };
-        if has_slash {
-            string.replace_char(SLASH, SEPARATOR);
-        }
+        string.replace_char(SLASH, SEPARATOR);
+        add_places(&mut places, string.as_cstr16().to_u16_slice(), 0);
         Ok(PathBuf { string, places })
     }
 
@@ -354,16 +304,16 @@ impl<A: Allocator + Copy> PathBuf<A> {
             ≡ reads_of units.old + length (counted_text units.old)) }
         ensures at_most { reads_of units.new ≤ reads_of units.old + length (counted_text units.old) }
     {
-        let (end, known) = (self.string.num_chars(), self.places.len());
-        let is_missing = needs_separator(&self.string);
-        let added = match make_tail(room, &mut self.places, end, is_missing, units) {
-            Ok(tail) => self.string.push_str(tail),
-            Err(error) => Err(error),
-        };
-        if added.is_err() {
-            self.places.truncate(known);
-        }
-        added
+        let end = self.string.num_chars();
+        let tail = make_tail(room, needs_separator(&self.string), units);
+        self.places.reserve(count_separators(tail.to_u16_slice()))?;
+        self.string.push_str(tail)?;
+        add_places(
+            &mut self.places,
+            self.string.as_cstr16().to_u16_slice(),
+            end,
+        );
+        Ok(())
     }
 
     /// An equal path, with room for another after it.
@@ -389,52 +339,8 @@ impl<A: Allocator + Copy> PathBuf<A> {
         Ok(joined)
     }
 
-    /// Where the parent begins and ends in the text, if it is a part of it: no two separators are neighbours.
-    /// It ends at the last separator, and begins after one that stands first: so it begins where as many
-    /// separators stand before it as units.
-    fn cut_places(&self) -> Option<(usize, usize)>
-        ensures some { IfSome result (λ cut. cut.0 < length (places_of self.now)) }
-        ensures ordered { IfSome result (λ cut. cut.0 ≤ cut.1) }
-        ensures within { IfSome result (λ cut. cut.1 < length self.now) }
-        ensures plain { IfSome result (λ cut. IsPlain self.now) }
-        ensures parent { IfSome result (λ cut.
-            parent_text self.now ≡ Some (slice_range self.now cut.0 cut.1)) }
-        ensures places { IfSome result (λ cut. places_of (slice_range self.now cut.0 cut.1)
-            ≡ map (λ place. place - cut.0)
-            (slice_range (places_of self.now) cut.0 (length (places_of self.now) - 1))) }
-    {
-        let all = self.places.as_slice();
-        if all.is_empty() || have_neighbours(all) {
-            return None;
-        }
-        let start = usize::from(all[0] == 0);
-        if all.len() == start {
-            return None;
-        }
-        Some((start, all[all.len() - 1]))
-    }
-
-    /// The path of what stands between these places, of which the first is as [`PathBuf::cut_places`] says.
-    fn cut_at(&self, start: usize, end: usize) -> Result<Self, AllocError>
-        requires some { start < length (places_of self.now) }
-        requires ordered { start ≤ end }
-        requires within { end < length self.now }
-        requires places { places_of (slice_range self.now start end) ≡ map (λ place. place - start)
-            (slice_range (places_of self.now) start (length (places_of self.now) - 1)) }
-        ensures { IfOk result (λ path. path ≡ slice_range self.now start end) }
-    {
-        let all = self.places.as_slice();
-        let mut string = CString16::with_capacity(self.alloc(), end - start)?;
-        string.push_part(self.to_cstr16().as_slice().part(start, end))?;
-        let kept = &all[start..all.len() - 1];
-        let mut places = Vec::with_capacity(self.alloc(), kept.len())?;
-        places.extend_from_slice(kept)?;
-        count_from(&mut places, start);
-        Ok(PathBuf { string, places })
-    }
-
-    /// The path without its last component, as [`Path::parent`], in memory of the same allocator. Looks
-    /// for no separator, and costs what the parent has. A parent of n components has n - 1 successive
+    /// The path without its last component, as [`Path::parent`], in memory of the same allocator. The
+    /// components are cut by the places of the separators. A parent of n components has n - 1 successive
     /// parents, or none where n is 0.
     pub fn parent(&self) -> Result<Option<Self>, AllocError>
         ensures ok { IfOk result (λ parent. parent ≡ parent_text self.now) }
@@ -445,28 +351,14 @@ impl<A: Allocator + Copy> PathBuf<A> {
         ensures count { IfOk result (λ parent. IfSome parent (λ parent.
             length (parents_of parent) ≡ length (components_of parent) - 1)) }
     {
-        // Of most paths, one copy of what stands before the last separator.
-        if let Some((start, end)) = self.cut_places() {
-            return Ok(Some(self.cut_at(start, end)?));
-        }
         let known = self.places.as_slice();
-        let rest = self.canonical(known);
-        let has_parent = Components::of_canonical(self.as_path(), rest)
-            .nth(1)
-            .is_some();
-        if !has_parent {
-            return Ok(None);
-        }
-        // The last separator ends what is kept, and is left out.
-        let (len, count) = match known.last() {
-            None => (0, 0),
-            Some(last) => (*last, known.len() - 1),
-        };
-        let mut string = CString16::with_capacity(self.alloc(), len)?;
-        let mut places = Vec::with_capacity(self.alloc(), count)?;
-        let components = Components::of_canonical(self.as_path(), rest);
-        append_components_but_last(&mut string, &mut places, components)?;
-        Ok(Some(PathBuf { string, places }))
+        let path = self.as_path();
+        // A clause of this call says how long the path can be.
+        let _text = path.to_cstr16().as_slice();
+        parent_of(
+            self.alloc(),
+            Components::of_canonical(path, self.canonical(known)),
+        )
     }
 
     /// Makes the path empty. Takes no memory and gives none back.

@@ -7,11 +7,10 @@ ghost use Rattle.uefi_path.specs.Verdicts.{IsValid, fault, is_denied, verdict};
 ghost use Rattle.uefi_path.specs.Views.{path_text};
 ghost use Rattle.uefi_text.specs.Views.{units_of};
 
-use crate::glance::shows_valid;
 use crate::path::Path;
 use std::error::Error;
 use std::fmt;
-use uefi_text::chars::{CHARACTER_DENY_LIST, Char16};
+use uefi_text::chars::Char16;
 use uefi_text::strs::Char16Slice;
 
 /// Why a path is refused.
@@ -23,7 +22,7 @@ pub enum PathError {
     /// A component is empty.
     EmptyComponent,
 
-    /// A component holds this character of [`CHARACTER_DENY_LIST`].
+    /// A component holds this character of [`CHARACTER_DENY_LIST`](crate::CHARACTER_DENY_LIST).
     IllegalChar(Char16),
 
     /// A component `..` climbs above where the path starts: the components before it hold at least
@@ -53,11 +52,26 @@ impl fmt::Display for PathError {
 
 impl Error for PathError {}
 
+/// For each character of ASCII, whether no file's name holds it: one look in place of ten.
+static DENIED: [bool; 128] = [
+    true, false, false, false, false, false, false, false, false, false, false, false, false,
+    false, false, false, false, false, false, false, false, false, false, false, false, false,
+    false, false, false, false, false, false, false, false, true, false, false, false, false,
+    false, false, false, true, false, false, false, false, true, false, false, false, false, false,
+    false, false, false, false, false, true, false, true, false, true, true, false, false, false,
+    false, false, false, false, false, false, false, false, false, false, false, false, false,
+    false, false, false, false, false, false, false, false, false, false, false, false, true,
+    false, false, false, false, false, false, false, false, false, false, false, false, false,
+    false, false, false, false, false, false, false, false, false, false, false, false, false,
+    false, false, false, false, false, true, false, false, false,
+];
+
 /// Whether no file's name holds the character.
 fn is_denied(character: Char16) -> bool
     ensures { result ≡ is_denied character }
 {
-    CHARACTER_DENY_LIST.contains(&character)
+    let place = usize::from(u16::from(character));
+    place < DENIED.len() && DENIED[place]
 }
 
 /// The first character that no file's name holds.
@@ -99,21 +113,16 @@ fn depth_after(depth: usize, component: Char16Slice<'_>) -> Option<usize>
 ///
 /// The empty path is refused as `Empty`. The lone separator has no component and is accepted. An
 /// empty component is refused as `EmptyComponent`, one that holds a character of
-/// [`CHARACTER_DENY_LIST`] as `IllegalChar` of its first such, and a `..` as `ClimbsAboveRoot`
+/// [`CHARACTER_DENY_LIST`](crate::CHARACTER_DENY_LIST) as `IllegalChar` of its first such, and a `..` as `ClimbsAboveRoot`
 /// where the components before it hold at least as many `..` as names. A `.` is no name.
 ///
-/// At most two passes. A longer path first takes a fast pass, which accepts most valid paths, and
-/// stops at the 128 characters that hold a fault. Where it does not accept, a walk over the
-/// components decides, and stops at the fault. Takes no memory.
+/// One pass, which stops at the fault. Takes no memory.
 pub fn validate_path(path: Path<'_>) -> Result<(), PathError>
     ensures refusal { result_err result ≡ verdict (path_text path.entry) }
     ensures valid { IsOk result ↔ IsValid (path_text path.entry) }
 {
     if path.is_empty() {
         return Err(PathError::Empty);
-    }
-    if shows_valid(path.canonical().units()) {
-        return Ok(());
     }
     let mut depth = 0;
     for component in path.components() {

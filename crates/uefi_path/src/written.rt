@@ -1,9 +1,8 @@
 //! Paths that are made in a caller's buffer: whole, or not at all. No call takes memory.
-ghost use Rattle.std.specs.Prelude.{◌≡◌, ◌+◌, ◌<◌, ◌≤◌, ◌^◌, [], ◌∷◌, ◌++◌, All, drop, fold, if◌then◌else◌, length, nat_lt, take};
+ghost use Rattle.std.specs.Prelude.{◌≡◌, ◌+◌, ◌-◌, ◌<◌, ◌≤◌, ◌^◌, [], ◌∷◌, ◌++◌, All, IfSome, drop, if◌then◌else◌, length, nat_lt, option_map};
 ghost use Rattle.uefi_path.specs.Components.{IsPiece, joined};
 ghost use Rattle.uefi_path.specs.NamesLeft.{IsWalk, names_left};
-ghost use Rattle.uefi_path.specs.Parents.{all_but_last, parent_text};
-ghost use Rattle.uefi_path.specs.Pushing.{appended};
+ghost use Rattle.uefi_path.specs.Parents.{parent_of_components, parent_text};
 ghost use Rattle.uefi_path.specs.Separators.{separator, with_separators};
 ghost use Rattle.uefi_path.specs.Verdicts.{IsGood};
 ghost use Rattle.uefi_path.specs.Views.{components_left, path_text};
@@ -11,7 +10,7 @@ ghost use Rattle.uefi_path.specs.Writing.{normal_path, written_len, written_over
 
 use crate::names::NamesFromLast;
 use crate::path::{Components, Path};
-use crate::tails::with_separator;
+use crate::separators::with_separator;
 use crate::validation::validate_path;
 use uefi_text::chars::SEPARATOR;
 
@@ -38,62 +37,35 @@ fn write_component(places: &mut [u16], is_missing: bool, component: &[u16])
     }
 }
 
-/// How long the components but the last are, once they are added one after the other.
-fn parent_len(mut components: Components<'_>) -> usize
+/// How long the parent of a path of these components is, which one of at most one component has not. Writes it
+/// to the start of a buffer, each slash replaced, where it has room.
+pub(crate) fn write_all_but_last(
+    buffer: &mut [u16],
+    mut components: Components<'_>,
+) -> Option<usize>
     requires pieces { All IsPiece (components_left components) }
-    requires bound { length (fold appended [] (all_but_last (components_left components))) < 2 ^ 64 }
-    ensures { result ≡ length (fold appended [] (all_but_last (components_left components.entry))) }
+    requires bound { length (joined (components_left components)) < 2 ^ 64 }
+    ensures len { result ≡ option_map length (parent_of_components (components_left components.entry)) }
+    ensures buffer { IfSome result (λ len. len ≤ length buffer.old)
+        → buffer.new ≡ written_over (parent_of_components (components_left components.entry)) buffer.old }
 {
-    let Some(mut last) = components.next() else {
-        return 0;
-    };
-    let mut len = 0;
-    let mut is_missing = false;
-    for component in components {
-        len += usize::from(is_missing) + last.len();
-        // No component holds a separator.
-        is_missing = !last.is_empty();
-        last = component;
+    if components.copy().nth(1).is_none() {
+        return None;
     }
-    len
-}
-
-/// Writes the components but the last, added one after the other, each slash replaced.
-fn write_all_but_last(buffer: &mut [u16], mut components: Components<'_>)
-    requires pieces { All IsPiece (components_left components) }
-    requires room { length (fold appended [] (all_but_last (components_left components)))
-        ≤ length buffer.now }
-    ensures { buffer.new
-        ≡ with_separators (fold appended [] (all_but_last (components_left components.entry)))
-        ++ drop (length (fold appended [] (all_but_last (components_left components.entry)))) buffer.old }
-{
-    let Some(mut last) = components.next() else {
-        return;
-    };
+    let mut last = components.next()?;
     let mut len = 0;
     let mut is_missing = false;
     for component in components {
         let end = len + usize::from(is_missing) + last.len();
-        write_component(&mut buffer[len..end], is_missing, last.units());
+        if end <= buffer.len() {
+            write_component(&mut buffer[len..end], is_missing, last.units());
+        }
         len = end;
+        // No component holds a separator.
         is_missing = !last.is_empty();
         last = component;
     }
-}
-
-/// How many units names have, joined.
-pub(crate) fn names_len(mut names: NamesFromLast<'_>) -> usize
-    requires walk { IsWalk names }
-    requires good { All IsGood (names_left names) }
-    requires bound { length (joined (names_left names)) < 2 ^ 64 }
-    ensures { result ≡ length (joined (names_left names.entry)) }
-{
-    let mut len = 0;
-    while let Some(name) = names.next() {
-        // No name is empty, so a separator stands between this one and others.
-        len += name.len() + usize::from(0 < len);
-    }
-    len
+    Some(len)
 }
 
 /// Writes a separator before what stands at the end of a buffer, if anything does, and returns where that
@@ -103,6 +75,7 @@ fn write_separator_before(buffer: &mut [u16], start: usize) -> usize
     requires room { start < length buffer.now → 0 < start }
     ensures text { drop result buffer.new
         ≡ (if nat_lt start (length buffer.old) then separator ∷ drop start buffer.old else []) }
+    ensures place { result ≡ (if nat_lt start (length buffer.old) then start - 1 else start) }
     ensures within { result ≤ length buffer.new }
     ensures same { length buffer.new ≡ length buffer.old }
 {
@@ -113,33 +86,37 @@ fn write_separator_before(buffer: &mut [u16], start: usize) -> usize
     start - 1
 }
 
-/// Writes a name, each slash replaced, before what stands at the end of a buffer, and returns where it
-/// begins.
-fn write_name_before(buffer: &mut [u16], end: usize, name: &[u16]) -> usize
+/// Writes a name, each slash replaced, before what stands at the end of a buffer.
+fn write_name_before(buffer: &mut [u16], end: usize, name: &[u16])
     requires within { end ≤ length buffer.now }
     requires room { length name.now ≤ end }
-    ensures text { drop result buffer.new ≡ with_separators name.now ++ drop end buffer.old }
-    ensures within { result ≤ length buffer.new }
+    ensures text { drop (end - length name.now) buffer.new ≡ with_separators name.now ++ drop end buffer.old }
     ensures same { length buffer.new ≡ length buffer.old }
 {
-    let start = end - name.len();
     // A name of a normal path has no slash, but a plain copy would be a call of the C library.
-    write_with_separators(&mut buffer[start..end], name);
-    start
+    write_with_separators(&mut buffer[end - name.len()..end], name);
 }
 
-/// Writes names, joined, into as many places.
-pub(crate) fn write_names(places: &mut [u16], mut names: NamesFromLast<'_>)
+/// How many units names have, joined. Writes them into places, where these are as many.
+pub(crate) fn write_names(places: &mut [u16], mut names: NamesFromLast<'_>) -> usize
     requires walk { IsWalk names }
     requires good { All IsGood (names_left names) }
-    requires room { length places.now ≡ length (joined (names_left names)) }
-    ensures { places.new ≡ joined (names_left names.entry) }
+    requires bound { length (joined (names_left names)) < 2 ^ 64 }
+    ensures len { result ≡ length (joined (names_left names.entry)) }
+    ensures places { length places.old ≡ length (joined (names_left names.entry))
+        → places.new ≡ joined (names_left names.entry) }
 {
-    let mut start = places.len();
+    let mut len = 0;
     while let Some(name) = names.next() {
-        let end = write_separator_before(places, start);
-        start = write_name_before(places, end, name.units());
+        // No name is empty, so a separator stands between this one and others.
+        let all = len + (name.len() + usize::from(0 < len));
+        if all <= places.len() {
+            let end = write_separator_before(places, places.len() - len);
+            write_name_before(places, end, name.units());
+        }
+        len = all;
     }
+    len
 }
 
 /// Paths in a caller's buffer. No call takes memory.
@@ -154,12 +131,11 @@ impl<'a> Path<'a> {
         ensures len { result ≡ written_len (parent_text (path_text self.now)) buffer.old }
         ensures buffer { buffer.new ≡ written_over (parent_text (path_text self.now)) buffer.old }
     {
-        if self.components().nth(1).is_none() {
-            return Ok(None);
-        }
         // A clause of this call says how long the path can be.
         let _text = self.to_cstr16().as_slice();
-        let len = parent_len(self.components());
+        let Some(len) = write_all_but_last(&mut [], self.components()) else {
+            return Ok(None);
+        };
         if buffer.len() < len {
             return Err(len);
         }
@@ -181,14 +157,14 @@ impl<'a> Path<'a> {
             return Ok(None);
         }
         let names = NamesFromLast::of(*self);
-        let len = names_len(names);
+        let len = write_names(&mut [], names);
         // Where no name is left the path is the lone separator.
         let room = len.max(1);
         if buffer.len() < room {
             return Err(room);
         }
         buffer[0] = u16::from(SEPARATOR);
-        write_names(&mut buffer[..len], names);
+        let _len = write_names(&mut buffer[..len], names);
         Ok(Some(room))
     }
 }

@@ -1,10 +1,10 @@
 -- One unit more is read, and written.
-use Rattle.std.proofs.Common.{◌≡◌, ◌≢◌, ◌<◌, arith, ap, false, get_or, length, ◌∙◌}
+use Rattle.std.proofs.Common.{◌≡◌, ◌<◌, arith, ap, get_or, length, ◌∙◌}
 use Rattle.std.proofs.lemmas.Grind.{common_steps}
 use Rattle.uefi_path.specs.Separators.{separator, slash}
 use Rattle.uefi_path.specs.Views.{counted_text}
 use Rattle.uefi_text.specs.Units.{replaced}
-use Rattle.uefi_path.proofs.TailUnits.{piece_more, text_more}
+use Rattle.uefi_path.proofs.TailUnits.{text_more}
 use Rattle.uefi_path.proofs.tails.copy_units.Goals as goal
 
 pub loop-i-preserved : goal.loop-i-preserved
@@ -15,15 +15,10 @@ loop-i-preserved c =
     let room : i < length tail = omega (arith, c.loop-i-test.true, c.loop-i.auto.tail) in
     let inside : i < length us = omega (arith, c.loop-i-test.true, c.requires) in
     let unit : c.get.result ≡ get_or us i 0 = grind (arith, common_steps) in
-    let is : c.with_separator-unit.result ≡ replaced slash separator (get_or us i 0) =
-    c.with_separator-unit.ensures ∙ ap (replaced slash separator) unit in
-    let text = text_more tail us i room inside c.loop-i.invariant.tail in
+    let is : c.with_separator.result ≡ replaced slash separator (get_or us i 0) =
+    c.with_separator.ensures ∙ ap (replaced slash separator) unit in
     record {
-      tail = rw is text;
-      none = λ out.
-          let before : c.loop-i.found ≡ false = grind (arith, common_steps, out) in
-          let other : c.with_separator-unit.result ≢ separator = λ cut. grind (arith, common_steps, out, cut) in
-          piece_more tail i c.with_separator-unit.result room (c.loop-i.invariant.none before) other;
+      tail = rw is (text_more tail us i room inside c.loop-i.invariant.tail);
       text = c.get.ensures.text ∙ c.loop-i.invariant.text;
       count = omega (arith, c.get.ensures.count, c.loop-i.invariant.count);
     }

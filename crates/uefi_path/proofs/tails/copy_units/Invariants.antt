@@ -1,5 +1,4 @@
-use Rattle.std.proofs.Common.{◌≡◌, ◌+◌, false, take}
-use Rattle.uefi_path.specs.Components.{IsPiece}
+use Rattle.std.proofs.Common.{◌≡◌, ◌+◌, take}
 use Rattle.uefi_path.specs.Separators.{with_separators}
 use Rattle.uefi_path.specs.Views.{counted_text, reads_of}
 use Rattle.uefi_path.proofs.tails.copy_units.Given as goal
@@ -8,7 +7,6 @@ use Rattle.uefi_path.proofs.tails.copy_units.Given as goal
 abbrev pub invariant-loop-i : goal.invariant-loop-i
 invariant-loop-i l = record {
   tail : take l.i l.tail ≡ with_separators (take l.i (counted_text l.fn.units));
-  none : l.found ≡ false → IsPiece (take l.i l.tail);
   text : counted_text l.own ≡ counted_text l.fn.units;
   count : reads_of l.own ≡ reads_of l.fn.units + l.i;
 }

@@ -1,8 +1,9 @@
--- The separator stands before what is written after the start, and the NUL after it.
-use Rattle.std.proofs.Common.{◌≡◌, ◌+◌, ◌-◌, ◌<◌, ◌++◌, ◌∷◌, ℕ, List, [], if◌then◌else◌, ap, arith, length, set, sym, take, drop, ◌∙◌}
-use borrow.Rule.Slice.PartMut.{put_mid, post_of}
+-- The text stands between the separator and a NUL.
+use Rattle.std.proofs.Common.{◌≡◌, ◌+◌, ◌-◌, ◌<◌, ◌++◌, ◌∷◌, ℕ, Bool, true, false, not, cond, List, [], if◌then◌else◌, ap, arith, length, set, sym, take, drop, ◌∙◌}
+use borrow.Rule.Slice.PartMut.{put_mid}
+use Rattle.std.specs.List.{slice_range}
 use Rattle.std.proofs.lemmas.Grind.{common_steps}
-use Rattle.std.proofs.lemmas.List.{length-append, length-drop, length-map, length-take, take_more_set}
+use Rattle.std.proofs.lemmas.List.{drop-take, length-append, length-drop, length-map, take_more_set}
 use Rattle.std.proofs.lemmas.Slice.{take-put_mid}
 use Rattle.uefi_path.specs.Separators.{separator, slash, with_separators}
 use Rattle.uefi_path.specs.Views.{counted_text}
@@ -10,80 +11,51 @@ use Rattle.uefi_path.proofs.TailUnits.{IsText-tail}
 use Rattle.uefi_text.specs.Units.{nul_terminated, replaced, without_nul}
 use Rattle.uefi_text_encodings.proofs.Texts.{IsString-made, without_nul-nul_terminated}
 use Rattle.uefi_path.proofs.tails.make_tail.Goals as goal
-use Rattle.uefi_path.proofs.tails.make_tail.Goals.{then-is_missing+in_ok-push, else-is_missing}
 
-length-written : (start len : ℕ) (room text : List ℕ) → length text ≡ len → start + len < length room
-    → length (put_mid start (start + len - start) room text) ≡ length room
-length-written start len room text long inside =
-    let k = start + len - start in
-    let others : List ℕ = post_of start k room in
-    omega (
-      arith,
-      long,
-      inside,
-      length-append (take start room) (text ++ others),
-      length-append text others,
-      length-take start room,
-      length-drop k (drop start room),
-      length-drop start room,
-    )
+-- the room, written
+written : (len : ℕ) (room text : List ℕ) → length text ≡ len → len + 1 < length room
+    → take (len + 2) (set (put_mid 1 (len + 1 - 1) (set room 0 separator) text) (len + 1) 0) ≡ separator ∷ (text ++ 0 ∷ [])
+written len [] text long inside = absurd (omega (arith, inside))
+written len (t ∷ ts) text long inside =
+    let k = len + 1 - 1 in
+    let whole = put_mid 1 k (separator ∷ ts) text in
+    let size : length whole ≡ 1 + (length text + (length ts - k)) = omega (arith, length-append text (drop k ts), length-drop k ts) in
+    let more : len + 2 ≡ len + 1 + 1 = omega arith in
+    ap (λ n. take n (set whole (len + 1) 0)) more
+    ∙ take_more_set whole (len + 1) 0 (omega (arith, size, long, inside))
+    ∙ ap (λ us. us ++ 0 ∷ []) (take-put_mid 1 k (separator ∷ ts) text (len + 1) (omega (arith, long)) (omega arith))
 
--- the text in the room, and a NUL after it
-nul_after : (start len : ℕ) (room text : List ℕ) → length text ≡ len → start + len < length room
-    → take (start + len + 1) (set (put_mid start (start + len - start) room text) (start + len) 0) ≡ nul_terminated (take start room ++ text)
-nul_after start len room text long inside =
-    let written = put_mid start (start + len - start) room text in
-    take_more_set written (start + len) 0 (omega (arith, inside, length-written start len room text long inside))
-    ∙ ap (λ us. us ++ 0 ∷ []) (take-put_mid start (start + len - start) room text (start + len) (omega (arith, long)) (omega (arith, inside)))
+-- what is taken of it
+taken : (is_missing : Bool) (len start : ℕ) (all text : List ℕ) → start ≡ cond (not is_missing) 1 0
+    → take (len + 2) all ≡ separator ∷ (text ++ 0 ∷ [])
+    → slice_range all start (len + 2) ≡ nul_terminated (if is_missing then separator ∷ text else text)
+taken true len start all text begins is =
+    let whole : len + 2 - 0 ≡ len + 2 = omega arith in
+    ap (λ n. take (len + 2 - n) (drop n all)) begins ∙ ap (λ n. take n all) whole ∙ is
+taken false len start all text begins is =
+    let whole : 1 + (len + 2 - 1) ≡ len + 2 = omega arith in
+    ap (λ n. take (len + 2 - n) (drop n all)) begins
+    ∙ sym (drop-take 1 (len + 2 - 1) all)
+    ∙ ap (λ n. drop 1 (take n all)) whole
+    ∙ ap (drop 1) is
 
 pub from_string-requires : goal.from_string-requires
-from_string-requires g c =
+from_string-requires c =
     let us = counted_text c.args.units.now in
-    let start = c.from-start.result in
     let len = c.len-len.result in
-    let before = c.if-is_missing.room in
-    let text = c.write_replaced.new.tail in
-    let tail : List ℕ = if c.args.is_missing then separator ∷ with_separators us else with_separators us in
-    let is : text ≡ with_separators us = grind (arith, common_steps) in
-    let long : length text ≡ len = ap length is ∙ length-map us (replaced slash separator) ∙ sym c.len-len.ensures.same in
-    elim c.if-is_missing.branch [
-      | then-is_missing+in_ok-push w ↦
-          let one : start ≡ 1 = grind (arith, common_steps) in
-          let first = take_more_set c.args.room.now 0 separator (omega (arith, c.requires.room)) in
-          let inside : start + len < length before = omega (arith, one, c.requires.room, c.len-len.ensures.same, c.if-is_missing.auto.room) in
-          let made : take start before ++ text ≡ tail = grind (arith, common_steps, first, one, is) in
-          IsString-made _ tail (nul_after start len before text long inside ∙ ap nul_terminated made)
-          (IsText-tail us c.args.is_missing c.len-len.ensures.is_text)
-      | else-is_missing w ↦
-          let none : start ≡ 0 = grind (arith, common_steps) in
-          let inside : start + len < length before = omega (arith, none, c.requires.room, c.len-len.ensures.same, c.if-is_missing.auto.room) in
-          let made : take start before ++ text ≡ tail = grind (arith, common_steps, none, is) in
-          IsString-made _ tail (nul_after start len before text long inside ∙ ap nul_terminated made)
-          (IsText-tail us c.args.is_missing c.len-len.ensures.is_text)
-    ]
+    let long : length (with_separators us) ≡ len = length-map us (replaced slash separator) ∙ sym c.len-len.ensures.same in
+    let room = written len c.args.room.now (with_separators us) long (omega (arith, c.requires.room, c.len-len.ensures.same)) in
+    rw (c.from.ensures.0, c.copy_units.ensures.tail)
+    (IsString-made _ _ (taken c.args.is_missing len c.from-2.result _ (with_separators us) (grind (arith, common_steps, c.from-2.ensures)) room)
+    (IsText-tail us c.args.is_missing c.len-len.ensures.is_text))
 
 pub returns-clause-tail : goal.returns-clause-tail
-returns-clause-tail g c =
+returns-clause-tail c =
     let us = counted_text c.args.units.now in
-    let start = c.from-start.result in
     let len = c.len-len.result in
-    let before = c.if-is_missing.room in
-    let text = c.write_replaced.new.tail in
-    let tail : List ℕ = if c.args.is_missing then separator ∷ with_separators us else with_separators us in
-    let is : text ≡ with_separators us = grind (arith, common_steps) in
-    let long : length text ≡ len = ap length is ∙ length-map us (replaced slash separator) ∙ sym c.len-len.ensures.same in
-    elim c.if-is_missing.branch [
-      | then-is_missing+in_ok-push w ↦
-          let one : start ≡ 1 = grind (arith, common_steps) in
-          let first = take_more_set c.args.room.now 0 separator (omega (arith, c.requires.room)) in
-          let inside : start + len < length before = omega (arith, one, c.requires.room, c.len-len.ensures.same, c.if-is_missing.auto.room) in
-          let made : take start before ++ text ≡ tail = grind (arith, common_steps, first, one, is) in
-          c.from_string.ensures ∙ ap without_nul (nul_after start len before text long inside ∙ ap nul_terminated made)
-          ∙ without_nul-nul_terminated tail
-      | else-is_missing w ↦
-          let none : start ≡ 0 = grind (arith, common_steps) in
-          let inside : start + len < length before = omega (arith, none, c.requires.room, c.len-len.ensures.same, c.if-is_missing.auto.room) in
-          let made : take start before ++ text ≡ tail = grind (arith, common_steps, none, is) in
-          c.from_string.ensures ∙ ap without_nul (nul_after start len before text long inside ∙ ap nul_terminated made)
-          ∙ without_nul-nul_terminated tail
-    ]
+    let long : length (with_separators us) ≡ len = length-map us (replaced slash separator) ∙ sym c.len-len.ensures.same in
+    let room = written len c.args.room.now (with_separators us) long (omega (arith, c.requires.room, c.len-len.ensures.same)) in
+    c.from_string.ensures
+    ∙ rw (c.from.ensures.0, c.copy_units.ensures.tail)
+    (ap without_nul (taken c.args.is_missing len c.from-2.result _ (with_separators us) (grind (arith, common_steps, c.from-2.ensures)) room)
+    ∙ without_nul-nul_terminated _)

@@ -1,5 +1,5 @@
 -- The verdict is the fault of the component that was looked at last, and what is accepted is valid.
-use Rattle.std.proofs.Common.{◌≢◌, [], Ok, Err, refl, rules, sym, ◌∙◌}
+use Rattle.std.proofs.Common.{◌≢◌, [], Ok, Err, rules, sym, ◌∙◌}
 use Rattle.uefi_path.specs.Components.{components_of}
 use Rattle.uefi_path.specs.Views.{components_left, path_text}
 use Rattle.uefi_path.specs.declared.validation.PathError.TheVariants.{ClimbsAboveRoot}
@@ -58,8 +58,3 @@ returns-clause-refusal c = accepted c
 
 pub returns-clause-valid : goal.returns-clause-valid
 returns-clause-valid c = accepted_valid {T = Unit {0}} (Ok tt) (path_text c.args.path) (accepted c)
-
-pub returns-then-shows_valid-clause-valid : goal.returns-then-shows_valid-clause-valid
-returns-then-shows_valid-clause-valid c =
-    accepted_valid {T = Unit {0}} (Ok tt) (path_text c.args.path)
-    (sym (c.if-shows_valid.ensures refl (path_text c.args.path) (c.units.ensures ∙ c.canonical.ensures.same)))

@@ -1,5 +1,5 @@
 -- Each component is held back until the next one comes.
-use Rattle.std.proofs.Common.{◌≡◌, ◌∷◌, [], refl, ap, arith, length, subst, sym, ◌∙◌, All, ◌+◌, ◌≤◌}
+use Rattle.std.proofs.Common.{◌≡◌, ◌∷◌, [], refl, ap, arith, length, subst, sym, ◌∙◌, All, ◌+◌, ◌<◌, ◌++◌, drop}
 use Rattle.std.specs.List.{fold}
 use Rattle.std.proofs.lemmas.Grind.{common_steps}
 use Rattle.uefi_text.specs.Views.{units_of}
@@ -8,15 +8,16 @@ use Rattle.uefi_path.specs.Parents.{all_but_last}
 use Rattle.uefi_path.specs.Pushing.{appended, needs_separator}
 use Rattle.uefi_path.specs.Separators.{with_separators}
 use Rattle.uefi_path.specs.Views.{components_left}
-use Rattle.uefi_path.proofs.Drafts.{draft_more_fits, draft_next, draft_written, missing_count, missing_count_is, tail_of}
+use Rattle.uefi_path.proofs.Drafts.{draft_done, draft_more_fits, draft_next, draft_written, made_len, made_shorter, made_written, missing_count, tail_of}
 use Rattle.uefi_path.proofs.written.write_all_but_last.Goals as goal
+use Rattle.uefi_path.proofs.written.write_all_but_last.Goals.{then-end-buffer, else-end-buffer}
 
 pub loop-component-init : goal.loop-component-init
 loop-component-init c =
     let all :
-    units_of c.in-Some.last ∷ components_left c.into_iter-component-iterator.result
+    units_of c.in_ok-last.last ∷ components_left c.into_iter-component-iterator.result
     ≡ components_left c.args.components =
-    grind (arith, common_steps, c.in-Some.ensures.steps) in (
+    grind (arith, common_steps, c.in_ok-last.ensures.steps) in (
       [],
       record {
         len_is = refl;
@@ -24,55 +25,71 @@ loop-component-init c =
         are_pieces = subst (All IsPiece) (sym all) c.requires.pieces;
         to_come = ap (λ pieces. fold appended [] (all_but_last pieces)) all;
       },
-      refl,
+      λ _. refl,
     )
+
+pub overflow_add-end : goal.overflow_add-end
+overflow_add-end c =
+    let so_far = c.loop-component in
+    let left : components_left so_far.component-iterator ≡ units_of c.in-Some.component ∷ components_left c.next-in-loop-component.new.self =
+    grind (arith, common_steps, c.in-Some.ensures.steps) in
+    let count : c.from.result ≡ missing_count so_far.is_missing = grind (arith, common_steps, c.from.ensures) in
+    let fits = draft_more_fits so_far.invariant.0 _ _ _ _ _ _ _ so_far.invariant.1 left in
+    omega (arith, fits, made_shorter (components_left c.args.components) c.requires.pieces, count, c.requires.bound)
 
 pub overflow_add-end-in-loop-component : goal.overflow_add-end-in-loop-component
 overflow_add-end-in-loop-component c =
     let so_far = c.loop-component in
-    let kept = units_of c.in-Some-component.component in
-    let to_come = components_left c.next-in-loop-component.new.self in
-    let left : components_left so_far.component-iterator ≡ kept ∷ to_come =
-    grind (arith, common_steps, c.in-Some-component.ensures.steps) in
-    let count = missing_count_is c.from.result so_far.is_missing (grind (arith, common_steps, c.from.ensures)) in
+    let left : components_left so_far.component-iterator ≡ units_of c.in-Some.component ∷ components_left c.next-in-loop-component.new.self =
+    grind (arith, common_steps, c.in-Some.ensures.steps) in
+    let count : c.from.result ≡ missing_count so_far.is_missing = grind (arith, common_steps, c.from.ensures) in
     let fits = draft_more_fits so_far.invariant.0 _ _ _ _ _ _ _ so_far.invariant.1 left in
-    omega (arith, fits, count, c.len.ensures, c.requires.room, c.loop-component.auto.buffer)
-
-pub slice_bounds-write_component-end : goal.slice_bounds-write_component-end
-slice_bounds-write_component-end c =
-    let so_far = c.loop-component in
-    let kept = units_of c.in-Some-component.component in
-    let to_come = components_left c.next-in-loop-component.new.self in
-    let left : components_left so_far.component-iterator ≡ kept ∷ to_come =
-    grind (arith, common_steps, c.in-Some-component.ensures.steps) in
-    let count = missing_count_is c.from.result so_far.is_missing (grind (arith, common_steps, c.from.ensures)) in
-    let fits = draft_more_fits so_far.invariant.0 _ _ _ _ _ _ _ so_far.invariant.1 left in
-    let same = c.loop-component.auto.buffer in
-    let within : so_far.len + c.from.result + c.len.result ≤ length so_far.buffer =
-    omega (arith, fits, count, c.len.ensures, c.requires.room, same) in
-    within
+    omega (arith, fits, made_shorter (components_left c.args.components) c.requires.pieces, count, c.len.ensures, c.requires.bound)
 
 pub loop-component-preserved : goal.loop-component-preserved
 loop-component-preserved c =
     let so_far = c.loop-component in
     let text = so_far.invariant.0 in
     let last = units_of so_far.last in
-    let kept = units_of c.in-Some-component.component in
-    let to_come = components_left c.next-in-loop-component.new.self in
-    let left : components_left so_far.component-iterator ≡ kept ∷ to_come =
-    grind (arith, common_steps, c.in-Some-component.ensures.steps) in
-    let count = missing_count_is c.from.result so_far.is_missing (grind (arith, common_steps, c.from.ensures)) in
-    let fits = draft_more_fits so_far.invariant.0 _ _ _ _ _ _ _ so_far.invariant.1 left in
+    let old = c.args.buffer.now in
+    let left : components_left so_far.component-iterator ≡ units_of c.in-Some.component ∷ components_left c.next-in-loop-component.new.self =
+    grind (arith, common_steps, c.in-Some.ensures.steps) in
+    let count : c.from.result ≡ missing_count so_far.is_missing = grind (arith, common_steps, c.from.ensures) in
     let end = so_far.len + c.from.result + c.len.result in
     let ends : end ≡ so_far.len + missing_count so_far.is_missing + length last =
     omega (arith, count, c.len.ensures) in
     let next = draft_next text _ _ _ _ _ _ _ _ _ so_far.invariant.1 left ends c.is_empty-is_missing.ensures in
-    let wrote : c.write_component.new.places ≡ with_separators (tail_of (needs_separator text) last) =
-    c.write_component.ensures
-    ∙ ap (λ b. with_separators (tail_of b c.units.result.now)) so_far.invariant.1.missing
-    ∙ ap (λ us. with_separators (tail_of (needs_separator text) us)) c.units.ensures in (
+    let same = so_far.auto.buffer in (
       _,
       next,
-      draft_written text last c.args.buffer.now so_far.buffer c.write_component.new.places so_far.len end
-          so_far.invariant.1.len_is next.len_is (omega (arith, fits, ends, c.requires.room)) so_far.invariant.2 wrote,
+      λ fits. elim c.if-end-buffer.branch [
+        | then-end-buffer w ↦
+            let wrote : w.write_component.new.places ≡ with_separators (tail_of (needs_separator text) last) =
+            w.write_component.ensures
+            ∙ ap (λ b. with_separators (tail_of b w.units.result.now)) so_far.invariant.1.missing
+            ∙ ap (λ us. with_separators (tail_of (needs_separator text) us)) w.units.ensures in
+            w.buffer-is
+            ∙ draft_written text last old so_far.buffer w.write_component.new.places so_far.len end so_far.invariant.1.len_is
+            next.len_is (omega (arith, fits, next.len_is))
+            (so_far.invariant.2 (omega (arith, so_far.invariant.1.len_is, next.len_is, fits, ends))) wrote
+        | else-end-buffer w ↦ absurd (omega (arith, fits, next.len_is, w.if-end-buffer.false, same))
+      ],
     )
+
+pub returns-clause-len : goal.returns-clause-len
+returns-clause-len c =
+    let pieces = components_left c.args.components in
+    let many : 1 < length pieces = grind (arith, common_steps) in
+    let draft = c.loop-component.invariant.1 in
+    let whole = draft_done _ _ _ _ _ _ draft c.in-None.ensures.steps.0 in
+    made_len pieces c.loop-component.len c.requires.pieces many (draft.len_is ∙ ap length whole)
+
+pub returns-clause-buffer : goal.returns-clause-buffer
+returns-clause-buffer c fits =
+    let pieces = components_left c.args.components in
+    let draft = c.loop-component.invariant.1 in
+    let whole = draft_done _ _ _ _ _ _ draft c.in-None.ensures.steps.0 in
+    made_written pieces c.args.buffer.now c.loop-component.buffer c.requires.pieces
+    (omega (arith, draft.len_is, ap length whole, fits))
+    (c.loop-component.invariant.2 (omega (arith, draft.len_is, fits))
+    ∙ ap (λ us. with_separators us ++ drop (length us) c.args.buffer.now) whole)

@@ -1,5 +1,5 @@
 -- The components but the one that is held back are written, each slash replaced, and what stands after them stays.
-use Rattle.std.proofs.Common.{◌≡◌, ℕ, ◌∷◌, ◌++◌, [], List, drop, length}
+use Rattle.std.proofs.Common.{◌≡◌, ◌≤◌, ℕ, ◌∷◌, ◌++◌, [], List, drop, length}
 use Rattle.std.specs.List.{fold}
 use Rattle.uefi_text.specs.Views.{units_of}
 use Rattle.uefi_path.specs.Parents.{all_but_last}
@@ -14,4 +14,4 @@ invariant-loop-component l =
     (text : List ℕ)
     × IsDraft text l.len l.is_missing (units_of l.last ∷ components_left l.component-iterator)
     (fold appended [] (all_but_last (components_left l.fn.components)))
-    × (l.buffer ≡ with_separators text ++ drop (length text) l.fn.buffer)
+    × (length text ≤ length l.fn.buffer → l.buffer ≡ with_separators text ++ drop (length text) l.fn.buffer)

@@ -2,7 +2,8 @@
 use Rattle.std.proofs.Common.{◌≡◌, ◌++◌, ◌∷◌, [], All, length, arith, sym, subst, ◌∙◌, ap}
 use Rattle.std.proofs.Math.Seq.{take-append_seam}
 use Rattle.std.proofs.lemmas.List.Elements.{All-take}
-use Rattle.uefi_path.specs.NamesLeft.{are_left, names_before, names_left, pieces_left}
+use Rattle.uefi_path.specs.CutPieces.{are_left, pieces_left}
+use Rattle.uefi_path.specs.NamesLeft.{names_before, names_left}
 use Rattle.uefi_path.specs.NormalForms.{IsName}
 use Rattle.uefi_text.specs.Views.{units_of}
 use Rattle.uefi_path.proofs.names.NamesFromLast.next.Goals as goal

@@ -1,6 +1,7 @@
 -- No name that stays was found yet, so those that are left are the same.
 use Rattle.std.proofs.Common.{◌≡◌, length}
-use Rattle.uefi_path.specs.NamesLeft.{IsWalk, names_left, pieces_left}
+use Rattle.uefi_path.specs.CutPieces.{pieces_left}
+use Rattle.uefi_path.specs.NamesLeft.{IsWalk, names_left}
 use Rattle.uefi_path.proofs.names.NamesFromLast.next.Given as goal
 
 abbrev pub invariant-loop-self : goal.invariant-loop-self

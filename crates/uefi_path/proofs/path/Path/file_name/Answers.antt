@@ -5,7 +5,7 @@ use Rattle.std.proofs.lemmas.Bool.{false≢true}
 use Rattle.uefi_text.specs.Units.{IsText, IsTextUnit}
 use Rattle.uefi_text.specs.Views.{units_of}
 use Rattle.uefi_path.specs.Components.{components_of}
-use Rattle.uefi_path.specs.NamesLeft.{pieces_left}
+use Rattle.uefi_path.specs.CutPieces.{pieces_left}
 use Rattle.uefi_path.specs.Separators.{is_separator}
 use Rattle.uefi_path.specs.Views.{path_text}
 use Rattle.uefi_path.proofs.Parents.{All-slice_split}

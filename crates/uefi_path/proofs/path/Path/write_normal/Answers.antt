@@ -1,5 +1,6 @@
 -- The names that stay are written, and the lone separator where there are none.
 use Rattle.std.proofs.Common.{◌≡◌, ◌++◌, ℕ, All, List, drop, length, max, rules, set, None, Ok, Some, Err, arith, sym, ap, subst, ◌∙◌}
+use Rattle.std.proofs.lemmas.Grind.{common_steps}
 use Rattle.uefi_path.specs.Components.{components_of, joined}
 use Rattle.uefi_path.specs.NamesLeft.{names_left}
 use Rattle.uefi_path.specs.NormalForms.{normal_of, normal_text}
@@ -25,7 +26,7 @@ returns-then-buffer-room-clause-len c =
     let names = c.of-names.ensures in
     let normal = normal_of (components_of text) in
     let valid : verdict text ≡ None = search rules in
-    let len = normal_len _ text _ c.max-room.result names.good names.names c.names_len-len.ensures c.max-room.ensures in
+    let len = normal_len _ text _ c.max-room.result names.good names.names c.write_names-len.ensures.len c.max-room.ensures in
     ap Err len
     ∙ short (normal_path text) (normal_text normal) c.args.buffer.now (ap (λ refusal. normal_where refusal normal) valid)
     (omega (arith, len, c.if-buffer-room.true))
@@ -36,7 +37,7 @@ returns-clause-len c =
     let names = c.of-names.ensures in
     let normal = normal_of (components_of text) in
     let valid : verdict text ≡ None = search rules in
-    let len = normal_len _ text _ c.max-room.result names.good names.names c.names_len-len.ensures c.max-room.ensures in
+    let len = normal_len _ text _ c.max-room.result names.good names.names c.write_names-len.ensures.len c.max-room.ensures in
     ap (λ n. Ok (Some n)) len
     ∙ fits (normal_path text) (normal_text normal) c.args.buffer.now (ap (λ refusal. normal_where refusal normal) valid)
     (omega (arith, len, c.if-buffer-room.false))
@@ -48,11 +49,11 @@ returns-clause-buffer c =
     let names = c.of-names.ensures in
     let normal = normal_of (components_of text) in
     let valid : verdict text ≡ None = search rules in
-    let len = normal_len _ text _ c.max-room.result names.good names.names c.names_len-len.ensures c.max-room.ensures in
+    let len = normal_len _ text _ c.max-room.result names.good names.names c.write_names-len.ensures.len c.max-room.ensures in
     let left = names_left c.of-names.result in
     let rest = λ (ps : List (List ℕ)). joined ps ++ drop (length (joined ps)) (set buffer 0 separator) in
-    ap (λ us. us ++ drop c.names_len-len.result (set buffer 0 c.from.result)) c.write_names.ensures
-    ∙ ap (λ n. joined left ++ drop n (set buffer 0 c.from.result)) c.names_len-len.ensures
+    ap (λ us. us ++ drop c.write_names-len.result (set buffer 0 c.from.result)) (c.write_names-len-2.ensures.places (grind (arith, common_steps, c.write_names-len.ensures.len, c.max-room.ensures, c.if-buffer-room.false)))
+    ∙ ap (λ n. joined left ++ drop n (set buffer 0 c.from.result)) c.write_names-len.ensures.len
     ∙ ap (λ u. joined left ++ drop (length (joined left)) (set buffer 0 u)) c.from.ensures.0
     ∙ ap rest names.names
     ∙ normal_text_written normal buffer (subst (All IsGood) names.names names.good) (omega (arith, c.max-room.ensures, c.if-buffer-room.false))

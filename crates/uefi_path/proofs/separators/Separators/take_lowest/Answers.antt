@@ -1,0 +1,33 @@
+-- The lowest bit is that of the first separator.
+use Rattle.std.proofs.Common.{ap, arith, ◌∷◌, ◌++◌, ◌+◌, ◌∙◌, drop, sym}
+use Rattle.std.specs.Int.Count.{count_trailing_zeros}
+use Rattle.uefi_path.specs.Separators.{places_from}
+use Rattle.uefi_path.proofs.SeparatorBits.{lowest_cut}
+use Rattle.uefi_path.proofs.separators.Separators.take_lowest.Goals as goal
+
+pub overflow_add-place : goal.overflow_add-place
+overflow_add-place c =
+    let left = c.args.self in
+    let cut = lowest_cut left.units.now left.start left.end left.bits left.ordered left.within left.word left.seen c.requires.some in
+    omega (arith, cut.inside, left.within, c.ranges.self)
+
+pub overflow_add-after : goal.overflow_add-after
+overflow_add-after c =
+    let left = c.args.self in
+    let cut = lowest_cut left.units.now left.start left.end left.bits left.ordered left.within left.word left.seen c.requires.some in
+    omega (arith, cut.inside, left.within, c.ranges.self)
+
+pub invariant_of-after : goal.invariant_of-after
+invariant_of-after c =
+    let left = c.args.self in
+    let cut = lowest_cut left.units.now left.start left.end left.bits left.ordered left.within left.word left.seen c.requires.some in
+    record { ordered = omega (arith, cut.inside); within = left.within; word = omega (arith, left.word); seen = cut.seen }
+
+pub returns : goal.returns
+returns c =
+    let left = c.args.self in
+    let cut = lowest_cut left.units.now left.start left.end left.bits left.ordered left.within left.word left.seen c.requires.some in
+    ap (λ ps. ps ++ places_from left.start (drop left.start left.units.now)) c.requires.none_known
+    ∙ cut.places
+    ∙ sym (ap (λ ps. (left.start + count_trailing_zeros 64 left.bits)
+    ∷ (ps ++ places_from (left.start + count_trailing_zeros 64 left.bits + 1) (drop (left.start + count_trailing_zeros 64 left.bits + 1) left.units.now))) c.requires.none_known)

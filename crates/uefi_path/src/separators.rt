@@ -1,0 +1,261 @@
+//! Separators: which units become them, and where they stand. A vector comparison looks at a block of units.
+ghost use Rattle.std.specs.Prelude.{◌≡◌, ◌<◌, ◌≤◌, ◌+◌, ◌-◌, ◌++◌, ◌∷◌, [], IfSome, IsNone, count_by, drop, length, map, slice_index, take};
+ghost use Rattle.std.specs.List.{slice_range, slice_split};
+ghost use Rattle.uefi_path.specs.Components.{IsPiece};
+ghost use Rattle.uefi_path.specs.CutPieces.{are_left, pieces_left};
+ghost use Rattle.std.specs.Option.{option_to_list};
+ghost use Rattle.std.specs.Simd.Lanes.{mask_l};
+ghost use Rattle.std.specs.Vec.{vec_capacity, vec_len};
+ghost use Rattle.uefi_path.specs.Separators.{becomes_separator, is_separator, places_from, separator, slash};
+ghost use Rattle.uefi_text.specs.Units.{replaced};
+ghost use Rattle.uefi_text.specs.Views.{units_of};
+
+use std::alloc::Allocator;
+use std::simd::prelude::*;
+use uefi_text::chars::{SEPARATOR, SLASH};
+use uefi_text::strs::Char16Slice;
+
+/// How many units are looked at together where a text has as many.
+const BLOCK: usize = 16;
+
+/// How many where it has fewer: the last ones are looked at one by one.
+const SMALL_BLOCK: usize = 8;
+
+/// How many units are counted in a number as wide as a unit, so that this becomes vector code.
+const COUNTED: usize = 4096;
+
+/// The unit, or a separator in place of a slash.
+#[inline(always)]
+pub(crate) fn with_separator(unit: u16) -> u16
+    ensures { result ≡ replaced slash separator unit }
+{
+    if unit == u16::from(SLASH) {
+        u16::from(SEPARATOR)
+    } else {
+        unit
+    }
+}
+
+/// How many of a block of units are separators once slashes are replaced.
+#[inline(always)]
+fn count_in_block(units: &[u16]) -> u16
+    requires { length units.now ≤ 4096 }
+    ensures { result ≡ count_by becomes_separator units.now }
+{
+    let mut count = 0;
+    for unit in units {
+        count += u16::from((*unit == 47) | (*unit == 92));
+    }
+    count
+}
+
+/// How many units are separators once slashes are replaced.
+#[inline(always)]
+pub(crate) fn count_separators(units: &[u16]) -> usize
+    ensures { result ≡ count_by becomes_separator units.now }
+{
+    let mut count = 0;
+    for block in units.chunks(COUNTED) {
+        count += usize::from(count_in_block(block));
+    }
+    count
+}
+
+/// A bit for each of the first units, set where it is a separator; the first is the lowest.
+#[inline(always)]
+fn see_first<const N: usize>(units: &[u16]) -> u64
+    requires within { N ≤ length units.now }
+    requires word { N ≤ 64 }
+    ensures { result ≡ mask_l (map is_separator (take N units.now)) }
+{
+    Simd::<u16, N>::from_slice(units)
+        .simd_eq(Simd::<u16, N>::splat(92))
+        .to_bitmask()
+}
+
+/// The bits of fewer units than are looked at together.
+#[inline(always)]
+fn see_few(units: &[u16]) -> u64
+    requires { length units.now < 16 }
+    ensures { result ≡ mask_l (map is_separator units.now) }
+{
+    let mut bits = 0;
+    let mut i = units.len();
+    while 0 < i {
+        i -= 1;
+        bits = u64::from(units[i] == 92) + 2 * bits;
+    }
+    bits
+}
+
+/// A bit for each of the first units, and how many have one.
+#[inline(always)]
+fn see(units: &[u16]) -> (u64, usize)
+    ensures within { result.1 ≤ length units.now }
+    ensures some { 0 < length units.now → 0 < result.1 }
+    ensures word { result.1 ≤ 64 }
+    ensures bits { result.0 ≡ mask_l (map is_separator (take result.1 units.now)) }
+{
+    if BLOCK <= units.len() {
+        return (see_first::<BLOCK>(units), BLOCK);
+    }
+    if SMALL_BLOCK <= units.len() {
+        return (see_first::<SMALL_BLOCK>(units), SMALL_BLOCK);
+    }
+    (see_few(units), units.len())
+}
+
+/// The separators of units that are still to come. In contracts they are `places_left` of it.
+#[derive(Clone, Copy)]
+pub(crate) struct Separators<'a> {
+    /// The places of the first ones, where they are known.
+    known: &'a [usize],
+
+    /// The units in which the others stand, from `start` on.
+    units: &'a [u16],
+    start: usize,
+
+    /// A bit for each unit from `start` up to `end`; the first is the lowest.
+    bits: u64,
+    end: usize,
+    pub ghost ordered: { start ≤ end },
+    pub ghost within: { end ≤ length units.now },
+    pub ghost word: { end - start ≤ 64 },
+    pub ghost seen: { bits ≡ mask_l (map is_separator (slice_range units.now start end)) },
+}
+
+impl<'a> Separators<'a> {
+    ghost use Rattle.uefi_path.specs.SeparatorsLeft.{places_left};
+
+    /// Those of units from a place on.
+    pub(crate) fn of(units: &'a [u16], start: usize) -> Separators<'a>
+        requires { start ≤ length units.now }
+        ensures { places_left result ≡ places_from start (drop start units.now) }
+    {
+        Separators {
+            known: &[],
+            units,
+            start,
+            bits: 0,
+            end: start,
+        }
+    }
+
+    /// Those at known places.
+    pub(crate) fn at(known: &'a [usize]) -> Separators<'a>
+        ensures { places_left result ≡ known.now }
+    {
+        Separators {
+            known,
+            units: &[],
+            start: 0,
+            bits: 0,
+            end: 0,
+        }
+    }
+
+    /// The same ones, once the next units are looked at, where no bit is set.
+    #[inline(always)]
+    fn look_on(self) -> Separators<'a>
+        requires none { self.bits ≡ 0 }
+        requires more { self.end < length self.units.now }
+        ensures same { places_left result ≡ places_left self.entry }
+        ensures known { result.known.now ≡ self.entry.known.now }
+        ensures units { result.units.now ≡ self.entry.units.now }
+        ensures further { self.entry.end < result.end }
+    {
+        let (bits, count) = see(&self.units[self.end..]);
+        Separators {
+            known: self.known,
+            units: self.units,
+            start: self.end,
+            bits,
+            end: self.end + count,
+        }
+    }
+
+    /// The place of the lowest bit, and the separators after it.
+    #[inline(always)]
+    fn take_lowest(self) -> (usize, Separators<'a>)
+        requires some { 0 < self.bits }
+        requires none_known { self.known.now ≡ [] }
+        ensures { places_left self.entry ≡ result.0 ∷ places_left result.1 }
+    {
+        let gap = self.bits.trailing_zeros();
+        let place = self.start + gap as usize;
+        let after = Separators {
+            known: self.known,
+            units: self.units,
+            start: place + 1,
+            bits: self.bits >> gap >> 1,
+            end: self.end,
+        };
+        (place, after)
+    }
+
+    /// The place of the next one.
+    #[inline(always)]
+    pub(crate) fn next(&mut self) -> Option<usize>
+        ensures next { places_left self.old ≡ option_to_list result ++ places_left self.new }
+        ensures end { IsNone result → places_left self.new ≡ [] }
+    {
+        if !self.known.is_empty() {
+            let place = self.known[0];
+            self.known = &self.known[1..];
+            return Some(place);
+        }
+        let mut left = *self;
+        while left.bits == 0 {
+            if left.end == left.units.len() {
+                *self = left;
+                return None;
+            }
+            left = left.look_on();
+        }
+        let (place, after) = left.take_lowest();
+        *self = after;
+        Some(place)
+    }
+}
+
+/// Adds the places of the separators that units have from `start` on, for which there is room.
+#[inline(always)]
+pub(crate) fn add_places<A: Allocator>(places: &mut Vec<usize, A>, units: &[u16], start: usize)
+    requires within { start ≤ length units.now }
+    requires room { vec_len places.now + length (places_from start (drop start units.now))
+        ≤ vec_capacity places.now }
+    ensures { places.new.items ≡ places.old.items ++ places_from start (drop start units.now) }
+{
+    let mut separators = Separators::of(units, start);
+    while let Some(place) = separators.next() {
+        places.push_reserved(place);
+    }
+}
+
+/// Where the last piece of units begins.
+fn last_start(units: &[u16]) -> usize
+    ensures within { result ≤ length units.now }
+    ensures piece { IsPiece (drop result units.now) }
+    ensures after { 0 < result → slice_index units.now (result - 1) ≡ separator }
+{
+    let mut start = units.len();
+    while 0 < start && units[start - 1] != u16::from(SEPARATOR) {
+        start -= 1;
+    }
+    start
+}
+
+/// What stands before the last piece of a text, if anything does, and that piece.
+pub(crate) fn cut_last(text: Char16Slice<'_>) -> (Option<Char16Slice<'_>>, Char16Slice<'_>)
+    ensures pieces { slice_split is_separator (units_of text.entry)
+        ≡ pieces_left result.0 ++ units_of result.1 ∷ [] }
+    ensures shorter { are_left result.0 + length (units_of result.1) ≤ length (units_of text.entry) }
+    ensures first { IfSome result.0 (λ front. units_of front ≡ take (are_left result.0) (units_of text.entry)) }
+{
+    let start = last_start(text.units());
+    let last = text.part(start, text.len());
+    if start == 0 {
+        return (None, last);
+    }
+    (Some(text.part(0, start - 1)), last)
+}
