@@ -36,13 +36,6 @@ fn count_components<A: Allocator + Copy>(path: &PathBuf<A>) -> usize
     path.components().count()
 }
 
-/// Whether a path has a parent: it has two components or more.
-fn has_parent<A: Allocator + Copy>(path: &PathBuf<A>) -> bool
-    ensures { result ≡ is_some (parent_text path.now) }
-{
-    path.components().nth(1).is_some()
-}
-
 /// Adds a line for each component of a path.
 fn add_component_lines<A: Allocator + Copy>(
     output: &mut Vec<u8, A>,
@@ -177,8 +170,9 @@ impl<A: Allocator + Copy> Run<A> {
         ensures output { OnOk result
             (self.new.output.items ≡ self.old.output.items ++ printed_by (join_text text.now) self.old.path) }
     {
+        // Of the path between the lines a join is a push: nothing else keeps the path before it.
         match self.read_text(text)? {
-            Some(string) => self.edit(PathCommand::Join(Path::new(string.as_cstr16()))),
+            Some(string) => self.edit(PathCommand::Push(Path::new(string.as_cstr16()))),
             None => Ok(()),
         }
     }
@@ -189,10 +183,12 @@ impl<A: Allocator + Copy> Run<A> {
         ensures output { OnOk result
             (self.new.output.items ≡ self.old.output.items ++ printed_by parent_path self.old.path) }
     {
-        if has_parent(&self.path) {
-            self.edit(PathCommand::Parent)
-        } else {
-            add_line(&mut self.output, "none")
+        match self.path.parent()? {
+            Some(parent) => {
+                self.path = parent;
+                self.print_path()
+            }
+            None => add_line(&mut self.output, "none"),
         }
     }
 
