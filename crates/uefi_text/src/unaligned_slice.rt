@@ -48,11 +48,8 @@ const TESTED: usize = 64;
 /// shares: so the compiler makes one call of `memmove` for each block, and leaves the block out.
 const COPIED: usize = 4096;
 
-/// As many items and fewer are copied through a block of this length, which a compiler that does not
-/// leave it out fills sooner.
-const COPIED_AT_ONCE: usize = 1024;
-
-/// Fewer items than these become a vector without a call, which costs more than it saves.
+/// So few items are copied one by one, or through a block as long: a call of `memmove` costs more than it
+/// saves.
 const FEW_ITEMS: usize = 64;
 
 /// A view of items that lie packed in borrowed bytes, which may begin at any address. A contract
@@ -108,58 +105,6 @@ fn read_block<T: Packed>(bytes: &[u8], block: &mut [T], dest: &mut [T])
     dest.copy_from_slice(items);
 }
 
-/// Writes `N` items of bytes to the places from `start` on, through a block of their own: so they are
-/// read and written some at a time.
-#[inline(always)]
-fn read_few<T: Packed, const N: usize>(bytes: &[u8], dest: &mut [T], start: usize, first: T)
-    requires fits { length dest.old * T.SIZE ≤ length bytes.now }
-    requires places { start + N ≤ length dest.old }
-    requires block { N ≤ 1024 }
-    ensures items { map T.number (take (start + N) dest.new) ≡ map T.number (take start dest.old)
-        ++ slice_range (packed_items T.SIZE (length dest.old) bytes.now) start (start + N) }
-    ensures len { length dest.new ≡ length dest.old }
-{
-    let mut block = [first; N];
-    read_items(&bytes[start * T::SIZE..], &mut block);
-    dest[start..start + N].copy_from_slice(&block);
-}
-
-/// Writes the items that bytes begin with, as many as there are places, which are `N` up to twice `N`:
-/// the first `N` and the last `N`. Those that are among both are written twice.
-#[inline(always)]
-fn read_ends<T: Packed, const N: usize>(bytes: &[u8], dest: &mut [T], first: T)
-    requires fits { length dest.old * T.SIZE ≤ length bytes.now }
-    requires places { (N ≤ length dest.old) × (length dest.old ≤ 2 * N) }
-    requires block { N ≤ 1024 }
-    ensures { map T.number dest.new ≡ packed_items T.SIZE (length dest.old) bytes.now }
-{
-    read_few::<T, N>(bytes, dest, 0, first);
-    read_few::<T, N>(bytes, dest, dest.len() - N, first);
-}
-
-/// Writes the items that bytes begin with, as many as there are places, at most a block: at once, or
-/// where they are few without a call, which costs more than it saves.
-#[inline(always)]
-fn read_some<T: Packed>(bytes: &[u8], dest: &mut [T])
-    requires fits { length dest.old * T.SIZE ≤ length bytes.now }
-    requires block { length dest.old ≤ 1024 }
-    ensures items { map T.number dest.new ≡ packed_items T.SIZE (length dest.old) bytes.now }
-    ensures len { length dest.new ≡ length dest.old }
-{
-    if dest.len() < 4 {
-        read_items(bytes, dest);
-        return;
-    }
-    let first = T::read_le(&bytes[..T::SIZE]);
-    match dest.len() {
-        ..=8 => read_ends::<T, 4>(bytes, dest, first),
-        9..=16 => read_ends::<T, 8>(bytes, dest, first),
-        17..=32 => read_ends::<T, 16>(bytes, dest, first),
-        33..=64 => read_ends::<T, 32>(bytes, dest, first),
-        _ => read_block(bytes, &mut [first; COPIED_AT_ONCE], dest),
-    }
-}
-
 /// Writes the items that bytes begin with, as many as there are places, a block at a time. A copy of
 /// fewer items saves no registers for it.
 #[inline(never)]
@@ -206,54 +151,6 @@ fn push_block<T: Packed, A: Allocator>(bytes: &[u8], block: &mut [T], items: &mu
 {
     read_items(bytes, block);
     push_all(items, block);
-}
-
-/// Appends the next `N` of the first `len` items of bytes to a vector that has room for them, if so
-/// many are left.
-#[inline(always)]
-fn push_next<T: Packed, A: Allocator, const N: usize>(
-    bytes: &[u8],
-    len: usize,
-    first: T,
-    items: &mut Vec<T, A>,
-)
-    requires fits { len * T.SIZE ≤ length bytes.now }
-    requires room { len ≤ vec_capacity items.old }
-    requires block { N ≤ 1024 }
-    requires within { vec_len items.old ≤ len }
-    requires so_far { map T.number items.old.items
-        ≡ take (vec_len items.old) (packed_items T.SIZE len bytes.now) }
-    ensures within { vec_len items.new ≤ len }
-    ensures so_far { map T.number items.new.items
-        ≡ take (vec_len items.new) (packed_items T.SIZE len bytes.now) }
-    ensures left { len < vec_len items.old + 2 * N → len < vec_len items.new + N }
-    ensures capacity { vec_capacity items.new ≡ vec_capacity items.old }
-{
-    let start = items.len();
-    if N <= len - start {
-        push_block(&bytes[start * T::SIZE..], &mut [first; N], items);
-    }
-}
-
-/// Appends the first `len` items of bytes, fewer than [`FEW_ITEMS`], to an empty vector that has room for
-/// them: each piece half as long as the one before.
-fn push_few<T: Packed, A: Allocator>(bytes: &[u8], len: usize, items: &mut Vec<T, A>)
-    requires few { len < 64 }
-    requires fits { len * T.SIZE ≤ length bytes.now }
-    requires room { len ≤ vec_capacity items.old }
-    requires empty { vec_len items.old ≡ 0 }
-    ensures { map T.number items.new.items ≡ packed_items T.SIZE len bytes.now }
-{
-    if len == 0 {
-        return;
-    }
-    let first = T::read_le(&bytes[..T::SIZE]);
-    push_next::<T, A, 32>(bytes, len, first, items);
-    push_next::<T, A, 16>(bytes, len, first, items);
-    push_next::<T, A, 8>(bytes, len, first, items);
-    push_next::<T, A, 4>(bytes, len, first, items);
-    push_next::<T, A, 2>(bytes, len, first, items);
-    push_next::<T, A, 1>(bytes, len, first, items);
 }
 
 /// Appends the first `len` items of bytes to a vector that has room for them, a block at a time.
@@ -407,8 +304,8 @@ impl<'a, T: Packed> UnalignedSlice<'a, T> {
         requires { length dest.old ≡ length (items_of self.now) }
         ensures { map T.number dest.new ≡ items_of self.now }
     {
-        if dest.len() <= COPIED_AT_ONCE {
-            read_some(self.bytes, dest);
+        if dest.len() <= FEW_ITEMS {
+            read_items(self.bytes, dest);
         } else {
             read_blocks(self.bytes, dest);
         }
@@ -420,11 +317,13 @@ impl<'a, T: Packed> UnalignedSlice<'a, T> {
         ensures { IfOk result (λ items. map T.number items.items ≡ items_of self.now) }
     {
         let mut items = Vec::with_capacity(alloc, self.len)?;
-        if self.len < FEW_ITEMS {
-            push_few(self.bytes, self.len, &mut items);
+        let Some(first) = self.get(0) else {
+            return Ok(items);
+        };
+        if self.len <= FEW_ITEMS {
+            push_blocks(self.bytes, self.len, &mut [first; FEW_ITEMS], &mut items);
         } else {
-            let mut block = [self.item(0); COPIED];
-            push_blocks(self.bytes, self.len, &mut block, &mut items);
+            push_blocks(self.bytes, self.len, &mut [first; COPIED], &mut items);
         }
         Ok(items)
     }
