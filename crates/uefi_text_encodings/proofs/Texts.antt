@@ -1,5 +1,5 @@
 -- Texts, as characters and as code units, and the strings that they are stored as.
-use Rattle.std.proofs.Common.{◌≡◌, ◌↔◌, ℕ, ◌-◌, ◌≤◌, ◌≢◌, true, false, List, [], ◌∷◌, ◌++◌, length, map, None, Option, Some, All, arith, sym, ◌∙◌, ap, refl, subst, ◌==◌, if◌then◌else◌, set, append_assoc, take, drop}
+use Rattle.std.proofs.Common.{Bool, false, ◌≡◌, ◌↔◌, ℕ, ◌-◌, ◌≤◌, ◌≢◌, true, false, List, [], ◌∷◌, ◌++◌, length, map, None, Option, Some, All, arith, sym, ◌∙◌, ap, refl, subst, ◌==◌, if◌then◌else◌, set, append_assoc, take, drop}
 use Rattle.std.specs.List.{find}
 use Rattle.std.specs.Option.{SomeIff}
 use Rattle.std.specs.Str.{chars, IsUtf8}
@@ -14,6 +14,11 @@ use Rattle.uefi_text_encodings.specs.Units.{replaced, IsText, IsTextUnit, IsStri
 use Rattle.std.specs.Char.{IsScalar}
 use Rattle.uefi_text_encodings.specs.FromStr.{from_str_refusal, is_deciding_char, refusal_of_char}
 
+-- where nothing is found among all elements, none of them passes
+find-none_at : (p : ℕ → Bool) (xs : List ℕ) (y : ℕ) (ys : List ℕ) → find p (xs ++ y ∷ ys) ≡ None → p y ≡ false
+find-none_at p [] y ys none = grind (arith, common_steps)
+find-none_at p (x ∷ xs) y ys none = let rest : find p (xs ++ y ∷ ys) ≡ None = grind (arith, common_steps) in find-none_at p xs y ys rest
+
 -- one more character was read
 pub chars_step : (read rest new_rest : List ℕ) (c : ℕ) (all : List ℕ) → IsUtf8 rest → rest ≡ encode_utf8 c ++ new_rest
     → read ++ chars rest ≡ all → (read ++ c ∷ []) ++ chars new_rest ≡ all
@@ -24,6 +29,15 @@ chars_step read rest new_rest c all utf8 e so_far =
 pub chars_end : (read rest all : List ℕ) → length rest ≡ 0 → read ++ chars rest ≡ all → read ≡ all
 chars_end read rest all none so_far =
     let end : chars rest ≡ [] = ap chars (nil_from_length rest none) ∙ chars-nil in
+    grind (arith, common_steps)
+
+-- where none of all is refused, each that was read is a code unit
+pub char_fits : (read rest new_rest : List ℕ) (c : ℕ) (all : List ℕ) → IsUtf8 rest → rest ≡ encode_utf8 c ++ new_rest
+    → read ++ chars rest ≡ all → find is_deciding_char all ≡ None → c ≤ 0xffff
+char_fits read rest new_rest c all utf8 e so_far none =
+    let here : find is_deciding_char (read ++ c ∷ chars new_rest) ≡ None =
+    ap (λ cs. find is_deciding_char (read ++ cs)) (sym (chars_past_char rest new_rest c utf8 e)) ∙ ap (find is_deciding_char) so_far ∙ none in
+    let undecided = find-none_at is_deciding_char read c (chars new_rest) here in
     grind (arith, common_steps)
 
 pub without_nul-nul_terminated : (text : List ℕ) → without_nul (nul_terminated text) ≡ text

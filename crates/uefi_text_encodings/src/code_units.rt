@@ -1,6 +1,6 @@
 //! Code units of Rust texts: in a vector, where the text is one of UCS-2, or in a buffer; and compared
 //! with others. Characters are decoded one by one, or eight at a time where each has three bytes.
-ghost use Rattle.std.specs.Prelude.{All, IsTrue, ◌≢◌, ◌∷◌, ◌≡◌, ◌+◌, ◌<◌, ◌≤◌, ◌++◌, if◌then◌else◌, None, Some, drop, find, length, take, unwrap_or, IfOk, IfErr, IfSome};
+ghost use Rattle.std.specs.Prelude.{All, IsTrue, ◌↔◌, ◌≢◌, ◌∷◌, ◌≡◌, ◌+◌, ◌<◌, ◌≤◌, ◌++◌, if◌then◌else◌, None, Some, drop, find, length, take, unwrap_or, IfOk, IfErr, IfSome};
 ghost use Rattle.std.specs.Option.{SomeIff};
 ghost use Rattle.std.specs.Vec.{vec_len, vec_capacity};
 ghost use Rattle.std.specs.Char.Escape.{encode_utf16};
@@ -20,6 +20,13 @@ fn find_deciding_char(text: &str) -> Option<char>
     ensures { result ≡ find is_deciding_char (chars text.now) }
 {
     text.chars().find(|c| *c == '\0' || *c > '\u{ffff}')
+}
+
+/// Whether none of the characters of a text is refused. No byte is decoded.
+fn is_undecided(text: &str) -> bool
+    ensures { IsTrue result ↔ (find is_deciding_char (chars text.now) ≡ None) }
+{
+    !has_deciding_byte(text.as_bytes())
 }
 
 /// How many characters a text has of which none is refused; `None` exactly for other texts. Bytes are
@@ -59,40 +66,32 @@ fn units_of_ascii<A: Allocator>(alloc: A, bytes: &[u8]) -> Result<Vec<u16, A>, A
     Ok(units)
 }
 
-/// Texts of fewer bytes get room for as many units as they have bytes: to count their characters costs
-/// more.
-const FEW: usize = 32;
-
-/// How many units are room enough for a text of UCS-2 without its NUL, and for all but short texts just
-/// enough; `None` exactly for other texts.
-fn room_for(text: &str) -> Option<usize>
-    ensures some { IfSome result (λ room. (length (chars text.now) ≤ room) × (room ≤ length text.now)
-        × (find is_deciding_char (chars text.now) ≡ None)) }
-    ensures none { result ≡ None → ¬ (find is_deciding_char (chars text.now) ≡ None) }
-{
-    if FEW <= text.len() {
-        return undecided_len(text);
-    }
-    if has_deciding_byte(text.as_bytes()) {
-        return None;
-    }
-    Some(text.len())
-}
-
-/// The units of a text of UCS-2 and a NUL, in a vector that gets this much room.
-fn units_of_chars<A: Allocator>(
-    alloc: A,
-    text: &str,
-    room: usize,
-) -> Result<Vec<u16, A>, AllocError>
+/// The units of a text of UCS-2, which has `len` characters, and a NUL.
+fn units_of_chars<A: Allocator>(alloc: A, text: &str, len: usize) -> Result<Vec<u16, A>, AllocError>
     requires undecided { find is_deciding_char (chars text.now) ≡ None }
-    requires room { length (chars text.now) < room }
+    requires len { length (chars text.now) ≡ len }
     ensures { IfOk result (λ units. units.items ≡ nul_terminated (chars text.now)) }
 {
     let mut units = Vec::new(alloc);
-    units.resize(room, 0)?;
-    let len = write_chars(text, &mut units).unwrap_or(0);
-    units.truncate(len);
+    units.resize(len + 1, 0)?;
+    let _len = write_chars(text, &mut units);
+    Ok(units)
+}
+
+/// Texts of fewer bytes get room for as many units as they have bytes, into which each character is pushed:
+/// to count them, and to fill the room first, costs more.
+const FEW: usize = 32;
+
+/// The units of a text of UCS-2 of few bytes, and a NUL.
+fn units_of_few_chars<A: Allocator>(alloc: A, text: &str) -> Result<Vec<u16, A>, AllocError>
+    requires { find is_deciding_char (chars text.now) ≡ None }
+    ensures { IfOk result (λ units. units.items ≡ nul_terminated (chars text.now)) }
+{
+    let mut units = Vec::with_capacity(alloc, text.len() + 1)?;
+    for character in text.chars() {
+        units.push_reserved(character as u16);
+    }
+    units.push_reserved(0);
     Ok(units)
 }
 
@@ -213,10 +212,13 @@ pub fn units_of_text<A: Allocator>(alloc: A, text: &str) -> Result<Vec<u16, A>, 
     if is_ascii_text(text.as_bytes()) {
         return units_of_ascii(alloc, text.as_bytes()).map_err(|_| FromStrError::OutOfMemory);
     }
-    let Some(room) = room_for(text) else {
+    if text.len() < FEW && is_undecided(text) {
+        return units_of_few_chars(alloc, text).map_err(|_| FromStrError::OutOfMemory);
+    }
+    let Some(len) = undecided_len(text) else {
         return Err(refusal_of_text(text));
     };
-    units_of_chars(alloc, text, room + 1).map_err(|_| FromStrError::OutOfMemory)
+    units_of_chars(alloc, text, len).map_err(|_| FromStrError::OutOfMemory)
 }
 
 /// Writes a Rust text and a NUL into the prefix of a buffer, and returns how many units they are:
