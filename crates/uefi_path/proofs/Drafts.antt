@@ -192,7 +192,7 @@ made_shorter (p ∷ q ∷ ps) are =
     omega (
       arith,
       length-map text (replaced slash separator),
-      parent_of_components-shorter (p ∷ q ∷ ps) (with_separators text) (parent_made (p ∷ q ∷ ps) are (omega arith)),
+      parent_of_components-shorter (p ∷ q ∷ ps) (with_separators text) are (parent_made (p ∷ q ∷ ps) are (omega arith)),
     )
 
 -- a buffer that begins with it
@@ -230,7 +230,7 @@ is_made (p ∷ q ∷ ps) len texts are known =
       parent = text;
       is = refl;
       long = sym long;
-      shorter = omega (arith, long, parent_of_components-shorter (p ∷ q ∷ ps) text refl);
+      shorter = omega (arith, long, parent_of_components-shorter (p ∷ q ∷ ps) text are refl);
       is_text =
           IsText-with_separators kept
           (All-rejoined IsTextUnit (all_but_last (p ∷ q ∷ ps)) (omega arith, (omega arith, λ high. omega (arith, high.0)))
