@@ -1,15 +1,16 @@
 -- How large a parent is: it is shorter than its path, and has at least one component fewer.
-use Rattle.std.proofs.Common.{◌≡◌, ℕ, ◌+◌, ◌<◌, ◌≤◌, List, [], ◌∷◌, ◌++◌, length, All, Bool, true, false, if◌then◌else◌, Some, ap, subst, ◌∙◌, arith}
-use Rattle.std.specs.List.{fold, slice_split}
+use Rattle.std.proofs.Common.{◌≡◌, ℕ, ◌+◌, ◌<◌, ◌≤◌, List, [], ◌∷◌, ◌++◌, length, All, Bool, true, false, if◌then◌else◌, Some, ap, subst, arith}
+use Rattle.std.specs.List.{fold}
+use Rattle.std.proofs.lemmas.List.Elements.{All-filter}
 use Rattle.uefi_path.specs.Pushing.{appended, needs_separator}
 use Rattle.std.proofs.lemmas.Grind.{common_steps}
 use Rattle.std.proofs.lemmas.List.{length-append}
 use Rattle.std.proofs.lemmas.Option.{same_Some}
-use Rattle.uefi_path.specs.Components.{IsPiece, components_of, joined, pieces_between}
-use Rattle.uefi_path.specs.Parents.{parent_text, parent_of_components, all_but_last, ends_empty, non_empty, joined_with_end, rejoined}
-use Rattle.uefi_path.specs.Separators.{IsPlain, canonical, is_separator, separator}
-use Rattle.uefi_path.proofs.ParentForm.{parent_text-plain, prefix_with_end, length-all_but_last, split_with_end}
-use Rattle.uefi_path.proofs.Parents.{All-IsPiece-non_empty, All-all_but_last, All-non_empty, IsFull, rejoined-added}
+use Rattle.uefi_path.specs.Components.{IsPiece, components_of, joined}
+use Rattle.uefi_path.specs.Parents.{is_non_empty, parent_text, parent_of_components, all_but_last, ends_empty, non_empty, joined_with_end, rejoined}
+use Rattle.uefi_path.specs.Separators.{IsPlain, canonical, separator}
+use Rattle.uefi_path.proofs.ParentForm.{components_with_end, parent_text-plain, length-all_but_last}
+use Rattle.uefi_path.proofs.Parents.{All-all_but_last, All-non_empty, IsFull, rejoined-added}
 use Rattle.uefi_path.proofs.Splitting.{AreComponents-components_of, IsPlain-with_separators}
 
 -- how many units pieces take with a separator after each
@@ -74,11 +75,6 @@ abbrev pieces_of_end : Bool → ℕ
 pieces_of_end true = 1
 pieces_of_end false = 0
 
-count-pieces_between : (us : List ℕ)
-    → length (pieces_between us) ≤ length (slice_split is_separator us)
-count-pieces_between [] = omega arith
-count-pieces_between (u ∷ us) = omega arith
-
 count-end : (ps : List (List ℕ)) (ends : Bool)
     → length (ps ++ (if ends then [] ∷ [] else [])) ≡ length ps + pieces_of_end ends
 count-end ps true = length-append ps ([] ∷ [])
@@ -88,10 +84,7 @@ count-with_end : (ns : List (List ℕ)) (ends : Bool) → All IsPiece ns → All
     → length (components_of (joined_with_end ns ends)) ≤ length ns + pieces_of_end ends
 count-with_end [] ends pieces full = omega arith
 count-with_end (n ∷ ns) ends pieces full =
-    let text = joined_with_end (n ∷ ns) ends in
-    let front = ap (λ us. length (pieces_between us)) (prefix_with_end (n ∷ ns) ends pieces full) in
-    let split = ap length (split_with_end n ns ends pieces) ∙ count-end (n ∷ ns) ends in
-    omega (arith, front, count-pieces_between text, split)
+    omega (arith, ap length (components_with_end n ns ends pieces full), count-end (n ∷ ns) ends)
 
 count-non_empty : (ps : List (List ℕ))
     → length (non_empty ps) + pieces_of_end (ends_empty ps) ≤ length ps
@@ -104,7 +97,7 @@ count-non_empty ((u ∷ us) ∷ q ∷ ps) = omega (arith, count-non_empty (q ∷
 count-rejoined : (ps : List (List ℕ)) → All IsPiece ps
     → length (components_of (rejoined ps)) ≤ length ps
 count-rejoined ps pieces =
-    let parts = All-IsPiece-non_empty ps pieces in
+    let parts = All-filter is_non_empty IsPiece ps pieces in
     omega (
       arith,
       count-with_end (non_empty ps) (ends_empty ps) parts (All-non_empty ps),
