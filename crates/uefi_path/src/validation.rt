@@ -22,7 +22,7 @@ pub enum PathError {
     /// A component is empty.
     EmptyComponent,
 
-    /// A component holds this character of [`CHARACTER_DENY_LIST`](crate::CHARACTER_DENY_LIST).
+    /// A component holds this character of [`CHARACTER_DENY_LIST`].
     IllegalChar(Char16),
 
     /// A component `..` climbs above where the path starts: the components before it hold at least
@@ -133,8 +133,8 @@ fn find_refusal(path: Path<'_>) -> Option<PathError>
 ///
 /// The empty path is refused as `Empty`. The lone separator has no component and is accepted. An
 /// empty component is refused as `EmptyComponent`, one that holds a character of
-/// [`CHARACTER_DENY_LIST`](crate::CHARACTER_DENY_LIST) as `IllegalChar` of its first such, and a `..` as
-/// `ClimbsAboveRoot` where the components before it hold at least as many `..` as names. A `.` is no name.
+/// [`CHARACTER_DENY_LIST`] as `IllegalChar` of its first such, and a `..` as `ClimbsAboveRoot`
+/// where the components before it hold at least as many `..` as names. A `.` is no name.
 ///
 /// At most two passes over each component, which stop at the fault. Takes no memory.
 pub fn validate_path(path: Path<'_>) -> Result<(), PathError>
