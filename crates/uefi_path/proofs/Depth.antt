@@ -22,13 +22,14 @@ abbrev pub fault_from : List (List ℕ) → ℕ → Option PathError
 fault_from [] depth = None
 fault_from (c ∷ cs) depth = option_or (fault c) (fault_at_depth (depth_after (kind c) depth) (fault_from cs))
 
-names-push : (cs : List (List ℕ)) (c : List ℕ) → names (cs ++ c ∷ []) ≡ names cs + counted_name (kind c)
-names-push [] c = omega arith
-names-push (d ∷ cs) c = omega (arith, names-push cs c)
+names-push : (cs : List (List ℕ)) (c : List ℕ) {k : Kind} → kind c ≡ k → names (cs ++ c ∷ []) ≡ names cs + counted_name k
+names-push [] c e = omega (arith, ap counted_name e)
+names-push (d ∷ cs) c e = omega (arith, names-push cs c e)
 
-dot_dots-push : (cs : List (List ℕ)) (c : List ℕ) → dot_dots (cs ++ c ∷ []) ≡ dot_dots cs + counted_dot_dot (kind c)
-dot_dots-push [] c = omega arith
-dot_dots-push (d ∷ cs) c = omega (arith, dot_dots-push cs c)
+dot_dots-push : (cs : List (List ℕ)) (c : List ℕ) {k : Kind} → kind c ≡ k
+    → dot_dots (cs ++ c ∷ []) ≡ dot_dots cs + counted_dot_dot k
+dot_dots-push [] c e = omega (arith, ap counted_dot_dot e)
+dot_dots-push (d ∷ cs) c e = omega (arith, dot_dots-push cs c e)
 
 if_less : {T : Type 0} (m n : ℕ) (x y : T) → m < n → (if nat_lt m n then x else y) ≡ x
 if_less m n x y less = grind (arith, less)
@@ -44,22 +45,16 @@ module _ (before : List (List ℕ)) (c : List ℕ) (cs : List (List ℕ)) where
       → option_or (climbing_fault before k) (first_fault_after (before ++ c ∷ []) cs)
       ≡ fault_at_depth (depth_after k depth) (fault_from cs)
   at_kind Dot depth e counted more =
-      let n = names-push before c in let d = dot_dots-push before c in
-      let en = ap counted_name e in let ed = ap counted_dot_dot e in
-      more depth (omega (arith, counted, n, d, en, ed))
+      more depth (omega (arith, counted, names-push before c e, dot_dots-push before c e))
   at_kind DotDot zero e counted more =
       ap (λ o. option_or o (first_fault_after (before ++ c ∷ []) cs))
       (if_not_less (dot_dots before) (names before) None (Some ClimbsAboveRoot) (omega (arith, counted)))
   at_kind DotDot (suc depth) e counted more =
-      let n = names-push before c in let d = dot_dots-push before c in
-      let en = ap counted_name e in let ed = ap counted_dot_dot e in
       ap (λ o. option_or o (first_fault_after (before ++ c ∷ []) cs))
       (if_less (dot_dots before) (names before) None (Some ClimbsAboveRoot) (omega (arith, counted)))
-      ∙ more depth (omega (arith, counted, n, d, en, ed))
+      ∙ more depth (omega (arith, counted, names-push before c e, dot_dots-push before c e))
   at_kind Name depth e counted more =
-      let n = names-push before c in let d = dot_dots-push before c in
-      let en = ap counted_name e in let ed = ap counted_dot_dot e in
-      more (depth + 1) (omega (arith, counted, n, d, en, ed))
+      more (depth + 1) (omega (arith, counted, names-push before c e, dot_dots-push before c e))
 
   at_fault : (o : Option PathError) (depth : ℕ) → names before ≡ dot_dots before + depth
       → ((left : ℕ) → names (before ++ c ∷ []) ≡ dot_dots (before ++ c ∷ []) + left
@@ -113,26 +108,49 @@ none_from (c ∷ cs) depth good stays =
     (All-head IsGood c cs good)
     ∙ none_at cs (λ left. none_from cs left (All-tail IsGood c cs good)) (depth_after (kind c) depth) stays
 
+-- components stay exactly where none of them climbs
+abbrev NoneClimbsAbove : List (List ℕ) → ℕ → Type 0
+NoneClimbsAbove cs depth = (place : ℕ) → slice_get cs place ≡ Some dot_dot
+    → names (take place cs) + depth ≤ dot_dots (take place cs) → ⊥
+
+module _ (c : List ℕ) (cs : List (List ℕ)) (rest : (depth : ℕ) → NoneClimbsAbove cs depth → Stays cs depth) where
+  stays_where : (k : Kind) (depth : ℕ) → kind c ≡ k → NoneClimbsAbove (c ∷ cs) depth
+      → stays_at (depth_after k depth) (Stays cs)
+  stays_where Dot depth e none =
+      rest depth (λ place up more. none (suc place) up (omega (arith, ap counted_name e, ap counted_dot_dot e, more)))
+  stays_where DotDot zero e none = none 0 (ap Some (kind-DotDot c e)) (omega arith)
+  stays_where DotDot (suc depth) e none =
+      rest depth (λ place up more. none (suc place) up (omega (arith, ap counted_name e, ap counted_dot_dot e, more)))
+  stays_where Name depth e none =
+      rest (depth + 1) (λ place up more. none (suc place) up (omega (arith, ap counted_name e, ap counted_dot_dot e, more)))
+
+stays_none : (cs : List (List ℕ)) (depth : ℕ) → NoneClimbsAbove cs depth → Stays cs depth
+stays_none [] depth none = tt
+stays_none (c ∷ cs) depth none = stays_where c cs (stays_none cs) (kind c) depth refl none
+
+module _ (c : List ℕ) (cs : List (List ℕ)) (rest : (depth : ℕ) → Stays cs depth → NoneClimbsAbove cs depth) where
+  none_where : (k : Kind) (depth : ℕ) → kind c ≡ k → stays_at (depth_after k depth) (Stays cs)
+      → NoneClimbsAbove (c ∷ cs) depth
+  none_where Dot depth e stays zero up more = let k = ap kind (same_Some c dot_dot up) in cc
+  none_where Dot depth e stays (suc place) up more =
+      rest depth stays place up (omega (arith, ap counted_name e, ap counted_dot_dot e, more))
+  none_where DotDot zero e stays place up more = absurd stays
+  none_where DotDot (suc depth) e stays zero up more = absurd (omega (arith, more))
+  none_where DotDot (suc depth) e stays (suc place) up more =
+      rest depth stays place up (omega (arith, ap counted_name e, ap counted_dot_dot e, more))
+  none_where Name depth e stays zero up more = let k = ap kind (same_Some c dot_dot up) in cc
+  none_where Name depth e stays (suc place) up more =
+      rest (depth + 1) stays place up (omega (arith, ap counted_name e, ap counted_dot_dot e, more))
+
+none_stays : (cs : List (List ℕ)) (depth : ℕ) → Stays cs depth → NoneClimbsAbove cs depth
+none_stays [] depth stays place up more = cc
+none_stays (c ∷ cs) depth stays place up more =
+    none_where c cs (none_stays cs) (kind c) depth refl stays place up more
+
 -- they stay also where more names are left before them
-module _ (cs : List (List ℕ)) (rest : (depth : ℕ) → Stays cs depth → Stays cs (depth + 1)) where
-  deeper_at : (k : Kind) (depth : ℕ) → stays_at (depth_after k depth) (Stays cs)
-      → stays_at (depth_after k (depth + 1)) (Stays cs)
-  deeper_at Dot depth stays = rest depth stays
-  deeper_at DotDot zero stays = absurd stays
-  deeper_at DotDot (suc depth) stays =
-      let more : suc (depth + 1) ≡ suc depth + 1 = omega arith in
-      subst (λ left. stays_at (depth_after DotDot left) (Stays cs)) more (rest depth stays)
-  deeper_at Name depth stays = rest (depth + 1) stays
-
-deeper : (cs : List (List ℕ)) (depth : ℕ) → Stays cs depth → Stays cs (depth + 1)
-deeper [] depth stays = tt
-deeper (c ∷ cs) depth stays = deeper_at cs (deeper cs) (kind c) depth stays
-
 pub stays_anywhere : (cs : List (List ℕ)) (depth : ℕ) → Stays cs 0 → Stays cs depth
-stays_anywhere cs zero stays = stays
-stays_anywhere cs (suc depth) stays =
-    let more : depth + 1 ≡ suc depth = omega arith in
-    subst (Stays cs) more (deeper cs depth (stays_anywhere cs depth stays))
+stays_anywhere cs depth stays =
+    stays_none cs depth (λ place up more. none_stays cs 0 stays place up (omega (arith, more)))
 
 -- and where others stand after them that stay anywhere, or only those but the last are left
 module _ (cs ds : List (List ℕ)) (rest : (depth : ℕ) → Stays cs depth → Stays ds depth) where
@@ -218,51 +236,7 @@ all_names (c ∷ cs) begins = at (kind c) refl begins
 pub names_of_normal : (cs : List (List ℕ)) → Stays cs 0 → All IsName (normal_of cs)
 names_of_normal cs stays = all_names (normal_of cs) (begins_normal cs 0 stays)
 
--- components stay exactly where none of them climbs
-abbrev NoneClimbsAbove : List (List ℕ) → ℕ → Type 0
-NoneClimbsAbove cs depth = (place : ℕ) → slice_get cs place ≡ Some dot_dot
-    → names (take place cs) + depth ≤ dot_dots (take place cs) → ⊥
-
-module _ (c : List ℕ) (cs : List (List ℕ)) (rest : (depth : ℕ) → NoneClimbsAbove cs depth → Stays cs depth) where
-  stays_where : (k : Kind) (depth : ℕ) → kind c ≡ k → NoneClimbsAbove (c ∷ cs) depth
-      → stays_at (depth_after k depth) (Stays cs)
-  stays_where Dot depth e none =
-      let n = ap counted_name e in let d = ap counted_dot_dot e in
-      rest depth (λ place up more. none (suc place) up (omega (arith, n, d, more)))
-  stays_where DotDot zero e none = none 0 (ap Some (kind-DotDot c e)) (omega arith)
-  stays_where DotDot (suc depth) e none =
-      let n = ap counted_name e in let d = ap counted_dot_dot e in
-      rest depth (λ place up more. none (suc place) up (omega (arith, n, d, more)))
-  stays_where Name depth e none =
-      let n = ap counted_name e in let d = ap counted_dot_dot e in
-      rest (depth + 1) (λ place up more. none (suc place) up (omega (arith, n, d, more)))
-
-stays_none : (cs : List (List ℕ)) (depth : ℕ) → NoneClimbsAbove cs depth → Stays cs depth
-stays_none [] depth none = tt
-stays_none (c ∷ cs) depth none = stays_where c cs (stays_none cs) (kind c) depth refl none
-
-module _ (c : List ℕ) (cs : List (List ℕ)) (rest : (depth : ℕ) → Stays cs depth → NoneClimbsAbove cs depth) where
-  none_where : (k : Kind) (depth : ℕ) → kind c ≡ k → stays_at (depth_after k depth) (Stays cs)
-      → NoneClimbsAbove (c ∷ cs) depth
-  none_where Dot depth e stays zero up more = let k = ap kind (same_Some c dot_dot up) in cc
-  none_where Dot depth e stays (suc place) up more =
-      let n = ap counted_name e in let d = ap counted_dot_dot e in
-      rest depth stays place up (omega (arith, n, d, more))
-  none_where DotDot zero e stays place up more = absurd stays
-  none_where DotDot (suc depth) e stays zero up more = absurd (omega (arith, more))
-  none_where DotDot (suc depth) e stays (suc place) up more =
-      let n = ap counted_name e in let d = ap counted_dot_dot e in
-      rest depth stays place up (omega (arith, n, d, more))
-  none_where Name depth e stays zero up more = let k = ap kind (same_Some c dot_dot up) in cc
-  none_where Name depth e stays (suc place) up more =
-      let n = ap counted_name e in let d = ap counted_dot_dot e in
-      rest (depth + 1) stays place up (omega (arith, n, d, more))
-
-none_stays : (cs : List (List ℕ)) (depth : ℕ) → Stays cs depth → NoneClimbsAbove cs depth
-none_stays [] depth stays place up more = cc
-none_stays (c ∷ cs) depth stays place up more =
-    none_where c cs (none_stays cs) (kind c) depth refl stays place up more
-
+-- that is how they are judged
 pub none_climbs_stays : (cs : List (List ℕ)) → NoneClimbs cs ↔ Stays cs 0
 none_climbs_stays cs = (
   λ none. stays_none cs 0 (λ place up more. none place (up, omega (arith, more))),

@@ -1,10 +1,9 @@
 -- A text that is made of components, added one after the other: how long it is so far, and what is still to come.
-use Rattle.std.proofs.Common.{subst, IsTrue, ◌↔◌, cond, ◌≡◌, ℕ, ◌+◌, ◌≤◌, List, [], ◌∷◌, ◌++◌, length, All, Bool, true, false, not, if◌then◌else◌, inl, inr, drop, set, ◌-◌, ap, refl, sym, ◌∙◌, arith, length-append, take, ◌<◌, Some, Option, replicate, add_comm, append_assoc}
+use Rattle.std.proofs.Common.{subst, IsTrue, ◌↔◌, cond, ◌≡◌, ℕ, ◌+◌, ◌≤◌, List, [], ◌∷◌, ◌++◌, length, All, Bool, true, false, not, if◌then◌else◌, inl, inr, drop, set, ◌-◌, ap, refl, sym, ◌∙◌, arith, length-append, ◌<◌, Some, Option, replicate, add_comm, append_assoc}
 use borrow.Rule.Slice.PartMut.{put_mid}
 use Rattle.std.specs.List.{fold}
 use Rattle.std.proofs.lemmas.Bool.{cases_Bool}
-use Rattle.std.proofs.lemmas.List.{drop_at, drop-drop, drop-replicate, length-replicate, append-nil, drop_all, length-map, map-append, take_at, take-append-drop}
-use Rattle.std.proofs.lemmas.Slice.{drop-append-drop, drop-put_mid, take-put_mid}
+use Rattle.std.proofs.lemmas.List.{drop_at, drop-drop, drop-replicate, length-replicate, append-nil, drop_all, length-map, map-append, take_at}
 use Rattle.uefi_text.specs.Units.{replaced}
 use Rattle.std.proofs.lemmas.List.Elements.{All-head, All-tail}
 use Rattle.uefi_path.specs.Components.{IsPiece, joined}
@@ -192,7 +191,7 @@ made_shorter (p ∷ q ∷ ps) are =
     omega (
       arith,
       length-map text (replaced slash separator),
-      parent_of_components-shorter (p ∷ q ∷ ps) (with_separators text) (parent_made (p ∷ q ∷ ps) are (omega arith)),
+      parent_of_components-shorter (p ∷ q ∷ ps) (with_separators text) are (parent_made (p ∷ q ∷ ps) are (omega arith)),
     )
 
 -- a buffer that begins with it
@@ -230,7 +229,7 @@ is_made (p ∷ q ∷ ps) len texts are known =
       parent = text;
       is = refl;
       long = sym long;
-      shorter = omega (arith, long, parent_of_components-shorter (p ∷ q ∷ ps) text refl);
+      shorter = omega (arith, long, parent_of_components-shorter (p ∷ q ∷ ps) text are refl);
       is_text =
           IsText-with_separators kept
           (All-rejoined IsTextUnit (all_but_last (p ∷ q ∷ ps)) (omega arith, (omega arith, λ high. omega (arith, high.0)))

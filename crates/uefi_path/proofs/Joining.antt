@@ -10,7 +10,7 @@ use Rattle.uefi_path.specs.Pushing.{appended, needs_separator, pushed}
 use Rattle.uefi_path.specs.Separators.{IsPlain, canonical, is_separator, separator, with_separators}
 use Rattle.uefi_path.proofs.Parents.{needs_separator-append}
 use Rattle.uefi_path.proofs.Pushing.{IsPlain-appended, with_separators-plain}
-use Rattle.uefi_path.proofs.Splitting.{IsPlain-with_separators}
+use Rattle.uefi_path.proofs.Splitting.{IsPlain-with_separators, pieces_between-some}
 
 -- after a text that is not empty the text before it does not count
 needs_separator-appended : (text : List ℕ) (u : ℕ) (us : List ℕ)
@@ -106,17 +106,12 @@ slice_split-append (u ∷ us) vs =
           (sym (slice_split-cons_no is_separator u us other))
     ]
 
-pieces_between-non_empty : (us : List ℕ) → us ≢ []
-    → pieces_between us ≡ slice_split is_separator us
-pieces_between-non_empty [] non_empty = absurd (non_empty refl)
-pieces_between-non_empty (u ∷ us) non_empty = refl
-
 pieces_between-append : (us vs : List ℕ) → us ≢ [] → vs ≢ []
     → pieces_between (us ++ separator ∷ vs) ≡ pieces_between us ++ pieces_between vs
 pieces_between-append [] vs first second = absurd (first refl)
 pieces_between-append (u ∷ us) vs first second =
     slice_split-append (u ∷ us) vs
-    ∙ ap (λ ps. slice_split is_separator (u ∷ us) ++ ps) (sym (pieces_between-non_empty vs second))
+    ∙ ap (λ ps. slice_split is_separator (u ∷ us) ++ ps) (sym (pieces_between-some vs second))
 
 canonical-cons : (u : ℕ) (us vs : List ℕ) → canonical ((u ∷ us) ++ vs) ≡ canonical (u ∷ us) ++ vs
 canonical-cons u us vs =

@@ -1,5 +1,5 @@
 -- The last names of a normal path, joined: how long they are, and what one more name before them adds.
-use Rattle.std.proofs.Common.{◌≡◌, ℕ, ◌+◌, ◌-◌, ◌<◌, ◌≤◌, nat_lt, Bool, true, false, cond, if◌then◌else◌, List, [], ◌∷◌, ◌++◌, drop, length, max, set, All, append_assoc, length-append, refl, sym, ap, ◌∙◌, subst, arith}
+use Rattle.std.proofs.Common.{◌≡◌, ℕ, ◌+◌, ◌-◌, ◌≤◌, nat_lt, cond, if◌then◌else◌, List, [], ◌∷◌, ◌++◌, drop, length, max, set, All, append_assoc, length-append, refl, sym, ap, ◌∙◌, subst, arith}
 use Rattle.std.proofs.lemmas.Bool.{le-ltb, lt-ltb}
 use Rattle.std.proofs.lemmas.List.{append-nil, drop-set-lt, length-drop}
 use Rattle.std.proofs.lemmas.List.Elements.{All-head, All-tail}
@@ -7,6 +7,7 @@ use Rattle.uefi_path.specs.Components.{joined}
 use Rattle.uefi_path.specs.NormalForms.{Dot, DotDot, Kind, Name, before_normal, before_piece, kind, normal_of, normal_text}
 use Rattle.uefi_path.specs.Separators.{separator, with_separators}
 use Rattle.uefi_path.specs.Verdicts.{IsGood}
+use Rattle.uefi_path.proofs.ParentSizes.{room, room-joined}
 use Rattle.uefi_path.proofs.Pushing.{with_separators-plain}
 use Rattle.uefi_path.proofs.Validity.{good-plain}
 
@@ -94,16 +95,6 @@ with_name name places text start e = ap (λ us. name ++ us) e ∙ before (drop s
         → name ++ (if nat_lt start (length places) then separator ∷ last else []) ≡ name_before name last
     before [] none = rw (le-ltb start (length places) (omega (arith, none))) (append-nil name)
     before (u ∷ us) some = rw (lt-ltb start (length places) (omega (arith, some))) refl
-
--- how many units pieces take with a separator after each
-abbrev room : List (List ℕ) → ℕ
-room [] = 0
-room (piece ∷ pieces) = length piece + 1 + room pieces
-
-room-joined : (piece : List ℕ) (pieces : List (List ℕ)) → length (joined (piece ∷ pieces)) + 1 ≡ room (piece ∷ pieces)
-room-joined piece [] = omega arith
-room-joined piece (next ∷ pieces) =
-    omega (arith, room-joined next pieces, length-append piece (separator ∷ joined (next ∷ pieces)))
 
 -- the names of a normal path take no more than the components
 room-before_piece : (k : Kind) (p q : List ℕ) (qs : List (List ℕ)) → room (before_piece k p q qs) ≤ room (p ∷ q ∷ qs)

@@ -1,42 +1,20 @@
 -- How many successive parents a parent of a plain text has: one fewer than components.
-use Rattle.std.proofs.Common.{◌≡◌, ◌≢◌, ℕ, zero, suc, ◌-◌, List, [], ◌∷◌, ◌++◌, length, All, Bool, true, false, if◌then◌else◌, None, Some, Option, Result, IfOk, IfSome, ap, sym, refl, subst, ◌∙◌, ◌<◌, arith}
-use Rattle.std.specs.List.{slice_split}
-use Rattle.std.proofs.lemmas.Bool.{false≢true}
+use Rattle.std.proofs.Common.{◌≡◌, ◌≢◌, ℕ, zero, suc, ◌-◌, List, [], ◌∷◌, ◌++◌, length, All, Bool, true, false, None, Some, Option, Result, IfOk, IfSome, ap, sym, refl, subst, ◌∙◌, ◌<◌, arith}
 use Rattle.std.proofs.lemmas.List.{append-nil, length-append, take_all}
-use Rattle.std.proofs.lemmas.List.Elements.{All-filter, All-head}
-use Rattle.uefi_path.specs.Components.{IsPiece, components_of, joined, pieces_between}
+use Rattle.std.proofs.lemmas.List.Elements.{All-filter}
+use Rattle.uefi_path.specs.Components.{IsPiece, components_of, joined}
 use Rattle.uefi_path.specs.Parents.{parent_text, parent_of_components, all_but_last, ends_empty, is_non_empty, non_empty, joined_with_end, rejoined}
-use Rattle.uefi_path.specs.Separators.{IsPlain, is_separator, separator, slash, with_separators}
+use Rattle.uefi_path.specs.Separators.{IsPlain, slash, with_separators}
 use Rattle.uefi_path.specs.SuccessiveParents.{AreParents, parent_chain, parents_of, prefixes}
 use Rattle.uefi_path.proofs.ParentChains.{AreParents-parents_of, parents_of-chain}
-use Rattle.uefi_path.proofs.ParentForm.{all_but_last-push, components_of-full, parent_text-plain, prefix_with_end, rejoined-full, split_with_end}
-use Rattle.uefi_path.proofs.Parents.{All-IsPiece-non_empty, All-all_but_last, All-components_of, All-non_empty, IsFull, parent_of_components-many}
+use Rattle.uefi_path.proofs.ParentForm.{components_with_end, all_but_last-push, components_of-full, parent_text-plain, rejoined-full}
+use Rattle.uefi_path.proofs.Parents.{All-all_but_last, All-components_of, All-non_empty, IsFull, parent_of_components-many}
 use Rattle.uefi_path.proofs.ParentSizes.{parent_text-shorter}
 use Rattle.std.proofs.lemmas.Result.{IfOk-weaker}
 use Rattle.uefi_path.proofs.ParentsOfValid.{parents_of_some, parents_once}
 use Rattle.uefi_path.proofs.Pushing.{separator_is_plain, with_separators-plain}
 use Rattle.uefi_path.proofs.Splitting.{AreComponents-components_of}
 use Rattle.uefi_path.proofs.Validity.{All-joined}
-
--- what stands between the separators of full pieces that are joined, and of the end after them
-filled : (n : List ℕ) (ns : List (List ℕ)) (more : List ℕ) → IsFull n → joined (n ∷ ns) ++ more ≢ []
-filled [] ns more full e = false≢true full
-filled (u ∷ us) [] more full e = cc
-filled (u ∷ us) (m ∷ ms) more full e = cc
-
-between : (us : List ℕ) → us ≢ [] → pieces_between us ≡ slice_split is_separator us
-between [] some = absurd (some refl)
-between (u ∷ us) some = refl
-
-components_with_end : (n : List ℕ) (ns : List (List ℕ)) (ends : Bool) → All IsPiece (n ∷ ns)
-    → All IsFull (n ∷ ns)
-    → components_of (joined_with_end (n ∷ ns) ends) ≡ (n ∷ ns) ++ (if ends then [] ∷ [] else [])
-components_with_end n ns ends pieces full =
-    let text = joined_with_end (n ∷ ns) ends in
-    ap pieces_between (prefix_with_end (n ∷ ns) ends pieces full)
-    ∙ between text
-    (filled n ns (if ends then separator ∷ [] else []) (All-head IsFull n ns full))
-    ∙ split_with_end n ns ends pieces
 
 length-prefixes : (count : ℕ) (ps : List (List ℕ)) → length (prefixes count ps) ≡ count
 length-prefixes zero ps = refl
@@ -105,7 +83,7 @@ count_of_parent text parent plain e =
     let pieces = All-all_but_last IsPiece (components_of text) (AreComponents-components_of text).are_pieces in
     let plains = All-all_but_last IsPlain (components_of text) (All-components_of (λ u. u ≢ slash) text plain) in
     subst (λ t. length (parents_of t) ≡ length (components_of t) - 1) (sym is.0)
-    (count_joined (non_empty kept) (ends_empty kept) (All-IsPiece-non_empty kept pieces) (All-non_empty kept)
+    (count_joined (non_empty kept) (ends_empty kept) (All-filter is_non_empty IsPiece kept pieces) (All-non_empty kept)
     (All-filter is_non_empty IsPlain kept plains))
 
 -- what a call says of the parent that it returns

@@ -11,9 +11,9 @@ use Rattle.uefi_path.specs.Separators.{IsPlain, canonical, is_separator, separat
 use Rattle.uefi_path.specs.Verdicts.{IsGood, verdict}
 use Rattle.uefi_path.proofs.Depth.{Stays, Stays-all_but_last}
 use Rattle.uefi_path.proofs.Joining.{canonical-no, slice_split-append, slice_split-non_empty}
-use Rattle.uefi_path.proofs.Parents.{All-IsPiece-non_empty, All-all_but_last, All-components_of, All-non_empty, IsFull, parent_of_components-many}
+use Rattle.uefi_path.proofs.Parents.{All-all_but_last, All-components_of, All-non_empty, IsFull, parent_of_components-many}
 use Rattle.uefi_path.proofs.Pushing.{separator_is_plain, with_separators-plain}
-use Rattle.uefi_path.proofs.Splitting.{AreComponents-components_of, pieces_between-joined, slice_split-joined}
+use Rattle.uefi_path.proofs.Splitting.{AreComponents-components_of, pieces_between-some, pieces_between-joined, slice_split-joined}
 use Rattle.uefi_path.proofs.Validity.{All-good_non_empty, All-good_piece, All-good_plain, All-joined, valid-components, valid-from, valid-plain, valid-parts}
 
 -- no separator stands before pieces that are not empty
@@ -41,6 +41,22 @@ split_with_end n ns true pieces = slice_split-append (joined (n ∷ ns)) []
     ∙ ap (λ ps. ps ++ [] ∷ []) (slice_split-joined n ns pieces)
 split_with_end n ns false pieces = ap (slice_split is_separator) (append-nil (joined (n ∷ ns)))
     ∙ slice_split-joined n ns pieces ∙ sym (append-nil (n ∷ ns))
+
+-- what stands between the separators of full pieces that are joined, and of the end after them
+filled : (n : List ℕ) (ns : List (List ℕ)) (more : List ℕ) → IsFull n → joined (n ∷ ns) ++ more ≢ []
+filled [] ns more full e = false≢true full
+filled (u ∷ us) [] more full e = cc
+filled (u ∷ us) (m ∷ ms) more full e = cc
+
+pub components_with_end : (n : List ℕ) (ns : List (List ℕ)) (ends : Bool) → All IsPiece (n ∷ ns)
+    → All IsFull (n ∷ ns)
+    → components_of (joined_with_end (n ∷ ns) ends) ≡ (n ∷ ns) ++ (if ends then [] ∷ [] else [])
+components_with_end n ns ends pieces full =
+    let text = joined_with_end (n ∷ ns) ends in
+    ap pieces_between (prefix_with_end (n ∷ ns) ends pieces full)
+    ∙ pieces_between-some text
+    (filled n ns (if ends then separator ∷ [] else []) (All-head IsFull n ns full))
+    ∙ split_with_end n ns ends pieces
 
 pub all_but_last-push : (ps : List (List ℕ)) (q : List ℕ) → all_but_last (ps ++ q ∷ []) ≡ ps
 all_but_last-push [] q = refl
@@ -93,13 +109,13 @@ not_doubled text before after full e =
 -- pieces that were rejoined
 prefix_rejoined : (ps : List (List ℕ)) → All IsPiece ps → canonical (rejoined ps) ≡ rejoined ps
 prefix_rejoined ps pieces =
-    prefix_with_end (non_empty ps) (ends_empty ps) (All-IsPiece-non_empty ps pieces) (All-non_empty ps)
+    prefix_with_end (non_empty ps) (ends_empty ps) (All-filter is_non_empty IsPiece ps pieces) (All-non_empty ps)
 
 rejoined_not_doubled : (ps : List (List ℕ)) (before after : List ℕ) → All IsPiece ps
     → rejoined ps ≢ before ++ separator ∷ separator ∷ after
 rejoined_not_doubled ps before after pieces =
     not_doubled (rejoined ps) before after
-    (full_but_last (non_empty ps) (ends_empty ps) (All-IsPiece-non_empty ps pieces) (All-non_empty ps))
+    (full_but_last (non_empty ps) (ends_empty ps) (All-filter is_non_empty IsPiece ps pieces) (All-non_empty ps))
 
 -- what holds of the separator and of each unit of pieces holds of what they are rejoined to
 All-joined_with_end : (P : ℕ → Type 0) (ns : List (List ℕ)) (ends : Bool) → P separator → All (All P) ns

@@ -1,78 +1,63 @@
 -- How large a parent is: it is shorter than its path, and has at least one component fewer.
-use Rattle.std.proofs.Common.{◌≡◌, ℕ, ◌+◌, ◌<◌, ◌≤◌, List, [], ◌∷◌, ◌++◌, length, All, Bool, true, false, if◌then◌else◌, Some, ap, subst, ◌∙◌, arith}
-use Rattle.std.specs.List.{slice_split}
+use Rattle.std.proofs.Common.{◌≡◌, ℕ, ◌+◌, ◌<◌, ◌≤◌, List, [], ◌∷◌, ◌++◌, length, All, Bool, true, false, if◌then◌else◌, Some, ap, subst, arith}
+use Rattle.std.specs.List.{fold}
+use Rattle.std.proofs.lemmas.List.Elements.{All-filter}
+use Rattle.uefi_path.specs.Pushing.{appended, needs_separator}
 use Rattle.std.proofs.lemmas.Grind.{common_steps}
 use Rattle.std.proofs.lemmas.List.{length-append}
 use Rattle.std.proofs.lemmas.Option.{same_Some}
-use Rattle.uefi_path.specs.Components.{IsPiece, components_of, joined, pieces_between}
-use Rattle.uefi_path.specs.Parents.{parent_text, parent_of_components, all_but_last, ends_empty, non_empty, joined_with_end, rejoined}
-use Rattle.uefi_path.specs.Separators.{IsPlain, canonical, is_separator, separator}
-use Rattle.uefi_path.proofs.ParentForm.{parent_text-plain, prefix_with_end, length-all_but_last, split_with_end}
-use Rattle.uefi_path.proofs.Parents.{All-IsPiece-non_empty, All-all_but_last, All-non_empty, IsFull}
+use Rattle.uefi_path.specs.Components.{IsPiece, components_of, joined}
+use Rattle.uefi_path.specs.Parents.{is_non_empty, parent_text, parent_of_components, all_but_last, ends_empty, non_empty, joined_with_end, rejoined}
+use Rattle.uefi_path.specs.Separators.{IsPlain, canonical, separator}
+use Rattle.uefi_path.proofs.ParentForm.{components_with_end, parent_text-plain, length-all_but_last}
+use Rattle.uefi_path.proofs.Parents.{All-all_but_last, All-non_empty, IsFull, rejoined-added}
 use Rattle.uefi_path.proofs.Splitting.{AreComponents-components_of, IsPlain-with_separators}
 
--- how many units joined pieces have
-units-joined : (piece next : List ℕ) (pieces : List (List ℕ))
-    → length (joined (piece ∷ next ∷ pieces)) ≡ length piece + 1 + length (joined (next ∷ pieces))
-units-joined piece next pieces =
-    omega (arith, length-append piece (separator ∷ joined (next ∷ pieces)))
+-- how many units pieces take with a separator after each
+abbrev pub room : List (List ℕ) → ℕ
+room [] = 0
+room (piece ∷ pieces) = length piece + 1 + room pieces
 
--- the separator that may end them is one unit at most
-units-end : (ends : Bool) → length (if ends then separator ∷ [] else []) ≤ 1
-units-end true = omega arith
-units-end false = omega arith
+pub room-joined : (piece : List ℕ) (pieces : List (List ℕ)) → length (joined (piece ∷ pieces)) + 1 ≡ room (piece ∷ pieces)
+room-joined piece [] = omega arith
+room-joined piece (next ∷ pieces) =
+    omega (arith, room-joined next pieces, length-append piece (separator ∷ joined (next ∷ pieces)))
 
-units-with_end : (piece : List ℕ) (pieces : List (List ℕ)) (ends : Bool) (most : ℕ)
-    → length (joined_with_end pieces ends) ≤ most
-    → length (joined_with_end (piece ∷ pieces) ends) ≤ length piece + 1 + most
-units-with_end piece [] ends most within =
-    omega (arith, length-append piece (if ends then separator ∷ [] else []), units-end ends)
-units-with_end piece (next ∷ pieces) ends most within =
-    let end = if ends then separator ∷ [] else [] in
-    let whole = length-append (joined (piece ∷ next ∷ pieces)) end in
-    let rest = length-append (joined (next ∷ pieces)) end in
-    omega (arith, whole, rest, units-joined piece next pieces, within)
+room-all_but_last : (piece : List ℕ) (pieces : List (List ℕ)) → room (all_but_last (piece ∷ pieces)) < room (piece ∷ pieces)
+room-all_but_last piece [] = omega arith
+room-all_but_last piece (next ∷ pieces) = omega (arith, room-all_but_last next pieces)
 
--- pieces are no longer once those that are empty were taken out
-units-rejoined : (pieces : List (List ℕ)) → length (rejoined pieces) ≤ length (joined pieces)
-units-rejoined [] = omega arith
-units-rejoined ([] ∷ []) = omega arith
-units-rejoined ((u ∷ us) ∷ []) = omega (arith, length-append (u ∷ us) [])
-units-rejoined ([] ∷ next ∷ pieces) =
-    omega (arith, units-rejoined (next ∷ pieces), units-joined [] next pieces)
-units-rejoined ((u ∷ us) ∷ next ∷ pieces) =
-    let others = next ∷ pieces in
-    let rest = units-rejoined (next ∷ pieces) in
-    let more =
-    units-with_end (u ∷ us) (non_empty others) (ends_empty others) (length (joined others)) rest in
-    omega (arith, more, units-joined (u ∷ us) next pieces)
+-- added one after the other they take no more
+length-appended : (text piece : List ℕ) → length (appended text piece) ≤ length text + 1 + length piece
+length-appended text piece =
+    elim (needs_separator text)
+    as (λ b. length (if b then text ++ separator ∷ piece else text ++ piece) ≤ length text + 1 + length piece) [
+      | true ↦ omega (arith, length-append text (separator ∷ piece))
+      | false ↦ omega (arith, length-append text piece)
+    ]
 
-units-all_but_last : (piece next : List ℕ) (pieces : List (List ℕ))
-    → length (joined (all_but_last (piece ∷ next ∷ pieces)))
-    < length (joined (piece ∷ next ∷ pieces))
-units-all_but_last piece next [] = omega (arith, units-joined piece next [])
-units-all_but_last piece next (third ∷ pieces) =
-    let kept = all_but_last (next ∷ third ∷ pieces) in
-    omega (
-      arith,
-      units-all_but_last next third pieces,
-      units-joined piece next (third ∷ pieces),
-      units-joined piece next (all_but_last (third ∷ pieces)),
-      length-append piece (separator ∷ joined kept),
-    )
+fold_room : (text : List ℕ) (pieces : List (List ℕ)) → length (fold appended text pieces) ≤ length text + room pieces
+fold_room text [] = omega arith
+fold_room text (piece ∷ pieces) = omega (arith, fold_room (appended text piece) pieces, length-appended text piece)
 
 pub units-canonical : (text : List ℕ) → length (canonical text) ≤ length text
 units-canonical [] = omega arith
 units-canonical (unit ∷ units) = grind (arith, common_steps)
 
-pub parent_of_components-shorter : (pieces : List (List ℕ)) (parent : List ℕ) → parent_of_components pieces ≡ Some parent
-    → length parent < length (joined pieces)
-parent_of_components-shorter [] parent is = absurd (grind (arith, common_steps))
-parent_of_components-shorter (piece ∷ []) parent is = absurd (grind (arith, common_steps))
-parent_of_components-shorter (piece ∷ next ∷ pieces) parent is =
-    let kept = all_but_last (piece ∷ next ∷ pieces) in
-    let same : length parent ≡ length (rejoined kept) = grind (arith, common_steps) in
-    omega (arith, same, units-rejoined kept, units-all_but_last piece next pieces)
+pub parent_of_components-shorter : (pieces : List (List ℕ)) (parent : List ℕ) → All IsPiece pieces
+    → parent_of_components pieces ≡ Some parent → length parent < length (joined pieces)
+parent_of_components-shorter [] parent are is = absurd (grind (arith, common_steps))
+parent_of_components-shorter (piece ∷ []) parent are is = absurd (grind (arith, common_steps))
+parent_of_components-shorter (piece ∷ next ∷ pieces) parent are is =
+    let same : length parent ≡ length (rejoined (all_but_last (piece ∷ next ∷ pieces))) = grind (arith, common_steps) in
+    omega (
+      arith,
+      same,
+      ap length (rejoined-added (piece ∷ next ∷ pieces) are),
+      fold_room piece (all_but_last (next ∷ pieces)),
+      room-all_but_last next pieces,
+      room-joined piece (next ∷ pieces),
+    )
 
 -- a parent is shorter than its path
 pub parent_text-shorter : (text parent : List ℕ) → parent_text text ≡ Some parent → length parent < length text
@@ -80,7 +65,7 @@ parent_text-shorter text parent is =
     let components = AreComponents-components_of text in
     omega (
       arith,
-      parent_of_components-shorter (components_of text) parent is,
+      parent_of_components-shorter (components_of text) parent components.are_pieces is,
       ap length components.join,
       units-canonical text,
     )
@@ -89,11 +74,6 @@ parent_text-shorter text parent is =
 abbrev pieces_of_end : Bool → ℕ
 pieces_of_end true = 1
 pieces_of_end false = 0
-
-count-pieces_between : (us : List ℕ)
-    → length (pieces_between us) ≤ length (slice_split is_separator us)
-count-pieces_between [] = omega arith
-count-pieces_between (u ∷ us) = omega arith
 
 count-end : (ps : List (List ℕ)) (ends : Bool)
     → length (ps ++ (if ends then [] ∷ [] else [])) ≡ length ps + pieces_of_end ends
@@ -104,10 +84,7 @@ count-with_end : (ns : List (List ℕ)) (ends : Bool) → All IsPiece ns → All
     → length (components_of (joined_with_end ns ends)) ≤ length ns + pieces_of_end ends
 count-with_end [] ends pieces full = omega arith
 count-with_end (n ∷ ns) ends pieces full =
-    let text = joined_with_end (n ∷ ns) ends in
-    let front = ap (λ us. length (pieces_between us)) (prefix_with_end (n ∷ ns) ends pieces full) in
-    let split = ap length (split_with_end n ns ends pieces) ∙ count-end (n ∷ ns) ends in
-    omega (arith, front, count-pieces_between text, split)
+    omega (arith, ap length (components_with_end n ns ends pieces full), count-end (n ∷ ns) ends)
 
 count-non_empty : (ps : List (List ℕ))
     → length (non_empty ps) + pieces_of_end (ends_empty ps) ≤ length ps
@@ -120,7 +97,7 @@ count-non_empty ((u ∷ us) ∷ q ∷ ps) = omega (arith, count-non_empty (q ∷
 count-rejoined : (ps : List (List ℕ)) → All IsPiece ps
     → length (components_of (rejoined ps)) ≤ length ps
 count-rejoined ps pieces =
-    let parts = All-IsPiece-non_empty ps pieces in
+    let parts = All-filter is_non_empty IsPiece ps pieces in
     omega (
       arith,
       count-with_end (non_empty ps) (ends_empty ps) parts (All-non_empty ps),

@@ -100,13 +100,6 @@ All-non_empty [] = All-nil IsFull
 All-non_empty ([] ∷ ps) = All-non_empty ps
 All-non_empty ((u ∷ us) ∷ ps) = All-cons IsFull (u ∷ us) (non_empty ps) refl (All-non_empty ps)
 
-pub All-IsPiece-non_empty : (ps : List (List ℕ)) → All IsPiece ps → All IsPiece (non_empty ps)
-All-IsPiece-non_empty [] pieces = All-nil IsPiece
-All-IsPiece-non_empty ([] ∷ ps) pieces = All-IsPiece-non_empty ps (All-tail IsPiece [] ps pieces)
-All-IsPiece-non_empty ((u ∷ us) ∷ ps) pieces =
-    All-cons IsPiece (u ∷ us) (non_empty ps) (All-head IsPiece (u ∷ us) ps pieces)
-    (All-IsPiece-non_empty ps (All-tail IsPiece (u ∷ us) ps pieces))
-
 -- one piece more is added as a push adds it
 rejoined-append : (ps : List (List ℕ)) (q : List ℕ) → All IsPiece ps
     → rejoined (ps ++ q ∷ []) ≡ appended (rejoined ps) q

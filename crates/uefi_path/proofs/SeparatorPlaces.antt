@@ -1,9 +1,8 @@
 -- The places of separators: how they cut a text, and what they are once it is edited.
-use Rattle.std.proofs.Common.{◌≡◌, ◌≢◌, ℕ, suc, ◌+◌, ◌-◌, ◌<◌, ◌≤◌, List, [], ◌∷◌, ◌++◌, length, get_or, take, drop, All, true, false, inl, inr, ap, sym, refl, subst, ◌∙◌, arith, add-zero, if◌then◌else◌}
+use Rattle.std.proofs.Common.{◌≡◌, ◌≢◌, ℕ, suc, ◌+◌, ◌-◌, ◌<◌, ◌≤◌, List, [], ◌∷◌, ◌++◌, length, get_or, take, drop, true, false, inl, inr, ap, sym, refl, ◌∙◌, arith, add-zero, if◌then◌else◌}
 use Rattle.std.specs.List.{count_by, onto_first, slice_range, slice_split}
 use Rattle.std.proofs.lemmas.Bool.{cases_Bool}
 use Rattle.std.proofs.lemmas.List.{drop-drop, length-drop}
-use Rattle.std.proofs.lemmas.List.Elements.{All-cons, All-nil, All-weaker}
 use Rattle.std.proofs.lemmas.List.Sums.{sum_by-cons}
 use Rattle.std.proofs.lemmas.List.Splits.{slice_split-cons_no, slice_split-cons_yes}
 use Rattle.uefi_path.specs.Separators.{becomes_separator, canonical, is_separator, places_from, places_of, with_separators}
@@ -93,20 +92,11 @@ pub length-places : (start : ℕ) (us : List ℕ)
 length-places start [] = refl
 length-places start (u ∷ us) =
     let others = length-places (start + 1) us in
-    let count : count_by becomes_separator (u ∷ us) ≡ (if becomes_separator u then 1 else 0) + count_by becomes_separator us =
-    sum_by-cons _ u us in
-    elim (cases_Bool (becomes_separator u)) [
-      | inl cut ↦
-          let one : count_by becomes_separator (u ∷ us) ≡ 1 + count_by becomes_separator us =
-          count ∙ ap (λ b. (if b then 1 else 0) + count_by becomes_separator us) cut in
-          let more = ap length (places_from-yes start _ (with_separators us) cut) in
-          omega (arith, one, more, others)
-      | inr other ↦
-          let none : count_by becomes_separator (u ∷ us) ≡ 0 + count_by becomes_separator us =
-          count ∙ ap (λ b. (if b then 1 else 0) + count_by becomes_separator us) other in
-          let same = ap length (places_from-no start _ (with_separators us) other) in
-          omega (arith, none, same, others)
-    ]
+    let rest = places_from (start + 1) (with_separators us) in
+    elim (becomes_separator u)
+    as (λ b. length (if b then start ∷ rest else rest) ≡ (if b then 1 else 0) + count_by becomes_separator us)
+    [ true ↦ omega (arith, others) | false ↦ omega (arith, others) ]
+    ∙ sym (sum_by-cons _ u us)
 
 -- the places of both of two parts
 pub places_from-append : (start : ℕ) (us vs : List ℕ)
@@ -117,16 +107,11 @@ places_from-append start (u ∷ us) vs =
     let long : start + 1 + length us ≡ start + length (u ∷ us) = omega arith in
     let all : places_from (start + 1) (us ++ vs) ≡ places_from (start + 1) us ++ places_from (start + length (u ∷ us)) vs =
     others ∙ ap (λ n. places_from (start + 1) us ++ places_from n vs) long in
-    elim (cases_Bool (is_separator u)) [
-      | inl cut ↦
-          places_from-yes start u (us ++ vs) cut
-          ∙ ap (λ ps. start ∷ ps) all
-          ∙ sym (ap (λ ps. ps ++ places_from (start + length (u ∷ us)) vs) (places_from-yes start u us cut))
-      | inr other ↦
-          places_from-no start u (us ++ vs) other
-          ∙ all
-          ∙ sym (ap (λ ps. ps ++ places_from (start + length (u ∷ us)) vs) (places_from-no start u us other))
-    ]
+    let here = places_from (start + 1) us in
+    let both = places_from (start + 1) (us ++ vs) in
+    elim (is_separator u)
+    as (λ b. (if b then start ∷ both else both) ≡ (if b then start ∷ here else here) ++ places_from (start + length (u ∷ us)) vs)
+    [ true ↦ ap (λ ps. start ∷ ps) all | false ↦ all ]
 
 -- whether the text begins with a separator is what its first place says
 pub canonical_placed : (text : List ℕ) → 0 < length (places_of text) → get_or (places_of text) 0 0 ≡ 0

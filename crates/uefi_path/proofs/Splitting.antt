@@ -60,16 +60,15 @@ slice_split-joined p (q ∷ qs) all =
     (passes_over p (All-head IsPiece p (q ∷ qs) all)) refl
     ∙ ap (λ parts. p ∷ parts) (slice_split-joined q qs (All-tail IsPiece p (q ∷ qs) all))
 
-pieces_between-nonempty : (us : List ℕ) → slice_split is_separator us ≢ [] ∷ []
-    → pieces_between us ≡ slice_split is_separator us
-pieces_between-nonempty [] ne = absurd (ne refl)
-pieces_between-nonempty (u ∷ us) ne = refl
+pub pieces_between-some : (us : List ℕ) → us ≢ [] → pieces_between us ≡ slice_split is_separator us
+pieces_between-some [] some = absurd (some refl)
+pieces_between-some (u ∷ us) some = refl
 
 pub pieces_between-joined : (ps : List (List ℕ)) → All IsPiece ps → ps ≢ [] ∷ [] → pieces_between (joined ps) ≡ ps
 pieces_between-joined [] all ne = refl
 pieces_between-joined (p ∷ ps) all ne =
     let s = slice_split-joined p ps all in
-    pieces_between-nonempty (joined (p ∷ ps)) (λ e. ne (sym s ∙ e)) ∙ s
+    pieces_between-some (joined (p ∷ ps)) (λ e. ne (sym s ∙ ap (slice_split is_separator) e)) ∙ s
 
 -- the pieces between the separators of the canonical text are components
 AreComponents-between : (text us : List ℕ) → canonical text ≡ us → AreComponents text (pieces_between us)

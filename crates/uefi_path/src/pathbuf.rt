@@ -1,7 +1,8 @@
 //! Paths that are owned, and the calls of [`Path`] that make one.
 ghost use Rattle.std.specs.Prelude.{◌≡◌, ◌≢◌, ℕ, ◌+◌, ◌<◌, ◌≤◌, ◌^◌, ◌↔◌, [], ◌∷◌, ◌++◌, All, List, Some, None, drop, fold, false, if◌then◌else◌, length, map, option_map, ◌-◌, IsTrue, IsOk, IsSome, IfOk, IfErr, IfSome, OnOk, OnErr};
 ghost use Rattle.std.specs.List.{last_or, slice_range, slice_split};
-ghost use Rattle.uefi_path.specs.Components.{AreComponents, IsPiece, StartsWith, components_of, joined};
+ghost use Rattle.uefi_path.specs.Components.{AreComponents, IsPiece, StartsWith, components_of};
+ghost use Rattle.uefi_path.specs.Components as pieces_joined;
 ghost use Rattle.uefi_path.specs.Parents.{is_non_empty, parent_of_components, parent_text};
 ghost use Rattle.uefi_path.specs.Runs.{GivesNoNulIn};
 ghost use Rattle.uefi_path.specs.Pushing.{appended, needs_separator, pushed};
@@ -53,15 +54,15 @@ fn needs_separator<A: Allocator>(string: &CString16<A>) -> bool
     !text.is_empty() && text.get(text.len() - 1) != Some(SEPARATOR)
 }
 
-/// The parent of a path of these components, each slash replaced. Takes memory once for the text, and once for
-/// the places of its separators, where it has any.
+/// The parent of a path of these components, each slash replaced. Takes memory once for the text,
+/// and once for the places of its separators, where it has any.
 fn parent_of<A: Allocator + Copy>(
     alloc: A,
     components: Components<'_>,
 ) -> Result<Option<PathBuf<A>>, AllocError>
     requires texts { All IsText (components_left components) }
     requires pieces { All IsPiece (components_left components) }
-    requires bound { length (joined (components_left components)) < 2 ^ 64 }
+    requires bound { length (pieces_joined.joined (components_left components)) < 2 ^ 64 }
     ensures ok { IfOk result (λ parent. parent ≡ parent_of_components (components_left components.entry)) }
     ensures none { parent_of_components (components_left components.entry) ≡ None → IsOk result }
 {

@@ -250,7 +250,8 @@ pub(crate) fn cut_last(text: Char16Slice<'_>) -> (Option<Char16Slice<'_>>, Char1
     ensures pieces { slice_split is_separator (units_of text.entry)
         ≡ pieces_left result.0 ++ units_of result.1 ∷ [] }
     ensures shorter { are_left result.0 + length (units_of result.1) ≤ length (units_of text.entry) }
-    ensures first { IfSome result.0 (λ front. units_of front ≡ take (are_left result.0) (units_of text.entry)) }
+    ensures first { IfSome result.0 (λ front.
+        units_of front ≡ take (are_left result.0) (units_of text.entry)) }
 {
     let start = last_start(text.units());
     let last = text.part(start, text.len());

@@ -22,7 +22,7 @@ pub enum PathError {
     /// A component is empty.
     EmptyComponent,
 
-    /// A component holds this character of [`CHARACTER_DENY_LIST`](crate::CHARACTER_DENY_LIST).
+    /// A component holds this character of [`CHARACTER_DENY_LIST`].
     IllegalChar(Char16),
 
     /// A component `..` climbs above where the path starts: the components before it hold at least
@@ -109,30 +109,40 @@ fn depth_after(depth: usize, component: Char16Slice<'_>) -> Option<usize>
     }
 }
 
-/// Whether a path is accepted: `Ok`, or the fault of its first component that has one.
-///
-/// The empty path is refused as `Empty`. The lone separator has no component and is accepted. An
-/// empty component is refused as `EmptyComponent`, one that holds a character of
-/// [`CHARACTER_DENY_LIST`](crate::CHARACTER_DENY_LIST) as `IllegalChar` of its first such, and a `..` as `ClimbsAboveRoot`
-/// where the components before it hold at least as many `..` as names. A `.` is no name.
-///
-/// One pass, which stops at the fault. Takes no memory.
-pub fn validate_path(path: Path<'_>) -> Result<(), PathError>
-    ensures refusal { result_err result ≡ verdict (path_text path.entry) }
-    ensures valid { IsOk result ↔ IsValid (path_text path.entry) }
+/// Why a path is refused, if it is.
+fn find_refusal(path: Path<'_>) -> Option<PathError>
+    ensures { result ≡ verdict (path_text path.entry) }
 {
     if path.is_empty() {
-        return Err(PathError::Empty);
+        return Some(PathError::Empty);
     }
     let mut depth = 0;
     for component in path.components() {
         if let Some(error) = find_fault(component) {
-            return Err(error);
+            return Some(error);
         }
         match depth_after(depth, component) {
             Some(left) => depth = left,
-            None => return Err(PathError::ClimbsAboveRoot),
+            None => return Some(PathError::ClimbsAboveRoot),
         }
     }
-    Ok(())
+    None
+}
+
+/// Whether a path is accepted: `Ok`, or the fault of its first component that has one.
+///
+/// The empty path is refused as `Empty`. The lone separator has no component and is accepted. An
+/// empty component is refused as `EmptyComponent`, one that holds a character of
+/// [`CHARACTER_DENY_LIST`] as `IllegalChar` of its first such, and a `..` as `ClimbsAboveRoot`
+/// where the components before it hold at least as many `..` as names. A `.` is no name.
+///
+/// At most two passes over each component, which stop at the fault. Takes no memory.
+pub fn validate_path(path: Path<'_>) -> Result<(), PathError>
+    ensures refusal { result_err result ≡ verdict (path_text path.entry) }
+    ensures valid { IsOk result ↔ IsValid (path_text path.entry) }
+{
+    match find_refusal(path) {
+        Some(error) => Err(error),
+        None => Ok(()),
+    }
 }

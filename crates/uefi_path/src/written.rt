@@ -37,8 +37,8 @@ fn write_component(places: &mut [u16], is_missing: bool, component: &[u16])
     }
 }
 
-/// How long the parent of a path of these components is, which one of at most one component has not. Writes it
-/// to the start of a buffer, each slash replaced, where it has room.
+/// How long the parent of a path of these components is, which one of at most one component has
+/// not. Writes it to the start of a buffer, each slash replaced, where it has room.
 pub(crate) fn write_all_but_last(
     buffer: &mut [u16],
     mut components: Components<'_>,

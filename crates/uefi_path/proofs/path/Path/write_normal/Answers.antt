@@ -1,5 +1,5 @@
 -- The names that stay are written, and the lone separator where there are none.
-use Rattle.std.proofs.Common.{◌≡◌, ◌++◌, ℕ, All, List, drop, length, max, rules, set, None, Ok, Some, Err, arith, sym, ap, subst, ◌∙◌}
+use Rattle.std.proofs.Common.{◌≡◌, ◌++◌, ℕ, All, List, drop, length, max, rules, set, take, None, Ok, Some, Err, arith, sym, ap, subst, ◌∙◌}
 use Rattle.std.proofs.lemmas.Grind.{common_steps}
 use Rattle.uefi_path.specs.Components.{components_of, joined}
 use Rattle.uefi_path.specs.NamesLeft.{names_left}
@@ -52,7 +52,9 @@ returns-clause-buffer c =
     let len = normal_len _ text _ c.max-room.result names.good names.names c.write_names-len.ensures.len c.max-room.ensures in
     let left = names_left c.of-names.result in
     let rest = λ (ps : List (List ℕ)). joined ps ++ drop (length (joined ps)) (set buffer 0 separator) in
-    ap (λ us. us ++ drop c.write_names-len.result (set buffer 0 c.from.result)) (c.write_names-len-2.ensures.places (grind (arith, common_steps, c.write_names-len.ensures.len, c.max-room.ensures, c.if-buffer-room.false)))
+    let room : length (take c.write_names-len.result (set buffer 0 c.from.result)) ≡ length (joined left) =
+    grind (arith, common_steps, c.write_names-len.ensures.len, c.max-room.ensures, c.if-buffer-room.false) in
+    ap (λ us. us ++ drop c.write_names-len.result (set buffer 0 c.from.result)) (c.write_names-len-2.ensures.places room)
     ∙ ap (λ n. joined left ++ drop n (set buffer 0 c.from.result)) c.write_names-len.ensures.len
     ∙ ap (λ u. joined left ++ drop (length (joined left)) (set buffer 0 u)) c.from.ensures.0
     ∙ ap rest names.names

@@ -2,7 +2,7 @@ use Rattle.std.proofs.Common.{◌≡◌, ◌+◌, ◌<◌, ◌^◌, length}
 use Rattle.uefi_path.specs.Components.{components_of}
 use Rattle.uefi_path.specs.Views.{components_left, path_text}
 use Rattle.uefi_path.proofs.Depth.{fault_from}
-use Rattle.uefi_path.proofs.validation.validate_path.Given as goal
+use Rattle.uefi_path.proofs.validation.find_refusal.Given as goal
 
 -- the components so far have no fault, so the verdict is that of the others
 abbrev pub invariant-loop-component : goal.invariant-loop-component
