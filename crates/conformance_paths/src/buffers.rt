@@ -15,9 +15,9 @@ fn becomes(rt: &HostRuntime, text: CStr16<'_>, want: &str) -> Result<bool, Fail>
 /// Texts, and those of their buffers.
 const REPLACED: &[(&str, &str)] = &[
     ("", ""),
-    ("/", "\\"),
-    ("/a//b\\", "\\a\\\\b\\"),
-    ("\\hello\\foo\\bar", "\\hello\\foo\\bar"),
+    ("/", r"\"),
+    (r"/a//b\", r"\a\\b\"),
+    (r"\hello\foo\bar", r"\hello\foo\bar"),
 ];
 
 #[test]
@@ -33,7 +33,7 @@ fn replaced_slashes(rt: HostRuntime) -> Result<(), Fail> {
 #[test]
 fn the_empty_path(rt: HostRuntime) -> Result<(), Fail> {
     let path = PathBuf::new(rt.alloc())?;
-    assert!(rt; path.is_empty() && path == buffer(&rt, "\\")?);
+    assert!(rt; path.is_empty() && path == buffer(&rt, r"\")?);
     Ok(())
 }
 
@@ -47,15 +47,15 @@ fn prints(rt: &HostRuntime, path: Path<'_>, want: &str) -> Result<bool, Fail> {
 const PRINTED: &[(&str, &str)] = &[
     ("", " Path(CStr16([]))  PathBuf(CStr16([]))"),
     (
-        "\\a",
-        "\\a Path(CStr16(['\\\\', 'a'])) \\a PathBuf(CStr16(['\\\\', 'a']))",
+        r"\a",
+        r"\a Path(CStr16(['\\', 'a'])) \a PathBuf(CStr16(['\\', 'a']))",
     ),
     (
         "/a",
-        "/a Path(CStr16(['/', 'a'])) \\a PathBuf(CStr16(['\\\\', 'a']))",
+        r"/a Path(CStr16(['/', 'a'])) \a PathBuf(CStr16(['\\', 'a']))",
     ),
     (
-        "/a\\é",
+        r"/a\é",
         "/a\\é Path(CStr16(['/', 'a', '\\\\', 'é'])) \
              \\a\\é PathBuf(CStr16(['\\\\', 'a', '\\\\', 'é']))",
     ),
@@ -64,10 +64,10 @@ const PRINTED: &[(&str, &str)] = &[
 /// Components print what is left of the text, and nothing after the last.
 #[test]
 fn printed_components(rt: HostRuntime) -> Result<(), Fail> {
-    let path = buffer(&rt, "\\a\\é")?;
+    let path = buffer(&rt, r"\a\é")?;
     let mut components = path.components();
     for want in [
-        "Components(Some(['a', '\\\\', 'é']))",
+        r"Components(Some(['a', '\\', 'é']))",
         "Components(Some(['é']))",
         "Components(None)",
     ] {
@@ -124,7 +124,7 @@ fn pushed_and_cleared(rt: HostRuntime) -> Result<(), Fail> {
 /// A copy keeps its text while the path is cleared.
 #[test]
 fn copied_and_cleared(rt: HostRuntime) -> Result<(), Fail> {
-    for (text, want) in [("/a\\é", "\\a\\é"), ("first", "first")] {
+    for (text, want) in [(r"/a\é", r"\a\é"), ("first", "first")] {
         let path = buffer(&rt, text)?;
         let copy = path.clone()?;
         assert!(rt; shows(&path, want) && clears_twice(path) && shows(&copy, want));

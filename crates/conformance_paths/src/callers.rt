@@ -24,7 +24,7 @@ fn runs_to(rt: &HostRuntime, text: &str, want: &str) -> Result<bool, Fail> {
 
 #[test]
 fn components_run_together(rt: HostRuntime) -> Result<(), Fail> {
-    for (text, want) in [("", ""), ("\\a\\\\é\\c", "aéc"), ("a", "a")] {
+    for (text, want) in [("", ""), (r"\a\\é\c", "aéc"), ("a", "a")] {
         assert!(rt; runs_to(&rt, text, want)?, "{text}");
     }
     Ok(())
@@ -46,10 +46,10 @@ fn is_named(rt: &HostRuntime, text: &str, want: Option<&str>) -> Result<bool, Fa
 /// Paths, and the names of the files that they lead to.
 const NAMES: &[(&str, Option<&str>)] = &[
     ("", None),
-    ("\\", None),
+    (r"\", None),
     ("a", Some("a")),
-    ("\\efi\\boot\\é.efi", Some("é.efi")),
-    ("a\\", Some("")),
+    (r"\efi\boot\é.efi", Some("é.efi")),
+    (r"a\", Some("")),
     ("a/b", Some("b")),
 ];
 
@@ -88,13 +88,13 @@ fn buffer_leaves(
 
 /// Paths, what they may start with, and how many components are left then.
 const PREFIXES: &[(&str, &str, Option<usize>)] = &[
-    ("a\\b\\c", "a\\b", Some(1)),
-    ("\\a\\b", "a\\b", Some(0)),
-    ("a\\b", "", Some(2)),
-    ("a\\bc", "a\\b", None),
-    ("a", "a\\b", None),
-    ("a\\", "a", Some(1)),
-    ("a\\b", "b", None),
+    (r"a\b\c", r"a\b", Some(1)),
+    (r"\a\b", r"a\b", Some(0)),
+    (r"a\b", "", Some(2)),
+    (r"a\bc", r"a\b", None),
+    ("a", r"a\b", None),
+    (r"a\", "a", Some(1)),
+    (r"a\b", "b", None),
     ("", "", Some(0)),
 ];
 
@@ -117,7 +117,7 @@ fn is_hinted(mut components: Components<'_>) -> bool {
 
 #[test]
 fn hints_of_components(rt: HostRuntime) -> Result<(), Fail> {
-    for text in ["", "\\", "a", "a\\", "\\a\\bcd\\e"] {
+    for text in ["", r"\", "a", r"a\", r"\a\bcd\e"] {
         assert!(rt; is_hinted(buffer(&rt, text)?.components()), "{text}");
     }
     Ok(())

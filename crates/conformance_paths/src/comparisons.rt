@@ -46,26 +46,26 @@ pub(crate) fn compare(
 
 /// A slash separates components of a buffer alone.
 const ORDERS: &[(&str, &str, Ordering, Ordering)] = &[
-    ("a\\b", "a!", Ordering::Greater, Ordering::Greater),
-    ("a", "\\a", Ordering::Equal, Ordering::Equal),
-    ("\\a", "a", Ordering::Equal, Ordering::Equal),
-    ("\\x", "x", Ordering::Equal, Ordering::Equal),
-    ("", "\\", Ordering::Equal, Ordering::Equal),
-    ("\\\\a", "\\a", Ordering::Less, Ordering::Less),
-    ("\\a", "\\\\a", Ordering::Greater, Ordering::Greater),
+    (r"a\b", "a!", Ordering::Greater, Ordering::Greater),
+    ("a", r"\a", Ordering::Equal, Ordering::Equal),
+    (r"\a", "a", Ordering::Equal, Ordering::Equal),
+    (r"\x", "x", Ordering::Equal, Ordering::Equal),
+    ("", r"\", Ordering::Equal, Ordering::Equal),
+    (r"\\a", r"\a", Ordering::Less, Ordering::Less),
+    (r"\a", r"\\a", Ordering::Greater, Ordering::Greater),
     ("", "a", Ordering::Less, Ordering::Less),
     ("a", "b", Ordering::Less, Ordering::Less),
-    ("\\b", "a", Ordering::Greater, Ordering::Greater),
-    ("a", "a\\", Ordering::Less, Ordering::Less),
-    ("a\\b", "\\a\\b", Ordering::Equal, Ordering::Equal),
-    ("a\\b", "a\\b\\c", Ordering::Less, Ordering::Less),
+    (r"\b", "a", Ordering::Greater, Ordering::Greater),
+    ("a", r"a\", Ordering::Less, Ordering::Less),
+    (r"a\b", r"\a\b", Ordering::Equal, Ordering::Equal),
+    (r"a\b", r"a\b\c", Ordering::Less, Ordering::Less),
     (
-        "first\\second\\third",
-        "\\first\\second",
+        r"first\second\third",
+        r"\first\second",
         Ordering::Greater,
         Ordering::Greater,
     ),
-    ("a/b", "a\\b", Ordering::Less, Ordering::Equal),
+    ("a/b", r"a\b", Ordering::Less, Ordering::Equal),
 ];
 
 #[test]

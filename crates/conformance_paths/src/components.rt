@@ -52,19 +52,19 @@ fn counts(rt: &HostRuntime, text: &str, borrowed: usize, owned: usize) -> Result
 const COMPONENTS: &[(&str, &str, usize, usize)] = &[
     ("", "", 0, 0),
     ("/", "|/", 1, 0),
-    ("\\", "", 0, 0),
-    ("\\\\", "||", 2, 2),
-    ("a\\", "|a|", 2, 2),
-    ("foo\\bar\\hello", "|foo|bar|hello", 3, 3),
-    ("\\foo\\bar\\hello", "|foo|bar|hello", 3, 3),
-    ("\\hello\\foo\\bar", "|hello|foo|bar", 3, 3),
+    (r"\", "", 0, 0),
+    (r"\\", "||", 2, 2),
+    (r"a\", "|a|", 2, 2),
+    (r"foo\bar\hello", "|foo|bar|hello", 3, 3),
+    (r"\foo\bar\hello", "|foo|bar|hello", 3, 3),
+    (r"\hello\foo\bar", "|hello|foo|bar", 3, 3),
     ("abc", "|abc", 1, 1),
-    ("\\\\\\a", "|||a", 3, 3),
-    ("\\\\a", "||a", 2, 2),
-    ("a/b\\c", "|a/b|c", 2, 3),
-    ("a\\b", "|a|b", 2, 2),
-    ("a\\\\b", "|a||b", 3, 3),
-    ("/a//b\\", "|/a//b|", 2, 4),
+    (r"\\\a", "|||a", 3, 3),
+    (r"\\a", "||a", 2, 2),
+    (r"a/b\c", "|a/b|c", 2, 3),
+    (r"a\b", "|a|b", 2, 2),
+    (r"a\\b", "|a||b", 3, 3),
+    (r"/a//b\", "|/a//b|", 2, 4),
 ];
 
 #[test]
@@ -86,6 +86,6 @@ fn ends_for_good(mut components: Components<'_>) -> bool {
 
 #[test]
 fn components_end_for_good(rt: HostRuntime) -> Result<(), Fail> {
-    assert!(rt; ends_for_good(buffer(&rt, "a\\")?.components()));
+    assert!(rt; ends_for_good(buffer(&rt, r"a\")?.components()));
     Ok(())
 }

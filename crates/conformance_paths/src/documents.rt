@@ -35,7 +35,7 @@ fn the_example_of_the_readme(rt: HostRuntime) -> Result<(), Fail> {
     // Prints `\efi\boot`, `efi` and `boot`.
     let path = boot_path(&rt, &[0x62, 0x6f, 0x6f, 0x74, 0])?;
     assert!(rt; validate_path(path.as_path()).is_ok());
-    assert!(rt; shows(&path, "\\efi\\boot"));
+    assert!(rt; shows(&path, r"\efi\boot"));
     print_path(&rt, path.as_path())
 }
 
@@ -71,7 +71,7 @@ fn joins_itself(buffer: &PathBuf, other: Path<'_>) -> Result<bool, AllocError> {
 #[test]
 fn the_example_of_the_paths(rt: HostRuntime) -> Result<(), Fail> {
     let buffer = efi_boot(&rt)?;
-    let other = CString16::try_from_str(rt.alloc(), "efi\\boot")?;
+    let other = CString16::try_from_str(rt.alloc(), r"efi\boot")?;
     assert!(rt; joins_itself(&buffer, Path::new(other.as_cstr16()))?);
     Ok(())
 }

@@ -8,12 +8,12 @@ use std::test::Fail;
 /// is replaced.
 const ROWS: &[(&str, Verdict, Verdict)] = &[
     ("a", Verdict::Accepted, Verdict::Accepted),
-    ("a\\b", Verdict::Accepted, Verdict::Accepted),
+    (r"a\b", Verdict::Accepted, Verdict::Accepted),
     ("\u{ffff}", Verdict::Accepted, Verdict::Accepted),
-    ("\\.\\b", Verdict::Accepted, Verdict::Accepted),
-    ("a\\..\\b", Verdict::Accepted, Verdict::Accepted),
+    (r"\.\b", Verdict::Accepted, Verdict::Accepted),
+    (r"a\..\b", Verdict::Accepted, Verdict::Accepted),
     (
-        "\\..\\..\\",
+        r"\..\..\",
         Verdict::ClimbsAboveRoot,
         Verdict::ClimbsAboveRoot,
     ),
@@ -26,22 +26,14 @@ const ROWS: &[(&str, Verdict, Verdict)] = &[
     ("?", Verdict::IllegalChar(63), Verdict::IllegalChar(63)),
     ("|", Verdict::IllegalChar(124), Verdict::IllegalChar(124)),
     ("?*", Verdict::IllegalChar(63), Verdict::IllegalChar(63)),
-    ("\\\\", Verdict::EmptyComponent, Verdict::EmptyComponent),
+    (r"\\", Verdict::EmptyComponent, Verdict::EmptyComponent),
     ("a//b", Verdict::IllegalChar(47), Verdict::EmptyComponent),
-    ("a\\\\b>", Verdict::EmptyComponent, Verdict::EmptyComponent),
-    (
-        "a>\\\\b",
-        Verdict::IllegalChar(62),
-        Verdict::IllegalChar(62),
-    ),
-    ("a\\b>", Verdict::IllegalChar(62), Verdict::IllegalChar(62)),
-    ("a>b\\*", Verdict::IllegalChar(62), Verdict::IllegalChar(62)),
-    ("a\\/\\*", Verdict::IllegalChar(47), Verdict::EmptyComponent),
-    (
-        "\\\\>\\\\",
-        Verdict::EmptyComponent,
-        Verdict::EmptyComponent,
-    ),
+    (r"a\\b>", Verdict::EmptyComponent, Verdict::EmptyComponent),
+    (r"a>\\b", Verdict::IllegalChar(62), Verdict::IllegalChar(62)),
+    (r"a\b>", Verdict::IllegalChar(62), Verdict::IllegalChar(62)),
+    (r"a>b\*", Verdict::IllegalChar(62), Verdict::IllegalChar(62)),
+    (r"a\/\*", Verdict::IllegalChar(47), Verdict::EmptyComponent),
+    (r"\\>\\", Verdict::EmptyComponent, Verdict::EmptyComponent),
 ];
 
 /// As many other characters, with these at the place.

@@ -16,7 +16,7 @@ fn copies(rt: &HostRuntime, path: Path<'_>, want: &str) -> Result<bool, Fail> {
 
 #[test]
 fn long_buffers(rt: HostRuntime) -> Result<(), Fail> {
-    let want = repeated(rt.alloc(), "é\\", 50_000)?;
+    let want = repeated(rt.alloc(), r"é\", 50_000)?;
     let text = string(rt.alloc(), &repeated(rt.alloc(), "é/", 50_000)?)?;
     assert!(rt; copies(&rt, Path::new(text.as_cstr16()), &want)?);
     Ok(())
@@ -24,7 +24,7 @@ fn long_buffers(rt: HostRuntime) -> Result<(), Fail> {
 
 #[test]
 fn long_paths_pushed_and_joined(rt: HostRuntime) -> Result<(), Fail> {
-    let twice = repeated(rt.alloc(), "é\\", 100_000)?;
+    let twice = repeated(rt.alloc(), r"é\", 100_000)?;
     let text = twice.get(..twice.len() / 2).unwrap_or("");
     assert!(rt; joins_and_pushes(&rt, text, text, &twice)?);
     Ok(())
@@ -33,8 +33,8 @@ fn long_paths_pushed_and_joined(rt: HostRuntime) -> Result<(), Fail> {
 #[test]
 fn parents_of_long_paths(rt: HostRuntime) -> Result<(), Fail> {
     let mut text = repeated(rt.alloc(), "ab", 50_000)?;
-    text.push_str("\\c")?;
-    let want = text.strip_suffix("\\c");
+    text.push_str(r"\c")?;
+    let want = text.strip_suffix(r"\c");
     assert!(rt; want.is_some() && has_parent(&rt, &text, want, want)?);
     Ok(())
 }
@@ -42,11 +42,11 @@ fn parents_of_long_paths(rt: HostRuntime) -> Result<(), Fail> {
 /// Each other component is empty and left out, and the separator at the end stands for the last of them.
 #[test]
 fn parents_of_long_paths_with_empty_components(rt: HostRuntime) -> Result<(), Fail> {
-    let mut text = repeated(rt.alloc(), "a\\\\", 33_334)?;
+    let mut text = repeated(rt.alloc(), r"a\\", 33_334)?;
     text.push_str("b")?;
-    let want = repeated(rt.alloc(), "a\\", 33_334)?;
+    let want = repeated(rt.alloc(), r"a\", 33_334)?;
     assert!(rt; has_parent(&rt, &text, Some(&want), Some(&want))?);
-    let mut text = repeated(rt.alloc(), "\\", 50_000)?;
+    let mut text = repeated(rt.alloc(), r"\", 50_000)?;
     assert!(rt; has_parent(&rt, &text, Some(""), Some(""))?);
     text.push_str(&repeated(rt.alloc(), "ab", 50_000)?)?;
     assert!(rt; has_parent(&rt, &text, Some(""), Some(""))?);

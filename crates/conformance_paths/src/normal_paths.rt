@@ -18,18 +18,18 @@ fn is_normal_path(rt: &HostRuntime, text: &str, want: &str) -> Result<bool, Fail
 
 /// Texts, and those of their normal paths.
 pub(crate) const NORMAL: &[(&str, &str)] = &[
-    ("a\\..\\b", "b"),
-    ("a\\b\\..\\..\\c", "c"),
-    ("a\\.\\b\\..\\..", "\\"),
-    (".", "\\"),
-    ("\\", "\\"),
-    ("\\a\\.", "a"),
-    ("...\\b", "...\\b"),
-    ("\\a\\b", "a\\b"),
-    ("a\\..", "\\"),
-    ("a\\b\\..\\.\\..\\c", "c"),
-    ("a\\.\\..\\b", "b"),
-    (".a\\a.\\.. \\ .", ".a\\a.\\.. \\ ."),
+    (r"a\..\b", "b"),
+    (r"a\b\..\..\c", "c"),
+    (r"a\.\b\..\..", r"\"),
+    (".", r"\"),
+    (r"\", r"\"),
+    (r"\a\.", "a"),
+    (r"...\b", r"...\b"),
+    (r"\a\b", r"a\b"),
+    (r"a\..", r"\"),
+    (r"a\b\..\.\..\c", "c"),
+    (r"a\.\..\b", "b"),
+    (r".a\a.\.. \ .", r".a\a.\.. \ ."),
     ("é\\\u{ffff}\\..", "é"),
 ];
 
@@ -55,13 +55,13 @@ fn paths_without_normal_path(rt: HostRuntime) -> Result<(), Fail> {
     let slash = Char16::try_from('/')?;
     for (text, why) in [
         ("", PathError::Empty),
-        ("a\\\\..", PathError::EmptyComponent),
-        ("a\\..\\", PathError::EmptyComponent),
+        (r"a\\..", PathError::EmptyComponent),
+        (r"a\..\", PathError::EmptyComponent),
         ("a/..", PathError::IllegalChar(slash)),
-        ("..\\a", PathError::ClimbsAboveRoot),
-        ("a\\..\\..", PathError::ClimbsAboveRoot),
-        (".\\..\\a", PathError::ClimbsAboveRoot),
-        ("a\\\\..\\..", PathError::EmptyComponent),
+        (r"..\a", PathError::ClimbsAboveRoot),
+        (r"a\..\..", PathError::ClimbsAboveRoot),
+        (r".\..\a", PathError::ClimbsAboveRoot),
+        (r"a\\..\..", PathError::EmptyComponent),
     ] {
         assert!(rt; is_refused(&rt, text, why)?, "{text}");
     }
@@ -70,10 +70,10 @@ fn paths_without_normal_path(rt: HostRuntime) -> Result<(), Fail> {
 
 #[test]
 fn long_paths(rt: HostRuntime) -> Result<(), Fail> {
-    let mut text = repeated(rt.alloc(), "ab\\", 50_000)?;
+    let mut text = repeated(rt.alloc(), r"ab\", 50_000)?;
     text.push_str("c")?;
     assert!(rt; is_normal_path(&rt, &text, &text)?);
-    text.push_str(&repeated(rt.alloc(), "\\..", 50_000)?)?;
+    text.push_str(&repeated(rt.alloc(), r"\..", 50_000)?)?;
     assert!(rt; is_normal_path(&rt, &text, "ab")?);
     Ok(())
 }
@@ -117,10 +117,10 @@ fn count_requests(rt: &HostRuntime, text: &str, want: &str) -> Result<u64, Fail>
 #[test]
 fn requests_of_normal_paths(rt: HostRuntime) -> Result<(), Fail> {
     for (text, want, count) in [
-        ("a\\b", "a\\b", 2),
-        ("a\\..\\.\\b", "b", 1),
-        (".", "\\", 2),
-        ("a\\b\\c\\d\\e\\f", "a\\b\\c\\d\\e\\f", 2),
+        (r"a\b", r"a\b", 2),
+        (r"a\..\.\b", "b", 1),
+        (".", r"\", 2),
+        (r"a\b\c\d\e\f", r"a\b\c\d\e\f", 2),
     ] {
         assert_eq!(rt; count_requests(&rt, text, want)?, count, "{text}");
     }
@@ -130,7 +130,7 @@ fn requests_of_normal_paths(rt: HostRuntime) -> Result<(), Fail> {
 /// A fault is reported before memory is asked for.
 #[test]
 fn faults_come_before_requests(rt: HostRuntime) -> Result<(), Fail> {
-    let text = string(rt.alloc(), "a\\b\\c\\d\\e\\")?;
+    let text = string(rt.alloc(), r"a\b\c\d\e\")?;
     let count = requests(rt.alloc(), 0, |heap| {
         let answer = Path::new(text.as_cstr16()).normalize(heap);
         Ok(matches!(

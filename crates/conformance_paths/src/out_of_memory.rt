@@ -205,14 +205,14 @@ fn count_of(rt: &HostRuntime, call: Call, setup: u64, texts: [&str; 3]) -> Resul
     requests(rt.alloc(), setup, |heap| answers(call, heap, row))
 }
 
-const LONG: &str = "/efi\\boot\\loader\\entries\\2026\\linux\\initrd.img";
+const LONG: &str = r"/efi\boot\loader\entries\2026\linux\initrd.img";
 
-const LONG_PARENT: &str = "\\efi\\boot\\loader\\entries\\2026\\linux";
+const LONG_PARENT: &str = r"\efi\boot\loader\entries\2026\linux";
 
 /// A text without slash and leading separator, and its parent.
-const PLAIN: &str = "efi\\boot\\loader\\entries\\2026\\linux\\initrd.img";
+const PLAIN: &str = r"efi\boot\loader\entries\2026\linux\initrd.img";
 
-const PLAIN_PARENT: &str = "efi\\boot\\loader\\entries\\2026\\linux";
+const PLAIN_PARENT: &str = r"efi\boot\loader\entries\2026\linux";
 
 /// A text of 256 characters, which a push makes ready in memory that it asks for, and its path.
 const LONGEST: &str = "/efi\\boot\\loader\\entries\\2026\\linux\\kernels\\v6.18-generic\\initrd\
@@ -233,49 +233,43 @@ type Counted = (Call, u64, [&'static str; 3], u64, u64);
 /// its separators, where it has any.
 const ROWS: &[Counted] = &[
     (Call::New, 0, ["", "", ""], 1, 1),
-    (Call::NewFromCString16, 1, ["a/b", "", "a\\b"], 1, 1),
-    (Call::NewFromCString16, 1, ["a/bc", "", "a\\bc"], 1, 1),
+    (Call::NewFromCString16, 1, ["a/b", "", r"a\b"], 1, 1),
+    (Call::NewFromCString16, 1, ["a/bc", "", r"a\bc"], 1, 1),
     (Call::NewFromCString16, 1, ["ab", "", "ab"], 0, 0),
-    (Call::From, 0, ["/a\\b", "", "\\a\\b"], 2, 2),
-    (Call::ToPathBuf, 0, ["/a\\b", "", "\\a\\b"], 2, 2),
-    (Call::Join, 0, ["/a\\b", "c/d", "\\a\\b\\c\\d"], 2, 3),
-    (
-        Call::Join,
-        0,
-        ["a\\b", "\\\\\\\\\\\\\\", "a\\b\\\\\\\\\\\\\\\\"],
-        3,
-        9,
-    ),
+    (Call::From, 0, [r"/a\b", "", r"\a\b"], 2, 2),
+    (Call::ToPathBuf, 0, [r"/a\b", "", r"\a\b"], 2, 2),
+    (Call::Join, 0, [r"/a\b", "c/d", r"\a\b\c\d"], 2, 3),
+    (Call::Join, 0, [r"a\b", r"\\\\\\\", r"a\b\\\\\\\\"], 3, 9),
     (Call::Parent, 0, [LONG, "", LONG_PARENT], 2, 2),
-    (Call::Parent, 0, ["a\\\\b", "", "a\\"], 2, 2),
-    (Call::Parent, 0, ["\\\\b", "", ""], 1, 1),
-    (Call::CloneBuffer, 2, ["a\\b", "", ""], 2, 2),
-    (Call::JoinBuffer, 2, ["a\\b", "/c", "a\\b\\\\c"], 2, 2),
+    (Call::Parent, 0, [r"a\\b", "", r"a\"], 2, 2),
+    (Call::Parent, 0, [r"\\b", "", ""], 1, 1),
+    (Call::CloneBuffer, 2, [r"a\b", "", ""], 2, 2),
+    (Call::JoinBuffer, 2, [r"a\b", "/c", r"a\b\\c"], 2, 2),
     (
         Call::JoinBuffer,
         2,
-        ["a\\b", "\\\\\\\\\\\\\\", "a\\b\\\\\\\\\\\\\\\\"],
+        [r"a\b", r"\\\\\\\", r"a\b\\\\\\\\"],
         2,
         2,
     ),
     (Call::ParentOfBuffer, 2, [PLAIN, "", PLAIN_PARENT], 2, 2),
-    (Call::ParentOfBuffer, 2, ["a\\b", "", "a"], 1, 1),
-    (Call::ParentOfBuffer, 2, ["a\\\\b", "", "a\\"], 2, 2),
+    (Call::ParentOfBuffer, 2, [r"a\b", "", "a"], 1, 1),
+    (Call::ParentOfBuffer, 2, [r"a\\b", "", r"a\"], 2, 2),
     (
         Call::Push,
         2,
-        ["a\\b", "cd/ef/gh/ij", "a\\b\\cd\\ef\\gh\\ij"],
+        [r"a\b", "cd/ef/gh/ij", r"a\b\cd\ef\gh\ij"],
         2,
         97,
     ),
     (Call::Push, 1, ["", LONGEST, PUSHED_LONGEST], 3, 97),
-    (Call::PushCounted, 2, ["a\\b", "c", "a\\b\\c"], 2, 2),
+    (Call::PushCounted, 2, [r"a\b", "c", r"a\b\c"], 2, 2),
     (Call::PushCounted, 1, ["", LONGEST, PUSHED_LONGEST], 3, 97),
-    (Call::Normalize, 0, ["a\\..\\b", "", "b"], 1, 1),
-    (Call::Normalize, 0, ["a\\b", "", "a\\b"], 2, 2),
-    (Call::Clear, 2, ["a\\b", "", "a\\b"], 0, 0),
-    (Call::IntoCString16, 2, ["a/b", "", "a\\b"], 0, 0),
-    (Call::Nothing, 2, ["\\a", "", ""], 0, 0),
+    (Call::Normalize, 0, [r"a\..\b", "", "b"], 1, 1),
+    (Call::Normalize, 0, [r"a\b", "", r"a\b"], 2, 2),
+    (Call::Clear, 2, [r"a\b", "", r"a\b"], 0, 0),
+    (Call::IntoCString16, 2, ["a/b", "", r"a\b"], 0, 0),
+    (Call::Nothing, 2, [r"\a", "", ""], 0, 0),
     (Call::Nothing, 1, ["b", "", ""], 0, 0),
 ];
 
@@ -292,24 +286,24 @@ fn requests_of_each_call(rt: HostRuntime) -> Result<(), Fail> {
 const ROWS_OF_EACH_SIZE: &[Counted] = &[
     (Call::NewFromCString16, 1, ["@", "", "@"], 0, 0),
     (Call::NewFromCString16, 1, ["#", "", "#"], 1, 1),
-    (Call::NewFromCString16, 1, ["@/@", "", "@\\@"], 1, 1),
+    (Call::NewFromCString16, 1, ["@/@", "", r"@\@"], 1, 1),
     (Call::From, 0, ["@", "", "@"], 1, 1),
-    (Call::From, 0, ["/#", "", "\\#"], 2, 2),
-    (Call::ToPathBuf, 0, ["#/a", "", "#\\a"], 2, 2),
-    (Call::Parent, 0, ["#\\@", "", "#"], 2, 2),
-    (Call::Parent, 0, ["@\\b", "", "@"], 1, 1),
-    (Call::Parent, 0, ["#\\\\@", "", "#\\"], 2, 2),
-    (Call::Parent, 0, ["\\\\#\\b", "", "#"], 2, 2),
+    (Call::From, 0, ["/#", "", r"\#"], 2, 2),
+    (Call::ToPathBuf, 0, ["#/a", "", r"#\a"], 2, 2),
+    (Call::Parent, 0, [r"#\@", "", "#"], 2, 2),
+    (Call::Parent, 0, [r"@\b", "", "@"], 1, 1),
+    (Call::Parent, 0, [r"#\\@", "", r"#\"], 2, 2),
+    (Call::Parent, 0, [r"\\#\b", "", "#"], 2, 2),
     (Call::CloneBuffer, 2, ["#", "", ""], 2, 2),
-    (Call::JoinBuffer, 2, ["#", "b", "#\\b"], 2, 2),
-    (Call::ParentOfBuffer, 2, ["#\\@", "", "#"], 2, 2),
-    (Call::ParentOfBuffer, 2, ["@\\b", "", "@"], 1, 1),
-    (Call::ParentOfBuffer, 2, ["#\\\\@", "", "#\\"], 2, 2),
-    (Call::ParentOfBuffer, 2, ["\\\\#\\b", "", "#"], 2, 2),
-    (Call::Push, 2, ["#", "b", "#\\b"], 2, 2),
-    (Call::PushCounted, 2, ["#", "b", "#\\b"], 2, 2),
+    (Call::JoinBuffer, 2, ["#", "b", r"#\b"], 2, 2),
+    (Call::ParentOfBuffer, 2, [r"#\@", "", "#"], 2, 2),
+    (Call::ParentOfBuffer, 2, [r"@\b", "", "@"], 1, 1),
+    (Call::ParentOfBuffer, 2, [r"#\\@", "", r"#\"], 2, 2),
+    (Call::ParentOfBuffer, 2, [r"\\#\b", "", "#"], 2, 2),
+    (Call::Push, 2, ["#", "b", r"#\b"], 2, 2),
+    (Call::PushCounted, 2, ["#", "b", r"#\b"], 2, 2),
     (Call::Normalize, 0, ["@", "", "@"], 1, 1),
-    (Call::Normalize, 0, ["@\\..", "", "\\"], 2, 2),
+    (Call::Normalize, 0, [r"@\..", "", r"\"], 2, 2),
     (Call::IntoCString16, 2, ["#", "", "#"], 0, 0),
     (Call::Nothing, 1, ["@", "", ""], 0, 0),
 ];
@@ -339,7 +333,7 @@ fn spread_count(rt: &HostRuntime, row: &Counted, name: &str, names: &str) -> Res
 /// The first of the rows whose call makes another number of requests, and how many.
 fn find_wrong(rt: &HostRuntime, size: u64) -> Result<Option<(usize, u64)>, Fail> {
     let name = repeated(rt.alloc(), "a", size)?;
-    let mut names = repeated(rt.alloc(), "ab\\", size)?;
+    let mut names = repeated(rt.alloc(), r"ab\", size)?;
     names.push('c')?;
     for (row, counted) in ROWS_OF_EACH_SIZE.iter().enumerate() {
         let (_, _, _, least, most) = counted;
@@ -365,7 +359,7 @@ fn requests_of_calls_of_each_size(rt: HostRuntime) -> Result<(), Fail> {
 #[test]
 fn requests_after_clearing(rt: HostRuntime) -> Result<(), Fail> {
     for (size, count) in [(10, 0), (64, 0), (84, 0), (85, 1), (300, 1), (5000, 1)] {
-        let mut names = repeated(rt.alloc(), "ab\\", size)?;
+        let mut names = repeated(rt.alloc(), r"ab\", size)?;
         names.push('c')?;
         assert_eq!(rt;
             count_of(&rt, Call::Clear, 2, [&names, "", &names])?,

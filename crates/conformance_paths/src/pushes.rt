@@ -66,21 +66,21 @@ pub(crate) fn joins_and_pushes(
 const PUSHES: &[(&str, &str, &str)] = &[
     ("", "", ""),
     ("", "a", "a"),
-    ("", "/b", "\\b"),
-    ("", "\\x", "\\x"),
-    ("", "/x/y", "\\x\\y"),
+    ("", "/b", r"\b"),
+    ("", r"\x", r"\x"),
+    ("", "/x/y", r"\x\y"),
     ("a", "", "a"),
     ("b", "", "b"),
-    ("a", "b", "a\\b"),
-    ("a\\", "b", "a\\b"),
-    ("a/", "b", "a\\b"),
-    ("a", "/b", "a\\\\b"),
-    ("a", "\\b", "a\\\\b"),
-    ("\\first", "second", "\\first\\second"),
-    ("a", "b/c", "a\\b\\c"),
-    ("\\", "x", "\\x"),
-    ("\\", "\\x", "\\\\x"),
-    ("a\\b", "c\\d", "a\\b\\c\\d"),
+    ("a", "b", r"a\b"),
+    (r"a\", "b", r"a\b"),
+    ("a/", "b", r"a\b"),
+    ("a", "/b", r"a\\b"),
+    ("a", r"\b", r"a\\b"),
+    (r"\first", "second", r"\first\second"),
+    ("a", "b/c", r"a\b\c"),
+    (r"\", "x", r"\x"),
+    (r"\", r"\x", r"\\x"),
+    (r"a\b", r"c\d", r"a\b\c\d"),
 ];
 
 #[test]
@@ -107,21 +107,21 @@ fn several_pushes(rt: HostRuntime) -> Result<(), Fail> {
     let rows: [(&[&str], &str, &str); 5] = [
         (
             &["first", "second", "third"],
-            "first\\second\\third",
-            "\\first\\second\\third",
+            r"first\second\third",
+            r"\first\second\third",
         ),
-        (&["\\first", "second"], "\\first\\second", "first\\second"),
+        (&[r"\first", "second"], r"\first\second", r"first\second"),
         (
-            &["\\first", "", "second"],
-            "\\first\\second",
-            "first\\second",
+            &[r"\first", "", "second"],
+            r"\first\second",
+            r"first\second",
         ),
         (
             &["first", "", "", "", "second"],
-            "first\\second",
-            "\\first\\second",
+            r"first\second",
+            r"\first\second",
         ),
-        (&["a", "b"], "a\\b", "\\a\\b"),
+        (&["a", "b"], r"a\b", r"\a\b"),
     ];
     for (parts, want, equal) in rows {
         let path = pushed_in_turn(&rt, parts)?;

@@ -22,7 +22,7 @@ fn are_ranked(rt: &HostRuntime, text: &str, shorter: &str) -> Result<bool, Fail>
 /// Whether pushes of 1 to 3 separators onto others add them, written either way.
 fn are_added(rt: &HostRuntime, separators: &str, count: usize) -> Result<bool, Fail> {
     let text = separators.get(..count).unwrap_or("");
-    for (pushed, slashes) in [("\\", "/"), ("\\\\", "//"), ("\\\\\\", "///")] {
+    for (pushed, slashes) in [(r"\", "/"), (r"\\", "//"), (r"\\\", "///")] {
         let want = separators
             .get(..count.saturating_add(pushed.len()))
             .unwrap_or("");
@@ -39,7 +39,7 @@ fn are_added(rt: &HostRuntime, separators: &str, count: usize) -> Result<bool, F
 #[test]
 fn separators_alone(rt: HostRuntime) -> Result<(), Fail> {
     let (separators, bars) = (
-        repeated(rt.alloc(), "\\", 99)?,
+        repeated(rt.alloc(), r"\", 99)?,
         repeated(rt.alloc(), "|", 99)?,
     );
     for count in [2usize, 3, 4, 5, 6, 63, 64, 65] {

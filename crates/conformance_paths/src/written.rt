@@ -88,7 +88,7 @@ fn written_normal_paths(rt: HostRuntime) -> Result<(), Fail> {
             "{text}"
         );
     }
-    for text in ["", "a\\\\..", "a\\..\\", "a/..", "..\\a", "a\\..\\.."] {
+    for text in ["", r"a\\..", r"a\..\", "a/..", r"..\a", r"a\..\.."] {
         let text = string(rt.alloc(), text)?;
         assert!(rt;
             normal_path_is_written(Path::new(text.as_cstr16()), None),
