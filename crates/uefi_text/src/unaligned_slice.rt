@@ -48,9 +48,11 @@ const TESTED: usize = 64;
 /// shares: so the compiler makes one call of `memmove` for each block, and leaves the block out.
 const COPIED: usize = 4096;
 
-/// So few items are copied one by one, or through a block as long: a call of `memmove` costs more than it
-/// saves.
+/// So few items are copied one by one: a call of `memmove` costs more than it saves.
 const FEW_ITEMS: usize = 64;
+
+/// How many of few items become a part of a vector at a time.
+const PIECE: usize = 16;
 
 /// A view of items that lie packed in borrowed bytes, which may begin at any address. A contract
 /// sees it as `items_of` it: the list of the items' numbers. A call that takes an allocator takes
@@ -321,7 +323,7 @@ impl<'a, T: Packed> UnalignedSlice<'a, T> {
             return Ok(items);
         };
         if self.len <= FEW_ITEMS {
-            push_blocks(self.bytes, self.len, &mut [first; FEW_ITEMS], &mut items);
+            push_blocks(self.bytes, self.len, &mut [first; PIECE], &mut items);
         } else {
             push_blocks(self.bytes, self.len, &mut [first; COPIED], &mut items);
         }
