@@ -11,7 +11,8 @@ use Rattle.uefi_path.specs.Components.{IsPiece, components_of, joined, pieces_be
 use Rattle.uefi_path.specs.Parents.{all_but_last, parent_text}
 use Rattle.uefi_path.specs.Separators.{canonical, is_separator, separator}
 use Rattle.uefi_path.specs.SuccessiveParents.{AreParents, prefixes, shorter_prefixes}
-use Rattle.uefi_path.proofs.LastPieces.{IsLastStart, around, last_piece, passes_over, without_separator}
+use Rattle.uefi_path.proofs.LastPieces.{IsLastStart, around, last_piece, without_separator}
+use Rattle.uefi_path.proofs.Splitting.{passes_over}
 use Rattle.uefi_c.specs.PathPlaces.{components_from}
 
 -- a place that is not found stands after all units

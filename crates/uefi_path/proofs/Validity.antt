@@ -1,6 +1,6 @@
 -- Texts that name files: each of their components is good, which is that it has no fault.
 use Rattle.uefi_text.specs.Units.{replaced}
-use Rattle.std.proofs.Common.{◌≡◌, ◌≢◌, ℕ, List, [], ◌∷◌, ◌++◌, if◌then◌else◌, All, Bool, true, false, Option, None, Some, inl, inr, ap, sym, refl, subst, ◌∙◌, ◌⊎◌}
+use Rattle.std.proofs.Common.{◌≡◌, ◌≢◌, ℕ, List, [], ◌∷◌, ◌++◌, if◌then◌else◌, All, Bool, true, false, Option, None, Some, inl, inr, ap, sym, refl, subst, ◌∙◌, ◌⊎◌, arith, length, length-append}
 use Rattle.std.specs.List.{find}
 use Rattle.std.specs.Option.{option_map}
 use Rattle.std.proofs.lemmas.Bool.{cases_Bool, cond-false, cond-true, eqb-true, true≢false}
@@ -151,16 +151,12 @@ valid-open text valid =
     open_pieces text (components_of text) (AreComponents-components_of text).join
     (valid-components text valid)
 
-append-non_empty : (us : List ℕ) (v : ℕ) (vs : List ℕ) → us ++ v ∷ vs ≢ []
-append-non_empty [] v vs e = cc
-append-non_empty (u ∷ us) v vs e = cc
-
 appended-non_empty : (text : List ℕ) (u : ℕ) (us : List ℕ) → appended text (u ∷ us) ≢ []
 appended-non_empty text u us =
     elim (needs_separator text)
     as (λ b. (if b then text ++ separator ∷ u ∷ us else text ++ u ∷ us) ≢ []) [
-      | true ↦ append-non_empty text separator (u ∷ us)
-      | false ↦ append-non_empty text u us
+      | true ↦ λ e. omega (arith, ap length e, length-append text (separator ∷ u ∷ us))
+      | false ↦ λ e. omega (arith, ap length e, length-append text (u ∷ us))
     ]
 
 pushed-not_empty : (text part : List ℕ) → part ≢ [] → pushed text part ≢ []

@@ -26,27 +26,30 @@ written len (t ∷ ts) text long inside =
     ∙ ap (λ us. us ++ 0 ∷ []) (take-put_mid 1 k (separator ∷ ts) text (len + 1) (omega (arith, long)) (omega arith))
 
 -- what is taken of it
-taken : (is_missing : Bool) (len start : ℕ) (all text : List ℕ) → start ≡ cond (not is_missing) 1 0
-    → take (len + 2) all ≡ separator ∷ (text ++ 0 ∷ [])
-    → slice_range all start (len + 2) ≡ nul_terminated (if is_missing then separator ∷ text else text)
-taken true len start all text begins is =
+taken : (is_missing : Bool) (len start : ℕ) (room text : List ℕ) → start ≡ cond (not is_missing) 1 0
+    → length text ≡ len → len + 1 < length room
+    → slice_range (set (put_mid 1 (len + 1 - 1) (set room 0 separator) text) (len + 1) 0) start (len + 2)
+    ≡ nul_terminated (if is_missing then separator ∷ text else text)
+taken true len start room text begins long inside =
+    let all = set (put_mid 1 (len + 1 - 1) (set room 0 separator) text) (len + 1) 0 in
     let whole : len + 2 - 0 ≡ len + 2 = omega arith in
-    ap (λ n. take (len + 2 - n) (drop n all)) begins ∙ ap (λ n. take n all) whole ∙ is
-taken false len start all text begins is =
+    ap (λ n. take (len + 2 - n) (drop n all)) begins ∙ ap (λ n. take n all) whole ∙ written len room text long inside
+taken false len start room text begins long inside =
+    let all = set (put_mid 1 (len + 1 - 1) (set room 0 separator) text) (len + 1) 0 in
     let whole : 1 + (len + 2 - 1) ≡ len + 2 = omega arith in
     ap (λ n. take (len + 2 - n) (drop n all)) begins
     ∙ sym (drop-take 1 (len + 2 - 1) all)
     ∙ ap (λ n. drop 1 (take n all)) whole
-    ∙ ap (drop 1) is
+    ∙ ap (drop 1) (written len room text long inside)
 
 pub from_string-requires : goal.from_string-requires
 from_string-requires c =
     let us = counted_text c.args.units.now in
     let len = c.len-len.result in
     let long : length (with_separators us) ≡ len = length-map us (replaced slash separator) ∙ sym c.len-len.ensures.same in
-    let room = written len c.args.room.now (with_separators us) long (omega (arith, c.requires.room, c.len-len.ensures.same)) in
     rw (c.from.ensures.0, c.copy_units.ensures.tail)
-    (IsString-made _ _ (taken c.args.is_missing len c.from-2.result _ (with_separators us) (grind (arith, common_steps, c.from-2.ensures)) room)
+    (IsString-made _ _ (taken c.args.is_missing len c.from-2.result c.args.room.now (with_separators us)
+    (grind (arith, common_steps, c.from-2.ensures)) long (omega (arith, c.requires.room, c.len-len.ensures.same)))
     (IsText-tail us c.args.is_missing c.len-len.ensures.is_text))
 
 pub returns-clause-tail : goal.returns-clause-tail
@@ -54,8 +57,8 @@ returns-clause-tail c =
     let us = counted_text c.args.units.now in
     let len = c.len-len.result in
     let long : length (with_separators us) ≡ len = length-map us (replaced slash separator) ∙ sym c.len-len.ensures.same in
-    let room = written len c.args.room.now (with_separators us) long (omega (arith, c.requires.room, c.len-len.ensures.same)) in
     c.from_string.ensures
     ∙ rw (c.from.ensures.0, c.copy_units.ensures.tail)
-    (ap without_nul (taken c.args.is_missing len c.from-2.result _ (with_separators us) (grind (arith, common_steps, c.from-2.ensures)) room)
+    (ap without_nul (taken c.args.is_missing len c.from-2.result c.args.room.now (with_separators us)
+    (grind (arith, common_steps, c.from-2.ensures)) long (omega (arith, c.requires.room, c.len-len.ensures.same)))
     ∙ without_nul-nul_terminated _)
