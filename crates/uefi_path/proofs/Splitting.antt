@@ -1,6 +1,6 @@
 -- The components of a text: there is exactly one list of them, what stands between the separators.
 use Rattle.std.proofs.Common.{◌≡◌, ◌≢◌, ℕ, ◌+◌, ◌≤◌, false, List, [], ◌∷◌, length, Some, arith, sym, ◌∙◌, ap, refl, All, subst, inl, inr, get_or}
-use Rattle.std.specs.List.{slice_split, onto_first}
+use Rattle.std.specs.List.{list_any, slice_split, onto_first}
 use Rattle.std.proofs.lemmas.Bool.{cases_Bool, eqb-false, ne_eqb}
 use Rattle.std.proofs.lemmas.List.Elements.{All-nil, All-cons, All-head, All-tail, All-map, All-weaker}
 use Rattle.std.proofs.lemmas.List.Splits.{length-slice_split, slice_split_none, slice_split_at, slice_split-cons_yes, slice_split-cons_no, join_with_byte-slice_split}
@@ -8,7 +8,7 @@ use Rattle.std.proofs.lemmas.List.Sums.{count_by-le-length}
 use Rattle.std.proofs.lemmas.Grind.{common_steps}
 use Rattle.uefi_text.specs.Units.{replaced}
 use Rattle.uefi_path.specs.Components.{joined, IsPiece, AreComponents, components_of, hint_of_pieces, pieces_between}
-use Rattle.uefi_path.specs.Separators.{separator, slash, is_separator, canonical, with_separators, IsPlain}
+use Rattle.uefi_path.specs.Separators.{separator, slash, is_separator, is_slash, canonical, with_separators, IsPlain}
 
 -- lists of which the first gets another first element: what holds of it and of theirs holds of all
 pub All-onto_first : (P : ℕ → Type 0) (u : ℕ) (ps : List (List ℕ)) → P u → All (All P) ps
@@ -116,6 +116,13 @@ hint_of_split us =
 
 from_string : (unit : ℕ) → replaced slash separator unit ≢ slash
 from_string unit e = grind (arith, common_steps)
+
+-- a text in which no slash is found is plain
+pub IsPlain-no_slash : (text : List ℕ) → list_any is_slash text ≡ false → IsPlain text
+IsPlain-no_slash [] none = All-nil (λ unit. unit ≢ slash)
+IsPlain-no_slash (unit ∷ units) none =
+    let first : unit ≢ slash = λ is. grind (arith, common_steps) in
+    All-cons (λ unit. unit ≢ slash) unit units first (IsPlain-no_slash units (grind (arith, common_steps)))
 
 -- a text in which each slash was replaced has none
 pub IsPlain-with_separators : (text : List ℕ) → IsPlain (with_separators text)

@@ -11,6 +11,10 @@ separator = 92
 abbrev pub slash : ℕ
 slash = 47
 
+-- the test for a slash
+abbrev pub is_slash : ℕ → Bool
+is_slash unit = unit == slash
+
 abbrev pub is_separator : ℕ → Bool
 is_separator unit = unit == separator
 

@@ -1,12 +1,12 @@
 //! Paths that are owned, and the calls of [`Path`] that make one.
 ghost use Rattle.std.specs.Prelude.{◌≡◌, ◌≢◌, ℕ, ◌+◌, ◌<◌, ◌≤◌, ◌^◌, ◌↔◌, [], ◌∷◌, ◌++◌, All, List, Some, None, drop, fold, false, if◌then◌else◌, length, map, option_map, ◌-◌, IsTrue, IsOk, IsSome, IfOk, IfErr, IfSome, OnOk, OnErr};
-ghost use Rattle.std.specs.List.{last_or, slice_range, slice_split};
+ghost use Rattle.std.specs.List.{last_or, list_any, slice_range, slice_split};
 ghost use Rattle.uefi_path.specs.Components.{AreComponents, IsPiece, StartsWith, components_of};
 ghost use Rattle.uefi_path.specs.Components as pieces_joined;
 ghost use Rattle.uefi_path.specs.Parents.{is_non_empty, parent_of_components, parent_text};
 ghost use Rattle.uefi_path.specs.Runs.{GivesNoNulIn};
 ghost use Rattle.uefi_path.specs.Pushing.{appended, needs_separator, pushed};
-ghost use Rattle.uefi_path.specs.Separators.{IsPlain, canonical, is_separator, places_of, with_separators};
+ghost use Rattle.uefi_path.specs.Separators.{IsPlain, canonical, is_slash, is_separator, places_of, with_separators};
 ghost use Rattle.uefi_path.specs.SuccessiveParents.{parent_chain, parents_of};
 ghost use Rattle.uefi_path.specs.Views.{components_left, path_text};
 ghost use Rattle.uefi_text.specs.Units.{IsText};
@@ -104,6 +104,17 @@ const ROOM: usize = 32;
 
 /// How many it has for a longer one. What is longer still is made in memory that it asks for.
 const LONG_ROOM: usize = 256;
+
+/// Replaces each slash of a string, of which it is known whether it has one.
+#[inline(always)]
+fn replace_slashes<A: Allocator>(string: &mut CString16<A>, has_slash: bool)
+    requires { has_slash ≡ list_any is_slash string.old }
+    ensures { string.new ≡ with_separators string.old }
+{
+    if has_slash {
+        string.replace_char(SLASH, SEPARATOR);
+    }
+}
 
 /// How long a path becomes at most, when another is pushed after it.
 fn room_for_both(path: Path<'_>, other: Path<'_>) -> usize {
@@ -215,11 +226,11 @@ impl<A: Allocator + Copy> PathBuf<A> {
         ensures ok { IfOk result (λ path. path ≡ with_separators string) }
         ensures err { IfErr result (λ kept. kept ≡ string) }
     {
-        let count = count_separators(string.as_cstr16().to_u16_slice());
+        let (count, has_slash) = count_separators(string.as_cstr16().to_u16_slice());
         let Ok(mut places) = Vec::with_capacity(alloc, count) else {
             return Err(string);
         };
-        string.replace_char(SLASH, SEPARATOR);
+        replace_slashes(&mut string, has_slash);
         add_places(&mut places, string.as_cstr16().to_u16_slice(), 0);
         Ok(PathBuf { string, places })
     }
@@ -307,7 +318,8 @@ impl<A: Allocator + Copy> PathBuf<A> {
     {
         let end = self.string.num_chars();
         let tail = make_tail(room, needs_separator(&self.string), units);
-        self.places.reserve(count_separators(tail.to_u16_slice()))?;
+        self.places
+            .reserve(count_separators(tail.to_u16_slice()).0)?;
         self.string.push_str(tail)?;
         add_places(
             &mut self.places,
@@ -324,8 +336,8 @@ impl<A: Allocator + Copy> PathBuf<A> {
         let room = room_for_both(self.as_path(), path);
         let mut string = CString16::with_capacity(self.alloc(), room)?;
         string.push_str(self.string.as_cstr16())?;
-        let added = count_separators(path.to_cstr16().to_u16_slice()).saturating_add(1);
-        let room = self.places.len().saturating_add(added);
+        let (count, _) = count_separators(path.to_cstr16().to_u16_slice());
+        let room = self.places.len().saturating_add(count).saturating_add(1);
         let mut places = Vec::with_capacity(self.alloc(), room)?;
         places.extend_from_slice(self.places.as_slice())?;
         Ok(PathBuf { string, places })

@@ -1,12 +1,12 @@
 //! Separators: which units become them, and where they stand. A vector comparison looks at a block of units.
 ghost use Rattle.std.specs.Prelude.{◌≡◌, ◌<◌, ◌≤◌, ◌+◌, ◌-◌, ◌++◌, ◌∷◌, [], IfSome, IsNone, count_by, drop, length, map, slice_index, take};
-ghost use Rattle.std.specs.List.{slice_range, slice_split};
+ghost use Rattle.std.specs.List.{list_any, slice_range, slice_split};
 ghost use Rattle.uefi_path.specs.Components.{IsPiece};
 ghost use Rattle.uefi_path.specs.CutPieces.{are_left, pieces_left};
 ghost use Rattle.std.specs.Option.{option_to_list};
 ghost use Rattle.std.specs.Simd.Lanes.{mask_l};
 ghost use Rattle.std.specs.Vec.{vec_capacity, vec_len};
-ghost use Rattle.uefi_path.specs.Separators.{becomes_separator, is_separator, places_from, separator, slash};
+ghost use Rattle.uefi_path.specs.Separators.{becomes_separator, is_separator, is_slash, places_from, separator, slash};
 ghost use Rattle.uefi_text.specs.Units.{replaced};
 ghost use Rattle.uefi_text.specs.Views.{units_of};
 
@@ -36,34 +36,42 @@ pub(crate) fn with_separator(unit: u16) -> u16
     }
 }
 
-/// How many of a block of units are separators once slashes are replaced.
+/// How many of a block of units are separators once slashes are replaced, and whether one is a slash.
 #[inline(always)]
-fn count_in_block(units: &[u16]) -> u16
+fn count_in_block(units: &[u16]) -> (u16, bool)
     requires { length units.now ≤ 4096 }
-    ensures { result ≡ count_by becomes_separator units.now }
+    ensures count { result.0 ≡ count_by becomes_separator units.now }
+    ensures slash { result.1 ≡ list_any is_slash units.now }
 {
     let mut count = 0;
+    let mut has_slash = false;
     for unit in units {
-        count += u16::from((*unit == 47) | (*unit == 92));
+        let is_slash = *unit == 47;
+        count += u16::from(is_slash | (*unit == 92));
+        has_slash |= is_slash;
     }
-    count
+    (count, has_slash)
 }
 
-/// How many units are separators once slashes are replaced.
+/// How many units are separators once slashes are replaced, and whether one is a slash.
 #[inline(always)]
-pub(crate) fn count_separators(units: &[u16]) -> usize
-    ensures { result ≡ count_by becomes_separator units.now }
+pub(crate) fn count_separators(units: &[u16]) -> (usize, bool)
+    ensures count { result.0 ≡ count_by becomes_separator units.now }
+    ensures slash { result.1 ≡ list_any is_slash units.now }
 {
     let mut count = 0;
+    let mut has_slash = false;
     for block in units.chunks(COUNTED) {
-        count += usize::from(count_in_block(block));
+        let (more, found) = count_in_block(block);
+        count += usize::from(more);
+        has_slash |= found;
     }
-    count
+    (count, has_slash)
 }
 
 /// A bit for each of the first units, set where it is a separator; the first is the lowest.
 #[inline(always)]
-fn see_first<const N: usize>(units: &[u16]) -> u64
+fn separator_bits_first<const N: usize>(units: &[u16]) -> u64
     requires within { N ≤ length units.now }
     requires word { N ≤ 64 }
     ensures { result ≡ mask_l (map is_separator (take N units.now)) }
@@ -75,7 +83,7 @@ fn see_first<const N: usize>(units: &[u16]) -> u64
 
 /// The bits of fewer units than are looked at together.
 #[inline(always)]
-fn see_few(units: &[u16]) -> u64
+fn separator_bits_few(units: &[u16]) -> u64
     requires { length units.now < 16 }
     ensures { result ≡ mask_l (map is_separator units.now) }
 {
@@ -90,19 +98,19 @@ fn see_few(units: &[u16]) -> u64
 
 /// A bit for each of the first units, and how many have one.
 #[inline(always)]
-fn see(units: &[u16]) -> (u64, usize)
+fn separator_bits(units: &[u16]) -> (u64, usize)
     ensures within { result.1 ≤ length units.now }
     ensures some { 0 < length units.now → 0 < result.1 }
     ensures word { result.1 ≤ 64 }
     ensures bits { result.0 ≡ mask_l (map is_separator (take result.1 units.now)) }
 {
     if BLOCK <= units.len() {
-        return (see_first::<BLOCK>(units), BLOCK);
+        return (separator_bits_first::<BLOCK>(units), BLOCK);
     }
     if SMALL_BLOCK <= units.len() {
-        return (see_first::<SMALL_BLOCK>(units), SMALL_BLOCK);
+        return (separator_bits_first::<SMALL_BLOCK>(units), SMALL_BLOCK);
     }
-    (see_few(units), units.len())
+    (separator_bits_few(units), units.len())
 }
 
 /// The separators of units that are still to come. In contracts they are `places_left` of it.
@@ -164,7 +172,7 @@ impl<'a> Separators<'a> {
         ensures units { result.units.now ≡ self.entry.units.now }
         ensures further { self.entry.end < result.end }
     {
-        let (bits, count) = see(&self.units[self.end..]);
+        let (bits, count) = separator_bits(&self.units[self.end..]);
         Separators {
             known: self.known,
             units: self.units,

@@ -16,7 +16,7 @@ add_places-requires-clause-room g c =
     let units : c.to_u16_slice-2.result.now ≡ c.self.inside.string ++ tail =
     c.to_u16_slice-2.ensures ∙ c.as_cstr16.ensures.same ∙ c.in_ok-push_str.ensures.ok in
     let added = ap (λ us. length (places_from end us)) (ap (drop end) units ∙ tail_of_text c.self.inside.string tail end c.num_chars-end.ensures) in
-    let counted = c.count_separators.ensures ∙ ap (count_by becomes_separator) c.to_u16_slice.ensures in
+    let counted = c.count_separators.ensures.count ∙ ap (count_by becomes_separator) c.to_u16_slice.ensures in
     omega (arith, c.in_ok-reserve.ensures.ok, added, counted, count_of_tail tail end plain)
 
 pub invariant_of-self-2 : goal.invariant_of-self-2

@@ -3,7 +3,7 @@ use Rattle.std.proofs.Common.{◌≡◌, arith, eqb, length, take, w16}
 use Rattle.std.proofs.lemmas.List.{length-take-le}
 use Rattle.std.proofs.lemmas.Simd.{bitmask_splat}
 use Rattle.uefi_path.specs.Separators.{separator}
-use Rattle.uefi_path.proofs.separators.see_first.Goals as goal
+use Rattle.uefi_path.proofs.separators.separator_bits_first.Goals as goal
 
 pub returns : goal.returns
 returns g c =

@@ -1,7 +1,7 @@
 use Rattle.std.proofs.Common.{◌≡◌, ◌≤◌, drop, length, map}
 use Rattle.std.specs.Simd.Lanes.{mask_l}
 use Rattle.uefi_path.specs.Separators.{is_separator}
-use Rattle.uefi_path.proofs.separators.see_few.Given as goal
+use Rattle.uefi_path.proofs.separators.separator_bits_few.Given as goal
 
 -- the bits of the units from `i` on
 abbrev pub invariant-loop-i : goal.invariant-loop-i

@@ -3,7 +3,7 @@ use Rattle.std.proofs.Common.{arith, drop, ◌≤◌}
 use Rattle.std.proofs.lemmas.Grind.{common_steps}
 use Rattle.std.proofs.lemmas.List.{length-drop}
 use Rattle.uefi_path.proofs.SeparatorBits.{bits_fit}
-use Rattle.uefi_path.proofs.separators.see_few.Goals as goal
+use Rattle.uefi_path.proofs.separators.separator_bits_few.Goals as goal
 
 pub overflow_mul-bits : goal.overflow_mul-bits
 overflow_mul-bits c =
