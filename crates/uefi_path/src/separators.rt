@@ -162,7 +162,7 @@ impl<'a> Separators<'a> {
         }
     }
 
-    /// The same ones, once the next units are looked at, where no bit is set.
+    /// These separators, once the next units are looked at, where no bit is set.
     #[inline(always)]
     fn look_on(self) -> Separators<'a>
         requires none { self.bits ≡ 0 }
