@@ -21,6 +21,8 @@ mod long_paths;
 #[cfg(test)]
 mod out_of_memory;
 #[cfg(test)]
+mod printed;
+#[cfg(test)]
 mod runs;
 #[cfg(test)]
 mod watched_streams;

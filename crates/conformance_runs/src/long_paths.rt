@@ -3,11 +3,11 @@
 use crate::commands_on_paths::leads_to;
 use crate::judged_bytes::accepts;
 use crate::lists::count_of_pieces;
-use crate::runs::prints;
+use crate::printed::{prints, writes};
 use conformance::{repeated, string};
 use std::test::Fail;
 use uefi_path::{Path, PathBuf};
-use upath::{PathCommand, Watched, all_parents, run_streams};
+use upath::{PathCommand, all_parents};
 
 #[test]
 fn long_lists_of_components(rt: HostRuntime) -> Result<(), Fail> {
@@ -66,14 +66,6 @@ fn long_bytes_that_are_judged(rt: HostRuntime) -> Result<(), Fail> {
     let bytes = string(rt.alloc(), &text)?.as_cstr16().as_bytes(rt.alloc())?;
     assert!(rt; accepts(&rt, &bytes, &text));
     Ok(())
-}
-
-/// Whether a run over streams reads all of an input and writes this.
-pub(crate) fn writes(rt: &HostRuntime, input: &[u8], want: &[u8]) -> bool {
-    let mut reader = Watched::new(input);
-    let mut writer = Watched::new(Vec::new(rt.alloc()));
-    let is_done = run_streams(rt.alloc(), &mut reader, &mut writer).is_ok();
-    is_done && reader.into_inner().is_empty() && writer.into_inner().as_slice() == want
 }
 
 /// Lines of each verb, and what they print, where a long name stands for each `@`.

@@ -1,12 +1,7 @@
 //! Runs over lines.
-use crate::long_paths::writes;
+use crate::printed::{prints, writes};
 use std::test::Fail;
 use upath::run_text;
-
-/// Whether a run over these lines prints this.
-pub(crate) fn prints(rt: &HostRuntime, input: &[u8], want: &str) -> bool {
-    matches!(&run_text(rt.alloc(), input), Ok(output) if output.as_slice() == want.as_bytes())
-}
 
 /// Lines of one run, each with the lines that it prints.
 type Transcript = &'static [(&'static str, &'static [&'static str])];
