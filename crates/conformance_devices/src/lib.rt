@@ -1,0 +1,13 @@
+//! Tests of device paths and load options: what the entries of `examples/data` and the layouts of the
+//! UEFI Specification give, and what is refused, by which cause and at which offset. The values come
+//! from the specification, and from a reader in Python that was written from it alone.
+#![tactic(auto)]
+
+#[cfg(test)]
+mod device_paths;
+#[cfg(test)]
+mod entries;
+#[cfg(test)]
+mod hostile_entries;
+#[cfg(test)]
+mod load_options;

@@ -1,0 +1,6 @@
+pub mod Splits
+pub mod Runs
+pub mod Lists
+pub mod Entries
+pub mod Building
+pub mod InstanceCuts

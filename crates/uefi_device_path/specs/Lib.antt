@@ -1,0 +1,10 @@
+pub mod Nodes
+pub mod Paths
+pub mod Faults
+pub mod ErrorTexts
+pub mod Views
+pub mod FilePaths
+pub mod PathLists
+pub mod LoadOptions
+pub mod Building
+pub mod Instances
