@@ -48,7 +48,8 @@ const NOTHING: Seen = Seen {
     sum: 0,
 };
 
-/// Bytes that readers are known to take wrongly: zero, the shortest lengths, and the type and the sub-types of end nodes.
+/// Bytes that readers are known to take wrongly: zero, the shortest lengths, and the type and the
+/// sub-types of end nodes.
 const HOSTILE: &[u8] = &[0, 1, 3, 4, 0x7f, 0xff];
 
 /// What an entry gives with each byte replaced by each hostile one.

@@ -4,6 +4,8 @@
 #![tactic(auto)]
 
 #[cfg(test)]
+mod built_paths;
+#[cfg(test)]
 mod device_paths;
 #[cfg(test)]
 mod entries;
@@ -11,3 +13,5 @@ mod entries;
 mod hostile_entries;
 #[cfg(test)]
 mod load_options;
+#[cfg(test)]
+mod out_of_memory;

@@ -40,7 +40,8 @@ load_option_cause_text (option.FilePathList cause) = node_error_text cause
 
 -- what is printed of the refusal of a load option
 abbrev pub load_option_error_text : LoadOptionError → List ℕ
-load_option_error_text error = load_option_cause_text error.cause ++ codes " at offset " ++ decimal error.offset
+load_option_error_text error =
+    load_option_cause_text error.cause ++ codes " at offset " ++ decimal error.offset
 
 -- what is printed where a node is not added to a device path
 abbrev pub build_error_text : BuildError → List ℕ

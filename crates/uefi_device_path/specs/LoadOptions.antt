@@ -55,17 +55,17 @@ pub record RefusesPaths (bytes description rest : List ℕ) (error inside : Devi
   pub cause : error.cause ≡ inside.cause
   pub offset : error.offset + length rest ≡ length bytes + inside.offset
 
--- what is wrong with bytes that are no load option, and at which place: each of these leaves out the others
+-- what is wrong with bytes that are no load option, and where: each of these leaves out the others
 abbrev pub IsWrong : List ℕ → LoadOptionCause → ℕ → Type 0
 IsWrong bytes TooShort offset = (length bytes < 6) × (offset ≡ length bytes)
-IsWrong bytes DescriptionWithoutEnd offset = (6 ≤ length bytes) × (offset ≡ length bytes - length bytes % 2)
-    × ((description : List ℕ) (rest : List ℕ) → Describes bytes description rest → ⊥)
-IsWrong bytes ListBeyondEnd offset = (description : List ℕ) × (rest : List ℕ) × Describes bytes description rest
-    × (length rest < stated_list_length bytes) × (offset ≡ 4)
-IsWrong bytes EmptyList offset = (description : List ℕ) × (rest : List ℕ) × Describes bytes description rest
-    × (stated_list_length bytes ≡ 0) × (offset + length rest ≡ length bytes)
-IsWrong bytes (FilePathList cause) offset = (description : List ℕ) × (rest : List ℕ) × (inside : DevicePathError)
-    × RefusesPaths bytes description rest (record { cause = cause; offset = offset }) inside
+IsWrong bytes DescriptionWithoutEnd offset = (6 ≤ length bytes)
+    × (offset ≡ length bytes - length bytes % 2) × ((description : List ℕ) (rest : List ℕ) → Describes bytes description rest → ⊥)
+IsWrong bytes ListBeyondEnd offset = (description : List ℕ) × (rest : List ℕ)
+    × Describes bytes description rest × (length rest < stated_list_length bytes) × (offset ≡ 4)
+IsWrong bytes EmptyList offset = (description : List ℕ) × (rest : List ℕ)
+    × Describes bytes description rest × (stated_list_length bytes ≡ 0) × (offset + length rest ≡ length bytes)
+IsWrong bytes (FilePathList cause) offset = (description : List ℕ) × (rest : List ℕ)
+    × (inside : DevicePathError) × RefusesPaths bytes description rest (record { cause = cause; offset = offset }) inside
 
 -- bytes are no load option, for this error
 abbrev pub EntryRefusedFor : List ℕ → LoadOptionError → Type 0

@@ -7,6 +7,11 @@ pub record Node : Type 0 where
   pub sub_type : ℕ
   pub content : List ℕ
 
+-- the node of these
+abbrev pub node_with : ℕ → ℕ → List ℕ → Node
+node_with device_type sub_type content =
+    record { device_type = device_type; sub_type = sub_type; content = content }
+
 -- how many bytes a node has: four of its header, and its data
 abbrev pub node_length : Node → ℕ
 node_length node = length node.content + 4

@@ -44,7 +44,8 @@ pub record IsPathList (bytes : List ℕ) : Type 0 where
   pub some : paths_in bytes ≢ []
 
 -- after these device paths no other begins, for the reason and at the place that the error says
-pub record RefusesList (bytes : List ℕ) (error : DevicePathError) (paths : List (List Node)) (rest : List ℕ) (inside : DevicePathError) : Type 0 where
+pub record RefusesList (bytes : List ℕ) (error : DevicePathError) (paths : List (List Node))
+    (rest : List ℕ) (inside : DevicePathError) : Type 0 where
   pub begins : BeginWithPaths bytes paths rest
   pub more : rest ≡ [] → paths ≡ []
   pub refused : RefusedFor rest inside
@@ -54,4 +55,5 @@ pub record RefusesList (bytes : List ℕ) (error : DevicePathError) (paths : Lis
 -- bytes are refused as device paths for this error
 abbrev pub ListRefusedFor : List ℕ → DevicePathError → Type 0
 ListRefusedFor bytes error =
-    (paths : List (List Node)) × (rest : List ℕ) × (inside : DevicePathError) × RefusesList bytes error paths rest inside
+    (paths : List (List Node)) × (rest : List ℕ) × (inside : DevicePathError)
+    × RefusesList bytes error paths rest inside

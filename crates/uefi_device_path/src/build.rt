@@ -4,7 +4,7 @@
 ghost use Rattle.std.specs.Prelude.{◌≡◌, ℕ, ◌+◌, ◌-◌, ◌<◌, ◌≤◌, ◌∷◌, ◌++◌, [], List, length, take, IfOk, IfErr, OnOk, OnErr, None, unwrap_or};
 ghost use Rattle.std.specs.Result.{result_err};
 ghost use Rattle.std.specs.Vec.{vec_capacity, vec_len};
-ghost use Rattle.uefi_device_path.specs.Nodes.{Node, end_entire, node_bytes};
+ghost use Rattle.uefi_device_path.specs.Nodes.{end_entire, node_bytes, node_with};
 ghost use Rattle.uefi_device_path.specs.Paths.{path_bytes, without_end};
 ghost use Rattle.uefi_device_path.specs.Building.{build_refusal};
 
@@ -52,7 +52,7 @@ fn check_node(
     sub_type: DeviceSubType,
     content: &[u8],
 ) -> Result<(), BuildError>
-    ensures { result_err result ≡ build_refusal (record { device_type = device_type.0; sub_type = sub_type.0; content = content.now }) }
+    ensures { result_err result ≡ build_refusal (node_with device_type.0 sub_type.0 content.now) }
 {
     if device_type.0 == 0x7f && (sub_type.0 != 0x01 || !content.is_empty()) {
         return Err(BuildError::EndNode);
@@ -84,12 +84,12 @@ impl<A: Allocator> DevicePathBuf<A> {
         sub_type: DeviceSubType,
         content: &[u8],
     ) -> Result<(), BuildError>
-        ensures ok { let node : Node = record { device_type = device_type.0; sub_type = sub_type.0; content = content.now } in
+        ensures ok { let node = node_with device_type.0 sub_type.0 content.now in
             OnOk result (self.new ≡ self.old ++ node ∷ []) }
-        ensures accepted { let node : Node = record { device_type = device_type.0; sub_type = sub_type.0; content = content.now } in
+        ensures accepted { let node = node_with device_type.0 sub_type.0 content.now in
             OnOk result (build_refusal node ≡ None) }
         ensures err { OnErr result (self.new ≡ self.old) }
-        ensures refusal { let node : Node = record { device_type = device_type.0; sub_type = sub_type.0; content = content.now } in
+        ensures refusal { let node = node_with device_type.0 sub_type.0 content.now in
             IfErr result (λ error. error ≡ unwrap_or (build_refusal node) BuildError.OutOfMemory) }
     {
         if let Err(error) = check_node(device_type, sub_type, content) {

@@ -9,6 +9,7 @@ ghost use Rattle.uefi_device_path.specs.Paths.{AreNodes, BeginWith, BeginWithPat
 use crate::errors::DevicePathError;
 use crate::instance::DevicePathInstanceIterator;
 use crate::node::{DevicePathNode, fault_place};
+use crate::node_iterator::DevicePathNodeIterator;
 
 /// A device path that lies in borrowed bytes: nodes one after the other, and the one that ends it. A
 /// contract sees it as `nodes_of` it: the list of its nodes, without the one that ends it.
@@ -16,14 +17,6 @@ use crate::node::{DevicePathNode, fault_place};
 pub struct DevicePath<'a> {
     bytes: &'a [u8],
     pub ghost is_path: { IsPath bytes.now },
-}
-
-/// The nodes of a device path or an instance, in order. A contract sees it as `nodes_left` of it: what
-/// is still to come.
-#[derive(Drop)]
-pub struct DevicePathNodeIterator<'a> {
-    rest: &'a [u8],
-    pub ghost are_nodes: { AreNodes rest.now },
 }
 
 impl<'a> DevicePath<'a> {
@@ -158,41 +151,5 @@ impl<'a> TryFrom<&'a [u8]> for DevicePath<'a> {
 
     fn try_from(bytes: &'a [u8]) -> Result<Self, DevicePathError> {
         DevicePath::from_bytes(bytes)
-    }
-}
-
-impl<'a> DevicePathNodeIterator<'a> {
-    ghost use Rattle.uefi_device_path.specs.Views.{node_of, nodes_left};
-    ghost use Rattle.uefi_text.specs.Runs.{GivesEach};
-
-    /// The nodes that bytes are.
-    pub(crate) fn of(bytes: &'a [u8]) -> Self
-        requires { AreNodes bytes.now }
-        ensures same { nodes_left result ≡ nodes_in bytes.now }
-        ensures bound { length (nodes_left result) < 2 ^ 64 }
-        ensures runs { GivesEach node_of nodes_left result }
-    {
-        DevicePathNodeIterator { rest: bytes }
-    }
-}
-
-/// Gives them from the front, and then `None` for ever.
-impl<'a> Iterator for DevicePathNodeIterator<'a> {
-    type Item = DevicePathNode<'a>;
-
-    ghost use Rattle.std.specs.Iterator.{YieldsFirstBy, item_count};
-    ghost use Rattle.uefi_device_path.specs.Views.{node_of, nodes_left};
-
-    ghost next_gives = { YieldsFirstBy node_of nodes_left };
-
-    ghost remaining = { item_count nodes_left };
-
-    fn next(&mut self) -> Option<DevicePathNode<'a>> {
-        if self.rest.is_empty() {
-            return None;
-        }
-        let (node, rest) = DevicePathNode::take_first(self.rest);
-        self.rest = rest;
-        Some(node)
     }
 }

@@ -7,8 +7,8 @@ ghost use Rattle.uefi_device_path.specs.Nodes.{IsInner};
 ghost use Rattle.uefi_device_path.specs.Paths.{AreNodes, joined, nodes_in};
 ghost use Rattle.uefi_device_path.specs.Instances.{instances, instances_in, is_end_instance};
 
-use crate::device_path::DevicePathNodeIterator;
 use crate::node::DevicePathNode;
+use crate::node_iterator::DevicePathNodeIterator;
 
 /// An instance of a device path: the nodes between two that end one, without these. A contract sees it as
 /// `instance_nodes` of it.

@@ -29,14 +29,16 @@ mod instance;
 mod load_option;
 pub mod media;
 mod node;
+mod node_iterator;
 mod path_list;
 
 pub use build::DevicePathBuf;
-pub use device_path::{DevicePath, DevicePathNodeIterator};
+pub use device_path::DevicePath;
 pub use errors::{
     BuildError, DevicePathError, LoadOptionCause, LoadOptionError, NodeConversionError, NodeError,
 };
 pub use instance::{DevicePathInstance, DevicePathInstanceIterator};
 pub use load_option::LoadOption;
 pub use node::{DevicePathNode, DeviceSubType, DeviceType};
+pub use node_iterator::DevicePathNodeIterator;
 pub use path_list::{DevicePaths, check_paths};

@@ -642,8 +642,8 @@ impl<'a> UnalignedSlice<'a, u16> {
     /// in the bytes up to the NUL.
     pub fn split_until_nul(bytes: &'a [u8]) -> Option<(Self, &'a [u8])>
         ensures ok { IfSome result (λ split. SplitsUntilNul bytes.now (items_of split.0) split.1.now) }
-        ensures only { IfSome result (λ split. (units : List ℕ) → (rest : List ℕ) → SplitsUntilNul bytes.now units rest
-            → (units ≡ items_of split.0) × (rest ≡ split.1.now)) }
+        ensures only { IfSome result (λ split. (units : List ℕ) → (rest : List ℕ) →
+            SplitsUntilNul bytes.now units rest → (units ≡ items_of split.0) × (rest ≡ split.1.now)) }
         ensures accepts { IsSome result
             ↔ ((units : List ℕ) × (rest : List ℕ) × SplitsUntilNul bytes.now units rest) }
     {

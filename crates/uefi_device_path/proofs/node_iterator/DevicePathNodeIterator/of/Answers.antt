@@ -3,7 +3,7 @@ use Rattle.std.proofs.lemmas.Grind.{common_steps}
 use Rattle.uefi_device_path.proofs.Runs.{gives_each}
 use Rattle.uefi_device_path.specs.Views.{node_of, nodes_left}
 use Rattle.uefi_device_path.proofs.Splits.{few-AreNodes}
-use Rattle.uefi_device_path.proofs.device_path.DevicePathNodeIterator.of.Goals as goal
+use Rattle.uefi_device_path.proofs.node_iterator.DevicePathNodeIterator.of.Goals as goal
 
 pub returns-clause-bound : goal.returns-clause-bound
 unfolding nodes_left
