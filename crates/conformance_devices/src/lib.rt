@@ -15,3 +15,5 @@ mod hostile_entries;
 mod load_options;
 #[cfg(test)]
 mod out_of_memory;
+#[cfg(test)]
+mod typed_nodes;

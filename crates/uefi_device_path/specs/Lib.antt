@@ -4,6 +4,7 @@ pub mod Faults
 pub mod ErrorTexts
 pub mod Views
 pub mod FilePaths
+pub mod TypedNodes
 pub mod PathLists
 pub mod LoadOptions
 pub mod Building

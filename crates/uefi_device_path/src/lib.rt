@@ -22,15 +22,20 @@
 //! takes memory but those that say so.
 #![tactic(auto)]
 
+pub mod acpi;
+pub mod bios_boot_spec;
 mod build;
 mod device_path;
 mod errors;
+pub mod hardware;
 mod instance;
 mod load_option;
 pub mod media;
+pub mod messaging;
 mod node;
 mod node_iterator;
 mod path_list;
+mod typed_node;
 
 pub use build::DevicePathBuf;
 pub use device_path::DevicePath;
@@ -42,3 +47,4 @@ pub use load_option::LoadOption;
 pub use node::{DevicePathNode, DeviceSubType, DeviceType};
 pub use node_iterator::DevicePathNodeIterator;
 pub use path_list::{DevicePaths, check_paths};
+pub use typed_node::{NodeKind, TypedNode};
