@@ -9,3 +9,4 @@ pub mod PathLists
 pub mod LoadOptions
 pub mod Building
 pub mod Instances
+pub mod Laws

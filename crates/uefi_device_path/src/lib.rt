@@ -29,6 +29,7 @@ mod device_path;
 mod errors;
 pub mod hardware;
 mod instance;
+pub mod laws;
 mod load_option;
 pub mod media;
 pub mod messaging;

@@ -1,15 +1,17 @@
 //! Boot load options: the bytes of the variables `Boot####` (UEFI Specification 2.10, section 3.1.3).
 #![tactic(auto, unfolding(crate::specs::Views::entry_of))]
 
-ghost use Rattle.std.specs.Prelude.{◌≡◌, ℕ, ◌+◌, ◌-◌, ◌*◌, ◌<◌, ◌≤◌, ◌↔◌, ◌++◌, ◌^◌, List, length, IfOk, IfErr, IsOk, IsTrue, None};
-ghost use Rattle.uefi_text.specs.Units.{IsNulTerminated, nul_terminated};
+ghost use Rattle.std.specs.Prelude.{◌≡◌, ℕ, ◌+◌, ◌-◌, ◌*◌, ◌/◌, ◌%◌, ◌<◌, ◌≤◌, ◌↔◌, ◌++◌, ◌^◌, List, length, IfOk, IfErr, IsOk, IsTrue, None, unwrap_or};
+ghost use Rattle.uefi_text.specs.FromSliceWithNul.{with_nul_refusal};
+ghost use Rattle.uefi_text.specs.Units.{IsNulTerminated, IsString, nul_terminated};
 ghost use Rattle.uefi_text.specs.Views.{items_of};
 ghost use Rattle.uefi_device_path.specs.PathLists.{IsPathList, list_bytes};
 ghost use Rattle.uefi_device_path.specs.LoadOptions.{Entry, EntryRefusedFor, IsEntry, entry_bytes};
 
 use crate::errors::{LoadOptionCause, LoadOptionError};
 use crate::path_list::{DevicePaths, check_paths};
-use uefi_text::UnalignedSlice;
+use std::alloc::Allocator;
+use uefi_text::{CString16, FromSliceWithNulError, UnalignedSlice};
 
 /// A boot load option that lies in borrowed bytes. A contract sees it as `entry_of` it.
 #[derive(Clone, Copy)]
@@ -101,6 +103,46 @@ impl<'a> LoadOption<'a> {
         ensures { result ≡ (entry_of self.now).attributes }
     {
         self.attributes
+    }
+
+    /// Whether firmware tries the option by itself: `LOAD_OPTION_ACTIVE`.
+    pub fn is_active(&self) -> bool
+        ensures { IsTrue result ↔ ((entry_of self.now).attributes % 2 ≡ 1) }
+    {
+        self.attributes % 2 == 1
+    }
+
+    /// Whether connecting a driver makes firmware connect all devices anew: `LOAD_OPTION_FORCE_RECONNECT`.
+    pub fn is_force_reconnect(&self) -> bool
+        ensures { IsTrue result ↔ ((entry_of self.now).attributes / 2 % 2 ≡ 1) }
+    {
+        self.attributes / 2 % 2 == 1
+    }
+
+    /// Whether a menu leaves the option out: `LOAD_OPTION_HIDDEN`.
+    pub fn is_hidden(&self) -> bool
+        ensures { IsTrue result ↔ ((entry_of self.now).attributes / 8 % 2 ≡ 1) }
+    {
+        self.attributes / 8 % 2 == 1
+    }
+
+    /// The category, `LOAD_OPTION_CATEGORY` as a number: 0 is an option to boot, 1 an application.
+    pub fn category(&self) -> u32
+        ensures { result ≡ (entry_of self.now).attributes / 256 % 32 }
+    {
+        self.attributes / 256 % 32
+    }
+
+    /// The description as a string in memory of its own. Refused as [`UnalignedSlice::to_cstring16`]
+    /// refuses its units: where it holds a surrogate, and then as `OutOfMemory`. One request for memory.
+    pub fn description<A: Allocator>(&self, alloc: A) -> Result<CString16<A>, FromSliceWithNulError>
+        ensures ok { IfOk result (λ string. string ≡ (entry_of self.now).description) }
+        ensures memory { IfErr result (λ error. (error ≡ FromSliceWithNulError.OutOfMemory)
+            ↔ IsString (nul_terminated (entry_of self.now).description)) }
+        ensures refusal { IfErr result (λ error. error ≡ unwrap_or
+            (with_nul_refusal (nul_terminated (entry_of self.now).description)) FromSliceWithNulError.OutOfMemory) }
+    {
+        self.description_units().to_cstring16(alloc)
     }
 
     /// The code units of the description, its NUL included, wherever they lie. They may hold
