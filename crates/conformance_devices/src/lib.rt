@@ -10,6 +10,8 @@ mod device_paths;
 #[cfg(test)]
 mod entries;
 #[cfg(test)]
+mod file_paths;
+#[cfg(test)]
 mod hostile_entries;
 #[cfg(test)]
 mod load_options;

@@ -1,7 +1,9 @@
 //! Load options: the fields of those that are accepted, and why others are refused, and where.
 
 use crate::entries;
+use std::test::Fail;
 use uefi_device_path::{LoadOption, LoadOptionCause, LoadOptionError, NodeError};
+use uefi_text::{CString16, FromSliceWithNulError};
 
 /// What an entry says.
 struct Row {
@@ -166,4 +168,19 @@ fn refused(rt: HostRuntime) {
         };
         assert_eq!(rt; LoadOption::from_bytes(bytes).err(), Some(want));
     }
+}
+
+/// A description as a string; and one of a lone surrogate, which is none and makes no option unreadable.
+#[test]
+fn descriptions(rt: HostRuntime) -> Result<(), Fail> {
+    let option = LoadOption::from_bytes(entries::BOOT000A)?;
+    let shell = CString16::try_from_str(rt.alloc(), "UEFI Shell")?;
+    assert!(rt; option.description(rt.alloc())? == shell);
+    assert!(rt; option.is_active() && !option.is_hidden() && !option.is_force_reconnect());
+    assert_eq!(rt; option.category(), 1);
+    let lone = LoadOption::from_bytes(TWO_PATHS)?;
+    let refused = lone.description(rt.alloc()).err();
+    assert_eq!(rt; refused, Some(FromSliceWithNulError::InvalidChar(0)));
+    assert!(rt; lone.is_active() && lone.is_hidden());
+    Ok(())
 }

@@ -6,6 +6,10 @@ use Rattle.uefi_device_path.specs.declared.errors.NodeError.TheVariants as node
 use Rattle.uefi_device_path.specs.declared.errors.DevicePathError.{DevicePathError}
 use Rattle.uefi_device_path.specs.declared.errors.NodeConversionError.{NodeConversionError}
 use Rattle.uefi_device_path.specs.declared.errors.NodeConversionError.TheVariants as conversion
+use Rattle.uefi_text.specs.ErrorTexts.{from_slice_with_nul_error_text}
+use Rattle.uefi_device_path.specs.declared.errors.FilePathCause.{FilePathCause}
+use Rattle.uefi_device_path.specs.declared.errors.FilePathCause.TheVariants as file
+use Rattle.uefi_device_path.specs.declared.errors.FilePathError.{FilePathError}
 use Rattle.uefi_device_path.specs.declared.errors.LoadOptionCause.{LoadOptionCause}
 use Rattle.uefi_device_path.specs.declared.errors.LoadOptionCause.TheVariants as option
 use Rattle.uefi_device_path.specs.declared.errors.LoadOptionError.{LoadOptionError}
@@ -48,3 +52,13 @@ abbrev pub build_error_text : BuildError → List ℕ
 build_error_text build.EndNode = codes "the node ends no instance and may not stand before the end"
 build_error_text build.NodeTooLong = codes "the node is longer than its header can state"
 build_error_text build.OutOfMemory = codes "out of memory"
+
+-- what is printed where a node has no name
+abbrev pub file_path_cause_text : FilePathCause → List ℕ
+file_path_cause_text file.HalfUnit = codes "odd number of bytes"
+file_path_cause_text (file.Text error) = from_slice_with_nul_error_text error
+file_path_cause_text file.OutOfMemory = codes "out of memory"
+
+-- what is printed where nodes have no file path
+abbrev pub file_path_error_text : FilePathError → List ℕ
+file_path_error_text error = file_path_cause_text error.cause ++ codes " at offset " ++ decimal error.offset

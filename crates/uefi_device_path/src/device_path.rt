@@ -3,13 +3,17 @@
 
 ghost use Rattle.std.specs.Prelude.{◌≡◌, ◌≢◌, ℕ, ◌+◌, ◌<◌, ◌≤◌, ◌^◌, ◌↔◌, ◌++◌, [], List, All, length, drop, IfOk, IfErr, IsOk, IfSome, IsTrue, None};
 ghost use Rattle.std.specs.Result.{result_err};
+ghost use Rattle.uefi_device_path.specs.FilePaths.{FileRefusedFor, IsReadable, file_path};
 ghost use Rattle.uefi_device_path.specs.Nodes.{IsInner, Node, end_entire, node_bytes, node_length};
 ghost use Rattle.uefi_device_path.specs.Paths.{AreNodes, BeginWith, BeginWithPath, IsPath, joined, nodes_in, path_bytes, without_end};
 
-use crate::errors::DevicePathError;
+use crate::errors::{DevicePathError, FilePathCause, FilePathError};
+use crate::file_path::file_path_in;
 use crate::instance::DevicePathInstanceIterator;
 use crate::node::{DevicePathNode, fault_place};
 use crate::node_iterator::DevicePathNodeIterator;
+use std::alloc::Allocator;
+use uefi_path::PathBuf;
 
 /// A device path that lies in borrowed bytes: nodes one after the other, and the one that ends it. A
 /// contract sees it as `nodes_of` it: the list of its nodes, without the one that ends it.
@@ -128,6 +132,19 @@ impl<'a> DevicePath<'a> {
         ensures runs { GivesEach node_of nodes_left result }
     {
         DevicePathNodeIterator::of(&self.bytes[..self.bytes.len() - 4])
+    }
+
+    /// The names of all nodes that name files, of all instances, one after the other: one separator stands between two, also
+    /// where both bring one, and each slash is replaced (UEFI Specification 2.10, section 10.3.5.4). Refused
+    /// for the first of these nodes that has no name, or as `OutOfMemory`. Takes memory for each name, and as
+    /// [`PathBuf::push`] does.
+    pub fn file_path<A: Allocator + Copy>(&self, alloc: A) -> Result<PathBuf<A>, FilePathError>
+        ensures ok { IfOk result (λ path. path ≡ file_path (nodes_of self.now)) }
+        ensures accepted { IfOk result (λ _. All IsReadable (nodes_of self.now)) }
+        ensures refusal { IfErr result (λ error. error.cause ≢ FilePathCause.OutOfMemory →
+            FileRefusedFor (nodes_of self.now) error) }
+    {
+        file_path_in(alloc, &self.bytes[..self.bytes.len() - 4])
     }
 
     /// The instances of the path, in order: what stands between the nodes that end one.

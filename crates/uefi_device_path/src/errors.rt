@@ -1,6 +1,7 @@
 //! Why bytes are no device path, no load option or no node of a kind, and why a node is not added.
 use std::error::Error;
 use std::fmt;
+use uefi_text::FromSliceWithNulError;
 
 /// Why no node of a device path stands at a place.
 #[derive(Clone, Copy, Debug, PartialEq, Eq)]
@@ -91,6 +92,59 @@ impl fmt::Display for NodeConversionError {
 
 impl Error for NodeConversionError {}
 
+/// Why a node that names a file has no name.
+#[derive(Clone, Copy, Debug, PartialEq, Eq)]
+pub enum FilePathCause {
+    /// Its data end in half a unit.
+    HalfUnit,
+    /// The units of its data are no string.
+    Text(FromSliceWithNulError),
+    /// Memory was refused.
+    OutOfMemory,
+}
+
+/// Prints what is wrong, in words.
+impl fmt::Display for FilePathCause {
+    ghost use Rattle.std.specs.Prelude.{Some};
+    ghost use Rattle.uefi_device_path.specs.ErrorTexts.{file_path_cause_text};
+
+    ghost output = { λ cause. Some (file_path_cause_text cause) };
+
+    fn fmt<W: fmt::Write>(&self, f: &mut fmt::Formatter<W>) -> fmt::Result {
+        match self {
+            Self::HalfUnit => write!(f, "odd number of bytes"),
+            Self::Text(error) => write!(f, "{error}"),
+            Self::OutOfMemory => write!(f, "out of memory"),
+        }
+    }
+}
+
+impl Error for FilePathCause {}
+
+/// Why nodes have no file path.
+#[derive(Clone, Copy, Debug, PartialEq, Eq)]
+pub struct FilePathError {
+    /// What is wrong with the first node that should name a file and has no name.
+    pub cause: FilePathCause,
+
+    /// Where its data begin, counted from the first byte of the path or the instance.
+    pub offset: usize,
+}
+
+/// Prints what is wrong, in words.
+impl fmt::Display for FilePathError {
+    ghost use Rattle.std.specs.Prelude.{Some};
+    ghost use Rattle.uefi_device_path.specs.ErrorTexts.{file_path_error_text};
+
+    ghost output = { λ error. Some (file_path_error_text error) };
+
+    fn fmt<W: fmt::Write>(&self, f: &mut fmt::Formatter<W>) -> fmt::Result {
+        write!(f, "{} at offset {}", self.cause, self.offset)
+    }
+}
+
+impl Error for FilePathError {}
+
 /// What is wrong with bytes that are no load option.
 #[derive(Clone, Copy, Debug, PartialEq, Eq)]
 pub enum LoadOptionCause {
@@ -146,6 +200,8 @@ impl fmt::Display for LoadOptionError {
         write!(f, "{} at offset {}", self.cause, self.offset)
     }
 }
+
+impl Error for LoadOptionCause {}
 
 impl Error for LoadOptionError {}
 

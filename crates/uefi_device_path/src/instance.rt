@@ -1,14 +1,19 @@
 //! The instances of a device path.
 #![tactic(auto, unfolding(crate::specs::Views::instance_nodes, crate::specs::Views::instances_left, crate::specs::Views::nodes_left, crate::specs::Views::node_of))]
 
-ghost use Rattle.std.specs.Prelude.{◌≡◌, ℕ, ◌+◌, ◌<◌, ◌^◌, ◌∷◌, All, length, IsTrue};
+ghost use Rattle.std.specs.Prelude.{◌≡◌, ℕ, ◌+◌, ◌<◌, ◌^◌, ◌∷◌, ◌≢◌, All, length, IfErr, IfOk, IsTrue};
 ghost use Rattle.std.specs.Option.{ForSome};
+ghost use Rattle.uefi_device_path.specs.FilePaths.{FileRefusedFor, IsReadable, file_path};
 ghost use Rattle.uefi_device_path.specs.Nodes.{IsInner};
 ghost use Rattle.uefi_device_path.specs.Paths.{AreNodes, joined, nodes_in};
 ghost use Rattle.uefi_device_path.specs.Instances.{instances, instances_in, is_end_instance};
 
+use crate::errors::{FilePathCause, FilePathError};
+use crate::file_path::file_path_in;
 use crate::node::DevicePathNode;
 use crate::node_iterator::DevicePathNodeIterator;
+use std::alloc::Allocator;
+use uefi_path::PathBuf;
 
 /// An instance of a device path: the nodes between two that end one, without these. A contract sees it as
 /// `instance_nodes` of it.
@@ -64,6 +69,19 @@ impl<'a> DevicePathInstance<'a> {
         ensures runs { GivesEach node_of nodes_left result }
     {
         DevicePathNodeIterator::of(self.bytes)
+    }
+
+    /// The names of all nodes that name files, one after the other: one separator stands between two, also
+    /// where both bring one, and each slash is replaced (UEFI Specification 2.10, section 10.3.5.4). Refused
+    /// for the first of these nodes that has no name, or as `OutOfMemory`. Takes memory for each name, and as
+    /// [`PathBuf::push`] does.
+    pub fn file_path<A: Allocator + Copy>(&self, alloc: A) -> Result<PathBuf<A>, FilePathError>
+        ensures ok { IfOk result (λ path. path ≡ file_path (instance_nodes self.now)) }
+        ensures accepted { IfOk result (λ _. All IsReadable (instance_nodes self.now)) }
+        ensures refusal { IfErr result (λ error. error.cause ≢ FilePathCause.OutOfMemory →
+            FileRefusedFor (instance_nodes self.now) error) }
+    {
+        file_path_in(alloc, self.bytes)
     }
 }
 

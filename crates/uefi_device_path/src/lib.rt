@@ -27,6 +27,7 @@ pub mod bios_boot_spec;
 mod build;
 mod device_path;
 mod errors;
+mod file_path;
 pub mod hardware;
 mod instance;
 pub mod laws;
@@ -41,7 +42,8 @@ mod typed_node;
 pub use build::DevicePathBuf;
 pub use device_path::DevicePath;
 pub use errors::{
-    BuildError, DevicePathError, LoadOptionCause, LoadOptionError, NodeConversionError, NodeError,
+    BuildError, DevicePathError, FilePathCause, FilePathError, LoadOptionCause, LoadOptionError,
+    NodeConversionError, NodeError,
 };
 pub use instance::{DevicePathInstance, DevicePathInstanceIterator};
 pub use load_option::LoadOption;

@@ -1,7 +1,5 @@
-use Rattle.std.proofs.Common.{◌≡◌, ◌∙◌, sym, refl, ◌++◌, [], append_assoc}
-use Rattle.std.proofs.lemmas.List.{append-nil}
-use Rattle.uefi_device_path.specs.Nodes.{end_entire, node_bytes}
-use Rattle.uefi_device_path.specs.Paths.{joined, path_bytes}
+use Rattle.std.proofs.Common.{refl, []}
+use Rattle.uefi_device_path.specs.Paths.{path_bytes}
 use Rattle.uefi_device_path.proofs.Splits.{path_once}
 use Rattle.uefi_device_path.proofs.laws.paths_once.Goals as goal
 
