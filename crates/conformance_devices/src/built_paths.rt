@@ -29,7 +29,8 @@ fn refused(rt: HostRuntime) -> Result<(), Fail> {
     for (device_type, sub_type, len, want) in REFUSED {
         let mut path = DevicePathBuf::new(rt.alloc())?;
         let kind = (DeviceType(*device_type), DeviceSubType(*sub_type));
-        let error = path.push(kind.0, kind.1, &data[..*len]).err();
+        let content = data.get(..*len).ok_or("a long node")?;
+        let error = path.push(kind.0, kind.1, content).err();
         assert_eq!(rt; error, Some(*want));
         assert_eq!(rt; path.as_device_path().as_bytes().len(), 4);
     }
