@@ -174,3 +174,69 @@ fn refused_packed_units(rt: HostRuntime) {
         assert!(rt; is_refused(&rt, bytes, want), "{bytes:?}");
     }
 }
+
+/// Whether bytes begin with these units, up to and with a NUL, and then these bytes follow.
+fn is_split(bytes: &[u8], units: &[u16], rest: &[u8]) -> bool {
+    let Some((string, after)) = UnalignedSlice::split_until_nul(bytes) else {
+        return false;
+    };
+    string.len() == units.len() && string.iter().eq(units.iter().copied()) && after == rest
+}
+
+/// Bytes, the units up to and with their first NUL, and the bytes after it.
+const SPLITS: &[(&[u8], &[u16], &[u8])] = &[
+    (&[0, 0], &[0], &[]),
+    (&[0, 0, 0, 0, 7], &[0], &[0, 0, 7]),
+    (&[0x41, 0, 0, 0], &[0x41, 0], &[]),
+    (&[0, 0x41, 0, 0, 9], &[0x4100, 0], &[9]),
+    (
+        &[0x3d, 0xd8, 0xa9, 0xdc, 0, 0, 1, 2],
+        &[0xd83d, 0xdca9, 0],
+        &[1, 2],
+    ),
+    (&[0xff, 0, 0, 0xff, 0, 0], &[0xff, 0xff00, 0], &[]),
+];
+
+/// Bytes among whose units no NUL is, two zeros across two units and a half unit among them.
+const UNENDED: &[&[u8]] = &[
+    &[],
+    &[0],
+    &[0x41, 0],
+    &[0x41, 0, 0],
+    &[0x41, 0, 0, 0x42, 0x43],
+];
+
+#[test]
+fn units_up_to_a_nul(rt: HostRuntime) {
+    for (bytes, units, rest) in SPLITS {
+        assert!(rt; is_split(bytes, units, rest), "{bytes:?}");
+    }
+    for bytes in UNENDED {
+        assert!(rt;
+            UnalignedSlice::split_until_nul(bytes).is_none(),
+            "{bytes:?}"
+        );
+    }
+}
+
+/// Whether a NUL after `len` units of `a` is found there, at an odd place of memory too.
+fn is_found_after(rt: &HostRuntime, len: usize) -> Result<bool, Fail> {
+    let mut bytes = vec![in rt.alloc(); 0x61u8; 2 * len]?;
+    bytes.extend_from_slice(&[0, 0, 5])?;
+    let mut shifted = vec![in rt.alloc(); 0u8; 1]?;
+    shifted.extend_from_slice(&bytes)?;
+    let units = vec![in rt.alloc(); 0x6161u16; len]?;
+    let mut string = units;
+    string.push(0)?;
+    Ok(is_split(&bytes, &string, &[5]) && is_split(&shifted[1..], &string, &[5]))
+}
+
+/// A NUL in each place of a block, and in blocks after the first.
+#[test]
+fn units_up_to_a_nul_far_in(rt: HostRuntime) -> Result<(), Fail> {
+    for len in 0usize..131 {
+        assert!(rt; is_found_after(&rt, len)?, "{len} units");
+    }
+    assert!(rt; is_found_after(&rt, 40_000)?);
+    Ok(())
+}

@@ -18,5 +18,6 @@ pub use Rattle.uefi_text_encodings.specs.declared.errors.UnalignedCStr16Error
 pub use Rattle.uefi_text_encodings.specs.declared.errors.FromStrWithBufError
 pub use Rattle.uefi_text_encodings.specs.declared.errors.FromStrError
 pub mod Laws
+pub mod PackedStrings
 pub mod Runs
 pub mod Views

@@ -39,7 +39,7 @@ use std::alloc::{AllocError, Allocator};
 use std::fmt;
 use std::marker::PhantomData;
 pub use uefi_text_encodings::packed::Packed;
-use uefi_text_encodings::scans::find_deciding_place;
+use uefi_text_encodings::scans::{find_deciding_place, find_nul};
 
 /// How many units are copied out and tested at a time.
 const TESTED: usize = 64;
@@ -452,13 +452,14 @@ fn refusal_in_buffer(error: FromSliceWithNulError) -> UnalignedCStr16Error
 
 /// Packed code units as strings.
 impl<'a> UnalignedSlice<'a, u16> {
-    ghost use Rattle.std.specs.Prelude.{None, drop, unwrap_or, ◌%◌};
+    ghost use Rattle.std.specs.Prelude.{List, None, drop, position, unwrap_or, ◌%◌};
     ghost use Rattle.std.specs.Result.{result_err};
     ghost use Rattle.uefi_text_encodings.specs.FromSliceWithNul.{with_nul_refusal};
     ghost use Rattle.uefi_text_encodings.specs.UnalignedCStr16.{unaligned_refusal, with_prefix};
     ghost use Rattle.std.specs.Prelude.{IsOk, OnOk};
     ghost use Rattle.uefi_text_encodings.specs.UnitBytes.{unit_bytes, units_of_bytes};
-    ghost use Rattle.uefi_text_encodings.specs.Units.{IsString, IsText, deciding_place, nul_terminated};
+    ghost use Rattle.uefi_text_encodings.specs.Units.{IsString, IsText, deciding_place, is_nul, nul_terminated};
+    ghost use Rattle.uefi_text.specs.PackedStrings.{SplitsUntilNul};
     ghost use Rattle.uefi_text.specs.Views.{items_of, text_of};
 
     /// The code units that all of the bytes encode, two bytes for each, the low one first; or
@@ -506,6 +507,52 @@ impl<'a> UnalignedSlice<'a, u16> {
             start = end;
         }
         None
+    }
+
+    /// The place of the first NUL among the items from the place `start` on, up to and without the
+    /// place `end`, counted from `start`. They are copied to a block, where they lie as units do.
+    fn find_nul_in_block(&self, start: usize, end: usize) -> Option<usize>
+        requires range { (start ≤ end) × (end ≤ length (items_of self.now)) }
+        requires block { end ≤ start + 64 }
+        ensures { result ≡ position is_nul (slice_range (items_of self.now) start end) }
+    {
+        let mut block = [0; BLOCK];
+        let units = &mut block[..end - start];
+        self.part(start, end).copy_each_to(units);
+        find_nul(units)
+    }
+
+    /// The place of the first NUL.
+    fn find_nul(&self) -> Option<usize>
+        ensures { result ≡ position is_nul (items_of self.now) }
+    {
+        let len = self.len();
+        let mut start = 0;
+        while start < len {
+            let end = start + BLOCK.min(len - start);
+            if let Some(place) = self.find_nul_in_block(start, end) {
+                return Some(start + place);
+            }
+            start = end;
+        }
+        None
+    }
+
+    /// The units that bytes begin with, up to and with their first NUL, and the bytes after it; or
+    /// `None` exactly where no NUL is among the units. Units before the NUL may be surrogates. Linear
+    /// in the bytes up to the NUL.
+    pub fn split_until_nul(bytes: &'a [u8]) -> Option<(Self, &'a [u8])>
+        ensures ok { IfSome result (λ split. SplitsUntilNul bytes.now (items_of split.0) split.1.now) }
+        ensures only { IfSome result (λ split. (units : List ℕ) → (rest : List ℕ) →
+            SplitsUntilNul bytes.now units rest → (units ≡ items_of split.0) × (rest ≡ split.1.now)) }
+        ensures accepts { IsSome result
+            ↔ ((units : List ℕ) × (rest : List ℕ) × SplitsUntilNul bytes.now units rest) }
+    {
+        let Some(place) = UnalignedSlice::<u16>::new(bytes, bytes.len() / 2).find_nul() else {
+            return None;
+        };
+        let (string, rest) = bytes.split_at(2 * place + 2);
+        Some((UnalignedSlice::from_unit_bytes(string).unwrap(), rest))
     }
 
     /// Why the items are no string, if they are none.

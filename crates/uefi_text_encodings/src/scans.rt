@@ -143,6 +143,20 @@ impl Class<u16> for Deciding {
     }
 }
 
+/// Units that are NUL.
+struct Nul;
+
+impl Class<u16> for Nul {
+    ghost use Rattle.uefi_text_encodings.specs.Units.{is_nul};
+
+    ghost holds = { is_nul };
+
+    #[inline(always)]
+    fn holds(unit: u16) -> bool {
+        unit == 0
+    }
+}
+
 /// Units beyond ASCII.
 struct BeyondAscii;
 
@@ -248,6 +262,13 @@ pub fn find_deciding_place(units: &[u16]) -> Option<usize>
     ensures { result ≡ deciding_place units.now }
 {
     find_first::<u16, Deciding>(units)
+}
+
+/// The place of the first NUL.
+pub fn find_nul(units: &[u16]) -> Option<usize>
+    ensures { result ≡ position is_nul units.now }
+{
+    find_first::<u16, Nul>(units)
 }
 
 /// Whether each unit is ASCII.

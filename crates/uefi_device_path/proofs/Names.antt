@@ -1,0 +1,55 @@
+-- The names of the nodes that were passed are the path so far.
+use Rattle.std.proofs.Common.{◌≡◌, ◌≢◌, ◌∙◌, ap, sym, refl, ℕ, ◌+◌, List, [], ◌∷◌, ◌++◌, All, Option, None, Some, unwrap_or, fold, length, append_assoc, length-append, arith}
+use Rattle.std.proofs.lemmas.Grind.{common_steps}
+use Rattle.std.proofs.lemmas.List.{append-nil}
+use Rattle.std.proofs.lemmas.List.Elements.{All-append, All-cons, All-nil}
+use Rattle.uefi_device_path.specs.Nodes.{Node, node_bytes}
+use Rattle.uefi_device_path.specs.Paths.{AreNodes, joined, nodes_in}
+use Rattle.uefi_device_path.specs.FilePaths.{IsReadable, file_path, with_node}
+use Rattle.uefi_device_path.specs.declared.errors.FilePathCause.{FilePathCause}
+use Rattle.uefi_device_path.specs.declared.errors.FilePathCause.TheVariants.{OutOfMemory}
+use Rattle.uefi_device_path.proofs.Splits.{after_first, nodes_in-nil}
+
+-- these nodes of the bytes were passed, and their names are the path
+pub record Named (bytes : List ℕ) (nodes : List Node) (rest path : List ℕ) : Type 0 where
+  pub shown : nodes_in bytes ≡ nodes ++ nodes_in rest
+  pub long : length bytes ≡ length (joined nodes) + length rest
+  pub readable : All IsReadable nodes
+  pub made : path ≡ file_path nodes
+
+pub named_none : (bytes path : List ℕ) → path ≡ [] → Named bytes [] bytes path
+named_none bytes path e = record { shown = refl; long = omega arith; readable = All-nil IsReadable; made = e }
+
+fold_one : (start : List ℕ) (ns : List Node) (n : Node) → fold with_node start (ns ++ n ∷ []) ≡ with_node (fold with_node start ns) n
+fold_one start [] n = refl
+fold_one start (m ∷ ns) n = fold_one (with_node start m) ns n
+
+joined_one : (ns : List Node) (n : Node) → length (joined (ns ++ n ∷ [])) ≡ length (joined ns) + length (node_bytes n)
+joined_one ns n =
+    let split : joined (ns ++ n ∷ []) ≡ joined ns ++ node_bytes n = grind (arith, common_steps) in
+    ap length split ∙ length-append (joined ns) (node_bytes n)
+
+pub named_more : (bytes : List ℕ) (ns : List Node) (n : Node) (rest after path next : List ℕ) → Named bytes ns rest path
+    → AreNodes rest → rest ≡ node_bytes n ++ after → IsReadable n → next ≡ with_node path n
+    → Named bytes (ns ++ n ∷ []) after next
+named_more bytes ns n rest after path next named are e readable made =
+    let first = after_first rest after n are e in
+    let cut : length rest ≡ length (node_bytes n) + length after = ap length e ∙ length-append (node_bytes n) after in
+    let whole = joined_one ns n in
+    record {
+      shown = named.shown ∙ ap (λ ms. ns ++ ms) first.1 ∙ sym (append_assoc ns (n ∷ []) (nodes_in after));
+      long = omega (arith, named.long, cut, whole);
+      readable = All-append IsReadable ns (n ∷ []) named.readable (All-cons IsReadable n [] readable (All-nil IsReadable));
+      made = made ∙ ap (λ p. with_node p n) named.made ∙ sym (fold_one [] ns n);
+    }
+
+pub named_all : (bytes : List ℕ) (ns : List Node) (rest path : List ℕ) → Named bytes ns rest path → length rest ≡ 0
+    → nodes_in bytes ≡ ns
+named_all bytes ns rest path named none =
+    named.shown ∙ ap (λ ms. ns ++ ms) (nodes_in-nil rest none) ∙ append-nil ns
+
+-- a refusal that is not for memory is that of the name
+pub is_fault : (fault : Option FilePathCause) (cause : FilePathCause) → cause ≡ unwrap_or fault OutOfMemory → cause ≢ OutOfMemory
+    → fault ≡ Some cause
+is_fault None cause e other = absurd (other e)
+is_fault (Some fault) cause e other = ap (λ c. Some c) (sym e)

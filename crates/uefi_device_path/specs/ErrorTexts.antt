@@ -1,0 +1,64 @@
+-- What is printed of each error. An offset is in decimal.
+use Rattle.std.specs.Prelude.{ℕ, List, ◌++◌, codes}
+use Rattle.std.specs.Fmt.{decimal}
+use Rattle.uefi_device_path.specs.declared.errors.NodeError.{NodeError}
+use Rattle.uefi_device_path.specs.declared.errors.NodeError.TheVariants as node
+use Rattle.uefi_device_path.specs.declared.errors.DevicePathError.{DevicePathError}
+use Rattle.uefi_device_path.specs.declared.errors.NodeConversionError.{NodeConversionError}
+use Rattle.uefi_device_path.specs.declared.errors.NodeConversionError.TheVariants as conversion
+use Rattle.uefi_text.specs.ErrorTexts.{from_slice_with_nul_error_text}
+use Rattle.uefi_device_path.specs.declared.errors.FilePathCause.{FilePathCause}
+use Rattle.uefi_device_path.specs.declared.errors.FilePathCause.TheVariants as file
+use Rattle.uefi_device_path.specs.declared.errors.FilePathError.{FilePathError}
+use Rattle.uefi_device_path.specs.declared.errors.LoadOptionCause.{LoadOptionCause}
+use Rattle.uefi_device_path.specs.declared.errors.LoadOptionCause.TheVariants as option
+use Rattle.uefi_device_path.specs.declared.errors.LoadOptionError.{LoadOptionError}
+use Rattle.uefi_device_path.specs.declared.errors.BuildError.{BuildError}
+use Rattle.uefi_device_path.specs.declared.errors.BuildError.TheVariants as build
+
+-- what is printed of the cause for which no node stands at a place
+abbrev pub node_error_text : NodeError → List ℕ
+node_error_text node.Missing = codes "no end node ends the path"
+node_error_text node.TruncatedHeader = codes "a node's header is cut"
+node_error_text node.UnknownEnd = codes "an end node ends neither a path nor an instance"
+node_error_text node.LengthBelowHeader = codes "a node's length is less than its header's"
+node_error_text node.EndWithData = codes "an end node's length is more than its header's"
+node_error_text node.BeyondEnd = codes "a node's length is more than the bytes have left"
+
+-- what is printed of the refusal of a device path
+abbrev pub device_path_error_text : DevicePathError → List ℕ
+device_path_error_text error = node_error_text error.cause ++ codes " at offset " ++ decimal error.offset
+
+-- what is printed where a node is not of a kind
+abbrev pub node_conversion_error_text : NodeConversionError → List ℕ
+node_conversion_error_text conversion.DifferentType = codes "the node is of another type or sub-type"
+node_conversion_error_text conversion.InvalidLength = codes "no node of this kind has this length"
+
+-- what is printed of what is wrong with a load option
+abbrev pub load_option_cause_text : LoadOptionCause → List ℕ
+load_option_cause_text option.TooShort = codes "the load option ends before its description"
+load_option_cause_text option.DescriptionWithoutEnd = codes "no NUL ends the description"
+load_option_cause_text option.ListBeyondEnd = codes "the file path list is longer than what is left"
+load_option_cause_text option.EmptyList = codes "the file path list is empty"
+load_option_cause_text (option.FilePathList cause) = node_error_text cause
+
+-- what is printed of the refusal of a load option
+abbrev pub load_option_error_text : LoadOptionError → List ℕ
+load_option_error_text error =
+    load_option_cause_text error.cause ++ codes " at offset " ++ decimal error.offset
+
+-- what is printed where a node is not added to a device path
+abbrev pub build_error_text : BuildError → List ℕ
+build_error_text build.EndNode = codes "the node ends no instance and may not stand before the end"
+build_error_text build.NodeTooLong = codes "the node is longer than its header can state"
+build_error_text build.OutOfMemory = codes "out of memory"
+
+-- what is printed where a node has no name
+abbrev pub file_path_cause_text : FilePathCause → List ℕ
+file_path_cause_text file.HalfUnit = codes "odd number of bytes"
+file_path_cause_text (file.Text error) = from_slice_with_nul_error_text error
+file_path_cause_text file.OutOfMemory = codes "out of memory"
+
+-- what is printed where nodes have no file path
+abbrev pub file_path_error_text : FilePathError → List ℕ
+file_path_error_text error = file_path_cause_text error.cause ++ codes " at offset " ++ decimal error.offset

@@ -1,0 +1,12 @@
+pub mod Nodes
+pub mod Paths
+pub mod Faults
+pub mod ErrorTexts
+pub mod Views
+pub mod FilePaths
+pub mod TypedNodes
+pub mod PathLists
+pub mod LoadOptions
+pub mod Building
+pub mod Instances
+pub mod Laws

@@ -1,0 +1,59 @@
+-- Device paths that lie packed, one after the other.
+use Rattle.std.specs.Prelude.{◌≡◌, ◌≢◌, ℕ, ◌+◌, ◌==◌, ◌&&◌, Bool, if◌then◌else◌, List, [], ◌∷◌, ◌++◌, length, All}
+use Rattle.std.specs.List.{flat_map, onto_first}
+use Rattle.uefi_device_path.specs.Nodes.{Node, IsInner}
+use Rattle.uefi_device_path.specs.Paths.{nodes_in, path_bytes}
+use Rattle.uefi_device_path.specs.Faults.{RefusedFor}
+use Rattle.uefi_device_path.specs.declared.errors.DevicePathError.{DevicePathError}
+
+-- the bytes of device paths, one after the other
+abbrev pub list_bytes : List (List Node) → List ℕ
+list_bytes paths = flat_map path_bytes paths
+
+-- the nodes of each are such as may stand before its end
+abbrev pub ArePaths : List (List Node) → Type 0
+ArePaths paths = All (All IsInner) paths
+
+-- bytes are these device paths, and then `rest`
+pub record BeginWithPaths (bytes : List ℕ) (paths : List (List Node)) (rest : List ℕ) : Type 0 where
+  pub are_paths : ArePaths paths
+  pub join : bytes ≡ list_bytes paths ++ rest
+
+-- the test for the node that ends a path
+abbrev pub is_end_entire : Node → Bool
+is_end_entire node = (node.device_type == 0x7f) && (node.sub_type == 0xff)
+
+-- the nodes between those that end a path
+abbrev pub paths_among : List Node → List (List Node)
+paths_among [] = []
+paths_among (node ∷ nodes) =
+    if is_end_entire node then [] ∷ paths_among nodes else onto_first node (paths_among nodes)
+
+-- the device paths that bytes are, where they are such: there are no others
+unfoldable pub paths_in : List ℕ → List (List Node)
+paths_in bytes = paths_among (nodes_in bytes)
+
+-- bytes are device paths, one after the other, and nothing else
+pub record ArePacked (bytes : List ℕ) : Type 0 where
+  pub are_paths : ArePaths (paths_in bytes)
+  pub join : bytes ≡ list_bytes (paths_in bytes)
+
+-- bytes are one device path or more, and nothing else
+pub record IsPathList (bytes : List ℕ) : Type 0 where
+  pub packed : ArePacked bytes
+  pub some : paths_in bytes ≢ []
+
+-- after these device paths no other begins, for the reason and at the place that the error says
+pub record RefusesList (bytes : List ℕ) (error : DevicePathError) (paths : List (List Node))
+    (rest : List ℕ) (inside : DevicePathError) : Type 0 where
+  pub begins : BeginWithPaths bytes paths rest
+  pub more : rest ≡ [] → paths ≡ []
+  pub refused : RefusedFor rest inside
+  pub cause : error.cause ≡ inside.cause
+  pub offset : error.offset ≡ length (list_bytes paths) + inside.offset
+
+-- bytes are refused as device paths for this error
+abbrev pub ListRefusedFor : List ℕ → DevicePathError → Type 0
+ListRefusedFor bytes error =
+    (paths : List (List Node)) × (rest : List ℕ) × (inside : DevicePathError)
+    × RefusesList bytes error paths rest inside

@@ -1,0 +1,23 @@
+-- Nodes whose data have fields at fixed places.
+use Rattle.std.specs.Prelude.{◌≡◌, ℕ, ◌+◌, ◌≤◌, ◌==◌, ◌&&◌, nat_lt, if◌then◌else◌, List, length, slice_range, Option, Some, None}
+use Rattle.uefi_text.specs.Packed.{little_endian}
+use Rattle.uefi_device_path.specs.Nodes.{Node}
+use Rattle.uefi_device_path.specs.declared.errors.NodeConversionError.{NodeConversionError}
+use Rattle.uefi_device_path.specs.declared.errors.NodeConversionError.TheVariants.{DifferentType, InvalidLength}
+
+-- a node of a kind: of its type, its sub-type, and at least so many bytes of data
+pub record IsOfKind (kind sub_kind least : ℕ) (node : Node) : Type 0 where
+  pub device_type : node.device_type ≡ kind
+  pub sub_type : node.sub_type ≡ sub_kind
+  pub long : least ≤ length node.content
+
+-- why a node is not of a kind, or none
+abbrev pub kind_refusal : ℕ → ℕ → ℕ → Node → Option NodeConversionError
+kind_refusal kind sub_kind least node =
+    if (node.device_type == kind) && (node.sub_type == sub_kind)
+    then (if nat_lt (length node.content) least then Some InvalidLength else None)
+    else Some DifferentType
+
+-- the number that so many bytes of data encode, from a place on, the low byte first
+abbrev pub number_at : ℕ → ℕ → List ℕ → ℕ
+number_at place size content = little_endian (slice_range content place (place + size))

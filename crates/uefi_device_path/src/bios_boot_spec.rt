@@ -1,0 +1,54 @@
+//! Nodes of type BIOS Boot Specification (UEFI Specification 2.10, section 10.3.6).
+#![tactic(auto)]
+
+ghost use Rattle.std.specs.Prelude.{◌≡◌, drop};
+ghost use Rattle.uefi_device_path.specs.TypedNodes.{number_at};
+
+use crate::typed_node::{NodeKind, TypedNode};
+
+/// The kind of [`BootSpecification`].
+#[derive(Clone, Copy)]
+pub struct BootSpecificationKind;
+
+/// The numbers of its layout in the UEFI Specification.
+impl NodeKind for BootSpecificationKind {
+    const DEVICE_TYPE: u8 = 5;
+
+    ghost DEVICE_TYPE = { 5 };
+
+    const SUB_TYPE: u8 = 1;
+
+    ghost SUB_TYPE = { 1 };
+
+    const LEAST: usize = 5;
+
+    ghost LEAST = { 5 };
+}
+
+/// A device that a legacy BIOS can boot.
+pub type BootSpecification<'a> = TypedNode<'a, BootSpecificationKind>;
+
+impl<'a> TypedNode<'a, BootSpecificationKind> {
+    ghost use Rattle.uefi_device_path.specs.Views.{data_of};
+
+    /// The type of the device, by the BIOS Boot Specification.
+    pub fn device_type(&self) -> u16
+        ensures { result ≡ number_at 0 2 (data_of self.now) }
+    {
+        self.number(0)
+    }
+
+    /// Its flags, by the BIOS Boot Specification.
+    pub fn status_flag(&self) -> u16
+        ensures { result ≡ number_at 2 2 (data_of self.now) }
+    {
+        self.number(2)
+    }
+
+    /// The bytes of its description, with their NUL.
+    pub fn description_string(&self) -> &'a [u8]
+        ensures { result.now ≡ drop 4 (data_of self.now) }
+    {
+        self.tail(4)
+    }
+}

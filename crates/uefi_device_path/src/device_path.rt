@@ -1,0 +1,172 @@
+//! Device paths, and the nodes of one.
+#![tactic(auto, unfolding(crate::specs::Views::nodes_of, crate::specs::Views::nodes_left))]
+
+ghost use Rattle.std.specs.Prelude.{◌≡◌, ◌≢◌, ℕ, ◌+◌, ◌<◌, ◌≤◌, ◌^◌, ◌↔◌, ◌++◌, [], List, All, length, drop, IfOk, IfErr, IsOk, IfSome, IsTrue, None};
+ghost use Rattle.std.specs.Result.{result_err};
+ghost use Rattle.uefi_device_path.specs.FilePaths.{FileRefusedFor, IsReadable, file_path};
+ghost use Rattle.uefi_device_path.specs.Nodes.{IsInner, Node, end_entire, node_bytes, node_length};
+ghost use Rattle.uefi_device_path.specs.Paths.{AreNodes, BeginWith, BeginWithPath, IsPath, joined, nodes_in, path_bytes, without_end};
+
+use crate::errors::{DevicePathError, FilePathCause, FilePathError};
+use crate::file_path::file_path_in;
+use crate::instance::DevicePathInstanceIterator;
+use crate::node::{DevicePathNode, fault_place};
+use crate::node_iterator::DevicePathNodeIterator;
+use std::alloc::Allocator;
+use uefi_path::PathBuf;
+
+/// A device path that lies in borrowed bytes: nodes one after the other, and the one that ends it. A
+/// contract sees it as `nodes_of` it: the list of its nodes, without the one that ends it.
+#[derive(Clone, Copy)]
+pub struct DevicePath<'a> {
+    bytes: &'a [u8],
+    pub ghost is_path: { IsPath bytes.now },
+}
+
+impl<'a> DevicePath<'a> {
+    ghost use Rattle.uefi_device_path.specs.Faults.{RefusedFor};
+    ghost use Rattle.uefi_device_path.specs.Instances.{instances};
+    ghost use Rattle.uefi_device_path.specs.Views.{instance_nodes, instances_left, node_of, nodes_left, nodes_of};
+    ghost use Rattle.uefi_text.specs.Runs.{GivesEach};
+    ghost use Rattle.uefi_device_path.specs.declared.errors.DevicePathError.{DevicePathError};
+
+    /// The device path that the bytes are.
+    pub(crate) fn of_path(bytes: &'a [u8]) -> Self
+        requires { IsPath bytes.now }
+        ensures { nodes_of result ≡ nodes_in (without_end bytes.now) }
+    {
+        DevicePath { bytes }
+    }
+
+    /// The device path that bytes begin with, and the bytes after it, node by node.
+    pub(crate) fn read(bytes: &'a [u8]) -> Result<(Self, &'a [u8]), DevicePathError>
+        ensures ok { IfOk result (λ split.
+            BeginWith bytes.now (nodes_of split.0) (node_bytes end_entire ++ split.1.now)) }
+        ensures refusal { IfErr result (λ error. RefusedFor bytes.now error) }
+        ensures within { IfErr result (λ error. error.offset ≤ length bytes.now) }
+    {
+        let mut rest = bytes;
+        'nodes: loop {
+            let offset = bytes.len() - rest.len();
+            match DevicePathNode::split_first(rest) {
+                Ok((node, after)) => {
+                    if node.is_end_entire() {
+                        let path = DevicePath {
+                            bytes: &bytes[..offset + 4],
+                        };
+                        return Ok((path, after));
+                    }
+                    rest = after;
+                }
+                Err(cause) => {
+                    return Err(DevicePathError {
+                        cause,
+                        offset: offset + fault_place(cause),
+                    });
+                }
+            }
+        }
+    }
+
+    /// The device path that bytes begin with, and the bytes after it, where they begin with one.
+    pub(crate) fn take_first(bytes: &'a [u8]) -> (Self, &'a [u8])
+        requires { (nodes : List Node) × BeginWithPath bytes.now nodes }
+        ensures { BeginWith bytes.now (nodes_of result.0) (node_bytes end_entire ++ result.1.now) }
+    {
+        match DevicePath::read(bytes) {
+            Ok(split) => split,
+            Err(_) => unreachable!(),
+        }
+    }
+
+    /// The device path that bytes begin with, and the bytes after it. Refused for the first node that
+    /// is none: for what is wrong with it first in the order of its bytes, at the offset of those bytes.
+    /// Takes no memory; one pass.
+    pub fn split_first(bytes: &'a [u8]) -> Result<(Self, &'a [u8]), DevicePathError>
+        ensures ok { IfOk result (λ split.
+            BeginWith bytes.now (nodes_of split.0) (node_bytes end_entire ++ split.1.now)) }
+        ensures only { IfOk result (λ split. (nodes : List Node) → (rest : List ℕ) →
+            BeginWith bytes.now nodes (node_bytes end_entire ++ rest) →
+            (nodes ≡ nodes_of split.0) × (rest ≡ split.1.now)) }
+        ensures accepts { IsOk result ↔ ((nodes : List Node) × BeginWithPath bytes.now nodes) }
+        ensures refusal { IfErr result (λ error. RefusedFor bytes.now error) }
+        ensures only_refusal { IfErr result (λ error. (other : DevicePathError) →
+            RefusedFor bytes.now other → other ≡ error) }
+    {
+        match DevicePath::read(bytes) {
+            Ok(split) => Ok(split),
+            Err(error) => Err(error),
+        }
+    }
+
+    /// The device path that bytes begin with, whatever follows it. Refused as
+    /// [`DevicePath::split_first`] refuses them.
+    pub fn from_bytes(bytes: &'a [u8]) -> Result<Self, DevicePathError>
+        ensures ok { IfOk result (λ path. BeginWithPath bytes.now (nodes_of path)) }
+        ensures only { IfOk result (λ path. (nodes : List Node) →
+            BeginWithPath bytes.now nodes → nodes ≡ nodes_of path) }
+        ensures accepts { IsOk result ↔ ((nodes : List Node) × BeginWithPath bytes.now nodes) }
+        ensures refusal { IfErr result (λ error. RefusedFor bytes.now error) }
+        ensures only_refusal { IfErr result (λ error. (other : DevicePathError) →
+            RefusedFor bytes.now other → other ≡ error) }
+    {
+        match DevicePath::read(bytes) {
+            Ok((path, _)) => Ok(path),
+            Err(error) => Err(error),
+        }
+    }
+
+    /// All bytes of the path, those of the node that ends it among them.
+    pub fn as_bytes(&self) -> &'a [u8]
+        ensures bytes { result.now ≡ path_bytes (nodes_of self.now) }
+        ensures inner { All IsInner (nodes_of self.now) }
+    {
+        self.bytes
+    }
+
+    /// The nodes of the path in order, without the one that ends it.
+    pub fn node_iter(&self) -> DevicePathNodeIterator<'a>
+        ensures same { nodes_left result ≡ nodes_of self.now }
+        ensures inner { All IsInner (nodes_left result) }
+        ensures bound { length (nodes_left result) < 2 ^ 64 }
+        ensures runs { GivesEach node_of nodes_left result }
+    {
+        DevicePathNodeIterator::of(&self.bytes[..self.bytes.len() - 4])
+    }
+
+    /// The names of all nodes that name files, of all instances, one after the other: one separator stands between two, also
+    /// where both bring one, and each slash is replaced (UEFI Specification 2.10, section 10.3.5.4). Refused
+    /// for the first of these nodes that has no name, or as `OutOfMemory`. Takes memory for each name, and as
+    /// [`PathBuf::push`] does.
+    pub fn file_path<A: Allocator + Copy>(&self, alloc: A) -> Result<PathBuf<A>, FilePathError>
+        ensures ok { IfOk result (λ path. path ≡ file_path (nodes_of self.now)) }
+        ensures accepted { IfOk result (λ _. All IsReadable (nodes_of self.now)) }
+        ensures refusal { IfErr result (λ error. error.cause ≢ FilePathCause.OutOfMemory →
+            FileRefusedFor (nodes_of self.now) error) }
+    {
+        file_path_in(alloc, &self.bytes[..self.bytes.len() - 4])
+    }
+
+    /// The instances of the path, in order: what stands between the nodes that end one.
+    pub fn instance_iter(&self) -> DevicePathInstanceIterator<'a>
+        ensures same { instances_left result ≡ instances (nodes_of self.now) }
+        ensures runs { GivesEach instance_nodes instances_left result }
+    {
+        DevicePathInstanceIterator::of(&self.bytes[..self.bytes.len() - 4])
+    }
+}
+
+/// [`DevicePath::from_bytes`] of the bytes.
+impl<'a> TryFrom<&'a [u8]> for DevicePath<'a> {
+    type Error = DevicePathError;
+
+    ghost use Rattle.uefi_device_path.specs.Faults.{RefusedFor};
+    ghost use Rattle.uefi_device_path.specs.Views.{nodes_of};
+
+    ghost try_from_gives = { λ bytes result. IfOk result (λ path. BeginWithPath bytes.now (nodes_of path))
+        × IfErr result (λ error. RefusedFor bytes.now error) };
+
+    fn try_from(bytes: &'a [u8]) -> Result<Self, DevicePathError> {
+        DevicePath::from_bytes(bytes)
+    }
+}

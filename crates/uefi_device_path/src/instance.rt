@@ -1,0 +1,119 @@
+//! The instances of a device path.
+#![tactic(auto, unfolding(crate::specs::Views::instance_nodes, crate::specs::Views::instances_left, crate::specs::Views::nodes_left, crate::specs::Views::node_of))]
+
+ghost use Rattle.std.specs.Prelude.{◌≡◌, ℕ, ◌+◌, ◌<◌, ◌^◌, ◌∷◌, ◌≢◌, All, length, IfErr, IfOk, IsTrue};
+ghost use Rattle.std.specs.Option.{ForSome};
+ghost use Rattle.uefi_device_path.specs.FilePaths.{FileRefusedFor, IsReadable, file_path};
+ghost use Rattle.uefi_device_path.specs.Nodes.{IsInner};
+ghost use Rattle.uefi_device_path.specs.Paths.{AreNodes, joined, nodes_in};
+ghost use Rattle.uefi_device_path.specs.Instances.{instances, instances_in, is_end_instance};
+
+use crate::errors::{FilePathCause, FilePathError};
+use crate::file_path::file_path_in;
+use crate::node::DevicePathNode;
+use crate::node_iterator::DevicePathNodeIterator;
+use std::alloc::Allocator;
+use uefi_path::PathBuf;
+
+/// An instance of a device path: the nodes between two that end one, without these. A contract sees it as
+/// `instance_nodes` of it.
+#[derive(Clone, Copy)]
+pub struct DevicePathInstance<'a> {
+    bytes: &'a [u8],
+    pub ghost are_nodes: { AreNodes bytes.now },
+}
+
+/// The instances of a device path, in order. A contract sees it as `instances_left` of it: what is still
+/// to come.
+#[derive(Drop)]
+pub struct DevicePathInstanceIterator<'a> {
+    /// What is left to cut; `None` after the last instance.
+    rest: Option<&'a [u8]>,
+    pub ghost are_nodes: { ForSome rest (λ bytes. AreNodes bytes.now) },
+}
+
+/// The bytes of the first instance, and those after the node that ends it, where there is one.
+fn cut_instance(bytes: &[u8]) -> (&[u8], Option<&[u8]>)
+    requires { AreNodes bytes.now }
+    ensures first { AreNodes result.0.now }
+    ensures rest { ForSome result.1 (λ after. AreNodes after.now) }
+    ensures cut { instances (nodes_in bytes.now) ≡ nodes_in result.0.now ∷ instances_in result.1 }
+{
+    let mut rest = bytes;
+    while !rest.is_empty() {
+        let (node, after) = DevicePathNode::take_first(rest);
+        if node.is_end_instance() {
+            return (&bytes[..bytes.len() - rest.len()], Some(after));
+        }
+        rest = after;
+    }
+    (bytes, None)
+}
+
+impl<'a> DevicePathInstance<'a> {
+    ghost use Rattle.uefi_device_path.specs.Views.{instance_nodes, node_of, nodes_left};
+    ghost use Rattle.uefi_text.specs.Runs.{GivesEach};
+
+    /// The bytes of the nodes.
+    pub fn as_bytes(&self) -> &'a [u8]
+        ensures bytes { result.now ≡ joined (instance_nodes self.now) }
+        ensures inner { All IsInner (instance_nodes self.now) }
+    {
+        self.bytes
+    }
+
+    /// The nodes of the instance, in order.
+    pub fn node_iter(&self) -> DevicePathNodeIterator<'a>
+        ensures same { nodes_left result ≡ instance_nodes self.now }
+        ensures bound { length (nodes_left result) < 2 ^ 64 }
+        ensures runs { GivesEach node_of nodes_left result }
+    {
+        DevicePathNodeIterator::of(self.bytes)
+    }
+
+    /// The names of all nodes that name files, one after the other: one separator stands between two, also
+    /// where both bring one, and each slash is replaced (UEFI Specification 2.10, section 10.3.5.4). Refused
+    /// for the first of these nodes that has no name, or as `OutOfMemory`. Takes memory for each name, and as
+    /// [`PathBuf::push`] does.
+    pub fn file_path<A: Allocator + Copy>(&self, alloc: A) -> Result<PathBuf<A>, FilePathError>
+        ensures ok { IfOk result (λ path. path ≡ file_path (instance_nodes self.now)) }
+        ensures accepted { IfOk result (λ _. All IsReadable (instance_nodes self.now)) }
+        ensures refusal { IfErr result (λ error. error.cause ≢ FilePathCause.OutOfMemory →
+            FileRefusedFor (instance_nodes self.now) error) }
+    {
+        file_path_in(alloc, self.bytes)
+    }
+}
+
+impl<'a> DevicePathInstanceIterator<'a> {
+    ghost use Rattle.uefi_device_path.specs.Views.{instance_nodes, instances_left};
+    ghost use Rattle.uefi_text.specs.Runs.{GivesEach};
+
+    /// The instances of nodes.
+    pub(crate) fn of(bytes: &'a [u8]) -> Self
+        requires { AreNodes bytes.now }
+        ensures same { instances_left result ≡ instances (nodes_in bytes.now) }
+        ensures runs { GivesEach instance_nodes instances_left result }
+    {
+        DevicePathInstanceIterator { rest: Some(bytes) }
+    }
+}
+
+/// Gives them from the front, and then `None` for ever.
+impl<'a> Iterator for DevicePathInstanceIterator<'a> {
+    type Item = DevicePathInstance<'a>;
+
+    ghost use Rattle.std.specs.Iterator.{YieldsFirstBy, item_count};
+    ghost use Rattle.uefi_device_path.specs.Views.{instance_nodes, instances_left};
+
+    ghost next_gives = { YieldsFirstBy instance_nodes instances_left };
+
+    ghost remaining = { item_count instances_left };
+
+    fn next(&mut self) -> Option<DevicePathInstance<'a>> {
+        let bytes = self.rest?;
+        let (first, rest) = cut_instance(bytes);
+        self.rest = rest;
+        Some(DevicePathInstance { bytes: first })
+    }
+}

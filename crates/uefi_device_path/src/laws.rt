@@ -1,0 +1,24 @@
+//! The laws by which users of device paths and load options reason. They speak of the definitions that
+//! the contracts of the working calls cite. Each law is a function that does nothing: its contract is the
+//! law.
+ghost use Rattle.uefi_device_path.specs.Laws.{AcceptedWithMore, BuiltIsRead, BytesOnce, NeverBoth, OptionsNeverBoth, OptionsOnce, PathsOnce};
+
+/// Bytes and nodes determine one another: bytes begin with one path at most, no two paths have the same
+/// bytes, and the bytes of nodes are read as these nodes.
+pub fn paths_once()
+    ensures read { PathsOnce }
+    ensures bytes { BytesOnce }
+    ensures built { BuiltIsRead }
+{}
+
+/// Bytes that begin with a path do so whatever follows, and are never refused.
+pub fn accepted_paths()
+    ensures with_more { AcceptedWithMore }
+    ensures never_both { NeverBoth }
+{}
+
+/// No two load options have the same bytes, and those of a load option are never refused.
+pub fn options_once()
+    ensures bytes { OptionsOnce }
+    ensures never_both { OptionsNeverBoth }
+{}

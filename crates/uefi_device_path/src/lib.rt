@@ -1,0 +1,53 @@
+//! Device paths and boot load options of UEFI firmware, read where they lie.
+//!
+//! A *device path* is a list of nodes, packed in bytes, that says where a device or a file is (UEFI
+//! Specification 2.10, chapter 10). A *load option* is what a variable `Boot####` holds: attributes, a
+//! description, device paths and optional data (section 3.1.3). [`DevicePath::from_bytes`] and
+//! [`LoadOption::from_bytes`] test all lengths once, at the door, and return views that borrow: no later
+//! call fails for a length, reads beyond the end, or goes round without passing a node.
+//!
+//! ```rust
+//! use uefi_device_path::{DevicePath, DeviceType};
+//!
+//! let path = DevicePath::from_bytes(&[1, 1, 6, 0, 0, 0x1f, 0x7f, 0xff, 4, 0])?;
+//! for node in path.node_iter() {
+//!     assert_eq!(rt; node.device_type(), DeviceType::HARDWARE);
+//!     assert_eq!(rt; node.data(), [0, 0x1f]);
+//! }
+//! ```
+//!
+//! A contract sees a node as `node_of` it, a record of its type, its sub-type and its data; a path as
+//! `nodes_of` it, the list of its nodes without the one that ends it; and a load option as `entry_of` it.
+//! A refusal says what is wrong and at which offset, and is the only one that holds of the bytes. No call
+//! takes memory but those that say so.
+#![tactic(auto)]
+
+pub mod acpi;
+pub mod bios_boot_spec;
+mod build;
+mod device_path;
+mod errors;
+mod file_path;
+pub mod hardware;
+mod instance;
+pub mod laws;
+mod load_option;
+pub mod media;
+pub mod messaging;
+mod node;
+mod node_iterator;
+mod path_list;
+mod typed_node;
+
+pub use build::DevicePathBuf;
+pub use device_path::DevicePath;
+pub use errors::{
+    BuildError, DevicePathError, FilePathCause, FilePathError, LoadOptionCause, LoadOptionError,
+    NodeConversionError, NodeError,
+};
+pub use instance::{DevicePathInstance, DevicePathInstanceIterator};
+pub use load_option::LoadOption;
+pub use node::{DevicePathNode, DeviceSubType, DeviceType};
+pub use node_iterator::DevicePathNodeIterator;
+pub use path_list::{DevicePaths, check_paths};
+pub use typed_node::{NodeKind, TypedNode};

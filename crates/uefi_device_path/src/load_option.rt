@@ -1,0 +1,194 @@
+//! Boot load options: the bytes of the variables `Boot####` (UEFI Specification 2.10, section 3.1.3).
+#![tactic(auto, unfolding(crate::specs::Views::entry_of))]
+
+ghost use Rattle.std.specs.Prelude.{◌≡◌, ℕ, ◌+◌, ◌-◌, ◌*◌, ◌/◌, ◌%◌, ◌<◌, ◌≤◌, ◌↔◌, ◌++◌, ◌^◌, List, length, IfOk, IfErr, IsOk, IsTrue, None, unwrap_or};
+ghost use Rattle.uefi_text.specs.FromSliceWithNul.{with_nul_refusal};
+ghost use Rattle.uefi_text.specs.Units.{IsNulTerminated, IsString, nul_terminated};
+ghost use Rattle.uefi_text.specs.Views.{items_of};
+ghost use Rattle.uefi_device_path.specs.PathLists.{IsPathList, list_bytes};
+ghost use Rattle.uefi_device_path.specs.LoadOptions.{Entry, EntryRefusedFor, IsEntry, entry_bytes};
+
+use crate::errors::{LoadOptionCause, LoadOptionError};
+use crate::path_list::{DevicePaths, check_paths};
+use std::alloc::Allocator;
+use uefi_text::{CString16, FromSliceWithNulError, UnalignedSlice};
+
+/// A boot load option that lies in borrowed bytes. A contract sees it as `entry_of` it.
+#[derive(Clone, Copy)]
+pub struct LoadOption<'a> {
+    attributes: u32,
+    description: UnalignedSlice<'a, u16>,
+    list: &'a [u8],
+    optional: &'a [u8],
+    pub ghost ends: { IsNulTerminated (items_of description) },
+    pub ghost is_path_list: { IsPathList list.now },
+}
+
+impl<'a> LoadOption<'a> {
+    ghost use Rattle.uefi_device_path.specs.Views.{entry_of, nodes_of, paths_left};
+    ghost use Rattle.uefi_device_path.specs.declared.errors.LoadOptionError.{LoadOptionError};
+    ghost use Rattle.uefi_text.specs.Runs.{GivesEach};
+
+    /// The load option that the bytes are. Refused for the first of these that is wrong: fewer than
+    /// six bytes, a description without NUL, a file path list beyond the end or of no bytes, and a
+    /// node of the list. Takes no memory; one pass.
+    pub fn from_bytes(bytes: &'a [u8]) -> Result<Self, LoadOptionError>
+        ensures entry { IfOk result (λ option. IsEntry (entry_of option)) }
+        ensures ok { IfOk result (λ option. bytes.now ≡ entry_bytes (entry_of option)) }
+        ensures only { IfOk result (λ option. (entry : Entry) → IsEntry entry →
+            bytes.now ≡ entry_bytes entry → entry ≡ entry_of option) }
+        ensures accepts { IsOk result ↔ ((entry : Entry) × IsEntry entry × (bytes.now ≡ entry_bytes entry)) }
+        ensures refusal { IfErr result (λ error. EntryRefusedFor bytes.now error) }
+        ensures only_refusal { IfErr result (λ error. (other : LoadOptionError) →
+            EntryRefusedFor bytes.now other → other ≡ error) }
+    {
+        match LoadOption::read(bytes) {
+            Ok(option) => Ok(option),
+            Err(error) => Err(error),
+        }
+    }
+
+    /// The load option that the bytes are, field by field.
+    fn read(bytes: &'a [u8]) -> Result<Self, LoadOptionError>
+        ensures entry { IfOk result (λ option. IsEntry (entry_of option)) }
+        ensures ok { IfOk result (λ option. bytes.now ≡ entry_bytes (entry_of option)) }
+        ensures refusal { IfErr result (λ error. EntryRefusedFor bytes.now error) }
+    {
+        let len = bytes.len();
+        if len < 6 {
+            return Err(LoadOptionError {
+                cause: LoadOptionCause::TooShort,
+                offset: len,
+            });
+        }
+        let attributes = u32::from_le_bytes([bytes[0], bytes[1], bytes[2], bytes[3]]);
+        let list_length = u16::from_le_bytes([bytes[4], bytes[5]]) as usize;
+        let (_, described) = bytes.split_at(6);
+        let Some((description, rest)) = UnalignedSlice::split_until_nul(described) else {
+            return Err(LoadOptionError {
+                cause: LoadOptionCause::DescriptionWithoutEnd,
+                offset: len - len % 2,
+            });
+        };
+        if rest.len() < list_length {
+            return Err(LoadOptionError {
+                cause: LoadOptionCause::ListBeyondEnd,
+                offset: 4,
+            });
+        }
+        let start = len - rest.len();
+        if list_length == 0 {
+            return Err(LoadOptionError {
+                cause: LoadOptionCause::EmptyList,
+                offset: start,
+            });
+        }
+        let (list, optional) = rest.split_at(list_length);
+        match check_paths(list) {
+            Ok(()) => Ok(LoadOption {
+                attributes,
+                description,
+                list,
+                optional,
+            }),
+            Err(error) => Err(LoadOptionError {
+                cause: LoadOptionCause::FilePathList(error.cause),
+                offset: start + error.offset,
+            }),
+        }
+    }
+
+    /// The attributes.
+    pub fn attributes(&self) -> u32
+        ensures { result ≡ (entry_of self.now).attributes }
+    {
+        self.attributes
+    }
+
+    /// Whether firmware tries the option by itself: `LOAD_OPTION_ACTIVE`.
+    pub fn is_active(&self) -> bool
+        ensures { IsTrue result ↔ ((entry_of self.now).attributes % 2 ≡ 1) }
+    {
+        self.attributes % 2 == 1
+    }
+
+    /// Whether connecting a driver makes firmware connect all devices anew: `LOAD_OPTION_FORCE_RECONNECT`.
+    pub fn is_force_reconnect(&self) -> bool
+        ensures { IsTrue result ↔ ((entry_of self.now).attributes / 2 % 2 ≡ 1) }
+    {
+        self.attributes / 2 % 2 == 1
+    }
+
+    /// Whether a menu leaves the option out: `LOAD_OPTION_HIDDEN`.
+    pub fn is_hidden(&self) -> bool
+        ensures { IsTrue result ↔ ((entry_of self.now).attributes / 8 % 2 ≡ 1) }
+    {
+        self.attributes / 8 % 2 == 1
+    }
+
+    /// The category, `LOAD_OPTION_CATEGORY` as a number: 0 is an option to boot, 1 an application.
+    pub fn category(&self) -> u32
+        ensures { result ≡ (entry_of self.now).attributes / 256 % 32 }
+    {
+        self.attributes / 256 % 32
+    }
+
+    /// The description as a string in memory of its own. Refused as [`UnalignedSlice::to_cstring16`]
+    /// refuses its units: where it holds a surrogate, and then as `OutOfMemory`. One request for memory.
+    pub fn description<A: Allocator>(&self, alloc: A) -> Result<CString16<A>, FromSliceWithNulError>
+        ensures ok { IfOk result (λ string. string ≡ (entry_of self.now).description) }
+        ensures memory { IfErr result (λ error. (error ≡ FromSliceWithNulError.OutOfMemory)
+            ↔ IsString (nul_terminated (entry_of self.now).description)) }
+        ensures refusal { IfErr result (λ error. error ≡ unwrap_or
+            (with_nul_refusal (nul_terminated (entry_of self.now).description)) FromSliceWithNulError.OutOfMemory) }
+    {
+        self.description_units().to_cstring16(alloc)
+    }
+
+    /// The code units of the description, its NUL included, wherever they lie. They may hold
+    /// surrogates: [`UnalignedSlice::to_cstr16`] and its neighbours say whether they are a string.
+    pub fn description_units(&self) -> UnalignedSlice<'a, u16>
+        ensures units { items_of result ≡ nul_terminated (entry_of self.now).description }
+        ensures ends { IsNulTerminated (items_of result) }
+    {
+        self.description
+    }
+
+    /// The bytes of the file path list.
+    pub fn file_path_list(&self) -> &'a [u8]
+        ensures { result.now ≡ list_bytes (entry_of self.now).paths }
+    {
+        self.list
+    }
+
+    /// The device paths of the file path list, in order.
+    pub fn device_paths(&self) -> DevicePaths<'a>
+        ensures same { paths_left result ≡ (entry_of self.now).paths }
+        ensures bound { length (paths_left result) < 2 ^ 64 }
+        ensures runs { GivesEach nodes_of paths_left result }
+    {
+        DevicePaths::of(self.list)
+    }
+
+    /// The bytes after the file path list.
+    pub fn optional_data(&self) -> &'a [u8]
+        ensures { result.now ≡ (entry_of self.now).optional }
+    {
+        self.optional
+    }
+}
+
+/// [`LoadOption::from_bytes`] of the bytes.
+impl<'a> TryFrom<&'a [u8]> for LoadOption<'a> {
+    type Error = LoadOptionError;
+
+    ghost use Rattle.uefi_device_path.specs.Views.{entry_of};
+
+    ghost try_from_gives = { λ bytes result.
+        IfOk result (λ option. IsEntry (entry_of option) × (bytes.now ≡ entry_bytes (entry_of option)))
+        × IfErr result (λ error. EntryRefusedFor bytes.now error) };
+
+    fn try_from(bytes: &'a [u8]) -> Result<Self, LoadOptionError> {
+        LoadOption::from_bytes(bytes)
+    }
+}

@@ -1,0 +1,178 @@
+//! One node of a device path.
+#![tactic(auto, unfolding(crate::specs::Views::node_of))]
+
+ghost use Rattle.std.specs.Prelude.{◌≡◌, ◌≢◌, ℕ, ◌+◌, ◌<◌, ◌≤◌, ◌^◌, ◌↔◌, ◌++◌, length, IfOk, IsTrue, None};
+ghost use Rattle.std.specs.Result.{result_err};
+ghost use Rattle.uefi_device_path.specs.Faults.{fault_place};
+ghost use Rattle.uefi_device_path.specs.Nodes.{IsSound, end_entire, first_node, node_bytes, node_length};
+
+use crate::errors::NodeError;
+
+/// The type of a node (UEFI Specification 2.10, section 10.3).
+#[derive(Clone, Copy, Debug, PartialEq, Eq)]
+pub struct DeviceType(
+    /// The number of the type.
+    pub u8,
+);
+
+impl DeviceType {
+    /// A device that is in the system's address space, such as one on a PCI bus.
+    pub const HARDWARE: DeviceType = DeviceType(0x01);
+
+    /// A device that ACPI names.
+    pub const ACPI: DeviceType = DeviceType(0x02);
+
+    /// A device that messages reach.
+    pub const MESSAGING: DeviceType = DeviceType(0x03);
+
+    /// A part of a medium, such as a partition or a file.
+    pub const MEDIA: DeviceType = DeviceType(0x04);
+
+    /// What a legacy BIOS can boot.
+    pub const BIOS_BOOT_SPEC: DeviceType = DeviceType(0x05);
+
+    /// The end of an instance or of a path.
+    pub const END: DeviceType = DeviceType(0x7f);
+}
+
+/// The sub-type of a node, which says something together with its type alone.
+#[derive(Clone, Copy, Debug, PartialEq, Eq)]
+pub struct DeviceSubType(
+    /// The number of the sub-type.
+    pub u8,
+);
+
+impl DeviceSubType {
+    /// Of [`DeviceType::MEDIA`]: a file.
+    pub const MEDIA_FILE_PATH: DeviceSubType = DeviceSubType(0x04);
+
+    /// Of [`DeviceType::END`]: the end of an instance, after which another follows.
+    pub const END_INSTANCE: DeviceSubType = DeviceSubType(0x01);
+
+    /// Of [`DeviceType::END`]: the end of the path.
+    pub const END_ENTIRE: DeviceSubType = DeviceSubType(0xff);
+}
+
+/// Where in a node the bytes begin that are at fault.
+pub(crate) fn fault_place(cause: NodeError) -> usize
+    ensures place { result ≡ fault_place cause }
+    ensures within { result ≤ 2 }
+{
+    match cause {
+        NodeError::Missing | NodeError::TruncatedHeader => 0,
+        NodeError::UnknownEnd => 1,
+        NodeError::LengthBelowHeader | NodeError::EndWithData | NodeError::BeyondEnd => 2,
+    }
+}
+
+/// A node that lies in borrowed bytes. A contract sees it as `node_of` it: its type, its sub-type and
+/// its data.
+#[derive(Clone, Copy)]
+pub struct DevicePathNode<'a> {
+    bytes: &'a [u8],
+    pub ghost is_node: { bytes.now ≡ node_bytes (first_node bytes.now) },
+    pub ghost sound: { IsSound (first_node bytes.now) },
+}
+
+impl<'a> DevicePathNode<'a> {
+    ghost use Rattle.uefi_device_path.specs.Faults.{node_fault};
+    ghost use Rattle.uefi_device_path.specs.Instances.{is_end_instance};
+    ghost use Rattle.uefi_device_path.specs.Views.{node_of};
+
+    /// The node that bytes begin with, and the bytes after it, where a node begins.
+    pub(crate) fn take_first(bytes: &'a [u8]) -> (Self, &'a [u8])
+        requires { node_fault bytes.now ≡ None }
+        ensures { bytes.now ≡ node_bytes (node_of result.0) ++ result.1.now }
+    {
+        let length = u16::from_le_bytes([bytes[2], bytes[3]]) as usize;
+        let (node, rest) = bytes.split_at(length);
+        (DevicePathNode { bytes: node }, rest)
+    }
+
+    /// The node that bytes begin with, and the bytes after it. The node may be one that ends an instance
+    /// or the path. Refused for the first of the causes of [`NodeError`] that holds, where a length above
+    /// that of the header is one of an end node before it is one beyond the bytes.
+    pub fn split_first(bytes: &'a [u8]) -> Result<(Self, &'a [u8]), NodeError>
+        ensures ok { IfOk result (λ split. bytes.now ≡ node_bytes (node_of split.0) ++ split.1.now) }
+        ensures refusal { result_err result ≡ node_fault bytes.now }
+    {
+        if bytes.is_empty() {
+            return Err(NodeError::Missing);
+        }
+        if bytes.len() < 4 {
+            return Err(NodeError::TruncatedHeader);
+        }
+        let is_end = bytes[0] == 0x7f;
+        if is_end && bytes[1] != 0x01 && bytes[1] != 0xff {
+            return Err(NodeError::UnknownEnd);
+        }
+        let length = u16::from_le_bytes([bytes[2], bytes[3]]) as usize;
+        if length < 4 {
+            return Err(NodeError::LengthBelowHeader);
+        }
+        if is_end && length != 4 {
+            return Err(NodeError::EndWithData);
+        }
+        if bytes.len() < length {
+            return Err(NodeError::BeyondEnd);
+        }
+        Ok(DevicePathNode::take_first(bytes))
+    }
+
+    /// All bytes of the node.
+    pub fn as_bytes(&self) -> &'a [u8]
+        ensures { result.now ≡ node_bytes (node_of self.now) }
+    {
+        self.bytes
+    }
+
+    /// The type.
+    pub fn device_type(&self) -> DeviceType
+        ensures { result.0 ≡ (node_of self.now).device_type }
+    {
+        DeviceType(self.bytes[0])
+    }
+
+    /// The sub-type.
+    pub fn sub_type(&self) -> DeviceSubType
+        ensures { result.0 ≡ (node_of self.now).sub_type }
+    {
+        DeviceSubType(self.bytes[1])
+    }
+
+    /// The type and the sub-type.
+    pub fn full_type(&self) -> (DeviceType, DeviceSubType)
+        ensures device_type { result.0.0 ≡ (node_of self.now).device_type }
+        ensures sub_type { result.1.0 ≡ (node_of self.now).sub_type }
+    {
+        (self.device_type(), self.sub_type())
+    }
+
+    /// How many bytes the node has, its header among them.
+    pub fn length(&self) -> u16
+        ensures { result ≡ node_length (node_of self.now) }
+    {
+        u16::from_le_bytes([self.bytes[2], self.bytes[3]])
+    }
+
+    /// The bytes after the header.
+    pub fn data(&self) -> &'a [u8]
+        ensures { result.now ≡ (node_of self.now).content }
+    {
+        &self.bytes[4..]
+    }
+
+    /// Whether this node ends the path.
+    pub fn is_end_entire(&self) -> bool
+        ensures { IsTrue result ↔ (node_of self.now ≡ end_entire) }
+    {
+        self.bytes[0] == 0x7f && self.bytes[1] == 0xff
+    }
+
+    /// Whether this node ends an instance.
+    pub fn is_end_instance(&self) -> bool
+        ensures { result ≡ is_end_instance (node_of self.now) }
+    {
+        self.bytes[0] == 0x7f && self.bytes[1] == 0x01
+    }
+}

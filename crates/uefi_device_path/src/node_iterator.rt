@@ -1,0 +1,51 @@
+//! The nodes of a device path or of an instance, one by one.
+#![tactic(auto, unfolding(crate::specs::Views::nodes_left))]
+
+ghost use Rattle.std.specs.Prelude.{◌≡◌, ℕ, ◌<◌, ◌^◌, length, IsTrue};
+ghost use Rattle.uefi_device_path.specs.Paths.{AreNodes, nodes_in};
+
+use crate::node::DevicePathNode;
+
+/// The nodes of a device path or an instance, in order. A contract sees it as `nodes_left` of it: what
+/// is still to come.
+#[derive(Drop)]
+pub struct DevicePathNodeIterator<'a> {
+    rest: &'a [u8],
+    pub ghost are_nodes: { AreNodes rest.now },
+}
+
+impl<'a> DevicePathNodeIterator<'a> {
+    ghost use Rattle.uefi_device_path.specs.Views.{node_of, nodes_left};
+    ghost use Rattle.uefi_text.specs.Runs.{GivesEach};
+
+    /// The nodes that bytes are.
+    pub(crate) fn of(bytes: &'a [u8]) -> Self
+        requires { AreNodes bytes.now }
+        ensures same { nodes_left result ≡ nodes_in bytes.now }
+        ensures bound { length (nodes_left result) < 2 ^ 64 }
+        ensures runs { GivesEach node_of nodes_left result }
+    {
+        DevicePathNodeIterator { rest: bytes }
+    }
+}
+
+/// Gives them from the front, and then `None` for ever.
+impl<'a> Iterator for DevicePathNodeIterator<'a> {
+    type Item = DevicePathNode<'a>;
+
+    ghost use Rattle.std.specs.Iterator.{YieldsFirstBy, item_count};
+    ghost use Rattle.uefi_device_path.specs.Views.{node_of, nodes_left};
+
+    ghost next_gives = { YieldsFirstBy node_of nodes_left };
+
+    ghost remaining = { item_count nodes_left };
+
+    fn next(&mut self) -> Option<DevicePathNode<'a>> {
+        if self.rest.is_empty() {
+            return None;
+        }
+        let (node, rest) = DevicePathNode::take_first(self.rest);
+        self.rest = rest;
+        Some(node)
+    }
+}

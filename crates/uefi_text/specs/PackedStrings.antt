@@ -1,0 +1,9 @@
+-- Units that lie at the front of bytes, up to and with a NUL.
+use Rattle.std.specs.Prelude.{◌≡◌, ℕ, List, ◌++◌}
+use Rattle.uefi_text_encodings.specs.UnitBytes.{unit_bytes}
+use Rattle.uefi_text_encodings.specs.Units.{IsNulTerminated}
+
+-- bytes are those of these units, of which exactly the last is a NUL, and then `rest`
+pub record SplitsUntilNul (bytes units rest : List ℕ) : Type 0 where
+  pub ends : IsNulTerminated units
+  pub join : bytes ≡ unit_bytes units ++ rest
