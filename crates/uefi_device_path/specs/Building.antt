@@ -8,6 +8,7 @@ use Rattle.uefi_device_path.specs.declared.errors.BuildError.TheVariants.{EndNod
 -- why a node may not stand before the end of a path, or none
 abbrev pub build_refusal : Node → Option BuildError
 build_refusal node =
-    if (node.device_type == 0x7f) && not (is_end_instance node && (length node.content == 0)) then Some EndNode
+    if (node.device_type == 0x7f) && not (is_end_instance node && (length node.content == 0))
+    then Some EndNode
     else if nat_lt 0xffff (node_length node) then Some NodeTooLong
     else None

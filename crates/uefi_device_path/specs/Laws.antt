@@ -9,7 +9,8 @@ use Rattle.uefi_device_path.specs.declared.errors.LoadOptionError.{LoadOptionErr
 
 -- bytes begin with one path at most
 abbrev pub PathsOnce : Type 0
-PathsOnce = (bytes : List ℕ) (nodes others : List Node) → BeginWithPath bytes nodes → BeginWithPath bytes others
+PathsOnce = (bytes : List ℕ) (nodes others : List Node)
+    → BeginWithPath bytes nodes → BeginWithPath bytes others
     → nodes ≡ others
 
 -- no two lists of nodes have the same bytes

@@ -59,13 +59,16 @@ pub record RefusesPaths (bytes description rest : List ℕ) (error inside : Devi
 abbrev pub IsWrong : List ℕ → LoadOptionCause → ℕ → Type 0
 IsWrong bytes TooShort offset = (length bytes < 6) × (offset ≡ length bytes)
 IsWrong bytes DescriptionWithoutEnd offset = (6 ≤ length bytes)
-    × (offset ≡ length bytes - length bytes % 2) × ((description : List ℕ) (rest : List ℕ) → Describes bytes description rest → ⊥)
+    × (offset ≡ length bytes - length bytes % 2)
+    × ((description : List ℕ) (rest : List ℕ) → Describes bytes description rest → ⊥)
 IsWrong bytes ListBeyondEnd offset = (description : List ℕ) × (rest : List ℕ)
     × Describes bytes description rest × (length rest < stated_list_length bytes) × (offset ≡ 4)
 IsWrong bytes EmptyList offset = (description : List ℕ) × (rest : List ℕ)
-    × Describes bytes description rest × (stated_list_length bytes ≡ 0) × (offset + length rest ≡ length bytes)
+    × Describes bytes description rest × (stated_list_length bytes ≡ 0)
+    × (offset + length rest ≡ length bytes)
 IsWrong bytes (FilePathList cause) offset = (description : List ℕ) × (rest : List ℕ)
-    × (inside : DevicePathError) × RefusesPaths bytes description rest (record { cause = cause; offset = offset }) inside
+    × (inside : DevicePathError)
+    × RefusesPaths bytes description rest (record { cause = cause; offset = offset }) inside
 
 -- bytes are no load option, for this error
 abbrev pub EntryRefusedFor : List ℕ → LoadOptionError → Type 0

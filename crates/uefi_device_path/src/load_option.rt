@@ -140,7 +140,8 @@ impl<'a> LoadOption<'a> {
         ensures memory { IfErr result (λ error. (error ≡ FromSliceWithNulError.OutOfMemory)
             ↔ IsString (nul_terminated (entry_of self.now).description)) }
         ensures refusal { IfErr result (λ error. error ≡ unwrap_or
-            (with_nul_refusal (nul_terminated (entry_of self.now).description)) FromSliceWithNulError.OutOfMemory) }
+            (with_nul_refusal (nul_terminated (entry_of self.now).description))
+            FromSliceWithNulError.OutOfMemory) }
     {
         self.description_units().to_cstring16(alloc)
     }

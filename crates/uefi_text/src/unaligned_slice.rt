@@ -516,7 +516,7 @@ impl<'a> UnalignedSlice<'a, u16> {
         requires block { end ≤ start + 64 }
         ensures { result ≡ position is_nul (slice_range (items_of self.now) start end) }
     {
-        let mut block = [0; BLOCK];
+        let mut block = [0; TESTED];
         let units = &mut block[..end - start];
         self.part(start, end).copy_each_to(units);
         find_nul(units)
@@ -529,7 +529,7 @@ impl<'a> UnalignedSlice<'a, u16> {
         let len = self.len();
         let mut start = 0;
         while start < len {
-            let end = start + BLOCK.min(len - start);
+            let end = start + TESTED.min(len - start);
             if let Some(place) = self.find_nul_in_block(start, end) {
                 return Some(start + place);
             }
