@@ -5,7 +5,7 @@ use Rattle.uefi_device_path.specs.Nodes.{Node}
 use Rattle.uefi_device_path.specs.declared.errors.NodeConversionError.{NodeConversionError}
 use Rattle.uefi_device_path.specs.declared.errors.NodeConversionError.TheVariants.{DifferentType, InvalidLength}
 
--- a node of a kind: of its type, its sub-type, and at least so many bytes of data
+-- a node of a kind: of its type, its sub-type, and at least `least` bytes of data
 pub record IsOfKind (kind sub_kind least : ℕ) (node : Node) : Type 0 where
   pub device_type : node.device_type ≡ kind
   pub sub_type : node.sub_type ≡ sub_kind
@@ -18,6 +18,6 @@ kind_refusal kind sub_kind least node =
     then (if nat_lt (length node.content) least then Some InvalidLength else None)
     else Some DifferentType
 
--- the number that so many bytes of data encode, from a place on, the low byte first
+-- the number that `size` bytes of data encode, from a place on, the low byte first
 abbrev pub number_at : ℕ → ℕ → List ℕ → ℕ
 number_at place size content = little_endian (slice_range content place (place + size))
