@@ -174,8 +174,8 @@ IsPath-path_bytes ns bytes inner e =
     let long : length bytes ≡ length (joined ns) + 4 = ap length e ∙ length-append (joined ns) (node_bytes end_entire) in
     let both = length-append (joined ns) (node_bytes end_entire) in
     let place = length (path_bytes ns) - 4 in
-    let front : without_end bytes ≡ joined ns =
-        ap without_end e ∙ take_at (joined ns) (node_bytes end_entire) place (omega (arith, both)) in
+    let cut = take_at (joined ns) (node_bytes end_entire) place (omega (arith, both)) in
+    let front : without_end bytes ≡ joined ns = ap without_end e ∙ cut in
     let shown : nodes_in (without_end bytes) ≡ ns = ap nodes_in front ∙ nodes_in-joined ns in
     (record { nodes = AreNodes-joined ns (without_end bytes) inner front; ends = e ∙ ap (λ k. k ++ node_bytes end_entire) (sym front) }, shown)
 
