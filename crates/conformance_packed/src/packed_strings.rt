@@ -220,21 +220,24 @@ fn units_up_to_a_nul(rt: HostRuntime) {
 }
 
 /// Whether a NUL after `len` units of `a` is found there, at an odd place of memory too.
-fn is_found_after(rt: &HostRuntime, len: usize) -> Result<bool, Fail> {
+fn is_found_after(rt: &HostRuntime, len: u16) -> Result<bool, Fail> {
+    let len = usize::from(len);
     let mut bytes = vec![in rt.alloc(); 0x61u8; 2 * len]?;
     bytes.extend_from_slice(&[0, 0, 5])?;
     let mut shifted = vec![in rt.alloc(); 0u8; 1]?;
     shifted.extend_from_slice(&bytes)?;
-    let units = vec![in rt.alloc(); 0x6161u16; len]?;
-    let mut string = units;
+    let mut string = vec![in rt.alloc(); 0x6161u16; len]?;
     string.push(0)?;
-    Ok(is_split(&bytes, &string, &[5]) && is_split(&shifted[1..], &string, &[5]))
+    let Some(odd) = shifted.get(1..) else {
+        return Ok(false);
+    };
+    Ok(is_split(&bytes, &string, &[5]) && is_split(odd, &string, &[5]))
 }
 
 /// A NUL in each place of a block, and in blocks after the first.
 #[test]
 fn units_up_to_a_nul_far_in(rt: HostRuntime) -> Result<(), Fail> {
-    for len in 0usize..131 {
+    for len in 0u16..131 {
         assert!(rt; is_found_after(&rt, len)?, "{len} units");
     }
     assert!(rt; is_found_after(&rt, 40_000)?);
