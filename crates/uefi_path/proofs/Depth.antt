@@ -1,182 +1,145 @@
--- How deep components lead: none of them climbs exactly where the number of names that are left never
--- runs out, and then the verdict is that of the components alone.
-use Rattle.std.proofs.Common.{◌≡◌, ◌↔◌, ℕ, zero, suc, ◌+◌, ◌<◌, ◌≤◌, if◌then◌else◌, nat_lt, List, [], ◌∷◌, ◌++◌, All, Option, None, Some, take, ap, sym, refl, subst, ◌∙◌, arith}
+-- Components that the verdict accepts: they are good, and none climbs. So are a part of them and others in a row,
+-- and their normal form holds names alone.
+use Rattle.std.proofs.Common.{◌≡◌, ℕ, zero, suc, ◌+◌, ◌≤◌, List, [], ◌∷◌, ◌++◌, All, Option, None, Some, take, ap, sym, refl, subst, ◌∙◌, arith}
 use Rattle.std.specs.List.{slice_get}
 use Rattle.std.specs.Option.{option_or}
 use Rattle.std.proofs.lemmas.List.Elements.{All-cons, All-head, All-nil, All-tail}
 use Rattle.std.proofs.lemmas.Option.{same_Some}
 use Rattle.uefi_path.specs.Climbing.{NoneClimbs, counted_dot_dot, counted_name, depth_after, dot_dots, names}
-use Rattle.uefi_path.specs.NormalForms.{Dot, DotDot, IsName, Kind, Name, before_normal, before_piece, dot_dot, kind, normal_of}
+use Rattle.uefi_path.specs.NormalForms.{IsName, before_normal, before_piece, dot_dot, kind, normal_of}
 use Rattle.uefi_path.specs.Parents.{all_but_last}
-use Rattle.uefi_path.specs.Verdicts.{IsGood, climbing_fault, fault, first_fault_after}
+use Rattle.uefi_path.specs.Verdicts.{IsGood, fault, fault_at, first_fault}
+use Rattle.uefi_path.specs.declared.kinds.Kind.{Kind}
+use Rattle.uefi_path.specs.declared.kinds.Kind.TheVariants.{Dot, DotDot, Name}
 use Rattle.uefi_path.specs.declared.validation.PathError.{PathError}
 use Rattle.uefi_path.specs.declared.validation.PathError.TheVariants.{ClimbsAboveRoot}
 use Rattle.uefi_path.proofs.Rewriting.{kind-DotDot, kind-Name, name_kind}
 
--- the fault of the first component that has one, by how many names are left before it
-abbrev pub fault_at_depth : Option ℕ → (ℕ → Option PathError) → Option PathError
-fault_at_depth None rest = Some ClimbsAboveRoot
-fault_at_depth (Some depth) rest = rest depth
+-- components that are accepted where this many names are left before them, and after a piece, unless it climbs
+abbrev pub Accepted : List (List ℕ) → ℕ → Type 0
+Accepted cs depth = first_fault cs depth ≡ None
 
-abbrev pub fault_from : List (List ℕ) → ℕ → Option PathError
-fault_from [] depth = None
-fault_from (c ∷ cs) depth = option_or (fault c) (fault_at_depth (depth_after (kind c) depth) (fault_from cs))
+abbrev AcceptedAt : List (List ℕ) → Option ℕ → Type 0
+AcceptedAt cs left = fault_at left (first_fault cs) ≡ None
 
-names-push : (cs : List (List ℕ)) (c : List ℕ) {k : Kind} → kind c ≡ k → names (cs ++ c ∷ []) ≡ names cs + counted_name k
-names-push [] c e = omega (arith, ap counted_name e)
-names-push (d ∷ cs) c e = omega (arith, names-push cs c e)
+first_accepted : (c : List ℕ) (cs : List (List ℕ)) (depth : ℕ) → Accepted (c ∷ cs) depth
+    → IsGood c × AcceptedAt cs (depth_after (kind c) depth)
+first_accepted c cs depth accepted = neither (fault c) _ accepted
+  where
+    neither : (first second : Option PathError) → option_or first second ≡ None → (first ≡ None) × (second ≡ None)
+    neither None second e = (refl, e)
+    neither (Some error) second e = absurd (cc)
 
-dot_dots-push : (cs : List (List ℕ)) (c : List ℕ) {k : Kind} → kind c ≡ k
-    → dot_dots (cs ++ c ∷ []) ≡ dot_dots cs + counted_dot_dot k
-dot_dots-push [] c e = omega (arith, ap counted_dot_dot e)
-dot_dots-push (d ∷ cs) c e = omega (arith, dot_dots-push cs c e)
+with_first : (c : List ℕ) (cs : List (List ℕ)) (depth : ℕ) → IsGood c → AcceptedAt cs (depth_after (kind c) depth)
+    → Accepted (c ∷ cs) depth
+with_first c cs depth good others =
+    ap (λ o. option_or o (fault_at (depth_after (kind c) depth) (first_fault cs))) good ∙ others
 
-if_less : {T : Type 0} (m n : ℕ) (x y : T) → m < n → (if nat_lt m n then x else y) ≡ x
-if_less m n x y less = grind (arith, less)
+-- what holds of those that are accepted at some depth holds after a piece, at some depth then
+module _ (cs : List (List ℕ)) (P : Type 0) (holds : (depth : ℕ) → Accepted cs depth → P) where
+  after_piece : (left : Option ℕ) → AcceptedAt cs left → P
+  after_piece None others = absurd (cc)
+  after_piece (Some depth) others = holds depth others
 
-if_not_less : {T : Type 0} (m n : ℕ) (x y : T) → n ≤ m → (if nat_lt m n then x else y) ≡ y
-if_not_less m n x y more = grind (arith, more)
+pub good_components : (cs : List (List ℕ)) (depth : ℕ) → Accepted cs depth → All IsGood cs
+good_components [] depth accepted = All-nil IsGood
+good_components (c ∷ cs) depth accepted =
+    let first = first_accepted c cs depth accepted in
+    All-cons IsGood c cs first.0 (after_piece cs (All IsGood cs) (good_components cs) (depth_after (kind c) depth) first.1)
 
--- it is the one by the names and the `..` before it
-module _ (before : List (List ℕ)) (c : List ℕ) (cs : List (List ℕ)) where
-  at_kind : (k : Kind) (depth : ℕ) → kind c ≡ k → names before ≡ dot_dots before + depth
-      → ((left : ℕ) → names (before ++ c ∷ []) ≡ dot_dots (before ++ c ∷ []) + left
-      → first_fault_after (before ++ c ∷ []) cs ≡ fault_from cs left)
-      → option_or (climbing_fault before k) (first_fault_after (before ++ c ∷ []) cs)
-      ≡ fault_at_depth (depth_after k depth) (fault_from cs)
-  at_kind Dot depth e counted more =
-      more depth (omega (arith, counted, names-push before c e, dot_dots-push before c e))
-  at_kind DotDot zero e counted more =
-      ap (λ o. option_or o (first_fault_after (before ++ c ∷ []) cs))
-      (if_not_less (dot_dots before) (names before) None (Some ClimbsAboveRoot) (omega (arith, counted)))
-  at_kind DotDot (suc depth) e counted more =
-      ap (λ o. option_or o (first_fault_after (before ++ c ∷ []) cs))
-      (if_less (dot_dots before) (names before) None (Some ClimbsAboveRoot) (omega (arith, counted)))
-      ∙ more depth (omega (arith, counted, names-push before c e, dot_dots-push before c e))
-  at_kind Name depth e counted more =
-      more (depth + 1) (omega (arith, counted, names-push before c e, dot_dots-push before c e))
+-- they are accepted also where more names are left before them, others stand after them, or only those but
+-- the last are left
+module _ (cs ds : List (List ℕ)) (rest : (depth more : ℕ) → depth ≤ more → Accepted cs depth → Accepted ds more) where
+  onto : (k : Kind) (depth more : ℕ) → depth ≤ more → AcceptedAt cs (depth_after k depth)
+      → AcceptedAt ds (depth_after k more)
+  onto Dot depth more less others = rest depth more less others
+  onto DotDot zero more less others = absurd (cc)
+  onto DotDot (suc depth) zero less others = absurd (omega (arith, less))
+  onto DotDot (suc depth) (suc more) less others = rest depth more (omega (arith, less)) others
+  onto Name depth more less others = rest (depth + 1) (more + 1) (omega (arith, less)) others
 
-  at_fault : (o : Option PathError) (depth : ℕ) → names before ≡ dot_dots before + depth
-      → ((left : ℕ) → names (before ++ c ∷ []) ≡ dot_dots (before ++ c ∷ []) + left
-      → first_fault_after (before ++ c ∷ []) cs ≡ fault_from cs left)
-      → option_or (option_or o (climbing_fault before (kind c))) (first_fault_after (before ++ c ∷ []) cs)
-      ≡ option_or o (fault_at_depth (depth_after (kind c) depth) (fault_from cs))
-  at_fault None depth counted more = at_kind (kind c) depth refl counted more
-  at_fault (Some error) depth counted more = refl
+  with_same : (c : List ℕ) (depth more : ℕ) → depth ≤ more → Accepted (c ∷ cs) depth → Accepted (c ∷ ds) more
+  with_same c depth more less accepted =
+      let first = first_accepted c cs depth accepted in
+      with_first c ds more first.0 (onto (kind c) depth more less first.1)
 
-pub first_fault_from : (before cs : List (List ℕ)) (depth : ℕ) → names before ≡ dot_dots before + depth
-    → first_fault_after before cs ≡ fault_from cs depth
-first_fault_from before [] depth counted = refl
-first_fault_from before (c ∷ cs) depth counted =
-    at_fault before c cs (fault c) depth counted
-    (λ left e. first_fault_from (before ++ c ∷ []) cs left e)
+deeper : (cs : List (List ℕ)) (depth more : ℕ) → depth ≤ more → Accepted cs depth → Accepted cs more
+deeper [] depth more less accepted = refl
+deeper (c ∷ cs) depth more less accepted = with_same cs cs (deeper cs) c depth more less accepted
 
--- components that lead nowhere above, by how many names are left before them
-abbrev pub stays_at : Option ℕ → (ℕ → Type 0) → Type 0
-stays_at None rest = ⊥
-stays_at (Some depth) rest = rest depth
+append_deeper : (ds : List (List ℕ)) → Accepted ds 0 → (cs : List (List ℕ)) (depth more : ℕ) → depth ≤ more
+    → Accepted cs depth → Accepted (cs ++ ds) more
+append_deeper ds after [] depth more less accepted = deeper ds 0 more (omega arith) after
+append_deeper ds after (c ∷ cs) depth more less accepted =
+    with_same cs (cs ++ ds) (append_deeper ds after cs) c depth more less accepted
 
-abbrev pub Stays : List (List ℕ) → ℕ → Type 0
-Stays [] depth = Unit {0}
-Stays (c ∷ cs) depth = stays_at (depth_after (kind c) depth) (Stays cs)
+pub Accepted-append : (cs ds : List (List ℕ)) → Accepted cs 0 → Accepted ds 0 → Accepted (cs ++ ds) 0
+Accepted-append cs ds accepted after = append_deeper ds after cs 0 0 (omega arith) accepted
 
--- they have no fault exactly where they are good and stay
-module _ (cs : List (List ℕ)) (rest : (depth : ℕ) → fault_from cs depth ≡ None → All IsGood cs × Stays cs depth) where
-  good_at : (c : List ℕ) (o : Option PathError) (left : Option ℕ) → fault c ≡ o
-      → option_or o (fault_at_depth left (fault_from cs)) ≡ None
-      → All IsGood (c ∷ cs) × stays_at left (Stays cs)
-  good_at c None None e none = absurd (cc)
-  good_at c None (Some depth) e none =
-      let others = rest depth none in (All-cons IsGood c cs e others.0, others.1)
-  good_at c (Some error) left e none = absurd (cc)
+all_but_last_deeper : (cs : List (List ℕ)) (depth more : ℕ) → depth ≤ more → Accepted cs depth
+    → Accepted (all_but_last cs) more
+all_but_last_deeper [] depth more less accepted = refl
+all_but_last_deeper (c ∷ []) depth more less accepted = refl
+all_but_last_deeper (c ∷ d ∷ cs) depth more less accepted =
+    with_same (d ∷ cs) (all_but_last (d ∷ cs)) (all_but_last_deeper (d ∷ cs)) c depth more less accepted
 
-pub good_and_stays : (cs : List (List ℕ)) (depth : ℕ) → fault_from cs depth ≡ None
-    → All IsGood cs × Stays cs depth
-good_and_stays [] depth none = (All-nil IsGood, tt)
-good_and_stays (c ∷ cs) depth none =
-    good_at cs (good_and_stays cs) c (fault c) (depth_after (kind c) depth) refl none
+pub Accepted-all_but_last : (cs : List (List ℕ)) → Accepted cs 0 → Accepted (all_but_last cs) 0
+Accepted-all_but_last cs accepted = all_but_last_deeper cs 0 0 (omega arith) accepted
 
-module _ (cs : List (List ℕ)) (rest : (depth : ℕ) → Stays cs depth → fault_from cs depth ≡ None) where
-  none_at : (left : Option ℕ) → stays_at left (Stays cs) → fault_at_depth left (fault_from cs) ≡ None
-  none_at None stays = absurd stays
-  none_at (Some depth) stays = rest depth stays
+-- and where they are names
+pub Accepted-names : (cs : List (List ℕ)) (depth : ℕ) → All IsGood cs → All IsName cs → Accepted cs depth
+Accepted-names [] depth good all = refl
+Accepted-names (c ∷ cs) depth good all =
+    with_first c cs depth (All-head IsGood c cs good)
+    (subst (λ k. AcceptedAt cs (depth_after k depth)) (sym (name_kind c (All-head IsName c cs all)))
+    (Accepted-names cs (depth + 1) (All-tail IsGood c cs good) (All-tail IsName c cs all)))
 
-pub none_from : (cs : List (List ℕ)) (depth : ℕ) → All IsGood cs → Stays cs depth → fault_from cs depth ≡ None
-none_from [] depth good stays = refl
-none_from (c ∷ cs) depth good stays =
-    ap (λ o. option_or o (fault_at_depth (depth_after (kind c) depth) (fault_from cs)))
-    (All-head IsGood c cs good)
-    ∙ none_at cs (λ left. none_from cs left (All-tail IsGood c cs good)) (depth_after (kind c) depth) stays
-
--- components stay exactly where none of them climbs
-abbrev NoneClimbsAbove : List (List ℕ) → ℕ → Type 0
-NoneClimbsAbove cs depth = (place : ℕ) → slice_get cs place ≡ Some dot_dot
+-- they are accepted exactly where they are good and none climbs
+abbrev NoneAbove : List (List ℕ) → ℕ → Type 0
+NoneAbove cs depth = (place : ℕ) → slice_get cs place ≡ Some dot_dot
     → names (take place cs) + depth ≤ dot_dots (take place cs) → ⊥
 
-module _ (c : List ℕ) (cs : List (List ℕ)) (rest : (depth : ℕ) → NoneClimbsAbove cs depth → Stays cs depth) where
-  stays_where : (k : Kind) (depth : ℕ) → kind c ≡ k → NoneClimbsAbove (c ∷ cs) depth
-      → stays_at (depth_after k depth) (Stays cs)
-  stays_where Dot depth e none =
+module _ (c : List ℕ) (cs : List (List ℕ)) (rest : (depth : ℕ) → NoneAbove cs depth → Accepted cs depth) where
+  accepted_where : (k : Kind) (depth : ℕ) → kind c ≡ k → NoneAbove (c ∷ cs) depth → AcceptedAt cs (depth_after k depth)
+  accepted_where Dot depth e none =
       rest depth (λ place up more. none (suc place) up (omega (arith, ap counted_name e, ap counted_dot_dot e, more)))
-  stays_where DotDot zero e none = none 0 (ap Some (kind-DotDot c e)) (omega arith)
-  stays_where DotDot (suc depth) e none =
+  accepted_where DotDot zero e none = absurd (none 0 (ap Some (kind-DotDot c e)) (omega arith))
+  accepted_where DotDot (suc depth) e none =
       rest depth (λ place up more. none (suc place) up (omega (arith, ap counted_name e, ap counted_dot_dot e, more)))
-  stays_where Name depth e none =
+  accepted_where Name depth e none =
       rest (depth + 1) (λ place up more. none (suc place) up (omega (arith, ap counted_name e, ap counted_dot_dot e, more)))
 
-stays_none : (cs : List (List ℕ)) (depth : ℕ) → NoneClimbsAbove cs depth → Stays cs depth
-stays_none [] depth none = tt
-stays_none (c ∷ cs) depth none = stays_where c cs (stays_none cs) (kind c) depth refl none
+none_accepted : (cs : List (List ℕ)) (depth : ℕ) → All IsGood cs → NoneAbove cs depth → Accepted cs depth
+none_accepted [] depth good none = refl
+none_accepted (c ∷ cs) depth good none =
+    with_first c cs depth (All-head IsGood c cs good)
+    (accepted_where c cs (λ left. none_accepted cs left (All-tail IsGood c cs good)) (kind c) depth refl none)
 
-module _ (c : List ℕ) (cs : List (List ℕ)) (rest : (depth : ℕ) → Stays cs depth → NoneClimbsAbove cs depth) where
-  none_where : (k : Kind) (depth : ℕ) → kind c ≡ k → stays_at (depth_after k depth) (Stays cs)
-      → NoneClimbsAbove (c ∷ cs) depth
-  none_where Dot depth e stays zero up more = let k = ap kind (same_Some c dot_dot up) in cc
-  none_where Dot depth e stays (suc place) up more =
-      rest depth stays place up (omega (arith, ap counted_name e, ap counted_dot_dot e, more))
-  none_where DotDot zero e stays place up more = absurd stays
-  none_where DotDot (suc depth) e stays zero up more = absurd (omega (arith, more))
-  none_where DotDot (suc depth) e stays (suc place) up more =
-      rest depth stays place up (omega (arith, ap counted_name e, ap counted_dot_dot e, more))
-  none_where Name depth e stays zero up more = let k = ap kind (same_Some c dot_dot up) in cc
-  none_where Name depth e stays (suc place) up more =
-      rest (depth + 1) stays place up (omega (arith, ap counted_name e, ap counted_dot_dot e, more))
+module _ (c : List ℕ) (cs : List (List ℕ)) (rest : (depth : ℕ) → Accepted cs depth → NoneAbove cs depth) where
+  none_where : (k : Kind) (depth : ℕ) → kind c ≡ k → AcceptedAt cs (depth_after k depth) → NoneAbove (c ∷ cs) depth
+  none_where Dot depth e others zero up more = let k = ap kind (same_Some c dot_dot up) in cc
+  none_where Dot depth e others (suc place) up more =
+      rest depth others place up (omega (arith, ap counted_name e, ap counted_dot_dot e, more))
+  none_where DotDot zero e others place up more = cc
+  none_where DotDot (suc depth) e others zero up more = omega (arith, more)
+  none_where DotDot (suc depth) e others (suc place) up more =
+      rest depth others place up (omega (arith, ap counted_name e, ap counted_dot_dot e, more))
+  none_where Name depth e others zero up more = let k = ap kind (same_Some c dot_dot up) in cc
+  none_where Name depth e others (suc place) up more =
+      rest (depth + 1) others place up (omega (arith, ap counted_name e, ap counted_dot_dot e, more))
 
-none_stays : (cs : List (List ℕ)) (depth : ℕ) → Stays cs depth → NoneClimbsAbove cs depth
-none_stays [] depth stays place up more = cc
-none_stays (c ∷ cs) depth stays place up more =
-    none_where c cs (none_stays cs) (kind c) depth refl stays place up more
+accepted_none : (cs : List (List ℕ)) (depth : ℕ) → Accepted cs depth → NoneAbove cs depth
+accepted_none [] depth accepted place up more = cc
+accepted_none (c ∷ cs) depth accepted place up more =
+    none_where c cs (accepted_none cs) (kind c) depth refl (first_accepted c cs depth accepted).1 place up more
 
--- they stay also where more names are left before them
-pub stays_anywhere : (cs : List (List ℕ)) (depth : ℕ) → Stays cs 0 → Stays cs depth
-stays_anywhere cs depth stays =
-    stays_none cs depth (λ place up more. none_stays cs 0 stays place up (omega (arith, more)))
+pub accepted_climbs : (cs : List (List ℕ)) → Accepted cs 0 → NoneClimbs cs
+accepted_climbs cs accepted place climbs = accepted_none cs 0 accepted place climbs.0 (omega (arith, climbs.1))
 
--- and where others stand after them that stay anywhere, or only those but the last are left
-module _ (cs ds : List (List ℕ)) (rest : (depth : ℕ) → Stays cs depth → Stays ds depth) where
-  stays_onto : (left : Option ℕ) → stays_at left (Stays cs) → stays_at left (Stays ds)
-  stays_onto None stays = stays
-  stays_onto (Some depth) stays = rest depth stays
+pub climbs_accepted : (cs : List (List ℕ)) → All IsGood cs → NoneClimbs cs → Accepted cs 0
+climbs_accepted cs good none = none_accepted cs 0 good (λ place up more. none place (up, omega (arith, more)))
 
-pub Stays-append : (cs ds : List (List ℕ)) (depth : ℕ) → Stays cs depth → Stays ds 0 → Stays (cs ++ ds) depth
-Stays-append [] ds depth stays after = stays_anywhere ds depth after
-Stays-append (c ∷ cs) ds depth stays after =
-    stays_onto cs (cs ++ ds) (λ left s. Stays-append cs ds left s after) (depth_after (kind c) depth) stays
-
-pub Stays-all_but_last : (cs : List (List ℕ)) (depth : ℕ) → Stays cs depth → Stays (all_but_last cs) depth
-Stays-all_but_last [] depth stays = tt
-Stays-all_but_last (c ∷ []) depth stays = tt
-Stays-all_but_last (c ∷ d ∷ cs) depth stays =
-    stays_onto (d ∷ cs) (all_but_last (d ∷ cs)) (Stays-all_but_last (d ∷ cs)) (depth_after (kind c) depth) stays
-
--- names stay
-pub Stays-names : (cs : List (List ℕ)) (depth : ℕ) → All IsName cs → Stays cs depth
-Stays-names [] depth all = tt
-Stays-names (c ∷ cs) depth all =
-    subst (λ k. stays_at (depth_after k depth) (Stays cs)) (sym (name_kind c (All-head IsName c cs all)))
-    (Stays-names cs (depth + 1) (All-tail IsName c cs all))
-
--- a normal form of components that stay begins with at most as many `..` as names are left before them
+-- the normal form begins with at most as many `..` as names are left before it
 abbrev begins_at : Kind → ℕ → Type 0 → (ℕ → Type 0) → Type 0
 begins_at Dot depth names rest = ⊥
 begins_at DotDot zero names rest = ⊥
@@ -203,25 +166,22 @@ name_before Name c d ds depth e f begins =
     names_begin (c ∷ d ∷ ds) depth
     (All-cons IsName c (d ∷ ds) (kind-Name c e) (All-cons IsName d ds (kind-Name d f) begins))
 
-piece_before : (k : Kind) (c : List ℕ) (ds : List (List ℕ)) (depth : ℕ) → kind c ≡ k
-    → stays_at (depth_after k depth) (Begins ds) → Begins (before_normal k c ds) depth
-piece_before Dot c ds depth e begins = begins
-piece_before DotDot c ds zero e begins = absurd begins
-piece_before DotDot c ds (suc depth) e begins =
-    subst (λ k. begins_at k (suc depth) (All IsName ds) (Begins ds)) (sym e) begins
-piece_before Name c [] depth e begins = names_begin (c ∷ []) depth (All-cons IsName c [] (kind-Name c e) (All-nil IsName))
-piece_before Name c (d ∷ ds) depth e begins = name_before (kind d) c d ds depth e refl begins
+piece_before : (k : Kind) (c : List ℕ) (cs ds : List (List ℕ)) (depth : ℕ) → kind c ≡ k
+    → ((left : ℕ) → Accepted cs left → Begins ds left)
+    → AcceptedAt cs (depth_after k depth) → Begins (before_normal k c ds) depth
+piece_before Dot c cs ds depth e begins others = begins depth others
+piece_before DotDot c cs ds zero e begins others = absurd (cc)
+piece_before DotDot c cs ds (suc depth) e begins others =
+    subst (λ k. begins_at k (suc depth) (All IsName ds) (Begins ds)) (sym e) (begins depth others)
+piece_before Name c cs [] depth e begins others =
+    names_begin (c ∷ []) depth (All-cons IsName c [] (kind-Name c e) (All-nil IsName))
+piece_before Name c cs (d ∷ ds) depth e begins others =
+    name_before (kind d) c d ds depth e refl (begins (depth + 1) others)
 
-begins_normal : (cs : List (List ℕ)) (depth : ℕ) → Stays cs depth → Begins (normal_of cs) depth
-begins_normal [] depth stays = tt
-begins_normal (c ∷ cs) depth stays =
-    piece_before (kind c) c (normal_of cs) depth refl
-    (begins_after (λ left s. begins_normal cs left s) (depth_after (kind c) depth) stays)
-  where
-    begins_after : ((left : ℕ) → Stays cs left → Begins (normal_of cs) left)
-        → (left : Option ℕ) → stays_at left (Stays cs) → stays_at left (Begins (normal_of cs))
-    begins_after rest None s = s
-    begins_after rest (Some left) s = rest left s
+normal_begins : (cs : List (List ℕ)) (depth : ℕ) → Accepted cs depth → Begins (normal_of cs) depth
+normal_begins [] depth accepted = tt
+normal_begins (c ∷ cs) depth accepted =
+    piece_before (kind c) c cs (normal_of cs) depth refl (normal_begins cs) (first_accepted c cs depth accepted).1
 
 all_names : (cs : List (List ℕ)) → Begins cs 0 → All IsName cs
 all_names [] begins = All-nil IsName
@@ -232,32 +192,25 @@ all_names (c ∷ cs) begins = at (kind c) refl begins
     at DotDot e b = absurd b
     at Name e b = All-cons IsName c cs (kind-Name c e) b
 
--- so where none climbs it holds names alone
-pub names_of_normal : (cs : List (List ℕ)) → Stays cs 0 → All IsName (normal_of cs)
-names_of_normal cs stays = all_names (normal_of cs) (begins_normal cs 0 stays)
-
--- that is how they are judged
-pub none_climbs_stays : (cs : List (List ℕ)) → NoneClimbs cs ↔ Stays cs 0
-none_climbs_stays cs = (
-  λ none. stays_none cs 0 (λ place up more. none place (up, omega (arith, more))),
-  λ stays place climbs. none_stays cs 0 stays place climbs.0 (omega (arith, climbs.1)),
-)
+-- so it holds names alone
+pub names_of_normal : (cs : List (List ℕ)) → Accepted cs 0 → All IsName (normal_of cs)
+names_of_normal cs accepted = all_names (normal_of cs) (normal_begins cs 0 accepted)
 
 -- where the components that are left have the fault of all, so has the next of them, or it climbs, or there
 -- is none
-module _ (all left : List (List ℕ)) (depth : ℕ) (same : fault_from left depth ≡ fault_from all 0) where
+module _ (all left : List (List ℕ)) (depth : ℕ) (same : first_fault left depth ≡ first_fault all 0) where
   pub fault_here : (c : List ℕ) (cs : List (List ℕ)) (error : PathError) → left ≡ c ∷ cs → fault c ≡ Some error
-      → fault_from all 0 ≡ Some error
+      → first_fault all 0 ≡ Some error
   fault_here c cs error e here =
-      sym same ∙ ap (λ pieces. fault_from pieces depth) e
-      ∙ ap (λ o. option_or o (fault_at_depth (depth_after (kind c) depth) (fault_from cs))) here
+      sym same ∙ ap (λ pieces. first_fault pieces depth) e
+      ∙ ap (λ o. option_or o (fault_at (depth_after (kind c) depth) (first_fault cs))) here
 
   pub climbs_here : (c : List ℕ) (cs : List (List ℕ)) → left ≡ c ∷ cs → fault c ≡ None
-      → depth_after (kind c) depth ≡ None → fault_from all 0 ≡ Some ClimbsAboveRoot
+      → depth_after (kind c) depth ≡ None → first_fault all 0 ≡ Some ClimbsAboveRoot
   climbs_here c cs e good up =
-      sym same ∙ ap (λ pieces. fault_from pieces depth) e
-      ∙ ap (λ o. option_or o (fault_at_depth (depth_after (kind c) depth) (fault_from cs))) good
-      ∙ ap (λ o. fault_at_depth o (fault_from cs)) up
+      sym same ∙ ap (λ pieces. first_fault pieces depth) e
+      ∙ ap (λ o. option_or o (fault_at (depth_after (kind c) depth) (first_fault cs))) good
+      ∙ ap (λ o. fault_at o (first_fault cs)) up
 
-  pub none_here : left ≡ [] → fault_from all 0 ≡ None
-  none_here e = sym same ∙ ap (λ pieces. fault_from pieces depth) e
+  pub none_here : left ≡ [] → first_fault all 0 ≡ None
+  none_here e = sym same ∙ ap (λ pieces. first_fault pieces depth) e

@@ -18,6 +18,7 @@ pub mod Runs
 pub mod Rewriting
 pub mod NormalPaths
 pub mod LastPieces
+mod LastComponents
 mod NamesLeft
 mod NameTails
 mod Counts

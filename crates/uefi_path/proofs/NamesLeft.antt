@@ -5,7 +5,9 @@ use Rattle.std.proofs.lemmas.List.Elements.{All-head}
 use Rattle.std.specs.List.{slice_split}
 use Rattle.uefi_path.specs.Components.{components_of, joined}
 use Rattle.uefi_path.specs.NamesLeft.{names_before}
-use Rattle.uefi_path.specs.NormalForms.{Dot, DotDot, IsName, Kind, Name, before_normal, before_piece, dot, dot_dot, kind, normal_of}
+use Rattle.uefi_path.specs.NormalForms.{IsName, before_normal, before_piece, dot, dot_dot, kind, normal_of}
+use Rattle.uefi_path.specs.declared.kinds.Kind.{Kind}
+use Rattle.uefi_path.specs.declared.kinds.Kind.TheVariants.{Dot, DotDot, Name}
 use Rattle.uefi_path.specs.Separators.{canonical, is_separator}
 use Rattle.uefi_path.specs.Verdicts.{IsGood, verdict}
 use Rattle.uefi_text.specs.Units.{IsText, IsTextUnit}
@@ -15,7 +17,7 @@ use Rattle.uefi_path.proofs.NormalPaths.{All-normal}
 use Rattle.uefi_path.proofs.Parents.{All-slice_split}
 use Rattle.uefi_path.proofs.Rewriting.{NormalForm-normal_of, name_kind, normal_of-step}
 use Rattle.uefi_path.proofs.Splitting.{AreComponents-components_of, slice_split-canonical}
-use Rattle.uefi_path.proofs.Validity.{valid-components, valid-parts}
+use Rattle.uefi_path.proofs.Validity.{valid-accepted, valid-components}
 
 -- a name after all others stays
 before_piece-push : (k : Kind) (p q : List ℕ) (qs : List (List ℕ)) (name : List ℕ)
@@ -89,7 +91,7 @@ pub valid_names : (text us : List ℕ) → verdict text ≡ None → us ≡ cano
     → All IsName (names_before (slice_split is_separator us) 0)
 valid_names text us valid e some =
     subst (All IsName) (sym (from_start text us e some))
-    (names_of_normal (components_of text) (valid-parts text valid).1)
+    (names_of_normal (components_of text) (valid-accepted text valid))
 
 -- and good ones
 pub good_names : (text us : List ℕ) → verdict text ≡ None → us ≡ canonical text → us ≢ []

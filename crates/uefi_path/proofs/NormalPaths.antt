@@ -4,15 +4,17 @@ use Rattle.std.proofs.Common.{◌≡◌, ◌≢◌, ℕ, List, [], ◌∷◌, No
 use Rattle.std.proofs.lemmas.List.Elements.{All-cons, All-head, All-nil, All-tail}
 use Rattle.uefi_path.specs.Components.{components_of, joined, pieces_between}
 use Rattle.uefi_path.specs.Laws.{NormalHoldsNames, NormalIsNormal, NormalIsValid, NormalPathsAgree}
-use Rattle.uefi_path.specs.NormalForms.{Dot, DotDot, IsName, Kind, Name, NormalForm, before_normal, before_piece, kind, normal_of, normal_text}
+use Rattle.uefi_path.specs.NormalForms.{IsName, NormalForm, before_normal, before_piece, kind, normal_of, normal_text}
+use Rattle.uefi_path.specs.declared.kinds.Kind.{Kind}
+use Rattle.uefi_path.specs.declared.kinds.Kind.TheVariants.{Dot, DotDot, Name}
 use Rattle.uefi_path.specs.Separators.{canonical, separator, slash, with_separators}
 use Rattle.uefi_path.specs.Verdicts.{IsGood, verdict}
 use Rattle.uefi_text.specs.Units.{IsText, IsTextUnit}
-use Rattle.uefi_path.proofs.Depth.{Stays, Stays-names, names_of_normal}
+use Rattle.uefi_path.proofs.Depth.{Accepted, Accepted-names, names_of_normal}
 use Rattle.uefi_path.proofs.ParentForm.{components_of-joined}
 use Rattle.uefi_path.proofs.Pushing.{separator_is_plain, with_separators-plain}
 use Rattle.uefi_path.proofs.Rewriting.{normal_forms_agree, normal_of-only}
-use Rattle.uefi_path.proofs.Validity.{All-good_plain, All-joined, valid-components, valid-from, valid-parts}
+use Rattle.uefi_path.proofs.Validity.{All-good_plain, All-joined, valid-accepted, valid-components, valid-from}
 
 -- what holds of each piece holds of each of the normal form
 module _ (P : List ℕ → Type 0) where
@@ -54,15 +56,15 @@ good_normal text normal valid form =
 pub normal_holds_names : NormalHoldsNames
 normal_holds_names text normal valid form =
     subst (All IsName) (sym (normal_of-only (components_of text) normal form))
-    (names_of_normal (components_of text) (valid-parts text valid).1)
+    (names_of_normal (components_of text) (valid-accepted text valid))
 
 pub normal_is_valid : NormalIsValid
 normal_is_valid text normal valid form =
     let good = good_normal text normal valid form in
     let same = sym (components_of-normal_text normal good) in
     valid-from (normal_text normal) (normal_text-non_empty normal good)
-    (subst (All IsGood) same good)
-    (subst (λ pieces. Stays pieces 0) same (Stays-names normal 0 (normal_holds_names text normal valid form)))
+    (subst (λ pieces. Accepted pieces 0) same
+    (Accepted-names normal 0 good (normal_holds_names text normal valid form)))
 
 pub normal_is_normal : NormalIsNormal
 normal_is_normal text normal valid form =

@@ -9,12 +9,12 @@ use Rattle.uefi_path.specs.Components.{IsPiece, components_of, joined, pieces_be
 use Rattle.uefi_path.specs.Parents.{parent_text, parent_of_components, all_but_last, ends_empty, non_empty, is_non_empty, joined_with_end, rejoined}
 use Rattle.uefi_path.specs.Separators.{IsPlain, canonical, is_separator, separator, slash, with_separators}
 use Rattle.uefi_path.specs.Verdicts.{IsGood, verdict}
-use Rattle.uefi_path.proofs.Depth.{Stays, Stays-all_but_last}
+use Rattle.uefi_path.proofs.Depth.{Accepted, Accepted-all_but_last}
 use Rattle.uefi_path.proofs.Joining.{canonical-no, slice_split-append, slice_split-non_empty}
 use Rattle.uefi_path.proofs.Parents.{All-all_but_last, All-components_of, All-non_empty, IsFull, parent_of_components-many}
 use Rattle.uefi_path.proofs.Pushing.{separator_is_plain, with_separators-plain}
 use Rattle.uefi_path.proofs.Splitting.{AreComponents-components_of, pieces_between-some, pieces_between-joined, slice_split-joined}
-use Rattle.uefi_path.proofs.Validity.{All-good_non_empty, All-good_piece, All-good_plain, All-joined, valid-components, valid-from, valid-plain, valid-parts}
+use Rattle.uefi_path.proofs.Validity.{All-good_non_empty, All-good_piece, All-good_plain, All-joined, valid-accepted, valid-components, valid-from, valid-plain}
 
 -- no separator stands before pieces that are not empty
 prefix_joined : (n : List ℕ) (ns : List (List ℕ)) (more : List ℕ) → IsPiece n → IsFull n
@@ -262,6 +262,6 @@ valid_parent_text text parent valid e =
     λ none. let n : 0 ≡ length (all_but_last (components_of text)) =
     ap (λ us. length (components_of us)) (sym none) ∙ ap length same in
     omega (arith, length-all_but_last (components_of text), is.1) in
-    valid-from parent filled_parent (subst (All IsGood) (sym same) good)
-    (subst (λ pieces. Stays pieces 0) (sym same)
-    (Stays-all_but_last (components_of text) 0 (valid-parts text valid).1))
+    valid-from parent filled_parent
+    (subst (λ pieces. Accepted pieces 0) (sym same)
+    (Accepted-all_but_last (components_of text) (valid-accepted text valid)))

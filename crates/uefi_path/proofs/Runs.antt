@@ -16,7 +16,7 @@ use Rattle.uefi_text.specs.Units.{IsText, IsTextUnit}
 use Rattle.uefi_text.specs.Views.{units_of}
 use Rattle.uefi_path.specs.Runs.{GivesNoNulIn}
 use Rattle.uefi_path.specs.Views.{components_left}
-use Rattle.uefi_path.specs.declared.path.Components.{Components}
+use Rattle.uefi_path.specs.declared.components.Components.{Components}
 
 pub gives_each : {S A B : Type 0} (view : A → B) (left : S → List B) (here : S) → GivesEach view left here
 gives_each view left here run seen from =

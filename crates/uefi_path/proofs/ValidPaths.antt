@@ -10,8 +10,8 @@ use Rattle.uefi_path.specs.Components.{components_of}
 use Rattle.uefi_path.specs.Verdicts.{IsFileName, IsGood, IsValid, denied, is_denied, verdict}
 use Rattle.uefi_path.specs.declared.validation.PathError.{PathError}
 use Rattle.uefi_path.specs.declared.validation.PathError.TheVariants.{IllegalChar}
-use Rattle.uefi_path.proofs.Depth.{none_climbs_stays}
-use Rattle.uefi_path.proofs.Validity.{good-units, valid-components, valid-from, valid-non_empty, valid-parts}
+use Rattle.uefi_path.proofs.Depth.{accepted_climbs, climbs_accepted}
+use Rattle.uefi_path.proofs.Validity.{good-units, valid-accepted, valid-components, valid-from, valid-non_empty}
 
 -- a unit that none of those denied is, and the test that says so
 none_denied : (unit : ℕ) → is_denied unit ≡ false → ¬ Contains denied unit
@@ -57,13 +57,13 @@ name_good c good = record {
 pub valid_unrefused : (text : List ℕ) → IsValid text ↔ (verdict text ≡ None)
 valid_unrefused text = (
   λ valid. valid-from text valid.not_empty
-      (All-weaker IsFileName IsGood good_name (components_of text) valid.file_names)
-      ((none_climbs_stays (components_of text)).0 valid.none_climbs),
+      (climbs_accepted (components_of text)
+      (All-weaker IsFileName IsGood good_name (components_of text) valid.file_names) valid.none_climbs),
   λ unrefused. record {
     not_empty = valid-non_empty text unrefused;
     file_names =
         All-weaker IsGood IsFileName name_good (components_of text) (valid-components text unrefused);
-    none_climbs = (none_climbs_stays (components_of text)).1 (valid-parts text unrefused).1;
+    none_climbs = accepted_climbs (components_of text) (valid-accepted text unrefused);
   },
 )
 

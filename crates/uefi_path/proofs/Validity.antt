@@ -9,9 +9,9 @@ use Rattle.uefi_path.specs.Components.{IsPiece, components_of, joined}
 use Rattle.uefi_path.specs.Parents.{is_non_empty}
 use Rattle.uefi_path.specs.Pushing.{appended, needs_separator, pushed}
 use Rattle.uefi_path.specs.Separators.{IsPlain, canonical, is_separator, separator, slash, with_separators}
-use Rattle.uefi_path.specs.Verdicts.{IsGood, is_denied, verdict}
+use Rattle.uefi_path.specs.Verdicts.{IsGood, first_fault, is_denied, verdict}
 use Rattle.uefi_path.specs.declared.validation.PathError.TheVariants.{IllegalChar}
-use Rattle.uefi_path.proofs.Depth.{Stays, Stays-append, fault_from, first_fault_from, good_and_stays, none_from}
+use Rattle.uefi_path.proofs.Depth.{Accepted, Accepted-append, good_components}
 use Rattle.uefi_path.proofs.Joining.{canonical-no, canonical-yes, components_of-pushed}
 use Rattle.uefi_path.proofs.Parents.{after_separator, open_joined}
 use Rattle.uefi_path.proofs.Pushing.{separator_is_plain}
@@ -30,33 +30,24 @@ All-found_none p (u ∷ us) e =
     ]
 
 -- the verdict on a text that is not empty is that on its components
-pub verdict_from : (text : List ℕ) → text ≢ [] → verdict text ≡ fault_from (components_of text) 0
+pub verdict_from : (text : List ℕ) → text ≢ [] → verdict text ≡ first_fault (components_of text) 0
 verdict_from [] non_empty = absurd (non_empty refl)
-verdict_from (u ∷ us) non_empty = first_fault_from [] (components_of (u ∷ us)) 0 refl
+verdict_from (u ∷ us) non_empty = refl
 
--- a valid text has good components, of which none climbs
-pub valid-parts : (text : List ℕ) → verdict text ≡ None
-    → All IsGood (components_of text) × Stays (components_of text) 0
-valid-parts [] valid = absurd (cc)
-valid-parts (u ∷ us) valid =
-    let all = components_of (u ∷ us) in
-    good_and_stays all 0 (sym (first_fault_from [] all 0 refl) ∙ valid)
-
-pub valid-components : (text : List ℕ) → verdict text ≡ None → All IsGood (components_of text)
-valid-components text valid = (valid-parts text valid).0
-
--- and is not empty
+-- a valid text is not empty, and has components that are accepted, which are good
 pub valid-non_empty : (text : List ℕ) → verdict text ≡ None → text ≢ []
 valid-non_empty [] valid e = cc
 valid-non_empty (u ∷ us) valid e = cc
 
+pub valid-accepted : (text : List ℕ) → verdict text ≡ None → Accepted (components_of text) 0
+valid-accepted text valid = sym (verdict_from text (valid-non_empty text valid)) ∙ valid
+
+pub valid-components : (text : List ℕ) → verdict text ≡ None → All IsGood (components_of text)
+valid-components text valid = good_components (components_of text) 0 (valid-accepted text valid)
+
 -- any text like that is valid
-pub valid-from : (text : List ℕ) → text ≢ [] → All IsGood (components_of text) → Stays (components_of text) 0
-    → verdict text ≡ None
-valid-from [] non_empty good stays = absurd (non_empty refl)
-valid-from (u ∷ us) non_empty good stays =
-    let all = components_of (u ∷ us) in
-    first_fault_from [] all 0 refl ∙ none_from all 0 good stays
+pub valid-from : (text : List ℕ) → text ≢ [] → Accepted (components_of text) 0 → verdict text ≡ None
+valid-from text non_empty accepted = verdict_from text non_empty ∙ accepted
 
 -- a good component is not empty
 pub good-non_empty : (c : List ℕ) → IsGood c → is_non_empty c ≡ true
@@ -171,10 +162,6 @@ valid-pushed text part valid valid_part front =
     let both =
     components_of-pushed text part (valid-plain part valid_part) (valid-open text valid) front
     in
-    let first = valid-parts text valid in
-    let second = valid-parts part valid_part in
     valid-from (pushed text part) (pushed-not_empty text part (valid-non_empty part valid_part))
-    (subst (All IsGood) (sym both)
-    (All-append IsGood (components_of text) (components_of part) first.0 second.0))
-    (subst (λ pieces. Stays pieces 0) (sym both)
-    (Stays-append (components_of text) (components_of part) 0 first.1 second.1))
+    (subst (λ pieces. Accepted pieces 0) (sym both)
+    (Accepted-append (components_of text) (components_of part) (valid-accepted text valid) (valid-accepted part valid_part)))

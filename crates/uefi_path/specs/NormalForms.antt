@@ -3,6 +3,8 @@ use Rattle.std.specs.Prelude.{◌≡◌, ◌≢◌, ℕ, ◌==◌, ◌&&◌, if�
 use Rattle.std.proofs.Common.{zero, suc}
 use Rattle.uefi_path.specs.Components.{joined}
 use Rattle.uefi_path.specs.Separators.{separator}
+use Rattle.uefi_path.specs.declared.kinds.Kind.{Kind}
+use Rattle.uefi_path.specs.declared.kinds.Kind.TheVariants.{Dot, DotDot, Name}
 
 -- the piece `.`, which stays where it is
 abbrev pub dot : List ℕ
@@ -54,11 +56,6 @@ abbrev pub NormalForm : List (List ℕ) → List (List ℕ) → Type 0
 NormalForm pieces normal = Rewrites pieces normal × IsNormal normal
 
 -- what a piece is to the steps
-pub data Kind : Type 0 where
-  Dot : Kind
-  DotDot : Kind
-  Name : Kind
-
 abbrev pub kind : List ℕ → Kind
 kind [] = Name
 kind (c ∷ []) = if c == 46 then Dot else Name

@@ -1,11 +1,11 @@
 -- Which paths name files, and why the others do not.
-use Rattle.std.specs.Prelude.{◌≡◌, ◌≢◌, ℕ, Bool, ◌==◌, if◌then◌else◌, nat_lt, All, Contains, List, [], ◌∷◌, ◌++◌, Option, Some, None, find, option_map}
+use Rattle.std.specs.Prelude.{◌≡◌, ◌≢◌, ℕ, Bool, ◌==◌, All, Contains, List, [], ◌∷◌, Option, Some, None, find, option_map}
 use Rattle.std.specs.List.{list_any}
 use Rattle.std.specs.Option.{option_or}
 use Rattle.uefi_text.specs.Units.{denied_characters}
-use Rattle.uefi_path.specs.Climbing.{NoneClimbs, dot_dots, names}
+use Rattle.uefi_path.specs.Climbing.{NoneClimbs, depth_after}
 use Rattle.uefi_path.specs.Components.{components_of}
-use Rattle.uefi_path.specs.NormalForms.{Kind, Dot, DotDot, Name, kind}
+use Rattle.uefi_path.specs.NormalForms.{kind}
 use Rattle.uefi_path.specs.declared.normal.NormalizeError.{NormalizeError}
 use Rattle.uefi_path.specs.declared.normal.NormalizeError.TheVariants.{Invalid, OutOfMemory}
 use Rattle.uefi_path.specs.declared.validation.PathError.{PathError}
@@ -40,26 +40,21 @@ fault (unit ∷ units) = option_map IllegalChar (find is_denied (unit ∷ units)
 abbrev pub IsGood : List ℕ → Type 0
 IsGood component = fault component ≡ None
 
--- why a component of this kind is refused after others: it climbs
-abbrev pub climbing_fault : List (List ℕ) → Kind → Option PathError
-climbing_fault before Dot = None
-climbing_fault before DotDot = if nat_lt (dot_dots before) (names before) then None else Some ClimbsAboveRoot
-climbing_fault before Name = None
+-- the fault of the first component that has one, where this many names are left before all of them: it names
+-- no file, or climbs
+abbrev pub fault_at : Option ℕ → (ℕ → Option PathError) → Option PathError
+fault_at None others = Some ClimbsAboveRoot
+fault_at (Some left) others = others left
 
--- why a component is refused after others, if it is: it names no file, or climbs
-abbrev pub fault_after : List (List ℕ) → List ℕ → Option PathError
-fault_after before component = option_or (fault component) (climbing_fault before (kind component))
-
--- the fault of the first component, after others, that has one
-abbrev pub first_fault_after : List (List ℕ) → List (List ℕ) → Option PathError
-first_fault_after before [] = None
-first_fault_after before (component ∷ components) =
-    option_or (fault_after before component) (first_fault_after (before ++ component ∷ []) components)
+abbrev pub first_fault : List (List ℕ) → ℕ → Option PathError
+first_fault [] left = None
+first_fault (component ∷ components) left =
+    option_or (fault component) (fault_at (depth_after (kind component) left) (first_fault components))
 
 -- why a path is refused, if it is
 abbrev pub verdict : List ℕ → Option PathError
 verdict [] = Some Empty
-verdict (unit ∷ units) = first_fault_after [] (components_of (unit ∷ units))
+verdict (unit ∷ units) = first_fault (components_of (unit ∷ units)) 0
 
 -- why a path has no normal path, by the verdict on it
 abbrev pub normal_refusal : Option PathError → NormalizeError

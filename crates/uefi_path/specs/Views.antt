@@ -4,8 +4,8 @@ use Rattle.std.specs.List.{slice_split}
 use Rattle.uefi_text.specs.Views.{text_of, units_of}
 use Rattle.uefi_path.specs.Separators.{is_separator}
 use Rattle.uefi_path.specs.declared.path.Path.{Path}
-use Rattle.uefi_path.specs.declared.path.Components.{Components}
-use Rattle.uefi_path.specs.declared.path.Rest.{Rest}
+use Rattle.uefi_path.specs.declared.components.Components.{Components}
+use Rattle.uefi_path.specs.declared.components.Rest.{Rest}
 use Rattle.uefi_path.specs.declared.counted.CountedUnits.{CountedUnits}
 
 -- the text of a path

@@ -35,20 +35,25 @@
 //! separators: no clause outside speaks of one.
 #![tactic(auto)]
 
+mod components;
 mod counted;
+mod kinds;
 pub mod laws;
 mod names;
 mod normal;
 mod path;
 mod pathbuf;
 mod separators;
+#[doc(hidden)]
+pub mod slices;
 mod tails;
 mod validation;
 mod written;
 
+pub use components::Components;
 pub use counted::CountedUnits;
 pub use normal::NormalizeError;
-pub use path::{Components, Path, separator_str};
+pub use path::{Path, separator_str};
 pub use pathbuf::PathBuf;
 pub use uefi_text::chars::{CHARACTER_DENY_LIST, SEPARATOR};
 pub use validation::{PathError, validate_path};

@@ -6,13 +6,14 @@ ghost use Rattle.std.specs.Option.{option_to_list};
 ghost use Rattle.uefi_path.specs.Components.{IsPiece, components_of, joined};
 ghost use Rattle.uefi_path.specs.CutPieces.{are_left, pieces_left};
 ghost use Rattle.uefi_path.specs.NamesLeft.{IsWalk, names_before, names_left};
-ghost use Rattle.uefi_path.specs.NormalForms.{dot, dot_dot, normal_of};
+ghost use Rattle.uefi_path.specs.NormalForms.{normal_of};
 ghost use Rattle.uefi_path.specs.Separators.{is_separator, separator};
 ghost use Rattle.uefi_path.specs.Verdicts.{IsGood, verdict};
 ghost use Rattle.uefi_path.specs.Views.{path_text};
 ghost use Rattle.uefi_text.specs.Units.{IsText};
 ghost use Rattle.uefi_text.specs.Views.{units_of};
 
+use crate::kinds::{Kind, kind_of};
 use crate::path::Path;
 use crate::separators::cut_last;
 use uefi_text::strs::Char16Slice;
@@ -26,20 +27,6 @@ pub(crate) struct NamesFromLast<'a> {
 
     /// How many names before it go: the `..` that were cut and took none yet.
     climbs: usize,
-}
-
-/// Whether the piece is `.`.
-fn is_dot(piece: Char16Slice<'_>) -> bool
-    ensures { IsTrue result ↔ (units_of piece.entry ≡ dot) }
-{
-    matches!(piece.units(), [46])
-}
-
-/// Whether the piece is `..`.
-fn is_dot_dot(piece: Char16Slice<'_>) -> bool
-    ensures { IsTrue result ↔ (units_of piece.entry ≡ dot_dot) }
-{
-    matches!(piece.units(), [46, 46])
 }
 
 impl<'a> NamesFromLast<'a> {
@@ -74,18 +61,20 @@ impl<'a> NamesFromLast<'a> {
         ensures climbs { self.new.climbs ≤ self.old.climbs + length (units_of piece.entry) }
         ensures rest { self.new.rest ≡ self.old.rest }
     {
-        if is_dot(piece) {
-            return false;
+        match kind_of(piece) {
+            Kind::Dot => false,
+            Kind::DotDot => {
+                self.climbs += 1;
+                false
+            }
+            Kind::Name => {
+                if self.climbs == 0 {
+                    return true;
+                }
+                self.climbs -= 1;
+                false
+            }
         }
-        if is_dot_dot(piece) {
-            self.climbs += 1;
-            return false;
-        }
-        if 0 < self.climbs {
-            self.climbs -= 1;
-            return false;
-        }
-        true
     }
 
     /// The last name that is left.

@@ -3,7 +3,7 @@ ghost use Rattle.std.specs.Prelude.{◌≡◌, ◌≢◌, ℕ, ◌+◌, ◌<◌,
 ghost use Rattle.std.specs.List.{last_or, list_any, slice_range, slice_split};
 ghost use Rattle.uefi_path.specs.Components.{AreComponents, IsPiece, StartsWith, components_of};
 ghost use Rattle.uefi_path.specs.Components as pieces_joined;
-ghost use Rattle.uefi_path.specs.Parents.{is_non_empty, parent_of_components, parent_text};
+ghost use Rattle.uefi_path.specs.Parents.{parent_of_components, parent_text};
 ghost use Rattle.uefi_path.specs.Runs.{GivesNoNulIn};
 ghost use Rattle.uefi_path.specs.Pushing.{appended, needs_separator, pushed};
 ghost use Rattle.uefi_path.specs.Separators.{IsPlain, canonical, is_slash, is_separator, places_of, with_separators};
@@ -12,8 +12,9 @@ ghost use Rattle.uefi_path.specs.Views.{components_left, path_text};
 ghost use Rattle.uefi_text.specs.Units.{IsText};
 ghost use Rattle.uefi_text.specs.Views.{units_of};
 
+use crate::components::{Components, Rest};
 use crate::counted::CountedUnits;
-use crate::path::{Components, Path, Rest};
+use crate::path::Path;
 use crate::separators::{add_places, count_separators, cut_last};
 use crate::tails::make_tail;
 use crate::written::write_all_but_last;
@@ -84,18 +85,6 @@ fn copy_part<A: Allocator + Copy>(alloc: A, part: Char16Slice<'_>) -> Result<Pat
     let mut string = CString16::with_capacity(alloc, part.len())?;
     string.push_part(part)?;
     PathBuf::from_string(alloc, string)
-}
-
-/// Whether a component is empty.
-fn has_empty(components: Components<'_>) -> bool
-    ensures { result ≡ false → All (λ piece. IsTrue (is_non_empty piece)) (components_left components.entry) }
-{
-    for component in components {
-        if component.is_empty() {
-            return true;
-        }
-    }
-    false
 }
 
 /// How many units the room has in which a short text is made ready to be pushed: with a separator before it
@@ -170,7 +159,7 @@ impl<'a> Path<'a> {
         let (Some(front), _) = cut_last(self.canonical()) else {
             return Ok(None);
         };
-        if has_empty(Components::between(front)) {
+        if Components::between(front).has_empty() {
             // A clause of this call says how long the path can be.
             let _text = self.to_cstr16().as_slice();
             return parent_of(alloc, self.components());
@@ -365,12 +354,12 @@ impl<A: Allocator + Copy> PathBuf<A> {
             length (parents_of parent) ≡ length (components_of parent) - 1)) }
     {
         let known = self.places.as_slice();
-        let path = self.as_path();
+        let string = self.string.as_cstr16();
         // A clause of this call says how long the path can be.
-        let _text = path.to_cstr16().as_slice();
+        let _text = string.as_slice();
         parent_of(
             self.alloc(),
-            Components::of_canonical(path, self.canonical(known)),
+            Components::of_canonical(string, self.canonical(known)),
         )
     }
 
@@ -426,7 +415,7 @@ impl<A: Allocator + Copy> PathBuf<A> {
         ensures no_nul { GivesNoNulIn result }
     {
         let places = self.places.as_slice();
-        Components::of_canonical(self.as_path(), self.canonical(places))
+        Components::of_canonical(self.string.as_cstr16(), self.canonical(places))
     }
 
     /// The canonical text, with these places of the separators there. Looks at no character.
@@ -466,7 +455,7 @@ impl<A: Allocator + Copy> PathBuf<A> {
         ensures runs { IfSome result (λ rest. GivesEach units_of components_left rest) }
         ensures no_nul { IfSome result (λ rest. GivesNoNulIn rest) }
     {
-        self.components().strip(base)
+        self.components().strip(base.components())
     }
 }
 

@@ -26,7 +26,7 @@ const COUNTED: usize = 4096;
 
 /// The unit, or a separator in place of a slash.
 #[inline(always)]
-pub(crate) fn with_separator(unit: u16) -> u16
+pub fn with_separator(unit: u16) -> u16
     ensures { result ≡ replaced slash separator unit }
 {
     if unit == u16::from(SLASH) {
@@ -241,7 +241,7 @@ pub(crate) fn add_places<A: Allocator>(places: &mut Vec<usize, A>, units: &[u16]
 }
 
 /// Where the last piece of units begins.
-fn last_start(units: &[u16]) -> usize
+pub(crate) fn last_start(units: &[u16]) -> usize
     ensures within { result ≤ length units.now }
     ensures piece { IsPiece (drop result units.now) }
     ensures after { 0 < result → slice_index units.now (result - 1) ≡ separator }

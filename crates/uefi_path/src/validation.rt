@@ -7,6 +7,7 @@ ghost use Rattle.uefi_path.specs.Verdicts.{IsValid, fault, is_denied, verdict};
 ghost use Rattle.uefi_path.specs.Views.{path_text};
 ghost use Rattle.uefi_text.specs.Views.{units_of};
 
+use crate::kinds::{Kind, kind_of};
 use crate::path::Path;
 use std::error::Error;
 use std::fmt;
@@ -102,10 +103,10 @@ fn depth_after(depth: usize, component: Char16Slice<'_>) -> Option<usize>
     requires { depth + 1 < 2 ^ 64 }
     ensures { result ≡ depth_after (kind (units_of component.entry)) depth }
 {
-    match component.units() {
-        [46] => Some(depth),
-        [46, 46] => depth.checked_sub(1),
-        _ => Some(depth + 1),
+    match kind_of(component) {
+        Kind::Dot => Some(depth),
+        Kind::DotDot => depth.checked_sub(1),
+        Kind::Name => Some(depth + 1),
     }
 }
 

@@ -8,21 +8,12 @@ ghost use Rattle.uefi_path.specs.Verdicts.{IsGood};
 ghost use Rattle.uefi_path.specs.Views.{components_left, path_text};
 ghost use Rattle.uefi_path.specs.Writing.{normal_path, written_len, written_over};
 
+use crate::components::Components;
 use crate::names::NamesFromLast;
-use crate::path::{Components, Path};
-use crate::separators::with_separator;
+use crate::path::Path;
+use crate::slices::write_with_separators;
 use crate::validation::validate_path;
 use uefi_text::chars::SEPARATOR;
-
-/// Writes units, each slash replaced, into as many places.
-fn write_with_separators(places: &mut [u16], units: &[u16])
-    requires { length places.now ≡ length units.now }
-    ensures { places.new ≡ with_separators units.now }
-{
-    for i in 0..places.len() {
-        places[i] = with_separator(units[i]);
-    }
-}
 
 /// Writes a component, each slash replaced, and a separator before it where one is missing.
 fn write_component(places: &mut [u16], is_missing: bool, component: &[u16])

@@ -5,11 +5,11 @@ use Rattle.std.specs.List.{slice_range}
 use Rattle.std.proofs.lemmas.Grind.{common_steps}
 use Rattle.std.proofs.lemmas.List.{drop-take, length-append, length-drop, length-map, take_more_set}
 use Rattle.std.proofs.lemmas.Slice.{take-put_mid}
+use Rattle.std.proofs.Math.Seq.{take-append_seam}
 use Rattle.uefi_path.specs.Separators.{separator, slash, with_separators}
 use Rattle.uefi_path.specs.Views.{counted_text}
 use Rattle.uefi_path.proofs.TailUnits.{IsText-tail}
-use Rattle.uefi_text.specs.Units.{nul_terminated, replaced, without_nul}
-use Rattle.uefi_text_encodings.proofs.Texts.{IsString-made, without_nul-nul_terminated}
+use Rattle.uefi_text.specs.Units.{IsString, IsText, nul_terminated, replaced, without_nul}
 use Rattle.uefi_path.proofs.tails.make_tail.Goals as goal
 
 -- the room, written
@@ -42,13 +42,22 @@ taken false len start room text begins long inside =
     ∙ ap (λ n. drop 1 (take n all)) whole
     ∙ ap (drop 1) (written len room text long inside)
 
+-- a text and a NUL are a string of that text
+text_in : (units text : List ℕ) → units ≡ nul_terminated text → without_nul units ≡ text
+text_in units text e =
+    let count : length (nul_terminated text) - 1 ≡ length text = omega (arith, length-append text (0 ∷ [])) in
+    ap without_nul e ∙ ap (λ n. take n (nul_terminated text)) count ∙ take-append_seam text (0 ∷ [])
+
+is_string : (units text : List ℕ) → units ≡ nul_terminated text → IsText text → IsString units
+is_string units text e is_text = rw (text_in units text e) (e, is_text)
+
 pub from_string-requires : goal.from_string-requires
 from_string-requires c =
     let us = counted_text c.args.units.now in
     let len = c.len-len.result in
     let long : length (with_separators us) ≡ len = length-map us (replaced slash separator) ∙ sym c.len-len.ensures.same in
     rw (c.from.ensures.0, c.copy_units.ensures.tail)
-    (IsString-made _ _ (taken c.args.is_missing len c.from-2.result c.args.room.now (with_separators us)
+    (is_string _ _ (taken c.args.is_missing len c.from-2.result c.args.room.now (with_separators us)
     (grind (arith, common_steps, c.from-2.ensures)) long (omega (arith, c.requires.room, c.len-len.ensures.same)))
     (IsText-tail us c.args.is_missing c.len-len.ensures.is_text))
 
@@ -59,6 +68,5 @@ returns-clause-tail c =
     let long : length (with_separators us) ≡ len = length-map us (replaced slash separator) ∙ sym c.len-len.ensures.same in
     c.from_string.ensures
     ∙ rw (c.from.ensures.0, c.copy_units.ensures.tail)
-    (ap without_nul (taken c.args.is_missing len c.from-2.result c.args.room.now (with_separators us)
-    (grind (arith, common_steps, c.from-2.ensures)) long (omega (arith, c.requires.room, c.len-len.ensures.same)))
-    ∙ without_nul-nul_terminated _)
+    (text_in _ _ (taken c.args.is_missing len c.from-2.result c.args.room.now (with_separators us)
+    (grind (arith, common_steps, c.from-2.ensures)) long (omega (arith, c.requires.room, c.len-len.ensures.same))))

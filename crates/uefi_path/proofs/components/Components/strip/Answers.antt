@@ -8,7 +8,7 @@ use Rattle.uefi_text.specs.Units.{IsText}
 use Rattle.uefi_text.specs.Views.{units_of}
 use Rattle.uefi_path.specs.Views.{components_left}
 use Rattle.uefi_path.proofs.Runs.{gives_each, gives_no_nul}
-use Rattle.uefi_path.proofs.path.Components.strip.Goals as goal
+use Rattle.uefi_path.proofs.components.Components.strip.Goals as goal
 
 pub loop-component-preserved : goal.loop-component-preserved
 loop-component-preserved c =

@@ -4,7 +4,7 @@ use Rattle.std.specs.List.{slice_split}
 use Rattle.uefi_text.specs.Views.{units_of}
 use Rattle.uefi_path.specs.Separators.{is_separator}
 use Rattle.uefi_path.proofs.SeparatorPlaces.{placed_cut, whole_piece}
-use Rattle.uefi_path.proofs.path.Rest.cut.Goals as goal
+use Rattle.uefi_path.proofs.components.Rest.cut.Goals as goal
 
 pub returns-in_default : goal.returns-in_default
 returns-in_default c =

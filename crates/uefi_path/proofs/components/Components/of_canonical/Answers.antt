@@ -3,24 +3,24 @@ use Rattle.std.proofs.Common.{◌≡◌, [], ap, arith, length, subst, sym, ◌�
 use Rattle.std.proofs.lemmas.Grind.{common_steps}
 use Rattle.std.proofs.lemmas.List.Elements.{All-nil}
 use Rattle.uefi_text.specs.Units.{IsText, IsTextUnit}
-use Rattle.uefi_text.specs.Views.{units_of}
-use Rattle.uefi_path.specs.Views.{components_left, path_text, units_left}
+use Rattle.uefi_text.specs.Views.{text_of, units_of}
+use Rattle.uefi_path.specs.Views.{components_left, units_left}
 use Rattle.uefi_path.proofs.Splitting.{AreComponents-components_of, components_of-only, slice_split-canonical, length-slice_split-le}
 use Rattle.uefi_path.proofs.ParentSizes.{units-canonical}
 use Rattle.uefi_path.proofs.Parents.{All-canonical, All-slice_split}
 use Rattle.uefi_path.proofs.Runs.{gives_each, gives_no_nul}
-use Rattle.uefi_path.proofs.path.Components.of_canonical.Goals as goal
+use Rattle.uefi_path.proofs.components.Components.of_canonical.Goals as goal
 
 pub returns-then-is_empty-clause-only : goal.returns-then-is_empty-clause-only
 unfolding components_left
 returns-then-is_empty-clause-only c = λ pieces components.
-    let only = components_of-only (path_text c.args.path) pieces components in
+    let only = components_of-only (text_of c.args.string) pieces components in
     grind (arith, common_steps, c.if-is_empty.ensures, only)
 
 pub returns-clause-components : goal.returns-clause-components
 unfolding components_left
 returns-clause-components c =
-    let text = path_text c.args.path in
+    let text = text_of c.args.string in
     let units = units_left c.args.rest in
     let non_empty : units ≡ [] → ⊥ = λ e. grind (arith, common_steps, c.if-is_empty.ensures) in
     rw (slice_split-canonical text units c.requires non_empty) (AreComponents-components_of text)
@@ -28,27 +28,27 @@ returns-clause-components c =
 pub returns-clause-only : goal.returns-clause-only
 unfolding components_left
 returns-clause-only c = λ pieces components.
-    let text = path_text c.args.path in
+    let text = text_of c.args.string in
     let units = units_left c.args.rest in
     let non_empty : units ≡ [] → ⊥ = λ e. grind (arith, common_steps, c.if-is_empty.ensures) in
     components_of-only text pieces components ∙ sym (slice_split-canonical text units c.requires non_empty)
 
 pub returns-clause-texts : goal.returns-clause-texts
-unfolding components_left path_text
+unfolding components_left
 returns-clause-texts c =
-    let text = path_text c.args.path in
+    let text = text_of c.args.string in
     let is_text : IsText text = subst IsText c.as_slice-text.ensures.same c.as_slice-text.ensures.is_text in
     All-slice_split IsTextUnit (units_left c.args.rest)
     (subst IsText (sym c.requires) (All-canonical IsTextUnit text is_text))
 
 pub returns-clause-bound : goal.returns-clause-bound
-unfolding components_left path_text
+unfolding components_left
 returns-clause-bound c =
     omega (
       arith,
       length-slice_split-le (units_left c.args.rest),
       ap length c.requires,
-      units-canonical (path_text c.args.path),
+      units-canonical (text_of c.args.string),
       c.as_slice-text.ensures.bound,
     )
 
@@ -63,5 +63,5 @@ unfolding components_left
 returns-then-is_empty-clause-no_nul c = gives_no_nul _ (All-nil IsText)
 
 pub returns-clause-no_nul : goal.returns-clause-no_nul
-unfolding components_left path_text
+unfolding components_left
 returns-clause-no_nul c = gives_no_nul _ (returns-clause-texts c)

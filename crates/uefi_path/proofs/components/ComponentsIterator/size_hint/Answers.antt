@@ -3,7 +3,7 @@ use Rattle.std.proofs.Common.{ℕ, ◌+◌, List, Some, length, ap, sym, ◌∙�
 use Rattle.uefi_path.specs.Components.{hint_of_pieces}
 use Rattle.uefi_path.specs.Views.{components_left, pieces_of_rest, units_left}
 use Rattle.uefi_path.proofs.Splitting.{hint_of_split, length-slice_split-le, some_slice_split}
-use Rattle.uefi_path.proofs.path.ComponentsIterator.size_hint.Goals as goal
+use Rattle.uefi_path.proofs.components.ComponentsIterator.size_hint.Goals as goal
 
 pub returns-in-Some-clause-lower : goal.returns-in-Some-clause-lower
 unfolding components_left

@@ -1,0 +1,211 @@
+//! The components of a path, cut one after the other. `specs/Views.antt` says which are still to come.
+#![tactic(auto, unfolding(crate::specs::Views::components_left))]
+
+ghost use Rattle.std.specs.Prelude.{◌≡◌, ℕ, ◌+◌, ◌<◌, ◌^◌, ◌↔◌, [], ◌∷◌, ◌++◌, ◌≤◌, All, List, None, Option, drop, false, length, IfSome, IsSome, IsTrue};
+ghost use Rattle.std.specs.List.{slice_split};
+ghost use Rattle.uefi_path.specs.Components.{AreComponents, components_of};
+ghost use Rattle.uefi_path.specs.Parents.{is_non_empty};
+ghost use Rattle.uefi_path.specs.Separators.{canonical, is_separator, places_from};
+ghost use Rattle.uefi_path.specs.SeparatorsLeft.{places_left};
+ghost use Rattle.uefi_text.specs.Runs.{GivesEach};
+ghost use Rattle.uefi_text.specs.Units.{IsText};
+ghost use Rattle.uefi_text.specs.Views.{text_of, units_of};
+
+use crate::separators::Separators;
+use std::fmt;
+use uefi_text::strs::{CStr16, Char16Slice};
+
+/// An iterator over the components of a path. A contract sees it as `components_left` of it: what
+/// is still to come.
+#[derive(Drop)]
+pub struct Components<'a> {
+    /// What is left to cut; `None` after the last component.
+    rest: Option<Rest<'a>>,
+}
+
+/// What is left of a text to cut into components: its units from a place on.
+#[derive(Clone, Copy)]
+pub(crate) struct Rest<'a> {
+    text: Char16Slice<'a>,
+    start: usize,
+
+    /// Those among these units. Their places are counted in the whole text.
+    separators: Separators<'a>,
+    pub ghost within: { start ≤ length (units_of text) },
+    pub ghost all: { places_left separators ≡ places_from start (drop start (units_of text)) },
+}
+
+impl<'a> Rest<'a> {
+    ghost use Rattle.uefi_path.specs.Views.{pieces_of_rest, units_left};
+
+    /// A whole text, in which the separators are looked for.
+    pub(crate) fn of(text: Char16Slice<'a>) -> Rest<'a>
+        ensures { units_left result ≡ units_of text.entry }
+    {
+        Rest {
+            text,
+            start: 0,
+            separators: Separators::of(text.units(), 0),
+        }
+    }
+
+    /// A text from a place on, of which all separators are known by their places. Looks at no unit.
+    pub(crate) fn placed(text: Char16Slice<'a>, start: usize, places: &'a [usize]) -> Rest<'a>
+        requires within { start ≤ length (units_of text) }
+        requires all { places.now ≡ places_from start (drop start (units_of text)) }
+        ensures { units_left result ≡ drop start (units_of text.entry) }
+    {
+        Rest {
+            text,
+            start,
+            separators: Separators::at(places),
+        }
+    }
+
+    /// The units that are left.
+    fn units(self) -> Char16Slice<'a>
+        ensures { units_of result ≡ units_left self.entry }
+    {
+        self.text.part(self.start, self.text.len())
+    }
+
+    /// The first component, and what is left after it.
+    #[inline(always)]
+    fn cut(self) -> (Char16Slice<'a>, Option<Rest<'a>>)
+        ensures { slice_split is_separator (units_left self.entry)
+            ≡ units_of result.0 ∷ pieces_of_rest result.1 }
+    {
+        // The clauses of this call say how long the text can be.
+        let _len = self.text.len();
+        let mut separators = self.separators;
+        let Some(place) = separators.next() else {
+            return (self.units(), None);
+        };
+        let after = Rest {
+            text: self.text,
+            start: place + 1,
+            separators,
+        };
+        (self.text.part(self.start, place), Some(after))
+    }
+}
+
+impl<'a> Components<'a> {
+    ghost use Rattle.uefi_path.specs.Runs.{GivesNoNulIn};
+    ghost use Rattle.uefi_path.specs.Views.{components_left, units_left};
+
+    /// The components of the path of a string, of which the rest is the canonical text.
+    pub(crate) fn of_canonical(string: CStr16<'_>, rest: Rest<'a>) -> Components<'a>
+        requires { units_left rest ≡ canonical (text_of string) }
+        ensures same { components_left result ≡ components_of (text_of string.entry) }
+        ensures components { AreComponents (text_of string.entry) (components_left result) }
+        ensures only { (pieces : List (List ℕ)) →
+            AreComponents (text_of string.entry) pieces → pieces ≡ components_left result }
+        ensures texts { All IsText (components_left result) }
+        ensures bound { length (components_left result) < 2 ^ 64 }
+        ensures runs { GivesEach units_of components_left result }
+        ensures no_nul { GivesNoNulIn result }
+    {
+        // The clauses of this call say that the string shows a text, and how long it can be.
+        let _text = string.as_slice();
+        if rest.units().is_empty() {
+            return Components { rest: None };
+        }
+        Components { rest: Some(rest) }
+    }
+
+    /// The pieces between the separators of a text, of which there is one where it has none.
+    pub(crate) fn between(text: Char16Slice<'a>) -> Components<'a>
+        ensures { components_left result ≡ slice_split is_separator (units_of text.entry) }
+    {
+        Components {
+            rest: Some(Rest::of(text)),
+        }
+    }
+
+    /// These components, to walk over them once more.
+    pub(crate) fn copy(&self) -> Components<'a>
+        ensures { components_left result ≡ components_left self.now }
+    {
+        Components { rest: self.rest }
+    }
+
+    /// Whether one of them is empty.
+    pub(crate) fn has_empty(self) -> bool
+        ensures { result ≡ false → All (λ piece. IsTrue (is_non_empty piece)) (components_left self.entry) }
+    {
+        for component in self {
+            if component.is_empty() {
+                return true;
+            }
+        }
+        false
+    }
+
+    /// Those after the components of a base, where they begin with these.
+    pub(crate) fn strip(self, base: Components<'_>) -> Option<Components<'a>>
+        requires texts { All IsText (components_left self) }
+        requires bound { length (components_left self) < 2 ^ 64 }
+        ensures starts { IsSome result ↔ ((rest : List (List ℕ))
+            × (components_left self.entry ≡ components_left base.entry ++ rest)) }
+        ensures rest { IfSome result (λ rest.
+            components_left self.entry ≡ components_left base.entry ++ components_left rest) }
+        ensures texts { IfSome result (λ rest. All IsText (components_left rest)) }
+        ensures bound { IfSome result (λ rest. length (components_left rest) < 2 ^ 64) }
+        ensures runs { IfSome result (λ rest. GivesEach units_of components_left rest) }
+        ensures no_nul { IfSome result (λ rest. GivesNoNulIn rest) }
+    {
+        let mut rest = self;
+        for component in base {
+            let own = rest.next()?;
+            if own != component {
+                return None;
+            }
+        }
+        Some(rest)
+    }
+}
+
+/// Gives the components in order, and then `None` for ever.
+impl<'a> Iterator for Components<'a> {
+    type Item = Char16Slice<'a>;
+
+    ghost use Rattle.std.specs.Iterator.{UpTo, YieldsFirstBy, item_count};
+    ghost use Rattle.std.specs.Iterator.SizeHint.{IsWithinCount};
+    ghost use Rattle.uefi_path.specs.Components.{hint_of_pieces};
+    ghost use Rattle.uefi_text.specs.Views.{units_of};
+    ghost use Rattle.uefi_path.specs.Views.{components_left};
+
+    ghost next_gives = { YieldsFirstBy units_of components_left };
+
+    ghost remaining = { item_count components_left };
+
+    #[inline(always)]
+    fn next(&mut self) -> Option<Char16Slice<'a>> {
+        let (component, after) = self.rest?.cut();
+        self.rest = after;
+        Some(component)
+    }
+
+    /// After the last component none are left. Before it there is at least one, and at most one
+    /// more than characters are left: a separator stands between two.
+    fn size_hint(&self) -> (usize, Option<usize>)
+        ensures lower { IsWithinCount result.0 (item_count components_left self.now) }
+        ensures upper { IfSome result.1 (UpTo (item_count components_left self.now)) }
+        ensures exact { result ≡ hint_of_pieces (components_left self.now) }
+    {
+        match self.rest {
+            None => (0, Some(0)),
+            Some(rest) => (1, Some(rest.units().units().len() + 1)),
+        }
+    }
+}
+
+/// Prints the text that is left to cut into components.
+impl<'a> fmt::Debug for Components<'a> {
+    fn fmt<W: fmt::Write>(&self, f: &mut fmt::Formatter<W>) -> fmt::Result {
+        f.debug_tuple("Components")
+            .field(&self.rest.map(Rest::units))
+            .finish()
+    }
+}
