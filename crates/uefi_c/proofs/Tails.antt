@@ -10,11 +10,11 @@ use Rattle.uefi_text.specs.UnalignedCStr16.{with_prefix}
 use Rattle.uefi_path.specs.Pushing.{needs_separator, pushed}
 use Rattle.uefi_path.specs.Separators.{is_separator, separator, slash, with_separators}
 use Rattle.uefi_path.specs.Components.{components_of}
+use Rattle.uefi_path.specs.Laws.{ValidWhereUnrefused}
 use Rattle.uefi_path.specs.NormalForms.{normal_of}
 use Rattle.uefi_path.specs.Verdicts.{IsValid, verdict}
 use Rattle.uefi_path.specs.Writing.{normal_path, normal_where, written_len, written_over}
 use Rattle.uefi_path.specs.declared.validation.PathError.{PathError}
-use Rattle.uefi_path.proofs.ValidPaths.{valid_unrefused}
 use Rattle.uefi_c.specs.Buffers.{tail_of}
 
 -- the last unit decides whether a separator is missing after a text that is not empty
@@ -183,9 +183,9 @@ none_where : (refusal : Option PathError) (normal : List (List ℕ)) → refusal
 none_where None normal refused = absurd (refused refl)
 none_where (Some error) normal refused = refl
 
-pub no_normal_path : (text : List ℕ) → ¬ IsValid text → normal_path text ≡ None
-no_normal_path text refused =
-    none_where (verdict text) (normal_of (components_of text)) (λ e. refused ((valid_unrefused text).1 e))
+pub no_normal_path : (text : List ℕ) → ValidWhereUnrefused → ¬ IsValid text → normal_path text ≡ None
+no_normal_path text law refused =
+    none_where (verdict text) (normal_of (components_of text)) (λ e. refused ((law text).1 e))
 
 pub nothing_written : (made : Option (List ℕ)) (buffer written : List ℕ) (room : ℕ) → made ≡ None
     → written ≡ written_over made (take room buffer) → written ++ drop room buffer ≡ buffer

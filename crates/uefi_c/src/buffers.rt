@@ -2,10 +2,10 @@
 ghost use Rattle.std.specs.Prelude.{◌≡◌, ℕ, ◌+◌, ◌≤◌, ◌++◌, List, None, Some, length, take};
 ghost use Rattle.uefi_text.specs.FromSliceUntilNul.{until_nul_refusal};
 ghost use Rattle.uefi_text.specs.UnalignedCStr16.{with_prefix};
-ghost use Rattle.uefi_text.specs.Units.{BeginsWithString, nul_terminated, replaced};
+ghost use Rattle.uefi_text.specs.Units.{BeginsWithString, nul_terminated};
 ghost use Rattle.uefi_path.specs.Parents.{parent_text};
 ghost use Rattle.uefi_path.specs.Pushing.{pushed};
-ghost use Rattle.uefi_path.specs.Separators.{separator, slash, with_separators};
+ghost use Rattle.uefi_path.specs.Separators.{with_separators};
 ghost use Rattle.uefi_c.specs.Buffers.{length_shown, room_reason, tail_of};
 ghost use Rattle.uefi_path.specs.Verdicts.{IsValid, verdict};
 ghost use Rattle.uefi_path.specs.Writing.{normal_path};
@@ -15,31 +15,12 @@ ghost use Rattle.uefi_c.specs.Strings.{text_in, until_nul_place};
 use crate::paths::judge;
 use crate::reasons::{BUFFER_TOO_SMALL, NO_PARENT, OK, until_nul_reason};
 use crate::strings::until_nul_place;
-use uefi_path::Path;
+use uefi_path::slices::{with_separator, write_with_separators};
+use uefi_path::{Path, laws};
 use uefi_text::CStr16;
 
 /// The code unit of the separator.
 const SEPARATOR: u16 = 92;
-
-/// The code unit of the slash.
-const SLASH: u16 = 47;
-
-/// The unit, or a separator in place of a slash.
-fn with_separator(unit: u16) -> u16
-    ensures { result ≡ replaced slash separator unit }
-{
-    if unit == SLASH { SEPARATOR } else { unit }
-}
-
-/// Writes units, each slash replaced, into as many places.
-fn write_with_separators(places: &mut [u16], units: &[u16])
-    requires { length places.now ≡ length units.now }
-    ensures { places.new ≡ with_separators units.now }
-{
-    for i in 0..places.len() {
-        places[i] = with_separator(units[i]);
-    }
-}
 
 /// Writes units, each slash replaced, and a NUL.
 fn write_terminated(places: &mut [u16], units: &[u16])
@@ -301,6 +282,8 @@ pub extern "C" fn uefi_path_normalize(
         → normal_path (text_in path.now) ≡ Some normal
         → buffer.new ≡ with_prefix (nul_terminated normal) buffer.old }
 {
+    // The law does nothing: it says that a path that is not valid is refused.
+    laws::validity();
     *character = 0;
     let string = match CStr16::from_u16_until_nul(path) {
         Ok(string) => string,

@@ -16,7 +16,8 @@ ghost use Rattle.uefi_c.specs.Strings.{text_in, until_nul_place};
 
 use crate::reasons::{NO_ORDER, OK, order_number, path_reason, until_nul_reason};
 use crate::strings::until_nul_place;
-use uefi_path::{Path, laws, validate_path};
+use uefi_path::slices::{last_component, others_end};
+use uefi_path::{Path, validate_path};
 use uefi_text::CStr16;
 
 /// The code unit of the separator.
@@ -176,19 +177,6 @@ pub extern "C" fn uefi_path_next_component(
     true
 }
 
-/// The place after the last separator, and 0 where there is none.
-fn last_start(text: &[u16]) -> usize
-    ensures within { result ≤ length text.now }
-    ensures piece { IsPiece (drop result text.now) }
-    ensures after { 0 < result → slice_index text.now (result - 1) ≡ separator }
-{
-    let mut start = text.len();
-    while 0 < start && text[start - 1] != SEPARATOR {
-        start -= 1;
-    }
-    start
-}
-
 /// The last component of a path: whether it has one.
 ///
 /// `text` are the units of the path without its NUL, any units. `start` becomes the place where the component
@@ -201,10 +189,9 @@ pub extern "C" fn uefi_path_file_name(text: &[u16], start: &mut usize) -> bool
     ensures within { IsTrue result → start.new ≤ length text.now }
     ensures none { IsFalse result → (components_of text.now ≡ []) × (start.new ≡ start.old) }
 {
-    let first = last_start(text);
-    if first == text.len() && first <= 1 {
+    let Some(first) = last_component(text) else {
         return false;
-    }
+    };
     *start = first;
     true
 }
@@ -229,13 +216,9 @@ pub extern "C" fn uefi_path_parent_length(text: &[u16], len: &mut usize) -> bool
     ensures shorter { IsTrue result → len.new < length text.now }
     ensures unchanged { IsFalse result → len.new ≡ len.old }
 {
-    // The two laws do nothing: they say what the parent of a valid path is.
-    laws::validity();
-    laws::parents_enumerate();
-    let first = last_start(text);
-    if first <= 1 {
+    let Some(end) = others_end(text) else {
         return false;
-    }
-    *len = first - 1;
+    };
+    *len = end;
     true
 }

@@ -12,7 +12,7 @@ use Rattle.uefi_c.proofs.buffers.uefi_path_normalize.Goals as goal
 pub returns-in-Ok-Some-clause-refused : goal.returns-in-Ok-Some-clause-refused
 returns-in-Ok-Some-clause-refused c = λ _ refused.
     let shown : path_text c.new.result ≡ text_in c.args.path.now = c.new.ensures ∙ c.in-Ok.ensures.ok in
-    let none = ap normal_path shown ∙ no_normal_path (text_in c.args.path.now) refused in
+    let none = ap normal_path shown ∙ no_normal_path (text_in c.args.path.now) c.validity.ensures refused in
     let some : Some c.in-Ok-Some.len ≡ c.in-Ok-Some.field-0 = grind (arith, common_steps) in
     absurd (none_is_written _ _ c.in-Ok-Some.len none (ap Ok some ∙ c.in-Ok-Some.ensures.len))
 
@@ -31,7 +31,7 @@ returns-in-Ok-Some-clause-buffer c = λ _ normal has.
 pub returns-in-Ok-None-clause-refused : goal.returns-in-Ok-None-clause-refused
 returns-in-Ok-None-clause-refused c = λ begins refused.
     let shown : path_text c.new.result ≡ text_in c.args.path.now = c.new.ensures ∙ c.in-Ok.ensures.ok in
-    let none = ap normal_path shown ∙ no_normal_path (text_in c.args.path.now) refused in (
+    let none = ap normal_path shown ∙ no_normal_path (text_in c.args.path.now) c.validity.ensures refused in (
       c.judge.ensures.reason ∙ ap (λ text. path_reason (verdict text)) (c.new-in-Ok-None.ensures ∙ c.in-Ok.ensures.ok),
       search rules,
       nothing_written (normal_path (path_text c.new.result)) c.args.buffer.now c.write_normal.new.buffer c.saturating_sub-most.result none c.in-Ok-None.ensures.buffer,
@@ -40,7 +40,7 @@ returns-in-Ok-None-clause-refused c = λ begins refused.
 pub returns-in-Err-write_normal-clause-refused : goal.returns-in-Err-write_normal-clause-refused
 returns-in-Err-write_normal-clause-refused c = λ _ refused.
     let shown : path_text c.new.result ≡ text_in c.args.path.now = c.new.ensures ∙ c.in-Ok.ensures.ok in
-    let none = ap normal_path shown ∙ no_normal_path (text_in c.args.path.now) refused in
+    let none = ap normal_path shown ∙ no_normal_path (text_in c.args.path.now) c.validity.ensures refused in
     absurd (none_is_short _ _ c.in-Err-write_normal.len none c.in-Err-write_normal.ensures.len)
 
 pub returns-in-Err-write_normal-clause-buffer : goal.returns-in-Err-write_normal-clause-buffer
