@@ -1,6 +1,7 @@
 -- Where the components of a text stand: the first of those left from a place on, and those after it.
 use Rattle.std.proofs.Common.{◌≡◌, ℕ, suc, ◌+◌, ◌-◌, ◌<◌, ◌≤◌, true, false, not, nat_lt, Bool, cond, List, ◌∷◌, length, drop, length-drop, All, Some, None, refl, sym, ◌∙◌, ap, inl, inr, arith}
 use Rattle.std.specs.List.{position, position_or_len, slice_range, slice_split}
+use Rattle.std.specs.Option.{unwrap_or}
 use Rattle.std.proofs.lemmas.Bool.{cases_Bool, ltb-true, ltb-false}
 use Rattle.std.proofs.lemmas.List.{drop-drop}
 use Rattle.std.proofs.lemmas.List.Splits.{slice_split_none, slice_split_first}
@@ -10,15 +11,14 @@ use Rattle.uefi_path.specs.Separators.{is_separator}
 use Rattle.uefi_c.specs.PathPlaces.{components_from}
 
 -- a place that is not found stands after all units
-found_none : (n m : ℕ) (b : Bool) → nat_lt n m ≡ b → n ≤ m → cond b (Some n) None ≡ None → m ≡ n
-found_none n m true test low e = cc
-found_none n m false test low e = omega (arith, ltb-false n m test)
+found : (n m : ℕ) (b : Bool) → nat_lt n m ≡ b → n ≤ m → unwrap_or (cond b (Some n) None) m ≡ n
+found n m true test low = refl
+found n m false test low = omega (arith, ltb-false n m test)
 
-pub none_found : (us : List ℕ) → position is_separator us ≡ None → length us ≡ position_or_len is_separator us
-none_found us e =
+pub found_or_after : (us : List ℕ) → unwrap_or (position is_separator us) (length us) ≡ position_or_len is_separator us
+found_or_after us =
     let count = position_or_len is_separator us in
-    found_none count (length us) (nat_lt count (length us)) refl
-    (prefix_len-le-length (λ v. not (is_separator v)) us) e
+    found count (length us) (nat_lt count (length us)) refl (prefix_len-le-length (λ v. not (is_separator v)) us)
 
 -- the first of the pieces that are left from a place on, and those after it
 pub first_piece : (text : List ℕ) (start : ℕ) → start ≤ length text

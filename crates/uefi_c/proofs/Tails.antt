@@ -1,8 +1,8 @@
 -- What a push adds after a text, and how long that is.
-use Rattle.std.proofs.Common.{◌≡◌, ◌≢◌, ℕ, suc, ◌+◌, ◌-◌, ◌<◌, ◌≤◌, ◌==◌, not, Bool, true, false, if◌then◌else◌, List, [], ◌∷◌, ◌++◌, length, take, drop, get_or, set, Option, Err, None, Ok, Some, inl, inr, append_assoc, refl, sym, ◌∙◌, ap, arith, length-append, length-drop}
+use Rattle.std.proofs.Common.{◌≡◌, ◌≢◌, ℕ, suc, ◌+◌, ◌-◌, ◌<◌, ◌≤◌, ◌==◌, not, Bool, true, false, if◌then◌else◌, List, [], ◌∷◌, ◌++◌, length, take, drop, get_or, Option, Err, None, Ok, Some, inl, inr, append_assoc, refl, sym, ◌∙◌, ap, arith, length-append, length-drop}
 use borrow.Rule.Slice.PartMut.{put_mid}
 use Rattle.std.proofs.Math.Seq.{drop-append-add}
-use Rattle.std.proofs.lemmas.List.{append-nil, drop-append-le, drop-drop, length-take, take-append-drop, drop_all, get_or-map, length-map, take_at}
+use Rattle.std.proofs.lemmas.List.{append-nil, drop-append-le, drop-drop, length-take, take-append-drop, get_or-map, length-map, take_at}
 use Rattle.std.proofs.lemmas.Bool.{cases_lt, le-ltb, lt-ltb}
 use Rattle.std.proofs.lemmas.Grind.{common_steps}
 use Rattle.uefi_text.specs.Units.{nul_terminated, replaced}
@@ -89,14 +89,6 @@ with_prefix_after text added buffer end same room =
     ∙ ap (λ us. all ++ us) (ap (λ n. drop n (text ++ drop end buffer)) count ∙ back ∙ ap (λ n. drop n buffer) (sym count))
     ∙ sym (prefix_in all buffer (omega (arith, count, sum, room)))
 
--- a separator that was written first stays before what is written after it
-pub separator_before : (tail added : List ℕ) (k : ℕ) → length tail ≡ length added + 1
-    → k ≡ length (set tail 0 separator) - 1 → put_mid 1 k (set tail 0 separator) added ≡ separator ∷ added
-separator_before [] added k long same = absurd (omega arith)
-separator_before (t ∷ ts) added k long same =
-    let none : drop k ts ≡ [] = drop_all k ts (omega arith) in
-    ap (λ us. separator ∷ us) (ap (λ us. added ++ us) none ∙ append-nil added)
-
 -- a test for an empty list says that it is none
 pub not_empty : (us : List ℕ) (b : Bool) → b ≡ (length us == 0) → b ≡ false → us ≢ []
 not_empty [] b is fails e = cc
@@ -136,6 +128,27 @@ end_written text (b ∷ bs) within =
     ap (λ us. with_prefix (nul_terminated us) all) (sym (append-nil (take (length text) all)))
     ∙ with_prefix_after text [] (b ∷ bs) (length text) refl (omega (arith, within, ap length none))
     ∙ ap (λ us. with_prefix (nul_terminated us) (b ∷ bs)) none
+
+-- the same where what is added was written after the text
+pub tail_written : (is_missing : Bool) (path : List ℕ)
+    → with_separators (if is_missing then separator ∷ path else path) ≡ tail_of is_missing path
+tail_written true path = refl
+tail_written false path = refl
+
+pub ended_tail : (buffer tail : List ℕ) (end len : ℕ) → end ≤ length buffer → len ≡ length (take end buffer ++ tail)
+    → len < length buffer
+    → with_prefix (nul_terminated (take len (put_mid end (len - end) buffer tail))) (put_mid end (len - end) buffer tail)
+    ≡ with_prefix (nul_terminated (take end buffer ++ tail)) buffer
+ended_tail buffer tail end len within is room =
+    let text = take end buffer ++ tail in
+    let after : end + (len - end) ≡ length text =
+    omega (arith, is, within, length-append (take end buffer) tail, length-take end buffer) in
+    let whole : put_mid end (len - end) buffer tail ≡ text ++ drop (length text) buffer =
+    sym (append_assoc (take end buffer) tail (drop (len - end) (drop end buffer)))
+    ∙ ap (λ us. text ++ us) (drop-drop (len - end) end buffer ∙ ap (λ n. drop n buffer) after) in
+    ap (λ us. with_prefix (nul_terminated (take len us)) us) whole
+    ∙ ap (λ n. with_prefix (nul_terminated (take n (text ++ drop (length text) buffer))) (text ++ drop (length text) buffer)) is
+    ∙ end_written text buffer (omega (arith, is, room))
 
 -- the same, by what the call returns that wrote the text
 pub ended_by_nul : (text buffer written : List ℕ) (room len : ℕ) → room ≡ length buffer - 1

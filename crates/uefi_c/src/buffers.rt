@@ -15,35 +15,12 @@ ghost use Rattle.uefi_c.specs.Strings.{text_in, until_nul_place};
 use crate::paths::judge;
 use crate::reasons::{BUFFER_TOO_SMALL, NO_PARENT, OK, until_nul_reason};
 use crate::strings::until_nul_place;
-use uefi_path::slices::{with_separator, write_with_separators};
+use uefi_path::slices::{with_separator, write_part, write_with_separators};
 use uefi_path::{Path, laws};
 use uefi_text::CStr16;
 
 /// The code unit of the separator.
 const SEPARATOR: u16 = 92;
-
-/// Writes units, each slash replaced, and a NUL.
-fn write_terminated(places: &mut [u16], units: &[u16])
-    requires { length places.now ≡ length units.now + 1 }
-    ensures { places.new ≡ nul_terminated (with_separators units.now) }
-{
-    let len = units.len();
-    write_with_separators(&mut places[..len], units);
-    places[len] = 0;
-}
-
-/// Writes what a push adds, and a NUL.
-fn write_tail(tail: &mut [u16], is_missing: bool, path: &[u16])
-    requires { length tail.now ≡ length (tail_of is_missing path.now) + 1 }
-    ensures { tail.new ≡ nul_terminated (tail_of is_missing path.now) }
-{
-    if is_missing {
-        tail[0] = SEPARATOR;
-        write_terminated(&mut tail[1..], path);
-    } else {
-        write_terminated(tail, path);
-    }
-}
 
 /// Whether a push of a path after a text adds a separator.
 fn is_separator_missing(text: &[u16], path: &[u16]) -> bool
@@ -76,21 +53,6 @@ fn pushed_len(text: &[u16], is_missing: bool, path: &[u16]) -> usize
         .saturating_add(path.len())
 }
 
-/// Writes what a push adds after the first `end` units of a buffer, and a NUL, where it has room.
-fn add_tail(buffer: &mut [u16], end: usize, is_missing: bool, path: &[u16], len: usize) -> u32
-    requires within { end ≤ length buffer.now }
-    requires len { len ≡ length_shown (take end buffer.now ++ tail_of is_missing path.now) }
-    ensures reason { result ≡ room_reason (take end buffer.old ++ tail_of is_missing path.now) buffer.old }
-    ensures buffer { buffer.new
-        ≡ with_prefix (nul_terminated (take end buffer.old ++ tail_of is_missing path.now)) buffer.old }
-{
-    if buffer.len() <= len {
-        return BUFFER_TOO_SMALL;
-    }
-    write_tail(&mut buffer[end..len + 1], is_missing, path);
-    OK
-}
-
 /// Writes a NUL after the first `len` units of a buffer, where it has room.
 fn end_text(buffer: &mut [u16], len: usize) -> u32
     requires { len ≤ length buffer.now }
@@ -102,6 +64,21 @@ fn end_text(buffer: &mut [u16], len: usize) -> u32
     }
     buffer[len] = 0;
     OK
+}
+
+/// Writes what a push adds after the first `end` units of a buffer, and a NUL, where it has room.
+fn add_tail(buffer: &mut [u16], end: usize, is_missing: bool, path: &[u16], len: usize) -> u32
+    requires within { end ≤ length buffer.now }
+    requires len { len ≡ length_shown (take end buffer.now ++ tail_of is_missing path.now) }
+    ensures reason { result ≡ room_reason (take end buffer.old ++ tail_of is_missing path.now) buffer.old }
+    ensures buffer { buffer.new
+        ≡ with_prefix (nul_terminated (take end buffer.old ++ tail_of is_missing path.now)) buffer.old }
+{
+    if buffer.len() <= len {
+        return BUFFER_TOO_SMALL;
+    }
+    write_part(&mut buffer[end..len], is_missing, path);
+    end_text(buffer, len)
 }
 
 /// Pushes a path on the path that a buffer begins with, in place, as `PathBuf::push` does: a separator

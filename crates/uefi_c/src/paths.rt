@@ -140,10 +140,7 @@ fn piece_len(units: &[u16]) -> usize
     ensures len { result ≡ position_or_len is_separator units.now }
     ensures within { result ≤ length units.now }
 {
-    match find_separator(units) {
-        Some(place) => place,
-        None => units.len(),
-    }
+    find_separator(units).unwrap_or(units.len())
 }
 
 /// The next component of a path, from a place in its text on: whether there is one.

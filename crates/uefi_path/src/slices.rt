@@ -1,6 +1,6 @@
 //! Calls on slices of code units, which paths and the library for C have in common. Contracts speak of the
 //! units as lists. Hidden: nothing promises that they stay.
-ghost use Rattle.std.specs.Prelude.{◌≡◌, ◌≢◌, ◌↔◌, ◌+◌, ◌<◌, ◌≤◌, [], IfSome, IsNone, IsSome, None, Some, drop, length, option_map, slice_index, take};
+ghost use Rattle.std.specs.Prelude.{◌≡◌, ◌≢◌, ◌↔◌, ◌+◌, ◌<◌, ◌≤◌, [], ◌∷◌, if◌then◌else◌, IfSome, IsNone, IsSome, None, Some, drop, length, option_map, slice_index, take};
 ghost use Rattle.std.specs.List.{last_or};
 ghost use Rattle.uefi_path.specs.Components.{IsPiece, components_of, joined};
 ghost use Rattle.uefi_path.specs.Parents.{all_but_last, parent_text};
@@ -9,6 +9,7 @@ ghost use Rattle.uefi_path.specs.Verdicts.{IsValid};
 
 use crate::separators::last_start;
 pub use crate::separators::with_separator;
+use uefi_text::chars::SEPARATOR;
 
 /// Writes units, each slash replaced, into as many places.
 pub fn write_with_separators(places: &mut [u16], units: &[u16])
@@ -17,6 +18,19 @@ pub fn write_with_separators(places: &mut [u16], units: &[u16])
 {
     for i in 0..places.len() {
         places[i] = with_separator(units[i]);
+    }
+}
+
+/// Writes a part of a path, each slash replaced, and a separator before it where one is missing.
+pub fn write_part(places: &mut [u16], is_missing: bool, part: &[u16])
+    requires { length places.now ≡ length (if is_missing then separator ∷ part.now else part.now) }
+    ensures { places.new ≡ with_separators (if is_missing then separator ∷ part.now else part.now) }
+{
+    if is_missing {
+        places[0] = u16::from(SEPARATOR);
+        write_with_separators(&mut places[1..], part);
+    } else {
+        write_with_separators(places, part);
     }
 }
 

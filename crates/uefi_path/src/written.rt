@@ -11,22 +11,9 @@ ghost use Rattle.uefi_path.specs.Writing.{normal_path, written_len, written_over
 use crate::components::Components;
 use crate::names::NamesFromLast;
 use crate::path::Path;
-use crate::slices::write_with_separators;
+use crate::slices::{write_part, write_with_separators};
 use crate::validation::validate_path;
 use uefi_text::chars::SEPARATOR;
-
-/// Writes a component, each slash replaced, and a separator before it where one is missing.
-fn write_component(places: &mut [u16], is_missing: bool, component: &[u16])
-    requires { length places.now ≡ length (if is_missing then separator ∷ component.now else component.now) }
-    ensures { places.new ≡ with_separators (if is_missing then separator ∷ component.now else component.now) }
-{
-    if is_missing {
-        places[0] = u16::from(SEPARATOR);
-        write_with_separators(&mut places[1..], component);
-    } else {
-        write_with_separators(places, component);
-    }
-}
 
 /// How long the parent of a path of these components is, which one of at most one component has
 /// not. Writes it to the start of a buffer, each slash replaced, where it has room.
@@ -49,7 +36,7 @@ pub(crate) fn write_all_but_last(
     for component in components {
         let end = len + usize::from(is_missing) + last.len();
         if end <= buffer.len() {
-            write_component(&mut buffer[len..end], is_missing, last.units());
+            write_part(&mut buffer[len..end], is_missing, last.units());
         }
         len = end;
         // No component holds a separator.

@@ -64,12 +64,12 @@ loop-component-preserved c =
       next,
       λ fits. elim c.if-end-buffer.branch [
         | then-end-buffer w ↦
-            let wrote : w.write_component.new.places ≡ with_separators (tail_of (needs_separator text) last) =
-            w.write_component.ensures
+            let wrote : w.write_part.new.places ≡ with_separators (tail_of (needs_separator text) last) =
+            w.write_part.ensures
             ∙ ap (λ b. with_separators (tail_of b w.units.result.now)) so_far.invariant.1.missing
             ∙ ap (λ us. with_separators (tail_of (needs_separator text) us)) w.units.ensures in
             w.buffer-is
-            ∙ draft_written text last old so_far.buffer w.write_component.new.places so_far.len end so_far.invariant.1.len_is
+            ∙ draft_written text last old so_far.buffer w.write_part.new.places so_far.len end so_far.invariant.1.len_is
             next.len_is (omega (arith, fits, next.len_is))
             (so_far.invariant.2 (omega (arith, so_far.invariant.1.len_is, next.len_is, fits, ends))) wrote
         | else-end-buffer w ↦ absurd (omega (arith, fits, next.len_is, w.if-end-buffer.false, same))
