@@ -6,13 +6,12 @@ ghost use Rattle.uefi_path.specs.CutPieces.{are_left, pieces_left};
 ghost use Rattle.std.specs.Option.{option_to_list};
 ghost use Rattle.std.specs.Simd.Lanes.{mask_l};
 ghost use Rattle.std.specs.Vec.{vec_capacity, vec_len};
-ghost use Rattle.uefi_path.specs.Separators.{becomes_separator, is_separator, is_slash, places_from, separator, slash};
-ghost use Rattle.uefi_text.specs.Units.{replaced};
+ghost use Rattle.uefi_path.specs.Separators.{becomes_separator, is_separator, is_slash, places_from, separator};
 ghost use Rattle.uefi_text.specs.Views.{units_of};
 
 use std::alloc::Allocator;
 use std::simd::prelude::*;
-use uefi_text::chars::{SEPARATOR, SLASH};
+use uefi_text::chars::SEPARATOR;
 use uefi_text::strs::Char16Slice;
 
 /// How many units are looked at together where a text has as many.
@@ -23,18 +22,6 @@ const SMALL_BLOCK: usize = 8;
 
 /// How many units are counted in a number as wide as a unit, so that this becomes vector code.
 const COUNTED: usize = 4096;
-
-/// The unit, or a separator in place of a slash.
-#[inline(always)]
-pub fn with_separator(unit: u16) -> u16
-    ensures { result ≡ replaced slash separator unit }
-{
-    if unit == u16::from(SLASH) {
-        u16::from(SEPARATOR)
-    } else {
-        unit
-    }
-}
 
 /// How many of a block of units are separators once slashes are replaced, and whether one is a slash.
 #[inline(always)]

@@ -4,12 +4,24 @@ ghost use Rattle.std.specs.Prelude.{◌≡◌, ◌≢◌, ◌↔◌, ◌+◌, �
 ghost use Rattle.std.specs.List.{last_or};
 ghost use Rattle.uefi_path.specs.Components.{IsPiece, components_of, joined};
 ghost use Rattle.uefi_path.specs.Parents.{all_but_last, parent_text};
-ghost use Rattle.uefi_path.specs.Separators.{canonical, separator, with_separators};
+ghost use Rattle.uefi_path.specs.Separators.{canonical, separator, slash, with_separators};
 ghost use Rattle.uefi_path.specs.Verdicts.{IsValid};
+ghost use Rattle.uefi_text.specs.Units.{replaced};
 
 use crate::separators::last_start;
-pub use crate::separators::with_separator;
-use uefi_text::chars::SEPARATOR;
+use uefi_text::chars::{SEPARATOR, SLASH};
+
+/// The unit, or a separator in place of a slash.
+#[inline(always)]
+pub fn with_separator(unit: u16) -> u16
+    ensures { result ≡ replaced slash separator unit }
+{
+    if unit == u16::from(SLASH) {
+        u16::from(SEPARATOR)
+    } else {
+        unit
+    }
+}
 
 /// Writes units, each slash replaced, into as many places.
 pub fn write_with_separators(places: &mut [u16], units: &[u16])
@@ -37,7 +49,8 @@ pub fn write_part(places: &mut [u16], is_missing: bool, part: &[u16])
 /// Where the last component begins, if there is one: it ends with the units. Looks at it alone.
 #[inline(always)]
 pub fn last_component(units: &[u16]) -> Option<usize>
-    ensures name { option_map (λ start. drop start units.now) result ≡ last_or None (components_of units.now) }
+    ensures name { option_map (λ start. drop start units.now) result
+        ≡ last_or None (components_of units.now) }
     ensures none { IsNone result → components_of units.now ≡ [] }
     ensures within { IfSome result (λ start. start ≤ length units.now) }
 {

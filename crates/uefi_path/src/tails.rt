@@ -6,7 +6,7 @@ ghost use Rattle.uefi_path.specs.Views.{counted_text, reads_of};
 ghost use Rattle.uefi_text.specs.Views.{text_of};
 
 use crate::counted::CountedUnits;
-use crate::separators::with_separator;
+use crate::slices::with_separator;
 use std::mem;
 use uefi_text::chars::SEPARATOR;
 use uefi_text::strs::CStr16;
