@@ -30,18 +30,7 @@ appended_tail : (text part : List ℕ) (b : Bool)
 appended_tail text part true = refl
 appended_tail text part false = refl
 
--- no separator is missing before the empty path
-pub tail_of_none : (text path : List ℕ) → path ≡ [] → pushed text path ≡ text ++ tail_of false path
-tail_of_none text [] e = sym (append-nil text)
-tail_of_none text (u ∷ us) e = cc
-
--- nor after the empty text
-pub tail_after_none : (text path : List ℕ) → text ≡ [] → pushed text path ≡ text ++ tail_of false path
-tail_after_none [] [] e = refl
-tail_after_none [] (u ∷ us) e = refl
-tail_after_none (t ∷ ts) path e = cc
-
--- and else by the last unit of the text
+-- it does by the last unit of the text, where neither is empty
 pub tail_by_last : (text path : List ℕ) → text ≢ [] → path ≢ []
     → pushed text path ≡ text ++ tail_of (not (is_separator (get_or text (length text - 1) 0))) path
 tail_by_last text [] some more = absurd (more refl)

@@ -2,7 +2,6 @@
 use Rattle.std.proofs.Common.{◌≡◌, ◌≢◌, ℕ, zero, suc, ◌-◌, ◌<◌, ◌≤◌, ◌⊎◌, List, [], ◌∷◌, ◌++◌, length, take, drop, cond, false, length-append, length-drop, length-take, None, Some, refl, sym, ◌∙◌, ap, inl, inr, arith}
 use Rattle.std.specs.List.{last_or, slice_split}
 use Rattle.std.proofs.lemmas.Bool.{cases_Bool, cases_lt}
-use Rattle.std.proofs.lemmas.List.{drop_all}
 use Rattle.std.proofs.lemmas.List.Elements.{All-head}
 use Rattle.std.proofs.lemmas.List.Splits.{join_with_byte-slice_split}
 use Rattle.std.proofs.Math.Seq.{drop-nil}
@@ -83,9 +82,6 @@ module _ (text : List ℕ) (start : ℕ) (is : IsLastStart text start) (few : st
       of_piece : (vs : List ℕ) → IsPiece vs → all_but_last (pieces_between vs) ≡ []
       of_piece [] piece = refl
       of_piece (v ∷ vs) piece = ap all_but_last (without_separator (v ∷ vs) piece)
-
-  pub no_components : start ≡ length text → components_of text ≡ []
-  no_components ends = no_others ∙ ap pieces_between (drop_all start text (omega (arith, ends)))
 
 -- the last component, unless there is none
 pub last_name : (text : List ℕ) (start : ℕ) → IsLastStart text start → (start ≢ length text) ⊎ (1 < start)

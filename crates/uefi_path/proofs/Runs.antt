@@ -1,7 +1,7 @@
 -- An iterator that takes the first item of what it shows gives all of it in order.
-use Rattle.std.proofs.Common.{◌≡◌, ◌≢◌, ℕ, List, [], ◌∷◌, ◌++◌, All, Option, None, Some, length, get_or, inl, inr, ap, sym, refl, subst, ◌∙◌, arith}
+use Rattle.std.proofs.Common.{◌≡◌, ◌≢◌, ℕ, List, [], ◌∷◌, ◌++◌, All, Option, Some, length, get_or, inl, inr, ap, sym, refl, subst, ◌∙◌, arith}
 use Rattle.std.specs.List.{HoldsAt, last_or}
-use Rattle.std.specs.Option.{IfSome, option_map}
+use Rattle.std.specs.Option.{IfSome}
 use Rattle.std.specs.Iterator.{YieldsFirstBy}
 use Rattle.std.specs.Iterator.Runs.{AllItems, EachRunFrom, ItemsMapTo}
 use Rattle.std.proofs.iter.runs.Lists.{at_some}
@@ -10,7 +10,7 @@ use Rattle.std.proofs.iter.runs.Sources.{from_front}
 use Rattle.std.proofs.lemmas.Bool.{cases_lt}
 use Rattle.std.proofs.lemmas.Grind.{common_steps}
 use Rattle.std.proofs.lemmas.Iterator.Consumers.{YieldsList-from_first, YieldsList-so_far}
-use Rattle.std.proofs.lemmas.List.Elements.{All-head, All-nil, All-tail, All-weaker}
+use Rattle.std.proofs.lemmas.List.Elements.{All-nil, All-weaker}
 use Rattle.uefi_text.specs.Runs.{GivesEach}
 use Rattle.uefi_text.specs.Units.{IsText, IsTextUnit}
 use Rattle.uefi_text.specs.Views.{units_of}
@@ -54,24 +54,6 @@ gives_all P other view left here of_other of_all run seen from k =
 pub last_or-push : {A : Type 0} (first : Option A) (items : List A) (item : A) → last_or first (items ++ item ∷ []) ≡ Some item
 last_or-push first [] item = refl
 last_or-push first (other ∷ items) item = last_or-push (Some other) items item
-
--- what holds of each holds of the last, if there is one
-IfSome-last_or : {A : Type 0} (P : A → Type 0) (first : Option A) (items : List A) → IfSome first P → All P items
-    → IfSome (last_or first items) P
-IfSome-last_or P first [] of_first all = of_first
-IfSome-last_or P first (item ∷ items) of_first all =
-    IfSome-last_or P (Some item) items (All-head P item items all) (All-tail P item items all)
-
-IfSome-seen : {A B : Type 0} (P : B → Type 0) (view : A → B) (seen : Option A) → IfSome (option_map view seen) P
-    → IfSome seen (λ item. P (view item))
-IfSome-seen P view None of_seen = tt
-IfSome-seen P view (Some item) of_seen = of_seen
-
-pub of_last : {A B : Type 0} (P : B → Type 0) (view : A → B) (last : Option A) (all : List B)
-    → option_map view last ≡ last_or None all → All P all → IfSome last (λ item. P (view item))
-of_last P view last all e of_all =
-    IfSome-seen P view last
-    (subst (λ seen. IfSome seen P) (sym e) (IfSome-last_or P None all tt of_all))
 
 -- no component that is a text holds a NUL
 pub gives_no_nul : (here : Components) → All IsText (components_left here) → GivesNoNulIn here
