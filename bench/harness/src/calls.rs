@@ -1,6 +1,10 @@
 //! The calls that are timed, and the ones of this library behind C functions.
 use crate::Call;
-use crate::inputs::{Inputs, ascii, cjk, early_emoji, early_latin1, latin1, path, uneven_path};
+use crate::inputs::{
+    Inputs, ascii, cjk, early_emoji, early_latin1, empty_nodes, latin1, long_nodes, path,
+    uneven_path,
+};
+use crate::plain;
 
 /// The call of the Rust crate, where the harness is built with that crate.
 #[cfg(feature = "original")]
@@ -22,6 +26,8 @@ pub const PUSHES: usize = 32;
 
 const SIZES: &[usize] = &[8, 16, 40, 64, 256, 1024, 65536, 1048576];
 const PARTS: &[usize] = &[10, 60, 240];
+/// Of a device path, in bytes: the last is as long as a load option can state.
+const LISTS: &[usize] = &[64, 1024, 65535];
 
 unsafe extern "C" {
     fn ours_from_u16_with_nul(
@@ -117,6 +123,8 @@ unsafe extern "C" {
     fn ours_path_buf_from(_: *const u16, _: usize, _: *const u16, _: usize, rounds: usize)
     -> usize;
     fn ours_path_push(_: *const u16, _: usize, _: usize, rounds: usize) -> usize;
+    fn ours_device_path(_: *const u8, _: usize, _: *const u8, _: usize, rounds: usize) -> usize;
+    fn ours_load_option(_: *const u8, _: usize, _: *const u8, _: usize, rounds: usize) -> usize;
 }
 
 mod ours {
@@ -530,6 +538,18 @@ mod ours {
             )
         }
     }
+
+    pub fn device_path(inputs: &mut Inputs, rounds: usize) -> usize {
+        let [one, two] = &inputs.device_paths;
+        // SAFETY: each pointer comes with the length of the slice that it is of.
+        unsafe { ours_device_path(one.as_ptr(), one.len(), two.as_ptr(), two.len(), rounds) }
+    }
+
+    pub fn load_option(inputs: &mut Inputs, rounds: usize) -> usize {
+        let [one, two] = &inputs.load_options;
+        // SAFETY: each pointer comes with the length of the slice that it is of.
+        unsafe { ours_load_option(one.as_ptr(), one.len(), two.as_ptr(), two.len(), rounds) }
+    }
 }
 
 pub const CALLS: &[Call] = &[
@@ -897,5 +917,34 @@ pub const CALLS: &[Call] = &[
         inputs: path,
         original: original!(path_push),
         ours: ours::path_push,
+    },
+    // Beside a reader in plain Rust.
+    Call {
+        name: "device_path of empty nodes",
+        sizes: LISTS,
+        inputs: empty_nodes,
+        original: Some(plain::device_path),
+        ours: ours::device_path,
+    },
+    Call {
+        name: "device_path of long nodes",
+        sizes: LISTS,
+        inputs: long_nodes,
+        original: Some(plain::device_path),
+        ours: ours::device_path,
+    },
+    Call {
+        name: "load_option of empty nodes",
+        sizes: LISTS,
+        inputs: empty_nodes,
+        original: Some(plain::load_option),
+        ours: ours::load_option,
+    },
+    Call {
+        name: "load_option of long nodes",
+        sizes: LISTS,
+        inputs: long_nodes,
+        original: Some(plain::load_option),
+        ours: ours::load_option,
     },
 ];

@@ -13,6 +13,9 @@ pub struct Inputs {
     /// Room for the units and a NUL.
     pub places: Vec<u16>,
     pub numbers: Vec<u32>,
+    /// A device path, and a load option of it.
+    pub device_paths: [Vec<u8>; 2],
+    pub load_options: [Vec<u8>; 2],
     /// How many characters, or pushes, where a call counts them.
     pub count: usize,
 }
@@ -37,6 +40,8 @@ impl Inputs {
             texts: [text.clone(), text],
             latin1: [latin1.clone(), latin1],
             packed: [packed.clone(), packed],
+            device_paths: Default::default(),
+            load_options: Default::default(),
         }
     }
 }
@@ -106,4 +111,35 @@ pub fn uneven_path(size: usize) -> Inputs {
         .take(size)
         .collect();
     Inputs::of(text.trim_end_matches('\\').to_owned() + if text.ends_with('\\') { "x" } else { "" })
+}
+
+/// A device path of some number of bytes, all of whose nodes have this many, and a load option of it.
+fn device_path(node: usize, size: usize) -> Inputs {
+    let mut bytes = Vec::new();
+    while bytes.len() + node + 4 <= size {
+        let length = u16::try_from(node).expect("a node's length has two bytes");
+        bytes.extend([1, 4]);
+        bytes.extend(length.to_le_bytes());
+        bytes.resize(bytes.len() + node - 4, 7);
+    }
+    bytes.extend([0x7f, 0xff, 4, 0]);
+    let mut inputs = Inputs::of(String::from("debian"));
+    let mut option = vec![1, 0, 0, 0];
+    let length = u16::try_from(bytes.len()).expect("a list's length has two bytes");
+    option.extend(length.to_le_bytes());
+    option.extend(&inputs.packed[0][1..]);
+    option.extend(&bytes);
+    inputs.device_paths = [bytes.clone(), bytes];
+    inputs.load_options = [option.clone(), option];
+    inputs
+}
+
+/// Of nodes without data.
+pub fn empty_nodes(size: usize) -> Inputs {
+    device_path(4, size)
+}
+
+/// Of nodes as long as that of a partition.
+pub fn long_nodes(size: usize) -> Inputs {
+    device_path(42, size)
 }

@@ -13,6 +13,7 @@ mod files;
 mod inputs;
 #[cfg(feature = "original")]
 mod original;
+mod plain;
 mod plot;
 
 use inputs::Inputs;
