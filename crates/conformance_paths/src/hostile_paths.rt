@@ -56,8 +56,8 @@ fn are_all_judged(rt: &HostRuntime, others: usize, place: usize) -> Result<bool,
     Ok(true)
 }
 
-/// How many characters paths have around 48, from which on a glance comes before the walk, and around the
-/// blocks of that.
+/// How many characters paths have around 48, 128 and 256, where a verdict that looks at blocks would begin
+/// another one.
 const SIZES: &[usize] = &[47, 48, 49, 127, 128, 129, 256, 257, 258];
 
 /// Whether each row is judged as it has to be, in paths of this size: at the start, at the end and between.
@@ -75,7 +75,7 @@ fn are_all_judged_in(rt: &HostRuntime, size: usize) -> Result<bool, Fail> {
 }
 
 #[test]
-fn hostile_paths_around_the_glance(rt: HostRuntime) -> Result<(), Fail> {
+fn hostile_paths_around_blocks(rt: HostRuntime) -> Result<(), Fail> {
     for size in SIZES {
         assert!(rt; are_all_judged_in(&rt, *size)?, "{size} characters");
     }
