@@ -30,6 +30,7 @@
 pub mod eq_str_until_nul;
 pub mod laws;
 pub mod owned_strs;
+mod packed_strings;
 pub mod strs;
 pub mod unaligned_slice;
 

@@ -556,7 +556,7 @@ impl<'a> UnalignedSlice<'a, u16> {
     }
 
     /// Why the items are no string, if they are none.
-    fn check_with_nul(&self) -> Result<(), FromSliceWithNulError>
+    pub(crate) fn check_with_nul(&self) -> Result<(), FromSliceWithNulError>
         ensures refusal { result_err result ≡ with_nul_refusal (items_of self.now) }
         ensures accepted { OnOk result (IsString (items_of self.now)) }
     {

@@ -1,0 +1,21 @@
+//! Packed units that are read as a string where they lie.
+ghost use Rattle.std.specs.Prelude.{◌≡◌, OnOk};
+ghost use Rattle.std.specs.Result.{result_err};
+ghost use Rattle.uefi_text_encodings.specs.FromSliceWithNul.{with_nul_refusal};
+ghost use Rattle.uefi_text_encodings.specs.Units.{IsString};
+
+use crate::strs::FromSliceWithNulError;
+use crate::unaligned_slice::UnalignedSlice;
+
+impl<'a> UnalignedSlice<'a, u16> {
+    ghost use Rattle.uefi_text.specs.Views.{items_of};
+
+    /// Whether the items are a string. Refused as [`CStr16::from_u16_with_nul`](crate::CStr16::from_u16_with_nul)
+    /// refuses the same units. Copies none of them into memory of the caller; takes no memory.
+    pub fn check_cstr16(&self) -> Result<(), FromSliceWithNulError>
+        ensures refusal { result_err result ≡ with_nul_refusal (items_of self.now) }
+        ensures accepted { OnOk result (IsString (items_of self.now)) }
+    {
+        self.check_with_nul()
+    }
+}
