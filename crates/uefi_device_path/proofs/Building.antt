@@ -2,7 +2,7 @@
 use Rattle.std.proofs.Common.{◌≡◌, ◌∙◌, ap, sym, refl, ℕ, List, [], ◌∷◌, ◌++◌, None, length, append_assoc, arith}
 use Rattle.std.proofs.lemmas.Grind.{common_steps}
 use Rattle.std.proofs.lemmas.List.Elements.{All-append, All-cons, All-nil}
-use Rattle.uefi_device_path.specs.Nodes.{Node, IsInner, node_bytes, end_entire}
+use Rattle.uefi_device_nodes.specs.Nodes.{Node, IsInner, node_bytes, end_entire}
 use Rattle.uefi_device_path.specs.Paths.{IsPath, joined, nodes_in, path_bytes, without_end}
 use Rattle.uefi_device_path.specs.Building.{build_refusal}
 use Rattle.uefi_device_path.proofs.Splits.{IsPath-path_bytes}

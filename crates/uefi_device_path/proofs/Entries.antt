@@ -6,11 +6,11 @@ use Rattle.std.proofs.lemmas.List.Elements.{All-head, All-tail}
 use Rattle.uefi_text.specs.PackedStrings.{SplitsUntilNul}
 use Rattle.uefi_text.specs.UnitBytes.{unit_bytes}
 use Rattle.uefi_text.specs.Units.{nul_terminated, without_nul}
-use Rattle.uefi_device_path.specs.Nodes.{Node}
+use Rattle.uefi_device_nodes.specs.Nodes.{Node}
 use Rattle.uefi_device_path.specs.PathLists.{ListRefusedFor, list_bytes, paths_in}
 use Rattle.uefi_device_path.specs.LoadOptions.{Describes, Entry, EntryRefusedFor, IsEntry, IsWrong, RefusesPaths, entry_bytes, stated_list_length}
 use Rattle.uefi_device_path.specs.declared.errors.DevicePathError.{DevicePathError}
-use Rattle.uefi_device_path.specs.declared.errors.NodeError.{NodeError}
+use Rattle.uefi_device_nodes.specs.declared.errors.NodeError.{NodeError}
 use Rattle.uefi_device_path.specs.declared.errors.LoadOptionCause.{LoadOptionCause}
 use Rattle.uefi_device_path.specs.declared.errors.LoadOptionCause.TheVariants.{TooShort, DescriptionWithoutEnd, ListBeyondEnd, EmptyList, FilePathList}
 use Rattle.uefi_device_path.specs.declared.errors.LoadOptionError.{LoadOptionError}

@@ -5,3 +5,6 @@ pub mod Lists
 pub mod Entries
 pub mod Building
 pub mod InstanceCuts
+pub mod Headers
+pub mod OptionBytes
+pub mod BufferPaths

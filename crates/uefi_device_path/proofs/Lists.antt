@@ -3,7 +3,7 @@ use Rattle.std.proofs.Common.{◌≡◌, ◌≢◌, ◌∙◌, ap, sym, refl, su
 use Rattle.std.proofs.lemmas.Bool.{cases_Bool}
 use Rattle.std.proofs.lemmas.Grind.{common_steps}
 use Rattle.std.proofs.lemmas.List.Elements.{All-head, All-tail, All-append, All-cons, All-nil}
-use Rattle.uefi_device_path.specs.Nodes.{Node, IsInner, node_bytes, end_entire}
+use Rattle.uefi_device_nodes.specs.Nodes.{Node, IsInner, node_bytes, end_entire}
 use Rattle.uefi_device_path.specs.Paths.{BeginWith, BeginWithPath, joined, nodes_in, path_bytes}
 use Rattle.uefi_device_path.specs.PathLists.{ArePacked, ArePaths, BeginWithPaths, IsPathList, ListRefusedFor, is_end_entire, list_bytes, paths_among, paths_in}
 use Rattle.uefi_device_path.specs.Faults.{RefusedFor}

@@ -1,11 +1,12 @@
 -- The names of the nodes that were passed are the path so far.
-use Rattle.std.proofs.Common.{◌≡◌, ◌≢◌, ◌∙◌, ap, sym, refl, ℕ, ◌+◌, List, [], ◌∷◌, ◌++◌, All, Option, None, Some, unwrap_or, fold, length, append_assoc, length-append, arith}
+use Rattle.std.proofs.Common.{◌≡◌, ◌≢◌, ◌∙◌, ap, sym, refl, subst, ℕ, ◌+◌, List, [], ◌∷◌, ◌++◌, All, Option, None, Some, unwrap_or, fold, length, append_assoc, length-append, arith}
 use Rattle.std.proofs.lemmas.Grind.{common_steps}
 use Rattle.std.proofs.lemmas.List.{append-nil}
-use Rattle.std.proofs.lemmas.List.Elements.{All-append, All-cons, All-nil}
-use Rattle.uefi_device_path.specs.Nodes.{Node, node_bytes}
+use Rattle.std.proofs.lemmas.List.Elements.{All-append, All-cons, All-head, All-nil, All-tail}
+use Rattle.uefi_device_nodes.specs.Nodes.{Node, node_bytes}
 use Rattle.uefi_device_path.specs.Paths.{AreNodes, joined, nodes_in}
-use Rattle.uefi_device_path.specs.FilePaths.{IsReadable, file_path, with_node}
+use Rattle.uefi_device_path.specs.FilePaths.{FileRefusedFor, IsReadable, file_path, with_node}
+use Rattle.uefi_device_path.specs.declared.errors.FilePathError.{FilePathError}
 use Rattle.uefi_device_path.specs.declared.errors.FilePathCause.{FilePathCause}
 use Rattle.uefi_device_path.specs.declared.errors.FilePathCause.TheVariants.{OutOfMemory}
 use Rattle.uefi_device_path.proofs.Splits.{after_first, nodes_in-nil}
@@ -17,12 +18,12 @@ pub record Named (bytes : List ℕ) (nodes : List Node) (rest path : List ℕ) :
   pub readable : All IsReadable nodes
   pub made : path ≡ file_path nodes
 
-pub named_none : (bytes path : List ℕ) → path ≡ [] → Named bytes [] bytes path
-named_none bytes path e = record { shown = refl; long = omega arith; readable = All-nil IsReadable; made = e }
-
 fold_one : (start : List ℕ) (ns : List Node) (n : Node) → fold with_node start (ns ++ n ∷ []) ≡ with_node (fold with_node start ns) n
 fold_one start [] n = refl
 fold_one start (m ∷ ns) n = fold_one (with_node start m) ns n
+
+pub file_path_more : (ns : List Node) (n : Node) → file_path (ns ++ n ∷ []) ≡ with_node (file_path ns) n
+file_path_more ns n = fold_one [] ns n
 
 joined_one : (ns : List Node) (n : Node) → length (joined (ns ++ n ∷ [])) ≡ length (joined ns) + length (node_bytes n)
 joined_one ns n =
@@ -53,3 +54,14 @@ pub is_fault : (fault : Option FilePathCause) (cause : FilePathCause) → cause 
     → fault ≡ Some cause
 is_fault None cause e other = absurd (other e)
 is_fault (Some fault) cause e other = ap (λ c. Some c) (sym e)
+
+readable_at : (before : List Node) (node : Node) (after : List Node) → All IsReadable (before ++ node ∷ after) → IsReadable node
+readable_at [] node after all = All-head IsReadable node after all
+readable_at (n ∷ before) node after all = readable_at before node after (All-tail IsReadable n (before ++ node ∷ after) all)
+
+-- nodes that all have names are not refused
+pub named_unrefused : (nodes : List Node) (error : FilePathError) → All IsReadable nodes → FileRefusedFor nodes error → ⊥
+named_unrefused nodes error all refused =
+    let why = refused.3 in
+    let none = readable_at refused.0 refused.1 refused.2 (subst (All IsReadable) why.split all) why.file in
+    absurd (cc (none, why.cause))

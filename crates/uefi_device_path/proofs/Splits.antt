@@ -1,14 +1,15 @@
 -- Bytes begin with one node at most, so they are split into nodes in one way.
-use Rattle.std.proofs.Common.{◌≡◌, ◌≢◌, ◌∙◌, ap, sym, refl, subst, ℕ, zero, suc, ◌+◌, ◌-◌, ◌/◌, ◌%◌, ◌≤◌, List, [], ◌∷◌, ◌++◌, All, None, Some, length, take, drop, append_assoc, length-append, slice_index, arith}
+use Rattle.std.proofs.Common.{◌≡◌, ◌≢◌, ◌∙◌, ap, sym, refl, subst, ℕ, zero, suc, ◌+◌, ◌-◌, ◌/◌, ◌%◌, ◌≤◌, List, [], ◌∷◌, ◌++◌, All, None, Some, length, take, drop, append_assoc, length-append, arith}
 use Rattle.std.proofs.lemmas.Grind.{common_steps}
 use Rattle.std.proofs.lemmas.List.{take_at, drop_at}
 use Rattle.std.proofs.lemmas.List.Elements.{All-head, All-tail, All-append, All-cons, All-nil}
-use Rattle.uefi_device_path.specs.Nodes.{Node, IsInner, IsSound, node_bytes, node_length, end_entire, first_node, stated_length}
+use Rattle.uefi_device_nodes.specs.Nodes.{Node, IsInner, IsSound, node_bytes, node_length, end_entire, first_node, stated_length}
 use Rattle.uefi_device_path.specs.Paths.{AreNodes, BeginWith, BeginWithPath, IsPath, joined, nodes_in, nodes_within, path_bytes, without_end}
 use Rattle.uefi_device_path.specs.declared.errors.DevicePathError.{DevicePathError}
-use Rattle.uefi_device_path.specs.declared.errors.NodeError.{NodeError}
-use Rattle.uefi_device_path.specs.declared.errors.NodeError.TheVariants.{Missing, TruncatedHeader, UnknownEnd, LengthBelowHeader, EndWithData, BeyondEnd}
-use Rattle.uefi_device_path.specs.Faults.{RefusedFor, fault_place, node_fault}
+use Rattle.uefi_device_nodes.specs.declared.errors.NodeError.{NodeError}
+use Rattle.uefi_device_nodes.specs.declared.errors.NodeError.TheVariants.{Missing, TruncatedHeader, UnknownEnd, LengthBelowHeader, EndWithData, BeyondEnd}
+use Rattle.uefi_device_nodes.specs.NodeFaults.{fault_place, node_fault}
+use Rattle.uefi_device_path.specs.Faults.{RefusedFor}
 
 -- lists of one length at the front are equal where the wholes are
 pub front_same : (a b x y : List ℕ) → length a ≡ length b → a ++ x ≡ b ++ y → (a ≡ b) × (x ≡ y)
@@ -69,9 +70,6 @@ no_fault n x sound =
 -- no node that may stand before the end begins here
 abbrev pub Stops : List ℕ → Type 0
 Stops bytes = (node : Node) (rest : List ℕ) → IsInner node → bytes ≡ node_bytes node ++ rest → ⊥
-
-pub Stops-nil : Stops []
-Stops-nil node rest inner e = absurd (cc)
 
 pub Stops-end : (rest : List ℕ) → Stops (node_bytes end_entire ++ rest)
 Stops-end rest node other inner e = inner.not_end (sym (prefix_free end_entire node rest other e).0)
@@ -235,19 +233,3 @@ fault_within rest UnknownEnd e = grind (arith, common_steps)
 fault_within rest LengthBelowHeader e = grind (arith, common_steps)
 fault_within rest EndWithData e = grind (arith, common_steps)
 fault_within rest BeyondEnd e = grind (arith, common_steps)
-
-no_bytes : (bytes : List ℕ) → length bytes ≡ 0 → bytes ≡ []
-no_bytes [] none = refl
-no_bytes (b ∷ bytes) none = absurd (omega arith)
-
--- the node that bytes begin with has no data where it is of type End
-pub take_sound : (bytes : List ℕ) → node_fault bytes ≡ None → IsSound (first_node (take (stated_length bytes) bytes))
-take_sound bytes sound is_end =
-    let front = take (stated_length bytes) bytes in
-    let long : 4 ≤ length bytes = grind (arith, common_steps) in
-    let least : 4 ≤ stated_length bytes = grind (arith, common_steps) in
-    let kind : slice_index bytes 0 ≡ 0x7f = grind (arith, common_steps) in
-    let four : stated_length bytes ≡ 4 = grind (arith, common_steps) in
-    let whole : length front ≡ 4 = grind (arith, common_steps) in
-    let rest : length (drop 4 (take (stated_length front) front)) ≡ 0 = grind (arith, common_steps) in
-    (no_bytes _ rest, λ other. grind (arith, common_steps))

@@ -1,7 +1,7 @@
 -- Which nodes are refused by a device path that grows.
 use Rattle.std.specs.Prelude.{nat_lt, ◌==◌, ◌&&◌, not, if◌then◌else◌, length, Option, Some, None}
-use Rattle.uefi_device_path.specs.Instances.{is_end_instance}
-use Rattle.uefi_device_path.specs.Nodes.{Node, node_length}
+use Rattle.uefi_device_nodes.specs.Nodes.{is_end_instance}
+use Rattle.uefi_device_nodes.specs.Nodes.{Node, node_length}
 use Rattle.uefi_device_path.specs.declared.errors.BuildError.{BuildError}
 use Rattle.uefi_device_path.specs.declared.errors.BuildError.TheVariants.{EndNode, NodeTooLong}
 

@@ -1,38 +1,25 @@
 -- What is printed of each error. An offset is in decimal.
 use Rattle.std.specs.Prelude.{ℕ, List, ◌++◌, codes}
 use Rattle.std.specs.Fmt.{decimal}
-use Rattle.uefi_device_path.specs.declared.errors.NodeError.{NodeError}
-use Rattle.uefi_device_path.specs.declared.errors.NodeError.TheVariants as node
+use Rattle.uefi_device_nodes.specs.NodeErrorTexts.{node_error_text}
 use Rattle.uefi_device_path.specs.declared.errors.DevicePathError.{DevicePathError}
-use Rattle.uefi_device_path.specs.declared.errors.NodeConversionError.{NodeConversionError}
-use Rattle.uefi_device_path.specs.declared.errors.NodeConversionError.TheVariants as conversion
 use Rattle.uefi_text.specs.ErrorTexts.{from_slice_with_nul_error_text}
 use Rattle.uefi_device_path.specs.declared.errors.FilePathCause.{FilePathCause}
 use Rattle.uefi_device_path.specs.declared.errors.FilePathCause.TheVariants as file
 use Rattle.uefi_device_path.specs.declared.errors.FilePathError.{FilePathError}
+use Rattle.uefi_device_path.specs.declared.errors.FilePathWriteError.{FilePathWriteError}
+use Rattle.uefi_device_path.specs.declared.errors.FilePathWriteError.TheVariants as in_buffer
 use Rattle.uefi_device_path.specs.declared.errors.LoadOptionCause.{LoadOptionCause}
 use Rattle.uefi_device_path.specs.declared.errors.LoadOptionCause.TheVariants as option
 use Rattle.uefi_device_path.specs.declared.errors.LoadOptionError.{LoadOptionError}
 use Rattle.uefi_device_path.specs.declared.errors.BuildError.{BuildError}
 use Rattle.uefi_device_path.specs.declared.errors.BuildError.TheVariants as build
-
--- what is printed of the cause for which no node stands at a place
-abbrev pub node_error_text : NodeError → List ℕ
-node_error_text node.Missing = codes "no end node ends the path"
-node_error_text node.TruncatedHeader = codes "a node's header is cut"
-node_error_text node.UnknownEnd = codes "an end node ends neither a path nor an instance"
-node_error_text node.LengthBelowHeader = codes "a node's length is less than its header's"
-node_error_text node.EndWithData = codes "an end node's length is more than its header's"
-node_error_text node.BeyondEnd = codes "a node's length is more than the bytes have left"
+use Rattle.uefi_device_path.specs.declared.errors.OptionBuildError.{OptionBuildError}
+use Rattle.uefi_device_path.specs.declared.errors.OptionBuildError.TheVariants as written
 
 -- what is printed of the refusal of a device path
 abbrev pub device_path_error_text : DevicePathError → List ℕ
 device_path_error_text error = node_error_text error.cause ++ codes " at offset " ++ decimal error.offset
-
--- what is printed where a node is not of a kind
-abbrev pub node_conversion_error_text : NodeConversionError → List ℕ
-node_conversion_error_text conversion.DifferentType = codes "the node is of another type or sub-type"
-node_conversion_error_text conversion.InvalidLength = codes "no node of this kind has this length"
 
 -- what is printed of what is wrong with a load option
 abbrev pub load_option_cause_text : LoadOptionCause → List ℕ
@@ -62,3 +49,17 @@ file_path_cause_text file.OutOfMemory = codes "out of memory"
 -- what is printed where nodes have no file path
 abbrev pub file_path_error_text : FilePathError → List ℕ
 file_path_error_text error = file_path_cause_text error.cause ++ codes " at offset " ++ decimal error.offset
+
+-- what is printed where a load option is not written
+abbrev pub option_build_error_text : OptionBuildError → List ℕ
+option_build_error_text (written.NulInDescription place) = codes "NUL in the description, at " ++ decimal place
+option_build_error_text written.EmptyList = codes "the file path list is empty"
+option_build_error_text written.ListTooLong = codes "the file path list is longer than its header can state"
+option_build_error_text written.TooLong = codes "the load option is longer than memory"
+option_build_error_text (written.BufferTooSmall needed) = codes "the load option has " ++ decimal needed ++ codes " bytes"
+option_build_error_text written.OutOfMemory = codes "out of memory"
+
+-- what is printed where a file path is not written into a buffer
+abbrev pub file_path_write_error_text : FilePathWriteError → List ℕ
+file_path_write_error_text (in_buffer.Name error) = file_path_error_text error
+file_path_write_error_text (in_buffer.BufferTooSmall needed) = codes "the file path has " ++ decimal needed ++ codes " units"

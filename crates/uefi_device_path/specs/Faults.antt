@@ -1,37 +1,9 @@
--- Why bytes do not begin with a node, or with a device path.
-use Rattle.std.specs.Prelude.{◌≡◌, ℕ, ◌+◌, Bool, ◌==◌, ◌&&◌, ◌||◌, not, nat_lt, if◌then◌else◌, List, length, slice_index, Option, Some, None}
-use Rattle.uefi_device_path.specs.Nodes.{Node, stated_length}
+-- Why bytes do not begin with a device path.
+use Rattle.std.specs.Prelude.{◌≡◌, ℕ, ◌+◌, List, length, Some}
+use Rattle.uefi_device_nodes.specs.NodeFaults.{fault_place, node_fault}
+use Rattle.uefi_device_nodes.specs.Nodes.{Node}
 use Rattle.uefi_device_path.specs.Paths.{BeginWith, joined}
-use Rattle.uefi_device_path.specs.declared.errors.NodeError.{NodeError}
-use Rattle.uefi_device_path.specs.declared.errors.NodeError.TheVariants.{Missing, TruncatedHeader, UnknownEnd, LengthBelowHeader, EndWithData, BeyondEnd}
 use Rattle.uefi_device_path.specs.declared.errors.DevicePathError.{DevicePathError}
-
--- the tests for a header that states the type of an end node, and a sub-type of one
-abbrev pub is_type_end : List ℕ → Bool
-is_type_end bytes = slice_index bytes 0 == 0x7f
-
-abbrev pub is_sub_type_end : List ℕ → Bool
-is_sub_type_end bytes = (slice_index bytes 1 == 0x01) || (slice_index bytes 1 == 0xff)
-
--- why no node begins at these bytes: the first of these that holds, or none
-abbrev pub node_fault : List ℕ → Option NodeError
-node_fault bytes =
-    if length bytes == 0 then Some Missing
-    else if nat_lt (length bytes) 4 then Some TruncatedHeader
-    else if is_type_end bytes && not (is_sub_type_end bytes) then Some UnknownEnd
-    else if nat_lt (stated_length bytes) 4 then Some LengthBelowHeader
-    else if is_type_end bytes && not (stated_length bytes == 4) then Some EndWithData
-    else if nat_lt (length bytes) (stated_length bytes) then Some BeyondEnd
-    else None
-
--- where in a node the bytes begin that are at fault: with it, with its sub-type, or with its length
-abbrev pub fault_place : NodeError → ℕ
-fault_place Missing = 0
-fault_place TruncatedHeader = 0
-fault_place UnknownEnd = 1
-fault_place LengthBelowHeader = 2
-fault_place EndWithData = 2
-fault_place BeyondEnd = 2
 
 -- bytes are these nodes and then a rest at which no node begins, for the cause and at the place that
 -- the error says

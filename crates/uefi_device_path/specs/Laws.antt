@@ -1,6 +1,9 @@
 -- The laws of device paths and load options, over the definitions that contracts of working calls cite.
-use Rattle.std.specs.Prelude.{◌≡◌, ℕ, List, ◌++◌, All}
-use Rattle.uefi_device_path.specs.Nodes.{Node, IsInner}
+use Rattle.std.specs.Prelude.{◌≡◌, ℕ, ◌+◌, ◌-◌, Bool, true, false, List, ◌++◌, All, take}
+use Rattle.uefi_device_nodes.specs.Nodes.{Node, IsInner}
+use Rattle.uefi_device_nodes.specs.NodeFaults.{fault_place}
+use Rattle.uefi_device_nodes.specs.declared.errors.NodeError.{NodeError}
+use Rattle.uefi_device_nodes.specs.declared.errors.NodeError.TheVariants.{Missing, TruncatedHeader, UnknownEnd, LengthBelowHeader, EndWithData, BeyondEnd}
 use Rattle.uefi_device_path.specs.Paths.{BeginWithPath, path_bytes}
 use Rattle.uefi_device_path.specs.Faults.{RefusedFor}
 use Rattle.uefi_device_path.specs.LoadOptions.{Entry, EntryRefusedFor, IsEntry, entry_bytes}
@@ -31,6 +34,26 @@ AcceptedWithMore = (bytes more : List ℕ) (nodes : List Node) → BeginWithPath
 abbrev pub NeverBoth : Type 0
 NeverBoth = (bytes : List ℕ) (nodes : List Node) (error : DevicePathError) → BeginWithPath bytes nodes
     → RefusedFor bytes error → ⊥
+
+-- the header of a node decides these causes, and the length of all bytes the others
+abbrev pub is_of_header : NodeError → Bool
+is_of_header UnknownEnd = true
+is_of_header LengthBelowHeader = true
+is_of_header EndWithData = true
+is_of_header Missing = false
+is_of_header TruncatedHeader = false
+is_of_header BeyondEnd = false
+
+-- where the header of the node ends that is at fault
+abbrev pub header_end : DevicePathError → ℕ
+header_end error = error.offset - fault_place error.cause + 4
+
+-- bytes that are refused for what a header says are refused for it whatever follows this header: so are all
+-- that have the same bytes up to its end
+abbrev pub RefusedByHeader : Type 0
+RefusedByHeader = (bytes others : List ℕ) (error : DevicePathError) → is_of_header error.cause ≡ true
+    → RefusedFor bytes error → take (header_end error) others ≡ take (header_end error) bytes
+    → RefusedFor others error
 
 -- no two load options have the same bytes
 abbrev pub OptionsOnce : Type 0

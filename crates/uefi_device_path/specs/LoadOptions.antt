@@ -1,8 +1,10 @@
 -- Boot load options (UEFI Specification 2.10, section 3.1.3).
 use Rattle.std.specs.Prelude.{◌≡◌, ◌≢◌, ℕ, ◌+◌, ◌-◌, ◌*◌, ◌/◌, ◌%◌, ◌<◌, ◌≤◌, List, [], ◌∷◌, ◌++◌, All, length, take, drop, slice_index}
+use Rattle.std.specs.Char.Utf16.{utf16_lossy_chars}
+use Rattle.std.specs.Str.{encode_utf8_all}
 use Rattle.uefi_text.specs.Units.{nul_terminated}
 use Rattle.uefi_text.specs.UnitBytes.{unit_bytes}
-use Rattle.uefi_device_path.specs.Nodes.{Node}
+use Rattle.uefi_device_nodes.specs.Nodes.{Node}
 use Rattle.uefi_device_path.specs.PathLists.{ArePaths, ListRefusedFor, list_bytes}
 use Rattle.uefi_device_path.specs.declared.errors.DevicePathError.{DevicePathError}
 use Rattle.uefi_device_path.specs.declared.errors.LoadOptionCause.{LoadOptionCause}
@@ -35,6 +37,11 @@ abbrev pub entry_bytes : Entry → List ℕ
 entry_bytes entry =
     four_bytes entry.attributes ++ (two_bytes (length (list_bytes entry.paths))
     ++ (unit_bytes (nul_terminated entry.description) ++ (list_bytes entry.paths ++ entry.optional)))
+
+-- what units are in UTF-8: each pair of surrogates is one character, and U+FFFD stands for each surrogate that
+-- has no partner
+abbrev pub lossy_utf8 : List ℕ → List ℕ
+lossy_utf8 units = encode_utf8_all (utf16_lossy_chars units)
 
 -- how many bytes the header gives the file path list
 abbrev pub stated_list_length : List ℕ → ℕ

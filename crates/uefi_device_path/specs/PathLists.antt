@@ -1,7 +1,7 @@
 -- Device paths that lie packed, one after the other.
 use Rattle.std.specs.Prelude.{◌≡◌, ◌≢◌, ℕ, ◌+◌, ◌==◌, ◌&&◌, Bool, if◌then◌else◌, List, [], ◌∷◌, ◌++◌, length, All}
 use Rattle.std.specs.List.{flat_map, onto_first}
-use Rattle.uefi_device_path.specs.Nodes.{Node, IsInner}
+use Rattle.uefi_device_nodes.specs.Nodes.{Node, IsInner}
 use Rattle.uefi_device_path.specs.Paths.{nodes_in, path_bytes}
 use Rattle.uefi_device_path.specs.Faults.{RefusedFor}
 use Rattle.uefi_device_path.specs.declared.errors.DevicePathError.{DevicePathError}

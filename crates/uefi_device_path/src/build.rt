@@ -4,15 +4,15 @@
 ghost use Rattle.std.specs.Prelude.{◌≡◌, ℕ, ◌+◌, ◌-◌, ◌<◌, ◌≤◌, ◌∷◌, ◌++◌, [], List, length, take, IfOk, IfErr, OnOk, OnErr, None, unwrap_or};
 ghost use Rattle.std.specs.Result.{result_err};
 ghost use Rattle.std.specs.Vec.{vec_capacity, vec_len};
-ghost use Rattle.uefi_device_path.specs.Nodes.{end_entire, node_bytes, node_with};
+ghost use Rattle.uefi_device_nodes.specs.Nodes.{end_entire, node_bytes, node_with};
 ghost use Rattle.uefi_device_path.specs.Paths.{path_bytes, without_end};
 ghost use Rattle.uefi_device_path.specs.Building.{build_refusal};
 
 use crate::device_path::DevicePath;
 use crate::errors::BuildError;
-use crate::node::{DeviceSubType, DeviceType};
 use std::alloc::{AllocError, Allocator, Global};
 use std::marker::Model;
+use uefi_device_nodes::{DeviceSubType, DeviceType};
 
 /// A device path in memory of its own, which grows. A contract sees it as the list of its nodes, without
 /// the one that ends it.
@@ -23,7 +23,7 @@ pub struct DevicePathBuf<A: Allocator = Global> {
 
 impl<A: Allocator> Model for DevicePathBuf<A> {
     ghost use Rattle.std.specs.Prelude.{List};
-    ghost use Rattle.uefi_device_path.specs.Nodes.{Node};
+    ghost use Rattle.uefi_device_nodes.specs.Nodes.{Node};
     ghost use Rattle.uefi_device_path.specs.Paths.{IsPath, nodes_in, without_end};
 
     ghost Value = { List Node };

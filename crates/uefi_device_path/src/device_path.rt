@@ -1,19 +1,24 @@
 //! Device paths, and the nodes of one.
 #![tactic(auto, unfolding(crate::specs::Views::nodes_of, crate::specs::Views::nodes_left))]
 
-ghost use Rattle.std.specs.Prelude.{◌≡◌, ◌≢◌, ℕ, ◌+◌, ◌<◌, ◌≤◌, ◌^◌, ◌↔◌, ◌++◌, [], List, All, length, drop, IfOk, IfErr, IsOk, IfSome, IsTrue, None};
+ghost use Rattle.std.specs.Prelude.{◌≡◌, ◌≢◌, ℕ, ◌+◌, ◌<◌, ◌≤◌, ◌^◌, ◌↔◌, ◌++◌, [], List, All, length, drop, IfOk, IfErr, IsOk, IfSome, IsTrue, None, OnErr, OnOk};
 ghost use Rattle.std.specs.Result.{result_err};
+ghost use Rattle.uefi_device_path.specs.FilePathBuffers.{WriteRefusedFor};
+ghost use Rattle.uefi_text.specs.Units.{IsText, nul_terminated};
+ghost use Rattle.uefi_text.specs.Views.{text_of};
 ghost use Rattle.uefi_device_path.specs.FilePaths.{FileRefusedFor, IsReadable, file_path};
-ghost use Rattle.uefi_device_path.specs.Nodes.{IsInner, Node, end_entire, node_bytes, node_length};
+ghost use Rattle.uefi_device_nodes.specs.Nodes.{IsInner, Node, end_entire, node_bytes, node_length};
 ghost use Rattle.uefi_device_path.specs.Paths.{AreNodes, BeginWith, BeginWithPath, IsPath, joined, nodes_in, path_bytes, without_end};
 
-use crate::errors::{DevicePathError, FilePathCause, FilePathError};
+use crate::errors::{DevicePathError, FilePathCause, FilePathError, FilePathWriteError};
 use crate::file_path::file_path_in;
+use crate::file_path_buffer::write_file_path_in;
 use crate::instance::DevicePathInstanceIterator;
-use crate::node::{DevicePathNode, fault_place};
 use crate::node_iterator::DevicePathNodeIterator;
 use std::alloc::Allocator;
+use uefi_device_nodes::node::{DevicePathNode, fault_place};
 use uefi_path::PathBuf;
+use uefi_text::CStr16;
 
 /// A device path that lies in borrowed bytes: nodes one after the other, and the one that ends it. A
 /// contract sees it as `nodes_of` it: the list of its nodes, without the one that ends it.
@@ -26,7 +31,8 @@ pub struct DevicePath<'a> {
 impl<'a> DevicePath<'a> {
     ghost use Rattle.uefi_device_path.specs.Faults.{RefusedFor};
     ghost use Rattle.uefi_device_path.specs.Instances.{instances};
-    ghost use Rattle.uefi_device_path.specs.Views.{instance_nodes, instances_left, node_of, nodes_left, nodes_of};
+    ghost use Rattle.uefi_device_nodes.specs.NodeViews.{node_of};
+    ghost use Rattle.uefi_device_path.specs.Views.{instance_nodes, instances_left, nodes_left, nodes_of};
     ghost use Rattle.uefi_text.specs.Runs.{GivesEach};
     ghost use Rattle.uefi_device_path.specs.declared.errors.DevicePathError.{DevicePathError};
 
@@ -145,6 +151,39 @@ impl<'a> DevicePath<'a> {
             FileRefusedFor (nodes_of self.now) error) }
     {
         file_path_in(alloc, &self.bytes[..self.bytes.len() - 4])
+    }
+
+    /// Writes the file path, which [`DevicePath::file_path`] makes, to the start of a buffer, with a NUL after it,
+    /// and returns how many units these are. What follows them is unchanged. Refused as `Name` where that
+    /// call refuses a name, for the same node, and then as `BufferTooSmall`, with the count that it needs;
+    /// the buffer is then unchanged. Takes no memory; one pass over the nodes measures, and one writes.
+    pub fn write_file_path(&self, buffer: &mut [u16]) -> Result<usize, FilePathWriteError>
+        ensures len { IfOk result (λ len. len ≡ length (file_path (nodes_of self.now)) + 1) }
+        ensures text { OnOk result (IsText (file_path (nodes_of self.now))) }
+        ensures accepted { OnOk result (All IsReadable (nodes_of self.now)) }
+        ensures room { IfOk result (λ len. len ≤ length buffer.old) }
+        ensures ok { OnOk result (buffer.new ≡ nul_terminated (file_path (nodes_of self.now))
+            ++ drop (length (file_path (nodes_of self.now)) + 1) buffer.old) }
+        ensures err { OnErr result (buffer.new ≡ buffer.old) }
+        ensures refusal { IfErr result (λ error.
+            WriteRefusedFor (nodes_of self.now) (length buffer.old) error) }
+    {
+        write_file_path_in(&self.bytes[..self.bytes.len() - 4], buffer)
+    }
+
+    /// The file path, written to the start of a buffer and borrowed from there as a string.
+    /// [`DevicePath::write_file_path`] says when it is refused and what the buffer then holds.
+    pub fn file_path_in_buf<'b>(&self, buf: &'b mut [u16]) -> Result<CStr16<'b>, FilePathWriteError>
+        ensures ok { IfOk result (λ string. text_of string ≡ file_path (nodes_of self.now)) }
+        ensures accepted { OnOk result (All IsReadable (nodes_of self.now)) }
+        ensures room { OnOk result (length (file_path (nodes_of self.now)) < length buf.old) }
+        ensures refusal { IfErr result (λ error.
+            WriteRefusedFor (nodes_of self.now) (length buf.old) error) }
+    {
+        match self.write_file_path(buf) {
+            Ok(len) => Ok(CStr16::from_string(&buf[..len])),
+            Err(error) => Err(error),
+        }
     }
 
     /// The instances of the path, in order: what stands between the nodes that end one.

@@ -1,45 +1,8 @@
-//! Why bytes are no device path, no load option or no node of a kind, and why a node is not added.
+//! Why bytes are no device path and no load option, and why a node is not added.
 use std::error::Error;
 use std::fmt;
+pub use uefi_device_nodes::errors::{NodeConversionError, NodeError};
 use uefi_text::FromSliceWithNulError;
-
-/// Why no node of a device path stands at a place.
-#[derive(Clone, Copy, Debug, PartialEq, Eq)]
-pub enum NodeError {
-    /// The bytes end where a node has to begin: no end node ends the path.
-    Missing,
-    /// The bytes end within the four bytes of a header.
-    TruncatedHeader,
-    /// A node of type End has a sub-type that ends neither a path nor an instance.
-    UnknownEnd,
-    /// The header states a length below four, which its own bytes have.
-    LengthBelowHeader,
-    /// The header of a node of type End states a length above four.
-    EndWithData,
-    /// The header states a length beyond the end of the bytes.
-    BeyondEnd,
-}
-
-/// Prints what is wrong, in words.
-impl fmt::Display for NodeError {
-    ghost use Rattle.std.specs.Prelude.{Some};
-    ghost use Rattle.uefi_device_path.specs.ErrorTexts.{node_error_text};
-
-    ghost output = { λ error. Some (node_error_text error) };
-
-    fn fmt<W: fmt::Write>(&self, f: &mut fmt::Formatter<W>) -> fmt::Result {
-        match self {
-            Self::Missing => write!(f, "no end node ends the path"),
-            Self::TruncatedHeader => write!(f, "a node's header is cut"),
-            Self::UnknownEnd => write!(f, "an end node ends neither a path nor an instance"),
-            Self::LengthBelowHeader => write!(f, "a node's length is less than its header's"),
-            Self::EndWithData => write!(f, "an end node's length is more than its header's"),
-            Self::BeyondEnd => write!(f, "a node's length is more than the bytes have left"),
-        }
-    }
-}
-
-impl Error for NodeError {}
 
 /// Why bytes do not begin with a device path.
 #[derive(Clone, Copy, Debug, PartialEq, Eq)]
@@ -65,32 +28,6 @@ impl fmt::Display for DevicePathError {
 }
 
 impl Error for DevicePathError {}
-
-/// Why a node is not of a kind.
-#[derive(Clone, Copy, Debug, PartialEq, Eq)]
-pub enum NodeConversionError {
-    /// Its type or its sub-type is another.
-    DifferentType,
-    /// Its data has a length that none of its kind has.
-    InvalidLength,
-}
-
-/// Prints what is wrong, in words.
-impl fmt::Display for NodeConversionError {
-    ghost use Rattle.std.specs.Prelude.{Some};
-    ghost use Rattle.uefi_device_path.specs.ErrorTexts.{node_conversion_error_text};
-
-    ghost output = { λ error. Some (node_conversion_error_text error) };
-
-    fn fmt<W: fmt::Write>(&self, f: &mut fmt::Formatter<W>) -> fmt::Result {
-        match self {
-            Self::DifferentType => write!(f, "the node is of another type or sub-type"),
-            Self::InvalidLength => write!(f, "no node of this kind has this length"),
-        }
-    }
-}
-
-impl Error for NodeConversionError {}
 
 /// Why a node that names a file has no name.
 #[derive(Clone, Copy, Debug, PartialEq, Eq)]
@@ -144,6 +81,32 @@ impl fmt::Display for FilePathError {
 }
 
 impl Error for FilePathError {}
+
+/// Why a file path is not written into a buffer.
+#[derive(Clone, Copy, Debug, PartialEq, Eq)]
+pub enum FilePathWriteError {
+    /// The nodes have no file path.
+    Name(FilePathError),
+    /// The buffer has fewer places than the path has units with its NUL, which are this many.
+    BufferTooSmall(usize),
+}
+
+/// Prints what is wrong, in words.
+impl fmt::Display for FilePathWriteError {
+    ghost use Rattle.std.specs.Prelude.{Some};
+    ghost use Rattle.uefi_device_path.specs.ErrorTexts.{file_path_write_error_text};
+
+    ghost output = { λ error. Some (file_path_write_error_text error) };
+
+    fn fmt<W: fmt::Write>(&self, f: &mut fmt::Formatter<W>) -> fmt::Result {
+        match self {
+            Self::Name(error) => write!(f, "{error}"),
+            Self::BufferTooSmall(needed) => write!(f, "the file path has {needed} units"),
+        }
+    }
+}
+
+impl Error for FilePathWriteError {}
 
 /// What is wrong with bytes that are no load option.
 #[derive(Clone, Copy, Debug, PartialEq, Eq)]
@@ -236,3 +199,44 @@ impl fmt::Display for BuildError {
 }
 
 impl Error for BuildError {}
+
+/// Why a load option is not written.
+#[derive(Clone, Copy, Debug, PartialEq, Eq)]
+pub enum OptionBuildError {
+    /// The description holds a NUL, at this place.
+    NulInDescription(usize),
+    /// There is no device path, so that nothing can be loaded.
+    EmptyList,
+    /// The device paths have more bytes than the 65,535 that the header can state.
+    ListTooLong,
+    /// The load option has more bytes than a `usize` can state.
+    TooLong,
+    /// The buffer has fewer bytes than the load option, which has this many.
+    BufferTooSmall(usize),
+    /// Memory was refused.
+    OutOfMemory,
+}
+
+/// Prints what is wrong, in words.
+impl fmt::Display for OptionBuildError {
+    ghost use Rattle.std.specs.Prelude.{Some};
+    ghost use Rattle.uefi_device_path.specs.ErrorTexts.{option_build_error_text};
+
+    ghost output = { λ error. Some (option_build_error_text error) };
+
+    fn fmt<W: fmt::Write>(&self, f: &mut fmt::Formatter<W>) -> fmt::Result {
+        match self {
+            Self::NulInDescription(place) => write!(f, "NUL in the description, at {place}"),
+            Self::EmptyList => write!(f, "the file path list is empty"),
+            Self::ListTooLong => write!(
+                f,
+                "the file path list is longer than its header can state"
+            ),
+            Self::TooLong => write!(f, "the load option is longer than memory"),
+            Self::BufferTooSmall(needed) => write!(f, "the load option has {needed} bytes"),
+            Self::OutOfMemory => write!(f, "out of memory"),
+        }
+    }
+}
+
+impl Error for OptionBuildError {}

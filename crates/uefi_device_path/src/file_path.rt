@@ -1,16 +1,17 @@
 //! The file path of a path: the names of its nodes that name files, one after the other.
-#![tactic(auto, unfolding(crate::specs::Views::node_of))]
+#![tactic(auto)]
 
 ghost use Rattle.std.specs.Prelude.{◌≡◌, ◌≢◌, ℕ, ◌+◌, ◌-◌, ◌<◌, ◌≤◌, All, length, IfOk, IfErr, OnErr, OnOk, None, true, unwrap_or};
 ghost use Rattle.uefi_text.specs.Units.{IsText};
 ghost use Rattle.uefi_text.specs.Views.{text_of};
-ghost use Rattle.uefi_device_path.specs.FilePaths.{FileRefusedFor, IsReadable, file_path, is_file, is_rooted, name_after, name_fault, name_in, with_node};
+ghost use Rattle.uefi_device_nodes.specs.FileNodes.{is_file};
+ghost use Rattle.uefi_device_path.specs.FilePaths.{FileRefusedFor, IsReadable, file_path, is_rooted, name_after, name_fault, name_in, with_node};
 ghost use Rattle.uefi_device_path.specs.Paths.{AreNodes, nodes_in};
-ghost use Rattle.uefi_device_path.specs.Views.{node_of};
+ghost use Rattle.uefi_device_nodes.specs.NodeViews.{node_of};
 
 use crate::errors::{FilePathCause, FilePathError};
-use crate::node::{DevicePathNode, DeviceSubType, DeviceType};
 use std::alloc::{AllocError, Allocator};
+use uefi_device_nodes::{DevicePathNode, DeviceSubType, DeviceType};
 use uefi_path::{Path, PathBuf};
 use uefi_text::{CStr16, CString16, FromSliceWithNulError, UnalignedSlice};
 
@@ -65,7 +66,7 @@ fn add_name<A: Allocator + Copy>(
 }
 
 /// Whether a node names a file.
-fn names_file(node: DevicePathNode<'_>) -> bool
+pub(crate) fn names_file(node: DevicePathNode<'_>) -> bool
     ensures { result ≡ is_file (node_of node.entry) }
 {
     node.device_type() == DeviceType::MEDIA && node.sub_type() == DeviceSubType::MEDIA_FILE_PATH

@@ -1,19 +1,25 @@
 //! The instances of a device path.
-#![tactic(auto, unfolding(crate::specs::Views::instance_nodes, crate::specs::Views::instances_left, crate::specs::Views::nodes_left, crate::specs::Views::node_of))]
+#![tactic(auto, unfolding(crate::specs::Views::instance_nodes, crate::specs::Views::instances_left, crate::specs::Views::nodes_left))]
 
-ghost use Rattle.std.specs.Prelude.{◌≡◌, ℕ, ◌+◌, ◌<◌, ◌^◌, ◌∷◌, ◌≢◌, All, length, IfErr, IfOk, IsTrue};
+ghost use Rattle.std.specs.Prelude.{◌≡◌, ℕ, ◌+◌, ◌<◌, ◌≤◌, ◌^◌, ◌∷◌, ◌++◌, ◌≢◌, All, drop, length, IfErr, IfOk, IsTrue, OnErr, OnOk};
 ghost use Rattle.std.specs.Option.{ForSome};
+ghost use Rattle.uefi_device_path.specs.FilePathBuffers.{WriteRefusedFor};
+ghost use Rattle.uefi_text.specs.Units.{IsText, nul_terminated};
+ghost use Rattle.uefi_text.specs.Views.{text_of};
 ghost use Rattle.uefi_device_path.specs.FilePaths.{FileRefusedFor, IsReadable, file_path};
-ghost use Rattle.uefi_device_path.specs.Nodes.{IsInner};
+ghost use Rattle.uefi_device_nodes.specs.Nodes.{IsInner};
 ghost use Rattle.uefi_device_path.specs.Paths.{AreNodes, joined, nodes_in};
-ghost use Rattle.uefi_device_path.specs.Instances.{instances, instances_in, is_end_instance};
+ghost use Rattle.uefi_device_nodes.specs.Nodes.{is_end_instance};
+ghost use Rattle.uefi_device_path.specs.Instances.{instances, instances_in};
 
-use crate::errors::{FilePathCause, FilePathError};
+use crate::errors::{FilePathCause, FilePathError, FilePathWriteError};
 use crate::file_path::file_path_in;
-use crate::node::DevicePathNode;
+use crate::file_path_buffer::write_file_path_in;
 use crate::node_iterator::DevicePathNodeIterator;
 use std::alloc::Allocator;
+use uefi_device_nodes::DevicePathNode;
 use uefi_path::PathBuf;
+use uefi_text::CStr16;
 
 /// An instance of a device path: the nodes between two that end one, without these. A contract sees it as
 /// `instance_nodes` of it.
@@ -51,7 +57,8 @@ fn cut_instance(bytes: &[u8]) -> (&[u8], Option<&[u8]>)
 }
 
 impl<'a> DevicePathInstance<'a> {
-    ghost use Rattle.uefi_device_path.specs.Views.{instance_nodes, node_of, nodes_left};
+    ghost use Rattle.uefi_device_nodes.specs.NodeViews.{node_of};
+    ghost use Rattle.uefi_device_path.specs.Views.{instance_nodes, nodes_left};
     ghost use Rattle.uefi_text.specs.Runs.{GivesEach};
 
     /// The bytes of the nodes.
@@ -82,6 +89,39 @@ impl<'a> DevicePathInstance<'a> {
             FileRefusedFor (instance_nodes self.now) error) }
     {
         file_path_in(alloc, self.bytes)
+    }
+
+    /// Writes the file path, which [`DevicePathInstance::file_path`] makes, to the start of a buffer, with a NUL after it,
+    /// and returns how many units these are. What follows them is unchanged. Refused as `Name` where that
+    /// call refuses a name, for the same node, and then as `BufferTooSmall`, with the count that it needs;
+    /// the buffer is then unchanged. Takes no memory; one pass over the nodes measures, and one writes.
+    pub fn write_file_path(&self, buffer: &mut [u16]) -> Result<usize, FilePathWriteError>
+        ensures len { IfOk result (λ len. len ≡ length (file_path (instance_nodes self.now)) + 1) }
+        ensures text { OnOk result (IsText (file_path (instance_nodes self.now))) }
+        ensures accepted { OnOk result (All IsReadable (instance_nodes self.now)) }
+        ensures room { IfOk result (λ len. len ≤ length buffer.old) }
+        ensures ok { OnOk result (buffer.new ≡ nul_terminated (file_path (instance_nodes self.now))
+            ++ drop (length (file_path (instance_nodes self.now)) + 1) buffer.old) }
+        ensures err { OnErr result (buffer.new ≡ buffer.old) }
+        ensures refusal { IfErr result (λ error.
+            WriteRefusedFor (instance_nodes self.now) (length buffer.old) error) }
+    {
+        write_file_path_in(self.bytes, buffer)
+    }
+
+    /// The file path, written to the start of a buffer and borrowed from there as a string.
+    /// [`DevicePathInstance::write_file_path`] says when it is refused and what the buffer then holds.
+    pub fn file_path_in_buf<'b>(&self, buf: &'b mut [u16]) -> Result<CStr16<'b>, FilePathWriteError>
+        ensures ok { IfOk result (λ string. text_of string ≡ file_path (instance_nodes self.now)) }
+        ensures accepted { OnOk result (All IsReadable (instance_nodes self.now)) }
+        ensures room { OnOk result (length (file_path (instance_nodes self.now)) < length buf.old) }
+        ensures refusal { IfErr result (λ error.
+            WriteRefusedFor (instance_nodes self.now) (length buf.old) error) }
+    {
+        match self.write_file_path(buf) {
+            Ok(len) => Ok(CStr16::from_string(&buf[..len])),
+            Err(error) => Err(error),
+        }
     }
 }
 

@@ -1,7 +1,7 @@
 //! The laws by which users of device paths and load options reason. They speak of the definitions that
 //! the contracts of the working calls cite. Each law is a function that does nothing: its contract is the
 //! law.
-ghost use Rattle.uefi_device_path.specs.Laws.{AcceptedWithMore, BuiltIsRead, BytesOnce, NeverBoth, OptionsNeverBoth, OptionsOnce, PathsOnce};
+ghost use Rattle.uefi_device_path.specs.Laws.{AcceptedWithMore, BuiltIsRead, BytesOnce, NeverBoth, OptionsNeverBoth, OptionsOnce, PathsOnce, RefusedByHeader};
 
 /// Bytes and nodes determine one another: bytes begin with one path at most, no two paths have the same
 /// bytes, and the bytes of nodes are read as these nodes.
@@ -15,6 +15,13 @@ pub fn paths_once()
 pub fn accepted_paths()
     ensures with_more { AcceptedWithMore }
     ensures never_both { NeverBoth }
+{}
+
+/// Bytes that are refused for what the header of a node says, as `UnknownEnd`, `LengthBelowHeader` or
+/// `EndWithData`, are refused for it at the same offset whatever follows this header. The other causes say
+/// that the bytes end too early, so that more bytes may be a path.
+pub fn refused_by_header()
+    ensures { RefusedByHeader }
 {}
 
 /// No two load options have the same bytes, and those of a load option are never refused.

@@ -22,32 +22,30 @@
 //! takes memory but those that say so.
 #![tactic(auto)]
 
-pub mod acpi;
-pub mod bios_boot_spec;
 mod build;
 mod device_path;
 mod errors;
 mod file_path;
-pub mod hardware;
+mod file_path_buffer;
 mod instance;
 pub mod laws;
 mod load_option;
-pub mod media;
-pub mod messaging;
-mod node;
 mod node_iterator;
+mod option_builder;
 mod path_list;
-mod typed_node;
 
 pub use build::DevicePathBuf;
 pub use device_path::DevicePath;
 pub use errors::{
-    BuildError, DevicePathError, FilePathCause, FilePathError, LoadOptionCause, LoadOptionError,
-    NodeConversionError, NodeError,
+    BuildError, DevicePathError, FilePathCause, FilePathError, FilePathWriteError, LoadOptionCause,
+    LoadOptionError, NodeConversionError, NodeError, OptionBuildError,
 };
 pub use instance::{DevicePathInstance, DevicePathInstanceIterator};
 pub use load_option::LoadOption;
-pub use node::{DevicePathNode, DeviceSubType, DeviceType};
 pub use node_iterator::DevicePathNodeIterator;
+pub use option_builder::LoadOptionBuilder;
 pub use path_list::{DevicePaths, check_paths};
-pub use typed_node::{NodeKind, TypedNode};
+pub use uefi_device_nodes::{
+    DevicePathNode, DeviceSubType, DeviceType, NodeKind, TypedNode, acpi, bios_boot_spec, hardware,
+    media, messaging,
+};

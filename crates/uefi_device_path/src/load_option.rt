@@ -6,11 +6,12 @@ ghost use Rattle.uefi_text.specs.FromSliceWithNul.{with_nul_refusal};
 ghost use Rattle.uefi_text.specs.Units.{IsNulTerminated, IsString, nul_terminated};
 ghost use Rattle.uefi_text.specs.Views.{items_of};
 ghost use Rattle.uefi_device_path.specs.PathLists.{IsPathList, list_bytes};
-ghost use Rattle.uefi_device_path.specs.LoadOptions.{Entry, EntryRefusedFor, IsEntry, entry_bytes};
+ghost use Rattle.std.specs.String.{string_bytes};
+ghost use Rattle.uefi_device_path.specs.LoadOptions.{Entry, EntryRefusedFor, IsEntry, entry_bytes, lossy_utf8};
 
 use crate::errors::{LoadOptionCause, LoadOptionError};
 use crate::path_list::{DevicePaths, check_paths};
-use std::alloc::Allocator;
+use std::alloc::{AllocError, Allocator};
 use uefi_text::{CString16, FromSliceWithNulError, UnalignedSlice};
 
 /// A boot load option that lies in borrowed bytes. A contract sees it as `entry_of` it.
@@ -144,6 +145,16 @@ impl<'a> LoadOption<'a> {
             FromSliceWithNulError.OutOfMemory) }
     {
         self.description_units().to_cstring16(alloc)
+    }
+
+    /// The description in UTF-8: each pair of surrogates is one character, and U+FFFD stands for each
+    /// surrogate that has no partner (Unicode Standard, section 3.9), so that nothing is refused but
+    /// memory. Takes memory for the units, and for the text as it grows.
+    pub fn description_lossy<A: Allocator + Copy>(&self, alloc: A) -> Result<String<A>, AllocError>
+        ensures { IfOk result (λ text. string_bytes text ≡ lossy_utf8 (entry_of self.now).description) }
+    {
+        let units = self.description.to_vec(alloc)?;
+        String::from_utf16_lossy(alloc, &units[..units.len() - 1])
     }
 
     /// The code units of the description, its NUL included, wherever they lie. They may hold

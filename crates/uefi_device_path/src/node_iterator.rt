@@ -4,7 +4,7 @@
 ghost use Rattle.std.specs.Prelude.{◌≡◌, ℕ, ◌<◌, ◌^◌, length, IsTrue};
 ghost use Rattle.uefi_device_path.specs.Paths.{AreNodes, nodes_in};
 
-use crate::node::DevicePathNode;
+use uefi_device_nodes::DevicePathNode;
 
 /// The nodes of a device path or an instance, in order. A contract sees it as `nodes_left` of it: what
 /// is still to come.
@@ -15,7 +15,8 @@ pub struct DevicePathNodeIterator<'a> {
 }
 
 impl<'a> DevicePathNodeIterator<'a> {
-    ghost use Rattle.uefi_device_path.specs.Views.{node_of, nodes_left};
+    ghost use Rattle.uefi_device_nodes.specs.NodeViews.{node_of};
+    ghost use Rattle.uefi_device_path.specs.Views.{nodes_left};
     ghost use Rattle.uefi_text.specs.Runs.{GivesEach};
 
     /// The nodes that bytes are.
@@ -34,7 +35,8 @@ impl<'a> Iterator for DevicePathNodeIterator<'a> {
     type Item = DevicePathNode<'a>;
 
     ghost use Rattle.std.specs.Iterator.{YieldsFirstBy, item_count};
-    ghost use Rattle.uefi_device_path.specs.Views.{node_of, nodes_left};
+    ghost use Rattle.uefi_device_nodes.specs.NodeViews.{node_of};
+    ghost use Rattle.uefi_device_path.specs.Views.{nodes_left};
 
     ghost next_gives = { YieldsFirstBy node_of nodes_left };
 

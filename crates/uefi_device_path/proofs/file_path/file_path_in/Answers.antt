@@ -2,7 +2,7 @@
 use Rattle.std.proofs.Common.{◌≡◌, ◌≢◌, ◌∙◌, ◌++◌, ap, sym, subst, All, length, arith}
 use Rattle.std.proofs.lemmas.Grind.{common_steps}
 use Rattle.uefi_device_path.specs.FilePaths.{IsReadable, file_path, with_node}
-use Rattle.uefi_device_path.specs.Views.{node_of}
+use Rattle.uefi_device_nodes.specs.NodeViews.{node_of}
 use Rattle.uefi_device_path.proofs.Names.{is_fault, named_all, named_more}
 use Rattle.uefi_device_path.proofs.Splits.{after_first, no_fault-AreNodes}
 use Rattle.uefi_device_path.proofs.file_path.file_path_in.Goals as goal
@@ -19,7 +19,7 @@ returns-in-Err-clause-refusal g c = λ other.
     let node = node_of c.take_first.result.0 in
     let after = c.take_first.result.1.now in
     let named = c.loop-rest.invariant.2.1 in
-    let first = after_first rest after node c.loop-rest.invariant.1 c.take_first.ensures in
+    let first = after_first rest after node c.loop-rest.invariant.1 c.take_first.ensures.split in
     let long = named.long in (
       c.loop-rest.invariant.2.0,
       node,
@@ -41,10 +41,10 @@ loop-rest-preserved g c =
     let after = c.take_first.result.1.now in
     let named = c.loop-rest.invariant.2.1 in
     let are = c.loop-rest.invariant.1 in
-    let first = after_first rest after node are c.take_first.ensures in
+    let first = after_first rest after node are c.take_first.ensures.split in
     let readable : IsReadable node = grind (arith, common_steps) in
     let made : c.add_node.new.path ≡ with_node c.loop-rest.path node = grind (arith, common_steps) in
-    let more = named_more bytes c.loop-rest.invariant.2.0 node rest after c.loop-rest.path c.add_node.new.path named are c.take_first.ensures readable made in
+    let more = named_more bytes c.loop-rest.invariant.2.0 node rest after c.loop-rest.path c.add_node.new.path named are c.take_first.ensures.split readable made in
     let long = more.long in
     (omega (arith, long), first.0, (_, more))
 

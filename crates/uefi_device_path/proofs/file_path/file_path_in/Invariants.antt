@@ -1,5 +1,5 @@
 use Rattle.std.proofs.Common.{◌≤◌, List, length}
-use Rattle.uefi_device_path.specs.Nodes.{Node}
+use Rattle.uefi_device_nodes.specs.Nodes.{Node}
 use Rattle.uefi_device_path.specs.Paths.{AreNodes}
 use Rattle.uefi_device_path.proofs.Names.{Named}
 use Rattle.uefi_device_path.proofs.file_path.file_path_in.Given as goal

@@ -1,5 +1,5 @@
 use Rattle.std.proofs.Common.{◌∙◌, ap, ◌++◌, append_assoc}
-use Rattle.uefi_device_path.specs.Nodes.{end_entire, node_bytes}
+use Rattle.uefi_device_nodes.specs.Nodes.{end_entire, node_bytes}
 use Rattle.uefi_device_path.specs.Paths.{joined}
 use Rattle.uefi_device_path.proofs.Splits.{refused_no_path}
 use Rattle.uefi_device_path.proofs.laws.accepted_paths.Goals as goal

@@ -1,13 +1,12 @@
 -- Before the node that ends the path stand those that were passed.
 use Rattle.std.proofs.Common.{◌≡◌, ◌≢◌, ◌∙◌, ◌++◌, ap, arith}
 use Rattle.std.proofs.lemmas.Grind.{common_steps}
-use Rattle.uefi_device_path.specs.Nodes.{IsInner, end_entire, node_bytes}
-use Rattle.uefi_device_path.specs.Views.{node_of}
+use Rattle.uefi_device_nodes.specs.Nodes.{IsInner, end_entire, node_bytes}
+use Rattle.uefi_device_nodes.specs.NodeViews.{node_of}
 use Rattle.uefi_device_path.proofs.Splits.{begin_long, begin_more, path_front}
 use Rattle.uefi_device_path.proofs.device_path.DevicePath.read.Goals as goal
 
 pub invariant_of-path : goal.invariant_of-path
-unfolding node_of
 invariant_of-path c =
     let bytes = c.args.bytes.now in
     let rest = c.nodes.rest.now in
@@ -18,7 +17,6 @@ invariant_of-path c =
     record { is_path = path_front bytes nodes rest c.in-Ok.after.now begins ends }
 
 pub nodes-preserved : goal.nodes-preserved
-unfolding node_of
 nodes-preserved c =
     let bytes = c.args.bytes.now in
     let rest = c.nodes.rest.now in
@@ -26,7 +24,7 @@ nodes-preserved c =
     let begins = c.nodes.invariant.1.1 in
     let node = c.in-Ok.node in
     let other : node_of node ≢ end_entire = λ e. grind (arith, common_steps) in
-    let inner : IsInner (node_of node) = record { sound = node.sound; not_end = other } in
+    let inner : IsInner (node_of node) = record { sound = c.in-Ok.ensures.sound; not_end = other } in
     let more = begin_more bytes nodes (node_of node) rest c.in-Ok.after.now begins c.in-Ok.ensures.ok inner in
     let long = begin_long bytes _ _ more in
     (omega arith, (_, more))

@@ -1,5 +1,5 @@
 use Rattle.std.proofs.Common.{List, length, ◌≤◌}
-use Rattle.uefi_device_path.specs.Nodes.{Node}
+use Rattle.uefi_device_nodes.specs.Nodes.{Node}
 use Rattle.uefi_device_path.specs.Paths.{BeginWith}
 use Rattle.uefi_device_path.proofs.device_path.DevicePath.read.Given as goal
 

@@ -1,7 +1,8 @@
 use Rattle.std.proofs.Common.{arith}
 use Rattle.std.proofs.lemmas.Grind.{common_steps}
 use Rattle.uefi_device_path.proofs.Runs.{gives_each}
-use Rattle.uefi_device_path.specs.Views.{node_of, nodes_left}
+use Rattle.uefi_device_nodes.specs.NodeViews.{node_of}
+use Rattle.uefi_device_path.specs.Views.{nodes_left}
 use Rattle.uefi_device_path.proofs.Splits.{few-AreNodes}
 use Rattle.uefi_device_path.proofs.node_iterator.DevicePathNodeIterator.of.Goals as goal
 

@@ -2,7 +2,7 @@
 #![tactic(auto)]
 
 ghost use Rattle.std.specs.Prelude.{◌≡◌, drop};
-ghost use Rattle.uefi_device_path.specs.TypedNodes.{number_at};
+ghost use Rattle.uefi_device_nodes.specs.TypedNodes.{number_at};
 
 use crate::typed_node::{NodeKind, TypedNode};
 
@@ -29,7 +29,7 @@ impl NodeKind for AcpiKind {
 pub type Acpi<'a> = TypedNode<'a, AcpiKind>;
 
 impl<'a> TypedNode<'a, AcpiKind> {
-    ghost use Rattle.uefi_device_path.specs.Views.{data_of};
+    ghost use Rattle.uefi_device_nodes.specs.NodeViews.{data_of};
 
     /// The number of its hardware ID, `_HID`.
     pub fn hid(&self) -> u32
@@ -69,7 +69,7 @@ impl NodeKind for ExpandedKind {
 pub type Expanded<'a> = TypedNode<'a, ExpandedKind>;
 
 impl<'a> TypedNode<'a, ExpandedKind> {
-    ghost use Rattle.uefi_device_path.specs.Views.{data_of};
+    ghost use Rattle.uefi_device_nodes.specs.NodeViews.{data_of};
 
     /// The number of its hardware ID, `_HID`.
     pub fn hid(&self) -> u32

@@ -2,7 +2,7 @@
 #![tactic(auto)]
 
 ghost use Rattle.std.specs.Prelude.{◌≡◌, drop};
-ghost use Rattle.uefi_device_path.specs.TypedNodes.{number_at};
+ghost use Rattle.uefi_device_nodes.specs.TypedNodes.{number_at};
 
 use crate::typed_node::{NodeKind, TypedNode};
 
@@ -29,7 +29,7 @@ impl NodeKind for BootSpecificationKind {
 pub type BootSpecification<'a> = TypedNode<'a, BootSpecificationKind>;
 
 impl<'a> TypedNode<'a, BootSpecificationKind> {
-    ghost use Rattle.uefi_device_path.specs.Views.{data_of};
+    ghost use Rattle.uefi_device_nodes.specs.NodeViews.{data_of};
 
     /// The type of the device, by the BIOS Boot Specification.
     pub fn device_type(&self) -> u16

@@ -1,10 +1,10 @@
 //! One node of a device path.
-#![tactic(auto, unfolding(crate::specs::Views::node_of))]
+#![tactic(auto, unfolding(crate::specs::NodeViews::node_of))]
 
 ghost use Rattle.std.specs.Prelude.{◌≡◌, ◌≢◌, ℕ, ◌+◌, ◌<◌, ◌≤◌, ◌^◌, ◌↔◌, ◌++◌, length, IfOk, IsTrue, None};
 ghost use Rattle.std.specs.Result.{result_err};
-ghost use Rattle.uefi_device_path.specs.Faults.{fault_place};
-ghost use Rattle.uefi_device_path.specs.Nodes.{IsSound, end_entire, first_node, node_bytes, node_length};
+ghost use Rattle.uefi_device_nodes.specs.NodeFaults.{fault_place};
+ghost use Rattle.uefi_device_nodes.specs.Nodes.{IsSound, end_entire, first_node, node_bytes, node_length};
 
 use crate::errors::NodeError;
 
@@ -53,8 +53,9 @@ impl DeviceSubType {
     pub const END_ENTIRE: DeviceSubType = DeviceSubType(0xff);
 }
 
-/// Where in a node the bytes begin that are at fault.
-pub(crate) fn fault_place(cause: NodeError) -> usize
+/// Where in a node the bytes begin that are at fault. For device paths alone.
+#[doc(hidden)]
+pub fn fault_place(cause: NodeError) -> usize
     ensures place { result ≡ fault_place cause }
     ensures within { result ≤ 2 }
 {
@@ -75,14 +76,18 @@ pub struct DevicePathNode<'a> {
 }
 
 impl<'a> DevicePathNode<'a> {
-    ghost use Rattle.uefi_device_path.specs.Faults.{node_fault};
-    ghost use Rattle.uefi_device_path.specs.Instances.{is_end_instance};
-    ghost use Rattle.uefi_device_path.specs.Views.{node_of};
+    ghost use Rattle.uefi_device_nodes.specs.NodeFaults.{node_fault};
+    ghost use Rattle.uefi_device_nodes.specs.Nodes.{is_end_instance};
+    ghost use Rattle.uefi_device_nodes.specs.NodeViews.{node_of};
 
-    /// The node that bytes begin with, and the bytes after it, where a node begins.
-    pub(crate) fn take_first(bytes: &'a [u8]) -> (Self, &'a [u8])
+    /// The node that bytes begin with, and the bytes after it, where a node begins. For device paths
+    /// alone, which prove of bytes that nodes begin there; all others have [`DevicePathNode::split_first`],
+    /// which looks.
+    #[doc(hidden)]
+    pub fn take_first(bytes: &'a [u8]) -> (Self, &'a [u8])
         requires { node_fault bytes.now ≡ None }
-        ensures { bytes.now ≡ node_bytes (node_of result.0) ++ result.1.now }
+        ensures split { bytes.now ≡ node_bytes (node_of result.0) ++ result.1.now }
+        ensures sound { IsSound (node_of result.0) }
     {
         let length = u16::from_le_bytes([bytes[2], bytes[3]]) as usize;
         let (node, rest) = bytes.split_at(length);
@@ -94,6 +99,7 @@ impl<'a> DevicePathNode<'a> {
     /// that of the header is one of an end node before it is one beyond the bytes.
     pub fn split_first(bytes: &'a [u8]) -> Result<(Self, &'a [u8]), NodeError>
         ensures ok { IfOk result (λ split. bytes.now ≡ node_bytes (node_of split.0) ++ split.1.now) }
+        ensures sound { IfOk result (λ split. IsSound (node_of split.0)) }
         ensures refusal { result_err result ≡ node_fault bytes.now }
     {
         if bytes.is_empty() {

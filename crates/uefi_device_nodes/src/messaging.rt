@@ -1,8 +1,8 @@
 //! Nodes of type Messaging (UEFI Specification 2.10, section 10.3.4).
 #![tactic(auto)]
 
-ghost use Rattle.std.specs.Prelude.{◌≡◌, drop, slice_range};
-ghost use Rattle.uefi_device_path.specs.TypedNodes.{number_at};
+ghost use Rattle.std.specs.Prelude.{◌≡◌, ◌≤◌, ◌↔◌, IfSome, IsSome, drop, length, slice_range};
+ghost use Rattle.uefi_device_nodes.specs.TypedNodes.{number_at};
 
 use crate::typed_node::{NodeKind, TypedNode};
 
@@ -29,7 +29,7 @@ impl NodeKind for UsbKind {
 pub type Usb<'a> = TypedNode<'a, UsbKind>;
 
 impl<'a> TypedNode<'a, UsbKind> {
-    ghost use Rattle.uefi_device_path.specs.Views.{data_of};
+    ghost use Rattle.uefi_device_nodes.specs.NodeViews.{data_of};
 
     /// The number of the port of its hub.
     pub fn parent_port_number(&self) -> u8
@@ -69,7 +69,7 @@ impl NodeKind for MessagingVendorKind {
 pub type MessagingVendor<'a> = TypedNode<'a, MessagingVendorKind>;
 
 impl<'a> TypedNode<'a, MessagingVendorKind> {
-    ghost use Rattle.uefi_device_path.specs.Views.{data_of};
+    ghost use Rattle.uefi_device_nodes.specs.NodeViews.{data_of};
 
     /// The bytes of the GUID that names the vendor.
     pub fn vendor_guid(&self) -> &'a [u8]
@@ -109,7 +109,7 @@ impl NodeKind for MacAddressKind {
 pub type MacAddress<'a> = TypedNode<'a, MacAddressKind>;
 
 impl<'a> TypedNode<'a, MacAddressKind> {
-    ghost use Rattle.uefi_device_path.specs.Views.{data_of};
+    ghost use Rattle.uefi_device_nodes.specs.NodeViews.{data_of};
 
     /// The address, filled up with zeros.
     pub fn mac_address(&self) -> &'a [u8]
@@ -149,7 +149,7 @@ impl NodeKind for Ipv4Kind {
 pub type Ipv4<'a> = TypedNode<'a, Ipv4Kind>;
 
 impl<'a> TypedNode<'a, Ipv4Kind> {
-    ghost use Rattle.uefi_device_path.specs.Views.{data_of};
+    ghost use Rattle.uefi_device_nodes.specs.NodeViews.{data_of};
 
     /// The local address.
     pub fn local_ip_address(&self) -> &'a [u8]
@@ -192,6 +192,24 @@ impl<'a> TypedNode<'a, Ipv4Kind> {
     {
         self.number(14)
     }
+
+    /// The address of the gateway, or `None` where the node ends before it: nodes of 19 bytes, which
+    /// firmware of before UEFI 2.1 writes, have none.
+    pub fn gateway_ip_address(&self) -> Option<&'a [u8]>
+        ensures some { IsSome result ↔ (19 ≤ length (data_of self.now)) }
+        ensures bytes { IfSome result (λ bytes. bytes.now ≡ slice_range (data_of self.now) 15 19) }
+    {
+        self.later_part(15, 4)
+    }
+
+    /// The mask of the subnet, or `None` where the node ends before it, as [`Ipv4::gateway_ip_address`]
+    /// says.
+    pub fn subnet_mask(&self) -> Option<&'a [u8]>
+        ensures some { IsSome result ↔ (23 ≤ length (data_of self.now)) }
+        ensures bytes { IfSome result (λ bytes. bytes.now ≡ slice_range (data_of self.now) 19 23) }
+    {
+        self.later_part(19, 4)
+    }
 }
 
 /// The kind of [`Ipv6`].
@@ -217,7 +235,7 @@ impl NodeKind for Ipv6Kind {
 pub type Ipv6<'a> = TypedNode<'a, Ipv6Kind>;
 
 impl<'a> TypedNode<'a, Ipv6Kind> {
-    ghost use Rattle.uefi_device_path.specs.Views.{data_of};
+    ghost use Rattle.uefi_device_nodes.specs.NodeViews.{data_of};
 
     /// The local address.
     pub fn local_ip_address(&self) -> &'a [u8]
@@ -299,7 +317,7 @@ impl NodeKind for SataKind {
 pub type Sata<'a> = TypedNode<'a, SataKind>;
 
 impl<'a> TypedNode<'a, SataKind> {
-    ghost use Rattle.uefi_device_path.specs.Views.{data_of};
+    ghost use Rattle.uefi_device_nodes.specs.NodeViews.{data_of};
 
     /// The number of the port of the host bus adapter.
     pub fn hba_port_number(&self) -> u16
@@ -346,7 +364,7 @@ impl NodeKind for NvmeNamespaceKind {
 pub type NvmeNamespace<'a> = TypedNode<'a, NvmeNamespaceKind>;
 
 impl<'a> TypedNode<'a, NvmeNamespaceKind> {
-    ghost use Rattle.uefi_device_path.specs.Views.{data_of};
+    ghost use Rattle.uefi_device_nodes.specs.NodeViews.{data_of};
 
     /// The number of the namespace.
     pub fn namespace_identifier(&self) -> u32
@@ -386,7 +404,7 @@ impl NodeKind for UriKind {
 pub type Uri<'a> = TypedNode<'a, UriKind>;
 
 impl<'a> TypedNode<'a, UriKind> {
-    ghost use Rattle.uefi_device_path.specs.Views.{data_of};
+    ghost use Rattle.uefi_device_nodes.specs.NodeViews.{data_of};
 
     /// The bytes of the URI.
     pub fn value(&self) -> &'a [u8]
@@ -419,7 +437,7 @@ impl NodeKind for SdKind {
 pub type Sd<'a> = TypedNode<'a, SdKind>;
 
 impl<'a> TypedNode<'a, SdKind> {
-    ghost use Rattle.uefi_device_path.specs.Views.{data_of};
+    ghost use Rattle.uefi_device_nodes.specs.NodeViews.{data_of};
 
     /// The number of the slot.
     pub fn slot_number(&self) -> u8
@@ -452,7 +470,7 @@ impl NodeKind for EmmcKind {
 pub type Emmc<'a> = TypedNode<'a, EmmcKind>;
 
 impl<'a> TypedNode<'a, EmmcKind> {
-    ghost use Rattle.uefi_device_path.specs.Views.{data_of};
+    ghost use Rattle.uefi_device_nodes.specs.NodeViews.{data_of};
 
     /// The number of the slot.
     pub fn slot_number(&self) -> u8

@@ -1,9 +1,9 @@
 -- Nodes whose data have fields at fixed places.
 use Rattle.std.specs.Prelude.{◌≡◌, ℕ, ◌+◌, ◌≤◌, ◌==◌, ◌&&◌, nat_lt, if◌then◌else◌, List, length, slice_range, Option, Some, None}
 use Rattle.uefi_text.specs.Packed.{little_endian}
-use Rattle.uefi_device_path.specs.Nodes.{Node}
-use Rattle.uefi_device_path.specs.declared.errors.NodeConversionError.{NodeConversionError}
-use Rattle.uefi_device_path.specs.declared.errors.NodeConversionError.TheVariants.{DifferentType, InvalidLength}
+use Rattle.uefi_device_nodes.specs.Nodes.{Node}
+use Rattle.uefi_device_nodes.specs.declared.errors.NodeConversionError.{NodeConversionError}
+use Rattle.uefi_device_nodes.specs.declared.errors.NodeConversionError.TheVariants.{DifferentType, InvalidLength}
 
 -- a node of a kind: of its type, its sub-type, and at least `least` bytes of data
 pub record IsOfKind (kind sub_kind least : ℕ) (node : Node) : Type 0 where

@@ -1,5 +1,5 @@
 -- Device path nodes and their bytes (UEFI Specification 2.10, section 10.3.1).
-use Rattle.std.specs.Prelude.{◌≡◌, ◌≢◌, ℕ, ◌+◌, ◌*◌, ◌/◌, ◌%◌, List, [], ◌∷◌, length, take, drop, slice_index}
+use Rattle.std.specs.Prelude.{◌≡◌, ◌≢◌, ℕ, ◌+◌, ◌*◌, ◌/◌, ◌%◌, Bool, ◌==◌, ◌&&◌, List, [], ◌∷◌, length, take, drop, slice_index}
 
 -- a node: its type, its sub-type and its data
 pub record Node : Type 0 where
@@ -45,3 +45,7 @@ first_node bytes = record {
   sub_type = slice_index bytes 1;
   content = drop 4 (take (stated_length bytes) bytes);
 }
+
+-- the test for the node that ends an instance
+abbrev pub is_end_instance : Node → Bool
+is_end_instance node = (node.device_type == 0x7f) && (node.sub_type == 0x01)

@@ -1,8 +1,8 @@
 use Rattle.std.proofs.Common.{◌≡◌, subst, sym, take, arith}
 use Rattle.std.proofs.lemmas.Grind.{common_steps}
-use Rattle.uefi_device_path.specs.Nodes.{IsSound, first_node, stated_length}
-use Rattle.uefi_device_path.proofs.Splits.{take_sound}
-use Rattle.uefi_device_path.proofs.node.DevicePathNode.take_first.Goals as goal
+use Rattle.uefi_device_nodes.specs.Nodes.{IsSound, first_node, stated_length}
+use Rattle.uefi_device_nodes.proofs.SoundNodes.{take_sound}
+use Rattle.uefi_device_nodes.proofs.node.DevicePathNode.take_first.Goals as goal
 
 pub invariant_of-result-clause-sound : goal.invariant_of-result-clause-sound
 invariant_of-result-clause-sound c =

@@ -2,7 +2,7 @@
 #![tactic(auto)]
 
 ghost use Rattle.std.specs.Prelude.{◌≡◌, drop, slice_range};
-ghost use Rattle.uefi_device_path.specs.TypedNodes.{number_at};
+ghost use Rattle.uefi_device_nodes.specs.TypedNodes.{number_at};
 
 use crate::typed_node::{NodeKind, TypedNode};
 
@@ -29,7 +29,7 @@ impl NodeKind for PciKind {
 pub type Pci<'a> = TypedNode<'a, PciKind>;
 
 impl<'a> TypedNode<'a, PciKind> {
-    ghost use Rattle.uefi_device_path.specs.Views.{data_of};
+    ghost use Rattle.uefi_device_nodes.specs.NodeViews.{data_of};
 
     /// The number of the function.
     pub fn function(&self) -> u8
@@ -69,7 +69,7 @@ impl NodeKind for HardwareVendorKind {
 pub type HardwareVendor<'a> = TypedNode<'a, HardwareVendorKind>;
 
 impl<'a> TypedNode<'a, HardwareVendorKind> {
-    ghost use Rattle.uefi_device_path.specs.Views.{data_of};
+    ghost use Rattle.uefi_device_nodes.specs.NodeViews.{data_of};
 
     /// The bytes of the GUID that names the vendor.
     pub fn vendor_guid(&self) -> &'a [u8]

@@ -1,9 +1,9 @@
 //! What all nodes have in common whose data have fields at fixed places.
-#![tactic(auto, unfolding(crate::specs::Views::node_of, crate::specs::Views::data_of))]
+#![tactic(auto, unfolding(crate::specs::NodeViews::node_of, crate::specs::NodeViews::data_of))]
 
-ghost use Rattle.std.specs.Prelude.{◌≡◌, ℕ, ◌+◌, ◌≤◌, ◌<◌, ◌↔◌, drop, length, slice_range, IfOk, IsOk, None};
+ghost use Rattle.std.specs.Prelude.{◌≡◌, ℕ, ◌+◌, ◌≤◌, ◌<◌, ◌^◌, ◌↔◌, drop, length, slice_range, IfOk, IfSome, IsOk, IsSome, None};
 ghost use Rattle.std.specs.Result.{result_err};
-ghost use Rattle.uefi_device_path.specs.TypedNodes.{IsOfKind, kind_refusal, number_at};
+ghost use Rattle.uefi_device_nodes.specs.TypedNodes.{IsOfKind, kind_refusal, number_at};
 
 use crate::errors::NodeConversionError;
 use crate::node::DevicePathNode;
@@ -41,7 +41,7 @@ pub struct TypedNode<'a, K: NodeKind> {
 }
 
 impl<'a, K: NodeKind> TypedNode<'a, K> {
-    ghost use Rattle.uefi_device_path.specs.Views.{data_of, node_of};
+    ghost use Rattle.uefi_device_nodes.specs.NodeViews.{data_of, node_of};
 
     /// The node as one of this kind. Refused as `DifferentType` where its type or its sub-type is
     /// another, and then as `InvalidLength` where it has fewer bytes of data than each of the kind.
@@ -85,6 +85,19 @@ impl<'a, K: NodeKind> TypedNode<'a, K> {
         ensures { result.now ≡ slice_range (data_of self.now) place (place + len) }
     {
         &self.data[place..place + len]
+    }
+
+    /// The bytes from a place on, or `None` where the data end before the last of them.
+    pub(crate) fn later_part(&self, place: usize, len: usize) -> Option<&'a [u8]>
+        requires { place + len < 2 ^ 64 }
+        ensures some { IsSome result ↔ (place + len ≤ length (data_of self.now)) }
+        ensures bytes { IfSome result (λ bytes.
+            bytes.now ≡ slice_range (data_of self.now) place (place + len)) }
+    {
+        if self.data.len() < place + len {
+            return None;
+        }
+        Some(&self.data[place..place + len])
     }
 
     /// All bytes from a place on.

@@ -1,11 +1,11 @@
 //! Nodes of type Media (UEFI Specification 2.10, section 10.3.5).
-#![tactic(auto, unfolding(crate::specs::Views::file_node, crate::specs::Views::node_of))]
+#![tactic(auto, unfolding(crate::specs::NodeViews::file_node, crate::specs::NodeViews::node_of))]
 
 ghost use Rattle.std.specs.Prelude.{◌≡◌, ℕ, ◌↔◌, IfOk, IfErr, IsOk, None, drop, length, slice_range};
 ghost use Rattle.std.specs.Result.{result_err};
-ghost use Rattle.uefi_device_path.specs.Nodes.{first_node};
-ghost use Rattle.uefi_device_path.specs.FilePaths.{IsFilePath};
-ghost use Rattle.uefi_device_path.specs.TypedNodes.{number_at};
+ghost use Rattle.uefi_device_nodes.specs.Nodes.{first_node};
+ghost use Rattle.uefi_device_nodes.specs.FileNodes.{IsFilePath};
+ghost use Rattle.uefi_device_nodes.specs.TypedNodes.{number_at};
 ghost use Rattle.uefi_text.specs.UnitBytes.{unit_bytes, units_of_bytes};
 
 use crate::errors::NodeConversionError;
@@ -21,9 +21,9 @@ pub struct FilePath<'a> {
 }
 
 impl<'a> FilePath<'a> {
-    ghost use Rattle.uefi_device_path.specs.FilePaths.{file_path_refusal};
+    ghost use Rattle.uefi_device_nodes.specs.FileNodes.{file_path_refusal};
     ghost use Rattle.uefi_text.specs.Views.{items_of};
-    ghost use Rattle.uefi_device_path.specs.Views.{node_of, file_node};
+    ghost use Rattle.uefi_device_nodes.specs.NodeViews.{node_of, file_node};
 
     /// The node as one that names a file. Refused as `DifferentType` where its type or its sub-type is
     /// another, and then as `InvalidLength` where its data are odd in number.
@@ -75,7 +75,7 @@ impl NodeKind for HardDriveKind {
 pub type HardDrive<'a> = TypedNode<'a, HardDriveKind>;
 
 impl<'a> TypedNode<'a, HardDriveKind> {
-    ghost use Rattle.uefi_device_path.specs.Views.{data_of};
+    ghost use Rattle.uefi_device_nodes.specs.NodeViews.{data_of};
 
     /// The number of the partition, from 1 on; 0 is the whole drive.
     pub fn partition_number(&self) -> u32
@@ -143,7 +143,7 @@ impl NodeKind for CdRomKind {
 pub type CdRom<'a> = TypedNode<'a, CdRomKind>;
 
 impl<'a> TypedNode<'a, CdRomKind> {
-    ghost use Rattle.uefi_device_path.specs.Views.{data_of};
+    ghost use Rattle.uefi_device_nodes.specs.NodeViews.{data_of};
 
     /// The number of the entry in the boot catalog.
     pub fn boot_entry(&self) -> u32
@@ -190,7 +190,7 @@ impl NodeKind for MediaVendorKind {
 pub type MediaVendor<'a> = TypedNode<'a, MediaVendorKind>;
 
 impl<'a> TypedNode<'a, MediaVendorKind> {
-    ghost use Rattle.uefi_device_path.specs.Views.{data_of};
+    ghost use Rattle.uefi_device_nodes.specs.NodeViews.{data_of};
 
     /// The bytes of the GUID that names the vendor.
     pub fn vendor_guid(&self) -> &'a [u8]
@@ -230,7 +230,7 @@ impl NodeKind for FirmwareFileKind {
 pub type FirmwareFile<'a> = TypedNode<'a, FirmwareFileKind>;
 
 impl<'a> TypedNode<'a, FirmwareFileKind> {
-    ghost use Rattle.uefi_device_path.specs.Views.{data_of};
+    ghost use Rattle.uefi_device_nodes.specs.NodeViews.{data_of};
 
     /// The bytes of the GUID that names the file.
     pub fn file_name(&self) -> &'a [u8]
@@ -263,7 +263,7 @@ impl NodeKind for FirmwareVolumeKind {
 pub type FirmwareVolume<'a> = TypedNode<'a, FirmwareVolumeKind>;
 
 impl<'a> TypedNode<'a, FirmwareVolumeKind> {
-    ghost use Rattle.uefi_device_path.specs.Views.{data_of};
+    ghost use Rattle.uefi_device_nodes.specs.NodeViews.{data_of};
 
     /// The bytes of the GUID that names the volume.
     pub fn volume_name(&self) -> &'a [u8]
@@ -296,7 +296,7 @@ impl NodeKind for RamDiskKind {
 pub type RamDisk<'a> = TypedNode<'a, RamDiskKind>;
 
 impl<'a> TypedNode<'a, RamDiskKind> {
-    ghost use Rattle.uefi_device_path.specs.Views.{data_of};
+    ghost use Rattle.uefi_device_nodes.specs.NodeViews.{data_of};
 
     /// The address of its first byte.
     pub fn starting_address(&self) -> u64

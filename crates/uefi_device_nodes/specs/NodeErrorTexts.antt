@@ -1,0 +1,20 @@
+-- What is printed where no node stands at a place, and where a node is not of a kind.
+use Rattle.std.specs.Prelude.{ℕ, List, codes}
+use Rattle.uefi_device_nodes.specs.declared.errors.NodeError.{NodeError}
+use Rattle.uefi_device_nodes.specs.declared.errors.NodeError.TheVariants as node
+use Rattle.uefi_device_nodes.specs.declared.errors.NodeConversionError.{NodeConversionError}
+use Rattle.uefi_device_nodes.specs.declared.errors.NodeConversionError.TheVariants as conversion
+
+-- what is printed of the cause for which no node stands at a place
+abbrev pub node_error_text : NodeError → List ℕ
+node_error_text node.Missing = codes "no end node ends the path"
+node_error_text node.TruncatedHeader = codes "a node's header is cut"
+node_error_text node.UnknownEnd = codes "an end node ends neither a path nor an instance"
+node_error_text node.LengthBelowHeader = codes "a node's length is less than its header's"
+node_error_text node.EndWithData = codes "an end node's length is more than its header's"
+node_error_text node.BeyondEnd = codes "a node's length is more than the bytes have left"
+
+-- what is printed where a node is not of a kind
+abbrev pub node_conversion_error_text : NodeConversionError → List ℕ
+node_conversion_error_text conversion.DifferentType = codes "the node is of another type or sub-type"
+node_conversion_error_text conversion.InvalidLength = codes "no node of this kind has this length"

@@ -1,0 +1,19 @@
+-- What a borrowed node shows. Other crates see these words alone, and no field.
+use Rattle.std.specs.Prelude.{ℕ, List}
+use Rattle.uefi_device_nodes.specs.Nodes.{Node, first_node}
+use Rattle.uefi_device_nodes.specs.declared.node.DevicePathNode.{DevicePathNode}
+use Rattle.uefi_device_nodes.specs.declared.typed_node.TypedNode.{TypedNode}
+use Rattle.uefi_device_nodes.specs.declared.media.FilePath.{FilePath}
+
+-- the node that a view shows
+unfoldable pub node_of : DevicePathNode → Node
+node_of node = first_node node.bytes.now
+
+-- the node that names a file
+unfoldable pub file_node : FilePath → Node
+file_node path = node_of path.node
+
+module _ {K : Type 0} {P : _} where
+  -- the data of a node of a kind
+  unfoldable pub data_of : TypedNode K P → List ℕ
+  data_of node = node.data.now

@@ -1,0 +1,67 @@
+//! Why no node stands at a place, and why a node is not of a kind.
+use std::error::Error;
+use std::fmt;
+
+/// Why no node of a device path stands at a place.
+#[derive(Clone, Copy, Debug, PartialEq, Eq)]
+pub enum NodeError {
+    /// The bytes end where a node has to begin: no end node ends the path.
+    Missing,
+    /// The bytes end within the four bytes of a header.
+    TruncatedHeader,
+    /// A node of type End has a sub-type that ends neither a path nor an instance.
+    UnknownEnd,
+    /// The header states a length below four, which its own bytes have.
+    LengthBelowHeader,
+    /// The header of a node of type End states a length above four.
+    EndWithData,
+    /// The header states a length beyond the end of the bytes.
+    BeyondEnd,
+}
+
+/// Prints what is wrong, in words.
+impl fmt::Display for NodeError {
+    ghost use Rattle.std.specs.Prelude.{Some};
+    ghost use Rattle.uefi_device_nodes.specs.NodeErrorTexts.{node_error_text};
+
+    ghost output = { λ error. Some (node_error_text error) };
+
+    fn fmt<W: fmt::Write>(&self, f: &mut fmt::Formatter<W>) -> fmt::Result {
+        match self {
+            Self::Missing => write!(f, "no end node ends the path"),
+            Self::TruncatedHeader => write!(f, "a node's header is cut"),
+            Self::UnknownEnd => write!(f, "an end node ends neither a path nor an instance"),
+            Self::LengthBelowHeader => write!(f, "a node's length is less than its header's"),
+            Self::EndWithData => write!(f, "an end node's length is more than its header's"),
+            Self::BeyondEnd => write!(f, "a node's length is more than the bytes have left"),
+        }
+    }
+}
+
+impl Error for NodeError {}
+
+/// Why a node is not of a kind.
+#[derive(Clone, Copy, Debug, PartialEq, Eq)]
+pub enum NodeConversionError {
+    /// Its type or its sub-type is another.
+    DifferentType,
+    /// Its data has a length that none of its kind has.
+    InvalidLength,
+}
+
+/// Prints what is wrong, in words.
+impl fmt::Display for NodeConversionError {
+    ghost use Rattle.std.specs.Prelude.{Some};
+    ghost use Rattle.uefi_device_nodes.specs.NodeErrorTexts.{node_conversion_error_text};
+
+    ghost output = { λ error. Some (node_conversion_error_text error) };
+
+    fn fmt<W: fmt::Write>(&self, f: &mut fmt::Formatter<W>) -> fmt::Result {
+        match self {
+            Self::DifferentType => write!(f, "the node is of another type or sub-type"),
+            Self::InvalidLength => write!(f, "no node of this kind has this length"),
+        }
+    }
+}
+
+impl Error for NodeConversionError {}

@@ -1,0 +1,22 @@
+//! The layer of `uefi_device_path` below device paths: one node of a path, and the kinds of nodes.
+//!
+//! Callers use `uefi_device_path`, which re-exports what they need: [`DevicePathNode`], the numbers of its
+//! type and its sub-type, the modules of kinds, and the reasons for which bytes are no node, and a node is
+//! of no kind. Two calls are public for the layer above alone, and hidden from the documentation.
+//!
+//! Contracts here speak of one node, a record of its type, its sub-type and its data, which a view shows as
+//! `node_of` it, and of data of a node of a kind, `data_of` it. No call takes memory.
+#![tactic(auto)]
+
+pub mod acpi;
+pub mod bios_boot_spec;
+pub mod errors;
+pub mod hardware;
+pub mod media;
+pub mod messaging;
+pub mod node;
+pub mod typed_node;
+
+pub use errors::{NodeConversionError, NodeError};
+pub use node::{DevicePathNode, DeviceSubType, DeviceType};
+pub use typed_node::{NodeKind, TypedNode};

@@ -1,0 +1,86 @@
+-- The bytes of device paths, one after the other, and of a whole load option.
+use Rattle.std.proofs.Common.{◌≡◌, ◌≢◌, ◌∙◌, ap, sym, refl, inl, inr, ℕ, ◌+◌, ◌*◌, ◌/◌, ◌%◌, ◌<◌, ◌≤◌, List, [], ◌∷◌, ◌++◌, All, None, length, map, take, drop, get_or, length-append, arith}
+use Rattle.std.specs.Prelude.{position}
+use Rattle.std.proofs.lemmas.Bool.{cases_Bool}
+use Rattle.std.proofs.lemmas.Grind.{common_steps}
+use Rattle.std.proofs.lemmas.List.{take-append-drop, take_all, take_more}
+use Rattle.std.proofs.lemmas.List.Elements.{All-cons, All-nil}
+use Rattle.uefi_text.specs.UnitBytes.{unit_bytes}
+use Rattle.uefi_text.specs.Units.{is_nul, nul_terminated}
+use Rattle.uefi_device_nodes.specs.Nodes.{IsInner}
+use Rattle.uefi_device_path.specs.LoadOptions.{Entry, entry_bytes}
+use Rattle.uefi_device_path.specs.PathLists.{ArePaths, list_bytes}
+use Rattle.uefi_device_path.specs.Paths.{path_bytes}
+use Rattle.uefi_device_path.specs.Views.{nodes_of}
+use Rattle.uefi_device_path.specs.declared.device_path.DevicePath.{DevicePath}
+
+pub long-unit_bytes : (us : List ℕ) → length (unit_bytes us) ≡ 2 * length us
+long-unit_bytes [] = refl
+long-unit_bytes (u ∷ us) = let others = long-unit_bytes us in omega (arith, others)
+
+pub unit_bytes-append : (us vs : List ℕ) → unit_bytes (us ++ vs) ≡ unit_bytes us ++ unit_bytes vs
+unit_bytes-append [] vs = refl
+unit_bytes-append (u ∷ us) vs = ap (λ bytes. u % 256 ∷ u / 256 ∷ bytes) (unit_bytes-append us vs)
+
+-- how many bytes a load option has
+pub long-entry_bytes : (entry : Entry) → length (entry_bytes entry)
+    ≡ 8 + 2 * length entry.description + length (list_bytes entry.paths) + length entry.optional
+long-entry_bytes entry =
+    let text = long-unit_bytes (nul_terminated entry.description) in
+    let units = length-append entry.description (0 ∷ []) in
+    let tail = length-append (list_bytes entry.paths) entry.optional in
+    let rest = length-append (unit_bytes (nul_terminated entry.description)) (list_bytes entry.paths ++ entry.optional) in
+    omega (arith, text, units, tail, rest)
+
+-- the bytes of the first paths
+pub front_bytes : List DevicePath → ℕ → List ℕ
+front_bytes paths count = list_bytes (map nodes_of (take count paths))
+
+pub front_none : (paths : List DevicePath) → front_bytes paths 0 ≡ []
+unfolding front_bytes
+front_none paths = refl
+
+pub front_all : (paths : List DevicePath) (count : ℕ) → length paths ≤ count → front_bytes paths count ≡ list_bytes (map nodes_of paths)
+unfolding front_bytes
+front_all paths count all = ap (λ ps. list_bytes (map nodes_of ps)) (take_all count paths all)
+
+pub front_more : (paths : List DevicePath) (count : ℕ) (path : DevicePath) (bytes : List ℕ) → count < length paths
+    → path ≡ get_or paths count path → bytes ≡ path_bytes (nodes_of path)
+    → front_bytes paths (count + 1) ≡ front_bytes paths count ++ bytes
+unfolding front_bytes
+front_more paths count path bytes within is shown =
+    let one : take (count + 1) paths ≡ take count paths ++ path ∷ [] = take_more paths count path within ∙ ap (λ p. take count paths ++ p ∷ []) (sym is) in
+    let last : list_bytes (map nodes_of (take count paths ++ path ∷ [])) ≡ list_bytes (map nodes_of (take count paths)) ++ path_bytes (nodes_of path) = grind (arith, common_steps) in
+    ap (λ ps. list_bytes (map nodes_of ps)) one ∙ last ∙ ap (λ k. list_bytes (map nodes_of (take count paths)) ++ k) (sym shown)
+
+pub long_more : (paths : List DevicePath) (count : ℕ) (path : DevicePath) (bytes : List ℕ) → count < length paths
+    → path ≡ get_or paths count path → bytes ≡ path_bytes (nodes_of path)
+    → length (front_bytes paths (count + 1)) ≡ length (front_bytes paths count) + length bytes
+long_more paths count path bytes within is shown =
+    ap length (front_more paths count path bytes within is shown) ∙ length-append (front_bytes paths count) bytes
+
+pub front_within : (paths : List DevicePath) (count : ℕ) → length (front_bytes paths count) ≤ length (list_bytes (map nodes_of paths))
+unfolding front_bytes
+front_within paths count =
+    let split : list_bytes (map nodes_of paths) ≡ front_bytes paths count ++ list_bytes (map nodes_of (drop count paths)) =
+    ap (λ ps. list_bytes (map nodes_of ps)) (sym (take-append-drop count paths)) ∙ grind (arith, common_steps) in
+    let long = ap length split ∙ length-append (front_bytes paths count) (list_bytes (map nodes_of (drop count paths))) in
+    omega (arith, long)
+
+-- where no NUL was found there is none
+pub no_nul : (units : List ℕ) → position is_nul units ≡ None → All (λ unit. unit ≢ 0) units
+no_nul [] none = All-nil (λ unit. unit ≢ 0)
+no_nul (u ∷ units) none = elim (cases_Bool (is_nul u)) [
+  | inl nul ↦ absurd (grind (arith, common_steps))
+  | inr other ↦ All-cons (λ unit. unit ≢ 0) u units (λ e. grind (arith, common_steps)) (no_nul units (grind (arith, common_steps)))
+]
+
+-- the nodes of device paths may stand before an end
+pub paths_are : (paths : List DevicePath) → ArePaths (map nodes_of paths)
+unfolding nodes_of
+paths_are [] = All-nil (All IsInner)
+paths_are (path ∷ paths) = All-cons (All IsInner) (nodes_of path) (map nodes_of paths) path.is_path.nodes.inner (paths_are paths)
+
+pub some_paths : (paths : List DevicePath) → length paths ≢ 0 → map nodes_of paths ≢ []
+some_paths [] some e = some refl
+some_paths (path ∷ paths) some e = absurd (cc)

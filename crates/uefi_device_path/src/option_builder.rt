@@ -1,0 +1,204 @@
+//! Load options that are written, into a caller's buffer or into memory.
+#![tactic(auto, unfolding(crate::specs::Views::fields_of))]
+
+ghost use Rattle.std.specs.Prelude.{◌≡◌, ℕ, ◌+◌, ◌*◌, ◌<◌, ◌≤◌, ◌++◌, List, length, map, IfOk, IfErr, IfSome, IsNone, None, unwrap_or};
+ghost use Rattle.std.specs.Result.{result_err};
+ghost use Rattle.uefi_text.specs.UnitBytes.{unit_bytes};
+ghost use Rattle.uefi_text.specs.Units.{nul_terminated};
+ghost use Rattle.uefi_device_path.specs.PathLists.{list_bytes};
+ghost use Rattle.uefi_device_path.specs.LoadOptions.{Entry, IsEntry, entry_bytes, four_bytes, two_bytes};
+ghost use Rattle.uefi_device_path.specs.OptionBuilding.{fields_fault, option_over, write_fault};
+ghost use Rattle.uefi_device_path.specs.Views.{nodes_of};
+
+use crate::device_path::DevicePath;
+use crate::errors::OptionBuildError;
+use std::alloc::Allocator;
+use uefi_text_encodings::scans::{find_nul, split};
+
+/// The longest file path list that the header of a load option can state.
+const LONGEST_LIST: usize = 0xffff;
+
+/// How many bytes device paths have together, or `None` where these are more than a header can state.
+fn list_length(paths: &[DevicePath<'_>]) -> Option<usize>
+    ensures len { IfSome result (λ len. len ≡ length (list_bytes (map nodes_of paths.now))) }
+    ensures within { IfSome result (λ len. len ≤ 0xffff) }
+    ensures beyond { IsNone result → 0xffff < length (list_bytes (map nodes_of paths.now)) }
+{
+    let mut len = 0;
+    for place in 0..paths.len() {
+        let more = paths[place].as_bytes().len();
+        if LONGEST_LIST - len < more {
+            return None;
+        }
+        len += more;
+    }
+    Some(len)
+}
+
+/// Writes the attributes, and the length of the file path list.
+fn put_header(bytes: &mut [u8], attributes: u32, list: usize)
+    requires room { length bytes.now ≡ 6 }
+    requires stated { list ≤ 0xffff }
+    ensures { bytes.new ≡ four_bytes attributes ++ two_bytes list }
+{
+    bytes.copy_from_slice(&[
+        (attributes % 256) as u8,
+        (attributes / 256 % 256) as u8,
+        (attributes / 65536 % 256) as u8,
+        (attributes / 16777216) as u8,
+        (list % 256) as u8,
+        (list / 256) as u8,
+    ]);
+}
+
+/// Writes the units of a description, and its NUL.
+fn put_description(bytes: &mut [u8], units: &[u16])
+    requires { length bytes.now ≡ 2 * length units.now + 2 }
+    ensures { bytes.new ≡ unit_bytes (nul_terminated units.now) }
+{
+    let (text, nul) = bytes.split_at_mut(2 * units.len());
+    split(text, units);
+    nul.copy_from_slice(&[0, 0]);
+}
+
+/// Writes device paths, one after the other.
+fn put_paths(bytes: &mut [u8], paths: &[DevicePath<'_>])
+    requires { length bytes.now ≡ length (list_bytes (map nodes_of paths.now)) }
+    ensures { bytes.new ≡ list_bytes (map nodes_of paths.now) }
+{
+    let mut start = 0;
+    for place in 0..paths.len() {
+        let path = paths[place].as_bytes();
+        let end = start + path.len();
+        bytes[start..end].copy_from_slice(path);
+        start = end;
+    }
+}
+
+/// The fields of a load option that is written (UEFI Specification 2.10, section 3.1.3). A contract sees
+/// them as `fields_of` them: the load option.
+#[derive(Clone, Copy)]
+pub struct LoadOptionBuilder<'a> {
+    attributes: u32,
+    description: &'a [u16],
+    paths: &'a [DevicePath<'a>],
+    optional: &'a [u8],
+}
+
+/// How many bytes the file path list and the whole load option have.
+#[derive(Clone, Copy)]
+struct Lengths {
+    list: usize,
+    whole: usize,
+}
+
+impl<'a> LoadOptionBuilder<'a> {
+    ghost use Rattle.uefi_device_path.specs.Views.{fields_of};
+
+    /// These fields: the attributes; the code units of the description, without NUL, as
+    /// [`CStr16::to_u16_slice`](uefi_text::CStr16::to_u16_slice) has them; the device paths of the file path
+    /// list, in order; and the bytes after it. Nothing is tested before the load option is written.
+    pub fn new(
+        attributes: u32,
+        description: &'a [u16],
+        paths: &'a [DevicePath<'a>],
+        optional: &'a [u8],
+    ) -> Self
+        ensures attributes { (fields_of result).attributes ≡ attributes }
+        ensures description { (fields_of result).description ≡ description.now }
+        ensures paths { (fields_of result).paths ≡ map nodes_of paths.now }
+        ensures optional { (fields_of result).optional ≡ optional.now }
+    {
+        LoadOptionBuilder {
+            attributes,
+            description,
+            paths,
+            optional,
+        }
+    }
+
+    /// How long the list and the whole are, where the fields are a load option that can be written.
+    fn lengths(&self) -> Result<Lengths, OptionBuildError>
+        ensures list { IfOk result (λ lengths. lengths.list ≡ length (list_bytes (fields_of self.now).paths)) }
+        ensures stated { IfOk result (λ lengths. lengths.list ≤ 0xffff) }
+        ensures whole { IfOk result (λ lengths. lengths.whole ≡ length (entry_bytes (fields_of self.now))) }
+        ensures entry { IfOk result (λ _. IsEntry (fields_of self.now)) }
+        ensures refusal { result_err result ≡ fields_fault (fields_of self.now) }
+    {
+        if let Some(place) = find_nul(self.description) {
+            return Err(OptionBuildError::NulInDescription(place));
+        }
+        if self.paths.is_empty() {
+            return Err(OptionBuildError::EmptyList);
+        }
+        let Some(list) = list_length(self.paths) else {
+            return Err(OptionBuildError::ListTooLong);
+        };
+        let before = 8 + 2 * self.description.len() + list;
+        match before.checked_add(self.optional.len()) {
+            Some(whole) => Ok(Lengths { list, whole }),
+            None => Err(OptionBuildError::TooLong),
+        }
+    }
+
+    /// Writes the load option into as many bytes as it has.
+    fn put(&self, bytes: &mut [u8], list: usize)
+        requires list { list ≡ length (list_bytes (fields_of self.now).paths) }
+        requires stated { list ≤ 0xffff }
+        requires whole { length bytes.now ≡ length (entry_bytes (fields_of self.now)) }
+        ensures { bytes.new ≡ entry_bytes (fields_of self.now) }
+    {
+        let (header, described) = bytes.split_at_mut(6);
+        put_header(header, self.attributes, list);
+        let (description, rest) = described.split_at_mut(2 * self.description.len() + 2);
+        put_description(description, self.description);
+        let (listed, optional) = rest.split_at_mut(list);
+        put_paths(listed, self.paths);
+        optional.copy_from_slice(self.optional);
+    }
+
+    /// Writes the load option to the start of a buffer, and returns how many bytes it has. What follows
+    /// it is unchanged. [`LoadOption::from_bytes`](crate::LoadOption::from_bytes) of these bytes gives the
+    /// same fields, and the fields of what it gave are written as the same bytes.
+    ///
+    /// Refused for the first of these: a NUL in the description, no device path, a file path list of more
+    /// than 65,535 bytes, a length that is no `usize`, and a buffer of fewer bytes, with the length that it
+    /// needs. The buffer is then unchanged. Takes no memory; two passes over the device paths.
+    pub fn write(&self, buffer: &mut [u8]) -> Result<usize, OptionBuildError>
+        ensures ok { IfOk result (λ len. len ≡ length (entry_bytes (fields_of self.now))) }
+        ensures entry { IfOk result (λ _. IsEntry (fields_of self.now)) }
+        ensures refusal { result_err result ≡ write_fault (fields_of self.now) (length buffer.old) }
+        ensures buffer { buffer.new ≡ option_over (fields_of self.now) buffer.old }
+    {
+        let lengths = match self.lengths() {
+            Ok(lengths) => lengths,
+            Err(error) => return Err(error),
+        };
+        if buffer.len() < lengths.whole {
+            return Err(OptionBuildError::BufferTooSmall(lengths.whole));
+        }
+        self.put(&mut buffer[..lengths.whole], lengths.list);
+        Ok(lengths.whole)
+    }
+
+    /// The bytes of the load option, in memory of their own. Refused as [`LoadOptionBuilder::write`]
+    /// refuses the fields, and then as `OutOfMemory`. One request for memory, of the size of the load
+    /// option.
+    pub fn to_vec<A: Allocator>(&self, alloc: A) -> Result<Vec<u8, A>, OptionBuildError>
+        ensures ok { IfOk result (λ bytes. bytes.items ≡ entry_bytes (fields_of self.now)) }
+        ensures entry { IfOk result (λ _. IsEntry (fields_of self.now)) }
+        ensures accepted { IfOk result (λ _. fields_fault (fields_of self.now) ≡ None) }
+        ensures refusal { IfErr result (λ error. error
+            ≡ unwrap_or (fields_fault (fields_of self.now)) OptionBuildError.OutOfMemory) }
+    {
+        let lengths = match self.lengths() {
+            Ok(lengths) => lengths,
+            Err(error) => return Err(error),
+        };
+        let Ok(mut bytes) = Vec::from_elem(alloc, 0u8, lengths.whole) else {
+            return Err(OptionBuildError::OutOfMemory);
+        };
+        self.put(bytes.as_mut_slice(), lengths.list);
+        Ok(bytes)
+    }
+}
