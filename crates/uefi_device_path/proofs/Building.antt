@@ -1,6 +1,9 @@
 -- A device path that grows.
-use Rattle.std.proofs.Common.{◌≡◌, ◌∙◌, ap, sym, refl, ℕ, List, [], ◌∷◌, ◌++◌, None, length, append_assoc, arith}
+use borrow.Rule.Slice.PartMut.{put_mid}
+use Rattle.std.proofs.Common.{◌≡◌, ◌∙◌, ap, sym, refl, ℕ, ◌+◌, ◌-◌, ◌/◌, ◌%◌, ◌≤◌, take, drop, length-append, List, [], ◌∷◌, ◌++◌, None, length, append_assoc, arith}
 use Rattle.std.proofs.lemmas.Grind.{common_steps}
+use Rattle.std.proofs.lemmas.List.{take-take}
+use Rattle.std.proofs.lemmas.Slice.{take-put_mid}
 use Rattle.std.proofs.lemmas.List.Elements.{All-append, All-cons, All-nil}
 use Rattle.uefi_device_nodes.specs.Nodes.{Node, IsInner, node_bytes, end_entire}
 use Rattle.uefi_device_path.specs.Paths.{IsPath, joined, nodes_in, path_bytes, without_end}
@@ -35,3 +38,33 @@ path_grown bytes grown node path inner e =
 
 pub path_empty : (bytes : List ℕ) → bytes ≡ node_bytes end_entire → IsPath bytes × (nodes_in (without_end bytes) ≡ [])
 path_empty bytes e = IsPath-path_bytes [] bytes (All-nil IsInner) e
+
+-- a path has the bytes of its end
+path_long : (bytes : List ℕ) → IsPath bytes → 4 ≤ length bytes
+path_long bytes path =
+    let long = ap length path.ends in
+    omega (arith, long, length-append (without_end bytes) (node_bytes end_entire))
+
+-- a path at the start of a buffer, with one more node that is written over its end
+pub path_grown_in : (bytes places header : List ℕ) (node : Node) (len k end : ℕ) → len ≤ length bytes → IsPath (take len bytes) → IsInner node
+    → end ≡ len + length node.content + 4
+    → header ≡ node.device_type ∷ node.sub_type ∷ (length node.content + 4) % 256 ∷ (length node.content + 4) / 256 ∷ []
+    → places ≡ header ++ (node.content ++ node_bytes end_entire)
+    → (end ≤ length (put_mid (len - 4) k bytes places)) × IsPath (take end (put_mid (len - 4) k bytes places))
+    × (nodes_in (without_end (take end (put_mid (len - 4) k bytes places))) ≡ nodes_in (without_end (take len bytes)) ++ node ∷ [])
+path_grown_in bytes places header node len k end within path inner ends is put =
+    let old : length (take len bytes) ≡ len = grind (arith, common_steps) in
+    let least = path_long (take len bytes) path in
+    let four : 4 ≤ len = omega (arith, old, least) in
+    let whole : places ≡ node_bytes node ++ node_bytes end_entire = put ∙ ap (λ h. h ++ (node.content ++ node_bytes end_entire)) is in
+    let size : length places ≡ length node.content + 8 = ap length whole ∙ omega (arith, length-append node.content (node_bytes end_entire)) in
+    let front : without_end (take len bytes) ≡ take (len - 4) bytes =
+    ap (λ n. take (n - 4) (take len bytes)) old ∙ take-take (len - 4) len bytes (omega arith) in
+    let grown : take end (put_mid (len - 4) k bytes places) ≡ without_end (take len bytes) ++ (node_bytes node ++ node_bytes end_entire) =
+    take-put_mid (len - 4) k bytes places end (omega (arith, ends, size, four)) (omega (arith, within))
+    ∙ ap (λ us. us ++ places) (sym front) ∙ ap (λ us. without_end (take len bytes) ++ us) whole in
+    let start : length (take (len - 4) bytes) ≡ len - 4 = grind (arith, common_steps) in
+    let long = length-append (take (len - 4) bytes) (places ++ drop k (drop (len - 4) bytes)) in
+    let tail = length-append places (drop k (drop (len - 4) bytes)) in
+    let both = path_grown (take len bytes) _ node path inner grown in
+    (omega (arith, long, tail, start, size, ends, four), both.0, both.1)

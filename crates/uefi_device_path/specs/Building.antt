@@ -1,9 +1,10 @@
 -- Which nodes are refused by a device path that grows.
-use Rattle.std.specs.Prelude.{nat_lt, ◌==◌, ◌&&◌, not, if◌then◌else◌, length, Option, Some, None}
+use Rattle.std.specs.Prelude.{ℕ, ◌+◌, List, nat_lt, ◌==◌, ◌&&◌, not, if◌then◌else◌, length, Option, Some, None}
 use Rattle.uefi_device_nodes.specs.Nodes.{is_end_instance}
 use Rattle.uefi_device_nodes.specs.Nodes.{Node, node_length}
+use Rattle.uefi_device_path.specs.Paths.{path_bytes}
 use Rattle.uefi_device_path.specs.declared.errors.BuildError.{BuildError}
-use Rattle.uefi_device_path.specs.declared.errors.BuildError.TheVariants.{EndNode, NodeTooLong}
+use Rattle.uefi_device_path.specs.declared.errors.BuildError.TheVariants.{BufferTooSmall, EndNode, NodeTooLong}
 
 -- why a node may not stand before the end of a path, or none
 abbrev pub build_refusal : Node → Option BuildError
@@ -12,3 +13,14 @@ build_refusal node =
     then Some EndNode
     else if nat_lt 0xffff (node_length node) then Some NodeTooLong
     else None
+
+-- the same by what is wrong with the node, and the bytes that the path then has
+abbrev pub room_refusal : ℕ → ℕ → Option BuildError → Option BuildError
+room_refusal len room (Some fault) = Some fault
+room_refusal len room None = if nat_lt room len then Some (BufferTooSmall len) else None
+
+-- why a node is not added to a path of these nodes in a buffer of `room` bytes, or none: what is wrong
+-- with the node comes first
+abbrev pub push_refusal : List Node → Node → ℕ → Option BuildError
+push_refusal nodes node room =
+    room_refusal (length (path_bytes nodes) + node_length node) room (build_refusal node)

@@ -38,6 +38,7 @@ load_option_error_text error =
 abbrev pub build_error_text : BuildError → List ℕ
 build_error_text build.EndNode = codes "the node ends no instance and may not stand before the end"
 build_error_text build.NodeTooLong = codes "the node is longer than its header can state"
+build_error_text (build.BufferTooSmall needed) = codes "the path has " ++ decimal needed ++ codes " bytes"
 build_error_text build.OutOfMemory = codes "out of memory"
 
 -- what is printed where a node has no name
@@ -52,14 +53,18 @@ file_path_error_text error = file_path_cause_text error.cause ++ codes " at offs
 
 -- what is printed where a load option is not written
 abbrev pub option_build_error_text : OptionBuildError → List ℕ
-option_build_error_text (written.NulInDescription place) = codes "NUL in the description, at " ++ decimal place
+option_build_error_text (written.NulInDescription place) =
+    codes "NUL in the description, at " ++ decimal place
 option_build_error_text written.EmptyList = codes "the file path list is empty"
-option_build_error_text written.ListTooLong = codes "the file path list is longer than its header can state"
+option_build_error_text written.ListTooLong =
+    codes "the file path list is longer than its header can state"
 option_build_error_text written.TooLong = codes "the load option is longer than memory"
-option_build_error_text (written.BufferTooSmall needed) = codes "the load option has " ++ decimal needed ++ codes " bytes"
+option_build_error_text (written.BufferTooSmall needed) =
+    codes "the load option has " ++ decimal needed ++ codes " bytes"
 option_build_error_text written.OutOfMemory = codes "out of memory"
 
 -- what is printed where a file path is not written into a buffer
 abbrev pub file_path_write_error_text : FilePathWriteError → List ℕ
 file_path_write_error_text (in_buffer.Name error) = file_path_error_text error
-file_path_write_error_text (in_buffer.BufferTooSmall needed) = codes "the file path has " ++ decimal needed ++ codes " units"
+file_path_write_error_text (in_buffer.BufferTooSmall needed) =
+    codes "the file path has " ++ decimal needed ++ codes " units"

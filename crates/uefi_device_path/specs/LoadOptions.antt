@@ -38,8 +38,8 @@ entry_bytes entry =
     four_bytes entry.attributes ++ (two_bytes (length (list_bytes entry.paths))
     ++ (unit_bytes (nul_terminated entry.description) ++ (list_bytes entry.paths ++ entry.optional)))
 
--- what units are in UTF-8: each pair of surrogates is one character, and U+FFFD stands for each surrogate that
--- has no partner
+-- what units are in UTF-8: each pair of surrogates is one character, and U+FFFD stands for each surrogate
+-- that has no partner
 abbrev pub lossy_utf8 : List ℕ → List ℕ
 lossy_utf8 units = encode_utf8_all (utf16_lossy_chars units)
 

@@ -7,8 +7,7 @@ use Rattle.uefi_device_path.specs.PathLists.{list_bytes}
 use Rattle.uefi_device_path.specs.declared.errors.OptionBuildError.{OptionBuildError}
 use Rattle.uefi_device_path.specs.declared.errors.OptionBuildError.TheVariants.{BufferTooSmall, EmptyList, ListTooLong, NulInDescription, TooLong}
 
--- why fields are no load option that can be written, by the place of the first NUL of the description: the
--- first of these that holds, or none
+-- the same by the place of the first NUL of the description
 abbrev pub fields_fault_at : Entry → Option ℕ → Option OptionBuildError
 fields_fault_at entry (Some place) = Some (NulInDescription place)
 fields_fault_at entry None =
@@ -17,22 +16,25 @@ fields_fault_at entry None =
     else if nat_lt 0xffffffffffffffff (length (entry_bytes entry)) then Some TooLong
     else None
 
+-- why fields are no load option that can be written: the first of these that holds, or none
 abbrev pub fields_fault : Entry → Option OptionBuildError
 fields_fault entry = fields_fault_at entry (position is_nul entry.description)
 
--- why a load option is not written to a buffer of `room` bytes, or none: what is wrong with its fields comes
--- first
+-- the same by what is wrong with the fields
 abbrev pub room_fault : List ℕ → ℕ → Option OptionBuildError → Option OptionBuildError
 room_fault bytes room (Some error) = Some error
 room_fault bytes room None = if nat_lt room (length bytes) then Some (BufferTooSmall (length bytes)) else None
 
+-- why a load option is not written to a buffer of `room` bytes, or none: what is wrong with its fields comes
+-- first
 abbrev pub write_fault : Entry → ℕ → Option OptionBuildError
 write_fault entry room = room_fault (entry_bytes entry) room (fields_fault entry)
 
--- what a buffer holds then: it begins with the load option, or is unchanged
+-- the same by what is wrong with the fields
 abbrev pub written_where : List ℕ → List ℕ → Option OptionBuildError → List ℕ
 written_where bytes buffer (Some error) = buffer
 written_where bytes buffer None = with_prefix bytes buffer
 
+-- what a buffer holds then: it begins with the load option, or is unchanged
 abbrev pub option_over : Entry → List ℕ → List ℕ
 option_over entry buffer = written_where (entry_bytes entry) buffer (fields_fault entry)

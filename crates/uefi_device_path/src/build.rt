@@ -1,7 +1,7 @@
 //! Device paths that are owned, and grow.
 #![tactic(auto)]
 
-ghost use Rattle.std.specs.Prelude.{◌≡◌, ℕ, ◌+◌, ◌-◌, ◌<◌, ◌≤◌, ◌∷◌, ◌++◌, [], List, length, take, IfOk, IfErr, OnOk, OnErr, None, unwrap_or};
+ghost use Rattle.std.specs.Prelude.{◌≡◌, ℕ, ◌+◌, ◌-◌, ◌<◌, ◌≤◌, ◌∷◌, ◌++◌, ◌%◌, ◌/◌, [], List, length, take, IfOk, IfErr, OnOk, OnErr, None, unwrap_or};
 ghost use Rattle.std.specs.Result.{result_err};
 ghost use Rattle.std.specs.Vec.{vec_capacity, vec_len};
 ghost use Rattle.uefi_device_nodes.specs.Nodes.{end_entire, node_bytes, node_with};
@@ -47,7 +47,7 @@ fn put_node<A: Allocator>(bytes: &mut Vec<u8, A>, header: [u8; 4], content: &[u8
 }
 
 /// Why a node may not stand before the end of a path, if it may not.
-fn check_node(
+pub(crate) fn check_node(
     device_type: DeviceType,
     sub_type: DeviceSubType,
     content: &[u8],
@@ -61,6 +61,20 @@ fn check_node(
         return Err(BuildError::NodeTooLong);
     }
     Ok(())
+}
+
+/// The header of a node with this many bytes of data.
+pub(crate) fn node_header(device_type: DeviceType, sub_type: DeviceSubType, len: usize) -> [u8; 4]
+    requires { len ≤ 0xfffb }
+    ensures { result ≡ device_type.0 ∷ sub_type.0 ∷ (len + 4) % 256 ∷ (len + 4) / 256 ∷ [] }
+{
+    let length = (len + 4) as u16;
+    [
+        device_type.0,
+        sub_type.0,
+        (length % 256) as u8,
+        (length / 256) as u8,
+    ]
 }
 
 impl<A: Allocator> DevicePathBuf<A> {
@@ -98,13 +112,7 @@ impl<A: Allocator> DevicePathBuf<A> {
         if self.bytes.reserve(content.len() + 4).is_err() {
             return Err(BuildError::OutOfMemory);
         }
-        let length = (content.len() + 4) as u16;
-        let header = [
-            device_type.0,
-            sub_type.0,
-            (length % 256) as u8,
-            (length / 256) as u8,
-        ];
+        let header = node_header(device_type, sub_type, content.len());
         put_node(&mut self.bytes, header, content);
         Ok(())
     }

@@ -175,6 +175,8 @@ pub enum BuildError {
     EndNode,
     /// Its length does not fit the two bytes that state it.
     NodeTooLong,
+    /// The buffer has fewer bytes than the path with the node and its end, which has this many.
+    BufferTooSmall(usize),
     /// Memory was refused.
     OutOfMemory,
 }
@@ -193,6 +195,7 @@ impl fmt::Display for BuildError {
                 "the node ends no instance and may not stand before the end"
             ),
             Self::NodeTooLong => write!(f, "the node is longer than its header can state"),
+            Self::BufferTooSmall(needed) => write!(f, "the path has {needed} bytes"),
             Self::OutOfMemory => write!(f, "out of memory"),
         }
     }

@@ -144,7 +144,8 @@ fn put_node(
     ensures written { IfOk result (λ after. (path old : List ℕ) → IsWritten path written old buffer.old →
         IsWritten (with_node path (node_of node.entry)) after old buffer.new) }
     ensures len { IfOk result (λ after. after.len ≤ written.len + length (node_of node.entry).content) }
-    ensures text { OnOk result ((path : List ℕ) → IsText path → IsText (with_node path (node_of node.entry))) }
+    ensures text { OnOk result ((path : List ℕ) → IsText path →
+        IsText (with_node path (node_of node.entry))) }
     ensures readable { OnOk result (IsReadable (node_of node.entry)) }
     ensures file { OnErr result (is_file (node_of node.entry) ≡ true) }
     ensures refusal { IfErr result (λ cause. name_fault (node_of node.entry).content ≡ Some cause) }
@@ -212,7 +213,8 @@ pub(crate) fn write_file_path_in(
     ensures readable { OnOk result (All IsReadable (nodes_in bytes.now)) }
     ensures room { IfOk result (λ len. len ≤ length buffer.old) }
     ensures ok { OnOk result (buffer.new
-        ≡ nul_terminated (file_path (nodes_in bytes.now)) ++ drop (length (file_path (nodes_in bytes.now)) + 1) buffer.old) }
+        ≡ nul_terminated (file_path (nodes_in bytes.now))
+        ++ drop (length (file_path (nodes_in bytes.now)) + 1) buffer.old) }
     ensures err { OnErr result (buffer.new ≡ buffer.old) }
     ensures refusal { IfErr result (λ error. WriteRefusedFor (nodes_in bytes.now) (length buffer.old) error) }
 {

@@ -91,10 +91,11 @@ impl<'a> DevicePathInstance<'a> {
         file_path_in(alloc, self.bytes)
     }
 
-    /// Writes the file path, which [`DevicePathInstance::file_path`] makes, to the start of a buffer, with a NUL after it,
-    /// and returns how many units these are. What follows them is unchanged. Refused as `Name` where that
-    /// call refuses a name, for the same node, and then as `BufferTooSmall`, with the count that it needs;
-    /// the buffer is then unchanged. Takes no memory; one pass over the nodes measures, and one writes.
+    /// Writes the file path, which [`DevicePathInstance::file_path`] makes, to the start of a buffer,
+    /// with a NUL after it, and returns how many units these are. What follows them is unchanged. Refused
+    /// as `Name` where that call refuses a name, for the same node, and then as `BufferTooSmall`, with the
+    /// count that it needs; the buffer is then unchanged. Takes no memory; one pass over the nodes
+    /// measures, and one writes.
     pub fn write_file_path(&self, buffer: &mut [u16]) -> Result<usize, FilePathWriteError>
         ensures len { IfOk result (λ len. len ≡ length (file_path (instance_nodes self.now)) + 1) }
         ensures text { OnOk result (IsText (file_path (instance_nodes self.now))) }

@@ -23,6 +23,7 @@
 #![tactic(auto)]
 
 mod build;
+mod builder;
 mod device_path;
 mod errors;
 mod file_path;
@@ -35,6 +36,7 @@ mod option_builder;
 mod path_list;
 
 pub use build::DevicePathBuf;
+pub use builder::DevicePathBuilder;
 pub use device_path::DevicePath;
 pub use errors::{
     BuildError, DevicePathError, FilePathCause, FilePathError, FilePathWriteError, LoadOptionCause,
@@ -45,7 +47,6 @@ pub use load_option::LoadOption;
 pub use node_iterator::DevicePathNodeIterator;
 pub use option_builder::LoadOptionBuilder;
 pub use path_list::{DevicePaths, check_paths};
-pub use uefi_device_nodes::{
-    DevicePathNode, DeviceSubType, DeviceType, NodeKind, TypedNode, acpi, bios_boot_spec, hardware,
-    media, messaging,
-};
+pub use uefi_device_nodes::node::{DevicePathNode, DeviceSubType, DeviceType};
+pub use uefi_device_nodes::typed_node::{NodeKind, TypedNode};
+pub use uefi_device_nodes::{acpi, bios_boot_spec, hardware, media, messaging};

@@ -119,7 +119,8 @@ impl<'a> LoadOptionBuilder<'a> {
 
     /// How long the list and the whole are, where the fields are a load option that can be written.
     fn lengths(&self) -> Result<Lengths, OptionBuildError>
-        ensures list { IfOk result (λ lengths. lengths.list ≡ length (list_bytes (fields_of self.now).paths)) }
+        ensures list { IfOk result (λ lengths.
+            lengths.list ≡ length (list_bytes (fields_of self.now).paths)) }
         ensures stated { IfOk result (λ lengths. lengths.list ≤ 0xffff) }
         ensures whole { IfOk result (λ lengths. lengths.whole ≡ length (entry_bytes (fields_of self.now))) }
         ensures entry { IfOk result (λ _. IsEntry (fields_of self.now)) }

@@ -10,8 +10,9 @@ use crate::unaligned_slice::UnalignedSlice;
 impl<'a> UnalignedSlice<'a, u16> {
     ghost use Rattle.uefi_text.specs.Views.{items_of};
 
-    /// Whether the items are a string. Refused as [`CStr16::from_u16_with_nul`](crate::CStr16::from_u16_with_nul)
-    /// refuses the same units. Copies none of them into memory of the caller; takes no memory.
+    /// Whether the items are a string. Refused as
+    /// [`CStr16::from_u16_with_nul`](crate::CStr16::from_u16_with_nul) refuses the same units. Needs no
+    /// buffer of the caller; takes no memory.
     pub fn check_cstr16(&self) -> Result<(), FromSliceWithNulError>
         ensures refusal { result_err result ≡ with_nul_refusal (items_of self.now) }
         ensures accepted { OnOk result (IsString (items_of self.now)) }
