@@ -2,7 +2,10 @@
 
 use std::alloc::Allocator;
 use std::test::Fail;
-use uefi_device_path::{DevicePathBuf, DeviceSubType, DeviceType, FilePathCause, FilePathError};
+use uefi_device_path::{
+    DevicePath, DevicePathBuf, DevicePathInstance, DeviceSubType, DeviceType, FilePathCause,
+    FilePathError, FilePathWriteError,
+};
 use uefi_path::validate_path;
 use uefi_text::{CString16, FromSliceWithNulError};
 
@@ -31,6 +34,85 @@ fn joins(rt: &HostRuntime, names: &[&str], want: &str) -> Result<bool, Fail> {
             .to_cstr16()
             .eq_cstr16(CString16::try_from_str(rt.alloc(), want)?.as_cstr16()),
     )
+}
+
+/// What a call says, and left in a buffer, that writes these units where they fit into `len` places.
+fn has_written(
+    written: Result<usize, FilePathWriteError>,
+    room: &[u16],
+    units: &[u16],
+    len: usize,
+) -> bool {
+    let (said, count) = match written {
+        Ok(count) => (count == units.len() && count <= len, count),
+        Err(FilePathWriteError::BufferTooSmall(count)) => (count == units.len() && len < count, 0),
+        Err(FilePathWriteError::Name(_)) => (false, 0),
+    };
+    said && room.get(..count) == units.get(..count)
+        && room
+            .get(count..)
+            .is_some_and(|rest| rest.iter().all(|unit| *unit == 9))
+}
+
+/// Whether a path writes these units to each buffer that has room for them, and to no other.
+fn writes(path: DevicePath<'_>, units: &[u16]) -> bool {
+    for len in 0..units.len() + 2 {
+        let mut room = [9; 64];
+        let written = path.write_file_path(room.get_mut(..len).unwrap_or_default());
+        if !has_written(written, &room, units, len) {
+            return false;
+        }
+    }
+    true
+}
+
+/// Whether an instance does.
+fn instance_writes(instance: DevicePathInstance<'_>, units: &[u16]) -> bool {
+    for len in 0..units.len() + 2 {
+        let mut room = [9; 64];
+        let written = instance.write_file_path(room.get_mut(..len).unwrap_or_default());
+        if !has_written(written, &room, units, len) {
+            return false;
+        }
+    }
+    true
+}
+
+/// Whether nodes with these names are written as this file path, as a path and as its only instance.
+fn joins_in_buffers(rt: &HostRuntime, names: &[&str], want: &str) -> Result<bool, Fail> {
+    let mut path = DevicePathBuf::new(rt.alloc())?;
+    for name in names {
+        push_name(&mut path, rt.alloc(), name)?;
+    }
+    let want = CString16::try_from_str(rt.alloc(), want)?;
+    let units = want.as_cstr16().to_u16_slice_with_nul();
+    let path = path.as_device_path();
+    let instance = path.instance_iter().next().ok_or("an instance")?;
+    Ok(writes(path, units) && instance_writes(instance, units))
+}
+
+#[test]
+fn joined_in_buffers(rt: HostRuntime) -> Result<(), Fail> {
+    for (names, want) in ROWS {
+        assert!(rt; joins_in_buffers(&rt, names, want)?, "{want}");
+    }
+    Ok(())
+}
+
+/// A file path is borrowed from the buffer that it was written to.
+#[test]
+fn borrowed(rt: HostRuntime) -> Result<(), Fail> {
+    let mut path = DevicePathBuf::new(rt.alloc())?;
+    push_name(&mut path, rt.alloc(), "/EFI/")?;
+    let path = path.as_device_path();
+    let mut room = [9; 7];
+    assert_eq!(rt; path.file_path_in_buf(&mut room)?.num_chars(), 5);
+    let instance = path.instance_iter().next().ok_or("an instance")?;
+    assert_eq!(rt; instance.file_path_in_buf(&mut room)?.num_chars(), 5);
+    assert_eq!(rt; room, [0x5c, 0x45, 0x46, 0x49, 0x5c, 0, 9]);
+    let short = path.file_path_in_buf(&mut room[..5]).err();
+    assert_eq!(rt; short, Some(FilePathWriteError::BufferTooSmall(6)));
+    Ok(())
 }
 
 /// Names, and the path that they are together.
@@ -100,6 +182,34 @@ fn refusals(rt: &HostRuntime, data: &[u8]) -> Result<[Option<FilePathError>; 2],
         whole.file_path(rt.alloc()).err(),
         instance.file_path(rt.alloc()).err(),
     ])
+}
+
+/// What the calls say that write to a buffer without a place.
+fn written_refusals(
+    rt: &HostRuntime,
+    data: &[u8],
+) -> Result<[Option<FilePathWriteError>; 2], Fail> {
+    let mut path = DevicePathBuf::new(rt.alloc())?;
+    push_name(&mut path, rt.alloc(), "a")?;
+    path.push(DeviceType::MEDIA, DeviceSubType::MEDIA_FILE_PATH, data)?;
+    let whole = path.as_device_path();
+    let instance = whole.instance_iter().next().ok_or("an instance")?;
+    Ok([
+        whole.write_file_path(&mut []).err(),
+        instance.write_file_path(&mut []).err(),
+    ])
+}
+
+#[test]
+fn refused_in_buffers(rt: HostRuntime) -> Result<(), Fail> {
+    for (data, cause) in REFUSED {
+        let want = Some(FilePathWriteError::Name(FilePathError {
+            cause: *cause,
+            offset: 12,
+        }));
+        assert_eq!(rt; written_refusals(&rt, data)?, [want, want]);
+    }
+    Ok(())
 }
 
 #[test]

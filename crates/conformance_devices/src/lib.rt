@@ -19,3 +19,5 @@ mod load_options;
 mod out_of_memory;
 #[cfg(test)]
 mod typed_nodes;
+#[cfg(test)]
+mod written_options;

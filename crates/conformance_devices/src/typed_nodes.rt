@@ -118,3 +118,30 @@ fn least_lengths(rt: HostRuntime) -> Result<(), Fail> {
     assert_eq!(rt; (boot.device_type(), boot.status_flag()), (0, 0));
     Ok(())
 }
+
+/// The gateway and the mask of a node of 27 bytes, which older nodes of 19 bytes lack.
+#[test]
+fn gateways(rt: HostRuntime) -> Result<(), Fail> {
+    let bytes = &[
+        3, 12, 27, 0, 1, 2, 3, 4, 5, 6, 7, 8, 9, 0, 10, 0, 6, 0, 1, 11, 12, 13, 14, 255, 255, 255,
+        0,
+    ];
+    let whole = Ipv4::from_node(node(bytes)?)?;
+    assert_eq!(rt;
+        whole.gateway_ip_address(),
+        Some([11, 12, 13, 14].as_slice())
+    );
+    assert_eq!(rt; whole.subnet_mask(), Some([255, 255, 255, 0].as_slice()));
+    let mut room = [0; 64];
+    for (len, gateway, mask) in [
+        (19, false, false),
+        (22, false, false),
+        (23, true, false),
+        (26, true, false),
+    ] {
+        let short = Ipv4::from_node(headed(&[3, 12, len, 0], &mut room)?)?;
+        assert_eq!(rt; short.gateway_ip_address().is_some(), gateway);
+        assert_eq!(rt; short.subnet_mask().is_some(), mask);
+    }
+    Ok(())
+}
