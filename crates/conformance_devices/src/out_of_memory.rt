@@ -90,6 +90,18 @@ fn has_description(heap: &Refusing<Global>, bytes: &[u8], len: usize) -> Result<
     }
 }
 
+/// Whether the description of an option has this many bytes in UTF-8.
+fn has_shown_description(
+    heap: &Refusing<Global>,
+    bytes: &[u8],
+    len: usize,
+) -> Result<bool, AllocError> {
+    let Ok(option) = LoadOption::from_bytes(bytes) else {
+        return Ok(false);
+    };
+    Ok(option.description_lossy(heap)?.len() == len)
+}
+
 /// One request for a description, and a long one.
 #[test]
 fn requests_of_descriptions(rt: HostRuntime) -> Result<(), Fail> {
@@ -102,5 +114,6 @@ fn requests_of_descriptions(rt: HostRuntime) -> Result<(), Fail> {
     long.extend_from_slice(&[0, 0, 0x7f, 0xff, 4, 0])?;
     let heap = Refusing::new(rt.alloc(), 0);
     assert!(rt; has_description(&heap, &long, 100_000)?);
+    assert!(rt; has_shown_description(&heap, &long, 300_000)?);
     Ok(())
 }

@@ -11,7 +11,7 @@ pub enum NodeError {
     TruncatedHeader,
     /// A node of type End has a sub-type that ends neither a path nor an instance.
     UnknownEnd,
-    /// The header states a length below four, which its own bytes have.
+    /// The header states a length below four, that of the header itself.
     LengthBelowHeader,
     /// The header of a node of type End states a length above four.
     EndWithData,

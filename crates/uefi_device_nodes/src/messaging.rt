@@ -145,7 +145,7 @@ impl NodeKind for Ipv4Kind {
     ghost LEAST = { 15 };
 }
 
-/// An end of IP version 4.
+/// An endpoint of a connection over IP version 4.
 pub type Ipv4<'a> = TypedNode<'a, Ipv4Kind>;
 
 impl<'a> TypedNode<'a, Ipv4Kind> {
@@ -231,7 +231,7 @@ impl NodeKind for Ipv6Kind {
     ghost LEAST = { 56 };
 }
 
-/// An end of IP version 6.
+/// An endpoint of a connection over IP version 6.
 pub type Ipv6<'a> = TypedNode<'a, Ipv6Kind>;
 
 impl<'a> TypedNode<'a, Ipv6Kind> {
@@ -272,7 +272,7 @@ impl<'a> TypedNode<'a, Ipv6Kind> {
         self.number(36)
     }
 
-    /// How the local address came about: by hand, or automatically with or without state.
+    /// How the local address was set: 0 by hand, 1 automatically without state, 2 automatically with state.
     pub fn ip_address_origin(&self) -> u8
         ensures { result ≡ number_at 38 1 (data_of self.now) }
     {

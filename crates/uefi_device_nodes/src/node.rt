@@ -95,8 +95,7 @@ impl<'a> DevicePathNode<'a> {
     }
 
     /// The node that bytes begin with, and the bytes after it. The node may be one that ends an instance
-    /// or the path. Refused for the first of the causes of [`NodeError`] that holds, where a length above
-    /// that of the header is one of an end node before it is one beyond the bytes.
+    /// or the path. Refused for the first cause that holds, in the order in which [`NodeError`] lists them.
     pub fn split_first(bytes: &'a [u8]) -> Result<(Self, &'a [u8]), NodeError>
         ensures ok { IfOk result (λ split. bytes.now ≡ node_bytes (node_of split.0) ++ split.1.now) }
         ensures sound { IfOk result (λ split. IsSound (node_of split.0)) }

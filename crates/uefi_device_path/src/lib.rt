@@ -4,7 +4,7 @@
 //! Specification 2.10, chapter 10). A *load option* is what a variable `Boot####` holds: attributes, a
 //! description, device paths and optional data (section 3.1.3). [`DevicePath::from_bytes`] and
 //! [`LoadOption::from_bytes`] test all lengths once, at the door, and return views that borrow: no later
-//! call fails for a length, reads beyond the end, or goes round without passing a node.
+//! call fails for a length, reads beyond the end, or loops without consuming a node.
 //!
 //! ```rust
 //! use uefi_device_path::{DevicePath, DeviceType};
