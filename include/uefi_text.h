@@ -62,9 +62,9 @@ typedef int32_t uefi_order;
 
 /* The version of this library: its numbers, and its text. */
 #define UEFI_TEXT_VERSION_MAJOR 0
-#define UEFI_TEXT_VERSION_MINOR 1
-#define UEFI_TEXT_VERSION_PATCH 1
-#define UEFI_TEXT_VERSION "0.1.1"
+#define UEFI_TEXT_VERSION_MINOR 2
+#define UEFI_TEXT_VERSION_PATCH 0
+#define UEFI_TEXT_VERSION "0.2.0"
 
 #ifdef __cplusplus
 extern "C" {
