@@ -11,8 +11,9 @@ use uefi_text::{CStr16, FromSliceWithNulError, UnalignedSlice};
 /// More than firmware keeps of one variable.
 pub(crate) const MOST_BYTES: usize = 65536;
 
-/// The attributes of a variable that is kept, and seen at boot and at run time: the four bytes that Linux puts before it. No load
-/// option begins with these, since the third bit of its attributes is reserved.
+/// The attributes of a variable that is kept, and seen at boot and at run time: the four bytes that
+/// Linux puts before it. No load option begins with these, since the third bit of its attributes is
+/// reserved.
 const VARIABLE_ATTRIBUTES: [u8; 4] = [7, 0, 0, 0];
 
 /// Writes a character, or `?` for one that a terminal obeys.
@@ -35,7 +36,8 @@ fn write_malformed<W: Write>(out: &mut W, offset: usize, part: &str, reason: &st
     writeln!(out, "  malformed at offset {offset}: {part}: {reason}")
 }
 
-/// Writes attributes and description, whose surrogate pairs are characters, and a lone surrogate is U+FFFD.
+/// Writes attributes and description, whose surrogate pairs are characters, and a lone surrogate is
+/// U+FFFD.
 fn write_head<W: Write>(
     out: &mut W,
     is_active: bool,
@@ -84,7 +86,8 @@ fn write_path<W: Write>(out: &mut W, string: CStr16<'_>) -> fmt::Result {
     }
 }
 
-/// Writes what a node says that names a file, whose data begin at an offset. False where it names none.
+/// Writes what a node says that names a file, whose data begin at an offset. False where it names
+/// none.
 fn write_file<W: Write, A: Allocator>(
     out: &mut W,
     alloc: A,
@@ -110,7 +113,8 @@ fn write_file<W: Write, A: Allocator>(
     Ok(false)
 }
 
-/// Writes what a node says, whose data begin at an offset, where it names a file. False where it should name one, and does not.
+/// Writes what a node says, whose data begin at an offset, where it names a file. False where it
+/// should name one, and does not.
 fn write_node<W: Write, A: Allocator>(
     out: &mut W,
     alloc: A,
@@ -128,8 +132,8 @@ fn write_node<W: Write, A: Allocator>(
     }
 }
 
-/// Writes the files that nodes name, from an offset on, up to the first node that is none, or that names no file and should.
-/// False in the second case.
+/// Writes the files that nodes name, from an offset on, up to the first node that is none, or that
+/// names no file and should. False in the second case.
 fn write_files<W: Write, A: Allocator + Copy>(
     out: &mut W,
     alloc: A,
@@ -147,7 +151,7 @@ fn write_files<W: Write, A: Allocator + Copy>(
     Ok(true)
 }
 
-/// The parts of an entry that can be told before its nodes are looked at.
+/// The parts of an entry, of which the nodes are not read yet.
 #[derive(Drop)]
 struct Parts<'a> {
     is_active: bool,
@@ -173,8 +177,8 @@ impl<'a> Parts<'a> {
     }
 }
 
-/// Writes what an entry says, and then what is malformed in it, if anything is. Returns whether nothing is; or an error
-/// where memory was refused.
+/// Writes what an entry says, and then what is malformed in it, if anything is. Returns whether
+/// nothing is; or an error where memory was refused.
 fn write_entry<W: Write, A: Allocator + Copy>(
     out: &mut W,
     alloc: A,
@@ -195,8 +199,8 @@ fn write_entry<W: Write, A: Allocator + Copy>(
     Ok(false)
 }
 
-/// Writes what the entry in a variable says, with or without the four bytes that Linux puts before it. Returns whether nothing is
-/// malformed in it; or an error where memory was refused.
+/// Writes what the entry in a variable says, with or without the four bytes that Linux puts before
+/// it. Returns whether nothing is malformed in it; or an error where memory was refused.
 pub(crate) fn write_variable<W: Write, A: Allocator + Copy>(
     out: &mut W,
     alloc: A,

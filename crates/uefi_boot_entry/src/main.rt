@@ -1,10 +1,11 @@
-//! Reads a boot entry from standard input, and prints what it says: whether it is active, its description, and each
-//! file that it names, judged.
+//! Reads a boot entry from standard input, and prints what it says: whether it is active, its
+//! description, and each file that it names, judged.
 //!
-//! The input is a variable `Boot####`, a load option (UEFI Specification 2.10, section 3.1.3), with or without the four bytes
-//! of the variable's attributes that Linux puts before it. Ends with 0 where the entry is well; with 1 where it is malformed,
-//! which is printed with the reason and the offset in the entry; with 2 where a read or a write failed; with 3, and
-//! `out of memory` on standard error, where memory was refused.
+//! The input is a variable `Boot####`, a load option (UEFI Specification 2.10, section 3.1.3), with
+//! or without the four bytes of the variable's attributes that Linux puts before it. Ends with 0
+//! where the entry is well; with 1 where it is malformed, which is printed with the reason and the
+//! offset in the entry; with 2 where a read or a write failed; with 3, and `out of memory` on
+//! standard error, where memory was refused.
 #![tactic(auto)]
 
 ghost use Rattle.std.specs.Prelude.{◌≤◌, IfOk, length};
