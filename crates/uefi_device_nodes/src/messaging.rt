@@ -193,8 +193,8 @@ impl<'a> TypedNode<'a, Ipv4Kind> {
         self.number(14)
     }
 
-    /// The address of the gateway, or `None` where the node ends before it: nodes of 19 bytes, which
-    /// firmware of before UEFI 2.1 writes, have none.
+    /// The address of the gateway, or `None` where the node ends before it: nodes of 19 bytes, from
+    /// before the standard had this field, have none.
     pub fn gateway_ip_address(&self) -> Option<&'a [u8]>
         ensures some { IsSome result ↔ (19 ≤ length (data_of self.now)) }
         ensures bytes { IfSome result (λ bytes. bytes.now ≡ slice_range (data_of self.now) 15 19) }
