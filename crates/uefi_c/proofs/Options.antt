@@ -17,13 +17,24 @@ pub length-entry_bytes : (entry : Entry) → length (entry_bytes entry)
 length-entry_bytes entry =
     let units = nul_terminated entry.description in
     let rest = list_bytes entry.paths ++ entry.optional in
-    omega (arith, length-append (unit_bytes units) rest, length-unit_bytes units,
-    length-append entry.description (0 ∷ []), length-append (list_bytes entry.paths) entry.optional)
+    omega (
+      arith,
+      length-append (unit_bytes units) rest,
+      length-unit_bytes units,
+      length-append entry.description (0 ∷ []),
+      length-append (list_bytes entry.paths) entry.optional,
+    )
 
 -- no part ends beyond the end
 pub parts_fit : (entry : Entry) (units list : List ℕ) → length (entry_bytes entry) < 2 ^ 64
     → units ≡ nul_terminated entry.description → list ≡ list_bytes entry.paths
     → 6 + 2 * (length units - 1 + 1) + length list < 2 ^ 64
 parts_fit entry units list fits is_description is_list =
-    omega (arith, fits, length-entry_bytes entry, length-append entry.description (0 ∷ []),
-    ap length is_description, ap length is_list)
+    omega (
+      arith,
+      fits,
+      length-entry_bytes entry,
+      length-append entry.description (0 ∷ []),
+      ap length is_description,
+      ap length is_list,
+    )

@@ -25,7 +25,8 @@ use uefi_device_path::{DevicePath, DevicePathNode, FilePathWriteError, laws};
 #[unsafe(no_mangle)]
 pub extern "C" fn uefi_device_path_check(bytes: &[u8], place: &mut usize) -> u32
     ensures accepts { (result ≡ OK) ↔ ((nodes : List Node) × BeginWithPath bytes.now nodes) }
-    ensures path { (nodes : List Node) → BeginWithPath bytes.now nodes → place.new ≡ length (path_bytes nodes) }
+    ensures path { (nodes : List Node) → BeginWithPath bytes.now nodes
+        → place.new ≡ length (path_bytes nodes) }
     ensures refuses { result ≢ OK → (error : DevicePathError) × RefusedFor bytes.now error }
     ensures refusal { (error : DevicePathError) → RefusedFor bytes.now error
         → (result ≡ node_reason error.cause) × (place.new ≡ error.offset) }
@@ -61,14 +62,14 @@ pub struct DeviceNode {
     pub length: usize,
 }
 
-/// The node that begins at a place in bytes: `OK` where it does not end the path, `END_OF_PATH` where it does,
-/// and else why none begins there.
+/// The node that begins at a place in bytes: `OK` where it does not end the path, `END_OF_PATH` where it
+/// does, and else why none begins there.
 ///
 /// At `OK` `node` becomes the node, and `place` the offset after it; at `END_OF_PATH` `place` becomes the
-/// offset after the node, where the next path of a list begins. Refused, `place` becomes the offset of the bytes
-/// that are at fault. But for `OK` `node` stays unchanged. The nodes that end an instance are among those that are
-/// `OK`. Any bytes and any place may be given: no node begins after the end of the bytes. Reads the node's
-/// header alone; takes no memory (UEFI Specification 2.10, section 10.3.1).
+/// offset after the node, where the next path of a list begins. Refused, `place` becomes the offset of the
+/// bytes that are at fault. But for `OK` `node` stays unchanged. The nodes that end an instance are among
+/// those that are `OK`. Any bytes and any place may be given: no node begins after the end of the bytes.
+/// Reads the node's header alone; takes no memory (UEFI Specification 2.10, section 10.3.1).
 #[unsafe(no_mangle)]
 pub extern "C" fn uefi_device_path_next_node(
     bytes: &[u8],
@@ -118,12 +119,12 @@ pub extern "C" fn uefi_device_path_next_node(
 /// Writes the file path of the device path that bytes begin with, as [`DevicePath::write_file_path`] does,
 /// into the first places of a buffer, and a NUL.
 ///
-/// Bytes that begin with no device path are refused as by [`uefi_device_path_check`], and then a node that should
-/// name a file and has no name, where `place` becomes the offset of its data: `ODD_BYTES` where they end in
-/// half a unit, and else as by `uefi_string_with_nul`. Else `place` becomes how many units the file path
-/// has, its NUL not counted, and a buffer of no more places is `BUFFER_TOO_SMALL`. Refused, the buffer stays unchanged;
-/// what stands after the NUL stays. Three passes over the nodes; takes no memory (UEFI Specification 2.10, section
-/// 10.3.5.4).
+/// Bytes that begin with no device path are refused as by [`uefi_device_path_check`], and then a node that
+/// should name a file and has no name, where `place` becomes the offset of its data: `ODD_BYTES` where they
+/// end in half a unit, and else as by `uefi_string_with_nul`. Else `place` becomes how many units the file
+/// path has, its NUL not counted, and a buffer of no more places is `BUFFER_TOO_SMALL`. Refused, the buffer
+/// stays unchanged; what stands after the NUL stays. Three passes over the nodes; takes no memory (UEFI
+/// Specification 2.10, section 10.3.5.4).
 #[unsafe(no_mangle)]
 pub extern "C" fn uefi_device_path_file_path(
     bytes: &[u8],
@@ -140,7 +141,8 @@ pub extern "C" fn uefi_device_path_file_path(
     ensures small { result ≡ BUFFER_TOO_SMALL → (nodes : List Node) → BeginWithPath bytes.now nodes
         → All IsReadable nodes × (place.new ≡ length (file_path nodes))
         × (length buffer.old ≤ length (file_path nodes)) }
-    ensures name { result ≢ OK → result ≢ BUFFER_TOO_SMALL → (nodes : List Node) → BeginWithPath bytes.now nodes
+    ensures name { result ≢ OK → result ≢ BUFFER_TOO_SMALL
+        → (nodes : List Node) → BeginWithPath bytes.now nodes
         → (error : FilePathError) × FileRefusedFor nodes error
         × (result ≡ name_reason error.cause) × (place.new ≡ error.offset) }
     ensures unchanged { result ≢ OK → buffer.new ≡ buffer.old }

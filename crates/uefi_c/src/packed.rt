@@ -37,11 +37,11 @@ pub extern "C" fn uefi_units_from_bytes(bytes: &[u8], buffer: &mut [u16], count:
     OK
 }
 
-/// How many units stand before the first NUL of those that bytes encode, wherever these begin: `OK`, or `NO_NUL`
-/// where none is a NUL. They may be surrogates.
+/// How many units stand before the first NUL of those that bytes encode, wherever these begin: `OK`, or
+/// `NO_NUL` where none is a NUL. They may be surrogates.
 ///
-/// `count` becomes their number, and where no NUL is among the units that of all of them: a byte that is left at
-/// the end counts for nothing. One pass up to the NUL; takes no memory.
+/// `count` becomes their number, and where no NUL is among the units that of all of them: a byte that is
+/// left at the end counts for nothing. One pass up to the NUL; takes no memory.
 #[unsafe(no_mangle)]
 pub extern "C" fn uefi_packed_until_nul(bytes: &[u8], count: &mut usize) -> u32
     ensures accepts { (result ≡ OK)
