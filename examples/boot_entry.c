@@ -135,7 +135,7 @@ static bool print_nodes(struct entry entry, size_t at, size_t end)
         uint32_t reason = uefi_device_path_next_node(entry.bytes, end, &at, &node);
         if (reason != UEFI_OK && reason != UEFI_END_OF_PATH)
             return true;
-        bool names_file = reason == UEFI_OK && node.type == MEDIA && node.sub_type == FILE_PATH;
+        bool names_file = reason == UEFI_OK && node.device_type == MEDIA && node.sub_type == FILE_PATH;
         if (names_file && !print_path(entry, node.start, node.length))
             return false;
     }

@@ -69,7 +69,7 @@ static void walk_nodes(void)
     size_t place = 0, rows_count = sizeof rows / sizeof rows[0];
     for (size_t i = 0; i < rows_count; i++) {
         uint32_t reason = uefi_device_path_next_node(path, sizeof path, &place, &node);
-        bool is_node = node.type == rows[i].node.type && node.sub_type == rows[i].node.sub_type
+        bool is_node = node.device_type == rows[i].node.device_type && node.sub_type == rows[i].node.sub_type
                        && node.start == rows[i].node.start && node.length == rows[i].node.length;
         expect(reason == rows[i].reason && place == rows[i].place && is_node, "uefi_device_path_next_node", i);
     }

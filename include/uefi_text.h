@@ -73,32 +73,29 @@ extern "C" {
 
 /* Why a call refuses. */
 enum uefi_reason {
-    UEFI_OK = 0,                 /* nothing is refused */
-    UEFI_NO_NUL = 1,             /* no unit is a NUL */
-    UEFI_INVALID_CHAR = 2,       /* a unit is a surrogate, or a character is above U+FFFF */
-    UEFI_INTERIOR_NUL = 3,       /* more follows the NUL */
-    UEFI_BUFFER_TOO_SMALL = 4,   /* the buffer has too few places */
-    UEFI_NOT_UTF8 = 5,           /* the bytes are not UTF-8 */
-    UEFI_ODD_BYTES = 6,          /* the bytes are odd in number */
-    UEFI_PATH_EMPTY = 7,         /* the path is empty */
-    UEFI_EMPTY_COMPONENT = 8,    /* a component of the path is empty */
-    UEFI_ILLEGAL_CHAR = 9,       /* a component holds a character that no file's name may hold */
-    UEFI_CLIMBS_ABOVE_ROOT = 10, /* a component ".." for which no name before it is left */
-    UEFI_NO_PARENT = 11,         /* the path has at most one component */
-
-    UEFI_NO_END_NODE = 12,         /* the bytes end where a node has to begin: no end node ends the device path */
-    UEFI_TRUNCATED_HEADER = 13,    /* the bytes end within the four bytes of a node's header */
-    UEFI_UNKNOWN_END = 14,         /* a node of type End has a sub-type that ends neither a path nor an instance */
-    UEFI_LENGTH_BELOW_HEADER = 15, /* a node's length is less than four, its header's */
-    UEFI_END_WITH_DATA = 16,       /* the length of a node of type End is more than four */
-    UEFI_NODE_BEYOND_END = 17,     /* a node's length is more than the bytes have left */
-
+    UEFI_OK = 0,                       /* nothing is refused */
+    UEFI_NO_NUL = 1,                   /* no unit is a NUL */
+    UEFI_INVALID_CHAR = 2,             /* a unit is a surrogate, or a character is above U+FFFF */
+    UEFI_INTERIOR_NUL = 3,             /* more follows the NUL */
+    UEFI_BUFFER_TOO_SMALL = 4,         /* the buffer has too few places */
+    UEFI_NOT_UTF8 = 5,                 /* the bytes are not UTF-8 */
+    UEFI_ODD_BYTES = 6,                /* the bytes are odd in number */
+    UEFI_PATH_EMPTY = 7,               /* the path is empty */
+    UEFI_EMPTY_COMPONENT = 8,          /* a component of the path is empty */
+    UEFI_ILLEGAL_CHAR = 9,             /* a component holds a character that no file's name may hold */
+    UEFI_CLIMBS_ABOVE_ROOT = 10,       /* a component ".." for which no name before it is left */
+    UEFI_NO_PARENT = 11,               /* the path has at most one component */
+    UEFI_NO_END_NODE = 12,             /* the bytes end where a node has to begin: no end node ends the device path */
+    UEFI_TRUNCATED_HEADER = 13,        /* the bytes end within the four bytes of a node's header */
+    UEFI_UNKNOWN_END = 14,             /* a node of type End has a sub-type that ends neither a path nor an instance */
+    UEFI_LENGTH_BELOW_HEADER = 15,     /* a node's length is less than four, its header's */
+    UEFI_END_WITH_DATA = 16,           /* the length of a node of type End is more than four */
+    UEFI_NODE_BEYOND_END = 17,         /* a node's length is more than the bytes have left */
     UEFI_OPTION_TOO_SHORT = 18,        /* a load option has fewer than six bytes */
     UEFI_DESCRIPTION_WITHOUT_END = 19, /* no NUL ends the description of a load option */
     UEFI_LIST_BEYOND_END = 20,         /* the file path list is longer than what the load option has left */
     UEFI_EMPTY_LIST = 21,              /* the file path list has no bytes */
-
-    UEFI_END_OF_PATH = 22 /* the node that ends the device path stands there: nothing is wrong */
+    UEFI_END_OF_PATH = 22              /* the node that ends the device path stands there: nothing is wrong */
 };
 
 /* The order of two strings or paths, where one side does not begin with a string. */
@@ -275,10 +272,12 @@ uefi_result UEFI_CALL uefi_path_normalize(const uefi_unit *path, uefi_size count
  * and each length in them is tested before it is used. Offsets count from the first byte.
  */
 
-/* A node of a device path: what kind it is, and where in the bytes its data stand, which follow its header. */
+/* A node of a device path: what kind it is, and where in the bytes its data stand. */
 struct uefi_device_node {
-    uefi_byte type, sub_type;
-    uefi_size start, length;
+    uefi_byte device_type; /* its type */
+    uefi_byte sub_type;    /* its sub-type, which says something together with its type alone */
+    uefi_size start;       /* the offset of its data, which follow its header */
+    uefi_size length;      /* how many bytes its data have */
 };
 
 /*
@@ -311,13 +310,16 @@ uefi_result UEFI_CALL uefi_device_path_next_node(const uefi_byte *bytes, uefi_si
 uefi_result UEFI_CALL uefi_device_path_file_path(const uefi_byte *bytes, uefi_size byte_count,
                                                  uefi_unit *buffer, uefi_size room, uefi_size *place);
 
-/* What a load option says, and where its parts stand in its bytes: offsets and lengths in bytes, but for the description. */
+/* What a load option says, and where its parts stand in its bytes, one after the other. */
 struct uefi_load_option {
-    uefi_size attributes;                            /* a number of 32 bits; the lowest bit is LOAD_OPTION_ACTIVE */
-    uefi_size description_start, description_length; /* the length in units, its NUL not counted */
-    uefi_size list_start, list_length;               /* device paths, one after the other */
-    uefi_size path_length;                           /* of the first of them, its end node among its bytes */
-    uefi_size optional_start, optional_length;       /* what the owner of the entry adds */
+    uefi_size attributes;         /* a number of 32 bits; the lowest bit is LOAD_OPTION_ACTIVE */
+    uefi_size description_start;  /* the offset of the description */
+    uefi_size description_length; /* how many units it has, its NUL not counted */
+    uefi_size list_start;         /* the offset of the file path list: device paths, one after the other */
+    uefi_size list_length;        /* how many bytes it has */
+    uefi_size path_length;        /* how many bytes the first device path of it has, its end node among them */
+    uefi_size optional_start;     /* the offset of what the owner of the entry adds */
+    uefi_size optional_length;    /* how many bytes that has */
 };
 
 /*

@@ -89,7 +89,7 @@ static bool next_node(const uint8_t *path, size_t size, size_t *begin, size_t *e
 {
     struct uefi_device_node node = {0, 0, 0, 0};
     *begin = *end;
-    return uefi_device_path_next_node(path, size, end, &node) == UEFI_OK && node.type != END;
+    return uefi_device_path_next_node(path, size, end, &node) == UEFI_OK && node.device_type != END;
 }
 
 static bool is_equal(const uint8_t *first, const uint8_t *second, size_t size)

@@ -126,16 +126,16 @@ bool reader_next(struct reader *reader)
         /* No whole node is left before the fault that reader_begin found. */
         if (reason != UEFI_OK && reason != UEFI_END_OF_PATH)
             return false;
-        bool is_end = reason == UEFI_END_OF_PATH || node.type == END;
+        bool is_end = reason == UEFI_END_OF_PATH || node.device_type == END;
         if (is_end && has_path)
             return true;
         if (is_end) {
             reader->disk_size = 0;
-        } else if (node.type == MEDIA && node.sub_type == FILE_PATH) {
+        } else if (node.device_type == MEDIA && node.sub_type == FILE_PATH) {
             if (!add_path(reader, node))
                 return false;
             has_path = true;
-        } else if (node.type == MEDIA && node.sub_type == HARD_DRIVE) {
+        } else if (node.device_type == MEDIA && node.sub_type == HARD_DRIVE) {
             reader->disk = at;
             reader->disk_size = reader->at - at;
         }
