@@ -141,19 +141,40 @@ static bool print_nodes(struct entry entry, size_t at, size_t end)
     }
 }
 
-/* Prints whether an entry is active, and its description, which has `length` units: true where these are a text. */
-static bool print_head(struct entry entry, size_t length)
+/* Prints the character that a pair of surrogates is. */
+static void print_pair(uint16_t high, uint16_t low)
 {
-    size_t count = 0, place = 0;
-    (void)uefi_units_from_bytes(entry.bytes + HEAD, 2 * (length + 1), units, MOST_UNITS, &count);
-    uint32_t reason = uefi_string_with_nul(units, count, &place);
-    if (reason != UEFI_OK)
-        return refuse(HEAD + 2 * place, "description", reason_text(reason));
+    uint32_t character = 0x10000 + ((uint32_t)(high & 0x3ff) << 10 | (low & 0x3ff));
+    putchar((int)(0xf0 | character >> 18));
+    for (int shift = 12; 0 <= shift; shift -= 6)
+        putchar((int)(0x80 | (character >> shift & 0x3f)));
+}
+
+/* Prints units that firmware shows though they may be no text: U+FFFD stands for a surrogate without its partner. */
+static void print_units(const uint16_t *from, size_t length)
+{
+    for (size_t i = 0; i < length; i++) {
+        const uint16_t one[2] = {from[i], 0};
+        if ((from[i] & 0xf800) != 0xd800) {
+            print_text(one, 2);
+        } else if (from[i] < 0xdc00 && i + 1 < length && (from[i + 1] & 0xfc00) == 0xdc00) {
+            print_pair(from[i], from[i + 1]);
+            i++;
+        } else {
+            printf("\xef\xbf\xbd");
+        }
+    }
+}
+
+/* Prints whether an entry is active, and its description, which has `length` units. */
+static void print_head(struct entry entry, size_t length)
+{
+    size_t count = 0;
+    (void)uefi_units_from_bytes(entry.bytes + HEAD, 2 * length, units, MOST_UNITS, &count);
     printf("  active: %s\n", entry.bytes[0] & ACTIVE ? "yes" : "no");
     printf("  description: ");
-    print_text(units, count);
+    print_units(units, count);
     printf("\n");
-    return true;
 }
 
 /* Prints an entry whose bytes begin with its own attributes. */
@@ -167,7 +188,8 @@ static bool print_entry(struct entry entry)
     /* All else that is refused stands after the description, or says where the list after it ends. */
     (void)uefi_packed_until_nul(entry.bytes + HEAD, entry.size - HEAD, &length);
     size_t list = HEAD + 2 * (length + 1), end = reason == UEFI_OK ? option.optional_start : fault;
-    if (!print_head(entry, length) || !print_nodes(entry, list, end))
+    print_head(entry, length);
+    if (!print_nodes(entry, list, end))
         return false;
     return reason == UEFI_OK || refuse(fault, part_of(reason), reason_text(reason));
 }
