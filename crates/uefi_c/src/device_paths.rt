@@ -1,5 +1,5 @@
 //! Device paths in bytes that C holds: whether bytes begin with one, its nodes, and the file that it names.
-ghost use Rattle.std.specs.Prelude.{◌≡◌, ◌≢◌, ◌↔◌, ℕ, ◌+◌, ◌<◌, ◌≤◌, ◌++◌, All, List, None, Some, drop, length};
+ghost use Rattle.std.specs.Prelude.{◌≡◌, ◌≢◌, ◌↔◌, ℕ, ◌+◌, ◌<◌, ◌≤◌, ◌++◌, ◌∷◌, [], All, List, None, Some, drop, length};
 ghost use Rattle.uefi_text.specs.UnalignedCStr16.{with_prefix};
 ghost use Rattle.uefi_text.specs.Units.{nul_terminated};
 ghost use Rattle.uefi_device_nodes.specs.NodeFaults.{fault_place, node_fault};
@@ -82,6 +82,13 @@ pub extern "C" fn uefi_device_path_next_node(
     ensures start { result ≡ OK → node.new.start ≡ place.old + 4 }
     ensures after { result ≡ OK → place.new ≡ node.new.start + node.new.length }
     ensures within { result ≡ OK → place.new ≤ length bytes.now }
+    ensures next { result ≡ OK → (nodes : List Node) → BeginWithPath (drop place.old bytes.now) nodes
+        → (others : List Node) × (nodes ≡ node_in bytes.now node.new ∷ others)
+        × BeginWithPath (drop place.new bytes.now) others }
+    ensures last { result ≡ END_OF_PATH → (nodes : List Node)
+        → BeginWithPath (drop place.old bytes.now) nodes → nodes ≡ [] }
+    ensures path { (nodes : List Node) → BeginWithPath (drop place.old bytes.now) nodes
+        → result ≢ OK → result ≡ END_OF_PATH }
     ensures end { result ≡ END_OF_PATH → (place.new ≡ place.old + 4)
         × (drop place.old bytes.now ≡ node_bytes end_entire ++ drop place.new bytes.now) }
     ensures sound { node_fault (drop place.old bytes.now) ≡ None → result ≢ OK → result ≡ END_OF_PATH }
@@ -89,6 +96,8 @@ pub extern "C" fn uefi_device_path_next_node(
         → (result ≡ node_reason cause) × (place.new ≡ place.old + fault_place cause) }
     ensures unchanged { result ≢ OK → node.new ≡ node.old }
 {
+    // The law does nothing: it says that no path is refused.
+    laws::accepted_paths();
     let Some(rest) = bytes.get(*place..) else {
         return NO_END_NODE;
     };
