@@ -6,10 +6,9 @@
  *
  * A file is the variable Boot#### as Linux shows it in /sys/firmware/efi/efivars, or as another tool saved it,
  * without the four bytes of the variable's attributes in front. Its number is that of its name. The entry is an
- * EFI_LOAD_OPTION (UEFI Specification 2.10, section 3.1.3): attributes in four bytes, the length of the file
- * path list in two, the description and its NUL, the nodes of the list (section 10.2), and whatever the
- * entry's owner adds. Ends with 1 where an entry is malformed: each is refused with a reason and the offset in
- * the entry that it is found at.
+ * EFI_LOAD_OPTION (UEFI Specification 2.10, section 3.1.3), and the library reads each length in it: where it is malformed
+ * uefi_load_option_read says why, and at which offset, and what stands before that is printed first. Ends with 1 where an
+ * entry is malformed.
  */
 #include <stdio.h>
 #include <string.h>
@@ -22,8 +21,8 @@ enum { MOST_BYTES = 65536, MOST_UNITS = MOST_BYTES / 2, MOST_UTF8 = 3 * MOST_UNI
 /* LOAD_OPTION_ACTIVE, and the attributes of a variable that is kept, and seen at boot and at run time. */
 enum { ACTIVE = 1, VARIABLE_ATTRIBUTES = 7 };
 
-/* Types and subtypes of nodes. */
-enum { MEDIA = 4, FILE_PATH = 4, END = 0x7f, END_ENTIRE = 0xff };
+/* How many bytes come before a description, and the type and sub-type of a node that names a file. */
+enum { HEAD = 6, MEDIA = 4, FILE_PATH = 4 };
 
 struct entry {
     const uint8_t *bytes;
@@ -34,11 +33,28 @@ struct entry {
 static uint16_t units[MOST_UNITS];
 static uint8_t utf8[MOST_UTF8];
 
+/* What is malformed, where the reason says it. */
+static const char *part_of(uint32_t reason)
+{
+    switch ((enum uefi_reason)reason) {
+    case UEFI_OPTION_TOO_SHORT: return "entry";
+    case UEFI_DESCRIPTION_WITHOUT_END: return "description";
+    case UEFI_LIST_BEYOND_END:
+    case UEFI_EMPTY_LIST:
+    case UEFI_NO_END_NODE: return "file path list";
+    case UEFI_UNKNOWN_END:
+    case UEFI_END_WITH_DATA: return "end node";
+    default: return "node";
+    }
+}
+
 static const char *reason_text(uint32_t reason)
 {
     switch ((enum uefi_reason)reason) {
-    case UEFI_OK: return "accepted";
-    case UEFI_NO_NUL: return "no NUL ends it";
+    case UEFI_OK:
+    case UEFI_END_OF_PATH: return "accepted";
+    case UEFI_NO_NUL:
+    case UEFI_DESCRIPTION_WITHOUT_END: return "no NUL ends it";
     case UEFI_INVALID_CHAR: return "it holds a surrogate";
     case UEFI_INTERIOR_NUL: return "more follows its NUL";
     case UEFI_BUFFER_TOO_SMALL: return "it is too long";
@@ -49,6 +65,15 @@ static const char *reason_text(uint32_t reason)
     case UEFI_ILLEGAL_CHAR: return "no file's name holds the character";
     case UEFI_CLIMBS_ABOVE_ROOT: return "the path climbs above the root";
     case UEFI_NO_PARENT: return "the path has no parent";
+    case UEFI_OPTION_TOO_SHORT: return "it ends before its description";
+    case UEFI_LIST_BEYOND_END: return "its length is more than the entry has left";
+    case UEFI_EMPTY_LIST:
+    case UEFI_NO_END_NODE: return "no end node ends it";
+    case UEFI_TRUNCATED_HEADER: return "the file path list ends in its header";
+    case UEFI_UNKNOWN_END: return "it ends neither a path nor an instance";
+    case UEFI_LENGTH_BELOW_HEADER: return "its length is less than its header's";
+    case UEFI_END_WITH_DATA: return "its length is not its header's";
+    case UEFI_NODE_BEYOND_END: return "its length is more than the file path list has left";
     }
     return "unknown reason";
 }
@@ -57,16 +82,6 @@ static bool refuse(size_t offset, const char *what, const char *why)
 {
     printf("  malformed at offset %zu: %s: %s\n", offset, what, why);
     return false;
-}
-
-static uint16_t number_of_two(const uint8_t *bytes)
-{
-    return (uint16_t)(bytes[0] | bytes[1] << 8);
-}
-
-static uint32_t number_of_four(const uint8_t *bytes)
-{
-    return number_of_two(bytes) | (uint32_t)number_of_two(bytes + 2) << 16;
 }
 
 /* Prints the text of the string that `string` begins with, and `?` for what a terminal would obey. */
@@ -112,48 +127,71 @@ static bool print_path(struct entry entry, size_t at, size_t size)
     return true;
 }
 
-/* Prints what the nodes of a file path list say, which stand from `at` up to `end`. */
+/* Prints what the nodes say that name files, from the offset `at` on: all whole ones that begin before `end`. */
 static bool print_nodes(struct entry entry, size_t at, size_t end)
 {
-    bool has_ended = false;
-    while (at < end) {
-        const uint8_t *node = entry.bytes + at;
-        if (end - at < 4)
-            return refuse(at, "node", "the file path list ends in its header");
-        size_t length = number_of_two(node + 2);
-        if (length < 4)
-            return refuse(at + 2, "node", "its length is less than its header's");
-        if (end - at < length)
-            return refuse(at + 2, "node", "its length is more than the file path list has left");
-        if (node[0] == MEDIA && node[1] == FILE_PATH && !print_path(entry, at + 4, length - 4))
+    struct uefi_device_node node = {0, 0, 0, 0};
+    for (;;) {
+        uint32_t reason = uefi_device_path_next_node(entry.bytes, end, &at, &node);
+        if (reason != UEFI_OK && reason != UEFI_END_OF_PATH)
+            return true;
+        bool names_file = reason == UEFI_OK && node.device_type == MEDIA && node.sub_type == FILE_PATH;
+        if (names_file && !print_path(entry, node.start, node.length))
             return false;
-        has_ended = node[0] == END && node[1] == END_ENTIRE;
-        at += length;
     }
-    return has_ended || refuse(end, "file path list", "no end node ends it");
+}
+
+/* Prints the character that a pair of surrogates is. */
+static void print_pair(uint16_t high, uint16_t low)
+{
+    uint32_t character = 0x10000 + ((uint32_t)(high & 0x3ff) << 10 | (low & 0x3ff));
+    putchar((int)(0xf0 | character >> 18));
+    for (int shift = 12; 0 <= shift; shift -= 6)
+        putchar((int)(0x80 | (character >> shift & 0x3f)));
+}
+
+/* Prints units that firmware shows though they may be no text: U+FFFD stands for a surrogate without its partner. */
+static void print_units(const uint16_t *from, size_t length)
+{
+    for (size_t i = 0; i < length; i++) {
+        const uint16_t one[2] = {from[i], 0};
+        if ((from[i] & 0xf800) != 0xd800) {
+            print_text(one, 2);
+        } else if (from[i] < 0xdc00 && i + 1 < length && (from[i + 1] & 0xfc00) == 0xdc00) {
+            print_pair(from[i], from[i + 1]);
+            i++;
+        } else {
+            printf("\xef\xbf\xbd");
+        }
+    }
+}
+
+/* Prints whether an entry is active, and its description, which has `length` units. */
+static void print_head(struct entry entry, size_t length)
+{
+    size_t count = 0;
+    (void)uefi_units_from_bytes(entry.bytes + HEAD, 2 * length, units, MOST_UNITS, &count);
+    printf("  active: %s\n", entry.bytes[0] & ACTIVE ? "yes" : "no");
+    printf("  description: ");
+    print_units(units, count);
+    printf("\n");
 }
 
 /* Prints an entry whose bytes begin with its own attributes. */
 static bool print_entry(struct entry entry)
 {
-    size_t count = 0, length = 0;
-    if (entry.size < 6)
-        return refuse(entry.size, "entry", "it ends before its description");
-    size_t list_size = number_of_two(entry.bytes + 4);
-    size_t whole = (entry.size - 6) / 2 * 2;
-    (void)uefi_units_from_bytes(entry.bytes + 6, whole, units, MOST_UNITS, &count);
-    uint32_t reason = uefi_string_until_nul(units, count, &length);
-    if (reason != UEFI_OK)
-        return refuse(6 + 2 * length, "description", reason_text(reason));
-
-    printf("  active: %s\n", number_of_four(entry.bytes) & ACTIVE ? "yes" : "no");
-    printf("  description: ");
-    print_text(units, count);
-    printf("\n");
-    size_t at = 6 + 2 * (length + 1);
-    if (entry.size - at < list_size)
-        return refuse(4, "file path list", "its length is more than the entry has left");
-    return print_nodes(entry, at, at + list_size);
+    struct uefi_load_option option = {0, 0, 0, 0, 0, 0, 0, 0};
+    size_t fault = 0, length = 0;
+    uint32_t reason = uefi_load_option_read(entry.bytes, entry.size, &option, &fault);
+    if (reason == UEFI_OPTION_TOO_SHORT || reason == UEFI_DESCRIPTION_WITHOUT_END)
+        return refuse(fault, part_of(reason), reason_text(reason));
+    /* All else that is refused stands after the description, or says where the list after it ends. */
+    (void)uefi_packed_until_nul(entry.bytes + HEAD, entry.size - HEAD, &length);
+    size_t list = HEAD + 2 * (length + 1), end = reason == UEFI_OK ? option.optional_start : fault;
+    print_head(entry, length);
+    if (!print_nodes(entry, list, end))
+        return false;
+    return reason == UEFI_OK || refuse(fault, part_of(reason), reason_text(reason));
 }
 
 /* The four hexadecimal digits of a name Boot####, which a dash and more may follow. */
@@ -187,11 +225,12 @@ static bool print_file(const char *path)
         return refuse(MOST_BYTES, "file", "it is longer than a variable");
 
     /* No load option begins with these: the third bit of its attributes is reserved. */
-    bool has_attributes = 4 <= size && number_of_four(bytes) == VARIABLE_ATTRIBUTES;
+    static const uint8_t attributes[] = {VARIABLE_ATTRIBUTES, 0, 0, 0};
+    bool has_attributes = sizeof attributes <= size && memcmp(bytes, attributes, sizeof attributes) == 0;
     struct entry entry = {bytes, size};
     if (has_attributes) {
-        entry.bytes += 4;
-        entry.size -= 4;
+        entry.bytes += sizeof attributes;
+        entry.size -= sizeof attributes;
     }
     return print_entry(entry);
 }

@@ -1,14 +1,15 @@
 /*
- * Strings, packed code units and paths as UEFI firmware holds them.
+ * Strings, packed code units, paths, device paths and load options as UEFI firmware holds them.
  *
  * Each call is proved to do what its comment says, for every input, where its caller keeps these rules. No call can test
  * them:
  *
  * - A pointer is never null, also where the count is 0.
- * - It is aligned as its type asks: one to units, and one to a character, to two bytes, one to a size to eight. Bytes lie
- *   anywhere. The path in a device path node may begin at an odd address: uefi_units_from_bytes makes units of it first.
+ * - It is aligned as its type asks: one to units, and one to a character, to two bytes, one to a size or a struct to eight.
+ *   Bytes lie anywhere, so device paths and load options do. The path in a device path node may begin at an odd address:
+ *   uefi_units_from_bytes makes units of it first.
  * - The memory has as many elements as the count or the room says, of at most PTRDIFF_MAX bytes. All of it is initialised,
- *   also a buffer, or a size that a call only writes; with which values is up to the caller.
+ *   also a buffer, a size or a struct that a call only writes; with which values is up to the caller.
  * - Nobody else writes what a call is given while it runs, and nobody reads what it writes: no interrupt, no event's
  *   function and no other processor.
  * - Nothing that a call writes overlaps anything else that it is given. What it only reads may overlap.
@@ -72,18 +73,29 @@ extern "C" {
 
 /* Why a call refuses. */
 enum uefi_reason {
-    UEFI_OK = 0,                 /* nothing is refused */
-    UEFI_NO_NUL = 1,             /* no unit is a NUL */
-    UEFI_INVALID_CHAR = 2,       /* a unit is a surrogate, or a character is above U+FFFF */
-    UEFI_INTERIOR_NUL = 3,       /* more follows the NUL */
-    UEFI_BUFFER_TOO_SMALL = 4,   /* the buffer has too few places */
-    UEFI_NOT_UTF8 = 5,           /* the bytes are not UTF-8 */
-    UEFI_ODD_BYTES = 6,          /* the bytes are odd in number */
-    UEFI_PATH_EMPTY = 7,         /* the path is empty */
-    UEFI_EMPTY_COMPONENT = 8,    /* a component of the path is empty */
-    UEFI_ILLEGAL_CHAR = 9,       /* a component holds a character that no file's name may hold */
-    UEFI_CLIMBS_ABOVE_ROOT = 10, /* a component ".." for which no name before it is left */
-    UEFI_NO_PARENT = 11          /* the path has at most one component */
+    UEFI_OK = 0,                       /* nothing is refused */
+    UEFI_NO_NUL = 1,                   /* no unit is a NUL */
+    UEFI_INVALID_CHAR = 2,             /* a unit is a surrogate, or a character is above U+FFFF */
+    UEFI_INTERIOR_NUL = 3,             /* more follows the NUL */
+    UEFI_BUFFER_TOO_SMALL = 4,         /* the buffer has too few places */
+    UEFI_NOT_UTF8 = 5,                 /* the bytes are not UTF-8 */
+    UEFI_ODD_BYTES = 6,                /* the bytes are odd in number */
+    UEFI_PATH_EMPTY = 7,               /* the path is empty */
+    UEFI_EMPTY_COMPONENT = 8,          /* a component of the path is empty */
+    UEFI_ILLEGAL_CHAR = 9,             /* a component holds a character that no file's name may hold */
+    UEFI_CLIMBS_ABOVE_ROOT = 10,       /* a component ".." for which no name before it is left */
+    UEFI_NO_PARENT = 11,               /* the path has at most one component */
+    UEFI_NO_END_NODE = 12,             /* the bytes end where a node has to begin: no end node ends the device path */
+    UEFI_TRUNCATED_HEADER = 13,        /* the bytes end within the four bytes of a node's header */
+    UEFI_UNKNOWN_END = 14,             /* a node of type End has a sub-type that ends neither a path nor an instance */
+    UEFI_LENGTH_BELOW_HEADER = 15,     /* a node's length is less than four, its header's */
+    UEFI_END_WITH_DATA = 16,           /* the length of a node of type End is more than four */
+    UEFI_NODE_BEYOND_END = 17,         /* a node's length is more than the bytes have left */
+    UEFI_OPTION_TOO_SHORT = 18,        /* a load option has fewer than six bytes */
+    UEFI_DESCRIPTION_WITHOUT_END = 19, /* no NUL ends the description of a load option */
+    UEFI_LIST_BEYOND_END = 20,         /* the file path list is longer than what the load option has left */
+    UEFI_EMPTY_LIST = 21,              /* the file path list has no bytes */
+    UEFI_END_OF_PATH = 22              /* the node that ends the device path stands there: nothing is wrong */
 };
 
 /* The order of two strings or paths, where one side does not begin with a string. */
@@ -128,6 +140,13 @@ uefi_bool UEFI_CALL uefi_string_is_ascii(const uefi_unit *units, uefi_size count
  */
 uefi_result UEFI_CALL uefi_units_from_bytes(const uefi_byte *bytes, uefi_size byte_count,
                                             uefi_unit *buffer, uefi_size room, uefi_size *count);
+
+/*
+ * How many units stand before the first NUL of those that bytes encode, wherever the bytes begin. UEFI_OK, and `*count`
+ * becomes that number; or UEFI_NO_NUL where no unit is a NUL, and `*count` becomes half of `byte_count`, rounded down. The
+ * units may be surrogates. A byte that is left at the end counts for nothing.
+ */
+uefi_result UEFI_CALL uefi_packed_until_nul(const uefi_byte *bytes, uefi_size byte_count, uefi_size *count);
 
 /* Texts in UTF-8. */
 
@@ -246,6 +265,73 @@ uefi_result UEFI_CALL uefi_path_parent(const uefi_unit *path, uefi_size count, u
  */
 uefi_result UEFI_CALL uefi_path_normalize(const uefi_unit *path, uefi_size count, uefi_unit *buffer, uefi_size room,
                                           uefi_size *place, uefi_unit *character);
+
+/*
+ * Device paths and load options. A device path is a list of nodes, packed in bytes, of which the last one ends it (UEFI
+ * Specification 2.10, chapter 10). A load option is what a variable Boot#### holds (section 3.1.3). Any bytes may be given,
+ * and each length in them is tested before it is used. Offsets count from the first byte.
+ */
+
+/* A node of a device path: what kind it is, and where in the bytes its data stand. */
+struct uefi_device_node {
+    uefi_byte device_type; /* its type */
+    uefi_byte sub_type;    /* its sub-type, which says something together with its type alone */
+    uefi_size start;       /* the offset of its data, which follow its header */
+    uefi_size length;      /* how many bytes its data have */
+};
+
+/*
+ * Whether the bytes begin with a device path: UEFI_OK, and `*place` becomes how many bytes it has, its end node among them;
+ * or what is wrong with the first node that is none, UEFI_NO_END_NODE, UEFI_TRUNCATED_HEADER, UEFI_UNKNOWN_END,
+ * UEFI_LENGTH_BELOW_HEADER, UEFI_END_WITH_DATA or UEFI_NODE_BEYOND_END, the first of these that holds, and `*place` becomes
+ * the offset of the bytes that are at fault: the node, its sub-type or its length. What follows the path is not read.
+ */
+uefi_result UEFI_CALL uefi_device_path_check(const uefi_byte *bytes, uefi_size byte_count, uefi_size *place);
+
+/*
+ * The node that begins at the offset `*place`, any number; set it to 0 first. UEFI_OK, `*node` becomes the node, and
+ * `*place` becomes the offset after it. UEFI_END_OF_PATH where it ends the device path, and `*place` becomes the offset
+ * after it, where the next path of a list begins. Else no node begins there: the reason is one of
+ * uefi_device_path_check, and `*place` becomes the offset of the bytes that are at fault. But for UEFI_OK `*node` stays
+ * unchanged. A node that ends an instance, of type 0x7f and sub-type 1, is UEFI_OK as any other.
+ */
+uefi_result UEFI_CALL uefi_device_path_next_node(const uefi_byte *bytes, uefi_size byte_count,
+                                                 uefi_size *place, struct uefi_device_node *node);
+
+/*
+ * Writes the file path of the device path that the bytes begin with into the first places of `buffer`, and a NUL: the names
+ * in all nodes that name files, one after the other, with one separator between two, and each slash replaced. UEFI_OK, and
+ * what stands after the NUL stays; or the buffer stays unchanged: as uefi_device_path_check says, where the bytes begin
+ * with no device path, with its `*place`; then the fault of the first node that should name a file and does not,
+ * UEFI_ODD_BYTES, UEFI_NO_NUL, UEFI_INVALID_CHAR or UEFI_INTERIOR_NUL, and `*place` becomes the offset of its data; then
+ * UEFI_BUFFER_TOO_SMALL. At UEFI_OK and UEFI_BUFFER_TOO_SMALL `*place` becomes how many units the file path has, its NUL
+ * not counted.
+ */
+uefi_result UEFI_CALL uefi_device_path_file_path(const uefi_byte *bytes, uefi_size byte_count,
+                                                 uefi_unit *buffer, uefi_size room, uefi_size *place);
+
+/* What a load option says, and where its parts stand in its bytes, one after the other. */
+struct uefi_load_option {
+    uefi_size attributes;         /* a number of 32 bits; the lowest bit is LOAD_OPTION_ACTIVE */
+    uefi_size description_start;  /* the offset of the description */
+    uefi_size description_length; /* how many units it has, its NUL not counted */
+    uefi_size list_start;         /* the offset of the file path list: device paths, one after the other */
+    uefi_size list_length;        /* how many bytes it has */
+    uefi_size path_length;        /* how many bytes the first device path of it has, its end node among them */
+    uefi_size optional_start;     /* the offset of what the owner of the entry adds */
+    uefi_size optional_length;    /* how many bytes that has */
+};
+
+/*
+ * Whether the bytes are a load option: UEFI_OK, `*option` becomes what it says, and `*place` becomes `byte_count`; or the
+ * first of these that holds, `*place` becomes the offset of what is at fault, and `*option` stays unchanged:
+ * UEFI_OPTION_TOO_SHORT, and the offset is `byte_count`; UEFI_DESCRIPTION_WITHOUT_END, and it is the end of the last whole
+ * unit; UEFI_LIST_BEYOND_END, and it is 4; UEFI_EMPTY_LIST, and it is where the list begins; or the fault of the first node
+ * of the list that is none, as uefi_device_path_check says of each device path in it, and the offset counts from the first
+ * byte of the load option. The description may hold surrogates.
+ */
+uefi_result UEFI_CALL uefi_load_option_read(const uefi_byte *bytes, uefi_size byte_count,
+                                            struct uefi_load_option *option, uefi_size *place);
 
 #ifdef __cplusplus
 }

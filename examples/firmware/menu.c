@@ -10,7 +10,7 @@
 
 _Static_assert(sizeof(CHAR16) == 2 && sizeof(UINTN) == sizeof(size_t), "the types of UEFI are not those of the reader");
 
-enum { MOST_ENTRIES = 256, MOST_TARGET = 2048, NODE_HEADER = 4, END_OF_PATH = 0x7f };
+enum { MOST_ENTRIES = 256, MOST_TARGET = 2048, NODE_HEADER = 4, END = 0x7f };
 enum { KEY_UP = 1, KEY_DOWN = 2, MEDIA = 4, FILE_PATH = 4 };
 /* What a boot manager gives an entry to start, in seconds, and a number for it that is not the firmware's. */
 enum { WATCHDOG_SECONDS = 300, WATCHDOG_CODE = 0x10000 };
@@ -22,12 +22,14 @@ struct entry {
 
 static EFI_SYSTEM_TABLE *table;
 static EFI_BOOT_SERVICES *services;
+static EFI_DEVICE_PATH_UTILITIES_PROTOCOL *utilities;
 static EFI_HANDLE image, own_volume;
 
 static EFI_GUID global_variable = {0x8be4df61, 0x93ca, 0x11d2, {0xaa, 0x0d, 0x00, 0xe0, 0x98, 0x03, 0x2b, 0x8c}};
 static EFI_GUID loaded_image = {0x5b1b31a1, 0x9562, 0x11d2, {0x8e, 0x3f, 0x00, 0xa0, 0xc9, 0x69, 0x72, 0x3b}};
 static EFI_GUID file_system = {0x964e5b22, 0x6459, 0x11d2, {0x8e, 0x39, 0x00, 0xa0, 0xc9, 0x69, 0x72, 0x3b}};
 static EFI_GUID device_path = {0x09576e91, 0x6d3f, 0x11d2, {0x8e, 0x39, 0x00, 0xa0, 0xc9, 0x69, 0x72, 0x3b}};
+static EFI_GUID path_utilities = {0x0379be4e, 0xd706, 0x437d, {0xb0, 0x37, 0xed, 0xb8, 0x2f, 0xb7, 0x72, 0xa4}};
 static EFI_GUID file_info = {0x09576e92, 0x6d3f, 0x11d2, {0x8e, 0x39, 0x00, 0xa0, 0xc9, 0x69, 0x72, 0x3b}};
 
 static struct entry entries[MOST_ENTRIES];
@@ -71,22 +73,23 @@ static EFI_STATUS read_entry(uint16_t number, size_t *size)
     return read_variable(name, variable, sizeof variable, size);
 }
 
-static size_t node_size(const uint8_t *node)
-{
-    return (size_t)node[2] | (size_t)node[3] << 8;
-}
-
-/* The device path of a handle, which the firmware made, and how many bytes come before its end node. */
+/* The device path of a handle, and how many bytes it has, which the firmware says. */
 static const uint8_t *path_of(EFI_HANDLE handle, size_t *size)
 {
     void *found = NULL;
     *size = 0;
-    if (services->HandleProtocol(handle, &device_path, &found) != EFI_SUCCESS)
+    if (utilities == NULL || services->HandleProtocol(handle, &device_path, &found) != EFI_SUCCESS)
         return NULL;
-    const uint8_t *path = found;
-    while (path[*size] != END_OF_PATH && NODE_HEADER <= node_size(path + *size))
-        *size += node_size(path + *size);
-    return path;
+    *size = utilities->GetDevicePathSize(found);
+    return found;
+}
+
+/* The next node of a device path, but for those that end it or an instance: where it begins, and where it ends. */
+static bool next_node(const uint8_t *path, size_t size, size_t *begin, size_t *end)
+{
+    struct uefi_device_node node = {0, 0, 0, 0};
+    *begin = *end;
+    return uefi_device_path_next_node(path, size, end, &node) == UEFI_OK && node.device_type != END;
 }
 
 static bool is_equal(const uint8_t *first, const uint8_t *second, size_t size)
@@ -99,10 +102,10 @@ static bool is_equal(const uint8_t *first, const uint8_t *second, size_t size)
 /* Whether a handle's device path has the node of the disk that the reader found. */
 static bool lies_on_disk(EFI_HANDLE handle, const struct reader *of)
 {
-    size_t size = 0;
+    size_t size = 0, begin = 0, end = 0;
     const uint8_t *path = path_of(handle, &size);
-    for (size_t at = 0; at < size; at += node_size(path + at))
-        if (node_size(path + at) == of->disk_size && is_equal(path + at, of->bytes + of->disk, of->disk_size))
+    while (path != NULL && next_node(path, size, &begin, &end))
+        if (end - begin == of->disk_size && is_equal(path + begin, of->bytes + of->disk, of->disk_size))
             return true;
     return false;
 }
@@ -157,9 +160,11 @@ static bool write_target(uint8_t *target, EFI_HANDLE volume, const uint16_t *nor
 {
     static uint16_t whole[MOST_TARGET / 2];
     static const uint16_t root[2] = {'\\', 0};
-    static const uint8_t end[NODE_HEADER] = {END_OF_PATH, 0xff, NODE_HEADER, 0};
-    size_t before = 0, place = 0;
-    const uint8_t *path = path_of(volume, &before);
+    static const uint8_t end[NODE_HEADER] = {END, 0xff, NODE_HEADER, 0};
+    size_t size_of_path = 0, before = 0, after = 0, place = 0;
+    const uint8_t *path = path_of(volume, &size_of_path);
+    while (path != NULL && next_node(path, size_of_path, &before, &after))
+        ;
     if (path == NULL || uefi_path_join(root, 2, normal, length + 1, whole, MOST_TARGET / 2, &place) != UEFI_OK)
         return false;
     size_t bytes = 2 * (place + 1), size = NODE_HEADER + bytes;
@@ -208,7 +213,7 @@ static void start(uint16_t number)
     size_t size = 0, length = 0;
     uint16_t character = 0;
     const char *reason = "";
-    if (read_entry(number, &size) != EFI_SUCCESS || !reader_begin(&reader, variable, size))
+    if (read_entry(number, &size) != EFI_SUCCESS || !reader_begin(&reader, variable, size) || reader.fault.part != NULL)
         return;
     while (reader_next(&reader)) {
         if (!lines_normal(&reader, normal, &length, &reason, &character) || lines_look(&reader, normal) != LINES_THERE)
@@ -293,6 +298,8 @@ EFI_STATUS efi_main(EFI_HANDLE handle, EFI_SYSTEM_TABLE *system_table)
     services->SetWatchdogTimer(0, 0, 0, NULL);
     if (services->HandleProtocol(image, &loaded_image, &found) == EFI_SUCCESS)
         own_volume = ((EFI_LOADED_IMAGE *)found)->DeviceHandle;
+    if (services->LocateProtocol(&path_utilities, NULL, &found) == EFI_SUCCESS)
+        utilities = found;
     lines_put("\nboot menu\n");
     show_entries();
     lines_put("up and down choose, Enter starts, q ends\n");

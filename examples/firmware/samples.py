@@ -85,6 +85,8 @@ def named():
         b"\1\0\0\0\0",
         entry("x" * 2000, DISK + END),
         entry("too long", path("\\EFI\\menu.efi") + END, data=bytes(17000)),
+        entry("two paths", DISK + path("\\EFI\\menu.efi") + END + ODD + path("x\0y") + END, data=b"fast"),
+        entry("another end in the second path", DISK + path("\\EFI\\menu.efi") + END + bytes([0x7F, 2, 4, 0])),
     ]
 
 

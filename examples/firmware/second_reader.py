@@ -36,36 +36,36 @@ def fault_of(units):
 
 
 def nodes_of(data, start, end):
-    """The nodes from one offset to another, up to the one that ends the path: type, subtype, offset and bytes."""
-    at = start
-    while True:
+    """The nodes of device paths from one offset to another: type, subtype, offset and bytes."""
+    at, is_ended = start, False
+    while not (is_ended and at == end):
         if at == end:
             raise Malformed(end, "file path list", "no end node ends it")
         if end - at < 4:
             raise Malformed(at, "node", "the file path list ends in its header")
         kind, subtype, size = struct.unpack_from("<BBH", data, at)
+        if kind == 0x7F and subtype not in (1, 0xFF):
+            raise Malformed(at + 1, "end node", "it ends neither a path nor an instance")
         if size < 4:
             raise Malformed(at + 2, "node", "its length is less than its header's")
+        if kind == 0x7F and size != 4:
+            raise Malformed(at + 2, "end node", "its length is not its header's")
         if end - at < size:
             raise Malformed(at + 2, "node", "its length is more than the file path list has left")
         yield kind, subtype, at, data[at : at + size]
-        if (kind, subtype) == (0x7F, 0xFF):
-            return
-        at += size
+        at, is_ended = at + size, (kind, subtype) == (0x7F, 0xFF)
 
 
 def files_of(data, start, end):
-    """The files that a device path names, one for each instance: the units of the path, and the disk's node."""
-    parts, disk = [], b""
-    for kind, subtype, at, node in nodes_of(data, start, end):
+    """The files that the first device path names, one for each instance: the units of the path, and the disk's node."""
+    parts, disk, nodes = [], b"", nodes_of(data, start, end)
+    for kind, subtype, at, node in nodes:
         if kind == 0x7F:
-            if subtype not in (1, 0xFF):
-                raise Malformed(at + 1, "end node", "it ends neither a path nor an instance")
-            if len(node) != 4:
-                raise Malformed(at + 2, "end node", "its length is not its header's")
             if parts:
                 yield joined(parts), disk
             parts, disk = [], b""
+            if subtype == 0xFF:
+                break
         elif (kind, subtype) == (4, 1):
             disk = node
         elif (kind, subtype) == (4, 4):
@@ -75,6 +75,9 @@ def files_of(data, start, end):
             if fault := fault_of(units):
                 raise Malformed(at + 4 + 2 * fault[0], "file path", TEXT_FAULTS[fault[1]])
             parts.append([0x5C if it == 0x2F else it for it in units[:-1]])
+    # The others have to be device paths, whatever they name.
+    for _ in nodes:
+        pass
 
 
 def joined(parts):
@@ -130,7 +133,7 @@ def lines(number, data, look=lambda normal, disk: ""):
         is_whole = is_ended and start + size <= len(data)
         head += " not active: " if is_whole and not data[0] & 1 else ": "
         head += shown(units_of(data[6:])[:count]) if is_ended else ""
-        if surrogate is not None:
+        if is_ended and surrogate is not None:
             after.append(malformed(6 + 2 * surrogate, "description", TEXT_FAULTS["surrogate"]))
         if not is_ended:
             fault = 6 + 2 * count, "description", TEXT_FAULTS["nul"]

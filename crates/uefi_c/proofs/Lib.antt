@@ -1,2 +1,4 @@
 pub mod Places
 pub mod Tails
+pub mod Nodes
+pub mod Options

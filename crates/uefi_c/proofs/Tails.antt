@@ -57,6 +57,13 @@ prefix_in : (units buffer : List ℕ) → length units ≤ length buffer
     → with_prefix units buffer ≡ units ++ drop (length units) buffer
 prefix_in units buffer room = rw (le-ltb (length buffer) (length units) room) refl
 
+-- a text with its NUL, over a buffer that has room for both
+pub written_with_nul : (text buffer : List ℕ) → length text < length buffer
+    → with_prefix (nul_terminated text) buffer ≡ nul_terminated text ++ drop (length text + 1) buffer
+written_with_nul text buffer room =
+    let all = length-append text (0 ∷ []) in
+    prefix_in (nul_terminated text) buffer (omega (arith, all, room)) ∙ ap (λ n. nul_terminated text ++ drop n buffer) all
+
 -- a buffer that already begins with a text, with what is added after it, or without the text
 pub with_prefix_after : (text added buffer : List ℕ) (end : ℕ) → length text ≡ end
     → length (text ++ added) < length buffer

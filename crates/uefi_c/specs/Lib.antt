@@ -2,3 +2,4 @@ pub mod Reasons
 pub mod Strings
 pub mod PathPlaces
 pub mod Buffers
+pub mod DevicePaths

@@ -10,7 +10,13 @@ use Rattle.uefi_text_encodings.specs.declared.errors.FromStrWithBufError.{FromSt
 use Rattle.uefi_text_encodings.specs.declared.errors.FromStrWithBufError.TheVariants as with_buf
 use Rattle.uefi_path.specs.declared.validation.PathError.{PathError}
 use Rattle.uefi_path.specs.declared.validation.PathError.TheVariants.{Empty, EmptyComponent, IllegalChar, ClimbsAboveRoot}
-use Rattle.uefi_c.specs.declared.reasons.TheConstants.{OK, NO_NUL, INVALID_CHAR, INTERIOR_NUL, BUFFER_TOO_SMALL, PATH_EMPTY, EMPTY_COMPONENT, ILLEGAL_CHAR, CLIMBS_ABOVE_ROOT}
+use Rattle.uefi_device_nodes.specs.declared.errors.NodeError.{NodeError}
+use Rattle.uefi_device_nodes.specs.declared.errors.NodeError.TheVariants as node
+use Rattle.uefi_device_path.specs.declared.errors.FilePathCause.{FilePathCause}
+use Rattle.uefi_device_path.specs.declared.errors.FilePathCause.TheVariants as file
+use Rattle.uefi_device_path.specs.declared.errors.LoadOptionCause.{LoadOptionCause}
+use Rattle.uefi_device_path.specs.declared.errors.LoadOptionCause.TheVariants as option
+use Rattle.uefi_c.specs.declared.reasons.TheConstants.{OK, NO_NUL, INVALID_CHAR, INTERIOR_NUL, BUFFER_TOO_SMALL, ODD_BYTES, PATH_EMPTY, EMPTY_COMPONENT, ILLEGAL_CHAR, CLIMBS_ABOVE_ROOT, NO_END_NODE, TRUNCATED_HEADER, UNKNOWN_END, LENGTH_BELOW_HEADER, END_WITH_DATA, NODE_BEYOND_END, OPTION_TOO_SHORT, DESCRIPTION_WITHOUT_END, LIST_BEYOND_END, EMPTY_LIST}
 
 -- the reason why units begin with no string; memory is never the reason
 abbrev pub until_nul_reason : Option FromSliceUntilNulError → ℕ
@@ -56,3 +62,26 @@ abbrev pub order_number : Ordering → ℤ
 order_number Less = negsuc 0
 order_number Equal = pos 0
 order_number Greater = pos 1
+
+-- the reason why no node of a device path stands at a place
+abbrev pub node_reason : NodeError → ℕ
+node_reason node.Missing = NO_END_NODE
+node_reason node.TruncatedHeader = TRUNCATED_HEADER
+node_reason node.UnknownEnd = UNKNOWN_END
+node_reason node.LengthBelowHeader = LENGTH_BELOW_HEADER
+node_reason node.EndWithData = END_WITH_DATA
+node_reason node.BeyondEnd = NODE_BEYOND_END
+
+-- the reason why bytes are no load option
+abbrev pub option_reason : LoadOptionCause → ℕ
+option_reason option.TooShort = OPTION_TOO_SHORT
+option_reason option.DescriptionWithoutEnd = DESCRIPTION_WITHOUT_END
+option_reason option.ListBeyondEnd = LIST_BEYOND_END
+option_reason option.EmptyList = EMPTY_LIST
+option_reason (option.FilePathList cause) = node_reason cause
+
+-- the reason why a node that names a file has no name; memory is never the reason
+abbrev pub name_reason : FilePathCause → ℕ
+name_reason file.HalfUnit = ODD_BYTES
+name_reason (file.Text error) = with_nul_reason (Some error)
+name_reason file.OutOfMemory = ODD_BYTES

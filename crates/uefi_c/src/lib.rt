@@ -5,6 +5,8 @@
 #![tactic(auto)]
 
 pub mod buffers;
+pub mod device_paths;
+pub mod load_options;
 pub mod packed;
 pub mod paths;
 pub mod reasons;

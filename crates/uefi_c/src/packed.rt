@@ -1,8 +1,10 @@
 //! Code units that lie packed in bytes, as the tables and device paths of firmware hold them.
-ghost use Rattle.std.specs.Prelude.{◌≡◌, ◌≢◌, ◌↔◌, ◌/◌, ◌%◌, ◌≤◌, ◌++◌, drop, length};
+ghost use Rattle.std.specs.Prelude.{◌≡◌, ◌≢◌, ◌↔◌, ℕ, ◌+◌, ◌/◌, ◌%◌, ◌≤◌, ◌++◌, List, drop, length};
+ghost use Rattle.uefi_text.specs.PackedStrings.{SplitsUntilNul};
 ghost use Rattle.uefi_text.specs.UnitBytes.{units_of_bytes};
 
-use crate::reasons::{BUFFER_TOO_SMALL, ODD_BYTES, OK};
+use crate::reasons::{BUFFER_TOO_SMALL, NO_NUL, ODD_BYTES, OK};
+use uefi_text::UnalignedSlice;
 use uefi_text::unaligned_slice::read_items;
 
 /// Copies the code units that bytes encode, two bytes each with the low one first, into the prefix of a
@@ -33,4 +35,29 @@ pub extern "C" fn uefi_units_from_bytes(bytes: &[u8], buffer: &mut [u16], count:
     // `UnalignedSlice::copy_to` would be a call of `memmove`.
     read_items(bytes, &mut buffer[..len]);
     OK
+}
+
+/// How many units stand before the first NUL of those that bytes encode, wherever these begin: `OK`, or
+/// `NO_NUL` where none is a NUL. They may be surrogates.
+///
+/// `count` becomes their number, and where no NUL is among the units that of all of them: a byte that is
+/// left at the end counts for nothing. One pass up to the NUL; takes no memory.
+#[unsafe(no_mangle)]
+pub extern "C" fn uefi_packed_until_nul(bytes: &[u8], count: &mut usize) -> u32
+    ensures accepts { (result ≡ OK)
+        ↔ ((units : List ℕ) × (rest : List ℕ) × SplitsUntilNul bytes.now units rest) }
+    ensures count { (units : List ℕ) → (rest : List ℕ) → SplitsUntilNul bytes.now units rest
+        → count.new + 1 ≡ length units }
+    ensures none { result ≢ OK → (result ≡ NO_NUL) × (count.new ≡ length bytes.now / 2) }
+{
+    match UnalignedSlice::split_until_nul(bytes) {
+        Some((units, _)) => {
+            *count = units.len() - 1;
+            OK
+        }
+        None => {
+            *count = bytes.len() / 2;
+            NO_NUL
+        }
+    }
 }

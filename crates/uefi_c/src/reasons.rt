@@ -1,8 +1,9 @@
 //! Why a call refuses, as numbers: the header's `enum uefi_reason` has the same.
 ghost use Rattle.std.specs.Prelude.{◌≡◌, Some, pos};
-ghost use Rattle.uefi_c.specs.Reasons.{order_number, path_reason, refused_character, until_nul_reason, with_buf_reason, with_nul_reason};
+ghost use Rattle.uefi_c.specs.Reasons.{name_reason, node_reason, option_reason, order_number, path_reason, refused_character, until_nul_reason, with_buf_reason, with_nul_reason};
 
 use std::cmp::Ordering;
+use uefi_device_path::{FilePathCause, LoadOptionCause, NodeError};
 use uefi_path::PathError;
 use uefi_text::{FromSliceUntilNulError, FromSliceWithNulError, FromStrWithBufError};
 
@@ -42,6 +43,39 @@ pub const CLIMBS_ABOVE_ROOT: u32 = 10;
 /// The path has at most one component, and so no parent.
 pub const NO_PARENT: u32 = 11;
 
+/// The bytes end where a node has to begin: no end node ends the device path.
+pub const NO_END_NODE: u32 = 12;
+
+/// The bytes end within the header of a node.
+pub const TRUNCATED_HEADER: u32 = 13;
+
+/// A node of type End has a sub-type that ends neither a path nor an instance.
+pub const UNKNOWN_END: u32 = 14;
+
+/// The header of a node states a length below its own.
+pub const LENGTH_BELOW_HEADER: u32 = 15;
+
+/// A node of type End states a length above its header's.
+pub const END_WITH_DATA: u32 = 16;
+
+/// A node states a length beyond the end of the bytes.
+pub const NODE_BEYOND_END: u32 = 17;
+
+/// The bytes end before the description of a load option.
+pub const OPTION_TOO_SHORT: u32 = 18;
+
+/// No NUL ends the description of a load option.
+pub const DESCRIPTION_WITHOUT_END: u32 = 19;
+
+/// The file path list of a load option goes beyond the end of the bytes.
+pub const LIST_BEYOND_END: u32 = 20;
+
+/// The file path list of a load option has no bytes.
+pub const EMPTY_LIST: u32 = 21;
+
+/// The node that ends the device path stands there.
+pub const END_OF_PATH: u32 = 22;
+
 /// The order of two strings of which one is none.
 pub const NO_ORDER: i32 = 2;
 
@@ -60,6 +94,17 @@ pub fn numbers()
     ensures illegal_char { ILLEGAL_CHAR ≡ 9 }
     ensures climbs { CLIMBS_ABOVE_ROOT ≡ 10 }
     ensures no_parent { NO_PARENT ≡ 11 }
+    ensures no_end_node { NO_END_NODE ≡ 12 }
+    ensures truncated_header { TRUNCATED_HEADER ≡ 13 }
+    ensures unknown_end { UNKNOWN_END ≡ 14 }
+    ensures length_below_header { LENGTH_BELOW_HEADER ≡ 15 }
+    ensures end_with_data { END_WITH_DATA ≡ 16 }
+    ensures node_beyond_end { NODE_BEYOND_END ≡ 17 }
+    ensures option_too_short { OPTION_TOO_SHORT ≡ 18 }
+    ensures description_without_end { DESCRIPTION_WITHOUT_END ≡ 19 }
+    ensures list_beyond_end { LIST_BEYOND_END ≡ 20 }
+    ensures empty_list { EMPTY_LIST ≡ 21 }
+    ensures end_of_path { END_OF_PATH ≡ 22 }
     ensures no_order { NO_ORDER ≡ pos 2 }
 {}
 
@@ -107,6 +152,43 @@ pub(crate) fn path_reason(error: PathError) -> (u32, u16)
         PathError::EmptyComponent => (EMPTY_COMPONENT, 0),
         PathError::IllegalChar(character) => (ILLEGAL_CHAR, u16::from(character)),
         PathError::ClimbsAboveRoot => (CLIMBS_ABOVE_ROOT, 0),
+    }
+}
+
+/// The reason why no node of a device path stands at a place.
+pub(crate) fn node_reason(error: NodeError) -> u32
+    ensures { result ≡ node_reason error }
+{
+    match error {
+        NodeError::Missing => NO_END_NODE,
+        NodeError::TruncatedHeader => TRUNCATED_HEADER,
+        NodeError::UnknownEnd => UNKNOWN_END,
+        NodeError::LengthBelowHeader => LENGTH_BELOW_HEADER,
+        NodeError::EndWithData => END_WITH_DATA,
+        NodeError::BeyondEnd => NODE_BEYOND_END,
+    }
+}
+
+/// The reason why bytes are no load option.
+pub(crate) fn option_reason(cause: LoadOptionCause) -> u32
+    ensures { result ≡ option_reason cause }
+{
+    match cause {
+        LoadOptionCause::TooShort => OPTION_TOO_SHORT,
+        LoadOptionCause::DescriptionWithoutEnd => DESCRIPTION_WITHOUT_END,
+        LoadOptionCause::ListBeyondEnd => LIST_BEYOND_END,
+        LoadOptionCause::EmptyList => EMPTY_LIST,
+        LoadOptionCause::FilePathList(error) => node_reason(error),
+    }
+}
+
+/// The reason why a node that names a file has no name.
+pub(crate) fn name_reason(cause: FilePathCause) -> u32
+    ensures { result ≡ name_reason cause }
+{
+    match cause {
+        FilePathCause::HalfUnit | FilePathCause::OutOfMemory => ODD_BYTES,
+        FilePathCause::Text(error) => with_nul_reason(error),
     }
 }
 

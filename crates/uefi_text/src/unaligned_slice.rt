@@ -293,7 +293,9 @@ impl<'a, T: Packed> UnalignedSlice<'a, T> {
     }
 
     /// Writes the items into `dest`, one after the other: for a few items, where a call of `memmove`
-    /// gains nothing.
+    /// gains nothing. Apart from a caller that has a block of its own, since the compiler would make a call
+    /// of `memcpy` there, which the exports to C can't have.
+    #[inline(never)]
     fn copy_each_to(&self, dest: &mut [T])
         requires { length dest.old ≡ length (items_of self.now) }
         ensures { map T.number dest.new ≡ items_of self.now }

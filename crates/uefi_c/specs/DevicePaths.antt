@@ -1,0 +1,25 @@
+-- What places in bytes show: a node of a device path, and the parts of a load option.
+use Rattle.std.specs.Prelude.{◌≡◌, ℕ, ◌+◌, ◌*◌, List, ◌∷◌, length, slice_range}
+use Rattle.uefi_device_nodes.specs.Nodes.{Node, node_with}
+use Rattle.uefi_device_path.specs.LoadOptions.{Entry}
+use Rattle.uefi_device_path.specs.PathLists.{list_bytes}
+use Rattle.uefi_device_path.specs.Paths.{path_bytes}
+use Rattle.uefi_c.specs.declared.device_paths.DeviceNode.{DeviceNode}
+use Rattle.uefi_c.specs.declared.load_options.LoadOptionParts.{LoadOptionParts}
+
+-- the node whose data stand in bytes from its start on
+abbrev pub node_in : List ℕ → DeviceNode → Node
+node_in bytes node =
+    node_with node.device_type node.sub_type (slice_range bytes node.start (node.start + node.length))
+
+-- where the parts of a load option stand in its bytes, one after the other, and how long they are
+pub record HasParts (entry : Entry) (parts : LoadOptionParts) : Type 0 where
+  pub attributes : parts.attributes ≡ entry.attributes
+  pub description_start : parts.description_start ≡ 6
+  pub description_length : parts.description_length ≡ length entry.description
+  pub list_start : parts.list_start ≡ 6 + 2 * (length entry.description + 1)
+  pub list_length : parts.list_length ≡ length (list_bytes entry.paths)
+  pub path_length : (first : List Node) (others : List (List Node)) → entry.paths ≡ first ∷ others
+      → parts.path_length ≡ length (path_bytes first)
+  pub optional_start : parts.optional_start ≡ parts.list_start + parts.list_length
+  pub optional_length : parts.optional_length ≡ length entry.optional

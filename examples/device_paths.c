@@ -1,0 +1,167 @@
+/*
+ * Reads device paths and load options, good ones and bad ones, by each call of the library that does so, and compares what
+ * comes back with what the UEFI Specification 2.10 gives: sections 3.1.3, 10.2 and 10.3. Prints each row that differs, and
+ * ends with 1 where one does.
+ */
+#include <stdio.h>
+#include <string.h>
+
+#include "uefi_text.h"
+
+/* A PCI function, a file \a, and the node that ends the path; and a load option "b" of that path and one byte more. */
+#define PATH 1, 1, 6, 0, 0, 0x1f, 4, 4, 10, 0, '\\', 0, 'a', 0, 0, 0, 0x7f, 0xff, 4, 0
+static const uint8_t path[] = {PATH, 9};
+static const uint8_t option[] = {1, 0, 0, 0, 20, 0, 'b', 0, 0, 0, PATH, 9};
+enum { PATH_SIZE = 20, LIST = 10 };
+
+static int failed;
+
+static void expect(bool is_so, const char *call, size_t row)
+{
+    if (!is_so) {
+        printf("%s, row %zu: WRONG\n", call, row);
+        failed = 1;
+    }
+}
+
+struct row {
+    uint8_t bytes[12];
+    size_t size;
+    uint32_t reason;
+    size_t place;
+};
+
+static void check_paths(void)
+{
+    static const struct row rows[] = {
+        {{0x7f, 0xff, 4, 0, 9}, 5, UEFI_OK, 4},
+        {{0x7f, 1, 4, 0, 0x7f, 0xff, 4, 0}, 8, UEFI_OK, 8},
+        {{0}, 0, UEFI_NO_END_NODE, 0},
+        {{1, 1, 4, 0}, 4, UEFI_NO_END_NODE, 4},
+        {{1, 1, 4, 0, 0x7f, 0xff, 4}, 7, UEFI_TRUNCATED_HEADER, 4},
+        {{0x7f, 2, 3, 0}, 4, UEFI_UNKNOWN_END, 1},
+        {{0x7f, 0xff, 3, 0}, 4, UEFI_LENGTH_BELOW_HEADER, 2},
+        {{0x7f, 0xff, 5, 0, 0}, 5, UEFI_END_WITH_DATA, 2},
+        {{1, 1, 4, 0, 1, 1, 5, 0}, 8, UEFI_NODE_BEYOND_END, 6},
+    };
+    for (size_t i = 0; i < sizeof rows / sizeof rows[0]; i++) {
+        size_t place = 99;
+        uint32_t reason = uefi_device_path_check(rows[i].bytes, rows[i].size, &place);
+        expect(reason == rows[i].reason && place == rows[i].place, "uefi_device_path_check", i);
+    }
+    size_t place = 99;
+    expect(uefi_device_path_check(path, sizeof path, &place) == UEFI_OK && place == PATH_SIZE, "uefi_device_path_check", 9);
+}
+
+static void walk_nodes(void)
+{
+    static const struct {
+        uint32_t reason;
+        size_t place;
+        struct uefi_device_node node;
+    } rows[] = {
+        {UEFI_OK, 6, {1, 1, 4, 2}},
+        {UEFI_OK, 16, {4, 4, 10, 6}},
+        {UEFI_END_OF_PATH, 20, {4, 4, 10, 6}},
+        {UEFI_TRUNCATED_HEADER, 20, {4, 4, 10, 6}},
+    };
+    struct uefi_device_node node = {0, 0, 0, 0};
+    size_t place = 0, rows_count = sizeof rows / sizeof rows[0];
+    for (size_t i = 0; i < rows_count; i++) {
+        uint32_t reason = uefi_device_path_next_node(path, sizeof path, &place, &node);
+        bool is_node = node.device_type == rows[i].node.device_type && node.sub_type == rows[i].node.sub_type
+                       && node.start == rows[i].node.start && node.length == rows[i].node.length;
+        expect(reason == rows[i].reason && place == rows[i].place && is_node, "uefi_device_path_next_node", i);
+    }
+    /* Any place may be given. */
+    size_t far = (size_t)-1;
+    uint32_t reason = uefi_device_path_next_node(path, sizeof path, &far, &node);
+    expect(reason == UEFI_NO_END_NODE && far == (size_t)-1 && node.start == 10, "uefi_device_path_next_node", rows_count);
+}
+
+static void write_file_paths(void)
+{
+    static const struct row rows[] = {
+        {{4, 4, 5, 0, 'a', 0x7f, 0xff, 4, 0}, 9, UEFI_ODD_BYTES, 4},
+        {{4, 4, 6, 0, 'a', 0, 0x7f, 0xff, 4, 0}, 10, UEFI_NO_NUL, 4},
+        {{4, 4, 6, 0, 0, 0xd8, 0x7f, 0xff, 4, 0}, 10, UEFI_INVALID_CHAR, 4},
+        {{4, 4, 8, 0, 0, 0, 0, 0, 0x7f, 0xff, 4, 0}, 12, UEFI_INTERIOR_NUL, 4},
+        {{4, 4, 4, 0}, 4, UEFI_NO_END_NODE, 4},
+        {{0x7f, 0xff, 4, 0}, 4, UEFI_OK, 0},
+    };
+    for (size_t i = 0; i < sizeof rows / sizeof rows[0]; i++) {
+        uint16_t buffer[2] = {7, 7};
+        size_t place = 99;
+        uint32_t reason = uefi_device_path_file_path(rows[i].bytes, rows[i].size, buffer, 2, &place);
+        bool is_kept = buffer[0] == (reason == UEFI_OK ? 0 : 7) && buffer[1] == 7;
+        expect(reason == rows[i].reason && place == rows[i].place && is_kept, "uefi_device_path_file_path", i);
+    }
+    uint16_t buffer[4] = {7, 7, 7, 7};
+    size_t place = 99;
+    uint32_t reason = uefi_device_path_file_path(path, sizeof path, buffer, 2, &place);
+    expect(reason == UEFI_BUFFER_TOO_SMALL && place == 2 && buffer[0] == 7, "uefi_device_path_file_path", 6);
+    reason = uefi_device_path_file_path(path, sizeof path, buffer, 4, &place);
+    bool is_path = buffer[0] == '\\' && buffer[1] == 'a' && buffer[2] == 0 && buffer[3] == 7;
+    expect(reason == UEFI_OK && place == 2 && is_path, "uefi_device_path_file_path", 7);
+}
+
+static void read_options(void)
+{
+    /* The first bytes of `option`, of which some are changed: how many, at which offset, to what. */
+    static const struct {
+        size_t size, at;
+        uint8_t byte;
+        uint32_t reason;
+        size_t place;
+    } rows[] = {
+        {5, 0, 1, UEFI_OPTION_TOO_SHORT, 5},
+        {9, 0, 1, UEFI_DESCRIPTION_WITHOUT_END, 8},
+        {29, 0, 1, UEFI_LIST_BEYOND_END, 4},
+        {31, 4, 0, UEFI_EMPTY_LIST, LIST},
+        {31, 4, 21, UEFI_TRUNCATED_HEADER, LIST + PATH_SIZE},
+        {31, 4, 16, UEFI_NO_END_NODE, LIST + 16},
+        {31, LIST + 17, 2, UEFI_UNKNOWN_END, LIST + 17},
+    };
+    for (size_t i = 0; i < sizeof rows / sizeof rows[0]; i++) {
+        struct uefi_load_option parts = {7, 7, 7, 7, 7, 7, 7, 7};
+        uint8_t changed[sizeof option];
+        size_t place = 99;
+        memcpy(changed, option, sizeof option);
+        changed[rows[i].at] = rows[i].byte;
+        uint32_t reason = uefi_load_option_read(changed, rows[i].size, &parts, &place);
+        bool is_kept = parts.attributes == 7 && parts.optional_length == 7;
+        expect(reason == rows[i].reason && place == rows[i].place && is_kept, "uefi_load_option_read", i);
+    }
+    struct uefi_load_option parts = {0, 0, 0, 0, 0, 0, 0, 0};
+    size_t place = 99;
+    uint32_t reason = uefi_load_option_read(option, sizeof option, &parts, &place);
+    bool is_read = parts.attributes == 1 && parts.description_start == 6 && parts.description_length == 1
+                   && parts.list_start == LIST && parts.list_length == PATH_SIZE && parts.path_length == PATH_SIZE
+                   && parts.optional_start == LIST + PATH_SIZE && parts.optional_length == 1;
+    expect(reason == UEFI_OK && place == sizeof option && is_read, "uefi_load_option_read", 7);
+}
+
+static void count_units(void)
+{
+    static const struct row rows[] = {
+        {{'a', 0, 0, 0, 'b'}, 5, UEFI_OK, 1},
+        {{0, 0xd8, 0, 0}, 4, UEFI_OK, 1},
+        {{'a', 0, 'b', 0, 0}, 5, UEFI_NO_NUL, 2},
+        {{0}, 0, UEFI_NO_NUL, 0},
+    };
+    for (size_t i = 0; i < sizeof rows / sizeof rows[0]; i++) {
+        size_t count = 99;
+        uint32_t reason = uefi_packed_until_nul(rows[i].bytes, rows[i].size, &count);
+        expect(reason == rows[i].reason && count == rows[i].place, "uefi_packed_until_nul", i);
+    }
+}
+
+int main(void)
+{
+    check_paths();
+    walk_nodes();
+    write_file_paths();
+    read_options();
+    count_units();
+    return failed;
+}
