@@ -6,6 +6,7 @@ ghost use Rattle.std.specs.Result.{result_err};
 ghost use Rattle.uefi_device_nodes.specs.TypedNodes.{IsOfKind, kind_refusal, number_at};
 
 use crate::errors::NodeConversionError;
+use crate::guid::Guid;
 use crate::node::DevicePathNode;
 use std::alloc::AllocError;
 use std::marker::PhantomData;
@@ -82,9 +83,18 @@ impl<'a, K: NodeKind> TypedNode<'a, K> {
     /// The bytes from a place on.
     pub(crate) fn part(&self, place: usize, len: usize) -> &'a [u8]
         requires { place + len ≤ K.LEAST }
-        ensures { result.now ≡ slice_range (data_of self.now) place (place + len) }
+        ensures bytes { result.now ≡ slice_range (data_of self.now) place (place + len) }
+        ensures len { length result.now ≡ len }
     {
         &self.data[place..place + len]
+    }
+
+    /// The GUID that begins at a place.
+    pub(crate) fn guid(&self, place: usize) -> Guid<'a>
+        requires { place + 16 ≤ K.LEAST }
+        ensures { result.bytes.now ≡ slice_range (data_of self.now) place (place + 16) }
+    {
+        Guid::of(self.part(place, 16))
     }
 
     /// The bytes from a place on, or `None` where the data end before the last of them.
