@@ -2,9 +2,9 @@
 #![tactic(auto)]
 
 use crate::hardware::{HardwareVendorKind, PciKind};
-use crate::hexadecimal::CommaBytes;
 use crate::typed_node::TypedNode;
 use std::fmt;
+use uefi_field_texts::hexadecimal::CommaBytes;
 
 /// Prints `Pci(0xDEVICE,0xFUNCTION)`.
 impl<'a> fmt::Display for TypedNode<'a, PciKind> {
@@ -19,7 +19,7 @@ impl<'a> fmt::Display for TypedNode<'a, PciKind> {
     }
 }
 
-/// Prints `VenHw(GUID)`, and the bytes of the data after a comma where there are some.
+/// Prints `VenHw(GUID)`, with the bytes of the data after a comma where there are some.
 impl<'a> fmt::Display for TypedNode<'a, HardwareVendorKind> {
     ghost use Rattle.std.specs.Prelude.{Some, codes};
     ghost use Rattle.uefi_device_nodes.specs.NodeTexts.{vendor_text};
@@ -28,11 +28,6 @@ impl<'a> fmt::Display for TypedNode<'a, HardwareVendorKind> {
     ghost output = { λ node. Some (vendor_text (codes "VenHw") (data_of node)) };
 
     fn fmt<W: fmt::Write>(&self, f: &mut fmt::Formatter<W>) -> fmt::Result {
-        write!(
-            f,
-            "VenHw({}{})",
-            self.guid(0),
-            CommaBytes(self.tail(16))
-        )
+        write!(f, "VenHw({}{})", self.guid(0), CommaBytes(self.tail(16)))
     }
 }

@@ -6,10 +6,10 @@ ghost use Rattle.std.specs.Result.{result_err};
 ghost use Rattle.uefi_device_nodes.specs.TypedNodes.{IsOfKind, kind_refusal, number_at};
 
 use crate::errors::NodeConversionError;
-use crate::guid::Guid;
 use crate::node::DevicePathNode;
 use std::alloc::AllocError;
 use std::marker::PhantomData;
+use uefi_field_texts::guid::Guid;
 use uefi_text::Packed;
 
 /// A kind of node: its type, its sub-type, and how many bytes of data each node of it has at least.
@@ -94,7 +94,9 @@ impl<'a, K: NodeKind> TypedNode<'a, K> {
         requires { place + 16 ≤ K.LEAST }
         ensures { result.bytes.now ≡ slice_range (data_of self.now) place (place + 16) }
     {
-        Guid::of(self.part(place, 16))
+        Guid {
+            bytes: self.part(place, 16),
+        }
     }
 
     /// The bytes from a place on, or `None` where the data end before the last of them.
@@ -103,6 +105,7 @@ impl<'a, K: NodeKind> TypedNode<'a, K> {
         ensures some { IsSome result ↔ (place + len ≤ length (data_of self.now)) }
         ensures bytes { IfSome result (λ bytes.
             bytes.now ≡ slice_range (data_of self.now) place (place + len)) }
+        ensures len { IfSome result (λ bytes. length bytes.now ≡ len) }
     {
         if self.data.len() < place + len {
             return None;
