@@ -1,8 +1,8 @@
 -- What is printed of nodes, in UTF-8 (UEFI Specification 2.10, section 10.6.1).
-use Rattle.std.specs.Prelude.{ℕ, ◌%◌, ◌==◌, ◌&&◌, Bool, not, nat_le, nat_lt, if◌then◌else◌, List, [], ◌∷◌, ◌++◌, codes, drop, length, slice_range}
+use Rattle.std.specs.Prelude.{ℕ, ◌%◌, ◌==◌, ◌&&◌, Bool, nat_le, nat_lt, if◌then◌else◌, List, [], ◌∷◌, ◌++◌, codes, drop, length, slice_range}
 use Rattle.std.specs.Fmt.{decimal}
 use Rattle.std.specs.List.{concat}
-use Rattle.uefi_field_texts.specs.FieldTexts.{after_nul, comma_bytes, dashed_back, eisa_text, guid_text, hex, hex_back, hex_bytes, hex_four, ipv4_address, ipv6_address, protocol_text, shown_bytes, until_nul, utf16_text}
+use Rattle.uefi_field_texts.specs.FieldTexts.{comma_bytes, dashed_back, boot_type_text, eisa_text, cid_string, guid_text, has_uid_alone, hex, hex_back, hex_bytes, hid_string, ipv4_address, ipv4_origin, ipv6_address, ipv6_origin, pnp_start, protocol_text, ram_disk_name, shown_bytes, uid_string, until_nul, utf16_text, vendor_name}
 use Rattle.uefi_device_nodes.specs.Nodes.{Node}
 use Rattle.uefi_device_nodes.specs.FileNodes.{is_file}
 use Rattle.uefi_device_nodes.specs.TypedNodes.{is_kind, number_at}
@@ -19,16 +19,6 @@ abbrev pub vendor_text : List ℕ → List ℕ → List ℕ
 vendor_text name content =
     concat (name ∷ codes "(" ∷ guid_text (slice_range content 0 16) ∷ comma_bytes (drop 16 content) ∷ codes ")" ∷ [])
 
--- what stands before the number of a device that ACPI names by a number under PNP
-unfoldable pub pnp_start : ℕ → List ℕ
-pnp_start id = if id == 0x0a03 then codes "PciRoot("
-    else if id == 0x0a08 then codes "PcieRoot("
-    else if id == 0x0604 then codes "Floppy("
-    else if id == 0x0301 then codes "Keyboard("
-    else if id == 0x0501 then codes "Serial("
-    else if id == 0x0401 then codes "ParallelPort("
-    else concat (codes "Acpi(PNP" ∷ hex_four id ∷ codes "," ∷ [])
-
 -- what stands before the number of a device that ACPI names: an ID of EISA under PNP has 0x41d0 as its low half
 unfoldable pub acpi_start : List ℕ → List ℕ
 acpi_start content = if number_at 0 2 content == 0x41d0 then pnp_start (number_at 2 2 content)
@@ -38,46 +28,19 @@ acpi_start content = if number_at 0 2 content == 0x41d0 then pnp_start (number_a
 abbrev pub acpi_text : List ℕ → List ℕ
 acpi_text content = concat (acpi_start content ∷ codes "0x" ∷ hex (number_at 4 4 content) ∷ codes ")" ∷ [])
 
--- the strings of a device that ACPI names by strings, which lie as _HID, _UID, _CID
-abbrev pub hid_string : List ℕ → List ℕ
-hid_string content = until_nul (drop 12 content)
-
-abbrev pub uid_string : List ℕ → List ℕ
-uid_string content = until_nul (after_nul (drop 12 content))
-
-abbrev pub cid_string : List ℕ → List ℕ
-cid_string content = until_nul (after_nul (after_nul (drop 12 content)))
-
--- the test for a device that has a string for _UID alone
-abbrev pub has_uid_alone : List ℕ → Bool
-has_uid_alone content = (length (hid_string content) == 0) && ((length (cid_string content) == 0)
-    && not (length (uid_string content) == 0))
-
 -- a device that ACPI names by numbers or by strings
 abbrev pub expanded_text : Bool → List ℕ → List ℕ
 expanded_text shortcuts content = let hid = eisa_text (number_at 0 4 content) in let cid = eisa_text (number_at 8 4 content) in
-    if shortcuts && has_uid_alone content
-    then concat (codes "AcpiExp(" ∷ hid ∷ codes "," ∷ cid ∷ codes "," ∷ shown_bytes (uid_string content) ∷ codes ")" ∷ [])
+    if shortcuts && has_uid_alone (drop 12 content)
+    then concat (codes "AcpiExp(" ∷ hid ∷ codes "," ∷ cid ∷ codes "," ∷ shown_bytes (uid_string (drop 12 content)) ∷ codes ")" ∷ [])
     else concat (codes "AcpiEx(" ∷ hid ∷ codes "," ∷ cid ∷ codes ",0x" ∷ hex (number_at 4 4 content)
-    ∷ codes "," ∷ shown_bytes (hid_string content) ∷ codes "," ∷ shown_bytes (cid_string content)
-    ∷ codes "," ∷ shown_bytes (uid_string content) ∷ codes ")" ∷ [])
+    ∷ codes "," ∷ shown_bytes (hid_string (drop 12 content)) ∷ codes "," ∷ shown_bytes (cid_string (drop 12 content))
+    ∷ codes "," ∷ shown_bytes (uid_string (drop 12 content)) ∷ codes ")" ∷ [])
 
 -- a device on a USB bus
 abbrev pub usb_text : List ℕ → List ℕ
 usb_text content =
     concat (codes "USB(0x" ∷ hex (number_at 0 1 content) ∷ codes ",0x" ∷ hex (number_at 1 1 content) ∷ codes ")" ∷ [])
-
--- the shorter name of a vendor, by the two halves of its GUID, or none:
--- E0C14753-F9BE-11D2-9A0C-0090273FC14D, DFA66065-B419-11D3-9A2D-0090273FC14D, 7BAEC70B-57E0-4C76-8E87-2F9E28088343,
--- AD15A0D6-8BEC-4ACF-A073-D01DE77E2D88 and EBA4E8D2-3858-41EC-A281-2647BA9660D0
-unfoldable pub vendor_name : ℕ → ℕ → List ℕ
-vendor_name first second =
-    if (first == 0x11d2f9bee0c14753) && (second == 0x4dc13f2790000c9a) then codes "VenPcAnsi()"
-    else if (first == 0x11d3b419dfa66065) && (second == 0x4dc13f2790002d9a) then codes "VenVt100()"
-    else if (first == 0x4c7657e07baec70b) && (second == 0x438308289e2f878e) then codes "VenVt100Plus()"
-    else if (first == 0x4acf8becad15a0d6) && (second == 0x882d7ee71dd073a0) then codes "VenUtf8()"
-    else if (first == 0x41ec3858eba4e8d2) && (second == 0xd06096ba472681a2) then codes "DebugPort()"
-    else []
 
 -- the shorter name of a node without data of the vendor, where such names are wanted
 unfoldable pub short_name : Bool → List ℕ → List ℕ
@@ -94,10 +57,6 @@ abbrev pub mac_text : List ℕ → List ℕ
 mac_text content = concat (codes "MAC(" ∷ hex_bytes (slice_range content 0 (if nat_le (number_at 32 1 content) 1 then 6 else 32))
     ∷ codes ",0x" ∷ hex (number_at 32 1 content) ∷ codes ")" ∷ [])
 
--- how the local address came, of IP version 4
-unfoldable pub ipv4_origin : ℕ → List ℕ
-ipv4_origin origin = if origin == 0 then codes "DHCP" else codes "Static"
-
 -- the addresses of the gateway and the mask of the subnet, where a node has them
 unfoldable pub ipv4_route : List ℕ → List ℕ
 ipv4_route content = if nat_lt (length content) 23 then []
@@ -110,11 +69,6 @@ ipv4_text display_only content = if display_only
     else concat (codes "IPv4(" ∷ ipv4_address (slice_range content 4 8) ∷ codes "," ∷ protocol_text (number_at 12 2 content)
     ∷ codes "," ∷ ipv4_origin (number_at 14 1 content) ∷ codes "," ∷ ipv4_address (slice_range content 0 4)
     ∷ ipv4_route content ∷ codes ")" ∷ [])
-
--- how the local address came, of IP version 6
-unfoldable pub ipv6_origin : ℕ → List ℕ
-ipv6_origin origin = if origin == 0 then codes "Static"
-    else if origin == 1 then codes "StatelessAutoConfigure" else codes "StatefulAutoConfigure"
 
 -- an endpoint of a connection over IP version 6
 abbrev pub ipv6_text : Bool → List ℕ → List ℕ
@@ -170,17 +124,6 @@ firmware_file_text content = concat (codes "FvFile(" ∷ guid_text (slice_range 
 abbrev pub firmware_volume_text : List ℕ → List ℕ
 firmware_volume_text content = concat (codes "Fv(" ∷ guid_text (slice_range content 0 16) ∷ codes ")" ∷ [])
 
--- the name of a type of RAM disks, by the two halves of its GUID, or none:
--- 77AB535A-45FC-624B-5560-F7B281D1F96E, 3D5ABD30-4175-87CE-6D64-D2ADE523C4BB, 5CEA02C9-4D07-69D3-269F-4496FBE096F9
--- and 08018188-42CD-BB48-100F-5387D53DED3D
-unfoldable pub ram_disk_name : ℕ → ℕ → List ℕ
-ram_disk_name first second =
-    if (first == 0x624b45fc77ab535a) && (second == 0x6ef9d181b2f76055) then codes "VirtualDisk"
-    else if (first == 0x87ce41753d5abd30) && (second == 0xbbc423e5add2646d) then codes "VirtualCD"
-    else if (first == 0x69d34d075cea02c9) && (second == 0xf996e0fb96449f26) then codes "PersistentVirtualDisk"
-    else if (first == 0xbb4842cd08018188) && (second == 0x3ded3dd587530f10) then codes "PersistentVirtualCD"
-    else []
-
 -- where a RAM disk lies, and its number
 unfoldable pub ram_disk_place : List ℕ → List ℕ
 ram_disk_place content = concat (codes "(0x" ∷ hex (number_at 0 8 content) ∷ codes ",0x" ∷ hex (number_at 8 8 content)
@@ -197,24 +140,14 @@ ram_disk_text content = let name = ram_disk_name (number_at 16 8 content) (numbe
 abbrev pub file_text : List ℕ → List ℕ
 file_text content = utf16_text content
 
--- the type of a device that a legacy BIOS can boot
-unfoldable pub boot_type_text : ℕ → List ℕ
-boot_type_text kind = if kind == 1 then codes "Floppy"
-    else if kind == 2 then codes "HD"
-    else if kind == 3 then codes "CDROM"
-    else if kind == 4 then codes "PCMCIA"
-    else if kind == 5 then codes "USB"
-    else if kind == 6 then codes "Network"
-    else codes "0x" ++ hex kind
-
--- its flags, which are left out where the text is not to be read back
-unfoldable pub boot_flags_text : Bool → ℕ → List ℕ
-boot_flags_text display_only flags = if display_only then [] else codes ",0x" ++ hex flags
+-- its flags, which are left out where the text is not to be read back, and the end
+abbrev pub boot_end_text : Bool → ℕ → List ℕ
+boot_end_text display_only flags = if display_only then codes ")" else concat (codes ",0x" ∷ hex flags ∷ codes ")" ∷ [])
 
 -- a device that a legacy BIOS can boot
 abbrev pub boot_text : Bool → List ℕ → List ℕ
-boot_text display_only content = concat (codes "BBS(" ∷ boot_type_text (number_at 0 2 content) ∷ codes ","
-    ∷ shown_bytes (until_nul (drop 4 content)) ∷ boot_flags_text display_only (number_at 2 2 content) ∷ codes ")" ∷ [])
+boot_text display_only content = codes "BBS(" ++ (boot_type_text (number_at 0 2 content) ++ (codes ","
+    ++ (shown_bytes (until_nul (drop 4 content)) ++ boot_end_text display_only (number_at 2 2 content))))
 
 -- Each of the following is over a node. A node of no kind, or too short for its kind, prints as `unknown_text`.
 

@@ -25,5 +25,6 @@ pub mod typed_node;
 
 pub use errors::{NodeConversionError, NodeError};
 pub use node::{DevicePathNode, DeviceSubType, DeviceType};
-pub use node_text::{AllowShortcuts, DisplayOnly, NodeText};
+pub use node_text::NodeText;
 pub use typed_node::{NodeKind, TypedNode};
+pub use uefi_field_texts::forms::{AllowShortcuts, DisplayOnly};

@@ -1,9 +1,9 @@
 //! What is printed of nodes of type Media.
-#![tactic(auto, unfolding(crate::specs::NodeTexts::signature_text, crate::specs::NodeTexts::ram_disk_name, crate::specs::NodeTexts::ram_disk_place, crate::specs::NodeViews::file_node))]
+#![tactic(auto, unfolding(crate::specs::NodeTexts::signature_text, crate::specs::NodeTexts::ram_disk_place, crate::specs::NodeViews::file_node))]
 
 ghost use Rattle.std.specs.Fmt.{WritesOnOk};
 ghost use Rattle.std.specs.Prelude.{◌≡◌};
-ghost use Rattle.uefi_device_nodes.specs.NodeTexts.{cd_rom_text, ram_disk_name, ram_disk_place, signature_text};
+ghost use Rattle.uefi_device_nodes.specs.NodeTexts.{cd_rom_text, ram_disk_place, signature_text};
 ghost use Rattle.uefi_device_nodes.specs.NodeViews.{data_of};
 
 use crate::media::{
@@ -13,6 +13,7 @@ use crate::media::{
 use crate::typed_node::TypedNode;
 use std::fmt;
 use uefi_field_texts::hexadecimal::{CommaBytes, HexBack};
+use uefi_field_texts::names::ram_disk_name;
 use uefi_field_texts::texts::Utf16Text;
 
 /// Writes the signature of a partition.
@@ -116,19 +117,6 @@ impl<'a> fmt::Display for TypedNode<'a, FirmwareVolumeKind> {
 
     fn fmt<W: fmt::Write>(&self, f: &mut fmt::Formatter<W>) -> fmt::Result {
         write!(f, "Fv({})", self.guid(0))
-    }
-}
-
-/// The name of a type of RAM disks, by the two halves of its GUID, or an empty text.
-fn ram_disk_name(first: u64, second: u64) -> &'static str
-    ensures { result.now ≡ ram_disk_name first second }
-{
-    match (first, second) {
-        (0x624b45fc77ab535a, 0x6ef9d181b2f76055) => "VirtualDisk",
-        (0x87ce41753d5abd30, 0xbbc423e5add2646d) => "VirtualCD",
-        (0x69d34d075cea02c9, 0xf996e0fb96449f26) => "PersistentVirtualDisk",
-        (0xbb4842cd08018188, 0x3ded3dd587530f10) => "PersistentVirtualCD",
-        _ => "",
     }
 }
 

@@ -1,9 +1,9 @@
 //! What is printed of nodes of type Messaging.
-#![tactic(auto, unfolding(crate::specs::NodeTexts::ipv4_origin, crate::specs::NodeTexts::ipv4_route, crate::specs::NodeTexts::ipv6_origin, crate::specs::NodeTexts::short_name, crate::specs::NodeTexts::vendor_name))]
+#![tactic(auto, unfolding(crate::specs::NodeTexts::ipv4_route, crate::specs::NodeTexts::short_name))]
 
 ghost use Rattle.std.specs.Fmt.{WritesOnOk};
 ghost use Rattle.std.specs.Prelude.{◌≡◌};
-ghost use Rattle.uefi_device_nodes.specs.NodeTexts.{ipv4_origin, ipv4_route, ipv4_text, ipv6_origin, ipv6_text, messaging_vendor_text, short_name, vendor_name};
+ghost use Rattle.uefi_device_nodes.specs.NodeTexts.{ipv4_route, ipv4_text, ipv6_text, messaging_vendor_text, short_name};
 ghost use Rattle.uefi_device_nodes.specs.NodeViews.{data_of};
 
 use crate::messaging::{
@@ -14,6 +14,7 @@ use crate::typed_node::TypedNode;
 use std::fmt;
 use uefi_field_texts::addresses::{Ipv4Address, Ipv6Address, Protocol};
 use uefi_field_texts::hexadecimal::{CommaBytes, DashedBack, HexBytes};
+use uefi_field_texts::names::{ipv4_origin, ipv6_origin, vendor_name};
 use uefi_field_texts::texts::ByteText;
 
 /// Prints `USB(0xPORT,0xINTERFACE)`.
@@ -31,20 +32,6 @@ impl<'a> fmt::Display for TypedNode<'a, UsbKind> {
             self.parent_port_number(),
             self.interface()
         )
-    }
-}
-
-/// The shorter name of a vendor, by the two halves of its GUID, or an empty text.
-fn vendor_name(first: u64, second: u64) -> &'static str
-    ensures { result.now ≡ vendor_name first second }
-{
-    match (first, second) {
-        (0x11d2f9bee0c14753, 0x4dc13f2790000c9a) => "VenPcAnsi()",
-        (0x11d3b419dfa66065, 0x4dc13f2790002d9a) => "VenVt100()",
-        (0x4c7657e07baec70b, 0x438308289e2f878e) => "VenVt100Plus()",
-        (0x4acf8becad15a0d6, 0x882d7ee71dd073a0) => "VenUtf8()",
-        (0x41ec3858eba4e8d2, 0xd06096ba472681a2) => "DebugPort()",
-        _ => "",
     }
 }
 
@@ -103,13 +90,6 @@ impl<'a> fmt::Display for TypedNode<'a, MacAddressKind> {
     }
 }
 
-/// How a local address of IP version 4 came.
-fn ipv4_origin(origin: u8) -> &'static str
-    ensures { result.now ≡ ipv4_origin origin }
-{
-    if origin == 0 { "DHCP" } else { "Static" }
-}
-
 /// Writes the gateway and the mask, where a node has them.
 fn write_ipv4_route<W: fmt::Write>(f: &mut fmt::Formatter<W>, node: &Ipv4<'_>) -> fmt::Result
     ensures { WritesOnOk W.write_str_gives f.old result (ipv4_route (data_of node.now)) f.new }
@@ -163,17 +143,6 @@ impl<'a> fmt::Display for TypedNode<'a, Ipv4Kind> {
 
     fn fmt<W: fmt::Write>(&self, f: &mut fmt::Formatter<W>) -> fmt::Result {
         write_ipv4(f, self, false)
-    }
-}
-
-/// How a local address of IP version 6 came.
-fn ipv6_origin(origin: u8) -> &'static str
-    ensures { result.now ≡ ipv6_origin origin }
-{
-    match origin {
-        0 => "Static",
-        1 => "StatelessAutoConfigure",
-        _ => "StatefulAutoConfigure",
     }
 }
 

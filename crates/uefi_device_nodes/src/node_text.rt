@@ -21,6 +21,7 @@ use crate::messaging::{
 use crate::messaging_text::{write_ipv4, write_ipv6, write_vendor};
 use crate::node::{DevicePathNode, DeviceType};
 use std::fmt;
+use uefi_field_texts::forms::{AllowShortcuts, DisplayOnly};
 use uefi_field_texts::hexadecimal::CommaBytes;
 
 /// Writes a node of no kind.
@@ -176,22 +177,6 @@ fn write_boot_node<W: fmt::Write>(
     }
     write_unknown(f, node)
 }
-
-/// Whether a text is for people alone, and need not say enough to be read back (UEFI Specification 2.10,
-/// section 10.6.2).
-#[derive(Clone, Copy, Debug, PartialEq, Eq)]
-pub struct DisplayOnly(
-    /// Whether it is.
-    pub bool,
-);
-
-/// Whether a text may have a shorter form, which says the type of a node by a name of its own (UEFI
-/// Specification 2.10, section 10.6.2).
-#[derive(Clone, Copy, Debug, PartialEq, Eq)]
-pub struct AllowShortcuts(
-    /// Whether it may.
-    pub bool,
-);
 
 /// What is printed of a node. A contract sees it as `printed_node` of it: the text, in UTF-8.
 #[derive(Clone, Copy)]

@@ -1,5 +1,5 @@
 -- What is printed of the fields of nodes, in UTF-8.
-use Rattle.std.specs.Prelude.{ℕ, ◌+◌, ◌/◌, ◌%◌, ◌==◌, ◌||◌, ◌&&◌, Bool, true, nat_le, nat_lt, if◌then◌else◌, List, [], ◌∷◌, ◌++◌, codes, take, drop, slice_index, slice_range, reverse, encode_utf8}
+use Rattle.std.specs.Prelude.{ℕ, ◌+◌, ◌/◌, ◌%◌, ◌==◌, ◌||◌, ◌&&◌, Bool, true, nat_le, nat_lt, if◌then◌else◌, List, [], ◌∷◌, ◌++◌, codes, length, not, take, drop, slice_index, slice_range, reverse, encode_utf8}
 use Rattle.std.specs.Fmt.{digits, decimal}
 use Rattle.std.specs.List.{concat, flat_map, join_by, position_or_len}
 use Rattle.std.specs.Char.Utf16.{utf16_lossy_chars}
@@ -99,3 +99,70 @@ shown_units units = flat_map shown_char (utf16_lossy_chars units)
 -- the text that bytes encode in UTF-16, up to its NUL
 unfoldable pub utf16_text : List ℕ → List ℕ
 utf16_text bytes = shown_units (until_nul (units_of_bytes bytes))
+
+-- what stands before the number of a device that ACPI names by a number under PNP
+unfoldable pub pnp_start : ℕ → List ℕ
+pnp_start id = if id == 0x0a03 then codes "PciRoot("
+    else if id == 0x0a08 then codes "PcieRoot("
+    else if id == 0x0604 then codes "Floppy("
+    else if id == 0x0301 then codes "Keyboard("
+    else if id == 0x0501 then codes "Serial("
+    else if id == 0x0401 then codes "ParallelPort("
+    else concat (codes "Acpi(PNP" ∷ hex_four id ∷ codes "," ∷ [])
+
+-- the shorter name of a vendor, by the two halves of its GUID, or none:
+-- E0C14753-F9BE-11D2-9A0C-0090273FC14D, DFA66065-B419-11D3-9A2D-0090273FC14D, 7BAEC70B-57E0-4C76-8E87-2F9E28088343,
+-- AD15A0D6-8BEC-4ACF-A073-D01DE77E2D88 and EBA4E8D2-3858-41EC-A281-2647BA9660D0
+unfoldable pub vendor_name : ℕ → ℕ → List ℕ
+vendor_name first second =
+    if (first == 0x11d2f9bee0c14753) && (second == 0x4dc13f2790000c9a) then codes "VenPcAnsi()"
+    else if (first == 0x11d3b419dfa66065) && (second == 0x4dc13f2790002d9a) then codes "VenVt100()"
+    else if (first == 0x4c7657e07baec70b) && (second == 0x438308289e2f878e) then codes "VenVt100Plus()"
+    else if (first == 0x4acf8becad15a0d6) && (second == 0x882d7ee71dd073a0) then codes "VenUtf8()"
+    else if (first == 0x41ec3858eba4e8d2) && (second == 0xd06096ba472681a2) then codes "DebugPort()"
+    else []
+
+-- how the local address came, of IP version 4
+unfoldable pub ipv4_origin : ℕ → List ℕ
+ipv4_origin origin = if origin == 0 then codes "DHCP" else codes "Static"
+
+-- how the local address came, of IP version 6
+unfoldable pub ipv6_origin : ℕ → List ℕ
+ipv6_origin origin = if origin == 0 then codes "Static"
+    else if origin == 1 then codes "StatelessAutoConfigure" else codes "StatefulAutoConfigure"
+
+-- the name of a type of RAM disks, by the two halves of its GUID, or none:
+-- 77AB535A-45FC-624B-5560-F7B281D1F96E, 3D5ABD30-4175-87CE-6D64-D2ADE523C4BB, 5CEA02C9-4D07-69D3-269F-4496FBE096F9
+-- and 08018188-42CD-BB48-100F-5387D53DED3D
+unfoldable pub ram_disk_name : ℕ → ℕ → List ℕ
+ram_disk_name first second =
+    if (first == 0x624b45fc77ab535a) && (second == 0x6ef9d181b2f76055) then codes "VirtualDisk"
+    else if (first == 0x87ce41753d5abd30) && (second == 0xbbc423e5add2646d) then codes "VirtualCD"
+    else if (first == 0x69d34d075cea02c9) && (second == 0xf996e0fb96449f26) then codes "PersistentVirtualDisk"
+    else if (first == 0xbb4842cd08018188) && (second == 0x3ded3dd587530f10) then codes "PersistentVirtualCD"
+    else []
+
+-- the type of a device that a legacy BIOS can boot
+unfoldable pub boot_type_text : ℕ → List ℕ
+boot_type_text kind = if kind == 1 then codes "Floppy"
+    else if kind == 2 then codes "HD"
+    else if kind == 3 then codes "CDROM"
+    else if kind == 4 then codes "PCMCIA"
+    else if kind == 5 then codes "USB"
+    else if kind == 6 then codes "Network"
+    else codes "0x" ++ hex kind
+
+-- the strings of a device that ACPI names by strings, which lie as _HID, _UID, _CID
+abbrev pub hid_string : List ℕ → List ℕ
+hid_string bytes = until_nul bytes
+
+abbrev pub uid_string : List ℕ → List ℕ
+uid_string bytes = until_nul (after_nul bytes)
+
+abbrev pub cid_string : List ℕ → List ℕ
+cid_string bytes = until_nul (after_nul (after_nul bytes))
+
+-- the test for a device that has a string for _UID alone
+unfoldable pub has_uid_alone : List ℕ → Bool
+has_uid_alone bytes = (length (hid_string bytes) == 0) && ((length (cid_string bytes) == 0)
+    && not (length (uid_string bytes) == 0))

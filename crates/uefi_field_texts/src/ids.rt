@@ -1,10 +1,12 @@
-//! IDs of EISA, as ACPI packs them in four bytes.
-#![tactic(auto, unfolding(crate::specs::FieldTexts::eisa_text, crate::specs::FieldTexts::eisa_letter))]
+//! IDs of devices that ACPI names: those of EISA, packed in four bytes, and strings.
+#![tactic(auto, unfolding(crate::specs::FieldTexts::eisa_text, crate::specs::FieldTexts::eisa_letter, crate::specs::FieldTexts::has_uid_alone))]
 
 ghost use Rattle.std.specs.Fmt.{WritesOnOk};
-ghost use Rattle.uefi_field_texts.specs.FieldTexts.{eisa_letter};
+ghost use Rattle.std.specs.Prelude.{◌≡◌};
+ghost use Rattle.uefi_field_texts.specs.FieldTexts.{cid_string, eisa_letter, has_uid_alone, hid_string, uid_string};
 
 use crate::hexadecimal::HexWord;
+use crate::texts::{after_nul, until_nul};
 use std::fmt;
 
 /// Writes the letter of the five low bits of a number.
@@ -38,4 +40,37 @@ impl fmt::Display for EisaId {
         write_letter(f, self.0)?;
         write!(f, "{}", HexWord((self.0 / 65536) as u16))
     }
+}
+
+/// The strings of the IDs of a device.
+#[derive(Drop)]
+pub struct IdStrings<'a> {
+    /// That of `_HID`.
+    pub hid: &'a [u8],
+    /// That of `_UID`.
+    pub uid: &'a [u8],
+    /// That of `_CID`.
+    pub cid: &'a [u8],
+}
+
+/// The strings that bytes hold one after the other, each up to its NUL; those after the last NUL are empty.
+pub fn id_strings(bytes: &[u8]) -> IdStrings<'_>
+    ensures hid { result.hid.now ≡ hid_string bytes.now }
+    ensures uid { result.uid.now ≡ uid_string bytes.now }
+    ensures cid { result.cid.now ≡ cid_string bytes.now }
+{
+    let after_hid = after_nul(bytes);
+    IdStrings {
+        hid: until_nul(bytes),
+        uid: until_nul(after_hid),
+        cid: until_nul(after_nul(after_hid)),
+    }
+}
+
+/// Whether a device has a string for `_UID` alone.
+pub fn has_uid_alone(bytes: &[u8]) -> bool
+    ensures { result ≡ has_uid_alone bytes.now }
+{
+    let strings = id_strings(bytes);
+    strings.hid.is_empty() && strings.cid.is_empty() && !strings.uid.is_empty()
 }

@@ -7,7 +7,9 @@
 #![tactic(auto)]
 
 pub mod addresses;
+pub mod forms;
 pub mod guid;
 pub mod hexadecimal;
 pub mod ids;
+pub mod names;
 pub mod texts;
