@@ -2,13 +2,25 @@
 #![tactic(auto, unfolding(crate::specs::PathTexts::instance_text, crate::specs::Views::printed_path, crate::specs::Views::nodes_of))]
 
 ghost use Rattle.std.specs.Fmt.{WritesOnOk};
-ghost use Rattle.std.specs.Prelude.{◌≡◌};
+ghost use Rattle.std.specs.Prelude.{◌≡◌, ◌≢◌, ◌<◌, ◌∷◌, length};
+ghost use Rattle.uefi_device_nodes.specs.NodeViews.{node_of};
 ghost use Rattle.uefi_device_path.specs.Paths.{AreNodes, nodes_in};
 ghost use Rattle.uefi_device_path.specs.PathTexts.{instance_text, path_text};
 
 use crate::instance::cut_instance;
 use std::fmt;
 use uefi_device_nodes::{AllowShortcuts, DevicePathNode, DisplayOnly};
+
+/// The first of the nodes that bytes are, and the bytes of the others.
+fn cut_node(bytes: &[u8]) -> (DevicePathNode<'_>, &[u8])
+    requires are_nodes { AreNodes bytes.now }
+    requires some { length bytes.now ≢ 0 }
+    ensures cut { nodes_in bytes.now ≡ node_of result.0 ∷ nodes_in result.1.now }
+    ensures left { AreNodes result.1.now }
+    ensures shorter { length result.1.now < length bytes.now }
+{
+    DevicePathNode::take_first(bytes)
+}
 
 /// Writes the nodes that bytes are, with a slash between each two.
 fn write_instance<W: fmt::Write>(
@@ -24,11 +36,11 @@ fn write_instance<W: fmt::Write>(
     if bytes.is_empty() {
         return Ok(());
     }
-    let (first, after_first) = DevicePathNode::take_first(bytes);
+    let (first, after_first) = cut_node(bytes);
     write!(f, "{}", first.display(display_only, allow_shortcuts))?;
     let mut rest = after_first;
-    while !rest.is_empty() {
-        let (node, after) = DevicePathNode::take_first(rest);
+    'nodes: while !rest.is_empty() {
+        let (node, after) = cut_node(rest);
         write!(f, "/{}", node.display(display_only, allow_shortcuts))?;
         rest = after;
     }
@@ -49,7 +61,7 @@ fn write_path<W: fmt::Write>(
     let (first, after_first) = cut_instance(bytes);
     write_instance(f, first, display_only, allow_shortcuts)?;
     let mut rest = after_first;
-    while let Some(others) = rest {
+    'instances: while let Some(others) = rest {
         let (instance, after) = cut_instance(others);
         f.write_str(",")?;
         write_instance(f, instance, display_only, allow_shortcuts)?;

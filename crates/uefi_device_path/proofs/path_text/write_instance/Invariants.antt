@@ -5,12 +5,12 @@ use Rattle.uefi_device_nodes.specs.NodeTexts.{node_text}
 use Rattle.uefi_device_path.specs.Paths.{AreNodes, nodes_in}
 use Rattle.uefi_device_path.proofs.path_text.write_instance.Given as goal
 
-abbrev pub decreases-loop-rest : goal.decreases-loop-rest
-decreases-loop-rest g l = length l.rest
+abbrev pub decreases-nodes : goal.decreases-nodes
+decreases-nodes g l = length l.rest
 
 -- what is written, and what is left to write after a slash each
-abbrev pub invariant-loop-rest : goal.invariant-loop-rest
-invariant-loop-rest g l = record {
+abbrev pub invariant-nodes : goal.invariant-nodes
+invariant-nodes g l = record {
   left : AreNodes l.rest;
   so_far : List ℕ;
   rest : so_far ++ flat_map (λ node. codes "/" ++ node_text l.display_only.0 l.allow_shortcuts.0 node) (nodes_in l.rest)

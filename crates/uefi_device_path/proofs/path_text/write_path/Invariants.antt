@@ -7,12 +7,12 @@ use Rattle.uefi_device_path.specs.PathTexts.{instance_text}
 use Rattle.uefi_device_path.specs.Paths.{AreNodes, nodes_in}
 use Rattle.uefi_device_path.proofs.path_text.write_path.Given as goal
 
-abbrev pub decreases-loop-others : goal.decreases-loop-others
-decreases-loop-others g l = length (instances_in l.rest)
+abbrev pub decreases-instances : goal.decreases-instances
+decreases-instances g l = length (instances_in l.rest)
 
 -- what is written, and what is left to write after a comma each
-abbrev pub invariant-loop-others : goal.invariant-loop-others
-invariant-loop-others g l = record {
+abbrev pub invariant-instances : goal.invariant-instances
+invariant-instances g l = record {
   left : ForSome l.rest (λ bytes. AreNodes bytes.now);
   so_far : List ℕ;
   rest : so_far ++ flat_map (λ instance. codes "," ++ instance_text l.display_only.0 l.allow_shortcuts.0 instance) (instances_in l.rest)
