@@ -92,10 +92,11 @@ nvme_text content =
 abbrev pub uri_text : List ℕ → List ℕ
 uri_text content = concat (codes "Uri(" ∷ shown_bytes (drop 0 content) ∷ codes ")" ∷ [])
 
--- an SD card, and an eMMC card
+-- an SD card
 abbrev pub sd_text : List ℕ → List ℕ
 sd_text content = concat (codes "SD(0x" ∷ hex (number_at 0 1 content) ∷ codes ")" ∷ [])
 
+-- an eMMC card
 abbrev pub emmc_text : List ℕ → List ℕ
 emmc_text content = concat (codes "eMMC(0x" ∷ hex (number_at 0 1 content) ∷ codes ")" ∷ [])
 
@@ -117,10 +118,11 @@ cd_rom_text display_only content = if display_only
     else concat (codes "CDROM(0x" ∷ hex (number_at 0 4 content) ∷ codes ",0x" ∷ hex (number_at 4 8 content)
     ∷ codes ",0x" ∷ hex (number_at 12 8 content) ∷ codes ")" ∷ [])
 
--- a file of a firmware volume, and such a volume
+-- a file of a firmware volume
 abbrev pub firmware_file_text : List ℕ → List ℕ
 firmware_file_text content = concat (codes "FvFile(" ∷ guid_text (slice_range content 0 16) ∷ codes ")" ∷ [])
 
+-- a firmware volume
 abbrev pub firmware_volume_text : List ℕ → List ℕ
 firmware_volume_text content = concat (codes "Fv(" ∷ guid_text (slice_range content 0 16) ∷ codes ")" ∷ [])
 
