@@ -65,7 +65,7 @@ typedef int32_t uefi_order;
 #define UEFI_TEXT_VERSION_MAJOR 0
 #define UEFI_TEXT_VERSION_MINOR 2
 #define UEFI_TEXT_VERSION_PATCH 0
-#define UEFI_TEXT_VERSION "0.2.0"
+#define UEFI_TEXT_VERSION "0.3.0"
 
 #ifdef __cplusplus
 extern "C" {

@@ -4,3 +4,4 @@ pub mod FileNodes
 pub mod NodeViews
 pub mod NodeErrorTexts
 pub mod TypedNodes
+pub mod NodeTexts

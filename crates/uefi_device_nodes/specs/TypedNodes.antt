@@ -1,5 +1,5 @@
 -- Nodes whose data have fields at fixed places.
-use Rattle.std.specs.Prelude.{◌≡◌, ℕ, ◌+◌, ◌≤◌, ◌==◌, ◌&&◌, nat_lt, if◌then◌else◌, List, length, slice_range, Option, Some, None}
+use Rattle.std.specs.Prelude.{◌≡◌, ℕ, ◌+◌, ◌≤◌, ◌==◌, ◌&&◌, nat_le, nat_lt, Bool, if◌then◌else◌, List, length, slice_range, Option, Some, None}
 use Rattle.uefi_text.specs.Packed.{little_endian}
 use Rattle.uefi_device_nodes.specs.Nodes.{Node}
 use Rattle.uefi_device_nodes.specs.declared.errors.NodeConversionError.{NodeConversionError}
@@ -10,6 +10,11 @@ pub record IsOfKind (kind sub_kind least : ℕ) (node : Node) : Type 0 where
   pub device_type : node.device_type ≡ kind
   pub sub_type : node.sub_type ≡ sub_kind
   pub long : least ≤ length node.content
+
+-- the test for such a node
+abbrev pub is_kind : ℕ → ℕ → ℕ → Node → Bool
+is_kind kind sub_kind least node =
+    (node.device_type == kind) && ((node.sub_type == sub_kind) && nat_le least (length node.content))
 
 -- why a node is not of a kind, or none
 abbrev pub kind_refusal : ℕ → ℕ → ℕ → Node → Option NodeConversionError

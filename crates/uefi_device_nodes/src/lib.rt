@@ -9,14 +9,22 @@
 #![tactic(auto)]
 
 pub mod acpi;
+mod acpi_text;
 pub mod bios_boot_spec;
+mod bios_boot_spec_text;
 pub mod errors;
 pub mod hardware;
+mod hardware_text;
 pub mod media;
+mod media_text;
 pub mod messaging;
+mod messaging_text;
 pub mod node;
+pub mod node_text;
 pub mod typed_node;
 
 pub use errors::{NodeConversionError, NodeError};
 pub use node::{DevicePathNode, DeviceSubType, DeviceType};
+pub use node_text::NodeText;
 pub use typed_node::{NodeKind, TypedNode};
+pub use uefi_field_texts::forms::{AllowShortcuts, DisplayOnly};

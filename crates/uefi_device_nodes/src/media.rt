@@ -43,6 +43,13 @@ impl<'a> FilePath<'a> {
         Ok(FilePath { node })
     }
 
+    /// The bytes of the name.
+    pub(crate) fn data(&self) -> &'a [u8]
+        ensures { result.now ≡ (file_node self.now).content }
+    {
+        self.node.data()
+    }
+
     /// The code units of the name, wherever they lie. They may be no string: its calls say so.
     pub fn path_name(&self) -> UnalignedSlice<'a, u16>
         ensures units { items_of result ≡ units_of_bytes (file_node self.now).content }

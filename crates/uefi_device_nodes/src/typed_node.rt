@@ -9,6 +9,7 @@ use crate::errors::NodeConversionError;
 use crate::node::DevicePathNode;
 use std::alloc::AllocError;
 use std::marker::PhantomData;
+use uefi_field_texts::guid::Guid;
 use uefi_text::Packed;
 
 /// A kind of node: its type, its sub-type, and how many bytes of data each node of it has at least.
@@ -82,9 +83,20 @@ impl<'a, K: NodeKind> TypedNode<'a, K> {
     /// The bytes from a place on.
     pub(crate) fn part(&self, place: usize, len: usize) -> &'a [u8]
         requires { place + len ≤ K.LEAST }
-        ensures { result.now ≡ slice_range (data_of self.now) place (place + len) }
+        ensures bytes { result.now ≡ slice_range (data_of self.now) place (place + len) }
+        ensures len { length result.now ≡ len }
     {
         &self.data[place..place + len]
+    }
+
+    /// The GUID that begins at a place.
+    pub(crate) fn guid(&self, place: usize) -> Guid<'a>
+        requires { place + 16 ≤ K.LEAST }
+        ensures { result.bytes.now ≡ slice_range (data_of self.now) place (place + 16) }
+    {
+        Guid {
+            bytes: self.part(place, 16),
+        }
     }
 
     /// The bytes from a place on, or `None` where the data end before the last of them.
@@ -93,6 +105,7 @@ impl<'a, K: NodeKind> TypedNode<'a, K> {
         ensures some { IsSome result ↔ (place + len ≤ length (data_of self.now)) }
         ensures bytes { IfSome result (λ bytes.
             bytes.now ≡ slice_range (data_of self.now) place (place + len)) }
+        ensures len { IfSome result (λ bytes. length bytes.now ≡ len) }
     {
         if self.data.len() < place + len {
             return None;

@@ -8,3 +8,4 @@ pub mod InstanceCuts
 pub mod Headers
 pub mod OptionBytes
 pub mod BufferPaths
+pub mod PathTexts

@@ -4,6 +4,7 @@ pub use Rattle.uefi_device_nodes.specs.FileNodes
 pub use Rattle.uefi_device_nodes.specs.NodeViews
 pub use Rattle.uefi_device_nodes.specs.NodeErrorTexts
 pub use Rattle.uefi_device_nodes.specs.TypedNodes
+pub use Rattle.uefi_device_nodes.specs.NodeTexts
 pub use Rattle.uefi_device_nodes.specs.declared.errors.NodeError
 pub use Rattle.uefi_device_nodes.specs.declared.errors.NodeConversionError
 pub use Rattle.uefi_device_nodes.specs.declared.node.DevicePathNode
@@ -19,4 +20,5 @@ pub mod LoadOptions
 pub mod Building
 pub mod OptionBuilding
 pub mod Instances
+pub mod PathTexts
 pub mod Laws

@@ -15,8 +15,11 @@ use crate::file_path::file_path_in;
 use crate::file_path_buffer::write_file_path_in;
 use crate::instance::DevicePathInstanceIterator;
 use crate::node_iterator::DevicePathNodeIterator;
+use crate::path_text::PathText;
 use std::alloc::Allocator;
+use std::fmt;
 use uefi_device_nodes::node::{DevicePathNode, fault_place};
+use uefi_device_nodes::{AllowShortcuts, DisplayOnly};
 use uefi_path::PathBuf;
 use uefi_text::CStr16;
 
@@ -32,7 +35,8 @@ impl<'a> DevicePath<'a> {
     ghost use Rattle.uefi_device_path.specs.Faults.{RefusedFor};
     ghost use Rattle.uefi_device_path.specs.Instances.{instances};
     ghost use Rattle.uefi_device_nodes.specs.NodeViews.{node_of};
-    ghost use Rattle.uefi_device_path.specs.Views.{instance_nodes, instances_left, nodes_left, nodes_of};
+    ghost use Rattle.uefi_device_path.specs.PathTexts.{path_text};
+    ghost use Rattle.uefi_device_path.specs.Views.{instance_nodes, instances_left, nodes_left, nodes_of, printed_path};
     ghost use Rattle.uefi_text.specs.Runs.{GivesEach};
     ghost use Rattle.uefi_device_path.specs.declared.errors.DevicePathError.{DevicePathError};
 
@@ -187,6 +191,23 @@ impl<'a> DevicePath<'a> {
         }
     }
 
+    /// What is printed of the path, for a `{}` of a format (UEFI Specification 2.10, section 10.6.1): the texts
+    /// of its nodes, which [`DevicePathNode::display`] gives, with a slash between each two of an instance, and a
+    /// comma between each two instances. Takes no memory.
+    pub fn display(
+        &self,
+        display_only: DisplayOnly,
+        allow_shortcuts: AllowShortcuts,
+    ) -> PathText<'a>
+        ensures { printed_path result ≡ path_text display_only.0 allow_shortcuts.0 (nodes_of self.now) }
+    {
+        PathText::of(
+            &self.bytes[..self.bytes.len() - 4],
+            display_only,
+            allow_shortcuts,
+        )
+    }
+
     /// The instances of the path, in order: what stands between the nodes that end one.
     pub fn instance_iter(&self) -> DevicePathInstanceIterator<'a>
         ensures same { instances_left result ≡ instances (nodes_of self.now) }
@@ -208,5 +229,19 @@ impl<'a> TryFrom<&'a [u8]> for DevicePath<'a> {
 
     fn try_from(bytes: &'a [u8]) -> Result<Self, DevicePathError> {
         DevicePath::from_bytes(bytes)
+    }
+}
+
+/// Prints the text that may be read back, without shorter names.
+impl<'a> fmt::Display for DevicePath<'a> {
+    ghost use Rattle.std.specs.Prelude.{Some, false};
+    ghost use Rattle.uefi_device_path.specs.PathTexts.{path_text};
+    ghost use Rattle.uefi_device_path.specs.Views.{nodes_of};
+
+    ghost output = { λ path. Some (path_text false false (nodes_of path)) };
+
+    fn fmt<W: fmt::Write>(&self, f: &mut fmt::Formatter<W>) -> fmt::Result {
+        let text = self.display(DisplayOnly(false), AllowShortcuts(false));
+        write!(f, "{text}")
     }
 }

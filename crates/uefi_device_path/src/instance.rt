@@ -39,7 +39,7 @@ pub struct DevicePathInstanceIterator<'a> {
 }
 
 /// The bytes of the first instance, and those after the node that ends it, where there is one.
-fn cut_instance(bytes: &[u8]) -> (&[u8], Option<&[u8]>)
+pub(crate) fn cut_instance(bytes: &[u8]) -> (&[u8], Option<&[u8]>)
     requires { AreNodes bytes.now }
     ensures first { AreNodes result.0.now }
     ensures rest { ForSome result.1 (λ after. AreNodes after.now) }

@@ -34,6 +34,7 @@ mod load_option;
 mod node_iterator;
 mod option_builder;
 mod path_list;
+mod path_text;
 
 pub use build::DevicePathBuf;
 pub use builder::DevicePathBuilder;
@@ -47,6 +48,9 @@ pub use load_option::LoadOption;
 pub use node_iterator::DevicePathNodeIterator;
 pub use option_builder::LoadOptionBuilder;
 pub use path_list::{DevicePaths, check_paths};
+pub use path_text::PathText;
 pub use uefi_device_nodes::node::{DevicePathNode, DeviceSubType, DeviceType};
+pub use uefi_device_nodes::node_text::NodeText;
 pub use uefi_device_nodes::typed_node::{NodeKind, TypedNode};
 pub use uefi_device_nodes::{acpi, bios_boot_spec, hardware, media, messaging};
+pub use uefi_field_texts::forms::{AllowShortcuts, DisplayOnly};

@@ -1,0 +1,31 @@
+-- A list of texts that is printed piece by piece.
+use Rattle.std.proofs.Common.{◌≡◌, ◌∙◌, ap, sym, refl, ℕ, List, [], ◌∷◌, ◌++◌, length, append_assoc, arith}
+use Rattle.std.proofs.lemmas.List.{append-nil}
+use Rattle.std.specs.List.{flat_map, join_by}
+use Rattle.uefi_device_nodes.specs.Nodes.{Node}
+use Rattle.uefi_device_path.specs.Paths.{nodes_in, nodes_within}
+
+-- no bytes are no nodes
+pub no_nodes : (bytes : List ℕ) → length bytes ≡ 0 → nodes_in bytes ≡ []
+unfolding nodes_in
+no_nodes [] none = refl
+no_nodes (byte ∷ bytes) none = absurd (omega arith)
+
+-- the first piece
+pub first_piece : {X : Type 0} (text : X → List ℕ) (sep : List ℕ) (all xs : List X) (x : X)
+    → all ≡ x ∷ xs → text x ++ flat_map (λ y. sep ++ text y) xs ≡ join_by text sep all
+first_piece text sep all xs x is = ap (λ zs. join_by text sep zs) (sym is)
+
+-- one piece more
+pub after_more : {X : Type 0} (text : X → List ℕ) (sep so_far all : List ℕ) (xs ys : List X) (x : X)
+    → so_far ++ flat_map (λ y. sep ++ text y) xs ≡ all → xs ≡ x ∷ ys
+    → (so_far ++ (sep ++ text x)) ++ flat_map (λ y. sep ++ text y) ys ≡ all
+after_more text sep so_far all xs ys x rest is =
+    append_assoc so_far (sep ++ text x) (flat_map (λ y. sep ++ text y) ys)
+    ∙ ap (λ zs. so_far ++ flat_map (λ y. sep ++ text y) zs) (sym is) ∙ rest
+
+-- no piece more
+pub after_none : {X : Type 0} (text : X → List ℕ) (sep so_far all : List ℕ) (xs : List X)
+    → so_far ++ flat_map (λ y. sep ++ text y) xs ≡ all → xs ≡ [] → so_far ≡ all
+after_none text sep so_far all xs rest is =
+    sym (append-nil so_far) ∙ ap (λ zs. so_far ++ flat_map (λ y. sep ++ text y) zs) (sym is) ∙ rest

@@ -1,0 +1,112 @@
+//! Device paths as people read them.
+#![tactic(auto, unfolding(crate::specs::PathTexts::instance_text, crate::specs::Views::printed_path, crate::specs::Views::nodes_of))]
+
+ghost use Rattle.std.specs.Fmt.{WritesOnOk};
+ghost use Rattle.std.specs.Prelude.{◌≡◌, ◌≢◌, ◌<◌, ◌∷◌, length};
+ghost use Rattle.uefi_device_nodes.specs.NodeViews.{node_of};
+ghost use Rattle.uefi_device_path.specs.Paths.{AreNodes, nodes_in};
+ghost use Rattle.uefi_device_path.specs.PathTexts.{instance_text, path_text};
+
+use crate::instance::cut_instance;
+use std::fmt;
+use uefi_device_nodes::{AllowShortcuts, DevicePathNode, DisplayOnly};
+
+/// The first of the nodes that bytes are, and the bytes of the others.
+fn cut_node(bytes: &[u8]) -> (DevicePathNode<'_>, &[u8])
+    requires are_nodes { AreNodes bytes.now }
+    requires some { length bytes.now ≢ 0 }
+    ensures cut { nodes_in bytes.now ≡ node_of result.0 ∷ nodes_in result.1.now }
+    ensures left { AreNodes result.1.now }
+    ensures shorter { length result.1.now < length bytes.now }
+{
+    DevicePathNode::take_first(bytes)
+}
+
+/// Writes the nodes that bytes are, with a slash between each two.
+fn write_instance<W: fmt::Write>(
+    f: &mut fmt::Formatter<W>,
+    bytes: &[u8],
+    display_only: DisplayOnly,
+    allow_shortcuts: AllowShortcuts,
+) -> fmt::Result
+    requires { AreNodes bytes.now }
+    ensures { WritesOnOk W.write_str_gives f.old result
+        (instance_text display_only.0 allow_shortcuts.0 (nodes_in bytes.now)) f.new }
+{
+    if bytes.is_empty() {
+        return Ok(());
+    }
+    let (first, after_first) = cut_node(bytes);
+    write!(f, "{}", first.display(display_only, allow_shortcuts))?;
+    let mut rest = after_first;
+    'nodes: while !rest.is_empty() {
+        let (node, after) = cut_node(rest);
+        write!(f, "/{}", node.display(display_only, allow_shortcuts))?;
+        rest = after;
+    }
+    Ok(())
+}
+
+/// Writes the instances of the nodes that bytes are, with a comma between each two.
+fn write_path<W: fmt::Write>(
+    f: &mut fmt::Formatter<W>,
+    bytes: &[u8],
+    display_only: DisplayOnly,
+    allow_shortcuts: AllowShortcuts,
+) -> fmt::Result
+    requires { AreNodes bytes.now }
+    ensures { WritesOnOk W.write_str_gives f.old result
+        (path_text display_only.0 allow_shortcuts.0 (nodes_in bytes.now)) f.new }
+{
+    let (first, after_first) = cut_instance(bytes);
+    write_instance(f, first, display_only, allow_shortcuts)?;
+    let mut rest = after_first;
+    'instances: while let Some(others) = rest {
+        let (instance, after) = cut_instance(others);
+        f.write_str(",")?;
+        write_instance(f, instance, display_only, allow_shortcuts)?;
+        rest = after;
+    }
+    Ok(())
+}
+
+/// What is printed of a device path. A contract sees it as `printed_path` of it: the text, in UTF-8.
+#[derive(Clone, Copy)]
+pub struct PathText<'a> {
+    bytes: &'a [u8],
+    display_only: DisplayOnly,
+    allow_shortcuts: AllowShortcuts,
+    pub ghost are_nodes: { AreNodes bytes.now },
+}
+
+impl<'a> PathText<'a> {
+    ghost use Rattle.uefi_device_path.specs.Views.{printed_path};
+
+    /// The text of the nodes that bytes are.
+    pub(crate) fn of(
+        bytes: &'a [u8],
+        display_only: DisplayOnly,
+        allow_shortcuts: AllowShortcuts,
+    ) -> Self
+        requires { AreNodes bytes.now }
+        ensures { printed_path result ≡ path_text display_only.0 allow_shortcuts.0 (nodes_in bytes.now) }
+    {
+        PathText {
+            bytes,
+            display_only,
+            allow_shortcuts,
+        }
+    }
+}
+
+/// Prints the text.
+impl<'a> fmt::Display for PathText<'a> {
+    ghost use Rattle.std.specs.Prelude.{Some};
+    ghost use Rattle.uefi_device_path.specs.Views.{printed_path};
+
+    ghost output = { λ text. Some (printed_path text) };
+
+    fn fmt<W: fmt::Write>(&self, f: &mut fmt::Formatter<W>) -> fmt::Result {
+        write_path(f, self.bytes, self.display_only, self.allow_shortcuts)
+    }
+}

@@ -1,0 +1,37 @@
+-- Bytes that are printed from the last to the first.
+use Rattle.std.proofs.Common.{◌≡◌, ℕ, zero, suc, ◌+◌, ◌-◌, ◌<◌, ◌==◌, false, if◌then◌else◌, List, [], ◌∷◌, ◌++◌, codes, length, take, reverse, get_or, ap, sym, ◌∙◌, arith}
+use Rattle.std.proofs.lemmas.List.{append-nil, flat_map_more, get_or-reverse, length-reverse, length-take, take_more}
+use Rattle.std.specs.List.{flat_map, join_by}
+use Rattle.uefi_field_texts.specs.FieldTexts.{hex_bytes, hex_two}
+
+-- one byte more
+pub hex_back_more : (bytes : List ℕ) (i : ℕ) → i < length bytes
+    → hex_bytes (take i (reverse bytes)) ++ hex_two (get_or bytes (length bytes - 1 - i) 0) ≡ hex_bytes (take (i + 1) (reverse bytes))
+unfolding hex_bytes
+hex_back_more bytes i h =
+    let r = reverse bytes in
+    let within : i < length r = omega (arith, length-reverse bytes) in
+    ap (λ (x : ℕ). flat_map hex_two (take i r) ++ hex_two x) (sym (get_or-reverse bytes i 0 h))
+    ∙ flat_map_more hex_two [] (take i r) (get_or r i 0) ∙ ap (λ (xs : List ℕ). flat_map hex_two xs) (sym (take_more r i 0 within))
+
+-- one byte more after others, and the first
+dashed_push : (ys : List ℕ) (i x : ℕ) → length ys ≡ i
+    → join_by hex_two (codes "-") ys ++ (if i == 0 then hex_two x else codes "-" ++ hex_two x)
+    ≡ join_by hex_two (codes "-") (ys ++ x ∷ [])
+dashed_push [] zero x h = sym (append-nil (hex_two x))
+dashed_push [] (suc i) x h = absurd (omega arith)
+dashed_push (y ∷ ys) zero x h = absurd (omega arith)
+dashed_push (y ∷ ys) (suc i) x h =
+    let other : (suc i == 0) ≡ false = grind arith in
+    rw other (flat_map_more (λ b. codes "-" ++ hex_two b) (hex_two y) ys x)
+
+pub dashed_more : (bytes : List ℕ) (i : ℕ) → i < length bytes
+    → join_by hex_two (codes "-") (take i (reverse bytes))
+    ++ (if i == 0 then hex_two (get_or bytes (length bytes - 1 - i) 0) else codes "-" ++ hex_two (get_or bytes (length bytes - 1 - i) 0))
+    ≡ join_by hex_two (codes "-") (take (i + 1) (reverse bytes))
+dashed_more bytes i h =
+    let r = reverse bytes in
+    let within : i < length r = omega (arith, length-reverse bytes) in
+    let long : length (take i r) ≡ i = omega (arith, length-take i r) in
+    ap (λ (x : ℕ). join_by hex_two (codes "-") (take i r) ++ (if i == 0 then hex_two x else codes "-" ++ hex_two x)) (sym (get_or-reverse bytes i 0 h))
+    ∙ dashed_push (take i r) i (get_or r i 0) long ∙ ap (λ (xs : List ℕ). join_by hex_two (codes "-") xs) (sym (take_more r i 0 within))

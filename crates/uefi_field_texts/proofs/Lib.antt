@@ -1,0 +1,3 @@
+pub mod HexBack
+pub mod Places
+pub mod Surrogates

@@ -1,0 +1,168 @@
+-- What is printed of the fields of nodes, in UTF-8.
+use Rattle.std.specs.Prelude.{ℕ, ◌+◌, ◌/◌, ◌%◌, ◌==◌, ◌||◌, ◌&&◌, Bool, true, nat_le, nat_lt, if◌then◌else◌, List, [], ◌∷◌, ◌++◌, codes, length, not, take, drop, slice_index, slice_range, reverse, encode_utf8}
+use Rattle.std.specs.Fmt.{digits, decimal}
+use Rattle.std.specs.List.{concat, flat_map, join_by, position_or_len}
+use Rattle.std.specs.Char.Utf16.{utf16_lossy_chars}
+use Rattle.uefi_text.specs.Units.{is_nul}
+use Rattle.uefi_text.specs.UnitBytes.{units_of_bytes}
+
+-- a number in hexadecimal, without zeros at its start
+abbrev pub hex : ℕ → List ℕ
+hex n = digits 16 true n
+
+-- a byte as two digits
+unfoldable pub hex_two : ℕ → List ℕ
+hex_two byte = hex (byte / 16) ++ hex (byte % 16)
+
+-- a number of two bytes as four digits
+unfoldable pub hex_four : ℕ → List ℕ
+hex_four n = hex_two (n / 256) ++ hex_two (n % 256)
+
+-- bytes, two digits each
+unfoldable pub hex_bytes : List ℕ → List ℕ
+hex_bytes bytes = flat_map hex_two bytes
+
+-- the same from the last byte to the first: a number that lies with its low byte first
+unfoldable pub hex_back : List ℕ → List ℕ
+hex_back bytes = hex_bytes (reverse bytes)
+
+-- the same with a dash between each two bytes
+unfoldable pub dashed_back : List ℕ → List ℕ
+dashed_back bytes = join_by hex_two (codes "-") (reverse bytes)
+
+-- bytes after a comma, or nothing where there are none
+unfoldable pub comma_bytes : List ℕ → List ℕ
+comma_bytes [] = []
+comma_bytes (byte ∷ bytes) = codes "," ++ hex_bytes (byte ∷ bytes)
+
+-- a GUID: three numbers that lie with their low byte first, and eight bytes
+unfoldable pub guid_text : List ℕ → List ℕ
+guid_text bytes = hex_back (slice_range bytes 0 4) ++ (codes "-" ++ (hex_back (slice_range bytes 4 6)
+    ++ (codes "-" ++ (hex_back (slice_range bytes 6 8) ++ (codes "-" ++ (hex_bytes (slice_range bytes 8 10)
+    ++ (codes "-" ++ hex_bytes (slice_range bytes 10 16))))))))
+
+-- one of the three letters of an ID, by the five low bits of a number: 1 is A
+unfoldable pub eisa_letter : ℕ → List ℕ
+eisa_letter n = encode_utf8 (n % 32 + 64)
+
+-- an ID of EISA: three letters by the low 15 bits, and the high two bytes; 0 is no ID
+unfoldable pub eisa_text : ℕ → List ℕ
+eisa_text id = if id == 0 then codes "0"
+    else eisa_letter (id / 1024) ++ (eisa_letter (id / 32) ++ (eisa_letter id ++ hex_four (id / 65536)))
+
+-- an address of IP version 4
+unfoldable pub ipv4_address : List ℕ → List ℕ
+ipv4_address bytes = decimal (slice_index bytes 0) ++ (codes "." ++ (decimal (slice_index bytes 1)
+    ++ (codes "." ++ (decimal (slice_index bytes 2) ++ (codes "." ++ decimal (slice_index bytes 3))))))
+
+-- four groups of an address of IP version 6, two bytes each
+unfoldable pub ipv6_half : List ℕ → List ℕ
+ipv6_half bytes = hex_bytes (slice_range bytes 0 2) ++ (codes ":" ++ (hex_bytes (slice_range bytes 2 4)
+    ++ (codes ":" ++ (hex_bytes (slice_range bytes 4 6) ++ (codes ":" ++ hex_bytes (slice_range bytes 6 8))))))
+
+-- all eight
+unfoldable pub ipv6_address : List ℕ → List ℕ
+ipv6_address bytes = ipv6_half (slice_range bytes 0 8) ++ (codes ":" ++ ipv6_half (slice_range bytes 8 16))
+
+-- a protocol over IP, by the number that the IANA gave it
+unfoldable pub protocol_text : ℕ → List ℕ
+protocol_text n = if n == 6 then codes "TCP" else if n == 17 then codes "UDP" else codes "0x" ++ hex n
+
+-- elements up to the first zero, or all
+abbrev pub until_nul : List ℕ → List ℕ
+until_nul elements = take (position_or_len is_nul elements) elements
+
+-- the elements after it
+abbrev pub after_nul : List ℕ → List ℕ
+after_nul elements = drop (position_or_len is_nul elements + 1) elements
+
+-- a byte of a text: itself where it is printable ASCII
+unfoldable pub shown_byte : ℕ → List ℕ
+shown_byte byte = if nat_le 0x20 byte && nat_lt byte 0x7f then encode_utf8 byte else codes "\\x" ++ hex_two byte
+
+-- a text of bytes
+unfoldable pub shown_bytes : List ℕ → List ℕ
+shown_bytes bytes = flat_map shown_byte bytes
+
+-- the test for a control character (Unicode Standard, section 23.1)
+abbrev pub is_control : ℕ → Bool
+is_control c = nat_lt c 0x20 || (nat_le 0x7f c && nat_lt c 0xa0)
+
+-- a character of a text: itself where it is none of control
+unfoldable pub shown_char : ℕ → List ℕ
+shown_char c = if is_control c then concat (codes "\\u{" ∷ hex c ∷ codes "}" ∷ []) else encode_utf8 c
+
+-- code units: the characters that they spell, and U+FFFD for each surrogate that has no partner
+unfoldable pub shown_units : List ℕ → List ℕ
+shown_units units = flat_map shown_char (utf16_lossy_chars units)
+
+-- the text that bytes encode in UTF-16, up to its NUL
+unfoldable pub utf16_text : List ℕ → List ℕ
+utf16_text bytes = shown_units (until_nul (units_of_bytes bytes))
+
+-- what stands before the number of a device that ACPI names by a number under PNP
+unfoldable pub pnp_start : ℕ → List ℕ
+pnp_start id = if id == 0x0a03 then codes "PciRoot("
+    else if id == 0x0a08 then codes "PcieRoot("
+    else if id == 0x0604 then codes "Floppy("
+    else if id == 0x0301 then codes "Keyboard("
+    else if id == 0x0501 then codes "Serial("
+    else if id == 0x0401 then codes "ParallelPort("
+    else concat (codes "Acpi(PNP" ∷ hex_four id ∷ codes "," ∷ [])
+
+-- the shorter name of a vendor, by the two halves of its GUID, or none:
+-- E0C14753-F9BE-11D2-9A0C-0090273FC14D, DFA66065-B419-11D3-9A2D-0090273FC14D, 7BAEC70B-57E0-4C76-8E87-2F9E28088343,
+-- AD15A0D6-8BEC-4ACF-A073-D01DE77E2D88 and EBA4E8D2-3858-41EC-A281-2647BA9660D0
+unfoldable pub vendor_name : ℕ → ℕ → List ℕ
+vendor_name first second =
+    if (first == 0x11d2f9bee0c14753) && (second == 0x4dc13f2790000c9a) then codes "VenPcAnsi()"
+    else if (first == 0x11d3b419dfa66065) && (second == 0x4dc13f2790002d9a) then codes "VenVt100()"
+    else if (first == 0x4c7657e07baec70b) && (second == 0x438308289e2f878e) then codes "VenVt100Plus()"
+    else if (first == 0x4acf8becad15a0d6) && (second == 0x882d7ee71dd073a0) then codes "VenUtf8()"
+    else if (first == 0x41ec3858eba4e8d2) && (second == 0xd06096ba472681a2) then codes "DebugPort()"
+    else []
+
+-- how the local address came, of IP version 4
+unfoldable pub ipv4_origin : ℕ → List ℕ
+ipv4_origin origin = if origin == 0 then codes "DHCP" else codes "Static"
+
+-- how the local address came, of IP version 6
+unfoldable pub ipv6_origin : ℕ → List ℕ
+ipv6_origin origin = if origin == 0 then codes "Static"
+    else if origin == 1 then codes "StatelessAutoConfigure" else codes "StatefulAutoConfigure"
+
+-- the name of a type of RAM disks, by the two halves of its GUID, or none:
+-- 77AB535A-45FC-624B-5560-F7B281D1F96E, 3D5ABD30-4175-87CE-6D64-D2ADE523C4BB, 5CEA02C9-4D07-69D3-269F-4496FBE096F9
+-- and 08018188-42CD-BB48-100F-5387D53DED3D
+unfoldable pub ram_disk_name : ℕ → ℕ → List ℕ
+ram_disk_name first second =
+    if (first == 0x624b45fc77ab535a) && (second == 0x6ef9d181b2f76055) then codes "VirtualDisk"
+    else if (first == 0x87ce41753d5abd30) && (second == 0xbbc423e5add2646d) then codes "VirtualCD"
+    else if (first == 0x69d34d075cea02c9) && (second == 0xf996e0fb96449f26) then codes "PersistentVirtualDisk"
+    else if (first == 0xbb4842cd08018188) && (second == 0x3ded3dd587530f10) then codes "PersistentVirtualCD"
+    else []
+
+-- the type of a device that a legacy BIOS can boot
+unfoldable pub boot_type_text : ℕ → List ℕ
+boot_type_text kind = if kind == 1 then codes "Floppy"
+    else if kind == 2 then codes "HD"
+    else if kind == 3 then codes "CDROM"
+    else if kind == 4 then codes "PCMCIA"
+    else if kind == 5 then codes "USB"
+    else if kind == 6 then codes "Network"
+    else codes "0x" ++ hex kind
+
+-- the strings of a device that ACPI names by strings, which lie as _HID, _UID, _CID
+abbrev pub hid_string : List ℕ → List ℕ
+hid_string bytes = until_nul bytes
+
+abbrev pub uid_string : List ℕ → List ℕ
+uid_string bytes = until_nul (after_nul bytes)
+
+abbrev pub cid_string : List ℕ → List ℕ
+cid_string bytes = until_nul (after_nul (after_nul bytes))
+
+-- the test for a device that has a string for _UID alone
+unfoldable pub has_uid_alone : List ℕ → Bool
+has_uid_alone bytes = (length (hid_string bytes) == 0) && ((length (cid_string bytes) == 0)
+    && not (length (uid_string bytes) == 0))
