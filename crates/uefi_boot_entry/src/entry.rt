@@ -3,7 +3,7 @@ use crate::words::{words_of, words_of_path};
 use std::alloc::Allocator;
 use std::fmt::{self, Write};
 use uefi_device_path::media::FilePath;
-use uefi_device_path::{DevicePathNode, LoadOption, NodeConversionError};
+use uefi_device_path::{DevicePath, DevicePathNode, LoadOption, NodeConversionError};
 use uefi_path::{Path, validate_path};
 use uefi_text::strs::Char16Slice;
 use uefi_text::{CStr16, FromSliceWithNulError, UnalignedSlice};
@@ -151,6 +151,16 @@ fn write_files<W: Write, A: Allocator + Copy>(
     Ok(true)
 }
 
+/// Writes each device path of a list as people read it, up to the first bytes that are none.
+fn write_device_paths<W: Write>(out: &mut W, list: &[u8]) -> fmt::Result {
+    let mut rest = list;
+    'paths: while let Ok((path, after)) = DevicePath::split_first(rest) {
+        writeln!(out, "  device path: {path}")?;
+        rest = after;
+    }
+    Ok(())
+}
+
 /// The parts of an entry, of which the nodes are not read yet.
 #[derive(Drop)]
 struct Parts<'a> {
@@ -187,6 +197,7 @@ fn write_entry<W: Write, A: Allocator + Copy>(
     let refusal = LoadOption::from_bytes(bytes).err();
     if let Some(parts) = Parts::of(bytes) {
         write_head(out, parts.is_active, parts.description)?;
+        write_device_paths(out, parts.list)?;
         if !write_files(out, alloc, parts.start, parts.list)? {
             return Ok(false);
         }
