@@ -3,7 +3,7 @@
 
 use std::alloc::Global;
 use std::test::Fail;
-use uefi_device_path::{AllowShortcuts, DevicePath, DevicePathNode, DisplayOnly};
+use uefi_device_path::{AllowShortcuts, DevicePath, DevicePathNode, DisplayOnly, TextWriteError};
 
 /// Nodes of types Hardware and ACPI, whether the text is for display alone, whether shortcuts are allowed, and
 /// the text.
@@ -671,6 +671,12 @@ const PATHS: &[(&[u8], bool, bool, &str)] = &[
         false,
         "a/b",
     ),
+    (
+        b"\x04\x04\x0e\x00a\x00=\xd8\x00\xde=\xd8\x00\x00\x7f\xff\x04\x00",
+        false,
+        false,
+        "a\u{1f600}\u{fffd}",
+    ),
 ];
 
 fn prints_path(
@@ -695,6 +701,51 @@ fn paths(rt: HostRuntime) {
     for (bytes, display_only, shortcuts, want) in PATHS {
         assert!(rt;
             prints_path(rt.alloc(), bytes, *display_only, *shortcuts, want),
+            "{want}"
+        );
+    }
+}
+
+/// Whether a buffer of just the places that a text and its NUL need is filled with them, and one with a place less
+/// is refused, and holds the first units.
+fn fills_buffer(bytes: &[u8], display_only: bool, shortcuts: bool, want: &str) -> bool {
+    let Ok(path) = DevicePath::from_bytes(bytes) else {
+        return false;
+    };
+    let (display_only, shortcuts) = (DisplayOnly(display_only), AllowShortcuts(shortcuts));
+    let mut room = [0xffff; 256];
+    let len = want.encode_utf16().count();
+    let Some(places) = room.get_mut(..len) else {
+        return false;
+    };
+    let refused = path.text_in_buf(places, display_only, shortcuts).err();
+    if !begins(places, want) || refused != Some(TextWriteError::BufferTooSmall(len + 1)) {
+        return false;
+    }
+    let Some(places) = room.get_mut(..len + 1) else {
+        return false;
+    };
+    match path.text_in_buf(places, display_only, shortcuts) {
+        Ok(units) => units.len() == len + 1 && units.get(len) == Some(&0) && begins(units, want),
+        Err(_) => false,
+    }
+}
+
+/// Whether units begin with those of a text.
+fn begins(units: &[u16], want: &str) -> bool {
+    for (place, unit) in want.encode_utf16().enumerate() {
+        if units.get(place) != Some(&unit) {
+            return false;
+        }
+    }
+    true
+}
+
+#[test]
+fn units_of_paths(rt: HostRuntime) {
+    for (bytes, display_only, shortcuts, want) in PATHS {
+        assert!(rt;
+            fills_buffer(bytes, *display_only, *shortcuts, want),
             "{want}"
         );
     }
