@@ -20,5 +20,6 @@ pub record AreSunk (units old buffer : List ℕ) (len : ℕ) : Type 0 where
 
 -- units and their NUL are not written to `room` places, for this error
 abbrev pub TextRefusedFor : List ℕ → ℕ → TextWriteError → Type 0
-TextRefusedFor units room (BufferTooSmall needed) = (needed ≡ min (length units + 1) (2 ^ 64 - 1)) × (room < length units + 1)
+TextRefusedFor units room (BufferTooSmall needed) =
+    (needed ≡ min (length units + 1) (2 ^ 64 - 1)) × (room < length units + 1)
 TextRefusedFor units room Stopped = Unit {0}

@@ -195,9 +195,9 @@ impl<'a> DevicePath<'a> {
         }
     }
 
-    /// What is printed of the path, for a `{}` of a format (UEFI Specification 2.10, section 10.6.1): the texts
-    /// of its nodes, which [`DevicePathNode::display`] gives, with a slash between each two of an instance, and a
-    /// comma between each two instances. Takes no memory.
+    /// What is printed of the path, for a `{}` of a format (UEFI Specification 2.10, section 10.6.1):
+    /// the texts of its nodes, which [`DevicePathNode::display`] gives, with a slash between each two
+    /// of an instance, and a comma between each two instances. Takes no memory.
     pub fn display(
         &self,
         display_only: DisplayOnly,
@@ -212,9 +212,10 @@ impl<'a> DevicePath<'a> {
         )
     }
 
-    /// What is printed of the path, which [`DevicePath::display`] gives, as UTF-16 with a NUL: written to the start
-    /// of a buffer and borrowed from there. Refused as `BufferTooSmall`, with the count of units that it needs;
-    /// the buffer then holds as many of the first units as it has places. Takes no memory; one pass.
+    /// What is printed of the path, which [`DevicePath::display`] gives, as UTF-16 with a NUL: written
+    /// to the start of a buffer and borrowed from there. Refused as `BufferTooSmall`, with the count of
+    /// units that it needs; the buffer then holds as many of the first units as it has places. Takes no
+    /// memory; one pass.
     pub fn text_in_buf<'b>(
         &self,
         buf: &'b mut [u16],
