@@ -12,14 +12,17 @@ use Rattle.uefi_device_nodes.specs.TypedNodes.{is_kind, number_at}
 -- a device on a PCI bus
 abbrev pub pci_text : List ℕ → List ℕ
 pci_text content =
-    concat (codes "Pci(0x" ∷ hex (number_at 1 1 content) ∷ codes ",0x" ∷ hex (number_at 0 1 content) ∷ codes ")" ∷ [])
+    concat (codes "Pci(0x" ∷ hex (number_at 1 1 content) ∷ codes ",0x" ∷ hex (number_at 0 1 content)
+    ∷ codes ")" ∷ [])
 
 -- a vendor's node, after what names its type: its GUID, and the data that follow
 abbrev pub vendor_text : List ℕ → List ℕ → List ℕ
 vendor_text name content =
-    concat (name ∷ codes "(" ∷ guid_text (slice_range content 0 16) ∷ comma_bytes (drop 16 content) ∷ codes ")" ∷ [])
+    concat (name ∷ codes "(" ∷ guid_text (slice_range content 0 16) ∷ comma_bytes (drop 16 content)
+    ∷ codes ")" ∷ [])
 
--- what stands before the number of a device that ACPI names: an ID of EISA under PNP has 0x41d0 as its low half
+-- what stands before the number of a device that ACPI names: an ID of EISA under PNP has 0x41d0 as its
+-- low half
 unfoldable pub acpi_start : List ℕ → List ℕ
 acpi_start content = if number_at 0 2 content == 0x41d0 then pnp_start (number_at 2 2 content)
     else concat (codes "Acpi(0x" ∷ hex_back (slice_range content 0 4) ∷ codes "," ∷ [])
@@ -30,17 +33,22 @@ acpi_text content = concat (acpi_start content ∷ codes "0x" ∷ hex (number_at
 
 -- a device that ACPI names by numbers or by strings
 abbrev pub expanded_text : Bool → List ℕ → List ℕ
-expanded_text shortcuts content = let hid = eisa_text (number_at 0 4 content) in let cid = eisa_text (number_at 8 4 content) in
+expanded_text shortcuts content =
+    let hid = eisa_text (number_at 0 4 content) in
+    let cid = eisa_text (number_at 8 4 content) in
     if shortcuts && has_uid_alone (drop 12 content)
-    then concat (codes "AcpiExp(" ∷ hid ∷ codes "," ∷ cid ∷ codes "," ∷ shown_bytes (uid_string (drop 12 content)) ∷ codes ")" ∷ [])
+    then concat (codes "AcpiExp(" ∷ hid ∷ codes "," ∷ cid ∷ codes ","
+    ∷ shown_bytes (uid_string (drop 12 content)) ∷ codes ")" ∷ [])
     else concat (codes "AcpiEx(" ∷ hid ∷ codes "," ∷ cid ∷ codes ",0x" ∷ hex (number_at 4 4 content)
-    ∷ codes "," ∷ shown_bytes (hid_string (drop 12 content)) ∷ codes "," ∷ shown_bytes (cid_string (drop 12 content))
+    ∷ codes "," ∷ shown_bytes (hid_string (drop 12 content)) ∷ codes ","
+    ∷ shown_bytes (cid_string (drop 12 content))
     ∷ codes "," ∷ shown_bytes (uid_string (drop 12 content)) ∷ codes ")" ∷ [])
 
 -- a device on a USB bus
 abbrev pub usb_text : List ℕ → List ℕ
 usb_text content =
-    concat (codes "USB(0x" ∷ hex (number_at 0 1 content) ∷ codes ",0x" ∷ hex (number_at 1 1 content) ∷ codes ")" ∷ [])
+    concat (codes "USB(0x" ∷ hex (number_at 0 1 content) ∷ codes ",0x" ∷ hex (number_at 1 1 content)
+    ∷ codes ")" ∷ [])
 
 -- the shorter name of a node without data of the vendor, where such names are wanted
 unfoldable pub short_name : Bool → List ℕ → List ℕ
@@ -54,19 +62,22 @@ messaging_vendor_text shortcuts content = if length (short_name shortcuts conten
 
 -- a network interface: six bytes of its address where it is of Ethernet, type 0 or 1
 abbrev pub mac_text : List ℕ → List ℕ
-mac_text content = concat (codes "MAC(" ∷ hex_bytes (slice_range content 0 (if nat_le (number_at 32 1 content) 1 then 6 else 32))
+mac_text content = concat (codes "MAC("
+    ∷ hex_bytes (slice_range content 0 (if nat_le (number_at 32 1 content) 1 then 6 else 32))
     ∷ codes ",0x" ∷ hex (number_at 32 1 content) ∷ codes ")" ∷ [])
 
 -- the addresses of the gateway and the mask of the subnet, where a node has them
 unfoldable pub ipv4_route : List ℕ → List ℕ
 ipv4_route content = if nat_lt (length content) 23 then []
-    else codes "," ++ (ipv4_address (slice_range content 15 19) ++ (codes "," ++ ipv4_address (slice_range content 19 23)))
+    else codes "," ++ (ipv4_address (slice_range content 15 19) ++ (codes ","
+    ++ ipv4_address (slice_range content 19 23)))
 
 -- an endpoint of a connection over IP version 4
 abbrev pub ipv4_text : Bool → List ℕ → List ℕ
 ipv4_text display_only content = if display_only
     then concat (codes "IPv4(" ∷ ipv4_address (slice_range content 4 8) ∷ codes ")" ∷ [])
-    else concat (codes "IPv4(" ∷ ipv4_address (slice_range content 4 8) ∷ codes "," ∷ protocol_text (number_at 12 2 content)
+    else concat (codes "IPv4(" ∷ ipv4_address (slice_range content 4 8) ∷ codes ","
+    ∷ protocol_text (number_at 12 2 content)
     ∷ codes "," ∷ ipv4_origin (number_at 14 1 content) ∷ codes "," ∷ ipv4_address (slice_range content 0 4)
     ∷ ipv4_route content ∷ codes ")" ∷ [])
 
@@ -74,19 +85,23 @@ ipv4_text display_only content = if display_only
 abbrev pub ipv6_text : Bool → List ℕ → List ℕ
 ipv6_text display_only content = if display_only
     then concat (codes "IPv6(" ∷ ipv6_address (slice_range content 16 32) ∷ codes ")" ∷ [])
-    else concat (codes "IPv6(" ∷ ipv6_address (slice_range content 16 32) ∷ codes "," ∷ protocol_text (number_at 36 2 content)
+    else concat (codes "IPv6(" ∷ ipv6_address (slice_range content 16 32) ∷ codes ","
+    ∷ protocol_text (number_at 36 2 content)
     ∷ codes "," ∷ ipv6_origin (number_at 38 1 content) ∷ codes "," ∷ ipv6_address (slice_range content 0 16)
-    ∷ codes ",0x" ∷ hex (number_at 39 1 content) ∷ codes "," ∷ ipv6_address (slice_range content 40 56) ∷ codes ")" ∷ [])
+    ∷ codes ",0x" ∷ hex (number_at 39 1 content) ∷ codes "," ∷ ipv6_address (slice_range content 40 56)
+    ∷ codes ")" ∷ [])
 
 -- a device on a SATA port
 abbrev pub sata_text : List ℕ → List ℕ
-sata_text content = concat (codes "Sata(0x" ∷ hex (number_at 0 2 content) ∷ codes ",0x" ∷ hex (number_at 2 2 content)
+sata_text content = concat (codes "Sata(0x" ∷ hex (number_at 0 2 content) ∷ codes ",0x"
+    ∷ hex (number_at 2 2 content)
     ∷ codes ",0x" ∷ hex (number_at 4 2 content) ∷ codes ")" ∷ [])
 
 -- a namespace of NVM Express: its number, and its EUI-64 with the high byte first
 abbrev pub nvme_text : List ℕ → List ℕ
 nvme_text content =
-    concat (codes "NVMe(0x" ∷ hex (number_at 0 4 content) ∷ codes "," ∷ dashed_back (slice_range content 4 12) ∷ codes ")" ∷ [])
+    concat (codes "NVMe(0x" ∷ hex (number_at 0 4 content) ∷ codes ","
+    ∷ dashed_back (slice_range content 4 12) ∷ codes ")" ∷ [])
 
 -- what a URI names
 abbrev pub uri_text : List ℕ → List ℕ
@@ -102,13 +117,15 @@ emmc_text content = concat (codes "eMMC(0x" ∷ hex (number_at 0 1 content) ∷ 
 
 -- the signature of a partition after its number: that of an MBR, a GUID, or one of another type
 unfoldable pub signature_text : List ℕ → List ℕ
-signature_text content = if number_at 37 1 content == 1 then codes "MBR,0x" ++ hex_back (slice_range content 20 24)
+signature_text content = if number_at 37 1 content == 1 then codes "MBR,0x"
+    ++ hex_back (slice_range content 20 24)
     else if number_at 37 1 content == 2 then codes "GPT," ++ guid_text (slice_range content 20 36)
     else decimal (number_at 37 1 content) ++ codes ",0"
 
 -- a partition of a hard drive
 abbrev pub hard_drive_text : List ℕ → List ℕ
-hard_drive_text content = concat (codes "HD(" ∷ decimal (number_at 0 4 content) ∷ codes "," ∷ signature_text content
+hard_drive_text content = concat (codes "HD(" ∷ decimal (number_at 0 4 content) ∷ codes ","
+    ∷ signature_text content
     ∷ codes ",0x" ∷ hex (number_at 4 8 content) ∷ codes ",0x" ∷ hex (number_at 12 8 content) ∷ codes ")" ∷ [])
 
 -- a boot entry of a CD-ROM
@@ -128,14 +145,16 @@ firmware_volume_text content = concat (codes "Fv(" ∷ guid_text (slice_range co
 
 -- where a RAM disk lies, and its number
 unfoldable pub ram_disk_place : List ℕ → List ℕ
-ram_disk_place content = concat (codes "(0x" ∷ hex (number_at 0 8 content) ∷ codes ",0x" ∷ hex (number_at 8 8 content)
+ram_disk_place content = concat (codes "(0x" ∷ hex (number_at 0 8 content) ∷ codes ",0x"
+    ∷ hex (number_at 8 8 content)
     ∷ codes "," ∷ decimal (number_at 32 2 content) ∷ [])
 
 -- a RAM disk; where its type has no name, its GUID stands at the end
 abbrev pub ram_disk_text : List ℕ → List ℕ
 ram_disk_text content = let name = ram_disk_name (number_at 16 8 content) (number_at 24 8 content) in
     if length name == 0
-    then concat (codes "RamDisk" ∷ ram_disk_place content ∷ codes "," ∷ guid_text (slice_range content 16 32) ∷ codes ")" ∷ [])
+    then concat (codes "RamDisk" ∷ ram_disk_place content ∷ codes ","
+    ∷ guid_text (slice_range content 16 32) ∷ codes ")" ∷ [])
     else concat (name ∷ ram_disk_place content ∷ codes ")" ∷ [])
 
 -- a file: its name
@@ -144,14 +163,16 @@ file_text content = utf16_text content
 
 -- its flags, which are left out where the text is not to be read back, and the end
 abbrev pub boot_end_text : Bool → ℕ → List ℕ
-boot_end_text display_only flags = if display_only then codes ")" else concat (codes ",0x" ∷ hex flags ∷ codes ")" ∷ [])
+boot_end_text display_only flags = if display_only then codes ")" else concat (codes ",0x" ∷ hex flags
+    ∷ codes ")" ∷ [])
 
 -- a device that a legacy BIOS can boot
 abbrev pub boot_text : Bool → List ℕ → List ℕ
 boot_text display_only content = codes "BBS(" ++ (boot_type_text (number_at 0 2 content) ++ (codes ","
     ++ (shown_bytes (until_nul (drop 4 content)) ++ boot_end_text display_only (number_at 2 2 content))))
 
--- Each of the following is over a node. A node of no kind, or too short for its kind, prints as `unknown_text`.
+-- Each of the following is over a node. A node of no kind, or too short for its kind, prints as
+-- `unknown_text`.
 
 -- a node of no kind: its type, its sub-type and its data
 unfoldable pub unknown_text : Node → List ℕ
@@ -205,9 +226,11 @@ media_node_text display_only node = if is_file node && (length node.content % 2 
 
 -- a node of type BIOS Boot Specification
 unfoldable pub boot_node_text : Bool → Node → List ℕ
-boot_node_text display_only node = if is_kind 5 1 5 node then boot_text display_only node.content else unknown_text node
+boot_node_text display_only node = if is_kind 5 1 5 node then boot_text display_only node.content
+    else unknown_text node
 
--- a node, in the form that is not to be read back where `display_only`, and with shorter names where `shortcuts`
+-- a node, in the form that is not to be read back where `display_only`, and with shorter names where
+-- `shortcuts`
 unfoldable pub node_text : Bool → Bool → Node → List ℕ
 node_text display_only shortcuts node = if node.device_type == 1 then hardware_node_text node
     else if node.device_type == 2 then acpi_node_text shortcuts node

@@ -155,8 +155,8 @@ impl<'a> fmt::Display for TypedNode<'a, RamDiskKind> {
     }
 }
 
-/// Prints the name up to its NUL: U+FFFD for each surrogate that has no partner, and each control character as
-/// `\u{HEX}`.
+/// Prints the name up to its NUL: U+FFFD for each surrogate that has no partner, and each control
+/// character as `\u{HEX}`.
 impl<'a> fmt::Display for FilePath<'a> {
     ghost use Rattle.std.specs.Prelude.{Some};
     ghost use Rattle.uefi_device_nodes.specs.NodeTexts.{file_text};

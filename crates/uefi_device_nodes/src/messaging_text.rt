@@ -74,8 +74,8 @@ impl<'a> fmt::Display for TypedNode<'a, MessagingVendorKind> {
     }
 }
 
-/// Prints `MAC(ADDRESS,0xTYPE)`, with six bytes of the address where the interface is of type 0 or 1, and else
-/// with all 32.
+/// Prints `MAC(ADDRESS,0xTYPE)`, with six bytes of the address where the interface is of type 0 or 1,
+/// and else with all 32.
 impl<'a> fmt::Display for TypedNode<'a, MacAddressKind> {
     ghost use Rattle.std.specs.Prelude.{Some};
     ghost use Rattle.uefi_device_nodes.specs.NodeTexts.{mac_text};
@@ -132,8 +132,8 @@ pub(crate) fn write_ipv4<W: fmt::Write>(
     f.write_str(")")
 }
 
-/// Prints `IPv4(REMOTE,PROTOCOL,Static,LOCAL,GATEWAY,MASK)`, or `DHCP`; without the last two where the node ends
-/// before the mask does.
+/// Prints `IPv4(REMOTE,PROTOCOL,Static,LOCAL,GATEWAY,MASK)`, or `DHCP`; without the last two where the
+/// node ends before the mask does.
 impl<'a> fmt::Display for TypedNode<'a, Ipv4Kind> {
     ghost use Rattle.std.specs.Prelude.{Some, false};
     ghost use Rattle.uefi_device_nodes.specs.NodeTexts.{ipv4_text};
@@ -175,7 +175,8 @@ pub(crate) fn write_ipv6<W: fmt::Write>(
     write!(f, ",0x{:X},{gateway})", node.prefix_length())
 }
 
-/// Prints `IPv6(REMOTE,PROTOCOL,ORIGIN,LOCAL,0xPREFIX,GATEWAY)`, each address as eight groups of four digits.
+/// Prints `IPv6(REMOTE,PROTOCOL,ORIGIN,LOCAL,0xPREFIX,GATEWAY)`, each address as eight groups of four
+/// digits.
 impl<'a> fmt::Display for TypedNode<'a, Ipv6Kind> {
     ghost use Rattle.std.specs.Prelude.{Some, false};
     ghost use Rattle.uefi_device_nodes.specs.NodeTexts.{ipv6_text};

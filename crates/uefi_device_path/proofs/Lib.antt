@@ -9,3 +9,4 @@ pub mod Headers
 pub mod OptionBytes
 pub mod BufferPaths
 pub mod PathTexts
+pub mod Units

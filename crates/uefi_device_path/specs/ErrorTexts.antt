@@ -16,6 +16,8 @@ use Rattle.uefi_device_path.specs.declared.errors.BuildError.{BuildError}
 use Rattle.uefi_device_path.specs.declared.errors.BuildError.TheVariants as build
 use Rattle.uefi_device_path.specs.declared.errors.OptionBuildError.{OptionBuildError}
 use Rattle.uefi_device_path.specs.declared.errors.OptionBuildError.TheVariants as written
+use Rattle.uefi_device_path.specs.declared.errors.TextWriteError.{TextWriteError}
+use Rattle.uefi_device_path.specs.declared.errors.TextWriteError.TheVariants as text
 
 -- what is printed of the refusal of a device path
 abbrev pub device_path_error_text : DevicePathError → List ℕ
@@ -68,3 +70,8 @@ abbrev pub file_path_write_error_text : FilePathWriteError → List ℕ
 file_path_write_error_text (in_buffer.Name error) = file_path_error_text error
 file_path_write_error_text (in_buffer.BufferTooSmall needed) =
     codes "the file path has " ++ decimal needed ++ codes " units"
+
+-- what is printed where a text is not written
+abbrev pub text_write_error_text : TextWriteError → List ℕ
+text_write_error_text (text.BufferTooSmall needed) = codes "the text has " ++ decimal needed ++ codes " units"
+text_write_error_text text.Stopped = codes "the text stopped before its end"

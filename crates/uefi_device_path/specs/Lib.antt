@@ -21,4 +21,5 @@ pub mod Building
 pub mod OptionBuilding
 pub mod Instances
 pub mod PathTexts
+pub mod PathUnits
 pub mod Laws

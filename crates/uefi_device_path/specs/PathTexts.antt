@@ -11,4 +11,5 @@ instance_text display_only shortcuts nodes = join_by (node_text display_only sho
 
 -- a path: the texts of its instances, with a comma between each two
 unfoldable pub path_text : Bool → Bool → List Node → List ℕ
-path_text display_only shortcuts nodes = join_by (instance_text display_only shortcuts) (codes ",") (instances nodes)
+path_text display_only shortcuts nodes =
+    join_by (instance_text display_only shortcuts) (codes ",") (instances nodes)

@@ -10,12 +10,15 @@ ghost use Rattle.uefi_device_path.specs.FilePaths.{FileRefusedFor, IsReadable, f
 ghost use Rattle.uefi_device_nodes.specs.Nodes.{IsInner, Node, end_entire, node_bytes, node_length};
 ghost use Rattle.uefi_device_path.specs.Paths.{AreNodes, BeginWith, BeginWithPath, IsPath, joined, nodes_in, path_bytes, without_end};
 
-use crate::errors::{DevicePathError, FilePathCause, FilePathError, FilePathWriteError};
+use crate::errors::{
+    DevicePathError, FilePathCause, FilePathError, FilePathWriteError, TextWriteError,
+};
 use crate::file_path::file_path_in;
 use crate::file_path_buffer::write_file_path_in;
 use crate::instance::DevicePathInstanceIterator;
 use crate::node_iterator::DevicePathNodeIterator;
 use crate::path_text::PathText;
+use crate::unit_sink::write_units;
 use std::alloc::Allocator;
 use std::fmt;
 use uefi_device_nodes::node::{DevicePathNode, fault_place};
@@ -36,6 +39,7 @@ impl<'a> DevicePath<'a> {
     ghost use Rattle.uefi_device_path.specs.Instances.{instances};
     ghost use Rattle.uefi_device_nodes.specs.NodeViews.{node_of};
     ghost use Rattle.uefi_device_path.specs.PathTexts.{path_text};
+    ghost use Rattle.uefi_device_path.specs.PathUnits.{TextRefusedFor, utf16_units};
     ghost use Rattle.uefi_device_path.specs.Views.{instance_nodes, instances_left, nodes_left, nodes_of, printed_path};
     ghost use Rattle.uefi_text.specs.Runs.{GivesEach};
     ghost use Rattle.uefi_device_path.specs.declared.errors.DevicePathError.{DevicePathError};
@@ -191,9 +195,9 @@ impl<'a> DevicePath<'a> {
         }
     }
 
-    /// What is printed of the path, for a `{}` of a format (UEFI Specification 2.10, section 10.6.1): the texts
-    /// of its nodes, which [`DevicePathNode::display`] gives, with a slash between each two of an instance, and a
-    /// comma between each two instances. Takes no memory.
+    /// What is printed of the path, for a `{}` of a format (UEFI Specification 2.10, section 10.6.1):
+    /// the texts of its nodes, which [`DevicePathNode::display`] gives, with a slash between each two
+    /// of an instance, and a comma between each two instances. Takes no memory.
     pub fn display(
         &self,
         display_only: DisplayOnly,
@@ -206,6 +210,25 @@ impl<'a> DevicePath<'a> {
             display_only,
             allow_shortcuts,
         )
+    }
+
+    /// What is printed of the path, which [`DevicePath::display`] gives, as UTF-16 with a NUL: written
+    /// to the start of a buffer and borrowed from there. Refused as `BufferTooSmall`, with the count of
+    /// units that it needs; the buffer then holds as many of the first units as it has places. Takes no
+    /// memory; one pass.
+    pub fn text_in_buf<'b>(
+        &self,
+        buf: &'b mut [u16],
+        display_only: DisplayOnly,
+        allow_shortcuts: AllowShortcuts,
+    ) -> Result<&'b [u16], TextWriteError>
+        ensures ok { IfOk result (λ units. units.now ≡ nul_terminated
+            (utf16_units (path_text display_only.0 allow_shortcuts.0 (nodes_of self.now)))) }
+        ensures refusal { IfErr result (λ error. TextRefusedFor
+            (utf16_units (path_text display_only.0 allow_shortcuts.0 (nodes_of self.now)))
+            (length buf.old) error) }
+    {
+        write_units(buf, self.display(display_only, allow_shortcuts))
     }
 
     /// The instances of the path, in order: what stands between the nodes that end one.

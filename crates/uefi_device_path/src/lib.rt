@@ -35,13 +35,14 @@ mod node_iterator;
 mod option_builder;
 mod path_list;
 mod path_text;
+mod unit_sink;
 
 pub use build::DevicePathBuf;
 pub use builder::DevicePathBuilder;
 pub use device_path::DevicePath;
 pub use errors::{
     BuildError, DevicePathError, FilePathCause, FilePathError, FilePathWriteError, LoadOptionCause,
-    LoadOptionError, NodeConversionError, NodeError, OptionBuildError,
+    LoadOptionError, NodeConversionError, NodeError, OptionBuildError, TextWriteError,
 };
 pub use instance::{DevicePathInstance, DevicePathInstanceIterator};
 pub use load_option::LoadOption;

@@ -1,4 +1,4 @@
--- The first character that units spell.
+-- The first character of units.
 use Rattle.std.proofs.Common.{◌≡◌, ℕ, ◌≤◌, ◌<◌, ◌+◌, ◌&&◌, suc, false, true, List, [], ◌∷◌, ◌++◌, length, drop, get_or, slice_index, ap, refl, sym, subst, ◌∙◌, arith, add-one, add-zero, append_assoc}
 use Rattle.std.proofs.lemmas.Grind.{common_steps}
 use Rattle.std.proofs.lemmas.List.{append-nil, drop_all, get_or-drop}

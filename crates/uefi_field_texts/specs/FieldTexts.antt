@@ -58,7 +58,8 @@ ipv4_address bytes = decimal (slice_index bytes 0) ++ (codes "." ++ (decimal (sl
 -- four groups of an address of IP version 6, two bytes each
 unfoldable pub ipv6_half : List ℕ → List ℕ
 ipv6_half bytes = hex_bytes (slice_range bytes 0 2) ++ (codes ":" ++ (hex_bytes (slice_range bytes 2 4)
-    ++ (codes ":" ++ (hex_bytes (slice_range bytes 4 6) ++ (codes ":" ++ hex_bytes (slice_range bytes 6 8))))))
+    ++ (codes ":" ++ (hex_bytes (slice_range bytes 4 6) ++ (codes ":"
+    ++ hex_bytes (slice_range bytes 6 8))))))
 
 -- all eight
 unfoldable pub ipv6_address : List ℕ → List ℕ
@@ -78,7 +79,8 @@ after_nul elements = drop (position_or_len is_nul elements + 1) elements
 
 -- a byte of a text: itself where it is printable ASCII
 unfoldable pub shown_byte : ℕ → List ℕ
-shown_byte byte = if nat_le 0x20 byte && nat_lt byte 0x7f then encode_utf8 byte else codes "\\x" ++ hex_two byte
+shown_byte byte = if nat_le 0x20 byte && nat_lt byte 0x7f then encode_utf8 byte else codes "\\x"
+    ++ hex_two byte
 
 -- a text of bytes
 unfoldable pub shown_bytes : List ℕ → List ℕ
@@ -92,7 +94,7 @@ is_control c = nat_lt c 0x20 || (nat_le 0x7f c && nat_lt c 0xa0)
 unfoldable pub shown_char : ℕ → List ℕ
 shown_char c = if is_control c then concat (codes "\\u{" ∷ hex c ∷ codes "}" ∷ []) else encode_utf8 c
 
--- code units: the characters that they spell, and U+FFFD for each surrogate that has no partner
+-- code units: the characters that they encode, and U+FFFD for each surrogate that has no partner
 unfoldable pub shown_units : List ℕ → List ℕ
 shown_units units = flat_map shown_char (utf16_lossy_chars units)
 
@@ -111,7 +113,8 @@ pnp_start id = if id == 0x0a03 then codes "PciRoot("
     else concat (codes "Acpi(PNP" ∷ hex_four id ∷ codes "," ∷ [])
 
 -- the shorter name of a vendor, by the two halves of its GUID, or none:
--- E0C14753-F9BE-11D2-9A0C-0090273FC14D, DFA66065-B419-11D3-9A2D-0090273FC14D, 7BAEC70B-57E0-4C76-8E87-2F9E28088343,
+-- E0C14753-F9BE-11D2-9A0C-0090273FC14D, DFA66065-B419-11D3-9A2D-0090273FC14D,
+-- 7BAEC70B-57E0-4C76-8E87-2F9E28088343,
 -- AD15A0D6-8BEC-4ACF-A073-D01DE77E2D88 and EBA4E8D2-3858-41EC-A281-2647BA9660D0
 unfoldable pub vendor_name : ℕ → ℕ → List ℕ
 vendor_name first second =
@@ -132,7 +135,8 @@ ipv6_origin origin = if origin == 0 then codes "Static"
     else if origin == 1 then codes "StatelessAutoConfigure" else codes "StatefulAutoConfigure"
 
 -- the name of a type of RAM disks, by the two halves of its GUID, or none:
--- 77AB535A-45FC-624B-5560-F7B281D1F96E, 3D5ABD30-4175-87CE-6D64-D2ADE523C4BB, 5CEA02C9-4D07-69D3-269F-4496FBE096F9
+-- 77AB535A-45FC-624B-5560-F7B281D1F96E, 3D5ABD30-4175-87CE-6D64-D2ADE523C4BB,
+-- 5CEA02C9-4D07-69D3-269F-4496FBE096F9
 -- and 08018188-42CD-BB48-100F-5387D53DED3D
 unfoldable pub ram_disk_name : ℕ → ℕ → List ℕ
 ram_disk_name first second =
