@@ -2,8 +2,7 @@
 use Rattle.std.proofs.Common.{◌≡◌, ◌∙◌, ap, sym, refl, ℕ, List, [], ◌∷◌, ◌++◌, length, append_assoc, arith}
 use Rattle.std.proofs.lemmas.List.{append-nil}
 use Rattle.std.specs.List.{flat_map, join_by}
-use Rattle.uefi_device_nodes.specs.Nodes.{Node}
-use Rattle.uefi_device_path.specs.Paths.{nodes_in, nodes_within}
+use Rattle.uefi_device_path.specs.Paths.{nodes_in}
 
 -- no bytes are no nodes
 pub no_nodes : (bytes : List ℕ) → length bytes ≡ 0 → nodes_in bytes ≡ []

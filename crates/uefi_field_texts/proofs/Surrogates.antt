@@ -1,6 +1,5 @@
 -- The first character of units.
-use Rattle.std.proofs.Common.{◌≡◌, ℕ, ◌≤◌, ◌<◌, ◌+◌, ◌&&◌, suc, false, true, List, [], ◌∷◌, ◌++◌, length, drop, get_or, slice_index, ap, refl, sym, subst, ◌∙◌, arith, add-one, add-zero, append_assoc}
-use Rattle.std.proofs.lemmas.Grind.{common_steps}
+use Rattle.std.proofs.Common.{◌≡◌, ℕ, ◌≤◌, ◌<◌, ◌+◌, ◌&&◌, false, true, List, [], ◌∷◌, ◌++◌, length, drop, slice_index, ap, refl, sym, ◌∙◌, arith, add-one, add-zero, append_assoc}
 use Rattle.std.proofs.lemmas.List.{append-nil, drop_all, get_or-drop}
 use Rattle.std.proofs.Math.Seq.{drop-cons}
 use Rattle.std.specs.Char.Utf16.{is_high_surrogate, is_low_surrogate, lone_unit_char, surrogate_pair_char, utf16_chars, utf16_lossy_chars}

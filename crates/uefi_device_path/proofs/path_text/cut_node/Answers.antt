@@ -1,5 +1,5 @@
 -- The nodes of bytes are the first one and the others.
-use Rattle.std.proofs.Common.{◌∙◌, ap, length, length-append, arith}
+use Rattle.std.proofs.Common.{ap, length, length-append, arith}
 use Rattle.uefi_device_nodes.specs.NodeViews.{node_of}
 use Rattle.uefi_device_path.proofs.Splits.{after_first, no_fault-AreNodes}
 use Rattle.uefi_device_path.proofs.path_text.cut_node.Goals as goal

@@ -1,7 +1,4 @@
 -- What is written is the text.
-use Rattle.std.proofs.Common.{rules, ◌≡◌, ℕ, List, [], ◌++◌, length, ap, sym, ◌∙◌, subst, arith}
-use Rattle.std.proofs.lemmas.Grind.{common_steps}
-use Rattle.uefi_device_path.specs.PathUnits.{AreSunk, TextRefusedFor, utf16_units}
 use Rattle.uefi_device_path.specs.Views.{printed_path}
 use Rattle.uefi_device_path.proofs.Units.{text_sunk}
 use Rattle.uefi_device_path.proofs.unit_sink.write_units.Goals as goal

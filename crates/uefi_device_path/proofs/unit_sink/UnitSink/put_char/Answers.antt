@@ -1,5 +1,5 @@
 -- A character above U+FFFF is two units.
-use Rattle.std.proofs.Common.{ℕ, List, [], ◌∷◌, ◌++◌, ◌+◌, ◌-◌, ◌/◌, ◌%◌, subst, arith}
+use Rattle.std.proofs.Common.{ℕ, List, [], ◌∷◌, ◌++◌, ◌+◌, ◌-◌, ◌/◌, subst, arith}
 use Rattle.uefi_device_path.specs.PathUnits.{AreSunk}
 use Rattle.uefi_device_path.proofs.Units.{two_units}
 use Rattle.uefi_device_path.proofs.unit_sink.UnitSink.put_char.Goals as goal
