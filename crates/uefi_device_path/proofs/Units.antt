@@ -1,13 +1,14 @@
 -- The units of a text that is read character by character, and written part by part.
-use Rattle.std.proofs.Common.{◌≡◌, ℕ, ◌+◌, ◌-◌, ◌/◌, ◌%◌, ◌≤◌, List, [], ◌∷◌, ◌++◌, length, append_assoc, ap, sym, subst, ◌∙◌, arith}
+use Rattle.std.proofs.Common.{◌≡◌, ℕ, ◌+◌, ◌-◌, ◌/◌, ◌%◌, ◌<◌, ◌≤◌, set, take, drop, List, [], ◌∷◌, ◌++◌, length, append_assoc, ap, sym, subst, ◌∙◌, arith}
 use Rattle.std.proofs.lemmas.Grind.{common_steps, flat_map-append}
-use Rattle.std.proofs.lemmas.List.{append-nil, nil_from_length}
+use Rattle.std.proofs.lemmas.List.{append-nil, drop-drop, drop-set, nil_from_length, take-append-drop, take-set}
 use Rattle.std.proofs.lemmas.Str.{chars-append, chars-nil, chars_past_char}
 use Rattle.std.specs.Char.Escape.{encode_utf16}
 use Rattle.std.specs.Fmt.{WritesInCalls}
 use Rattle.std.specs.List.{FoldsTo, concat, flat_map}
 use Rattle.std.specs.Prelude.{encode_utf8}
 use Rattle.std.specs.Str.{chars, IsUtf8}
+use Rattle.uefi_text.specs.Units.{nul_terminated}
 use Rattle.uefi_device_path.specs.PathUnits.{AreSunk, utf16_units}
 
 -- one character more
@@ -62,3 +63,33 @@ module _ {W : Type 0} (buffer : W → List ℕ) (len : W → ℕ) (took : W → 
   text_sunk p q text start wrote h =
       subst (λ (bs : List ℕ). AreSunk (utf16_units bs) start (buffer q) (len q)) wrote.whole
       (parts_sunk wrote.parts p q [] start wrote.calls h)
+
+-- what each write keeps, all of them keep
+folds_keep : {W N : Type 0} (name : W → N) (took : W → List ℕ → W → Type 0)
+    → ((p : W) (part : List ℕ) (q : W) → took p part q → name q ≡ name p)
+    → (parts : List (List ℕ)) (p q : W) → FoldsTo took p parts q → name q ≡ name p
+folds_keep name took keeps [] p q same = ap name (sym same)
+folds_keep name took keeps (part ∷ parts) p q (j, one, rest) =
+    folds_keep name took keeps parts j q rest ∙ keeps p part j one
+
+pub text_keeps : {W N : Type 0} (name : W → N) (took : W → List ℕ → W → Type 0)
+    → ((p : W) (part : List ℕ) (q : W) → took p part q → name q ≡ name p)
+    → (p q : W) (text : List ℕ) → WritesInCalls took p text q → name q ≡ name p
+text_keeps name took keeps p q text wrote = folds_keep name took keeps wrote.parts p q wrote.calls
+
+-- a NUL after units that were written
+pub nul_after : (units old new : List ℕ) (len : ℕ) → len ≡ length units → len < length new → AreSunk units old new len
+    → set new len 0 ≡ nul_terminated units ++ drop (length units + 1) old
+nul_after units old new len all room sunk =
+    let n = length units in
+    let room_n : n < length new = omega (arith, all, room) in
+    let fits : n ≤ length old = omega (arith, room_n, sunk.same) in
+    let at : set new len 0 ≡ set new n 0 = ap (λ (i : ℕ). set new i 0) all in
+    let front : take n (set new n 0) ≡ units = take-set new n 0 ∙ sunk.front fits in
+    let rest : drop (n + 1) new ≡ drop (n + 1) old =
+    sym (drop-drop 1 n new) ∙ ap (drop 1) (sunk.back fits) ∙ drop-drop 1 n old in
+    let back : drop n (set new n 0) ≡ 0 ∷ drop (n + 1) old = drop-set new n 0 room_n ∙ ap (λ (us : List ℕ). 0 ∷ us) rest in
+    at ∙ sym (take-append-drop n (set new n 0))
+    ∙ ap (λ (us : List ℕ). us ++ drop n (set new n 0)) front
+    ∙ ap (λ (us : List ℕ). units ++ us) back
+    ∙ sym (append_assoc units (0 ∷ []) (drop (n + 1) old))

@@ -212,10 +212,32 @@ impl<'a> DevicePath<'a> {
         )
     }
 
-    /// What is printed of the path, which [`DevicePath::display`] gives, as UTF-16 with a NUL: written
-    /// to the start of a buffer and borrowed from there. Refused as `BufferTooSmall`, with the count of
-    /// units that it needs; the buffer then holds as many of the first units as it has places. Takes no
-    /// memory; one pass.
+    /// Writes what is printed of the path, which [`DevicePath::display`] gives, to the start of a buffer
+    /// as UTF-16, with a NUL after it, and returns how many units these are. What follows them is
+    /// unchanged. Refused as `BufferTooSmall`, with the count that it needs; the buffer then holds as many
+    /// of the first units as it has places. Takes no memory; one pass.
+    pub fn write_text(
+        &self,
+        buffer: &mut [u16],
+        display_only: DisplayOnly,
+        allow_shortcuts: AllowShortcuts,
+    ) -> Result<usize, TextWriteError>
+        ensures len { IfOk result (λ len. len ≡ length (utf16_units
+            (path_text display_only.0 allow_shortcuts.0 (nodes_of self.now))) + 1) }
+        ensures room { IfOk result (λ len. len ≤ length buffer.old) }
+        ensures ok { OnOk result (buffer.new ≡ nul_terminated (utf16_units
+            (path_text display_only.0 allow_shortcuts.0 (nodes_of self.now)))
+            ++ drop (length (utf16_units
+            (path_text display_only.0 allow_shortcuts.0 (nodes_of self.now))) + 1) buffer.old) }
+        ensures refusal { IfErr result (λ error. TextRefusedFor
+            (utf16_units (path_text display_only.0 allow_shortcuts.0 (nodes_of self.now)))
+            (length buffer.old) error) }
+    {
+        write_units(buffer, self.display(display_only, allow_shortcuts))
+    }
+
+    /// The same text, written to the start of a buffer and borrowed from there with its NUL.
+    /// [`DevicePath::write_text`] says when it is refused and what the buffer then holds.
     pub fn text_in_buf<'b>(
         &self,
         buf: &'b mut [u16],
@@ -228,7 +250,10 @@ impl<'a> DevicePath<'a> {
             (utf16_units (path_text display_only.0 allow_shortcuts.0 (nodes_of self.now)))
             (length buf.old) error) }
     {
-        write_units(buf, self.display(display_only, allow_shortcuts))
+        match self.write_text(buf, display_only, allow_shortcuts) {
+            Ok(len) => Ok(&buf[..len]),
+            Err(error) => Err(error),
+        }
     }
 
     /// The instances of the path, in order: what stands between the nodes that end one.

@@ -1,14 +1,14 @@
--- What is written is the text.
+-- The units of the text, its NUL, and what followed them.
+use Rattle.std.proofs.Common.{◌≡◌, length, arith}
+use Rattle.std.proofs.lemmas.Grind.{common_steps}
+use Rattle.uefi_device_path.specs.PathUnits.{utf16_units}
 use Rattle.uefi_device_path.specs.Views.{printed_path}
-use Rattle.uefi_device_path.proofs.Units.{text_sunk}
+use Rattle.uefi_device_path.proofs.Units.{nul_after}
 use Rattle.uefi_device_path.proofs.unit_sink.write_units.Goals as goal
 
-pub returns-in-Ok : goal.returns-in-Ok
-returns-in-Ok c =
-    let after = c.write.new.self in
-    let sunk = text_sunk (λ w. w.buffer.now) (λ w. w.len) _ (λ p part q took. took)
-    c.of-sink.result after (printed_path c.args.text) c.args.buffer.now c.in-Ok.ensures.writes c.of-sink.ensures in
-    record {
-      ok = c.finish.ensures.ok _ _ sunk;
-      refusal = c.finish.ensures.refusal _ _ sunk;
-    }
+pub returns-clause-ok : goal.returns-clause-ok
+returns-clause-ok c =
+    let units = utf16_units (printed_path c.args.text) in
+    let old = c.args.buffer.now in
+    let all : c.in-Some.len ≡ length units = grind (arith, common_steps) in
+    nul_after units old c.fill_units.new.buffer c.in-Some.len all c.if-buffer-len.false c.in-Some.ensures

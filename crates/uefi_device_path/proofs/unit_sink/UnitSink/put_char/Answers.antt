@@ -4,10 +4,10 @@ use Rattle.uefi_device_path.specs.PathUnits.{AreSunk}
 use Rattle.uefi_device_path.proofs.Units.{two_units}
 use Rattle.uefi_device_path.proofs.unit_sink.UnitSink.put_char.Goals as goal
 
-pub returns : goal.returns
-returns c = λ units old h.
+pub returns-clause-sunk : goal.returns-clause-sunk
+returns-clause-sunk c = λ units old h.
     let code = c.args.character in
-    let first = c.put_unit-2.ensures units old h in
+    let first = c.put_unit-2.ensures.sunk units old h in
     subst (λ (us : List ℕ). AreSunk us old c.put_unit-3.new.self.buffer.now c.put_unit-3.new.self.len)
     (two_units units code (omega arith))
-    (c.put_unit-3.ensures (units ++ (0xD800 + (code - 0x1_0000) / 0x400) ∷ []) old first)
+    (c.put_unit-3.ensures.sunk (units ++ (0xD800 + (code - 0x1_0000) / 0x400) ∷ []) old first)

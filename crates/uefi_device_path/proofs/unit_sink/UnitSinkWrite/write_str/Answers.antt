@@ -1,5 +1,5 @@
 -- The units of one character more are written, and at the end those of all.
-use Rattle.std.proofs.Common.{ℕ, List, ◌++◌, ap, subst}
+use Rattle.std.proofs.Common.{ℕ, List, ◌++◌, ◌∙◌, ap, subst}
 use Rattle.std.proofs.lemmas.List.{flat_map_more}
 use Rattle.std.proofs.lemmas.Str.{IsUtf8-past_char}
 use Rattle.std.specs.Char.Escape.{encode_utf16}
@@ -18,7 +18,8 @@ loop-character-preserved c =
       to_come = chars_read yielded _ _ _ _ so_far.utf8 c.in-Some.ensures.steps.0 so_far.to_come;
       sunk = λ units start h. subst (λ (us : List ℕ). AreSunk us start c.put_char.new.self.buffer.now c.put_char.new.self.len)
           (flat_map_more encode_utf16 units yielded character)
-          (c.put_char.ensures (units ++ flat_map encode_utf16 yielded) start (so_far.sunk units start h));
+          (c.put_char.ensures.sunk (units ++ flat_map encode_utf16 yielded) start (so_far.sunk units start h));
+      same_reference = c.put_char.ensures.same_reference ∙ so_far.same_reference;
     }
 
 pub returns : goal.returns
@@ -32,5 +33,6 @@ returns c =
         λ units start h.
             subst (λ (us : List ℕ). AreSunk us start c.loop-character.self.buffer.now c.loop-character.self.len)
             (ap (λ (cs : List ℕ). units ++ flat_map encode_utf16 cs) all) (so_far.sunk units start h),
+        so_far.same_reference,
       );
     }

@@ -13,4 +13,5 @@ invariant-loop-character l = record {
   to_come : l.yielded ++ chars (chars_rest l.character-iterator) ≡ chars l.s;
   sunk : (units start : List ℕ) → AreSunk units start l.initial.self.buffer.now l.initial.self.len
       → AreSunk (units ++ flat_map encode_utf16 l.yielded) start l.self.buffer.now l.self.len;
+  same_reference : l.self.buffer.ghost_name ≡ l.initial.self.buffer.ghost_name;
 }

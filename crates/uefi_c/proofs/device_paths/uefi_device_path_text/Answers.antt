@@ -1,0 +1,57 @@
+-- What holds of the path that was read holds of each that the bytes begin with, since there is no other.
+use Rattle.std.proofs.Common.{◌≡◌, ◌-◌, ◌^◌, ◌<◌, ◌≤◌, ◌∙◌, List, ap, arith, length, min, refl, subst, sym}
+use Rattle.std.proofs.lemmas.Grind.{common_steps}
+use Rattle.uefi_text.specs.UnalignedCStr16.{with_prefix}
+use Rattle.uefi_text.specs.Units.{nul_terminated}
+use Rattle.uefi_device_nodes.specs.Nodes.{Node}
+use Rattle.uefi_device_path.specs.PathUnits.{TextRefusedFor}
+use Rattle.uefi_device_path.specs.Views.{nodes_of}
+use Rattle.uefi_device_path.specs.declared.errors.TextWriteError.{TextWriteError}
+use Rattle.uefi_device_path.specs.declared.errors.TextWriteError.TheVariants.{BufferTooSmall}
+use Rattle.uefi_c.specs.DevicePaths.{text_units}
+use Rattle.uefi_c.specs.Reasons.{node_reason}
+use Rattle.uefi_c.proofs.Tails.{written_with_nul}
+use Rattle.uefi_c.proofs.device_paths.uefi_device_path_text.Goals as goal
+
+pub returns-in-Err-clause-no_path : goal.returns-in-Err-clause-no_path
+returns-in-Err-clause-no_path c = λ error refused.
+    let same = sym (c.in-Err.ensures.only_refusal error refused) in
+    (c.node_reason.ensures ∙ ap (λ e. node_reason e.cause) same, ap (λ e. e.offset) same, refl)
+
+pub returns-in-Ok-write_text-clause-no_path : goal.returns-in-Ok-write_text-clause-no_path
+returns-in-Ok-write_text-clause-no_path c = λ error refused.
+    absurd (c.accepted_paths.ensures.never_both c.args.bytes.now (nodes_of c.in-Ok.path) error c.in-Ok.ensures.ok refused)
+
+pub returns-in-Err-BufferTooSmall-clause-no_path : goal.returns-in-Err-BufferTooSmall-clause-no_path
+returns-in-Err-BufferTooSmall-clause-no_path c = λ error refused.
+    absurd (c.accepted_paths.ensures.never_both c.args.bytes.now (nodes_of c.in-Ok.path) error c.in-Ok.ensures.ok refused)
+
+pub returns-in-Err-Stopped-clause-no_path : goal.returns-in-Err-Stopped-clause-no_path
+returns-in-Err-Stopped-clause-no_path c = λ error refused.
+    absurd (c.accepted_paths.ensures.never_both c.args.bytes.now (nodes_of c.in-Ok.path) error c.in-Ok.ensures.ok refused)
+
+pub returns-in-Ok-write_text-clause-ok : goal.returns-in-Ok-write_text-clause-ok
+returns-in-Ok-write_text-clause-ok c = λ _ nodes begins.
+    let buffer = c.args.buffer.now in
+    let made = text_units c.args.display_only c.args.allow_shortcuts (nodes_of c.in-Ok.path) in
+    let written = c.in-Ok-write_text.ensures in
+    let len : c.in-Ok-write_text.written - 1 ≡ length made = omega (arith, written.len) in
+    let room : length made < length buffer = omega (arith, written.len, written.room) in
+    let P : List Node → Type 0 = λ ns. (c.in-Ok-write_text.written - 1 ≡ length (text_units c.args.display_only c.args.allow_shortcuts ns))
+    × (length (text_units c.args.display_only c.args.allow_shortcuts ns) < length buffer)
+    × (c.write_text.new.buffer ≡ with_prefix (nul_terminated (text_units c.args.display_only c.args.allow_shortcuts ns)) buffer) in
+    subst P (sym (c.in-Ok.ensures.only nodes begins))
+    (len, room, written.ok ∙ sym (written_with_nul made buffer room))
+
+pub returns-in-Err-BufferTooSmall-clause-small : goal.returns-in-Err-BufferTooSmall-clause-small
+returns-in-Err-BufferTooSmall-clause-small c = λ _ nodes begins.
+    let needed = c.in-Err-BufferTooSmall.count in
+    let room = length c.args.buffer.now in
+    let made = text_units c.args.display_only c.args.allow_shortcuts (nodes_of c.in-Ok.path) in
+    let is : c.in-Err-BufferTooSmall.field-0 ≡ BufferTooSmall needed = grind (arith, common_steps) in
+    let R : TextWriteError → Type 0 = λ e. TextRefusedFor made room e in
+    let small : R (BufferTooSmall needed) = subst R is c.in-Err-BufferTooSmall.ensures.refusal in
+    let P : List Node → Type 0 = λ ns. (needed - 1 ≡ min (length (text_units c.args.display_only c.args.allow_shortcuts ns)) (2 ^ 64 - 2))
+    × (room ≤ length (text_units c.args.display_only c.args.allow_shortcuts ns)) in
+    subst P (sym (c.in-Ok.ensures.only nodes begins))
+    (omega (arith, small.0), omega (arith, small.0, small.1))
