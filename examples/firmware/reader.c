@@ -23,7 +23,6 @@ const char *reader_reason(uint32_t reason)
     switch ((enum uefi_reason)reason) {
     case UEFI_OK:
     case UEFI_END_OF_PATH: return "nothing is wrong";
-    case UEFI_TEXT_STOPPED: return "its text stops";
     case UEFI_NO_NUL:
     case UEFI_DESCRIPTION_WITHOUT_END: return "no NUL ends it";
     case UEFI_INVALID_CHAR: return "it holds a surrogate";

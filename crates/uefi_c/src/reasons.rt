@@ -76,9 +76,6 @@ pub const EMPTY_LIST: u32 = 21;
 /// The node that ends the device path stands there.
 pub const END_OF_PATH: u32 = 22;
 
-/// The text of a device path stopped before its end. No text does.
-pub const TEXT_STOPPED: u32 = 23;
-
 /// The order of two strings of which one is none.
 pub const NO_ORDER: i32 = 2;
 
