@@ -11,11 +11,7 @@ pub fn string<A: Allocator>(alloc: A, text: &str) -> Result<CString16<A>, Fail> 
 
 /// A text this many times in a row.
 pub fn repeated<A: Allocator>(alloc: A, piece: &str, count: u64) -> Result<String<A>, Fail> {
-    let mut text = String::new(alloc);
-    for _ in 0..count {
-        text.push_str(piece)?;
-    }
-    Ok(text)
+    Ok(piece.repeat(alloc, count as usize)?)
 }
 
 /// Whether a string has the characters of this text.

@@ -90,9 +90,6 @@ const STEPS: [usize; 3] = [1, 5, 99];
 /// bytes, or the output has.
 const LENGTHS: &[u64] = &[4089, 4090, 4091, 4092, 4093, 4094, 65530, 65533];
 
-/// The same, so that the output has 2,000,000 bytes.
-const LONGEST: u64 = 1_999_997;
-
 /// Gives at most `step` bytes a call. The call of the number `failing`, counted from 1, fails.
 #[derive(Drop)]
 pub(crate) struct FailingReader<'a> {
@@ -362,12 +359,7 @@ fn each_call_that_fails(rt: HostRuntime) -> Result<(), Fail> {
 
 /// Whether that is so of a line that sets the path to this many characters, where `step` bytes go through a
 /// call.
-fn long_line_ends(
-    rt: &HostRuntime,
-    len: u64,
-    step: usize,
-    kinds: &[ErrorKind],
-) -> Result<bool, Fail> {
+fn long_line_ends(rt: &HostRuntime, len: u64, step: usize) -> Result<bool, Fail> {
     let text = repeated(rt.alloc(), "a", len)?;
     let input = format!(in rt.alloc(); "from {text}\n")?;
     let output = format!(in rt.alloc(); "= {text}\n")?;
@@ -376,7 +368,7 @@ fn long_line_ends(
         output: output.as_bytes(),
         step,
     };
-    each_call_ends(rt, run, kinds)
+    each_call_ends(rt, run, RETRIED_KINDS)
 }
 
 #[test]
@@ -384,11 +376,57 @@ fn calls_that_fail_on_long_lines(rt: HostRuntime) -> Result<(), Fail> {
     for len in LENGTHS {
         for step in [1500, usize::MAX] {
             assert!(rt;
-                long_line_ends(&rt, *len, step, RETRIED_KINDS)?,
+                long_line_ends(&rt, *len, step)?,
                 "{len} characters, {step} at a time"
             );
         }
     }
-    assert!(rt; long_line_ends(&rt, LONGEST, 700_000, &[ErrorKind::Interrupted])?);
+    Ok(())
+}
+
+/// As many lines that are no command, each of this many bytes, and what they print.
+fn unknown_lines(rt: &HostRuntime, len: u64, count: u64) -> Result<(String, String), Fail> {
+    let mut line = repeated(rt.alloc(), "x", len)?;
+    line.push_str("\n")?;
+    Ok((
+        repeated(rt.alloc(), &line, count)?,
+        repeated(rt.alloc(), "? unknown command\n", count)?,
+    ))
+}
+
+/// Whether the last read of a long input fails as it should.
+fn last_read_ends(rt: &HostRuntime, input: &[u8], output: &[u8]) -> Result<bool, Fail> {
+    let step = 700_000;
+    let run = Run {
+        input,
+        output,
+        step,
+    };
+    let (reads, _) = calls_of(rt, run)?;
+    ends_unwritten(rt, run, reads, ErrorKind::Interrupted)
+}
+
+/// Whether the last write of a long output and the flush after it fail as they should.
+fn last_write_ends(rt: &HostRuntime, input: &[u8], output: &[u8]) -> Result<bool, Fail> {
+    let step = 700_000;
+    let run = Run {
+        input,
+        output,
+        step,
+    };
+    let (_, writes) = calls_of(rt, run)?;
+    Ok(
+        ends_in_write(rt, run, writes, Some(ErrorKind::Interrupted))?
+            && flush_ends(rt, run, writes, &[ErrorKind::Interrupted])?,
+    )
+}
+
+/// An input of 2,000,000 bytes, and an output of as many.
+#[test]
+fn calls_that_fail_on_the_longest(rt: HostRuntime) -> Result<(), Fail> {
+    let (input, output) = unknown_lines(&rt, 1_999_999, 1)?;
+    assert!(rt; last_read_ends(&rt, input.as_bytes(), output.as_bytes())?);
+    let (input, output) = unknown_lines(&rt, 0, 111_112)?;
+    assert!(rt; last_write_ends(&rt, input.as_bytes(), output.as_bytes())?);
     Ok(())
 }

@@ -98,20 +98,29 @@ const LONG_LINES: &[(&str, &str)] = &[
     ),
 ];
 
-/// Whether lines print this, with a long name for each `@`, by a run over them and over streams.
+/// Whether a run over lines prints this, with a long name for each `@`.
 fn prints_long(rt: &HostRuntime, input: &str, want: &str, name: &str) -> Result<bool, Fail> {
     let input = input.replace(rt.alloc(), '@', name)?;
     let want = want.replace(rt.alloc(), '@', name)?;
-    Ok(prints(rt, input.as_bytes(), &want) && writes(rt, input.as_bytes(), want.as_bytes()))
+    Ok(prints(rt, input.as_bytes(), &want))
+}
+
+/// Whether a run over streams writes this, with a long name for each `@`.
+fn writes_long(rt: &HostRuntime, input: &str, want: &str, name: &str) -> Result<bool, Fail> {
+    let input = input.replace(rt.alloc(), '@', name)?;
+    let want = want.replace(rt.alloc(), '@', name)?;
+    Ok(writes(rt, input.as_bytes(), want.as_bytes()))
 }
 
 #[test]
 fn each_verb_on_long_names(rt: HostRuntime) -> Result<(), Fail> {
-    for name in ["aé", "漢b"] {
-        let name = repeated(rt.alloc(), name, 50_000)?;
-        for (input, want) in LONG_LINES {
-            assert!(rt; prints_long(&rt, input, want, &name)?, "{input:?}");
-        }
+    let (latin1, other) = (
+        repeated(rt.alloc(), "aé", 50_000)?,
+        repeated(rt.alloc(), "漢b", 50_000)?,
+    );
+    for (input, want) in LONG_LINES {
+        assert!(rt; prints_long(&rt, input, want, &latin1)?, "{input:?}");
+        assert!(rt; writes_long(&rt, input, want, &other)?, "{input:?}");
     }
     Ok(())
 }
