@@ -1,41 +1,38 @@
 //! What is printed of nodes of type BIOS Boot Specification.
-#![tactic(auto)]
+#![tactic(auto, using(uefi_field_texts::proofs::Puts::puts))]
 
-ghost use Rattle.std.specs.Fmt.{WritesOnOk};
+ghost use Rattle.std.specs.Fmt.{WritesInCalls};
 ghost use Rattle.uefi_device_nodes.specs.NodeTexts.{boot_text};
 ghost use Rattle.uefi_device_nodes.specs.NodeViews.{data_of};
 
 use crate::bios_boot_spec::{BootSpecification, BootSpecificationKind};
-use crate::typed_node::TypedNode;
-use std::fmt;
-use uefi_field_texts::names::BootType;
-use uefi_field_texts::texts::{ByteText, until_nul};
+use crate::typed_node::PrintedKind;
+use uefi_field_texts::hexadecimal::put_hex;
+use uefi_field_texts::names::put_boot_type;
+use uefi_field_texts::sink::TextSink;
+use uefi_field_texts::texts::{put_byte_text, until_nul};
 
-/// Writes a device that a legacy BIOS can boot.
-pub(crate) fn write_boot<W: fmt::Write>(
-    f: &mut fmt::Formatter<W>,
-    node: &BootSpecification<'_>,
-    display_only: bool,
-) -> fmt::Result
-    ensures { WritesOnOk W.write_str_gives f.old result (boot_text display_only (data_of node.now)) f.new }
+/// Puts a device that a legacy BIOS can boot.
+pub(crate) fn put_boot<S: TextSink>(sink: &mut S, node: &BootSpecification<'_>, display_only: bool)
+    ensures { WritesInCalls S.puts sink.old (boot_text display_only (data_of node.now)) sink.new }
 {
-    let text = ByteText(until_nul(node.description_string()));
-    write!(f, "BBS({},{text}", BootType(node.device_type()))?;
+    put_boot_type(sink, "BBS(", node.device_type());
+    put_byte_text(sink, ",", until_nul(node.description_string()));
     if display_only {
-        return f.write_str(")");
+        sink.put_str(")");
+        return;
     }
-    write!(f, ",0x{:X})", node.status_flag())
+    put_hex(sink, ",0x", u64::from(node.status_flag()));
+    sink.put_str(")");
 }
 
-/// Prints `BBS(TYPE,DESCRIPTION,0xFLAGS)`.
-impl<'a> fmt::Display for TypedNode<'a, BootSpecificationKind> {
-    ghost use Rattle.std.specs.Prelude.{Some, false};
-    ghost use Rattle.uefi_device_nodes.specs.NodeTexts.{boot_text};
-    ghost use Rattle.uefi_device_nodes.specs.NodeViews.{data_of};
+/// `BBS(TYPE,DESCRIPTION,0xFLAGS)`.
+impl PrintedKind for BootSpecificationKind {
+    ghost use Rattle.std.specs.Prelude.{false};
 
-    ghost output = { λ node. Some (boot_text false (data_of node)) };
+    ghost printed = { boot_text false };
 
-    fn fmt<W: fmt::Write>(&self, f: &mut fmt::Formatter<W>) -> fmt::Result {
-        write_boot(f, self, false)
+    fn put<S: TextSink>(node: &BootSpecification<'_>, sink: &mut S) {
+        put_boot(sink, node, false);
     }
 }

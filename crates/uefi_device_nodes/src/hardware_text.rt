@@ -1,33 +1,35 @@
 //! What is printed of nodes of type Hardware.
-#![tactic(auto)]
+#![tactic(auto, using(uefi_field_texts::proofs::Puts::puts))]
 
-use crate::hardware::{HardwareVendorKind, PciKind};
-use crate::typed_node::TypedNode;
-use std::fmt;
-use uefi_field_texts::hexadecimal::CommaBytes;
+use crate::hardware::{HardwareVendor, HardwareVendorKind, Pci, PciKind};
+use crate::typed_node::PrintedKind;
+use uefi_field_texts::guid::put_guid;
+use uefi_field_texts::hexadecimal::{put_comma_bytes, put_hex};
+use uefi_field_texts::sink::TextSink;
 
-/// Prints `Pci(0xDEVICE,0xFUNCTION)`.
-impl<'a> fmt::Display for TypedNode<'a, PciKind> {
-    ghost use Rattle.std.specs.Prelude.{Some};
+/// `Pci(0xDEVICE,0xFUNCTION)`.
+impl PrintedKind for PciKind {
     ghost use Rattle.uefi_device_nodes.specs.NodeTexts.{pci_text};
-    ghost use Rattle.uefi_device_nodes.specs.NodeViews.{data_of};
 
-    ghost output = { λ node. Some (pci_text (data_of node)) };
+    ghost printed = { pci_text };
 
-    fn fmt<W: fmt::Write>(&self, f: &mut fmt::Formatter<W>) -> fmt::Result {
-        write!(f, "Pci(0x{:X},0x{:X})", self.device(), self.function())
+    fn put<S: TextSink>(node: &Pci<'_>, sink: &mut S) {
+        put_hex(sink, "Pci(0x", u64::from(node.device()));
+        put_hex(sink, ",0x", u64::from(node.function()));
+        sink.put_str(")");
     }
 }
 
-/// Prints `VenHw(GUID)`, with the bytes of the data after a comma where there are some.
-impl<'a> fmt::Display for TypedNode<'a, HardwareVendorKind> {
-    ghost use Rattle.std.specs.Prelude.{Some, codes};
+/// `VenHw(GUID)`, with the bytes of the data after a comma where there are some.
+impl PrintedKind for HardwareVendorKind {
+    ghost use Rattle.std.specs.Prelude.{codes};
     ghost use Rattle.uefi_device_nodes.specs.NodeTexts.{vendor_text};
-    ghost use Rattle.uefi_device_nodes.specs.NodeViews.{data_of};
 
-    ghost output = { λ node. Some (vendor_text (codes "VenHw") (data_of node)) };
+    ghost printed = { vendor_text (codes "VenHw") };
 
-    fn fmt<W: fmt::Write>(&self, f: &mut fmt::Formatter<W>) -> fmt::Result {
-        write!(f, "VenHw({}{})", self.guid(0), CommaBytes(self.tail(16)))
+    fn put<S: TextSink>(node: &HardwareVendor<'_>, sink: &mut S) {
+        put_guid(sink, "VenHw(", node.part(0, 16));
+        put_comma_bytes(sink, node.tail(16));
+        sink.put_str(")");
     }
 }

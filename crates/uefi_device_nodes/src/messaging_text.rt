@@ -1,37 +1,34 @@
 //! What is printed of nodes of type Messaging.
-#![tactic(auto, unfolding(crate::specs::NodeTexts::ipv4_route, crate::specs::NodeTexts::short_name))]
+#![tactic(auto, using(uefi_field_texts::proofs::Puts::puts), unfolding(crate::specs::NodeTexts::ipv4_route, crate::specs::NodeTexts::short_name))]
 
-ghost use Rattle.std.specs.Fmt.{WritesOnOk};
+ghost use Rattle.std.specs.Fmt.{WritesInCalls};
 ghost use Rattle.std.specs.Prelude.{◌≡◌};
 ghost use Rattle.uefi_device_nodes.specs.NodeTexts.{ipv4_route, ipv4_text, ipv6_text, messaging_vendor_text, short_name};
 ghost use Rattle.uefi_device_nodes.specs.NodeViews.{data_of};
 
 use crate::messaging::{
-    EmmcKind, Ipv4, Ipv4Kind, Ipv6, Ipv6Kind, MacAddressKind, MessagingVendor, MessagingVendorKind,
-    NvmeNamespaceKind, SataKind, SdKind, UriKind, UsbKind,
+    Emmc, EmmcKind, Ipv4, Ipv4Kind, Ipv6, Ipv6Kind, MacAddress, MacAddressKind, MessagingVendor,
+    MessagingVendorKind, NvmeNamespace, NvmeNamespaceKind, Sata, SataKind, Sd, SdKind, Uri,
+    UriKind, Usb, UsbKind,
 };
-use crate::typed_node::TypedNode;
-use std::fmt;
-use uefi_field_texts::addresses::{Ipv4Address, Ipv6Address, Protocol};
-use uefi_field_texts::hexadecimal::{CommaBytes, DashedBack, HexBytes};
+use crate::typed_node::PrintedKind;
+use uefi_field_texts::addresses::{put_ipv4_address, put_ipv6_address, put_protocol};
+use uefi_field_texts::guid::put_guid;
+use uefi_field_texts::hexadecimal::{put_bytes, put_comma_bytes, put_dashed_back, put_hex};
 use uefi_field_texts::names::{ipv4_origin, ipv6_origin, vendor_name};
-use uefi_field_texts::texts::ByteText;
+use uefi_field_texts::sink::TextSink;
+use uefi_field_texts::texts::put_byte_text;
 
-/// Prints `USB(0xPORT,0xINTERFACE)`.
-impl<'a> fmt::Display for TypedNode<'a, UsbKind> {
-    ghost use Rattle.std.specs.Prelude.{Some};
+/// `USB(0xPORT,0xINTERFACE)`.
+impl PrintedKind for UsbKind {
     ghost use Rattle.uefi_device_nodes.specs.NodeTexts.{usb_text};
-    ghost use Rattle.uefi_device_nodes.specs.NodeViews.{data_of};
 
-    ghost output = { λ node. Some (usb_text (data_of node)) };
+    ghost printed = { usb_text };
 
-    fn fmt<W: fmt::Write>(&self, f: &mut fmt::Formatter<W>) -> fmt::Result {
-        write!(
-            f,
-            "USB(0x{:X},0x{:X})",
-            self.parent_port_number(),
-            self.interface()
-        )
+    fn put<S: TextSink>(node: &Usb<'_>, sink: &mut S) {
+        put_hex(sink, "USB(0x", u64::from(node.parent_port_number()));
+        put_hex(sink, ",0x", u64::from(node.interface()));
+        sink.put_str(")");
     }
 }
 
@@ -45,222 +42,180 @@ fn short_name(node: &MessagingVendor<'_>, allow_shortcuts: bool) -> &'static str
     ""
 }
 
-/// Writes a vendor's node, by a shorter name where it has one and may be printed by it.
-pub(crate) fn write_vendor<W: fmt::Write>(
-    f: &mut fmt::Formatter<W>,
+/// Puts a vendor's node, by a shorter name where it has one and may be printed by it.
+pub(crate) fn put_vendor<S: TextSink>(
+    sink: &mut S,
     node: &MessagingVendor<'_>,
     allow_shortcuts: bool,
-) -> fmt::Result
-    ensures { WritesOnOk W.write_str_gives f.old result
-        (messaging_vendor_text allow_shortcuts (data_of node.now)) f.new }
+)
+    ensures { WritesInCalls S.puts sink.old
+        (messaging_vendor_text allow_shortcuts (data_of node.now)) sink.new }
 {
     let name = short_name(node, allow_shortcuts);
     if !name.is_empty() {
-        return f.write_str(name);
+        sink.put_str(name);
+        return;
     }
-    write!(f, "VenMsg({}{})", node.guid(0), CommaBytes(node.tail(16)))
+    put_guid(sink, "VenMsg(", node.part(0, 16));
+    put_comma_bytes(sink, node.tail(16));
+    sink.put_str(")");
 }
 
-/// Prints `VenMsg(GUID)`, with the bytes of the data after a comma where there are some.
-impl<'a> fmt::Display for TypedNode<'a, MessagingVendorKind> {
-    ghost use Rattle.std.specs.Prelude.{Some, false};
-    ghost use Rattle.uefi_device_nodes.specs.NodeTexts.{messaging_vendor_text};
-    ghost use Rattle.uefi_device_nodes.specs.NodeViews.{data_of};
+/// `VenMsg(GUID)`, with the bytes of the data after a comma where there are some.
+impl PrintedKind for MessagingVendorKind {
+    ghost use Rattle.std.specs.Prelude.{false};
 
-    ghost output = { λ node. Some (messaging_vendor_text false (data_of node)) };
+    ghost printed = { messaging_vendor_text false };
 
-    fn fmt<W: fmt::Write>(&self, f: &mut fmt::Formatter<W>) -> fmt::Result {
-        write_vendor(f, self, false)
+    fn put<S: TextSink>(node: &MessagingVendor<'_>, sink: &mut S) {
+        put_vendor(sink, node, false);
     }
 }
 
-/// Prints `MAC(ADDRESS,0xTYPE)`, with six bytes of the address where the interface is of type 0 or 1,
-/// and else with all 32.
-impl<'a> fmt::Display for TypedNode<'a, MacAddressKind> {
-    ghost use Rattle.std.specs.Prelude.{Some};
+/// `MAC(ADDRESS,0xTYPE)`, with six bytes of the address where the interface is of type 0 or 1, and else with
+/// all 32.
+impl PrintedKind for MacAddressKind {
     ghost use Rattle.uefi_device_nodes.specs.NodeTexts.{mac_text};
-    ghost use Rattle.uefi_device_nodes.specs.NodeViews.{data_of};
 
-    ghost output = { λ node. Some (mac_text (data_of node)) };
+    ghost printed = { mac_text };
 
-    fn fmt<W: fmt::Write>(&self, f: &mut fmt::Formatter<W>) -> fmt::Result {
-        let kind = self.interface_type();
+    fn put<S: TextSink>(node: &MacAddress<'_>, sink: &mut S) {
+        let kind = node.interface_type();
         let len = if kind <= 1 { 6 } else { 32 };
-        write!(f, "MAC({},0x{kind:X})", HexBytes(self.part(0, len)))
+        put_bytes(sink, "MAC(", node.part(0, len));
+        put_hex(sink, ",0x", u64::from(kind));
+        sink.put_str(")");
     }
 }
 
-/// Writes the gateway and the mask, where a node has them.
-fn write_ipv4_route<W: fmt::Write>(f: &mut fmt::Formatter<W>, node: &Ipv4<'_>) -> fmt::Result
-    ensures { WritesOnOk W.write_str_gives f.old result (ipv4_route (data_of node.now)) f.new }
+/// Puts the gateway and the mask, where a node has them.
+fn put_ipv4_route<S: TextSink>(sink: &mut S, node: &Ipv4<'_>)
+    ensures { WritesInCalls S.puts sink.old (ipv4_route (data_of node.now)) sink.new }
 {
-    let (Some(gateway), Some(mask)) = (node.later_part(15, 4), node.later_part(19, 4)) else {
-        return Ok(());
-    };
-    write!(
-        f,
-        ",{},{}",
-        Ipv4Address { bytes: gateway },
-        Ipv4Address { bytes: mask }
-    )
+    if let (Some(gateway), Some(mask)) = (node.later_part(15, 4), node.later_part(19, 4)) {
+        put_ipv4_address(sink, ",", gateway);
+        put_ipv4_address(sink, ",", mask);
+    }
 }
 
-/// Writes an endpoint of a connection over IP version 4.
-pub(crate) fn write_ipv4<W: fmt::Write>(
-    f: &mut fmt::Formatter<W>,
-    node: &Ipv4<'_>,
-    display_only: bool,
-) -> fmt::Result
-    ensures { WritesOnOk W.write_str_gives f.old result (ipv4_text display_only (data_of node.now)) f.new }
+/// Puts an endpoint of a connection over IP version 4.
+pub(crate) fn put_ipv4<S: TextSink>(sink: &mut S, node: &Ipv4<'_>, display_only: bool)
+    ensures { WritesInCalls S.puts sink.old (ipv4_text display_only (data_of node.now)) sink.new }
 {
-    let remote = Ipv4Address {
-        bytes: node.part(4, 4),
-    };
+    put_ipv4_address(sink, "IPv4(", node.part(4, 4));
     if display_only {
-        return write!(f, "IPv4({remote})");
+        sink.put_str(")");
+        return;
     }
-    let local = Ipv4Address {
-        bytes: node.part(0, 4),
-    };
-    let origin = ipv4_origin(node.ip_address_origin());
-    write!(
-        f,
-        "IPv4({remote},{},{origin},{local}",
-        Protocol(node.protocol())
-    )?;
-    write_ipv4_route(f, node)?;
-    f.write_str(")")
+    put_protocol(sink, ",", node.protocol());
+    sink.put_str(",");
+    sink.put_str(ipv4_origin(node.ip_address_origin()));
+    put_ipv4_address(sink, ",", node.part(0, 4));
+    put_ipv4_route(sink, node);
+    sink.put_str(")");
 }
 
-/// Prints `IPv4(REMOTE,PROTOCOL,Static,LOCAL,GATEWAY,MASK)`, or `DHCP`; without the last two where the
-/// node ends before the mask does.
-impl<'a> fmt::Display for TypedNode<'a, Ipv4Kind> {
-    ghost use Rattle.std.specs.Prelude.{Some, false};
-    ghost use Rattle.uefi_device_nodes.specs.NodeTexts.{ipv4_text};
-    ghost use Rattle.uefi_device_nodes.specs.NodeViews.{data_of};
+/// `IPv4(REMOTE,PROTOCOL,Static,LOCAL,GATEWAY,MASK)`, or `DHCP`; without the last two where the node ends
+/// before the mask does.
+impl PrintedKind for Ipv4Kind {
+    ghost use Rattle.std.specs.Prelude.{false};
 
-    ghost output = { λ node. Some (ipv4_text false (data_of node)) };
+    ghost printed = { ipv4_text false };
 
-    fn fmt<W: fmt::Write>(&self, f: &mut fmt::Formatter<W>) -> fmt::Result {
-        write_ipv4(f, self, false)
+    fn put<S: TextSink>(node: &Ipv4<'_>, sink: &mut S) {
+        put_ipv4(sink, node, false);
     }
 }
 
-/// Writes an endpoint of a connection over IP version 6.
-pub(crate) fn write_ipv6<W: fmt::Write>(
-    f: &mut fmt::Formatter<W>,
-    node: &Ipv6<'_>,
-    display_only: bool,
-) -> fmt::Result
-    ensures { WritesOnOk W.write_str_gives f.old result (ipv6_text display_only (data_of node.now)) f.new }
+/// Puts an endpoint of a connection over IP version 6.
+pub(crate) fn put_ipv6<S: TextSink>(sink: &mut S, node: &Ipv6<'_>, display_only: bool)
+    ensures { WritesInCalls S.puts sink.old (ipv6_text display_only (data_of node.now)) sink.new }
 {
-    let remote = Ipv6Address {
-        bytes: node.part(16, 16),
-    };
+    put_ipv6_address(sink, "IPv6(", node.part(16, 16));
     if display_only {
-        return write!(f, "IPv6({remote})");
+        sink.put_str(")");
+        return;
     }
-    let local = Ipv6Address {
-        bytes: node.part(0, 16),
-    };
-    let gateway = Ipv6Address {
-        bytes: node.part(40, 16),
-    };
-    let origin = ipv6_origin(node.ip_address_origin());
-    write!(
-        f,
-        "IPv6({remote},{},{origin},{local}",
-        Protocol(node.protocol())
-    )?;
-    write!(f, ",0x{:X},{gateway})", node.prefix_length())
+    put_protocol(sink, ",", node.protocol());
+    sink.put_str(",");
+    sink.put_str(ipv6_origin(node.ip_address_origin()));
+    put_ipv6_address(sink, ",", node.part(0, 16));
+    put_hex(sink, ",0x", u64::from(node.prefix_length()));
+    put_ipv6_address(sink, ",", node.part(40, 16));
+    sink.put_str(")");
 }
 
-/// Prints `IPv6(REMOTE,PROTOCOL,ORIGIN,LOCAL,0xPREFIX,GATEWAY)`, each address as eight groups of four
-/// digits.
-impl<'a> fmt::Display for TypedNode<'a, Ipv6Kind> {
-    ghost use Rattle.std.specs.Prelude.{Some, false};
-    ghost use Rattle.uefi_device_nodes.specs.NodeTexts.{ipv6_text};
-    ghost use Rattle.uefi_device_nodes.specs.NodeViews.{data_of};
+/// `IPv6(REMOTE,PROTOCOL,ORIGIN,LOCAL,0xPREFIX,GATEWAY)`, each address as eight groups of four digits.
+impl PrintedKind for Ipv6Kind {
+    ghost use Rattle.std.specs.Prelude.{false};
 
-    ghost output = { λ node. Some (ipv6_text false (data_of node)) };
+    ghost printed = { ipv6_text false };
 
-    fn fmt<W: fmt::Write>(&self, f: &mut fmt::Formatter<W>) -> fmt::Result {
-        write_ipv6(f, self, false)
+    fn put<S: TextSink>(node: &Ipv6<'_>, sink: &mut S) {
+        put_ipv6(sink, node, false);
     }
 }
 
-/// Prints `Sata(0xPORT,0xMULTIPLIER,0xUNIT)`.
-impl<'a> fmt::Display for TypedNode<'a, SataKind> {
-    ghost use Rattle.std.specs.Prelude.{Some};
+/// `Sata(0xPORT,0xMULTIPLIER,0xUNIT)`.
+impl PrintedKind for SataKind {
     ghost use Rattle.uefi_device_nodes.specs.NodeTexts.{sata_text};
-    ghost use Rattle.uefi_device_nodes.specs.NodeViews.{data_of};
 
-    ghost output = { λ node. Some (sata_text (data_of node)) };
+    ghost printed = { sata_text };
 
-    fn fmt<W: fmt::Write>(&self, f: &mut fmt::Formatter<W>) -> fmt::Result {
-        write!(
-            f,
-            "Sata(0x{:X},0x{:X},0x{:X})",
-            self.hba_port_number(),
-            self.port_multiplier_port_number(),
-            self.logical_unit_number()
-        )
+    fn put<S: TextSink>(node: &Sata<'_>, sink: &mut S) {
+        put_hex(sink, "Sata(0x", u64::from(node.hba_port_number()));
+        put_hex(sink, ",0x", u64::from(node.port_multiplier_port_number()));
+        put_hex(sink, ",0x", u64::from(node.logical_unit_number()));
+        sink.put_str(")");
     }
 }
 
-/// Prints `NVMe(0xNAMESPACE,EUI)`, the high byte of the EUI-64 first, with dashes.
-impl<'a> fmt::Display for TypedNode<'a, NvmeNamespaceKind> {
-    ghost use Rattle.std.specs.Prelude.{Some};
+/// `NVMe(0xNAMESPACE,EUI)`, the high byte of the EUI-64 first, with dashes.
+impl PrintedKind for NvmeNamespaceKind {
     ghost use Rattle.uefi_device_nodes.specs.NodeTexts.{nvme_text};
-    ghost use Rattle.uefi_device_nodes.specs.NodeViews.{data_of};
 
-    ghost output = { λ node. Some (nvme_text (data_of node)) };
+    ghost printed = { nvme_text };
 
-    fn fmt<W: fmt::Write>(&self, f: &mut fmt::Formatter<W>) -> fmt::Result {
-        write!(
-            f,
-            "NVMe(0x{:X},{})",
-            self.namespace_identifier(),
-            DashedBack(self.part(4, 8))
-        )
+    fn put<S: TextSink>(node: &NvmeNamespace<'_>, sink: &mut S) {
+        put_hex(sink, "NVMe(0x", u64::from(node.namespace_identifier()));
+        sink.put_str(",");
+        put_dashed_back(sink, node.part(4, 8));
+        sink.put_str(")");
     }
 }
 
-/// Prints `Uri(URI)`, each byte that is no printable ASCII as `\x` and two digits.
-impl<'a> fmt::Display for TypedNode<'a, UriKind> {
-    ghost use Rattle.std.specs.Prelude.{Some};
+/// `Uri(URI)`, each byte that is no printable ASCII as `\x` and two digits.
+impl PrintedKind for UriKind {
     ghost use Rattle.uefi_device_nodes.specs.NodeTexts.{uri_text};
-    ghost use Rattle.uefi_device_nodes.specs.NodeViews.{data_of};
 
-    ghost output = { λ node. Some (uri_text (data_of node)) };
+    ghost printed = { uri_text };
 
-    fn fmt<W: fmt::Write>(&self, f: &mut fmt::Formatter<W>) -> fmt::Result {
-        write!(f, "Uri({})", ByteText(self.value()))
+    fn put<S: TextSink>(node: &Uri<'_>, sink: &mut S) {
+        put_byte_text(sink, "Uri(", node.value());
+        sink.put_str(")");
     }
 }
 
-/// Prints `SD(0xSLOT)`.
-impl<'a> fmt::Display for TypedNode<'a, SdKind> {
-    ghost use Rattle.std.specs.Prelude.{Some};
+/// `SD(0xSLOT)`.
+impl PrintedKind for SdKind {
     ghost use Rattle.uefi_device_nodes.specs.NodeTexts.{sd_text};
-    ghost use Rattle.uefi_device_nodes.specs.NodeViews.{data_of};
 
-    ghost output = { λ node. Some (sd_text (data_of node)) };
+    ghost printed = { sd_text };
 
-    fn fmt<W: fmt::Write>(&self, f: &mut fmt::Formatter<W>) -> fmt::Result {
-        write!(f, "SD(0x{:X})", self.slot_number())
+    fn put<S: TextSink>(node: &Sd<'_>, sink: &mut S) {
+        put_hex(sink, "SD(0x", u64::from(node.slot_number()));
+        sink.put_str(")");
     }
 }
 
-/// Prints `eMMC(0xSLOT)`.
-impl<'a> fmt::Display for TypedNode<'a, EmmcKind> {
-    ghost use Rattle.std.specs.Prelude.{Some};
+/// `eMMC(0xSLOT)`.
+impl PrintedKind for EmmcKind {
     ghost use Rattle.uefi_device_nodes.specs.NodeTexts.{emmc_text};
-    ghost use Rattle.uefi_device_nodes.specs.NodeViews.{data_of};
 
-    ghost output = { λ node. Some (emmc_text (data_of node)) };
+    ghost printed = { emmc_text };
 
-    fn fmt<W: fmt::Write>(&self, f: &mut fmt::Formatter<W>) -> fmt::Result {
-        write!(f, "eMMC(0x{:X})", self.slot_number())
+    fn put<S: TextSink>(node: &Emmc<'_>, sink: &mut S) {
+        put_hex(sink, "eMMC(0x", u64::from(node.slot_number()));
+        sink.put_str(")");
     }
 }

@@ -1,181 +1,187 @@
 //! Nodes as people read them.
-#![tactic(auto, unfolding(crate::specs::NodeTexts::unknown_text, crate::specs::NodeTexts::hardware_node_text, crate::specs::NodeTexts::acpi_node_text, crate::specs::NodeTexts::ip_node_text, crate::specs::NodeTexts::messaging_node_text, crate::specs::NodeTexts::volume_node_text, crate::specs::NodeTexts::media_node_text, crate::specs::NodeTexts::boot_node_text, crate::specs::NodeTexts::node_text, crate::specs::NodeViews::printed_node))]
+#![tactic(auto, using(uefi_field_texts::proofs::Puts::puts), unfolding(crate::specs::NodeTexts::unknown_text, crate::specs::NodeTexts::hardware_node_text, crate::specs::NodeTexts::acpi_node_text, crate::specs::NodeTexts::ip_node_text, crate::specs::NodeTexts::messaging_node_text, crate::specs::NodeTexts::volume_node_text, crate::specs::NodeTexts::media_node_text, crate::specs::NodeTexts::boot_node_text, crate::specs::NodeTexts::node_text, crate::specs::NodeViews::printed_node))]
 
-ghost use Rattle.std.specs.Fmt.{WritesOnOk};
+ghost use Rattle.std.specs.Fmt.{WritesInCalls};
 ghost use Rattle.std.specs.Prelude.{◌≡◌};
 ghost use Rattle.uefi_device_nodes.specs.NodeTexts.{acpi_node_text, boot_node_text, hardware_node_text, ip_node_text, media_node_text, messaging_node_text, node_text, unknown_text, volume_node_text};
 ghost use Rattle.uefi_device_nodes.specs.NodeViews.{node_of};
 
 use crate::acpi::{Acpi, Expanded};
-use crate::acpi_text::write_expanded;
+use crate::acpi_text::put_expanded;
 use crate::bios_boot_spec::BootSpecification;
-use crate::bios_boot_spec_text::write_boot;
+use crate::bios_boot_spec_text::put_boot;
 use crate::hardware::{HardwareVendor, Pci};
 use crate::media::{
     CdRom, FilePath, FirmwareFile, FirmwareVolume, HardDrive, MediaVendor, RamDisk,
 };
-use crate::media_text::write_cd_rom;
+use crate::media_text::put_cd_rom;
 use crate::messaging::{
     Emmc, Ipv4, Ipv6, MacAddress, MessagingVendor, NvmeNamespace, Sata, Sd, Uri, Usb,
 };
-use crate::messaging_text::{write_ipv4, write_ipv6, write_vendor};
+use crate::messaging_text::{put_ipv4, put_ipv6, put_vendor};
 use crate::node::{DevicePathNode, DeviceType};
 use std::fmt;
 use uefi_field_texts::forms::{AllowShortcuts, DisplayOnly};
-use uefi_field_texts::hexadecimal::CommaBytes;
+use uefi_field_texts::hexadecimal::{put_comma_bytes, put_decimal};
+use uefi_field_texts::sink::{Printed, TextSink, print};
 
-/// Writes a node of no kind.
-fn write_unknown<W: fmt::Write>(f: &mut fmt::Formatter<W>, node: DevicePathNode<'_>) -> fmt::Result
-    ensures { WritesOnOk W.write_str_gives f.old result (unknown_text (node_of node.entry)) f.new }
+/// Puts a node of no kind.
+fn put_unknown<S: TextSink>(sink: &mut S, node: DevicePathNode<'_>)
+    ensures { WritesInCalls S.puts sink.old (unknown_text (node_of node.entry)) sink.new }
 {
     let (kind, sub_kind) = (node.device_type().0, node.sub_type().0);
-    write!(f, "Path({kind},{sub_kind}{})", CommaBytes(node.data()))
+    put_decimal(sink, "Path(", u64::from(kind));
+    put_decimal(sink, ",", u64::from(sub_kind));
+    put_comma_bytes(sink, node.data());
+    sink.put_str(")");
 }
 
-/// Writes a node of type Hardware.
-fn write_hardware<W: fmt::Write>(f: &mut fmt::Formatter<W>, node: DevicePathNode<'_>) -> fmt::Result
-    ensures { WritesOnOk W.write_str_gives f.old result (hardware_node_text (node_of node.entry)) f.new }
+/// Puts a node of type Hardware.
+fn put_hardware<S: TextSink>(sink: &mut S, node: DevicePathNode<'_>)
+    ensures { WritesInCalls S.puts sink.old (hardware_node_text (node_of node.entry)) sink.new }
 {
     if let Ok(pci) = Pci::from_node(node) {
-        return write!(f, "{pci}");
+        pci.put(sink);
+        return;
     }
     if let Ok(vendor) = HardwareVendor::from_node(node) {
-        return write!(f, "{vendor}");
+        vendor.put(sink);
+        return;
     }
-    write_unknown(f, node)
+    put_unknown(sink, node);
 }
 
-/// Writes a node of type ACPI.
-fn write_acpi<W: fmt::Write>(
-    f: &mut fmt::Formatter<W>,
-    node: DevicePathNode<'_>,
-    allow_shortcuts: bool,
-) -> fmt::Result
-    ensures { WritesOnOk W.write_str_gives f.old result
-        (acpi_node_text allow_shortcuts (node_of node.entry)) f.new }
+/// Puts a node of type ACPI.
+fn put_acpi<S: TextSink>(sink: &mut S, node: DevicePathNode<'_>, allow_shortcuts: bool)
+    ensures { WritesInCalls S.puts sink.old
+        (acpi_node_text allow_shortcuts (node_of node.entry)) sink.new }
 {
     if let Ok(device) = Acpi::from_node(node) {
-        return write!(f, "{device}");
+        device.put(sink);
+        return;
     }
     if let Ok(device) = Expanded::from_node(node) {
-        return write_expanded(f, &device, allow_shortcuts);
+        put_expanded(sink, &device, allow_shortcuts);
+        return;
     }
-    write_unknown(f, node)
+    put_unknown(sink, node);
 }
 
-/// Writes a node of type Messaging that is a connection over IP.
-fn write_ip<W: fmt::Write>(
-    f: &mut fmt::Formatter<W>,
-    node: DevicePathNode<'_>,
-    display_only: bool,
-) -> fmt::Result
-    ensures { WritesOnOk W.write_str_gives f.old result
-        (ip_node_text display_only (node_of node.entry)) f.new }
+/// Puts a node of type Messaging that is a connection over IP.
+fn put_ip<S: TextSink>(sink: &mut S, node: DevicePathNode<'_>, display_only: bool)
+    ensures { WritesInCalls S.puts sink.old
+        (ip_node_text display_only (node_of node.entry)) sink.new }
 {
     if let Ok(address) = MacAddress::from_node(node) {
-        return write!(f, "{address}");
+        address.put(sink);
+        return;
     }
     if let Ok(endpoint) = Ipv4::from_node(node) {
-        return write_ipv4(f, &endpoint, display_only);
+        put_ipv4(sink, &endpoint, display_only);
+        return;
     }
     if let Ok(endpoint) = Ipv6::from_node(node) {
-        return write_ipv6(f, &endpoint, display_only);
+        put_ipv6(sink, &endpoint, display_only);
+        return;
     }
     if let Ok(uri) = Uri::from_node(node) {
-        return write!(f, "{uri}");
+        uri.put(sink);
+        return;
     }
-    write_unknown(f, node)
+    put_unknown(sink, node);
 }
 
-/// Writes any node of type Messaging.
-fn write_messaging<W: fmt::Write>(
-    f: &mut fmt::Formatter<W>,
+/// Puts any node of type Messaging.
+fn put_messaging<S: TextSink>(
+    sink: &mut S,
     node: DevicePathNode<'_>,
     display_only: bool,
     allow_shortcuts: bool,
-) -> fmt::Result
-    ensures { WritesOnOk W.write_str_gives f.old result
-        (messaging_node_text display_only allow_shortcuts (node_of node.entry)) f.new }
+)
+    ensures { WritesInCalls S.puts sink.old
+        (messaging_node_text display_only allow_shortcuts (node_of node.entry)) sink.new }
 {
     if let Ok(usb) = Usb::from_node(node) {
-        return write!(f, "{usb}");
+        usb.put(sink);
+        return;
     }
     if let Ok(vendor) = MessagingVendor::from_node(node) {
-        return write_vendor(f, &vendor, allow_shortcuts);
+        put_vendor(sink, &vendor, allow_shortcuts);
+        return;
     }
     if let Ok(sata) = Sata::from_node(node) {
-        return write!(f, "{sata}");
+        sata.put(sink);
+        return;
     }
     if let Ok(namespace) = NvmeNamespace::from_node(node) {
-        return write!(f, "{namespace}");
+        namespace.put(sink);
+        return;
     }
     if let Ok(card) = Sd::from_node(node) {
-        return write!(f, "{card}");
+        card.put(sink);
+        return;
     }
     if let Ok(card) = Emmc::from_node(node) {
-        return write!(f, "{card}");
+        card.put(sink);
+        return;
     }
-    write_ip(f, node, display_only)
+    put_ip(sink, node, display_only);
 }
 
-/// Writes a node of type Media that is no file of its own.
-fn write_volume<W: fmt::Write>(
-    f: &mut fmt::Formatter<W>,
-    node: DevicePathNode<'_>,
-    display_only: bool,
-) -> fmt::Result
-    ensures { WritesOnOk W.write_str_gives f.old result
-        (volume_node_text display_only (node_of node.entry)) f.new }
+/// Puts a node of type Media that is no file of its own.
+fn put_volume<S: TextSink>(sink: &mut S, node: DevicePathNode<'_>, display_only: bool)
+    ensures { WritesInCalls S.puts sink.old
+        (volume_node_text display_only (node_of node.entry)) sink.new }
 {
     if let Ok(drive) = HardDrive::from_node(node) {
-        return write!(f, "{drive}");
+        drive.put(sink);
+        return;
     }
     if let Ok(disc) = CdRom::from_node(node) {
-        return write_cd_rom(f, &disc, display_only);
+        put_cd_rom(sink, &disc, display_only);
+        return;
     }
     if let Ok(vendor) = MediaVendor::from_node(node) {
-        return write!(f, "{vendor}");
+        vendor.put(sink);
+        return;
     }
     if let Ok(file) = FirmwareFile::from_node(node) {
-        return write!(f, "{file}");
+        file.put(sink);
+        return;
     }
     if let Ok(volume) = FirmwareVolume::from_node(node) {
-        return write!(f, "{volume}");
+        volume.put(sink);
+        return;
     }
     if let Ok(disk) = RamDisk::from_node(node) {
-        return write!(f, "{disk}");
+        disk.put(sink);
+        return;
     }
-    write_unknown(f, node)
+    put_unknown(sink, node);
 }
 
-/// Writes any node of type Media.
-fn write_media<W: fmt::Write>(
-    f: &mut fmt::Formatter<W>,
-    node: DevicePathNode<'_>,
-    display_only: bool,
-) -> fmt::Result
-    ensures { WritesOnOk W.write_str_gives f.old result
-        (media_node_text display_only (node_of node.entry)) f.new }
+/// Puts any node of type Media.
+fn put_media<S: TextSink>(sink: &mut S, node: DevicePathNode<'_>, display_only: bool)
+    ensures { WritesInCalls S.puts sink.old
+        (media_node_text display_only (node_of node.entry)) sink.new }
 {
     if let Ok(file) = FilePath::from_node(node) {
-        return write!(f, "{file}");
+        file.put(sink);
+        return;
     }
-    write_volume(f, node, display_only)
+    put_volume(sink, node, display_only);
 }
 
-/// Writes a node of type BIOS Boot Specification.
-fn write_boot_node<W: fmt::Write>(
-    f: &mut fmt::Formatter<W>,
-    node: DevicePathNode<'_>,
-    display_only: bool,
-) -> fmt::Result
-    ensures { WritesOnOk W.write_str_gives f.old result
-        (boot_node_text display_only (node_of node.entry)) f.new }
+/// Puts a node of type BIOS Boot Specification.
+fn put_boot_node<S: TextSink>(sink: &mut S, node: DevicePathNode<'_>, display_only: bool)
+    ensures { WritesInCalls S.puts sink.old
+        (boot_node_text display_only (node_of node.entry)) sink.new }
 {
     if let Ok(device) = BootSpecification::from_node(node) {
-        return write_boot(f, &device, display_only);
+        put_boot(sink, &device, display_only);
+        return;
     }
-    write_unknown(f, node)
+    put_unknown(sink, node);
 }
 
 /// What is printed of a node. A contract sees it as `printed_node` of it: the text, in UTF-8.
@@ -207,6 +213,26 @@ impl<'a> DevicePathNode<'a> {
     }
 }
 
+/// The text.
+impl<'a> Printed for NodeText<'a> {
+    ghost use Rattle.uefi_device_nodes.specs.NodeViews.{printed_node};
+
+    ghost printed = { printed_node };
+
+    fn put<S: TextSink>(&self, sink: &mut S) {
+        match self.node.device_type() {
+            DeviceType::HARDWARE => put_hardware(sink, self.node),
+            DeviceType::ACPI => put_acpi(sink, self.node, self.allow_shortcuts),
+            DeviceType::MESSAGING => {
+                put_messaging(sink, self.node, self.display_only, self.allow_shortcuts)
+            }
+            DeviceType::MEDIA => put_media(sink, self.node, self.display_only),
+            DeviceType::BIOS_BOOT_SPEC => put_boot_node(sink, self.node, self.display_only),
+            _ => put_unknown(sink, self.node),
+        }
+    }
+}
+
 /// Prints the text.
 impl<'a> fmt::Display for NodeText<'a> {
     ghost use Rattle.std.specs.Prelude.{Some};
@@ -215,16 +241,7 @@ impl<'a> fmt::Display for NodeText<'a> {
     ghost output = { λ text. Some (printed_node text) };
 
     fn fmt<W: fmt::Write>(&self, f: &mut fmt::Formatter<W>) -> fmt::Result {
-        match self.node.device_type() {
-            DeviceType::HARDWARE => write_hardware(f, self.node),
-            DeviceType::ACPI => write_acpi(f, self.node, self.allow_shortcuts),
-            DeviceType::MESSAGING => {
-                write_messaging(f, self.node, self.display_only, self.allow_shortcuts)
-            }
-            DeviceType::MEDIA => write_media(f, self.node, self.display_only),
-            DeviceType::BIOS_BOOT_SPEC => write_boot_node(f, self.node, self.display_only),
-            _ => write_unknown(f, self.node),
-        }
+        print(f, self)
     }
 }
 
@@ -237,7 +254,6 @@ impl<'a> fmt::Display for DevicePathNode<'a> {
     ghost output = { λ node. Some (node_text false false (node_of node)) };
 
     fn fmt<W: fmt::Write>(&self, f: &mut fmt::Formatter<W>) -> fmt::Result {
-        let text = self.display(DisplayOnly(false), AllowShortcuts(false));
-        write!(f, "{text}")
+        print(f, &self.display(DisplayOnly(false), AllowShortcuts(false)))
     }
 }

@@ -1,15 +1,17 @@
 //! What all nodes have in common whose data have fields at fixed places.
 #![tactic(auto, unfolding(crate::specs::NodeViews::node_of, crate::specs::NodeViews::data_of))]
 
-ghost use Rattle.std.specs.Prelude.{◌≡◌, ℕ, ◌+◌, ◌≤◌, ◌<◌, ◌^◌, ◌↔◌, drop, length, slice_range, IfOk, IfSome, IsOk, IsSome, None};
+ghost use Rattle.std.specs.Fmt.{WritesInCalls};
+ghost use Rattle.std.specs.Prelude.{◌≡◌, ℕ, List, ◌+◌, ◌≤◌, ◌<◌, ◌^◌, ◌↔◌, drop, length, slice_range, IfOk, IfSome, IsOk, IsSome, None};
 ghost use Rattle.std.specs.Result.{result_err};
 ghost use Rattle.uefi_device_nodes.specs.TypedNodes.{IsOfKind, kind_refusal, number_at};
 
 use crate::errors::NodeConversionError;
 use crate::node::DevicePathNode;
 use std::alloc::AllocError;
+use std::fmt;
 use std::marker::PhantomData;
-use uefi_field_texts::guid::Guid;
+use uefi_field_texts::sink::{Printed, TextSink, print};
 use uefi_text::Packed;
 
 /// A kind of node: its type, its sub-type, and how many bytes of data each node of it has at least.
@@ -89,16 +91,6 @@ impl<'a, K: NodeKind> TypedNode<'a, K> {
         &self.data[place..place + len]
     }
 
-    /// The GUID that begins at a place.
-    pub(crate) fn guid(&self, place: usize) -> Guid<'a>
-        requires { place + 16 ≤ K.LEAST }
-        ensures { result.bytes.now ≡ slice_range (data_of self.now) place (place + 16) }
-    {
-        Guid {
-            bytes: self.part(place, 16),
-        }
-    }
-
     /// The bytes from a place on, or `None` where the data end before the last of them.
     pub(crate) fn later_part(&self, place: usize, len: usize) -> Option<&'a [u8]>
         requires { place + len < 2 ^ 64 }
@@ -132,5 +124,40 @@ impl<'a, K: NodeKind> Clone for TypedNode<'a, K> {
 
     fn clone(&self) -> Result<Self, AllocError> {
         Ok(*self)
+    }
+}
+
+/// A kind whose nodes have a text, in the form that may be read back, without shorter names.
+pub trait PrintedKind: NodeKind {
+    ghost use Rattle.uefi_device_nodes.specs.NodeViews.{data_of};
+
+    /// The text of a node with these data, in UTF-8.
+    ghost printed: { List ℕ → List ℕ };
+
+    /// Puts the text of a node into a sink.
+    fn put<S: TextSink>(node: &TypedNode<'_, Self>, sink: &mut S)
+        ensures { WritesInCalls S.puts sink.old (printed (data_of node.now)) sink.new };
+}
+
+/// The text of the node's kind.
+impl<'a, K: PrintedKind> Printed for TypedNode<'a, K> {
+    ghost use Rattle.uefi_device_nodes.specs.NodeViews.{data_of};
+
+    ghost printed = { λ node. K.printed (data_of node) };
+
+    fn put<S: TextSink>(&self, sink: &mut S) {
+        K::put(self, sink);
+    }
+}
+
+/// Prints the text that may be read back, without shorter names.
+impl<'a, K: PrintedKind> fmt::Display for TypedNode<'a, K> {
+    ghost use Rattle.std.specs.Prelude.{Some};
+    ghost use Rattle.uefi_device_nodes.specs.NodeViews.{data_of};
+
+    ghost output = { λ node. Some (K.printed (data_of node)) };
+
+    fn fmt<W: fmt::Write>(&self, f: &mut fmt::Formatter<W>) -> fmt::Result {
+        print(f, self)
     }
 }

@@ -2,10 +2,10 @@
 use Rattle.std.proofs.Common.{◌≡◌, ℕ, ◌+◌, ◌-◌, ◌/◌, ◌%◌, ◌<◌, ◌≤◌, set, take, drop, List, [], ◌∷◌, ◌++◌, length, append_assoc, ap, sym, subst, ◌∙◌, arith}
 use Rattle.std.proofs.lemmas.Grind.{common_steps, flat_map-append}
 use Rattle.std.proofs.lemmas.List.{append-nil, drop-drop, drop-set, nil_from_length, take-append-drop, take-set}
-use Rattle.std.proofs.lemmas.Str.{chars-append, chars-nil, chars_past_char}
+use Rattle.std.proofs.lemmas.Str.{chars-append, chars-nil, chars_past_char, IsUtf8-encode}
+use Rattle.std.specs.Char.{IsScalar}
 use Rattle.std.specs.Char.Escape.{encode_utf16}
-use Rattle.std.specs.Fmt.{WritesInCalls}
-use Rattle.std.specs.List.{FoldsTo, concat, flat_map}
+use Rattle.std.specs.List.{flat_map}
 use Rattle.std.specs.Prelude.{encode_utf8}
 use Rattle.std.specs.Str.{chars, IsUtf8}
 use Rattle.uefi_text.specs.Units.{nul_terminated}
@@ -36,46 +36,26 @@ unfolding utf16_units
 units_join part rest utf8 =
     sym (flat_map-append encode_utf16 (chars part) (chars rest)) ∙ ap (λ (cs : List ℕ). flat_map encode_utf16 cs) (sym (chars-append part rest utf8))
 
-pub units_none : utf16_units [] ≡ []
+-- no text, after others
+pub sunk_none : (units start buffer : List ℕ) (len : ℕ) → AreSunk units start buffer len → AreSunk (units ++ utf16_units []) start buffer len
 unfolding utf16_units
-units_none = ap (λ (cs : List ℕ). flat_map encode_utf16 cs) chars-nil
+sunk_none units start buffer len h =
+    let none : flat_map encode_utf16 (chars []) ≡ [] = ap (λ (cs : List ℕ). flat_map encode_utf16 cs) chars-nil in
+    subst (λ (us : List ℕ). AreSunk us start buffer len) (sym (append-nil units) ∙ ap (λ (us : List ℕ). units ++ us) (sym none)) h
 
-module _ {W : Type 0} (buffer : W → List ℕ) (len : W → ℕ) (took : W → List ℕ → W → Type 0)
-    (gives : (p : W) (part : List ℕ) (q : W) → took p part q → IsUtf8 part × ((units start : List ℕ) →
-    AreSunk units start (buffer p) (len p) → AreSunk (units ++ utf16_units part) start (buffer q) (len q))) where
-  -- the units of all parts are written
-  parts_sunk : (parts : List (List ℕ)) (p q : W) (units start : List ℕ) → FoldsTo took p parts q
-      → AreSunk units start (buffer p) (len p) → AreSunk (units ++ utf16_units (concat parts)) start (buffer q) (len q)
-  parts_sunk [] p q units start same h =
-      let same_units : units ≡ units ++ utf16_units [] = sym (append-nil units) ∙ ap (λ (us : List ℕ). units ++ us) (sym units_none) in
-      subst (λ (w : W). AreSunk (units ++ utf16_units []) start (buffer w) (len w)) same
-      (subst (λ (us : List ℕ). AreSunk us start (buffer p) (len p)) same_units h)
-  parts_sunk (part ∷ parts) p q units start (j, one, rest) h =
-      let given = gives p part j one in
-      let all = parts_sunk parts j q (units ++ utf16_units part) start rest (given.1 units start h) in
-      subst (λ (us : List ℕ). AreSunk us start (buffer q) (len q))
-      (append_assoc units (utf16_units part) (utf16_units (concat parts))
-      ∙ ap (λ (us : List ℕ). units ++ us) (units_join part (concat parts) given.0)) all
+-- a part, and those after it
+pub sunk_both : (units part rest start buffer : List ℕ) (len : ℕ) → IsUtf8 part
+    → AreSunk ((units ++ utf16_units part) ++ utf16_units rest) start buffer len → AreSunk (units ++ utf16_units (part ++ rest)) start buffer len
+sunk_both units part rest start buffer len utf8 h =
+    subst (λ (us : List ℕ). AreSunk us start buffer len)
+    (append_assoc units (utf16_units part) (utf16_units rest) ∙ ap (λ (us : List ℕ). units ++ us) (units_join part rest utf8)) h
 
-  -- and so are those of the text that they are
-  pub text_sunk : (p q : W) (text start : List ℕ) → WritesInCalls took p text q → AreSunk [] start (buffer p) (len p)
-      → AreSunk (utf16_units text) start (buffer q) (len q)
-  text_sunk p q text start wrote h =
-      subst (λ (bs : List ℕ). AreSunk (utf16_units bs) start (buffer q) (len q)) wrote.whole
-      (parts_sunk wrote.parts p q [] start wrote.calls h)
-
--- what each write keeps, all of them keep
-folds_keep : {W N : Type 0} (name : W → N) (took : W → List ℕ → W → Type 0)
-    → ((p : W) (part : List ℕ) (q : W) → took p part q → name q ≡ name p)
-    → (parts : List (List ℕ)) (p q : W) → FoldsTo took p parts q → name q ≡ name p
-folds_keep name took keeps [] p q same = ap name (sym same)
-folds_keep name took keeps (part ∷ parts) p q (j, one, rest) =
-    folds_keep name took keeps parts j q rest ∙ keeps p part j one
-
-pub text_keeps : {W N : Type 0} (name : W → N) (took : W → List ℕ → W → Type 0)
-    → ((p : W) (part : List ℕ) (q : W) → took p part q → name q ≡ name p)
-    → (p q : W) (text : List ℕ) → WritesInCalls took p text q → name q ≡ name p
-text_keeps name took keeps p q text wrote = folds_keep name took keeps wrote.parts p q wrote.calls
+-- the units of one character
+pub units_one : (c : ℕ) → IsScalar c → utf16_units (encode_utf8 c) ≡ encode_utf16 c
+unfolding utf16_units
+units_one c scalar =
+    let one = chars_past_char (encode_utf8 c) [] c (IsUtf8-encode c scalar) (sym (append-nil (encode_utf8 c))) in
+    ap (λ (cs : List ℕ). flat_map encode_utf16 cs) (one ∙ ap (λ (cs : List ℕ). c ∷ cs) chars-nil) ∙ append-nil (encode_utf16 c)
 
 -- a NUL after units that were written
 pub nul_after : (units old new : List ℕ) (len : ℕ) → len ≡ length units → len < length new → AreSunk units old new len

@@ -74,4 +74,3 @@ file_path_write_error_text (in_buffer.BufferTooSmall needed) =
 -- what is printed where a text is not written
 abbrev pub text_write_error_text : TextWriteError → List ℕ
 text_write_error_text (text.BufferTooSmall needed) = codes "the text has " ++ decimal needed ++ codes " units"
-text_write_error_text text.Stopped = codes "the text stopped before its end"

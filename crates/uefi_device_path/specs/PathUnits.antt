@@ -4,7 +4,7 @@ use Rattle.std.specs.Char.Escape.{encode_utf16}
 use Rattle.std.specs.List.{flat_map}
 use Rattle.std.specs.Str.{chars}
 use Rattle.uefi_device_path.specs.declared.errors.TextWriteError.{TextWriteError}
-use Rattle.uefi_device_path.specs.declared.errors.TextWriteError.TheVariants.{BufferTooSmall, Stopped}
+use Rattle.uefi_device_path.specs.declared.errors.TextWriteError.TheVariants.{BufferTooSmall}
 
 -- the code units of a text in UTF-16
 unfoldable pub utf16_units : List ℕ → List ℕ
@@ -22,4 +22,3 @@ pub record AreSunk (units old buffer : List ℕ) (len : ℕ) : Type 0 where
 abbrev pub TextRefusedFor : List ℕ → ℕ → TextWriteError → Type 0
 TextRefusedFor units room (BufferTooSmall needed) =
     (needed ≡ min (length units + 1) (2 ^ 64 - 1)) × (room < length units + 1)
-TextRefusedFor units room Stopped = Unit {0}

@@ -23,6 +23,7 @@ use std::alloc::Allocator;
 use std::fmt;
 use uefi_device_nodes::node::{DevicePathNode, fault_place};
 use uefi_device_nodes::{AllowShortcuts, DisplayOnly};
+use uefi_field_texts::sink::print;
 use uefi_path::PathBuf;
 use uefi_text::CStr16;
 
@@ -246,6 +247,8 @@ impl<'a> DevicePath<'a> {
     ) -> Result<&'b [u16], TextWriteError>
         ensures ok { IfOk result (λ units. units.now ≡ nul_terminated
             (utf16_units (path_text display_only.0 allow_shortcuts.0 (nodes_of self.now)))) }
+        ensures room { OnOk result (length (utf16_units
+            (path_text display_only.0 allow_shortcuts.0 (nodes_of self.now))) < length buf.old) }
         ensures refusal { IfErr result (λ error. TextRefusedFor
             (utf16_units (path_text display_only.0 allow_shortcuts.0 (nodes_of self.now)))
             (length buf.old) error) }
@@ -289,7 +292,6 @@ impl<'a> fmt::Display for DevicePath<'a> {
     ghost output = { λ path. Some (path_text false false (nodes_of path)) };
 
     fn fmt<W: fmt::Write>(&self, f: &mut fmt::Formatter<W>) -> fmt::Result {
-        let text = self.display(DisplayOnly(false), AllowShortcuts(false));
-        write!(f, "{text}")
+        print(f, &self.display(DisplayOnly(false), AllowShortcuts(false)))
     }
 }

@@ -114,8 +114,6 @@ pub enum TextWriteError {
     /// The buffer has fewer places than the text has units with its NUL, which are this many, or `usize::MAX`
     /// where they are more.
     BufferTooSmall(usize),
-    /// The text stopped before its end. No text of this crate does.
-    Stopped,
 }
 
 /// Prints what is wrong, in words.
@@ -128,7 +126,6 @@ impl fmt::Display for TextWriteError {
     fn fmt<W: fmt::Write>(&self, f: &mut fmt::Formatter<W>) -> fmt::Result {
         match self {
             Self::BufferTooSmall(needed) => write!(f, "the text has {needed} units"),
-            Self::Stopped => write!(f, "the text stopped before its end"),
         }
     }
 }

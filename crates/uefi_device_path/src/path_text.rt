@@ -1,7 +1,7 @@
 //! Device paths as people read them.
-#![tactic(auto, unfolding(crate::specs::PathTexts::instance_text, crate::specs::Views::printed_path, crate::specs::Views::nodes_of))]
+#![tactic(auto, using(uefi_field_texts::proofs::Puts::puts), unfolding(crate::specs::PathTexts::instance_text, crate::specs::Views::printed_path, crate::specs::Views::nodes_of))]
 
-ghost use Rattle.std.specs.Fmt.{WritesOnOk};
+ghost use Rattle.std.specs.Fmt.{WritesInCalls};
 ghost use Rattle.std.specs.Prelude.{◌≡◌, ◌≢◌, ◌<◌, ◌∷◌, length};
 ghost use Rattle.uefi_device_nodes.specs.NodeViews.{node_of};
 ghost use Rattle.uefi_device_path.specs.Paths.{AreNodes, nodes_in};
@@ -10,6 +10,7 @@ ghost use Rattle.uefi_device_path.specs.PathTexts.{instance_text, path_text};
 use crate::instance::cut_instance;
 use std::fmt;
 use uefi_device_nodes::{AllowShortcuts, DevicePathNode, DisplayOnly};
+use uefi_field_texts::sink::{Printed, TextSink, print};
 
 /// The first of the nodes that bytes are, and the bytes of the others.
 fn cut_node(bytes: &[u8]) -> (DevicePathNode<'_>, &[u8])
@@ -22,52 +23,51 @@ fn cut_node(bytes: &[u8]) -> (DevicePathNode<'_>, &[u8])
     DevicePathNode::take_first(bytes)
 }
 
-/// Writes the nodes that bytes are, with a slash between each two.
-fn write_instance<W: fmt::Write>(
-    f: &mut fmt::Formatter<W>,
+/// Puts the nodes that bytes are, with a slash between each two.
+fn put_instance<S: TextSink>(
+    sink: &mut S,
     bytes: &[u8],
     display_only: DisplayOnly,
     allow_shortcuts: AllowShortcuts,
-) -> fmt::Result
+)
     requires { AreNodes bytes.now }
-    ensures { WritesOnOk W.write_str_gives f.old result
-        (instance_text display_only.0 allow_shortcuts.0 (nodes_in bytes.now)) f.new }
+    ensures { WritesInCalls S.puts sink.old
+        (instance_text display_only.0 allow_shortcuts.0 (nodes_in bytes.now)) sink.new }
 {
     if bytes.is_empty() {
-        return Ok(());
+        return;
     }
     let (first, after_first) = cut_node(bytes);
-    write!(f, "{}", first.display(display_only, allow_shortcuts))?;
+    first.display(display_only, allow_shortcuts).put(sink);
     let mut rest = after_first;
     'nodes: while !rest.is_empty() {
         let (node, after) = cut_node(rest);
-        write!(f, "/{}", node.display(display_only, allow_shortcuts))?;
+        sink.put_str("/");
+        node.display(display_only, allow_shortcuts).put(sink);
         rest = after;
     }
-    Ok(())
 }
 
-/// Writes the instances of the nodes that bytes are, with a comma between each two.
-fn write_path<W: fmt::Write>(
-    f: &mut fmt::Formatter<W>,
+/// Puts the instances of the nodes that bytes are, with a comma between each two.
+fn put_path<S: TextSink>(
+    sink: &mut S,
     bytes: &[u8],
     display_only: DisplayOnly,
     allow_shortcuts: AllowShortcuts,
-) -> fmt::Result
+)
     requires { AreNodes bytes.now }
-    ensures { WritesOnOk W.write_str_gives f.old result
-        (path_text display_only.0 allow_shortcuts.0 (nodes_in bytes.now)) f.new }
+    ensures { WritesInCalls S.puts sink.old
+        (path_text display_only.0 allow_shortcuts.0 (nodes_in bytes.now)) sink.new }
 {
     let (first, after_first) = cut_instance(bytes);
-    write_instance(f, first, display_only, allow_shortcuts)?;
+    put_instance(sink, first, display_only, allow_shortcuts);
     let mut rest = after_first;
     'instances: while let Some(others) = rest {
         let (instance, after) = cut_instance(others);
-        f.write_str(",")?;
-        write_instance(f, instance, display_only, allow_shortcuts)?;
+        sink.put_str(",");
+        put_instance(sink, instance, display_only, allow_shortcuts);
         rest = after;
     }
-    Ok(())
 }
 
 /// What is printed of a device path. A contract sees it as `printed_path` of it: the text, in UTF-8.
@@ -99,6 +99,17 @@ impl<'a> PathText<'a> {
     }
 }
 
+/// The text.
+impl<'a> Printed for PathText<'a> {
+    ghost use Rattle.uefi_device_path.specs.Views.{printed_path};
+
+    ghost printed = { printed_path };
+
+    fn put<S: TextSink>(&self, sink: &mut S) {
+        put_path(sink, self.bytes, self.display_only, self.allow_shortcuts);
+    }
+}
+
 /// Prints the text.
 impl<'a> fmt::Display for PathText<'a> {
     ghost use Rattle.std.specs.Prelude.{Some};
@@ -107,6 +118,6 @@ impl<'a> fmt::Display for PathText<'a> {
     ghost output = { λ text. Some (printed_path text) };
 
     fn fmt<W: fmt::Write>(&self, f: &mut fmt::Formatter<W>) -> fmt::Result {
-        write_path(f, self.bytes, self.display_only, self.allow_shortcuts)
+        print(f, self)
     }
 }

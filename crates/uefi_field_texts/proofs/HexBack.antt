@@ -1,18 +1,22 @@
--- Bytes that are printed from the last to the first.
+-- Bytes that are printed one by one, from the first or from the last.
 use Rattle.std.proofs.Common.{◌≡◌, ℕ, zero, suc, ◌+◌, ◌-◌, ◌<◌, ◌==◌, false, if◌then◌else◌, List, [], ◌∷◌, ◌++◌, codes, length, take, reverse, get_or, ap, sym, ◌∙◌, arith}
 use Rattle.std.proofs.lemmas.List.{append-nil, flat_map_more, get_or-reverse, length-reverse, length-take, take_more}
 use Rattle.std.specs.List.{flat_map, join_by}
 use Rattle.uefi_field_texts.specs.FieldTexts.{hex_bytes, hex_two}
 
--- one byte more
-pub hex_back_more : (bytes : List ℕ) (i : ℕ) → i < length bytes
-    → hex_bytes (take i (reverse bytes)) ++ hex_two (get_or bytes (length bytes - 1 - i) 0) ≡ hex_bytes (take (i + 1) (reverse bytes))
+-- one byte more after a text
+pub byte_more : (shown : ℕ → List ℕ) (text bytes : List ℕ) (i : ℕ) → i < length bytes
+    → (text ++ flat_map shown (take i bytes)) ++ shown (get_or bytes i 0) ≡ text ++ flat_map shown (take (i + 1) bytes)
+byte_more shown text bytes i h =
+    flat_map_more shown text (take i bytes) (get_or bytes i 0) ∙ ap (λ (xs : List ℕ). text ++ flat_map shown xs) (sym (take_more bytes i 0 h))
+
+-- the same from the last byte to the first
+pub hex_back_more : (text bytes : List ℕ) (i : ℕ) → i < length bytes
+    → (text ++ hex_bytes (take i (reverse bytes))) ++ hex_two (get_or bytes (length bytes - 1 - i) 0) ≡ text ++ hex_bytes (take (i + 1) (reverse bytes))
 unfolding hex_bytes
-hex_back_more bytes i h =
-    let r = reverse bytes in
-    let within : i < length r = omega (arith, length-reverse bytes) in
-    ap (λ (x : ℕ). flat_map hex_two (take i r) ++ hex_two x) (sym (get_or-reverse bytes i 0 h))
-    ∙ flat_map_more hex_two [] (take i r) (get_or r i 0) ∙ ap (λ (xs : List ℕ). flat_map hex_two xs) (sym (take_more r i 0 within))
+hex_back_more text bytes i h =
+    ap (λ (x : ℕ). (text ++ hex_bytes (take i (reverse bytes))) ++ hex_two x) (sym (get_or-reverse bytes i 0 h))
+    ∙ byte_more hex_two text (reverse bytes) i (omega (arith, length-reverse bytes))
 
 -- one byte more after others, and the first
 dashed_push : (ys : List ℕ) (i x : ℕ) → length ys ≡ i

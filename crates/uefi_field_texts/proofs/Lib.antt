@@ -1,3 +1,5 @@
 pub mod HexBack
+pub mod Numerals
 pub mod Places
+pub mod Puts
 pub mod Surrogates

@@ -1,88 +1,53 @@
 //! Addresses and protocols of IP.
-#![tactic(auto, unfolding(crate::specs::FieldTexts::ipv4_address, crate::specs::FieldTexts::ipv6_address, crate::specs::FieldTexts::ipv6_half, crate::specs::FieldTexts::protocol_text))]
+#![tactic(auto, using(crate::proofs::Puts::puts), unfolding(crate::specs::FieldTexts::ipv4_address, crate::specs::FieldTexts::ipv6_address, crate::specs::FieldTexts::ipv6_half, crate::specs::FieldTexts::protocol_text))]
 
-ghost use Rattle.std.specs.Fmt.{WritesOnOk};
-ghost use Rattle.std.specs.Prelude.{◌≡◌, length};
-ghost use Rattle.uefi_field_texts.specs.FieldTexts.{ipv6_half};
+ghost use Rattle.std.specs.Fmt.{WritesInCalls};
+ghost use Rattle.std.specs.Prelude.{◌≡◌, ◌++◌, length};
+ghost use Rattle.uefi_field_texts.specs.FieldTexts.{ipv4_address, ipv6_address, ipv6_half, protocol_text};
 
-use crate::hexadecimal::HexBytes;
-use std::fmt;
+use crate::hexadecimal::{put_bytes, put_decimal, put_hex};
+use crate::sink::TextSink;
 
-/// An address of IP version 4.
-#[derive(Drop)]
-pub struct Ipv4Address<'a> {
-    /// Its four bytes.
-    pub bytes: &'a [u8],
-    pub ghost whole: { length bytes.now ≡ 4 },
-}
-
-/// Prints four decimal numbers with dots between them.
-impl<'a> fmt::Display for Ipv4Address<'a> {
-    ghost use Rattle.std.specs.Prelude.{Some};
-    ghost use Rattle.uefi_field_texts.specs.FieldTexts.{ipv4_address};
-
-    ghost output = { λ address. Some (ipv4_address address.bytes.now) };
-
-    fn fmt<W: fmt::Write>(&self, f: &mut fmt::Formatter<W>) -> fmt::Result {
-        let (a, b) = (self.bytes[0], self.bytes[1]);
-        let (c, d) = (self.bytes[2], self.bytes[3]);
-        write!(f, "{a}.{b}.{c}.{d}")
-    }
-}
-
-/// Writes eight bytes as four groups of digits with colons between them.
-fn write_half<W: fmt::Write>(f: &mut fmt::Formatter<W>, bytes: &[u8]) -> fmt::Result
-    requires { length bytes.now ≡ 8 }
-    ensures { WritesOnOk W.write_str_gives f.old result (ipv6_half bytes.now) f.new }
+/// Puts a text, and an address of IP version 4: four decimal numbers with dots between them.
+pub fn put_ipv4_address<S: TextSink>(sink: &mut S, text: &str, bytes: &[u8])
+    requires { length bytes.now ≡ 4 }
+    ensures { WritesInCalls S.puts sink.old (text.now ++ ipv4_address bytes.now) sink.new }
 {
-    let first = HexBytes(&bytes[0..2]);
-    let second = HexBytes(&bytes[2..4]);
-    let third = HexBytes(&bytes[4..6]);
-    let fourth = HexBytes(&bytes[6..8]);
-    write!(f, "{first}:{second}:{third}:{fourth}")
+    put_decimal(sink, text, u64::from(bytes[0]));
+    put_decimal(sink, ".", u64::from(bytes[1]));
+    put_decimal(sink, ".", u64::from(bytes[2]));
+    put_decimal(sink, ".", u64::from(bytes[3]));
 }
 
-/// An address of IP version 6.
-#[derive(Drop)]
-pub struct Ipv6Address<'a> {
-    /// Its 16 bytes.
-    pub bytes: &'a [u8],
-    pub ghost whole: { length bytes.now ≡ 16 },
+/// Puts a text, and eight bytes as four groups of digits with colons between them.
+fn put_half<S: TextSink>(sink: &mut S, text: &str, bytes: &[u8])
+    requires { length bytes.now ≡ 8 }
+    ensures { WritesInCalls S.puts sink.old (text.now ++ ipv6_half bytes.now) sink.new }
+{
+    put_bytes(sink, text, &bytes[0..2]);
+    put_bytes(sink, ":", &bytes[2..4]);
+    put_bytes(sink, ":", &bytes[4..6]);
+    put_bytes(sink, ":", &bytes[6..8]);
 }
 
-/// Prints eight groups of four digits with colons between them; none is left out.
-impl<'a> fmt::Display for Ipv6Address<'a> {
-    ghost use Rattle.std.specs.Prelude.{Some};
-    ghost use Rattle.uefi_field_texts.specs.FieldTexts.{ipv6_address};
-
-    ghost output = { λ address. Some (ipv6_address address.bytes.now) };
-
-    fn fmt<W: fmt::Write>(&self, f: &mut fmt::Formatter<W>) -> fmt::Result {
-        write_half(f, &self.bytes[0..8])?;
-        f.write_str(":")?;
-        write_half(f, &self.bytes[8..16])
-    }
+/// Puts a text, and an address of IP version 6: eight groups of four digits with colons between them; none is
+/// left out.
+pub fn put_ipv6_address<S: TextSink>(sink: &mut S, text: &str, bytes: &[u8])
+    requires { length bytes.now ≡ 16 }
+    ensures { WritesInCalls S.puts sink.old (text.now ++ ipv6_address bytes.now) sink.new }
+{
+    put_half(sink, text, &bytes[0..8]);
+    put_half(sink, ":", &bytes[8..16]);
 }
 
-/// A protocol over IP, by its number.
-#[derive(Drop)]
-pub struct Protocol(
-    /// The number.
-    pub u16,
-);
-
-/// Prints `TCP`, `UDP`, or the number of another.
-impl fmt::Display for Protocol {
-    ghost use Rattle.std.specs.Prelude.{Some};
-    ghost use Rattle.uefi_field_texts.specs.FieldTexts.{protocol_text};
-
-    ghost output = { λ protocol. Some (protocol_text protocol.0) };
-
-    fn fmt<W: fmt::Write>(&self, f: &mut fmt::Formatter<W>) -> fmt::Result {
-        match self.0 {
-            6 => f.write_str("TCP"),
-            17 => f.write_str("UDP"),
-            other => write!(f, "0x{other:X}"),
-        }
+/// Puts a text, and a protocol over IP: `TCP`, `UDP`, or the number of another.
+pub fn put_protocol<S: TextSink>(sink: &mut S, text: &str, protocol: u16)
+    ensures { WritesInCalls S.puts sink.old (text.now ++ protocol_text protocol) sink.new }
+{
+    sink.put_str(text);
+    match protocol {
+        6 => sink.put_str("TCP"),
+        17 => sink.put_str("UDP"),
+        other => put_hex(sink, "0x", u64::from(other)),
     }
 }

@@ -1,137 +1,119 @@
-//! Numbers and bytes in hexadecimal, in upper case.
-#![tactic(auto, unfolding(crate::specs::FieldTexts::hex_two, crate::specs::FieldTexts::hex_four, crate::specs::FieldTexts::hex_bytes, crate::specs::FieldTexts::hex_back, crate::specs::FieldTexts::dashed_back, crate::specs::FieldTexts::comma_bytes))]
+//! Numbers, and bytes in hexadecimal, in upper case.
+#![tactic(auto, using(crate::proofs::Puts::puts), unfolding(crate::specs::FieldTexts::hex_two, crate::specs::FieldTexts::hex_four, crate::specs::FieldTexts::hex_bytes, crate::specs::FieldTexts::hex_back, crate::specs::FieldTexts::dashed_back, crate::specs::FieldTexts::comma_bytes))]
 
-ghost use Rattle.std.specs.Fmt.{WritesOnOk};
-ghost use Rattle.std.specs.Prelude.{◌++◌, codes, if◌then◌else◌};
-ghost use Rattle.uefi_field_texts.specs.FieldTexts.{hex_two};
+ghost use Rattle.std.specs.Fmt.{WritesInCalls, decimal, digit_glyph, digits};
+ghost use Rattle.std.specs.Prelude.{◌≡◌, ◌≤◌, ◌<◌, ◌++◌, codes, if◌then◌else◌, nat_lt};
+ghost use Rattle.uefi_field_texts.specs.FieldTexts.{comma_bytes, dashed_back, hex, hex_back, hex_bytes, hex_four, hex_two};
 
-use std::fmt;
+use crate::sink::TextSink;
 
-/// Writes a byte as two digits.
-pub(crate) fn write_two<W: fmt::Write>(f: &mut fmt::Formatter<W>, byte: u8) -> fmt::Result
-    ensures { WritesOnOk W.write_str_gives f.old result (hex_two byte) f.new }
+/// The digit of a number below a base.
+fn digit(n: u64, base: u64) -> char
+    requires below { n < base }
+    requires small { base ≤ 16 }
+    ensures { result ≡ digit_glyph (nat_lt 10 base) n }
 {
-    write!(f, "{:X}{:X}", byte / 16, byte % 16)
+    if n < 10 {
+        char::from(b'0' + n as u8)
+    } else {
+        char::from(b'A' - 10 + n as u8)
+    }
 }
 
-/// Writes a byte as two digits, after a dash where it is not the first.
-fn write_dashed<W: fmt::Write>(f: &mut fmt::Formatter<W>, byte: u8, is_first: bool) -> fmt::Result
-    ensures { WritesOnOk W.write_str_gives f.old result
-        (if is_first then hex_two byte else codes "-" ++ hex_two byte) f.new }
+/// Puts a number in a base, without zeros at its start.
+fn put_digits<S: TextSink>(sink: &mut S, n: u64, base: u64)
+    requires some { 2 ≤ base }
+    requires small { base ≤ 16 }
+    ensures { WritesInCalls S.puts sink.old (digits base (nat_lt 10 base) n) sink.new }
 {
-    if !is_first {
-        f.write_str("-")?;
+    if n < base {
+        sink.put_char(digit(n, base));
+        return;
     }
-    write_two(f, byte)
+    put_digits(sink, n / base, base);
+    sink.put_char(digit(n % base, base));
 }
 
-/// Bytes, two digits each.
-#[derive(Drop)]
-pub struct HexBytes<'a>(
-    /// The bytes.
-    pub &'a [u8],
-);
-
-/// Prints them in order.
-impl<'a> fmt::Display for HexBytes<'a> {
-    ghost use Rattle.std.specs.Prelude.{Some};
-    ghost use Rattle.uefi_field_texts.specs.FieldTexts.{hex_bytes};
-
-    ghost output = { λ bytes. Some (hex_bytes bytes.0.now) };
-
-    fn fmt<W: fmt::Write>(&self, f: &mut fmt::Formatter<W>) -> fmt::Result {
-        let bytes = self.0;
-        for byte in bytes {
-            write_two(f, *byte)?;
-        }
-        Ok(())
-    }
+/// Puts a text, and a number in decimal.
+pub fn put_decimal<S: TextSink>(sink: &mut S, text: &str, n: u64)
+    ensures { WritesInCalls S.puts sink.old (text.now ++ decimal n) sink.new }
+{
+    sink.put_str(text);
+    put_digits(sink, n, 10);
 }
 
-/// Bytes from the last to the first, two digits each.
-#[derive(Drop)]
-pub struct HexBack<'a>(
-    /// The bytes.
-    pub &'a [u8],
-);
+/// Puts a text, and a number in hexadecimal.
+pub fn put_hex<S: TextSink>(sink: &mut S, text: &str, n: u64)
+    ensures { WritesInCalls S.puts sink.old (text.now ++ hex n) sink.new }
+{
+    sink.put_str(text);
+    put_digits(sink, n, 16);
+}
 
-/// Prints the number that lies there with its low byte first, zeros at its start among the digits.
-impl<'a> fmt::Display for HexBack<'a> {
-    ghost use Rattle.std.specs.Prelude.{Some};
-    ghost use Rattle.uefi_field_texts.specs.FieldTexts.{hex_back};
+/// Puts a byte as two digits.
+pub(crate) fn put_two<S: TextSink>(sink: &mut S, byte: u8)
+    ensures { WritesInCalls S.puts sink.old (hex_two byte) sink.new }
+{
+    put_digits(sink, u64::from(byte / 16), 16);
+    put_digits(sink, u64::from(byte % 16), 16);
+}
 
-    ghost output = { λ bytes. Some (hex_back bytes.0.now) };
+/// Puts a number of two bytes as four digits.
+pub fn put_word<S: TextSink>(sink: &mut S, word: u16)
+    ensures { WritesInCalls S.puts sink.old (hex_four word) sink.new }
+{
+    put_two(sink, (word / 256) as u8);
+    put_two(sink, (word % 256) as u8);
+}
 
-    fn fmt<W: fmt::Write>(&self, f: &mut fmt::Formatter<W>) -> fmt::Result {
-        let bytes = self.0;
-        for place in 0..bytes.len() {
-            write_two(f, bytes[bytes.len() - 1 - place])?;
-        }
-        Ok(())
+/// Puts a text, and bytes in order, two digits each.
+pub fn put_bytes<S: TextSink>(sink: &mut S, text: &str, bytes: &[u8])
+    ensures { WritesInCalls S.puts sink.old (text.now ++ hex_bytes bytes.now) sink.new }
+{
+    sink.put_str(text);
+    for byte in bytes {
+        put_two(sink, *byte);
     }
 }
 
-/// Bytes from the last to the first, two digits each, with dashes between them.
-#[derive(Drop)]
-pub struct DashedBack<'a>(
-    /// The bytes.
-    pub &'a [u8],
-);
-
-/// Prints an extended unique identifier that lies with its low byte first.
-impl<'a> fmt::Display for DashedBack<'a> {
-    ghost use Rattle.std.specs.Prelude.{Some};
-    ghost use Rattle.uefi_field_texts.specs.FieldTexts.{dashed_back};
-
-    ghost output = { λ bytes. Some (dashed_back bytes.0.now) };
-
-    fn fmt<W: fmt::Write>(&self, f: &mut fmt::Formatter<W>) -> fmt::Result {
-        let bytes = self.0;
-        for place in 0..bytes.len() {
-            write_dashed(f, bytes[bytes.len() - 1 - place], place == 0)?;
-        }
-        Ok(())
+/// Puts a text, and the number that bytes hold with its low byte first, zeros at its start among the digits.
+pub fn put_back<S: TextSink>(sink: &mut S, text: &str, bytes: &[u8])
+    ensures { WritesInCalls S.puts sink.old (text.now ++ hex_back bytes.now) sink.new }
+{
+    sink.put_str(text);
+    for place in 0..bytes.len() {
+        put_two(sink, bytes[bytes.len() - 1 - place]);
     }
 }
 
-/// Bytes after a comma, or nothing where there are none.
-#[derive(Drop)]
-pub struct CommaBytes<'a>(
-    /// The bytes.
-    pub &'a [u8],
-);
+/// Puts a byte as two digits, after a dash where it is not the first.
+fn put_dashed<S: TextSink>(sink: &mut S, byte: u8, is_first: bool)
+    ensures { WritesInCalls S.puts sink.old
+        (if is_first then hex_two byte else codes "-" ++ hex_two byte) sink.new }
+{
+    if is_first {
+        put_two(sink, byte);
+        return;
+    }
+    sink.put_str("-");
+    put_two(sink, byte);
+}
 
-/// Prints them as data at the end of a node.
-impl<'a> fmt::Display for CommaBytes<'a> {
-    ghost use Rattle.std.specs.Prelude.{Some};
-    ghost use Rattle.uefi_field_texts.specs.FieldTexts.{comma_bytes};
-
-    ghost output = { λ bytes. Some (comma_bytes bytes.0.now) };
-
-    fn fmt<W: fmt::Write>(&self, f: &mut fmt::Formatter<W>) -> fmt::Result {
-        if self.0.is_empty() {
-            return Ok(());
-        }
-        write!(f, ",{}", HexBytes(self.0))
+/// Puts an extended unique identifier, which lies with its low byte first: its bytes from the last to the
+/// first, two digits each, with dashes between them.
+pub fn put_dashed_back<S: TextSink>(sink: &mut S, bytes: &[u8])
+    ensures { WritesInCalls S.puts sink.old (dashed_back bytes.now) sink.new }
+{
+    for place in 0..bytes.len() {
+        put_dashed(sink, bytes[bytes.len() - 1 - place], place == 0);
     }
 }
 
-/// A number of two bytes as four digits.
-#[derive(Drop)]
-pub struct HexWord(
-    /// The number.
-    pub u16,
-);
-
-/// Prints zeros at its start too.
-impl fmt::Display for HexWord {
-    ghost use Rattle.std.specs.Prelude.{Some};
-    ghost use Rattle.uefi_field_texts.specs.FieldTexts.{hex_four};
-
-    ghost output = { λ word. Some (hex_four word.0) };
-
-    fn fmt<W: fmt::Write>(&self, f: &mut fmt::Formatter<W>) -> fmt::Result {
-        write_two(f, (self.0 / 256) as u8)?;
-        write_two(f, (self.0 % 256) as u8)
+/// Puts bytes after a comma, as data at the end of a node, or nothing where there are none.
+pub fn put_comma_bytes<S: TextSink>(sink: &mut S, bytes: &[u8])
+    ensures { WritesInCalls S.puts sink.old (comma_bytes bytes.now) sink.new }
+{
+    if !bytes.is_empty() {
+        put_bytes(sink, ",", bytes);
     }
 }

@@ -1,45 +1,35 @@
 //! IDs of devices that ACPI names: those of EISA, packed in four bytes, and strings.
-#![tactic(auto, unfolding(crate::specs::FieldTexts::eisa_text, crate::specs::FieldTexts::eisa_letter, crate::specs::FieldTexts::has_uid_alone))]
+#![tactic(auto, using(crate::proofs::Puts::puts), unfolding(crate::specs::FieldTexts::eisa_text, crate::specs::FieldTexts::eisa_letter, crate::specs::FieldTexts::has_uid_alone))]
 
-ghost use Rattle.std.specs.Fmt.{WritesOnOk};
-ghost use Rattle.std.specs.Prelude.{◌≡◌};
-ghost use Rattle.uefi_field_texts.specs.FieldTexts.{cid_string, eisa_letter, has_uid_alone, hid_string, uid_string};
+ghost use Rattle.std.specs.Fmt.{WritesInCalls};
+ghost use Rattle.std.specs.Prelude.{◌≡◌, ◌++◌};
+ghost use Rattle.uefi_field_texts.specs.FieldTexts.{cid_string, eisa_letter, eisa_text, has_uid_alone, hid_string, uid_string};
 
-use crate::hexadecimal::HexWord;
+use crate::hexadecimal::put_word;
+use crate::sink::TextSink;
 use crate::texts::{after_nul, until_nul};
-use std::fmt;
 
-/// Writes the letter of the five low bits of a number.
-fn write_letter<W: fmt::Write>(f: &mut fmt::Formatter<W>, number: u32) -> fmt::Result
-    ensures { WritesOnOk W.write_str_gives f.old result (eisa_letter number) f.new }
+/// Puts the letter of the five low bits of a number.
+fn put_letter<S: TextSink>(sink: &mut S, number: u32)
+    ensures { WritesInCalls S.puts sink.old (eisa_letter number) sink.new }
 {
-    f.write_char(char::from((number % 32) as u8 + b'@'))
+    sink.put_char(char::from((number % 32) as u8 + b'@'));
 }
 
-/// An ID of EISA: three letters of five bits each, and a number of two bytes (UEFI Specification 2.10,
-/// section 10.3.3; ACPI Specification, `EISAID`).
-#[derive(Drop)]
-pub struct EisaId(
-    /// The four bytes, as a number.
-    pub u32,
-);
-
-/// Prints three letters and four digits, as in `PNP0A03`, or `0` where it is 0.
-impl fmt::Display for EisaId {
-    ghost use Rattle.std.specs.Prelude.{Some};
-    ghost use Rattle.uefi_field_texts.specs.FieldTexts.{eisa_text};
-
-    ghost output = { λ id. Some (eisa_text id.0) };
-
-    fn fmt<W: fmt::Write>(&self, f: &mut fmt::Formatter<W>) -> fmt::Result {
-        if self.0 == 0 {
-            return f.write_str("0");
-        }
-        write_letter(f, self.0 / 1024)?;
-        write_letter(f, self.0 / 32)?;
-        write_letter(f, self.0)?;
-        write!(f, "{}", HexWord((self.0 / 65536) as u16))
+/// Puts a text, and an ID of EISA, four bytes as a number: three letters of five bits each and four digits, as
+/// in `PNP0A03`, or `0` where it is 0 (UEFI Specification 2.10, section 10.3.3; ACPI Specification, `EISAID`).
+pub fn put_eisa_id<S: TextSink>(sink: &mut S, text: &str, id: u32)
+    ensures { WritesInCalls S.puts sink.old (text.now ++ eisa_text id) sink.new }
+{
+    sink.put_str(text);
+    if id == 0 {
+        sink.put_str("0");
+        return;
     }
+    put_letter(sink, id / 1024);
+    put_letter(sink, id / 32);
+    put_letter(sink, id);
+    put_word(sink, (id / 65536) as u16);
 }
 
 /// The strings of the IDs of a device.

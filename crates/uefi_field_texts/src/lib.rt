@@ -1,8 +1,8 @@
 //! The layer of `uefi_device_nodes` below nodes: what is printed of their fields.
 //!
 //! Numbers and bytes in hexadecimal, GUIDs, IDs of EISA, addresses of IP, and texts, as the UEFI
-//! Specification 2.10, section 10.6.1, and EDK II print them. Each type here holds what is printed and is
-//! made for a `{}` of a format: its `Display` says in UTF-8 what that writes. No call takes memory.
+//! Specification 2.10, section 10.6.1, and EDK II print them. Each call here puts one of them into a
+//! [`sink::TextSink`], and its contract says in UTF-8 what that takes. No call takes memory.
 //! Callers use `uefi_device_path`, which prints nodes and paths.
 #![tactic(auto)]
 
@@ -17,5 +17,7 @@ pub mod hexadecimal;
 pub mod ids;
 #[doc(hidden)]
 pub mod names;
+#[doc(hidden)]
+pub mod sink;
 #[doc(hidden)]
 pub mod texts;

@@ -1,63 +1,47 @@
 //! What has a name of its own in the text of a node, by its number or its GUID.
-#![tactic(auto, unfolding(crate::specs::FieldTexts::pnp_start, crate::specs::FieldTexts::vendor_name, crate::specs::FieldTexts::ipv4_origin, crate::specs::FieldTexts::ipv6_origin, crate::specs::FieldTexts::ram_disk_name, crate::specs::FieldTexts::boot_type_text))]
+#![tactic(auto, using(crate::proofs::Puts::puts), unfolding(crate::specs::FieldTexts::pnp_start, crate::specs::FieldTexts::vendor_name, crate::specs::FieldTexts::ipv4_origin, crate::specs::FieldTexts::ipv6_origin, crate::specs::FieldTexts::ram_disk_name, crate::specs::FieldTexts::boot_type_text))]
 
-ghost use Rattle.std.specs.Prelude.{◌≡◌};
-ghost use Rattle.uefi_field_texts.specs.FieldTexts.{ipv4_origin, ipv6_origin, ram_disk_name, vendor_name};
+ghost use Rattle.std.specs.Fmt.{WritesInCalls};
+ghost use Rattle.std.specs.Prelude.{◌≡◌, ◌++◌};
+ghost use Rattle.uefi_field_texts.specs.FieldTexts.{boot_type_text, ipv4_origin, ipv6_origin, pnp_start, ram_disk_name, vendor_name};
 
-use crate::hexadecimal::HexWord;
-use std::fmt;
+use crate::hexadecimal::{put_hex, put_word};
+use crate::sink::TextSink;
 
-/// What stands before the number of a device that has a number under PNP.
-#[derive(Drop)]
-pub struct PnpStart(
-    /// The number under PNP.
-    pub u16,
-);
-
-/// Prints `PciRoot(` and its like, or `Acpi(PNPxxxx,` where a number has no name.
-impl fmt::Display for PnpStart {
-    ghost use Rattle.std.specs.Prelude.{Some};
-    ghost use Rattle.uefi_field_texts.specs.FieldTexts.{pnp_start};
-
-    ghost output = { λ start. Some (pnp_start start.0) };
-
-    fn fmt<W: fmt::Write>(&self, f: &mut fmt::Formatter<W>) -> fmt::Result {
-        match self.0 {
-            0x0a03 => f.write_str("PciRoot("),
-            0x0a08 => f.write_str("PcieRoot("),
-            0x0604 => f.write_str("Floppy("),
-            0x0301 => f.write_str("Keyboard("),
-            0x0501 => f.write_str("Serial("),
-            0x0401 => f.write_str("ParallelPort("),
-            other => write!(f, "Acpi(PNP{},", HexWord(other)),
+/// Puts what stands before the number of a device that has a number under PNP: `PciRoot(` and its like, or
+/// `Acpi(PNPxxxx,` where that number has no name.
+pub fn put_pnp_start<S: TextSink>(sink: &mut S, id: u16)
+    ensures { WritesInCalls S.puts sink.old (pnp_start id) sink.new }
+{
+    match id {
+        0x0a03 => sink.put_str("PciRoot("),
+        0x0a08 => sink.put_str("PcieRoot("),
+        0x0604 => sink.put_str("Floppy("),
+        0x0301 => sink.put_str("Keyboard("),
+        0x0501 => sink.put_str("Serial("),
+        0x0401 => sink.put_str("ParallelPort("),
+        other => {
+            sink.put_str("Acpi(PNP");
+            put_word(sink, other);
+            sink.put_str(",");
         }
     }
 }
 
-/// The type of a device that a legacy BIOS can boot (BIOS Boot Specification).
-#[derive(Drop)]
-pub struct BootType(
-    /// The number of the type.
-    pub u16,
-);
-
-/// Prints `Floppy` and its like, or the number of another.
-impl fmt::Display for BootType {
-    ghost use Rattle.std.specs.Prelude.{Some};
-    ghost use Rattle.uefi_field_texts.specs.FieldTexts.{boot_type_text};
-
-    ghost output = { λ kind. Some (boot_type_text kind.0) };
-
-    fn fmt<W: fmt::Write>(&self, f: &mut fmt::Formatter<W>) -> fmt::Result {
-        match self.0 {
-            1 => f.write_str("Floppy"),
-            2 => f.write_str("HD"),
-            3 => f.write_str("CDROM"),
-            4 => f.write_str("PCMCIA"),
-            5 => f.write_str("USB"),
-            6 => f.write_str("Network"),
-            other => write!(f, "0x{other:X}"),
-        }
+/// Puts a text, and the type of a device that a legacy BIOS can boot (BIOS Boot Specification): `Floppy` and
+/// its like, or the number of another.
+pub fn put_boot_type<S: TextSink>(sink: &mut S, text: &str, kind: u16)
+    ensures { WritesInCalls S.puts sink.old (text.now ++ boot_type_text kind) sink.new }
+{
+    sink.put_str(text);
+    match kind {
+        1 => sink.put_str("Floppy"),
+        2 => sink.put_str("HD"),
+        3 => sink.put_str("CDROM"),
+        4 => sink.put_str("PCMCIA"),
+        5 => sink.put_str("USB"),
+        6 => sink.put_str("Network"),
+        other => put_hex(sink, "0x", u64::from(other)),
     }
 }
 

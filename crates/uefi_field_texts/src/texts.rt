@@ -1,18 +1,18 @@
 //! Texts of nodes as they are printed: nothing in them that a terminal obeys.
-#![tactic(auto, unfolding(crate::specs::FieldTexts::shown_byte, crate::specs::FieldTexts::shown_bytes, crate::specs::FieldTexts::shown_char, crate::specs::FieldTexts::shown_units, crate::specs::FieldTexts::utf16_text))]
+#![tactic(auto, using(crate::proofs::Puts::puts), unfolding(crate::specs::FieldTexts::shown_byte, crate::specs::FieldTexts::shown_bytes, crate::specs::FieldTexts::shown_char, crate::specs::FieldTexts::shown_units, crate::specs::FieldTexts::utf16_text))]
 
-ghost use Rattle.std.specs.Fmt.{WritesOnOk};
+ghost use Rattle.std.specs.Fmt.{WritesInCalls};
 ghost use Rattle.std.specs.List.{position_or_len};
 ghost use Rattle.std.specs.Char.Utf16.{is_high_surrogate, is_low_surrogate, lone_unit_char, surrogate_pair_char, utf16_lossy_chars};
 ghost use Rattle.std.specs.Option.{unwrap_or};
-ghost use Rattle.std.specs.Prelude.{◌≡◌, ◌+◌, ◌<◌, ◌≤◌, ◌∷◌, ◌&&◌, drop, length, slice_index, true};
-ghost use Rattle.uefi_field_texts.specs.FieldTexts.{after_nul, shown_byte, shown_char, until_nul};
+ghost use Rattle.std.specs.Prelude.{◌≡◌, ◌+◌, ◌<◌, ◌≤◌, ◌∷◌, ◌++◌, ◌&&◌, drop, length, slice_index, true};
+ghost use Rattle.uefi_field_texts.specs.FieldTexts.{after_nul, shown_byte, shown_bytes, shown_char, until_nul, utf16_text};
 ghost use Rattle.uefi_text.specs.UnitBytes.{units_of_bytes};
 ghost use Rattle.uefi_text.specs.Units.{is_nul};
 ghost use Rattle.uefi_text.specs.Views.{items_of};
 
-use crate::hexadecimal::write_two;
-use std::fmt;
+use crate::hexadecimal::{put_hex, put_two};
+use crate::sink::TextSink;
 use uefi_text::UnalignedSlice;
 
 /// The place of the first zero among bytes, or their number where none is zero.
@@ -46,49 +46,40 @@ pub fn after_nul(bytes: &[u8]) -> &[u8]
     &bytes[place + 1..]
 }
 
-/// Writes a byte of a text.
-fn write_byte<W: fmt::Write>(f: &mut fmt::Formatter<W>, byte: u8) -> fmt::Result
-    ensures { WritesOnOk W.write_str_gives f.old result (shown_byte byte) f.new }
+/// Puts a byte of a text.
+fn put_byte<S: TextSink>(sink: &mut S, byte: u8)
+    ensures { WritesInCalls S.puts sink.old (shown_byte byte) sink.new }
 {
     if byte >= 0x20 && byte < 0x7f {
-        return f.write_char(char::from(byte));
+        sink.put_char(char::from(byte));
+        return;
     }
-    f.write_str("\\x")?;
-    write_two(f, byte)
+    sink.put_str("\\x");
+    put_two(sink, byte);
 }
 
-/// A text of bytes, as of a URI.
-#[derive(Drop)]
-pub struct ByteText<'a>(
-    /// Its bytes.
-    pub &'a [u8],
-);
-
-/// Prints printable ASCII as it stands, and each other byte as `\x` and two digits.
-impl<'a> fmt::Display for ByteText<'a> {
-    ghost use Rattle.std.specs.Prelude.{Some};
-    ghost use Rattle.uefi_field_texts.specs.FieldTexts.{shown_bytes};
-
-    ghost output = { λ text. Some (shown_bytes text.0.now) };
-
-    fn fmt<W: fmt::Write>(&self, f: &mut fmt::Formatter<W>) -> fmt::Result {
-        let bytes = self.0;
-        for byte in bytes {
-            write_byte(f, *byte)?;
-        }
-        Ok(())
+/// Puts a text, and one of bytes, as of a URI: printable ASCII as it stands, and each other byte as `\x` and
+/// two digits.
+pub fn put_byte_text<S: TextSink>(sink: &mut S, text: &str, bytes: &[u8])
+    ensures { WritesInCalls S.puts sink.old (text.now ++ shown_bytes bytes.now) sink.new }
+{
+    sink.put_str(text);
+    for byte in bytes {
+        put_byte(sink, *byte);
     }
 }
 
-/// Writes a character of a text.
-fn write_shown<W: fmt::Write>(f: &mut fmt::Formatter<W>, character: char) -> fmt::Result
-    ensures { WritesOnOk W.write_str_gives f.old result (shown_char character) f.new }
+/// Puts a character of a text.
+fn put_shown<S: TextSink>(sink: &mut S, character: char)
+    ensures { WritesInCalls S.puts sink.old (shown_char character) sink.new }
 {
     let code = character as u32;
     if code < 0x20 || (code >= 0x7f && code < 0xa0) {
-        return write!(f, "\\u{{{code:X}}}");
+        put_hex(sink, "\\u{", u64::from(code));
+        sink.put_str("}");
+        return;
     }
-    f.write_char(character)
+    sink.put_char(character);
 }
 
 /// The unit at a place, or NUL after the last.
@@ -166,29 +157,17 @@ fn char_at(units: &UnalignedSlice<'_, u16>, place: usize) -> (char, usize)
     (lone_char(unit), 1)
 }
 
-/// The text that bytes encode in UTF-16, the low byte of each unit first, as of a file's name.
-#[derive(Drop)]
-pub struct Utf16Text<'a>(
-    /// Its bytes.
-    pub &'a [u8],
-);
-
-/// Prints the characters up to the NUL, or all where there is none: U+FFFD for each surrogate that has no
-/// partner (Unicode Standard, section 3.9), and each control character as `\u{HEX}`.
-impl<'a> fmt::Display for Utf16Text<'a> {
-    ghost use Rattle.std.specs.Prelude.{Some};
-    ghost use Rattle.uefi_field_texts.specs.FieldTexts.{utf16_text};
-
-    ghost output = { λ text. Some (utf16_text text.0.now) };
-
-    fn fmt<W: fmt::Write>(&self, f: &mut fmt::Formatter<W>) -> fmt::Result {
-        let units = name_units(self.0);
-        let mut place = 0;
-        while place < units.len() {
-            let (character, count) = char_at(&units, place);
-            write_shown(f, character)?;
-            place += count;
-        }
-        Ok(())
+/// Puts the text that bytes encode in UTF-16, the low byte of each unit first, as of a file's name: the
+/// characters up to the NUL, or all where there is none, U+FFFD for each surrogate that has no partner
+/// (Unicode Standard, section 3.9), and each control character as `\u{HEX}`.
+pub fn put_utf16_text<S: TextSink>(sink: &mut S, bytes: &[u8])
+    ensures { WritesInCalls S.puts sink.old (utf16_text bytes.now) sink.new }
+{
+    let units = name_units(bytes);
+    let mut place = 0;
+    while place < units.len() {
+        let (character, count) = char_at(&units, place);
+        put_shown(sink, character);
+        place += count;
     }
 }

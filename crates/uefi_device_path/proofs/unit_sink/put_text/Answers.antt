@@ -1,15 +1,20 @@
--- What is written is the text, and it is written to the same buffer.
-use Rattle.uefi_device_path.specs.Views.{printed_path}
-use Rattle.uefi_device_path.specs.declared.unit_sink.UnitSink.{UnitSink}
-use Rattle.uefi_device_path.proofs.Units.{text_keeps, text_sunk}
+-- What holds of each part that the buffer took holds of the whole.
+use Rattle.std.proofs.Common.{refl, ◌∙◌, [], ◌++◌}
+use Rattle.std.proofs.lemmas.Str.{IsUtf8-append, IsUtf8-nil}
+use Rattle.uefi_device_path.specs.PathUnits.{utf16_units}
+use Rattle.uefi_field_texts.proofs.Puts.{taken_whole}
+use Rattle.uefi_device_path.proofs.Units.{sunk_both, sunk_none}
 use Rattle.uefi_device_path.proofs.unit_sink.put_text.Goals as goal
 
-pub returns-in-Ok-clause-same_reference : goal.returns-in-Ok-clause-same_reference
-returns-in-Ok-clause-same_reference c = λ _.
-    text_keeps (λ (w : UnitSink). w.buffer.ghost_name) _ (λ p part q took. took.2)
-    _ _ (printed_path c.args.text) c.in-Ok.ensures.writes
-
-pub returns-in-Ok-clause-sunk : goal.returns-in-Ok-clause-sunk
-returns-in-Ok-clause-sunk c = λ _ start none.
-    text_sunk (λ (w : UnitSink). w.buffer.now) (λ (w : UnitSink). w.len) _ (λ p part q took. (took.0, took.1))
-    _ _ (printed_path c.args.text) start c.in-Ok.ensures.writes none
+pub returns : goal.returns
+returns c =
+    let whole = taken_whole _ (λ f. (refl, (IsUtf8-nil, λ units start h. sunk_none units start _ _ h)))
+    (λ f g h a b one two. (
+      two.0 ∙ one.0,
+      (
+        IsUtf8-append a b one.1.0 two.1.0,
+        λ units start sunk. sunk_both units a b start _ _ one.1.0 (two.1.1 (units ++ utf16_units a) start (one.1.1 units start sunk)),
+      ),
+    ))
+    _ _ _ c.put.ensures in
+    record { same_reference = whole.0; sunk = λ start none. whole.1.1 [] start none }

@@ -10,5 +10,5 @@ pub returns-clause-ok : goal.returns-clause-ok
 returns-clause-ok c =
     let units = utf16_units (printed_path c.args.text) in
     let old = c.args.buffer.now in
-    let all : c.in-Some.len ≡ length units = grind (arith, common_steps) in
-    nul_after units old c.fill_units.new.buffer c.in-Some.len all c.if-buffer-len.false c.in-Some.ensures
+    let all : c.fill_units-len.result ≡ length units = grind (arith, common_steps) in
+    nul_after units old c.fill_units-len.new.buffer c.fill_units-len.result all c.if-buffer-len.false c.fill_units-len.ensures
