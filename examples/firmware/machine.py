@@ -60,12 +60,22 @@ def variables_of(entries, order):
     return made + [(name, struct.pack(f"<{len(them)}H", *them)) for name, them in (("BootOrder", order[:2]), ("TestOrder", order))]
 
 
-def command(processor, disk, flash, entries, serial):
+def devices(folder):
+    """A network card, an NVMe disk, a USB stick, a CD and an SD card, all of them empty."""
+    for it in ("nvme", "stick", "cd", "sd"):
+        (folder / it).write_bytes(bytes(1 << 24))
+    drive = lambda name, *words: ["-drive", ",".join(["if=none", f"id={name}", "format=raw", f"file={folder / name}", *words])]
+    return ["-netdev", "user,id=net", "-device", "virtio-net-pci,netdev=net", *drive("nvme"), "-device", "nvme,drive=nvme,serial=1",
+            *drive("stick"), "-device", "qemu-xhci", "-device", "usb-storage,drive=stick", *drive("cd", "media=cdrom"),
+            "-device", "ide-cd,drive=cd,bus=ide.1", *drive("sd"), "-device", "sdhci-pci", "-device", "sd-card,drive=sd"]
+
+
+def command(processor, disk, flash, entries, serial, added=("-net", "none")):
     """The command that starts a machine, whose flash is written with these variables."""
     code, template = FIRMWARE[processor]
     with open(template, "rb") as file:
         flash.write_bytes(variables.with_variables(file.read(), entries))
-    return [*MACHINES[processor], "-accel", "tcg", "-m", "256", "-display", "none", "-serial", serial, "-net", "none", "-no-reboot",
+    return [*MACHINES[processor], "-accel", "tcg", "-m", "256", "-display", "none", "-serial", serial, *added, "-no-reboot",
             "-drive", f"if=pflash,format=raw,readonly=on,file={code}", "-drive", f"if=pflash,format=raw,file={flash}",
             "-drive", f"if=none,id=disk,format=raw,file={disk}", "-device", "virtio-blk-pci,drive=disk"]
 
@@ -73,10 +83,10 @@ def command(processor, disk, flash, entries, serial):
 class Machine:
     """Runs with the variables in its flash. `lines` is what its serial line printed, without what a terminal obeys."""
 
-    def __init__(self, processor, disk, flash, entries):
+    def __init__(self, processor, disk, flash, entries, *added):
         self.said, self.deadline = b"", time.monotonic() + 55
         self.process = subprocess.Popen(
-            [*command(processor, disk, flash, entries, "stdio"), "-monitor", "none"],
+            [*command(processor, disk, flash, entries, "stdio", *added), "-monitor", "none"],
             stdin=subprocess.PIPE, stdout=subprocess.PIPE, stderr=subprocess.STDOUT)
 
     def __enter__(self):
