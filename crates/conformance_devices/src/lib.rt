@@ -8,6 +8,8 @@ mod built_paths;
 #[cfg(test)]
 mod device_paths;
 #[cfg(test)]
+mod documents;
+#[cfg(test)]
 mod entries;
 #[cfg(test)]
 mod file_paths;
