@@ -719,6 +719,29 @@ fn paths(rt: HostRuntime) {
     }
 }
 
+/// Whether the instances of a path have these texts.
+fn instances_print(rt: &HostRuntime, bytes: &[u8], want: &[&str]) -> Result<bool, Fail> {
+    let path = DevicePath::from_bytes(bytes)?;
+    let mut count = 0;
+    for instance in path.instance_iter() {
+        let text = instance.display(DisplayOnly(true), AllowShortcuts(true));
+        if want.get(count) != Some(&text.to_string(rt.alloc())?.as_str()) {
+            return Ok(false);
+        }
+        count += 1;
+    }
+    Ok(count == want.len())
+}
+
+#[test]
+fn instances(rt: HostRuntime) -> Result<(), Fail> {
+    let terminals = b"\x02\x01\x0c\x00\xd0A\x01\x05\x00\x00\x00\x00\x03\x0a\x14\x00SG\xc1\xe0\xbe\
+        \xf9\xd2\x11\x9a\x0c\x00\x90'?\xc1M\x7f\x01\x04\x00\x03\x05\x06\x00\x01\x00\x7f\xff\x04\x00";
+    assert!(rt; instances_print(&rt, terminals, &["Serial(0x0)/VenPcAnsi()", "USB(0x1,0x0)"])?);
+    assert!(rt; instances_print(&rt, b"\x7f\x01\x04\x00\x7f\xff\x04\x00", &["", ""])?);
+    Ok(())
+}
+
 /// Whether a buffer of just the places that a text and its NUL need is filled with them, and one with a
 /// place less is refused, and holds the first units.
 fn fills_buffer(bytes: &[u8], display_only: bool, shortcuts: bool, want: &str) -> bool {
