@@ -1,6 +1,6 @@
 /*
- * Prints a boot entry of UEFI firmware: its number, whether it is active, its description, and the path of
- * each file that it names, judged.
+ * Prints a boot entry of UEFI firmware: its number, whether it is active, its description, its device paths, and the path
+ * of each file that it names, judged.
  *
  * usage: boot_entry FILE ..
  *
@@ -16,7 +16,7 @@
 #include "uefi_text.h"
 
 /* More than firmware keeps of one variable. */
-enum { MOST_BYTES = 65536, MOST_UNITS = MOST_BYTES / 2, MOST_UTF8 = 3 * MOST_UNITS + 1 };
+enum { MOST_BYTES = 65536, MOST_UNITS = MOST_BYTES / 2, MOST_UTF8 = 3 * MOST_UNITS + 1, MOST_SHOWN = 4 * MOST_BYTES };
 
 /* LOAD_OPTION_ACTIVE, and the attributes of a variable that is kept, and seen at boot and at run time. */
 enum { ACTIVE = 1, VARIABLE_ATTRIBUTES = 7 };
@@ -29,8 +29,8 @@ struct entry {
     size_t size;
 };
 
-/* A line of text, in units and in UTF-8. */
-static uint16_t units[MOST_UNITS];
+/* A line of text, in units and in UTF-8, and what is shown of a device path. */
+static uint16_t units[MOST_UNITS], shown[MOST_SHOWN];
 static uint8_t utf8[MOST_UTF8];
 
 /* What is malformed, where the reason says it. */
@@ -177,6 +177,21 @@ static void print_head(struct entry entry, size_t length)
     printf("\n");
 }
 
+/* Prints each device path of the list that begins at the offset `at` as people read it: all that end before `end`. */
+static void print_device_paths(struct entry entry, size_t at, size_t end)
+{
+    size_t size = 0, length = 0;
+    while (at <= end && uefi_device_path_check(entry.bytes + at, end - at, &size) == UEFI_OK) {
+        /* No byte of a path prints more than four units. */
+        if (uefi_device_path_text(entry.bytes + at, size, false, false, shown, MOST_SHOWN, &length) == UEFI_OK) {
+            printf("  device path: ");
+            print_units(shown, length);
+            printf("\n");
+        }
+        at += size;
+    }
+}
+
 /* Prints an entry whose bytes begin with its own attributes. */
 static bool print_entry(struct entry entry)
 {
@@ -189,6 +204,7 @@ static bool print_entry(struct entry entry)
     (void)uefi_packed_until_nul(entry.bytes + HEAD, entry.size - HEAD, &length);
     size_t list = HEAD + 2 * (length + 1), end = reason == UEFI_OK ? option.optional_start : fault;
     print_head(entry, length);
+    print_device_paths(entry, list, end);
     if (!print_nodes(entry, list, end))
         return false;
     return reason == UEFI_OK || refuse(fault, part_of(reason), reason_text(reason));

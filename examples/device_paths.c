@@ -5,6 +5,7 @@
  */
 #include <stdio.h>
 #include <string.h>
+#include <uchar.h>
 
 #include "uefi_text.h"
 
@@ -105,6 +106,60 @@ static void write_file_paths(void)
     expect(reason == UEFI_OK && place == 2 && is_path, "uefi_device_path_file_path", 7);
 }
 
+static void write_texts(void)
+{
+    static const char16_t text[] = u"Pci(0x1F,0x0)/\\a";
+    enum { LENGTH = sizeof text / sizeof text[0] - 1 };
+    static const struct row rows[] = {
+        {{0x7f, 0xff, 4, 0}, 4, UEFI_OK, 0},
+        {{0x7f, 1, 4, 0, 0x7f, 0xff, 4, 0}, 8, UEFI_OK, 1},
+        {{4, 4, 4, 0}, 4, UEFI_NO_END_NODE, 4},
+        {{0x7f, 2, 3, 0}, 4, UEFI_UNKNOWN_END, 1},
+    };
+    for (size_t i = 0; i < sizeof rows / sizeof rows[0]; i++) {
+        uint16_t buffer[3] = {7, 7, 7};
+        size_t place = 99;
+        uint32_t reason = uefi_device_path_text(rows[i].bytes, rows[i].size, false, false, buffer, 3, &place);
+        bool is_left = reason == UEFI_OK ? buffer[place] == 0 && buffer[2] == 7 : buffer[0] == 7 && buffer[1] == 7;
+        expect(reason == rows[i].reason && place == rows[i].place && is_left, "uefi_device_path_text", i);
+    }
+    /* Each room: refused up to the length of the text, and nothing is written after its end. */
+    for (size_t room = 0; room <= LENGTH + 2; room++) {
+        uint16_t buffer[LENGTH + 4];
+        size_t place = 99;
+        for (size_t i = 0; i < LENGTH + 4; i++)
+            buffer[i] = 7;
+        uint32_t reason = uefi_device_path_text(path, sizeof path, false, false, buffer, room, &place);
+        bool is_written = reason == UEFI_OK && memcmp(buffer, text, sizeof text) == 0;
+        bool is_well = room <= LENGTH ? reason == UEFI_BUFFER_TOO_SMALL : is_written;
+        expect(is_well && place == LENGTH && buffer[room <= LENGTH ? room : LENGTH + 1] == 7, "uefi_device_path_text", 4 + room);
+    }
+    /* A terminal by its shorter name and without, and a disc for display alone and to be read back. */
+    static const uint8_t terminal[] = {3,    10,   20,   0,    0x53, 0x47, 0xc1, 0xe0, 0xbe, 0xf9, 0xd2, 0x11,
+                                       0x9a, 0x0c, 0x00, 0x90, 0x27, 0x3f, 0xc1, 0x4d, 0x7f, 0xff, 4,    0};
+    static const uint8_t disc[] = {4, 2, 24, 0, 1, 0, 0, 0, 2, 0, 0, 0, 0, 0, 0, 0, 3, 0, 0, 0, 0, 0, 0, 0, 0x7f, 0xff, 4, 0};
+    static const struct {
+        const uint8_t *bytes;
+        size_t size;
+        bool display_only, allow_shortcuts;
+        const char16_t *text;
+        size_t length;
+    } forms[] = {
+        {terminal, sizeof terminal, false, true, u"VenPcAnsi()", 11},
+        {terminal, sizeof terminal, false, false, u"VenMsg(E0C14753-F9BE-11D2-9A0C-0090273FC14D)", 44},
+        {disc, sizeof disc, true, false, u"CDROM(0x1)", 10},
+        {disc, sizeof disc, false, false, u"CDROM(0x1,0x2,0x3)", 18},
+    };
+    for (size_t i = 0; i < sizeof forms / sizeof forms[0]; i++) {
+        uint16_t buffer[64];
+        size_t place = 99;
+        uint32_t reason = uefi_device_path_text(forms[i].bytes, forms[i].size, forms[i].display_only, forms[i].allow_shortcuts,
+                                                buffer, 64, &place);
+        bool is_text = memcmp(buffer, forms[i].text, 2 * forms[i].length + 2) == 0;
+        expect(reason == UEFI_OK && place == forms[i].length && is_text, "uefi_device_path_text", 100 + i);
+    }
+}
+
 static void read_options(void)
 {
     /* The first bytes of `option`, of which some are changed: how many, at which offset, to what. */
@@ -161,6 +216,7 @@ int main(void)
     check_paths();
     walk_nodes();
     write_file_paths();
+    write_texts();
     read_options();
     count_units();
     return failed;

@@ -10,6 +10,7 @@
  *   uefi_units_from_bytes makes units of it first.
  * - The memory has as many elements as the count or the room says, of at most PTRDIFF_MAX bytes. All of it is initialised,
  *   also a buffer, a size or a struct that a call only writes; with which values is up to the caller.
+ * - A uefi_bool that a call takes is 0 or 1.
  * - Nobody else writes what a call is given while it runs, and nobody reads what it writes: no interrupt, no event's
  *   function and no other processor.
  * - Nothing that a call writes overlaps anything else that it is given. What it only reads may overlap.
@@ -309,6 +310,19 @@ uefi_result UEFI_CALL uefi_device_path_next_node(const uefi_byte *bytes, uefi_si
  */
 uefi_result UEFI_CALL uefi_device_path_file_path(const uefi_byte *bytes, uefi_size byte_count,
                                                  uefi_unit *buffer, uefi_size room, uefi_size *place);
+
+/*
+ * Writes the device path that the bytes begin with as people read it (UEFI Specification 2.10, section 10.6.1) into the
+ * first places of `buffer`, in UTF-16, and a NUL: `display_only` for the shorter form that no other call reads back, and
+ * `allow_shortcuts` for nodes by shorter names. UEFI_OK, and what stands after the NUL stays; or as uefi_device_path_check
+ * says, where the bytes begin with no device path, with its `*place`, and the buffer stays unchanged; or
+ * UEFI_BUFFER_TOO_SMALL, exactly where `room` is no more than the length of the text, and it is not specified what the
+ * buffer then holds. At UEFI_OK and UEFI_BUFFER_TOO_SMALL `*place` becomes that length: how many units the text has, its NUL
+ * not counted. No unit is a control character. A character above U+FFFF is two units.
+ */
+uefi_result UEFI_CALL uefi_device_path_text(const uefi_byte *bytes, uefi_size byte_count,
+                                            uefi_bool display_only, uefi_bool allow_shortcuts,
+                                            uefi_unit *buffer, uefi_size room, uefi_size *place);
 
 /* What a load option says, and where its parts stand in its bytes, one after the other. */
 struct uefi_load_option {

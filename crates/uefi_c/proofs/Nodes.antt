@@ -1,6 +1,6 @@
 -- A node of a device path, by the place of its data in bytes, and the nodes that follow it.
-use Rattle.std.proofs.Common.{◌≡◌, ◌≢◌, ℕ, zero, suc, List, [], ◌∷◌, ◌+◌, ◌-◌, ◌%◌, ◌/◌, ◌++◌, Some, ap, append_assoc, arith, drop, length, length-drop, refl, sym, take, ◌∙◌}
-use Rattle.std.specs.Prelude.{All, slice_range}
+use Rattle.std.proofs.Common.{◌≡◌, ℕ, List, [], ◌∷◌, ◌+◌, ◌-◌, ◌%◌, ◌/◌, ◌++◌, Some, ap, append_assoc, arith, drop, length, length-drop, refl, sym, take, ◌∙◌}
+use Rattle.std.specs.Prelude.{slice_range}
 use Rattle.std.proofs.Math.Seq.{drop-append_seam, take-append_seam}
 use Rattle.std.proofs.lemmas.List.{drop-drop, take_all}
 use Rattle.std.proofs.lemmas.List.Elements.{All-head, All-tail}
@@ -8,7 +8,7 @@ use Rattle.uefi_device_nodes.specs.NodeFaults.{fault_place, node_fault}
 use Rattle.uefi_device_nodes.specs.Nodes.{IsInner, Node, end_entire, node_bytes, node_length, node_with}
 use Rattle.uefi_device_nodes.specs.declared.errors.NodeError.{NodeError}
 use Rattle.uefi_device_path.specs.Laws.{NeverBoth}
-use Rattle.uefi_device_path.specs.Paths.{BeginWith, BeginWithPath, joined}
+use Rattle.uefi_device_path.specs.Paths.{BeginWithPath, joined}
 
 -- what is left of bytes from a place on
 pub left_from : (bytes rest : List ℕ) (place : ℕ) → rest ≡ slice_range bytes place (length bytes) → rest ≡ drop place bytes

@@ -1,9 +1,13 @@
--- What places in bytes show: a node of a device path, and the parts of a load option.
-use Rattle.std.specs.Prelude.{◌≡◌, ℕ, ◌+◌, ◌*◌, List, ◌∷◌, length, slice_range}
+-- What bytes show: a node of a device path, its text, and the parts of a load option.
+use Rattle.std.specs.Prelude.{◌≡◌, ℕ, Bool, ◌+◌, ◌*◌, List, ◌∷◌, length, slice_range}
 use Rattle.uefi_device_nodes.specs.Nodes.{Node, node_with}
 use Rattle.uefi_device_path.specs.LoadOptions.{Entry}
 use Rattle.uefi_device_path.specs.PathLists.{list_bytes}
 use Rattle.uefi_device_path.specs.Paths.{path_bytes}
+use Rattle.uefi_device_path.specs.PathTexts.{path_text}
+use Rattle.uefi_device_path.specs.PathUnits.{utf16_units}
+use Rattle.uefi_device_path.specs.declared.errors.TextWriteError.{TextWriteError}
+use Rattle.uefi_device_path.specs.declared.errors.TextWriteError.TheVariants.{BufferTooSmall}
 use Rattle.uefi_c.specs.declared.device_paths.DeviceNode.{DeviceNode}
 use Rattle.uefi_c.specs.declared.load_options.LoadOptionParts.{LoadOptionParts}
 
@@ -11,6 +15,14 @@ use Rattle.uefi_c.specs.declared.load_options.LoadOptionParts.{LoadOptionParts}
 abbrev pub node_in : List ℕ → DeviceNode → Node
 node_in bytes node =
     node_with node.device_type node.sub_type (slice_range bytes node.start (node.start + node.length))
+
+-- the text of a device path of these nodes, in UTF-16
+abbrev pub text_units : Bool → Bool → List Node → List ℕ
+text_units display_only shortcuts nodes = utf16_units (path_text display_only shortcuts nodes)
+
+-- how many units a text has with its NUL, which a buffer had no places for
+abbrev pub needed_units : TextWriteError → ℕ
+needed_units (BufferTooSmall needed) = needed
 
 -- where the parts of a load option stand in its bytes, one after the other, and how long they are
 pub record HasParts (entry : Entry) (parts : LoadOptionParts) : Type 0 where

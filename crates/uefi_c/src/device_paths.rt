@@ -1,5 +1,6 @@
-//! Device paths in bytes that C holds: whether bytes begin with one, its nodes, and the file that it names.
-ghost use Rattle.std.specs.Prelude.{◌≡◌, ◌≢◌, ◌↔◌, ℕ, ◌+◌, ◌<◌, ◌≤◌, ◌++◌, ◌∷◌, [], All, List, None, Some, drop, length};
+//! Device paths in bytes that C holds: whether bytes begin with one, its nodes, the file that it names, and
+//! its text.
+ghost use Rattle.std.specs.Prelude.{◌≡◌, ◌≢◌, ◌↔◌, ℕ, ◌+◌, ◌-◌, ◌^◌, ◌<◌, ◌≤◌, ◌++◌, ◌∷◌, [], All, List, None, Some, drop, length, min};
 ghost use Rattle.uefi_text.specs.UnalignedCStr16.{with_prefix};
 ghost use Rattle.uefi_text.specs.Units.{nul_terminated};
 ghost use Rattle.uefi_device_nodes.specs.NodeFaults.{fault_place, node_fault};
@@ -10,12 +11,15 @@ ghost use Rattle.uefi_device_path.specs.FilePaths.{FileRefusedFor, IsReadable, f
 ghost use Rattle.uefi_device_path.specs.Paths.{BeginWithPath, path_bytes};
 ghost use Rattle.uefi_device_path.specs.declared.errors.DevicePathError.{DevicePathError};
 ghost use Rattle.uefi_device_path.specs.declared.errors.FilePathError.{FilePathError};
-ghost use Rattle.uefi_c.specs.DevicePaths.{node_in};
+ghost use Rattle.uefi_c.specs.DevicePaths.{needed_units, node_in, text_units};
 ghost use Rattle.uefi_c.specs.Reasons.{name_reason, node_reason};
 
 use crate::reasons::{BUFFER_TOO_SMALL, END_OF_PATH, NO_END_NODE, OK, name_reason, node_reason};
 use uefi_device_nodes::node::fault_place;
-use uefi_device_path::{DevicePath, DevicePathNode, FilePathWriteError, laws};
+use uefi_device_path::{
+    AllowShortcuts, DevicePath, DevicePathNode, DisplayOnly, FilePathWriteError, TextWriteError,
+    laws,
+};
 
 /// Whether bytes begin with a device path: `OK`, or why not.
 ///
@@ -177,6 +181,70 @@ pub extern "C" fn uefi_device_path_file_path(
         Err(FilePathWriteError::Name(error)) => {
             *place = error.offset;
             name_reason(error.cause)
+        }
+    }
+}
+
+/// How many units a text has with its NUL, which a buffer had no places for.
+fn needed_units(error: TextWriteError) -> usize
+    ensures { result ≡ needed_units error }
+{
+    match error {
+        TextWriteError::BufferTooSmall(needed) => needed,
+    }
+}
+
+/// Writes the device path that bytes begin with as people read it, which [`DevicePath::write_text`] does,
+/// into the first places of a buffer as UTF-16, and a NUL.
+///
+/// Bytes that begin with no device path are refused as by [`uefi_device_path_check`], and the buffer
+/// stays unchanged. Else `place` becomes how many units the text has, its NUL not counted, or 2^64 - 2
+/// where it has more, and a buffer of no more places, and no other, is `BUFFER_TOO_SMALL`: what it then
+/// holds is not specified. What stands after the NUL stays. Two passes over the nodes; takes no memory
+/// (UEFI Specification 2.10, section 10.6.1).
+#[unsafe(no_mangle)]
+pub extern "C" fn uefi_device_path_text(
+    bytes: &[u8],
+    display_only: bool,
+    allow_shortcuts: bool,
+    buffer: &mut [u16],
+    place: &mut usize,
+) -> u32
+    ensures no_path { (error : DevicePathError) → RefusedFor bytes.now error
+        → (result ≡ node_reason error.cause) × (place.new ≡ error.offset) × (buffer.new ≡ buffer.old) }
+    ensures path { result ≡ OK → (nodes : List Node) × BeginWithPath bytes.now nodes }
+    ensures ok { result ≡ OK → (nodes : List Node) → BeginWithPath bytes.now nodes
+        → (place.new ≡ length (text_units display_only allow_shortcuts nodes))
+        × (length (text_units display_only allow_shortcuts nodes) < length buffer.old)
+        × (buffer.new ≡ with_prefix
+        (nul_terminated (text_units display_only allow_shortcuts nodes)) buffer.old) }
+    ensures small { result ≡ BUFFER_TOO_SMALL → (nodes : List Node) → BeginWithPath bytes.now nodes
+        → (place.new ≡ min (length (text_units display_only allow_shortcuts nodes)) (2 ^ 64 - 2))
+        × (length buffer.old ≤ length (text_units display_only allow_shortcuts nodes)) }
+    ensures only { (nodes : List Node) → BeginWithPath bytes.now nodes
+        → result ≢ OK → result ≡ BUFFER_TOO_SMALL }
+{
+    // The law does nothing: it says that no path is refused.
+    laws::accepted_paths();
+    let path = match DevicePath::from_bytes(bytes) {
+        Ok(path) => path,
+        Err(error) => {
+            *place = error.offset;
+            return node_reason(error.cause);
+        }
+    };
+    match path.write_text(
+        buffer,
+        DisplayOnly(display_only),
+        AllowShortcuts(allow_shortcuts),
+    ) {
+        Ok(written) => {
+            *place = written - 1;
+            OK
+        }
+        Err(error) => {
+            *place = needed_units(error) - 1;
+            BUFFER_TOO_SMALL
         }
     }
 }

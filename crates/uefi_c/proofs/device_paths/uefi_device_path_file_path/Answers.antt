@@ -1,5 +1,5 @@
 -- What holds of the path that was read holds of each that the bytes begin with, since there is no other.
-use Rattle.std.proofs.Common.{◌≡◌, ◌+◌, ◌-◌, ◌<◌, ◌≤◌, ◌∙◌, List, ap, arith, length, refl, subst, sym}
+use Rattle.std.proofs.Common.{◌≡◌, ◌-◌, ◌<◌, ◌≤◌, ◌∙◌, List, ap, arith, length, refl, subst, sym}
 use Rattle.std.specs.Prelude.{All}
 use Rattle.std.proofs.lemmas.Grind.{common_steps}
 use Rattle.uefi_text.specs.UnalignedCStr16.{with_prefix}
@@ -10,7 +10,7 @@ use Rattle.uefi_device_path.specs.FilePaths.{FileRefusedFor, IsReadable, file_pa
 use Rattle.uefi_device_path.specs.Views.{nodes_of}
 use Rattle.uefi_device_path.specs.declared.errors.FilePathWriteError.{FilePathWriteError}
 use Rattle.uefi_device_path.specs.declared.errors.FilePathWriteError.TheVariants.{BufferTooSmall, Name}
-use Rattle.uefi_c.specs.Reasons.{name_reason, node_reason}
+use Rattle.uefi_c.specs.Reasons.{node_reason}
 use Rattle.uefi_c.proofs.Tails.{written_with_nul}
 use Rattle.uefi_c.proofs.device_paths.uefi_device_path_file_path.Goals as goal
 

@@ -1,5 +1,5 @@
 -- The node stands at the place, and what follows it at the next one. A path that begins there begins with it.
-use Rattle.std.proofs.Common.{◌≡◌, ◌≢◌, ◌+◌, ◌<◌, ◌++◌, ◌∙◌, Some, ap, arith, drop, length, length-drop, rules, sym}
+use Rattle.std.proofs.Common.{◌≡◌, ◌+◌, ◌<◌, ◌++◌, ◌∙◌, Some, ap, arith, drop, length, length-drop, rules, sym}
 use Rattle.std.proofs.lemmas.Grind.{common_steps}
 use Rattle.std.proofs.lemmas.List.{nil_from_length}
 use Rattle.uefi_device_nodes.specs.NodeFaults.{node_fault}

@@ -1,6 +1,5 @@
 -- No part ends beyond the end of the load option.
-use Rattle.std.proofs.Common.{◌≡◌, ◌+◌, ◌*◌, ◌-◌, ◌^◌, ◌<◌, arith, length, refl}
-use Rattle.uefi_device_path.specs.LoadOptions.{entry_bytes}
+use Rattle.std.proofs.Common.{arith, refl}
 use Rattle.uefi_device_path.specs.PathLists.{list_bytes}
 use Rattle.uefi_device_path.specs.Views.{entry_of}
 use Rattle.uefi_c.proofs.Options.{parts_fit}
