@@ -66,7 +66,7 @@ typedef int32_t uefi_order;
 #define UEFI_TEXT_VERSION_MAJOR 0
 #define UEFI_TEXT_VERSION_MINOR 3
 #define UEFI_TEXT_VERSION_PATCH 0
-#define UEFI_TEXT_VERSION "0.3.0"
+#define UEFI_TEXT_VERSION "0.4.0"
 
 #ifdef __cplusplus
 extern "C" {

@@ -20,6 +20,8 @@ mod load_options;
 #[cfg(test)]
 mod out_of_memory;
 #[cfg(test)]
+mod path_texts;
+#[cfg(test)]
 mod texts;
 #[cfg(test)]
 mod typed_nodes;

@@ -16,9 +16,8 @@ use crate::errors::{FilePathCause, FilePathError, FilePathWriteError};
 use crate::file_path::file_path_in;
 use crate::file_path_buffer::write_file_path_in;
 use crate::node_iterator::DevicePathNodeIterator;
-use crate::path_text::PathText;
 use std::alloc::Allocator;
-use uefi_device_nodes::{AllowShortcuts, DevicePathNode, DisplayOnly};
+use uefi_device_nodes::DevicePathNode;
 use uefi_path::PathBuf;
 use uefi_text::CStr16;
 
@@ -26,7 +25,7 @@ use uefi_text::CStr16;
 /// `instance_nodes` of it.
 #[derive(Clone, Copy)]
 pub struct DevicePathInstance<'a> {
-    bytes: &'a [u8],
+    pub(crate) bytes: &'a [u8],
     pub ghost are_nodes: { AreNodes bytes.now },
 }
 
@@ -59,8 +58,7 @@ pub(crate) fn cut_instance(bytes: &[u8]) -> (&[u8], Option<&[u8]>)
 
 impl<'a> DevicePathInstance<'a> {
     ghost use Rattle.uefi_device_nodes.specs.NodeViews.{node_of};
-    ghost use Rattle.uefi_device_path.specs.PathTexts.{path_text};
-    ghost use Rattle.uefi_device_path.specs.Views.{instance_nodes, nodes_left, printed_path};
+    ghost use Rattle.uefi_device_path.specs.Views.{instance_nodes, nodes_left};
     ghost use Rattle.uefi_text.specs.Runs.{GivesEach};
 
     /// The bytes of the nodes.
@@ -110,20 +108,6 @@ impl<'a> DevicePathInstance<'a> {
             WriteRefusedFor (instance_nodes self.now) (length buffer.old) error) }
     {
         write_file_path_in(self.bytes, buffer)
-    }
-
-    /// What is printed of the instance, for a `{}` of a format (UEFI Specification 2.10, section 10.6.1):
-    /// the texts of its nodes, which [`DevicePathNode::display`] gives, with a slash between each two. Takes
-    /// no memory.
-    pub fn display(
-        &self,
-        display_only: DisplayOnly,
-        allow_shortcuts: AllowShortcuts,
-    ) -> PathText<'a>
-        ensures { printed_path result
-            ≡ path_text display_only.0 allow_shortcuts.0 (instance_nodes self.now) }
-    {
-        PathText::of(self.bytes, display_only, allow_shortcuts)
     }
 
     /// The file path, written to the start of a buffer and borrowed from there as a string.

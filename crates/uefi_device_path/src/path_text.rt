@@ -1,5 +1,5 @@
 //! Device paths as people read them.
-#![tactic(auto, using(uefi_field_texts::proofs::Puts::puts), unfolding(crate::specs::PathTexts::instance_text, crate::specs::Views::printed_path, crate::specs::Views::nodes_of))]
+#![tactic(auto, using(uefi_field_texts::proofs::Puts::puts), unfolding(crate::specs::PathTexts::instance_text, crate::specs::Views::printed_path, crate::specs::Views::nodes_of, crate::specs::Views::instance_nodes))]
 
 ghost use Rattle.std.specs.Fmt.{WritesInCalls};
 ghost use Rattle.std.specs.Prelude.{◌≡◌, ◌≢◌, ◌<◌, ◌∷◌, length};
@@ -7,7 +7,7 @@ ghost use Rattle.uefi_device_nodes.specs.NodeViews.{node_of};
 ghost use Rattle.uefi_device_path.specs.Paths.{AreNodes, nodes_in};
 ghost use Rattle.uefi_device_path.specs.PathTexts.{instance_text, path_text};
 
-use crate::instance::cut_instance;
+use crate::instance::{DevicePathInstance, cut_instance};
 use std::fmt;
 use uefi_device_nodes::{AllowShortcuts, DevicePathNode, DisplayOnly};
 use uefi_field_texts::sink::{Printed, TextSink, print};
@@ -96,6 +96,24 @@ impl<'a> PathText<'a> {
             display_only,
             allow_shortcuts,
         }
+    }
+}
+
+impl<'a> DevicePathInstance<'a> {
+    ghost use Rattle.uefi_device_path.specs.Views.{instance_nodes, printed_path};
+
+    /// What is printed of the instance, for a `{}` of a format (UEFI Specification 2.10, section 10.6.1):
+    /// the texts of its nodes, which [`DevicePathNode::display`] gives, with a slash between each two. Takes
+    /// no memory.
+    pub fn display(
+        &self,
+        display_only: DisplayOnly,
+        allow_shortcuts: AllowShortcuts,
+    ) -> PathText<'a>
+        ensures { printed_path result
+            ≡ path_text display_only.0 allow_shortcuts.0 (instance_nodes self.now) }
+    {
+        PathText::of(self.bytes, display_only, allow_shortcuts)
     }
 }
 
