@@ -9,7 +9,6 @@ usage: samples.py COUNT FILE    writes these, large ones, and COUNT that are mad
 import random
 import struct
 import sys
-import uuid
 
 END, END_INSTANCE = bytes([0x7F, 0xFF, 4, 0]), bytes([0x7F, 1, 4, 0])
 # The disk of the test: the signature in its first sector, and the first sector and the count of its one partition.
@@ -38,46 +37,6 @@ def entry(description, nodes, attributes=1, data=b"", length=None):
 
 
 DISK, OTHER_DISK, ODD = hard_drive(SIGNATURE), hard_drive(SIGNATURE + 1), node(4, 3, bytes(17))
-
-
-def guid(string):
-    return uuid.UUID(string).bytes_le
-
-
-GUID = guid("12345678-9abc-def0-1234-56789abcdef0")
-# What a vendor's node of messages has a name for, and the types of RAM disks.
-TERMINALS = [guid(it) for it in ("e0c14753-f9be-11d2-9a0c-0090273fc14d", "dfa66065-b419-11d3-9a2d-0090273fc14d",
-                                 "7baec70b-57e0-4c76-8e87-2f9e28088343", "ad15a0d6-8bec-4acf-a073-d01de77e2d88",
-                                 "eba4e8d2-3858-41ec-a281-2647ba9660d0")]
-RAM_DISKS = [guid(it) for it in ("77ab535a-45fc-624b-5560-f7b281d1f96e", "3d5abd30-4175-87ce-6d64-d2ade523c4bb",
-                                 "5cea02c9-4d07-69d3-269f-4496fbe096f9", "08018188-42cd-bb48-100f-5387d53ded3d")]
-
-
-def of_each_kind():
-    """Nodes of each kind that prints in a form of its own, in turn with numbers that are small and large."""
-    acpi = lambda hid, uid: node(2, 1, struct.pack("<II", hid, uid))
-    expanded = lambda hid, uid, cid, texts: node(2, 2, struct.pack("<III", hid, uid, cid) + texts)
-    mac = lambda kind: node(3, 11, bytes(range(0xF0, 0xF6)) + bytes(26) + bytes([kind]))
-    ipv4 = lambda protocol, origin: node(3, 12, struct.pack("<4s4sHHHB4s4s", b"\x0a\0\2\x0f", b"\x0a\0\2\2", 1, 2, protocol, origin,
-                                                            b"\x0a\0\2\1", b"\xff\xff\xff\0"))
-    ipv6 = lambda protocol, origin: node(3, 13, struct.pack("<16s16sHHHBB16s", b"\xfe\x80" + bytes(13) + b"\1", bytes(range(16)), 1, 2,
-                                                            protocol, origin, 64, b"\xfe\x80" + bytes(13) + b"\2"))
-    drive = lambda signature, kind: node(4, 1, struct.pack("<IQQ16sBB", 128, 0x800, 0x1FFFFF000, signature, kind, kind))
-    boot = lambda kind: node(5, 1, struct.pack("<HH", kind, 0x1F) + b"a disk\0")
-    return [
-        node(1, 1, b"\2\x1f"), node(1, 1, b"\0\0"), node(1, 4, GUID), node(1, 4, GUID + b"\0\xab\x10"),
-        *[acpi(it << 16 | 0x41D0, 1 << 4 * number) for number, it in enumerate([0xA03, 0xA08, 0x604, 0x301, 0x501, 0x401, 0xC0F, 1])],
-        acpi(0xA1234, 3), expanded(0x0A0841D0, 0x77, 0x0A0341D0, b"ACPI0004\0U1\0C\0"),
-        node(3, 5, b"\3\0"), node(3, 5, b"\xff\x10"), *[node(3, 10, it) for it in [GUID, *TERMINALS]], node(3, 10, GUID + b"\1"),
-        mac(0), mac(1), mac(6), *[ipv4(protocol, origin) for protocol, origin in [(6, 0), (17, 1), (0x1234, 1)]],
-        *[ipv6(protocol, origin) for protocol, origin in [(6, 0), (17, 1), (0x1234, 2)]],
-        node(3, 18, struct.pack("<HHH", 2, 0xFFFF, 0)), node(3, 23, struct.pack("<I", 1) + bytes(range(8))),
-        node(3, 24, b"http://192.0.2.1/boot.efi?a=%20"), node(3, 24, b""), node(3, 26, b"\2"), node(3, 29, b"\0"),
-        drive(GUID, 2), drive(struct.pack("<I12x", 0xAB), 1), drive(GUID, 7), node(4, 2, struct.pack("<IQQ", 1, 16, 1 << 40)),
-        node(4, 3, GUID), node(4, 3, GUID + b"\xff"), path("\\EFI\\BOOT\\BOOTX64.EFI"), path("a b,c/d (1)"), node(4, 6, GUID), node(4, 7, GUID),
-        *[node(4, 9, struct.pack("<QQ16sH", 0x1000, 0x1FFF, it, 3)) for it in [*RAM_DISKS, GUID]],
-        *[boot(kind) for kind in range(1, 8)], node(6, 1, b"\0\xff"), node(6, 1, b""),
-    ]
 
 
 def named():
