@@ -1,6 +1,6 @@
 /*
  * A boot menu: an EFI application that shows the entries of BootOrder, says for each file that they name whether it is
- * there, and starts the one that is chosen. What a variable holds is taken for anything: see reader.h.
+ * there, and where the one lies that is chosen, and starts it. What a variable holds is taken for anything: see reader.h.
  *
  * Up and down choose, Enter starts, q ends.
  */
@@ -10,7 +10,7 @@
 
 _Static_assert(sizeof(CHAR16) == 2 && sizeof(UINTN) == sizeof(size_t), "the types of UEFI are not those of the reader");
 
-enum { MOST_ENTRIES = 256, MOST_TARGET = 2048, NODE_HEADER = 4, END = 0x7f };
+enum { MOST_ENTRIES = 256, MOST_TARGET = 2048, MOST_TEXT = 4096, NODE_HEADER = 4, END = 0x7f };
 enum { KEY_UP = 1, KEY_DOWN = 2, MEDIA = 4, FILE_PATH = 4 };
 /* What a boot manager gives an entry to start, in seconds, and a number for it that is not the firmware's. */
 enum { WATCHDOG_SECONDS = 300, WATCHDOG_CODE = 0x10000 };
@@ -257,6 +257,20 @@ static void show_entries(void)
     }
 }
 
+/* Prints where an entry lies: its first device path as people read it. */
+static void put_place(uint16_t number)
+{
+    static uint16_t text[MOST_TEXT];
+    struct uefi_load_option option = {0};
+    size_t size = 0, place = 0;
+    if (read_entry(number, &size) != EFI_SUCCESS || uefi_load_option_read(variable, size, &option, &place) != UEFI_OK ||
+        uefi_device_path_text(variable + option.list_start, option.path_length, false, false, text, MOST_TEXT, &place) != UEFI_OK)
+        return;
+    lines_put("    ");
+    lines_put_units(text, place);
+    lines_put("\n");
+}
+
 static void put_choice(size_t chosen)
 {
     if (entry_count == 0)
@@ -264,6 +278,7 @@ static void put_choice(size_t chosen)
     lines_put("> ");
     lines_put_name(entries[chosen].number);
     lines_put(entries[chosen].can_start ? "\n" : ", which cannot be started\n");
+    put_place(entries[chosen].number);
 }
 
 static void let_choose(void)
