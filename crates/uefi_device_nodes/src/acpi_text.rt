@@ -2,7 +2,7 @@
 #![tactic(auto, using(uefi_field_texts::proofs::Puts::puts), unfolding(crate::specs::NodeTexts::acpi_start))]
 
 ghost use Rattle.std.specs.Fmt.{WritesInCalls};
-ghost use Rattle.uefi_device_nodes.specs.NodeTexts.{acpi_start, expanded_text};
+ghost use Rattle.uefi_device_nodes.specs.NodeTexts.{expanded_text};
 ghost use Rattle.uefi_device_nodes.specs.NodeViews.{data_of};
 
 use crate::acpi::{Acpi, AcpiKind, Expanded, ExpandedKind};
@@ -13,18 +13,6 @@ use uefi_field_texts::names::put_pnp_start;
 use uefi_field_texts::sink::TextSink;
 use uefi_field_texts::texts::put_byte_text;
 
-/// Puts what stands before the number of a device.
-fn put_start<S: TextSink>(sink: &mut S, node: &Acpi<'_>)
-    ensures { WritesInCalls S.puts sink.old (acpi_start (data_of node.now)) sink.new }
-{
-    if node.number::<u16>(0) == 0x41d0 {
-        put_pnp_start(sink, node.number(2));
-        return;
-    }
-    put_back(sink, "Acpi(0x", node.part(0, 4));
-    sink.put_str(",");
-}
-
 /// The name of a device that has one, as `PciRoot(0xUID)`, else `Acpi(PNPxxxx,0xUID)` where its hardware ID is
 /// one of EISA under PNP, else `Acpi(0xHID,0xUID)`, with eight digits.
 impl PrintedKind for AcpiKind {
@@ -33,8 +21,14 @@ impl PrintedKind for AcpiKind {
     ghost printed = { acpi_text };
 
     fn put<S: TextSink>(node: &Acpi<'_>, sink: &mut S) {
-        put_start(sink, node);
-        put_hex(sink, "0x", u64::from(node.uid()));
+        if node.number::<u16>(0) == 0x41d0 {
+            put_pnp_start(sink, node.number(2));
+            put_hex(sink, "0x", u64::from(node.uid()));
+            sink.put_str(")");
+            return;
+        }
+        put_back(sink, "Acpi(0x", node.part(0, 4));
+        put_hex(sink, ",0x", u64::from(node.uid()));
         sink.put_str(")");
     }
 }

@@ -3,7 +3,7 @@
 
 ghost use Rattle.std.specs.Fmt.{WritesInCalls};
 ghost use Rattle.std.specs.Prelude.{◌≡◌};
-ghost use Rattle.uefi_device_nodes.specs.NodeTexts.{acpi_node_text, boot_node_text, hardware_node_text, ip_node_text, media_node_text, messaging_node_text, node_text, unknown_text, volume_node_text};
+ghost use Rattle.uefi_device_nodes.specs.NodeTexts.{acpi_node_text, hardware_node_text, ip_node_text, media_node_text, messaging_node_text, node_text, unknown_text};
 ghost use Rattle.uefi_device_nodes.specs.NodeViews.{node_of};
 
 use crate::acpi::{Acpi, Expanded};
@@ -128,11 +128,15 @@ fn put_messaging<S: TextSink>(
     put_ip(sink, node, display_only);
 }
 
-/// Puts a node of type Media that is no file of its own.
-fn put_volume<S: TextSink>(sink: &mut S, node: DevicePathNode<'_>, display_only: bool)
+/// Puts any node of type Media.
+fn put_media<S: TextSink>(sink: &mut S, node: DevicePathNode<'_>, display_only: bool)
     ensures { WritesInCalls S.puts sink.old
-        (volume_node_text display_only (node_of node.entry)) sink.new }
+        (media_node_text display_only (node_of node.entry)) sink.new }
 {
+    if let Ok(file) = FilePath::from_node(node) {
+        file.put(sink);
+        return;
+    }
     if let Ok(drive) = HardDrive::from_node(node) {
         drive.put(sink);
         return;
@@ -155,30 +159,6 @@ fn put_volume<S: TextSink>(sink: &mut S, node: DevicePathNode<'_>, display_only:
     }
     if let Ok(disk) = RamDisk::from_node(node) {
         disk.put(sink);
-        return;
-    }
-    put_unknown(sink, node);
-}
-
-/// Puts any node of type Media.
-fn put_media<S: TextSink>(sink: &mut S, node: DevicePathNode<'_>, display_only: bool)
-    ensures { WritesInCalls S.puts sink.old
-        (media_node_text display_only (node_of node.entry)) sink.new }
-{
-    if let Ok(file) = FilePath::from_node(node) {
-        file.put(sink);
-        return;
-    }
-    put_volume(sink, node, display_only);
-}
-
-/// Puts a node of type BIOS Boot Specification.
-fn put_boot_node<S: TextSink>(sink: &mut S, node: DevicePathNode<'_>, display_only: bool)
-    ensures { WritesInCalls S.puts sink.old
-        (boot_node_text display_only (node_of node.entry)) sink.new }
-{
-    if let Ok(device) = BootSpecification::from_node(node) {
-        put_boot(sink, &device, display_only);
         return;
     }
     put_unknown(sink, node);
@@ -227,7 +207,10 @@ impl<'a> Printed for NodeText<'a> {
                 put_messaging(sink, self.node, self.display_only, self.allow_shortcuts)
             }
             DeviceType::MEDIA => put_media(sink, self.node, self.display_only),
-            DeviceType::BIOS_BOOT_SPEC => put_boot_node(sink, self.node, self.display_only),
+            DeviceType::BIOS_BOOT_SPEC => match BootSpecification::from_node(self.node) {
+                Ok(device) => put_boot(sink, &device, self.display_only),
+                Err(_) => put_unknown(sink, self.node),
+            },
             _ => put_unknown(sink, self.node),
         }
     }
