@@ -13,8 +13,8 @@ use uefi_field_texts::names::put_pnp_start;
 use uefi_field_texts::sink::TextSink;
 use uefi_field_texts::texts::put_byte_text;
 
-/// The name of a device that has one, as `PciRoot(0xUID)`, else `Acpi(PNPxxxx,0xUID)` where its hardware ID is
-/// one of EISA under PNP, else `Acpi(0xHID,0xUID)`, with eight digits.
+/// The name of a device that has one, as `PciRoot(0xUID)`, else `Acpi(PNPxxxx,0xUID)` where its hardware ID
+/// is one of EISA under PNP, else `Acpi(0xHID,0xUID)`, with eight digits.
 impl PrintedKind for AcpiKind {
     ghost use Rattle.uefi_device_nodes.specs.NodeTexts.{acpi_text};
 

@@ -8,8 +8,8 @@ ghost use Rattle.uefi_field_texts.specs.FieldTexts.{guid_text};
 use crate::hexadecimal::{put_back, put_bytes};
 use crate::sink::TextSink;
 
-/// Puts a text, and a GUID (UEFI Specification 2.10, appendix A): 8, 4, 4, 4 and 12 digits with dashes between
-/// them. The first three fields are numbers that lie with their low byte first.
+/// Puts a text, and a GUID (UEFI Specification 2.10, appendix A): 8, 4, 4, 4 and 12 digits with dashes
+/// between them. The first three fields are numbers that lie with their low byte first.
 pub fn put_guid<S: TextSink>(sink: &mut S, text: &str, bytes: &[u8])
     requires { length bytes.now ≡ 16 }
     ensures { WritesInCalls S.puts sink.old (text.now ++ guid_text bytes.now) sink.new }
