@@ -16,9 +16,9 @@ fn put_letter<S: TextSink>(sink: &mut S, number: u32)
     sink.put_char(char::from((number % 32) as u8 + b'@'));
 }
 
-/// Puts a text, and an ID of EISA, four bytes as a number: three letters of five bits each and four
-/// digits, as in `PNP0A03`, or `0` where it is 0 (UEFI Specification 2.10, section 10.3.3; ACPI
-/// Specification, `EISAID`).
+/// Puts a text, and an ID of EISA, four bytes as a number: three letters of five bits each and four digits,
+/// as in `PNP0A03`, or `0` where it is 0 (UEFI Specification 2.10, section 10.3.3; ACPI Specification,
+/// `EISAID`).
 pub fn put_eisa_id<S: TextSink>(sink: &mut S, text: &str, id: u32)
     ensures { WritesInCalls S.puts sink.old (text.now ++ eisa_text id) sink.new }
 {
