@@ -18,6 +18,8 @@ mod load_options;
 #[cfg(test)]
 mod out_of_memory;
 #[cfg(test)]
+mod read_texts;
+#[cfg(test)]
 mod texts;
 #[cfg(test)]
 mod typed_nodes;

@@ -49,4 +49,5 @@ path_read text = nodes_read (suc (length text)) true text
 -- why a text is no path: memory was refused, or where the first node stands that is none
 abbrev pub IsReadError : List ℕ → PathTextError → Type 0
 IsReadError text OutOfMemory = Unit {0}
-IsReadError text (NoNode place) = (rest : List ℕ) × (path_read text ≡ Err rest) × (place ≡ length text - length rest)
+IsReadError text (NoNode place) = (rest : List ℕ) × (path_read text ≡ Err rest)
+    × (place ≡ length text - length rest)

@@ -14,10 +14,13 @@ IsStop at_start text left (Some place) = (node_read place ≡ None) × (left ≡
 -- a node that was read at such a place, with what stands after it
 abbrev pub IsWent : List Node → List Node → List ℕ → Option (List ℕ) → Type 0
 IsWent old new rest None = ⊥
-IsWent old new rest (Some place) = (node : Node) × (node_read place ≡ Some (node, rest)) × (new ≡ old ++ node ∷ [])
+IsWent old new rest (Some place) = (node : Node) × (node_read place ≡ Some (node, rest))
+    × (new ≡ old ++ node ∷ [])
 
 -- what a step gives of a text that is not empty
 abbrev pub NextOf : List Node → List Node → Bool → List ℕ → Next → Type 0
 NextOf old new at_start text (Started rest) = (text ≡ 44 ∷ rest.now) × (new ≡ old ++ end_instance ∷ [])
-NextOf old new at_start text (Went rest) = ((tail : List ℕ) → text ≡ 44 ∷ tail → ⊥) × IsWent old new rest.now (node_place at_start text)
-NextOf old new at_start text (Stopped left) = ((tail : List ℕ) → text ≡ 44 ∷ tail → ⊥) × IsStop at_start text left.now (node_place at_start text)
+NextOf old new at_start text (Went rest) = ((tail : List ℕ) → text ≡ 44 ∷ tail → ⊥)
+    × IsWent old new rest.now (node_place at_start text)
+NextOf old new at_start text (Stopped left) = ((tail : List ℕ) → text ≡ 44 ∷ tail → ⊥)
+    × IsStop at_start text left.now (node_place at_start text)

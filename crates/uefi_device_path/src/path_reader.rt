@@ -62,7 +62,7 @@ fn push_end<A: Allocator>(path: &mut DevicePathBuf<A>) -> Result<(), AllocError>
 }
 
 /// Adds the node whose text bytes begin with, and returns what stands after it; `None` where they begin with
-/// none.
+/// none. A node that is read fits in a path (`fits` of `nodes_are_read`), so a push fails for memory alone.
 fn push_node<'a, A: Allocator>(
     path: &mut DevicePathBuf<A>,
     content: &mut Vec<u8, A>,

@@ -28,7 +28,37 @@ some_takes (f ∷ fs) are text node rest e = by (form_read f text) refl e (some_
     by (Some x) p q h = let first = form_takes f are.0 text node rest (p ∙ q) in (inl first.0, first.1)
 
 all_printed : ArePrinted forms
-all_printed = (pci_root_is, (pcie_root_is, (floppy_is, (keyboard_is, (serial_is, (parallel_is, (under_pnp_is, (other_acpi_is, (pci_is, (usb_is, (sata_is, (nvme_is, (guid_partition_is, (mbr_partition_is, tt))))))))))))))
+all_printed = (
+  pci_root_is,
+  (
+    pcie_root_is,
+    (
+      floppy_is,
+      (
+        keyboard_is,
+        (
+          serial_is,
+          (
+            parallel_is,
+            (
+              under_pnp_is,
+              (
+                other_acpi_is,
+                (
+                  pci_is,
+                  (
+                    usb_is,
+                    (sata_is, (nvme_is, (guid_partition_is, (mbr_partition_is, tt)))),
+                  ),
+                ),
+              ),
+            ),
+          ),
+        ),
+      ),
+    ),
+  ),
+)
 
 -- what is read is of one of the forms, and is printed so
 pub forms_takes : (text : List ℕ) (node : Node) (rest : List ℕ) → forms_read forms text ≡ Some (node, rest)
@@ -53,7 +83,8 @@ no_guid : (values : List (List ℕ)) → AreValues mbr_partition.pieces values �
 no_guid [] are rest = absurd are
 no_guid (n ∷ vs) are rest =
     let tail : List ℕ = codes ",MBR,0x" ++ (pieces_text (mbr_pieces) vs ++ rest) in
-    let grouped : form_text mbr_partition (n ∷ vs) ++ rest ≡ codes "HD(" ++ (field_text Decimal n ++ tail) = ap (λ (x : List ℕ). codes "HD(" ++ x) (append_assoc (field_text Decimal n) (codes ",MBR,0x" ++ pieces_text mbr_pieces vs) rest) in
+    let grouped : form_text mbr_partition (n ∷ vs) ++ rest ≡ codes "HD(" ++ (field_text Decimal n ++ tail) = ap
+    (λ (x : List ℕ). codes "HD(" ++ x) (append_assoc (field_text Decimal n) (codes ",MBR,0x" ++ pieces_text mbr_pieces vs) rest) in
     ap (λ (x : List ℕ). form_read guid_partition x) grouped
     ∙ rw (field_again Decimal 4 (omega arith) (omega arith) n tail are.0 refl) refl
   where
@@ -62,20 +93,34 @@ no_guid (n ∷ vs) are rest =
 
 -- the text of a node of one of the forms is read as that node
 pub forms_again : (node : Node) → IsOfOne forms node → (rest : List ℕ) → forms_read forms (node_text false false node ++ rest) ≡ Some (node, rest)
-forms_again node (inl o) rest = by_text (named (codes "PciRoot(0x") 3 10) pci_root_is node o rest (first_again (named (codes "PciRoot(0x") 3 10) (drop 1 forms) pci_root_is node o rest)
-forms_again node (inr (inl o)) rest = by_text (named (codes "PcieRoot(0x") 8 10) pcie_root_is node o rest (first_again (named (codes "PcieRoot(0x") 8 10) (drop 2 forms) pcie_root_is node o rest)
-forms_again node (inr (inr (inl o))) rest = by_text (named (codes "Floppy(0x") 4 6) floppy_is node o rest (first_again (named (codes "Floppy(0x") 4 6) (drop 3 forms) floppy_is node o rest)
-forms_again node (inr (inr (inr (inl o)))) rest = by_text (named (codes "Keyboard(0x") 1 3) keyboard_is node o rest (first_again (named (codes "Keyboard(0x") 1 3) (drop 4 forms) keyboard_is node o rest)
-forms_again node (inr (inr (inr (inr (inl o))))) rest = by_text (named (codes "Serial(0x") 1 5) serial_is node o rest (first_again (named (codes "Serial(0x") 1 5) (drop 5 forms) serial_is node o rest)
-forms_again node (inr (inr (inr (inr (inr (inl o)))))) rest = by_text (named (codes "ParallelPort(0x") 1 4) parallel_is node o rest (first_again (named (codes "ParallelPort(0x") 1 4) (drop 6 forms) parallel_is node o rest)
-forms_again node (inr (inr (inr (inr (inr (inr (inl o))))))) rest = by_text under_pnp under_pnp_is node o rest (first_again under_pnp (drop 7 forms) under_pnp_is node o rest)
-forms_again node (inr (inr (inr (inr (inr (inr (inr (inl o)))))))) rest = by_text other_acpi other_acpi_is node o rest (first_again other_acpi (drop 8 forms) other_acpi_is node o rest)
-forms_again node (inr (inr (inr (inr (inr (inr (inr (inr (inl o))))))))) rest = by_text pci pci_is node o rest (first_again pci (drop 9 forms) pci_is node o rest)
-forms_again node (inr (inr (inr (inr (inr (inr (inr (inr (inr (inl o)))))))))) rest = by_text usb usb_is node o rest (first_again usb (drop 10 forms) usb_is node o rest)
-forms_again node (inr (inr (inr (inr (inr (inr (inr (inr (inr (inr (inl o))))))))))) rest = by_text sata sata_is node o rest (first_again sata (drop 11 forms) sata_is node o rest)
-forms_again node (inr (inr (inr (inr (inr (inr (inr (inr (inr (inr (inr (inl o)))))))))))) rest = by_text nvme nvme_is node o rest (first_again nvme (drop 12 forms) nvme_is node o rest)
-forms_again node (inr (inr (inr (inr (inr (inr (inr (inr (inr (inr (inr (inr (inl o))))))))))))) rest = by_text guid_partition guid_partition_is node o rest (first_again guid_partition (drop 13 forms) guid_partition_is node o rest)
-forms_again node (inr (inr (inr (inr (inr (inr (inr (inr (inr (inr (inr (inr (inr (inl o)))))))))))))) rest = by_text mbr_partition mbr_partition_is node o rest
+forms_again node (inl o) rest =
+    by_text (named (codes "PciRoot(0x") 3 10) pci_root_is node o rest (first_again (named (codes "PciRoot(0x") 3 10) (drop 1 forms) pci_root_is node o rest)
+forms_again node (inr (inl o)) rest =
+    by_text (named (codes "PcieRoot(0x") 8 10) pcie_root_is node o rest (first_again (named (codes "PcieRoot(0x") 8 10) (drop 2 forms) pcie_root_is node o rest)
+forms_again node (inr (inr (inl o))) rest =
+    by_text (named (codes "Floppy(0x") 4 6) floppy_is node o rest (first_again (named (codes "Floppy(0x") 4 6) (drop 3 forms) floppy_is node o rest)
+forms_again node (inr (inr (inr (inl o)))) rest =
+    by_text (named (codes "Keyboard(0x") 1 3) keyboard_is node o rest (first_again (named (codes "Keyboard(0x") 1 3) (drop 4 forms) keyboard_is node o rest)
+forms_again node (inr (inr (inr (inr (inl o))))) rest =
+    by_text (named (codes "Serial(0x") 1 5) serial_is node o rest (first_again (named (codes "Serial(0x") 1 5) (drop 5 forms) serial_is node o rest)
+forms_again node (inr (inr (inr (inr (inr (inl o)))))) rest =
+    by_text (named (codes "ParallelPort(0x") 1 4) parallel_is node o rest (first_again (named (codes "ParallelPort(0x") 1 4) (drop 6 forms) parallel_is node o rest)
+forms_again node (inr (inr (inr (inr (inr (inr (inl o))))))) rest =
+    by_text under_pnp under_pnp_is node o rest (first_again under_pnp (drop 7 forms) under_pnp_is node o rest)
+forms_again node (inr (inr (inr (inr (inr (inr (inr (inl o)))))))) rest =
+    by_text other_acpi other_acpi_is node o rest (first_again other_acpi (drop 8 forms) other_acpi_is node o rest)
+forms_again node (inr (inr (inr (inr (inr (inr (inr (inr (inl o))))))))) rest =
+    by_text pci pci_is node o rest (first_again pci (drop 9 forms) pci_is node o rest)
+forms_again node (inr (inr (inr (inr (inr (inr (inr (inr (inr (inl o)))))))))) rest =
+    by_text usb usb_is node o rest (first_again usb (drop 10 forms) usb_is node o rest)
+forms_again node (inr (inr (inr (inr (inr (inr (inr (inr (inr (inr (inl o))))))))))) rest =
+    by_text sata sata_is node o rest (first_again sata (drop 11 forms) sata_is node o rest)
+forms_again node (inr (inr (inr (inr (inr (inr (inr (inr (inr (inr (inr (inl o)))))))))))) rest =
+    by_text nvme nvme_is node o rest (first_again nvme (drop 12 forms) nvme_is node o rest)
+forms_again node (inr (inr (inr (inr (inr (inr (inr (inr (inr (inr (inr (inr (inl o))))))))))))) rest =
+    by_text guid_partition guid_partition_is node o rest (first_again guid_partition (drop 13 forms) guid_partition_is node o rest)
+forms_again node (inr (inr (inr (inr (inr (inr (inr (inr (inr (inr (inr (inr (inr (inl o)))))))))))))) rest =
+    by_text mbr_partition mbr_partition_is node o rest
     (ap (λ r. either_read r (forms_read (drop 13 forms) (form_text mbr_partition o.values ++ rest))) (no_guid o.values o.are rest)
     ∙ first_again mbr_partition (drop 14 forms) mbr_partition_is node o rest)
 forms_again node (inr (inr (inr (inr (inr (inr (inr (inr (inr (inr (inr (inr (inr (inr (none))))))))))))))) rest = absurd none

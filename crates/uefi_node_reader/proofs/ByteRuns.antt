@@ -40,7 +40,8 @@ step zero between count text = at (byte_read text)
         ≡ option_and_then (others_after between count) r
     at None = refl
     at (Some x) = sym (go_on_is x.0 (more_read between count x.1))
-step (suc place) between count text = (at (after between text)) ∙ ap (λ (t : Bool). option_and_then (others_after between count) (if t then byte_read text else option_and_then byte_read (after between text))) (sym (ne_eqb (suc place) 0 (λ e. omega arith)))
+step (suc place) between count text = (at (after between text)) ∙ ap (λ (t : Bool). option_and_then (others_after between count) (if t
+    then byte_read text else option_and_then byte_read (after between text))) (sym (ne_eqb (suc place) 0 (λ e. omega arith)))
   where
     at : (r : Option (List ℕ)) → option_and_then (λ t. option_and_then (λ first. option_and_then (as_next first.0) (more_read between count first.1)) (byte_read t)) r
         ≡ option_and_then (others_after between count) (option_and_then byte_read r)

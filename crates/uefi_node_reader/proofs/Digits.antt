@@ -1,4 +1,4 @@
--- Digits of a number are read back, and what is read is spelled so.
+-- Digits of a number are read back, and what is read has these digits.
 use Rattle.std.proofs.Common.{◌≡◌, ℕ, zero, suc, ◌+◌, ◌*◌, ◌/◌, ◌%◌, ◌^◌, ◌<◌, ◌≤◌, Bool, true, false, cond, eqb, ltb, List, [], ◌∷◌, ◌++◌, refl, ap, sym, subst, ◌∙◌, ◌≢◌, true≢false, append_assoc, arith}
 use native.Mathlib.Nat.{pow-suc, pow-zero}
 use borrow.Author.Tests.{eq-eqb, eqb-true, lt-ltb, ltb-true, ne_eqb}

@@ -1,4 +1,4 @@
--- The texts of fields are read back, and what is read is spelled so.
+-- The texts of fields are read back, and what is read is printed so.
 use Rattle.std.proofs.Common.{◌≡◌, ℕ, zero, suc, ◌+◌, ◌-◌, ◌*◌, ◌/◌, ◌%◌, ◌^◌, ◌<◌, ◌≤◌, Bool, true, false, cond, eqb, leb, ltb, ◌&&◌, List, [], ◌∷◌, ◌++◌, codes, length, reverse, refl, ap, sym, subst, ◌∙◌, append_assoc, arith}
 use Rattle.std.specs.Prelude.{All, Option, Some, None, option_and_then}
 use Rattle.std.specs.Fmt.{digits, digit_glyph}
@@ -103,7 +103,8 @@ more_takes between (suc count) text bytes rest e =
     let first = byte_takes p.0 q.0.0 q.0.1 q.1 in
     let others = more_takes between count q.0.1 r.0.0 r.0.1 r.1 in
     let same = some_pair (q.0.0 ∷ r.0.0, r.0.1) (bytes, rest) r.2 in
-    let whole : text ≡ flat_map (λ b. between ++ hex_two b) (q.0.0 ∷ r.0.0) ++ r.0.1 = start ∙ ap (λ (x : List ℕ). between ++ x) (first.0 ∙ ap (λ (x : List ℕ). hex_two q.0.0 ++ x) others.0) ∙ simp append_assoc in (
+    let whole : text ≡ flat_map (λ b. between ++ hex_two b) (q.0.0 ∷ r.0.0) ++ r.0.1 = start ∙ ap (λ (x : List ℕ). between ++ x) (first.0 ∙ ap
+    (λ (x : List ℕ). hex_two q.0.0 ++ x) others.0) ∙ simp append_assoc in (
       whole ∙ (λ i. flat_map (λ b. between ++ hex_two b) (same.0 i) ++ same.1 i),
       (ap length (sym same.0) ∙ ap suc others.1.0, subst (λ (x : List ℕ). All IsByte x) same.0 (All-cons IsByte q.0.0 r.0.0 first.1 others.1.1)),
     )
@@ -273,7 +274,7 @@ field_takes Forth width low high text value rest e =
 field_takes Dashed width low high text value rest e =
     let r = turned_takes (codes "-") width text value rest e in (r.0 ∙ ap (λ (x : List ℕ). x ++ rest) (sym (dashed_is value)), r.1)
 
--- what sound pieces tell of the first and of the others
+-- what holds of the first of sound pieces and of the others
 sound_first : (p : Piece) (ps : List Piece) → is_sound (p ∷ ps) ≡ true
     → (1 ≤ p.width) × (p.width ≤ 8) × (ends_field (field_base p.field) p.ending ≡ true) × (is_sound ps ≡ true)
 sound_first p ps e = by (leb 1 p.width) (leb p.width 8) (ends_field (field_base p.field) p.ending) (is_sound ps) refl refl refl refl e

@@ -429,7 +429,9 @@ other_acpi_fits (a ∷ b ∷ []) are =
 pub other_acpi_is : IsPrinted (other_acpi)
 other_acpi_is = record { sound = refl; starts = λ rest. refl; no_end = refl; fits = other_acpi_fits; text = other_acpi_text }
 
-guid_partition_spread : (n a b c d e s z : List ℕ) → node_text false false (node_of_form (guid_partition) (spread 4 n ∷ spread 4 a ∷ spread 2 b ∷ spread 2 c ∷ spread 2 d ∷ spread 6 e ∷ spread 8 s ∷ spread 8 z ∷ [])) ≡ form_text (guid_partition) (spread 4 n ∷ spread 4 a ∷ spread 2 b ∷ spread 2 c ∷ spread 2 d ∷ spread 6 e ∷ spread 8 s ∷ spread 8 z ∷ [])
+guid_partition_spread : (n a b c d e s z : List ℕ) → node_text false false (node_of_form (guid_partition) (spread 4 n ∷ spread 4 a ∷ spread 2 b
+    ∷ spread 2 c ∷ spread 2 d ∷ spread 6 e ∷ spread 8 s ∷ spread 8 z ∷ [])) ≡ form_text (guid_partition) (spread 4 n ∷ spread 4 a ∷ spread 2 b
+    ∷ spread 2 c ∷ spread 2 d ∷ spread 6 e ∷ spread 8 s ∷ spread 8 z ∷ [])
 unfolding node_text media_node_text volume_node_text signature_text guid_text
 guid_partition_spread n a b c d e s z = simp append_assoc
 
@@ -475,13 +477,15 @@ guid_partition_fits (n ∷ a ∷ b ∷ c ∷ d ∷ e ∷ s ∷ z ∷ []) are =
     let e_is = spread_is 6 e are.1.1.1.1.1.0.0 in
     let s_is = spread_is 8 s are.1.1.1.1.1.1.0.0 in
     let z_is = spread_is 8 z are.1.1.1.1.1.1.1.0.0 in
-    let size : length ((guid_partition).layout (n ∷ a ∷ b ∷ c ∷ d ∷ e ∷ s ∷ z ∷ [])) ≡ 38 = (λ i. length ((guid_partition).layout (n_is i ∷ a_is i ∷ b_is i ∷ c_is i ∷ d_is i ∷ e_is i ∷ s_is i ∷ z_is i ∷ []))) in
+    let size : length ((guid_partition).layout (n ∷ a ∷ b ∷ c ∷ d ∷ e ∷ s ∷ z ∷ [])) ≡ 38 = (λ i. length ((guid_partition).layout (n_is i ∷ a_is i
+    ∷ b_is i ∷ c_is i ∷ d_is i ∷ e_is i ∷ s_is i ∷ z_is i ∷ []))) in
     omega arith
 
 pub guid_partition_is : IsPrinted (guid_partition)
 guid_partition_is = record { sound = refl; starts = λ rest. refl; no_end = refl; fits = guid_partition_fits; text = guid_partition_text }
 
-mbr_partition_spread : (n a s z : List ℕ) → node_text false false (node_of_form (mbr_partition) (spread 4 n ∷ spread 4 a ∷ spread 8 s ∷ spread 8 z ∷ [])) ≡ form_text (mbr_partition) (spread 4 n ∷ spread 4 a ∷ spread 8 s ∷ spread 8 z ∷ [])
+mbr_partition_spread : (n a s z : List ℕ) → node_text false false (node_of_form (mbr_partition) (spread 4 n ∷ spread 4 a ∷ spread 8 s ∷ spread 8 z
+    ∷ [])) ≡ form_text (mbr_partition) (spread 4 n ∷ spread 4 a ∷ spread 8 s ∷ spread 8 z ∷ [])
 unfolding node_text media_node_text volume_node_text signature_text
 mbr_partition_spread n a s z = refl
 

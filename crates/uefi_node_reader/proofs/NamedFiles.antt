@@ -166,7 +166,8 @@ encode_goes_on c e = by (ltb c 128) (ltb c 2048) (ltb c 65536)
     by true y z = (λ i. e i && true)
     by false true z = (λ i. high (192 + c / 64) (omega arith) i && (high (128 + c % 64) (omega arith) i && true))
     by false false true = (λ i. high (224 + c / 4096) (omega arith) i && (high (128 + c / 64 % 64) (omega arith) i && (high (128 + c % 64) (omega arith) i && true)))
-    by false false false = (λ i. high (240 + c / 262144) (omega arith) i && (high (128 + c / 4096 % 64) (omega arith) i && (high (128 + c / 64 % 64) (omega arith) i && (high (128 + c % 64) (omega arith) i && true))))
+    by false false false = (λ i. high (240 + c / 262144) (omega arith) i && (high (128 + c / 4096 % 64) (omega arith) i
+        && (high (128 + c / 64 % 64) (omega arith) i && (high (128 + c % 64) (omega arith) i && true))))
 
 name_goes_on : (cs : List ℕ) → list_all is_name_char cs ≡ true → list_all goes_on (encodes cs) ≡ true
 name_goes_on [] e = refl

@@ -125,7 +125,8 @@ run_takes (a ∷ b ∷ text) = by (ltb (digit_of a) 16) (ltb (digit_of b) 16) re
             let small : byte < 256 = omega arith in
             let first : byte / 16 ≡ digit_of a = omega arith in
             let second : byte % 16 ≡ digit_of b = omega arith in
-            let heads : hex_two byte ≡ a ∷ b ∷ [] = two_digits byte small ∙ (λ i. (ap (λ (d : ℕ). digit_glyph true d) first ∙ hexadecimal.writes a low) i ∷ (ap (λ (d : ℕ). digit_glyph true d) second ∙ hexadecimal.writes b high) i ∷ []) in (
+            let heads : hex_two byte ≡ a ∷ b ∷ [] = two_digits byte small ∙ (λ i. (ap (λ (d : ℕ). digit_glyph true d) first
+            ∙ hexadecimal.writes a low) i ∷ (ap (λ (d : ℕ). digit_glyph true d) second ∙ hexadecimal.writes b high) i ∷ []) in (
               ap (λ (l : List ℕ). a ∷ b ∷ l) h.0 ∙ ap (λ (l : List ℕ). l ++ (flat_map hex_two (run_read text).0 ++ (run_read text).1)) (sym heads)
                   ∙ sym (append_assoc (hex_two byte) (flat_map hex_two (run_read text).0) (run_read text).1),
               All-cons IsByte byte (run_read text).0 small h.1,

@@ -52,7 +52,8 @@ sata = record {
   kind = 3;
   sub_kind = 18;
   start = codes "Sata(0x";
-  pieces = piece Hexadecimal 2 (codes ",0x") ∷ piece Hexadecimal 2 (codes ",0x") ∷ piece Hexadecimal 2 (codes ")") ∷ [];
+  pieces = piece Hexadecimal 2 (codes ",0x") ∷ piece Hexadecimal 2 (codes ",0x")
+      ∷ piece Hexadecimal 2 (codes ")") ∷ [];
   layout = concat;
   allows = allows_all;
 }
@@ -81,7 +82,8 @@ named start low high = record {
 
 -- the test for the number of a device under PNP with a name of its own
 abbrev pub has_name : ℕ → Bool
-has_name id = (id == 0x0a03) || ((id == 0x0a08) || ((id == 0x0604) || ((id == 0x0301) || ((id == 0x0501) || (id == 0x0401)))))
+has_name id = (id == 0x0a03) || ((id == 0x0a08) || ((id == 0x0604) || ((id == 0x0301)
+    || ((id == 0x0501) || (id == 0x0401)))))
 
 -- the first field is the number of a device without a name of its own
 abbrev pub allows_nameless : List (List ℕ) → Bool
@@ -127,8 +129,10 @@ guid_partition = record {
   kind = 4;
   sub_kind = 1;
   start = codes "HD(";
-  pieces = piece Decimal 4 (codes ",GPT,") ∷ piece Back 4 (codes "-") ∷ piece Back 2 (codes "-") ∷ piece Back 2 (codes "-")
-      ∷ piece Forth 2 (codes "-") ∷ piece Forth 6 (codes ",0x") ∷ piece Hexadecimal 8 (codes ",0x") ∷ piece Hexadecimal 8 (codes ")") ∷ [];
+  pieces = piece Decimal 4 (codes ",GPT,") ∷ piece Back 4 (codes "-")
+      ∷ piece Back 2 (codes "-") ∷ piece Back 2 (codes "-")
+      ∷ piece Forth 2 (codes "-") ∷ piece Forth 6 (codes ",0x")
+      ∷ piece Hexadecimal 8 (codes ",0x") ∷ piece Hexadecimal 8 (codes ")") ∷ [];
   layout = guid_layout;
   allows = allows_all;
 }
@@ -154,7 +158,8 @@ mbr_partition = record {
 -- the forms of devices under PNP with names of their own
 abbrev pub named_forms : List Form
 named_forms = named (codes "PciRoot(0x") 0x03 0x0a ∷ named (codes "PcieRoot(0x") 0x08 0x0a
-    ∷ named (codes "Floppy(0x") 0x04 0x06 ∷ named (codes "Keyboard(0x") 0x01 0x03 ∷ named (codes "Serial(0x") 0x01 0x05
+    ∷ named (codes "Floppy(0x") 0x04 0x06 ∷ named (codes "Keyboard(0x") 0x01 0x03
+    ∷ named (codes "Serial(0x") 0x01 0x05
     ∷ named (codes "ParallelPort(0x") 0x01 0x04 ∷ []
 
 -- all forms of fields of known widths

@@ -16,7 +16,8 @@ NodeAgain = (node : Node) → IsTold node → (rest : List ℕ) → is_after_nod
 
 -- the text of a node that is told begins with no byte that may stand after one
 abbrev pub NodeStarts : Type 0
-NodeStarts = (node : Node) → IsTold node → (rest : List ℕ) → is_after_node (node_text false false node ++ rest) ≡ false
+NodeStarts = (node : Node) → IsTold node → (rest : List ℕ)
+    → is_after_node (node_text false false node ++ rest) ≡ false
 
 -- a node that is told ends nothing, and is no longer than a node may be
 abbrev pub NodeFits : Type 0

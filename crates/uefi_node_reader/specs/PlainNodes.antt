@@ -10,18 +10,23 @@ use Rattle.uefi_node_reader.specs.Numerals.{digit_of, number_read}
 
 -- the test for a node of Hardware or ACPI with a form of its own
 abbrev pub has_device_form : Node → Bool
-has_device_form node = is_kind 1 1 2 node || (is_kind 1 4 16 node || (is_kind 2 1 8 node || is_kind 2 2 15 node))
+has_device_form node = is_kind 1 1 2 node || (is_kind 1 4 16 node || (is_kind 2 1 8 node
+    || is_kind 2 2 15 node))
 
 -- the same of Messaging
 abbrev pub has_messaging_form : Node → Bool
-has_messaging_form node = is_kind 3 5 2 node || (is_kind 3 10 16 node || (is_kind 3 18 6 node || (is_kind 3 23 12 node
-    || (is_kind 3 26 1 node || (is_kind 3 29 1 node || (is_kind 3 11 33 node || (is_kind 3 12 15 node || (is_kind 3 13 56 node
+has_messaging_form node = is_kind 3 5 2 node || (is_kind 3 10 16 node || (is_kind 3 18 6 node
+    || (is_kind 3 23 12 node
+    || (is_kind 3 26 1 node || (is_kind 3 29 1 node || (is_kind 3 11 33 node
+    || (is_kind 3 12 15 node || (is_kind 3 13 56 node
     || is_kind 3 24 0 node))))))))
 
 -- the same of Media and BIOS Boot Specification
 abbrev pub has_media_form : Node → Bool
-has_media_form node = (is_file node && (length node.content % 2 == 0)) || (is_kind 4 1 38 node || (is_kind 4 2 20 node
-    || (is_kind 4 3 16 node || (is_kind 4 6 16 node || (is_kind 4 7 16 node || (is_kind 4 9 34 node || is_kind 5 1 5 node))))))
+has_media_form node = (is_file node && (length node.content % 2 == 0)) || (is_kind 4 1 38 node
+    || (is_kind 4 2 20 node
+    || (is_kind 4 3 16 node || (is_kind 4 6 16 node || (is_kind 4 7 16 node
+    || (is_kind 4 9 34 node || is_kind 5 1 5 node))))))
 
 -- the test for a node of a kind that has a form of its own, and not too short for it
 abbrev pub has_form : Node → Bool
@@ -62,5 +67,6 @@ plain_rest kind sub_kind text = comma_read text >>= λ content. after (codes ")"
 
 -- the node of no kind whose text bytes begin with, and what stands after it
 abbrev pub plain_read : List ℕ → Option (Node × List ℕ)
-plain_read text = after (codes "Path(") text >>= λ t. number_read 10 256 t >>= λ kind. after (codes ",") kind.1 >>= λ u.
-    number_read 10 256 u >>= λ sub_kind. plain_rest kind.0 sub_kind.0 sub_kind.1
+plain_read text = after (codes "Path(") text >>= λ t. number_read 10 256 t >>= λ kind.
+    after (codes ",") kind.1 >>= λ u. number_read 10 256 u >>= λ sub_kind.
+    plain_rest kind.0 sub_kind.0 sub_kind.1

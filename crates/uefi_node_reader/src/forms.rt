@@ -11,7 +11,7 @@ use crate::fields::{after, back, dashed, decimal, forth, hexadecimal};
 
 /// A node with fields of known widths: its data, by its kind.
 #[derive(Clone, Copy)]
-pub enum FixedNode {
+pub(crate) enum FixedNode {
     /// A device on a PCI bus.
     Pci([u8; 2]),
     /// A device on a USB bus.

@@ -7,6 +7,7 @@
 mod fields;
 mod forms;
 mod names;
+#[doc(hidden)]
 pub mod nodes;
 mod numerals;
 mod plain;
