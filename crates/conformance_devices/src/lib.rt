@@ -22,6 +22,8 @@ mod out_of_memory;
 #[cfg(test)]
 mod path_texts;
 #[cfg(test)]
+mod read_texts;
+#[cfg(test)]
 mod texts;
 #[cfg(test)]
 mod typed_nodes;

@@ -10,3 +10,4 @@ pub mod OptionBytes
 pub mod BufferPaths
 pub mod PathTexts
 pub mod Units
+pub mod PathReading

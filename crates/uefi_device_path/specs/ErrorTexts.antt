@@ -16,6 +16,8 @@ use Rattle.uefi_device_path.specs.declared.errors.BuildError.{BuildError}
 use Rattle.uefi_device_path.specs.declared.errors.BuildError.TheVariants as build
 use Rattle.uefi_device_path.specs.declared.errors.OptionBuildError.{OptionBuildError}
 use Rattle.uefi_device_path.specs.declared.errors.OptionBuildError.TheVariants as written
+use Rattle.uefi_device_path.specs.declared.path_reader.PathTextError.{PathTextError}
+use Rattle.uefi_device_path.specs.declared.path_reader.PathTextError.TheVariants as read
 use Rattle.uefi_device_path.specs.declared.errors.TextWriteError.{TextWriteError}
 use Rattle.uefi_device_path.specs.declared.errors.TextWriteError.TheVariants as text
 
@@ -74,3 +76,8 @@ file_path_write_error_text (in_buffer.BufferTooSmall needed) =
 -- what is printed where a text is not written
 abbrev pub text_write_error_text : TextWriteError → List ℕ
 text_write_error_text (text.BufferTooSmall needed) = codes "the text has " ++ decimal needed ++ codes " units"
+
+-- the text of the reason why a text is no path
+abbrev pub path_text_error_text : PathTextError → List ℕ
+path_text_error_text (read.NoNode place) = codes "no node at offset " ++ decimal place
+path_text_error_text read.OutOfMemory = codes "out of memory"

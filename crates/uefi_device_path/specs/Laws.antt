@@ -4,6 +4,8 @@ use Rattle.uefi_device_nodes.specs.Nodes.{Node, IsInner}
 use Rattle.uefi_device_nodes.specs.NodeFaults.{fault_place}
 use Rattle.uefi_device_nodes.specs.declared.errors.NodeError.{NodeError}
 use Rattle.uefi_device_nodes.specs.declared.errors.NodeError.TheVariants.{Missing, TruncatedHeader, UnknownEnd, LengthBelowHeader, EndWithData, BeyondEnd}
+use Rattle.uefi_device_path.specs.PathReading.{AreTold}
+use Rattle.uefi_device_path.specs.PathTexts.{path_text}
 use Rattle.uefi_device_path.specs.Paths.{BeginWithPath, path_bytes}
 use Rattle.uefi_device_path.specs.Faults.{RefusedFor}
 use Rattle.uefi_device_path.specs.LoadOptions.{Entry, EntryRefusedFor, IsEntry, entry_bytes}
@@ -64,3 +66,8 @@ OptionsOnce = (entry other : Entry) → IsEntry entry → IsEntry other
 abbrev pub OptionsNeverBoth : Type 0
 OptionsNeverBoth = (entry : Entry) (error : LoadOptionError) → IsEntry entry
     → EntryRefusedFor (entry_bytes entry) error → ⊥
+
+-- no two lists of nodes of which the text tells all have the same text
+abbrev pub TextsOnce : Type 0
+TextsOnce = (nodes others : List Node) → AreTold nodes → AreTold others
+    → path_text false false nodes ≡ path_text false false others → nodes ≡ others

@@ -21,5 +21,7 @@ pub mod Building
 pub mod OptionBuilding
 pub mod Instances
 pub mod PathTexts
+pub mod PathReading
+pub mod ReadingSteps
 pub mod PathUnits
 pub mod Laws

@@ -1,7 +1,9 @@
 //! The laws by which users of device paths and load options reason. They speak of the definitions that
 //! the contracts of the working calls cite. Each law is a function that does nothing: its contract is the
 //! law.
-ghost use Rattle.uefi_device_path.specs.Laws.{AcceptedWithMore, BuiltIsRead, BytesOnce, NeverBoth, OptionsNeverBoth, OptionsOnce, PathsOnce, RefusedByHeader};
+ghost use Rattle.uefi_device_path.specs.Laws.{AcceptedWithMore, BuiltIsRead, BytesOnce, NeverBoth, OptionsNeverBoth, OptionsOnce, PathsOnce, RefusedByHeader, TextsOnce};
+
+use uefi_node_reader::nodes::nodes_are_read;
 
 /// Bytes and nodes determine one another: bytes begin with one path at most, no two paths have the same
 /// bytes, and the bytes of nodes are read as these nodes.
@@ -29,3 +31,12 @@ pub fn options_once()
     ensures bytes { OptionsOnce }
     ensures never_both { OptionsNeverBoth }
 {}
+
+/// No two lists of nodes of which the text tells all have the same text, so that
+/// [`DevicePathBuf::from_text`](crate::DevicePathBuf) gives of what was printed the nodes that it was
+/// printed of.
+pub fn texts_once()
+    ensures { TextsOnce }
+{
+    nodes_are_read();
+}

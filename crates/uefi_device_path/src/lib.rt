@@ -34,6 +34,7 @@ mod load_option;
 mod node_iterator;
 mod option_builder;
 mod path_list;
+mod path_reader;
 mod path_text;
 mod unit_sink;
 
@@ -49,6 +50,7 @@ pub use load_option::LoadOption;
 pub use node_iterator::DevicePathNodeIterator;
 pub use option_builder::LoadOptionBuilder;
 pub use path_list::{DevicePaths, check_paths};
+pub use path_reader::PathTextError;
 pub use path_text::PathText;
 pub use uefi_device_nodes::node::{DevicePathNode, DeviceSubType, DeviceType};
 pub use uefi_device_nodes::node_text::NodeText;

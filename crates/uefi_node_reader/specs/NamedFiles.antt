@@ -1,0 +1,61 @@
+-- Nodes that name files, whose texts are the names, and all nodes that are read.
+use Rattle.std.specs.Prelude.{◌≡◌, ℕ, Bool, true, false, nat_le, not, ◌==◌, ◌&&◌, ◌||◌, ◌⊎◌, List, [], ◌∷◌, length, take, drop, Option}
+use Rattle.std.specs.Char.Escape.{encode_utf16}
+use Rattle.std.specs.List.{flat_map, list_all, position_or_len}
+use Rattle.std.specs.Str.{all_scalars, chars, is_utf8}
+use Rattle.uefi_text.specs.UnitBytes.{unit_bytes}
+use Rattle.uefi_text.specs.Units.{nul_terminated}
+use Rattle.uefi_field_texts.specs.FieldTexts.{is_control}
+use Rattle.uefi_device_nodes.specs.Nodes.{Node, node_with}
+use Rattle.uefi_node_reader.specs.Forms.{either_read, forms, forms_read, IsOfOne, read_if}
+use Rattle.uefi_node_reader.specs.PlainNodes.{IsPlain, plain_read}
+
+-- the test for a byte that ends a name: a slash or a comma
+abbrev pub ends_name : ℕ → Bool
+ends_name byte = (byte == 47) || (byte == 44)
+
+-- the test for a character of a name: none of control, and none that ends it
+abbrev pub is_name_char : ℕ → Bool
+is_name_char c = not (is_control c) && not (ends_name c)
+
+-- the test for characters that begin with a backslash
+abbrev pub begins_name : List ℕ → Bool
+begins_name [] = false
+begins_name (c ∷ cs) = c == 92
+
+-- the data of a node that names a file: the name in UTF-16, and a NUL
+abbrev pub name_data : List ℕ → List ℕ
+name_data name = unit_bytes (nul_terminated (flat_map encode_utf16 name))
+
+-- the test for characters that are the name of a node
+abbrev pub is_name : List ℕ → Bool
+is_name name = begins_name name && (list_all is_name_char name && nat_le (length (name_data name)) 0xfffb)
+
+-- a node that holds a name, and nothing else
+pub record IsNamed (node : Node) : Type 0 where
+  pub name : List ℕ
+  pub scalars : all_scalars name ≡ true
+  pub is_name : is_name name ≡ true
+  pub is : node ≡ node_with 4 4 (name_data name)
+
+-- the bytes of a text before one that ends a name
+abbrev pub name_bytes : List ℕ → List ℕ
+name_bytes text = take (position_or_len ends_name text) text
+
+-- the node with the name that bytes begin with, and what stands after it
+abbrev pub name_read : List ℕ → Option (Node × List ℕ)
+name_read text = read_if (is_utf8 (name_bytes text) && is_name (chars (name_bytes text)))
+    (node_with 4 4 (name_data (chars (name_bytes text)))) (drop (position_or_len ends_name text) text)
+
+-- a node whose text holds all that it holds
+abbrev pub IsTold : Node → Type 0
+IsTold node = IsOfOne forms node ⊎ (IsPlain node ⊎ IsNamed node)
+
+-- the node whose text bytes begin with, and what stands after it
+unfoldable pub node_read : List ℕ → Option (Node × List ℕ)
+node_read text = either_read (forms_read forms text) (either_read (plain_read text) (name_read text))
+
+-- the test for bytes that may stand after a node: none, or a slash or a comma first
+abbrev pub is_after_node : List ℕ → Bool
+is_after_node [] = true
+is_after_node (byte ∷ bytes) = ends_name byte

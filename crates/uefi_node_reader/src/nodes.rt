@@ -1,0 +1,71 @@
+//! One node read from its text.
+#![tactic(auto, unfolding(crate::specs::NamedFiles::node_read))]
+
+ghost use Rattle.std.specs.Prelude.{◌≡◌, IfOk};
+ghost use Rattle.std.specs.Option.{option_map};
+ghost use Rattle.uefi_device_nodes.specs.Nodes.{node_with};
+ghost use Rattle.uefi_node_reader.specs.FixedNodes.{fixed_node};
+ghost use Rattle.uefi_node_reader.specs.Laws.{NodeAgain, NodeFits, NodeStarts, NodeTakes, NodeTextOnce};
+ghost use Rattle.uefi_node_reader.specs.NamedFiles.{node_read};
+
+use crate::forms::{FixedNode, fixed};
+use crate::names::name;
+use crate::plain::plain;
+use std::alloc::{AllocError, Allocator};
+
+/// Writes the data of a node into a vector, in place of what it held. Returns its type and its sub-type.
+fn put_fixed<A: Allocator>(
+    content: &mut Vec<u8, A>,
+    node: &FixedNode,
+) -> Result<(u8, u8), AllocError>
+    ensures { IfOk result (λ types. node_with types.0 types.1 content.new.items ≡ fixed_node node.now) }
+{
+    content.clear();
+    let (types, data): (_, &[u8]) = match node {
+        FixedNode::Pci(data) => ((1, 1), data),
+        FixedNode::Usb(data) => ((3, 5), data),
+        FixedNode::Sata(data) => ((3, 18), data),
+        FixedNode::Nvme(data) => ((3, 23), data),
+        FixedNode::HardDrive(data) => ((4, 1), data),
+        FixedNode::Acpi(data) => ((2, 1), data),
+    };
+    content.extend_from_slice(data)?;
+    Ok(types)
+}
+
+/// Reads the node whose text bytes begin with, its data into a vector, in place of what it held. Returns
+/// its type, its sub-type and what stands after it; `None` exactly where no node that is told has such a
+/// text before a slash, a comma or the end. `AllocError` where the vector does not grow.
+pub fn read_node<'a, A: Allocator>(
+    content: &mut Vec<u8, A>,
+    text: &'a [u8],
+) -> Result<Option<(u8, u8, &'a [u8])>, AllocError>
+    ensures { IfOk result (λ read. option_map
+        (λ x. (node_with x.0 x.1 content.new.items, x.2.now)) read ≡ node_read text.now) }
+{
+    if let Some((node, rest)) = fixed(text) {
+        let (device_type, sub_type) = put_fixed(content, &node)?;
+        return Ok(Some((device_type, sub_type, rest)));
+    }
+    if let Some(read) = plain(content, text)? {
+        return Ok(Some(read));
+    }
+    let Some(rest) = name(content, text)? else {
+        return Ok(None);
+    };
+    Ok(Some((4, 4, rest)))
+}
+
+/// What is read is told, and is printed so; and what is printed of a node that is told is read as that
+/// node, whatever may stand after it.
+pub fn nodes_are_read()
+    ensures takes { NodeTakes }
+    ensures again { NodeAgain }
+    ensures starts { NodeStarts }
+    ensures fits { NodeFits }
+{}
+
+/// Two nodes that are told and have the same text are the same, whatever stands after them.
+pub fn node_text_once()
+    ensures { NodeTextOnce }
+{}

@@ -1,0 +1,60 @@
+//! Numbers read from their digits, without zeros at their start.
+#![tactic(auto)]
+
+ghost use Rattle.std.specs.Prelude.{◌≡◌, ◌+◌, ◌^◌, ◌<◌, ◌≤◌};
+ghost use Rattle.std.specs.Option.{option_map};
+ghost use Rattle.uefi_node_reader.specs.Numerals.{digit_of, digits_after, number_read};
+
+/// The digit of a byte: 0 to 9, A to F in upper case, or 16 for another byte.
+pub(crate) fn digit_of(byte: u8) -> u64
+    ensures { result ≡ digit_of byte }
+{
+    match byte {
+        b'0'..=b'9' => u64::from(byte - b'0'),
+        b'A'..=b'F' => u64::from(byte - b'A') + 10,
+        _ => 16,
+    }
+}
+
+/// The number of all digits that a text begins with, after those of `first`, and what stands after them.
+/// `None` where it is above `last`.
+fn digits_after(base: u64, last: u64, first: u64, text: &[u8]) -> Option<(u64, &[u8])>
+    ensures { option_map (λ x. (x.0, x.1.now)) result ≡ digits_after base (last + 1) first text.now }
+{
+    let mut number = first;
+    let mut rest = text;
+    'digits: while let [byte, after @ ..] = rest {
+        let digit = digit_of(*byte);
+        if base <= digit {
+            return Some((number, rest));
+        }
+        let next = number.checked_mul(base)?.checked_add(digit)?;
+        if last < next {
+            return None;
+        }
+        number = next;
+        rest = after;
+    }
+    Some((number, rest))
+}
+
+/// The number up to `last` whose digits a text begins with, without zeros at its start, and what stands
+/// after them.
+pub(crate) fn number(base: u64, last: u64, text: &[u8]) -> Option<(u64, &[u8])>
+    ensures { option_map (λ x. (x.0, x.1.now)) result ≡ number_read base (last + 1) text.now }
+{
+    let [byte, after @ ..] = text else {
+        return None;
+    };
+    let digit = digit_of(*byte);
+    if base <= digit {
+        return None;
+    }
+    if digit == 0 {
+        return match after {
+            [next, ..] if digit_of(*next) < base => None,
+            _ => Some((0, after)),
+        };
+    }
+    digits_after(base, last, digit, after)
+}
