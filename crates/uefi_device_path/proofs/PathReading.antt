@@ -1,10 +1,10 @@
 -- A path is read from its text, and what is read is printed so.
-use Rattle.std.proofs.Common.{◌≡◌, ◌≢◌, ℕ, zero, suc, ◌<◌, ◌≤◌, Bool, true, false, cond, eqb, List, [], ◌∷◌, ◌++◌, codes, length, refl, ap, sym, subst, ◌∙◌, append_assoc, arith, ◌⊎◌, inl, inr, true≢false}
+use Rattle.std.proofs.Common.{◌≡◌, ◌≢◌, ℕ, zero, suc, ◌<◌, ◌≤◌, Bool, true, false, cond, eqb, List, [], ◌∷◌, ◌++◌, codes, length, refl, ap, sym, subst, ◌∙◌, append_assoc, arith, ◌⊎◌, inl, inr, true≢false, ltb, ◌+◌}
 use Rattle.uefi_device_path.specs.Laws.{TextsOnce}
 use Rattle.uefi_device_path.specs.PathReading.{IsReadError}
 use Rattle.uefi_device_path.specs.declared.path_reader.PathTextError.{PathTextError}
 use Rattle.uefi_device_path.specs.declared.path_reader.PathTextError.TheVariants.{NoNode, OutOfMemory}
-use Rattle.std.specs.Prelude.{IfOk, IfErr, Option, Some, None, Result, Ok, Err, ◌==◌, ◌&&◌, ◌||◌}
+use Rattle.std.specs.Prelude.{IfOk, IfErr, Option, Some, None, Result, Ok, Err, ◌==◌, ◌&&◌, ◌||◌, not}
 use Rattle.std.specs.List.{flat_map, join_by, onto_first}
 use Rattle.std.proofs.lemmas.List.{append-nil, length-append}
 use Rattle.std.proofs.lemmas.List.Elements.{All-nil, All-cons, All-head, All-tail}
@@ -12,6 +12,9 @@ use borrow.Author.Tests.{eqb-true, ne_eqb}
 use Rattle.uefi_device_nodes.specs.Nodes.{Node, is_end_instance}
 use Rattle.uefi_device_nodes.specs.NodeTexts.{node_text}
 use Rattle.uefi_device_path.specs.Instances.{instances}
+use Rattle.std.proofs.lemmas.Bool.Decides.{nat_tests}
+use Rattle.uefi_device_path.specs.Building.{build_refusal}
+use Rattle.uefi_device_path.specs.declared.errors.BuildError.TheVariants.{EndNode, NodeTooLong}
 use Rattle.uefi_device_path.specs.PathTexts.{instance_text, path_text}
 use Rattle.uefi_device_path.specs.PathReading.{AreTold, before, end_instance, node_place, nodes_read, path_read, then_read}
 use Rattle.uefi_device_path.specs.ReadingSteps.{IsStop, IsWent}
@@ -383,3 +386,11 @@ once again starts fits nodes others a b e =
     let first = path_again again starts fits nodes a (path_text false false others) e in
     let second = path_again again starts fits others b (path_text false false others) refl in
     cc
+
+-- a path takes a node that is told
+pub accepted : NodeFits → (node : Node) → IsTold node → build_refusal node ≡ None
+accepted fits node told =
+    let f = fits node told in
+    let small : ltb 0xffff (length node.content + 4) ≡ false = grind (arith, nat_tests) in
+    (λ i. cond (f.0 i && not (is_end_instance node && (length node.content == 0))) (Some EndNode)
+    (cond (small i) (Some NodeTooLong) None))

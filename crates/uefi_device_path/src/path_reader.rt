@@ -10,7 +10,8 @@ ghost use Rattle.uefi_device_path.specs.PathTexts.{path_text};
 ghost use Rattle.uefi_node_reader.specs.NamedFiles.{node_read};
 
 use crate::build::DevicePathBuf;
-use std::alloc::{AllocError, Allocator};
+use crate::errors::BuildError;
+use std::alloc::Allocator;
 use std::error::Error;
 use std::fmt;
 use uefi_device_nodes::{DeviceSubType, DeviceType};
@@ -53,31 +54,37 @@ enum Next<'a> {
     Stopped(&'a [u8]),
 }
 
-/// Adds the node that ends an instance.
-fn push_end<A: Allocator>(path: &mut DevicePathBuf<A>) -> Result<(), AllocError>
-    ensures { OnOk result (path.new ≡ path.old ++ end_instance ∷ []) }
+/// Adds the node that ends an instance. Refused for memory alone.
+fn push_end<A: Allocator>(path: &mut DevicePathBuf<A>) -> Result<(), BuildError>
+    ensures ok { OnOk result (path.new ≡ path.old ++ end_instance ∷ []) }
+    ensures memory { IfErr result (λ error. error ≡ BuildError.OutOfMemory) }
 {
     path.push(DeviceType(0x7f), DeviceSubType(0x01), &[])
-        .map_err(|_| AllocError)
 }
 
 /// Adds the node whose text bytes begin with, and returns what stands after it; `None` where they begin with
-/// none. A node that is read fits in a path (`fits` of `nodes_are_read`), so a push fails for memory alone.
+/// none. Refused for memory alone.
 fn push_node<'a, A: Allocator>(
     path: &mut DevicePathBuf<A>,
     content: &mut Vec<u8, A>,
     text: &'a [u8],
-) -> Result<Option<&'a [u8]>, AllocError>
-    ensures { IfOk result (λ read. MatchOption read (node_read text.now ≡ None)
+) -> Result<Option<&'a [u8]>, BuildError>
+    ensures ok { IfOk result (λ read. MatchOption read (node_read text.now ≡ None)
         (λ rest. (node : Node) × (node_read text.now ≡ Some (node, rest.now))
         × (path.new ≡ path.old ++ node ∷ []))) }
+    ensures memory { IfErr result (λ error. error ≡ BuildError.OutOfMemory) }
 {
-    let Some((device_type, sub_type, rest)) = read_node(content, text)? else {
+    nodes_are_read();
+    let Ok(read) = read_node(content, text) else {
+        return Err(BuildError::OutOfMemory);
+    };
+    let Some((device_type, sub_type, rest)) = read else {
         return Ok(None);
     };
-    path.push(DeviceType(device_type), DeviceSubType(sub_type), content)
-        .map_err(|_| AllocError)?;
-    Ok(Some(rest))
+    match path.push(DeviceType(device_type), DeviceSubType(sub_type), content) {
+        Ok(()) => Ok(Some(rest)),
+        Err(error) => Err(error),
+    }
 }
 
 /// Where the text of a node begins: at the start of an instance here, else after a slash.
@@ -100,9 +107,10 @@ fn push_next<'a, A: Allocator>(
     content: &mut Vec<u8, A>,
     at_start: bool,
     text: &'a [u8],
-) -> Result<Next<'a>, AllocError>
+) -> Result<Next<'a>, BuildError>
     requires { 0 < length text.now }
-    ensures { IfOk result (λ next. NextOf path.old path.new at_start text.now next) }
+    ensures memory { IfErr result (λ error. error ≡ BuildError.OutOfMemory) }
+    ensures ok { IfOk result (λ next. NextOf path.old path.new at_start text.now next) }
 {
     if let [b',', after @ ..] = text {
         push_end(path)?;

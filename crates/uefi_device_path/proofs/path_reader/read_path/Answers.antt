@@ -10,26 +10,26 @@ nodes-init g c = subst (λ (x : List Node). GoesOn x true c.args.text.now (path_
 
 pub nodes-preserved-in-Started : goal.nodes-preserved-in-Started
 nodes-preserved-in-Started g c =
-    let next = rw c.in-Started.is at c.in-Ok-push_next.ensures in
+    let next = rw c.in-Started.is at c.in-Ok-push_next.ensures.ok in
     (started c.nodes.path c.push_next.new.path c.nodes.at_start c.nodes.rest.now c.in-Started.after.now (path_read c.args.text.now) c.nodes.invariant next.0 next.1).0
 
 pub nodes-preserved : goal.nodes-preserved
 nodes-preserved g c =
-    let next = rw c.in-Went.is at c.in-Ok-push_next.ensures in
+    let next = rw c.in-Went.is at c.in-Ok-push_next.ensures.ok in
     let some : 0 < length c.nodes.rest.now = grind (arith, nat_tests) in
     (went c.nodes_are_read.ensures.takes c.nodes_are_read.ensures.starts
     c.nodes.path c.push_next.new.path c.nodes.at_start c.nodes.rest.now c.in-Went.after.now (path_read c.args.text.now) c.nodes.invariant some next).0
 
 pub nodes-smaller : goal.nodes-smaller
 nodes-smaller g c =
-    let next = rw c.in-Went.is at c.in-Ok-push_next.ensures in
+    let next = rw c.in-Went.is at c.in-Ok-push_next.ensures.ok in
     let some : 0 < length c.nodes.rest.now = grind (arith, nat_tests) in
     (went c.nodes_are_read.ensures.takes c.nodes_are_read.ensures.starts
     c.nodes.path c.push_next.new.path c.nodes.at_start c.nodes.rest.now c.in-Went.after.now (path_read c.args.text.now) c.nodes.invariant some next).1
 
 pub returns-in-Stopped-clause-refusal : goal.returns-in-Stopped-clause-refusal
 returns-in-Stopped-clause-refusal g c =
-    let next = rw c.in-Stopped.is at c.in-Ok-push_next.ensures in
+    let next = rw c.in-Stopped.is at c.in-Ok-push_next.ensures.ok in
     let some : 0 < length c.nodes.rest.now = grind (arith, nat_tests) in (
       c.in-Stopped.left.now,
       stopped c.nodes.path c.nodes.at_start c.nodes.rest.now c.in-Stopped.left.now (path_read c.args.text.now) c.nodes.invariant some next,
