@@ -7,7 +7,7 @@ use Rattle.uefi_node_reader.specs.Fields.{AreValues, Decimal, field_text, Piece,
 use Rattle.uefi_node_reader.specs.NamedFiles.{is_after_node}
 use Rattle.uefi_node_reader.specs.Forms.{Form, form_read, form_text, forms, forms_read, guid_partition, IsOfForm, IsOfOne, mbr_partition, named, nvme, other_acpi, pci, sata, under_pnp, usb, either_read}
 use Rattle.uefi_node_reader.proofs.FieldLaws.{field_again}
-use Rattle.uefi_node_reader.proofs.FormLaws.{IsPrinted, form_again, form_takes, floppy_is, guid_partition_is, keyboard_is, mbr_partition_is, nvme_is, other_acpi_is, parallel_is, pci_is, pci_root_is, pcie_root_is, sata_is, serial_is, under_pnp_is, usb_is}
+use Rattle.uefi_node_reader.proofs.FormLaws.{IsPrinted, form_again, form_fits, form_printed, form_takes, floppy_is, guid_partition_is, keyboard_is, mbr_partition_is, nvme_is, other_acpi_is, parallel_is, pci_is, pci_root_is, pcie_root_is, sata_is, serial_is, under_pnp_is, usb_is}
 
 -- each of these forms is as its nodes are printed
 abbrev ArePrinted : List Form → Type 0
@@ -70,7 +70,7 @@ first_again : (f : Form) (fs : List Form) → IsPrinted f → (node : Node) (of_
 first_again f fs is node o rest = ap (λ r. either_read r (forms_read fs (form_text f o.values ++ rest))) (form_again f is node o rest)
 
 printed : (f : Form) → IsPrinted f → (node : Node) (of_form : IsOfForm f node) → node_text false false node ≡ form_text f of_form.values
-printed f is node o = ap (λ (x : Node). node_text false false x) o.is ∙ is.text o.values o.are o.allowed
+printed f is node o = ap (λ (x : Node). node_text false false x) o.is ∙ form_printed f is o.values o.are o.allowed
 
 by_text : (f : Form) → IsPrinted f → (node : Node) (of_form : IsOfForm f node) (rest : List ℕ)
     → forms_read forms (form_text f of_form.values ++ rest) ≡ Some (node, rest)
@@ -94,31 +94,31 @@ no_guid (n ∷ vs) are rest =
 -- the text of a node of one of the forms is read as that node
 pub forms_again : (node : Node) → IsOfOne forms node → (rest : List ℕ) → forms_read forms (node_text false false node ++ rest) ≡ Some (node, rest)
 forms_again node (inl o) rest =
-    by_text (named (codes "PciRoot(0x") 3 10) pci_root_is node o rest (first_again (named (codes "PciRoot(0x") 3 10) (drop 1 forms) pci_root_is node o rest)
+    by_text _ pci_root_is node o rest (first_again _ (drop 1 forms) pci_root_is node o rest)
 forms_again node (inr (inl o)) rest =
-    by_text (named (codes "PcieRoot(0x") 8 10) pcie_root_is node o rest (first_again (named (codes "PcieRoot(0x") 8 10) (drop 2 forms) pcie_root_is node o rest)
+    by_text _ pcie_root_is node o rest (first_again _ (drop 2 forms) pcie_root_is node o rest)
 forms_again node (inr (inr (inl o))) rest =
-    by_text (named (codes "Floppy(0x") 4 6) floppy_is node o rest (first_again (named (codes "Floppy(0x") 4 6) (drop 3 forms) floppy_is node o rest)
+    by_text _ floppy_is node o rest (first_again _ (drop 3 forms) floppy_is node o rest)
 forms_again node (inr (inr (inr (inl o)))) rest =
-    by_text (named (codes "Keyboard(0x") 1 3) keyboard_is node o rest (first_again (named (codes "Keyboard(0x") 1 3) (drop 4 forms) keyboard_is node o rest)
+    by_text _ keyboard_is node o rest (first_again _ (drop 4 forms) keyboard_is node o rest)
 forms_again node (inr (inr (inr (inr (inl o))))) rest =
-    by_text (named (codes "Serial(0x") 1 5) serial_is node o rest (first_again (named (codes "Serial(0x") 1 5) (drop 5 forms) serial_is node o rest)
+    by_text _ serial_is node o rest (first_again _ (drop 5 forms) serial_is node o rest)
 forms_again node (inr (inr (inr (inr (inr (inl o)))))) rest =
-    by_text (named (codes "ParallelPort(0x") 1 4) parallel_is node o rest (first_again (named (codes "ParallelPort(0x") 1 4) (drop 6 forms) parallel_is node o rest)
+    by_text _ parallel_is node o rest (first_again _ (drop 6 forms) parallel_is node o rest)
 forms_again node (inr (inr (inr (inr (inr (inr (inl o))))))) rest =
-    by_text under_pnp under_pnp_is node o rest (first_again under_pnp (drop 7 forms) under_pnp_is node o rest)
+    by_text _ under_pnp_is node o rest (first_again _ (drop 7 forms) under_pnp_is node o rest)
 forms_again node (inr (inr (inr (inr (inr (inr (inr (inl o)))))))) rest =
-    by_text other_acpi other_acpi_is node o rest (first_again other_acpi (drop 8 forms) other_acpi_is node o rest)
+    by_text _ other_acpi_is node o rest (first_again _ (drop 8 forms) other_acpi_is node o rest)
 forms_again node (inr (inr (inr (inr (inr (inr (inr (inr (inl o))))))))) rest =
-    by_text pci pci_is node o rest (first_again pci (drop 9 forms) pci_is node o rest)
+    by_text _ pci_is node o rest (first_again _ (drop 9 forms) pci_is node o rest)
 forms_again node (inr (inr (inr (inr (inr (inr (inr (inr (inr (inl o)))))))))) rest =
-    by_text usb usb_is node o rest (first_again usb (drop 10 forms) usb_is node o rest)
+    by_text _ usb_is node o rest (first_again _ (drop 10 forms) usb_is node o rest)
 forms_again node (inr (inr (inr (inr (inr (inr (inr (inr (inr (inr (inl o))))))))))) rest =
-    by_text sata sata_is node o rest (first_again sata (drop 11 forms) sata_is node o rest)
+    by_text _ sata_is node o rest (first_again _ (drop 11 forms) sata_is node o rest)
 forms_again node (inr (inr (inr (inr (inr (inr (inr (inr (inr (inr (inr (inl o)))))))))))) rest =
-    by_text nvme nvme_is node o rest (first_again nvme (drop 12 forms) nvme_is node o rest)
+    by_text _ nvme_is node o rest (first_again _ (drop 12 forms) nvme_is node o rest)
 forms_again node (inr (inr (inr (inr (inr (inr (inr (inr (inr (inr (inr (inr (inl o))))))))))))) rest =
-    by_text guid_partition guid_partition_is node o rest (first_again guid_partition (drop 13 forms) guid_partition_is node o rest)
+    by_text _ guid_partition_is node o rest (first_again _ (drop 13 forms) guid_partition_is node o rest)
 forms_again node (inr (inr (inr (inr (inr (inr (inr (inr (inr (inr (inr (inr (inr (inl o)))))))))))))) rest =
     by_text mbr_partition mbr_partition_is node o rest
     (ap (λ r. either_read r (forms_read (drop 13 forms) (form_text mbr_partition o.values ++ rest))) (no_guid o.values o.are rest)
@@ -140,7 +140,7 @@ some_fits : (fs : List Form) → ArePrinted fs → (node : Node) → IsOfOne fs 
 some_fits [] are node one = absurd one
 some_fits (f ∷ fs) are node (inl o) = (
   ap (λ (x : Node). eqb x.device_type 0x7f) o.is ∙ are.0.no_end,
-  let size = ap (λ (x : Node). length x.content) o.is in omega (arith, are.0.fits o.values o.are),
+  let size = ap (λ (x : Node). length x.content) o.is in omega (arith, form_fits f are.0 o.values o.are),
 )
 some_fits (f ∷ fs) are node (inr one) = some_fits fs are.1 node one
 
