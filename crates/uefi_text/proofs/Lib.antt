@@ -1,3 +1,4 @@
 pub mod Values
+pub mod Items
 pub mod Runs
 pub mod PackedStrings
