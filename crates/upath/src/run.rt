@@ -25,6 +25,7 @@ use uefi_text::owned_strs::{CString16, FromStrError};
 /// A run so far: the path that the next line finds, and what was printed.
 #[derive(Drop)]
 pub(crate) struct Run<A: Allocator + Copy> {
+    alloc: A,
     path: PathBuf<A>,
     output: Vec<u8, A>,
 }
@@ -84,13 +85,10 @@ impl<A: Allocator + Copy> Run<A> {
         ensures output { IfOk result (λ run. run.output.items ≡ []) }
     {
         Ok(Run {
+            alloc,
             path: PathBuf::new(alloc)?,
             output: Vec::new(alloc),
         })
-    }
-
-    fn alloc(&self) -> A {
-        *self.output.allocator()
     }
 
     /// The string of a command's text. Where the text is refused this prints why, and returns `None`.
@@ -106,11 +104,11 @@ impl<A: Allocator + Copy> Run<A> {
             × (string ≡ chars text.now)
             × (self.new.output.items ≡ self.old.output.items))) }
     {
-        match CString16::try_from_str(self.alloc(), text) {
+        match CString16::try_from_str(self.alloc, text) {
             Ok(string) => Ok(Some(string)),
             Err(FromStrError::OutOfMemory) => Err(AllocError),
             Err(error) => {
-                let line = format!(in self.alloc(); "{error}")?;
+                let line = format!(in self.alloc; "{error}")?;
                 add_line(&mut self.output, &line)?;
                 Ok(None)
             }
@@ -132,7 +130,7 @@ impl<A: Allocator + Copy> Run<A> {
         ensures output { OnOk result (self.new.output.items
             ≡ self.old.output.items ++ path_line (after_command self.old.path command.entry)) }
     {
-        run_command(self.alloc(), &mut self.path, command)?;
+        run_command(self.alloc, &mut self.path, command)?;
         self.print_path()
     }
 
@@ -145,7 +143,7 @@ impl<A: Allocator + Copy> Run<A> {
         let Some(string) = self.read_text(text)? else {
             return Ok(());
         };
-        let Ok(path) = PathBuf::new_from_cstring16(self.alloc(), string) else {
+        let Ok(path) = PathBuf::new_from_cstring16(self.alloc, string) else {
             return Err(AllocError);
         };
         self.path = path;
@@ -164,17 +162,13 @@ impl<A: Allocator + Copy> Run<A> {
         }
     }
 
-    /// `join T`
+    /// `join T`: of the path between the lines a push, since nothing else keeps the path before it.
     fn join(&mut self, text: &str) -> Result<(), AllocError>
         ensures path { OnOk result (self.new.path ≡ path_after (join_text text.now) self.old.path) }
         ensures output { OnOk result
             (self.new.output.items ≡ self.old.output.items ++ printed_by (join_text text.now) self.old.path) }
     {
-        // Of the path between the lines a join is a push: nothing else keeps the path before it.
-        match self.read_text(text)? {
-            Some(string) => self.edit(PathCommand::Push(Path::new(string.as_cstr16()))),
-            None => Ok(()),
-        }
+        self.push(text)
     }
 
     /// `parent`
@@ -199,7 +193,7 @@ impl<A: Allocator + Copy> Run<A> {
             (self.new.output.items ≡ self.old.output.items ++ pieces_lines (components_of self.old.path)) }
     {
         let count = count_components(&self.path);
-        let line = format!(in self.alloc(); "pieces {count}")?;
+        let line = format!(in self.alloc; "pieces {count}")?;
         add_line(&mut self.output, &line)?;
         add_component_lines(&mut self.output, &self.path)
     }
@@ -212,7 +206,7 @@ impl<A: Allocator + Copy> Run<A> {
     {
         let parent = self.path.parent()?;
         let count = count_parents(&parent);
-        let line = format!(in self.alloc(); "parents {count}")?;
+        let line = format!(in self.alloc; "parents {count}")?;
         add_line(&mut self.output, &line)?;
         add_parent_lines(&mut self.output, parent)
     }
@@ -256,7 +250,7 @@ impl<A: Allocator + Copy> Run<A> {
         ensures output { OnOk result
             (self.new.output.items ≡ self.old.output.items ++ line (path_error_text error)) }
     {
-        let line = format!(in self.alloc(); "{error}")?;
+        let line = format!(in self.alloc; "{error}")?;
         add_line(&mut self.output, &line)
     }
 
@@ -278,7 +272,7 @@ impl<A: Allocator + Copy> Run<A> {
         ensures output { OnOk result (self.new.output.items ≡ self.old.output.items
             ++ norm_line (verdict self.old.path) (normal_text (normal_of (components_of self.old.path)))) }
     {
-        match self.path.as_path().normalize(self.alloc()) {
+        match self.path.as_path().normalize(self.alloc) {
             Ok(path) => add_text_line(&mut self.output, b"= ", path.to_cstr16().as_slice()),
             Err(NormalizeError::Invalid(error)) => self.print_fault(error),
             Err(NormalizeError::OutOfMemory) => Err(AllocError),
@@ -313,7 +307,11 @@ impl<A: Allocator + Copy> Run<A> {
     pub(crate) fn into_output(self) -> Vec<u8, A>
         ensures { result ≡ self.output }
     {
-        let Run { path: _, output } = self;
+        let Run {
+            alloc: _,
+            path: _,
+            output,
+        } = self;
         output
     }
 }
