@@ -1,8 +1,8 @@
 //! The calls that are timed, and the ones of this library behind C functions.
 use crate::Call;
 use crate::inputs::{
-    Inputs, ascii, cjk, early_emoji, early_latin1, empty_nodes, latin1, long_nodes, path,
-    uneven_path,
+    Inputs, ascii, cjk, dotted_path, early_emoji, early_latin1, empty_nodes, latin1, long_nodes,
+    path, uneven_path,
 };
 use crate::plain;
 
@@ -120,6 +120,7 @@ unsafe extern "C" {
     fn ours_parent(_: *const u16, _: usize, _: *const u16, _: usize, rounds: usize) -> usize;
     fn ours_validate_path(_: *const u16, _: usize, _: *const u16, _: usize, rounds: usize)
     -> usize;
+    fn ours_normalize(_: *const u16, _: usize, _: *const u16, _: usize, rounds: usize) -> usize;
     fn ours_path_buf_from(_: *const u16, _: usize, _: *const u16, _: usize, rounds: usize)
     -> usize;
     fn ours_path_push(_: *const u16, _: usize, _: usize, rounds: usize) -> usize;
@@ -514,6 +515,19 @@ mod ours {
         }
     }
 
+    pub fn normalize(inputs: &mut Inputs, rounds: usize) -> usize {
+        // SAFETY: each pointer comes with the length of the slice that it is of.
+        unsafe {
+            ours_normalize(
+                inputs.units[0].as_ptr(),
+                inputs.units[0].len(),
+                inputs.units[1].as_ptr(),
+                inputs.units[1].len(),
+                rounds,
+            )
+        }
+    }
+
     pub fn path_buf_from(inputs: &mut Inputs, rounds: usize) -> usize {
         // SAFETY: each pointer comes with the length of the slice that it is of.
         unsafe {
@@ -882,21 +896,6 @@ pub const CALLS: &[Call] = &[
         original: original!(parent),
         ours: ours::parent,
     },
-    // The crate keeps its `validate_path` to itself.
-    Call {
-        name: "validate",
-        sizes: SIZES,
-        inputs: path,
-        original: None,
-        ours: ours::validate,
-    },
-    Call {
-        name: "validate uneven",
-        sizes: SIZES,
-        inputs: uneven_path,
-        original: None,
-        ours: ours::validate,
-    },
     Call {
         name: "path_buf_from",
         sizes: SIZES,
@@ -917,6 +916,49 @@ pub const CALLS: &[Call] = &[
         inputs: path,
         original: original!(path_push),
         ours: ours::path_push,
+    },
+    // Beside plain Rust: the crate keeps its `validate_path` to itself, and has no normal paths.
+    Call {
+        name: "validate",
+        sizes: SIZES,
+        inputs: path,
+        original: Some(plain::validate),
+        ours: ours::validate,
+    },
+    Call {
+        name: "validate uneven",
+        sizes: SIZES,
+        inputs: uneven_path,
+        original: Some(plain::validate),
+        ours: ours::validate,
+    },
+    Call {
+        name: "validate dotted",
+        sizes: SIZES,
+        inputs: dotted_path,
+        original: Some(plain::validate),
+        ours: ours::validate,
+    },
+    Call {
+        name: "normalize",
+        sizes: SIZES,
+        inputs: path,
+        original: Some(plain::normalize),
+        ours: ours::normalize,
+    },
+    Call {
+        name: "normalize uneven",
+        sizes: SIZES,
+        inputs: uneven_path,
+        original: Some(plain::normalize),
+        ours: ours::normalize,
+    },
+    Call {
+        name: "normalize dotted",
+        sizes: SIZES,
+        inputs: dotted_path,
+        original: Some(plain::normalize),
+        ours: ours::normalize,
     },
     // Beside a reader in plain Rust.
     Call {

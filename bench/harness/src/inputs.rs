@@ -93,24 +93,28 @@ pub fn early_emoji(size: usize) -> Inputs {
     ascii_but('😀', size)
 }
 
+/// A path of some number of units, over and over the same components, none of them empty.
+fn path_of(components: &str, size: usize) -> Inputs {
+    let text: String = components.chars().cycle().take(size).collect();
+    Inputs::of(text.trim_end_matches('\\').to_owned() + if text.ends_with('\\') { "x" } else { "" })
+}
+
 /// A path of names of seven characters.
 pub fn path(size: usize) -> Inputs {
-    let text: String = "\\loader1\\kernel2\\initrd3"
-        .chars()
-        .cycle()
-        .take(size)
-        .collect();
-    Inputs::of(text.trim_end_matches('\\').to_owned() + if text.ends_with('\\') { "x" } else { "" })
+    path_of("\\loader1\\kernel2\\initrd3", size)
 }
 
 /// A path of names of many lengths.
 pub fn uneven_path(size: usize) -> Inputs {
-    let text: String = "\\EFI\\BOOT\\a\\systemd-bootx64.efi\\b2\\vmlinuz-linux-lts\\c"
-        .chars()
-        .cycle()
-        .take(size)
-        .collect();
-    Inputs::of(text.trim_end_matches('\\').to_owned() + if text.ends_with('\\') { "x" } else { "" })
+    path_of(
+        "\\EFI\\BOOT\\a\\systemd-bootx64.efi\\b2\\vmlinuz-linux-lts\\c",
+        size,
+    )
+}
+
+/// A path with `.` and `..` among its names, none of which climbs.
+pub fn dotted_path(size: usize) -> Inputs {
+    path_of("\\EFI\\.\\BOOT\\..\\debian\\shimx64.efi\\..", size)
 }
 
 /// A device path of some number of bytes, all of whose nodes have this many, and a load option of it.
