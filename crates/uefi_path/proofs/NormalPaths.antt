@@ -13,7 +13,8 @@ use Rattle.uefi_text.specs.Units.{IsText, IsTextUnit}
 use Rattle.uefi_path.proofs.Depth.{Accepted, Accepted-names, names_of_normal}
 use Rattle.uefi_path.proofs.ParentForm.{components_of-joined}
 use Rattle.uefi_path.proofs.Pushing.{separator_is_plain, with_separators-plain}
-use Rattle.uefi_path.proofs.Rewriting.{normal_forms_agree, normal_of-only}
+use Rattle.uefi_path.proofs.Rewriting.{name_kind, normal_forms_agree, normal_of-only}
+use Rattle.uefi_path.proofs.Splitting.{AreComponents-components_of}
 use Rattle.uefi_path.proofs.Validity.{All-good_plain, All-joined, valid-accepted, valid-components, valid-from}
 
 -- what holds of each piece holds of each of the normal form
@@ -97,3 +98,27 @@ separator_is_text = (omega arith, (omega arith, λ surrogate. omega (arith, surr
 pub IsText-normal_text : (names : List (List ℕ)) → All IsText names → IsText (normal_text names)
 IsText-normal_text [] texts = All-cons IsTextUnit separator [] separator_is_text (All-nil IsTextUnit)
 IsText-normal_text (q ∷ qs) texts = All-joined IsTextUnit (q ∷ qs) separator_is_text texts
+
+-- names are their own normal form
+normal_of-names : (ps : List (List ℕ)) → All IsName ps → normal_of ps ≡ ps
+normal_of-names [] all = refl
+normal_of-names (p ∷ []) all = ap (λ k. before_normal k p []) (name_kind p (All-head IsName p [] all))
+normal_of-names (p ∷ q ∷ ps) all =
+    let others = All-tail IsName p (q ∷ ps) all in
+    ap (before_normal (kind p) p) (normal_of-names (q ∷ ps) others)
+    ∙ ap (λ k. before_normal k p (q ∷ ps)) (name_kind p (All-head IsName p (q ∷ ps) all))
+    ∙ ap (λ k. before_piece k p q ps) (name_kind q (All-head IsName q ps others))
+
+normal_text-joined : (ps : List (List ℕ)) → joined ps ≢ [] → normal_text ps ≡ joined ps
+normal_text-joined [] some = absurd (some refl)
+normal_text-joined (p ∷ ps) some = refl
+
+-- so the normal path of names is their canonical text
+pub normal_text-names : (text : List ℕ) → verdict text ≡ None → canonical text ≢ [] → All IsName (components_of text)
+    → with_separators (canonical text) ≡ normal_text (normal_of (components_of text))
+normal_text-names text valid some names =
+    let pieces = components_of text in
+    let join : joined pieces ≡ canonical text = (AreComponents-components_of text).join in
+    let same : canonical text ≡ normal_text pieces = sym join ∙ sym (normal_text-joined pieces (λ e. some (sym join ∙ e))) in
+    ap with_separators same ∙ plain_normal_text pieces (valid-components text valid)
+    ∙ ap normal_text (sym (normal_of-names pieces names))

@@ -1,15 +1,16 @@
 //! Normal paths, which hold names alone: no `.` and no `..`. `specs/NormalForms.antt` says what they are.
-ghost use Rattle.std.specs.Prelude.{◌≡◌, ◌+◌, ◌<◌, ◌^◌, All, IfErr, IfOk, None, length, max};
+ghost use Rattle.std.specs.Prelude.{◌≡◌, ◌+◌, ◌<◌, ◌^◌, All, IfErr, IfOk, IsTrue, None, length, max};
 ghost use Rattle.uefi_path.specs.Components.{components_of, joined};
 ghost use Rattle.uefi_path.specs.NamesLeft.{IsWalk, names_left};
-ghost use Rattle.uefi_path.specs.NormalForms.{NormalForm, normal_of, normal_text};
+ghost use Rattle.uefi_path.specs.NormalForms.{IsName, NormalForm, normal_of, normal_text};
 ghost use Rattle.uefi_path.specs.Verdicts.{IsGood, normal_refusal, verdict};
 ghost use Rattle.uefi_path.specs.Views.{path_text};
 ghost use Rattle.uefi_text.specs.Units.{IsText, nul_terminated};
 
+use crate::kinds::{Kind, kind_of};
 use crate::names::NamesFromLast;
 use crate::path::Path;
-use crate::pathbuf::PathBuf;
+use crate::pathbuf::{PathBuf, copy_part};
 use crate::validation::{PathError, validate_path};
 use crate::written::write_names;
 use std::alloc::{AllocError, Allocator};
@@ -78,6 +79,32 @@ fn join_names<A: Allocator + Copy>(
     PathBuf::from_string(alloc, CString16::try_from_vec(units).unwrap())
 }
 
+/// Whether each component of a path is a name.
+fn holds_names_alone(path: Path<'_>) -> bool
+    ensures { IsTrue result → All IsName (components_of (path_text path.entry)) }
+{
+    for component in path.components() {
+        match kind_of(component) {
+            Kind::Name => {}
+            Kind::Dot | Kind::DotDot => return false,
+        }
+    }
+    true
+}
+
+/// The normal path of a valid one. Of a path of names alone that is its canonical text.
+fn make_normal<A: Allocator + Copy>(alloc: A, path: Path<'_>) -> Result<PathBuf<A>, AllocError>
+    requires { verdict (path_text path) ≡ None }
+    ensures { IfOk result (λ normal.
+        normal ≡ normal_text (normal_of (components_of (path_text path.entry)))) }
+{
+    let text = path.canonical();
+    if !text.is_empty() && holds_names_alone(path) {
+        return copy_part(alloc, text);
+    }
+    join_names(alloc, NamesFromLast::of(path))
+}
+
 /// Normal paths.
 impl<'a> Path<'a> {
     /// The normal path, which is owned: each component `.` is deleted, and each name with a `..`
@@ -85,9 +112,10 @@ impl<'a> Path<'a> {
     /// nothing is left the normal path is the lone separator.
     ///
     /// A path that is not valid is refused as `Invalid`, with the reason that [`validate_path`]
-    /// reports; `OutOfMemory` comes last. Two passes over the components after those of
-    /// [`validate_path`]. Takes memory as [`PathBuf::from`] does: once for the text, and once for the
-    /// places of its separators, where it has any.
+    /// reports; `OutOfMemory` comes last. After the passes of [`validate_path`] one sees whether all
+    /// components are names: then the text is copied, and else two more passes make the path. Takes
+    /// memory as [`PathBuf::from`] does: once for the text, and once for the places of its separators,
+    /// where it has any.
     pub fn normalize<A: Allocator + Copy>(&self, alloc: A) -> Result<PathBuf<A>, NormalizeError>
         ensures valid { IfOk result (λ path. verdict (path_text self.now) ≡ None) }
         ensures ok { IfOk result (λ path.
@@ -99,7 +127,7 @@ impl<'a> Path<'a> {
         if let Err(error) = validate_path(*self) {
             return Err(NormalizeError::Invalid(error));
         }
-        match join_names(alloc, NamesFromLast::of(*self)) {
+        match make_normal(alloc, *self) {
             Ok(path) => Ok(path),
             Err(AllocError) => Err(NormalizeError::OutOfMemory),
         }

@@ -78,7 +78,10 @@ fn parent_of<A: Allocator + Copy>(
 }
 
 /// Copies a part of a path, each slash replaced.
-fn copy_part<A: Allocator + Copy>(alloc: A, part: Char16Slice<'_>) -> Result<PathBuf<A>, AllocError>
+pub(crate) fn copy_part<A: Allocator + Copy>(
+    alloc: A,
+    part: Char16Slice<'_>,
+) -> Result<PathBuf<A>, AllocError>
     requires { IsText (units_of part) }
     ensures { IfOk result (λ path. path ≡ with_separators (units_of part.entry)) }
 {
