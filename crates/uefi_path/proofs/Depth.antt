@@ -1,8 +1,9 @@
 -- Components that the verdict accepts: they are good, and none climbs. So are a part of them and others in a row,
 -- and their normal form holds names alone.
-use Rattle.std.proofs.Common.{◌≡◌, ℕ, zero, suc, ◌+◌, ◌≤◌, List, [], ◌∷◌, ◌++◌, All, Option, None, Some, take, ap, sym, refl, subst, ◌∙◌, arith}
+use Rattle.std.proofs.Common.{◌≡◌, ℕ, zero, suc, ◌+◌, ◌<◌, ◌≤◌, ◌&&◌, Bool, true, false, nat_lt, IsTrue, List, [], ◌∷◌, ◌++◌, All, length, Option, None, Some, take, ap, sym, refl, subst, ◌∙◌, arith}
 use Rattle.std.specs.List.{slice_get}
 use Rattle.std.specs.Option.{option_or}
+use Rattle.std.proofs.lemmas.Bool.{ltb-true}
 use Rattle.std.proofs.lemmas.List.Elements.{All-cons, All-head, All-nil, All-tail}
 use Rattle.std.proofs.lemmas.Option.{same_Some}
 use Rattle.uefi_path.specs.Climbing.{NoneClimbs, counted_dot_dot, counted_name, depth_after, dot_dots, names}
@@ -196,8 +197,21 @@ all_names (c ∷ cs) begins = at (kind c) refl begins
 pub names_of_normal : (cs : List (List ℕ)) → Accepted cs 0 → All IsName (normal_of cs)
 names_of_normal cs accepted = all_names (normal_of cs) (normal_begins cs 0 accepted)
 
--- where the components that are left have the fault of all, so has the next of them, or it climbs, or there
--- is none
+-- one name more is left at most, and only after a name
+after_one : (k : Kind) (depth left : ℕ) → depth_after k depth ≡ Some left → (left ≤ depth + 1) × (depth < left → k ≡ Name)
+after_one Dot depth left e =
+    let same = same_Some depth left e in (omega (arith, same), λ more. absurd (omega (arith, same, more)))
+after_one DotDot zero left e = absurd (cc)
+after_one DotDot (suc depth) left e =
+    let same = same_Some depth left e in (omega (arith, same), λ more. absurd (omega (arith, same, more)))
+after_one Name depth left e = (omega (arith, same_Some (depth + 1) left e), λ more. refl)
+
+both : (a b : Bool) → IsTrue (a && b) → IsTrue a × IsTrue b
+both false b e = cc
+both true b e = (refl, e)
+
+-- where the components that are left have the fault of all, so has the next of them, or what is after it, or
+-- there is none
 module _ (all left : List (List ℕ)) (depth : ℕ) (same : first_fault left depth ≡ first_fault all 0) where
   pub fault_here : (c : List ℕ) (cs : List (List ℕ)) (error : PathError) → left ≡ c ∷ cs → fault c ≡ Some error
       → first_fault all 0 ≡ Some error
@@ -205,12 +219,24 @@ module _ (all left : List (List ℕ)) (depth : ℕ) (same : first_fault left dep
       sym same ∙ ap (λ pieces. first_fault pieces depth) e
       ∙ ap (λ o. option_or o (fault_at (depth_after (kind c) depth) (first_fault cs))) here
 
-  pub climbs_here : (c : List ℕ) (cs : List (List ℕ)) → left ≡ c ∷ cs → fault c ≡ None
-      → depth_after (kind c) depth ≡ None → first_fault all 0 ≡ Some ClimbsAboveRoot
-  climbs_here c cs e good up =
+  pub past_here : (c : List ℕ) (cs : List (List ℕ)) (after : Option ℕ) → left ≡ c ∷ cs → fault c ≡ None
+      → depth_after (kind c) depth ≡ after → first_fault all 0 ≡ fault_at after (first_fault cs)
+  past_here c cs after e good is =
       sym same ∙ ap (λ pieces. first_fault pieces depth) e
       ∙ ap (λ o. option_or o (fault_at (depth_after (kind c) depth) (first_fault cs))) good
-      ∙ ap (λ o. fault_at o (first_fault cs)) up
+      ∙ ap (λ o. fault_at o (first_fault cs)) is
 
   pub none_here : left ≡ [] → first_fault all 0 ≡ None
   none_here e = sym same ∙ ap (λ pieces. first_fault pieces depth) e
+
+  -- all are names where those left are, and so where it is one and the others are
+  pub names_here : (are : Bool) (c : List ℕ) (cs : List (List ℕ)) (after : ℕ) → (IsTrue are → All IsName left → All IsName all)
+      → left ≡ c ∷ cs → depth_after (kind c) depth ≡ Some after → IsTrue (are && nat_lt depth after) → All IsName cs → All IsName all
+  names_here are c cs after so_far e is more others =
+      let each = both are (nat_lt depth after) more in
+      let is_name = kind-Name c ((after_one (kind c) depth after is).1 (ltb-true depth after each.1)) in
+      so_far each.0 (subst (All IsName) (sym e) (All-cons IsName c cs is_name others))
+
+  pub room_here : (c : List ℕ) (cs : List (List ℕ)) (after limit : ℕ) → left ≡ c ∷ cs → depth_after (kind c) depth ≡ Some after
+      → depth + length left < limit → after + length cs < limit
+  room_here c cs after limit e is room = omega (arith, ap length e, (after_one (kind c) depth after is).0, room)

@@ -7,11 +7,10 @@ ghost use Rattle.uefi_path.specs.Verdicts.{IsGood, normal_refusal, verdict};
 ghost use Rattle.uefi_path.specs.Views.{path_text};
 ghost use Rattle.uefi_text.specs.Units.{IsText, nul_terminated};
 
-use crate::kinds::{Kind, kind_of};
 use crate::names::NamesFromLast;
 use crate::path::Path;
 use crate::pathbuf::{PathBuf, copy_part};
-use crate::validation::{PathError, validate_path};
+use crate::validation::{PathError, judge};
 use crate::written::write_names;
 use std::alloc::{AllocError, Allocator};
 use std::error::Error;
@@ -39,7 +38,7 @@ impl fmt::Display for NormalizeError {
     fn fmt<W: fmt::Write>(&self, f: &mut fmt::Formatter<W>) -> fmt::Result {
         match self {
             NormalizeError::Invalid(error) => fmt::Display::fmt(error, f),
-            NormalizeError::OutOfMemory => write!(f, "out of memory"),
+            NormalizeError::OutOfMemory => f.write_str("out of memory"),
         }
     }
 }
@@ -79,27 +78,20 @@ fn join_names<A: Allocator + Copy>(
     PathBuf::from_string(alloc, CString16::try_from_vec(units).unwrap())
 }
 
-/// Whether each component of a path is a name.
-fn holds_names_alone(path: Path<'_>) -> bool
-    ensures { IsTrue result → All IsName (components_of (path_text path.entry)) }
-{
-    for component in path.components() {
-        match kind_of(component) {
-            Kind::Name => {}
-            Kind::Dot | Kind::DotDot => return false,
-        }
-    }
-    true
-}
-
-/// The normal path of a valid one. Of a path of names alone that is its canonical text.
-fn make_normal<A: Allocator + Copy>(alloc: A, path: Path<'_>) -> Result<PathBuf<A>, AllocError>
-    requires { verdict (path_text path) ≡ None }
+/// The normal path of a valid one. Where all its components are known to be names that is its canonical
+/// text.
+fn make_normal<A: Allocator + Copy>(
+    alloc: A,
+    path: Path<'_>,
+    are_names: bool,
+) -> Result<PathBuf<A>, AllocError>
+    requires valid { verdict (path_text path) ≡ None }
+    requires names { IsTrue are_names → All IsName (components_of (path_text path)) }
     ensures { IfOk result (λ normal.
         normal ≡ normal_text (normal_of (components_of (path_text path.entry)))) }
 {
     let text = path.canonical();
-    if !text.is_empty() && holds_names_alone(path) {
+    if are_names && !text.is_empty() {
         return copy_part(alloc, text);
     }
     join_names(alloc, NamesFromLast::of(path))
@@ -111,9 +103,9 @@ impl<'a> Path<'a> {
     /// right after it, until neither is left. A name is any component but `.` and `..`. Where
     /// nothing is left the normal path is the lone separator.
     ///
-    /// A path that is not valid is refused as `Invalid`, with the reason that [`validate_path`]
-    /// reports; `OutOfMemory` comes last. After the passes of [`validate_path`] one sees whether all
-    /// components are names: then the text is copied, and else two more passes make the path. Takes
+    /// A path that is not valid is refused as `Invalid`, with the reason that `validate_path` reports;
+    /// `OutOfMemory` comes last. The passes of `validate_path` see whether all components are names:
+    /// then the text is copied, and else two more passes make the path. Takes
     /// memory as [`PathBuf::from`] does: once for the text, and once for the places of its separators,
     /// where it has any.
     pub fn normalize<A: Allocator + Copy>(&self, alloc: A) -> Result<PathBuf<A>, NormalizeError>
@@ -124,10 +116,11 @@ impl<'a> Path<'a> {
             (normal_of (components_of (path_text self.now)))) }
         ensures err { IfErr result (λ error. error ≡ normal_refusal (verdict (path_text self.now))) }
     {
-        if let Err(error) = validate_path(*self) {
-            return Err(NormalizeError::Invalid(error));
-        }
-        match make_normal(alloc, *self) {
+        let are_names = match judge(*self) {
+            Ok(are_names) => are_names,
+            Err(error) => return Err(NormalizeError::Invalid(error)),
+        };
+        match make_normal(alloc, *self, are_names) {
             Ok(path) => Ok(path),
             Err(AllocError) => Err(NormalizeError::OutOfMemory),
         }

@@ -1,8 +1,9 @@
 //! Which paths are accepted, and why the others are refused.
-ghost use Rattle.std.specs.Prelude.{◌≡◌, ◌+◌, ◌<◌, ◌^◌, ◌↔◌, IsOk, Option, find};
+ghost use Rattle.std.specs.Prelude.{◌≡◌, ◌+◌, ◌<◌, ◌^◌, ◌↔◌, All, IfOk, IsOk, IsTrue, Option, find};
 ghost use Rattle.std.specs.Result.{result_err};
 ghost use Rattle.uefi_path.specs.Climbing.{depth_after};
-ghost use Rattle.uefi_path.specs.NormalForms.{kind};
+ghost use Rattle.uefi_path.specs.Components.{components_of};
+ghost use Rattle.uefi_path.specs.NormalForms.{IsName, kind};
 ghost use Rattle.uefi_path.specs.Verdicts.{IsValid, fault, is_denied, verdict};
 ghost use Rattle.uefi_path.specs.Views.{path_text};
 ghost use Rattle.uefi_text.specs.Views.{units_of};
@@ -40,13 +41,13 @@ impl fmt::Display for PathError {
 
     fn fmt<W: fmt::Write>(&self, f: &mut fmt::Formatter<W>) -> fmt::Result {
         match self {
-            PathError::Empty => write!(f, "path is empty"),
-            PathError::EmptyComponent => write!(f, "path contains an empty component"),
+            PathError::Empty => f.write_str("path is empty"),
+            PathError::EmptyComponent => f.write_str("path contains an empty component"),
             PathError::IllegalChar(character) => {
                 let value = u16::from(*character);
                 write!(f, "path contains an illegal character (value {value})")
             }
-            PathError::ClimbsAboveRoot => write!(f, "path climbs above the root"),
+            PathError::ClimbsAboveRoot => f.write_str("path climbs above the root"),
         }
     }
 }
@@ -110,24 +111,30 @@ fn depth_after(depth: usize, component: Char16Slice<'_>) -> Option<usize>
     }
 }
 
-/// Why a path is refused, if it is.
-fn find_refusal(path: Path<'_>) -> Option<PathError>
-    ensures { result ≡ verdict (path_text path.entry) }
+/// Why a path is refused; or, of one that is accepted, whether each component is a name.
+pub(crate) fn judge(path: Path<'_>) -> Result<bool, PathError>
+    ensures refusal { result_err result ≡ verdict (path_text path.entry) }
+    ensures names { IfOk result (λ are_names.
+        IsTrue are_names → All IsName (components_of (path_text path.entry))) }
 {
     if path.is_empty() {
-        return Some(PathError::Empty);
+        return Err(PathError::Empty);
     }
     let mut depth = 0;
+    let mut are_names = true;
     for component in path.components() {
         if let Some(error) = find_fault(component) {
-            return Some(error);
+            return Err(error);
         }
         match depth_after(depth, component) {
-            Some(left) => depth = left,
-            None => return Some(PathError::ClimbsAboveRoot),
+            Some(left) => {
+                are_names &= depth < left;
+                depth = left;
+            }
+            None => return Err(PathError::ClimbsAboveRoot),
         }
     }
-    None
+    Ok(are_names)
 }
 
 /// Whether a path is accepted: `Ok`, or the fault of its first component that has one.
@@ -142,8 +149,8 @@ pub fn validate_path(path: Path<'_>) -> Result<(), PathError>
     ensures refusal { result_err result ≡ verdict (path_text path.entry) }
     ensures valid { IsOk result ↔ IsValid (path_text path.entry) }
 {
-    match find_refusal(path) {
-        Some(error) => Err(error),
-        None => Ok(()),
+    match judge(path) {
+        Ok(_) => Ok(()),
+        Err(error) => Err(error),
     }
 }

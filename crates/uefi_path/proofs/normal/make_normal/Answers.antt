@@ -5,11 +5,11 @@ use Rattle.uefi_path.specs.Views.{path_text}
 use Rattle.uefi_path.proofs.NormalPaths.{normal_text-names}
 use Rattle.uefi_path.proofs.normal.make_normal.Goals as goal
 
-pub returns-then-holds_names_alone : goal.returns-then-holds_names_alone
-returns-then-holds_names_alone g c =
+pub returns-then-not-is_empty : goal.returns-then-not-is_empty
+returns-then-not-is_empty g c =
     let text = path_text c.args.path in
     let some : canonical text ≢ [] = search rules in
     subst (λ units. IfOk c.copy_part.result (λ path. path ≡ units))
     (ap with_separators c.canonical-text.ensures.same
-    ∙ normal_text-names text c.requires some (c.holds_names_alone.ensures c.if-holds_names_alone.true))
+    ∙ normal_text-names text c.requires.valid some (c.requires.names c.if-are_names.true))
     c.copy_part.ensures
