@@ -4,7 +4,6 @@ ghost use Rattle.std.specs.Prelude.{◌≡◌};
 ghost use Rattle.upath.specs.Commands.{command_of, command_shown, verb_alone, verb_with};
 
 /// What a line asks for.
-#[derive(Clone, Copy, Debug)]
 pub(crate) enum Command<'a> {
     /// `from T`: the path becomes that of T.
     From(&'a str),

@@ -35,10 +35,10 @@ impl fmt::Display for JudgeError {
 
     fn fmt<W: fmt::Write>(&self, f: &mut fmt::Formatter<W>) -> fmt::Result {
         match self {
-            JudgeError::HalfUnit => write!(f, "odd number of bytes"),
+            JudgeError::HalfUnit => f.write_str("odd number of bytes"),
             JudgeError::Text(error) => fmt::Display::fmt(error, f),
             JudgeError::Invalid(error) => fmt::Display::fmt(error, f),
-            JudgeError::OutOfMemory => write!(f, "out of memory"),
+            JudgeError::OutOfMemory => f.write_str("out of memory"),
         }
     }
 }

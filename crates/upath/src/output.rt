@@ -1,4 +1,5 @@
 //! Lines of output, at the end of a vector.
+ghost use Rattle.std.specs.Fmt.{decimal};
 ghost use Rattle.std.specs.Prelude.{◌≡◌, ◌++◌, OnOk};
 ghost use Rattle.uefi_text.specs.Views.{units_of};
 ghost use Rattle.upath.specs.Output.{line, text_line};
@@ -12,6 +13,19 @@ pub(crate) fn add_line<A: Allocator>(output: &mut Vec<u8, A>, text: &str) -> Res
 {
     output.extend_from_slice(text.as_bytes())?;
     output.extend_from_slice(b"\n")
+}
+
+/// Adds a line: a word and a count in decimal.
+pub(crate) fn add_count_line<A: Allocator>(
+    alloc: A,
+    output: &mut Vec<u8, A>,
+    word: &str,
+    count: usize,
+) -> Result<(), AllocError>
+    ensures { OnOk result (output.new.items ≡ output.old.items ++ line (word.now ++ decimal count)) }
+{
+    let text = format!(in alloc; "{word}{count}")?;
+    add_line(output, &text)
 }
 
 /// Adds a line: a mark and the characters of a text.

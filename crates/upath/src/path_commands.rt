@@ -132,14 +132,14 @@ pub fn all_parents<A: Allocator + Copy>(
     ensures prefixes { IfOk result (λ parents.
         verdict path.now ≡ None → parents.items ≡ shorter_prefixes path.now) }
 {
-    // The two laws do nothing: they say which lists are the successive parents of a path.
-    laws::parent_count();
-    laws::parents_enumerate();
     let mut parents = Vec::new(alloc);
     let mut next = path.parent()?;
     while let Some(parent) = next {
         next = parent.parent()?;
         parents.push(parent)?;
     }
+    // The two laws do nothing: they say which lists are the successive parents of a path.
+    laws::parent_count();
+    laws::parents_enumerate();
     Ok(parents)
 }

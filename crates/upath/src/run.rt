@@ -10,12 +10,12 @@ ghost use Rattle.uefi_path.specs.Parents.{parent_text};
 ghost use Rattle.uefi_path.specs.PathErrors.{path_error_text};
 ghost use Rattle.uefi_path.specs.SuccessiveParents.{parent_chain, parents_of};
 ghost use Rattle.uefi_path.specs.Verdicts.{verdict};
-ghost use Rattle.upath.specs.Commands.{command_of, from_text, push_text, join_text, parent_path, eq_text, cmp_text};
+ghost use Rattle.upath.specs.Commands.{command_of, from_text, push_text, parent_path, eq_text, cmp_text};
 ghost use Rattle.upath.specs.Output.{check_line, line, norm_line, parents_lines, path_after, path_line, pieces_lines, printed_by, text_line};
 ghost use Rattle.upath.specs.PathCommands.{after_command};
 
 use crate::commands::Command;
-use crate::output::{add_line, add_text_line};
+use crate::output::{add_count_line, add_line, add_text_line};
 use crate::path_commands::{PathCommand, run_command};
 use std::alloc::{AllocError, Allocator};
 use std::cmp::Ordering;
@@ -162,15 +162,6 @@ impl<A: Allocator + Copy> Run<A> {
         }
     }
 
-    /// `join T`: of the path between the lines a push, since nothing else keeps the path before it.
-    fn join(&mut self, text: &str) -> Result<(), AllocError>
-        ensures path { OnOk result (self.new.path ≡ path_after (join_text text.now) self.old.path) }
-        ensures output { OnOk result
-            (self.new.output.items ≡ self.old.output.items ++ printed_by (join_text text.now) self.old.path) }
-    {
-        self.push(text)
-    }
-
     /// `parent`
     fn parent(&mut self) -> Result<(), AllocError>
         ensures path { OnOk result (self.new.path ≡ path_after parent_path self.old.path) }
@@ -193,8 +184,7 @@ impl<A: Allocator + Copy> Run<A> {
             (self.new.output.items ≡ self.old.output.items ++ pieces_lines (components_of self.old.path)) }
     {
         let count = count_components(&self.path);
-        let line = format!(in self.alloc; "pieces {count}")?;
-        add_line(&mut self.output, &line)?;
+        add_count_line(self.alloc, &mut self.output, "pieces ", count)?;
         add_component_lines(&mut self.output, &self.path)
     }
 
@@ -206,8 +196,7 @@ impl<A: Allocator + Copy> Run<A> {
     {
         let parent = self.path.parent()?;
         let count = count_parents(&parent);
-        let line = format!(in self.alloc; "parents {count}")?;
-        add_line(&mut self.output, &line)?;
+        add_count_line(self.alloc, &mut self.output, "parents ", count)?;
         add_parent_lines(&mut self.output, parent)
     }
 
@@ -288,8 +277,8 @@ impl<A: Allocator + Copy> Run<A> {
     {
         match Command::of_line(line) {
             Command::From(text) => self.from(text),
-            Command::Push(text) => self.push(text),
-            Command::Join(text) => self.join(text),
+            // Joined to the path between the lines, a text is pushed: nothing else keeps the path before it.
+            Command::Push(text) | Command::Join(text) => self.push(text),
             Command::Clear => self.edit(PathCommand::Clear),
             Command::Parent => self.parent(),
             Command::Pieces => self.pieces(),

@@ -34,9 +34,9 @@ impl fmt::Display for StreamFault {
 
     fn fmt<W: fmt::Write>(&self, f: &mut fmt::Formatter<W>) -> fmt::Result {
         match self {
-            StreamFault::Read => write!(f, "a read failed"),
-            StreamFault::Write => write!(f, "a write failed"),
-            StreamFault::OutOfMemory => write!(f, "out of memory"),
+            StreamFault::Read => f.write_str("a read failed"),
+            StreamFault::Write => f.write_str("a write failed"),
+            StreamFault::OutOfMemory => f.write_str("out of memory"),
         }
     }
 }
