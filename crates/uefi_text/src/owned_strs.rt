@@ -459,14 +459,13 @@ impl<A: Allocator + Clone> Clone for CString16<A> {
 
 /// Two strings are equal exactly when their texts are.
 impl<A: Allocator> PartialEq for CString16<A> {
-    ghost use Rattle.std.proofs.Common.{rules};
+    ghost use Rattle.std.specs.Cmp.{partial_equiv_from_equiv};
     ghost use Rattle.std.specs.Prelude.{nat_eq};
-    ghost use Rattle.std.specs.Cmp.Lexicographic.{pointwise};
-    ghost use Rattle.std.specs.Cmp.Rules.{comparing};
+    ghost use Rattle.std.specs.Cmp.Lexicographic.{nat_list_eq_equiv, pointwise};
 
     ghost eq = { pointwise nat_eq };
 
-    ghost laws = { Prim.search (comparing, rules) };
+    ghost laws = { partial_equiv_from_equiv nat_list_eq_equiv };
 
     fn eq(&self, other: &Self) -> bool {
         self.as_cstr16() == other.as_cstr16()
@@ -474,22 +473,19 @@ impl<A: Allocator> PartialEq for CString16<A> {
 }
 
 impl<A: Allocator> Eq for CString16<A> {
-    ghost use Rattle.std.proofs.Common.{rules};
-    ghost use Rattle.std.specs.Cmp.Rules.{comparing};
+    ghost use Rattle.std.specs.Cmp.Lexicographic.{nat_list_eq_equiv};
 
-    ghost laws = { Prim.search (comparing, rules) };
+    ghost laws = { nat_list_eq_equiv };
 }
 
 /// The order of the views: the list order of the code units.
 impl<A: Allocator> PartialOrd for CString16<A> {
-    ghost use Rattle.std.proofs.Common.{rules};
     ghost use Rattle.std.specs.Ordering.{nat_cmp, as_partial_cmp};
-    ghost use Rattle.std.specs.Cmp.Lexicographic.{slice_cmp};
-    ghost use Rattle.std.specs.Cmp.Rules.{comparing};
+    ghost use Rattle.std.specs.Cmp.Lexicographic.{slice_cmp, texts_po};
 
     ghost partial_cmp = { as_partial_cmp (slice_cmp nat_cmp) };
 
-    ghost laws = { Prim.search (comparing, rules) };
+    ghost laws = { texts_po };
 
     fn partial_cmp(&self, other: &Self) -> Option<Ordering> {
         Some(self.cmp(other))
@@ -498,18 +494,18 @@ impl<A: Allocator> PartialOrd for CString16<A> {
 
 /// `Equal` exactly for equal strings.
 impl<A: Allocator> Ord for CString16<A> {
-    ghost use Rattle.std.proofs.Common.{rules};
+    ghost use Rattle.std.proofs.Common.{refl};
     ghost use Rattle.std.specs.Ordering.{nat_cmp};
-    ghost use Rattle.std.specs.Cmp.Lexicographic.{slice_cmp};
-    ghost use Rattle.std.specs.Cmp.Rules.{comparing};
+    ghost use Rattle.std.specs.Cmp.Lexicographic.{slice_cmp, texts_ties};
+    ghost use Rattle.std.proofs.lemmas.Cmp.{nat_list_cmp_total};
 
     ghost cmp = { slice_cmp nat_cmp };
 
-    ghost total = { Prim.search (comparing, rules) };
+    ghost total = { nat_list_cmp_total };
 
-    ghost matches_partial_cmp = { Prim.search (comparing, rules) };
+    ghost matches_partial_cmp = { λ _ _. refl };
 
-    ghost matches_eq = { Prim.search (comparing, rules) };
+    ghost matches_eq = { texts_ties };
 
     fn cmp(&self, other: &Self) -> Ordering {
         self.as_cstr16().cmp(&other.as_cstr16())

@@ -329,15 +329,14 @@ impl<'a> fmt::Display for CStr16<'a> {
 
 /// Two strings are equal exactly when their texts are.
 impl<'a> PartialEq for CStr16<'a> {
-    ghost use Rattle.std.proofs.Common.{rules};
+    ghost use Rattle.std.specs.Cmp.{on_per, partial_equiv_from_equiv};
     ghost use Rattle.std.specs.Prelude.{nat_eq};
-    ghost use Rattle.std.specs.Cmp.Lexicographic.{pointwise};
-    ghost use Rattle.std.specs.Cmp.Rules.{comparing};
+    ghost use Rattle.std.specs.Cmp.Lexicographic.{nat_list_eq_equiv, pointwise};
     ghost use Rattle.uefi_text.specs.Views.{text_of};
 
     ghost eq = { λ a b. pointwise nat_eq (text_of a) (text_of b) };
 
-    ghost laws = { Prim.search (comparing, rules) };
+    ghost laws = { on_per text_of (partial_equiv_from_equiv nat_list_eq_equiv) };
 
     fn eq(&self, other: &Self) -> bool {
         are_same(self.to_u16_slice(), other.to_u16_slice())
@@ -345,23 +344,22 @@ impl<'a> PartialEq for CStr16<'a> {
 }
 
 impl<'a> Eq for CStr16<'a> {
-    ghost use Rattle.std.proofs.Common.{rules};
-    ghost use Rattle.std.specs.Cmp.Rules.{comparing};
+    ghost use Rattle.std.specs.Cmp.Lexicographic.{on_texts_equal};
+    ghost use Rattle.uefi_text.specs.Views.{text_of};
 
-    ghost laws = { Prim.search (comparing, rules) };
+    ghost laws = { on_texts_equal text_of };
 }
 
 /// The list order of the code units.
 impl<'a> PartialOrd for CStr16<'a> {
-    ghost use Rattle.std.proofs.Common.{rules};
+    ghost use Rattle.std.specs.Cmp.{on_po};
     ghost use Rattle.std.specs.Ordering.{nat_cmp, as_partial_cmp, on};
-    ghost use Rattle.std.specs.Cmp.Lexicographic.{slice_cmp};
-    ghost use Rattle.std.specs.Cmp.Rules.{comparing};
+    ghost use Rattle.std.specs.Cmp.Lexicographic.{slice_cmp, texts_po};
     ghost use Rattle.uefi_text.specs.Views.{text_of};
 
     ghost partial_cmp = { as_partial_cmp (on text_of (slice_cmp nat_cmp)) };
 
-    ghost laws = { Prim.search (comparing, rules) };
+    ghost laws = { on_po text_of texts_po };
 
     fn partial_cmp(&self, other: &Self) -> Option<Ordering> {
         Some(Ord::cmp(self, other))
@@ -370,19 +368,18 @@ impl<'a> PartialOrd for CStr16<'a> {
 
 /// `Equal` exactly for equal strings.
 impl<'a> Ord for CStr16<'a> {
-    ghost use Rattle.std.proofs.Common.{rules};
+    ghost use Rattle.std.proofs.Common.{refl};
     ghost use Rattle.std.specs.Ordering.{nat_cmp, on};
-    ghost use Rattle.std.specs.Cmp.Lexicographic.{slice_cmp};
-    ghost use Rattle.std.specs.Cmp.Rules.{comparing};
+    ghost use Rattle.std.specs.Cmp.Lexicographic.{on_texts, slice_cmp, texts_ties};
     ghost use Rattle.uefi_text.specs.Views.{text_of};
 
     ghost cmp = { on text_of (slice_cmp nat_cmp) };
 
-    ghost total = { Prim.search (comparing, rules) };
+    ghost total = { on_texts text_of };
 
-    ghost matches_partial_cmp = { Prim.search (comparing, rules) };
+    ghost matches_partial_cmp = { λ _ _. refl };
 
-    ghost matches_eq = { Prim.search (comparing, rules) };
+    ghost matches_eq = { λ a b. texts_ties (text_of a) (text_of b) };
 
     fn cmp(&self, other: &Self) -> Ordering {
         self.to_u16_slice().cmp(other.to_u16_slice())
@@ -593,15 +590,14 @@ impl<'a> Char16Slice<'a> {
 
 /// Two slices are equal exactly when their code units are.
 impl<'a> PartialEq for Char16Slice<'a> {
-    ghost use Rattle.std.proofs.Common.{rules};
+    ghost use Rattle.std.specs.Cmp.{on_per, partial_equiv_from_equiv};
     ghost use Rattle.std.specs.Prelude.{nat_eq};
-    ghost use Rattle.std.specs.Cmp.Lexicographic.{pointwise};
-    ghost use Rattle.std.specs.Cmp.Rules.{comparing};
+    ghost use Rattle.std.specs.Cmp.Lexicographic.{nat_list_eq_equiv, pointwise};
     ghost use Rattle.uefi_text.specs.Views.{units_of};
 
     ghost eq = { λ a b. pointwise nat_eq (units_of a) (units_of b) };
 
-    ghost laws = { Prim.search (comparing, rules) };
+    ghost laws = { on_per units_of (partial_equiv_from_equiv nat_list_eq_equiv) };
 
     fn eq(&self, other: &Self) -> bool {
         are_same(self.units, other.units)
@@ -609,23 +605,22 @@ impl<'a> PartialEq for Char16Slice<'a> {
 }
 
 impl<'a> Eq for Char16Slice<'a> {
-    ghost use Rattle.std.proofs.Common.{rules};
-    ghost use Rattle.std.specs.Cmp.Rules.{comparing};
+    ghost use Rattle.std.specs.Cmp.Lexicographic.{on_texts_equal};
+    ghost use Rattle.uefi_text.specs.Views.{units_of};
 
-    ghost laws = { Prim.search (comparing, rules) };
+    ghost laws = { on_texts_equal units_of };
 }
 
 /// The list order of the code units.
 impl<'a> PartialOrd for Char16Slice<'a> {
-    ghost use Rattle.std.proofs.Common.{rules};
+    ghost use Rattle.std.specs.Cmp.{on_po};
     ghost use Rattle.std.specs.Ordering.{nat_cmp, as_partial_cmp, on};
-    ghost use Rattle.std.specs.Cmp.Lexicographic.{slice_cmp};
-    ghost use Rattle.std.specs.Cmp.Rules.{comparing};
+    ghost use Rattle.std.specs.Cmp.Lexicographic.{slice_cmp, texts_po};
     ghost use Rattle.uefi_text.specs.Views.{units_of};
 
     ghost partial_cmp = { as_partial_cmp (on units_of (slice_cmp nat_cmp)) };
 
-    ghost laws = { Prim.search (comparing, rules) };
+    ghost laws = { on_po units_of texts_po };
 
     fn partial_cmp(&self, other: &Self) -> Option<Ordering> {
         Some(self.cmp(other))
@@ -634,19 +629,18 @@ impl<'a> PartialOrd for Char16Slice<'a> {
 
 /// `Equal` exactly for equal slices.
 impl<'a> Ord for Char16Slice<'a> {
-    ghost use Rattle.std.proofs.Common.{rules};
+    ghost use Rattle.std.proofs.Common.{refl};
     ghost use Rattle.std.specs.Ordering.{nat_cmp, on};
-    ghost use Rattle.std.specs.Cmp.Lexicographic.{slice_cmp};
-    ghost use Rattle.std.specs.Cmp.Rules.{comparing};
+    ghost use Rattle.std.specs.Cmp.Lexicographic.{on_texts, slice_cmp, texts_ties};
     ghost use Rattle.uefi_text.specs.Views.{units_of};
 
     ghost cmp = { on units_of (slice_cmp nat_cmp) };
 
-    ghost total = { Prim.search (comparing, rules) };
+    ghost total = { on_texts units_of };
 
-    ghost matches_partial_cmp = { Prim.search (comparing, rules) };
+    ghost matches_partial_cmp = { λ _ _. refl };
 
-    ghost matches_eq = { Prim.search (comparing, rules) };
+    ghost matches_eq = { λ a b. texts_ties (units_of a) (units_of b) };
 
     fn cmp(&self, other: &Self) -> Ordering {
         self.units.cmp(other.units)
