@@ -1,6 +1,6 @@
 //! Code units of Rust texts: in a vector, where the text is one of UCS-2, or in a buffer; and compared
 //! with others. Characters are decoded one by one, or eight at a time where each has three bytes.
-ghost use Rattle.std.specs.Prelude.{All, IsTrue, ◌↔◌, ◌≢◌, ◌∷◌, ◌≡◌, ◌+◌, ◌<◌, ◌≤◌, ◌++◌, if◌then◌else◌, None, Some, drop, find, length, take, unwrap_or, IfOk, IfErr, IfSome};
+ghost use Rattle.std.specs.Prelude.{All, IsTrue, ◌↔◌, ◌≢◌, ◌∷◌, ◌≡◌, ◌+◌, ◌<◌, ◌≤◌, ◌++◌, if◌then◌else◌, None, Some, drop, find, length, take, unwrap_or, IfOk, IfErr, IfSome, IsSome};
 ghost use Rattle.std.specs.Option.{SomeIff};
 ghost use Rattle.std.specs.Vec.{vec_len, vec_capacity};
 ghost use Rattle.std.specs.Char.Escape.{encode_utf16};
@@ -105,6 +105,7 @@ fn read_wide<'a>(text: &'a str, eight: &mut [u16; 8]) -> Option<&'a str>
     if bytes.len() < 24 {
         return None;
     }
+    let rest = &bytes[24..];
     let front = u8x16::from_slice(bytes);
     let back = u8x16::from_slice(&bytes[8..]);
     let first: u8x8 = front.shuffle(back, [0, 3, 6, 9, 12, 15, 26, 29]);
@@ -121,7 +122,7 @@ fn read_wide<'a>(text: &'a str, eight: &mut [u16; 8]) -> Option<&'a str>
     let units = high + middle + third.cast::<u16>() - u16x8::splat(0x2080);
     *eight = units.to_array();
     // SAFETY: the bytes from there on are UTF-8, since a character ends before them.
-    Some(unsafe { str::from_utf8_unchecked(&bytes[24..]) })
+    Some(unsafe { str::from_utf8_unchecked(rest) })
 }
 
 /// Reads the first eight characters of a text one by one, where a UCS-2 text holds each of them, and
@@ -201,6 +202,22 @@ fn refusal_of_text(text: &str) -> FromStrError
     }
 }
 
+/// The units of a text of UCS-2 and a NUL, unless memory is refused; `None` exactly for other texts.
+fn try_units<A: Allocator>(alloc: A, text: &str) -> Option<Result<Vec<u16, A>, AllocError>>
+    ensures some { IsSome result ↔ (find is_deciding_char (chars text.now) ≡ None) }
+    ensures units { IfSome result (λ tried.
+        IfOk tried (λ units. units.items ≡ nul_terminated (chars text.now))) }
+{
+    if is_ascii_text(text.as_bytes()) {
+        return Some(units_of_ascii(alloc, text.as_bytes()));
+    }
+    if text.len() < FEW && is_undecided(text) {
+        return Some(units_of_few_chars(alloc, text));
+    }
+    let len = undecided_len(text)?;
+    Some(units_of_chars(alloc, text, len))
+}
+
 /// The units of a text of UCS-2 and a NUL, in one allocation. It has just their room, unless the text is
 /// short.
 pub fn units_of_text<A: Allocator>(alloc: A, text: &str) -> Result<Vec<u16, A>, FromStrError>
@@ -209,16 +226,11 @@ pub fn units_of_text<A: Allocator>(alloc: A, text: &str) -> Result<Vec<u16, A>, 
     ensures refusal { IfErr result (λ error.
         error ≡ unwrap_or (from_str_refusal (chars text.now)) FromStrError.OutOfMemory) }
 {
-    if is_ascii_text(text.as_bytes()) {
-        return units_of_ascii(alloc, text.as_bytes()).map_err(|_| FromStrError::OutOfMemory);
+    match try_units(alloc, text) {
+        Some(Ok(units)) => Ok(units),
+        Some(Err(AllocError)) => Err(FromStrError::OutOfMemory),
+        None => Err(refusal_of_text(text)),
     }
-    if text.len() < FEW && is_undecided(text) {
-        return units_of_few_chars(alloc, text).map_err(|_| FromStrError::OutOfMemory);
-    }
-    let Some(len) = undecided_len(text) else {
-        return Err(refusal_of_text(text));
-    };
-    units_of_chars(alloc, text, len).map_err(|_| FromStrError::OutOfMemory)
 }
 
 /// Writes a Rust text and a NUL into the prefix of a buffer, and returns how many units they are:

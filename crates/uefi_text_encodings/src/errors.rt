@@ -27,8 +27,8 @@ impl fmt::Display for FromSliceUntilNulError {
     fn fmt<W: fmt::Write>(&self, f: &mut fmt::Formatter<W>) -> fmt::Result {
         match self {
             Self::InvalidChar(place) => write!(f, "invalid character at index {place}"),
-            Self::NoNul => write!(f, "no nul character"),
-            Self::OutOfMemory => write!(f, "out of memory"),
+            Self::NoNul => f.write_str("no nul character"),
+            Self::OutOfMemory => f.write_str("out of memory"),
         }
     }
 }
@@ -67,9 +67,9 @@ impl fmt::Display for FromSliceWithNulError {
         match self {
             Self::InvalidChar(place) => write!(f, "invalid character at index {place}"),
             Self::InteriorNul(place) => write!(f, "interior null character at index {place}"),
-            Self::NotNulTerminated => write!(f, "not null-terminated"),
-            Self::NotAligned => write!(f, "slice is not aligned to a 16-bit boundary"),
-            Self::OutOfMemory => write!(f, "out of memory"),
+            Self::NotNulTerminated => f.write_str("not null-terminated"),
+            Self::NotAligned => f.write_str("slice is not aligned to a 16-bit boundary"),
+            Self::OutOfMemory => f.write_str("out of memory"),
         }
     }
 }
@@ -103,8 +103,8 @@ impl fmt::Display for UnalignedCStr16Error {
         match self {
             Self::InvalidChar(place) => write!(f, "invalid character at index {place}"),
             Self::InteriorNul(place) => write!(f, "interior null character at index {place}"),
-            Self::NotNulTerminated => write!(f, "not null-terminated"),
-            Self::BufferTooSmall => write!(f, "buffer too small"),
+            Self::NotNulTerminated => f.write_str("not null-terminated"),
+            Self::BufferTooSmall => f.write_str("buffer too small"),
         }
     }
 }
@@ -136,7 +136,7 @@ impl fmt::Display for FromStrWithBufError {
         match self {
             Self::InvalidChar(place) => write!(f, "invalid character at index {place}"),
             Self::InteriorNul(place) => write!(f, "interior null character at index {place}"),
-            Self::BufferTooSmall => write!(f, "buffer too small"),
+            Self::BufferTooSmall => f.write_str("buffer too small"),
         }
     }
 }

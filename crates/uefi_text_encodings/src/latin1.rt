@@ -62,15 +62,14 @@ impl<'a> CStr8<'a> {
 
 /// Two strings are equal exactly when their bytes are.
 impl<'a> PartialEq for CStr8<'a> {
-    ghost use Rattle.std.proofs.Common.{rules};
+    ghost use Rattle.std.specs.Cmp.{on_per, partial_equiv_from_equiv};
     ghost use Rattle.std.specs.Prelude.{nat_eq};
-    ghost use Rattle.std.specs.Cmp.Lexicographic.{pointwise};
-    ghost use Rattle.std.specs.Cmp.Rules.{comparing};
+    ghost use Rattle.std.specs.Cmp.Lexicographic.{nat_list_eq_equiv, pointwise};
     ghost use Rattle.uefi_text_encodings.specs.Views.{bytes_of};
 
     ghost eq = { λ a b. pointwise nat_eq (bytes_of a) (bytes_of b) };
 
-    ghost laws = { Prim.search (comparing, rules) };
+    ghost laws = { on_per bytes_of (partial_equiv_from_equiv nat_list_eq_equiv) };
 
     fn eq(&self, other: &Self) -> bool {
         self.bytes == other.bytes
@@ -78,23 +77,22 @@ impl<'a> PartialEq for CStr8<'a> {
 }
 
 impl<'a> Eq for CStr8<'a> {
-    ghost use Rattle.std.proofs.Common.{rules};
-    ghost use Rattle.std.specs.Cmp.Rules.{comparing};
+    ghost use Rattle.std.specs.Cmp.Lexicographic.{on_texts_equal};
+    ghost use Rattle.uefi_text_encodings.specs.Views.{bytes_of};
 
-    ghost laws = { Prim.search (comparing, rules) };
+    ghost laws = { on_texts_equal bytes_of };
 }
 
 /// The list order of the bytes.
 impl<'a> PartialOrd for CStr8<'a> {
-    ghost use Rattle.std.proofs.Common.{rules};
+    ghost use Rattle.std.specs.Cmp.{on_po};
     ghost use Rattle.std.specs.Ordering.{nat_cmp, as_partial_cmp, on};
-    ghost use Rattle.std.specs.Cmp.Lexicographic.{slice_cmp};
-    ghost use Rattle.std.specs.Cmp.Rules.{comparing};
+    ghost use Rattle.std.specs.Cmp.Lexicographic.{slice_cmp, texts_po};
     ghost use Rattle.uefi_text_encodings.specs.Views.{bytes_of};
 
     ghost partial_cmp = { as_partial_cmp (on bytes_of (slice_cmp nat_cmp)) };
 
-    ghost laws = { Prim.search (comparing, rules) };
+    ghost laws = { on_po bytes_of texts_po };
 
     fn partial_cmp(&self, other: &Self) -> Option<Ordering> {
         Some(self.cmp(other))
@@ -103,19 +101,18 @@ impl<'a> PartialOrd for CStr8<'a> {
 
 /// `Equal` exactly for equal strings.
 impl<'a> Ord for CStr8<'a> {
-    ghost use Rattle.std.proofs.Common.{rules};
+    ghost use Rattle.std.proofs.Common.{refl};
     ghost use Rattle.std.specs.Ordering.{nat_cmp, on};
-    ghost use Rattle.std.specs.Cmp.Lexicographic.{slice_cmp};
-    ghost use Rattle.std.specs.Cmp.Rules.{comparing};
+    ghost use Rattle.std.specs.Cmp.Lexicographic.{on_texts, slice_cmp, texts_ties};
     ghost use Rattle.uefi_text_encodings.specs.Views.{bytes_of};
 
     ghost cmp = { on bytes_of (slice_cmp nat_cmp) };
 
-    ghost total = { Prim.search (comparing, rules) };
+    ghost total = { on_texts bytes_of };
 
-    ghost matches_partial_cmp = { Prim.search (comparing, rules) };
+    ghost matches_partial_cmp = { λ _ _. refl };
 
-    ghost matches_eq = { Prim.search (comparing, rules) };
+    ghost matches_eq = { λ a b. texts_ties (bytes_of a) (bytes_of b) };
 
     fn cmp(&self, other: &Self) -> Ordering {
         self.bytes.cmp(&other.bytes)

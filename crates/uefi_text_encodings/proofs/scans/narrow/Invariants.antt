@@ -1,6 +1,6 @@
-use Rattle.std.proofs.Common.{◌≡◌, ◌++◌, take, drop}
+use Rattle.std.proofs.Common.{◌≡◌, take}
 use Rattle.uefi_text_encodings.proofs.scans.narrow.Given as goal
 
--- the bytes so far are units, and the others stand unchanged
+-- the bytes so far are units
 abbrev pub invariant-loop-i : goal.invariant-loop-i
-invariant-loop-i l = l.bytes ≡ take l.i l.units ++ drop l.i l.initial.bytes
+invariant-loop-i l = take l.i l.bytes ≡ take l.i l.units

@@ -3,7 +3,7 @@ use Rattle.std.proofs.Common.{All, subst, arith}
 use Rattle.std.proofs.lemmas.Grind.{common_steps}
 use Rattle.uefi_text_encodings.specs.Scans.{IsAsciiTextByte}
 use Rattle.uefi_text_encodings.proofs.Utf8Bytes.{ascii_text_chars}
-use Rattle.uefi_text_encodings.proofs.code_units.units_of_text.Goals as goal
+use Rattle.uefi_text_encodings.proofs.code_units.try_units.Goals as goal
 
 pub returns-then-is_ascii_text : goal.returns-then-is_ascii_text
 returns-then-is_ascii_text g c =
