@@ -28,12 +28,12 @@ impl fmt::Display for NodeError {
 
     fn fmt<W: fmt::Write>(&self, f: &mut fmt::Formatter<W>) -> fmt::Result {
         match self {
-            Self::Missing => write!(f, "no end node ends the path"),
-            Self::TruncatedHeader => write!(f, "a node's header is cut"),
-            Self::UnknownEnd => write!(f, "an end node ends neither a path nor an instance"),
-            Self::LengthBelowHeader => write!(f, "a node's length is less than its header's"),
-            Self::EndWithData => write!(f, "an end node's length is more than its header's"),
-            Self::BeyondEnd => write!(f, "a node's length is more than the bytes have left"),
+            Self::Missing => f.write_str("no end node ends the path"),
+            Self::TruncatedHeader => f.write_str("a node's header is cut"),
+            Self::UnknownEnd => f.write_str("an end node ends neither a path nor an instance"),
+            Self::LengthBelowHeader => f.write_str("a node's length is less than its header's"),
+            Self::EndWithData => f.write_str("an end node's length is more than its header's"),
+            Self::BeyondEnd => f.write_str("a node's length is more than the bytes have left"),
         }
     }
 }
@@ -58,8 +58,8 @@ impl fmt::Display for NodeConversionError {
 
     fn fmt<W: fmt::Write>(&self, f: &mut fmt::Formatter<W>) -> fmt::Result {
         match self {
-            Self::DifferentType => write!(f, "the node is of another type or sub-type"),
-            Self::InvalidLength => write!(f, "no node of this kind has this length"),
+            Self::DifferentType => f.write_str("the node is of another type or sub-type"),
+            Self::InvalidLength => f.write_str("no node of this kind has this length"),
         }
     }
 }

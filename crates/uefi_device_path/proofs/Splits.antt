@@ -224,12 +224,3 @@ refused_once bytes e f one other =
     let long : length (joined other.0) ≡ length (joined one.0) = ap (λ ns. length (joined ns)) (sym both.0) in
     let offset : f.offset ≡ e.offset = omega (arith, other.2.offset, one.2.offset, place, long) in
     same_error f.cause e.cause f.offset e.offset reason offset
-
--- what is at fault lies within the bytes
-pub fault_within : (rest : List ℕ) (cause : NodeError) → node_fault rest ≡ Some cause → fault_place cause ≤ length rest
-fault_within rest Missing e = omega arith
-fault_within rest TruncatedHeader e = omega arith
-fault_within rest UnknownEnd e = grind (arith, common_steps)
-fault_within rest LengthBelowHeader e = grind (arith, common_steps)
-fault_within rest EndWithData e = grind (arith, common_steps)
-fault_within rest BeyondEnd e = grind (arith, common_steps)

@@ -49,9 +49,9 @@ impl fmt::Display for FilePathCause {
 
     fn fmt<W: fmt::Write>(&self, f: &mut fmt::Formatter<W>) -> fmt::Result {
         match self {
-            Self::HalfUnit => write!(f, "odd number of bytes"),
+            Self::HalfUnit => f.write_str("odd number of bytes"),
             Self::Text(error) => write!(f, "{error}"),
-            Self::OutOfMemory => write!(f, "out of memory"),
+            Self::OutOfMemory => f.write_str("out of memory"),
         }
     }
 }
@@ -156,10 +156,10 @@ impl fmt::Display for LoadOptionCause {
 
     fn fmt<W: fmt::Write>(&self, f: &mut fmt::Formatter<W>) -> fmt::Result {
         match self {
-            Self::TooShort => write!(f, "the load option ends before its description"),
-            Self::DescriptionWithoutEnd => write!(f, "no NUL ends the description"),
-            Self::ListBeyondEnd => write!(f, "the file path list is longer than what is left"),
-            Self::EmptyList => write!(f, "the file path list is empty"),
+            Self::TooShort => f.write_str("the load option ends before its description"),
+            Self::DescriptionWithoutEnd => f.write_str("no NUL ends the description"),
+            Self::ListBeyondEnd => f.write_str("the file path list is longer than what is left"),
+            Self::EmptyList => f.write_str("the file path list is empty"),
             Self::FilePathList(cause) => write!(f, "{cause}"),
         }
     }
@@ -218,9 +218,9 @@ impl fmt::Display for BuildError {
                 f,
                 "the node ends no instance and may not stand before the end"
             ),
-            Self::NodeTooLong => write!(f, "the node is longer than its header can state"),
+            Self::NodeTooLong => f.write_str("the node is longer than its header can state"),
             Self::BufferTooSmall(needed) => write!(f, "the path has {needed} bytes"),
-            Self::OutOfMemory => write!(f, "out of memory"),
+            Self::OutOfMemory => f.write_str("out of memory"),
         }
     }
 }
@@ -254,14 +254,14 @@ impl fmt::Display for OptionBuildError {
     fn fmt<W: fmt::Write>(&self, f: &mut fmt::Formatter<W>) -> fmt::Result {
         match self {
             Self::NulInDescription(place) => write!(f, "NUL in the description, at {place}"),
-            Self::EmptyList => write!(f, "the file path list is empty"),
+            Self::EmptyList => f.write_str("the file path list is empty"),
             Self::ListTooLong => write!(
                 f,
                 "the file path list is longer than its header can state"
             ),
-            Self::TooLong => write!(f, "the load option is longer than memory"),
+            Self::TooLong => f.write_str("the load option is longer than memory"),
             Self::BufferTooSmall(needed) => write!(f, "the load option has {needed} bytes"),
-            Self::OutOfMemory => write!(f, "out of memory"),
+            Self::OutOfMemory => f.write_str("out of memory"),
         }
     }
 }

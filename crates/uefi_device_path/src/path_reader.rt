@@ -36,7 +36,7 @@ impl fmt::Display for PathTextError {
     fn fmt<W: fmt::Write>(&self, f: &mut fmt::Formatter<W>) -> fmt::Result {
         match self {
             Self::NoNode(offset) => write!(f, "no node at offset {offset}"),
-            Self::OutOfMemory => write!(f, "out of memory"),
+            Self::OutOfMemory => f.write_str("out of memory"),
         }
     }
 }

@@ -9,7 +9,7 @@ use Rattle.std.proofs.lemmas.List.Elements.{All-head, All-tail}
 use Rattle.std.proofs.lemmas.List.Quantifiers.{position-Some}
 use Rattle.std.proofs.lemmas.Grind.{common_steps}
 use Rattle.std.proofs.Math.Seq.{get_or-append_seam}
-use Rattle.std.proofs.Math.Utf8.{scalar, scalars}
+use Rattle.std.proofs.Math.Utf8.{scalars}
 use Rattle.uefi_text_encodings.specs.Units.{BeginsWithString, IsChar16, IsNulTerminated, IsString, IsText, IsTextUnit, deciding_place, is_deciding, is_nul, nul_terminated}
 use Rattle.uefi_text_encodings.specs.FromSliceUntilNul.{missing_nul_refusal, missing_nul_refusal_at, until_nul_refusal}
 use Rattle.uefi_text_encodings.specs.FromSliceWithNul.{first_nul_refusal, first_nul_refusal_at, with_nul_refusal}
@@ -146,10 +146,6 @@ from_str-characters (u ∷ us) are_characters =
     let first : IsChar16 u = All-head IsChar16 u us are_characters in
     let rest = from_str-characters us (All-tail IsChar16 u us are_characters) in
     elim (cases_Bool (u == 0)) [ inl nul ↦ grind (arith, common_steps) | inr other ↦ grind (arith, common_steps) ]
-
--- characters of UCS-2 are characters
-scalar-IsChar16 : (u : ℕ) → IsChar16 u → scalar u ≡ true
-scalar-IsChar16 u character = grind (arith, common_steps)
 
 -- characters are accepted at a buffer exactly where they are a text, and fewer than its places
 pub with_buf-accepts : (cs : List ℕ) (room : ℕ) → scalars cs ≡ true

@@ -1,6 +1,5 @@
 -- Elements written one after the other.
-use Rattle.std.proofs.lemmas.Grind.{elements}
-use Rattle.std.proofs.Common.{◌≡◌, ℕ, ◌+◌, ◌<◌, List, [], ◌∷◌, ◌++◌, append_assoc, length, take, drop, set, ap, ◌∙◌, arith}
+use Rattle.std.proofs.Common.{◌≡◌, ℕ, ◌+◌, ◌<◌, List, [], ◌∷◌, ◌++◌, append_assoc, length, take, set, ap, ◌∙◌, arith}
 use Rattle.std.proofs.lemmas.List.{length-append, length-drop, length-set, length-take, length-take-le, take-take, take_at, take_more_set}
 
 pub place_two : (xs : List ℕ) (n a b : ℕ) → n + 1 < length xs → take (n + 2) (set (set xs n a) (n + 1) b) ≡ take n xs ++ a ∷ b ∷ []
@@ -19,13 +18,3 @@ place_three xs n a b c inside =
 
 -- one, two or three elements, each written at the place after the one before it
 pub ruleset places_in_turn = (take_more_set, place_two, place_three)
-
--- one element more, after those that are written before what stays
-pub place_next : (front old : List ℕ) (n a : ℕ) → n ≡ length front → n < length old
-    → set (front ++ drop n old) n a ≡ (front ++ a ∷ []) ++ drop (n + 1) old
-place_next front old n a count inside = grind (arith, elements)
-
--- and where a place is left after those, the first list had it too
-pub place_left : (front old buffer : List ℕ) (n : ℕ) → n ≡ length front → n < length buffer → buffer ≡ front ++ drop n old → n < length old
-place_left front old buffer n count left so_far =
-    omega (arith, count, left, length-drop n old, ap length so_far ∙ length-append front (drop n old))
