@@ -18,17 +18,11 @@ once : (t s x y : List ℕ) → All (λ u. u ≢ 0) t → All (λ u. u ≢ 0) s
     → unit_bytes (nul_terminated t) ++ x ≡ unit_bytes (nul_terminated s) ++ y → (t ≡ s) × (x ≡ y)
 once [] [] x y t_is s_is e = (refl, cc)
 once [] (u ∷ s) x y t_is s_is e =
-    let low : 0 ≡ u % 256 = cc in
-    let high : 0 ≡ u / 256 = cc in
-    absurd (All-head (λ u. u ≢ 0) u s s_is (omega arith))
+    absurd (All-head (λ u. u ≢ 0) u s s_is (omega (arith, ap (λ bs. get_or bs 0 0) e, ap (λ bs. get_or bs 1 0) e)))
 once (u ∷ t) [] x y t_is s_is e =
-    let low : u % 256 ≡ 0 = cc in
-    let high : u / 256 ≡ 0 = cc in
-    absurd (All-head (λ u. u ≢ 0) u t t_is (omega arith))
+    absurd (All-head (λ u. u ≢ 0) u t t_is (omega (arith, ap (λ bs. get_or bs 0 0) e, ap (λ bs. get_or bs 1 0) e)))
 once (u ∷ t) (v ∷ s) x y t_is s_is e =
-    let low : u % 256 ≡ v % 256 = cc in
-    let high : u / 256 ≡ v / 256 = cc in
-    let first : u ≡ v = omega arith in
+    let first : u ≡ v = omega (arith, ap (λ bs. get_or bs 0 0) e, ap (λ bs. get_or bs 1 0) e) in
     let tails : unit_bytes (nul_terminated t) ++ x ≡ unit_bytes (nul_terminated s) ++ y = cc in
     let others = once t s x y (All-tail (λ u. u ≢ 0) u t t_is) (All-tail (λ u. u ≢ 0) v s s_is) tails in
     let rest = others.0 in
@@ -57,8 +51,7 @@ units_front (u ∷ us) x =
 nul_within : (text x : List ℕ) → position_or_len is_nul (nul_terminated text ++ x) < length (nul_terminated text ++ x)
 nul_within [] x = omega arith
 nul_within (u ∷ text) x =
-    let others = nul_within text x in
-    elim (cases_Bool (is_nul u)) [ inl nul ↦ rw nul (omega arith) | inr other ↦ rw other (omega (arith, others)) ]
+    elim (cases_Bool (is_nul u)) [ inl nul ↦ rw nul (omega arith) | inr other ↦ rw other (omega (arith, nul_within text x)) ]
 
 has_nul : (text x : List ℕ) → position is_nul (nul_terminated text ++ x) ≢ None
 has_nul text x e =

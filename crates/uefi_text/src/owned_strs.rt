@@ -363,8 +363,8 @@ impl<A: Allocator> CString16<A> {
         ensures { self.new ≡ take len self.old }
     {
         if len < self.num_chars() {
-            self.units.truncate(len + 1);
             self.units[len] = 0;
+            self.units.truncate(len + 1);
         }
     }
 

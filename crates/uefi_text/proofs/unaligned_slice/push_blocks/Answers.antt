@@ -4,6 +4,7 @@ use Rattle.std.proofs.lemmas.List.{take_all}
 use Rattle.std.proofs.lemmas.Grind.{common_steps}
 use Rattle.uefi_text_encodings.specs.Packed.{packed_items}
 use Rattle.uefi_text_encodings.proofs.Packing.{length-packed_items, packed_items-part, part-fits}
+use Rattle.std.proofs.Math.Nat.{mul-le-mul_right}
 use Rattle.uefi_text.proofs.unaligned_slice.push_blocks.Goals as goal
 
 pub push_block-requires-clause-fits : goal.push_block-requires-clause-fits
@@ -28,10 +29,7 @@ loop-start-preserved g c =
     let of_count : packed_items size count (drop (start * size) bytes) ≡ take count (drop start items) = rw (← same) part in
     let places : length (take count c.loop-start.block) ≡ count = grind (arith, common_steps) in
     let rest : take (length bytes - start * c.SIZE.result) (drop (start * c.SIZE.result) bytes) ≡ drop (start * size) bytes = grind (arith, common_steps) in
-    let added : packed_items size (length (take count c.loop-start.block))
-    (take (length bytes - start * c.SIZE.result) (drop (start * c.SIZE.result) bytes))
-    ≡ take count (drop start items) = rw (places, rest) of_count in
-    let pushed = c.push_block.ensures.items ∙ ap (λ xs. map g.T.Packed.number c.loop-start.items.items ++ xs) added in
+    let pushed = rw (places, rest, of_count) at c.push_block.ensures.items in
     let so_far = ap (λ xs. xs ++ take count (drop start items)) c.loop-start.invariant.items in
     record {
       within = omega arith;
@@ -46,3 +44,10 @@ returns g c =
     let count = length-packed_items g.T.Packed.SIZE c.args.len c.args.bytes.now in
     let items = take_all c.loop-start.start (packed_items g.T.Packed.SIZE c.args.len c.args.bytes.now) (omega arith) in
     c.loop-start.invariant.items ∙ ap (λ xs. map g.T.Packed.number c.args.items.now.items ++ xs) items
+
+pub slice_bounds-push_block-count : goal.slice_bounds-push_block-count
+slice_bounds-push_block-count g c =
+    rw c.SIZE.ensures (omega (arith, mul-le-mul_right g.T.Packed.SIZE c.loop-start.invariant.within, c.requires.fits))
+
+pub slice_bounds-push_block-start : goal.slice_bounds-push_block-start
+slice_bounds-push_block-start g c = omega (arith, slice_bounds-push_block-count g c)

@@ -1,5 +1,5 @@
 -- The characters so far are those of a run of the iterator.
-use Rattle.std.proofs.Common.{◌≡◌, ℕ, ◌<◌, ◌∙◌, List, ◌++◌, length, take, ap, sym, refl, rules, arith}
+use Rattle.std.proofs.Common.{◌≡◌, ℕ, ◌<◌, ◌∙◌, List, [], ◌∷◌, ◌++◌, append_assoc, length, take, ap, sym, refl, rules, arith}
 use Rattle.std.specs.Iterator.Runs.{SomeRun}
 use Rattle.std.proofs.iter.runs.Made.{run_of_exit, run_of_turn}
 use Rattle.std.proofs.Math.Seq.{take-append_seam}
@@ -23,3 +23,7 @@ returns-clause-ok g c =
     let all = c.loop-character in
     let made = run_of_exit g.I.Iterator.next_gives it.result all.yielded all.character-iterator all.yielded_by c.next.new.self c.in-None.ensures.steps in
     (made.0, made.1 ∙ it.ensures.into_iter_gives, made.2, all.invariant ∙ ap (λ (ys : List ℕ). c.args.self.now ++ ys) (sym made.3.0))
+
+pub loop-character-preserved : goal.loop-character-preserved
+loop-character-preserved g c =
+    c.in_ok-push.ensures.ok ∙ ap (λ (ys : List ℕ). ys ++ c.in-Some.character ∷ []) c.loop-character.invariant ∙ append_assoc c.args.self.now c.loop-character.yielded _

@@ -22,25 +22,18 @@ set-string text more units is =
     let some : 0 < length units = rw is (omega (arith, length-append more (0 ∷ []))) in
     set-after text units some ∙ ap (λ us. text ++ us) is ∙ sym (append_assoc text more (0 ∷ []))
 
-pub invariant_of-self-2 : goal.invariant_of-self-2
-invariant_of-self-2 g c =
+made : (g : _) (c : goal.After-self-1 g) → set c.extend_from_slice.new.self.items c.num_chars-end.result (get_or c.to_u16_slice_with_nul-units.result.now 0 0)
+    ≡ nul_terminated (without_nul c.self.inside.units.items ++ text_of c.args.string)
+made g c =
     let text = without_nul c.self.inside.units.items in
-    let more = text_of c.args.string in
     let units = c.to_u16_slice_with_nul-units.result.now in
-    let grown : c.extend_from_slice.new.self.items ≡ nul_terminated text ++ drop 1 units =
-    grind (arith, common_steps) in
+    let grown : c.extend_from_slice.new.self.items ≡ nul_terminated text ++ drop 1 units = grind (arith, common_steps) in
     let end : c.num_chars-end.result ≡ length text = cc in
-    let written = set-string text more units c.to_u16_slice_with_nul-units.ensures in
-    IsString-made _ (text ++ more) (rw (grown, end) written)
-    (All-append IsTextUnit text more c.self.invariant.1 (IsText-text_of c.args.string))
+    rw (grown, end) (set-string text (text_of c.args.string) units c.to_u16_slice_with_nul-units.ensures)
+
+pub invariant_of-self-2 : goal.invariant_of-self-2
+invariant_of-self-2 g c = IsString-made _ _ (made g c) (All-append IsTextUnit _ _ c.self.invariant.1 (IsText-text_of c.args.string))
 
 pub returns-clause-ok : goal.returns-clause-ok
 returns-clause-ok g c =
-    let text = without_nul c.self.inside.units.items in
-    let more = text_of c.args.string in
-    let units = c.to_u16_slice_with_nul-units.result.now in
-    let grown : c.extend_from_slice.new.self.items ≡ nul_terminated text ++ drop 1 units =
-    grind (arith, common_steps) in
-    let end : c.num_chars-end.result ≡ length text = cc in
-    let written = set-string text more units c.to_u16_slice_with_nul-units.ensures in
-    rw (grown, end, written) (without_nul-nul_terminated (text ++ more) ∙ ap (λ us. us ++ more) c.self.view_is)
+    ap without_nul (made g c) ∙ without_nul-nul_terminated _ ∙ ap (λ us. us ++ text_of c.args.string) c.self.view_is

@@ -8,31 +8,24 @@ use Rattle.uefi_text_encodings.specs.Units.{IsTextUnit, nul_terminated, without_
 use Rattle.uefi_text_encodings.proofs.Texts.{IsString-made, without_nul-nul_terminated}
 use Rattle.uefi_text.proofs.owned_strs.CString16Write.write_str.Goals as goal
 
-pub invariant_of-self-2 : goal.invariant_of-self-2
-invariant_of-self-2 g c =
-    let items = c.self.inside.units.items in
-    let text = without_nul items in
+made : (g : _) (c : goal.After-self-1 g)
+    → take c.resize.new.self.len (c.write_text_from.new.units ++ drop (length c.write_text_from.new.units) c.resize.new.self.items)
+    ≡ nul_terminated (without_nul c.self.inside.units.items ++ chars c.args.s.now)
+made g c =
+    let text = without_nul c.self.inside.units.items in
     let cs = chars c.args.s.now in
     let units = c.write_text_from.new.units in
     let front : take c.num_chars-end.result c.resize.new.self.items ≡ text = grind (arith, common_steps) in
-    let of_units : units ≡ take c.num_chars-end.result c.resize.new.self.items ++ nul_terminated cs = cc in
-    let made : units ≡ nul_terminated (text ++ cs) =
-    of_units ∙ ap (λ us. us ++ nul_terminated cs) front ∙ sym (append_assoc text cs (0 ∷ [])) in
     let whole : take c.resize.new.self.len (units ++ drop (length units) c.resize.new.self.items) ≡ units = grind (arith, common_steps) in
-    IsString-made _ (text ++ cs) (whole ∙ made) (All-append IsTextUnit text cs c.self.invariant.1 c.in-Some.ensures.0)
+    let of_units : units ≡ take c.num_chars-end.result c.resize.new.self.items ++ nul_terminated cs = cc in
+    whole ∙ of_units ∙ ap (λ us. us ++ nul_terminated cs) front ∙ sym (append_assoc text cs (0 ∷ []))
+
+pub invariant_of-self-2 : goal.invariant_of-self-2
+invariant_of-self-2 g c = IsString-made _ _ (made g c) (All-append IsTextUnit _ _ c.self.invariant.1 c.in-Some.ensures.0)
 
 pub returns-clause-added : goal.returns-clause-added
 returns-clause-added g c =
-    let items = c.self.inside.units.items in
-    let text = without_nul items in
-    let cs = chars c.args.s.now in
-    let units = c.write_text_from.new.units in
-    let front : take c.num_chars-end.result c.resize.new.self.items ≡ text = grind (arith, common_steps) in
-    let of_units : units ≡ take c.num_chars-end.result c.resize.new.self.items ++ nul_terminated cs = cc in
-    let made : units ≡ nul_terminated (text ++ cs) =
-    of_units ∙ ap (λ us. us ++ nul_terminated cs) front ∙ sym (append_assoc text cs (0 ∷ [])) in
-    let whole : take c.resize.new.self.len (units ++ drop (length units) c.resize.new.self.items) ≡ units = grind (arith, common_steps) in
-    ap without_nul (whole ∙ made) ∙ without_nul-nul_terminated (text ++ cs) ∙ ap (λ us. us ++ cs) c.self.view_is
+    ap without_nul (made g c) ∙ without_nul-nul_terminated _ ∙ ap (λ us. us ++ chars c.args.s.now) c.self.view_is
 
 pub returns-clause-ok : goal.returns-clause-ok
 returns-clause-ok g c ok =

@@ -14,22 +14,21 @@ use Rattle.uefi_text_encodings.proofs.UnitBytes.{unit_bytes-units_of_bytes}
 use Rattle.uefi_text.specs.Views.{items_of}
 use Rattle.uefi_text.proofs.strs.CStr16.from_bytes_with_nul.Goals as goal
 
+are_bytes : (bytes : List ℕ) → ((k : ℕ) → get_or bytes k 0 < 256) → All IsByte bytes
+are_bytes bytes small = All-from_get_or IsByte bytes 0 (λ k h. small k)
+
 pub returns-clause-ok : goal.returns-clause-ok
 returns-clause-ok g c =
     let bytes = c.args.bytes.now in
-    let are_bytes : All IsByte bytes = All-from_get_or IsByte bytes 0 (λ k h. omega (arith, c.type_inv.bytes k)) in
     let ended : ends_in_nul bytes ≡ true = grind (arith, common_steps) in
     let even : length bytes % 2 ≡ 0 = grind (arith, common_steps) in
-    let same = unit_bytes-units_of_bytes bytes even are_bytes in
+    let same = unit_bytes-units_of_bytes bytes even (are_bytes bytes (λ k. omega (arith, c.type_inv.bytes k))) in
     grind (arith, common_steps, same)
 
 -- what holds of a value twice
 both : {T E : Type 0} (r : Result T E) (P Q R : T → Type 0) → ((x : T) → P x → Q x → R x) → IfOk r P → IfOk r Q → IfOk r R
 both (Ok x) P Q R all p q = all x p q
 both (Err e) P Q R all p q = tt
-
-are_bytes : (bytes : List ℕ) → ((k : ℕ) → get_or bytes k 0 < 256) → All IsByte bytes
-are_bytes bytes small = All-from_get_or IsByte bytes 0 (λ k h. small k)
 
 pub returns-clause-encodes : goal.returns-clause-encodes
 returns-clause-encodes g c =

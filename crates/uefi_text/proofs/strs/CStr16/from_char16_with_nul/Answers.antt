@@ -11,19 +11,16 @@ use Rattle.uefi_text.proofs.strs.CStr16.from_char16_with_nul.Goals as goal
 all_taken : (g : _) (c : goal.In-Ok g) → c.in-Ok.units.items ≡ take (c.in-Some.place + 1) c.args.characters.now
 all_taken g c = c.in-Ok.ensures.same ∙ sym (take_all (c.in-Some.place + 1) c.args.characters.now (omega arith))
 
-is_string : (g : _) (c : goal.In-Ok g) → IsString c.in-Ok.units.items
-is_string g c =
+pub invariant_of-result : goal.invariant_of-result
+invariant_of-result g c =
     let are_characters = subst (All IsChar16) (all_taken g c) c.in-Ok.ensures.are_characters in
     subst IsString (sym (all_taken g c)) (IsString-characters c.args.characters.now c.in-Some.place (sym c.in-Some.ensures) are_characters)
 
-pub invariant_of-result : goal.invariant_of-result
-invariant_of-result = is_string
-
 pub returns-in-Ok-clause-ok : goal.returns-in-Ok-clause-ok
-returns-in-Ok-clause-ok g c = sym (is_string g c).0 ∙ c.in-Ok.ensures.same
+returns-in-Ok-clause-ok g c = sym (invariant_of-result g c).0 ∙ c.in-Ok.ensures.same
 
 pub returns-in-Ok-clause-is_string : goal.returns-in-Ok-clause-is_string
-returns-in-Ok-clause-is_string g c = subst IsString c.in-Ok.ensures.same (is_string g c)
+returns-in-Ok-clause-is_string g c = subst IsString c.in-Ok.ensures.same (invariant_of-result g c)
 
 pub returns-in_default-clause-memory : goal.returns-in_default-clause-memory
 returns-in_default-clause-memory g c = first_nul-memory c.args.characters.now NotNulTerminated (grind (arith, common_steps))

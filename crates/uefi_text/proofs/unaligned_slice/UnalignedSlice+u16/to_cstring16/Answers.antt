@@ -15,3 +15,6 @@ pub returns-in_err-check_with_nul-clause-memory : goal.returns-in_err-check_with
 returns-in_err-check_with_nul-clause-memory g c =
     let error = err_from_is_err_and c.from_residual.result c.from_residual.ensures.1 in
     rw (error.1, error.2) (with_nul-refused (items_of c.args.self.now) _ c.in_err-check_with_nul.ensures.refusal)
+
+pub returns-in-Ok-clause-ok : goal.returns-in-Ok-clause-ok
+returns-in-Ok-clause-ok g c = c.from_string.ensures.same ∙ sym (map-id c.in-Ok.units.items) ∙ c.in-Ok.ensures
