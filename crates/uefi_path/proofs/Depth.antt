@@ -13,7 +13,6 @@ use Rattle.uefi_path.specs.Verdicts.{IsGood, fault, fault_at, first_fault}
 use Rattle.uefi_path.specs.declared.kinds.Kind.{Kind}
 use Rattle.uefi_path.specs.declared.kinds.Kind.TheVariants.{Dot, DotDot, Name}
 use Rattle.uefi_path.specs.declared.validation.PathError.{PathError}
-use Rattle.uefi_path.specs.declared.validation.PathError.TheVariants.{ClimbsAboveRoot}
 use Rattle.uefi_path.proofs.Rewriting.{kind-DotDot, kind-Name, name_kind}
 
 -- components that are accepted where this many names are left before them, and after a piece, unless it climbs

@@ -104,6 +104,9 @@ length-slice_split-le us = omega (arith, length-slice_split is_separator us, cou
 pub some_slice_split : (us : List ℕ) → 1 ≤ length (slice_split is_separator us)
 some_slice_split us = omega (arith, length-slice_split is_separator us)
 
+pub slice_split_some : (us : List ℕ) → slice_split is_separator us ≢ []
+slice_split_some us none = omega (arith, ap length none, some_slice_split us)
+
 hint_of_some : (pieces : List (List ℕ)) → 1 ≤ length pieces
     → hint_of_pieces pieces ≡ (1, Some (length (joined pieces) + 1))
 hint_of_some [] some = absurd (omega (arith, some))

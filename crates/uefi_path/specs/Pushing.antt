@@ -1,6 +1,8 @@
 -- What a path is once another was pushed after it.
-use Rattle.std.specs.Prelude.{ℕ, Bool, false, not, if◌then◌else◌, List, [], ◌∷◌, ◌++◌, length, slice_index}
+use Rattle.std.specs.Prelude.{◌≡◌, ℕ, ◌+◌, ◌≤◌, Bool, false, not, if◌then◌else◌, List, [], ◌∷◌, ◌++◌, Result, OnErr, OnOk, length, slice_index}
 use Rattle.uefi_path.specs.Separators.{separator, is_separator, with_separators}
+use Rattle.uefi_path.specs.Views.{counted_text, reads_of}
+use Rattle.uefi_path.specs.declared.counted.CountedUnits.{CountedUnits}
 
 -- whether a separator is missing after a text: it is not empty, and its last unit is none
 abbrev pub needs_separator : List ℕ → Bool
@@ -15,3 +17,12 @@ appended text part = if needs_separator text then text ++ separator ∷ part els
 abbrev pub pushed : List ℕ → List ℕ → List ℕ
 pushed text [] = text
 pushed text (unit ∷ units) = appended text (with_separators (unit ∷ units))
+
+-- a push of counted units: what the text becomes, and that each unit was read once, or at most once where the
+-- push was refused
+pub record IsPush {E : Type 0} (old new : List ℕ) (before after : CountedUnits) (done : Result (Unit {0}) E) : Type 0 where
+  pub ok : OnOk done (new ≡ pushed old (counted_text before))
+  pub err : OnErr done (new ≡ old)
+  pub text : counted_text after ≡ counted_text before
+  pub once : OnOk done (reads_of after ≡ reads_of before + length (counted_text before))
+  pub at_most : reads_of after ≤ reads_of before + length (counted_text before)

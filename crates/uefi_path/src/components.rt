@@ -130,6 +130,17 @@ impl<'a> Components<'a> {
         Components { rest: self.rest }
     }
 
+    /// Whether none is left.
+    #[tactic(auto, using(crate::proofs::Splitting::slice_split_some), unfolding(crate::specs::Views::components_left))]
+    pub(crate) fn is_done(&self) -> bool
+        ensures { IsTrue result ↔ (components_left self.now ≡ []) }
+    {
+        match self.rest {
+            None => true,
+            Some(_) => false,
+        }
+    }
+
     /// Whether one of them is empty.
     pub(crate) fn has_empty(self) -> bool
         ensures { result ≡ false → All (λ piece. IsTrue (is_non_empty piece)) (components_left self.entry) }

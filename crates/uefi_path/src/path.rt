@@ -132,16 +132,15 @@ impl<'a> From<CStr16<'a>> for Path<'a> {
 
 /// Two paths are equal exactly when their canonical texts are, which is when their components are.
 impl<'a> PartialEq for Path<'a> {
-    ghost use Rattle.std.proofs.Common.{rules};
+    ghost use Rattle.std.specs.Cmp.{on_per, partial_equiv_from_equiv};
     ghost use Rattle.std.specs.Prelude.{nat_eq};
-    ghost use Rattle.std.specs.Cmp.Lexicographic.{pointwise};
-    ghost use Rattle.std.specs.Cmp.Rules.{comparing};
+    ghost use Rattle.std.specs.Cmp.Lexicographic.{nat_list_eq_equiv, pointwise};
     ghost use Rattle.uefi_path.specs.Separators.{canonical};
     ghost use Rattle.uefi_path.specs.Views.{path_text};
 
     ghost eq = { λ a b. pointwise nat_eq (canonical (path_text a)) (canonical (path_text b)) };
 
-    ghost laws = { Prim.search (comparing, rules) };
+    ghost laws = { on_per (λ path. canonical (path_text path)) (partial_equiv_from_equiv nat_list_eq_equiv) };
 
     fn eq(&self, other: &Self) -> bool {
         self.canonical() == other.canonical()
@@ -149,25 +148,25 @@ impl<'a> PartialEq for Path<'a> {
 }
 
 impl<'a> Eq for Path<'a> {
-    ghost use Rattle.std.proofs.Common.{rules};
-    ghost use Rattle.std.specs.Cmp.Rules.{comparing};
+    ghost use Rattle.std.specs.Cmp.Lexicographic.{on_texts_equal};
+    ghost use Rattle.uefi_path.specs.Separators.{canonical};
+    ghost use Rattle.uefi_path.specs.Views.{path_text};
 
-    ghost laws = { Prim.search (comparing, rules) };
+    ghost laws = { on_texts_equal (λ path. canonical (path_text path)) };
 }
 
 /// The order of the canonical texts, by code unit: components are not compared one by one, so `a\\b`
 /// comes after `a!`.
 impl<'a> PartialOrd for Path<'a> {
-    ghost use Rattle.std.proofs.Common.{rules};
+    ghost use Rattle.std.specs.Cmp.{on_po};
     ghost use Rattle.std.specs.Ordering.{nat_cmp, as_partial_cmp, on};
-    ghost use Rattle.std.specs.Cmp.Lexicographic.{slice_cmp};
-    ghost use Rattle.std.specs.Cmp.Rules.{comparing};
+    ghost use Rattle.std.specs.Cmp.Lexicographic.{slice_cmp, texts_po};
     ghost use Rattle.uefi_path.specs.Separators.{canonical};
     ghost use Rattle.uefi_path.specs.Views.{path_text};
 
     ghost partial_cmp = { as_partial_cmp (on (λ path. canonical (path_text path)) (slice_cmp nat_cmp)) };
 
-    ghost laws = { Prim.search (comparing, rules) };
+    ghost laws = { on_po (λ path. canonical (path_text path)) texts_po };
 
     fn partial_cmp(&self, other: &Self) -> Option<Ordering> {
         Some(Ord::cmp(self, other))
@@ -176,20 +175,19 @@ impl<'a> PartialOrd for Path<'a> {
 
 /// `Equal` exactly for equal paths.
 impl<'a> Ord for Path<'a> {
-    ghost use Rattle.std.proofs.Common.{rules};
+    ghost use Rattle.std.proofs.Common.{refl};
     ghost use Rattle.std.specs.Ordering.{nat_cmp, on};
-    ghost use Rattle.std.specs.Cmp.Lexicographic.{slice_cmp};
-    ghost use Rattle.std.specs.Cmp.Rules.{comparing};
+    ghost use Rattle.std.specs.Cmp.Lexicographic.{on_texts, slice_cmp, texts_ties};
     ghost use Rattle.uefi_path.specs.Separators.{canonical};
     ghost use Rattle.uefi_path.specs.Views.{path_text};
 
     ghost cmp = { on (λ path. canonical (path_text path)) (slice_cmp nat_cmp) };
 
-    ghost total = { Prim.search (comparing, rules) };
+    ghost total = { on_texts (λ path. canonical (path_text path)) };
 
-    ghost matches_partial_cmp = { Prim.search (comparing, rules) };
+    ghost matches_partial_cmp = { λ _ _. refl };
 
-    ghost matches_eq = { Prim.search (comparing, rules) };
+    ghost matches_eq = { λ a b. texts_ties (canonical (path_text a)) (canonical (path_text b)) };
 
     fn cmp(&self, other: &Self) -> Ordering {
         self.canonical().units().cmp(other.canonical().units())

@@ -1,16 +1,16 @@
 //! Paths that are owned, and the calls of [`Path`] that make one.
-ghost use Rattle.std.specs.Prelude.{◌≡◌, ◌≢◌, ℕ, ◌+◌, ◌<◌, ◌≤◌, ◌^◌, ◌↔◌, [], ◌∷◌, ◌++◌, All, List, Some, None, drop, fold, false, if◌then◌else◌, length, map, option_map, ◌-◌, IsTrue, IsOk, IsSome, IfOk, IfErr, IfSome, OnOk, OnErr};
+ghost use Rattle.std.specs.Prelude.{◌≡◌, ◌≢◌, ℕ, ◌+◌, ◌<◌, ◌≤◌, ◌^◌, ◌↔◌, [], ◌∷◌, ◌++◌, All, List, Some, None, drop, fold, false, if◌then◌else◌, length, map, option_map, replicate, ◌-◌, IsTrue, IsOk, IsSome, IfOk, IfErr, IfSome, OnOk, OnErr};
 ghost use Rattle.std.specs.List.{last_or, list_any, slice_range, slice_split};
 ghost use Rattle.uefi_path.specs.Components.{AreComponents, IsPiece, StartsWith, components_of};
 ghost use Rattle.uefi_path.specs.Components as pieces_joined;
 ghost use Rattle.uefi_path.specs.Parents.{parent_of_components, parent_text};
 ghost use Rattle.uefi_path.specs.Runs.{GivesNoNulIn};
-ghost use Rattle.uefi_path.specs.Pushing.{appended, needs_separator, pushed};
+ghost use Rattle.uefi_path.specs.Pushing.{IsPush, appended, needs_separator, pushed};
 ghost use Rattle.uefi_path.specs.Separators.{IsPlain, canonical, is_slash, is_separator, places_of, with_separators};
 ghost use Rattle.uefi_path.specs.SuccessiveParents.{parent_chain, parents_of};
 ghost use Rattle.uefi_path.specs.Views.{components_left, path_text};
 ghost use Rattle.uefi_text.specs.Units.{IsText};
-ghost use Rattle.uefi_text.specs.Views.{units_of};
+ghost use Rattle.uefi_text.specs.Views.{text_of, units_of};
 
 use crate::components::{Components, Rest};
 use crate::counted::CountedUnits;
@@ -55,6 +55,15 @@ fn needs_separator<A: Allocator>(string: &CString16<A>) -> bool
     !text.is_empty() && text.get(text.len() - 1) != Some(SEPARATOR)
 }
 
+/// As many zeros.
+fn zeros<A: Allocator>(alloc: A, len: usize) -> Result<Vec<u16, A>, AllocError>
+    ensures { IfOk result (λ units. units.items ≡ replicate len 0) }
+{
+    let mut units = Vec::new(alloc);
+    units.resize(len, 0)?;
+    Ok(units)
+}
+
 /// The parent of a path of these components, each slash replaced. Takes memory once for the text,
 /// and once for the places of its separators, where it has any.
 fn parent_of<A: Allocator + Copy>(
@@ -70,8 +79,7 @@ fn parent_of<A: Allocator + Copy>(
     let Some(len) = write_all_but_last(&mut [], components.copy()) else {
         return Ok(None);
     };
-    let mut units = Vec::new(alloc);
-    units.resize(len + 1, 0)?;
+    let mut units = zeros(alloc, len + 1)?;
     write_all_but_last(&mut units, components);
     let string = CString16::try_from_vec(units).unwrap();
     Ok(Some(PathBuf::from_string(alloc, string)?))
@@ -114,6 +122,33 @@ fn room_for_both(path: Path<'_>, other: Path<'_>) -> usize {
     first.saturating_add(second).saturating_add(1)
 }
 
+/// Copies a string, with room for this many characters.
+fn copy_string<A: Allocator>(
+    alloc: A,
+    string: CStr16<'_>,
+    room: usize,
+) -> Result<CString16<A>, AllocError>
+    ensures { IfOk result (λ copy. copy ≡ text_of string.entry) }
+{
+    let mut copy = CString16::with_capacity(alloc, room)?;
+    copy.push_str(string)?;
+    Ok(copy)
+}
+
+/// Copies places, with room for this many more and the separator between.
+fn copy_places<A: Allocator>(
+    alloc: A,
+    places: &[usize],
+    more: usize,
+) -> Result<Vec<usize, A>, AllocError>
+    ensures { IfOk result (λ copy. copy.items ≡ places.now) }
+{
+    let room = places.len().saturating_add(more).saturating_add(1);
+    let mut copy = Vec::with_capacity(alloc, room)?;
+    copy.extend_from_slice(places)?;
+    Ok(copy)
+}
+
 /// Owned paths of a borrowed one.
 impl<'a> Path<'a> {
     ghost use Rattle.uefi_path.specs.Views.{path_text};
@@ -137,11 +172,8 @@ impl<'a> Path<'a> {
         ensures { IfOk result (λ joined.
             joined ≡ pushed (with_separators (path_text self.now)) (path_text path.entry)) }
     {
-        let mut string = CString16::with_capacity(alloc, room_for_both(*self, path))?;
-        string.push_str(self.to_cstr16())?;
-        let mut joined = PathBuf::from_string(alloc, string)?;
-        joined.push(path)?;
-        Ok(joined)
+        let string = copy_string(alloc, self.to_cstr16(), room_for_both(*self, path))?;
+        PathBuf::from_string(alloc, string)?.with_pushed(path)
     }
 
     /// The parent, each slash replaced; or `AllocError`.
@@ -174,7 +206,6 @@ impl<'a> Path<'a> {
 
 impl<A: Allocator + Copy> PathBuf<A> {
     ghost use Rattle.uefi_text.specs.Runs.{GivesEach};
-    ghost use Rattle.uefi_text.specs.Views.{text_of, units_of};
     ghost use Rattle.uefi_path.specs.Views.{components_left, counted_text, path_text, reads_of, units_left};
 
     /// The empty path, or `AllocError`: its NUL takes memory.
@@ -272,12 +303,7 @@ impl<A: Allocator + Copy> PathBuf<A> {
     #[inline(never)]
     fn push_longer(&mut self, units: &mut CountedUnits<'_>) -> Result<(), AllocError>
         requires { counted_text units.now ≢ [] }
-        ensures ok { OnOk result (self.new ≡ pushed self.old (counted_text units.old)) }
-        ensures err { OnErr result (self.new ≡ self.old) }
-        ensures text { counted_text units.new ≡ counted_text units.old }
-        ensures once { OnOk result (reads_of units.new
-            ≡ reads_of units.old + length (counted_text units.old)) }
-        ensures at_most { reads_of units.new ≤ reads_of units.old + length (counted_text units.old) }
+        ensures { IsPush self.old self.new units.old units.new result }
     {
         let len = units.len();
         if len + 1 < LONG_ROOM {
@@ -286,8 +312,7 @@ impl<A: Allocator + Copy> PathBuf<A> {
         let Some(size) = len.checked_add(2) else {
             return Err(AllocError);
         };
-        let mut room = Vec::new(self.alloc());
-        room.resize(size, 0)?;
+        let mut room = zeros(self.alloc(), size)?;
         self.push_made(&mut room, units)
     }
 
@@ -301,17 +326,12 @@ impl<A: Allocator + Copy> PathBuf<A> {
         requires room { length (counted_text units.now) + 1 < length room.now }
         requires is_text { IsText (counted_text units.now) }
         requires some { counted_text units.now ≢ [] }
-        ensures ok { OnOk result (self.new ≡ pushed self.old (counted_text units.old)) }
-        ensures err { OnErr result (self.new ≡ self.old) }
-        ensures text { counted_text units.new ≡ counted_text units.old }
-        ensures once { OnOk result (reads_of units.new
-            ≡ reads_of units.old + length (counted_text units.old)) }
-        ensures at_most { reads_of units.new ≤ reads_of units.old + length (counted_text units.old) }
+        ensures { IsPush self.old self.new units.old units.new result }
     {
         let end = self.string.num_chars();
         let tail = make_tail(room, needs_separator(&self.string), units);
-        self.places
-            .reserve(count_separators(tail.to_u16_slice()).0)?;
+        let (count, _) = count_separators(tail.to_u16_slice());
+        self.places.reserve(count)?;
         self.string.push_str(tail)?;
         add_places(
             &mut self.places,
@@ -321,17 +341,22 @@ impl<A: Allocator + Copy> PathBuf<A> {
         Ok(())
     }
 
+    /// This path with another pushed after it.
+    fn with_pushed(mut self, path: Path<'_>) -> Result<Self, AllocError>
+        ensures { IfOk result (λ joined. joined ≡ pushed self (path_text path.entry)) }
+    {
+        self.push(path)?;
+        Ok(self)
+    }
+
     /// An equal path, with room for another after it.
     fn clone_with_room(&self, path: Path<'_>) -> Result<Self, AllocError>
         ensures { IfOk result (λ copy. copy ≡ self.now) }
     {
         let room = room_for_both(self.as_path(), path);
-        let mut string = CString16::with_capacity(self.alloc(), room)?;
-        string.push_str(self.string.as_cstr16())?;
+        let string = copy_string(self.alloc(), self.string.as_cstr16(), room)?;
         let (count, _) = count_separators(path.to_cstr16().to_u16_slice());
-        let room = self.places.len().saturating_add(count).saturating_add(1);
-        let mut places = Vec::with_capacity(self.alloc(), room)?;
-        places.extend_from_slice(self.places.as_slice())?;
+        let places = copy_places(self.alloc(), self.places.as_slice(), count)?;
         Ok(PathBuf { string, places })
     }
 
@@ -339,9 +364,7 @@ impl<A: Allocator + Copy> PathBuf<A> {
     pub fn join(&self, path: Path<'_>) -> Result<Self, AllocError>
         ensures { IfOk result (λ joined. joined ≡ pushed self.now (path_text path.entry)) }
     {
-        let mut joined = self.clone_with_room(path)?;
-        joined.push(path)?;
-        Ok(joined)
+        self.clone_with_room(path)?.with_pushed(path)
     }
 
     /// The path without its last component, as [`Path::parent`], in memory of the same allocator. The
@@ -356,14 +379,9 @@ impl<A: Allocator + Copy> PathBuf<A> {
         ensures count { IfOk result (λ parent. IfSome parent (λ parent.
             length (parents_of parent) ≡ length (components_of parent) - 1)) }
     {
-        let known = self.places.as_slice();
-        let string = self.string.as_cstr16();
         // A clause of this call says how long the path can be.
-        let _text = string.as_slice();
-        parent_of(
-            self.alloc(),
-            Components::of_canonical(string, self.canonical(known)),
-        )
+        let _text = self.string.as_cstr16().as_slice();
+        parent_of(self.alloc(), self.components())
     }
 
     /// Makes the path empty. Takes no memory and gives none back.
@@ -476,15 +494,14 @@ impl<A: Allocator + Copy> Clone for PathBuf<A> {
 
 /// Equality is that of [`Path`].
 impl<A: Allocator + Copy> PartialEq for PathBuf<A> {
-    ghost use Rattle.std.proofs.Common.{rules};
+    ghost use Rattle.std.specs.Cmp.{on_per, partial_equiv_from_equiv};
     ghost use Rattle.std.specs.Prelude.{nat_eq};
-    ghost use Rattle.std.specs.Cmp.Lexicographic.{pointwise};
-    ghost use Rattle.std.specs.Cmp.Rules.{comparing};
+    ghost use Rattle.std.specs.Cmp.Lexicographic.{nat_list_eq_equiv, pointwise};
     ghost use Rattle.uefi_path.specs.Separators.{canonical};
 
     ghost eq = { λ a b. pointwise nat_eq (canonical a) (canonical b) };
 
-    ghost laws = { Prim.search (comparing, rules) };
+    ghost laws = { on_per canonical (partial_equiv_from_equiv nat_list_eq_equiv) };
 
     fn eq(&self, other: &Self) -> bool {
         self.as_path() == other.as_path()
@@ -492,23 +509,22 @@ impl<A: Allocator + Copy> PartialEq for PathBuf<A> {
 }
 
 impl<A: Allocator + Copy> Eq for PathBuf<A> {
-    ghost use Rattle.std.proofs.Common.{rules};
-    ghost use Rattle.std.specs.Cmp.Rules.{comparing};
+    ghost use Rattle.std.specs.Cmp.Lexicographic.{on_texts_equal};
+    ghost use Rattle.uefi_path.specs.Separators.{canonical};
 
-    ghost laws = { Prim.search (comparing, rules) };
+    ghost laws = { on_texts_equal canonical };
 }
 
 /// The order is that of [`Path`].
 impl<A: Allocator + Copy> PartialOrd for PathBuf<A> {
-    ghost use Rattle.std.proofs.Common.{rules};
+    ghost use Rattle.std.specs.Cmp.{on_po};
     ghost use Rattle.std.specs.Ordering.{nat_cmp, as_partial_cmp, on};
-    ghost use Rattle.std.specs.Cmp.Lexicographic.{slice_cmp};
-    ghost use Rattle.std.specs.Cmp.Rules.{comparing};
+    ghost use Rattle.std.specs.Cmp.Lexicographic.{slice_cmp, texts_po};
     ghost use Rattle.uefi_path.specs.Separators.{canonical};
 
     ghost partial_cmp = { as_partial_cmp (on canonical (slice_cmp nat_cmp)) };
 
-    ghost laws = { Prim.search (comparing, rules) };
+    ghost laws = { on_po canonical texts_po };
 
     fn partial_cmp(&self, other: &Self) -> Option<Ordering> {
         Some(self.cmp(other))
@@ -517,19 +533,18 @@ impl<A: Allocator + Copy> PartialOrd for PathBuf<A> {
 
 /// `Equal` exactly for equal paths.
 impl<A: Allocator + Copy> Ord for PathBuf<A> {
-    ghost use Rattle.std.proofs.Common.{rules};
+    ghost use Rattle.std.proofs.Common.{refl};
     ghost use Rattle.std.specs.Ordering.{nat_cmp, on};
-    ghost use Rattle.std.specs.Cmp.Lexicographic.{slice_cmp};
-    ghost use Rattle.std.specs.Cmp.Rules.{comparing};
+    ghost use Rattle.std.specs.Cmp.Lexicographic.{on_texts, slice_cmp, texts_ties};
     ghost use Rattle.uefi_path.specs.Separators.{canonical};
 
     ghost cmp = { on canonical (slice_cmp nat_cmp) };
 
-    ghost total = { Prim.search (comparing, rules) };
+    ghost total = { on_texts canonical };
 
-    ghost matches_partial_cmp = { Prim.search (comparing, rules) };
+    ghost matches_partial_cmp = { λ _ _. refl };
 
-    ghost matches_eq = { Prim.search (comparing, rules) };
+    ghost matches_eq = { λ a b. texts_ties (canonical a) (canonical b) };
 
     fn cmp(&self, other: &Self) -> Ordering {
         self.as_path().cmp(&other.as_path())

@@ -27,10 +27,10 @@ pub(crate) fn write_all_but_last(
     ensures buffer { IfSome result (λ len. len ≤ length buffer.old)
         → buffer.new ≡ written_over (parent_of_components (components_left components.entry)) buffer.old }
 {
-    if components.copy().nth(1).is_none() {
+    let mut last = components.next()?;
+    if components.is_done() {
         return None;
     }
-    let mut last = components.next()?;
     let mut len = 0;
     let mut is_missing = false;
     for component in components {
@@ -111,13 +111,14 @@ impl<'a> Path<'a> {
     {
         // A clause of this call says how long the path can be.
         let _text = self.to_cstr16().as_slice();
-        let Some(len) = write_all_but_last(&mut [], self.components()) else {
+        let components = self.components();
+        let Some(len) = write_all_but_last(&mut [], components.copy()) else {
             return Ok(None);
         };
         if buffer.len() < len {
             return Err(len);
         }
-        write_all_but_last(buffer, self.components());
+        write_all_but_last(buffer, components);
         Ok(Some(len))
     }
 

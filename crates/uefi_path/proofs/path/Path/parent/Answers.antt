@@ -1,11 +1,13 @@
 -- The parent of the components is that of the text, or what stands before the last separator.
-use Rattle.std.proofs.Common.{◌≡◌, ◌∷◌, ◌++◌, [], All, IfOk, ap, subst, sym, ◌∙◌, Some}
+use Rattle.std.proofs.Common.{◌≡◌, ◌∷◌, ◌++◌, [], All, IfOk, IfSome, ap, subst, sym, take, ◌∙◌, Some}
+use Rattle.std.proofs.lemmas.List.Elements.{All-take}
 use Rattle.std.specs.List.{slice_split}
-use Rattle.uefi_path.specs.CutPieces.{pieces_left}
+use Rattle.uefi_path.specs.CutPieces.{are_left, pieces_left}
 use Rattle.uefi_path.specs.Parents.{parent_of_components}
 use Rattle.uefi_path.specs.Separators.{is_separator}
 use Rattle.uefi_path.specs.SuccessiveParents.{parent_chain}
 use Rattle.uefi_path.specs.Views.{path_text}
+use Rattle.uefi_text.specs.Units.{IsText, IsTextUnit}
 use Rattle.uefi_text.specs.Views.{units_of}
 use Rattle.uefi_path.proofs.CutParents.{cut_parent, cut_some}
 use Rattle.uefi_path.proofs.ParentChains.{parents_of-chain}
@@ -43,3 +45,10 @@ returns-clause-shorter g c = parent_text-shorter (path_text c.args.self.now) _ (
 
 pub returns-clause-successive : goal.returns-clause-successive
 returns-clause-successive g c = parents_of-chain (path_text c.args.self.now) ∙ ap parent_chain (sym (returns-clause-ok g c))
+
+pub copy_part-requires : goal.copy_part-requires
+copy_part-requires g c =
+    let text = units_of c.canonical.result in
+    let n = are_left c.cut_last.result.0 in
+    let first = subst (λ part. IfSome part (λ front. units_of front ≡ take n text)) c.in-Some-default.is-0 c.cut_last.ensures.first in
+    subst IsText (sym first) (All-take IsTextUnit n text c.canonical.ensures.is_text)

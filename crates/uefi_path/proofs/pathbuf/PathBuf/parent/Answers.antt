@@ -1,6 +1,5 @@
 -- The parent of the components is that of the text.
-use Rattle.std.proofs.Common.{◌≡◌, IfOk, ap, subst, ◌∙◌}
-use Rattle.uefi_path.specs.Components.{components_of}
+use Rattle.std.proofs.Common.{◌≡◌, IfOk, subst}
 use Rattle.uefi_path.specs.Parents.{parent_of_components, parent_text}
 use Rattle.uefi_path.specs.Separators.{IsPlain}
 use Rattle.uefi_path.proofs.ParentCounts.{counted_parents, shorter_parent, successive_parents}
@@ -8,8 +7,7 @@ use Rattle.uefi_path.proofs.pathbuf.PathBuf.parent.Goals as goal
 
 is_parent : (g : _) (c : goal.After-parent_of g) → IfOk c.parent_of.result (λ parent. parent ≡ parent_text c.args.self.now)
 is_parent g c =
-    subst (λ all. IfOk c.parent_of.result (λ parent. parent ≡ parent_of_components all))
-    (c.of_canonical.ensures.same ∙ ap components_of (c.as_cstr16-string.ensures.same ∙ c.self.view_is)) c.parent_of.ensures.ok
+    subst (λ all. IfOk c.parent_of.result (λ parent. parent ≡ parent_of_components all)) c.components.ensures.same c.parent_of.ensures.ok
 
 pub returns-clause-shorter : goal.returns-clause-shorter
 returns-clause-shorter g c = shorter_parent _ c.args.self.now (is_parent g c)

@@ -1,5 +1,6 @@
 -- The places of what is added are counted from the end of the text.
 use Rattle.std.proofs.Common.{◌≡◌, ◌++◌, arith, drop, length, ap, subst, sym, ◌∙◌}
+use Rattle.std.proofs.lemmas.List.{length-append}
 use Rattle.uefi_text.specs.Views.{text_of}
 use Rattle.std.specs.List.{count_by}
 use Rattle.uefi_path.specs.Separators.{IsPlain, becomes_separator, places_from}
@@ -16,7 +17,7 @@ add_places-requires-clause-room g c =
     let units : c.to_u16_slice-2.result.now ≡ c.self.inside.string ++ tail =
     c.to_u16_slice-2.ensures ∙ c.as_cstr16.ensures.same ∙ c.in_ok-push_str.ensures.ok in
     let added = ap (λ us. length (places_from end us)) (ap (drop end) units ∙ tail_of_text c.self.inside.string tail end c.num_chars-end.ensures) in
-    let counted = c.count_separators.ensures.count ∙ ap (count_by becomes_separator) c.to_u16_slice.ensures in
+    let counted = c.count_separators-count.ensures.count ∙ ap (count_by becomes_separator) c.to_u16_slice.ensures in
     omega (arith, c.in_ok-reserve.ensures.ok, added, counted, count_of_tail tail end plain)
 
 pub invariant_of-self-2 : goal.invariant_of-self-2
@@ -36,3 +37,10 @@ invariant_of-self-2 g c =
           ∙ ap (λ us. c.self.inside.places.items ++ places_from end (drop end us)) units
           ∙ whole.1,
     )
+
+pub add_places-requires-clause-within : goal.add_places-requires-clause-within
+add_places-requires-clause-within g c =
+    let text = c.self.inside.string in
+    let tail = text_of c.make_tail-tail.result in
+    let units = c.to_u16_slice-2.ensures ∙ c.as_cstr16.ensures.same ∙ c.in_ok-push_str.ensures.ok in
+    omega (arith, c.num_chars-end.ensures, ap length units, length-append text tail)
