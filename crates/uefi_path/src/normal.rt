@@ -103,11 +103,11 @@ impl<'a> Path<'a> {
     /// right after it, until neither is left. A name is any component but `.` and `..`. Where
     /// nothing is left the normal path is the lone separator.
     ///
-    /// A path that is not valid is refused as `Invalid`, with the reason that `validate_path` reports;
-    /// `OutOfMemory` comes last. The passes of `validate_path` see whether all components are names:
-    /// then the text is copied, and else two more passes make the path. Takes
-    /// memory as [`PathBuf::from`] does: once for the text, and once for the places of its separators,
-    /// where it has any.
+    /// A path that is not valid is refused as `Invalid`, with the reason that
+    /// [`validate_path`](crate::validation::validate_path) reports; `OutOfMemory` comes last. The
+    /// passes that judge the path see whether all components are names: then the text is copied,
+    /// and else two more passes make the path. Takes memory as [`PathBuf::from`] does: once for the
+    /// text, and once for the places of its separators, where it has any.
     pub fn normalize<A: Allocator + Copy>(&self, alloc: A) -> Result<PathBuf<A>, NormalizeError>
         ensures valid { IfOk result (λ path. verdict (path_text self.now) ≡ None) }
         ensures ok { IfOk result (λ path.
