@@ -20,7 +20,8 @@ pushed text (unit ∷ units) = appended text (with_separators (unit ∷ units))
 
 -- a push of counted units: what the text becomes, and that each unit was read once, or at most once where the
 -- push was refused
-pub record IsPush {E : Type 0} (old new : List ℕ) (before after : CountedUnits) (done : Result (Unit {0}) E) : Type 0 where
+pub record IsPush {E : Type 0} (old new : List ℕ) (before after : CountedUnits)
+    (done : Result (Unit {0}) E) : Type 0 where
   pub ok : OnOk done (new ≡ pushed old (counted_text before))
   pub err : OnErr done (new ≡ old)
   pub text : counted_text after ≡ counted_text before

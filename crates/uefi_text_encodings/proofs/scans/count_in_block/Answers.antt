@@ -24,5 +24,8 @@ loop-element-preserved g c =
 
 pub overflow_add-count : goal.overflow_add-count
 overflow_add-count g c =
-    let so_far = count_by-le-length g.C.Class.holds (take c.loop-element.element-index c.args.block.now) in
-    omega (arith, so_far, length-take-le c.loop-element.element-index c.args.block.now (omega (arith, c.loop-element-test.true)), c.loop-element.invariant, at_most_one c.holds.result, c.from-count.ensures, c.requires, c.loop-element-test.true)
+    let i = c.loop-element.element-index in
+    let so_far = count_by-le-length g.C.Class.holds (take i c.args.block.now) in
+    let taken = length-take-le i c.args.block.now (omega (arith, c.loop-element-test.true)) in
+    let one = at_most_one c.holds.result in
+    omega (arith, so_far, taken, c.loop-element.invariant, one, c.from-count.ensures, c.requires, c.loop-element-test.true)
