@@ -1,5 +1,5 @@
 //! Paths that are made in a caller's buffer: whole, or not at all. No call takes memory.
-ghost use Rattle.std.specs.Prelude.{◌≡◌, ◌+◌, ◌-◌, ◌<◌, ◌≤◌, ◌^◌, [], ◌∷◌, ◌++◌, All, IfSome, drop, if◌then◌else◌, length, nat_lt, option_map};
+ghost use Rattle.std.specs.Prelude.{◌≡◌, ◌+◌, ◌-◌, ◌<◌, ◌≤◌, ◌^◌, [], ◌∷◌, ◌++◌, All, IfSome, drop, if◌then◌else◌, length, nat_lt, option_map, take};
 ghost use Rattle.uefi_path.specs.Components.{IsPiece, joined};
 ghost use Rattle.uefi_path.specs.NamesLeft.{IsWalk, names_left};
 ghost use Rattle.uefi_path.specs.Parents.{parent_of_components, parent_text};
@@ -14,6 +14,22 @@ use crate::path::Path;
 use crate::slices::{write_part, write_with_separators};
 use crate::validation::validate_path;
 use uefi_text::chars::SEPARATOR;
+
+/// Writes a part of a path, each slash replaced, at its place in a buffer, and a separator before it where one is
+/// missing; or nothing, where the buffer has no room. Returns where the part ends.
+fn write_part_at(buffer: &mut [u16], start: usize, is_missing: bool, part: &[u16]) -> usize
+    requires { start + (if is_missing then 1 else 0) + length part.now < 2 ^ 64 }
+    ensures end { result ≡ start + (if is_missing then 1 else 0) + length part.now }
+    ensures written { result ≤ length buffer.old → buffer.new ≡ take start buffer.old
+        ++ (with_separators (if is_missing then separator ∷ part.now else part.now)
+        ++ drop (result - start) (drop start buffer.old)) }
+{
+    let end = start + usize::from(is_missing) + part.len();
+    if end <= buffer.len() {
+        write_part(&mut buffer[start..end], is_missing, part);
+    }
+    end
+}
 
 /// How long the parent of a path of these components is, which one of at most one component has
 /// not. Writes it to the start of a buffer, each slash replaced, where it has room.
@@ -34,11 +50,7 @@ pub(crate) fn write_all_but_last(
     let mut len = 0;
     let mut is_missing = false;
     for component in components {
-        let end = len + usize::from(is_missing) + last.len();
-        if end <= buffer.len() {
-            write_part(&mut buffer[len..end], is_missing, last.units());
-        }
-        len = end;
+        len = write_part_at(buffer, len, is_missing, last.units());
         // No component holds a separator.
         is_missing = !last.is_empty();
         last = component;

@@ -10,7 +10,6 @@ use Rattle.uefi_path.specs.Separators.{with_separators}
 use Rattle.uefi_path.specs.Views.{components_left}
 use Rattle.uefi_path.proofs.Drafts.{draft_done, draft_more_fits, draft_next, draft_written, made_len, made_shorter, made_written, missing_count, tail_of}
 use Rattle.uefi_path.proofs.written.write_all_but_last.Goals as goal
-use Rattle.uefi_path.proofs.written.write_all_but_last.Goals.{then-end-buffer, else-end-buffer}
 
 pub loop-component-init : goal.loop-component-init
 loop-component-init c =
@@ -28,23 +27,12 @@ loop-component-init c =
       λ _. refl,
     )
 
-pub overflow_add-end : goal.overflow_add-end
-overflow_add-end c =
+pub write_part_at-len-requires : goal.write_part_at-len-requires
+write_part_at-len-requires c =
     let so_far = c.loop-component in
-    let left : components_left so_far.component-iterator ≡ units_of c.in-Some.component ∷ components_left c.next-in-loop-component.new.self =
-    grind (arith, common_steps, c.in-Some.ensures.steps) in
-    let count : c.from.result ≡ missing_count so_far.is_missing = grind (arith, common_steps, c.from.ensures) in
+    let left : components_left so_far.component-iterator ≡ units_of c.in-Some.component ∷ components_left c.next-in-loop-component.new.self = c.in-Some.ensures.steps in
     let fits = draft_more_fits so_far.invariant.0 _ _ _ _ _ _ _ so_far.invariant.1 left in
-    omega (arith, fits, made_shorter (components_left c.args.components) c.requires.pieces, count, c.requires.bound)
-
-pub overflow_add-end-in-loop-component : goal.overflow_add-end-in-loop-component
-overflow_add-end-in-loop-component c =
-    let so_far = c.loop-component in
-    let left : components_left so_far.component-iterator ≡ units_of c.in-Some.component ∷ components_left c.next-in-loop-component.new.self =
-    grind (arith, common_steps, c.in-Some.ensures.steps) in
-    let count : c.from.result ≡ missing_count so_far.is_missing = grind (arith, common_steps, c.from.ensures) in
-    let fits = draft_more_fits so_far.invariant.0 _ _ _ _ _ _ _ so_far.invariant.1 left in
-    omega (arith, fits, made_shorter (components_left c.args.components) c.requires.pieces, count, c.len.ensures, c.requires.bound)
+    omega (arith, fits, made_shorter (components_left c.args.components) c.requires.pieces, ap length c.units.ensures, c.requires.bound)
 
 pub loop-component-preserved : goal.loop-component-preserved
 loop-component-preserved c =
@@ -52,28 +40,21 @@ loop-component-preserved c =
     let text = so_far.invariant.0 in
     let last = units_of so_far.last in
     let old = c.args.buffer.now in
-    let left : components_left so_far.component-iterator ≡ units_of c.in-Some.component ∷ components_left c.next-in-loop-component.new.self =
-    grind (arith, common_steps, c.in-Some.ensures.steps) in
-    let count : c.from.result ≡ missing_count so_far.is_missing = grind (arith, common_steps, c.from.ensures) in
-    let end = so_far.len + c.from.result + c.len.result in
-    let ends : end ≡ so_far.len + missing_count so_far.is_missing + length last =
-    omega (arith, count, c.len.ensures) in
+    let part = c.write_part_at-len in
+    let left : components_left so_far.component-iterator ≡ units_of c.in-Some.component ∷ components_left c.next-in-loop-component.new.self = c.in-Some.ensures.steps in
+    let ends : part.result ≡ so_far.len + missing_count so_far.is_missing + length last =
+    omega (arith, part.ensures.end, ap length c.units.ensures) in
     let next = draft_next text _ _ _ _ _ _ _ _ _ so_far.invariant.1 left ends c.is_empty-is_missing.ensures in
-    let same = so_far.auto.buffer in (
+    let wrote : with_separators (tail_of so_far.is_missing c.units.result.now) ≡ with_separators (tail_of (needs_separator text) last) =
+    ap (λ b. with_separators (tail_of b c.units.result.now)) so_far.invariant.1.missing
+    ∙ ap (λ us. with_separators (tail_of (needs_separator text) us)) c.units.ensures in (
       _,
       next,
-      λ fits. elim c.if-end-buffer.branch [
-        | then-end-buffer w ↦
-            let wrote : w.write_part.new.places ≡ with_separators (tail_of (needs_separator text) last) =
-            w.write_part.ensures
-            ∙ ap (λ b. with_separators (tail_of b w.units.result.now)) so_far.invariant.1.missing
-            ∙ ap (λ us. with_separators (tail_of (needs_separator text) us)) w.units.ensures in
-            w.buffer-is
-            ∙ draft_written text last old so_far.buffer w.write_part.new.places so_far.len end so_far.invariant.1.len_is
-            next.len_is (omega (arith, fits, next.len_is))
-            (so_far.invariant.2 (omega (arith, so_far.invariant.1.len_is, next.len_is, fits, ends))) wrote
-        | else-end-buffer w ↦ absurd (omega (arith, fits, next.len_is, w.if-end-buffer.false, same))
-      ],
+      λ fits.
+          part.ensures.written (omega (arith, fits, next.len_is, so_far.auto.buffer))
+          ∙ draft_written text last old so_far.buffer _ so_far.len part.result so_far.invariant.1.len_is next.len_is
+          (omega (arith, fits, next.len_is))
+          (so_far.invariant.2 (omega (arith, so_far.invariant.1.len_is, next.len_is, fits, ends))) wrote,
     )
 
 pub returns-clause-len : goal.returns-clause-len

@@ -16,12 +16,12 @@ loop-component-preserved c =
     let component = units_of c.in-Some.component in
     let theirs :
     components_left so_far.component-iterator ≡ component ∷ components_left c.next.new.self =
-    grind (arith, common_steps, c.in-Some.ensures.steps) in
+    c.in-Some.ensures.steps in
     let own = units_of c.in_ok-own.own in
     let tested : pointwise nat_eq own component ≡ true = grind (arith, common_steps) in
     let first :
     components_left so_far.rest ≡ own ∷ components_left c.next-in-loop-component.new.self =
-    grind (arith, common_steps) in
+    c.in_ok-own.ensures.steps in
     let ours :
     components_left so_far.rest ≡ component ∷ components_left c.next-in-loop-component.new.self =
     first
