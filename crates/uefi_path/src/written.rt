@@ -15,8 +15,8 @@ use crate::slices::{write_part, write_with_separators};
 use crate::validation::validate_path;
 use uefi_text::chars::SEPARATOR;
 
-/// Writes a part of a path, each slash replaced, at its place in a buffer, and a separator before it where one is
-/// missing; or nothing, where the buffer has no room. Returns where the part ends.
+/// Writes a part of a path at its place in a buffer, each slash replaced, and a separator before it
+/// where one is missing; or nothing, where the buffer has no room. Returns where the part ends.
 fn write_part_at(buffer: &mut [u16], start: usize, is_missing: bool, part: &[u16]) -> usize
     requires { start + (if is_missing then 1 else 0) + length part.now < 2 ^ 64 }
     ensures end { result ≡ start + (if is_missing then 1 else 0) + length part.now }
