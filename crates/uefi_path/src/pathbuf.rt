@@ -55,7 +55,7 @@ fn needs_separator<A: Allocator>(string: &CString16<A>) -> bool
     !text.is_empty() && text.get(text.len() - 1) != Some(SEPARATOR)
 }
 
-/// As many zeros.
+/// This many zeros. Takes memory once.
 fn zeros<A: Allocator>(alloc: A, len: usize) -> Result<Vec<u16, A>, AllocError>
     ensures { IfOk result (λ units. units.items ≡ replicate len 0) }
 {
