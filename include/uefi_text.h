@@ -64,9 +64,9 @@ typedef int32_t uefi_order;
 
 /* The version of this library: its numbers, and its text. */
 #define UEFI_TEXT_VERSION_MAJOR 0
-#define UEFI_TEXT_VERSION_MINOR 4
+#define UEFI_TEXT_VERSION_MINOR 5
 #define UEFI_TEXT_VERSION_PATCH 0
-#define UEFI_TEXT_VERSION "0.4.0"
+#define UEFI_TEXT_VERSION "0.5.0"
 
 #ifdef __cplusplus
 extern "C" {

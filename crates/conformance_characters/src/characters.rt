@@ -1,7 +1,7 @@
 //! Characters of Latin-1 and of UCS-2.
 
 use std::test::Fail;
-use uefi_text_encodings::chars::{Char8, Char16, CharConversionError, NUL_8, NUL_16};
+use uefi_text::chars::{Char8, Char16, CharConversionError, NUL_8, NUL_16};
 
 #[test]
 fn code_units_as_characters(rt: HostRuntime) -> Result<(), Fail> {

@@ -1,10 +1,9 @@
 //! What errors print.
 
 use std::test::Fail;
-use uefi_text_encodings::chars::CharConversionError;
-use uefi_text_encodings::errors::{
-    FromSliceUntilNulError, FromSliceWithNulError, FromStrError, FromStrWithBufError,
-    UnalignedCStr16Error,
+use uefi_text::{
+    CharConversionError, FromSliceUntilNulError, FromSliceWithNulError, FromStrError,
+    FromStrWithBufError, UnalignedCStr16Error,
 };
 
 #[test]

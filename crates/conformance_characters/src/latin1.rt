@@ -3,8 +3,9 @@
 use std::cmp::Ordering;
 use std::collections::HashSet;
 use std::test::Fail;
-use uefi_text_encodings::errors::FromSliceWithNulError;
-use uefi_text_encodings::{CStr8, has_no_nul, is_latin1, str_num_latin1_chars, str_to_latin1};
+use uefi_text::{
+    CStr8, FromSliceWithNulError, has_no_nul, is_latin1, str_num_latin1_chars, str_to_latin1,
+};
 
 /// Whether bytes are refused for this cause.
 fn is_refused(bytes: &[u8], want: FromSliceWithNulError) -> bool {

@@ -2,12 +2,12 @@
 use Rattle.std.specs.Prelude.{ℕ, ℤ, pos, negsuc, Option, Some, None}
 use Rattle.std.specs.declared.cmp.Ordering.{Ordering}
 use Rattle.std.specs.declared.cmp.Ordering.TheVariants.{Less, Equal, Greater}
-use Rattle.uefi_text_encodings.specs.declared.errors.FromSliceUntilNulError.{FromSliceUntilNulError}
-use Rattle.uefi_text_encodings.specs.declared.errors.FromSliceUntilNulError.TheVariants as until_nul
-use Rattle.uefi_text_encodings.specs.declared.errors.FromSliceWithNulError.{FromSliceWithNulError}
-use Rattle.uefi_text_encodings.specs.declared.errors.FromSliceWithNulError.TheVariants as with_nul
-use Rattle.uefi_text_encodings.specs.declared.errors.FromStrWithBufError.{FromStrWithBufError}
-use Rattle.uefi_text_encodings.specs.declared.errors.FromStrWithBufError.TheVariants as with_buf
+use Rattle.uefi_text.specs.declared.errors.FromSliceUntilNulError.{FromSliceUntilNulError}
+use Rattle.uefi_text.specs.declared.errors.FromSliceUntilNulError.TheVariants as until_nul
+use Rattle.uefi_text.specs.declared.errors.FromSliceWithNulError.{FromSliceWithNulError}
+use Rattle.uefi_text.specs.declared.errors.FromSliceWithNulError.TheVariants as with_nul
+use Rattle.uefi_text.specs.declared.errors.FromStrWithBufError.{FromStrWithBufError}
+use Rattle.uefi_text.specs.declared.errors.FromStrWithBufError.TheVariants as with_buf
 use Rattle.uefi_path.specs.declared.validation.PathError.{PathError}
 use Rattle.uefi_path.specs.declared.validation.PathError.TheVariants.{Empty, EmptyComponent, IllegalChar, ClimbsAboveRoot}
 use Rattle.uefi_device_nodes.specs.declared.errors.NodeError.{NodeError}

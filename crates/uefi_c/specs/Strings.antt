@@ -5,12 +5,12 @@ use Rattle.uefi_text.specs.Units.{is_nul, without_nul}
 use Rattle.uefi_text.specs.FromSliceUntilNul.{until_nul_refusal}
 use Rattle.uefi_text.specs.FromSliceWithNul.{with_nul_refusal}
 use Rattle.uefi_text.specs.FromStrWithBuf.{from_str_with_buf_refusal}
-use Rattle.uefi_text_encodings.specs.declared.errors.FromSliceUntilNulError.{FromSliceUntilNulError}
-use Rattle.uefi_text_encodings.specs.declared.errors.FromSliceUntilNulError.TheVariants as until_nul
-use Rattle.uefi_text_encodings.specs.declared.errors.FromSliceWithNulError.{FromSliceWithNulError}
-use Rattle.uefi_text_encodings.specs.declared.errors.FromSliceWithNulError.TheVariants as with_nul
-use Rattle.uefi_text_encodings.specs.declared.errors.FromStrWithBufError.{FromStrWithBufError}
-use Rattle.uefi_text_encodings.specs.declared.errors.FromStrWithBufError.TheVariants as with_buf
+use Rattle.uefi_text.specs.declared.errors.FromSliceUntilNulError.{FromSliceUntilNulError}
+use Rattle.uefi_text.specs.declared.errors.FromSliceUntilNulError.TheVariants as until_nul
+use Rattle.uefi_text.specs.declared.errors.FromSliceWithNulError.{FromSliceWithNulError}
+use Rattle.uefi_text.specs.declared.errors.FromSliceWithNulError.TheVariants as with_nul
+use Rattle.uefi_text.specs.declared.errors.FromStrWithBufError.{FromStrWithBufError}
+use Rattle.uefi_text.specs.declared.errors.FromStrWithBufError.TheVariants as with_buf
 
 -- what stands before the first NUL of units, and all of them where there is none
 abbrev pub text_in : List ℕ → List ℕ

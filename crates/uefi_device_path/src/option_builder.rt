@@ -13,7 +13,7 @@ ghost use Rattle.uefi_device_path.specs.Views.{nodes_of};
 use crate::device_path::DevicePath;
 use crate::errors::OptionBuildError;
 use std::alloc::Allocator;
-use uefi_text_encodings::scans::{find_nul, split};
+use uefi_text::scans::{find_nul, split};
 
 /// The longest file path list that the header of a load option can state.
 const LONGEST_LIST: usize = 0xffff;

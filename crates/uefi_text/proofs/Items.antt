@@ -2,8 +2,8 @@
 use Rattle.std.proofs.Common.{◌≡◌, ◌∙◌, ℕ, ◌*◌, ◌≤◌, ap, length, subst, sym}
 use Rattle.uefi_text.specs.Views.{items_of}
 use Rattle.uefi_text.specs.declared.unaligned_slice.UnalignedSlice.{UnalignedSlice}
-use Rattle.uefi_text_encodings.specs.Packed.{packed_items}
-use Rattle.uefi_text_encodings.proofs.Packing.{length-packed_items}
+use Rattle.uefi_text.specs.Packed.{packed_items}
+use Rattle.uefi_text.proofs.Packing.{length-packed_items}
 
 module _ {T : Type 0} {P : _} (slice : UnalignedSlice T P) (places : ℕ) (as_many : places ≡ length (items_of slice)) where
   same-len : places ≡ slice.len

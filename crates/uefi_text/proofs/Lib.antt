@@ -1,3 +1,16 @@
+pub mod Scanning
+pub mod Utf8Bytes
+pub mod Deciding
+pub mod Texts
+pub mod Utf16
+pub mod Printed
+pub mod Packing
+pub mod UnitBytes
+pub mod Prefixes
+pub mod Accepting
+pub mod Writing
+pub mod Decoding
+pub mod Lanes
 pub mod Values
 pub mod Items
 pub mod Runs

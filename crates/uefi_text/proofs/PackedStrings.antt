@@ -6,11 +6,11 @@ use Rattle.std.proofs.lemmas.Grind.{common_steps}
 use Rattle.std.proofs.lemmas.List.{get_or-take, length-take-le, take_more}
 use Rattle.std.proofs.lemmas.List.Elements.{All-from_get_or, All-head, All-tail}
 use Rattle.std.proofs.lemmas.List.Quantifiers.{position-Some}
-use Rattle.uefi_text_encodings.proofs.Packing.{length-packed_items}
-use Rattle.uefi_text_encodings.proofs.Texts.{without_nul-nul_terminated}
-use Rattle.uefi_text_encodings.specs.Packed.{little_endian, packed_items}
-use Rattle.uefi_text_encodings.specs.UnitBytes.{unit_bytes, units_of_bytes}
-use Rattle.uefi_text_encodings.specs.Units.{IsNulTerminated, is_nul, nul_terminated, without_nul}
+use Rattle.uefi_text.proofs.Packing.{length-packed_items}
+use Rattle.uefi_text.proofs.Texts.{without_nul-nul_terminated}
+use Rattle.uefi_text.specs.Packed.{little_endian, packed_items}
+use Rattle.uefi_text.specs.UnitBytes.{unit_bytes, units_of_bytes}
+use Rattle.uefi_text.specs.Units.{IsNulTerminated, is_nul, nul_terminated, without_nul}
 use Rattle.uefi_text.specs.PackedStrings.{SplitsUntilNul}
 
 -- no units' bytes begin others', where exactly their last is a NUL

@@ -4,10 +4,10 @@ use Rattle.std.proofs.Common.{◌≡◌, ◌≢◌, ◌∙◌, ℕ, All, List, [
 use Rattle.std.proofs.lemmas.Bool.{cases_Bool}
 use Rattle.std.proofs.lemmas.Grind.{common_steps}
 use Rattle.std.proofs.lemmas.List.Elements.{All-cons, All-nil, All-weaker}
-use Rattle.uefi_text_encodings.specs.Units.{IsText, IsTextUnit, is_nul}
-use Rattle.uefi_text_encodings.specs.FromStr.{from_str_refusal}
-use Rattle.uefi_text_encodings.specs.declared.errors.FromStrError.TheVariants.{InteriorNul}
-use Rattle.uefi_text_encodings.proofs.Accepting.{from_str-characters}
+use Rattle.uefi_text.specs.Units.{IsText, IsTextUnit, is_nul}
+use Rattle.uefi_text.specs.FromStr.{from_str_refusal}
+use Rattle.uefi_text.specs.declared.errors.FromStrError.TheVariants.{InteriorNul}
+use Rattle.uefi_text.proofs.Accepting.{from_str-characters}
 use Rattle.uefi_text.specs.Views.{text_of, units_of}
 use Rattle.uefi_text.specs.declared.strs.CStr16.{CStr16}
 use Rattle.uefi_text.specs.declared.strs.Char16Slice.{Char16Slice}

@@ -1,10 +1,10 @@
 -- The laws of strings, over the definitions that contracts of working calls cite.
 use Rattle.std.specs.Prelude.{◌≡◌, ◌↔◌, ℕ, All, List, None}
 use Rattle.std.specs.Char.{IsScalar}
-use Rattle.uefi_text_encodings.specs.Units.{IsText}
-use Rattle.uefi_text_encodings.specs.FromStr.{from_str_refusal}
-use Rattle.uefi_text_encodings.specs.Packed.{IsByte}
-use Rattle.uefi_text_encodings.specs.UnitBytes.{BytesEncode, unit_bytes_refusal}
+use Rattle.uefi_text.specs.Units.{IsText}
+use Rattle.uefi_text.specs.FromStr.{from_str_refusal}
+use Rattle.uefi_text.specs.Packed.{IsByte}
+use Rattle.uefi_text.specs.UnitBytes.{BytesEncode, unit_bytes_refusal}
 
 -- every text has bytes that encode it
 abbrev pub TextsAreEncoded : Type 0

@@ -1,7 +1,7 @@
 -- Units that lie at the front of bytes, up to and with a NUL.
 use Rattle.std.specs.Prelude.{◌≡◌, ℕ, List, ◌++◌}
-use Rattle.uefi_text_encodings.specs.UnitBytes.{unit_bytes}
-use Rattle.uefi_text_encodings.specs.Units.{IsNulTerminated}
+use Rattle.uefi_text.specs.UnitBytes.{unit_bytes}
+use Rattle.uefi_text.specs.Units.{IsNulTerminated}
 
 -- bytes are those of these units, of which exactly the last is a NUL, and then `rest`
 pub record SplitsUntilNul (bytes units rest : List ℕ) : Type 0 where

@@ -1,14 +1,18 @@
 -- What a borrowed value shows. Other crates see these words alone, and no field.
 use Rattle.std.specs.Prelude.{ℕ, List}
-use Rattle.uefi_text_encodings.specs.Packed.{packed_items}
-unfoldable pub use Rattle.uefi_text_encodings.specs.Views.{bytes_of}
-use Rattle.uefi_text_encodings.specs.Units.{without_nul}
+use Rattle.uefi_text.specs.Packed.{packed_items}
+use Rattle.uefi_text.specs.Units.{without_nul}
+use Rattle.uefi_text.specs.declared.latin1.CStr8.{CStr8}
 use Rattle.uefi_text.specs.declared.strs.CStr16.{CStr16}
 use Rattle.uefi_text.specs.declared.strs.Char16Slice.{Char16Slice}
 use Rattle.uefi_text.specs.declared.strs.CStr16Iter.{CStr16Iter}
 use Rattle.uefi_text.specs.declared.unaligned_slice.UnalignedSlice.{UnalignedSlice}
 use Rattle.uefi_text.specs.declared.unaligned_slice.UnalignedSliceIter.{UnalignedSliceIter}
 use Rattle.uefi_text.specs.declared.unaligned_slice.UnalignedSliceIntoIter.{UnalignedSliceIntoIter}
+
+-- the bytes of a borrowed Latin-1 string, its NUL included
+unfoldable pub bytes_of : CStr8 → List ℕ
+bytes_of string = string.bytes.now
 
 -- the text of a borrowed string, without its NUL
 unfoldable pub text_of : CStr16 → List ℕ

@@ -1,14 +1,30 @@
-//! Comparison of strings of UCS-2 with Rust texts, up to the first NUL.
-ghost use Rattle.std.specs.Prelude.{◌↔◌, IsTrue};
+//! Comparison of strings with Rust texts, up to the first NUL. Each type of string implements the
+//! trait beside its other calls.
+ghost use Rattle.std.specs.Prelude.{◌↔◌, ℕ, List, IsTrue};
 ghost use Rattle.std.specs.Str.{chars};
-ghost use Rattle.uefi_text_encodings.specs.EqStrUntilNul.{IsEqualUntilNul};
+ghost use Rattle.uefi_text.specs.EqStrUntilNul.{IsEqualUntilNul};
 
-use crate::owned_strs::CString16;
-use crate::strs::CStr16;
-use std::alloc::Allocator;
-use uefi_text_encodings::code_units::same_front;
-pub use uefi_text_encodings::eq_str_until_nul::{EqStrUntilNul, str_eq_until_nul};
-use uefi_text_encodings::scans::same_ascii_len;
+use crate::code_units::same_front;
+
+/// A string that can be compared with a Rust text. A contract sees a value as its `characters`,
+/// those before its NUL.
+pub trait EqStrUntilNul {
+    /// The characters before the NUL.
+    ghost characters: { Self → List ℕ };
+
+    /// Whether this string and what `other` holds before its first NUL agree as far as the shorter
+    /// of the two goes: one of them is a prefix of the other. So `te` agrees with `test`, and the
+    /// empty text with every string. One pass, which ends at the first difference; takes no memory.
+    fn eq_str_until_nul(&self, other: &str) -> bool
+        ensures { IsTrue result ↔ IsEqualUntilNul (characters self.now) (chars other.now) };
+}
+
+/// [`EqStrUntilNul::eq_str_until_nul`] with its sides exchanged.
+pub fn str_eq_until_nul<S: EqStrUntilNul>(s: &str, other: &S) -> bool
+    ensures { IsTrue result ↔ IsEqualUntilNul (S.characters other.now) (chars s.now) }
+{
+    other.eq_str_until_nul(s)
+}
 
 /// Whether units are equal to a Rust text until its first NUL, unit by unit.
 fn are_equal_by_unit(units: &[u16], other: &str) -> bool
@@ -20,31 +36,9 @@ fn are_equal_by_unit(units: &[u16], other: &str) -> bool
 }
 
 /// Whether units are equal to a Rust text until its first NUL: eight at a time, and then unit by unit.
-fn are_equal_by_block(units: &[u16], other: &str) -> bool
+pub(crate) fn are_equal_by_block(units: &[u16], other: &str) -> bool
     ensures { IsTrue result ↔ IsEqualUntilNul units.now (chars other.now) }
 {
     let (len, rest) = same_front(units, other);
     are_equal_by_unit(&units[len..], rest)
-}
-
-/// Compares the characters of the text.
-impl<'a> EqStrUntilNul for CStr16<'a> {
-    ghost use Rattle.uefi_text.specs.Views.{text_of};
-
-    ghost characters = { text_of };
-
-    fn eq_str_until_nul(&self, other: &str) -> bool {
-        let units = self.to_u16_slice();
-        let len = same_ascii_len(units, other.as_bytes());
-        are_equal_by_block(&units[len..], &other[len..])
-    }
-}
-
-/// Compares the characters of the text.
-impl<A: Allocator> EqStrUntilNul for CString16<A> {
-    ghost characters = { λ text. text };
-
-    fn eq_str_until_nul(&self, other: &str) -> bool {
-        self.as_cstr16().eq_str_until_nul(other)
-    }
 }

@@ -27,13 +27,24 @@
 //! `items_of` it. No clause outside this crate speaks of a NUL's place, of a buffer or of a capacity.
 #![tactic(auto)]
 
+pub mod char_sink;
+pub mod chars;
+mod code_units;
 pub mod eq_str_until_nul;
+mod errors;
+mod latin1;
 pub mod laws;
 pub mod owned_strs;
+mod packed;
 mod packed_strings;
+#[doc(hidden)]
+pub mod scans;
 pub mod strs;
 pub mod unaligned_slice;
+mod utf8;
 
+pub use char_sink::CharSink;
+pub use chars::{Char8, Char16, CharConversionError, NUL_8, NUL_16};
 pub use eq_str_until_nul::{EqStrUntilNul, str_eq_until_nul};
 pub use owned_strs::{CString16, FromStrError, have_no_nul};
 pub use strs::{
@@ -41,7 +52,4 @@ pub use strs::{
     FromStrWithBufError, UnalignedCStr16Error, has_no_nul, is_latin1, str_num_latin1_chars,
     str_to_latin1,
 };
-pub use uefi_text_encodings::char_sink::CharSink;
-pub use uefi_text_encodings::chars::{Char8, Char16, CharConversionError, NUL_8, NUL_16};
-pub use uefi_text_encodings::{char_sink, chars};
 pub use unaligned_slice::{Packed, UnalignedSlice, UnalignedSliceIntoIter, UnalignedSliceIter};

@@ -2,21 +2,22 @@
 //! outside this module sees.
 ghost use Rattle.std.specs.Prelude.{◌≡◌, ◌≢◌, ℕ, ◌+◌, ◌<◌, ◌↔◌, ◌++◌, [], All, Contains, List, None, length, map, find, position, unwrap_or, IsTrue, IfOk, IfErr, ◌∷◌, take, IsOk, OnOk, OnErr, drop};
 ghost use Rattle.std.specs.Str.{chars};
-ghost use Rattle.uefi_text_encodings.specs.Units.{IsChar16, IsNulTerminated, IsString, IsText, is_nul, nul_terminated, replaced};
+ghost use Rattle.uefi_text.specs.Units.{IsChar16, IsNulTerminated, IsString, IsText, is_nul, nul_terminated, replaced};
 ghost use Rattle.std.specs.Result.{result_err};
-ghost use Rattle.uefi_text_encodings.specs.FromStr.{is_deciding_char, from_str_refusal};
+ghost use Rattle.uefi_text.specs.FromStr.{is_deciding_char, from_str_refusal};
 ghost use Rattle.uefi_text.specs.Runs.{CopiesNoNul};
 
+use crate::chars::{Char16, NUL_16};
+use crate::code_units::{text_len, units_of_text, write_text};
+use crate::eq_str_until_nul::EqStrUntilNul;
+pub use crate::errors::FromStrError;
+use crate::scans::replace_units_from;
 use crate::strs::{CStr16, Char16Slice, FromSliceUntilNulError, FromSliceWithNulError};
 use std::alloc::{AllocError, Allocator, Global};
 use std::cmp::Ordering;
 use std::fmt;
 use std::hash::{Hash, Hasher};
 use std::marker::Model;
-use uefi_text_encodings::chars::{Char16, NUL_16};
-use uefi_text_encodings::code_units::{text_len, units_of_text, write_text};
-pub use uefi_text_encodings::errors::FromStrError;
-use uefi_text_encodings::scans::replace_units_from;
 
 /// An owned string, in memory of its allocator, which it keeps. After every call, refused or not,
 /// it holds a text and its one NUL. A contract sees it as the text.
@@ -27,7 +28,7 @@ pub struct CString16<A: Allocator = Global> {
 
 impl<A: Allocator> Model for CString16<A> {
     ghost use Rattle.std.specs.Prelude.{ℕ, List};
-    ghost use Rattle.uefi_text_encodings.specs.Units.{IsString, without_nul};
+    ghost use Rattle.uefi_text.specs.Units.{IsString, without_nul};
 
     ghost Value = { List ℕ };
 
@@ -97,8 +98,8 @@ fn units_of_characters<A: Allocator>(
 /// Owned strings of characters and of a borrowed string.
 impl<'a> CStr16<'a> {
     ghost use Rattle.std.specs.List.{before_first};
-    ghost use Rattle.uefi_text_encodings.specs.FromSliceUntilNul.{missing_nul_refusal};
-    ghost use Rattle.uefi_text_encodings.specs.FromSliceWithNul.{first_nul_refusal};
+    ghost use Rattle.uefi_text.specs.FromSliceUntilNul.{missing_nul_refusal};
+    ghost use Rattle.uefi_text.specs.FromSliceWithNul.{first_nul_refusal};
     ghost use Rattle.uefi_text.specs.Views.{text_of};
 
     /// Copies the characters up to the first NUL into an owned string.
@@ -199,7 +200,7 @@ impl<'a> Char16Slice<'a> {
 impl<A: Allocator> CString16<A> {
     ghost use Rattle.std.specs.Iterator.{IsFinite};
     ghost use Rattle.std.specs.Iterator.Runs.{SomeRun, WholeRun};
-    ghost use Rattle.uefi_text_encodings.specs.FromSliceWithNul.{with_nul_refusal};
+    ghost use Rattle.uefi_text.specs.FromSliceWithNul.{with_nul_refusal};
     ghost use Rattle.uefi_text.specs.Runs.{GivesNoNul};
     ghost use Rattle.uefi_text.specs.Views.{text_of, units_of};
 
@@ -531,7 +532,7 @@ impl<A: Allocator> Hash for CString16<A> {
 impl<A: Allocator> TryFrom<Vec<u16, A>> for CString16<A> {
     type Error = FromSliceWithNulError;
 
-    ghost use Rattle.uefi_text_encodings.specs.FromSliceWithNul.{with_nul_refusal};
+    ghost use Rattle.uefi_text.specs.FromSliceWithNul.{with_nul_refusal};
 
     ghost try_from_gives = { λ units result. IfOk result (λ string. nul_terminated string ≡ units.items)
         × (IsOk result ↔ IsString units.items) × (result_err result ≡ with_nul_refusal units.items) };
@@ -587,5 +588,14 @@ impl<A: Allocator> fmt::Debug for CString16<A> {
     fn fmt<W: fmt::Write>(&self, f: &mut fmt::Formatter<W>) -> fmt::Result {
         let text = self.as_cstr16().as_slice();
         f.debug_tuple("CString16").field(&text).finish()
+    }
+}
+
+/// Compares the characters of the text.
+impl<A: Allocator> EqStrUntilNul for CString16<A> {
+    ghost characters = { λ text. text };
+
+    fn eq_str_until_nul(&self, other: &str) -> bool {
+        self.as_cstr16().eq_str_until_nul(other)
     }
 }

@@ -1,8 +1,8 @@
 //! Packed units that are read as a string where they lie.
 ghost use Rattle.std.specs.Prelude.{◌≡◌, OnOk};
 ghost use Rattle.std.specs.Result.{result_err};
-ghost use Rattle.uefi_text_encodings.specs.FromSliceWithNul.{with_nul_refusal};
-ghost use Rattle.uefi_text_encodings.specs.Units.{IsString};
+ghost use Rattle.uefi_text.specs.FromSliceWithNul.{with_nul_refusal};
+ghost use Rattle.uefi_text.specs.Units.{IsString};
 
 use crate::strs::FromSliceWithNulError;
 use crate::unaligned_slice::UnalignedSlice;

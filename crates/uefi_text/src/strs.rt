@@ -1,5 +1,5 @@
 //! Borrowed NUL-terminated strings of UCS-2, and views of their characters. The strings of Latin-1
-//! and the errors come from the layer below. `specs/Views.antt` says what a contract sees of each
+//! and the errors stand in modules of their own. `specs/Views.antt` says what a contract sees of each
 //! view.
 #![tactic(auto, unfolding(crate::specs::Views::text_of, crate::specs::Views::units_of, crate::specs::Views::units_left))]
 
@@ -8,28 +8,27 @@ ghost use Rattle.std.specs.Char.Escape.{encode_utf16};
 ghost use Rattle.std.specs.Cmp.Lexicographic.{pointwise};
 ghost use Rattle.std.specs.Result.{result_err};
 ghost use Rattle.std.specs.Str.{chars};
-ghost use Rattle.uefi_text_encodings.specs.FromStr.{is_deciding_char};
-ghost use Rattle.uefi_text_encodings.specs.FromStrWithBuf.{refusal_of_char_at, with_units};
-ghost use Rattle.uefi_text_encodings.specs.FromSliceWithNul.{deciding_refusal};
+ghost use Rattle.uefi_text.specs.FromStr.{is_deciding_char};
+ghost use Rattle.uefi_text.specs.FromStrWithBuf.{refusal_of_char_at, with_units};
+ghost use Rattle.uefi_text.specs.FromSliceWithNul.{deciding_refusal};
 ghost use Rattle.uefi_text.specs.Runs.{GivesAll, GivesEach, GivesNoNul};
-ghost use Rattle.uefi_text_encodings.specs.Units.{BeginsWithString, IsString, IsText, IsChar16, is_nul, nul_terminated, without_nul};
+ghost use Rattle.uefi_text.specs.Units.{BeginsWithString, IsString, IsText, IsChar16, is_nul, nul_terminated, without_nul};
 
+pub use crate::char_sink::CharSink;
+use crate::chars::Char16;
+use crate::code_units::write_text;
+use crate::eq_str_until_nul::are_equal_by_block;
+pub use crate::eq_str_until_nul::{EqStrUntilNul, str_eq_until_nul};
+pub use crate::errors::{
+    FromSliceUntilNulError, FromSliceWithNulError, FromStrWithBufError, UnalignedCStr16Error,
+};
+pub use crate::latin1::{CStr8, has_no_nul, is_latin1, str_num_latin1_chars, str_to_latin1};
+use crate::scans::{find_deciding_place, is_ascii, same_ascii_len, split};
+use crate::utf8::{PRINTED, add_utf8, write_utf8};
 use std::alloc::{AllocError, Allocator};
 use std::cmp::Ordering;
 use std::fmt;
 use std::hash::{Hash, Hasher};
-pub use uefi_text_encodings::char_sink::CharSink;
-use uefi_text_encodings::chars::Char16;
-use uefi_text_encodings::code_units::write_text;
-pub use uefi_text_encodings::eq_str_until_nul::{EqStrUntilNul, str_eq_until_nul};
-pub use uefi_text_encodings::errors::{
-    FromSliceUntilNulError, FromSliceWithNulError, FromStrWithBufError, UnalignedCStr16Error,
-};
-pub use uefi_text_encodings::latin1::{
-    CStr8, has_no_nul, is_latin1, str_num_latin1_chars, str_to_latin1,
-};
-use uefi_text_encodings::scans::{find_deciding_place, is_ascii, split};
-use uefi_text_encodings::utf8::{PRINTED, add_utf8, write_utf8};
 
 /// A borrowed string: a view of code units that are a text and its NUL (UEFI Specification 2.10,
 /// section 2.3.1). A contract sees it as `text_of` it: the text without the NUL.
@@ -90,11 +89,11 @@ impl<'a> CStr16<'a> {
     ghost use Rattle.std.specs.List.{before_first};
     ghost use Rattle.std.specs.Str.{IsAscii, encode_utf8_all};
     ghost use Rattle.std.specs.String.{string_bytes};
-    ghost use Rattle.uefi_text_encodings.specs.UnitBytes.{unit_bytes};
+    ghost use Rattle.uefi_text.specs.UnitBytes.{unit_bytes};
     ghost use Rattle.std.specs.Iterator.{YieldsFirst};
-    ghost use Rattle.uefi_text_encodings.specs.FromSliceUntilNul.{until_nul_refusal};
-    ghost use Rattle.uefi_text_encodings.specs.FromSliceWithNul.{with_nul_refusal};
-    ghost use Rattle.uefi_text_encodings.specs.FromStrWithBuf.{from_str_with_buf_refusal, with_text};
+    ghost use Rattle.uefi_text.specs.FromSliceUntilNul.{until_nul_refusal};
+    ghost use Rattle.uefi_text.specs.FromSliceWithNul.{with_nul_refusal};
+    ghost use Rattle.uefi_text.specs.FromStrWithBuf.{from_str_with_buf_refusal, with_text};
     ghost use Rattle.uefi_text.specs.Views.{text_of, units_of, units_left};
 
     /// Borrows the units up to the first NUL, and with it, as a string.
@@ -423,6 +422,19 @@ impl<'a> IntoIterator for CStr16<'a> {
 impl<'a> fmt::Debug for CStr16<'a> {
     fn fmt<W: fmt::Write>(&self, f: &mut fmt::Formatter<W>) -> fmt::Result {
         f.debug_tuple("CStr16").field(&self.as_slice()).finish()
+    }
+}
+
+/// Compares the characters of the text.
+impl<'a> EqStrUntilNul for CStr16<'a> {
+    ghost use Rattle.uefi_text.specs.Views.{text_of};
+
+    ghost characters = { text_of };
+
+    fn eq_str_until_nul(&self, other: &str) -> bool {
+        let units = self.to_u16_slice();
+        let len = same_ascii_len(units, other.as_bytes());
+        are_equal_by_block(&units[len..], &other[len..])
     }
 }
 

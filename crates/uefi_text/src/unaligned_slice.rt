@@ -21,25 +21,25 @@
 //! A contract sees a slice as `items_of` it: the list of its items' numbers. The trait [`Packed`] says
 //! what can be an item: how many bytes it takes, and which number they encode. Every contract here holds
 //! for each type that implements it.
-#![tactic(auto, using(uefi_text_encodings::proofs::Packing::packing), unfolding(crate::specs::Views::items_of, crate::specs::Views::items_left, crate::specs::Views::into_iter_items_left))]
+#![tactic(auto, using(crate::proofs::Packing::packing), unfolding(crate::specs::Views::items_of, crate::specs::Views::items_left, crate::specs::Views::into_iter_items_left))]
 
 ghost use Rattle.std.specs.Prelude.{◌≡◌, ℕ, ◌+◌, ◌++◌, ◌*◌, ◌^◌, ◌<◌, ◌≤◌, ◌↔◌, [], length, map, take, slice_index, slice_get, slice_range, IfOk, IfErr, IfSome, IsSome, IsTrue};
 ghost use Rattle.std.specs.Iterator.{UpTo, YieldsFirstBy, item_count};
 ghost use Rattle.std.specs.Iterator.SizeHint.{IsWithinCount};
 ghost use Rattle.std.specs.Option.{option_map};
 ghost use Rattle.std.specs.Vec.{vec_len, vec_capacity};
-ghost use Rattle.uefi_text_encodings.specs.Packed.{little_endian, packed_items};
+ghost use Rattle.uefi_text.specs.Packed.{little_endian, packed_items};
 ghost use Rattle.uefi_text.specs.Runs.{GivesEach};
-ghost use Rattle.uefi_text_encodings.specs.UnalignedCStr16.{refusal_in_buffer};
-ghost use Rattle.uefi_text_encodings.specs.UnitBytes.{ends_in_nul};
+ghost use Rattle.uefi_text.specs.UnalignedCStr16.{refusal_in_buffer};
+ghost use Rattle.uefi_text.specs.UnitBytes.{ends_in_nul};
 
 use crate::owned_strs::CString16;
+pub use crate::packed::Packed;
+use crate::scans::{find_deciding_place, find_nul};
 use crate::strs::{CStr16, FromSliceWithNulError, UnalignedCStr16Error, check_deciding_unit};
 use std::alloc::{AllocError, Allocator};
 use std::fmt;
 use std::marker::PhantomData;
-pub use uefi_text_encodings::packed::Packed;
-use uefi_text_encodings::scans::{find_deciding_place, find_nul};
 
 /// How many units are copied out and tested at a time.
 const TESTED: usize = 64;
@@ -456,11 +456,11 @@ fn refusal_in_buffer(error: FromSliceWithNulError) -> UnalignedCStr16Error
 impl<'a> UnalignedSlice<'a, u16> {
     ghost use Rattle.std.specs.Prelude.{List, None, drop, position, unwrap_or, ◌%◌};
     ghost use Rattle.std.specs.Result.{result_err};
-    ghost use Rattle.uefi_text_encodings.specs.FromSliceWithNul.{with_nul_refusal};
-    ghost use Rattle.uefi_text_encodings.specs.UnalignedCStr16.{unaligned_refusal, with_prefix};
+    ghost use Rattle.uefi_text.specs.FromSliceWithNul.{with_nul_refusal};
+    ghost use Rattle.uefi_text.specs.UnalignedCStr16.{unaligned_refusal, with_prefix};
     ghost use Rattle.std.specs.Prelude.{IsOk, OnOk};
-    ghost use Rattle.uefi_text_encodings.specs.UnitBytes.{unit_bytes, units_of_bytes};
-    ghost use Rattle.uefi_text_encodings.specs.Units.{IsString, IsText, deciding_place, is_nul, nul_terminated};
+    ghost use Rattle.uefi_text.specs.UnitBytes.{unit_bytes, units_of_bytes};
+    ghost use Rattle.uefi_text.specs.Units.{IsString, IsText, deciding_place, is_nul, nul_terminated};
     ghost use Rattle.uefi_text.specs.PackedStrings.{SplitsUntilNul};
     ghost use Rattle.uefi_text.specs.Views.{items_of, text_of};
 
@@ -648,9 +648,9 @@ fn ends_in_nul(bytes: &[u8]) -> bool
 impl<'a> CStr16<'a> {
     ghost use Rattle.std.specs.Prelude.{List, None, unwrap_or, IsOk};
     ghost use Rattle.std.specs.Result.{result_err};
-    ghost use Rattle.uefi_text_encodings.specs.UnalignedCStr16.{unaligned_refusal};
-    ghost use Rattle.uefi_text_encodings.specs.UnitBytes.{BytesEncode, unit_bytes, unit_bytes_refusal};
-    ghost use Rattle.uefi_text_encodings.specs.Units.{IsString, nul_terminated};
+    ghost use Rattle.uefi_text.specs.UnalignedCStr16.{unaligned_refusal};
+    ghost use Rattle.uefi_text.specs.UnitBytes.{BytesEncode, unit_bytes, unit_bytes_refusal};
+    ghost use Rattle.uefi_text.specs.Units.{IsString, nul_terminated};
     ghost use Rattle.uefi_text.specs.Views.{items_of, text_of};
 
     /// Decodes bytes at any address, two for each code unit and the low one first, into an owned
@@ -694,8 +694,8 @@ impl<'a> CStr16<'a> {
 
 impl<A: Allocator> CString16<A> {
     ghost use Rattle.std.specs.Prelude.{None, unwrap_or};
-    ghost use Rattle.uefi_text_encodings.specs.FromSliceWithNul.{with_nul_refusal};
-    ghost use Rattle.uefi_text_encodings.specs.Units.{IsString, nul_terminated};
+    ghost use Rattle.uefi_text.specs.FromSliceWithNul.{with_nul_refusal};
+    ghost use Rattle.uefi_text.specs.Units.{IsString, nul_terminated};
     ghost use Rattle.uefi_text.specs.Views.{items_of};
 
     /// [`UnalignedSlice::to_cstring16`] of the slice, with one request for memory.

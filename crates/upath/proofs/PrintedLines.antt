@@ -9,7 +9,7 @@ use Rattle.std.specs.Ordering.{nat_cmp}
 use Rattle.std.specs.declared.cmp.Ordering.{Ordering}
 use Rattle.std.specs.declared.cmp.Ordering.TheVariants.{Less, Equal, Greater}
 use Rattle.uefi_text.specs.FromStr.{from_str_refusal}
-use Rattle.uefi_text.specs.FromStrError.{FromStrError}
+use Rattle.uefi_text.specs.declared.errors.FromStrError.{FromStrError}
 use Rattle.uefi_path.specs.Components.{components_of}
 use Rattle.uefi_path.specs.NormalForms.{normal_of, normal_text}
 use Rattle.uefi_path.specs.Separators.{canonical}

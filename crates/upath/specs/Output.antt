@@ -10,7 +10,7 @@ use Rattle.std.specs.Str.{chars, encode_utf8_all, bytes_eq}
 use Rattle.std.specs.Fmt.{decimal}
 use Rattle.uefi_text.specs.ErrorTexts.{from_str_error_text}
 use Rattle.uefi_text.specs.FromStr.{from_str_refusal}
-use Rattle.uefi_text.specs.FromStrError.{FromStrError}
+use Rattle.uefi_text.specs.declared.errors.FromStrError.{FromStrError}
 use Rattle.uefi_path.specs.Components.{components_of}
 use Rattle.uefi_path.specs.Separators.{canonical}
 use Rattle.uefi_path.specs.NormalForms.{normal_of, normal_text}

@@ -2,8 +2,8 @@
 use Rattle.std.proofs.Common.{◌≡◌, ◌↔◌, ◌-◌, ◌++◌, List, ℕ, IsTrue, arith, drop, length, subst, sym, take}
 use Rattle.std.specs.Str.{chars}
 use Rattle.std.proofs.lemmas.List.{length-drop, take-append-drop, take_all}
-use Rattle.uefi_text_encodings.specs.EqStrUntilNul.{IsEqualUntilNul}
-use Rattle.uefi_text_encodings.proofs.Prefixes.{equal_after_front}
+use Rattle.uefi_text.specs.EqStrUntilNul.{IsEqualUntilNul}
+use Rattle.uefi_text.proofs.Prefixes.{equal_after_front}
 use Rattle.uefi_text.proofs.eq_str_until_nul.are_equal_by_block.Goals as goal
 
 pub returns : goal.returns

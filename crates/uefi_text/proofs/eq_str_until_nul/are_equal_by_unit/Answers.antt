@@ -4,8 +4,8 @@ use Rattle.std.specs.List.{before_first}
 use Rattle.std.specs.Str.{chars}
 use Rattle.std.proofs.lemmas.Iterator.{YieldsList-from_chars, YieldsList-from_slice, YieldsList-from_zip, cases_from_all}
 use Rattle.std.proofs.lemmas.Iterator.Search.{YieldsList-from_take_while}
-use Rattle.uefi_text_encodings.specs.Units.{is_nul}
-use Rattle.uefi_text_encodings.proofs.Prefixes.{AreSame, begins_by_pairs}
+use Rattle.uefi_text.specs.Units.{is_nul}
+use Rattle.uefi_text.proofs.Prefixes.{AreSame, begins_by_pairs}
 use Rattle.uefi_text.proofs.eq_str_until_nul.are_equal_by_unit.Goals as goal
 
 pub returns : goal.returns

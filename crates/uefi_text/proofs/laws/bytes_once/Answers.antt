@@ -1,7 +1,7 @@
 use Rattle.std.proofs.Common.{sym, ◌∙◌, refl}
-use Rattle.uefi_text_encodings.proofs.UnitBytes.{accepted_encodes, encoded_accepted, encoded_apart}
-use Rattle.uefi_text_encodings.specs.UnitBytes.{unit_bytes}
-use Rattle.uefi_text_encodings.specs.Units.{nul_terminated}
+use Rattle.uefi_text.proofs.UnitBytes.{accepted_encodes, encoded_accepted, encoded_apart}
+use Rattle.uefi_text.specs.UnitBytes.{unit_bytes}
+use Rattle.uefi_text.specs.Units.{nul_terminated}
 use Rattle.uefi_text.proofs.laws.bytes_once.Goals as goal
 
 pub returns-clause-encoded : goal.returns-clause-encoded

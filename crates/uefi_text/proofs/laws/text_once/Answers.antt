@@ -1,4 +1,4 @@
-use Rattle.uefi_text_encodings.proofs.Texts.{IsText-unrefused, characters-IsText}
+use Rattle.uefi_text.proofs.Texts.{IsText-unrefused, characters-IsText}
 use Rattle.uefi_text.proofs.laws.text_once.Goals as goal
 
 pub returns-clause-unrefused : goal.returns-clause-unrefused

@@ -1,7 +1,7 @@
 use Rattle.std.proofs.Common.{◌≡◌, ◌∙◌, ◌++◌, [], ◌∷◌, arith}
 use Rattle.std.proofs.lemmas.List.{take_all, take_more}
 use Rattle.std.proofs.lemmas.List.Elements.{All-push}
-use Rattle.uefi_text_encodings.specs.Units.{IsChar16}
+use Rattle.uefi_text.specs.Units.{IsChar16}
 use Rattle.uefi_text.proofs.owned_strs.units_of_characters.Goals as goal
 
 pub loop-c-preserved : goal.loop-c-preserved

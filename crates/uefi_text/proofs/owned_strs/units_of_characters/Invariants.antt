@@ -1,5 +1,5 @@
 use Rattle.std.proofs.Common.{◌≡◌, All, take}
-use Rattle.uefi_text_encodings.specs.Units.{IsChar16}
+use Rattle.uefi_text.specs.Units.{IsChar16}
 use Rattle.uefi_text.proofs.owned_strs.units_of_characters.Given as goal
 
 -- the characters so far were added

@@ -3,10 +3,10 @@ use Rattle.std.proofs.Common.{◌≡◌, ◌∙◌, ℕ, ◌+◌, ap, List, [], 
 use Rattle.std.specs.Str.{chars}
 use Rattle.std.proofs.lemmas.Grind.{common_steps}
 use Rattle.std.proofs.lemmas.List.{length-append, length-drop}
-use Rattle.uefi_text_encodings.specs.Units.{IsText, nul_terminated}
-use Rattle.uefi_text_encodings.specs.FromStrWithBuf.{with_text, with_units}
-use Rattle.uefi_text_encodings.proofs.Texts.{undecided-IsText}
-use Rattle.uefi_text_encodings.proofs.Utf16.{utf16-undecided}
+use Rattle.uefi_text.specs.Units.{IsText, nul_terminated}
+use Rattle.uefi_text.specs.FromStrWithBuf.{with_text, with_units}
+use Rattle.uefi_text.proofs.Texts.{undecided-IsText}
+use Rattle.uefi_text.proofs.Utf16.{utf16-undecided}
 use Rattle.uefi_text.proofs.owned_strs.write_text_from.Goals as goal
 
 -- units that fill a buffer are all of it

@@ -2,8 +2,8 @@
 use Rattle.std.proofs.Common.{◌≡◌, ◌∙◌, ◌+◌, ◌-◌, ◌*◌, ◌≤◌, ◌++◌, ap, refl, length, map, take, drop, arith, append_assoc, take-add}
 use Rattle.std.proofs.lemmas.List.{take_all}
 use Rattle.std.proofs.lemmas.Grind.{common_steps}
-use Rattle.uefi_text_encodings.specs.Packed.{packed_items}
-use Rattle.uefi_text_encodings.proofs.Packing.{length-packed_items, packed_items-part, part-fits}
+use Rattle.uefi_text.specs.Packed.{packed_items}
+use Rattle.uefi_text.proofs.Packing.{length-packed_items, packed_items-part, part-fits}
 use Rattle.std.proofs.Math.Nat.{mul-le-mul_right}
 use Rattle.uefi_text.proofs.unaligned_slice.push_blocks.Goals as goal
 

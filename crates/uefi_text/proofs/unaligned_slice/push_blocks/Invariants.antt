@@ -1,6 +1,6 @@
 use Rattle.std.proofs.Common.{◌≡◌, ◌+◌, ◌-◌, ◌<◌, ◌≤◌, ◌++◌, length, map, take}
 use Rattle.std.specs.Vec.{vec_len, vec_capacity}
-use Rattle.uefi_text_encodings.specs.Packed.{packed_items}
+use Rattle.uefi_text.specs.Packed.{packed_items}
 use Rattle.uefi_text.proofs.unaligned_slice.push_blocks.Given as goal
 
 -- the items so far stand after those that the vector had, in the room that it had

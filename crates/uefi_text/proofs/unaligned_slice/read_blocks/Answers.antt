@@ -4,8 +4,8 @@ use Rattle.std.proofs.Common.{◌≡◌, ◌∙◌, ◌+◌, ◌-◌, ◌*◌, �
 use Rattle.std.proofs.lemmas.List.{length-take, length-take-le, map-append, take_all}
 use Rattle.std.proofs.lemmas.Slice.{take-put_mid}
 use Rattle.std.proofs.lemmas.Grind.{common_steps}
-use Rattle.uefi_text_encodings.specs.Packed.{packed_items}
-use Rattle.uefi_text_encodings.proofs.Packing.{length-packed_items, packed_items-part, part-fits}
+use Rattle.uefi_text.specs.Packed.{packed_items}
+use Rattle.uefi_text.proofs.Packing.{length-packed_items, packed_items-part, part-fits}
 use Rattle.std.proofs.Math.Nat.{mul-le-mul_right}
 use Rattle.uefi_text.proofs.unaligned_slice.read_blocks.Goals as goal
 

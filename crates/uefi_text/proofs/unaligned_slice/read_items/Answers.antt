@@ -2,8 +2,8 @@
 use Rattle.std.proofs.Common.{◌≡◌, ◌∙◌, ◌+◌, ◌-◌, ◌*◌, ◌++◌, ◌∷◌, [], ap, sym, get_or, length, map, take, arith}
 use Rattle.std.proofs.lemmas.List.{map-append, take_all, take_more, take_more_set}
 use Rattle.std.proofs.lemmas.Grind.{common_steps}
-use Rattle.uefi_text_encodings.specs.Packed.{packed_items}
-use Rattle.uefi_text_encodings.proofs.Packing.{get_or-packed_items, length-packed_items}
+use Rattle.uefi_text.specs.Packed.{packed_items}
+use Rattle.uefi_text.proofs.Packing.{get_or-packed_items, length-packed_items}
 use Rattle.uefi_text.proofs.unaligned_slice.read_items.Goals as goal
 
 pub loop-place-preserved : goal.loop-place-preserved

@@ -1,5 +1,5 @@
 use Rattle.std.proofs.Common.{◌≡◌, length, take, map}
-use Rattle.uefi_text_encodings.specs.Packed.{packed_items}
+use Rattle.uefi_text.specs.Packed.{packed_items}
 use Rattle.uefi_text.proofs.unaligned_slice.read_items.Given as goal
 
 -- the places so far hold the items so far

@@ -2,9 +2,9 @@
 use Rattle.std.proofs.Common.{◌≡◌, ◌++◌, arith}
 use Rattle.std.proofs.lemmas.Grind.{common_steps}
 use Rattle.std.proofs.lemmas.List.Elements.{All-append}
-use Rattle.uefi_text_encodings.specs.Units.{IsTextUnit, nul_terminated, without_nul}
+use Rattle.uefi_text.specs.Units.{IsTextUnit, nul_terminated, without_nul}
 use Rattle.uefi_text.specs.Views.{units_of}
-use Rattle.uefi_text_encodings.proofs.Texts.{IsString-made}
+use Rattle.uefi_text.proofs.Texts.{IsString-made}
 use Rattle.uefi_text.proofs.Values.{IsText-units_of}
 use Rattle.uefi_text.proofs.owned_strs.CString16.push_part.Goals as goal
 

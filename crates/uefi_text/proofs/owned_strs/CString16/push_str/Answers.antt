@@ -3,9 +3,9 @@ use Rattle.std.proofs.Common.{◌≡◌, ◌<◌, ℕ, List, [], ◌∷◌, ◌+
 use Rattle.std.proofs.lemmas.Grind.{common_steps}
 use Rattle.std.proofs.lemmas.List.{length-append, set_at}
 use Rattle.std.proofs.lemmas.List.Elements.{All-append}
-use Rattle.uefi_text_encodings.specs.Units.{IsTextUnit, nul_terminated, without_nul}
+use Rattle.uefi_text.specs.Units.{IsTextUnit, nul_terminated, without_nul}
 use Rattle.uefi_text.specs.Views.{text_of}
-use Rattle.uefi_text_encodings.proofs.Texts.{IsString-made, without_nul-nul_terminated}
+use Rattle.uefi_text.proofs.Texts.{IsString-made, without_nul-nul_terminated}
 use Rattle.uefi_text.proofs.Values.{IsText-text_of}
 use Rattle.uefi_text.proofs.owned_strs.CString16.push_str.Goals as goal
 

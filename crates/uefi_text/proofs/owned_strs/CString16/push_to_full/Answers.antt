@@ -1,8 +1,8 @@
 -- The character stands where the NUL stood, before a new one.
 use Rattle.std.proofs.Common.{◌≡◌, [], ◌∷◌, ◌++◌, length, ap, ◌∙◌, arith}
 use Rattle.std.proofs.lemmas.Grind.{common_steps}
-use Rattle.uefi_text_encodings.specs.Units.{IsTextUnit, nul_terminated, without_nul}
-use Rattle.uefi_text_encodings.proofs.Texts.{IsString-pushed}
+use Rattle.uefi_text.specs.Units.{IsTextUnit, nul_terminated, without_nul}
+use Rattle.uefi_text.proofs.Texts.{IsString-pushed}
 use Rattle.uefi_text.proofs.owned_strs.CString16.push_to_full.Goals as goal
 
 pub invariant_of-self-2 : goal.invariant_of-self-2

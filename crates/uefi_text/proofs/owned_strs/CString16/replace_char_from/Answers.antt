@@ -1,8 +1,8 @@
 -- A string in which a character takes the place of another, from a place on, is a string.
 use Rattle.std.proofs.Common.{◌≡◌, ◌≢◌, ◌≤◌, ◌++◌, map, take, drop, length, arith}
 use Rattle.std.proofs.lemmas.Grind.{common_steps}
-use Rattle.uefi_text_encodings.specs.Units.{IsTextUnit, replaced, without_nul}
-use Rattle.uefi_text_encodings.proofs.Texts.{IsString-replaced_from}
+use Rattle.uefi_text.specs.Units.{IsTextUnit, replaced, without_nul}
+use Rattle.uefi_text.proofs.Texts.{IsString-replaced_from}
 use Rattle.uefi_text.proofs.owned_strs.CString16.replace_char_from.Goals as goal
 
 pub invariant_of-self : goal.invariant_of-self

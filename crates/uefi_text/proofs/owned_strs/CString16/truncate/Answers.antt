@@ -2,8 +2,8 @@
 use Rattle.std.proofs.Common.{◌≡◌, ◌∙◌, ◌<◌, [], ◌∷◌, ◌++◌, ap, length, take, arith}
 use Rattle.std.proofs.lemmas.List.{length-append, take-append-le, take_more_set}
 use Rattle.std.proofs.lemmas.List.Elements.{All-take}
-use Rattle.uefi_text_encodings.specs.Units.{IsTextUnit, nul_terminated, without_nul}
-use Rattle.uefi_text_encodings.proofs.Texts.{IsString-made, without_nul-nul_terminated}
+use Rattle.uefi_text.specs.Units.{IsTextUnit, nul_terminated, without_nul}
+use Rattle.uefi_text.proofs.Texts.{IsString-made, without_nul-nul_terminated}
 use Rattle.uefi_text.proofs.owned_strs.CString16.truncate.Goals as goal
 
 cut : (g : _) (c : goal.After-truncate g) → c.truncate.new.self.items ≡ nul_terminated (take c.args.len (without_nul c.self.inside.units.items))

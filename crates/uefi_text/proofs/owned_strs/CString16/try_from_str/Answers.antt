@@ -2,8 +2,8 @@
 use Rattle.std.specs.Str.{chars}
 use Rattle.std.proofs.lemmas.Result.{err_from_is_err_and}
 use Rattle.std.proofs.lemmas.Str.{scalars-chars}
-use Rattle.uefi_text_encodings.proofs.Accepting.{from_str-memory}
-use Rattle.uefi_text_encodings.proofs.Texts.{IsString-made, IsText-chars}
+use Rattle.uefi_text.proofs.Accepting.{from_str-memory}
+use Rattle.uefi_text.proofs.Texts.{IsString-made, IsText-chars}
 use Rattle.uefi_text.proofs.owned_strs.CString16.try_from_str.Goals as goal
 
 pub invariant_of-result : goal.invariant_of-result

@@ -1,6 +1,6 @@
 use Rattle.std.proofs.Common.{◌∙◌, ap, refl}
-use Rattle.uefi_text_encodings.specs.Units.{without_nul}
-use Rattle.uefi_text_encodings.proofs.Texts.{without_nul-nul_terminated}
+use Rattle.uefi_text.specs.Units.{without_nul}
+use Rattle.uefi_text.proofs.Texts.{without_nul-nul_terminated}
 use Rattle.uefi_text.proofs.owned_strs.CString16.try_from_vec.Goals as goal
 
 pub returns-clause-made : goal.returns-clause-made

@@ -4,8 +4,8 @@ use Rattle.std.specs.Str.{chars, encode_utf8_all}
 use Rattle.std.proofs.lemmas.Grind.{common_steps}
 use Rattle.std.proofs.lemmas.List.Elements.{All-append}
 use Rattle.std.proofs.lemmas.Str.{encodes-append, encodes-chars}
-use Rattle.uefi_text_encodings.specs.Units.{IsTextUnit, nul_terminated, without_nul}
-use Rattle.uefi_text_encodings.proofs.Texts.{IsString-made, without_nul-nul_terminated}
+use Rattle.uefi_text.specs.Units.{IsTextUnit, nul_terminated, without_nul}
+use Rattle.uefi_text.proofs.Texts.{IsString-made, without_nul-nul_terminated}
 use Rattle.uefi_text.proofs.owned_strs.CString16Write.write_str.Goals as goal
 
 made : (g : _) (c : goal.After-self-1 g)

@@ -3,7 +3,7 @@ use Rattle.std.proofs.Common.{Result, Ok, Err, ◌≡◌, ◌<◌, ◌+◌, ◌-
 use Rattle.std.specs.Prelude.{encode_utf8_all, slice_range}
 use Rattle.std.proofs.lemmas.List.{get_or-drop, get_or-take, length-drop, length-take, take-take}
 use Rattle.std.specs.Result.{OnErr}
-use Rattle.uefi_text_encodings.proofs.Printed.{encode_utf8_all-block}
+use Rattle.uefi_text.proofs.Printed.{encode_utf8_all-block}
 use Rattle.uefi_text.specs.Views.{text_of, units_of}
 use Rattle.uefi_text.proofs.strs.CStr16.as_str_in_buf.Goals as goal
 

@@ -5,12 +5,12 @@ use Rattle.std.specs.Result.{IfOk}
 use Rattle.std.proofs.lemmas.Result.{MatchResult-weaker}
 use Rattle.std.proofs.lemmas.List.Elements.{All-from_get_or}
 use Rattle.std.proofs.lemmas.Grind.{common_steps}
-use Rattle.uefi_text_encodings.specs.Packed.{IsByte}
-use Rattle.uefi_text_encodings.specs.FromSliceWithNul.{with_nul_refusal}
-use Rattle.uefi_text_encodings.specs.UnitBytes.{ends_in_nul, unit_bytes_refusal}
-use Rattle.uefi_text_encodings.specs.declared.errors.FromSliceWithNulError.TheVariants.{NotNulTerminated, OutOfMemory}
-use Rattle.uefi_text_encodings.proofs.Accepting.{unit_bytes-memory}
-use Rattle.uefi_text_encodings.proofs.UnitBytes.{unit_bytes-units_of_bytes}
+use Rattle.uefi_text.specs.Packed.{IsByte}
+use Rattle.uefi_text.specs.FromSliceWithNul.{with_nul_refusal}
+use Rattle.uefi_text.specs.UnitBytes.{ends_in_nul, unit_bytes_refusal}
+use Rattle.uefi_text.specs.declared.errors.FromSliceWithNulError.TheVariants.{NotNulTerminated, OutOfMemory}
+use Rattle.uefi_text.proofs.Accepting.{unit_bytes-memory}
+use Rattle.uefi_text.proofs.UnitBytes.{unit_bytes-units_of_bytes}
 use Rattle.uefi_text.specs.Views.{items_of}
 use Rattle.uefi_text.proofs.strs.CStr16.from_bytes_with_nul.Goals as goal
 

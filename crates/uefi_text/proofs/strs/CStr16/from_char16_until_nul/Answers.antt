@@ -1,10 +1,10 @@
 -- Characters up to and with their first NUL are a string.
 use Rattle.std.proofs.Common.{All, refl, sym, subst, arith}
 use Rattle.std.proofs.lemmas.Grind.{common_steps}
-use Rattle.uefi_text_encodings.specs.declared.errors.FromSliceUntilNulError.TheVariants.{NoNul, OutOfMemory}
-use Rattle.uefi_text_encodings.proofs.Accepting.{missing_nul-memory}
-use Rattle.uefi_text_encodings.proofs.Deciding.{IsString-characters}
-use Rattle.uefi_text_encodings.specs.Units.{IsChar16, IsString}
+use Rattle.uefi_text.specs.declared.errors.FromSliceUntilNulError.TheVariants.{NoNul, OutOfMemory}
+use Rattle.uefi_text.proofs.Accepting.{missing_nul-memory}
+use Rattle.uefi_text.proofs.Deciding.{IsString-characters}
+use Rattle.uefi_text.specs.Units.{IsChar16, IsString}
 use Rattle.uefi_text.proofs.strs.CStr16.from_char16_until_nul.Goals as goal
 
 pub invariant_of-result : goal.invariant_of-result

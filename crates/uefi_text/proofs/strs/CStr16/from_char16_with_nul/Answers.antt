@@ -2,10 +2,10 @@
 use Rattle.std.proofs.Common.{◌≡◌, ◌+◌, All, sym, subst, take, arith, ◌∙◌}
 use Rattle.std.proofs.lemmas.Grind.{common_steps}
 use Rattle.std.proofs.lemmas.List.{take_all}
-use Rattle.uefi_text_encodings.specs.declared.errors.FromSliceWithNulError.TheVariants.{InteriorNul, NotNulTerminated, OutOfMemory}
-use Rattle.uefi_text_encodings.proofs.Accepting.{first_nul-memory}
-use Rattle.uefi_text_encodings.proofs.Deciding.{IsString-characters}
-use Rattle.uefi_text_encodings.specs.Units.{IsChar16, IsString}
+use Rattle.uefi_text.specs.declared.errors.FromSliceWithNulError.TheVariants.{InteriorNul, NotNulTerminated, OutOfMemory}
+use Rattle.uefi_text.proofs.Accepting.{first_nul-memory}
+use Rattle.uefi_text.proofs.Deciding.{IsString-characters}
+use Rattle.uefi_text.specs.Units.{IsChar16, IsString}
 use Rattle.uefi_text.proofs.strs.CStr16.from_char16_with_nul.Goals as goal
 
 all_taken : (g : _) (c : goal.In-Ok g) → c.in-Ok.units.items ≡ take (c.in-Some.place + 1) c.args.characters.now

@@ -3,8 +3,8 @@ use Rattle.std.proofs.Common.{sym}
 use Rattle.std.specs.Str.{chars}
 use Rattle.std.proofs.lemmas.List.{length-append}
 use Rattle.std.proofs.lemmas.Str.{scalars-chars}
-use Rattle.uefi_text_encodings.proofs.Texts.{IsString-nul_terminated, IsText-chars, without_nul-nul_terminated}
-use Rattle.uefi_text_encodings.proofs.Utf16.{accepted}
+use Rattle.uefi_text.proofs.Texts.{IsString-nul_terminated, IsText-chars, without_nul-nul_terminated}
+use Rattle.uefi_text.proofs.Utf16.{accepted}
 use Rattle.uefi_text.proofs.strs.CStr16.from_str_with_buf.Goals as goal
 
 pub slice_bounds-from_string-end : goal.slice_bounds-from_string-end

@@ -2,8 +2,8 @@
 use Rattle.std.proofs.Common.{arith, refl, sym}
 use Rattle.std.proofs.lemmas.Grind.{common_steps}
 use Rattle.uefi_text.specs.Views.{text_of}
-use Rattle.uefi_text_encodings.proofs.Accepting.{begins-deciding_nul, until_nul_refusal-begins}
-use Rattle.uefi_text_encodings.proofs.Deciding.{IsString-until_nul, before_nul-deciding}
+use Rattle.uefi_text.proofs.Accepting.{begins-deciding_nul, until_nul_refusal-begins}
+use Rattle.uefi_text.proofs.Deciding.{IsString-until_nul, before_nul-deciding}
 use Rattle.uefi_text.proofs.strs.CStr16.from_u16_until_nul.Goals as goal
 
 pub invariant_of-result : goal.invariant_of-result

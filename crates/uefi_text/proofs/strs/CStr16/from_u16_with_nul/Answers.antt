@@ -1,8 +1,8 @@
 -- Units are accepted exactly where their deciding place is a last NUL, which is where they are a string.
 use Rattle.std.proofs.Common.{◌≡◌, None, arith}
 use Rattle.std.proofs.lemmas.Grind.{common_steps}
-use Rattle.uefi_text_encodings.proofs.Deciding.{IsString-accepted, with_nul_refusal-IsString}
-use Rattle.uefi_text_encodings.specs.FromSliceWithNul.{with_nul_refusal}
+use Rattle.uefi_text.proofs.Deciding.{IsString-accepted, with_nul_refusal-IsString}
+use Rattle.uefi_text.specs.FromSliceWithNul.{with_nul_refusal}
 use Rattle.uefi_text.proofs.strs.CStr16.from_u16_with_nul.Goals as goal
 
 pub invariant_of-result : goal.invariant_of-result

@@ -1,9 +1,9 @@
 -- A copy of a string is one.
 use Rattle.std.proofs.Common.{◌≡◌, arith}
 use Rattle.std.proofs.lemmas.Grind.{common_steps}
-use Rattle.uefi_text_encodings.specs.Units.{nul_terminated}
+use Rattle.uefi_text.specs.Units.{nul_terminated}
 use Rattle.uefi_text.specs.Views.{text_of}
-use Rattle.uefi_text_encodings.proofs.Texts.{IsString-made}
+use Rattle.uefi_text.proofs.Texts.{IsString-made}
 use Rattle.uefi_text.proofs.Values.{IsText-text_of}
 use Rattle.uefi_text.proofs.strs.CStr16.to_owned.Goals as goal
 

@@ -5,7 +5,7 @@ use Rattle.std.specs.String.{string_bytes}
 use Rattle.std.proofs.lemmas.Str.{chars-encodes}
 use Rattle.std.proofs.lemmas.Grind.{common_steps}
 use Rattle.uefi_text.specs.Views.{text_of}
-use Rattle.uefi_text_encodings.proofs.Texts.{scalars-IsText}
+use Rattle.uefi_text.proofs.Texts.{scalars-IsText}
 use Rattle.uefi_text.proofs.Values.{IsText-text_of}
 use Rattle.uefi_text.proofs.strs.CStr16.to_rust_string.Goals as goal
 

@@ -2,7 +2,7 @@
 use Rattle.std.proofs.Common.{◌∙◌, sym, length}
 use Rattle.std.specs.Str.{chars}
 use Rattle.std.proofs.lemmas.Str.{scalars-chars}
-use Rattle.uefi_text_encodings.proofs.Accepting.{accepts-unrefused, with_buf-accepts}
+use Rattle.uefi_text.proofs.Accepting.{accepts-unrefused, with_buf-accepts}
 use Rattle.uefi_text.proofs.strs.CStr16.write_str.Goals as goal
 
 pub returns-clause-accepts : goal.returns-clause-accepts

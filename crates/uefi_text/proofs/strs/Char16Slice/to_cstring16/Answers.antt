@@ -2,10 +2,10 @@
 use Rattle.std.proofs.Common.{◌≡◌, ◌≢◌, ◌∙◌, ap, sym, refl, All, IsTrue, arith}
 use Rattle.std.specs.Option.{unwrap_or}
 use Rattle.std.proofs.lemmas.Grind.{common_steps}
-use Rattle.uefi_text_encodings.specs.Units.{IsText, nul_terminated}
-use Rattle.uefi_text_encodings.specs.FromStr.{from_str_refusal}
-use Rattle.uefi_text_encodings.specs.declared.errors.FromStrError.TheVariants.{OutOfMemory}
-use Rattle.uefi_text_encodings.proofs.Texts.{IsString-made, IsText-unrefused, characters-IsText}
+use Rattle.uefi_text.specs.Units.{IsText, nul_terminated}
+use Rattle.uefi_text.specs.FromStr.{from_str_refusal}
+use Rattle.uefi_text.specs.declared.errors.FromStrError.TheVariants.{OutOfMemory}
+use Rattle.uefi_text.proofs.Texts.{IsString-made, IsText-unrefused, characters-IsText}
 use Rattle.uefi_text.specs.Views.{units_of}
 use Rattle.uefi_text.proofs.Values.{IsText-units_of, from_str_refusal-units_of}
 use Rattle.uefi_text.proofs.strs.Char16Slice.to_cstring16.Goals as goal

@@ -1,8 +1,8 @@
 -- The UTF-8 of characters is a Rust text.
 use Rattle.std.proofs.Common.{refl, subst, sym}
 use Rattle.std.specs.Str.{IsUtf8}
-use Rattle.uefi_text_encodings.proofs.Printed.{scalars-characters}
-use Rattle.uefi_text_encodings.proofs.Texts.{scalars-All}
+use Rattle.uefi_text.proofs.Printed.{scalars-characters}
+use Rattle.uefi_text.proofs.Texts.{scalars-All}
 use Rattle.uefi_text.proofs.strs.Char16Slice.write_whole_to.Goals as goal
 
 pub from_utf8_unchecked-requires : goal.from_utf8_unchecked-requires

@@ -3,7 +3,7 @@ use Rattle.std.proofs.Common.{rules, ◌≡◌, take, ap, subst, sym, ◌∙◌,
 use Rattle.std.specs.Prelude.{encode_utf8_all}
 use Rattle.std.specs.Str.{IsUtf8}
 use Rattle.std.proofs.Output.{has_written_append, has_written_of_eq}
-use Rattle.uefi_text_encodings.proofs.Printed.{IsUtf8-block, encode_utf8_all-block, scalars-characters}
+use Rattle.uefi_text.proofs.Printed.{IsUtf8-block, encode_utf8_all-block, scalars-characters}
 use Rattle.uefi_text.proofs.strs.Char16SliceDisplay.fmt.Goals as goal
 
 pub from_utf8_unchecked-requires : goal.from_utf8_unchecked-requires

@@ -3,10 +3,10 @@ use Rattle.std.proofs.Common.{◌≡◌, ℕ, ◌+◌, ◌<◌, ◌^◌, None, O
 use Rattle.std.specs.Result.{OnOk, result_err}
 use Rattle.std.proofs.lemmas.Bool.{cases_lt}
 use Rattle.std.proofs.lemmas.Grind.{common_steps}
-use Rattle.uefi_text_encodings.specs.Units.{IsString}
+use Rattle.uefi_text.specs.Units.{IsString}
 use Rattle.uefi_text.specs.Views.{items_of}
-use Rattle.uefi_text_encodings.specs.FromSliceWithNul.{with_nul_refusal}
-use Rattle.uefi_text_encodings.proofs.Deciding.{IsString-accepted}
+use Rattle.uefi_text.specs.FromSliceWithNul.{with_nul_refusal}
+use Rattle.uefi_text.proofs.Deciding.{IsString-accepted}
 use Rattle.uefi_text.proofs.unaligned_slice.UnalignedSlice+u16.check_with_nul.Goals as goal
 
 -- where there is no error it is `Ok`

@@ -1,5 +1,5 @@
 use Rattle.std.proofs.Common.{◌≡◌, ℕ, ◌≤◌, ◌<◌, ◌-◌, ◌^◌, false, length, slice_index}
-use Rattle.uefi_text_encodings.specs.Units.{is_deciding}
+use Rattle.uefi_text.specs.Units.{is_deciding}
 use Rattle.uefi_text.specs.Views.{items_of}
 use Rattle.uefi_text.proofs.unaligned_slice.UnalignedSlice+u16.find_deciding_place.Given as goal
 

@@ -1,8 +1,8 @@
 -- The first block with a NUL has been reached, or there is none.
 use Rattle.std.proofs.Common.{◌+◌, arith}
-use Rattle.uefi_text_encodings.specs.Units.{is_nul}
+use Rattle.uefi_text.specs.Units.{is_nul}
 use Rattle.uefi_text.specs.Views.{items_of}
-use Rattle.uefi_text_encodings.proofs.Scanning.{position-in_block, nowhere_in_blocks, position-nowhere}
+use Rattle.uefi_text.proofs.Scanning.{position-in_block, nowhere_in_blocks, position-nowhere}
 use Rattle.uefi_text.proofs.unaligned_slice.UnalignedSlice+u16.find_nul.Goals as goal
 
 pub loop-start-preserved : goal.loop-start-preserved

@@ -1,9 +1,9 @@
 -- Bytes of an even number are those of their units.
 use Rattle.std.proofs.Common.{◌≡◌, ◌%◌, ◌∙◌, ap, All, length, arith}
 use Rattle.std.proofs.lemmas.List.Elements.{All-from_get_or}
-use Rattle.uefi_text_encodings.specs.Packed.{IsByte}
-use Rattle.uefi_text_encodings.specs.UnitBytes.{unit_bytes}
-use Rattle.uefi_text_encodings.proofs.UnitBytes.{unit_bytes-units_of_bytes}
+use Rattle.uefi_text.specs.Packed.{IsByte}
+use Rattle.uefi_text.specs.UnitBytes.{unit_bytes}
+use Rattle.uefi_text.proofs.UnitBytes.{unit_bytes-units_of_bytes}
 use Rattle.uefi_text.proofs.unaligned_slice.UnalignedSlice+u16.from_unit_bytes.Goals as goal
 
 pub returns-then-bytes-eq0-clause-bytes : goal.returns-then-bytes-eq0-clause-bytes

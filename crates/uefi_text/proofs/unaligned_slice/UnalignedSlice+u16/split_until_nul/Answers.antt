@@ -1,8 +1,8 @@
 -- The first NUL ends the units that bytes begin with.
 use Rattle.std.proofs.Common.{refl, ◌≡◌, ◌+◌, ◌*◌, sym, subst, arith, take}
 use Rattle.std.proofs.lemmas.Grind.{common_steps}
-use Rattle.uefi_text_encodings.specs.UnitBytes.{unit_bytes, units_of_bytes}
-use Rattle.uefi_text_encodings.specs.Units.{IsNulTerminated}
+use Rattle.uefi_text.specs.UnitBytes.{unit_bytes, units_of_bytes}
+use Rattle.uefi_text.specs.Units.{IsNulTerminated}
 use Rattle.uefi_text.specs.Views.{items_of}
 use Rattle.uefi_text.proofs.PackedStrings.{IsNulTerminated-bytes, no_split, split_once}
 use Rattle.uefi_text.proofs.unaligned_slice.UnalignedSlice+u16.split_until_nul.Goals as goal

@@ -3,7 +3,7 @@ use Rattle.std.proofs.Common.{◌≡◌, sym, ◌∙◌, rules}
 use Rattle.std.proofs.lemmas.List.{map-id}
 use Rattle.std.proofs.lemmas.Result.{err_from_is_err_and}
 use Rattle.uefi_text.specs.Views.{items_of}
-use Rattle.uefi_text_encodings.proofs.Accepting.{with_nul-refused}
+use Rattle.uefi_text.proofs.Accepting.{with_nul-refused}
 use Rattle.uefi_text.proofs.unaligned_slice.UnalignedSlice+u16.to_cstring16.Goals as goal
 
 pub from_string-requires : goal.from_string-requires

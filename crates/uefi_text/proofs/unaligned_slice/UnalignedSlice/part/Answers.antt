@@ -2,7 +2,7 @@
 use Rattle.std.proofs.Common.{length, arith}
 use Rattle.std.proofs.lemmas.Grind.{common_steps}
 use Rattle.uefi_text.specs.Views.{items_of}
-use Rattle.uefi_text_encodings.proofs.Packing.{length-packed_items, packed_items-part, part-fits}
+use Rattle.uefi_text.proofs.Packing.{length-packed_items, packed_items-part, part-fits}
 use Rattle.uefi_text.proofs.unaligned_slice.UnalignedSlice.part.Goals as goal
 
 pub invariant_of-result : goal.invariant_of-result

@@ -1,0 +1,160 @@
+-- Passes that test or count a block of elements at a time.
+use Rattle.std.proofs.Common.{inl, inr, ◌≡◌, ◌↔◌, ◌||◌, ◌+◌, ◌-◌, ◌<◌, ◌≤◌, ◌∙◌, ℕ, zero, suc, Bool, true, false, not, All, IsTrue, List, [], ◌∷◌, Some, None, ap, get_or, sym, subst, refl, drop, length, take, arith, position}
+use Rattle.std.specs.List.{fold, list_any, position_or_len, slice_range}
+use Rattle.std.specs.Str.{IsAscii}
+use Rattle.std.proofs.Math.Seq.{take-add}
+use Rattle.std.proofs.lemmas.List.{take-append-drop}
+use Rattle.std.proofs.lemmas.Bool.{cases_Bool, cases_lt, false≢true}
+use Rattle.std.proofs.lemmas.Grind.{common_steps}
+use Rattle.std.proofs.lemmas.List.Elements.{All-cons, All-nil}
+use Rattle.std.proofs.lemmas.List.Folds.{list_any-append, list_any_none}
+use Rattle.std.proofs.lemmas.List.Sums.{fails_before_first, passes_at_first, position_or_len_is}
+use Rattle.std.proofs.lemmas.Simd.{get_or-chunk, length-chunk}
+use Rattle.uefi_text.specs.Scans.{is_beyond_ascii}
+
+-- a fold that keeps what it found has found it before or among the elements
+fold_or : {X : Type 0} (p : X → Bool) (so_far : Bool) (xs : List X) → fold (λ found x. found || p x) so_far xs ≡ (so_far || list_any p xs)
+fold_or p true [] = refl
+fold_or p false [] = refl
+fold_or p true (x ∷ xs) = fold_or p true xs
+fold_or p false (x ∷ xs) = fold_or p (p x) xs
+
+pub any_folded : {X : Type 0} (p : X → Bool) (xs : List X) → fold (λ found x. found || p x) false xs ≡ list_any p xs
+any_folded p xs = fold_or p false xs
+
+-- one more block without an element that passes
+pub clear_more : {X : Type 0} (p : X → Bool) (xs : List X) (end n : ℕ) → list_any p (take end xs) ≡ false
+    → list_any p (take n (drop end xs)) ≡ false → list_any p (take (end + n) xs) ≡ false
+clear_more p xs end n before clear =
+    ap (list_any p) (take-add end n xs) ∙ list_any-append p (take end xs) (take n (drop end xs)) ∙ (λ i. before i || clear i)
+
+-- where none before a place passes, a search may begin at that place
+search_from : {X : Type 0} (p : X → Bool) (xs : List X) (start : ℕ) → start ≤ length xs → list_any p (take start xs) ≡ false
+    → position_or_len p xs ≡ start + position_or_len p (drop start xs)
+search_from p xs zero inside clear = grind (arith, common_steps)
+search_from p [] (suc n) inside clear = absurd (omega (arith, inside))
+search_from p (x ∷ xs) (suc n) inside clear = elim (cases_Bool (p x)) [
+  | inl passes ↦ absurd (false≢true (sym clear ∙ ap (λ b. b || list_any p (take n xs)) passes))
+  | inr fails ↦
+      let rest = search_from p xs n (omega (arith, inside)) (sym (ap (λ b. b || list_any p (take n xs)) fails) ∙ clear) in
+      grind (arith, common_steps)
+]
+
+pub position-from_none : {X : Type 0} (p : X → Bool) (xs : List X) (start : ℕ) → start ≤ length xs → list_any p (take start xs) ≡ false
+    → None ≡ position p (drop start xs) → None ≡ position p xs
+position-from_none p xs start inside clear none = let from = search_from p xs start inside clear in grind (arith, common_steps)
+
+pub position-from_some : {X : Type 0} (p : X → Bool) (xs : List X) (start place : ℕ) → start ≤ length xs → list_any p (take start xs) ≡ false
+    → Some place ≡ position p (drop start xs) → Some (start + place) ≡ position p xs
+position-from_some p xs start place inside clear some = let from = search_from p xs start inside clear in grind (arith, common_steps)
+
+-- what passes in a part of a list passes in it
+pub any-in_block : {X : Type 0} (p : X → Bool) (xs : List X) (start n : ℕ) → list_any p (take n (drop start xs)) ≡ true → list_any p xs ≡ true
+any-in_block p xs start n found =
+    let rest = drop start xs in
+    let later : list_any p rest ≡ true =
+    ap (list_any p) (sym (take-append-drop n rest)) ∙ list_any-append p (take n rest) (drop n rest) ∙ ap (λ b. b || list_any p (drop n rest)) found in
+    ap (list_any p) (sym (take-append-drop start xs)) ∙ list_any-append p (take start xs) rest ∙ or_true (list_any p (take start xs)) (list_any p rest) later
+  where
+    or_true : (a b : Bool) → b ≡ true → (a || b) ≡ true
+    or_true true b found = refl
+    or_true false b found = found
+
+-- where none before a place passes, what is left decides
+pub any-in_rest : {X : Type 0} (p : X → Bool) (xs : List X) (start : ℕ) → list_any p (take start xs) ≡ false → list_any p (drop start xs) ≡ list_any p xs
+any-in_rest p xs start clear =
+    sym (ap (λ b. b || list_any p (drop start xs)) clear) ∙ sym (list_any-append p (take start xs) (drop start xs)) ∙ ap (list_any p) (take-append-drop start xs)
+
+-- a search finds nothing exactly where no element passes
+pub none_passes : {X : Type 0} (p : X → Bool) (xs : List X) → list_any p xs ≡ false → All (λ x. p x ≡ false) xs
+none_passes p [] clear = All-nil (λ x. p x ≡ false)
+none_passes p (x ∷ xs) clear = elim (cases_Bool (p x)) [
+  | inl passes ↦ absurd (false≢true (sym clear ∙ ap (λ b. b || list_any p xs) passes))
+  | inr fails ↦ All-cons (λ x. p x ≡ false) x xs fails (none_passes p xs (sym (ap (λ b. b || list_any p xs) fails) ∙ clear))
+]
+
+-- where what fails is what a property says, none passes exactly where all have the property
+pub none_passes-is : (p : ℕ → Bool) (P : ℕ → Type 0) → ((x : ℕ) → (p x ≡ false) ↔ P x) → (xs : List ℕ)
+    → (list_any p xs ≡ false) ↔ All P xs
+none_passes-is p P same xs = (
+  λ clear. λ k d inside. (same (get_or xs k d)).0 (none_passes p xs clear k d inside),
+  λ all. list_any_none p xs (λ k d inside. (same (get_or xs k d)).1 (all k d inside)),
+)
+
+-- a test that found nothing
+pub not_found : {P : Type 0} (found any : Bool) → found ≡ any → (any ≡ false) ↔ P → IsTrue (not found) ↔ P
+not_found true any is same = (λ yes. absurd (false≢true yes), λ p. absurd (false≢true (sym (same.1 p) ∙ sym is)))
+not_found false any is same = (λ _. same.0 (sym is), λ _. refl)
+
+-- a unit is ASCII exactly where it is not beyond it
+pub ascii_units : (us : List ℕ) → (list_any is_beyond_ascii us ≡ false) ↔ IsAscii us
+ascii_units us =
+    let both = none_passes-is is_beyond_ascii (λ u. u < 128) (λ u. (λ within. grind (arith, common_steps), λ below. grind (arith, common_steps))) us in (
+      λ clear. λ i. elim (cases_lt i (length us)) [
+        | inl inside ↦ both.0 clear i 0 inside
+        | inr past ↦ grind (arith, common_steps)
+      ],
+      λ ascii. both.1 (λ k d inside. grind (arith, common_steps, ascii k)),
+    )
+
+-- where an element passes and none before it does, a search ends there
+pub position-at : (p : ℕ → Bool) (us : List ℕ) (i : ℕ) → i < length us → ((k : ℕ) → k < i → p (get_or us k 0) ≡ false)
+    → p (get_or us i 0) ≡ true → Some i ≡ position p us
+position-at p us i inside none passes =
+    let e : position_or_len p us ≡ i = position_or_len_is p us i 0 (omega arith) none (λ _. passes) in
+    grind (arith, common_steps)
+
+-- and where none does, it finds nothing
+pub position-nowhere : (p : ℕ → Bool) (us : List ℕ) → ((k : ℕ) → k < length us → p (get_or us k 0) ≡ false) → None ≡ position p us
+position-nowhere p us none =
+    let e : position_or_len p us ≡ length us = position_or_len_is p us (length us) 0 (omega arith) none (λ h. absurd (omega (arith, h))) in
+    grind (arith, common_steps)
+
+-- what holds of the elements before a block, and of those in it, holds up to its end
+pub each_in_blocks : (P : ℕ → Type 0) (us : List ℕ) (start end : ℕ) → start ≤ end → end ≤ length us
+    → ((k : ℕ) → k < start → P (get_or us k 0)) → ((k : ℕ) → k < end - start → P (get_or (slice_range us start end) k 0))
+    → (k : ℕ) → k < end → P (get_or us k 0)
+each_in_blocks P us start end ordered inside before in_block k below =
+    elim (cases_lt k start) [
+      | inl low ↦ before k low
+      | inr high ↦
+          let at : start + (k - start) ≡ k = omega arith in
+          let same : get_or (slice_range us start end) (k - start) 0 ≡ get_or us k 0 =
+          get_or-chunk start (end - start) us (k - start) 0 (omega arith) ∙ ap (λ j. get_or us j 0) at in
+          subst P same (in_block (k - start) (omega arith))
+    ]
+
+-- where a search of a block finds nothing, and nothing passes before it, nothing passes up to its end
+pub nowhere_in_blocks : (p : ℕ → Bool) (us : List ℕ) (start end : ℕ) → start ≤ end → end ≤ length us
+    → ((k : ℕ) → k < start → p (get_or us k 0) ≡ false) → None ≡ position p (slice_range us start end)
+    → (k : ℕ) → k < end → p (get_or us k 0) ≡ false
+nowhere_in_blocks p us start end ordered inside none nowhere =
+    let block = slice_range us start end in
+    let len : length block ≡ end - start = length-chunk start (end - start) us (omega arith) in
+    let past : length block ≤ position_or_len p block = elim (cases_lt (position_or_len p block) (length block)) [
+      | inl found ↦ absurd (grind (arith, common_steps))
+      | inr past ↦ past
+    ] in
+    each_in_blocks (λ u. p u ≡ false) us start end ordered inside none (λ k h. fails_before_first p block k 0 (omega (arith, h)))
+
+-- and where it finds a place, a search of all finds that place after those before the block
+pub position-in_block : (p : ℕ → Bool) (us : List ℕ) (start end place : ℕ) → start ≤ end → end ≤ length us
+    → ((k : ℕ) → k < start → p (get_or us k 0) ≡ false) → Some place ≡ position p (slice_range us start end)
+    → (start + place < end) × (Some (start + place) ≡ position p us)
+position-in_block p us start end place ordered inside none found =
+    let block = slice_range us start end in
+    let len : length block ≡ end - start = length-chunk start (end - start) us (omega arith) in
+    let first : (position_or_len p block ≡ place) × (place < length block) = elim (cases_lt (position_or_len p block) (length block)) [
+      | inl within ↦ let same : position_or_len p block ≡ place = grind (arith, common_steps) in (same, omega arith)
+      | inr past ↦ absurd (grind (arith, common_steps))
+    ] in
+    let passes : p (get_or block place 0) ≡ true = subst (λ i. p (get_or block i 0) ≡ true) first.0 (passes_at_first p block 0 (omega (arith, first))) in
+    let same : (k : ℕ) → k < end - start → get_or block k 0 ≡ get_or us (start + k) 0 = λ k h. get_or-chunk start (end - start) us k 0 h in
+    let before : (k : ℕ) → k < start + place → p (get_or us k 0) ≡ false =
+    λ k h. elim (cases_lt k start) [
+      | inl low ↦ none k low
+      | inr high ↦
+          let at : start + (k - start) ≡ k = omega arith in
+          sym (ap p (same (k - start) (omega (arith, first)) ∙ ap (λ j. get_or us j 0) at)) ∙ fails_before_first p block (k - start) 0 (omega (arith, first))
+    ] in
+    (omega (arith, first), position-at p us (start + place) (omega (arith, first)) before (sym (ap p (same place (omega (arith, first)))) ∙ passes))

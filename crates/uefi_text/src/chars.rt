@@ -1,0 +1,304 @@
+//! Characters of Latin-1 and of UCS-2, and their constants.
+//!
+//! A [`Char8`] is any byte, and a [`Char16`] is any code unit that is no surrogate. The fields of
+//! both are private to this module, so that the constants of all crates stand here.
+//! `specs/Units.antt` defines code units, texts and NUL-terminated strings.
+
+ghost use Rattle.std.specs.Prelude.{◌≡◌, ◌<◌, ◌≤◌, ◌^◌, ◌↔◌, IsTrue};
+ghost use Rattle.std.specs.Result.{OkIff};
+ghost use Rattle.uefi_text.specs.Units.{IsChar16, denied_characters, is_surrogate};
+
+use std::error::Error;
+use std::fmt;
+use std::marker::Model;
+
+/// The error of a conversion to a character that the target type does not have.
+#[derive(Clone, Copy, Debug, PartialEq, Eq)]
+pub struct CharConversionError;
+
+/// Writes `CharConversionError`.
+impl fmt::Display for CharConversionError {
+    ghost use Rattle.std.specs.Prelude.{Some, codes};
+
+    ghost output = { λ _. Some (codes "CharConversionError") };
+
+    fn fmt<W: fmt::Write>(&self, f: &mut fmt::Formatter<W>) -> fmt::Result {
+        f.write_str("CharConversionError")
+    }
+}
+
+impl Error for CharConversionError {}
+
+/// A character of Latin-1: any byte. It is equal, ordered and hashed by its number, and its default
+/// is NUL. A contract sees it as its number. No call of it takes memory.
+#[derive(Clone, Copy, PartialEq, Eq, PartialOrd, Ord, Hash)]
+pub struct Char8 {
+    byte: u8,
+}
+
+impl Model for Char8 {
+    ghost use Rattle.std.specs.Prelude.{ℕ, ◌<◌, ◌^◌};
+
+    ghost Value = { ℕ };
+
+    ghost view = { λ c. c.byte };
+
+    ghost invariant = { λ c. c.byte < 2 ^ 8 };
+
+    ghost inverse = { λ number. record { byte = number } };
+}
+
+impl Char8 {
+    /// Whether this character and a Rust character have the same number.
+    pub fn eq_char(&self, other: char) -> bool
+        ensures { IsTrue result ↔ (self.now ≡ other) }
+    {
+        u32::from(self.byte) == u32::from(other)
+    }
+}
+
+/// NUL.
+impl Default for Char8 {
+    ghost is_default = { λ c. c ≡ 0 };
+
+    fn default() -> Self {
+        NUL_8
+    }
+}
+
+/// `Ok` exactly for the characters up to U+00FF, which keep their number; else
+/// `CharConversionError`.
+impl TryFrom<char> for Char8 {
+    type Error = CharConversionError;
+
+    ghost try_from_gives = { λ value result. OkIff result (value < 2 ^ 8) value };
+
+    fn try_from(value: char) -> Result<Self, CharConversionError> {
+        let number = u32::from(value);
+        if number <= 0xff {
+            Ok(Char8 { byte: number as u8 })
+        } else {
+            Err(CharConversionError)
+        }
+    }
+}
+
+/// The number stays the same.
+impl From<u8> for Char8 {
+    ghost from_gives = { λ value result. result ≡ value };
+
+    fn from(value: u8) -> Self {
+        Char8 { byte: value }
+    }
+}
+
+/// The number stays the same.
+impl From<Char8> for u8 {
+    ghost from_gives = { λ value result. (result ≡ value) × (value < 2 ^ 8) };
+
+    fn from(value: Char8) -> u8 {
+        value.byte
+    }
+}
+
+/// The number stays the same.
+impl From<Char8> for char {
+    ghost from_gives = { λ value result. result ≡ value };
+
+    fn from(value: Char8) -> char {
+        char::from(value.byte)
+    }
+}
+
+/// Writes the character.
+impl fmt::Display for Char8 {
+    ghost use Rattle.std.specs.Prelude.{Some, encode_utf8};
+
+    ghost output = { λ c. Some (encode_utf8 c) };
+
+    fn fmt<W: fmt::Write>(&self, f: &mut fmt::Formatter<W>) -> fmt::Result {
+        f.write_char(char::from(self.byte))
+    }
+}
+
+/// Prints as the Rust character with the same number does.
+impl fmt::Debug for Char8 {
+    fn fmt<W: fmt::Write>(&self, f: &mut fmt::Formatter<W>) -> fmt::Result {
+        fmt::Debug::fmt(&char::from(*self), f)
+    }
+}
+
+/// The character that ends a string of Latin-1.
+pub const NUL_8: Char8 = Char8 { byte: 0 };
+
+/// A character of UCS-2: a code unit that is no surrogate (UEFI Specification 2.10, section 2.3.1).
+/// It is equal, ordered and hashed by its number, and its default is NUL. A contract sees it as its
+/// number. No call of it takes memory.
+#[derive(Clone, Copy, PartialEq, Eq, PartialOrd, Ord, Hash)]
+pub struct Char16 {
+    unit: u16,
+}
+
+impl Model for Char16 {
+    ghost use Rattle.std.specs.Prelude.{ℕ};
+    ghost use Rattle.uefi_text.specs.Units.{IsChar16};
+
+    ghost Value = { ℕ };
+
+    ghost view = { λ c. c.unit };
+
+    ghost invariant = { λ c. IsChar16 c.unit };
+
+    ghost inverse = { λ number. record { unit = number } };
+}
+
+/// Whether a code unit is a surrogate (Unicode Standard, section 3.8).
+fn is_surrogate(unit: u16) -> bool
+    ensures { result ≡ is_surrogate unit }
+{
+    0xd800 <= unit && unit <= 0xdfff
+}
+
+impl Char16 {
+    /// The character of a code unit that is no surrogate.
+    pub(crate) fn from_unit(unit: u16) -> Self
+        requires { IsChar16 unit }
+        ensures { result ≡ unit }
+    {
+        Char16 { unit }
+    }
+
+    /// The UCS-2 character with the number of a Rust character: `Ok` exactly up to U+FFFF, else
+    /// `CharConversionError`.
+    pub fn try_from_char(value: char) -> Result<Self, CharConversionError>
+        ensures { OkIff result (value < 2 ^ 16) value }
+    {
+        let number = u32::from(value);
+        if number <= 0xffff {
+            Ok(Char16 {
+                unit: number as u16,
+            })
+        } else {
+            Err(CharConversionError)
+        }
+    }
+
+    /// Whether the character is ASCII: its number is at most 127.
+    pub fn is_ascii(&self) -> bool
+        ensures { IsTrue result ↔ (self.now < 2 ^ 7) }
+    {
+        self.unit < 0x80
+    }
+
+    /// Whether this character and a Rust character have the same number.
+    pub fn eq_char(&self, other: char) -> bool
+        ensures { IsTrue result ↔ (self.now ≡ other) }
+    {
+        u32::from(self.unit) == u32::from(other)
+    }
+}
+
+/// NUL.
+impl Default for Char16 {
+    ghost is_default = { λ c. c ≡ 0 };
+
+    fn default() -> Self {
+        NUL_16
+    }
+}
+
+/// As [`Char16::try_from_char`].
+impl TryFrom<char> for Char16 {
+    type Error = CharConversionError;
+
+    ghost try_from_gives = { λ value result. OkIff result (value < 2 ^ 16) value };
+
+    fn try_from(value: char) -> Result<Self, CharConversionError> {
+        Char16::try_from_char(value)
+    }
+}
+
+/// `Ok` exactly for the code units that are no surrogates, which keep their number; else
+/// `CharConversionError`.
+impl TryFrom<u16> for Char16 {
+    type Error = CharConversionError;
+
+    ghost try_from_gives = { λ value result. OkIff result (IsChar16 value) value };
+
+    fn try_from(value: u16) -> Result<Self, CharConversionError> {
+        if is_surrogate(value) {
+            Err(CharConversionError)
+        } else {
+            Ok(Char16 { unit: value })
+        }
+    }
+}
+
+/// The number stays the same.
+impl From<Char16> for u16 {
+    ghost from_gives = { λ value result. (result ≡ value) × IsChar16 value };
+
+    fn from(value: Char16) -> u16 {
+        value.unit
+    }
+}
+
+/// The number stays the same.
+impl From<Char16> for char {
+    ghost from_gives = { λ value result. result ≡ value };
+
+    fn from(value: Char16) -> char {
+        char::from_u32(u32::from(value.unit)).unwrap()
+    }
+}
+
+/// Writes the character.
+impl fmt::Display for Char16 {
+    ghost use Rattle.std.specs.Prelude.{Some, encode_utf8};
+
+    ghost output = { λ c. Some (encode_utf8 c) };
+
+    fn fmt<W: fmt::Write>(&self, f: &mut fmt::Formatter<W>) -> fmt::Result {
+        f.write_char(char::from(*self))
+    }
+}
+
+/// Prints as the Rust character with the same number does.
+impl fmt::Debug for Char16 {
+    fn fmt<W: fmt::Write>(&self, f: &mut fmt::Formatter<W>) -> fmt::Result {
+        fmt::Debug::fmt(&char::from(*self), f)
+    }
+}
+
+/// The character that ends a string of UCS-2.
+pub const NUL_16: Char16 = Char16 { unit: 0 };
+
+/// The separator between the components of a path, `\`.
+pub const SEPARATOR: Char16 = Char16 { unit: 92 };
+
+/// The separator of other systems, `/`, which path buffers replace by [`SEPARATOR`].
+pub const SLASH: Char16 = Char16 { unit: 47 };
+
+/// The characters that no file name holds: NUL and `"*/:<>?\|`.
+pub const CHARACTER_DENY_LIST: [Char16; 10] = [
+    NUL_16,
+    Char16 { unit: 34 },
+    Char16 { unit: 42 },
+    SLASH,
+    Char16 { unit: 58 },
+    Char16 { unit: 60 },
+    Char16 { unit: 62 },
+    Char16 { unit: 63 },
+    SEPARATOR,
+    Char16 { unit: 124 },
+];
+
+/// The characters of [`CHARACTER_DENY_LIST`], in its order, which is that of their numbers.
+///
+/// Public so that a contract says what the list holds: no clause can name it. Callers have the list.
+#[doc(hidden)]
+pub fn denied_characters() -> [Char16; 10]
+    ensures { result ≡ denied_characters }
+{
+    CHARACTER_DENY_LIST
+}

@@ -1,0 +1,232 @@
+//! Borrowed strings of Latin-1, and calls on Rust texts of Latin-1.
+#![tactic(auto, unfolding(crate::specs::Views::bytes_of))]
+
+ghost use Rattle.std.specs.Prelude.{◌≡◌, ◌≢◌, ◌<◌, ◌+◌, ◌^◌, ◌↔◌, All, length, position, IsTrue, IsOk, IfOk};
+ghost use Rattle.std.specs.Result.{result_err};
+ghost use Rattle.std.specs.Str.{chars};
+ghost use Rattle.uefi_text.specs.Units.{is_nul, nul_terminated, without_nul};
+ghost use Rattle.uefi_text.specs.Latin1.{IsLatin1, IsLatin1String};
+
+use crate::chars::Char8;
+use crate::eq_str_until_nul::EqStrUntilNul;
+use crate::errors::FromSliceWithNulError;
+use crate::scans::{find_zero, has_byte_beyond_latin1, has_zero};
+use crate::utf8::{PRINTED, write_latin1};
+use std::cmp::Ordering;
+use std::fmt;
+use std::hash::{Hash, Hasher};
+
+/// A borrowed string of Latin-1: a view of bytes of which the last, and no other, is zero. A
+/// contract sees it as `bytes_of` it: all its bytes, the zero included. No call of it takes memory.
+#[derive(Clone, Copy)]
+pub struct CStr8<'a> {
+    bytes: &'a [u8],
+    pub ghost is_string: { IsLatin1String bytes.now },
+}
+
+impl<'a> CStr8<'a> {
+    ghost use Rattle.uefi_text.specs.FromSliceWithNul.{first_nul_refusal};
+    ghost use Rattle.uefi_text.specs.Views.{bytes_of};
+
+    /// Borrows all of the bytes as a string.
+    ///
+    /// The first zero decides. At the last place it ends the string. Before the last place it is
+    /// refused as `InteriorNul` with its index, even where the bytes don't end in zero. Where there
+    /// is none the result is `NotNulTerminated`. One pass, which ends at the first zero.
+    pub fn from_bytes_with_nul(chars: &'a [u8]) -> Result<CStr8<'a>, FromSliceWithNulError>
+        ensures ok { IfOk result (λ string. bytes_of string ≡ chars.now) }
+        ensures accepts { IsOk result ↔ IsLatin1String chars.now }
+        ensures refusal { result_err result ≡ first_nul_refusal chars.now }
+    {
+        let Some(place) = find_zero(chars) else {
+            return Err(FromSliceWithNulError::NotNulTerminated);
+        };
+        if place + 1 != chars.len() {
+            return Err(FromSliceWithNulError::InteriorNul(place));
+        }
+        Ok(CStr8 { bytes: chars })
+    }
+
+    /// The bytes of the string, the zero included.
+    pub fn as_bytes(&self) -> &'a [u8]
+        ensures { result.now ≡ bytes_of self.now }
+    {
+        self.bytes
+    }
+
+    /// The bytes before the zero.
+    pub(crate) fn text(&self) -> &'a [u8]
+        ensures { result.now ≡ without_nul (bytes_of self.now) }
+    {
+        &self.bytes[..self.bytes.len() - 1]
+    }
+}
+
+/// Two strings are equal exactly when their bytes are.
+impl<'a> PartialEq for CStr8<'a> {
+    ghost use Rattle.std.specs.Cmp.{on_per, partial_equiv_from_equiv};
+    ghost use Rattle.std.specs.Prelude.{nat_eq};
+    ghost use Rattle.std.specs.Cmp.Lexicographic.{nat_list_eq_equiv, pointwise};
+    ghost use Rattle.uefi_text.specs.Views.{bytes_of};
+
+    ghost eq = { λ a b. pointwise nat_eq (bytes_of a) (bytes_of b) };
+
+    ghost laws = { on_per bytes_of (partial_equiv_from_equiv nat_list_eq_equiv) };
+
+    fn eq(&self, other: &Self) -> bool {
+        self.bytes == other.bytes
+    }
+}
+
+impl<'a> Eq for CStr8<'a> {
+    ghost use Rattle.std.specs.Cmp.Lexicographic.{on_texts_equal};
+    ghost use Rattle.uefi_text.specs.Views.{bytes_of};
+
+    ghost laws = { on_texts_equal bytes_of };
+}
+
+/// The list order of the bytes.
+impl<'a> PartialOrd for CStr8<'a> {
+    ghost use Rattle.std.specs.Cmp.{on_po};
+    ghost use Rattle.std.specs.Ordering.{nat_cmp, as_partial_cmp, on};
+    ghost use Rattle.std.specs.Cmp.Lexicographic.{slice_cmp, texts_po};
+    ghost use Rattle.uefi_text.specs.Views.{bytes_of};
+
+    ghost partial_cmp = { as_partial_cmp (on bytes_of (slice_cmp nat_cmp)) };
+
+    ghost laws = { on_po bytes_of texts_po };
+
+    fn partial_cmp(&self, other: &Self) -> Option<Ordering> {
+        Some(self.cmp(other))
+    }
+}
+
+/// `Equal` exactly for equal strings.
+impl<'a> Ord for CStr8<'a> {
+    ghost use Rattle.std.proofs.Common.{refl};
+    ghost use Rattle.std.specs.Ordering.{nat_cmp, on};
+    ghost use Rattle.std.specs.Cmp.Lexicographic.{on_texts, slice_cmp, texts_ties};
+    ghost use Rattle.uefi_text.specs.Views.{bytes_of};
+
+    ghost cmp = { on bytes_of (slice_cmp nat_cmp) };
+
+    ghost total = { on_texts bytes_of };
+
+    ghost matches_partial_cmp = { λ _ _. refl };
+
+    ghost matches_eq = { λ a b. texts_ties (bytes_of a) (bytes_of b) };
+
+    fn cmp(&self, other: &Self) -> Ordering {
+        self.bytes.cmp(&other.bytes)
+    }
+}
+
+/// Hashes the bytes, so that equal strings hash alike.
+impl<'a> Hash for CStr8<'a> {
+    ghost use Rattle.std.proofs.Common.{rules};
+    ghost use Rattle.std.specs.Hash as fed;
+    ghost use Rattle.std.specs.Cmp.Rules.{comparing, hashing};
+    ghost use Rattle.uefi_text.specs.Views.{bytes_of};
+
+    ghost hash_input = { λ a. fed.slice fed.u8 (bytes_of a) };
+
+    ghost respects_eq = { Prim.search (hashing, comparing, rules) };
+
+    fn hash<H: Hasher>(&self, state: &mut H) {
+        self.bytes.hash(state);
+    }
+}
+
+/// Writes the character of each byte before the zero.
+impl<'a> fmt::Display for CStr8<'a> {
+    ghost use Rattle.std.specs.Prelude.{Some};
+    ghost use Rattle.std.specs.Str.{encode_utf8_all};
+    ghost use Rattle.uefi_text.specs.Units.{without_nul};
+    ghost use Rattle.uefi_text.specs.Views.{bytes_of};
+
+    ghost output = { λ string. Some (encode_utf8_all (without_nul (bytes_of string))) };
+
+    fn fmt<W: fmt::Write>(&self, f: &mut fmt::Formatter<W>) -> fmt::Result {
+        let text = self.text();
+        let mut room = [0; 3 * PRINTED];
+        let mut start = 0;
+        while start < text.len() {
+            let end = start + PRINTED.min(text.len() - start);
+            let len = write_latin1(&mut room, &text[start..end]);
+            // SAFETY: the bytes are UTF-8, which is proved here as the condition of the call.
+            f.write_str(unsafe { str::from_utf8_unchecked(&room[..len]) })?;
+            start = end;
+        }
+        Ok(())
+    }
+}
+
+/// Prints the characters, each as a Rust character.
+impl<'a> fmt::Debug for CStr8<'a> {
+    fn fmt<W: fmt::Write>(&self, f: &mut fmt::Formatter<W>) -> fmt::Result {
+        let characters = self.text().iter().map(|byte| char::from(*byte));
+        f.write_str("CStr8(")?;
+        f.debug_list().entries(characters).finish()?;
+        f.write_str(")")
+    }
+}
+
+/// Compares the characters of the bytes before the zero.
+impl<'a> EqStrUntilNul for CStr8<'a> {
+    ghost use Rattle.uefi_text.specs.Views.{bytes_of};
+
+    ghost characters = { λ string. without_nul (bytes_of string) };
+
+    fn eq_str_until_nul(&self, other: &str) -> bool {
+        let before_nul = other.chars().take_while(|c| *c != '\0');
+        let mut pairs = self.text().iter().zip(before_nul);
+        pairs.all(|(byte, c)| Char8::from(*byte).eq_char(c))
+    }
+}
+
+/// Whether every character of a Rust text is one of Latin-1: at most U+00FF. One pass over the
+/// bytes, which ends soon after the first that decides; takes no memory.
+#[tactic(auto, using(crate::proofs::Utf8Bytes::latin1_bytes))]
+pub fn is_latin1(s: &str) -> bool
+    ensures { IsTrue result ↔ IsLatin1 (chars s.now) }
+{
+    !has_byte_beyond_latin1(s.as_bytes())
+}
+
+/// Whether no character of a Rust text is NUL. One pass over the bytes, which ends soon after the
+/// first NUL; takes no memory.
+#[tactic(auto, using(crate::proofs::Utf8Bytes::no_zero_bytes))]
+pub fn has_no_nul(s: &str) -> bool
+    ensures { IsTrue result ↔ All (λ c. c ≢ 0) (chars s.now) }
+{
+    !has_zero(s.as_bytes())
+}
+
+/// The number of characters of a Rust text of Latin-1, each NUL counted, which is the number of
+/// bytes that it takes in Latin-1. [`is_latin1`] tests the condition. One pass; takes no memory.
+#[tactic(auto, using(std::proofs::lemmas::Str::chars_from_encodes))]
+pub fn str_num_latin1_chars(s: &str) -> usize
+    requires { IsLatin1 (chars s.now) }
+    ensures count { result ≡ length (chars s.now) }
+    ensures bound { result + 1 < 2 ^ 64 }
+{
+    let _bytes = s.len();
+    s.chars().count()
+}
+
+/// Encodes a Rust text of Latin-1 that holds no NUL: a byte for each character, and a NUL after
+/// them. `N` has to be one more than the number of characters. One pass; takes no memory.
+///
+/// [`is_latin1`], [`has_no_nul`] and [`str_num_latin1_chars`] test the conditions.
+pub fn str_to_latin1<const N: usize>(s: &str) -> [u8; N]
+    requires latin1 { IsLatin1 (chars s.now) }
+    requires no_nul { All (λ c. c ≢ 0) (chars s.now) }
+    requires fits { length (chars s.now) + 1 ≡ N }
+    ensures { result ≡ nul_terminated (chars s.now) }
+{
+    let mut bytes = [0; N];
+    for (place, character) in s.chars().enumerate() {
+        bytes[place] = character as u8;
+    }
+    bytes
+}

@@ -1,0 +1,439 @@
+//! Passes over whole slices, in forms that the compiler compiles to vector instructions: no early
+//! exit inside a block, and loops over places where the bounds are known. What they return is said
+//! by std's words, so that callers see nothing of the form.
+//!
+//! What a pass looks for is a [`Class`] of elements: all classes share one pass, and one proof.
+ghost use Rattle.std.specs.Prelude.{IsTrue, ◌≡◌, ◌↔◌, ◌||◌, ℕ, ◌+◌, ◌-◌, ◌*◌, ◌<◌, ◌≤◌, ◌++◌, All, Bool, Option, None, count_by, fold, length, take, drop, map, position, true, false};
+ghost use Rattle.std.specs.Fmt.{is_char_start};
+ghost use Rattle.std.specs.List.{list_any};
+ghost use Rattle.std.specs.Option.{SomeIff};
+ghost use Rattle.std.specs.Str.{IsAscii};
+ghost use Rattle.uefi_text.specs.Scans.{IsAsciiTextByte, is_beyond_ascii, is_beyond_latin1_byte, is_deciding_byte, is_no_ascii_text, is_of_three_bytes};
+ghost use Rattle.uefi_text.specs.UnitBytes.{unit_bytes};
+ghost use Rattle.uefi_text.specs.Units.{is_deciding, is_nul, deciding_place, replaced};
+
+/// How many elements are tested together: with no early exit among them they become vectors.
+const BLOCK: usize = 64;
+
+/// How many of those after the last whole block are tested together.
+const SMALL_BLOCK: usize = 8;
+
+/// How many elements are counted at a time: the count of a block fits in a byte, so that it becomes
+/// vector code.
+const COUNTED: usize = 128;
+
+/// A class of elements that a pass looks for.
+trait Class<T> {
+    /// Whether an element is in the class.
+    ghost holds: { T → Bool };
+
+    fn holds(element: T) -> bool
+        ensures { result ≡ holds element };
+}
+
+/// Whether an element of a block is in the class.
+#[inline(always)]
+fn block_has<T: Copy, C: Class<T>>(block: &[T]) -> bool
+    ensures { result ≡ fold (λ found element. found || C.holds element) false block.now }
+{
+    block
+        .iter()
+        .fold(false, |found, element| found | C::holds(*element))
+}
+
+/// A place before which no element is in the class: elements from `start` on are tested in blocks, up to
+/// one that holds such an element, or to less than a block.
+#[inline(always)]
+fn clear_blocks_end<T: Copy, C: Class<T>>(elements: &[T], start: usize, block: usize) -> usize
+    requires start { start ≤ length elements.now }
+    requires block { 0 < block }
+    requires clear { list_any C.holds (take start elements.now) ≡ false }
+    ensures within { result ≤ length elements.now }
+    ensures clear { list_any C.holds (take result elements.now) ≡ false }
+    ensures found { block ≤ length elements.now - result
+        → list_any C.holds (take block (drop result elements.now)) ≡ true }
+{
+    let mut end = start;
+    while block <= elements.len() - end && !block_has::<T, C>(&elements[end..end + block]) {
+        end += block;
+    }
+    end
+}
+
+/// The place of the first element in the class, one by one.
+fn find_one_by_one<T: Copy, C: Class<T>>(elements: &[T]) -> Option<usize>
+    ensures { result ≡ position C.holds elements.now }
+{
+    elements.iter().position(|element| C::holds(*element))
+}
+
+/// The place of the first element in the class.
+#[inline(always)]
+fn find_first<T: Copy, C: Class<T>>(elements: &[T]) -> Option<usize>
+    ensures { result ≡ position C.holds elements.now }
+{
+    let blocks_end = clear_blocks_end::<T, C>(elements, 0, BLOCK);
+    let start = clear_blocks_end::<T, C>(elements, blocks_end, SMALL_BLOCK);
+    match find_one_by_one::<T, C>(&elements[start..]) {
+        None => None,
+        Some(place) => Some(start + place),
+    }
+}
+
+/// Whether an element is in the class, one by one.
+#[inline(always)]
+fn has_one_by_one<T: Copy, C: Class<T>>(elements: &[T]) -> bool
+    ensures { result ≡ list_any C.holds elements.now }
+{
+    elements.iter().any(|element| C::holds(*element))
+}
+
+/// Whether an element is in the class.
+#[inline(always)]
+fn has_any<T: Copy, C: Class<T>>(elements: &[T]) -> bool
+    ensures { result ≡ list_any C.holds elements.now }
+{
+    let blocks_end = clear_blocks_end::<T, C>(elements, 0, BLOCK);
+    if BLOCK <= elements.len() - blocks_end {
+        return true;
+    }
+    let start = clear_blocks_end::<T, C>(elements, blocks_end, SMALL_BLOCK);
+    if SMALL_BLOCK <= elements.len() - start {
+        return true;
+    }
+    has_one_by_one::<T, C>(&elements[start..])
+}
+
+/// How many elements of a block are in the class.
+#[inline(always)]
+fn count_in_block<T: Copy, C: Class<T>>(block: &[T]) -> u8
+    requires { length block.now ≤ 128 }
+    ensures { result ≡ count_by C.holds block.now }
+{
+    let mut count = 0;
+    for element in block {
+        count += u8::from(C::holds(*element));
+    }
+    count
+}
+
+/// How many elements are in the class.
+#[inline(always)]
+fn count<T: Copy, C: Class<T>>(elements: &[T]) -> usize
+    ensures { result ≡ count_by C.holds elements.now }
+{
+    let mut count = 0;
+    for block in elements.chunks(COUNTED) {
+        count += usize::from(count_in_block::<T, C>(block));
+    }
+    count
+}
+
+/// Units that no text holds: NUL and surrogates.
+struct Deciding;
+
+impl Class<u16> for Deciding {
+    ghost use Rattle.uefi_text.specs.Units.{is_deciding};
+
+    ghost holds = { is_deciding };
+
+    #[inline(always)]
+    fn holds(unit: u16) -> bool {
+        (unit == 0) | ((0xd800 <= unit) & (unit <= 0xdfff))
+    }
+}
+
+/// Units that are NUL.
+struct Nul;
+
+impl Class<u16> for Nul {
+    ghost use Rattle.uefi_text.specs.Units.{is_nul};
+
+    ghost holds = { is_nul };
+
+    #[inline(always)]
+    fn holds(unit: u16) -> bool {
+        unit == 0
+    }
+}
+
+/// Units beyond ASCII.
+struct BeyondAscii;
+
+impl Class<u16> for BeyondAscii {
+    ghost use Rattle.uefi_text.specs.Scans.{is_beyond_ascii};
+
+    ghost holds = { is_beyond_ascii };
+
+    #[inline(always)]
+    fn holds(unit: u16) -> bool {
+        0x80 <= unit
+    }
+}
+
+/// Units that have three bytes of UTF-8.
+struct OfThreeBytes;
+
+impl Class<u16> for OfThreeBytes {
+    ghost use Rattle.uefi_text.specs.Scans.{is_of_three_bytes};
+
+    ghost holds = { is_of_three_bytes };
+
+    #[inline(always)]
+    fn holds(unit: u16) -> bool {
+        0x800 <= unit
+    }
+}
+
+/// Bytes that are zero.
+struct Zero;
+
+impl Class<u8> for Zero {
+    ghost use Rattle.uefi_text.specs.Units.{is_nul};
+
+    ghost holds = { is_nul };
+
+    #[inline(always)]
+    fn holds(byte: u8) -> bool {
+        byte == 0
+    }
+}
+
+/// Bytes that are zero or beyond ASCII.
+struct NoAsciiText;
+
+impl Class<u8> for NoAsciiText {
+    ghost use Rattle.uefi_text.specs.Scans.{is_no_ascii_text};
+
+    ghost holds = { is_no_ascii_text };
+
+    #[inline(always)]
+    fn holds(byte: u8) -> bool {
+        (byte == 0) | (0x80 <= byte)
+    }
+}
+
+/// Bytes that begin a character which no UCS-2 text holds: a NUL, or a character above U+FFFF, which alone
+/// has four bytes.
+struct DecidingByte;
+
+impl Class<u8> for DecidingByte {
+    ghost use Rattle.uefi_text.specs.Scans.{is_deciding_byte};
+
+    ghost holds = { is_deciding_byte };
+
+    #[inline(always)]
+    fn holds(byte: u8) -> bool {
+        (byte == 0) | (0xf0 <= byte)
+    }
+}
+
+/// Bytes that begin a character above U+00FF: those of 0xc4 or more. Below that are the bytes that begin a
+/// character of Latin-1, and those inside of characters.
+struct BeyondLatin1;
+
+impl Class<u8> for BeyondLatin1 {
+    ghost use Rattle.uefi_text.specs.Scans.{is_beyond_latin1_byte};
+
+    ghost holds = { is_beyond_latin1_byte };
+
+    #[inline(always)]
+    fn holds(byte: u8) -> bool {
+        0xc4 <= byte
+    }
+}
+
+/// Bytes that begin a character.
+struct CharStart;
+
+impl Class<u8> for CharStart {
+    ghost use Rattle.std.specs.Fmt.{is_char_start};
+
+    ghost holds = { is_char_start };
+
+    #[inline(always)]
+    fn holds(byte: u8) -> bool {
+        (byte < 0x80) | (0xc0 <= byte)
+    }
+}
+
+/// The place of the first NUL or surrogate.
+pub fn find_deciding_place(units: &[u16]) -> Option<usize>
+    ensures { result ≡ deciding_place units.now }
+{
+    find_first::<u16, Deciding>(units)
+}
+
+/// The place of the first NUL.
+pub fn find_nul(units: &[u16]) -> Option<usize>
+    ensures { result ≡ position is_nul units.now }
+{
+    find_first::<u16, Nul>(units)
+}
+
+/// Whether each unit is ASCII.
+pub fn is_ascii(units: &[u16]) -> bool
+    ensures { IsTrue result ↔ IsAscii units.now }
+{
+    !has_any::<u16, BeyondAscii>(units)
+}
+
+/// How many units have two bytes of UTF-8 or more, and how many have three.
+pub(crate) fn count_wide(units: &[u16]) -> (usize, usize)
+    ensures two { result.0 ≡ count_by is_beyond_ascii units.now }
+    ensures three { result.1 ≡ count_by is_of_three_bytes units.now }
+{
+    (
+        count::<u16, BeyondAscii>(units),
+        count::<u16, OfThreeBytes>(units),
+    )
+}
+
+/// The place of the first zero.
+pub(crate) fn find_zero(bytes: &[u8]) -> Option<usize>
+    ensures { result ≡ position is_nul bytes.now }
+{
+    find_first::<u8, Zero>(bytes)
+}
+
+/// Whether a byte is zero.
+pub(crate) fn has_zero(bytes: &[u8]) -> bool
+    ensures { result ≡ list_any is_nul bytes.now }
+{
+    has_any::<u8, Zero>(bytes)
+}
+
+/// Whether each byte is ASCII and not NUL.
+pub(crate) fn is_ascii_text(bytes: &[u8]) -> bool
+    ensures { IsTrue result ↔ All IsAsciiTextByte bytes.now }
+{
+    !has_any::<u8, NoAsciiText>(bytes)
+}
+
+/// Whether a byte begins a character above U+00FF.
+pub(crate) fn has_byte_beyond_latin1(bytes: &[u8]) -> bool
+    ensures { result ≡ list_any is_beyond_latin1_byte bytes.now }
+{
+    has_any::<u8, BeyondLatin1>(bytes)
+}
+
+/// Whether a byte begins a character that no UCS-2 text holds.
+pub(crate) fn has_deciding_byte(bytes: &[u8]) -> bool
+    ensures { result ≡ list_any is_deciding_byte bytes.now }
+{
+    has_any::<u8, DecidingByte>(bytes)
+}
+
+/// How many characters begin in bytes of UTF-8; `None` exactly where one of them is one that no UCS-2
+/// text holds.
+pub(crate) fn count_undecided_chars(bytes: &[u8]) -> Option<usize>
+    ensures { SomeIff result (list_any is_deciding_byte bytes.now ≡ false)
+        (count_by is_char_start bytes.now) }
+{
+    if has_deciding_byte(bytes) {
+        return None;
+    }
+    Some(count::<u8, CharStart>(bytes))
+}
+
+/// True only where units are these bytes, all of ASCII and none of them zero.
+#[inline(always)]
+fn are_same_ascii(units: &[u16], bytes: &[u8]) -> bool
+    requires { length units.now ≡ length bytes.now }
+    ensures { IsTrue result → (units.now ≡ bytes.now) × (All IsAsciiTextByte bytes.now) }
+{
+    let mut same = true;
+    for i in 0..units.len() {
+        same = same & (units[i] == u16::from(bytes[i])) & (0 < bytes[i]) & (bytes[i] < 128);
+    }
+    same
+}
+
+/// The length of a prefix that units and bytes have in common, of ASCII without NUL: from `start` on
+/// both are compared in blocks.
+#[inline(always)]
+fn same_ascii_blocks_end(units: &[u16], bytes: &[u8], start: usize, block: usize) -> usize
+    requires start { (start ≤ length units.now) × (start ≤ length bytes.now) }
+    requires block { 0 < block }
+    requires same { take start units.now ≡ take start bytes.now }
+    requires ascii { All IsAsciiTextByte (take start bytes.now) }
+    ensures within { (result ≤ length units.now) × (result ≤ length bytes.now) }
+    ensures same { take result units.now ≡ take result bytes.now }
+    ensures ascii { All IsAsciiTextByte (take result bytes.now) }
+{
+    let mut end = start;
+    while block <= units.len() - end
+        && block <= bytes.len() - end
+        && are_same_ascii(&units[end..end + block], &bytes[end..end + block])
+    {
+        end += block;
+    }
+    end
+}
+
+/// The length of a prefix that units and bytes have in common, of ASCII without NUL. It need not be
+/// the longest.
+pub fn same_ascii_len(units: &[u16], bytes: &[u8]) -> usize
+    ensures within { (result ≤ length units.now) × (result ≤ length bytes.now) }
+    ensures same { take result units.now ≡ take result bytes.now }
+    ensures ascii { All IsAsciiTextByte (take result bytes.now) }
+{
+    let start = same_ascii_blocks_end(units, bytes, 0, BLOCK);
+    same_ascii_blocks_end(units, bytes, start, SMALL_BLOCK)
+}
+
+/// Writes bytes as code units, before the last unit, which stays.
+pub(crate) fn widen(units: &mut [u16], bytes: &[u8])
+    requires { length units.now ≡ length bytes.now + 1 }
+    ensures { units.new ≡ bytes.now ++ drop (length bytes.now) units.old }
+{
+    for i in 0..bytes.len() {
+        units[i] = u16::from(bytes[i]);
+    }
+}
+
+/// Writes units of ASCII as bytes.
+pub(crate) fn narrow(bytes: &mut [u8], units: &[u16])
+    requires same_length { length bytes.now ≡ length units.now }
+    requires ascii { IsAscii units.now }
+    ensures { bytes.new ≡ units.now }
+{
+    for i in 0..units.len() {
+        bytes[i] = units[i] as u8;
+    }
+}
+
+/// Writes each unit as two bytes, the low one first.
+pub fn split(bytes: &mut [u8], units: &[u16])
+    requires { length bytes.now ≡ 2 * length units.now }
+    ensures { bytes.new ≡ unit_bytes units.now }
+{
+    for i in 0..units.len() {
+        bytes[2 * i] = (units[i] % 256) as u8;
+        bytes[2 * i + 1] = (units[i] / 256) as u8;
+    }
+}
+
+fn unit_after(unit: u16, search: u16, replace: u16) -> u16
+    ensures { result ≡ replaced search replace unit }
+{
+    if unit == search { replace } else { unit }
+}
+
+/// Writes `replace` in each place of `search`.
+#[tactic(auto, using(std::proofs::lemmas::List::Edits::map_over_more, std::proofs::lemmas::List::take_all, std::proofs::lemmas::List::drop_all))]
+fn replace_units(units: &mut [u16], search: u16, replace: u16)
+    ensures { units.new ≡ map (replaced search replace) units.old }
+{
+    for unit in units.iter_mut() {
+        *unit = unit_after(*unit, search, replace);
+    }
+}
+
+/// Writes `replace` in each place of `search`, from the place `start` on.
+pub fn replace_units_from(units: &mut [u16], start: usize, search: u16, replace: u16)
+    requires { start ≤ length units.now }
+    ensures { units.new ≡ take start units.old ++ map (replaced search replace) (drop start units.old) }
+{
+    replace_units(&mut units[start..], search, replace);
+}
