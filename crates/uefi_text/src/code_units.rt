@@ -38,7 +38,7 @@ fn undecided_len(text: &str) -> Option<usize>
 }
 
 /// How many units a text of UCS-2 has, which is how many characters; `None` exactly for other texts.
-pub fn text_len(text: &str) -> Option<usize>
+pub(crate) fn text_len(text: &str) -> Option<usize>
     ensures { SomeIff result (IsText (chars text.now)) (length (chars text.now)) }
 {
     undecided_len(text)
@@ -220,7 +220,7 @@ fn try_units<A: Allocator>(alloc: A, text: &str) -> Option<Result<Vec<u16, A>, A
 
 /// The units of a text of UCS-2 and a NUL, in one allocation. It has just their room, unless the text is
 /// short.
-pub fn units_of_text<A: Allocator>(alloc: A, text: &str) -> Result<Vec<u16, A>, FromStrError>
+pub(crate) fn units_of_text<A: Allocator>(alloc: A, text: &str) -> Result<Vec<u16, A>, FromStrError>
     ensures ok { IfOk result (λ units. units.items ≡ nul_terminated (chars text.now)) }
     ensures accepted { IfOk result (λ _. find is_deciding_char (chars text.now) ≡ None) }
     ensures refusal { IfErr result (λ error.
@@ -235,7 +235,7 @@ pub fn units_of_text<A: Allocator>(alloc: A, text: &str) -> Result<Vec<u16, A>, 
 
 /// Writes a Rust text and a NUL into the prefix of a buffer, and returns how many units they are:
 /// `CStr16::write_str` says the rest. Takes no memory.
-pub fn write_text(input: &str, buffer: &mut [u16]) -> Result<usize, FromStrWithBufError>
+pub(crate) fn write_text(input: &str, buffer: &mut [u16]) -> Result<usize, FromStrWithBufError>
     ensures ok { IfOk result (λ len. len ≡ length (chars input.now) + 1) }
     ensures refusal { result_err result
         ≡ from_str_with_buf_refusal (chars input.now) (length buffer.old) }
@@ -335,7 +335,7 @@ fn are_same(units: &[u16], others: &[u16; 8]) -> bool
 /// A prefix that units and a text have in common, without NUL: how long it is, and what follows it in
 /// the text. It need not be the longest.
 #[inline(never)]
-pub fn same_front<'a>(units: &[u16], text: &'a str) -> (usize, &'a str)
+pub(crate) fn same_front<'a>(units: &[u16], text: &'a str) -> (usize, &'a str)
     ensures within { result.0 ≤ length units.now }
     ensures same { chars text.now ≡ take result.0 units.now ++ chars result.1.now }
     ensures no_nul { All (λ unit. unit ≢ 0) (take result.0 units.now) }

@@ -9,7 +9,7 @@ use std::alloc::{AllocError, Allocator};
 use std::simd::prelude::*;
 
 /// How many characters are printed at a time.
-pub const PRINTED: usize = 64;
+pub(crate) const PRINTED: usize = 64;
 
 /// How many bytes units have in UTF-8: one each, a second from U+0080 on, and a third from U+0800 on.
 fn utf8_len(units: &[u16]) -> usize
@@ -139,7 +139,7 @@ fn write_by_eight(bytes: &mut [u8], units: &[u16]) -> usize
 
 /// Writes the UTF-8 of units into the prefix of bytes that have room for it, and returns how many
 /// bytes they are. Units of ASCII are written all at once.
-pub fn write_utf8(bytes: &mut [u8], units: &[u16]) -> usize
+pub(crate) fn write_utf8(bytes: &mut [u8], units: &[u16]) -> usize
     requires { 3 * length units.now ≤ length bytes.old }
     ensures len { result ≤ length bytes.new }
     ensures bytes { take result bytes.new ≡ encode_utf8_all units.now }
@@ -165,7 +165,7 @@ pub(crate) fn write_latin1(bytes: &mut [u8], characters: &[u8]) -> usize
 }
 
 /// Adds the UTF-8 of units to bytes, which stay unchanged where memory is refused.
-pub fn add_utf8<A: Allocator>(bytes: &mut Vec<u8, A>, units: &[u16]) -> Result<(), AllocError>
+pub(crate) fn add_utf8<A: Allocator>(bytes: &mut Vec<u8, A>, units: &[u16]) -> Result<(), AllocError>
     ensures ok { OnOk result (bytes.new.items ≡ bytes.old.items ++ encode_utf8_all units.now) }
     ensures err { OnErr result (bytes.new.items ≡ bytes.old.items) }
 {
