@@ -165,7 +165,10 @@ pub(crate) fn write_latin1(bytes: &mut [u8], characters: &[u8]) -> usize
 }
 
 /// Adds the UTF-8 of units to bytes, which stay unchanged where memory is refused.
-pub(crate) fn add_utf8<A: Allocator>(bytes: &mut Vec<u8, A>, units: &[u16]) -> Result<(), AllocError>
+pub(crate) fn add_utf8<A: Allocator>(
+    bytes: &mut Vec<u8, A>,
+    units: &[u16],
+) -> Result<(), AllocError>
     ensures ok { OnOk result (bytes.new.items ≡ bytes.old.items ++ encode_utf8_all units.now) }
     ensures err { OnErr result (bytes.new.items ≡ bytes.old.items) }
 {
