@@ -321,7 +321,7 @@ fn write_char(character: char, buffer: &mut [u16], place: usize) -> usize
 
 /// Whether eight units are these.
 #[inline(always)]
-fn are_same(units: &[u16], others: &[u16; 8]) -> bool
+fn are_these(units: &[u16], others: &[u16; 8]) -> bool
     requires { length units.now ≡ 8 }
     ensures { IsTrue result → units.now ≡ others.now }
 {
@@ -347,7 +347,7 @@ pub(crate) fn same_front<'a>(units: &[u16], text: &'a str) -> (usize, &'a str)
         let Some(others) = read_eight(rest, &mut eight) else {
             break;
         };
-        if !are_same(&units[end..end + 8], &eight) {
+        if !are_these(&units[end..end + 8], &eight) {
             break;
         }
         rest = others;

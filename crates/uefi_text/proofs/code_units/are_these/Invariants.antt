@@ -1,5 +1,5 @@
 use Rattle.std.proofs.Common.{◌≡◌, IsTrue, take}
-use Rattle.uefi_text.proofs.code_units.are_same.Given as goal
+use Rattle.uefi_text.proofs.code_units.are_these.Given as goal
 
 -- where nothing differs so far, those so far are the same
 abbrev pub invariant-loop-i : goal.invariant-loop-i
