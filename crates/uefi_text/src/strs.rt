@@ -1,6 +1,6 @@
-//! Borrowed NUL-terminated strings of UCS-2, and views of their characters. The strings of Latin-1
-//! and the errors stand in modules of their own. `specs/Views.antt` says what a contract sees of each
-//! view.
+//! Borrowed NUL-terminated strings of UCS-2, and views of their characters. Strings of Latin-1 and the
+//! reasons of refusals have their names here too, and their code in `latin1` and `errors`.
+//! `specs/Views.antt` says what a contract sees of each view.
 #![tactic(auto, unfolding(crate::specs::Views::text_of, crate::specs::Views::units_of, crate::specs::Views::units_left))]
 
 ghost use Rattle.std.specs.Prelude.{◌≡◌, ◌<◌, ◌≤◌, ◌+◌, ◌*◌, ◌^◌, ◌↔◌, ◌==◌, ◌≢◌, ◌++◌, if◌then◌else◌, [], nat_eq, ℕ, List, Option, All, length, position, slice_get, slice_index, slice_range, take, IsTrue, IsOk, IfOk, IfSome, OnErr, OnOk, Some, false, true};
