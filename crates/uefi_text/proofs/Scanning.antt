@@ -1,9 +1,9 @@
 -- Passes that test or count a block of elements at a time.
-use Rattle.std.proofs.Common.{inl, inr, ◌≡◌, ◌↔◌, ◌||◌, ◌+◌, ◌-◌, ◌<◌, ◌≤◌, ◌∙◌, ℕ, zero, suc, Bool, true, false, not, All, IsTrue, List, [], ◌∷◌, Some, None, ap, get_or, sym, subst, refl, drop, length, take, arith, position}
+use Rattle.std.proofs.Common.{inl, inr, ◌≡◌, ◌↔◌, ◌≢◌, ◌||◌, ◌+◌, ◌-◌, ◌<◌, ◌≤◌, ◌∙◌, ℕ, zero, suc, Bool, true, false, not, All, IsTrue, List, [], ◌∷◌, Some, None, Option, ap, get_or, sym, subst, refl, drop, length, take, arith, position}
 use Rattle.std.specs.List.{fold, list_any, position_or_len, slice_range}
+use Rattle.std.specs.Option.{is_some}
 use Rattle.std.specs.Str.{IsAscii}
 use Rattle.std.proofs.Math.Seq.{take-add}
-use Rattle.std.proofs.lemmas.List.{take-append-drop}
 use Rattle.std.proofs.lemmas.Bool.{cases_Bool, cases_lt, false≢true}
 use Rattle.std.proofs.lemmas.Grind.{common_steps}
 use Rattle.std.proofs.lemmas.List.Elements.{All-cons, All-nil}
@@ -11,6 +11,7 @@ use Rattle.std.proofs.lemmas.List.Folds.{list_any-append, list_any_none}
 use Rattle.std.proofs.lemmas.List.Sums.{fails_before_first, passes_at_first, position_or_len_is}
 use Rattle.std.proofs.lemmas.Simd.{get_or-chunk, length-chunk}
 use Rattle.uefi_text.specs.Scans.{is_beyond_ascii}
+use Rattle.uefi_text.specs.Units.{is_nul}
 
 -- a fold that keeps what it found has found it before or among the elements
 fold_or : {X : Type 0} (p : X → Bool) (so_far : Bool) (xs : List X) → fold (λ found x. found || p x) so_far xs ≡ (so_far || list_any p xs)
@@ -48,22 +49,13 @@ pub position-from_some : {X : Type 0} (p : X → Bool) (xs : List X) (start plac
     → Some place ≡ position p (drop start xs) → Some (start + place) ≡ position p xs
 position-from_some p xs start place inside clear some = let from = search_from p xs start inside clear in grind (arith, common_steps)
 
--- what passes in a part of a list passes in it
-pub any-in_block : {X : Type 0} (p : X → Bool) (xs : List X) (start n : ℕ) → list_any p (take n (drop start xs)) ≡ true → list_any p xs ≡ true
-any-in_block p xs start n found =
-    let rest = drop start xs in
-    let later : list_any p rest ≡ true =
-    ap (list_any p) (sym (take-append-drop n rest)) ∙ list_any-append p (take n rest) (drop n rest) ∙ ap (λ b. b || list_any p (drop n rest)) found in
-    ap (list_any p) (sym (take-append-drop start xs)) ∙ list_any-append p (take start xs) rest ∙ or_true (list_any p (take start xs)) (list_any p rest) later
-  where
-    or_true : (a b : Bool) → b ≡ true → (a || b) ≡ true
-    or_true true b found = refl
-    or_true false b found = found
-
--- where none before a place passes, what is left decides
-pub any-in_rest : {X : Type 0} (p : X → Bool) (xs : List X) (start : ℕ) → list_any p (take start xs) ≡ false → list_any p (drop start xs) ≡ list_any p xs
-any-in_rest p xs start clear =
-    sym (ap (λ b. b || list_any p (drop start xs)) clear) ∙ sym (list_any-append p (take start xs) (drop start xs)) ∙ ap (list_any p) (take-append-drop start xs)
+-- a search finds a place exactly where an element passes
+pub is_some-position : {X : Type 0} (p : X → Bool) (xs : List X) → is_some (position p xs) ≡ list_any p xs
+is_some-position p [] = refl
+is_some-position p (x ∷ xs) = elim (cases_Bool (p x)) [
+  | inl passes ↦ grind (arith, common_steps)
+  | inr fails ↦ let rest = is_some-position p xs in grind (arith, common_steps)
+]
 
 -- a search finds nothing exactly where no element passes
 pub none_passes : {X : Type 0} (p : X → Bool) (xs : List X) → list_any p xs ≡ false → All (λ x. p x ≡ false) xs
@@ -85,6 +77,15 @@ none_passes-is p P same xs = (
 pub not_found : {P : Type 0} (found any : Bool) → found ≡ any → (any ≡ false) ↔ P → IsTrue (not found) ↔ P
 not_found true any is same = (λ yes. absurd (false≢true yes), λ p. absurd (false≢true (sym (same.1 p) ∙ sym is)))
 not_found false any is same = (λ _. same.0 (sym is), λ _. refl)
+
+-- none is NUL exactly where none is found
+pub none_is_nul : (us : List ℕ) → (list_any is_nul us ≡ false) ↔ All (λ u. u ≢ 0) us
+none_is_nul = none_passes-is is_nul (λ u. u ≢ 0) (λ u. (λ no. λ is. grind (arith, common_steps), λ other. grind (arith, common_steps)))
+
+-- so a search that finds none says it
+pub finds_no_nul : (us : List ℕ) (place : Option ℕ) (none : Bool) → is_some place ≡ not none → place ≡ position is_nul us → IsTrue none ↔ All (λ u. u ≢ 0) us
+finds_no_nul us place true is found = not_found false _ (sym is ∙ ap is_some found ∙ is_some-position is_nul us) (none_is_nul us)
+finds_no_nul us place false is found = not_found true _ (sym is ∙ ap is_some found ∙ is_some-position is_nul us) (none_is_nul us)
 
 -- a unit is ASCII exactly where it is not beyond it
 pub ascii_units : (us : List ℕ) → (list_any is_beyond_ascii us ≡ false) ↔ IsAscii us

@@ -80,28 +80,12 @@ fn find_first<T: Copy, C: Class<T>>(elements: &[T]) -> Option<usize>
     }
 }
 
-/// Whether an element is in the class, one by one.
-#[inline(always)]
-fn has_one_by_one<T: Copy, C: Class<T>>(elements: &[T]) -> bool
-    ensures { result ≡ list_any C.holds elements.now }
-{
-    elements.iter().any(|element| C::holds(*element))
-}
-
 /// Whether an element is in the class.
 #[inline(always)]
 fn has_any<T: Copy, C: Class<T>>(elements: &[T]) -> bool
     ensures { result ≡ list_any C.holds elements.now }
 {
-    let blocks_end = clear_blocks_end::<T, C>(elements, 0, BLOCK);
-    if BLOCK <= elements.len() - blocks_end {
-        return true;
-    }
-    let start = clear_blocks_end::<T, C>(elements, blocks_end, SMALL_BLOCK);
-    if SMALL_BLOCK <= elements.len() - start {
-        return true;
-    }
-    has_one_by_one::<T, C>(&elements[start..])
+    find_first::<T, C>(elements).is_some()
 }
 
 /// How many elements of a block are in the class.

@@ -23,7 +23,7 @@ pub use crate::errors::{
     FromSliceUntilNulError, FromSliceWithNulError, FromStrWithBufError, UnalignedCStr16Error,
 };
 pub use crate::latin1::{CStr8, has_no_nul, is_latin1, str_num_latin1_chars, str_to_latin1};
-use crate::scans::{find_deciding_place, is_ascii, same_ascii_len, split};
+use crate::scans::{find_deciding_place, find_nul, is_ascii, same_ascii_len, split};
 use crate::utf8::{PRINTED, add_utf8, write_utf8};
 use std::alloc::{AllocError, Allocator};
 use std::cmp::Ordering;
@@ -528,7 +528,7 @@ impl<'a> Char16Slice<'a> {
     pub fn has_no_nul(&self) -> bool
         ensures { IsTrue result ↔ All (λ unit. unit ≢ 0) (units_of self.now) }
     {
-        self.units.iter().all(|unit| *unit != 0)
+        find_nul(self.units).is_none()
     }
 
     /// The code units of the characters.
