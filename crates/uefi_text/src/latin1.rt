@@ -164,9 +164,12 @@ impl<'a> fmt::Display for CStr8<'a> {
 /// Prints the characters, each as a Rust character.
 impl<'a> fmt::Debug for CStr8<'a> {
     fn fmt<W: fmt::Write>(&self, f: &mut fmt::Formatter<W>) -> fmt::Result {
-        let characters = self.text().iter().map(|byte| char::from(*byte));
         f.write_str("CStr8(")?;
-        f.debug_list().entries(characters).finish()?;
+        let mut list = f.debug_list();
+        for byte in self.text() {
+            list.entry(&Char8::from(*byte));
+        }
+        list.finish()?;
         f.write_str(")")
     }
 }

@@ -48,7 +48,7 @@ fn find_nul(characters: &[Char16]) -> Option<usize>
 fn hold_no_nul(characters: &[Char16]) -> bool
     ensures { IsTrue result ↔ All (λ c. c ≢ 0) characters.now }
 {
-    characters.iter().all(|character| *character != NUL_16)
+    find_nul(characters).is_none()
 }
 
 /// Whether none of the characters is NUL, which [`CString16::extend`] requires of what it adds. One
@@ -162,9 +162,7 @@ impl<'a> CStr16<'a> {
     pub fn to_owned<A: Allocator>(&self, alloc: A) -> Result<CString16<A>, AllocError>
         ensures { IfOk result (λ string. string ≡ text_of self.now) }
     {
-        let string = self.to_u16_slice_with_nul();
-        let mut units = Vec::with_capacity(alloc, string.len())?;
-        units.extend_from_slice(string)?;
+        let units = self.to_u16_slice_with_nul().to_vec(alloc)?;
         Ok(CString16 { units })
     }
 }
