@@ -168,9 +168,9 @@ impl<'a> Components<'a> {
     {
         let mut rest = self;
         for component in base {
-            let own = rest.next()?;
-            if own != component {
-                return None;
+            match rest.next() {
+                Some(own) if own == component => {}
+                _ => return None,
             }
         }
         Some(rest)

@@ -17,11 +17,11 @@ loop-component-preserved c =
     let theirs :
     components_left so_far.component-iterator ≡ component ∷ components_left c.next.new.self =
     c.in-Some.ensures.steps in
-    let own = units_of c.in_ok-own.own in
+    let own = units_of c.in-Some-next.own in
     let tested : pointwise nat_eq own component ≡ true = grind (arith, common_steps) in
     let first :
     components_left so_far.rest ≡ own ∷ components_left c.next-in-loop-component.new.self =
-    c.in_ok-own.ensures.steps in
+    c.in-Some-next.ensures.steps in
     let ours :
     components_left so_far.rest ≡ component ∷ components_left c.next-in-loop-component.new.self =
     first
