@@ -23,7 +23,7 @@ const SMALL_BLOCK: usize = 8;
 const COUNTED: usize = 128;
 
 /// A class of elements that a pass looks for.
-trait Class<T> {
+pub(crate) trait Class<T> {
     /// Whether an element is in the class.
     ghost holds: { T → Bool };
 
@@ -69,7 +69,7 @@ fn find_one_by_one<T: Copy, C: Class<T>>(elements: &[T]) -> Option<usize>
 
 /// The place of the first element in the class.
 #[inline(always)]
-fn find_first<T: Copy, C: Class<T>>(elements: &[T]) -> Option<usize>
+pub(crate) fn find_first<T: Copy, C: Class<T>>(elements: &[T]) -> Option<usize>
     ensures { result ≡ position C.holds elements.now }
 {
     let blocks_end = clear_blocks_end::<T, C>(elements, 0, BLOCK);
@@ -114,7 +114,7 @@ fn count<T: Copy, C: Class<T>>(elements: &[T]) -> usize
 }
 
 /// Units that no text holds: NUL and surrogates.
-struct Deciding;
+pub(crate) struct Deciding;
 
 impl Class<u16> for Deciding {
     ghost use Rattle.uefi_text.specs.Units.{is_deciding};
@@ -128,7 +128,7 @@ impl Class<u16> for Deciding {
 }
 
 /// Units that are NUL.
-struct Nul;
+pub(crate) struct Nul;
 
 impl Class<u16> for Nul {
     ghost use Rattle.uefi_text.specs.Units.{is_nul};

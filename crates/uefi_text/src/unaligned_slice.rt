@@ -35,7 +35,7 @@ ghost use Rattle.uefi_text.specs.UnitBytes.{ends_in_nul};
 
 use crate::owned_strs::CString16;
 pub use crate::packed::Packed;
-use crate::scans::{find_deciding_place, find_nul};
+use crate::scans::{Class, Deciding, Nul, find_first};
 use crate::strs::{CStr16, FromSliceWithNulError, UnalignedCStr16Error, check_deciding_unit};
 use std::alloc::{AllocError, Allocator};
 use std::fmt;
@@ -478,24 +478,23 @@ impl<'a> UnalignedSlice<'a, u16> {
         }
     }
 
-    /// The place of the first NUL or surrogate among the items from the place `start` on, up to and
-    /// without the place `end`, counted from `start`. They are copied to a block, where they lie as
-    /// units do.
-    fn find_deciding_place_in_block(&self, start: usize, end: usize) -> Option<usize>
+    /// The place of the first item in a class among those from the place `start` on, up to and without
+    /// the place `end`, counted from `start`. They are copied to a block, where they lie as units do.
+    fn find_first_in_block<C: Class<u16>>(&self, start: usize, end: usize) -> Option<usize>
         requires range { (start ≤ end) × (end ≤ length (items_of self.now)) }
         requires block { end ≤ start + 64 }
-        ensures place { result ≡ deciding_place (slice_range (items_of self.now) start end) }
+        ensures place { result ≡ position C.holds (slice_range (items_of self.now) start end) }
         ensures units { (k : ℕ) → slice_index (slice_range (items_of self.now) start end) k < 2 ^ 16 }
     {
         let mut block = [0; TESTED];
         let units = &mut block[..end - start];
         self.part(start, end).copy_each_to(units);
-        find_deciding_place(units)
+        find_first::<u16, C>(units)
     }
 
-    /// The place of the first NUL or surrogate.
-    fn find_deciding_place(&self) -> Option<usize>
-        ensures place { result ≡ deciding_place (items_of self.now) }
+    /// The place of the first item in a class.
+    fn find_first<C: Class<u16>>(&self) -> Option<usize>
+        ensures place { result ≡ position C.holds (items_of self.now) }
         ensures units { IfSome result (λ place.
             (k : ℕ) → k < place → slice_index (items_of self.now) k < 2 ^ 16) }
     {
@@ -503,36 +502,7 @@ impl<'a> UnalignedSlice<'a, u16> {
         let mut start = 0;
         while start < len {
             let end = start + TESTED.min(len - start);
-            if let Some(place) = self.find_deciding_place_in_block(start, end) {
-                return Some(start + place);
-            }
-            start = end;
-        }
-        None
-    }
-
-    /// The place of the first NUL among the items from the place `start` on, up to and without the
-    /// place `end`, counted from `start`. They are copied to a block, where they lie as units do.
-    fn find_nul_in_block(&self, start: usize, end: usize) -> Option<usize>
-        requires range { (start ≤ end) × (end ≤ length (items_of self.now)) }
-        requires block { end ≤ start + 64 }
-        ensures { result ≡ position is_nul (slice_range (items_of self.now) start end) }
-    {
-        let mut block = [0; TESTED];
-        let units = &mut block[..end - start];
-        self.part(start, end).copy_each_to(units);
-        find_nul(units)
-    }
-
-    /// The place of the first NUL.
-    fn find_nul(&self) -> Option<usize>
-        ensures { result ≡ position is_nul (items_of self.now) }
-    {
-        let len = self.len();
-        let mut start = 0;
-        while start < len {
-            let end = start + TESTED.min(len - start);
-            if let Some(place) = self.find_nul_in_block(start, end) {
+            if let Some(place) = self.find_first_in_block::<C>(start, end) {
                 return Some(start + place);
             }
             start = end;
@@ -550,7 +520,8 @@ impl<'a> UnalignedSlice<'a, u16> {
         ensures accepts { IsSome result
             ↔ ((units : List ℕ) × (rest : List ℕ) × SplitsUntilNul bytes.now units rest) }
     {
-        let Some(place) = UnalignedSlice::<u16>::new(bytes, bytes.len() / 2).find_nul() else {
+        let Some(place) = UnalignedSlice::<u16>::new(bytes, bytes.len() / 2).find_first::<Nul>()
+        else {
             return None;
         };
         let (string, rest) = bytes.split_at(2 * place + 2);
@@ -562,7 +533,7 @@ impl<'a> UnalignedSlice<'a, u16> {
         ensures refusal { result_err result ≡ with_nul_refusal (items_of self.now) }
         ensures accepted { OnOk result (IsString (items_of self.now)) }
     {
-        let Some(place) = self.find_deciding_place() else {
+        let Some(place) = self.find_first::<Deciding>() else {
             return Err(FromSliceWithNulError::NotNulTerminated);
         };
         check_deciding_unit(self.item(place), place, self.len())

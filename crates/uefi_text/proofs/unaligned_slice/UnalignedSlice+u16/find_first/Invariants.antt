@@ -1,15 +1,14 @@
 use Rattle.std.proofs.Common.{◌≡◌, ℕ, ◌≤◌, ◌<◌, ◌-◌, ◌^◌, false, length, slice_index}
-use Rattle.uefi_text.specs.Units.{is_deciding}
 use Rattle.uefi_text.specs.Views.{items_of}
-use Rattle.uefi_text.proofs.unaligned_slice.UnalignedSlice+u16.find_deciding_place.Given as goal
+use Rattle.uefi_text.proofs.unaligned_slice.UnalignedSlice+u16.find_first.Given as goal
 
 abbrev pub decreases-loop-start : goal.decreases-loop-start
-decreases-loop-start l = length (items_of l.self) - l.start
+decreases-loop-start g l = length (items_of l.self) - l.start
 
--- each item so far is a code unit, and none decides
+-- each item so far is a code unit, and none is in the class
 abbrev pub invariant-loop-start : goal.invariant-loop-start
-invariant-loop-start l = record {
+invariant-loop-start g l = record {
   within : l.start ≤ length (items_of l.self);
-  undecided : (k : ℕ) → k < l.start → is_deciding (slice_index (items_of l.self) k) ≡ false;
+  none : (k : ℕ) → k < l.start → g.C.Class.holds (slice_index (items_of l.self) k) ≡ false;
   units : (k : ℕ) → k < l.start → slice_index (items_of l.self) k < 2 ^ 16;
 }
