@@ -209,29 +209,29 @@ both : (a b : Bool) → IsTrue (a && b) → IsTrue a × IsTrue b
 both false b e = cc
 both true b e = (refl, e)
 
--- where the components that are left have the fault of all, so has the next of them, or what is after it, or
--- there is none
-module _ (all left : List (List ℕ)) (depth : ℕ) (same : first_fault left depth ≡ first_fault all 0) where
+-- where the components that are left have the fault, so has the next of them, or what is after it, or there is
+-- none
+module _ (found : Option PathError) (left : List (List ℕ)) (depth : ℕ) (same : first_fault left depth ≡ found) where
   pub fault_here : (c : List ℕ) (cs : List (List ℕ)) (error : PathError) → left ≡ c ∷ cs → fault c ≡ Some error
-      → first_fault all 0 ≡ Some error
+      → found ≡ Some error
   fault_here c cs error e here =
       sym same ∙ ap (λ pieces. first_fault pieces depth) e
       ∙ ap (λ o. option_or o (fault_at (depth_after (kind c) depth) (first_fault cs))) here
 
   pub past_here : (c : List ℕ) (cs : List (List ℕ)) (after : Option ℕ) → left ≡ c ∷ cs → fault c ≡ None
-      → depth_after (kind c) depth ≡ after → first_fault all 0 ≡ fault_at after (first_fault cs)
+      → depth_after (kind c) depth ≡ after → found ≡ fault_at after (first_fault cs)
   past_here c cs after e good is =
       sym same ∙ ap (λ pieces. first_fault pieces depth) e
       ∙ ap (λ o. option_or o (fault_at (depth_after (kind c) depth) (first_fault cs))) good
       ∙ ap (λ o. fault_at o (first_fault cs)) is
 
-  pub none_here : left ≡ [] → first_fault all 0 ≡ None
+  pub none_here : left ≡ [] → found ≡ None
   none_here e = sym same ∙ ap (λ pieces. first_fault pieces depth) e
 
   -- all are names where those left are, and so where it is one and the others are
-  pub names_here : (are : Bool) (c : List ℕ) (cs : List (List ℕ)) (after : ℕ) → (IsTrue are → All IsName left → All IsName all)
+  pub names_here : (all : List (List ℕ)) (are : Bool) (c : List ℕ) (cs : List (List ℕ)) (after : ℕ) → (IsTrue are → All IsName left → All IsName all)
       → left ≡ c ∷ cs → depth_after (kind c) depth ≡ Some after → IsTrue (are && nat_lt depth after) → All IsName cs → All IsName all
-  names_here are c cs after so_far e is more others =
+  names_here all are c cs after so_far e is more others =
       let each = both are (nat_lt depth after) more in
       let is_name = kind-Name c ((after_one (kind c) depth after is).1 (ltb-true depth after each.1)) in
       so_far each.0 (subst (All IsName) (sym e) (All-cons IsName c cs is_name others))

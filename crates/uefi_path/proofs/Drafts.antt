@@ -82,6 +82,13 @@ non_empty_by is_empty [] is = ap not (is.1 refl)
 non_empty_by true (u ∷ us) is = absurd (omega (arith, ap length (is.0 refl)))
 non_empty_by false (u ∷ us) is = refl
 
+-- how long it is with one component more
+length-more : (text : List ℕ) (len : ℕ) (is_missing : Bool) (piece : List ℕ) (left : List (List ℕ)) (whole : List ℕ)
+    → IsDraft text len is_missing (piece ∷ left) whole → len + missing_count is_missing + length piece ≡ length (appended text piece)
+length-more text len is_missing piece left whole d =
+    let appended_len = length-append text (tail_of (needs_separator text) piece) in
+    omega (arith, d.len_is, ap missing_count d.missing, ap length (appended_tail text piece), appended_len, length-tail (needs_separator text) piece)
+
 -- one component more, where another follows it
 pub draft_next : (text : List ℕ) (len : ℕ) (is_missing : Bool) (piece : List ℕ) (left : List (List ℕ)) (whole : List ℕ)
     (next : List ℕ) (pieces : List (List ℕ)) (end : ℕ) (is_empty : Bool)
@@ -92,16 +99,7 @@ draft_next text len is_missing piece left whole next pieces end is_empty draft f
     let d : IsDraft text len is_missing (piece ∷ next ∷ pieces) whole =
     subst (λ ps. IsDraft text len is_missing (piece ∷ ps) whole) follows draft in
     record {
-      len_is =
-          omega (
-            arith,
-            ends,
-            d.len_is,
-            ap missing_count d.missing,
-            ap length (appended_tail text piece),
-            length-append text (tail_of (needs_separator text) piece),
-            length-tail (needs_separator text) piece,
-          );
+      len_is = ends ∙ length-more text len is_missing piece left whole draft;
       missing =
           non_empty_by is_empty piece empty
           ∙ sym (needs_separator-appended text piece (All-head IsPiece piece (next ∷ pieces) d.are_pieces));
@@ -121,18 +119,9 @@ pub draft_more_fits : (text : List ℕ) (len : ℕ) (is_missing : Bool) (piece :
     → IsDraft text len is_missing (piece ∷ left) whole → left ≡ next ∷ pieces
     → len + missing_count is_missing + length piece ≤ length whole
 draft_more_fits text len is_missing piece left whole next pieces draft follows =
-    let d : IsDraft text len is_missing (piece ∷ next ∷ pieces) whole =
-    subst (λ ps. IsDraft text len is_missing (piece ∷ ps) whole) follows draft in
-    omega (
-      arith,
-      d.len_is,
-      ap missing_count d.missing,
-      ap length (appended_tail text piece),
-      length-append text (tail_of (needs_separator text) piece),
-      length-tail (needs_separator text) piece,
-      fold_grows (appended text piece) (all_but_last (next ∷ pieces)),
-      ap length d.to_come,
-    )
+    let more = length-more text len is_missing piece left whole draft in
+    let d = subst (λ ps. IsDraft text len is_missing (piece ∷ ps) whole) follows draft in
+    omega (arith, more, fold_grows (appended text piece) (all_but_last (next ∷ pieces)), ap length d.to_come)
 
 -- a buffer that begins with a draft, each slash replaced, with one component more
 pub draft_written : (text piece old buffer places : List ℕ) (len end : ℕ) → len ≡ length text
