@@ -11,7 +11,7 @@ use crate::chars::{Char16, NUL_16};
 use crate::code_units::{text_len, units_of_text, write_text};
 use crate::eq_str_until_nul::EqStrUntilNul;
 pub use crate::errors::FromStrError;
-use crate::scans::replace_units_from;
+use crate::scans::{Class, Nul, find_first, replace_units_from};
 use crate::strs::{CStr16, Char16Slice, FromSliceUntilNulError, FromSliceWithNulError};
 use std::alloc::{AllocError, Allocator, Global};
 use std::cmp::Ordering;
@@ -37,18 +37,23 @@ impl<A: Allocator> Model for CString16<A> {
     ghost invariant = { λ string. IsString string.units.items };
 }
 
-/// The place of the first NUL.
-fn find_nul(characters: &[Char16]) -> Option<usize>
-    ensures { result ≡ position is_nul characters.now }
-{
-    characters.iter().position(|character| *character == NUL_16)
+/// Characters that are NUL.
+impl Class<Char16> for Nul {
+    ghost use Rattle.uefi_text.specs.Units.{is_nul};
+
+    ghost holds = { is_nul };
+
+    #[inline(always)]
+    fn holds(character: Char16) -> bool {
+        character == NUL_16
+    }
 }
 
 /// Whether each character is another than NUL.
 fn hold_no_nul(characters: &[Char16]) -> bool
     ensures { IsTrue result ↔ All (λ c. c ≢ 0) characters.now }
 {
-    find_nul(characters).is_none()
+    find_first::<Char16, Nul>(characters).is_none()
 }
 
 /// Whether none of the characters is NUL, which [`CString16::extend`] requires of what it adds. One
@@ -119,7 +124,7 @@ impl<'a> CStr16<'a> {
         ensures refusal { IfErr result (λ error.
             error ≡ unwrap_or (missing_nul_refusal characters.now) FromSliceUntilNulError.OutOfMemory) }
     {
-        let Some(end) = find_nul(characters) else {
+        let Some(end) = find_first::<Char16, Nul>(characters) else {
             return Err(FromSliceUntilNulError::NoNul);
         };
         match units_of_characters(alloc, &characters[..end + 1]) {
@@ -146,7 +151,7 @@ impl<'a> CStr16<'a> {
         ensures refusal { IfErr result (λ error.
             error ≡ unwrap_or (first_nul_refusal characters.now) FromSliceWithNulError.OutOfMemory) }
     {
-        let Some(place) = find_nul(characters) else {
+        let Some(place) = find_first::<Char16, Nul>(characters) else {
             return Err(FromSliceWithNulError::NotNulTerminated);
         };
         if place + 1 != characters.len() {
