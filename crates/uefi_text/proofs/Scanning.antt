@@ -1,6 +1,6 @@
 -- Passes that test or count a block of elements at a time.
 use Rattle.std.proofs.Common.{inl, inr, ◌≡◌, ◌↔◌, ◌≢◌, ◌||◌, ◌+◌, ◌-◌, ◌<◌, ◌≤◌, ◌∙◌, ℕ, zero, suc, Bool, true, false, not, All, IsTrue, List, [], ◌∷◌, Some, None, Option, ap, get_or, sym, subst, refl, drop, length, take, arith, position}
-use Rattle.std.specs.List.{fold, list_any, position_or_len, slice_range}
+use Rattle.std.specs.List.{list_any, position_or_len, slice_range}
 use Rattle.std.specs.Option.{is_some}
 use Rattle.std.specs.Str.{IsAscii}
 use Rattle.std.proofs.Math.Seq.{take-add}
@@ -12,16 +12,6 @@ use Rattle.std.proofs.lemmas.List.Sums.{fails_before_first, passes_at_first, pos
 use Rattle.std.proofs.lemmas.Simd.{get_or-chunk, length-chunk}
 use Rattle.uefi_text.specs.Scans.{is_beyond_ascii}
 use Rattle.uefi_text.specs.Units.{is_nul}
-
--- a fold that keeps what it found has found it before or among the elements
-fold_or : {X : Type 0} (p : X → Bool) (so_far : Bool) (xs : List X) → fold (λ found x. found || p x) so_far xs ≡ (so_far || list_any p xs)
-fold_or p true [] = refl
-fold_or p false [] = refl
-fold_or p true (x ∷ xs) = fold_or p true xs
-fold_or p false (x ∷ xs) = fold_or p (p x) xs
-
-pub any_folded : {X : Type 0} (p : X → Bool) (xs : List X) → fold (λ found x. found || p x) false xs ≡ list_any p xs
-any_folded p xs = fold_or p false xs
 
 -- one more block without an element that passes
 pub clear_more : {X : Type 0} (p : X → Bool) (xs : List X) (end n : ℕ) → list_any p (take end xs) ≡ false

@@ -34,11 +34,13 @@ pub(crate) trait Class<T> {
 /// Whether an element of a block is in the class.
 #[inline(always)]
 fn block_has<T: Copy, C: Class<T>>(block: &[T]) -> bool
-    ensures { result ≡ fold (λ found element. found || C.holds element) false block.now }
+    ensures { result ≡ list_any C.holds block.now }
 {
-    block
-        .iter()
-        .fold(false, |found, element| found | C::holds(*element))
+    let mut found = false;
+    for element in block {
+        found |= C::holds(*element);
+    }
+    found
 }
 
 /// A place before which no element is in the class: elements from `start` on are tested in blocks, up to
