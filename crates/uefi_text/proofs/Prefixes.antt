@@ -1,20 +1,18 @@
 -- One of two lists is a prefix of the other exactly where they agree at each place that both have.
-use Rattle.std.proofs.Common.{◌≡◌, ◌≢◌, ◌∙◌, ◌++◌, ap, sym, subst, take, drop, ◌↔◌, ℕ, ◌<◌, Bool, true, false, List, [], ◌∷◌, All, length, MatchBool, IsTrue, refl, inl, inr, arith}
-use Rattle.std.specs.List.{AllWithin, HoldsAt, zip}
+use Rattle.std.proofs.Common.{◌≡◌, ◌≢◌, ◌∙◌, ◌++◌, ap, sym, subst, take, drop, ◌↔◌, ℕ, Bool, true, false, List, [], ◌∷◌, All, length, IsTrue, refl, inl, inr, arith}
 use Rattle.std.proofs.lemmas.Bool.{false≢true}
 use Rattle.std.proofs.lemmas.List.Elements.{All-cons, All-head, All-nil, All-tail}
 use Rattle.std.specs.List.{before_first}
+use Rattle.std.specs.Prelude.{encode_utf8}
 use Rattle.std.specs.Str.{chars, IsUtf8}
 use Rattle.std.proofs.lemmas.List.{take-append-drop}
 use Rattle.std.proofs.lemmas.Grind.{common_steps}
+use Rattle.std.proofs.lemmas.Str.{chars_past_char}
 use Rattle.uefi_text.specs.EqStrUntilNul.{IsEqualUntilNul, OneIsPrefixOfOther}
 use Rattle.uefi_text.specs.Scans.{IsAsciiTextByte}
 use Rattle.uefi_text.specs.Units.{is_nul}
+use Rattle.uefi_text.proofs.Texts.{chars_end}
 use Rattle.uefi_text.proofs.Utf8Bytes.{ascii_text_no_nul, ascii_text_then}
-
--- the two of a pair are the same
-abbrev pub AreSame : ℕ × ℕ → Type 0
-AreSame pair = pair.0 ≡ pair.1
 
 longer : (x y : ℕ) (xs ys : List ℕ) → x ≡ y → OneIsPrefixOfOther xs ys → OneIsPrefixOfOther (x ∷ xs) (y ∷ ys)
 longer x y xs ys e (inl first) = inl (first.0, cc (first.1))
@@ -23,29 +21,6 @@ longer x y xs ys e (inr second) = inr (second.0, cc (second.1))
 shorter : (x y : ℕ) (xs ys : List ℕ) → OneIsPrefixOfOther (x ∷ xs) (y ∷ ys) → (x ≡ y) × OneIsPrefixOfOther xs ys
 shorter x y xs ys (inl first) = let e = first.1 in (cc, inl (first.0, cc))
 shorter x y xs ys (inr second) = let e = second.1 in (cc, inr (second.0, cc))
-
-begins_from_pairs : (xs ys : List ℕ) → All AreSame (zip xs ys) → OneIsPrefixOfOther xs ys
-begins_from_pairs [] ys same = inl (ys, refl)
-begins_from_pairs (x ∷ xs) [] same = inr (x ∷ xs, refl)
-begins_from_pairs (x ∷ xs) (y ∷ ys) same =
-    longer x y xs ys (All-head AreSame (x, y) (zip xs ys) same) (begins_from_pairs xs ys (All-tail AreSame (x, y) (zip xs ys) same))
-
-pairs_from_begins : (xs ys : List ℕ) → OneIsPrefixOfOther xs ys → All AreSame (zip xs ys)
-pairs_from_begins [] ys begins = All-nil AreSame
-pairs_from_begins (x ∷ xs) [] begins = All-nil AreSame
-pairs_from_begins (x ∷ xs) (y ∷ ys) begins =
-    let both = shorter x y xs ys begins in
-    All-cons AreSame (x, y) (zip xs ys) both.0 (pairs_from_begins xs ys both.1)
-
--- a test of the pairs in turn, up to the first that differ, decides
-pub begins_by_pairs : (answer : Bool) (xs ys : List ℕ)
-    → MatchBool answer (AllWithin AreSame (zip xs ys) 0 (length (zip xs ys)))
-    ((k : ℕ) × (k < length (zip xs ys)) × HoldsAt (λ pair. ¬ AreSame pair) (zip xs ys) k)
-    → IsTrue answer ↔ OneIsPrefixOfOther xs ys
-begins_by_pairs true xs ys tested =
-    (λ _. begins_from_pairs xs ys (λ k d inside. tested k d (omega arith) inside), λ _. refl)
-begins_by_pairs false xs ys tested =
-    (λ e. absurd (false≢true e), λ begins. absurd (tested.2 (0, 0) (pairs_from_begins xs ys begins tested.0 (0, 0) tested.1)))
 
 before_nul-cons : (c : ℕ) (cs : List ℕ) → c ≢ 0 → before_first is_nul (c ∷ cs) ≡ c ∷ before_first is_nul cs
 before_nul-cons c cs other = let no : is_nul c ≡ false = grind (arith, common_steps) in grind (arith, common_steps)
@@ -64,6 +39,40 @@ before_begins (c ∷ front) us cs no_nul begins =
     let first = before_nul-cons c (front ++ cs) (All-head (λ c. c ≢ 0) c front no_nul) in
     before_begins front us cs (All-tail (λ c. c ≢ 0) c front no_nul)
     (shorter c c (front ++ us) (before_first is_nul (front ++ cs)) (subst (OneIsPrefixOfOther (c ∷ front ++ us)) first begins)).1
+
+-- a comparison in which what is left of the units and of the text decides
+module _ {E : Type 0} (us bs : List ℕ) (same : E ↔ IsEqualUntilNul us (chars bs)) where
+  pub no_unit_left : us ≡ [] → IsTrue true ↔ E
+  no_unit_left none = (λ _. same.1 (subst (λ xs. IsEqualUntilNul xs (chars bs)) (sym none) (inl (_, refl))), λ _. refl)
+
+  pub no_character_left : length bs ≡ 0 → IsTrue true ↔ E
+  no_character_left none =
+      (λ _. same.1 (subst (IsEqualUntilNul us) (chars_end [] bs (chars bs) none refl) (inr (us, refl))), λ _. refl)
+
+  -- the next character
+  module _ (c : ℕ) (rest : List ℕ) (utf8 : IsUtf8 bs) (read : bs ≡ encode_utf8 c ++ rest) where
+    pub nul_is_next : c ≡ 0 → IsTrue true ↔ E
+    nul_is_next is =
+        let next = chars_past_char bs rest c utf8 read ∙ ap (λ x. x ∷ chars rest) is in
+        (λ _. same.1 (subst (IsEqualUntilNul us) (sym next) (inr (us, refl))), λ _. refl)
+
+    -- and the next unit
+    module _ (u : ℕ) (others : List ℕ) (some : us ≡ u ∷ others) (other : c ≢ 0) where
+      both : E → IsEqualUntilNul (u ∷ others) (c ∷ chars rest)
+      both e = subst (λ xs. IsEqualUntilNul xs (c ∷ chars rest)) some (subst (IsEqualUntilNul us) (chars_past_char bs rest c utf8 read) (same.0 e))
+
+      pub they_differ : u ≢ c → IsTrue false ↔ E
+      they_differ differ =
+          let next = before_nul-cons c (chars rest) other in
+          (λ e. absurd (false≢true e), λ e. absurd (differ ((shorter u c others _ (subst (OneIsPrefixOfOther (u ∷ others)) next (both e))).0)))
+
+      pub they_are_same : u ≡ c → E ↔ IsEqualUntilNul others (chars rest)
+      they_are_same is =
+          let front = All-cons (λ x. x ≢ 0) c [] other (All-nil (λ x. x ≢ 0)) in (
+            λ e. before_begins (c ∷ []) others (chars rest) front (subst (λ x. IsEqualUntilNul (x ∷ others) (c ∷ chars rest)) is (both e)),
+            λ equal. same.1 (subst (λ xs. IsEqualUntilNul xs (chars bs)) (sym (some ∙ ap (λ x. x ∷ others) is))
+                (subst (IsEqualUntilNul (c ∷ others)) (sym (chars_past_char bs rest c utf8 read)) (begins_after (c ∷ []) others (chars rest) front equal))),
+          )
 
 -- where both begin with the same elements, none of them NUL, what follows these decides
 pub equal_after_front : (answer : Bool) (front us cs : List ℕ) → All (λ c. c ≢ 0) front → IsTrue answer ↔ IsEqualUntilNul us cs

@@ -30,9 +30,19 @@ pub fn str_eq_until_nul<S: EqStrUntilNul>(s: &str, other: &S) -> bool
 fn are_equal_by_unit(units: &[u16], other: &str) -> bool
     ensures { IsTrue result ↔ IsEqualUntilNul units.now (chars other.now) }
 {
-    let before_nul = other.chars().take_while(|c| *c != '\0');
-    let mut pairs = units.iter().zip(before_nul);
-    pairs.all(|(unit, c)| u32::from(*unit) == u32::from(c))
+    let mut characters = other.chars();
+    for unit in units {
+        let Some(character) = characters.next() else {
+            return true;
+        };
+        if character == '\0' {
+            return true;
+        }
+        if u32::from(*unit) != u32::from(character) {
+            return false;
+        }
+    }
+    true
 }
 
 /// Whether units are equal to a Rust text until its first NUL: eight at a time, and then unit by unit.

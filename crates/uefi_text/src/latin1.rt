@@ -181,9 +181,19 @@ impl<'a> EqStrUntilNul for CStr8<'a> {
     ghost characters = { λ string. without_nul (bytes_of string) };
 
     fn eq_str_until_nul(&self, other: &str) -> bool {
-        let before_nul = other.chars().take_while(|c| *c != '\0');
-        let mut pairs = self.text().iter().zip(before_nul);
-        pairs.all(|(byte, c)| Char8::from(*byte).eq_char(c))
+        let mut characters = other.chars();
+        for byte in self.text() {
+            let Some(character) = characters.next() else {
+                return true;
+            };
+            if character == '\0' {
+                return true;
+            }
+            if char::from(*byte) != character {
+                return false;
+            }
+        }
+        true
     }
 }
 

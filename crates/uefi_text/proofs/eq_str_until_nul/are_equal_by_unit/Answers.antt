@@ -1,21 +1,35 @@
--- The pairs are those of the units and of what stands before the first NUL.
-use Rattle.std.proofs.Common.{rules, tests, not}
-use Rattle.std.specs.List.{before_first}
-use Rattle.std.specs.Str.{chars}
-use Rattle.std.proofs.lemmas.Iterator.{YieldsList-from_chars, YieldsList-from_slice, YieldsList-from_zip, cases_from_all}
-use Rattle.std.proofs.lemmas.Iterator.Search.{YieldsList-from_take_while}
-use Rattle.uefi_text.specs.Units.{is_nul}
-use Rattle.uefi_text.proofs.Prefixes.{AreSame, begins_by_pairs}
+-- Where the next unit is not the next character, or one is missing, that decides.
+use Rattle.std.proofs.Common.{arith, length-drop, sym, ◌∙◌}
+use Rattle.std.proofs.lemmas.List.{drop_more, nil_from_length}
+use Rattle.std.proofs.lemmas.Str.{IsUtf8-past_char}
+use Rattle.uefi_text.proofs.Prefixes.{no_character_left, no_unit_left, nul_is_next, they_are_same, they_differ}
 use Rattle.uefi_text.proofs.eq_str_until_nul.are_equal_by_unit.Goals as goal
 
+pub returns-in_default : goal.returns-in_default
+returns-in_default c = no_character_left _ _ c.loop-unit.invariant.same c.in_default.ensures.steps.0.0
+
+pub returns-then-character-eq0 : goal.returns-then-character-eq0
+returns-then-character-eq0 c =
+    let so_far = c.loop-unit.invariant in
+    nul_is_next _ _ so_far.same c.in-Some.character _ so_far.utf8 c.in-Some.ensures.steps.0 c.if-character-eq0.true
+
+pub returns-then-from : goal.returns-then-from
+returns-then-from c =
+    let so_far = c.loop-unit.invariant in
+    let some = drop_more c.args.units.now c.loop-unit.unit-index 0 c.loop-unit-test.true in
+    they_differ _ _ so_far.same c.in-Some.character _ so_far.utf8 c.in-Some.ensures.steps.0 _ _ some c.if-character-eq0.false
+    (λ is. c.if-from.true (c.from.ensures ∙ is ∙ sym c.from-in-loop-unit.ensures))
+
+pub loop-unit-preserved : goal.loop-unit-preserved
+loop-unit-preserved c =
+    let so_far = c.loop-unit.invariant in
+    let some = drop_more c.args.units.now c.loop-unit.unit-index 0 c.loop-unit-test.true in
+    record {
+      utf8 = IsUtf8-past_char _ _ _ so_far.utf8 c.in-Some.ensures.steps.0;
+      same = they_are_same _ _ so_far.same c.in-Some.character _ so_far.utf8 c.in-Some.ensures.steps.0 _ _ some c.if-character-eq0.false
+          (sym c.from.ensures ∙ c.if-from.false ∙ c.from-in-loop-unit.ensures);
+    }
+
 pub returns : goal.returns
-returns c =
-    let other = c.args.other.now in
-    let own = YieldsList-from_slice c.args.units.now cc in
-    let before_nul =
-    YieldsList-from_take_while _ (λ character. not (is_nul character)) (YieldsList-from_chars other c.utf8.other (cc)) (cc) (cc)
-    (λ x b q k. search (rules, tests)) in
-    begins_by_pairs c.all.result c.args.units.now (before_first is_nul (chars other))
-    (cases_from_all c.all.new.self _ c.all.result AreSame (λ pair. ¬ AreSame pair) c.all.ensures.ran
-    (YieldsList-from_zip {s = c.zip-pairs.result} own before_nul)
-    (λ x q k. search (rules, tests)) (λ x q k. search (rules, tests)))
+returns c = no_unit_left _ _ c.loop-unit.invariant.same
+    (nil_from_length _ (omega (arith, length-drop c.loop-unit.unit-index c.args.units.now, c.loop-unit-test.false)))
