@@ -1,7 +1,7 @@
 -- Each block writes the items from its start on, and after the last one that is all of them.
 use borrow.Rule.Slice.PartMut.{put_mid, same_len_mid}
-use Rattle.std.proofs.Common.{◌≡◌, ◌∙◌, ◌+◌, ◌-◌, ◌*◌, ◌≤◌, ◌++◌, ap, sym, length, map, take, drop, arith, take-add}
-use Rattle.std.proofs.lemmas.List.{length-take, length-take-le, map-append, take_all}
+use Rattle.std.proofs.Common.{◌≡◌, ◌∙◌, ◌+◌, ◌-◌, ◌*◌, ◌≤◌, ◌++◌, ap, sym, length, map, refl, take, drop, arith, take-add}
+use Rattle.std.proofs.lemmas.List.{length-take, length-take-le, map-append, nil_from_length, take_all}
 use Rattle.std.proofs.lemmas.Slice.{take-put_mid}
 use Rattle.std.proofs.lemmas.Grind.{common_steps}
 use Rattle.uefi_text.specs.Packed.{packed_items}
@@ -75,3 +75,9 @@ overflow_mul-start g c = omega (arith, slice_bounds-read_block-count g c)
 pub read_block-requires-clause-block : goal.read_block-requires-clause-block
 read_block-requires-clause-block g c =
     omega (arith, length-take (c.loop-start.start + c.min-count.result - c.loop-start.start) (drop c.loop-start.start c.loop-start.dest))
+
+pub returns-then-len-eq0 : goal.returns-then-len-eq0
+returns-then-len-eq0 g c = rw (nil_from_length c.args.dest.now c.if-len-eq0.true) refl
+
+pub overflow_add-items : goal.overflow_add-items
+overflow_add-items g c = omega arith
