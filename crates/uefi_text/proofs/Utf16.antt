@@ -4,7 +4,7 @@ use Rattle.std.specs.Char.Escape.{encode_utf16}
 use Rattle.std.specs.List.{position, position_or_len, find}
 use Rattle.std.specs.Option.{option_or}
 use Rattle.std.proofs.lemmas.Grind.{common_steps, elements, flat_map-append}
-use Rattle.std.proofs.lemmas.List.{drop-drop, flat_map_more, length-append, length-drop}
+use Rattle.std.proofs.lemmas.List.{drop-drop, drop_at, flat_map_more, length-append, length-drop, set_split, take_at}
 use Rattle.std.proofs.lemmas.List.Folds.{find_at, position_or_len_push}
 use Rattle.std.proofs.lemmas.List.Quantifiers.{position-Some}
 use Rattle.std.proofs.lemmas.List.Sums.{prefix_len-le-length}
@@ -49,18 +49,26 @@ with_units-char old buffer new front c len count place so_far is =
     let same_length : length buffer ≡ length old = ap length so_far ∙ length-with_units units old in
     let room : length units ≤ length old = omega arith in
     let split : buffer ≡ units ++ rest = so_far ∙ with_units-prefix old units room in
-    let before : take len buffer ≡ units = grind (arith, common_steps) in
-    let after : drop len buffer ≡ rest = grind (arith, common_steps) in
+    let before : take len buffer ≡ units = ap (take len) split ∙ take_at units rest len (sym count) in
+    let after : drop len buffer ≡ rest = ap (drop len) split ∙ drop_at units rest len (sym count) in
     let written : new ≡ units ++ with_units (encode_utf16 c) rest = is ∙ rw (before, after) refl in
     let all = with_units-after old units (encode_utf16 c) room in
     let more = flat_map_more encode_utf16 [] front c in
     cc
 
+-- a full buffer takes no more units
+with_units-full : (old units more : List ℕ) → length old ≤ length units → with_units units old ≡ with_units (units ++ more) old
+with_units-full old units more full = grind (arith, elements)
+
 -- the one unit of a character, written at a place
 pub with_units-one : (units buffer : List ℕ) (place : ℕ) → length units ≡ 1 → place < length buffer
     → set buffer place (get_or units 0 0) ≡ take place buffer ++ with_units units (drop place buffer)
 with_units-one [] buffer place one inside = absurd (omega (arith, one))
-with_units-one (u ∷ []) buffer place one inside = grind (arith, elements)
+with_units-one (u ∷ []) buffer place one inside =
+    let next : place + 1 ≡ suc place = omega arith in
+    let rest = with_units-prefix (drop place buffer) (u ∷ []) (omega (arith, length-drop place buffer)) in
+    let after = drop-drop 1 place buffer ∙ ap (λ n. drop n buffer) next in
+    set_split buffer place u inside ∙ ap (λ (us : List ℕ). take place buffer ++ us) (sym (rest ∙ ap (λ (us : List ℕ). u ∷ us) after))
 with_units-one (u ∷ v ∷ us) buffer place one inside = absurd (omega (arith, one))
 
 -- the first of two, written at the last place
@@ -68,7 +76,9 @@ pub with_units-first : (units buffer : List ℕ) (place : ℕ) → length units 
     → set buffer place (get_or units 0 0) ≡ take place buffer ++ with_units units (drop place buffer)
 with_units-first [] buffer place two last = absurd (omega (arith, two))
 with_units-first (u ∷ []) buffer place two last = absurd (omega (arith, two))
-with_units-first (u ∷ v ∷ []) buffer place two last = grind (arith, elements)
+with_units-first (u ∷ v ∷ []) buffer place two last =
+    with_units-one (u ∷ []) buffer place refl (omega arith)
+    ∙ ap (λ us. take place buffer ++ us) (with_units-full (drop place buffer) (u ∷ []) (v ∷ []) (omega (arith, length-drop place buffer)))
 with_units-first (u ∷ v ∷ w ∷ us) buffer place two last = absurd (omega (arith, two))
 
 -- both, written at a place and the next
@@ -92,10 +102,6 @@ with_units-two (u ∷ v ∷ w ∷ us) buffer place two inside = absurd (omega (a
 with_units-nul : (old units : List ℕ) → length units < length old
     → set (with_units units old) (length units) 0 ≡ with_units (nul_terminated units) old
 with_units-nul old units room = grind (arith, elements)
-
--- a full buffer takes no more units
-with_units-full : (old units more : List ℕ) → length old ≤ length units → with_units units old ≡ with_units (units ++ more) old
-with_units-full old units more full = grind (arith, elements)
 
 -- a buffer that characters fill is too small for them and what follows
 pub non_empty : (old front rest : List ℕ) → length old ≤ length (utf16 front)
