@@ -1,11 +1,11 @@
 -- The characters of the text are read one by one, and each is a byte.
-use Rattle.std.proofs.Common.{◌≡◌, ℕ, ◌+◌, ◌<◌, ◌∙◌, ap, List, [], ◌∷◌, ◌++◌, length, take, drop, replicate, get_or, set, arith}
+use Rattle.std.proofs.Common.{◌≡◌, ℕ, ◌+◌, ◌<◌, ◌∙◌, ap, List, [], ◌∷◌, ◌++◌, length, take, drop, replicate, get_or, set, suc, append_assoc, add-one, drop-cons, arith}
 use Rattle.std.specs.List.{enumerate_from}
 use Rattle.std.specs.Str.{chars}
-use Rattle.std.proofs.lemmas.Grind.{common_steps, elements}
+use Rattle.std.proofs.lemmas.Grind.{common_steps}
 use Rattle.std.proofs.lemmas.Iterator.{YieldsList-from_chars}
 use Rattle.std.proofs.lemmas.Iterator.Consumers.{YieldsList-end, YieldsList-from_enumerate, YieldsList-turn}
-use Rattle.std.proofs.lemmas.List.{get_or_read, length_push}
+use Rattle.std.proofs.lemmas.List.{get_or_read, length-take-le, length_push, set_at, take_more}
 use Rattle.std.proofs.lemmas.List.FromFn.{get_or-enumerate_from, length-enumerate_from}
 use Rattle.uefi_text.proofs.latin1.str_to_latin1.Goals as goal
 
@@ -22,7 +22,9 @@ next_char cs n place c next =
 -- one character more was written
 written_more : (cs old bytes : List ℕ) (n c : ℕ) → n < length cs → n < length old → c ≡ get_or cs n 0
     → bytes ≡ take n cs ++ drop n old → set bytes n c ≡ take (n + 1) cs ++ drop (n + 1) old
-written_more cs old bytes n c in_text in_bytes is so_far = grind (arith, elements)
+written_more cs old bytes n c in_text in_bytes is so_far =
+    rw (so_far, drop-cons old n 0, take_more cs n 0 in_text, append_assoc, ← is, add-one)
+    (set_at (take n cs) (get_or old n 0) (drop (suc n) old) c n (length-take-le n cs (omega arith)))
 
 -- all were
 written_all : (cs bytes : List ℕ) (n len : ℕ) → n ≡ length cs → length cs + 1 ≡ len
