@@ -58,11 +58,4 @@ part-fits size start end count room ordered within fits =
     let below : end * size ≤ count * size = mul-le-mul_right size within in
     omega arith
 
--- an item's bytes lie among those of all
-pub item-fits : (size place count : ℕ) (bytes : List ℕ) → place < length (packed_items size count bytes) → count * size ≤ length bytes
-    → place * size + size ≤ length bytes
-item-fits size place count bytes inside fits =
-    let before : suc place ≤ count = omega (arith, length-packed_items size count bytes) in
-    omega (arith, suc-mul place size, mul-le-mul_right size before)
-
 pub ruleset packing = (length-packed_items, get_or-packed_items, slice_get-packed_items, slice_get-get_or, slice_get_past)

@@ -1,9 +1,8 @@
 -- One of two lists is a prefix of the other exactly where they agree at each place that both have.
 use Rattle.std.proofs.Common.{◌≡◌, ◌≢◌, ◌∙◌, ◌++◌, ap, sym, subst, take, drop, ◌↔◌, ℕ, ◌<◌, Bool, true, false, List, [], ◌∷◌, All, length, MatchBool, IsTrue, refl, inl, inr, arith}
-use Rattle.std.specs.List.{AllWithin, HoldsAt, zip}
+use Rattle.std.specs.List.{AllWithin, HoldsAt, before_first, zip}
 use Rattle.std.proofs.lemmas.Bool.{false≢true}
 use Rattle.std.proofs.lemmas.List.Elements.{All-cons, All-head, All-nil, All-tail}
-use Rattle.std.specs.List.{before_first}
 use Rattle.std.specs.Str.{chars, IsUtf8}
 use Rattle.std.proofs.lemmas.List.{take-append-drop}
 use Rattle.std.proofs.lemmas.Grind.{common_steps}

@@ -1,16 +1,16 @@
 -- Passes that test or count a block of elements at a time.
-use Rattle.std.proofs.Common.{inl, inr, ◌≡◌, ◌↔◌, ◌||◌, ◌+◌, ◌-◌, ◌<◌, ◌≤◌, ◌∙◌, ℕ, zero, suc, Bool, true, false, not, All, IsTrue, List, [], ◌∷◌, Some, None, ap, get_or, sym, subst, refl, drop, length, take, arith, position}
+use Rattle.std.proofs.Common.{inl, inr, ◌≡◌, ◌≢◌, ◌↔◌, ◌||◌, ◌+◌, ◌-◌, ◌<◌, ◌≤◌, ◌∙◌, ℕ, zero, suc, Bool, true, false, not, All, IsTrue, List, [], ◌∷◌, Some, None, ap, get_or, sym, subst, refl, drop, length, take, arith, position}
 use Rattle.std.specs.List.{fold, list_any, position_or_len, slice_range}
 use Rattle.std.specs.Str.{IsAscii}
 use Rattle.std.proofs.Math.Seq.{take-add}
 use Rattle.std.proofs.lemmas.List.{take-append-drop}
-use Rattle.std.proofs.lemmas.Bool.{cases_Bool, cases_lt, false≢true}
+use Rattle.std.proofs.lemmas.Bool.{cases_Bool, cases_lt, false≢true, or_right}
 use Rattle.std.proofs.lemmas.Grind.{common_steps}
-use Rattle.std.proofs.lemmas.List.Elements.{All-cons, All-nil}
-use Rattle.std.proofs.lemmas.List.Folds.{list_any-append, list_any_none}
+use Rattle.std.proofs.lemmas.List.Folds.{list_any-append, list_any_at, list_any_none}
 use Rattle.std.proofs.lemmas.List.Sums.{fails_before_first, passes_at_first, position_or_len_is}
 use Rattle.std.proofs.lemmas.Simd.{get_or-chunk, length-chunk}
 use Rattle.uefi_text.specs.Scans.{is_beyond_ascii}
+use Rattle.uefi_text.specs.Units.{is_nul}
 
 -- a fold that keeps what it found has found it before or among the elements
 fold_or : {X : Type 0} (p : X → Bool) (so_far : Bool) (xs : List X) → fold (λ found x. found || p x) so_far xs ≡ (so_far || list_any p xs)
@@ -54,11 +54,7 @@ any-in_block p xs start n found =
     let rest = drop start xs in
     let later : list_any p rest ≡ true =
     ap (list_any p) (sym (take-append-drop n rest)) ∙ list_any-append p (take n rest) (drop n rest) ∙ ap (λ b. b || list_any p (drop n rest)) found in
-    ap (list_any p) (sym (take-append-drop start xs)) ∙ list_any-append p (take start xs) rest ∙ or_true (list_any p (take start xs)) (list_any p rest) later
-  where
-    or_true : (a b : Bool) → b ≡ true → (a || b) ≡ true
-    or_true true b found = refl
-    or_true false b found = found
+    ap (list_any p) (sym (take-append-drop start xs)) ∙ list_any-append p (take start xs) rest ∙ or_right (list_any p (take start xs)) (list_any p rest) later
 
 -- where none before a place passes, what is left decides
 pub any-in_rest : {X : Type 0} (p : X → Bool) (xs : List X) (start : ℕ) → list_any p (take start xs) ≡ false → list_any p (drop start xs) ≡ list_any p xs
@@ -67,10 +63,9 @@ any-in_rest p xs start clear =
 
 -- a search finds nothing exactly where no element passes
 pub none_passes : {X : Type 0} (p : X → Bool) (xs : List X) → list_any p xs ≡ false → All (λ x. p x ≡ false) xs
-none_passes p [] clear = All-nil (λ x. p x ≡ false)
-none_passes p (x ∷ xs) clear = elim (cases_Bool (p x)) [
-  | inl passes ↦ absurd (false≢true (sym clear ∙ ap (λ b. b || list_any p xs) passes))
-  | inr fails ↦ All-cons (λ x. p x ≡ false) x xs fails (none_passes p xs (sym (ap (λ b. b || list_any p xs) fails) ∙ clear))
+none_passes p xs clear k d inside = elim (cases_Bool (p (get_or xs k d))) [
+  | inl passes ↦ absurd (false≢true (sym clear ∙ list_any_at p xs k d inside passes))
+  | inr fails ↦ fails
 ]
 
 -- where what fails is what a property says, none passes exactly where all have the property
@@ -80,6 +75,10 @@ none_passes-is p P same xs = (
   λ clear. λ k d inside. (same (get_or xs k d)).0 (none_passes p xs clear k d inside),
   λ all. list_any_none p xs (λ k d inside. (same (get_or xs k d)).1 (all k d inside)),
 )
+
+-- no NUL is found in a list exactly where none is in it
+pub no_nul-list_any : (us : List ℕ) → (list_any is_nul us ≡ false) ↔ All (λ u. u ≢ 0) us
+no_nul-list_any us = none_passes-is is_nul (λ u. u ≢ 0) (λ u. (λ no is. grind (arith, common_steps), λ other. grind (arith, common_steps))) us
 
 -- a test that found nothing
 pub not_found : {P : Type 0} (found any : Bool) → found ≡ any → (any ≡ false) ↔ P → IsTrue (not found) ↔ P

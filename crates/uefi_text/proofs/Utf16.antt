@@ -11,6 +11,7 @@ use Rattle.std.proofs.lemmas.List.Sums.{prefix_len-le-length}
 use Rattle.std.proofs.lemmas.Option.{slice_get-get_or, slice_get_past}
 use Rattle.std.proofs.lemmas.Bool.{cases_lt, lt-ltb}
 use Rattle.std.proofs.Math.Seq.{get_or-append_seam, take-append_seam}
+use Rattle.uefi_text.proofs.Lanes.{each_place}
 use Rattle.uefi_text.proofs.UnitBytes.{set_two}
 use Rattle.uefi_text.specs.FromStr.{is_deciding_char}
 use Rattle.uefi_text.specs.FromStrWithBuf.{from_str_with_buf_refusal_at, refusal_of_char_at, from_str_with_buf_refusal, utf16, with_units, with_text}
@@ -63,40 +64,30 @@ with_units-full old units more full = grind (arith, elements)
 -- the one unit of a character, written at a place
 pub with_units-one : (units buffer : List ℕ) (place : ℕ) → length units ≡ 1 → place < length buffer
     → set buffer place (get_or units 0 0) ≡ take place buffer ++ with_units units (drop place buffer)
-with_units-one [] buffer place one inside = absurd (omega (arith, one))
-with_units-one (u ∷ []) buffer place one inside =
-    let next : place + 1 ≡ suc place = omega arith in
-    let rest = with_units-prefix (drop place buffer) (u ∷ []) (omega (arith, length-drop place buffer)) in
-    let after = drop-drop 1 place buffer ∙ ap (λ n. drop n buffer) next in
-    set_split buffer place u inside ∙ ap (λ (us : List ℕ). take place buffer ++ us) (sym (rest ∙ ap (λ (us : List ℕ). u ∷ us) after))
-with_units-one (u ∷ v ∷ us) buffer place one inside = absurd (omega (arith, one))
+with_units-one units buffer place one inside =
+    let next : place + length units ≡ suc place = omega arith in
+    let after = drop-drop (length units) place buffer ∙ ap (λ n. drop n buffer) next in
+    let rest = with_units-prefix (drop place buffer) units (omega (arith, length-drop place buffer)) ∙ (λ i. each_place 1 units one i ++ after i) in
+    set_split buffer place (get_or units 0 0) inside ∙ ap (λ us. take place buffer ++ us) (sym rest)
 
 -- the first of two, written at the last place
 pub with_units-first : (units buffer : List ℕ) (place : ℕ) → length units ≡ 2 → place + 1 ≡ length buffer
     → set buffer place (get_or units 0 0) ≡ take place buffer ++ with_units units (drop place buffer)
-with_units-first [] buffer place two last = absurd (omega (arith, two))
-with_units-first (u ∷ []) buffer place two last = absurd (omega (arith, two))
-with_units-first (u ∷ v ∷ []) buffer place two last =
-    with_units-one (u ∷ []) buffer place refl (omega arith)
-    ∙ ap (λ us. take place buffer ++ us) (with_units-full (drop place buffer) (u ∷ []) (v ∷ []) (omega (arith, length-drop place buffer)))
-with_units-first (u ∷ v ∷ w ∷ us) buffer place two last = absurd (omega (arith, two))
+with_units-first units buffer place two last =
+    with_units-one (get_or units 0 0 ∷ []) buffer place refl (omega arith)
+    ∙ ap (λ us. take place buffer ++ us) (with_units-full (drop place buffer) (get_or units 0 0 ∷ []) (get_or units 1 0 ∷ []) (omega (arith, length-drop place buffer)))
+    ∙ ap (λ us. take place buffer ++ with_units us (drop place buffer)) (sym (each_place 2 units two))
 
 -- both, written at a place and the next
 pub with_units-two : (units buffer : List ℕ) (place : ℕ) → length units ≡ 2 → place + 1 < length buffer
     → set (set buffer place (get_or units 0 0)) (place + 1) (get_or units 1 0)
     ≡ take place buffer ++ with_units units (drop place buffer)
-with_units-two [] buffer place two inside = absurd (omega (arith, two))
-with_units-two (u ∷ []) buffer place two inside = absurd (omega (arith, two))
-with_units-two (u ∷ v ∷ []) buffer place two inside =
+with_units-two units buffer place two inside =
     let next : place + 1 ≡ suc place = omega arith in
-    let room : 2 ≤ length (drop place buffer) = omega (arith, length-drop place buffer) in
-    let same : place + 2 ≡ suc (suc place) = omega arith in
-    let after : drop 2 (drop place buffer) ≡ drop (suc (suc place)) buffer =
-    drop-drop 2 place buffer ∙ ap (λ n. drop n buffer) same in
-    let rest : with_units (u ∷ v ∷ []) (drop place buffer) ≡ u ∷ v ∷ drop (suc (suc place)) buffer =
-    with_units-prefix (drop place buffer) (u ∷ v ∷ []) room ∙ ap (λ (us : List ℕ). u ∷ v ∷ us) after in
-    rw next (set_two buffer place u v (omega arith) ∙ ap (λ (us : List ℕ). take place buffer ++ us) (sym rest))
-with_units-two (u ∷ v ∷ w ∷ us) buffer place two inside = absurd (omega (arith, two))
+    let end : place + length units ≡ suc (suc place) = omega arith in
+    let after = drop-drop (length units) place buffer ∙ ap (λ n. drop n buffer) end in
+    let rest = with_units-prefix (drop place buffer) units (omega (arith, length-drop place buffer)) ∙ (λ i. each_place 2 units two i ++ after i) in
+    rw next (set_two buffer place _ _ inside ∙ ap (λ us. take place buffer ++ us) (sym rest))
 
 -- units that leave a place, and a NUL after them
 with_units-nul : (old units : List ℕ) → length units < length old

@@ -12,7 +12,7 @@ use Rattle.std.proofs.lemmas.Str.{chars-IsAscii, chars-append, encode_ascii, enc
 use Rattle.std.proofs.lemmas.Grind.{common_steps}
 use Rattle.std.proofs.Math.Seq.{drop-append_seam}
 use Rattle.std.proofs.Math.Utf8.{encodes}
-use Rattle.uefi_text.proofs.Scanning.{none_passes-is}
+use Rattle.uefi_text.proofs.Scanning.{none_passes-is, no_nul-list_any}
 use Rattle.uefi_text.specs.FromStr.{IsAcceptedChar, is_deciding_char}
 use Rattle.uefi_text.specs.Latin1.{IsLatin1}
 use Rattle.uefi_text.specs.Scans.{IsAsciiTextByte, is_beyond_latin1_byte, is_deciding_byte, is_no_ascii_text}
@@ -213,7 +213,7 @@ nul_same c b (inr (inr (inr h))) = (λ p. λ e. omega (arith, h, e), λ p. λ e.
 -- no character of a text is NUL exactly where no byte is zero
 pub no_zero_bytes : (bs : List ℕ) → IsUtf8 bs → (list_any is_nul bs ≡ false) ↔ All (λ c. c ≢ 0) (chars bs)
 no_zero_bytes bs utf8 =
-    let bytes = none_passes-is is_nul (λ b. b ≢ 0) (λ b. (λ no. λ is. grind (arith, common_steps), λ other. grind (arith, common_steps))) bs in
+    let bytes = no_nul-list_any bs in
     let text = each_byte (λ b. b ≢ 0) (λ c. c ≢ 0) (λ b is. λ zero_byte. omega (arith, is, zero_byte)) nul_same bs utf8 in
     (λ none. text.0 (bytes.0 none), λ are. bytes.1 (text.1 are))
 

@@ -1,14 +1,15 @@
 -- What holds of every value of a type.
 use Rattle.std.specs.List.{list_any}
-use Rattle.std.proofs.Common.{◌≡◌, ◌≢◌, ◌∙◌, ℕ, All, Result, Ok, Err, List, [], ◌∷◌, Some, false, inl, inr, refl, arith}
+use Rattle.std.proofs.Common.{◌≡◌, ◌≢◌, ◌∙◌, All, Result, Ok, Err, Some, inl, inr, refl, arith}
 use Rattle.std.proofs.lemmas.Bool.{cases_Bool}
 use Rattle.std.proofs.lemmas.Grind.{common_steps}
-use Rattle.std.proofs.lemmas.List.Elements.{All-cons, All-nil, All-weaker}
+use Rattle.std.proofs.lemmas.List.Elements.{All-weaker}
 use Rattle.std.specs.Result.{OnErr, OnOk}
 use Rattle.uefi_text.specs.Units.{IsText, IsTextUnit, is_nul}
 use Rattle.uefi_text.specs.FromStr.{from_str_refusal}
 use Rattle.uefi_text.specs.declared.errors.FromStrError.TheVariants.{InteriorNul}
 use Rattle.uefi_text.proofs.Accepting.{from_str-characters}
+use Rattle.uefi_text.proofs.Scanning.{no_nul-list_any}
 use Rattle.uefi_text.specs.Views.{text_of, units_of}
 use Rattle.uefi_text.specs.declared.strs.CStr16.{CStr16}
 use Rattle.uefi_text.specs.declared.strs.Char16Slice.{Char16Slice}
@@ -22,14 +23,6 @@ IsText-text_of string = string.is_string.1
 pub no_nul-text_of : (string : CStr16) → All (λ unit. unit ≢ 0) (text_of string)
 no_nul-text_of string = All-weaker IsTextUnit (λ unit. unit ≢ 0) (λ unit is_unit. grind (arith, common_steps)) (text_of string) (IsText-text_of string)
 
--- a list in which no NUL is found has none
-no_nul-list_any : (us : List ℕ) → list_any is_nul us ≡ false → All (λ u. u ≢ 0) us
-no_nul-list_any [] none = All-nil (λ u. u ≢ 0)
-no_nul-list_any (u ∷ us) none =
-    let first : u ≢ 0 = λ e. grind (arith, common_steps) in
-    let others : list_any is_nul us ≡ false = grind (arith, common_steps) in
-    All-cons (λ u. u ≢ 0) u us first (no_nul-list_any us others)
-
 -- characters with a NUL among them are refused for it
 pub from_str_refusal-units_of : (part : Char16Slice) → ¬ All (λ unit. unit ≢ 0) (units_of part)
     → from_str_refusal (units_of part) ≡ Some InteriorNul
@@ -39,7 +32,7 @@ from_str_refusal-units_of part has_nul =
     let refusal = from_str-characters units part.are_characters in
     elim (cases_Bool (list_any is_nul units)) [
       | inl found ↦ refusal ∙ rw found refl
-      | inr none ↦ absurd (has_nul (no_nul-list_any units none))
+      | inr none ↦ absurd (has_nul ((no_nul-list_any units).0 none))
     ]
 
 -- what characters side by side show is a text where no NUL is among it

@@ -31,29 +31,27 @@ written_all : (cs bytes : List ℕ) (n len : ℕ) → n ≡ length cs → length
     → bytes ≡ take n cs ++ drop n (replicate len 0) → bytes ≡ cs ++ 0 ∷ []
 written_all cs bytes n len all fits so_far = grind (arith, common_steps)
 
+next : (g : _) (c : goal.After-char_told-1 g) → (length c.loop-place.yielded < length (chars c.args.s.now))
+    × (c.in-Some.place ≡ length c.loop-place.yielded) × (c.in-Some.character ≡ get_or (chars c.args.s.now) (length c.loop-place.yielded) 0)
+next g c =
+    next_char (chars c.args.s.now) _ _ _
+    (YieldsList-turn (YieldsList-from_enumerate (YieldsList-from_chars c.args.s.now c.utf8.s cc) cc) c.loop-place.yielded _ c.loop-place.yielded_by _ _ _ c.in-Some.is c.next.ensures.steps)
+
 pub overflow_cast-bytes : goal.overflow_cast-bytes
 overflow_cast-bytes g c =
-    let next =
-    next_char (chars c.args.s.now) _ _ _
-    (YieldsList-turn (YieldsList-from_enumerate (YieldsList-from_chars c.args.s.now c.utf8.s cc) cc) c.loop-place.yielded _ c.loop-place.yielded_by _ _ _ c.in-Some.is c.next.ensures.steps) in
-    let latin1 = c.requires.latin1 _ 0 next.0 in
+    let latin1 = c.requires.latin1 _ 0 (next g c).0 in
+    let same = (next g c).2 in
     omega arith
 
 pub bounds-bytes-place : goal.bounds-bytes-place
-bounds-bytes-place g c =
-    let next =
-    next_char (chars c.args.s.now) _ _ _
-    (YieldsList-turn (YieldsList-from_enumerate (YieldsList-from_chars c.args.s.now c.utf8.s cc) cc) c.loop-place.yielded _ c.loop-place.yielded_by _ _ _ c.in-Some.is c.next.ensures.steps) in
-    omega arith
+bounds-bytes-place g c = omega (arith, next g c)
 
 pub loop-place-preserved : goal.loop-place-preserved
 loop-place-preserved g c =
-    let next =
-    next_char (chars c.args.s.now) _ _ _
-    (YieldsList-turn (YieldsList-from_enumerate (YieldsList-from_chars c.args.s.now c.utf8.s cc) cc) c.loop-place.yielded _ c.loop-place.yielded_by _ _ _ c.in-Some.is c.next.ensures.steps) in
+    let read = next g c in
     let more =
-    written_more (chars c.args.s.now) _ c.loop-place.bytes _ c.in-Some.character next.0 (grind (arith, common_steps)) next.2 c.loop-place.invariant in
-    simp (length_push, next.1) more
+    written_more (chars c.args.s.now) _ c.loop-place.bytes _ c.in-Some.character read.0 (grind (arith, common_steps)) read.2 c.loop-place.invariant in
+    simp (length_push, read.1) more
 
 pub returns : goal.returns
 returns g c =

@@ -1,5 +1,5 @@
 -- A place where nothing differs has the same byte of ASCII in both.
-use Rattle.std.proofs.Common.{Bool, ◌≡◌, ◌==◌, ◌&&◌, ◌∙◌, ℕ, IsTrue, arith, get_or}
+use Rattle.std.proofs.Common.{Bool, ◌≡◌, ◌==◌, ◌&&◌, ℕ, IsTrue, arith, get_or}
 use Rattle.std.specs.Prelude.{nat_lt}
 use Rattle.std.proofs.lemmas.Grind.{common_steps}
 use Rattle.std.proofs.lemmas.List.{take_more_same}
@@ -13,11 +13,9 @@ tested so_far unit byte as_unit is passes = grind (arith, common_steps)
 
 pub loop-i-preserved : goal.loop-i-preserved
 loop-i-preserved c =
-    let units = c.args.units.now in
-    let bytes = c.args.bytes.now in
     let i = c.loop-i.i in
-    let all = tested c.loop-i.same (get_or units i 0) (get_or bytes i 0) c.from.result c.from.ensures in
+    let all = tested c.loop-i.same (get_or c.args.units.now i 0) _ _ c.from.ensures in
     record {
-      same = λ yes. take_more_same units bytes i 0 c.loop-i-test.true (omega arith) (c.loop-i.invariant.same (all yes).0) (all yes).1;
-      ascii = λ yes. All-more IsAsciiTextByte bytes i 0 (omega arith) (c.loop-i.invariant.ascii (all yes).0) (all yes).2;
+      same = λ yes. take_more_same c.args.units.now c.args.bytes.now i 0 c.loop-i-test.true (omega arith) (c.loop-i.invariant.same (all yes).0) (all yes).1;
+      ascii = λ yes. All-more IsAsciiTextByte c.args.bytes.now i 0 (omega arith) (c.loop-i.invariant.ascii (all yes).0) (all yes).2;
     }

@@ -9,8 +9,7 @@ use Rattle.uefi_text.proofs.strs.CStr16IterDoubleEndedIterator.next_back.Goals a
 pub invariant_of-self : goal.invariant_of-self
 invariant_of-self c =
     let rest = c.in_ok-last.rest.now in
-    let front = ap (take (length rest)) c.in_ok-last.ensures.cases.0 ∙ take-append_seam rest _ in
-    record { are_characters = subst (All IsChar16) front (All-take IsChar16 (length rest) _ c.args.self.now.are_characters) }
+    record { are_characters = subst (All IsChar16) (ap (take (length rest)) c.in_ok-last.ensures.cases.0 ∙ take-append_seam rest _) (All-take IsChar16 (length rest) _ c.args.self.now.are_characters) }
 
 pub returns-clause-steps : goal.returns-clause-steps
 unfolding units_left

@@ -22,10 +22,9 @@ returns-in_err-write_char-clause-err g c =
     let front = sym (take-append_seam yielded _) ∙ ap (take (length yielded)) all in
     let here = ap (λ us. get_or us (length yielded) 0) (sym all) ∙ get_or-append_seam yielded c.in-Some.c _ 0 in
     let refused = subst (g.W.CharSink.may_refuse (text c.loop-c.sink)) (c.from.ensures ∙ sym here) c.in_err-write_char.ensures.refused in
-    let written = c.in_err-write_char.ensures.err ∙ c.loop-c.invariant.taken ∙ ap (λ us. text c.args.sink.now ++ encode_utf8_all us) front in
     on_err c.from_residual.result (
       length yielded,
       omega (arith, ap length all, length-append yielded (c.in-Some.c ∷ units_left c.next.new.self)),
-      written,
+      c.in_err-write_char.ensures.err ∙ c.loop-c.invariant.taken ∙ ap (λ us. text c.args.sink.now ++ encode_utf8_all us) front,
       subst (λ bytes. g.W.CharSink.may_refuse bytes (get_or (units_of c.args.self.now) (length yielded) 0)) (sym c.in_err-write_char.ensures.err) refused,
     )

@@ -1,6 +1,5 @@
 -- The first block with an item that decides has been reached, or there is none.
-use Rattle.std.proofs.Common.{◌^◌, ◌<◌, arith}
-use Rattle.std.proofs.Common.{◌+◌}
+use Rattle.std.proofs.Common.{◌+◌, ◌^◌, ◌<◌, arith}
 use Rattle.uefi_text.specs.Units.{is_deciding}
 use Rattle.uefi_text.specs.Views.{items_of}
 use Rattle.uefi_text.proofs.Scanning.{each_in_blocks, position-in_block, nowhere_in_blocks, position-nowhere}

@@ -26,6 +26,5 @@ pub overflow_mul-result : goal.overflow_mul-result
 unfolding items_of
 overflow_mul-result g c =
     let slice = c.args.self.now in
-    let count = length-packed_items g.T.Packed.SIZE slice.len slice.bytes.now in
-    let before : c.args.start ≤ slice.len = omega arith in
+    let before : c.args.start ≤ slice.len = omega (arith, length-packed_items g.T.Packed.SIZE slice.len slice.bytes.now) in
     rw c.SIZE.ensures (omega (arith, mul-le-mul_right g.T.Packed.SIZE before, slice.in_bytes))
