@@ -63,8 +63,7 @@ pub IsString-pushed : (old units : List ℕ) (end unit : ℕ) → IsString old �
     → units ≡ old ++ 0 ∷ [] → end ≡ length (without_nul old) → IsString (set units end unit)
 IsString-pushed old units end unit string is_unit grown at_end =
     let text = without_nul old in
-    let same = grown ∙ ap (λ us. us ++ 0 ∷ []) string.0 in
-    let written : set units end unit ≡ nul_terminated (text ++ unit ∷ []) = rw (same, at_end) (nul_terminated-push text unit) in
+    let written : set units end unit ≡ nul_terminated (text ++ unit ∷ []) = rw (grown ∙ ap (λ us. us ++ 0 ∷ []) string.0, at_end) (nul_terminated-push text unit) in
     IsString-made _ (text ++ unit ∷ []) written
     (All-append IsTextUnit text (unit ∷ []) string.1 (All-cons IsTextUnit unit [] is_unit (All-nil IsTextUnit)))
 
