@@ -10,5 +10,5 @@ from_utf8_unchecked-requires g c =
 
 pub loop-start-preserved : goal.loop-start-preserved
 loop-start-preserved g c =
-    let written = block_written c.args.self.now.units.now _ _ _ (c.from_utf8_unchecked.ensures ∙ c.write_utf8-len.ensures.bytes) in
+    let written = block_written c.args.self.now.units.now _ c.loop-start.start c.min.result (c.from_utf8_unchecked.ensures ∙ c.write_utf8-len.ensures.bytes) in
     record { within = omega arith; written = λ plain. put_two _ _ _ _ _ _ _ (c.loop-start.invariant.written plain) (search rules) written }
