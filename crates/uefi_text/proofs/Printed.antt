@@ -26,7 +26,8 @@ pub encode_utf8_all-block : (cs : List ℕ) (i n : ℕ) → encode_utf8_all (tak
 encode_utf8_all-block cs i n = sym (encodes-append (take i cs) (take n (drop i cs))) ∙ ap encode_utf8_all (sym (take-add i n cs))
 
 -- those that are written at a place are followed by those of a block that begins there
-pub block_written : (cs bytes : List ℕ) (i n : ℕ) → bytes ≡ encode_utf8_all (take (i + n - i) (drop i cs)) → encode_utf8_all (take i cs) ++ bytes ≡ encode_utf8_all (take (i + n) cs)
+pub block_written : (cs bytes : List ℕ) (i n : ℕ) → bytes ≡ encode_utf8_all (take (i + n - i) (drop i cs))
+    → encode_utf8_all (take i cs) ++ bytes ≡ encode_utf8_all (take (i + n) cs)
 block_written cs bytes i n is =
     let end : i + (i + n - i) ≡ i + n = omega arith in
     ap (λ block. encode_utf8_all (take i cs) ++ block) is ∙ encode_utf8_all-block cs i (i + n - i) ∙ ap (λ k. encode_utf8_all (take k cs)) end

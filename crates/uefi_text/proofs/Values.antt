@@ -43,12 +43,11 @@ IsText-units_of part no_nul k d inside =
     let other = no_nul k d inside in
     grind (arith, common_steps)
 
--- what holds in any case holds where there is a value
+-- what holds in any case holds where there is a value, and where there is an error
 pub on_ok : {T E P : Type 0} (r : Result T E) → P → OnOk r P
 on_ok (Ok value) p = p
 on_ok (Err error) p = tt
 
--- and where there is an error
 pub on_err : {T E P : Type 0} (r : Result T E) → P → OnErr r P
 on_err (Ok value) p = tt
 on_err (Err error) p = p

@@ -1,6 +1,6 @@
 -- Each block writes the items from its start on, and after the last one that is all of them.
 use borrow.Rule.Slice.PartMut.{put_mid, same_len_mid}
-use Rattle.std.proofs.Common.{◌≡◌, ◌∙◌, ◌+◌, ◌-◌, ◌*◌, ◌≤◌, ◌++◌, ap, sym, length, map, refl, take, drop, arith, take-add}
+use Rattle.std.proofs.Common.{ℕ, ◌≡◌, ◌∙◌, ◌+◌, ◌-◌, ◌*◌, ◌≤◌, ◌++◌, ap, sym, length, map, refl, take, drop, arith, take-add}
 use Rattle.std.proofs.lemmas.List.{length-drop, length-take, length-take-le, map-append, nil_from_length, take_all}
 use Rattle.std.proofs.lemmas.Slice.{take-put_mid}
 use Rattle.uefi_text.specs.Packed.{packed_items}
@@ -19,7 +19,7 @@ read_block-requires-clause-fits g c =
     let fits_count : count * size ≤ length c.args.bytes.now - start * size = rw (← same) fits in
     let places : length (take (start + count - start) (drop start c.loop-start.dest)) ≡ count =
     omega (arith, length-take (start + count - start) (drop start c.loop-start.dest), length-drop start c.loop-start.dest) in
-    rw (places, c.SIZE-in-loop-start.ensures) (omega (arith, length-take (length c.args.bytes.now - start * size) (drop (start * size) c.args.bytes.now), length-drop (start * size) c.args.bytes.now))
+    rw (places, c.SIZE-in-loop-start.ensures) (omega (arith, length-take {A = ℕ}, length-drop {A = ℕ}))
 
 pub loop-start-preserved : goal.loop-start-preserved
 loop-start-preserved g c =
