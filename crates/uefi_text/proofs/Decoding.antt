@@ -1,7 +1,7 @@
 -- Characters of three bytes, read several at once.
 use Rattle.std.proofs.Common.{append_assoc, Bool, true, false, leb, All, ◌≢◌, ◌≡◌, ℕ, zero, suc, ◌+◌, ◌*◌, ◌/◌, ◌%◌, ◌<◌, ◌≤◌, ◌∙◌, List, [], ◌∷◌, ◌++◌, length, map, get_or, take, drop, cond, ap, sym, subst, refl, inl, inr, arith}
 use Rattle.std.specs.Prelude.{encode_utf8}
-use Rattle.std.specs.Simd.Lanes.{Each1, mask_l}
+use Rattle.std.specs.Simd.Lanes.{Each1, mask_l, pick_l}
 use Rattle.std.specs.Str.{chars, encode_utf8_all, IsUtf8}
 use Rattle.std.proofs.lemmas.Bool.{cases_Bool, cases_lt, false≢true, le-leb}
 use Rattle.std.proofs.lemmas.List.Elements.{All-append, All-cons, All-nil}
@@ -9,7 +9,6 @@ use Rattle.std.proofs.Math.Utf8.{scalar, scalars, scalar_cases}
 use Rattle.std.proofs.lemmas.Grind.{common_steps, elements}
 use Rattle.std.proofs.lemmas.Str.{chars_past_char, encode_ascii, IsUtf8-past_char}
 use Rattle.std.specs.List.{range_with_len}
-use Rattle.std.specs.Simd.Lanes.{pick_l}
 use Rattle.std.proofs.lemmas.List.{length-append, length-take-le, take-append-drop, take_at}
 use Rattle.std.proofs.lemmas.Simd.{pick_l-range_with_len}
 use Rattle.uefi_text.specs.FromStr.{IsAcceptedChar}

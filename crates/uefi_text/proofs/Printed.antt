@@ -1,5 +1,5 @@
 -- Characters as they are printed.
-use Rattle.std.proofs.Common.{◌≡◌, ℕ, ◌+◌, ◌<◌, All, List, [], ◌∷◌, ◌++◌, length, take, drop, get_or, ap, sym, ◌∙◌, append_assoc, refl, arith}
+use Rattle.std.proofs.Common.{◌≡◌, ℕ, ◌+◌, ◌-◌, ◌<◌, All, List, [], ◌∷◌, ◌++◌, length, take, drop, get_or, ap, sym, ◌∙◌, append_assoc, arith}
 use Rattle.std.proofs.lemmas.List.{append-nil, take_more}
 use Rattle.std.proofs.lemmas.List.Elements.{All-drop, All-from_get_or, All-take, All-weaker}
 use Rattle.std.proofs.lemmas.Grind.{common_steps}
@@ -25,10 +25,17 @@ encode_utf8_all-take_more cs i h = sym (encode_utf8_all-push (take i cs) (get_or
 pub encode_utf8_all-block : (cs : List ℕ) (i n : ℕ) → encode_utf8_all (take i cs) ++ encode_utf8_all (take n (drop i cs)) ≡ encode_utf8_all (take (i + n) cs)
 encode_utf8_all-block cs i n = sym (encodes-append (take i cs) (take n (drop i cs))) ∙ ap encode_utf8_all (sym (take-add i n cs))
 
--- are a Rust text
-pub IsUtf8-block : (cs : List ℕ) (i n : ℕ) → All IsScalar cs → IsUtf8 (encode_utf8_all (take n (drop i cs)))
-IsUtf8-block cs i n are_scalars =
-    (take n (drop i cs), (scalars-All _ (All-take IsScalar n _ (All-drop IsScalar i cs are_scalars)), refl))
+-- those that are written at a place are followed by those of a block that begins there
+pub block_written : (cs bytes : List ℕ) (i n : ℕ) → bytes ≡ encode_utf8_all (take (i + n - i) (drop i cs))
+    → encode_utf8_all (take i cs) ++ bytes ≡ encode_utf8_all (take (i + n) cs)
+block_written cs bytes i n is =
+    let end : i + (i + n - i) ≡ i + n = omega arith in
+    ap (λ block. encode_utf8_all (take i cs) ++ block) is ∙ encode_utf8_all-block cs i (i + n - i) ∙ ap (λ k. encode_utf8_all (take k cs)) end
+
+-- the bytes of a block are a Rust text
+pub IsUtf8-block : (cs bytes : List ℕ) (i n : ℕ) → bytes ≡ encode_utf8_all (take n (drop i cs)) → All IsScalar cs → IsUtf8 bytes
+IsUtf8-block cs bytes i n is are_scalars =
+    (take n (drop i cs), (scalars-All _ (All-take IsScalar n _ (All-drop IsScalar i cs are_scalars)), sym is))
 
 scalar-char16 : (u : ℕ) → IsChar16 u → IsScalar u
 scalar-char16 u is = grind (arith, common_steps)

@@ -1,10 +1,9 @@
 -- An iterator that takes the first item of what it shows gives all of it in order.
 use Rattle.std.proofs.Common.{◌≡◌, ◌≢◌, Bor, Iter, None, Option, Some, ℕ, suc, List, [], ◌∷◌, All, length, map, take, get_or, inl, inr, ap, sym, refl, subst, ◌∙◌, arith}
 use Rattle.std.specs.List.{HoldsAt}
-use Rattle.std.specs.Option.{IfSome}
+use Rattle.std.specs.Option.{IfSome, option_copied}
 use Rattle.std.specs.Iterator.{Yields, YieldsFirst, YieldsFirstBy}
 use Rattle.std.specs.Iterator.Adapters.{copied_source, copied_steps}
-use Rattle.std.specs.Option.{option_copied}
 use Rattle.std.specs.Slice.Iter.{iter_rest, iter_steps}
 use Rattle.std.specs.Iterator.Runs.{AllItems, ItemsMapTo, Run}
 use Rattle.std.specs.declared.iter.Copied.{Copied}

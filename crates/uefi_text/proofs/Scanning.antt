@@ -6,8 +6,7 @@ use Rattle.std.specs.Str.{IsAscii}
 use Rattle.std.proofs.Math.Seq.{take-add}
 use Rattle.std.proofs.lemmas.Bool.{cases_Bool, cases_lt, false≢true}
 use Rattle.std.proofs.lemmas.Grind.{common_steps}
-use Rattle.std.proofs.lemmas.List.Elements.{All-cons, All-nil}
-use Rattle.std.proofs.lemmas.List.Folds.{list_any-append, list_any_none}
+use Rattle.std.proofs.lemmas.List.Folds.{list_any-append, list_any_at, list_any_none}
 use Rattle.std.proofs.lemmas.List.Sums.{fails_before_first, passes_at_first, position_or_len_is}
 use Rattle.std.proofs.lemmas.Simd.{get_or-chunk, length-chunk}
 use Rattle.uefi_text.specs.Scans.{is_beyond_ascii}
@@ -49,10 +48,9 @@ is_some-position p (x ∷ xs) = elim (cases_Bool (p x)) [
 
 -- a search finds nothing exactly where no element passes
 pub none_passes : {X : Type 0} (p : X → Bool) (xs : List X) → list_any p xs ≡ false → All (λ x. p x ≡ false) xs
-none_passes p [] clear = All-nil (λ x. p x ≡ false)
-none_passes p (x ∷ xs) clear = elim (cases_Bool (p x)) [
-  | inl passes ↦ absurd (false≢true (sym clear ∙ ap (λ b. b || list_any p xs) passes))
-  | inr fails ↦ All-cons (λ x. p x ≡ false) x xs fails (none_passes p xs (sym (ap (λ b. b || list_any p xs) fails) ∙ clear))
+none_passes p xs clear k d inside = elim (cases_Bool (p (get_or xs k d))) [
+  | inl passes ↦ absurd (false≢true (sym clear ∙ list_any_at p xs k d inside passes))
+  | inr fails ↦ fails
 ]
 
 -- where what fails is what a property says, none passes exactly where all have the property

@@ -59,12 +59,13 @@ pub nul_terminated-push : (text : List ℕ) (unit : ℕ)
 nul_terminated-push text unit = rw (append_assoc text, append_assoc text) (set_at text 0 (0 ∷ []) unit (length text) refl)
 
 -- what a unit of a text makes of a string there is one
-pub IsString-pushed : (text units : List ℕ) (end unit : ℕ) → IsText text → IsTextUnit unit
-    → units ≡ nul_terminated text ++ 0 ∷ [] → end ≡ length text → IsString (set units end unit)
-IsString-pushed text units end unit is_text is_unit grown at_end =
-    let written : set units end unit ≡ nul_terminated (text ++ unit ∷ []) = rw (grown, at_end) (nul_terminated-push text unit) in
+pub IsString-pushed : (old units : List ℕ) (end unit : ℕ) → IsString old → IsTextUnit unit
+    → units ≡ old ++ 0 ∷ [] → end ≡ length (without_nul old) → IsString (set units end unit)
+IsString-pushed old units end unit string is_unit grown at_end =
+    let text = without_nul old in
+    let written : set units end unit ≡ nul_terminated (text ++ unit ∷ []) = rw (grown ∙ ap (λ us. us ++ 0 ∷ []) string.0, at_end) (nul_terminated-push text unit) in
     IsString-made _ (text ++ unit ∷ []) written
-    (All-append IsTextUnit text (unit ∷ []) is_text (All-cons IsTextUnit unit [] is_unit (All-nil IsTextUnit)))
+    (All-append IsTextUnit text (unit ∷ []) string.1 (All-cons IsTextUnit unit [] is_unit (All-nil IsTextUnit)))
 
 -- a unit of a text stays one where another takes its place
 IsTextUnit-replaced : (search replace u : ℕ) → IsTextUnit u → IsTextUnit replace → IsTextUnit (replaced search replace u)
@@ -147,10 +148,13 @@ pub unrefused-find : (found : Option ℕ) → refusal_of_char found ≡ None →
 unrefused-find None none = refl
 unrefused-find (Some c) none = absurd (grind (arith, common_steps))
 
+pub unrefused-IsText : (text : List ℕ) → IsText text → from_str_refusal text ≡ None
+unrefused-IsText text is_text = ap refusal_of_char (undecided-IsText text is_text)
+
 -- characters are a text exactly where none of them is refused
 pub IsText-unrefused : (cs : List ℕ) → All IsScalar cs → IsText cs ↔ (from_str_refusal cs ≡ None)
 IsText-unrefused cs are_scalars = (
-  λ is_text. ap refusal_of_char (undecided-IsText cs is_text),
+  unrefused-IsText cs,
   λ none. IsText-chars cs (scalars-All cs are_scalars) (unrefused-find (find is_deciding_char cs) none),
 )
 

@@ -4,13 +4,14 @@ use Rattle.std.specs.Char.Escape.{encode_utf16}
 use Rattle.std.specs.List.{position, position_or_len, find}
 use Rattle.std.specs.Option.{option_or}
 use Rattle.std.proofs.lemmas.Grind.{common_steps, elements, flat_map-append}
-use Rattle.std.proofs.lemmas.List.{drop-drop, flat_map_more, length-append, length-drop}
+use Rattle.std.proofs.lemmas.List.{drop-drop, drop_at, flat_map_more, length-append, length-drop, set_split, take_at}
 use Rattle.std.proofs.lemmas.List.Folds.{find_at, position_or_len_push}
 use Rattle.std.proofs.lemmas.List.Quantifiers.{position-Some}
 use Rattle.std.proofs.lemmas.List.Sums.{prefix_len-le-length}
 use Rattle.std.proofs.lemmas.Option.{slice_get-get_or, slice_get_past}
 use Rattle.std.proofs.lemmas.Bool.{cases_lt, lt-ltb}
 use Rattle.std.proofs.Math.Seq.{get_or-append_seam, take-append_seam}
+use Rattle.uefi_text.proofs.Lanes.{each_place}
 use Rattle.uefi_text.proofs.UnitBytes.{set_two}
 use Rattle.uefi_text.specs.FromStr.{is_deciding_char}
 use Rattle.uefi_text.specs.FromStrWithBuf.{from_str_with_buf_refusal_at, refusal_of_char_at, from_str_with_buf_refusal, utf16, with_units, with_text}
@@ -49,53 +50,49 @@ with_units-char old buffer new front c len count place so_far is =
     let same_length : length buffer ≡ length old = ap length so_far ∙ length-with_units units old in
     let room : length units ≤ length old = omega arith in
     let split : buffer ≡ units ++ rest = so_far ∙ with_units-prefix old units room in
-    let before : take len buffer ≡ units = grind (arith, common_steps) in
-    let after : drop len buffer ≡ rest = grind (arith, common_steps) in
+    let before : take len buffer ≡ units = ap (take len) split ∙ take_at units rest len (sym count) in
+    let after : drop len buffer ≡ rest = ap (drop len) split ∙ drop_at units rest len (sym count) in
     let written : new ≡ units ++ with_units (encode_utf16 c) rest = is ∙ rw (before, after) refl in
     let all = with_units-after old units (encode_utf16 c) room in
     let more = flat_map_more encode_utf16 [] front c in
     cc
 
+-- a full buffer takes no more units
+with_units-full : (old units more : List ℕ) → length old ≤ length units → with_units units old ≡ with_units (units ++ more) old
+with_units-full old units more full = grind (arith, elements)
+
 -- the one unit of a character, written at a place
 pub with_units-one : (units buffer : List ℕ) (place : ℕ) → length units ≡ 1 → place < length buffer
     → set buffer place (get_or units 0 0) ≡ take place buffer ++ with_units units (drop place buffer)
-with_units-one [] buffer place one inside = absurd (omega (arith, one))
-with_units-one (u ∷ []) buffer place one inside = grind (arith, elements)
-with_units-one (u ∷ v ∷ us) buffer place one inside = absurd (omega (arith, one))
+with_units-one units buffer place one inside =
+    let next : place + length units ≡ suc place = omega arith in
+    let after = drop-drop (length units) place buffer ∙ ap (λ n. drop n buffer) next in
+    let rest = with_units-prefix (drop place buffer) units (omega (arith, length-drop place buffer)) ∙ (λ i. each_place 1 units one i ++ after i) in
+    set_split buffer place (get_or units 0 0) inside ∙ ap (λ us. take place buffer ++ us) (sym rest)
 
 -- the first of two, written at the last place
 pub with_units-first : (units buffer : List ℕ) (place : ℕ) → length units ≡ 2 → place + 1 ≡ length buffer
     → set buffer place (get_or units 0 0) ≡ take place buffer ++ with_units units (drop place buffer)
-with_units-first [] buffer place two last = absurd (omega (arith, two))
-with_units-first (u ∷ []) buffer place two last = absurd (omega (arith, two))
-with_units-first (u ∷ v ∷ []) buffer place two last = grind (arith, elements)
-with_units-first (u ∷ v ∷ w ∷ us) buffer place two last = absurd (omega (arith, two))
+with_units-first units buffer place two last =
+    with_units-one (get_or units 0 0 ∷ []) buffer place refl (omega arith)
+    ∙ ap (λ us. take place buffer ++ us) (with_units-full (drop place buffer) (get_or units 0 0 ∷ []) (get_or units 1 0 ∷ []) (omega (arith, length-drop place buffer)))
+    ∙ ap (λ us. take place buffer ++ with_units us (drop place buffer)) (sym (each_place 2 units two))
 
 -- both, written at a place and the next
 pub with_units-two : (units buffer : List ℕ) (place : ℕ) → length units ≡ 2 → place + 1 < length buffer
     → set (set buffer place (get_or units 0 0)) (place + 1) (get_or units 1 0)
     ≡ take place buffer ++ with_units units (drop place buffer)
-with_units-two [] buffer place two inside = absurd (omega (arith, two))
-with_units-two (u ∷ []) buffer place two inside = absurd (omega (arith, two))
-with_units-two (u ∷ v ∷ []) buffer place two inside =
+with_units-two units buffer place two inside =
     let next : place + 1 ≡ suc place = omega arith in
-    let room : 2 ≤ length (drop place buffer) = omega (arith, length-drop place buffer) in
-    let same : place + 2 ≡ suc (suc place) = omega arith in
-    let after : drop 2 (drop place buffer) ≡ drop (suc (suc place)) buffer =
-    drop-drop 2 place buffer ∙ ap (λ n. drop n buffer) same in
-    let rest : with_units (u ∷ v ∷ []) (drop place buffer) ≡ u ∷ v ∷ drop (suc (suc place)) buffer =
-    with_units-prefix (drop place buffer) (u ∷ v ∷ []) room ∙ ap (λ (us : List ℕ). u ∷ v ∷ us) after in
-    rw next (set_two buffer place u v (omega arith) ∙ ap (λ (us : List ℕ). take place buffer ++ us) (sym rest))
-with_units-two (u ∷ v ∷ w ∷ us) buffer place two inside = absurd (omega (arith, two))
+    let end : place + length units ≡ suc (suc place) = omega arith in
+    let after = drop-drop (length units) place buffer ∙ ap (λ n. drop n buffer) end in
+    let rest = with_units-prefix (drop place buffer) units (omega (arith, length-drop place buffer)) ∙ (λ i. each_place 2 units two i ++ after i) in
+    rw next (set_two buffer place _ _ inside ∙ ap (λ us. take place buffer ++ us) (sym rest))
 
 -- units that leave a place, and a NUL after them
 with_units-nul : (old units : List ℕ) → length units < length old
     → set (with_units units old) (length units) 0 ≡ with_units (nul_terminated units) old
 with_units-nul old units room = grind (arith, elements)
-
--- a full buffer takes no more units
-with_units-full : (old units more : List ℕ) → length old ≤ length units → with_units units old ≡ with_units (units ++ more) old
-with_units-full old units more full = grind (arith, elements)
 
 -- a buffer that characters fill is too small for them and what follows
 pub non_empty : (old front rest : List ℕ) → length old ≤ length (utf16 front)

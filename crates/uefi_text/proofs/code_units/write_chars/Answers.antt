@@ -1,5 +1,6 @@
 -- The characters of the text are written one by one, up to the end of the text or of the buffer.
 use Rattle.std.proofs.Common.{List, ℕ, ◌≤◌, [], ◌∷◌, ◌++◌, ◌∙◌, ap, append_assoc, subst, sym, length, arith, rules, take}
+use Rattle.std.specs.Option.{option_or}
 use Rattle.std.specs.Str.{chars}
 use Rattle.std.specs.Str.Iter.{chars_rest}
 use Rattle.std.proofs.lemmas.List.{append-nil, length-take-le}
@@ -42,7 +43,7 @@ loop-character-preserved c =
       place_left = c.if-buffer-len.false;
       written =
           with_units-char c.args.buffer.now _ _ read character _ so_far.counted so_far.place_left so_far.written c.write_char-len.ensures.buffer;
-      refused = cc (c.or-refusal.ensures, c.refusal_of_char.ensures);
+      refused = c.or-refusal.ensures ∙ (λ i. option_or (so_far.refused i) (c.refusal_of_char.ensures i)) ∙ sym pushed;
       utf8 = IsUtf8-past_char _ _ _ so_far.utf8 c.in-Some.ensures.steps.0;
       to_come = chars_step read _ _ _ _ so_far.utf8 c.in-Some.ensures.steps.0 so_far.to_come;
     })

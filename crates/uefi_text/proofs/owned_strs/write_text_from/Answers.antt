@@ -9,16 +9,13 @@ use Rattle.uefi_text.proofs.Texts.{undecided-IsText}
 use Rattle.uefi_text.proofs.Utf16.{utf16-undecided}
 use Rattle.uefi_text.proofs.owned_strs.write_text_from.Goals as goal
 
--- units that fill a buffer are all of it
-with_units-all : (units old : List ℕ) → length units ≡ length old → with_units units old ≡ units
-with_units-all units old long = grind (arith, common_steps)
-
 -- a text and its NUL that fill a buffer are all of it
 with_text-all : (cs old : List ℕ) → IsText cs → length cs + 1 ≡ length old → with_text cs old ≡ nul_terminated cs
 with_text-all cs old is_text long =
     let same = utf16-undecided cs (undecided-IsText cs is_text) in
     let filled : length (nul_terminated cs) ≡ length old = omega (arith, length-append cs (nul_terminated [])) in
-    ap (λ us. with_units (nul_terminated us) old) same ∙ with_units-all (nul_terminated cs) old filled
+    let all : with_units (nul_terminated cs) old ≡ nul_terminated cs = grind (arith, common_steps) in
+    ap (λ us. with_units (nul_terminated us) old) same ∙ all
 
 pub returns : goal.returns
 returns c =

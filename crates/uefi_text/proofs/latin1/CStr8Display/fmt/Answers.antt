@@ -1,27 +1,14 @@
 -- Each block follows those before it.
-use Rattle.std.proofs.Common.{rules, ◌≡◌, take, ap, subst, sym, ◌∙◌, ◌++◌, ◌+◌, ◌-◌, arith}
-use Rattle.std.specs.Prelude.{encode_utf8_all}
-use Rattle.std.specs.Str.{IsUtf8}
-use Rattle.std.proofs.Output.{has_written_append, has_written_of_eq}
-use Rattle.uefi_text.proofs.Printed.{IsUtf8-block, encode_utf8_all-block, scalars-latin1}
+use Rattle.std.proofs.Common.{rules, ◌∙◌, arith}
+use Rattle.std.proofs.lemmas.Grind.{put_two}
+use Rattle.uefi_text.proofs.Printed.{IsUtf8-block, block_written, scalars-latin1}
 use Rattle.uefi_text.proofs.latin1.CStr8Display.fmt.Goals as goal
 
 pub from_utf8_unchecked-requires : goal.from_utf8_unchecked-requires
 from_utf8_unchecked-requires g c =
-    let text = c.text-text.result.now in
-    let block = IsUtf8-block text c.loop-start.start (c.loop-start.start + c.min.result - c.loop-start.start) (scalars-latin1 text (λ k. omega (arith, c.type_inv.text k))) in
-    subst IsUtf8 (sym c.write_latin1-len.ensures.bytes) block
+    IsUtf8-block _ _ _ _ c.write_latin1-len.ensures.bytes (scalars-latin1 c.text-text.result.now (λ k. omega (arith, c.type_inv.text k)))
 
 pub loop-start-preserved : goal.loop-start-preserved
 loop-start-preserved g c =
-    let text = c.text-text.result.now in
-    let start = c.loop-start.start in
-    let n = start + c.min.result - start in
-    let end : start + n ≡ start + c.min.result = omega arith in
-    record {
-      within = omega arith;
-      written = λ plain. has_written_of_eq _ _ (encode_utf8_all (take start text) ++ c.from_utf8_unchecked.result.now) _ _
-          (ap (λ bytes. encode_utf8_all (take start text) ++ bytes) (c.from_utf8_unchecked.ensures ∙ c.write_latin1-len.ensures.bytes)
-          ∙ encode_utf8_all-block text start n ∙ ap (λ k. encode_utf8_all (take k text)) end)
-          (has_written_append _ c.args.f.now (encode_utf8_all (take start text)) c.loop-start.f c.from_utf8_unchecked.result.now _ (c.loop-start.invariant.written plain) (search rules));
-    }
+    let written = block_written c.text-text.result.now _ c.loop-start.start c.min.result (c.from_utf8_unchecked.ensures ∙ c.write_latin1-len.ensures.bytes) in
+    record { within = omega arith; written = λ plain. put_two _ _ _ _ _ _ _ (c.loop-start.invariant.written plain) (search rules) written }

@@ -2,6 +2,7 @@
 use Rattle.std.proofs.Common.{◌≡◌, ◌∙◌, [], ◌∷◌, ◌++◌, append_assoc, ap, sym, take, drop, length, arith}
 use Rattle.std.specs.Str.{chars, encode_utf8_all}
 use Rattle.std.proofs.lemmas.Grind.{common_steps}
+use Rattle.std.proofs.lemmas.List.{take_at}
 use Rattle.std.proofs.lemmas.List.Elements.{All-append}
 use Rattle.std.proofs.lemmas.Str.{encodes-append, encodes-chars}
 use Rattle.uefi_text.specs.Units.{IsTextUnit, nul_terminated, without_nul}
@@ -16,8 +17,9 @@ made g c =
     let cs = chars c.args.s.now in
     let units = c.write_text_from.new.units in
     let front : take c.num_chars-end.result c.resize.new.self.items ≡ text = grind (arith, common_steps) in
-    let whole : take c.resize.new.self.len (units ++ drop (length units) c.resize.new.self.items) ≡ units = grind (arith, common_steps) in
-    let of_units : units ≡ take c.num_chars-end.result c.resize.new.self.items ++ nul_terminated cs = cc in
+    let whole : take c.resize.new.self.len (units ++ drop (length units) c.resize.new.self.items) ≡ units = take_at units _ _ (omega arith) in
+    let of_units : units ≡ take c.num_chars-end.result c.resize.new.self.items ++ nul_terminated cs =
+    c.write_text_from.ensures ∙ ap (λ us. take c.num_chars-end.result us ++ nul_terminated cs) c.deref_mut.ensures.value in
     whole ∙ of_units ∙ ap (λ us. us ++ nul_terminated cs) front ∙ sym (append_assoc text cs (0 ∷ []))
 
 pub invariant_of-self-2 : goal.invariant_of-self-2

@@ -1,10 +1,10 @@
 -- Each block follows those before it.
-use Rattle.std.proofs.Common.{Result, Ok, Err, ◌≡◌, ◌<◌, ◌+◌, ◌-◌, ◌++◌, ◌∙◌, ℕ, List, append_assoc, ap, get_or, length, take, drop, subst, arith}
+use Rattle.std.proofs.Common.{◌≡◌, ◌<◌, ◌+◌, ◌-◌, ◌++◌, ◌∙◌, ℕ, List, append_assoc, ap, get_or, length, take, drop, subst, arith}
 use Rattle.std.specs.Prelude.{encode_utf8_all, slice_range}
 use Rattle.std.proofs.lemmas.List.{get_or-drop, get_or-take, length-drop, length-take, take-take}
-use Rattle.std.specs.Result.{OnErr}
 use Rattle.uefi_text.proofs.Printed.{encode_utf8_all-block}
 use Rattle.uefi_text.specs.Views.{text_of, units_of}
+use Rattle.uefi_text.proofs.Values.{on_err}
 use Rattle.uefi_text.proofs.strs.CStr16.as_str_in_buf.Goals as goal
 
 -- a sink that holds what stands before and some bytes, and then others
@@ -32,10 +32,6 @@ loop-start-preserved g c =
       taken = joined _ _ _ text start n c.loop-start.invariant.taken
           (c.in_ok-write_block_to.ensures.ok ∙ ap (λ (us : List ℕ). g.W.CharSink.text c.loop-start.buf ++ encode_utf8_all us) part);
     }
-
-on_err : {T E P : Type 0} (r : Result T E) → P → OnErr r P
-on_err (Ok value) p = tt
-on_err (Err error) p = p
 
 pub returns-in_err-write_block_to-clause-err : goal.returns-in_err-write_block_to-clause-err
 returns-in_err-write_block_to-clause-err g c =

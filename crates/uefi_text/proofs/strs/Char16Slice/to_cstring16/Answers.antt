@@ -3,9 +3,8 @@ use Rattle.std.proofs.Common.{◌≡◌, ◌≢◌, ◌∙◌, ap, sym, refl, Al
 use Rattle.std.specs.Option.{unwrap_or}
 use Rattle.std.proofs.lemmas.Grind.{common_steps}
 use Rattle.uefi_text.specs.Units.{IsText, nul_terminated}
-use Rattle.uefi_text.specs.FromStr.{from_str_refusal}
 use Rattle.uefi_text.specs.declared.errors.FromStrError.TheVariants.{OutOfMemory}
-use Rattle.uefi_text.proofs.Texts.{IsString-made, IsText-unrefused, characters-IsText}
+use Rattle.uefi_text.proofs.Texts.{IsString-made, unrefused-IsText}
 use Rattle.uefi_text.specs.Views.{units_of}
 use Rattle.uefi_text.proofs.Values.{IsText-units_of, from_str_refusal-units_of}
 use Rattle.uefi_text.proofs.strs.Char16Slice.to_cstring16.Goals as goal
@@ -28,10 +27,7 @@ invariant_of-result g c =
     IsString-made c.in-Ok.units.items (units_of c.args.self.now) made (returns-in-Ok-clause-is_text g c)
 
 pub returns-in-Ok-clause-accepted : goal.returns-in-Ok-clause-accepted
-returns-in-Ok-clause-accepted g c =
-    let units = units_of c.args.self.now in
-    let is_text = returns-in-Ok-clause-is_text g c in
-    (IsText-unrefused units (characters-IsText units is_text)).0 is_text
+returns-in-Ok-clause-accepted g c = unrefused-IsText (units_of c.args.self.now) (returns-in-Ok-clause-is_text g c)
 
 is_text_too : (g : _) (c : goal.In-Err g) → IsText (units_of c.args.self.now)
 is_text_too g c =
@@ -43,7 +39,4 @@ returns-in-Err-clause-memory g c = (λ _. is_text_too g c, λ _. refl)
 
 pub returns-in-Err-clause-refusal : goal.returns-in-Err-clause-refusal
 returns-in-Err-clause-refusal g c =
-    let units = units_of c.args.self.now in
-    let is_text = is_text_too g c in
-    let none : from_str_refusal units ≡ _ = (IsText-unrefused units (characters-IsText units is_text)).0 is_text in
-    sym (ap (λ refusal. unwrap_or refusal OutOfMemory) none)
+    sym (ap (λ refusal. unwrap_or refusal OutOfMemory) (unrefused-IsText (units_of c.args.self.now) (is_text_too g c)))
