@@ -20,9 +20,8 @@ pub(crate) struct PartialRun<A: Allocator + Copy> {
 impl<A: Allocator + Copy> PartialRun<A> {
     /// A run before the first part.
     pub(crate) fn new(alloc: A) -> Result<PartialRun<A>, AllocError>
-        ensures path { IfOk result (λ partial. partial.run.path ≡ []) }
-        ensures output { IfOk result (λ partial. partial.run.output.items ≡ []) }
-        ensures begun { IfOk result (λ partial. partial.begun.items ≡ []) }
+        ensures { IfOk result (λ partial. (partial.run.path ≡ []) × (partial.run.output.items ≡ [])
+            × (partial.begun.items ≡ [])) }
     {
         Ok(PartialRun {
             run: Run::new(alloc)?,

@@ -81,8 +81,7 @@ fn add_parent_lines<A: Allocator + Copy>(
 impl<A: Allocator + Copy> Run<A> {
     /// A run before its first line.
     pub(crate) fn new(alloc: A) -> Result<Run<A>, AllocError>
-        ensures path { IfOk result (λ run. run.path ≡ []) }
-        ensures output { IfOk result (λ run. run.output.items ≡ []) }
+        ensures { IfOk result (λ run. (run.path ≡ []) × (run.output.items ≡ [])) }
     {
         Ok(Run {
             alloc,
