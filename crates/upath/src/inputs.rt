@@ -20,9 +20,8 @@ pub(crate) struct PartialRun<A: Allocator + Copy> {
 impl<A: Allocator + Copy> PartialRun<A> {
     /// A run before the first part.
     pub(crate) fn new(alloc: A) -> Result<PartialRun<A>, AllocError>
-        ensures path { IfOk result (λ partial. partial.run.path ≡ []) }
-        ensures output { IfOk result (λ partial. partial.run.output.items ≡ []) }
-        ensures begun { IfOk result (λ partial. partial.begun.items ≡ []) }
+        ensures { IfOk result (λ partial. (partial.run.path ≡ []) × (partial.run.output.items ≡ [])
+            × (partial.begun.items ≡ [])) }
     {
         Ok(PartialRun {
             run: Run::new(alloc)?,
@@ -32,19 +31,19 @@ impl<A: Allocator + Copy> PartialRun<A> {
 
     /// Runs the line that ends with these bytes.
     fn end_line(&mut self, end: &[u8]) -> Result<(), AllocError>
-        ensures path { OnOk result (self.new.run.path
-            ≡ path_after (command_of (self.old.begun.items ++ end.now)) self.old.run.path) }
-        ensures output { OnOk result (self.new.run.output.items ≡ self.old.run.output.items
-            ++ printed_by (command_of (self.old.begun.items ++ end.now)) self.old.run.path) }
-        ensures begun { OnOk result (self.new.begun.items ≡ []) }
+        ensures { OnOk result ((self.new.run.path
+            ≡ path_after (command_of (self.old.begun.items ++ end.now)) self.old.run.path)
+            × (self.new.run.output.items ≡ self.old.run.output.items
+            ++ printed_by (command_of (self.old.begun.items ++ end.now)) self.old.run.path)
+            × (self.new.begun.items ≡ [])) }
     {
         if self.begun.is_empty() {
             return self.run.line(end);
         }
         self.begun.extend_from_slice(end)?;
-        self.run.line(&self.begun)?;
+        let done = self.run.line(&self.begun);
         self.begun.clear();
-        Ok(())
+        done
     }
 
     /// Runs the lines that end in a part, and keeps what follows them. One pass over the part. Where

@@ -47,8 +47,7 @@ impl Error for JudgeError {}
 
 /// The string that bytes encode, two for each code unit.
 fn read_string<A: Allocator>(alloc: A, bytes: &[u8]) -> Result<CString16<A>, JudgeError>
-    ensures ok { IfOk result (λ string. BytesEncode bytes.now string) }
-    ensures accepted { IfOk result (λ _. bytes_fault bytes.now ≡ None) }
+    ensures ok { IfOk result (λ string. BytesEncode bytes.now string × (bytes_fault bytes.now ≡ None)) }
     ensures refusal { IfErr result (λ error. IsRefusalOf bytes.now error) }
 {
     let Some(units) = UnalignedSlice::from_unit_bytes(bytes) else {

@@ -1,5 +1,5 @@
 //! Lists of commands on one path.
-ghost use Rattle.std.specs.Prelude.{◌≡◌, ◌<◌, ℕ, List, None, IfErr, IfOk, IsSomeAnd, OnErr, OnOk, length, map, slice_get, take};
+ghost use Rattle.std.specs.Prelude.{◌≡◌, ◌<◌, ℕ, List, None, IfErr, IfOk, IsSomeAnd, MatchResult, OnOk, length, map, slice_get, take};
 ghost use Rattle.uefi_path.specs.Components.{AreComponents, components_of};
 ghost use Rattle.uefi_path.specs.SuccessiveParents.{AreParents, parents_of, shorter_prefixes};
 ghost use Rattle.uefi_path.specs.Verdicts.{verdict};
@@ -61,21 +61,26 @@ pub(crate) fn run_command<A: Allocator + Copy>(
     path: &mut PathBuf<A>,
     command: PathCommand<'_>,
 ) -> Result<(), AllocError>
-    ensures ok { OnOk result (path.new ≡ after_command path.old command.entry) }
-    ensures err { OnErr result (path.new ≡ path.old) }
-    ensures memory { OnErr result (TakesMemory path.old command.entry) }
+    ensures { MatchResult result
+        (λ _. path.new ≡ after_command path.old command.entry)
+        (λ _. (path.new ≡ path.old) × TakesMemory path.old command.entry) }
 {
-    match command {
-        PathCommand::From(string) => *path = PathBuf::from(alloc, string)?,
-        PathCommand::Push(other) => path.push(other)?,
-        PathCommand::Join(other) => *path = path.join(other)?,
-        PathCommand::Clear => path.clear(),
-        PathCommand::Parent => {
-            if let Some(parent) = path.parent()? {
-                *path = parent;
-            }
+    let next = match command {
+        PathCommand::From(string) => PathBuf::from(alloc, string),
+        PathCommand::Push(other) => return path.push(other),
+        PathCommand::Join(other) => path.join(other),
+        PathCommand::Clear => {
+            path.clear();
+            return Ok(());
         }
-    }
+        PathCommand::Parent => {
+            let Some(parent) = path.parent()? else {
+                return Ok(());
+            };
+            Ok(parent)
+        }
+    };
+    *path = next?;
     Ok(())
 }
 
@@ -132,8 +137,8 @@ pub fn all_parents<A: Allocator + Copy>(
     ensures prefixes { IfOk result (λ parents.
         verdict path.now ≡ None → parents.items ≡ shorter_prefixes path.now) }
 {
-    let mut parents = Vec::new(alloc);
     let mut next = path.parent()?;
+    let mut parents = Vec::new(alloc);
     while let Some(parent) = next {
         next = parent.parent()?;
         parents.push(parent)?;

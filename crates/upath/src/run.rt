@@ -81,8 +81,7 @@ fn add_parent_lines<A: Allocator + Copy>(
 impl<A: Allocator + Copy> Run<A> {
     /// A run before its first line.
     pub(crate) fn new(alloc: A) -> Result<Run<A>, AllocError>
-        ensures path { IfOk result (λ run. run.path ≡ []) }
-        ensures output { IfOk result (λ run. run.output.items ≡ []) }
+        ensures { IfOk result (λ run. (run.path ≡ []) × (run.output.items ≡ [])) }
     {
         Ok(Run {
             alloc,
@@ -94,8 +93,7 @@ impl<A: Allocator + Copy> Run<A> {
     /// The string of a command's text. Where the text is refused this prints why, and returns `None`.
     #[inline(always)]
     fn read_text(&mut self, text: &str) -> Result<Option<CString16<A>>, AllocError>
-        ensures path { OnOk result (self.new.path ≡ self.old.path) }
-        ensures text { IfOk result (λ string. MatchOption string
+        ensures { IfOk result (λ string. (self.new.path ≡ self.old.path) × MatchOption string
             ((error : FromStrError)
             × (from_str_refusal (chars text.now) ≡ Some error)
             × (self.new.output.items ≡ self.old.output.items ++ line (from_str_error_text error)))
@@ -117,18 +115,17 @@ impl<A: Allocator + Copy> Run<A> {
 
     /// Prints the path.
     fn print_path(&mut self) -> Result<(), AllocError>
-        ensures path { self.new.path ≡ self.old.path }
-        ensures output { OnOk result
-            (self.new.output.items ≡ self.old.output.items ++ path_line self.old.path) }
+        ensures { OnOk result ((self.new.path ≡ self.old.path)
+            × (self.new.output.items ≡ self.old.output.items ++ path_line self.old.path)) }
     {
         add_text_line(&mut self.output, b"= ", self.path.to_cstr16().as_slice())
     }
 
     /// Edits the path and prints it.
     fn edit(&mut self, command: PathCommand<'_>) -> Result<(), AllocError>
-        ensures path { OnOk result (self.new.path ≡ after_command self.old.path command.entry) }
-        ensures output { OnOk result (self.new.output.items
-            ≡ self.old.output.items ++ path_line (after_command self.old.path command.entry)) }
+        ensures { OnOk result ((self.new.path ≡ after_command self.old.path command.entry)
+            × (self.new.output.items
+            ≡ self.old.output.items ++ path_line (after_command self.old.path command.entry))) }
     {
         run_command(self.alloc, &mut self.path, command)?;
         self.print_path()
@@ -136,9 +133,8 @@ impl<A: Allocator + Copy> Run<A> {
 
     /// `from T`
     fn from(&mut self, text: &str) -> Result<(), AllocError>
-        ensures path { OnOk result (self.new.path ≡ path_after (from_text text.now) self.old.path) }
-        ensures output { OnOk result
-            (self.new.output.items ≡ self.old.output.items ++ printed_by (from_text text.now) self.old.path) }
+        ensures { OnOk result ((self.new.path ≡ path_after (from_text text.now) self.old.path)
+            × (self.new.output.items ≡ self.old.output.items ++ printed_by (from_text text.now) self.old.path)) }
     {
         let Some(string) = self.read_text(text)? else {
             return Ok(());
@@ -152,9 +148,8 @@ impl<A: Allocator + Copy> Run<A> {
 
     /// `push T`
     fn push(&mut self, text: &str) -> Result<(), AllocError>
-        ensures path { OnOk result (self.new.path ≡ path_after (push_text text.now) self.old.path) }
-        ensures output { OnOk result
-            (self.new.output.items ≡ self.old.output.items ++ printed_by (push_text text.now) self.old.path) }
+        ensures { OnOk result ((self.new.path ≡ path_after (push_text text.now) self.old.path)
+            × (self.new.output.items ≡ self.old.output.items ++ printed_by (push_text text.now) self.old.path)) }
     {
         match self.read_text(text)? {
             Some(string) => self.edit(PathCommand::Push(Path::new(string.as_cstr16()))),
@@ -164,9 +159,8 @@ impl<A: Allocator + Copy> Run<A> {
 
     /// `parent`
     fn parent(&mut self) -> Result<(), AllocError>
-        ensures path { OnOk result (self.new.path ≡ path_after parent_path self.old.path) }
-        ensures output { OnOk result
-            (self.new.output.items ≡ self.old.output.items ++ printed_by parent_path self.old.path) }
+        ensures { OnOk result ((self.new.path ≡ path_after parent_path self.old.path)
+            × (self.new.output.items ≡ self.old.output.items ++ printed_by parent_path self.old.path)) }
     {
         match self.path.parent()? {
             Some(parent) => {
@@ -179,9 +173,8 @@ impl<A: Allocator + Copy> Run<A> {
 
     /// `pieces`
     fn pieces(&mut self) -> Result<(), AllocError>
-        ensures path { OnOk result (self.new.path ≡ self.old.path) }
-        ensures output { OnOk result
-            (self.new.output.items ≡ self.old.output.items ++ pieces_lines (components_of self.old.path)) }
+        ensures { OnOk result ((self.new.path ≡ self.old.path)
+            × (self.new.output.items ≡ self.old.output.items ++ pieces_lines (components_of self.old.path))) }
     {
         let count = count_components(&self.path);
         add_count_line(self.alloc, &mut self.output, "pieces ", count)?;
@@ -190,9 +183,8 @@ impl<A: Allocator + Copy> Run<A> {
 
     /// `up`
     fn up(&mut self) -> Result<(), AllocError>
-        ensures path { OnOk result (self.new.path ≡ self.old.path) }
-        ensures output { OnOk result
-            (self.new.output.items ≡ self.old.output.items ++ parents_lines (parents_of self.old.path)) }
+        ensures { OnOk result ((self.new.path ≡ self.old.path)
+            × (self.new.output.items ≡ self.old.output.items ++ parents_lines (parents_of self.old.path))) }
     {
         let parent = self.path.parent()?;
         let count = count_parents(&parent);
@@ -202,25 +194,24 @@ impl<A: Allocator + Copy> Run<A> {
 
     /// `eq T`
     fn eq(&mut self, text: &str) -> Result<(), AllocError>
-        ensures path { OnOk result (self.new.path ≡ self.old.path) }
-        ensures output { OnOk result
-            (self.new.output.items ≡ self.old.output.items ++ printed_by (eq_text text.now) self.old.path) }
+        ensures { OnOk result ((self.new.path ≡ self.old.path)
+            × (self.new.output.items ≡ self.old.output.items ++ printed_by (eq_text text.now) self.old.path)) }
     {
         let Some(string) = self.read_text(text)? else {
             return Ok(());
         };
-        if self.path.as_path() == Path::new(string.as_cstr16()) {
-            add_line(&mut self.output, "equal")
+        let line = if self.path.as_path() == Path::new(string.as_cstr16()) {
+            "equal"
         } else {
-            add_line(&mut self.output, "different")
-        }
+            "different"
+        };
+        add_line(&mut self.output, line)
     }
 
     /// `cmp T`
     fn cmp(&mut self, text: &str) -> Result<(), AllocError>
-        ensures path { OnOk result (self.new.path ≡ self.old.path) }
-        ensures output { OnOk result
-            (self.new.output.items ≡ self.old.output.items ++ printed_by (cmp_text text.now) self.old.path) }
+        ensures { OnOk result ((self.new.path ≡ self.old.path)
+            × (self.new.output.items ≡ self.old.output.items ++ printed_by (cmp_text text.now) self.old.path)) }
     {
         let Some(string) = self.read_text(text)? else {
             return Ok(());
@@ -235,9 +226,8 @@ impl<A: Allocator + Copy> Run<A> {
 
     /// Prints why a path is refused.
     fn print_fault(&mut self, error: PathError) -> Result<(), AllocError>
-        ensures path { self.new.path ≡ self.old.path }
-        ensures output { OnOk result
-            (self.new.output.items ≡ self.old.output.items ++ line (path_error_text error)) }
+        ensures { OnOk result ((self.new.path ≡ self.old.path)
+            × (self.new.output.items ≡ self.old.output.items ++ line (path_error_text error))) }
     {
         let line = format!(in self.alloc; "{error}")?;
         add_line(&mut self.output, &line)
@@ -245,9 +235,8 @@ impl<A: Allocator + Copy> Run<A> {
 
     /// `check`
     fn check(&mut self) -> Result<(), AllocError>
-        ensures path { OnOk result (self.new.path ≡ self.old.path) }
-        ensures output { OnOk result
-            (self.new.output.items ≡ self.old.output.items ++ check_line (verdict self.old.path)) }
+        ensures { OnOk result ((self.new.path ≡ self.old.path)
+            × (self.new.output.items ≡ self.old.output.items ++ check_line (verdict self.old.path))) }
     {
         match validate_path(self.path.as_path()) {
             Ok(()) => add_line(&mut self.output, "ok"),
@@ -257,9 +246,9 @@ impl<A: Allocator + Copy> Run<A> {
 
     /// `norm`
     fn norm(&mut self) -> Result<(), AllocError>
-        ensures path { OnOk result (self.new.path ≡ self.old.path) }
-        ensures output { OnOk result (self.new.output.items ≡ self.old.output.items
-            ++ norm_line (verdict self.old.path) (normal_text (normal_of (components_of self.old.path)))) }
+        ensures { OnOk result ((self.new.path ≡ self.old.path)
+            × (self.new.output.items ≡ self.old.output.items
+            ++ norm_line (verdict self.old.path) (normal_text (normal_of (components_of self.old.path))))) }
     {
         match self.path.as_path().normalize(self.alloc) {
             Ok(path) => add_text_line(&mut self.output, b"= ", path.to_cstr16().as_slice()),
@@ -270,10 +259,8 @@ impl<A: Allocator + Copy> Run<A> {
 
     /// Runs a line.
     pub(crate) fn line(&mut self, line: &[u8]) -> Result<(), AllocError>
-        ensures path { OnOk result (self.new.path ≡ path_after (command_of line.now) self.old.path) }
-        ensures output { OnOk result
-            (self.new.output.items
-            ≡ self.old.output.items ++ printed_by (command_of line.now) self.old.path) }
+        ensures { OnOk result ((self.new.path ≡ path_after (command_of line.now) self.old.path)
+            × (self.new.output.items ≡ self.old.output.items ++ printed_by (command_of line.now) self.old.path)) }
     {
         match Command::of_line(line) {
             Command::From(text) => self.from(text),

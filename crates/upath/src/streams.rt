@@ -52,17 +52,16 @@ fn run_input<A: Allocator + Copy, R: Read>(
     alloc: A,
     reader: &mut Watched<R>,
 ) -> Result<Vec<u8, A>, StreamFault>
-    ensures output { IfOk result (λ output. ((input : List ℕ)
+    ensures ok { IfOk result (λ output. ((input : List ℕ)
         × Consumes (R.remaining (stream_of reader.old)) (R.remaining (stream_of reader.new)) input
-        × (output.items ≡ output_of input))) }
-    ensures end { OnOk result (IsAtEnd (R.remaining (stream_of reader.new))) }
-    ensures unmarked { OnOk result (is_marked reader.new ≡ is_marked reader.old) }
+        × (output.items ≡ output_of input)
+        × IsAtEnd (R.remaining (stream_of reader.new))
+        × (is_marked reader.new ≡ is_marked reader.old))) }
     ensures prefix { OnErr result ((input : List ℕ) × Consumes
         (R.remaining (stream_of reader.old)) (R.remaining (stream_of reader.new)) input) }
-    ensures fault { IfErr result (λ fault. fault ≢ StreamFault.Write) }
-    ensures failed { IfErr result (λ fault. fault ≡ StreamFault.Read → is_marked reader.new ≡ true) }
-    ensures refused { IfErr result (λ fault.
-        fault ≢ StreamFault.Read → is_marked reader.new ≡ is_marked reader.old) }
+    ensures fault { IfErr result (λ fault. (fault ≢ StreamFault.Write)
+        × (fault ≡ StreamFault.Read → is_marked reader.new ≡ true)
+        × (fault ≢ StreamFault.Read → is_marked reader.new ≡ is_marked reader.old)) }
 {
     let Ok(mut run) = PartialRun::new(alloc) else {
         return Err(StreamFault::OutOfMemory);
@@ -87,13 +86,11 @@ fn run_input<A: Allocator + Copy, R: Read>(
 
 /// Writes bytes and flushes.
 fn write_output<W: Write>(writer: &mut Watched<W>, output: &[u8]) -> Result<(), StreamFault>
-    ensures output { OnOk result (Appends
-        (W.contents (stream_of writer.old)) (W.contents (stream_of writer.new)) output.now) }
-    ensures unmarked { OnOk result (is_marked writer.new ≡ is_marked writer.old) }
-    ensures prefix { OnErr result (AppendsPrefix
-        (W.contents (stream_of writer.old)) (W.contents (stream_of writer.new)) output.now) }
-    ensures failed { OnErr result (is_marked writer.new ≡ true) }
-    ensures fault { IfErr result (λ fault. fault ≡ StreamFault.Write) }
+    ensures ok { OnOk result (
+        Appends (W.contents (stream_of writer.old)) (W.contents (stream_of writer.new)) output.now
+        × (is_marked writer.new ≡ is_marked writer.old)) }
+    ensures err { IfErr result (λ fault. (fault ≡ StreamFault.Write) × (is_marked writer.new ≡ true)
+        × AppendsPrefix (W.contents (stream_of writer.old)) (W.contents (stream_of writer.new)) output.now) }
 {
     let mut written = 0;
     while written < output.len() {

@@ -10,7 +10,7 @@ returns g c =
     let input = c.args.input.now in
     let given = c.in_ok-run.ensures in
     let all : output_with new.run.output.items new.run.path (new.begun.items ++ []) ≡ output_of (input ++ []) =
-    c.in_ok-add.ensures.output [] ∙ rw (given.path, given.output, given.begun) refl in
+    c.in_ok-add.ensures.output [] ∙ rw (given.0, given.1, given.2) refl in
     let e : output_with new.run.output.items new.run.path new.begun.items ≡ output_of input =
     ap (output_with new.run.output.items new.run.path) (sym (append-nil new.begun.items)) ∙ all ∙ ap output_of (append-nil input) in
     subst (λ (bytes : List ℕ). IfOk c.finish.result (λ output. output.items ≡ bytes)) e c.finish.ensures

@@ -1,5 +1,5 @@
 -- Bytes whose units are no string are refused, and all others encode a text.
-use Rattle.std.proofs.Common.{◌≡◌, ◌%◌, ◌∙◌, ap, sym, None, length, inl, refl}
+use Rattle.std.proofs.Common.{◌≡◌, ◌%◌, ◌∙◌, ap, sym, None, length, inl, refl, rules}
 use Rattle.uefi_text.specs.FromSliceWithNul.{with_nul_refusal}
 use Rattle.uefi_text.specs.UnitBytes.{unit_bytes, units_of_bytes}
 use Rattle.uefi_text.specs.Units.{nul_terminated, without_nul}
@@ -8,7 +8,7 @@ use Rattle.upath.proofs.judging.read_string.Goals as goal
 
 pub returns-in-Ok-clause-ok : goal.returns-in-Ok-clause-ok
 returns-in-Ok-clause-ok g c =
-    (c.in-Ok.ensures.is_text, sym c.in-Some.ensures.bytes ∙ ap unit_bytes (sym c.in-Ok.ensures.ok))
+    ((c.in-Ok.ensures.is_text, sym c.in-Some.ensures.bytes ∙ ap unit_bytes (sym c.in-Ok.ensures.ok)), search rules)
 
 pub returns-in-Err-OutOfMemory-clause-refusal : goal.returns-in-Err-OutOfMemory-clause-refusal
 returns-in-Err-OutOfMemory-clause-refusal g c =

@@ -23,16 +23,17 @@ pub returns-in_default-add-clause-prefix : goal.returns-in_default-add-clause-pr
 returns-in_default-add-clause-prefix g c =
     (_, Consumes-trans _ _ _ _ _ c.chunks.invariant.0.1 c.in-Ok-read.ensures.bytes.0)
 
-pub returns-clause-output : goal.returns-clause-output
-returns-clause-output g c =
+pub returns-clause-ok : goal.returns-clause-ok
+returns-clause-ok g c =
     let read = c.chunks.invariant.0.0 in
-    let run = c.chunks.run.run in
     let part = take c.in-Ok-read.count c.read.new.buf in
     let none : part ≡ [] = ap (λ count. take count c.read.new.buf) c.if-count-eq0.true in (
       read ++ part,
       Consumes-trans _ _ _ read part c.chunks.invariant.0.1 c.in-Ok-read.ensures.bytes.0,
       c.in-Ok-finish.ensures
-          ∙ ap (output_with run.output.items run.path) (sym (append-nil c.chunks.run.begun.items))
+          ∙ ap (output_with _ _) (sym (append-nil c.chunks.run.begun.items))
           ∙ c.chunks.invariant.0.2 []
           ∙ ap (λ (bytes : List ℕ). output_of (read ++ bytes)) (sym none),
+      search rules,
+      search rules,
     )

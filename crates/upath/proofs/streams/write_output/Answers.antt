@@ -1,6 +1,7 @@
-use Rattle.std.proofs.Common.{rules, take, drop, sym, subst, List, ℕ}
+use Rattle.std.proofs.Common.{arith, rules, take, drop, sym, subst, List, ℕ}
 use Rattle.std.proofs.KnownBytes.{Appends-trans}
 use Rattle.std.proofs.Math.Seq.{take-add}
+use Rattle.std.proofs.lemmas.Grind.{common_steps}
 use Rattle.std.proofs.lemmas.List.{take_rest}
 use Rattle.std.specs.Io.KnownBytes.{Appends}
 use Rattle.upath.proofs.streams.write_output.Goals as goal
@@ -17,3 +18,6 @@ loop-written-preserved g c =
     let taken = subst (λ (bytes : List ℕ). Appends mid new (take count bytes)) (take_rest output written) c.in-Ok.ensures.bytes in
     let all = Appends-trans old mid new (take written output) (take count (drop written output)) c.loop-written.invariant.1 taken in
     (search rules, subst (Appends old new) (sym (take-add written count output)) all, search rules)
+
+pub returns-clause-ok : goal.returns-clause-ok
+returns-clause-ok g c = grind (arith, common_steps)

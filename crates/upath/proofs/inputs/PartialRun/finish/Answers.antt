@@ -12,7 +12,7 @@ returns g c =
     elim c.if-not-is_empty.branch [
       | then-not-is_empty+in_ok-line w ↦
           let some : 0 < length begun = grind (arith, common_steps) in
-          rw (c.into_output.ensures, w.run-is, w.in_ok-line.ensures.output, w.deref.ensures.value)
+          rw (c.into_output.ensures, w.run-is, w.in_ok-line.ensures.1, w.deref.ensures.value)
           (sym (output_with-last run.output.items run.path begun some c.requires))
       | else-not-is_empty w ↦
           let none : length begun ≡ 0 = grind (arith, common_steps) in
