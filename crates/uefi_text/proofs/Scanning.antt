@@ -7,8 +7,8 @@ use Rattle.std.proofs.Math.Seq.{take-add}
 use Rattle.std.proofs.lemmas.Bool.{cases_Bool, cases_lt, false≢true}
 use Rattle.std.proofs.lemmas.Grind.{common_steps}
 use Rattle.std.proofs.lemmas.List.Folds.{list_any-append, list_any_at, list_any_none}
-use Rattle.std.proofs.lemmas.List.Sums.{fails_before_first, passes_at_first, position_or_len_is}
-use Rattle.std.proofs.lemmas.Simd.{get_or-chunk, length-chunk}
+use Rattle.std.proofs.lemmas.List.Sums.{position_or_len_is}
+use Rattle.std.proofs.lemmas.Simd.{get_or-chunk}
 use Rattle.uefi_text.specs.Scans.{is_beyond_ascii}
 use Rattle.uefi_text.specs.Units.{is_nul}
 
@@ -113,37 +113,16 @@ each_in_blocks P us start end ordered inside before in_block k below =
           subst P same (in_block (k - start) (omega arith))
     ]
 
--- where a search of a block finds nothing, and nothing passes before it, nothing passes up to its end
-pub nowhere_in_blocks : (p : ℕ → Bool) (us : List ℕ) (start end : ℕ) → start ≤ end → end ≤ length us
-    → ((k : ℕ) → k < start → p (get_or us k 0) ≡ false) → None ≡ position p (slice_range us start end)
-    → (k : ℕ) → k < end → p (get_or us k 0) ≡ false
-nowhere_in_blocks p us start end ordered inside none nowhere =
-    let block = slice_range us start end in
-    let len : length block ≡ end - start = length-chunk start (end - start) us (omega arith) in
-    let past : length block ≤ position_or_len p block = elim (cases_lt (position_or_len p block) (length block)) [
-      | inl found ↦ absurd (grind (arith, common_steps))
-      | inr past ↦ past
-    ] in
-    each_in_blocks (λ u. p u ≡ false) us start end ordered inside none (λ k h. fails_before_first p block k 0 (omega (arith, h)))
+-- a search that finds a place among the first elements finds it among all
+found_first : {X : Type 0} (p : X → Bool) (n : ℕ) (xs : List X) → position_or_len p (take n xs) < length (take n xs)
+    → (position_or_len p (take n xs) < n) × (position_or_len p (take n xs) ≡ position_or_len p xs) × (position_or_len p xs < length xs)
+found_first p zero xs found = absurd (omega (arith, found))
+found_first p (suc n) [] found = absurd (omega (arith, found))
+found_first p (suc n) (x ∷ xs) found = elim (cases_Bool (p x)) [
+  | inl passes ↦ grind (arith, common_steps)
+  | inr fails ↦ let rest = found_first p n xs (grind (arith, common_steps)) in grind (arith, common_steps)
+]
 
--- and where it finds a place, a search of all finds that place after those before the block
-pub position-in_block : (p : ℕ → Bool) (us : List ℕ) (start end place : ℕ) → start ≤ end → end ≤ length us
-    → ((k : ℕ) → k < start → p (get_or us k 0) ≡ false) → Some place ≡ position p (slice_range us start end)
-    → (start + place < end) × (Some (start + place) ≡ position p us)
-position-in_block p us start end place ordered inside none found =
-    let block = slice_range us start end in
-    let len : length block ≡ end - start = length-chunk start (end - start) us (omega arith) in
-    let first : (position_or_len p block ≡ place) × (place < length block) = elim (cases_lt (position_or_len p block) (length block)) [
-      | inl within ↦ let same : position_or_len p block ≡ place = grind (arith, common_steps) in (same, omega arith)
-      | inr past ↦ absurd (grind (arith, common_steps))
-    ] in
-    let passes : p (get_or block place 0) ≡ true = subst (λ i. p (get_or block i 0) ≡ true) first.0 (passes_at_first p block 0 (omega (arith, first))) in
-    let same : (k : ℕ) → k < end - start → get_or block k 0 ≡ get_or us (start + k) 0 = λ k h. get_or-chunk start (end - start) us k 0 h in
-    let before : (k : ℕ) → k < start + place → p (get_or us k 0) ≡ false =
-    λ k h. elim (cases_lt k start) [
-      | inl low ↦ none k low
-      | inr high ↦
-          let at : start + (k - start) ≡ k = omega arith in
-          sym (ap p (same (k - start) (omega (arith, first)) ∙ ap (λ j. get_or us j 0) at)) ∙ fails_before_first p block (k - start) 0 (omega (arith, first))
-    ] in
-    (omega (arith, first), position-at p us (start + place) (omega (arith, first)) before (sym (ap p (same place (omega (arith, first)))) ∙ passes))
+pub position-in_first : {X : Type 0} (p : X → Bool) (n : ℕ) (xs : List X) (place : ℕ) → Some place ≡ position p (take n xs)
+    → (place < n) × (Some place ≡ position p xs)
+position-in_first p n xs place found = let first = found_first p n xs (grind (arith, common_steps)) in grind (arith, common_steps)
