@@ -4,7 +4,7 @@ use borrow.Rule.Slice.PartMut.{put_mid}
 use Rattle.std.specs.List.{fold}
 use Rattle.std.proofs.lemmas.Bool.{cases_Bool}
 use Rattle.std.proofs.lemmas.List.{drop_at, drop-drop, drop-replicate, length-replicate, append-nil, drop_all, length-map, map-append, take_at}
-use Rattle.uefi_text.specs.Units.{replaced}
+use Rattle.uefi_text.specs.Units.{IsText, IsTextUnit, nul_terminated, replaced}
 use Rattle.std.proofs.lemmas.List.Elements.{All-head, All-tail}
 use Rattle.uefi_path.specs.Components.{IsPiece, joined}
 use Rattle.uefi_path.specs.Writing.{written_over}
@@ -13,7 +13,6 @@ use Rattle.uefi_path.specs.Parents.{all_but_last, is_non_empty, parent_of_compon
 use Rattle.uefi_path.specs.Pushing.{appended, needs_separator}
 use Rattle.uefi_path.specs.Separators.{separator, slash, with_separators}
 use Rattle.uefi_path.proofs.Parents.{after_separator, needs_separator-append, closed, open_piece, All-all_but_last, parent_of_components-many, rejoined-added}
-use Rattle.uefi_text.specs.Units.{IsText, IsTextUnit, nul_terminated}
 use Rattle.uefi_path.proofs.ParentForm.{All-rejoined}
 use Rattle.uefi_path.proofs.Pushing.{with_separators-plain}
 use Rattle.uefi_path.proofs.Splitting.{IsPlain-with_separators}

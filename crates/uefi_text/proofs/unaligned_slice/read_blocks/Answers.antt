@@ -1,8 +1,9 @@
 -- Each block writes the items from its start on, and after the last one that is all of them.
 use borrow.Rule.Slice.PartMut.{put_mid, same_len_mid}
-use Rattle.std.proofs.Common.{ℕ, ◌≡◌, ◌∙◌, ◌+◌, ◌-◌, ◌*◌, ◌≤◌, ◌++◌, ap, sym, length, map, refl, take, drop, arith, take-add}
-use Rattle.std.proofs.lemmas.List.{length-drop, length-take, length-take-le, map-append, nil_from_length, take_all}
+use Rattle.std.proofs.Common.{◌≡◌, ◌∙◌, ◌+◌, ◌-◌, ◌*◌, ◌≤◌, ◌++◌, ap, sym, length, map, take, drop, arith, take-add}
+use Rattle.std.proofs.lemmas.List.{length-take, length-take-le, map-append, take_all}
 use Rattle.std.proofs.lemmas.Slice.{take-put_mid}
+use Rattle.std.proofs.lemmas.Grind.{common_steps}
 use Rattle.uefi_text.specs.Packed.{packed_items}
 use Rattle.uefi_text.proofs.Packing.{length-packed_items, packed_items-part, part-fits}
 use Rattle.std.proofs.Math.Nat.{mul-le-mul_right}
@@ -17,9 +18,8 @@ read_block-requires-clause-fits g c =
     let same : start + count - start ≡ count = omega arith in
     let fits = part-fits size start (start + count) len (length c.args.bytes.now) (omega arith) (omega arith) c.requires in
     let fits_count : count * size ≤ length c.args.bytes.now - start * size = rw (← same) fits in
-    let places : length (take (start + count - start) (drop start c.loop-start.dest)) ≡ count =
-    omega (arith, length-take (start + count - start) (drop start c.loop-start.dest), length-drop start c.loop-start.dest) in
-    rw (places, c.SIZE-in-loop-start.ensures) (omega (arith, length-take {A = ℕ}, length-drop {A = ℕ}))
+    let places : length (take (start + count - start) (drop start c.loop-start.dest)) ≡ count = grind (arith, common_steps) in
+    grind (arith, common_steps)
 
 pub loop-start-preserved : goal.loop-start-preserved
 loop-start-preserved g c =
@@ -36,10 +36,8 @@ loop-start-preserved g c =
     let same : start + count - start ≡ count = omega arith in
     let part = packed_items-part size start (start + count) len bytes (omega arith) (omega arith) in
     let of_count : packed_items size count (drop (start * size) bytes) ≡ take count (drop start items) = rw (← same) part in
-    let places : length (take (start + count - start) (drop start dest)) ≡ count =
-    omega (arith, length-take (start + count - start) (drop start dest), length-drop start dest) in
-    let rest : take (length bytes - start * c.SIZE-in-loop-start.result) (drop (start * c.SIZE-in-loop-start.result) bytes) ≡ drop (start * size) bytes =
-    rw c.SIZE-in-loop-start.ensures (take_all (length bytes - start * size) (drop (start * size) bytes) (omega (arith, length-drop (start * size) bytes))) in
+    let places : length (take (start + count - start) (drop start dest)) ≡ count = grind (arith, common_steps) in
+    let rest : take (length bytes - start * c.SIZE-in-loop-start.result) (drop (start * c.SIZE-in-loop-start.result) bytes) ≡ drop (start * size) bytes = grind (arith, common_steps) in
     let written : map number new ≡ take count (drop start items) = rw (places, rest, of_count) at c.read_block.ensures.items in
     let as_many : length new ≡ count = c.read_block.ensures.len ∙ places in
     let front : take (start + count) (put_mid start (start + count - start) dest new) ≡ take start dest ++ new =
@@ -77,9 +75,3 @@ overflow_mul-start g c = omega (arith, slice_bounds-read_block-count g c)
 pub read_block-requires-clause-block : goal.read_block-requires-clause-block
 read_block-requires-clause-block g c =
     omega (arith, length-take (c.loop-start.start + c.min-count.result - c.loop-start.start) (drop c.loop-start.start c.loop-start.dest))
-
-pub returns-then-len-eq0 : goal.returns-then-len-eq0
-returns-then-len-eq0 g c = rw (nil_from_length c.args.dest.now c.if-len-eq0.true) refl
-
-pub overflow_add-items : goal.overflow_add-items
-overflow_add-items g c = omega arith
