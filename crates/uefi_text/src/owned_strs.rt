@@ -167,7 +167,8 @@ impl<'a> CStr16<'a> {
     pub fn to_owned<A: Allocator>(&self, alloc: A) -> Result<CString16<A>, AllocError>
         ensures { IfOk result (λ string. string ≡ text_of self.now) }
     {
-        let units = self.to_u16_slice_with_nul().to_vec(alloc)?;
+        let mut units = Vec::new(alloc);
+        units.extend_from_slice(self.to_u16_slice_with_nul())?;
         Ok(CString16 { units })
     }
 }

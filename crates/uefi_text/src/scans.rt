@@ -63,6 +63,7 @@ fn clear_blocks_end<T: Copy, C: Class<T>>(elements: &[T], start: usize, block: u
 }
 
 /// The place of the first element in the class, one by one.
+#[inline(always)]
 fn find_one_by_one<T: Copy, C: Class<T>>(elements: &[T]) -> Option<usize>
     ensures { result ≡ position C.holds elements.now }
 {
