@@ -98,9 +98,12 @@ pub(crate) fn copy_part<A: Allocator + Copy>(
     PathBuf::from_string(alloc, string)
 }
 
-/// How many units the room has in which a text is made ready to be pushed, with a separator before it and
-/// the NUL after it. What is longer is made in memory that it asks for.
-const ROOM: usize = 128;
+/// How many units the room has in which a short text is made ready to be pushed: with a separator before it
+/// and the NUL after it.
+const ROOM: usize = 32;
+
+/// How many it has for a longer one. What is longer still is made in memory that it asks for.
+const LONG_ROOM: usize = 256;
 
 /// Replaces each slash of a string, of which it is known whether it has one.
 #[inline(always)]
@@ -292,15 +295,21 @@ impl<A: Allocator + Copy> PathBuf<A> {
         if len + 1 < ROOM {
             return self.push_made(&mut [0; ROOM], units);
         }
-        self.push_long(units)
+        self.push_longer(units)
     }
 
-    /// What [`PathBuf::push_counted`] does for a longer text, in memory that it asks for.
-    fn push_long(&mut self, units: &mut CountedUnits<'_>) -> Result<(), AllocError>
+    /// What [`PathBuf::push_counted`] does for a longer text: a function of its own, since the compiler
+    /// clears the room as soon as a function begins.
+    #[inline(never)]
+    fn push_longer(&mut self, units: &mut CountedUnits<'_>) -> Result<(), AllocError>
         requires { counted_text units.now ≢ [] }
         ensures { IsPush self.old self.new units.old units.new result }
     {
-        let Some(size) = units.len().checked_add(2) else {
+        let len = units.len();
+        if len + 1 < LONG_ROOM {
+            return self.push_made(&mut [0; LONG_ROOM], units);
+        }
+        let Some(size) = len.checked_add(2) else {
             return Err(AllocError);
         };
         let mut room = zeros(self.alloc(), size)?;
