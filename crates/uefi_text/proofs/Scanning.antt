@@ -6,6 +6,7 @@ use Rattle.std.specs.Str.{IsAscii}
 use Rattle.std.proofs.Math.Seq.{take-add}
 use Rattle.std.proofs.lemmas.Bool.{cases_Bool, cases_lt, false≢true}
 use Rattle.std.proofs.lemmas.Grind.{common_steps}
+use Rattle.std.proofs.lemmas.List.{take-append-drop}
 use Rattle.std.proofs.lemmas.List.Folds.{list_any-append, list_any_at, list_any_none}
 use Rattle.std.proofs.lemmas.List.Sums.{position_or_len_is}
 use Rattle.std.proofs.lemmas.Simd.{get_or-chunk}
@@ -45,6 +46,16 @@ is_some-position p (x ∷ xs) = elim (cases_Bool (p x)) [
   | inl passes ↦ grind (arith, common_steps)
   | inr fails ↦ let rest = is_some-position p xs in grind (arith, common_steps)
 ]
+
+-- after elements that do not pass the others decide, and so do those of them that pass
+pub any-in_rest : {X : Type 0} (p : X → Bool) (xs : List X) (start : ℕ) → list_any p (take start xs) ≡ false → list_any p (drop start xs) ≡ list_any p xs
+any-in_rest p xs start clear =
+    sym (ap (λ b. b || list_any p (drop start xs)) clear) ∙ sym (list_any-append p (take start xs) (drop start xs)) ∙ ap (list_any p) (take-append-drop start xs)
+
+pub any-in_block : {X : Type 0} (p : X → Bool) (xs : List X) (start n : ℕ) → list_any p (take start xs) ≡ false → list_any p (take n (drop start xs)) ≡ true → list_any p xs ≡ true
+any-in_block p xs start n clear found =
+    sym (any-in_rest p xs start clear) ∙ ap (list_any p) (sym (take-append-drop n (drop start xs)))
+    ∙ list_any-append p (take n (drop start xs)) (drop n (drop start xs)) ∙ ap (λ b. b || list_any p (drop n (drop start xs))) found
 
 -- a search finds nothing exactly where no element passes
 pub none_passes : {X : Type 0} (p : X → Bool) (xs : List X) → list_any p xs ≡ false → All (λ x. p x ≡ false) xs

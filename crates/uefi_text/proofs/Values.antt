@@ -4,7 +4,7 @@ use Rattle.std.proofs.Common.{◌≡◌, ◌≢◌, ◌∙◌, All, Result, Ok, 
 use Rattle.std.proofs.lemmas.Bool.{cases_Bool}
 use Rattle.std.proofs.lemmas.Grind.{common_steps}
 use Rattle.std.proofs.lemmas.List.Elements.{All-weaker}
-use Rattle.std.specs.Result.{OnErr, OnOk}
+use Rattle.std.specs.Result.{OnErr}
 use Rattle.uefi_text.specs.Units.{IsText, IsTextUnit, is_nul}
 use Rattle.uefi_text.specs.FromStr.{from_str_refusal}
 use Rattle.uefi_text.specs.declared.errors.FromStrError.TheVariants.{InteriorNul}
@@ -43,11 +43,7 @@ IsText-units_of part no_nul k d inside =
     let other = no_nul k d inside in
     grind (arith, common_steps)
 
--- what holds in any case holds where there is a value, and where there is an error
-pub on_ok : {T E P : Type 0} (r : Result T E) → P → OnOk r P
-on_ok (Ok value) p = p
-on_ok (Err error) p = tt
-
+-- what holds in any case holds where there is an error
 pub on_err : {T E P : Type 0} (r : Result T E) → P → OnErr r P
 on_err (Ok value) p = tt
 on_err (Err error) p = p

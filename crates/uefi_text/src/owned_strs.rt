@@ -49,20 +49,13 @@ impl Class<Char16> for Nul {
     }
 }
 
-/// Whether each character is another than NUL.
-fn hold_no_nul(characters: &[Char16]) -> bool
-    ensures { IsTrue result ↔ All (λ c. c ≢ 0) characters.now }
-{
-    find_first::<Char16, Nul>(characters).is_none()
-}
-
 /// Whether none of the characters is NUL, which [`CString16::extend`] requires of what it adds. One
 /// pass, which ends at the first NUL; takes no memory.
 pub fn have_no_nul(characters: &[Char16]) -> bool
     ensures all { IsTrue result ↔ All (λ c. c ≢ 0) characters.now }
     ensures copied { IsTrue result → CopiesNoNul characters.now }
 {
-    hold_no_nul(characters)
+    find_first::<Char16, Nul>(characters).is_none()
 }
 
 /// Writes a text of UCS-2 and its NUL into units, from a place on up to their end.
@@ -167,8 +160,9 @@ impl<'a> CStr16<'a> {
     pub fn to_owned<A: Allocator>(&self, alloc: A) -> Result<CString16<A>, AllocError>
         ensures { IfOk result (λ string. string ≡ text_of self.now) }
     {
-        let mut units = Vec::new(alloc);
-        units.extend_from_slice(self.to_u16_slice_with_nul())?;
+        let string = self.to_u16_slice_with_nul();
+        let mut units = Vec::with_capacity(alloc, string.len())?;
+        units.extend_from_slice(string)?;
         Ok(CString16 { units })
     }
 }

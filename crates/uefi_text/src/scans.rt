@@ -88,7 +88,10 @@ pub(crate) fn find_first<T: Copy, C: Class<T>>(elements: &[T]) -> Option<usize>
 fn has_any<T: Copy, C: Class<T>>(elements: &[T]) -> bool
     ensures { result ≡ list_any C.holds elements.now }
 {
-    find_first::<T, C>(elements).is_some()
+    let blocks_end = clear_blocks_end::<T, C>(elements, 0, BLOCK);
+    let start = clear_blocks_end::<T, C>(elements, blocks_end, SMALL_BLOCK);
+    // What follows is less than a block, or begins with one that has such an element.
+    SMALL_BLOCK <= elements.len() - start || find_one_by_one::<T, C>(&elements[start..]).is_some()
 }
 
 /// How many elements of a block are in the class.
