@@ -134,7 +134,8 @@ impl<A: Allocator + Copy> Run<A> {
     /// `from T`
     fn from(&mut self, text: &str) -> Result<(), AllocError>
         ensures { OnOk result ((self.new.path ≡ path_after (from_text text.now) self.old.path)
-            × (self.new.output.items ≡ self.old.output.items ++ printed_by (from_text text.now) self.old.path)) }
+            × (self.new.output.items
+            ≡ self.old.output.items ++ printed_by (from_text text.now) self.old.path)) }
     {
         let Some(string) = self.read_text(text)? else {
             return Ok(());
@@ -149,7 +150,8 @@ impl<A: Allocator + Copy> Run<A> {
     /// `push T`
     fn push(&mut self, text: &str) -> Result<(), AllocError>
         ensures { OnOk result ((self.new.path ≡ path_after (push_text text.now) self.old.path)
-            × (self.new.output.items ≡ self.old.output.items ++ printed_by (push_text text.now) self.old.path)) }
+            × (self.new.output.items
+            ≡ self.old.output.items ++ printed_by (push_text text.now) self.old.path)) }
     {
         match self.read_text(text)? {
             Some(string) => self.edit(PathCommand::Push(Path::new(string.as_cstr16()))),
@@ -195,7 +197,8 @@ impl<A: Allocator + Copy> Run<A> {
     /// `eq T`
     fn eq(&mut self, text: &str) -> Result<(), AllocError>
         ensures { OnOk result ((self.new.path ≡ self.old.path)
-            × (self.new.output.items ≡ self.old.output.items ++ printed_by (eq_text text.now) self.old.path)) }
+            × (self.new.output.items
+            ≡ self.old.output.items ++ printed_by (eq_text text.now) self.old.path)) }
     {
         let Some(string) = self.read_text(text)? else {
             return Ok(());
@@ -211,7 +214,8 @@ impl<A: Allocator + Copy> Run<A> {
     /// `cmp T`
     fn cmp(&mut self, text: &str) -> Result<(), AllocError>
         ensures { OnOk result ((self.new.path ≡ self.old.path)
-            × (self.new.output.items ≡ self.old.output.items ++ printed_by (cmp_text text.now) self.old.path)) }
+            × (self.new.output.items
+            ≡ self.old.output.items ++ printed_by (cmp_text text.now) self.old.path)) }
     {
         let Some(string) = self.read_text(text)? else {
             return Ok(());
@@ -260,7 +264,8 @@ impl<A: Allocator + Copy> Run<A> {
     /// Runs a line.
     pub(crate) fn line(&mut self, line: &[u8]) -> Result<(), AllocError>
         ensures { OnOk result ((self.new.path ≡ path_after (command_of line.now) self.old.path)
-            × (self.new.output.items ≡ self.old.output.items ++ printed_by (command_of line.now) self.old.path)) }
+            × (self.new.output.items
+            ≡ self.old.output.items ++ printed_by (command_of line.now) self.old.path)) }
     {
         match Command::of_line(line) {
             Command::From(text) => self.from(text),
