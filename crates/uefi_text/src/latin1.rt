@@ -32,7 +32,7 @@ impl<'a> CStr8<'a> {
     ///
     /// The first zero decides. At the last place it ends the string. Before the last place it is
     /// refused as `InteriorNul` with its index, even where the bytes don't end in zero. Where there
-    /// is none the result is `NotNulTerminated`. One pass, which ends at the first zero.
+    /// is none the result is `NotNulTerminated`. One pass, which ends soon after the first zero.
     pub fn from_bytes_with_nul(chars: &'a [u8]) -> Result<CStr8<'a>, FromSliceWithNulError>
         ensures ok { IfOk result (λ string. bytes_of string ≡ chars.now) }
         ensures accepts { IsOk result ↔ IsLatin1String chars.now }

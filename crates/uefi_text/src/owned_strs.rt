@@ -50,7 +50,7 @@ impl Class<Char16> for Nul {
 }
 
 /// Whether none of the characters is NUL, which [`CString16::extend`] requires of what it adds. One
-/// pass, which ends at the first NUL; takes no memory.
+/// pass, which ends soon after the first NUL; takes no memory.
 pub fn have_no_nul(characters: &[Char16]) -> bool
     ensures all { IsTrue result ↔ All (λ c. c ≢ 0) characters.now }
     ensures copied { IsTrue result → CopiesNoNul characters.now }
@@ -103,7 +103,7 @@ impl<'a> CStr16<'a> {
     /// Copies the characters up to the first NUL into an owned string.
     ///
     /// Where there is no NUL the result is `NoNul`, and where memory is refused `OutOfMemory`. What
-    /// follows the NUL is not read. `InvalidChar` is never returned: no character is a surrogate.
+    /// follows the NUL does not matter. `InvalidChar` is never returned: no character is a surrogate.
     /// The NUL is found before memory is asked for, in one request.
     pub fn from_char16_until_nul<A: Allocator>(
         alloc: A,
@@ -254,7 +254,7 @@ impl<A: Allocator> CString16<A> {
     /// Takes over a vector of units as a string, without a copy.
     ///
     /// Refused exactly as [`CStr16::from_u16_with_nul`] refuses the units; a refused vector is
-    /// dropped. One pass, which ends at the first NUL or surrogate; takes no memory.
+    /// dropped. One pass, which ends soon after the first NUL or surrogate; takes no memory.
     pub fn try_from_vec(units: Vec<u16, A>) -> Result<Self, FromSliceWithNulError>
         ensures ok { IfOk result (λ string. nul_terminated string ≡ units.items) }
         ensures accepts { IsOk result ↔ IsString units.items }

@@ -98,9 +98,9 @@ impl<'a> CStr16<'a> {
 
     /// Borrows the units up to the first NUL, and with it, as a string.
     ///
-    /// The first NUL or surrogate decides. A NUL ends the string, and what follows it is not read.
+    /// The first NUL or surrogate decides. A NUL ends the string, and what follows it does not matter.
     /// A surrogate is refused as `InvalidChar` with its index. Where there is neither the result is
-    /// `NoNul`. One pass, which ends at that unit; takes no memory.
+    /// `NoNul`. One pass, which ends soon after that unit; takes no memory.
     pub fn from_u16_until_nul(units: &'a [u16]) -> Result<CStr16<'a>, FromSliceUntilNulError>
         ensures ok { IfOk result (λ string. text_of string ≡ before_first is_nul units.now) }
         ensures accepts { IsOk result ↔ BeginsWithString units.now }
@@ -524,7 +524,7 @@ impl<'a> Char16Slice<'a> {
         CStr16Iter { units: self.units }
     }
 
-    /// Whether none of the characters is NUL. One pass, which ends at the first NUL.
+    /// Whether none of the characters is NUL. One pass, which ends soon after the first NUL.
     pub fn has_no_nul(&self) -> bool
         ensures { IsTrue result ↔ All (λ unit. unit ≢ 0) (units_of self.now) }
     {
