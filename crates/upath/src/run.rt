@@ -115,8 +115,9 @@ impl<A: Allocator + Copy> Run<A> {
 
     /// Prints the path.
     fn print_path(&mut self) -> Result<(), AllocError>
-        ensures { OnOk result ((self.new.path ≡ self.old.path)
-            × (self.new.output.items ≡ self.old.output.items ++ path_line self.old.path)) }
+        ensures path { self.new.path ≡ self.old.path }
+        ensures output { OnOk result
+            (self.new.output.items ≡ self.old.output.items ++ path_line self.old.path) }
     {
         add_text_line(&mut self.output, b"= ", self.path.to_cstr16().as_slice())
     }
@@ -230,8 +231,9 @@ impl<A: Allocator + Copy> Run<A> {
 
     /// Prints why a path is refused.
     fn print_fault(&mut self, error: PathError) -> Result<(), AllocError>
-        ensures { OnOk result ((self.new.path ≡ self.old.path)
-            × (self.new.output.items ≡ self.old.output.items ++ line (path_error_text error))) }
+        ensures path { self.new.path ≡ self.old.path }
+        ensures output { OnOk result
+            (self.new.output.items ≡ self.old.output.items ++ line (path_error_text error)) }
     {
         let line = format!(in self.alloc; "{error}")?;
         add_line(&mut self.output, &line)
