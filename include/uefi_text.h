@@ -64,9 +64,9 @@ typedef int32_t uefi_order;
 
 /* The version of this library: its numbers, and its text. */
 #define UEFI_TEXT_VERSION_MAJOR 0
-#define UEFI_TEXT_VERSION_MINOR 5
+#define UEFI_TEXT_VERSION_MINOR 6
 #define UEFI_TEXT_VERSION_PATCH 0
-#define UEFI_TEXT_VERSION "0.5.0"
+#define UEFI_TEXT_VERSION "0.6.0"
 
 #ifdef __cplusplus
 extern "C" {
@@ -182,8 +182,10 @@ uefi_bool UEFI_CALL uefi_string_equal_until_nul(const uefi_unit *units, uefi_siz
 uefi_bool UEFI_CALL uefi_utf8_is_latin1(const uefi_byte *bytes, uefi_size byte_count);
 
 /*
- * Paths. Components stand between separators, '\'. One separator at the start of a path is ignored. A slash is
- * no separator; the calls that write a path write a separator in its place.
+ * Paths. Components stand between separators, '\'. One separator at the start of a path is ignored. A slash is no
+ * separator, and no file's name holds one: uefi_path_verdict and uefi_path_normalize refuse a path with a slash as
+ * UEFI_ILLEGAL_CHAR. uefi_path_push, uefi_path_join and uefi_path_parent write a separator in its place, so a path that
+ * may hold slashes is joined with the empty path first, and then made normal.
  */
 
 /*

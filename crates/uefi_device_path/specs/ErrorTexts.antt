@@ -42,7 +42,8 @@ load_option_error_text error =
 abbrev pub build_error_text : BuildError → List ℕ
 build_error_text build.EndNode = codes "the node ends no instance and may not stand before the end"
 build_error_text build.NodeTooLong = codes "the node is longer than its header can state"
-build_error_text (build.BufferTooSmall needed) = codes "the path has " ++ decimal needed ++ codes " bytes"
+build_error_text (build.BufferTooSmall needed) =
+    codes "buffer too small: the device path needs " ++ decimal needed ++ codes " bytes"
 build_error_text build.OutOfMemory = codes "out of memory"
 
 -- what is printed where a node has no name
@@ -64,18 +65,19 @@ option_build_error_text written.ListTooLong =
     codes "the file path list is longer than its header can state"
 option_build_error_text written.TooLong = codes "the load option is longer than memory"
 option_build_error_text (written.BufferTooSmall needed) =
-    codes "the load option has " ++ decimal needed ++ codes " bytes"
+    codes "buffer too small: the load option needs " ++ decimal needed ++ codes " bytes"
 option_build_error_text written.OutOfMemory = codes "out of memory"
 
 -- what is printed where a file path is not written into a buffer
 abbrev pub file_path_write_error_text : FilePathWriteError → List ℕ
 file_path_write_error_text (in_buffer.Name error) = file_path_error_text error
 file_path_write_error_text (in_buffer.BufferTooSmall needed) =
-    codes "the file path has " ++ decimal needed ++ codes " units"
+    codes "buffer too small: the file path needs " ++ decimal needed ++ codes " units"
 
 -- what is printed where a text is not written
 abbrev pub text_write_error_text : TextWriteError → List ℕ
-text_write_error_text (text.BufferTooSmall needed) = codes "the text has " ++ decimal needed ++ codes " units"
+text_write_error_text (text.BufferTooSmall needed) =
+    codes "buffer too small: the text needs " ++ decimal needed ++ codes " units"
 
 -- the text of the reason why a text is no path
 abbrev pub path_text_error_text : PathTextError → List ℕ

@@ -101,7 +101,10 @@ impl fmt::Display for FilePathWriteError {
     fn fmt<W: fmt::Write>(&self, f: &mut fmt::Formatter<W>) -> fmt::Result {
         match self {
             Self::Name(error) => write!(f, "{error}"),
-            Self::BufferTooSmall(needed) => write!(f, "the file path has {needed} units"),
+            Self::BufferTooSmall(needed) => write!(
+                f,
+                "buffer too small: the file path needs {needed} units"
+            ),
         }
     }
 }
@@ -125,7 +128,10 @@ impl fmt::Display for TextWriteError {
 
     fn fmt<W: fmt::Write>(&self, f: &mut fmt::Formatter<W>) -> fmt::Result {
         match self {
-            Self::BufferTooSmall(needed) => write!(f, "the text has {needed} units"),
+            Self::BufferTooSmall(needed) => write!(
+                f,
+                "buffer too small: the text needs {needed} units"
+            ),
         }
     }
 }
@@ -219,7 +225,10 @@ impl fmt::Display for BuildError {
                 "the node ends no instance and may not stand before the end"
             ),
             Self::NodeTooLong => f.write_str("the node is longer than its header can state"),
-            Self::BufferTooSmall(needed) => write!(f, "the path has {needed} bytes"),
+            Self::BufferTooSmall(needed) => write!(
+                f,
+                "buffer too small: the device path needs {needed} bytes"
+            ),
             Self::OutOfMemory => f.write_str("out of memory"),
         }
     }
@@ -260,7 +269,10 @@ impl fmt::Display for OptionBuildError {
                 "the file path list is longer than its header can state"
             ),
             Self::TooLong => f.write_str("the load option is longer than memory"),
-            Self::BufferTooSmall(needed) => write!(f, "the load option has {needed} bytes"),
+            Self::BufferTooSmall(needed) => write!(
+                f,
+                "buffer too small: the load option needs {needed} bytes"
+            ),
             Self::OutOfMemory => f.write_str("out of memory"),
         }
     }

@@ -1,5 +1,12 @@
-use super::*;
+use crate::entries::{line_of_entry, starts_by_itself};
+use crate::names::name_len;
+use crate::paths::{EntryError, entry_path};
+use crate::stored::is_entry;
 use std::test::Fail;
+use uefi_device_path::{LoadOptionCause, LoadOptionError};
+use uefi_path::{Path, PathError};
+use uefi_text::{CString16, FromSliceWithNulError, FromStrError};
+use upath::JudgeError;
 
 #[test]
 fn entries(rt: HostRuntime) -> Result<(), Fail> {
@@ -57,5 +64,35 @@ fn stored_entries(rt: HostRuntime) -> Result<(), Fail> {
         is_entry(rt.alloc(), b"b", entry),
         Err(JudgeError::HalfUnit)
     );
+    Ok(())
+}
+
+#[test]
+fn names(rt: HostRuntime) {
+    assert_eq!(rt; name_len(&[0x48, 0x69, 0]), Ok(2));
+    assert_eq!(rt;
+        name_len(&[0x48, 0xd800, 0]),
+        Err(FromSliceWithNulError::InvalidChar(1))
+    );
+}
+
+/// An active entry with one device path.
+const DISK: &[u8] =
+    b"\x01\0\0\0\x20\0d\0i\0s\0k\0\0\0\x02\x01\x0c\0\xd0\x41\x03\x0a\0\0\0\0\x01\x01\x06\0\x02\x1f\
+    \x03\x12\x0a\0\0\0\xff\xff\0\0\x7f\xff\x04\0";
+
+#[test]
+fn boot_entries(rt: HostRuntime) -> Result<(), Fail> {
+    assert_eq!(rt; starts_by_itself(DISK), Ok(true));
+    assert_eq!(rt;
+        line_of_entry(rt.alloc(), DISK)?.as_str(),
+        "disk, PciRoot(0x0)/Pci(0x1F,0x2)/Sata(0x0,0xFFFF,0x0)"
+    );
+    let cut = DISK.get(..47).unwrap_or(&[]);
+    let refused = LoadOptionError {
+        cause: LoadOptionCause::ListBeyondEnd,
+        offset: 4,
+    };
+    assert_eq!(rt; starts_by_itself(cut), Err(refused));
     Ok(())
 }
