@@ -1,7 +1,8 @@
 //! Calls the library from Rust, as a firmware program does that builds with `rustc` alone: the functions of
 //! `include/uefi_text.h`, each in a safe wrapper of a few lines.
 //!
-//! Build: `rustc paths.rs -L crates/uefi_c/out -l static=uefi_c`. `examples/check` builds and runs it.
+//! Build, at the top of the repository: `rustc examples/paths.rs -L crates/uefi_c/out -l static=uefi_c`. `examples/check`
+//! builds and runs it.
 
 use std::ops::Range;
 
