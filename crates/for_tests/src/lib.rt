@@ -1,8 +1,7 @@
-//! What the test crates above share: an allocator that refuses a request, the runs that refuse each
-//! request in turn, lists of hostile code units, and strings of Rust texts.
+//! What the test crates share: an allocator that refuses a request, the runs that refuse each request in
+//! turn, places at which a fault is hidden, and texts: as strings, printed, and as hexadecimal bytes.
 //!
-//! No product crate depends on it or on a test crate. Its rows are those that several of the crates
-//! `conformance_*` share; all others stand there, by subject.
+//! No product crate depends on it or on a test crate.
 #![tactic(auto)]
 
 pub mod hostile;
@@ -10,7 +9,7 @@ pub mod refusals;
 pub mod refusing;
 pub mod texts;
 
-pub use hostile::{Deciding, HostileUnits, hostile_places, hostile_units};
+pub use hostile::hostile_places;
 pub use refusals::{Refusals, out_of_memory, refused_in_turn, requests};
 pub use refusing::Refusing;
-pub use texts::{has_text, repeated, string};
+pub use texts::{are_ordered, bytes, has_text, prints, repeated, shows, split_row, string};

@@ -1,6 +1,9 @@
-//! Strings of Rust texts, and strings compared with such.
+//! Strings of Rust texts, strings compared with such, what values print, rows of tables that are texts, and bytes
+//! in hexadecimal.
 
-use std::alloc::Allocator;
+use std::alloc::{Allocator, Global};
+use std::cmp::Ordering;
+use std::fmt::{Debug, Display};
 use std::test::Fail;
 use uefi_text::{CStr16, CString16};
 
@@ -24,4 +27,41 @@ pub fn has_text(string: CStr16<'_>, want: &str) -> bool {
         }
     }
     characters.next().is_none()
+}
+
+/// Whether a value prints this for users.
+pub fn shows<T: Display>(alloc: Global, value: &T, want: &str) -> bool {
+    matches!(format!(in alloc; "{value}"), Ok(printed) if printed.as_str() == want)
+}
+
+/// Whether a value prints this: what it prints for users, a bar, and what it prints for programmers.
+pub fn prints<T: Display + Debug>(alloc: Global, value: &T, want: &str) -> bool {
+    matches!(format!(in alloc; "{value}|{value:?}"), Ok(printed) if printed.as_str() == want)
+}
+
+/// A row of a table that is a text: what stands before the first space of a line, and what follows it.
+pub fn split_row(line: &str) -> (&str, &str) {
+    line.split_once(' ').unwrap_or((line, ""))
+}
+
+/// Whether two values stand in this order, and are equal only where it says so.
+pub fn are_ordered<T: Ord>(a: &T, b: &T, want: Ordering) -> bool {
+    a.cmp(b) == want && a.partial_cmp(b) == Some(want) && (a == b) == (want == Ordering::Equal)
+}
+
+/// The bytes of a text in hexadecimal, two digits each.
+pub fn bytes(alloc: Global, digits: &str) -> Result<Vec<u8>, Fail> {
+    let mut bytes = Vec::new(alloc);
+    let mut high = None;
+    for digit in digits.chars() {
+        let value = digit.to_digit(16).ok_or("a digit")? as u8;
+        match high {
+            None => high = Some(value),
+            Some(first) => {
+                bytes.push(first % 16 * 16 + value % 16)?;
+                high = None;
+            }
+        }
+    }
+    Ok(bytes)
 }

@@ -1,11 +1,8 @@
 //! Strings written into sinks of characters.
 
-ghost use Rattle.std.specs.Prelude.{◌≡◌, ◌+◌, ◌<◌, ◌⊎◌, IsFalse, encode_utf8, length};
-ghost use Rattle.std.specs.Char.{is_ascii_uppercase};
+ghost use Rattle.std.specs.Prelude.{◌≡◌, ◌+◌, ◌<◌, ◌⊎◌, encode_utf8, length};
 
 use arrayvec::ArrayString;
-use for_tests::Refusing;
-use std::alloc::Global;
 use std::fmt;
 use std::test::Fail;
 use uefi_text::{CStr16, CharSink};
@@ -35,81 +32,11 @@ fn fills_exactly(string: CStr16<'_>, empty: CStr16<'_>) -> bool {
 fn sinks_of_fixed_room(rt: HostRuntime) -> Result<(), Fail> {
     let string = CStr16::from_u16_with_nul(&[97, 0xe9, 98, 99, 0])?;
     let empty = CStr16::from_u16_with_nul(&[0])?;
-    assert!(rt; fills_four(string));
-    assert!(rt; fills_exactly(string, empty));
+    assert!(rt; fills_four(string) && fills_exactly(string, empty));
     Ok(())
 }
 
-#[test]
-fn sinks_that_grow(rt: HostRuntime) -> Result<(), Fail> {
-    let string = CStr16::from_u16_with_nul(&[97, 0xe9, 98, 99, 0])?;
-    let mut text = String::from_str(rt.alloc(), "x")?;
-    assert!(rt; string.as_str_in_buf(&mut text).is_ok() && text.as_str() == "xaébc");
-    Ok(())
-}
-
-/// Whether a sink out of memory stays empty, and still takes the empty string.
-fn stays_empty(heap: &Refusing<Global>, string: CStr16<'_>, empty: CStr16<'_>) -> bool {
-    let mut text = String::new(heap);
-    let is_refused = string.as_str_in_buf(&mut text).is_err() && text.is_empty();
-    is_refused && empty.as_str_in_buf(&mut text).is_ok() && text.is_empty()
-}
-
-#[test]
-fn sinks_out_of_memory(rt: HostRuntime) -> Result<(), Fail> {
-    let string = CStr16::from_u16_with_nul(&[97, 0xe9, 98, 99, 0])?;
-    let empty = CStr16::from_u16_with_nul(&[0])?;
-    assert!(rt; stays_empty(&Refusing::new(rt.alloc(), 1), string, empty));
-    Ok(())
-}
-
-/// A text of capital letters that refuses all others.
-#[derive(Drop)]
-struct Capitals {
-    text: ArrayString<64>,
-}
-
-impl CharSink for Capitals {
-    ghost text = { λ sink. sink.text.bytes };
-
-    ghost may_refuse = { λ text c.
-        (64 < length text + length (encode_utf8 c)) ⊎ IsFalse (is_ascii_uppercase c) };
-
-    fn write_char(&mut self, c: char) -> fmt::Result {
-        if !c.is_ascii_uppercase() {
-            return Err(fmt::Error);
-        }
-        match self.text.try_push(c) {
-            Ok(()) => Ok(()),
-            Err(_) => Err(fmt::Error),
-        }
-    }
-}
-
-/// Whether a sink of capital letters takes so much of a string, and says whether that is all.
-fn takes(string: CStr16<'_>, taken: &str, all: bool) -> bool {
-    let mut sink = Capitals {
-        text: ArrayString::new(),
-    };
-    string.as_str_in_buf(&mut sink).is_ok() == all && sink.text.as_str() == taken
-}
-
-/// A sink that a caller defines.
-#[test]
-fn sinks_of_a_caller(rt: HostRuntime) -> Result<(), Fail> {
-    let rows: [(&[u16], &str, bool); 3] = [
-        (&[69, 70, 73, 0], "EFI", true),
-        (&[69, 70, 105, 50, 0], "EF", false),
-        (&[0], "", true),
-    ];
-    for (units, taken, all) in rows {
-        let string = CStr16::from_u16_with_nul(units)?;
-        assert!(rt; takes(string, taken, all), "{taken}");
-    }
-    Ok(())
-}
-
-/// A text that takes `LEN` bytes and refuses what comes then.
+/// A text that takes `LEN` bytes and refuses what comes then: a sink that a caller defines.
 #[derive(Drop)]
 struct Closing<const LEN: usize> {
     text: ArrayString<64>,

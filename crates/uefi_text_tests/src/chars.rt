@@ -1,114 +1,84 @@
 //! Characters of Latin-1 and of UCS-2.
 
+use for_tests::prints;
 use std::test::Fail;
 use uefi_text::chars::{Char8, Char16, CharConversionError, NUL_8, NUL_16};
 
-#[test]
-fn code_units_as_characters(rt: HostRuntime) -> Result<(), Fail> {
-    for (unit, want) in [
-        (0, true),
-        (0xd7ff, true),
-        (0xd800, false),
-        (0xdfff, false),
-        (0xe000, true),
-        (0xffff, true),
-    ] {
-        assert!(rt; Char16::try_from(unit).is_ok() == want, "{unit}");
+/// Characters, and their numbers as a byte and as a code unit, where they have one.
+const CHARACTERS: &[(char, Option<u8>, Option<u16>)] = &[
+    ('A', Some(65), Some(65)),
+    ('\0', Some(0), Some(0)),
+    ('é', Some(0xe9), Some(0xe9)),
+    ('ÿ', Some(255), Some(255)),
+    ('Ā', None, Some(0x100)),
+    ('ꋃ', None, Some(0xa2c3)),
+    ('\u{ffff}', None, Some(0xffff)),
+    ('\u{10000}', None, None),
+    ('😀', None, None),
+];
+
+/// Whether a character becomes this byte, which gives it back, or is refused.
+fn has_byte(character: char, want: Option<u8>) -> bool {
+    match (Char8::try_from(character), want) {
+        (Ok(made), Some(byte)) => {
+            u8::from(made) == byte
+                && char::from(Char8::from(byte)) == character
+                && made.eq_char(character)
+                && !made.eq_char('\u{141}')
+        }
+        (Err(error), None) => error == CharConversionError,
+        _ => false,
     }
-    assert!(rt; u16::from(Char16::try_from(0xe000u16)?) == 0xe000);
-    Ok(())
 }
 
-/// Whether both conversions give the character of this number, which gives the Rust character back.
-fn has_number(character: char, number: u16) -> Result<bool, Fail> {
-    let made = Char16::try_from_char(character)?;
-    Ok(
-        u16::from(made) == number
-            && u16::from(Char16::try_from(character)?) == number
-            && char::from(made) == character,
-    )
-}
-
-/// Whether both conversions refuse a Rust character.
-fn is_beyond_ucs2(character: char) -> bool {
-    Char16::try_from_char(character) == Err(CharConversionError)
-        && Char16::try_from(character) == Err(CharConversionError)
-}
-
-#[test]
-fn rust_characters_as_characters(rt: HostRuntime) -> Result<(), Fail> {
-    for (character, number) in [('A', 65), ('\0', 0), ('ꋃ', 0xa2c3), ('\u{ffff}', 0xffff)] {
-        assert!(rt; has_number(character, number)?, "{number}");
+/// Whether a character becomes this code unit both ways, and the unit gives it back, or is refused.
+fn has_unit(character: char, want: Option<u16>) -> bool {
+    match (Char16::try_from_char(character), want) {
+        (Ok(made), Some(unit)) => {
+            u16::from(made) == unit
+                && Char16::try_from(character) == Ok(made)
+                && char::from(made) == character
+                && made.eq_char(character)
+                && !made.eq_char('\u{10041}')
+                && made.is_ascii() == character.is_ascii()
+        }
+        (Err(error), None) => Char16::try_from(character) == Err(error),
+        _ => false,
     }
-    for character in ['\u{10000}', '😀'] {
-        assert!(rt; is_beyond_ucs2(character));
-    }
-    assert!(rt; Char16::default() == NUL_16);
-    Ok(())
-}
-
-/// Whether the conversion gives the character of this byte, which gives the Rust character back.
-fn has_byte(character: char, byte: u8) -> Result<bool, Fail> {
-    Ok(u8::from(Char8::try_from(character)?) == byte && char::from(Char8::from(byte)) == character)
 }
 
 #[test]
-fn rust_characters_as_bytes(rt: HostRuntime) -> Result<(), Fail> {
-    for (character, byte) in [('A', 65), ('\0', 0), ('é', 0xe9), ('ÿ', 255)] {
-        assert!(rt; has_byte(character, byte)?, "{byte}");
+fn characters_and_their_numbers(rt: HostRuntime) {
+    for (character, byte, unit) in CHARACTERS {
+        let is_right = has_byte(*character, *byte) && has_unit(*character, *unit);
+        assert!(rt; is_right, "{character:?}");
     }
-    for character in ['Ā', 'ꋃ', '😀'] {
-        assert!(rt;
-            Char8::try_from(character) == Err(CharConversionError),
-            "{character}"
-        );
-    }
-    assert!(rt; Char8::default() == NUL_8);
-    Ok(())
+    assert!(rt; Char8::default() == NUL_8 && Char16::default() == NUL_16);
 }
 
-/// Whether a character of each kind equals `A`, and no character whose number ends in its bits.
-fn are_a(byte: Char8, unit: Char16) -> bool {
-    byte.eq_char('A') && !byte.eq_char('\u{141}') && unit.eq_char('A') && !unit.eq_char('\u{10041}')
-}
+/// Units, and whether they are characters.
+const UNITS: &[(u16, bool)] = &[
+    (0, true),
+    (0xd7ff, true),
+    (0xd800, false),
+    (0xdfff, false),
+    (0xe000, true),
+    (0xffff, true),
+];
 
 #[test]
-fn characters_that_equal_rust_characters(rt: HostRuntime) -> Result<(), Fail> {
-    assert!(rt; are_a(Char8::from(65), Char16::try_from('A')?));
-    assert!(rt; Char16::try_from('~')?.is_ascii());
-    assert!(rt; !Char16::try_from('\u{80}')?.is_ascii());
-    Ok(())
-}
-
-/// Whether the character of a byte prints this.
-fn prints_byte(rt: &HostRuntime, byte: u8, want: &str) -> Result<bool, Fail> {
-    Ok(Char8::from(byte).to_string(rt.alloc())?.as_str() == want)
-}
-
-/// Whether the character of a code unit prints this.
-fn prints_unit(rt: &HostRuntime, unit: u16, want: &str) -> Result<bool, Fail> {
-    Ok(Char16::try_from(unit)?.to_string(rt.alloc())?.as_str() == want)
+fn code_units_as_characters(rt: HostRuntime) {
+    for (unit, want) in UNITS {
+        assert!(rt; Char16::try_from(*unit).is_ok() == *want, "{unit}");
+    }
 }
 
 #[test]
 fn printed_characters(rt: HostRuntime) -> Result<(), Fail> {
-    for (byte, want) in [(65, "A"), (0xe9, "é"), (0, "\0")] {
-        assert!(rt; prints_byte(&rt, byte, want)?, "{byte}");
-    }
-    for (unit, want) in [
-        (65u16, "A"),
-        (0xe9, "é"),
-        (0xa2c3, "ꋃ"),
-        (0xffff, "\u{ffff}"),
-    ] {
-        assert!(rt; prints_unit(&rt, unit, want)?, "{unit}");
-    }
-    Ok(())
-}
-
-#[test]
-fn printed_for_programmers(rt: HostRuntime) -> Result<(), Fail> {
-    let printed = format!(in rt.alloc(); "{:?} {:?}", Char8::from(0xe9), Char16::try_from('\n')?)?;
-    assert!(rt; printed.as_str() == r"'é' '\n'");
+    assert!(rt; prints(rt.alloc(), &Char8::from(65), "A|'A'"));
+    assert!(rt; prints(rt.alloc(), &Char8::from(0xe9), "é|'é'"));
+    assert!(rt; prints(rt.alloc(), &NUL_8, "\0|'\\0'"));
+    assert!(rt; prints(rt.alloc(), &Char16::try_from('ꋃ')?, "ꋃ|'ꋃ'"));
+    assert!(rt; prints(rt.alloc(), &Char16::try_from('\n')?, "\n|'\\n'"));
     Ok(())
 }

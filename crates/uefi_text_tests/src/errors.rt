@@ -1,122 +1,94 @@
-//! What errors print.
+//! What errors print for users and for programmers.
 
+use for_tests::shows;
 use std::test::Fail;
 use uefi_text::{
-    CharConversionError, FromSliceUntilNulError, FromSliceWithNulError, FromStrError,
-    FromStrWithBufError, UnalignedCStr16Error,
+    CharConversionError, FromSliceUntilNulError as UntilNul, FromSliceWithNulError as WithNul,
+    FromStrError, FromStrWithBufError as WithBuffer, UnalignedCStr16Error as Packed,
 };
 
-#[test]
-fn texts_of_slice_errors(rt: HostRuntime) -> Result<(), Fail> {
-    for (error, want) in [
-        (
-            FromSliceWithNulError::InvalidChar(0),
-            "invalid character at index 0",
-        ),
-        (
-            FromSliceWithNulError::InteriorNul(12),
-            "interior null character at index 12",
-        ),
-        (
-            FromSliceWithNulError::NotNulTerminated,
-            "not null-terminated",
-        ),
-        (
-            FromSliceWithNulError::NotAligned,
-            "slice is not aligned to a 16-bit boundary",
-        ),
-        (FromSliceWithNulError::OutOfMemory, "out of memory"),
-    ] {
-        assert!(rt; error.to_string(rt.alloc())?.as_str() == want, "{want}");
-    }
-    for (error, want) in [
-        (
-            FromSliceUntilNulError::InvalidChar(usize::MAX),
-            "invalid character at index 18446744073709551615",
-        ),
-        (FromSliceUntilNulError::NoNul, "no nul character"),
-        (FromSliceUntilNulError::OutOfMemory, "out of memory"),
-    ] {
-        assert!(rt; error.to_string(rt.alloc())?.as_str() == want, "{want}");
-    }
-    Ok(())
-}
+const WITH_NUL: &[(WithNul, &str)] = &[
+    (WithNul::InvalidChar(0), "invalid character at index 0"),
+    (
+        WithNul::InteriorNul(12),
+        "interior null character at index 12",
+    ),
+    (WithNul::NotNulTerminated, "not null-terminated"),
+    (
+        WithNul::NotAligned,
+        "slice is not aligned to a 16-bit boundary",
+    ),
+    (WithNul::OutOfMemory, "out of memory"),
+];
+
+const UNTIL_NUL: &[(UntilNul, &str)] = &[
+    (UntilNul::InvalidChar(300), "invalid character at index 300"),
+    (UntilNul::NoNul, "no nul character"),
+    (UntilNul::OutOfMemory, "out of memory"),
+];
+
+const PACKED: &[(Packed, &str)] = &[
+    (Packed::InvalidChar(7), "invalid character at index 7"),
+    (Packed::InteriorNul(1), "interior null character at index 1"),
+    (Packed::NotNulTerminated, "not null-terminated"),
+    (Packed::BufferTooSmall, "buffer too small"),
+];
+
+const WITH_BUFFER: &[(WithBuffer, &str)] = &[
+    (WithBuffer::InvalidChar(10), "invalid character at index 10"),
+    (
+        WithBuffer::InteriorNul(0),
+        "interior null character at index 0",
+    ),
+    (WithBuffer::BufferTooSmall, "buffer too small"),
+];
+
+const FROM_STR: &[(FromStrError, &str)] = &[
+    (
+        FromStrError::InvalidChar,
+        "UCS-2 Conversion Error: Invalid character",
+    ),
+    (
+        FromStrError::InteriorNul,
+        "UCS-2 Conversion Error: Interior null terminator",
+    ),
+    (
+        FromStrError::OutOfMemory,
+        "UCS-2 Conversion Error: Out of memory",
+    ),
+];
 
 #[test]
-fn texts_of_buffer_errors(rt: HostRuntime) -> Result<(), Fail> {
-    for (error, want) in [
-        (
-            UnalignedCStr16Error::InvalidChar(7),
-            "invalid character at index 7",
-        ),
-        (
-            UnalignedCStr16Error::InteriorNul(usize::MAX),
-            "interior null character at index 18446744073709551615",
-        ),
-        (
-            UnalignedCStr16Error::NotNulTerminated,
-            "not null-terminated",
-        ),
-        (UnalignedCStr16Error::BufferTooSmall, "buffer too small"),
-    ] {
-        assert!(rt; error.to_string(rt.alloc())?.as_str() == want, "{want}");
+fn printed_for_users(rt: HostRuntime) {
+    for (error, want) in WITH_NUL {
+        assert!(rt; shows(rt.alloc(), error, want), "{want}");
     }
-    for (error, want) in [
-        (
-            FromStrWithBufError::InvalidChar(10),
-            "invalid character at index 10",
-        ),
-        (
-            FromStrWithBufError::InteriorNul(0),
-            "interior null character at index 0",
-        ),
-        (FromStrWithBufError::BufferTooSmall, "buffer too small"),
-    ] {
-        assert!(rt; error.to_string(rt.alloc())?.as_str() == want, "{want}");
+    for (error, want) in UNTIL_NUL {
+        assert!(rt; shows(rt.alloc(), error, want), "{want}");
     }
-    Ok(())
+    for (error, want) in PACKED {
+        assert!(rt; shows(rt.alloc(), error, want), "{want}");
+    }
+    for (error, want) in WITH_BUFFER {
+        assert!(rt; shows(rt.alloc(), error, want), "{want}");
+    }
+    for (error, want) in FROM_STR {
+        assert!(rt; shows(rt.alloc(), error, want), "{want}");
+    }
+    assert!(rt; shows(rt.alloc(), &CharConversionError, "CharConversionError"));
 }
 
-/// What each refusal prints for programmers.
 #[test]
 fn printed_for_programmers(rt: HostRuntime) -> Result<(), Fail> {
-    let (whole, until) = (
-        FromSliceWithNulError::InteriorNul(12),
-        FromSliceUntilNulError::NoNul,
+    let (whole, until) = (WithNul::InteriorNul(12), UntilNul::NoNul);
+    let slices = format!(in rt.alloc(); "{whole:?} {until:?} {:?}", CharConversionError)?;
+    assert!(rt; slices.as_str() == "InteriorNul(12) NoNul CharConversionError");
+    let (packed, text, owned) = (
+        Packed::BufferTooSmall,
+        WithBuffer::InvalidChar(7),
+        FromStrError::InvalidChar,
     );
-    let slices = format!(in rt.alloc(); "{whole:?} {until:?}")?;
-    assert!(rt; slices.as_str() == "InteriorNul(12) NoNul");
-    let (packed, text) = (
-        UnalignedCStr16Error::BufferTooSmall,
-        FromStrWithBufError::InvalidChar(7),
-    );
-    let buffers = format!(in rt.alloc(); "{packed:?} {text:?}")?;
-    assert!(rt; buffers.as_str() == "BufferTooSmall InvalidChar(7)");
-    let (owned, character) = (FromStrError::InvalidChar, CharConversionError);
-    let texts = format!(in rt.alloc(); "{owned:?} {character:?}")?;
-    assert!(rt; texts.as_str() == "InvalidChar CharConversionError");
-    Ok(())
-}
-
-#[test]
-fn texts_of_conversion_errors(rt: HostRuntime) -> Result<(), Fail> {
-    for (error, want) in [
-        (
-            FromStrError::InvalidChar,
-            "UCS-2 Conversion Error: Invalid character",
-        ),
-        (
-            FromStrError::InteriorNul,
-            "UCS-2 Conversion Error: Interior null terminator",
-        ),
-        (
-            FromStrError::OutOfMemory,
-            "UCS-2 Conversion Error: Out of memory",
-        ),
-    ] {
-        assert!(rt; error.to_string(rt.alloc())?.as_str() == want, "{want}");
-    }
-    let text = CharConversionError.to_string(rt.alloc())?;
-    assert!(rt; text.as_str() == "CharConversionError");
+    let buffers = format!(in rt.alloc(); "{packed:?} {text:?} {owned:?}")?;
+    assert!(rt; buffers.as_str() == "BufferTooSmall InvalidChar(7) InvalidChar");
     Ok(())
 }

@@ -1,12 +1,13 @@
 //! Rust texts in which a character is hidden that no string of UCS-2 holds, or one that takes more bytes
 //! than those beside it, at each place: as owned strings, in buffers, as Latin-1, and back.
 
-use crate::conversions::gives_text;
-use crate::rust_texts::{borrows, writes};
-use for_tests::{Deciding, hostile_places, repeated};
+use crate::hostile_units::Deciding;
+use crate::strs::{gives_text, is_buffered};
+use for_tests::{hostile_places, repeated};
 use std::test::Fail;
 use uefi_text::{
-    CString16, FromStrError, FromStrWithBufError, has_no_nul, is_latin1, str_num_latin1_chars,
+    CString16, FromStrError, FromStrWithBufError as WithBuffer, has_no_nul, is_latin1,
+    str_num_latin1_chars,
 };
 
 /// Characters that stand among others, their units in UTF-16, and how many of these come before the one for
@@ -92,36 +93,18 @@ fn is_owned(rt: &HostRuntime, hostile: &HostileText) -> Result<bool, Fail> {
 
 /// Whether a text is a string in a buffer of nines with this much room, or refused, and its units stand
 /// there then, as far as there is room.
-fn is_buffered(rt: &HostRuntime, hostile: &HostileText, room: usize) -> Result<bool, Fail> {
+fn is_buffered_in(rt: &HostRuntime, hostile: &HostileText, room: usize) -> Result<bool, Fail> {
     let len = hostile.units.len();
     let want = match hostile.deciding {
-        _ if room <= len => Err(FromStrWithBufError::BufferTooSmall),
-        Deciding::Nul => Err(FromStrWithBufError::InteriorNul(hostile.len)),
-        Deciding::Surrogate => Err(FromStrWithBufError::InvalidChar(hostile.len)),
+        _ if room <= len => Err(WithBuffer::BufferTooSmall),
+        Deciding::Nul => Err(WithBuffer::InteriorNul(hostile.len)),
+        Deciding::Surrogate => Err(WithBuffer::InvalidChar(hostile.len)),
         Deciding::None => Ok(len.saturating_add(1)),
     };
-    let mut after = Vec::new(rt.alloc());
-    after.extend_from_slice(&hostile.units)?;
+    let mut after = hostile.units.clone()?;
     after.push(0)?;
     after.resize(room, 9)?;
-    Ok(writes(rt, &hostile.text, want, &after)? && borrows(rt, &hostile.text, want, &after)?)
-}
-
-/// Whether that is so of buffers that end before, in and after the text.
-fn is_buffered_in_each(rt: &HostRuntime, hostile: &HostileText) -> Result<bool, Fail> {
-    let len = hostile.units.len();
-    for room in [
-        hostile.place,
-        hostile.place.saturating_add(1),
-        len,
-        len.saturating_add(1),
-        len.saturating_add(2),
-    ] {
-        if !is_buffered(rt, hostile, room)? {
-            return Ok(false);
-        }
-    }
-    Ok(true)
+    is_buffered(rt, &hostile.text, want, &after)
 }
 
 /// Whether a text is said to be one of Latin-1, and to hold no NUL, where its units say so.
@@ -136,7 +119,8 @@ fn is_told_from_latin1(hostile: &HostileText) -> bool {
         && has_no_nul(text) != hostile.units.contains(&0)
 }
 
-/// Whether each conversion of a row's text is right, its characters at this place among this many others.
+/// Whether each conversion of a row's text is right, its characters at this place among this many others: in
+/// buffers that end before, in and after the text too.
 fn is_converted(
     rt: &HostRuntime,
     others: usize,
@@ -145,11 +129,19 @@ fn is_converted(
     row: Row,
 ) -> Result<bool, Fail> {
     let hostile = text_of(rt, others, place, other, row)?;
-    Ok(
-        is_told_from_latin1(&hostile)
-            && is_owned(rt, &hostile)?
-            && is_buffered_in_each(rt, &hostile)?,
-    )
+    let (place, len) = (hostile.place, hostile.units.len());
+    for room in [
+        place,
+        place.saturating_add(1),
+        len,
+        len.saturating_add(1),
+        len.saturating_add(2),
+    ] {
+        if !is_buffered_in(rt, &hostile, room)? {
+            return Ok(false);
+        }
+    }
+    Ok(is_told_from_latin1(&hostile) && is_owned(rt, &hostile)?)
 }
 
 /// Places around the blocks in which long texts are looked at, the first of them and the last: how many
@@ -166,38 +158,18 @@ const LONG_PLACES: &[(usize, usize)] = &[
     (600, 300),
 ];
 
-/// The first text that is converted wrongly, where the characters at all other places are this one: how many
-/// of them there are, the place, and what stands there.
-fn find_wrong(
-    rt: &HostRuntime,
-    other: (&str, u16),
-) -> Result<Option<(usize, usize, &'static str)>, Fail> {
+/// Characters of one byte, of two and of three at all other places.
+#[test]
+fn each_text(rt: HostRuntime) -> Result<(), Fail> {
     let mut places = hostile_places(rt.alloc())?;
     places.extend_from_slice(LONG_PLACES)?;
-    for (others, place) in &places {
-        for row in MIDDLES {
-            if !is_converted(rt, *others, *place, other, *row)? {
-                return Ok(Some((*others, *place, row.0)));
+    for other in [("A", 65), ("é", 0xe9), ("€", 0x20ac)] {
+        for (others, place) in &places {
+            for row in MIDDLES {
+                let is_right = is_converted(&rt, *others, *place, other, *row)?;
+                assert!(rt; is_right, "{others} others, {:?} at {place}", row.0);
             }
         }
     }
-    Ok(None)
-}
-
-#[test]
-fn among_characters_of_one_byte(rt: HostRuntime) -> Result<(), Fail> {
-    assert_eq!(rt; find_wrong(&rt, ("A", 65))?, None);
-    Ok(())
-}
-
-#[test]
-fn among_characters_of_two_bytes(rt: HostRuntime) -> Result<(), Fail> {
-    assert_eq!(rt; find_wrong(&rt, ("é", 0xe9))?, None);
-    Ok(())
-}
-
-#[test]
-fn among_characters_of_three_bytes(rt: HostRuntime) -> Result<(), Fail> {
-    assert_eq!(rt; find_wrong(&rt, ("€", 0x20ac))?, None);
     Ok(())
 }

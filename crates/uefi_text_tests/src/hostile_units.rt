@@ -1,73 +1,193 @@
-//! Code units, characters and bytes in which a unit that no text holds is hidden, at each place and by
-//! each constructor: the first such unit decides.
+//! Code units, characters, bytes and packed units in which a unit that no text holds is hidden, at each place
+//! and by each constructor: the first such unit decides.
 
-use crate::conversions::characters;
-use for_tests::{Deciding, HostileUnits, hostile_units};
+use crate::packed_strings::leaves;
+use crate::strs::{are_strings, is_whole_owned};
+use for_tests::hostile_places;
+use std::alloc::Global;
 use std::test::Fail;
-use uefi_text::{CStr16, Char16, FromSliceUntilNulError, FromSliceWithNulError};
+use uefi_text::{
+    CStr16, CString16, FromSliceUntilNulError as UntilNul, FromSliceWithNulError as WithNul,
+    UnalignedCStr16Error as Packed, UnalignedSlice,
+};
 
-/// Whether this is the string of the units before the first NUL, or why they are none.
-fn are_answered_until_nul(
-    hostile: &HostileUnits,
-    answer: Result<CStr16<'_>, FromSliceUntilNulError>,
-) -> bool {
-    match (answer, hostile.deciding) {
-        (Ok(string), Deciding::Nul) => string.to_u16_slice() == hostile.text(),
-        (Err(error), Deciding::Surrogate) => {
-            error == FromSliceUntilNulError::InvalidChar(hostile.len)
+/// What the first unit is that is a NUL or a surrogate.
+#[derive(Clone, Copy)]
+pub(crate) enum Deciding {
+    None,
+    Nul,
+    Surrogate,
+}
+
+/// Units that stand among others, units that stand at the end, and how many of all these come before the
+/// one that decides, and what that is.
+type Row = (&'static [u16], &'static [u16], usize, Deciding);
+
+const ROWS: &[Row] = &[
+    (&[], &[0], 0, Deciding::Nul),
+    (&[0xd7ff], &[0], 1, Deciding::Nul),
+    (&[0xe000], &[0], 1, Deciding::Nul),
+    (&[0xffff], &[0], 1, Deciding::Nul),
+    // Two bytes side by side are zero, but of two units.
+    (&[0x100, 1], &[0], 2, Deciding::Nul),
+    (&[0xd800], &[0], 0, Deciding::Surrogate),
+    (&[0xdbff], &[0], 0, Deciding::Surrogate),
+    (&[0xdc00], &[0], 0, Deciding::Surrogate),
+    (&[0xdfff], &[0], 0, Deciding::Surrogate),
+    // A pair of surrogates is no character either.
+    (&[0xd83d, 0xde00], &[0], 0, Deciding::Surrogate),
+    (&[0xffff, 0xd83d], &[0], 1, Deciding::Surrogate),
+    (&[0xd83d, 0], &[0], 0, Deciding::Surrogate),
+    (&[0, 0xd800], &[0], 0, Deciding::Nul),
+    (&[0], &[0], 0, Deciding::Nul),
+    (&[0], &[], 0, Deciding::Nul),
+    (&[0], &[0xdc00], 0, Deciding::Nul),
+    (&[0xd800], &[], 0, Deciding::Surrogate),
+    (&[0xd800], &[0xdc00], 0, Deciding::Surrogate),
+    (&[], &[], 0, Deciding::None),
+    (&[], &[0x100], 1, Deciding::None),
+    (&[], &[0xdc00], 0, Deciding::Surrogate),
+    (&[], &[0, 0], 0, Deciding::Nul),
+    (&[], &[0xd83d, 0], 0, Deciding::Surrogate),
+    (&[], &[0, 0xd83d], 0, Deciding::Nul),
+];
+
+/// Code units, and which of them decides whether they are a string.
+#[derive(Drop)]
+struct HostileUnits {
+    units: Vec<u16>,
+    /// The bytes of the units, two for each, the low one first, after one other.
+    bytes_after_one: Vec<u8>,
+    /// How many units come before the one that decides.
+    len: usize,
+    deciding: Deciding,
+}
+
+impl HostileUnits {
+    /// How many units come before the NUL of the string of all of them, or why they are none.
+    fn whole(&self) -> Result<usize, WithNul> {
+        match self.deciding {
+            Deciding::None => Err(WithNul::NotNulTerminated),
+            Deciding::Surrogate => Err(WithNul::InvalidChar(self.len)),
+            Deciding::Nul if self.len.saturating_add(1) == self.units.len() => Ok(self.len),
+            Deciding::Nul => Err(WithNul::InteriorNul(self.len)),
         }
-        (Err(error), Deciding::None) => error == FromSliceUntilNulError::NoNul,
-        _ => false,
+    }
+
+    /// How many units come before the first NUL, or why there is no string.
+    fn front(&self) -> Result<usize, UntilNul> {
+        match self.deciding {
+            Deciding::None => Err(UntilNul::NoNul),
+            Deciding::Surrogate => Err(UntilNul::InvalidChar(self.len)),
+            Deciding::Nul => Ok(self.len),
+        }
+    }
+
+    /// Why the units are no string in a buffer with this much room, if they are none.
+    fn refusal_in(&self, room: usize) -> Option<Packed> {
+        match self.whole() {
+            _ if room < self.units.len() => Some(Packed::BufferTooSmall),
+            Ok(_) => None,
+            Err(WithNul::InvalidChar(place)) => Some(Packed::InvalidChar(place)),
+            Err(WithNul::InteriorNul(place)) => Some(Packed::InteriorNul(place)),
+            Err(_) => Some(Packed::NotNulTerminated),
+        }
     }
 }
 
-/// What follows the first NUL is not looked at by the second call.
-fn are_borrowed(hostile: &HostileUnits) -> bool {
-    hostile.are_answered(CStr16::from_u16_with_nul(&hostile.units))
-        && are_answered_until_nul(hostile, CStr16::from_u16_until_nul(&hostile.units))
+/// The units of a row at this place among this many others.
+fn list_of(alloc: Global, others: usize, place: usize, row: Row) -> Result<HostileUnits, Fail> {
+    let (middle, end, rank, deciding) = row;
+    let mut units = Vec::new(alloc);
+    units.resize(place, 65)?;
+    units.extend_from_slice(middle)?;
+    units.resize(others.saturating_add(middle.len()), 65)?;
+    units.extend_from_slice(end)?;
+    let mut bytes_after_one = vec![in alloc; 0xffu8]?;
+    for unit in &units {
+        bytes_after_one.extend_from_slice(&unit.to_le_bytes())?;
+    }
+    let before = if rank < middle.len() { place } else { others };
+    Ok(HostileUnits {
+        units,
+        bytes_after_one,
+        len: rank.saturating_add(before),
+        deciding,
+    })
 }
 
-/// Whether characters are read as their units, if no surrogate is among those.
-fn are_read_as_characters(rt: &HostRuntime, hostile: &HostileUnits, list: &[Char16]) -> bool {
-    list.len() < hostile.units.len()
-        || hostile.are_answered_owned(&CStr16::from_char16_with_nul(rt.alloc(), list))
-            && match &CStr16::from_char16_until_nul(rt.alloc(), list) {
-                Ok(string) => are_answered_until_nul(hostile, Ok(string.as_cstr16())),
-                Err(error) => are_answered_until_nul(hostile, Err(*error)),
-            }
-}
-
-/// Whether bytes are refused since no NUL of two bytes ends them.
-fn are_open(rt: &HostRuntime, bytes: &[u8]) -> bool {
-    CStr16::from_bytes_with_nul(rt.alloc(), bytes).err()
-        == Some(FromSliceWithNulError::NotNulTerminated)
-}
-
-/// Whether the bytes of units are their string, or refused, and are refused without the last of them. The
-/// end decides before any unit.
-fn are_read_from(rt: &HostRuntime, hostile: &HostileUnits, bytes: &[u8]) -> bool {
-    let is_right = if hostile.units.ends_with(&[0]) {
-        hostile.are_answered_owned(&CStr16::from_bytes_with_nul(rt.alloc(), bytes))
+/// Whether bytes of units are their string, or refused, and are refused without the last of them. The end
+/// decides before any unit.
+fn are_read(rt: &HostRuntime, hostile: &HostileUnits, bytes: &[u8]) -> bool {
+    let want = if hostile.units.ends_with(&[0]) {
+        hostile.whole()
     } else {
-        are_open(rt, bytes)
+        Err(WithNul::NotNulTerminated)
     };
-    is_right
-        && are_open(
-            rt,
-            bytes.get(..bytes.len().saturating_sub(1)).unwrap_or(&[]),
-        )
+    let others = bytes.get(..bytes.len().saturating_sub(1)).unwrap_or(&[]);
+    let cut = CStr16::from_bytes_with_nul(rt.alloc(), others).err();
+    is_whole_owned(
+        &hostile.units,
+        &CStr16::from_bytes_with_nul(rt.alloc(), bytes),
+        want,
+    ) && cut == Some(WithNul::NotNulTerminated)
 }
 
-/// Bytes from an even place of memory and from an odd one.
+/// Whether packed units are a string in a buffer of nines with this much room, or refused: they stand there
+/// then, if there is room for all.
+fn are_buffered(
+    rt: &HostRuntime,
+    items: &UnalignedSlice<'_, u16>,
+    hostile: &HostileUnits,
+    room: usize,
+) -> Result<bool, Fail> {
+    let mut after = Vec::new(rt.alloc());
+    if hostile.units.len() <= room {
+        after.extend_from_slice(&hostile.units)?;
+    }
+    after.resize(room, 9)?;
+    leaves(rt, items, &after, hostile.refusal_in(room))
+}
+
+/// Whether packed units are a string, or refused, in memory of their own and in buffers that have room, just
+/// room, or less.
+fn are_unpacked(rt: &HostRuntime, hostile: &HostileUnits, bytes: &[u8]) -> Result<bool, Fail> {
+    let Some(items) = UnalignedSlice::from_unit_bytes(bytes) else {
+        return Ok(false);
+    };
+    let (units, want, len) = (&hostile.units, hostile.whole(), hostile.units.len());
+    Ok(
+        is_whole_owned(units, &items.to_cstring16(rt.alloc()), want)
+            && is_whole_owned(
+                units,
+                &CString16::try_from_unaligned(rt.alloc(), &items),
+                want,
+            )
+            && are_buffered(rt, &items, hostile, len.saturating_sub(1))?
+            && are_buffered(rt, &items, hostile, len)?
+            && are_buffered(rt, &items, hostile, len.saturating_add(1))?,
+    )
+}
+
+/// Whether each constructor answers as it has to.
+fn are_answered(rt: &HostRuntime, hostile: &HostileUnits) -> Result<bool, Fail> {
+    let bytes = hostile.bytes_after_one.get(1..).unwrap_or(&[]);
+    let (units, whole) = (&hostile.units, hostile.whole());
+    Ok(
+        are_strings(rt, units, whole, hostile.front())?
+            && is_whole_owned(units, &CString16::try_from_vec(units.clone()?), whole)
+            && are_read(rt, hostile, bytes)
+            && are_unpacked(rt, hostile, bytes)?,
+    )
+}
+
 #[test]
 fn each_list_of_units(rt: HostRuntime) -> Result<(), Fail> {
-    for hostile in &hostile_units(rt.alloc())? {
-        let list = characters(&rt, &hostile.units)?;
-        let is_right = are_borrowed(hostile)
-            && are_read_from(&rt, hostile, &hostile.bytes)
-            && are_read_from(&rt, hostile, hostile.bytes_at_odd_place())
-            && are_read_as_characters(&rt, hostile, &list);
-        assert!(rt; is_right, "{:?}", hostile.units);
+    for (others, place) in &hostile_places(rt.alloc())? {
+        for row in ROWS {
+            let hostile = list_of(rt.alloc(), *others, *place, *row)?;
+            assert!(rt; are_answered(&rt, &hostile)?, "{:?}", hostile.units);
+        }
     }
     Ok(())
 }

@@ -1,7 +1,7 @@
 //! Lines in which bytes are hidden that are no UTF-8, a character that no string of UCS-2 holds, the end of
 //! a line, or a character of more bytes than those beside it, at each place.
 
-use crate::printed::prints;
+use crate::run::prints;
 use for_tests::{hostile_places, repeated};
 use std::test::Fail;
 

@@ -1,9 +1,8 @@
 //! Bytes that are judged to be a path, or refused.
 
-use for_tests::has_text;
-use std::test::Fail;
-use uefi_path::PathError;
-use uefi_text::{Char16, FromSliceWithNulError};
+use for_tests::{has_text, shows};
+use uefi_text::FromSliceWithNulError;
+use uefi_text::FromSliceWithNulError::{InteriorNul, InvalidChar, NotNulTerminated};
 use upath::{JudgeError, judge};
 
 /// Whether bytes are accepted as the path of a text.
@@ -16,61 +15,71 @@ fn is_refused(rt: &HostRuntime, bytes: &[u8], want: JudgeError) -> bool {
     judge(rt.alloc(), bytes).err() == Some(want)
 }
 
-#[test]
-fn accepted_bytes(rt: HostRuntime) {
-    let rows: [(&[u8], &str); 3] = [
-        (&[0x2f, 0, 0x61, 0, 0, 0], r"\a"),
-        (&[0x5c, 0, 0, 0], r"\"),
-        (&[0xff, 0xff, 0, 0], "\u{ffff}"),
-    ];
-    for (bytes, want) in rows {
-        assert!(rt; accepts(&rt, bytes, want), "{bytes:?}");
-    }
+/// Bytes, and the text of their path.
+const ACCEPTED: &[(&[u8], &str)] = &[
+    (&[0x2f, 0, 0x61, 0, 0, 0], r"\a"),
+    (&[0x5c, 0, 0, 0], r"\"),
+    (&[0xff, 0xff, 0, 0], "\u{ffff}"),
+];
+
+/// Bytes of no text, and why.
+const NO_TEXT: &[(&[u8], FromSliceWithNulError)] = &[
+    (&[], NotNulTerminated),
+    (&[0x61, 0], NotNulTerminated),
+    (&[0, 0xd8], InvalidChar(0)),
+    (&[0x41, 0, 0, 0xd8, 0, 0], InvalidChar(1)),
+    (&[0x61, 0, 0, 0, 0x62, 0], InteriorNul(1)),
+];
+
+/// Bytes of no path, and what the refusal prints.
+const NO_PATH: &[(&[u8], &str)] = &[
+    (&[0, 0], "path is empty"),
+    (
+        &[0x5c, 0, 0x5c, 0, 0, 0],
+        "path contains an empty component",
+    ),
+    (&[0x2e, 0, 0x2e, 0, 0, 0], "path climbs above the root"),
+    (
+        &[0x61, 0, 0x3e, 0, 0, 0],
+        "path contains an illegal character (value 62)",
+    ),
+];
+
+/// Whether bytes are refused as a path for what this says.
+fn is_no_path(rt: &HostRuntime, bytes: &[u8], want: &str) -> bool {
+    matches!(
+        judge(rt.alloc(), bytes),
+        Err(JudgeError::Invalid(why)) if shows(rt.alloc(), &why, want)
+    )
 }
 
 #[test]
-fn refused_bytes(rt: HostRuntime) -> Result<(), Fail> {
-    let illegal = PathError::IllegalChar(Char16::try_from('>')?);
-    let rows: [(&[u8], JudgeError); 12] = [
-        (&[0x61, 0, 0], JudgeError::HalfUnit),
-        (&[0], JudgeError::HalfUnit),
-        (
-            &[],
-            JudgeError::Text(FromSliceWithNulError::NotNulTerminated),
-        ),
-        (
-            &[0x61, 0],
-            JudgeError::Text(FromSliceWithNulError::NotNulTerminated),
-        ),
-        (
-            &[0, 0xd8],
-            JudgeError::Text(FromSliceWithNulError::InvalidChar(0)),
-        ),
-        (
-            &[0x41, 0, 0, 0xd8, 0, 0],
-            JudgeError::Text(FromSliceWithNulError::InvalidChar(1)),
-        ),
-        (
-            &[0x61, 0, 0, 0, 0x62, 0],
-            JudgeError::Text(FromSliceWithNulError::InteriorNul(1)),
-        ),
-        (&[0, 0], JudgeError::Invalid(PathError::Empty)),
-        (
-            &[0x61, 0, 0x2f, 0, 0x2f, 0, 0x62, 0, 0, 0],
-            JudgeError::Invalid(PathError::EmptyComponent),
-        ),
-        (
-            &[0x5c, 0, 0x5c, 0, 0, 0],
-            JudgeError::Invalid(PathError::EmptyComponent),
-        ),
-        (&[0x61, 0, 0x3e, 0, 0, 0], JudgeError::Invalid(illegal)),
-        (
-            &[0x2e, 0, 0x2e, 0, 0, 0],
-            JudgeError::Invalid(PathError::ClimbsAboveRoot),
-        ),
-    ];
-    for (bytes, want) in rows {
-        assert!(rt; is_refused(&rt, bytes, want), "{bytes:?}");
+fn judged_bytes(rt: HostRuntime) {
+    for (bytes, want) in ACCEPTED {
+        assert!(rt; accepts(&rt, bytes, want), "{bytes:?}");
     }
-    Ok(())
+    for (bytes, why) in NO_TEXT {
+        assert!(rt; is_refused(&rt, bytes, JudgeError::Text(*why)), "{bytes:?}");
+    }
+    for (bytes, why) in NO_PATH {
+        assert!(rt; is_no_path(&rt, bytes, why), "{bytes:?}");
+    }
+}
+
+/// An odd number of bytes is refused for that, and else bytes that no NUL ends.
+#[test]
+fn bytes_that_end_too_soon(rt: HostRuntime) {
+    let bytes: &[u8] = &[0x5c, 0, 0x61, 0, 0, 0];
+    for len in 0..6usize {
+        let want = if len % 2 == 0 {
+            JudgeError::Text(NotNulTerminated)
+        } else {
+            JudgeError::HalfUnit
+        };
+        assert!(rt;
+            is_refused(&rt, bytes.get(..len).unwrap_or(&[]), want),
+            "{len}"
+        );
+    }
+    assert!(rt; accepts(&rt, bytes, r"\a"));
 }

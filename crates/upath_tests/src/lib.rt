@@ -1,25 +1,19 @@
-//! Tests of what programs do with paths: bytes judged, lists of commands, lines of commands, runs over
+//! Tests of `upath`, what programs do with paths: bytes judged, lists of commands, lines of commands, runs over
 //! streams that fail, and each request for memory refused in turn.
 #![tactic(auto)]
 
 #[cfg(test)]
 mod errors;
 #[cfg(test)]
-mod hostile_bytes;
-#[cfg(test)]
 mod hostile_lines;
 #[cfg(test)]
 mod judging;
-#[cfg(test)]
-mod lists;
 #[cfg(test)]
 mod long_paths;
 #[cfg(test)]
 mod out_of_memory;
 #[cfg(test)]
 mod path_commands;
-#[cfg(test)]
-mod printed;
 #[cfg(test)]
 mod run;
 #[cfg(test)]

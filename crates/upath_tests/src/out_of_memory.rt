@@ -1,39 +1,53 @@
 //! What programs do with paths, with each request for memory refused in turn, until a run ends with
 //! none refused, which gives what ample memory gives. All calls stand in one table.
 
-use for_tests::{Refusals, Refusing, out_of_memory, refused_in_turn};
+use for_tests::{Refusing, out_of_memory, refused_in_turn, requests, string};
 use std::alloc::{AllocError, Global};
 use std::io::{self, Read};
 use std::test::Fail;
 use uefi_path::{Path, PathBuf, PathError};
-use uefi_text::{CStr16, Char16, FromSliceWithNulError};
+use uefi_text::FromSliceWithNulError::{InvalidChar, NotNulTerminated};
+use uefi_text::{CStr16, Char16Slice};
 use upath::{
     JudgeError, PathCommand, RunFault, StreamFault, Watched, all_parents, judge, pieces,
     run_commands, run_streams, run_text,
 };
 
-/// A call that takes memory, or is refused before it does, and what it is given. Units have their NUL.
+/// A call that takes memory, or is refused before it does, and what it is given.
 #[derive(Clone, Copy)]
-enum Call<'a> {
+enum Call {
     /// One command that sets the path `a`, and 64 that push `b`.
     RunCommands,
     /// Commands of each kind, of which the last two take none.
     RunEachCommand,
     /// Commands that take none.
     RunCommandsWithout,
-    /// Bytes, and why they are no path, if they are none.
-    Judge(&'a [u8], Option<JudgeError>),
-    /// The units of a path, and a heap for what is compared.
-    Pieces(&'a [u16], Global),
-    /// The units of a path of three components.
-    AllParents(&'a [u16]),
+    /// Bytes, and what they are judged to be.
+    Judge(&'static [u8], Verdict),
+    /// The units of a path of three components, with their NUL.
+    AllParents(&'static [u16]),
     /// An input, and what the run prints.
-    RunText(&'static [u8], &'a [u8]),
-    /// An input, what the run writes, and a heap for that.
-    RunStreams(&'static [u8], &'a [u8], Global),
+    RunText(&'static [u8], &'static [u8]),
+    RunStreams(&'static [u8], &'static [u8]),
 }
 
-/// Whether units are `a` and `\\b` after it, again and again, `count` components in all.
+/// What bytes are judged to be.
+#[derive(Clone, Copy)]
+enum Verdict {
+    Path,
+    Empty,
+    Illegal,
+    HalfUnit,
+    Open,
+    Surrogate,
+}
+
+/// The string of units with their NUL.
+fn borrow(units: &[u16]) -> Result<CStr16<'_>, AllocError> {
+    CStr16::from_u16_with_nul(units).map_err(|_| AllocError)
+}
+
+/// Whether units are `a` and `\b` after it, again and again, `count` components in all.
 fn are_components(units: &[u16], count: usize) -> bool {
     match (units.split_first(), count.checked_sub(1)) {
         (None, None) => true,
@@ -47,14 +61,8 @@ fn are_components(units: &[u16], count: usize) -> bool {
 
 /// Whether the commands of a long list are done, or the path is what those that were done made of it.
 fn runs_or_stops(heap: &Refusing<Global>) -> Result<bool, AllocError> {
-    let (Ok(first), Ok(second)) = (
-        CStr16::from_u16_with_nul(&[97, 0]),
-        CStr16::from_u16_with_nul(&[98, 0]),
-    ) else {
-        return Ok(false);
-    };
-    let mut commands = [PathCommand::Push(Path::new(second)); 65];
-    commands[0] = PathCommand::From(first);
+    let mut commands = [PathCommand::Push(Path::new(borrow(&[98, 0])?)); 65];
+    commands[0] = PathCommand::From(borrow(&[97, 0])?);
     let mut path = PathBuf::new(heap)?;
     let answer = run_commands(heap, &mut path, &commands);
     let units = path.to_cstr16().to_u16_slice();
@@ -67,15 +75,9 @@ fn runs_or_stops(heap: &Refusing<Global>) -> Result<bool, AllocError> {
 /// Whether a list with a command of each kind is done, or the path is what those that were done made of it:
 /// only the first three take memory.
 fn runs_each_or_stops(heap: &Refusing<Global>) -> Result<bool, AllocError> {
-    let (Ok(first), Ok(second)) = (
-        CStr16::from_u16_with_nul(&[47, 97, 0]),
-        CStr16::from_u16_with_nul(&[98, 0]),
-    ) else {
-        return Ok(false);
-    };
     let commands = [
-        PathCommand::From(first),
-        PathCommand::Push(Path::new(second)),
+        PathCommand::From(borrow(&[47, 97, 0])?),
+        PathCommand::Push(Path::new(borrow(&[98, 0])?)),
         PathCommand::Parent,
         PathCommand::Parent,
         PathCommand::Clear,
@@ -92,53 +94,34 @@ fn runs_each_or_stops(heap: &Refusing<Global>) -> Result<bool, AllocError> {
     }
 }
 
-/// Whether a parent of the empty path, a push of the empty text, a clearing and the empty list leave the
-/// path empty.
+/// Whether a parent of the empty path, a push of the empty text and a clearing leave the path empty.
 fn needs_no_memory(heap: &Refusing<Global>) -> Result<bool, AllocError> {
     let mut path = PathBuf::new(heap)?;
-    let Ok(empty) = CStr16::from_u16_with_nul(&[0]) else {
-        return Ok(false);
-    };
     let commands = [
         PathCommand::Parent,
-        PathCommand::Push(Path::new(empty)),
+        PathCommand::Push(Path::new(borrow(&[0])?)),
         PathCommand::Clear,
     ];
-    match (
-        run_commands(heap, &mut path, &commands),
-        run_commands(heap, &mut path, &[]),
-    ) {
-        (Ok(()), Ok(())) => Ok(path.is_empty()),
-        _ => Ok(false),
-    }
+    Ok(run_commands(heap, &mut path, &commands).is_ok() && path.is_empty())
 }
 
 /// Whether the verdict on bytes is this, or memory ran out.
-fn judges(
-    heap: &Refusing<Global>,
-    bytes: &[u8],
-    want: Option<JudgeError>,
-) -> Result<bool, AllocError> {
-    match judge(heap, bytes).err() {
-        Some(JudgeError::OutOfMemory) => Err(AllocError),
-        verdict => Ok(verdict == want),
-    }
-}
-
-/// Whether the components of a path are those that ample memory gives.
-fn lists(heap: &Refusing<Global>, units: &[u16], alloc: Global) -> Result<bool, AllocError> {
-    let Ok(text) = CStr16::from_u16_with_nul(units) else {
-        return Ok(false);
-    };
-    let want = pieces(alloc, Path::new(text))?;
-    Ok(pieces(heap, Path::new(text))?.as_slice() == want.as_slice())
+fn judges(heap: &Refusing<Global>, bytes: &[u8], want: Verdict) -> Result<bool, AllocError> {
+    Ok(match (judge(heap, bytes).err(), want) {
+        (Some(JudgeError::OutOfMemory), _) => return Err(AllocError),
+        (None, Verdict::Path) => true,
+        (Some(JudgeError::Invalid(PathError::Empty)), Verdict::Empty) => true,
+        (Some(JudgeError::Invalid(PathError::IllegalChar(_))), Verdict::Illegal) => true,
+        (Some(JudgeError::HalfUnit), Verdict::HalfUnit) => true,
+        (Some(JudgeError::Text(NotNulTerminated)), Verdict::Open) => true,
+        (Some(JudgeError::Text(InvalidChar(0))), Verdict::Surrogate) => true,
+        _ => false,
+    })
 }
 
 /// Whether a path has two parents and is unchanged.
 fn has_two_parents(heap: &Refusing<Global>, units: &[u16]) -> Result<bool, AllocError> {
-    let Ok(text) = CStr16::from_u16_with_nul(units) else {
-        return Ok(false);
-    };
+    let text = borrow(units)?;
     let path = PathBuf::from(heap, text)?;
     let answer = all_parents(heap, &path);
     let is_unchanged = path.to_cstr16() == text;
@@ -147,16 +130,6 @@ fn has_two_parents(heap: &Refusing<Global>, units: &[u16]) -> Result<bool, Alloc
         Err(_) => out_of_memory(is_unchanged),
     }
 }
-
-const INPUT: &[u8] =
-    b"from \\foo\\bar\npieces\neq foo\nfrom a\xc3\xa9/c\npieces\neq \xf0\x9f\x98\x80\nwhat\n\
-      \xff\npush b\njoin c/d\nup\nnorm\nparent\ncmp a\ncheck\nclear\ncheck\n";
-
-/// The first example, and what it prints.
-const EXAMPLE: (&[u8], &[u8]) = (
-    b"from \\foo\\bar\npieces\n",
-    b"= \\foo\\bar\npieces 2\n| foo\n| bar\n",
-);
 
 /// Gives few bytes a call, so that most lines are not given whole.
 #[derive(Drop)]
@@ -193,108 +166,107 @@ fn writes(
     }
 }
 
-/// Whether a call gives what ample memory gives, or memory ran out.
-fn answers(call: &Call<'_>, heap: &Refusing<Global>) -> Result<bool, AllocError> {
+/// Whether a call gives what ample memory gives, or memory ran out. What is written has a heap of its own.
+fn answers(call: Call, heap: &Refusing<Global>, alloc: Global) -> Result<bool, AllocError> {
     match call {
         Call::RunCommands => runs_or_stops(heap),
         Call::RunEachCommand => runs_each_or_stops(heap),
         Call::RunCommandsWithout => needs_no_memory(heap),
-        Call::Judge(bytes, want) => judges(heap, bytes, *want),
-        Call::Pieces(units, alloc) => lists(heap, units, *alloc),
+        Call::Judge(bytes, want) => judges(heap, bytes, want),
         Call::AllParents(units) => has_two_parents(heap, units),
-        Call::RunText(input, want) => Ok(run_text(heap, input)?.as_slice() == *want),
-        Call::RunStreams(input, want, alloc) => writes(heap, input, want, *alloc),
+        Call::RunText(input, want) => Ok(run_text(heap, input)?.as_slice() == want),
+        Call::RunStreams(input, want) => writes(heap, input, want, alloc),
     }
 }
 
-/// How the runs of a call end, each with one of its requests after the first `setup` ones refused.
-fn refusals_of(rt: &HostRuntime, call: &Call<'_>, setup: u64) -> Result<Refusals, Fail> {
-    refused_in_turn(rt.alloc(), setup, |heap| answers(call, heap))
-}
+const INPUT: &[u8] =
+    b"from \\foo\\bar\npieces\neq foo\nfrom a\xc3\xa9/c\npieces\neq \xf0\x9f\x98\x80\nwhat\n\
+      \xff\npush b\njoin c/d\nup\nnorm\nparent\ncmp a\ncheck\nclear\ncheck\n";
 
-/// Whether each refused request ended its run, and how many there were is within these bounds.
-fn ended(refusals: Refusals, least: u64, most: u64) -> bool {
-    refusals.answered == 0 && least <= refusals.failed && refusals.failed <= most
-}
+const OUTPUT: &[u8] =
+    b"= \\foo\\bar\npieces 2\n| foo\n| bar\ndifferent\n= a\xc3\xa9\\c\npieces 2\n| a\xc3\xa9\n| c\n\
+      UCS-2 Conversion Error: Invalid character\n? unknown command\n? not UTF-8\n\
+      = a\xc3\xa9\\c\\b\n= a\xc3\xa9\\c\\b\\c\\d\n\
+      parents 4\n| a\xc3\xa9\\c\\b\\c\n| a\xc3\xa9\\c\\b\n| a\xc3\xa9\\c\n| a\xc3\xa9\n\
+      = a\xc3\xa9\\c\\b\\c\\d\n= a\xc3\xa9\\c\\b\\c\ngreater\nok\n= \npath is empty\n";
 
-/// One request, and one for the places of separators, which come after what the bytes are refused for and
-/// before the verdict on the path.
+/// Each call, how many requests come before it, and how many it makes at least and at most. Of judged bytes one
+/// request is for the text, and one for the places of separators: both come after what the bytes are refused for
+/// and before the verdict on the path.
+const ROWS: &[(Call, u64, u64, u64)] = &[
+    (Call::RunCommands, 1, 2, 998),
+    (Call::RunEachCommand, 1, 3, 98),
+    (Call::RunCommandsWithout, 1, 0, 0),
+    (Call::Judge(b"a\0\0\0", Verdict::Path), 0, 1, 1),
+    (Call::Judge(b"a\0\\\0b\0\0\0", Verdict::Path), 0, 2, 2),
+    (Call::Judge(b"/\0b\0\0\0", Verdict::Path), 0, 2, 2),
+    (Call::Judge(b"a\0\\\0>\0\0\0", Verdict::Illegal), 0, 2, 2),
+    (Call::Judge(b"a\0>\0\0\0", Verdict::Illegal), 0, 1, 1),
+    (Call::Judge(b"\0\0", Verdict::Empty), 0, 1, 1),
+    (Call::Judge(b"a\0\0", Verdict::HalfUnit), 0, 0, 0),
+    (Call::Judge(b"a\0", Verdict::Open), 0, 0, 0),
+    (Call::Judge(b"\0\xd8", Verdict::Surrogate), 0, 0, 0),
+    (Call::AllParents(&[97, 92, 98, 92, 99, 0]), 2, 2, 98),
+    (Call::RunText(INPUT, OUTPUT), 0, 6, 998),
+    (Call::RunStreams(INPUT, OUTPUT), 0, 7, 998),
+];
+
+/// Each refused request ends its run.
 #[test]
-fn requests_for_judged_bytes(rt: HostRuntime) -> Result<(), Fail> {
-    let illegal = PathError::IllegalChar(Char16::try_from('>')?);
-    let open = JudgeError::Text(FromSliceWithNulError::NotNulTerminated);
-    let surrogate = JudgeError::Text(FromSliceWithNulError::InvalidChar(0));
-    let rows: [(&[u8], Option<JudgeError>, u64); 10] = [
-        (&[0x61, 0, 0, 0], None, 1),
-        (&[0x61, 0, 0x5c, 0, 0x62, 0, 0, 0], None, 2),
-        (&[0x2f, 0, 0x62, 0, 0, 0], None, 2),
-        (
-            &[0x61, 0, 0x5c, 0, 0x3e, 0, 0, 0],
-            Some(JudgeError::Invalid(illegal)),
-            2,
-        ),
-        (&[0, 0], Some(JudgeError::Invalid(PathError::Empty)), 1),
-        (
-            &[0x61, 0, 0x3e, 0, 0, 0],
-            Some(JudgeError::Invalid(illegal)),
-            1,
-        ),
-        (&[0x61, 0, 0], Some(JudgeError::HalfUnit), 0),
-        (&[0x61, 0], Some(open), 0),
-        (&[0, 0xd8], Some(surrogate), 0),
-        (&[], Some(open), 0),
-    ];
-    for (bytes, want, count) in rows {
-        let refusals = refusals_of(&rt, &Call::Judge(bytes, want), 0)?;
-        assert!(rt; ended(refusals, count, count), "{bytes:?}");
+fn requests_of_each_call(rt: HostRuntime) -> Result<(), Fail> {
+    for (row, (call, setup, least, most)) in ROWS.iter().enumerate() {
+        let count = requests(rt.alloc(), *setup, |heap| answers(*call, heap, rt.alloc()))?;
+        assert!(rt; *least <= count && count <= *most, "{row}: {count}");
     }
     Ok(())
 }
 
-#[test]
-fn requests_of_commands(rt: HostRuntime) -> Result<(), Fail> {
-    let refusals = refusals_of(&rt, &Call::RunCommands, 1)?;
-    assert!(rt; ended(refusals, 2, 998));
-    let refusals = refusals_of(&rt, &Call::RunEachCommand, 1)?;
-    assert!(rt; ended(refusals, 3, 98));
-    let refusals = refusals_of(&rt, &Call::RunCommandsWithout, 1)?;
-    assert!(rt; ended(refusals, 0, 0));
-    Ok(())
+/// Whether the components of a path are these, or memory ran out.
+fn lists(
+    heap: &Refusing<Global>,
+    path: Path<'_>,
+    want: &[Char16Slice<'_>],
+) -> Result<bool, AllocError> {
+    Ok(pieces(heap, path)?.as_slice() == want)
 }
 
-#[test]
-fn requests_for_parents(rt: HostRuntime) -> Result<(), Fail> {
-    let refusals = refusals_of(&rt, &Call::AllParents(&[97, 92, 98, 92, 99, 0]), 2)?;
-    assert!(rt; ended(refusals, 2, 98));
-    Ok(())
+/// The same where the request of that number is refused and the one after it too. Nothing is said where neither
+/// came.
+fn lists_twice_refused(
+    alloc: Global,
+    number: u64,
+    path: Path<'_>,
+    want: &[Char16Slice<'_>],
+) -> Option<bool> {
+    let inner = Refusing::new(alloc, number);
+    let outer = Refusing::new(&inner, number);
+    let answer = pieces(&outer, path);
+    if !outer.has_refused() {
+        return None;
+    }
+    Some(match &answer {
+        Ok(list) => list.as_slice() == want,
+        Err(_) => inner.has_refused(),
+    })
 }
 
-/// A list that is refused room to grow asks once more, for less, so a refusal need not end it.
+/// A list that is refused room to grow asks once more, for less: so a refusal need not end it, and where both
+/// are refused the list ends, or is whole.
 #[test]
 fn requests_for_components(rt: HostRuntime) -> Result<(), Fail> {
-    let rows: [&[u16]; 2] = [
-        &[97, 98, 92, 99, 0],
-        &[97, 92, 92, 92, 92, 92, 92, 92, 92, 92, 92, 98, 0],
-    ];
-    for units in rows {
-        let refusals = refusals_of(&rt, &Call::Pieces(units, rt.alloc()), 0)?;
-        assert!(rt; refusals.failed != 0 || refusals.answered != 0, "{units:?}");
+    let text = string(rt.alloc(), r"a\\\\\\\\\\b\c\d\e\f\g\h\i\j\k\l")?;
+    let path = Path::new(text.as_cstr16());
+    let want = pieces(rt.alloc(), path)?;
+    let refusals = refused_in_turn(rt.alloc(), 0, |heap| lists(heap, path, &want))?;
+    assert!(rt; refusals.failed != 0 || refusals.answered != 0);
+    let mut refused = 0u64;
+    for number in 1..100u64 {
+        match lists_twice_refused(rt.alloc(), number, path, &want) {
+            None => break,
+            Some(is_right) => assert!(rt; is_right, "at request {number}"),
+        }
+        refused = number;
     }
-    Ok(())
-}
-
-/// Whether each refused request ended a run over an input and one over streams.
-fn runs_end(rt: &HostRuntime, input: &'static [u8], want: &[u8], least: u64) -> Result<bool, Fail> {
-    let whole = refusals_of(rt, &Call::RunText(input, want), 0)?;
-    let parts = refusals_of(rt, &Call::RunStreams(input, want, rt.alloc()), 0)?;
-    Ok(ended(whole, least, 998) && ended(parts, least.saturating_add(1), 998))
-}
-
-#[test]
-fn requests_of_runs(rt: HostRuntime) -> Result<(), Fail> {
-    let want = run_text(rt.alloc(), INPUT)?;
-    assert!(rt; runs_end(&rt, INPUT, &want, 6)?);
-    let (input, want) = EXAMPLE;
-    assert!(rt; runs_end(&rt, input, want, 3)?);
+    assert!(rt; 0 < refused && refused < 99, "{refused} requests");
     Ok(())
 }

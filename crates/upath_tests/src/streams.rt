@@ -7,58 +7,19 @@ use std::io::{self, ErrorKind, Read, Write};
 use std::test::Fail;
 use upath::{StreamFault, Watched, run_streams};
 
-/// Each kind of an error.
+/// Kinds of an error: those after which a caller might make the call again, those that end a stream, and others.
 pub(crate) const KINDS: &[ErrorKind] = &[
-    ErrorKind::NotFound,
-    ErrorKind::PermissionDenied,
-    ErrorKind::ConnectionRefused,
-    ErrorKind::ConnectionReset,
-    ErrorKind::HostUnreachable,
-    ErrorKind::NetworkUnreachable,
-    ErrorKind::ConnectionAborted,
-    ErrorKind::NotConnected,
-    ErrorKind::AddrInUse,
-    ErrorKind::AddrNotAvailable,
-    ErrorKind::NetworkDown,
-    ErrorKind::BrokenPipe,
-    ErrorKind::AlreadyExists,
-    ErrorKind::WouldBlock,
-    ErrorKind::NotADirectory,
-    ErrorKind::IsADirectory,
-    ErrorKind::DirectoryNotEmpty,
-    ErrorKind::ReadOnlyFilesystem,
-    ErrorKind::FilesystemLoop,
-    ErrorKind::StaleNetworkFileHandle,
-    ErrorKind::InvalidInput,
-    ErrorKind::InvalidData,
-    ErrorKind::TimedOut,
-    ErrorKind::WriteZero,
-    ErrorKind::StorageFull,
-    ErrorKind::NotSeekable,
-    ErrorKind::QuotaExceeded,
-    ErrorKind::FileTooLarge,
-    ErrorKind::ResourceBusy,
-    ErrorKind::ExecutableFileBusy,
-    ErrorKind::Deadlock,
-    ErrorKind::CrossesDevices,
-    ErrorKind::TooManyLinks,
-    ErrorKind::InvalidFilename,
-    ErrorKind::ArgumentListTooLong,
     ErrorKind::Interrupted,
-    ErrorKind::Unsupported,
+    ErrorKind::WouldBlock,
+    ErrorKind::TimedOut,
+    ErrorKind::Other,
     ErrorKind::UnexpectedEof,
+    ErrorKind::WriteZero,
+    ErrorKind::BrokenPipe,
     ErrorKind::OutOfMemory,
-    ErrorKind::InProgress,
-    ErrorKind::Other,
+    ErrorKind::StorageFull,
+    ErrorKind::NotFound,
     ErrorKind::Uncategorized,
-];
-
-/// Those after which a caller might make the call again.
-const RETRIED_KINDS: &[ErrorKind] = &[
-    ErrorKind::Interrupted,
-    ErrorKind::WouldBlock,
-    ErrorKind::TimedOut,
-    ErrorKind::Other,
 ];
 
 /// A run, and how many bytes a call of its reader gives or of its writer takes at most.
@@ -69,28 +30,7 @@ struct Run<'a> {
     step: usize,
 }
 
-/// No input, the shortest one that is not empty, another, and that of the program's stored run.
-const SHORT: &[(&[u8], &[u8])] = &[
-    (b"", b""),
-    (b"\n", b"? unknown command\n"),
-    (
-        b"from \\foo\\bar\npieces\n",
-        b"= \\foo\\bar\npieces 2\n| foo\n| bar\n",
-    ),
-    (
-        b"from /a\npush b\nup\nparent\nparent\npieces\ncheck\n",
-        b"= \\a\n= \\a\\b\nparents 1\n| a\n= a\nnone\npieces 1\n| a\nok\n",
-    ),
-];
-
-/// How many bytes go through a call of those.
-const STEPS: [usize; 3] = [1, 5, 99];
-
-/// How many characters a long line sets the path to: so that the input has 4,095, 4,096, 4,097 or 65,536
-/// bytes, or the output has.
-const LENGTHS: &[u64] = &[4089, 4090, 4091, 4092, 4093, 4094, 65530, 65533];
-
-/// Gives at most `step` bytes a call. The call of the number `failing`, counted from 1, fails.
+/// Gives at most `step` bytes a call. The call of the number `failing`, counted from 1, fails; none at 0.
 #[derive(Drop)]
 pub(crate) struct FailingReader<'a> {
     pub(crate) rest: &'a [u8],
@@ -127,6 +67,26 @@ pub(crate) struct FailingWriter {
     pub(crate) flushes: usize,
 }
 
+impl FailingWriter {
+    /// A writer that takes all.
+    pub(crate) fn new(rt: &HostRuntime, step: usize) -> FailingWriter {
+        FailingWriter {
+            held: Vec::new(rt.alloc()),
+            step,
+            failing: 0,
+            failure: None,
+            flush: None,
+            writes: 0,
+            flushes: 0,
+        }
+    }
+
+    /// Whether it holds this, after these numbers of writes and flushes.
+    pub(crate) fn has_taken(&self, held: &[u8], writes: usize, flushes: usize) -> bool {
+        self.held.as_slice() == held && self.writes == writes && self.flushes == flushes
+    }
+}
+
 impl Write for FailingWriter {
     fn write(&mut self, buf: &[u8]) -> io::Result<usize> {
         self.writes = self.writes.saturating_add(1);
@@ -150,45 +110,6 @@ impl Write for FailingWriter {
     }
 }
 
-/// A reader of the input of which this call fails; none at 0.
-fn reader_of(run: Run<'_>, failing: usize, kind: ErrorKind) -> FailingReader<'_> {
-    FailingReader {
-        rest: run.input,
-        step: run.step,
-        failing,
-        kind,
-        calls: 0,
-    }
-}
-
-/// A writer of which this write fails; none at 0.
-fn writer_of(
-    rt: &HostRuntime,
-    run: Run<'_>,
-    failing: usize,
-    failure: Option<ErrorKind>,
-) -> FailingWriter {
-    FailingWriter {
-        held: Vec::new(rt.alloc()),
-        step: run.step,
-        failing,
-        failure,
-        flush: None,
-        writes: 0,
-        flushes: 0,
-    }
-}
-
-/// Whether a writer holds this, after these numbers of writes and flushes.
-pub(crate) fn has_taken(
-    writer: &FailingWriter,
-    held: &[u8],
-    writes: usize,
-    flushes: usize,
-) -> bool {
-    writer.held.as_slice() == held && writer.writes == writes && writer.flushes == flushes
-}
-
 /// What a run returned, and its reader and its writer after it.
 #[derive(Drop)]
 struct Ended<'a> {
@@ -197,13 +118,22 @@ struct Ended<'a> {
     writer: FailingWriter,
 }
 
-/// A run over these, after which the marks say which of the two failed.
+/// A run of which this read fails, and none at 0, after which the marks say which of the two streams failed.
 fn end_of<'a>(
     rt: &HostRuntime,
-    reader: FailingReader<'a>,
+    run: Run<'a>,
+    failing: usize,
+    kind: ErrorKind,
     writer: FailingWriter,
 ) -> Result<Ended<'a>, Fail> {
-    let (mut reader, mut writer) = (Watched::new(reader), Watched::new(writer));
+    let mut reader = Watched::new(FailingReader {
+        rest: run.input,
+        step: run.step,
+        failing,
+        kind,
+        calls: 0,
+    });
+    let mut writer = Watched::new(writer);
     let outcome = run_streams(rt.alloc(), &mut reader, &mut writer);
     if reader.has_failed() != (outcome == Err(StreamFault::Read))
         || writer.has_failed() != (outcome == Err(StreamFault::Write))
@@ -220,16 +150,21 @@ fn end_of<'a>(
 /// How many calls a run makes of a reader and a writer that don't fail, after which all is written and
 /// flushed once.
 fn calls_of(rt: &HostRuntime, run: Run<'_>) -> Result<(usize, usize), Fail> {
-    let reader = reader_of(run, 0, ErrorKind::Other);
-    let writer = writer_of(rt, run, 0, None);
-    let end = end_of(rt, reader, writer)?;
+    let end = end_of(
+        rt,
+        run,
+        0,
+        ErrorKind::Other,
+        FailingWriter::new(rt, run.step),
+    )?;
+    let writes = end.writer.writes;
     if end.outcome.is_err()
         || !end.reader.rest.is_empty()
-        || !has_taken(&end.writer, run.output, end.writer.writes, 1)
+        || !end.writer.has_taken(run.output, writes, 1)
     {
         return Err("a run without a failed call".into());
     }
-    Ok((end.reader.calls, end.writer.writes))
+    Ok((end.reader.calls, writes))
 }
 
 /// Whether a run of which this read fails reports that, reads no more, and writes nothing.
@@ -239,36 +174,12 @@ fn ends_unwritten(
     failing: usize,
     kind: ErrorKind,
 ) -> Result<bool, Fail> {
-    let reader = reader_of(run, failing, kind);
-    let writer = writer_of(rt, run, 0, None);
-    let end = end_of(rt, reader, writer)?;
+    let end = end_of(rt, run, failing, kind, FailingWriter::new(rt, run.step))?;
     Ok(
         end.outcome == Err(StreamFault::Read)
             && end.reader.calls == failing
-            && has_taken(&end.writer, b"", 0, 0),
+            && end.writer.has_taken(b"", 0, 0),
     )
-}
-
-/// Of a long input the last call fails, of any other each call in turn.
-fn is_tried(run: Run<'_>, failing: usize, calls: usize) -> bool {
-    run.input.len() < 10_000 || failing == calls
-}
-
-/// Whether that is so of each read in turn, and each of these kinds.
-fn each_read_ends(
-    rt: &HostRuntime,
-    run: Run<'_>,
-    reads: usize,
-    kinds: &[ErrorKind],
-) -> Result<bool, Fail> {
-    for failing in 1..=reads {
-        for kind in kinds {
-            if is_tried(run, failing, reads) && !ends_unwritten(rt, run, failing, *kind)? {
-                return Ok(false);
-            }
-        }
-    }
-    Ok(true)
 }
 
 /// Whether a run of which this write fails writes what those before it took, and calls no more.
@@ -278,87 +189,81 @@ fn ends_in_write(
     failing: usize,
     failure: Option<ErrorKind>,
 ) -> Result<bool, Fail> {
-    let reader = reader_of(run, 0, ErrorKind::Other);
-    let writer = writer_of(rt, run, failing, failure);
-    let end = end_of(rt, reader, writer)?;
+    let mut writer = FailingWriter::new(rt, run.step);
+    writer.failing = failing;
+    writer.failure = failure;
+    let end = end_of(rt, run, 0, ErrorKind::Other, writer)?;
     let len = run.step.saturating_mul(failing.saturating_sub(1));
     let taken = run.output.get(..len).unwrap_or(&[]);
-    Ok(end.outcome == Err(StreamFault::Write) && has_taken(&end.writer, taken, failing, 0))
+    Ok(end.outcome == Err(StreamFault::Write) && end.writer.has_taken(taken, failing, 0))
 }
 
-/// Whether that is so of each write in turn, where it fails with each of these kinds or takes nothing.
-fn each_write_ends(
+/// Whether a run whose flush fails writes all, and flushes no more.
+fn ends_in_flush(
     rt: &HostRuntime,
     run: Run<'_>,
     writes: usize,
-    kinds: &[ErrorKind],
+    kind: ErrorKind,
 ) -> Result<bool, Fail> {
-    for failing in 1..=writes {
-        if !is_tried(run, failing, writes) {
-            continue;
-        }
-        if !ends_in_write(rt, run, failing, None)? {
+    let mut writer = FailingWriter::new(rt, run.step);
+    writer.flush = Some(kind);
+    let end = end_of(rt, run, 0, ErrorKind::Other, writer)?;
+    Ok(end.outcome == Err(StreamFault::Write) && end.writer.has_taken(run.output, writes, 1))
+}
+
+/// Whether each read, each write and the flush that fails with this kind ends a run, and each write that takes
+/// nothing. Of a long input the last call fails alone.
+fn each_call_ends(rt: &HostRuntime, run: Run<'_>, kind: ErrorKind) -> Result<bool, Fail> {
+    let (reads, writes) = calls_of(rt, run)?;
+    let is_short = run.input.len() < 10_000;
+    for failing in (if is_short { 1 } else { reads })..=reads {
+        if !ends_unwritten(rt, run, failing, kind)? {
             return Ok(false);
         }
-        for kind in kinds {
-            if !ends_in_write(rt, run, failing, Some(*kind))? {
-                return Ok(false);
-            }
-        }
     }
-    Ok(true)
-}
-
-/// Whether a run whose flush fails writes all, and flushes no more: with each of these kinds.
-fn flush_ends(
-    rt: &HostRuntime,
-    run: Run<'_>,
-    writes: usize,
-    kinds: &[ErrorKind],
-) -> Result<bool, Fail> {
-    for kind in kinds {
-        let mut writer = writer_of(rt, run, 0, None);
-        writer.flush = Some(*kind);
-        let end = end_of(rt, reader_of(run, 0, ErrorKind::Other), writer)?;
-        if end.outcome != Err(StreamFault::Write)
-            || !has_taken(&end.writer, run.output, writes, 1)
+    for failing in (if is_short { 1 } else { writes })..=writes {
+        if !ends_in_write(rt, run, failing, None)?
+            || !ends_in_write(rt, run, failing, Some(kind))?
         {
             return Ok(false);
         }
     }
-    Ok(true)
+    ends_in_flush(rt, run, writes, kind)
 }
 
-/// Whether all that is so of a run.
-fn each_call_ends(rt: &HostRuntime, run: Run<'_>, kinds: &[ErrorKind]) -> Result<bool, Fail> {
-    let (reads, writes) = calls_of(rt, run)?;
-    Ok(
-        each_read_ends(rt, run, reads, kinds)?
-            && each_write_ends(rt, run, writes, kinds)?
-            && flush_ends(rt, run, writes, kinds)?,
-    )
-}
+/// No input, the shortest one that is not empty, another, and that of the program's stored run.
+const SHORT: &[(&[u8], &[u8])] = &[
+    (b"", b""),
+    (b"\n", b"? unknown command\n"),
+    (
+        b"from \\foo\\bar\npieces\n",
+        b"= \\foo\\bar\npieces 2\n| foo\n| bar\n",
+    ),
+    (
+        b"from /a\npush b\nup\nparent\nparent\npieces\ncheck\n",
+        b"= \\a\n= \\a\\b\nparents 1\n| a\n= a\nnone\npieces 1\n| a\nok\n",
+    ),
+];
 
 #[test]
 fn each_call_that_fails(rt: HostRuntime) -> Result<(), Fail> {
     for (input, output) in SHORT {
-        for step in STEPS {
+        for step in [1, 5, 99] {
             let run = Run {
                 input,
                 output,
                 step,
             };
-            assert!(rt;
-                each_call_ends(&rt, run, KINDS)?,
-                "{output:?}, {step} at a time"
-            );
+            for kind in KINDS {
+                assert!(rt; each_call_ends(&rt, run, *kind)?, "{output:?}, {kind:?}");
+            }
         }
     }
     Ok(())
 }
 
-/// Whether that is so of a line that sets the path to this many characters, where `step` bytes go through a
-/// call.
+/// Whether the calls that fail end a run of a line that sets the path to this many characters, where `step`
+/// bytes go through a call.
 fn long_line_ends(rt: &HostRuntime, len: u64, step: usize) -> Result<bool, Fail> {
     let text = repeated(rt.alloc(), "a", len)?;
     let input = format!(in rt.alloc(); "from {text}\n")?;
@@ -368,65 +273,38 @@ fn long_line_ends(rt: &HostRuntime, len: u64, step: usize) -> Result<bool, Fail>
         output: output.as_bytes(),
         step,
     };
-    each_call_ends(rt, run, RETRIED_KINDS)
+    each_call_ends(rt, run, ErrorKind::Interrupted)
 }
 
+/// The input has 4,095, 4,096, 4,097 or 65,536 bytes, or the output has.
 #[test]
 fn calls_that_fail_on_long_lines(rt: HostRuntime) -> Result<(), Fail> {
-    for len in LENGTHS {
+    for len in [4089, 4090, 4091, 4092, 4093, 4094, 65530, 65533] {
         for step in [1500, usize::MAX] {
-            assert!(rt;
-                long_line_ends(&rt, *len, step)?,
-                "{len} characters, {step} at a time"
-            );
+            assert!(rt; long_line_ends(&rt, len, step)?, "{len} characters, {step}");
         }
     }
     Ok(())
 }
 
-/// As many lines that are no command, each of this many bytes, and what they print.
-fn unknown_lines(rt: &HostRuntime, len: u64, count: u64) -> Result<(String, String), Fail> {
+/// Whether the last calls of a run over as many lines that are no command, each of this many bytes, end it.
+fn unknown_lines_end(rt: &HostRuntime, len: u64, count: u64) -> Result<bool, Fail> {
     let mut line = repeated(rt.alloc(), "x", len)?;
-    line.push_str("\n")?;
-    Ok((
-        repeated(rt.alloc(), &line, count)?,
-        repeated(rt.alloc(), "? unknown command\n", count)?,
-    ))
-}
-
-/// Whether the last read of a long input fails as it should.
-fn last_read_ends(rt: &HostRuntime, input: &[u8], output: &[u8]) -> Result<bool, Fail> {
-    let step = 700_000;
+    line.push('\n')?;
+    let input = repeated(rt.alloc(), &line, count)?;
+    let output = repeated(rt.alloc(), "? unknown command\n", count)?;
     let run = Run {
-        input,
-        output,
-        step,
+        input: input.as_bytes(),
+        output: output.as_bytes(),
+        step: 700_000,
     };
-    let (reads, _) = calls_of(rt, run)?;
-    ends_unwritten(rt, run, reads, ErrorKind::Interrupted)
-}
-
-/// Whether the last write of a long output and the flush after it fail as they should.
-fn last_write_ends(rt: &HostRuntime, input: &[u8], output: &[u8]) -> Result<bool, Fail> {
-    let step = 700_000;
-    let run = Run {
-        input,
-        output,
-        step,
-    };
-    let (_, writes) = calls_of(rt, run)?;
-    Ok(
-        ends_in_write(rt, run, writes, Some(ErrorKind::Interrupted))?
-            && flush_ends(rt, run, writes, &[ErrorKind::Interrupted])?,
-    )
+    each_call_ends(rt, run, ErrorKind::Interrupted)
 }
 
 /// An input of 2,000,000 bytes, and an output of as many.
 #[test]
 fn calls_that_fail_on_the_longest(rt: HostRuntime) -> Result<(), Fail> {
-    let (input, output) = unknown_lines(&rt, 1_999_999, 1)?;
-    assert!(rt; last_read_ends(&rt, input.as_bytes(), output.as_bytes())?);
-    let (input, output) = unknown_lines(&rt, 0, 111_112)?;
-    assert!(rt; last_write_ends(&rt, input.as_bytes(), output.as_bytes())?);
+    assert!(rt; unknown_lines_end(&rt, 1_999_999, 1)?);
+    assert!(rt; unknown_lines_end(&rt, 0, 111_112)?);
     Ok(())
 }

@@ -1,19 +1,10 @@
 //! Calls of a watched stream, each by its own method and by that of the trait: what comes back, whether the
 //! mark is set, and how often the stream was called.
 
-use crate::streams::{FailingReader, FailingWriter, KINDS, has_taken};
+use crate::streams::{FailingReader, FailingWriter, KINDS};
 use std::io::{self, ErrorKind, Read, Write};
 use std::test::Fail;
 use upath::Watched;
-
-/// By which method a call is made.
-#[derive(Clone, Copy, Debug)]
-enum Way {
-    Own,
-    Trait,
-}
-
-const WAYS: [Way; 2] = [Way::Own, Way::Trait];
 
 fn read_by_trait<R: Read>(reader: &mut R, buf: &mut [u8]) -> io::Result<usize> {
     reader.read(buf)
@@ -29,42 +20,40 @@ fn flush_by_trait<W: Write>(writer: &mut W) -> io::Result<()> {
 
 /// What a read returned, an error by its kind.
 fn read(
-    way: Way,
+    by_trait: bool,
     reader: &mut Watched<FailingReader<'_>>,
     buf: &mut [u8],
 ) -> Result<usize, ErrorKind> {
-    let outcome = match way {
-        Way::Own => reader.read(buf),
-        Way::Trait => read_by_trait(reader, buf),
+    let outcome = if by_trait {
+        read_by_trait(reader, buf)
+    } else {
+        reader.read(buf)
     };
-    match outcome {
-        Ok(count) => Ok(count),
-        Err(error) => Err(error.kind()),
-    }
+    outcome.map_err(|error| error.kind())
 }
 
 /// What a write returned, an error by its kind.
-fn write(way: Way, writer: &mut Watched<FailingWriter>, buf: &[u8]) -> Result<usize, ErrorKind> {
-    let outcome = match way {
-        Way::Own => writer.write(buf),
-        Way::Trait => write_by_trait(writer, buf),
+fn write(
+    by_trait: bool,
+    writer: &mut Watched<FailingWriter>,
+    buf: &[u8],
+) -> Result<usize, ErrorKind> {
+    let outcome = if by_trait {
+        write_by_trait(writer, buf)
+    } else {
+        writer.write(buf)
     };
-    match outcome {
-        Ok(count) => Ok(count),
-        Err(error) => Err(error.kind()),
-    }
+    outcome.map_err(|error| error.kind())
 }
 
 /// What a flush returned, an error by its kind.
-fn flush(way: Way, writer: &mut Watched<FailingWriter>) -> Result<(), ErrorKind> {
-    let outcome = match way {
-        Way::Own => writer.flush(),
-        Way::Trait => flush_by_trait(writer),
+fn flush(by_trait: bool, writer: &mut Watched<FailingWriter>) -> Result<(), ErrorKind> {
+    let outcome = if by_trait {
+        flush_by_trait(writer)
+    } else {
+        writer.flush()
     };
-    match outcome {
-        Ok(()) => Ok(()),
-        Err(error) => Err(error.kind()),
-    }
+    outcome.map_err(|error| error.kind())
 }
 
 /// A watched reader of this input, whose call of the number `failing` fails.
@@ -78,113 +67,84 @@ fn reader_of(input: &[u8], failing: usize, kind: ErrorKind) -> Watched<FailingRe
     })
 }
 
-/// A watched writer whose first write fails, or takes nothing where `failure` is none, or none where
-/// `failing` is 0, and whose first flush fails where `flush` says so.
+/// A watched writer whose write of the number `failing` fails, or takes nothing where `failure` is none.
 fn writer_of(
     rt: &HostRuntime,
     failing: usize,
     failure: Option<ErrorKind>,
-    flush: Option<ErrorKind>,
 ) -> Watched<FailingWriter> {
-    Watched::new(FailingWriter {
-        held: Vec::new(rt.alloc()),
-        step: usize::MAX,
-        failing,
-        failure,
-        flush,
-        writes: 0,
-        flushes: 0,
-    })
+    let mut writer = FailingWriter::new(rt, usize::MAX);
+    writer.failing = failing;
+    writer.failure = failure;
+    Watched::new(writer)
 }
 
 /// Whether a read that fails returns its kind and sets the mark, and the next one gives all that there is and
 /// leaves the mark.
-fn marks_a_read(way: Way, kind: ErrorKind) -> bool {
+fn marks_a_read(by_trait: bool, kind: ErrorKind) -> bool {
     let mut reader = reader_of(b"ab", 1, kind);
     let mut buf = [0; 3];
-    let first = read(way, &mut reader, &mut buf);
-    let is_marked = reader.has_failed();
-    let second = read(way, &mut reader, &mut buf);
-    let is_still_marked = reader.has_failed();
-    first == Err(kind)
-        && is_marked
-        && second == Ok(2)
-        && is_still_marked
-        && buf == [97, 98, 0]
-        && reader.into_inner().calls == 2
+    let is_refused = read(by_trait, &mut reader, &mut buf) == Err(kind) && reader.has_failed();
+    let is_read = read(by_trait, &mut reader, &mut buf) == Ok(2) && reader.has_failed();
+    is_refused && is_read && buf == [97, 98, 0] && reader.into_inner().calls == 2
 }
 
 /// Whether a write that fails, or takes nothing, returns the kind and sets the mark, and the next one takes
 /// all and leaves the mark.
-fn marks_a_write(rt: &HostRuntime, way: Way, failure: Option<ErrorKind>) -> bool {
-    let mut writer = writer_of(rt, 1, failure, None);
-    let first = write(way, &mut writer, b"ab");
-    let is_marked = writer.has_failed();
-    let second = write(way, &mut writer, b"cd");
-    let is_still_marked = writer.has_failed();
-    first == Err(failure.unwrap_or(ErrorKind::WriteZero))
-        && is_marked
-        && second == Ok(2)
-        && is_still_marked
-        && has_taken(&writer.into_inner(), b"cd", 2, 0)
+fn marks_a_write(rt: &HostRuntime, by_trait: bool, failure: Option<ErrorKind>) -> bool {
+    let mut writer = writer_of(rt, 1, failure);
+    let want = failure.unwrap_or(ErrorKind::WriteZero);
+    let is_refused = write(by_trait, &mut writer, b"ab") == Err(want) && writer.has_failed();
+    let is_taken = write(by_trait, &mut writer, b"cd") == Ok(2) && writer.has_failed();
+    is_refused && is_taken && writer.into_inner().has_taken(b"cd", 2, 0)
 }
 
 /// Whether a flush that fails returns its kind and sets the mark, and the next one succeeds and leaves it.
-fn marks_a_flush(rt: &HostRuntime, way: Way, kind: ErrorKind) -> bool {
-    let mut writer = writer_of(rt, 0, None, Some(kind));
-    let first = flush(way, &mut writer);
-    let is_marked = writer.has_failed();
-    let second = flush(way, &mut writer);
-    let is_still_marked = writer.has_failed();
-    first == Err(kind)
-        && is_marked
-        && second == Ok(())
-        && is_still_marked
-        && has_taken(&writer.into_inner(), b"", 0, 2)
+fn marks_a_flush(rt: &HostRuntime, by_trait: bool, kind: ErrorKind) -> bool {
+    let mut writer = FailingWriter::new(rt, usize::MAX);
+    writer.flush = Some(kind);
+    let mut writer = Watched::new(writer);
+    let is_refused = flush(by_trait, &mut writer) == Err(kind) && writer.has_failed();
+    let is_flushed = flush(by_trait, &mut writer) == Ok(()) && writer.has_failed();
+    is_refused && is_flushed && writer.into_inner().has_taken(b"", 0, 2)
 }
 
 /// A write that takes nothing has failed with `WriteZero`.
 #[test]
 fn calls_that_fail(rt: HostRuntime) {
-    for way in WAYS {
-        assert!(rt; marks_a_write(&rt, way, None), "{way:?}");
+    for by_trait in [false, true] {
+        assert!(rt; marks_a_write(&rt, by_trait, None), "{by_trait}");
         for kind in KINDS {
-            let is_right = marks_a_read(way, *kind)
-                && marks_a_write(&rt, way, Some(*kind))
-                && marks_a_flush(&rt, way, *kind);
-            assert!(rt; is_right, "{way:?}, {kind:?}");
+            let is_right = marks_a_read(by_trait, *kind)
+                && marks_a_write(&rt, by_trait, Some(*kind))
+                && marks_a_flush(&rt, by_trait, *kind);
+            assert!(rt; is_right, "{by_trait}, {kind:?}");
         }
     }
 }
 
 /// Whether two reads give an input, the first of them as much of it as the buffer has room for, and set no
 /// mark.
-fn gives(rt: &HostRuntime, way: Way, input: &[u8], room: usize) -> Result<bool, Fail> {
+fn gives(rt: &HostRuntime, by_trait: bool, input: &[u8], room: usize) -> Result<bool, Fail> {
     let mut reader = reader_of(input, 0, ErrorKind::Other);
     let mut buf = vec![in rt.alloc(); 0u8; room]?;
     let first = input.len().min(room);
     let (given, rest) = input.split_at(first);
-    let is_first = read(way, &mut reader, &mut buf) == Ok(first) && buf.starts_with(given);
+    let is_first = read(by_trait, &mut reader, &mut buf) == Ok(first) && buf.starts_with(given);
     let second = rest.len().min(room);
-    let is_second = read(way, &mut reader, &mut buf) == Ok(second)
+    let is_second = read(by_trait, &mut reader, &mut buf) == Ok(second)
         && buf.starts_with(rest.get(..second).unwrap_or(&[]));
     Ok(is_first && is_second && !reader.has_failed() && reader.into_inner().calls == 2)
 }
 
-/// Whether a write takes these bytes and a flush follows, and neither sets a mark.
-fn takes(rt: &HostRuntime, way: Way, bytes: &[u8]) -> bool {
-    let mut writer = writer_of(rt, 0, None, None);
-    let is_taken = write(way, &mut writer, bytes) == Ok(bytes.len());
-    let is_flushed = flush(way, &mut writer) == Ok(());
-    is_taken && is_flushed && !writer.has_failed() && has_taken(&writer.into_inner(), bytes, 1, 1)
-}
-
-/// Whether a write of nothing takes nothing and sets no mark.
-fn takes_nothing(rt: &HostRuntime, way: Way) -> bool {
-    let mut writer = writer_of(rt, 1, None, None);
-    write(way, &mut writer, b"") == Ok(0)
-        && !writer.has_failed()
-        && has_taken(&writer.into_inner(), b"", 1, 0)
+/// Whether a write takes these bytes and a flush follows, and neither sets a mark; nor does a write of nothing
+/// that takes nothing.
+fn takes(rt: &HostRuntime, by_trait: bool, bytes: &[u8]) -> bool {
+    let mut writer = writer_of(rt, 2, None);
+    let is_taken = write(by_trait, &mut writer, bytes) == Ok(bytes.len());
+    let is_flushed = flush(by_trait, &mut writer) == Ok(());
+    let is_right = is_taken && is_flushed && write(by_trait, &mut writer, b"") == Ok(0);
+    is_right && !writer.has_failed() && writer.into_inner().has_taken(bytes, 2, 1)
 }
 
 /// How many bytes go through a call.
@@ -192,25 +152,13 @@ const LENGTHS: [usize; 10] = [0, 1, 2, 4095, 4096, 4097, 65535, 65536, 65537, 2_
 
 #[test]
 fn calls_of_each_length(rt: HostRuntime) -> Result<(), Fail> {
-    for way in WAYS {
-        assert!(rt; takes_nothing(&rt, way), "{way:?}");
+    for by_trait in [false, true] {
         for len in LENGTHS {
             let bytes = vec![in rt.alloc(); b'a'; len]?;
-            let is_right = takes(&rt, way, &bytes)
-                && gives(&rt, way, &bytes, len)?
-                && gives(&rt, way, &bytes, len / 2)?;
-            assert!(rt; is_right, "{way:?}, {len} bytes");
-        }
-    }
-    Ok(())
-}
-
-#[test]
-fn bytes_of_each_value(rt: HostRuntime) -> Result<(), Fail> {
-    for way in WAYS {
-        for byte in 0..=255u8 {
-            let is_right = takes(&rt, way, &[byte, 1]) && gives(&rt, way, &[byte, byte], 1)?;
-            assert!(rt; is_right, "{way:?}, {byte}");
+            let is_right = takes(&rt, by_trait, &bytes)
+                && gives(&rt, by_trait, &bytes, len)?
+                && gives(&rt, by_trait, &bytes, len / 2)?;
+            assert!(rt; is_right, "{by_trait}, {len} bytes");
         }
     }
     Ok(())

@@ -85,7 +85,7 @@ allocate_spec 𝓤 𝓛 𝓜 𝓡 wired B laws g d dd met _ =
     let x : C.Ghost = (((κ, tt), (q, tt), tt, (record { ref_ptr = left; now = self.now.left }, tt), (vptr left.0 left.1 ∷ [], tt)), tt) in
     feq_i ! _ (vptr left.0 left.1 ∷ []) _ refl $ fjoin ! $ nothing ! $ move ! (1 ∷ 0 ∷ []) $ join ! $
     nothing ! $ move ! (2 ∷ 0 ∷ []) $ join ! $ join ! $ nothing ! $ move ! (1 ∷ 0 ∷ []) $ use2 𝓛 (raw (C.pre x)) (id⊢ 𝓤 _) $
-    calls_at ! (framed 𝓤 𝓛.H 𝓜 𝓣) C (refuses_met 𝓤 𝓛 𝓜 𝓡 (code.calls-conformance::refusing::refuses 𝓡.env wired)) x
+    calls_at ! (framed 𝓤 𝓛.H 𝓜 𝓣) C (refuses_met 𝓤 𝓛 𝓜 𝓡 (code.calls-for_tests::refusing::refuses 𝓡.env wired)) x
     (and_then ! (get ! refl) (no_more !)) (λ v.
     use1 𝓛 (later (some (λ (r : Bool). ((‵ (flft κ q) ⊛ ‵ ftrue) ⊛ ‵ (bool.own_val r (v ∷ []))) ⊛
     some (λ (ws : Unit {0} × Unit {0}). ‵ (lasts refuses.ended x.0.0 x.0.3 ws) ⊛ ‵ ftrue)))) (id⊢ 𝓤 _) $
