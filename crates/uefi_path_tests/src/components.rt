@@ -24,62 +24,52 @@ fn keeps(string: CStr16<'_>) -> bool {
     Path::from(string) == path && path.to_cstr16() == string
 }
 
-/// Whether the path of a text has these components, is as empty as the text and keeps it.
-pub(crate) fn has_components(rt: &HostRuntime, text: &str, want: &str) -> Result<bool, Fail> {
-    let string = string(rt.alloc(), text)?;
-    let path = Path::new(string.as_cstr16());
+/// Whether the path of a text has these components, and its buffer this many; and both are as empty as the
+/// text.
+fn has_components(rt: &HostRuntime, text: &str, want: &str, owned: usize) -> Result<bool, Fail> {
+    let (string, path) = (string(rt.alloc(), text)?, buffer(rt, text)?);
+    let borrowed = Path::new(string.as_cstr16());
     Ok(
-        barred(rt, path)?.as_str() == want
+        barred(rt, borrowed)?.as_str() == want
+            && keeps(string.as_cstr16())
+            && borrowed.is_empty() == text.is_empty()
             && path.is_empty() == text.is_empty()
-            && keeps(string.as_cstr16()),
-    )
-}
-
-/// Whether the path of a text has this many components, and its buffer, which is as empty as the text.
-fn counts(rt: &HostRuntime, text: &str, borrowed: usize, owned: usize) -> Result<bool, Fail> {
-    let path = buffer(rt, text)?;
-    let string = string(rt.alloc(), text)?;
-    Ok(
-        path.is_empty() == text.is_empty()
-            && path.components().count() == owned
-            && path.as_path().components().count() == owned
-            && Path::new(string.as_cstr16()).components().count() == borrowed,
+            && path.components().count() == owned,
     )
 }
 
 /// The components, and how many the buffer of a text has: each slash separates components of a buffer
 /// alone.
-const COMPONENTS: &[(&str, &str, usize, usize)] = &[
-    ("", "", 0, 0),
-    ("/", "|/", 1, 0),
-    (r"\", "", 0, 0),
-    (r"\\", "||", 2, 2),
-    (r"a\", "|a|", 2, 2),
-    (r"foo\bar\hello", "|foo|bar|hello", 3, 3),
-    (r"\foo\bar\hello", "|foo|bar|hello", 3, 3),
-    (r"\hello\foo\bar", "|hello|foo|bar", 3, 3),
-    ("abc", "|abc", 1, 1),
-    (r"\\\a", "|||a", 3, 3),
-    (r"\\a", "||a", 2, 2),
-    (r"a/b\c", "|a/b|c", 2, 3),
-    (r"a\b", "|a|b", 2, 2),
-    (r"a\\b", "|a||b", 3, 3),
-    (r"/a//b\", "|/a//b|", 2, 4),
+const COMPONENTS: &[(&str, &str, usize)] = &[
+    ("", "", 0),
+    ("/", "|/", 0),
+    (r"\", "", 0),
+    (r"\\", "||", 2),
+    (r"a\", "|a|", 2),
+    (r"foo\bar\hello", "|foo|bar|hello", 3),
+    (r"\foo\bar\hello", "|foo|bar|hello", 3),
+    (r"\\a", "||a", 2),
+    (r"a/b\c", "|a/b|c", 3),
+    (r"a\\b", "|a||b", 3),
 ];
 
 #[test]
 fn components_of_texts(rt: HostRuntime) -> Result<(), Fail> {
-    for (text, want, borrowed, owned) in COMPONENTS {
-        let is_right = has_components(&rt, text, want)? && counts(&rt, text, *borrowed, *owned)?;
-        assert!(rt; is_right, "{text}");
+    for (text, want, owned) in COMPONENTS {
+        assert!(rt; has_components(&rt, text, want, *owned)?, "{text}");
     }
     Ok(())
 }
 
-/// Whether the components of `a\` are a name and an empty one, and no more come, however often one asks.
+/// Whether the components of `a\` are a name and an empty one, as many as the hint allows, and no more come,
+/// however often one asks.
 fn ends_for_good(mut components: Components<'_>) -> bool {
-    matches!(components.next(), Some(name) if name.len() == 1)
+    let (least, most) = components.size_hint();
+    least <= 2
+        && most.is_some_and(|most| 2 <= most)
+        && matches!(components.next(), Some(name) if name.len() == 1)
         && matches!(components.next(), Some(empty) if empty.len() == 0)
+        && components.size_hint() == (0, Some(0))
         && components.next().is_none()
         && components.next().is_none()
 }
@@ -87,5 +77,22 @@ fn ends_for_good(mut components: Components<'_>) -> bool {
 #[test]
 fn components_end_for_good(rt: HostRuntime) -> Result<(), Fail> {
     assert!(rt; ends_for_good(buffer(&rt, r"a\")?.components()));
+    Ok(())
+}
+
+/// Components print what is left of the text, and nothing after the last.
+#[test]
+fn printed_components(rt: HostRuntime) -> Result<(), Fail> {
+    let path = buffer(&rt, r"\a\é")?;
+    let mut components = path.components();
+    for want in [
+        r"Components(Some(['a', '\\', 'é']))",
+        "Components(Some(['é']))",
+        "Components(None)",
+    ] {
+        let printed = format!(in rt.alloc(); "{components:?}")?;
+        assert!(rt; printed.as_str() == want, "{want}");
+        let _next = components.next();
+    }
     Ok(())
 }

@@ -1,6 +1,6 @@
 //! The examples of the documents.
 
-use crate::fixtures::shows;
+use crate::fixtures::is_path;
 use std::alloc::AllocError;
 use std::test::Fail;
 use uefi_path::{Path, PathBuf, validate_path};
@@ -35,7 +35,7 @@ fn the_example_of_the_readme(rt: HostRuntime) -> Result<(), Fail> {
     // Prints `\efi\boot`, `efi` and `boot`.
     let path = boot_path(&rt, &[0x62, 0x6f, 0x6f, 0x74, 0])?;
     assert!(rt; validate_path(path.as_path()).is_ok());
-    assert!(rt; shows(&path, r"\efi\boot"));
+    assert!(rt; is_path(&path, r"\efi\boot"));
     print_path(&rt, path.as_path())
 }
 

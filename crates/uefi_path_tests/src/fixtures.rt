@@ -14,6 +14,6 @@ pub(crate) fn buffer(rt: &HostRuntime, text: &str) -> Result<PathBuf, Fail> {
 }
 
 /// Whether a path has this text.
-pub(crate) fn shows(path: &PathBuf, want: &str) -> bool {
+pub(crate) fn is_path(path: &PathBuf, want: &str) -> bool {
     has_text(path.to_cstr16(), want)
 }

@@ -1,5 +1,5 @@
-//! Tests of paths and of path buffers: components, comparison, pushes, parents, the judgement of a
-//! path, normal paths, each request for memory refused in turn, and the examples of the documents.
+//! Tests of `uefi_path`: components, order and names, buffers, parents, the verdict on a path, normal paths, and
+//! the examples of the documents.
 #![tactic(auto)]
 
 #[cfg(test)]
@@ -9,11 +9,7 @@ mod documents;
 #[cfg(test)]
 mod fixtures;
 #[cfg(test)]
-mod hostile_paths;
-#[cfg(test)]
 mod long_paths;
-#[cfg(test)]
-mod names;
 #[cfg(test)]
 mod normal;
 #[cfg(test)]
@@ -24,10 +20,6 @@ mod parents;
 mod path;
 #[cfg(test)]
 mod pathbuf;
-#[cfg(test)]
-mod pushes;
-#[cfg(test)]
-mod separators;
 #[cfg(test)]
 mod validation;
 #[cfg(test)]

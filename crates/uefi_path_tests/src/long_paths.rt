@@ -1,8 +1,8 @@
 //! Paths of 100,000 characters, with ample memory: no call gives up on a long path.
 
-use crate::fixtures::shows;
+use crate::fixtures::is_path;
 use crate::parents::has_parent;
-use crate::pushes::joins_and_pushes;
+use crate::pathbuf::joins_and_pushes;
 use for_tests::{repeated, string};
 use std::test::Fail;
 use uefi_path::{Path, PathBuf};
@@ -11,7 +11,7 @@ use uefi_path::{Path, PathBuf};
 fn copies(rt: &HostRuntime, path: Path<'_>, want: &str) -> Result<bool, Fail> {
     let buffer = path.to_path_buf(rt.alloc())?;
     let copy = PathBuf::from(rt.alloc(), path.to_cstr16())?;
-    Ok(shows(&buffer, want) && buffer == copy && buffer.clone()? == copy)
+    Ok(is_path(&buffer, want) && buffer == copy && buffer.clone()? == copy)
 }
 
 #[test]

@@ -1,16 +1,10 @@
-//! Path buffers as they are made, printed, copied and cleared, and what errors of paths print.
+//! Path buffers as they are made, pushed to, joined, copied, cleared and printed.
 
-use crate::fixtures::{buffer, shows};
-use for_tests::string;
+use crate::fixtures::{buffer, is_path};
+use for_tests::{prints, string};
+use std::alloc::AllocError;
 use std::test::Fail;
-use uefi_path::{NormalizeError, Path, PathBuf, PathError};
-use uefi_text::{CStr16, Char16};
-
-/// Whether the path buffers of a string, copied and taken over, have this text.
-fn becomes(rt: &HostRuntime, text: CStr16<'_>, want: &str) -> Result<bool, Fail> {
-    let path = PathBuf::from(rt.alloc(), text)?;
-    Ok(shows(&path, want) && path == buffer(rt, want)?)
-}
+use uefi_path::{CountedUnits, Path, PathBuf};
 
 /// Texts, and those of their buffers.
 const REPLACED: &[(&str, &str)] = &[
@@ -23,133 +17,143 @@ const REPLACED: &[(&str, &str)] = &[
 #[test]
 fn replaced_slashes(rt: HostRuntime) -> Result<(), Fail> {
     for (text, want) in REPLACED {
-        let string = string(rt.alloc(), text)?;
-        assert!(rt; becomes(&rt, string.as_cstr16(), want)?, "{text}");
-        assert!(rt; shows(&buffer(&rt, text)?, want), "{text}");
-    }
-    Ok(())
-}
-
-#[test]
-fn the_empty_path(rt: HostRuntime) -> Result<(), Fail> {
-    let path = PathBuf::new(rt.alloc())?;
-    assert!(rt; path.is_empty() && path == buffer(&rt, r"\")?);
-    Ok(())
-}
-
-/// Whether the path of a text and its buffer print this, each for users and for programmers.
-fn prints(rt: &HostRuntime, path: Path<'_>, want: &str) -> Result<bool, Fail> {
-    let buffer = path.to_path_buf(rt.alloc())?;
-    Ok(format!(in rt.alloc(); "{path} {path:?} {buffer} {buffer:?}")?.as_str() == want)
-}
-
-/// Texts, and what their paths and buffers print.
-const PRINTED: &[(&str, &str)] = &[
-    ("", " Path(CStr16([]))  PathBuf(CStr16([]))"),
-    (
-        r"\a",
-        r"\a Path(CStr16(['\\', 'a'])) \a PathBuf(CStr16(['\\', 'a']))",
-    ),
-    (
-        "/a",
-        r"/a Path(CStr16(['/', 'a'])) \a PathBuf(CStr16(['\\', 'a']))",
-    ),
-    (
-        r"/a\é",
-        "/a\\é Path(CStr16(['/', 'a', '\\\\', 'é'])) \
-             \\a\\é PathBuf(CStr16(['\\\\', 'a', '\\\\', 'é']))",
-    ),
-];
-
-/// Components print what is left of the text, and nothing after the last.
-#[test]
-fn printed_components(rt: HostRuntime) -> Result<(), Fail> {
-    let path = buffer(&rt, r"\a\é")?;
-    let mut components = path.components();
-    for want in [
-        r"Components(Some(['a', '\\', 'é']))",
-        "Components(Some(['é']))",
-        "Components(None)",
-    ] {
+        let (string, taken) = (string(rt.alloc(), text)?, buffer(&rt, text)?);
+        let copied = PathBuf::from(rt.alloc(), string.as_cstr16())?;
+        let is_right = is_path(&copied, want) && is_path(&taken, want) && copied == taken;
         assert!(rt;
-            format!(in rt.alloc(); "{components:?}")?.as_str() == want,
-            "{want}"
+            is_right && copied.to_string(rt.alloc())?.as_str() == *want,
+            "{text}"
         );
-        let _next = components.next();
     }
     Ok(())
 }
 
-/// What the reasons of refusals print for programmers.
 #[test]
-fn printed_refusals(rt: HostRuntime) -> Result<(), Fail> {
-    let refusal = NormalizeError::Invalid(PathError::IllegalChar(Char16::try_from('>')?));
-    let printed = format!(in rt.alloc(); "{refusal:?} {:?}", PathError::Empty)?;
-    assert!(rt; printed.as_str() == "Invalid(IllegalChar('>')) Empty");
-    Ok(())
-}
-
-#[test]
-fn printed_paths(rt: HostRuntime) -> Result<(), Fail> {
-    for (text, want) in PRINTED {
-        let string = string(rt.alloc(), text)?;
-        assert!(rt; prints(&rt, Path::new(string.as_cstr16()), want)?, "{text}");
-    }
+fn printed_buffers(rt: HostRuntime) -> Result<(), Fail> {
+    assert!(rt;
+        prints(
+            rt.alloc(),
+            &PathBuf::new(rt.alloc())?,
+            "|PathBuf(CStr16([]))"
+        )
+    );
+    let want = r"\a\é|PathBuf(CStr16(['\\', 'a', '\\', 'é']))";
+    assert!(rt; prints(rt.alloc(), &buffer(&rt, r"/a\é")?, want));
     Ok(())
 }
 
 /// Whether a path that is cleared twice is empty each time.
 fn clears_twice(mut path: PathBuf) -> bool {
     path.clear();
-    let is_empty = path.is_empty() && shows(&path, "");
+    let is_empty = path.is_empty() && is_path(&path, "");
     path.clear();
     is_empty && path.is_empty()
-}
-
-/// The empty path after a push of `first`.
-fn pushed_first(rt: &HostRuntime) -> Result<PathBuf, Fail> {
-    let first = string(rt.alloc(), "first")?;
-    let mut path = PathBuf::new(rt.alloc())?;
-    path.push(Path::new(first.as_cstr16()))?;
-    Ok(path)
-}
-
-#[test]
-fn pushed_and_cleared(rt: HostRuntime) -> Result<(), Fail> {
-    let path = pushed_first(&rt)?;
-    assert!(rt; shows(&path, "first") && clears_twice(path));
-    Ok(())
 }
 
 /// A copy keeps its text while the path is cleared.
 #[test]
 fn copied_and_cleared(rt: HostRuntime) -> Result<(), Fail> {
-    for (text, want) in [(r"/a\é", r"\a\é"), ("first", "first")] {
-        let path = buffer(&rt, text)?;
-        let copy = path.clone()?;
-        assert!(rt; shows(&path, want) && clears_twice(path) && shows(&copy, want));
+    let path = pushed_in_turn(&rt, &["first"])?;
+    let copy = path.clone()?;
+    assert!(rt; is_path(&path, "first") && clears_twice(path) && is_path(&copy, "first"));
+    Ok(())
+}
+
+/// Whether both joins of a path with another have this text.
+fn joins(
+    rt: &HostRuntime,
+    path: Path<'_>,
+    other: Path<'_>,
+    want: &str,
+) -> Result<bool, AllocError> {
+    Ok(
+        is_path(&path.join(rt.alloc(), other)?, want)
+            && is_path(&path.to_path_buf(rt.alloc())?.join(other)?, want),
+    )
+}
+
+/// Whether the buffer of a path after a push of another has this text, and after a push of its text, whose
+/// reads are counted, and of no text after that.
+fn pushes(
+    rt: &HostRuntime,
+    path: Path<'_>,
+    other: Path<'_>,
+    want: &str,
+) -> Result<bool, AllocError> {
+    let (mut plain, mut counted) = (path.to_path_buf(rt.alloc())?, path.to_path_buf(rt.alloc())?);
+    let empty = PathBuf::new(rt.alloc())?;
+    plain.push(other)?;
+    counted.push_counted(&mut CountedUnits::new(other.to_cstr16()))?;
+    counted.push_counted(&mut CountedUnits::new(empty.to_cstr16()))?;
+    Ok(is_path(&plain, want) && is_path(&counted, want))
+}
+
+/// Whether both joins and both pushes have this text.
+pub(crate) fn joins_and_pushes(
+    rt: &HostRuntime,
+    text: &str,
+    other: &str,
+    want: &str,
+) -> Result<bool, Fail> {
+    let (text, other) = (string(rt.alloc(), text)?, string(rt.alloc(), other)?);
+    let (path, other) = (Path::new(text.as_cstr16()), Path::new(other.as_cstr16()));
+    Ok(joins(rt, path, other, want)? && pushes(rt, path, other, want)?)
+}
+
+/// Texts, what is pushed to them, and the text of the path then.
+const PUSHES: &[(&str, &str, &str)] = &[
+    ("", "", ""),
+    ("", r"\x", r"\x"),
+    ("", "/x/y", r"\x\y"),
+    ("a", "", "a"),
+    ("a", "b", r"a\b"),
+    (r"a\", "b", r"a\b"),
+    ("a", "/b", r"a\\b"),
+    ("a", r"\b", r"a\\b"),
+    (r"\", r"\x", r"\\x"),
+    (r"a\b", r"c\d", r"a\b\c\d"),
+];
+
+#[test]
+fn pushed_and_joined(rt: HostRuntime) -> Result<(), Fail> {
+    for (text, other, want) in PUSHES {
+        assert!(rt; joins_and_pushes(&rt, text, other, want)?, "{text}, {want}");
     }
     Ok(())
 }
 
+/// The empty path after these are pushed in turn.
+fn pushed_in_turn(rt: &HostRuntime, parts: &[&str]) -> Result<PathBuf, Fail> {
+    let mut path = PathBuf::new(rt.alloc())?;
+    for part in parts {
+        path.push(buffer(rt, part)?.as_path())?;
+    }
+    Ok(path)
+}
+
+/// Texts that are pushed in turn, the text of the path, and one of a path that equals it.
+const SEVERAL: &[(&[&str], &str, &str)] = &[
+    (
+        &["first", "second", "third"],
+        r"first\second\third",
+        r"\first\second\third",
+    ),
+    (&[r"\first", "second"], r"\first\second", r"first\second"),
+    (
+        &["first", "", "", "", "second"],
+        r"first\second",
+        r"\first\second",
+    ),
+];
+
 #[test]
-fn texts_of_errors(rt: HostRuntime) -> Result<(), Fail> {
-    for (error, want) in [
-        (PathError::Empty, "path is empty"),
-        (
-            PathError::EmptyComponent,
-            "path contains an empty component",
-        ),
-        (
-            PathError::IllegalChar(Char16::try_from('>')?),
-            "path contains an illegal character (value 62)",
-        ),
-        (
-            PathError::IllegalChar(Char16::try_from(0xffffu16)?),
-            "path contains an illegal character (value 65535)",
-        ),
-    ] {
-        assert!(rt; error.to_string(rt.alloc())?.as_str() == want, "{want}");
+fn several_pushes(rt: HostRuntime) -> Result<(), Fail> {
+    for (parts, want, equal) in SEVERAL {
+        let path = pushed_in_turn(&rt, parts)?;
+        assert!(rt;
+            is_path(&path, want) && path == buffer(&rt, equal)?,
+            "{want}"
+        );
     }
     Ok(())
 }
