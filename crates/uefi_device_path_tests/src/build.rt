@@ -1,42 +1,17 @@
-//! Paths that are built: their bytes, and which nodes are refused.
+//! Paths that are built, in memory and in buffers: their bytes, and which nodes are refused.
 
 use std::test::Fail;
 use uefi_device_path::{BuildError, DevicePathBuf, DevicePathBuilder, DeviceSubType, DeviceType};
 
+/// The bytes of a path of two nodes, of 6 and of 4 bytes.
+const BUILT: &[u8] = &[1, 1, 6, 0, 0, 0x1f, 0x7f, 1, 4, 0, 0x7f, 0xff, 4, 0];
+
 #[test]
-fn bytes(rt: HostRuntime) -> Result<(), Fail> {
+fn built_in_memory(rt: HostRuntime) -> Result<(), Fail> {
     let mut path = DevicePathBuf::new(rt.alloc())?;
-    assert_eq!(rt; path.as_device_path().as_bytes(), &[0x7f, 0xff, 4, 0][..]);
     path.push(DeviceType::HARDWARE, DeviceSubType(1), &[0, 0x1f])?;
     path.push(DeviceType::END, DeviceSubType::END_INSTANCE, &[])?;
-    let want: &[u8] = &[1, 1, 6, 0, 0, 0x1f, 0x7f, 1, 4, 0, 0x7f, 0xff, 4, 0];
-    assert_eq!(rt; path.as_device_path().as_bytes(), want);
-    Ok(())
-}
-
-/// Nodes, and why they are refused.
-const REFUSED: &[(u8, u8, usize, BuildError)] = &[
-    (0x7f, 0xff, 0, BuildError::EndNode),
-    (0x7f, 0x00, 0, BuildError::EndNode),
-    (0x7f, 0x01, 1, BuildError::EndNode),
-    (0x7f, 0x01, 65_532, BuildError::EndNode),
-    (1, 1, 65_532, BuildError::NodeTooLong),
-];
-
-#[test]
-fn refused(rt: HostRuntime) -> Result<(), Fail> {
-    let data = vec![in rt.alloc(); 0u8; 65_532]?;
-    for (device_type, sub_type, len, want) in REFUSED {
-        let mut path = DevicePathBuf::new(rt.alloc())?;
-        let kind = (DeviceType(*device_type), DeviceSubType(*sub_type));
-        let content = data.get(..*len).ok_or("a long node")?;
-        let error = path.push(kind.0, kind.1, content).err();
-        assert_eq!(rt; error, Some(*want));
-        assert_eq!(rt; path.as_device_path().as_bytes().len(), 4);
-    }
-    let mut path = DevicePathBuf::new(rt.alloc())?;
-    path.push(DeviceType::MEDIA, DeviceSubType(3), &data[..65_531])?;
-    assert_eq!(rt; path.as_device_path().as_bytes().len(), 65_539);
+    assert!(rt; path.as_device_path().as_bytes() == BUILT);
     Ok(())
 }
 
@@ -52,7 +27,6 @@ fn build<'a>(buffer: &'a mut [u8]) -> Result<&'a [u8], BuildError> {
 /// first.
 #[test]
 fn built_in_buffers(rt: HostRuntime) {
-    let want: &[u8] = &[1, 1, 6, 0, 0, 0x1f, 0x7f, 1, 4, 0, 0x7f, 0xff, 4, 0];
     for len in 0..16 {
         let mut room = [9; 16];
         let built = build(room.get_mut(..len).unwrap_or_default());
@@ -60,25 +34,55 @@ fn built_in_buffers(rt: HostRuntime) {
             0..4 => Err(BuildError::BufferTooSmall(4)),
             4..10 => Err(BuildError::BufferTooSmall(10)),
             10..14 => Err(BuildError::BufferTooSmall(14)),
-            _ => Ok(want),
+            _ => Ok(BUILT),
         };
         assert!(rt; built == needed, "{len}");
     }
 }
 
-/// A refusal leaves the path unchanged, and is that of the node where both are at fault.
+/// Nodes, and why they are refused.
+const REFUSED: &[(u8, u8, usize, BuildError)] = &[
+    (0x7f, 0xff, 0, BuildError::EndNode),
+    (0x7f, 0x00, 0, BuildError::EndNode),
+    (0x7f, 0x01, 1, BuildError::EndNode),
+    (0x7f, 0x01, 65_532, BuildError::EndNode),
+    (1, 1, 65_532, BuildError::NodeTooLong),
+];
+
+/// The empty path.
+const END: &[u8] = &[0x7f, 0xff, 4, 0];
+
+/// Whether a node is refused for this cause, in memory and in a buffer that has no room for any, and leaves the
+/// path unchanged.
+fn is_refused(
+    rt: &HostRuntime,
+    kind: (DeviceType, DeviceSubType),
+    data: &[u8],
+    want: BuildError,
+) -> Result<bool, Fail> {
+    let mut room = [9; 4];
+    let mut built = DevicePathBuilder::with_buf(&mut room)?;
+    let mut path = DevicePathBuf::new(rt.alloc())?;
+    Ok(
+        path.push(kind.0, kind.1, data).err() == Some(want)
+            && path.as_device_path().as_bytes() == END
+            && built.push(kind.0, kind.1, data).err() == Some(want)
+            && built.push(DeviceType::HARDWARE, kind.1, &[]).err()
+                == Some(BuildError::BufferTooSmall(8))
+            && built.as_device_path().as_bytes() == END,
+    )
+}
+
 #[test]
-fn refused_in_buffers(rt: HostRuntime) -> Result<(), Fail> {
+fn refused(rt: HostRuntime) -> Result<(), Fail> {
     let data = vec![in rt.alloc(); 0u8; 65_532]?;
     for (device_type, sub_type, len, want) in REFUSED {
-        let mut room = [9; 4];
-        let mut path = DevicePathBuilder::with_buf(&mut room)?;
         let kind = (DeviceType(*device_type), DeviceSubType(*sub_type));
-        let content = data.get(..*len).ok_or("a long node")?;
-        assert_eq!(rt; path.push(kind.0, kind.1, content).err(), Some(*want));
-        let full = path.push(DeviceType::HARDWARE, DeviceSubType(1), &[]).err();
-        assert_eq!(rt; full, Some(BuildError::BufferTooSmall(8)));
-        assert_eq!(rt; path.as_device_path().as_bytes(), &[0x7f, 0xff, 4, 0][..]);
+        let is_right = is_refused(&rt, kind, data.get(..*len).unwrap_or(&[]), *want)?;
+        assert!(rt; is_right, "{len}");
     }
+    let mut path = DevicePathBuf::new(rt.alloc())?;
+    path.push(DeviceType::MEDIA, DeviceSubType(3), &data[..65_531])?;
+    assert!(rt; path.as_device_path().as_bytes().len() == 65_539);
     Ok(())
 }

@@ -1,45 +1,27 @@
 //! The file paths of paths: the names of their nodes, one after the other.
 
-use std::alloc::Allocator;
+use for_tests::{bytes, has_text, string};
 use std::test::Fail;
 use uefi_device_path::{
     DevicePath, DevicePathBuf, DevicePathInstance, DeviceSubType, DeviceType, FilePathCause,
     FilePathError, FilePathWriteError,
 };
-use uefi_path::validate_path;
-use uefi_text::{CString16, FromSliceWithNulError};
+use uefi_text::FromSliceWithNulError::{InteriorNul, InvalidChar, NotNulTerminated};
 
-/// Adds a node that names this file.
-fn push_name<A: Allocator + Copy>(
-    path: &mut DevicePathBuf<A>,
-    alloc: A,
-    name: &str,
-) -> Result<(), Fail> {
-    let name = CString16::try_from_str(alloc, name)?;
-    let data = name.as_cstr16().as_bytes(alloc)?;
-    path.push(DeviceType::MEDIA, DeviceSubType::MEDIA_FILE_PATH, &data)?;
-    Ok(())
-}
-
-/// Whether nodes with these names, after one that names no file, have this file path.
-fn joins(rt: &HostRuntime, names: &[&str], want: &str) -> Result<bool, Fail> {
+/// A path of one node that names no file, and of nodes with these data.
+fn named(rt: &HostRuntime, names: &[&[u8]]) -> Result<DevicePathBuf, Fail> {
     let mut path = DevicePathBuf::new(rt.alloc())?;
     path.push(DeviceType::HARDWARE, DeviceSubType(1), &[0, 0])?;
     for name in names {
-        push_name(&mut path, rt.alloc(), name)?;
+        path.push(DeviceType::MEDIA, DeviceSubType::MEDIA_FILE_PATH, name)?;
     }
-    let joined = path.as_device_path().file_path(rt.alloc())?;
-    Ok(
-        joined
-            .to_cstr16()
-            .eq_cstr16(CString16::try_from_str(rt.alloc(), want)?.as_cstr16()),
-    )
+    Ok(path)
 }
 
-/// What a call says, and left in a buffer, that writes these units where they fit into `len` places.
+/// What a call says, and left in a buffer of nines, that writes these units where they fit into `len` places.
 fn has_written(
     written: Result<usize, FilePathWriteError>,
-    room: &[u16],
+    room: &[u16; 64],
     units: &[u16],
     len: usize,
 ) -> bool {
@@ -49,52 +31,59 @@ fn has_written(
         Err(FilePathWriteError::Name(_)) => (false, 0),
     };
     said && room.get(..count) == units.get(..count)
-        && room
-            .get(count..)
-            .is_some_and(|rest| rest.iter().all(|unit| *unit == 9))
+        && matches!(room.get(count..), Some(rest) if rest.iter().all(|unit| *unit == 9))
 }
 
-/// Whether a path writes these units to each buffer that has room for them, and to no other.
-fn writes(path: DevicePath<'_>, units: &[u16]) -> bool {
+/// Whether a path and an instance of it write these units to each buffer that has room for them, and to no
+/// other.
+fn write(path: DevicePath<'_>, instance: DevicePathInstance<'_>, units: &[u16]) -> bool {
     for len in 0..units.len() + 2 {
-        let mut room = [9; 64];
+        let (mut room, mut other) = ([9; 64], [9; 64]);
         let written = path.write_file_path(room.get_mut(..len).unwrap_or_default());
-        if !has_written(written, &room, units, len) {
+        let same = instance.write_file_path(other.get_mut(..len).unwrap_or_default());
+        if !has_written(written, &room, units, len) || !has_written(same, &other, units, len) {
             return false;
         }
     }
     true
 }
 
-/// Whether an instance does.
-fn instance_writes(instance: DevicePathInstance<'_>, units: &[u16]) -> bool {
-    for len in 0..units.len() + 2 {
-        let mut room = [9; 64];
-        let written = instance.write_file_path(room.get_mut(..len).unwrap_or_default());
-        if !has_written(written, &room, units, len) {
-            return false;
-        }
-    }
-    true
-}
-
-/// Whether nodes with these names are written as this file path, as a path and as its only instance.
-fn joins_in_buffers(rt: &HostRuntime, names: &[&str], want: &str) -> Result<bool, Fail> {
-    let mut path = DevicePathBuf::new(rt.alloc())?;
-    for name in names {
-        push_name(&mut path, rt.alloc(), name)?;
-    }
-    let want = CString16::try_from_str(rt.alloc(), want)?;
-    let units = want.as_cstr16().to_u16_slice_with_nul();
-    let path = path.as_device_path();
+/// Whether a path and its only instance have this file path, in memory and in buffers.
+fn joins(rt: &HostRuntime, path: DevicePath<'_>, want: &str) -> Result<bool, Fail> {
     let instance = path.instance_iter().next().ok_or("an instance")?;
-    Ok(writes(path, units) && instance_writes(instance, units))
+    let want_string = string(rt.alloc(), want)?;
+    Ok(
+        has_text(path.file_path(rt.alloc())?.to_cstr16(), want)
+            && has_text(instance.file_path(rt.alloc())?.to_cstr16(), want)
+            && write(
+                path,
+                instance,
+                want_string.as_cstr16().to_u16_slice_with_nul(),
+            ),
+    )
 }
+
+/// Names of Latin-1, in bytes of units, and the path that they are together.
+const ROWS: &[(&[&[u8]], &str)] = &[
+    (&[], ""),
+    (&[b"\\\0E\0F\0I\0\\\0B\0\0\0"], r"\EFI\B"),
+    (&[b"\\\0E\0\\\0\0\0", b"B\0\0\0"], r"\E\B"),
+    (&[b"\\\0E\0\0\0", b"\\\0B\0\0\0"], r"\E\B"),
+    (&[b"\\\0E\0\\\0\0\0", b"\\\0B\0\0\0"], r"\E\B"),
+    (&[b"E\0\0\0", b"B\0\0\0"], r"E\B"),
+    (&[b"/\0E\0/\0\0\0", b"/\0B\0\0\0"], r"\E\B"),
+    (&[b"\0\0", b"a\0\0\0"], "a"),
+    (&[b"\0\0", b"\\\0a\0\0\0"], r"\a"),
+    (&[b"a\0\0\0", b"\0\0"], "a"),
+    (&[b"a\0\0\0", b"\\\0\0\0"], "a"),
+    (&[b"\\\0\0\0", b"\\\0\0\0", b"a\0\0\0"], r"\a"),
+];
 
 #[test]
-fn joined_in_buffers(rt: HostRuntime) -> Result<(), Fail> {
+fn joined(rt: HostRuntime) -> Result<(), Fail> {
     for (names, want) in ROWS {
-        assert!(rt; joins_in_buffers(&rt, names, want)?, "{want}");
+        let path = named(&rt, names)?;
+        assert!(rt; joins(&rt, path.as_device_path(), want)?, "{names:?}");
     }
     Ok(())
 }
@@ -102,124 +91,50 @@ fn joined_in_buffers(rt: HostRuntime) -> Result<(), Fail> {
 /// A file path is borrowed from the buffer that it was written to.
 #[test]
 fn borrowed(rt: HostRuntime) -> Result<(), Fail> {
-    let mut path = DevicePathBuf::new(rt.alloc())?;
-    push_name(&mut path, rt.alloc(), "/EFI/")?;
+    let path = named(&rt, &[b"/\0E\0F\0I\0/\0\0\0"])?;
     let path = path.as_device_path();
-    let mut room = [9; 7];
-    assert_eq!(rt; path.file_path_in_buf(&mut room)?.num_chars(), 5);
     let instance = path.instance_iter().next().ok_or("an instance")?;
-    assert_eq!(rt; instance.file_path_in_buf(&mut room)?.num_chars(), 5);
-    assert_eq!(rt; room, [0x5c, 0x45, 0x46, 0x49, 0x5c, 0, 9]);
+    let mut room = [9; 7];
+    assert!(rt; path.file_path_in_buf(&mut room)?.num_chars() == 5);
+    assert!(rt; instance.file_path_in_buf(&mut room)?.num_chars() == 5);
+    assert!(rt; room == [0x5c, 0x45, 0x46, 0x49, 0x5c, 0, 9]);
     let short = path.file_path_in_buf(&mut room[..5]).err();
-    assert_eq!(rt; short, Some(FilePathWriteError::BufferTooSmall(6)));
+    assert!(rt; short == Some(FilePathWriteError::BufferTooSmall(6)));
     Ok(())
 }
 
-/// Names, and the path that they are together.
-const ROWS: &[(&[&str], &str)] = &[
-    (&[], ""),
-    (&[r"\EFI\BOOT\BOOTX64.EFI"], r"\EFI\BOOT\BOOTX64.EFI"),
-    (&[r"\EFI\", "BOOT"], r"\EFI\BOOT"),
-    (&[r"\EFI", r"\BOOT"], r"\EFI\BOOT"),
-    (&[r"\EFI\", r"\BOOT"], r"\EFI\BOOT"),
-    (&["EFI", "BOOT"], r"EFI\BOOT"),
-    (&["/EFI/", "/BOOT"], r"\EFI\BOOT"),
-    (&["", "a"], "a"),
-    (&["", r"\a"], r"\a"),
-    (&["a", ""], "a"),
-    (&["a", r"\"], "a"),
-    (&[r"\", r"\", "a"], r"\a"),
+/// Data of a node, which begin at offset 18, and why they are no name.
+const REFUSED: &[(&str, FilePathCause)] = &[
+    ("61", FilePathCause::HalfUnit),
+    ("", FilePathCause::Text(NotNulTerminated)),
+    ("6100", FilePathCause::Text(NotNulTerminated)),
+    ("610000006200", FilePathCause::Text(InteriorNul(1))),
+    ("610000d80000", FilePathCause::Text(InvalidChar(1))),
 ];
 
-#[test]
-fn joined(rt: HostRuntime) -> Result<(), Fail> {
-    for (names, want) in ROWS {
-        assert!(rt; joins(&rt, names, want)?, "{want}");
-    }
-    Ok(())
-}
-
-/// The file path of a path of folders is valid as a whole.
-#[test]
-fn valid(rt: HostRuntime) -> Result<(), Fail> {
-    let mut path = DevicePathBuf::new(rt.alloc())?;
-    push_name(&mut path, rt.alloc(), r"\EFI\")?;
-    push_name(&mut path, rt.alloc(), "BOOT")?;
-    let joined = path.as_device_path().file_path(rt.alloc())?;
-    assert!(rt; validate_path(joined.as_path()).is_ok());
-    Ok(())
-}
-
-/// Data of a node, which begin at offset 12, and why they are no name.
-const REFUSED: &[(&[u8], FilePathCause)] = &[
-    (&[0x61], FilePathCause::HalfUnit),
-    (
-        &[],
-        FilePathCause::Text(FromSliceWithNulError::NotNulTerminated),
-    ),
-    (
-        &[0x61, 0],
-        FilePathCause::Text(FromSliceWithNulError::NotNulTerminated),
-    ),
-    (
-        &[0x61, 0, 0, 0, 0x62, 0],
-        FilePathCause::Text(FromSliceWithNulError::InteriorNul(1)),
-    ),
-    (
-        &[0x61, 0, 0, 0xd8, 0, 0],
-        FilePathCause::Text(FromSliceWithNulError::InvalidChar(1)),
-    ),
-];
-
-/// Why the second node, after one with the name `a`, has no name, in the path and in its only instance.
-fn refusals(rt: &HostRuntime, data: &[u8]) -> Result<[Option<FilePathError>; 2], Fail> {
-    let mut path = DevicePathBuf::new(rt.alloc())?;
-    push_name(&mut path, rt.alloc(), "a")?;
-    path.push(DeviceType::MEDIA, DeviceSubType::MEDIA_FILE_PATH, data)?;
-    let whole = path.as_device_path();
-    let instance = whole.instance_iter().next().ok_or("an instance")?;
-    Ok([
-        whole.file_path(rt.alloc()).err(),
-        instance.file_path(rt.alloc()).err(),
-    ])
-}
-
-/// What the calls say that write to a buffer without a place.
-fn written_refusals(
-    rt: &HostRuntime,
-    data: &[u8],
-) -> Result<[Option<FilePathWriteError>; 2], Fail> {
-    let mut path = DevicePathBuf::new(rt.alloc())?;
-    push_name(&mut path, rt.alloc(), "a")?;
-    path.push(DeviceType::MEDIA, DeviceSubType::MEDIA_FILE_PATH, data)?;
-    let whole = path.as_device_path();
-    let instance = whole.instance_iter().next().ok_or("an instance")?;
-    Ok([
-        whole.write_file_path(&mut []).err(),
-        instance.write_file_path(&mut []).err(),
-    ])
-}
-
-#[test]
-fn refused_in_buffers(rt: HostRuntime) -> Result<(), Fail> {
-    for (data, cause) in REFUSED {
-        let want = Some(FilePathWriteError::Name(FilePathError {
-            cause: *cause,
-            offset: 12,
-        }));
-        assert_eq!(rt; written_refusals(&rt, data)?, [want, want]);
-    }
-    Ok(())
+/// Whether a path and its only instance have no file path for this reason, in memory and in a buffer without a
+/// place.
+fn are_refused(rt: &HostRuntime, path: DevicePath<'_>, want: FilePathError) -> Result<bool, Fail> {
+    let instance = path.instance_iter().next().ok_or("an instance")?;
+    let written = Some(FilePathWriteError::Name(want));
+    Ok(
+        path.file_path(rt.alloc()).err() == Some(want)
+            && instance.file_path(rt.alloc()).err() == Some(want)
+            && path.write_file_path(&mut []).err() == written
+            && instance.write_file_path(&mut []).err() == written,
+    )
 }
 
 #[test]
 fn refused(rt: HostRuntime) -> Result<(), Fail> {
-    for (data, cause) in REFUSED {
-        let want = Some(FilePathError {
+    for (digits, cause) in REFUSED {
+        let data = bytes(rt.alloc(), digits)?;
+        let path = named(&rt, &[b"a\0\0\0", &data])?;
+        let want = FilePathError {
             cause: *cause,
-            offset: 12,
-        });
-        assert_eq!(rt; refusals(&rt, data)?, [want, want]);
+            offset: 18,
+        };
+        assert!(rt; are_refused(&rt, path.as_device_path(), want)?, "{digits}");
     }
     Ok(())
 }

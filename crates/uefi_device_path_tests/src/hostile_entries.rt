@@ -1,13 +1,15 @@
 //! Entries with each byte replaced or moved by one, and each of their prefixes: how many of them are load
-//! options, and a sum over the causes and the offsets of all others.
+//! options, and a sum over the causes and the offsets of all others. The values come from a reader in Python
+//! that was written from the UEFI Specification alone.
 
 use crate::entries;
-use std::alloc::{AllocError, Allocator};
+use for_tests::bytes;
+use std::alloc::{AllocError, Global};
 use std::test::Fail;
 use uefi_device_path::{LoadOption, LoadOptionCause, NodeError};
 
 /// What was seen of many byte strings.
-#[derive(Clone, Copy, Debug, PartialEq)]
+#[derive(Clone, Copy)]
 struct Seen {
     accepted: u64,
     sum: u64,
@@ -53,7 +55,7 @@ const NOTHING: Seen = Seen {
 const HOSTILE: &[u8] = &[0, 1, 3, 4, 0x7f, 0xff];
 
 /// What an entry gives with each byte replaced by each hostile one.
-fn see_replaced<A: Allocator>(alloc: A, entry: &[u8]) -> Result<Seen, AllocError> {
+fn see_replaced(alloc: Global, entry: &[u8]) -> Result<Seen, AllocError> {
     let mut bytes = Vec::from_slice(alloc, entry)?;
     let mut seen = NOTHING;
     for place in 0..entry.len() {
@@ -71,7 +73,7 @@ fn see_replaced<A: Allocator>(alloc: A, entry: &[u8]) -> Result<Seen, AllocError
 }
 
 /// What an entry gives with each byte, so each length too, grown and cut by one.
-fn see_nudged<A: Allocator>(alloc: A, entry: &[u8]) -> Result<Seen, AllocError> {
+fn see_nudged(alloc: Global, entry: &[u8]) -> Result<Seen, AllocError> {
     let mut bytes = Vec::from_slice(alloc, entry)?;
     let mut seen = NOTHING;
     for (place, byte) in entry.iter().enumerate() {
@@ -97,111 +99,38 @@ fn see_prefixes(entry: &[u8]) -> Seen {
     seen
 }
 
-fn is(seen: Seen, want: (u64, u64)) -> bool {
-    (seen.accepted, seen.sum) == want
-}
-
-/// Whether an entry gives these counts and sums: replaced, nudged and cut.
-fn gives<A: Allocator + Copy>(
-    alloc: A,
-    entry: &[u8],
-    want: &[(u64, u64); 3],
-) -> Result<bool, AllocError> {
+/// Whether so many byte strings that come from an entry are load options, and the three sums over all others
+/// have this one.
+fn gives(alloc: Global, entry: &[u8], accepted: u64, sum: u64) -> Result<bool, AllocError> {
+    let (replaced, nudged) = (see_replaced(alloc, entry)?, see_nudged(alloc, entry)?);
+    let cut = see_prefixes(entry);
+    let all = replaced.accepted.wrapping_add(nudged.accepted);
+    let sums = replaced.sum.wrapping_mul(31).wrapping_add(nudged.sum);
     Ok(
-        is(see_replaced(alloc, entry)?, want[0])
-            && is(see_nudged(alloc, entry)?, want[1])
-            && is(see_prefixes(entry), want[2]),
+        all.wrapping_add(cut.accepted) == accepted
+            && sums.wrapping_mul(31).wrapping_add(cut.sum) == sum,
     )
 }
 
-/// Entries, and what is seen of each with its bytes replaced, nudged and cut.
-const ROWS: &[(&[u8], [(u64, u64); 3])] = &[
-    (
-        entries::BOOT0001,
-        [
-            (637, 0xdd40_b7f4_bcc6_bfa0),
-            (212, 0xdc3d_6979_be98_9e6b),
-            (1, 0xad43_3394_ed98_7537),
-        ],
-    ),
-    (
-        entries::BOOT0002,
-        [
-            (709, 0x6545_2329_b1f0_75f0),
-            (238, 0xd914_aa71_cce4_9421),
-            (4, 0x4c10_4bd5_005a_f043),
-        ],
-    ),
-    (
-        entries::BOOT0003,
-        [
-            (221, 0xb1e4_a581_8422_f58e),
-            (70, 0x5a86_931d_403b_ddf2),
-            (1, 0xf2eb_1fbe_9093_95fb),
-        ],
-    ),
-    (
-        entries::BOOT000A,
-        [
-            (249, 0x9b1a_2d7e_6f04_abc1),
-            (84, 0x68bf_c35b_370d_44a1),
-            (1, 0x52e0_dbac_8ab4_1915),
-        ],
-    ),
-    (
-        entries::BOOT0010,
-        [
-            (405, 0x2b52_dd41_f42f_caea),
-            (136, 0x7fa2_6db7_2c06_87bb),
-            (1, 0xaec7_3118_977b_2331),
-        ],
-    ),
-    (
-        entries::BOOT0011,
-        [
-            (628, 0x8521_997d_db1b_8d79),
-            (212, 0xbf83_42a3_fce6_f557),
-            (1, 0x0b59_8ff7_9f7e_4bf9),
-        ],
-    ),
-    (
-        entries::BOOT0013,
-        [
-            (565, 0x1703_f56b_15a9_9508),
-            (188, 0x2197_4003_70e3_36e7),
-            (1, 0x7d04_45dc_9ee5_cd2b),
-        ],
-    ),
-    (
-        entries::BOOT0014,
-        [
-            (506, 0xa385_fac2_1c31_f7e3),
-            (168, 0x5ac5_9fe5_ab5c_296d),
-            (1, 0x8043_4350_390f_9703),
-        ],
-    ),
-    (
-        entries::BOOT0024,
-        [
-            (392, 0x9251_3dda_21d6_300f),
-            (132, 0x3843_353a_324f_c12d),
-            (1, 0xff55_2c91_fedb_9b5f),
-        ],
-    ),
-    (
-        entries::BOOT0031,
-        [
-            (401, 0xa543_5a27_f7b6_d20e),
-            (134, 0xb64f_8555_8821_7f96),
-            (1, 0xb995_6bc9_7e5d_6338),
-        ],
-    ),
+/// Entries, how many load options their bytes give once replaced, nudged and cut, and the sum of the others.
+const ROWS: &[(&str, u64, u64)] = &[
+    (entries::BOOT0001, 850, 0xe8a5_870b_a828_fbcc),
+    (entries::BOOT0002, 951, 0xbe19_ef21_c7b3_9a32),
+    (entries::BOOT0003, 292, 0xb488_3b7a_5f0f_4057),
+    (entries::BOOT000A, 334, 0x3f5e_4b56_f5d8_2815),
+    (entries::BOOT0010, 542, 0xc583_0edc_93ae_4b40),
+    (entries::BOOT0011, 841, 0xff5f_d346_c1e4_14bb),
+    (entries::BOOT0013, 754, 0xf431_4d43_9c01_e62c),
+    (entries::BOOT0014, 675, 0x5823_f2cb_d0cc_2659),
+    (entries::BOOT0024, 525, 0x1271_ce77_1b8e_6821),
+    (entries::BOOT0031, 536, 0x2f0c_012d_dfb6_5cf0),
 ];
 
 #[test]
 fn hostile_entries(rt: HostRuntime) -> Result<(), Fail> {
-    for (entry, want) in ROWS {
-        assert!(rt; gives(rt.alloc(), entry, want)?, "{entry:?}");
+    for (entry, accepted, sum) in ROWS {
+        let entry = bytes(rt.alloc(), entry)?;
+        assert!(rt; gives(rt.alloc(), &entry, *accepted, *sum)?, "{entry:?}");
     }
     Ok(())
 }

@@ -1,6 +1,6 @@
-//! Tests of device paths and load options: what the entries of `examples/data` and the layouts of the
-//! UEFI Specification give, and what is refused, by which cause and at which offset. The values come
-//! from the specification, and from a reader in Python that was written from it alone.
+//! Tests of `uefi_device_path` and the crates that it re-exports: device paths, their nodes and texts, and load
+//! options. The values come from the UEFI Specification, the entries of `examples/data`, and a reader in Python
+//! that was written from the specification alone.
 #![tactic(auto)]
 
 #[cfg(test)]

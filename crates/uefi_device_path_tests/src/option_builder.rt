@@ -2,8 +2,7 @@
 //! UTF-8.
 
 use crate::entries;
-use for_tests::{Refusing, out_of_memory, requests};
-use std::alloc::{AllocError, Allocator, Global};
+use for_tests::bytes;
 use std::test::Fail;
 use uefi_device_path::{
     DevicePath, DevicePathBuf, DeviceSubType, DeviceType, LoadOption, LoadOptionBuilder,
@@ -31,19 +30,19 @@ fn writes(fields: LoadOptionBuilder<'_>, bytes: &[u8]) -> bool {
 }
 
 /// Whether the fields of an entry are written as the entry.
-fn is_written_again<A: Allocator + Copy>(alloc: A, entry: &[u8]) -> Result<bool, Fail> {
+fn is_written_again(rt: &HostRuntime, entry: &[u8]) -> Result<bool, Fail> {
     let option = LoadOption::from_bytes(entry)?;
-    let units = option.description_units().to_vec(alloc)?;
+    let units = option.description_units().to_vec(rt.alloc())?;
     let text = units.get(..units.len() - 1).ok_or("a NUL")?;
-    let mut paths = Vec::new(alloc);
+    let mut paths = Vec::new(rt.alloc());
     for path in option.device_paths() {
         paths.push(path)?;
     }
     let fields = LoadOptionBuilder::new(option.attributes(), text, &paths, option.optional_data());
-    Ok(writes(fields, entry) && fields.to_vec(alloc)?.as_slice() == entry)
+    Ok(writes(fields, entry) && fields.to_vec(rt.alloc())?.as_slice() == entry)
 }
 
-const ENTRIES: &[&[u8]] = &[
+const ENTRIES: &[&str] = &[
     entries::BOOT0001,
     entries::BOOT0002,
     entries::BOOT0003,
@@ -59,29 +58,35 @@ const ENTRIES: &[&[u8]] = &[
 #[test]
 fn written_again(rt: HostRuntime) -> Result<(), Fail> {
     for entry in ENTRIES {
-        assert!(rt; is_written_again(rt.alloc(), entry)?, "{entry:?}");
+        assert!(rt;
+            is_written_again(&rt, &bytes(rt.alloc(), entry)?)?,
+            "{entry}"
+        );
     }
     Ok(())
 }
 
-const END: &[u8] = &[0x7f, 0xff, 4, 0];
+/// The path without nodes.
+pub(crate) const END: &[u8] = &[0x7f, 0xff, 4, 0];
 
-/// What fields of this description and this many paths without nodes are refused for.
-fn refusal<A: Allocator + Copy>(
-    alloc: A,
+/// Whether fields of this description and this many paths without nodes are refused for this, in memory and in
+/// a buffer without a place; there for the buffer alone where nothing else is wrong.
+fn are_refused(
+    rt: &HostRuntime,
     description: &[u16],
     count: usize,
-) -> Result<[Option<OptionBuildError>; 2], Fail> {
-    let path = DevicePath::from_bytes(END)?;
-    let mut paths = Vec::new(alloc);
-    for _ in 0..count {
-        paths.push(path)?;
-    }
+    want: Option<OptionBuildError>,
+) -> Result<bool, Fail> {
+    let paths = vec![in rt.alloc(); DevicePath::from_bytes(END)?; count]?;
     let fields = LoadOptionBuilder::new(1, description, &paths, &[1]);
-    Ok([fields.write(&mut []).err(), fields.to_vec(alloc).err()])
+    let needed = count.saturating_mul(4).saturating_add(9);
+    Ok(
+        fields.write(&mut []).err() == want.or(Some(OptionBuildError::BufferTooSmall(needed)))
+            && fields.to_vec(rt.alloc()).err() == want,
+    )
 }
 
-/// Descriptions, how many paths, and why both calls refuse them; `None` where only the buffer is too short.
+/// Descriptions, how many paths, and why they are refused.
 const REFUSED: &[(&[u16], usize, Option<OptionBuildError>)] = &[
     (&[0], 1, Some(OptionBuildError::NulInDescription(0))),
     (
@@ -97,57 +102,12 @@ const REFUSED: &[(&[u16], usize, Option<OptionBuildError>)] = &[
 #[test]
 fn refused(rt: HostRuntime) -> Result<(), Fail> {
     for (description, count, want) in REFUSED {
-        let got = refusal(rt.alloc(), description, *count)?;
-        let short = want.or(Some(OptionBuildError::BufferTooSmall(9usize.saturating_add(
-            count.saturating_mul(4),
-        ))));
-        assert_eq!(rt; got, [short, *want]);
+        assert!(rt; are_refused(&rt, description, *count, *want)?, "{count}");
     }
     Ok(())
 }
 
-/// Whether an option of a long description is written in memory, or memory ran out.
-fn is_made(heap: &Refusing<Global>, description: &[u16]) -> Result<bool, AllocError> {
-    let Ok(path) = DevicePath::from_bytes(END) else {
-        return Ok(false);
-    };
-    let paths = [path];
-    let fields = LoadOptionBuilder::new(1, description, &paths, &[]);
-    match fields.to_vec(heap) {
-        Ok(bytes) => Ok(bytes.len() == 12 + 2 * description.len()),
-        Err(error) => out_of_memory(error == OptionBuildError::OutOfMemory),
-    }
-}
-
-/// One request for an option, and a long one.
-#[test]
-fn requests_of_options(rt: HostRuntime) -> Result<(), Fail> {
-    assert_eq!(rt; requests(rt.alloc(), 0, |heap| is_made(heap, &[0x61]))?, 1);
-    let long = vec![in rt.alloc(); 0x61u16; 100_000]?;
-    assert!(rt; is_made(&Refusing::new(rt.alloc(), 0), &long)?);
-    Ok(())
-}
-
-/// Whether a description of these units is shown as this text, or memory ran out.
-fn is_shown(heap: &Refusing<Global>, units: &[u16], want: &str) -> Result<bool, AllocError> {
-    let Ok(path) = DevicePath::from_bytes(END) else {
-        return Ok(false);
-    };
-    let mut room = [0; 32];
-    let paths = [path];
-    if LoadOptionBuilder::new(1, units, &paths, &[])
-        .write(&mut room)
-        .is_err()
-    {
-        return Ok(false);
-    }
-    let Ok(option) = LoadOption::from_bytes(&room) else {
-        return Ok(false);
-    };
-    Ok(option.description_lossy(heap)?.as_str() == want)
-}
-
-/// Units, and the text that they are shown as.
+/// Units, and the text that a description of them is shown as.
 const SHOWN: &[(&[u16], &str)] = &[
     (&[], ""),
     (&[0x41, 0xe9, 0x20ac], "A\u{e9}\u{20ac}"),
@@ -159,28 +119,23 @@ const SHOWN: &[(&[u16], &str)] = &[
     (&[0x41, 0xde00, 0x42], "A\u{fffd}B"),
 ];
 
+/// Whether a description of these units is shown as this text.
+fn is_shown(rt: &HostRuntime, units: &[u16], want: &str) -> Result<bool, Fail> {
+    let paths = [DevicePath::from_bytes(END)?];
+    let bytes = LoadOptionBuilder::new(1, units, &paths, &[]).to_vec(rt.alloc())?;
+    let text = LoadOption::from_bytes(&bytes)?.description_lossy(rt.alloc())?;
+    Ok(text.as_str() == want)
+}
+
 #[test]
 fn shown(rt: HostRuntime) -> Result<(), Fail> {
     for (units, want) in SHOWN {
-        assert!(rt;
-            is_shown(&Refusing::new(rt.alloc(), 0), units, want)?,
-            "{want}"
-        );
+        assert!(rt; is_shown(&rt, units, want)?, "{want}");
     }
     Ok(())
 }
 
-/// A request for the units, and one for a text of as many bytes.
-#[test]
-fn requests_of_shown(rt: HostRuntime) -> Result<(), Fail> {
-    assert_eq!(rt;
-        requests(rt.alloc(), 0, |heap| is_shown(heap, &[0x41], "A"))?,
-        2
-    );
-    Ok(())
-}
-
-/// The path of a node that lies in the buffer of a written option is read again.
+/// The paths that lie in the buffer of a written option are read again.
 #[test]
 fn paths_that_were_built(rt: HostRuntime) -> Result<(), Fail> {
     let mut path = DevicePathBuf::new(rt.alloc())?;
@@ -188,9 +143,8 @@ fn paths_that_were_built(rt: HostRuntime) -> Result<(), Fail> {
     let paths = [path.as_device_path(), path.as_device_path()];
     let mut room = [0; 64];
     let len = LoadOptionBuilder::new(1, &[0x61], &paths, &[7]).write(&mut room)?;
-    assert_eq!(rt; len, 31);
-    let option = LoadOption::from_bytes(&room[..len])?;
-    assert_eq!(rt; option.device_paths().count(), 2);
-    assert_eq!(rt; option.optional_data(), [7].as_slice());
+    let option = LoadOption::from_bytes(room.get(..len).unwrap_or(&[]))?;
+    assert!(rt; len == 31 && option.device_paths().count() == 2);
+    assert!(rt; option.optional_data() == [7].as_slice());
     Ok(())
 }

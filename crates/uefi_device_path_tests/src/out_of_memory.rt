@@ -1,44 +1,45 @@
-//! Paths that are built, file paths and descriptions, with each request for memory refused in turn.
+//! Paths that are built and read, file paths, descriptions and load options, with each request for memory
+//! refused in turn; and long ones, with ample memory.
 
-use crate::entries;
+use crate::option_builder::END;
 use for_tests::{Refusing, out_of_memory, requests};
-use std::alloc::{AllocError, Allocator, Global};
+use std::alloc::{AllocError, Global};
 use std::test::Fail;
 use uefi_device_path::{
     BuildError, DevicePath, DevicePathBuf, DeviceSubType, DeviceType, FilePathCause, LoadOption,
+    LoadOptionBuilder, OptionBuildError, PathTextError,
 };
 use uefi_text::FromSliceWithNulError;
+
+/// A call that takes memory, and what it is given.
+#[derive(Clone, Copy)]
+enum Call<'a> {
+    /// How many nodes are pushed to a new path, and the data of each.
+    Push(usize, &'a [u8]),
+    /// The data of a node that names a file, and how many characters the name has.
+    FilePath(&'a [u8], usize),
+    /// A text.
+    FromText(&'a str),
+    /// A description, of which a load option is made.
+    ToVec(&'a [u16]),
+    /// A load option, and how many characters its description has, and bytes in UTF-8.
+    Description(&'a [u8], usize),
+    DescriptionLossy(&'a [u8], usize),
+}
 
 /// Whether a path of this many nodes with these data is built, and keeps what it has where memory runs out.
 fn builds(heap: &Refusing<Global>, count: usize, data: &[u8]) -> Result<bool, AllocError> {
     let mut path = DevicePathBuf::new(heap)?;
     for done in 0..count {
-        match path.push(DeviceType::MESSAGING, DeviceSubType(3), data) {
-            Ok(()) => {}
-            Err(error) => {
-                let kept = path.as_device_path().node_iter().count() == done;
-                return out_of_memory(kept && error == BuildError::OutOfMemory);
-            }
+        if let Err(error) = path.push(DeviceType::MEDIA, DeviceSubType::MEDIA_FILE_PATH, data) {
+            let kept = path.as_device_path().node_iter().count() == done;
+            return out_of_memory(kept && error == BuildError::OutOfMemory);
         }
     }
     Ok(path.as_device_path().node_iter().count() == count)
 }
 
-fn count_requests(rt: &HostRuntime, count: usize, data: &[u8]) -> Result<u64, Fail> {
-    requests(rt.alloc(), 0, |heap| builds(heap, count, data))
-}
-
-/// The nodes that are pushed, how long the data of each are, and how many requests that takes.
-#[test]
-fn requests_of_paths(rt: HostRuntime) -> Result<(), Fail> {
-    let data = vec![in rt.alloc(); 7u8; 5000]?;
-    assert_eq!(rt; count_requests(&rt, 0, &[])?, 1);
-    assert_eq!(rt; count_requests(&rt, 1, &data[..10])?, 2);
-    assert_eq!(rt; count_requests(&rt, 1, &data)?, 2);
-    Ok(())
-}
-
-/// Whether the file path of a path of one name is that name.
+/// Whether the file path of a node's bytes and an end has this length, or memory ran out.
 fn has_name(heap: &Refusing<Global>, bytes: &[u8], len: usize) -> Result<bool, AllocError> {
     let Ok(path) = DevicePath::from_bytes(bytes) else {
         return Ok(false);
@@ -49,34 +50,24 @@ fn has_name(heap: &Refusing<Global>, bytes: &[u8], len: usize) -> Result<bool, A
     }
 }
 
-/// A path of the name `a`, and of as many more as there are bytes of units.
-fn named<A: Allocator + Copy>(alloc: A, more: &[u8]) -> Result<Vec<u8, A>, Fail> {
-    let mut data = Vec::from_slice(alloc, &[0x61, 0])?;
-    data.extend_from_slice(more)?;
-    data.extend_from_slice(&[0, 0])?;
-    let mut path = DevicePathBuf::new(alloc)?;
-    path.push(DeviceType::MEDIA, DeviceSubType::MEDIA_FILE_PATH, &data)?;
-    Ok(Vec::from_slice(alloc, path.as_device_path().as_bytes())?)
+/// Whether a text is that of the path which it gives, or memory ran out.
+fn is_read(heap: &Refusing<Global>, text: &str) -> Result<bool, AllocError> {
+    match DevicePathBuf::from_text(heap, text) {
+        Ok(path) => Ok(path.as_device_path().to_string(heap)?.as_str() == text),
+        Err(error) => out_of_memory(error == PathTextError::OutOfMemory),
+    }
 }
 
-/// How many requests a path of one name takes, and a long name.
-#[test]
-fn requests_of_file_paths(rt: HostRuntime) -> Result<(), Fail> {
-    let short = named(rt.alloc(), &[])?;
-    let count = requests(rt.alloc(), 0, |heap| has_name(heap, &short, 1))?;
-    assert_eq!(rt; count, 2);
-    let long = named(rt.alloc(), vec![in rt.alloc(); 0x61u8; 60_000]?.as_slice())?;
-    let heap = Refusing::new(rt.alloc(), 0);
-    assert!(rt; has_name(&heap, &long, 30_001)?);
-    Ok(())
-}
-
-/// A long path is built and read again.
-#[test]
-fn long_paths(rt: HostRuntime) -> Result<(), Fail> {
-    let heap = Refusing::new(rt.alloc(), 0);
-    assert!(rt; builds(&heap, 50_000, &[1, 2])?);
-    Ok(())
+/// Whether an option of a description is written in memory, or memory ran out.
+fn is_made(heap: &Refusing<Global>, description: &[u16]) -> Result<bool, AllocError> {
+    let Ok(path) = DevicePath::from_bytes(END) else {
+        return Ok(false);
+    };
+    let paths = [path];
+    match LoadOptionBuilder::new(1, description, &paths, &[]).to_vec(heap) {
+        Ok(bytes) => Ok(bytes.len() == description.len().saturating_mul(2).saturating_add(12)),
+        Err(error) => out_of_memory(error == OptionBuildError::OutOfMemory),
+    }
 }
 
 /// Whether the description of an option has this length, or memory ran out.
@@ -91,29 +82,68 @@ fn has_description(heap: &Refusing<Global>, bytes: &[u8], len: usize) -> Result<
 }
 
 /// Whether the description of an option has this many bytes in UTF-8.
-fn has_shown_description(
-    heap: &Refusing<Global>,
-    bytes: &[u8],
-    len: usize,
-) -> Result<bool, AllocError> {
-    let Ok(option) = LoadOption::from_bytes(bytes) else {
-        return Ok(false);
-    };
-    Ok(option.description_lossy(heap)?.len() == len)
+fn is_shown(heap: &Refusing<Global>, bytes: &[u8], len: usize) -> Result<bool, AllocError> {
+    match LoadOption::from_bytes(bytes) {
+        Ok(option) => Ok(option.description_lossy(heap)?.len() == len),
+        Err(_) => Ok(false),
+    }
 }
 
-/// One request for a description, and a long one.
+/// Whether a call gives what ample memory gives, or memory ran out.
+fn answers(call: Call<'_>, heap: &Refusing<Global>) -> Result<bool, AllocError> {
+    match call {
+        Call::Push(count, data) => builds(heap, count, data),
+        Call::FilePath(bytes, len) => has_name(heap, bytes, len),
+        Call::FromText(text) => is_read(heap, text),
+        Call::ToVec(description) => is_made(heap, description),
+        Call::Description(bytes, len) => has_description(heap, bytes, len),
+        Call::DescriptionLossy(bytes, len) => is_shown(heap, bytes, len),
+    }
+}
+
+/// A node that names the file `a`, and an end.
+const NAMED: &[u8] = &[4, 4, 8, 0, 0x61, 0, 0, 0, 0x7f, 0xff, 4, 0];
+
+/// A load option with the description `a`.
+const OPTION: &[u8] = &[1, 0, 0, 0, 4, 0, 0x61, 0, 0, 0, 0x7f, 0xff, 4, 0];
+
+/// Each call, and how many requests it makes at least and at most.
+const ROWS: &[(Call<'static>, u64, u64)] = &[
+    (Call::Push(0, &[]), 1, 1),
+    (Call::Push(1, &[7; 10]), 2, 2),
+    (Call::Push(1, &[7; 5000]), 2, 2),
+    (Call::FilePath(NAMED, 1), 2, 2),
+    (Call::FromText("PciRoot(0x0)/Pci(0x1F,0x2)"), 3, 99),
+    (Call::FromText("USB(0x1,0x0),,\\a"), 3, 99),
+    (Call::ToVec(&[0x61]), 1, 1),
+    (Call::Description(OPTION, 1), 1, 1),
+    // One for the units, and one for a text of as many bytes.
+    (Call::DescriptionLossy(OPTION, 1), 2, 2),
+];
+
 #[test]
-fn requests_of_descriptions(rt: HostRuntime) -> Result<(), Fail> {
-    let count = requests(rt.alloc(), 0, |heap| {
-        has_description(heap, entries::BOOT0001, 6)
-    })?;
-    assert_eq!(rt; count, 1);
-    let mut long = Vec::from_slice(rt.alloc(), &[1, 0, 0, 0, 4, 0])?;
-    long.extend_from_slice(vec![in rt.alloc(); 0x61u8; 200_000]?.as_slice())?;
-    long.extend_from_slice(&[0, 0, 0x7f, 0xff, 4, 0])?;
+fn requests_of_each_call(rt: HostRuntime) -> Result<(), Fail> {
+    for (row, (call, least, most)) in ROWS.iter().enumerate() {
+        let count = requests(rt.alloc(), 0, |heap| answers(*call, heap))?;
+        assert!(rt; *least <= count && count <= *most, "{row}: {count}");
+    }
+    Ok(())
+}
+
+#[test]
+fn long_inputs(rt: HostRuntime) -> Result<(), Fail> {
     let heap = Refusing::new(rt.alloc(), 0);
-    assert!(rt; has_description(&heap, &long, 100_000)?);
-    assert!(rt; has_shown_description(&heap, &long, 300_000)?);
+    assert!(rt; answers(Call::Push(50_000, &[1, 2]), &heap)?);
+    let long = vec![in rt.alloc(); 0x61u16; 100_000]?;
+    assert!(rt; answers(Call::ToVec(&long), &heap)?);
+    let mut bytes = Vec::from_slice(rt.alloc(), &[4, 4, 0x66, 0xea])?;
+    bytes.extend_from_slice(vec![in rt.alloc(); 0x61u8; 60_000]?.as_slice())?;
+    bytes.extend_from_slice(&[0, 0, 0x7f, 0xff, 4, 0])?;
+    assert!(rt; answers(Call::FilePath(&bytes, 30_000), &heap)?);
+    let mut option = Vec::from_slice(rt.alloc(), &[1, 0, 0, 0, 4, 0])?;
+    option.extend_from_slice(vec![in rt.alloc(); 0x61u8; 200_000]?.as_slice())?;
+    option.extend_from_slice(&[0, 0, 0x7f, 0xff, 4, 0])?;
+    assert!(rt; answers(Call::Description(&option, 100_000), &heap)?);
+    assert!(rt; answers(Call::DescriptionLossy(&option, 300_000), &heap)?);
     Ok(())
 }

@@ -1,80 +1,48 @@
 //! Device paths read from their texts: the bytes of each, by the layouts of the UEFI Specification 2.10,
 //! section 10.3, and where a text is none.
 
-use for_tests::{out_of_memory, requests};
-use std::alloc::{AllocError, Allocator, Global};
+use for_tests::{bytes, split_row};
+use std::alloc::Global;
 use std::test::Fail;
 use uefi_device_path::{DevicePathBuf, PathTextError};
 
-/// A text, and the bytes of its nodes without the one that ends the path.
-type Row = (&'static str, &'static [u8]);
+/// The bytes of nodes without the one that ends the path, and their text: devices as firmware prints them before
+/// a partition, partitions, names of files, and instances. The first line is the empty path.
+const TEXTS: &str = "
+02010c00d041030a0000000001010600021f PciRoot(0x0)/Pci(0x1F,0x2)
+02010c00d041080a78563412 PcieRoot(0x12345678)
+02010c00d041020c0a000000 Acpi(PNP0C02,0xA)
+02010c00d141030a00000000 Acpi(0x0A0341D1,0x0)
+030506000300 USB(0x3,0x0)
+03120a000100ffff0000 Sata(0x1,0xFFFF,0x0)
+03171000010000001c03b0715b382500 NVMe(0x1,00-25-38-5B-71-B0-03-1C)
+01010500ab Path(1,1,AB)
+09c80400 Path(9,200)
+04012a0001000000000800000000000000001000000000000123456789abcdef0123456789abcdef0202 \
+    HD(1,GPT,67452301-AB89-EFCD-0123-456789ABCDEF,0x800,0x100000)
+04012a00020000003f000000000000000100000000000000d3c2b1a00000000000000000000000000101 HD(2,MBR,0xA0B1C2D3,0x3F,0x1)
+04041a005c004500460049005c00e90028003dd800de29000000 \\EFI\\é(😀)
+0305060001007f0104007f01040004040a005c0061000000 USB(0x1,0x0),,\\a";
 
-/// Devices, as firmware prints them before a partition.
-const DEVICES: &[Row] = &[
-    ("", &[]),
-    (
-        "PciRoot(0x0)/Pci(0x1F,0x2)",
-        &[
-            2, 1, 12, 0, 0xd0, 0x41, 3, 10, 0, 0, 0, 0, 1, 1, 6, 0, 2, 0x1f,
-        ],
-    ),
-    (
-        "PcieRoot(0x12345678)",
-        &[2, 1, 12, 0, 0xd0, 0x41, 8, 10, 0x78, 0x56, 0x34, 0x12],
-    ),
-    (
-        "Acpi(PNP0C02,0xA)",
-        &[2, 1, 12, 0, 0xd0, 0x41, 2, 12, 10, 0, 0, 0],
-    ),
-    (
-        "Acpi(0x0A0341D1,0x0)",
-        &[2, 1, 12, 0, 0xd1, 0x41, 3, 10, 0, 0, 0, 0],
-    ),
-    ("USB(0x3,0x0)", &[3, 5, 6, 0, 3, 0]),
-    (
-        "Sata(0x1,0xFFFF,0x0)",
-        &[3, 18, 10, 0, 1, 0, 0xff, 0xff, 0, 0],
-    ),
-    (
-        "NVMe(0x1,00-25-38-5B-71-B0-03-1C)",
-        &[
-            3, 23, 16, 0, 1, 0, 0, 0, 0x1c, 3, 0xb0, 0x71, 0x5b, 0x38, 0x25, 0,
-        ],
-    ),
-    ("Path(1,1,AB)", &[1, 1, 5, 0, 0xab]),
-    ("Path(9,200)", &[9, 200, 4, 0]),
-];
+/// Whether a text is read as the path of these bytes, and that path is printed so.
+fn is_read(alloc: Global, text: &str, nodes: &[u8]) -> Result<bool, Fail> {
+    let path = DevicePathBuf::from_text(alloc, text)?;
+    let path = path.as_device_path();
+    let end: &[u8] = &[0x7f, 0xff, 4, 0];
+    Ok(path.as_bytes().strip_prefix(nodes) == Some(end) && path.to_string(alloc)?.as_str() == text)
+}
 
-/// Partitions, names of files, and instances.
-const MEDIA: &[Row] = &[
-    (
-        "HD(1,GPT,67452301-AB89-EFCD-0123-456789ABCDEF,0x800,0x100000)",
-        &[
-            4, 1, 42, 0, 1, 0, 0, 0, 0, 8, 0, 0, 0, 0, 0, 0, 0, 0, 16, 0, 0, 0, 0, 0, 1, 0x23,
-            0x45, 0x67, 0x89, 0xab, 0xcd, 0xef, 1, 0x23, 0x45, 0x67, 0x89, 0xab, 0xcd, 0xef, 2, 2,
-        ],
-    ),
-    (
-        "HD(2,MBR,0xA0B1C2D3,0x3F,0x1)",
-        &[
-            4, 1, 42, 0, 2, 0, 0, 0, 0x3f, 0, 0, 0, 0, 0, 0, 0, 1, 0, 0, 0, 0, 0, 0, 0, 0xd3, 0xc2,
-            0xb1, 0xa0, 0, 0, 0, 0, 0, 0, 0, 0, 0, 0, 0, 0, 1, 1,
-        ],
-    ),
-    (
-        "\\EFI\\é(😀)",
-        &[
-            4, 4, 26, 0, 0x5c, 0, 0x45, 0, 0x46, 0, 0x49, 0, 0x5c, 0, 0xe9, 0, 0x28, 0, 0x3d, 0xd8,
-            0, 0xde, 0x29, 0, 0, 0,
-        ],
-    ),
-    (
-        "USB(0x1,0x0),,\\a",
-        &[
-            3, 5, 6, 0, 1, 0, 0x7f, 1, 4, 0, 0x7f, 1, 4, 0, 4, 4, 10, 0, 0x5c, 0, 0x61, 0, 0, 0,
-        ],
-    ),
-];
+#[test]
+fn texts(rt: HostRuntime) -> Result<(), Fail> {
+    for line in TEXTS.split('\n') {
+        let (nodes, text) = split_row(line);
+        assert!(rt;
+            is_read(rt.alloc(), text, &bytes(rt.alloc(), nodes)?)?,
+            "{line}"
+        );
+    }
+    Ok(())
+}
 
 /// Texts that are none, and where.
 const REFUSED: &[(&str, usize)] = &[
@@ -98,40 +66,9 @@ const REFUSED: &[(&str, usize)] = &[
     ("\\a\n", 0),
 ];
 
-/// Whether a text is read as the path of these bytes, and that path is printed so.
-fn reads<A: Allocator + Copy>(alloc: A, text: &str, nodes: &[u8]) -> Result<bool, AllocError> {
-    let path = match DevicePathBuf::from_text(alloc, text) {
-        Ok(path) => path,
-        Err(error) => return out_of_memory(error == PathTextError::OutOfMemory),
-    };
-    let bytes = path.as_device_path().as_bytes();
-    let (front, end) = bytes.split_at(bytes.len() - 4);
-    let printed = path.as_device_path().to_string(alloc)?;
-    Ok(front == nodes && end == [0x7f, 0xff, 4, 0].as_slice() && printed.as_str() == text)
-}
-
-#[test]
-fn devices(rt: HostRuntime) -> Result<(), Fail> {
-    for (text, nodes) in DEVICES {
-        assert!(rt; reads(rt.alloc(), text, nodes)?, "{text}");
-    }
-    Ok(())
-}
-
-#[test]
-fn media(rt: HostRuntime) -> Result<(), Fail> {
-    for (text, nodes) in MEDIA {
-        assert!(rt; reads(rt.alloc(), text, nodes)?, "{text}");
-    }
-    Ok(())
-}
-
 /// Whether a text is none, and from this byte on.
 fn is_refused(alloc: Global, text: &str, place: usize) -> bool {
-    match DevicePathBuf::from_text(alloc, text) {
-        Ok(_) => false,
-        Err(error) => error == PathTextError::NoNode(place),
-    }
+    matches!(DevicePathBuf::from_text(alloc, text), Err(PathTextError::NoNode(at)) if at == place)
 }
 
 #[test]
@@ -141,33 +78,13 @@ fn refused(rt: HostRuntime) {
     }
 }
 
-/// How many requests for memory a text takes, each of which is refused in turn.
-fn count_requests(rt: &HostRuntime, row: &Row) -> Result<u64, Fail> {
-    requests(rt.alloc(), 0, |heap| reads(heap, row.0, row.1))
-}
-
-#[test]
-fn requests_of_texts(rt: HostRuntime) -> Result<(), Fail> {
-    assert!(rt; 2 < count_requests(&rt, &DEVICES[1])?);
-    assert!(rt; 2 < count_requests(&rt, &MEDIA[3])?);
-    Ok(())
-}
-
-/// Whether a text of this many ends of instances is read, and no further than its last byte.
-fn reads_ends(alloc: Global, count: usize) -> Result<bool, AllocError> {
-    let mut bytes = vec![in alloc; b','; count]?;
-    bytes.push(b'x')?;
-    let Ok(text) = str::from_utf8(&bytes) else {
-        return Ok(false);
-    };
-    let Ok(path) = DevicePathBuf::from_text(alloc, &text[..count]) else {
-        return Ok(false);
-    };
-    Ok(path.as_device_path().node_iter().count() == count && is_refused(alloc, text, count))
-}
-
+/// A text of 50,000 ends of instances is read, and one more byte is refused there.
 #[test]
 fn long_texts(rt: HostRuntime) -> Result<(), Fail> {
-    assert!(rt; reads_ends(rt.alloc(), 50_000)?);
+    let mut text = ",".repeat(rt.alloc(), 50_000)?;
+    let path = DevicePathBuf::from_text(rt.alloc(), &text)?;
+    assert!(rt; path.as_device_path().node_iter().count() == 50_000);
+    text.push('x')?;
+    assert!(rt; is_refused(rt.alloc(), &text, 50_000));
     Ok(())
 }
