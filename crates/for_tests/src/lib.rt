@@ -12,4 +12,6 @@ pub mod texts;
 pub use hostile::hostile_places;
 pub use refusals::{Refusals, out_of_memory, refused_in_turn, requests};
 pub use refusing::Refusing;
-pub use texts::{are_ordered, bytes, has_text, prints, repeated, shows, split_row, string};
+pub use texts::{
+    are_all, are_ordered, bytes, has_text, holds, prints, repeated, shows, split_row, string,
+};

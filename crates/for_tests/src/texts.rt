@@ -1,5 +1,5 @@
-//! Strings of Rust texts, strings compared with such, what values print, rows of tables that are texts, and bytes
-//! in hexadecimal.
+//! Strings of Rust texts, strings compared with such, what values print, rows of tables that are texts,
+//! and bytes in hexadecimal.
 
 use std::alloc::{Allocator, Global};
 use std::cmp::Ordering;
@@ -47,6 +47,21 @@ pub fn split_row(line: &str) -> (&str, &str) {
 /// Whether two values stand in this order, and are equal only where it says so.
 pub fn are_ordered<T: Ord>(a: &T, b: &T, want: Ordering) -> bool {
     a.cmp(b) == want && a.partial_cmp(b) == Some(want) && (a == b) == (want == Ordering::Equal)
+}
+
+/// Whether each element is this one.
+pub fn are_all<T: PartialEq>(list: &[T], want: &T) -> bool {
+    for element in list {
+        if element != want {
+            return false;
+        }
+    }
+    true
+}
+
+/// Whether a buffer begins with these, and else holds this.
+pub fn holds<T: PartialEq>(buffer: &[T], front: &[T], filler: &T) -> bool {
+    buffer.starts_with(front) && are_all(buffer.get(front.len()..).unwrap_or(&[]), filler)
 }
 
 /// The bytes of a text in hexadecimal, two digits each.

@@ -23,8 +23,8 @@ fn build<'a>(buffer: &'a mut [u8]) -> Result<&'a [u8], BuildError> {
     Ok(path.finalize().as_bytes())
 }
 
-/// A path is built in a buffer of 14 bytes or more, and a shorter one is refused with the count that it lacks
-/// first.
+/// A path is built in a buffer of 14 bytes or more, and a shorter one is refused with the count that it
+/// lacks first.
 #[test]
 fn built_in_buffers(rt: HostRuntime) {
     for len in 0..16 {
@@ -52,8 +52,8 @@ const REFUSED: &[(u8, u8, usize, BuildError)] = &[
 /// The empty path.
 const END: &[u8] = &[0x7f, 0xff, 4, 0];
 
-/// Whether a node is refused for this cause, in memory and in a buffer that has no room for any, and leaves the
-/// path unchanged.
+/// Whether a node is refused for this cause, in memory and in a buffer that has no room for any, and
+/// leaves the path unchanged.
 fn is_refused(
     rt: &HostRuntime,
     kind: (DeviceType, DeviceSubType),

@@ -1,6 +1,6 @@
 //! The file paths of paths: the names of their nodes, one after the other.
 
-use for_tests::{bytes, has_text, string};
+use for_tests::{bytes, has_text, holds, string};
 use std::test::Fail;
 use uefi_device_path::{
     DevicePath, DevicePathBuf, DevicePathInstance, DeviceSubType, DeviceType, FilePathCause,
@@ -18,7 +18,8 @@ fn named(rt: &HostRuntime, names: &[&[u8]]) -> Result<DevicePathBuf, Fail> {
     Ok(path)
 }
 
-/// What a call says, and left in a buffer of nines, that writes these units where they fit into `len` places.
+/// What a call says, and left in a buffer of nines, that writes these units where they fit into `len`
+/// places.
 fn has_written(
     written: Result<usize, FilePathWriteError>,
     room: &[u16; 64],
@@ -30,8 +31,7 @@ fn has_written(
         Err(FilePathWriteError::BufferTooSmall(count)) => (count == units.len() && len < count, 0),
         Err(FilePathWriteError::Name(_)) => (false, 0),
     };
-    said && room.get(..count) == units.get(..count)
-        && matches!(room.get(count..), Some(rest) if rest.iter().all(|unit| *unit == 9))
+    said && holds(room, units.get(..count).unwrap_or(&[]), &9)
 }
 
 /// Whether a path and an instance of it write these units to each buffer that has room for them, and to no
@@ -112,8 +112,8 @@ const REFUSED: &[(&str, FilePathCause)] = &[
     ("610000d80000", FilePathCause::Text(InvalidChar(1))),
 ];
 
-/// Whether a path and its only instance have no file path for this reason, in memory and in a buffer without a
-/// place.
+/// Whether a path and its only instance have no file path for this reason, in memory and in a buffer
+/// without a place.
 fn are_refused(rt: &HostRuntime, path: DevicePath<'_>, want: FilePathError) -> Result<bool, Fail> {
     let instance = path.instance_iter().next().ok_or("an instance")?;
     let written = Some(FilePathWriteError::Name(want));

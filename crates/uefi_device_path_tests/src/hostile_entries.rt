@@ -1,6 +1,6 @@
-//! Entries with each byte replaced or moved by one, and each of their prefixes: how many of them are load
-//! options, and a sum over the causes and the offsets of all others. The values come from a reader in Python
-//! that was written from the UEFI Specification alone.
+//! Entries with each byte replaced or moved by one, and each of their prefixes: how many of them are
+//! load options, and a sum over the causes and the offsets of all others. The values come from a reader
+//! in Python that was written from the UEFI Specification alone.
 
 use crate::entries;
 use for_tests::bytes;
@@ -99,8 +99,8 @@ fn see_prefixes(entry: &[u8]) -> Seen {
     seen
 }
 
-/// Whether so many byte strings that come from an entry are load options, and the three sums over all others
-/// have this one.
+/// Whether this many byte strings that come from an entry are load options, and the three sums over all
+/// others have this one.
 fn gives(alloc: Global, entry: &[u8], accepted: u64, sum: u64) -> Result<bool, AllocError> {
     let (replaced, nudged) = (see_replaced(alloc, entry)?, see_nudged(alloc, entry)?);
     let cut = see_prefixes(entry);
@@ -112,7 +112,8 @@ fn gives(alloc: Global, entry: &[u8], accepted: u64, sum: u64) -> Result<bool, A
     )
 }
 
-/// Entries, how many load options their bytes give once replaced, nudged and cut, and the sum of the others.
+/// Entries, how many load options their bytes give once replaced, nudged and cut, and the sum of the
+/// others.
 const ROWS: &[(&str, u64, u64)] = &[
     (entries::BOOT0001, 850, 0xe8a5_870b_a828_fbcc),
     (entries::BOOT0002, 951, 0xbe19_ef21_c7b3_9a32),

@@ -6,8 +6,8 @@ use std::test::Fail;
 use uefi_device_path::LoadOption;
 use uefi_text::FromSliceWithNulError;
 
-/// An entry, its attributes, how many units the description has with its NUL, and its first, how many bytes the
-/// list, and how many nodes each of its paths has, and the optional data.
+/// An entry, its attributes, how many units the description has with its NUL, and its first, how many
+/// bytes the list, and how many nodes each of its paths has, and the optional data.
 type Row = (&'static str, u32, usize, u16, usize, usize, &'static [u8]);
 
 const ROWS: &[Row] = &[

@@ -2,7 +2,7 @@
 //! UTF-8.
 
 use crate::entries;
-use for_tests::bytes;
+use for_tests::{bytes, holds};
 use std::test::Fail;
 use uefi_device_path::{
     DevicePath, DevicePathBuf, DeviceSubType, DeviceType, LoadOption, LoadOptionBuilder,
@@ -14,15 +14,12 @@ fn writes(fields: LoadOptionBuilder<'_>, bytes: &[u8]) -> bool {
     for len in 0..bytes.len() + 2 {
         let mut room = [9; 256];
         let count = match fields.write(room.get_mut(..len).unwrap_or_default()) {
-            Ok(count) if count <= len => count,
+            Ok(count) if count == bytes.len() && count <= len => count,
             Err(OptionBuildError::BufferTooSmall(count)) if count == bytes.len() && len < count =>
                 0,
             _ => return false,
         };
-        let rest = room
-            .get(count..)
-            .is_some_and(|rest| rest.iter().all(|byte| *byte == 9));
-        if room.get(..count) != bytes.get(..count) || !rest {
+        if !holds(&room, bytes.get(..count).unwrap_or(&[]), &9) {
             return false;
         }
     }
@@ -69,8 +66,8 @@ fn written_again(rt: HostRuntime) -> Result<(), Fail> {
 /// The path without nodes.
 pub(crate) const END: &[u8] = &[0x7f, 0xff, 4, 0];
 
-/// Whether fields of this description and this many paths without nodes are refused for this, in memory and in
-/// a buffer without a place; there for the buffer alone where nothing else is wrong.
+/// Whether fields of this description and this many paths without nodes are refused for this, in memory
+/// and in a buffer without a place; there for the buffer alone where nothing else is wrong.
 fn are_refused(
     rt: &HostRuntime,
     description: &[u16],

@@ -6,8 +6,9 @@ use std::alloc::Global;
 use std::test::Fail;
 use uefi_device_path::{DevicePathBuf, PathTextError};
 
-/// The bytes of nodes without the one that ends the path, and their text: devices as firmware prints them before
-/// a partition, partitions, names of files, and instances. The first line is the empty path.
+/// The bytes of nodes without the one that ends the path, and their text: devices as firmware prints
+/// them before a partition, partitions, names of files, and instances. The first line is the empty
+/// path.
 const TEXTS: &str = "
 02010c00d041030a0000000001010600021f PciRoot(0x0)/Pci(0x1F,0x2)
 02010c00d041080a78563412 PcieRoot(0x12345678)
@@ -20,7 +21,8 @@ const TEXTS: &str = "
 09c80400 Path(9,200)
 04012a0001000000000800000000000000001000000000000123456789abcdef0123456789abcdef0202 \
     HD(1,GPT,67452301-AB89-EFCD-0123-456789ABCDEF,0x800,0x100000)
-04012a00020000003f000000000000000100000000000000d3c2b1a00000000000000000000000000101 HD(2,MBR,0xA0B1C2D3,0x3F,0x1)
+04012a00020000003f000000000000000100000000000000d3c2b1a00000000000000000000000000101 \
+    HD(2,MBR,0xA0B1C2D3,0x3F,0x1)
 04041a005c004500460049005c00e90028003dd800de29000000 \\EFI\\é(😀)
 0305060001007f0104007f01040004040a005c0061000000 USB(0x1,0x0),,\\a";
 

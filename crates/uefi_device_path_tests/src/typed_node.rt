@@ -87,7 +87,8 @@ const LENGTHS: &[(u8, u8, u8)] = &[
     (5, 1, 9),
 ];
 
-/// Whether a node of the least length is of its kind, one of a byte less is not, nor is one of another sub-type.
+/// Whether a node of the least length is of its kind, one of a byte less is not, nor is one of another
+/// sub-type.
 fn is_least(kind: (u8, u8), least: u8) -> Result<bool, Fail> {
     let (mut whole, mut short, mut other) = ([0; 64], [0; 64], [0; 64]);
     whole[..3].copy_from_slice(&[kind.0, kind.1, least]);

@@ -61,12 +61,12 @@ fn components_of_texts(rt: HostRuntime) -> Result<(), Fail> {
     Ok(())
 }
 
-/// Whether the components of `a\` are a name and an empty one, as many as the hint allows, and no more come,
-/// however often one asks.
+/// Whether the components of `a\` are a name and an empty one, as many as the hint allows, and no more
+/// come, however often one asks.
 fn ends_for_good(mut components: Components<'_>) -> bool {
     let (least, most) = components.size_hint();
     least <= 2
-        && most.is_some_and(|most| 2 <= most)
+        && matches!(most, Some(most) if 2 <= most)
         && matches!(components.next(), Some(name) if name.len() == 1)
         && matches!(components.next(), Some(empty) if empty.len() == 0)
         && components.size_hint() == (0, Some(0))

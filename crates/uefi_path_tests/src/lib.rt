@@ -1,5 +1,5 @@
-//! Tests of `uefi_path`: components, order and names, buffers, parents, the verdict on a path, normal paths, and
-//! the examples of the documents.
+//! Tests of `uefi_path`: components, order and names, buffers, parents, the verdict on a path, normal
+//! paths, and the examples of the documents.
 #![tactic(auto)]
 
 #[cfg(test)]
@@ -8,8 +8,6 @@ mod components;
 mod documents;
 #[cfg(test)]
 mod fixtures;
-#[cfg(test)]
-mod long_paths;
 #[cfg(test)]
 mod normal;
 #[cfg(test)]

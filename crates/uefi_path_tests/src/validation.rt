@@ -20,15 +20,16 @@ enum Verdict {
 
 /// Whether a path is judged so.
 fn is_judged(path: Path<'_>, want: Verdict) -> bool {
-    match (validate_path(path), want) {
-        (Ok(()), Accepted) => true,
-        (Err(PathError::Empty), Empty) => true,
-        (Err(PathError::EmptyComponent), EmptyComponent) => true,
-        (Err(PathError::IllegalChar(character)), IllegalChar(number)) => {
-            u16::from(character) == number
-        }
-        (Err(PathError::ClimbsAboveRoot), ClimbsAboveRoot) => true,
-        _ => false,
+    let judged = validate_path(path);
+    match want {
+        Accepted => judged == Ok(()),
+        Empty => judged == Err(PathError::Empty),
+        EmptyComponent => judged == Err(PathError::EmptyComponent),
+        IllegalChar(number) => match Char16::try_from(number) {
+            Ok(character) => judged == Err(PathError::IllegalChar(character)),
+            Err(_) => false,
+        },
+        ClimbsAboveRoot => judged == Err(PathError::ClimbsAboveRoot),
     }
 }
 
@@ -116,8 +117,8 @@ fn text_of(rt: &HostRuntime, others: usize, place: usize, middle: &str) -> Resul
     Ok(text)
 }
 
-/// Places around 48 and 256 characters, where a verdict that looks at blocks would begin another one: how many
-/// others there are, and how many of them stand before it.
+/// Places around 48 and 256 characters, where a verdict that looks at blocks would begin another one:
+/// how many others there are, and how many of them stand before it.
 const LONG_PLACES: &[(usize, usize)] = &[
     (45, 44),
     (46, 46),

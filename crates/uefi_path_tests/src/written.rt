@@ -2,7 +2,7 @@
 
 use crate::normal::NORMAL;
 use crate::parents::PARENTS;
-use for_tests::string;
+use for_tests::{holds, string};
 use std::test::Fail;
 use uefi_path::Path;
 
@@ -25,11 +25,7 @@ fn is_written(
         Some(text) if room < text.len() => (answer == Err(text.len()), [].as_slice()),
         Some(text) => (answer == Ok(Some(text.len())), text),
     };
-    is_right
-        && places.starts_with(held)
-        && places[held.len().min(ROOM)..]
-            .iter()
-            .all(|unit| *unit == FILLER)
+    is_right && holds(places, held, &FILLER)
 }
 
 /// Whether the parent of a path, or its normal path, is written so into a buffer of each length.
@@ -59,7 +55,10 @@ fn are_written(
         string(rt.alloc(), text)?,
         string(rt.alloc(), want.unwrap_or(""))?,
     );
-    let units = want.map(|_| written.as_cstr16().to_u16_slice());
+    let units = match want {
+        Some(_) => Some(written.as_cstr16().to_u16_slice()),
+        None => None,
+    };
     Ok(each_is_written(Path::new(text.as_cstr16()), is_normal, units))
 }
 

@@ -7,8 +7,8 @@ use std::fmt;
 use std::test::Fail;
 use uefi_text::{CStr16, CharSink};
 
-/// Whether a sink with room for four bytes takes of `aébc`, after nothing and after `x`, as much as fits, and
-/// no byte of the character that does not. What stands in a sink stays there.
+/// Whether a sink with room for four bytes takes of `aébc`, after nothing and after `x`, as much as
+/// fits, and no byte of the character that does not. What stands in a sink stays there.
 fn fills_four(string: CStr16<'_>) -> bool {
     let mut small: ArrayString<4> = ArrayString::new();
     let mut begun: ArrayString<4> = ArrayString::new();

@@ -119,8 +119,19 @@ fn is_told_from_latin1(hostile: &HostileText) -> bool {
         && has_no_nul(text) != hostile.units.contains(&0)
 }
 
-/// Whether each conversion of a row's text is right, its characters at this place among this many others: in
-/// buffers that end before, in and after the text too.
+/// Whether that is so of buffers that end before, in and after the text, and of one with more places than a
+/// block has after it.
+fn is_buffered_in_each(rt: &HostRuntime, hostile: &HostileText) -> Result<bool, Fail> {
+    let (place, len) = (hostile.place, hostile.units.len());
+    for more in [0, 1, 2, 300] {
+        if !is_buffered_in(rt, hostile, len.saturating_add(more))? {
+            return Ok(false);
+        }
+    }
+    Ok(is_buffered_in(rt, hostile, place)? && is_buffered_in(rt, hostile, place.saturating_add(1))?)
+}
+
+/// Whether each conversion of a row's text is right, its characters at this place among this many others.
 fn is_converted(
     rt: &HostRuntime,
     others: usize,
@@ -129,19 +140,11 @@ fn is_converted(
     row: Row,
 ) -> Result<bool, Fail> {
     let hostile = text_of(rt, others, place, other, row)?;
-    let (place, len) = (hostile.place, hostile.units.len());
-    for room in [
-        place,
-        place.saturating_add(1),
-        len,
-        len.saturating_add(1),
-        len.saturating_add(2),
-    ] {
-        if !is_buffered_in(rt, &hostile, room)? {
-            return Ok(false);
-        }
-    }
-    Ok(is_told_from_latin1(&hostile) && is_owned(rt, &hostile)?)
+    Ok(
+        is_told_from_latin1(&hostile)
+            && is_owned(rt, &hostile)?
+            && is_buffered_in_each(rt, &hostile)?,
+    )
 }
 
 /// Places around the blocks in which long texts are looked at, the first of them and the last: how many

@@ -1,5 +1,5 @@
-//! Code units, characters, bytes and packed units in which a unit that no text holds is hidden, at each place
-//! and by each constructor: the first such unit decides.
+//! Code units, characters, bytes and packed units in which a unit that no text holds is hidden, at each
+//! place and by each constructor: the first such unit decides.
 
 use crate::packed_strings::leaves;
 use crate::strs::{are_strings, is_whole_owned};
@@ -149,13 +149,32 @@ fn are_buffered(
     leaves(rt, items, &after, hostile.refusal_in(room))
 }
 
-/// Whether packed units are a string, or refused, in memory of their own and in buffers that have room, just
-/// room, or less.
+/// Whether that is so of buffers that have room, just room, less, or more places than a block has.
+fn are_buffered_in_each(
+    rt: &HostRuntime,
+    items: &UnalignedSlice<'_, u16>,
+    hostile: &HostileUnits,
+) -> Result<bool, Fail> {
+    let len = hostile.units.len();
+    for room in [
+        len.saturating_sub(1),
+        len,
+        len.saturating_add(1),
+        len.saturating_add(300),
+    ] {
+        if !are_buffered(rt, items, hostile, room)? {
+            return Ok(false);
+        }
+    }
+    Ok(true)
+}
+
+/// Whether packed units are a string, or refused, in memory of their own and in buffers.
 fn are_unpacked(rt: &HostRuntime, hostile: &HostileUnits, bytes: &[u8]) -> Result<bool, Fail> {
     let Some(items) = UnalignedSlice::from_unit_bytes(bytes) else {
         return Ok(false);
     };
-    let (units, want, len) = (&hostile.units, hostile.whole(), hostile.units.len());
+    let (units, want) = (&hostile.units, hostile.whole());
     Ok(
         is_whole_owned(units, &items.to_cstring16(rt.alloc()), want)
             && is_whole_owned(
@@ -163,9 +182,7 @@ fn are_unpacked(rt: &HostRuntime, hostile: &HostileUnits, bytes: &[u8]) -> Resul
                 &CString16::try_from_unaligned(rt.alloc(), &items),
                 want,
             )
-            && are_buffered(rt, &items, hostile, len.saturating_sub(1))?
-            && are_buffered(rt, &items, hostile, len)?
-            && are_buffered(rt, &items, hostile, len.saturating_add(1))?,
+            && are_buffered_in_each(rt, &items, hostile)?,
     )
 }
 

@@ -1,5 +1,5 @@
-//! Tests of `uefi_text`: characters, strings of Latin-1 and of UCS-2, borrowed and owned, packed numbers, and
-//! the runs of `for_tests` that refuse requests for memory.
+//! Tests of `uefi_text`: characters, strings of Latin-1 and of UCS-2, borrowed and owned, packed
+//! numbers, and the runs of `for_tests` that refuse requests for memory.
 #![tactic(auto)]
 
 #[cfg(test)]
@@ -18,8 +18,6 @@ mod hostile_texts;
 mod hostile_units;
 #[cfg(test)]
 mod latin1;
-#[cfg(test)]
-mod long_texts;
 #[cfg(test)]
 mod out_of_memory;
 #[cfg(test)]

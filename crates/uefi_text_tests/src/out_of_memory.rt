@@ -1,8 +1,8 @@
-//! Calls whose requests for memory are refused in turn, until a run ends with none refused, which gives what
-//! ample memory gives. All stand in one table. Input is checked before memory is asked for.
+//! Calls whose requests for memory are refused in turn, until a run ends with none refused, which gives
+//! what ample memory gives. All stand in one table. Input is checked before memory is asked for.
 
 use crate::strs::characters;
-use for_tests::{Refusing, has_text, out_of_memory, repeated, requests, string};
+use for_tests::{Refusing, are_all, has_text, out_of_memory, repeated, requests, string};
 use std::alloc::{AllocError, Global};
 use std::fmt::Write;
 use std::iter;
@@ -19,12 +19,10 @@ struct Inputs<'a> {
     rust: &'a str,
     /// Its string.
     part: CStr16<'a>,
-    /// The bytes of that, at an odd place of memory.
+    /// The bytes of that.
     bytes: &'a [u8],
     /// The characters of the text, and a NUL.
     list: &'a [Char16],
-    /// Characters with a NUL among them and at the end.
-    inner: &'a [Char16],
 }
 
 /// A call that takes memory, or is refused before it does.
@@ -181,10 +179,11 @@ fn adds(
 /// How many times `c` stands after the units of a part, if nothing else does.
 fn count_of_c(units: &[u16], part: CStr16<'_>) -> Option<usize> {
     let others = units.strip_prefix(part.to_u16_slice())?;
-    others
-        .iter()
-        .all(|unit| *unit == 99)
-        .then_some(others.len())
+    if are_all(others, &99) {
+        Some(others.len())
+    } else {
+        None
+    }
 }
 
 /// Whether a string is extended by 64 times `c`, or by fewer where memory ran out.
@@ -230,8 +229,8 @@ fn becomes_part(
     }
 }
 
-/// Whether a list of one byte, with this much room, gets the bytes of a text after it, or is unchanged where
-/// memory ran out.
+/// Whether a list of one byte, with this much room, gets the bytes of a text after it, or is unchanged
+/// where memory ran out.
 fn adds_bytes(
     heap: &Refusing<Global>,
     inputs: Inputs<'_>,
@@ -261,14 +260,14 @@ fn refuses_texts(heap: &Refusing<Global>) -> bool {
         && CString16::try_from_str(heap, "😀").err() == Some(FromStrError::InvalidChar)
 }
 
-/// Whether characters are refused for their NULs, or for having none.
+/// Whether characters are refused for having no NUL, or for one.
 fn refuses_characters(heap: &Refusing<Global>, inputs: Inputs<'_>) -> bool {
-    let open = inputs.inner.get(..1).unwrap_or(&[]);
+    let open = inputs.list.get(..1).unwrap_or(&[]);
+    let all = inputs.part.as_slice_with_nul();
     CStr16::from_char16_until_nul(heap, open).err() == Some(FromSliceUntilNulError::NoNul)
-        && CStr16::from_char16_with_nul(heap, inputs.inner).err()
-            == Some(FromSliceWithNulError::InteriorNul(1))
-        && inputs.part.as_slice_with_nul().to_cstring16(heap).err()
-            == Some(FromStrError::InteriorNul)
+        && CStr16::from_char16_with_nul(heap, open).err()
+            == Some(FromSliceWithNulError::NotNulTerminated)
+        && all.to_cstring16(heap).err() == Some(FromStrError::InteriorNul)
 }
 
 /// Whether bytes with a surrogate are refused for it, and those of packed units.
@@ -382,21 +381,12 @@ fn count_of(rt: &HostRuntime, call: Call, setup: u64, inputs: Inputs<'_>) -> Res
     requests(rt.alloc(), setup, |heap| answers(call, heap, inputs))
 }
 
-/// The first of the rows whose call makes another number of requests, and how many, where the calls work on
-/// a text.
-fn find_wrong(rt: &HostRuntime, rows: &[Row], rust: &str) -> Result<Option<(usize, u64)>, Fail> {
-    let part = string(rt.alloc(), rust)?;
-    let mut bytes = vec![in rt.alloc(); 0xffu8]?;
-    bytes.extend_from_slice(&part.as_cstr16().as_bytes(rt.alloc())?)?;
-    let list = characters(rt, part.as_cstr16().to_u16_slice_with_nul())?;
-    let inner = characters(rt, &[97, 0, 98, 0])?;
-    let inputs = Inputs {
-        rust,
-        part: part.as_cstr16(),
-        bytes: bytes.get(1..).unwrap_or(&[]),
-        list: &list,
-        inner: &inner,
-    };
+/// The first of the rows whose call makes another number of requests, and how many.
+fn find_wrong(
+    rt: &HostRuntime,
+    rows: &[Row],
+    inputs: Inputs<'_>,
+) -> Result<Option<(usize, u64)>, Fail> {
     for (row, (call, setup, least, most)) in rows.iter().enumerate() {
         let count = count_of(rt, *call, *setup, inputs)?;
         if count < *least || *most < count {
@@ -404,6 +394,20 @@ fn find_wrong(rt: &HostRuntime, rows: &[Row], rust: &str) -> Result<Option<(usiz
         }
     }
     Ok(None)
+}
+
+/// The same where the calls work on a text.
+fn find_wrong_on(rt: &HostRuntime, rows: &[Row], rust: &str) -> Result<Option<(usize, u64)>, Fail> {
+    let part = string(rt.alloc(), rust)?;
+    let bytes = part.as_cstr16().as_bytes(rt.alloc())?;
+    let list = characters(rt, part.as_cstr16().to_u16_slice_with_nul())?;
+    let inputs = Inputs {
+        rust,
+        part: part.as_cstr16(),
+        bytes: &bytes,
+        list: &list,
+    };
+    find_wrong(rt, rows, inputs)
 }
 
 /// How many times a piece stands in a text, around the blocks in which units and bytes are looked at and
@@ -415,25 +419,35 @@ const PIECES: &[(&str, &str)] = &[
     ("a", ""),
     ("é", ""),
     ("漢", ""),
-    ("aé", ""),
-    ("a漢", "b"),
-    ("é漢", ""),
     ("a", "ÿ"),
-    ("a", "\u{ffff}"),
-    ("é", "b"),
-    ("漢", "b"),
+    ("aé", "\u{ffff}"),
+    ("a漢", "b"),
 ];
 
+/// The same where the text is a piece this many times, and this after it.
+fn find_wrong_in(
+    rt: &HostRuntime,
+    piece: &str,
+    size: u64,
+    end: &str,
+) -> Result<Option<(usize, u64)>, Fail> {
+    let mut text = repeated(rt.alloc(), piece, size)?;
+    text.push_str(end)?;
+    find_wrong_on(rt, ROWS_ON_A_TEXT, &text)
+}
+
+/// No call gives up on a long text.
 #[test]
 fn requests_of_each_call(rt: HostRuntime) -> Result<(), Fail> {
-    assert_eq!(rt; find_wrong(&rt, ROWS, "a")?, None);
+    assert_eq!(rt; find_wrong_on(&rt, ROWS, "a")?, None);
     for size in SIZES {
         for (piece, end) in PIECES {
-            let mut text = repeated(rt.alloc(), piece, *size)?;
-            text.push_str(end)?;
-            let wrong = find_wrong(&rt, ROWS_ON_A_TEXT, &text)?;
+            let wrong = find_wrong_in(&rt, piece, *size, end)?;
             assert!(rt; wrong.is_none(), "{size} times {piece}: {wrong:?}");
         }
+    }
+    for piece in ["a", "é漢"] {
+        assert_eq!(rt; find_wrong_in(&rt, piece, 100_000, "")?, None);
     }
     Ok(())
 }

@@ -89,19 +89,23 @@ fn pushed_and_extended(rt: HostRuntime) -> Result<(), Fail> {
     Ok(())
 }
 
-/// Whether `x` after a push of characters, and extended by a list of the same, is this, or is refused where a
-/// NUL is among them: what a caller tests is what the calls ask for.
-fn takes(
-    rt: &HostRuntime,
-    part: Char16Slice<'_>,
-    list: &[Char16],
-    want: Option<&str>,
-) -> Result<bool, Fail> {
+/// Whether `x` after a push of characters is this, or is refused where a NUL is among them: what a caller
+/// tests is what the call asks for.
+fn takes_part(rt: &HostRuntime, part: Char16Slice<'_>, want: Option<&str>) -> Result<bool, Fail> {
     let mut text = string(rt.alloc(), "x")?;
-    if !part.has_no_nul() || !have_no_nul(list) {
+    if !part.has_no_nul() {
         return Ok(want.is_none());
     }
     text.push_part(part)?;
+    Ok(matches!(want, Some(want) if has_text(text.as_cstr16(), want)))
+}
+
+/// The same of a list by which it is extended.
+fn takes_list(rt: &HostRuntime, list: &[Char16], want: Option<&str>) -> Result<bool, Fail> {
+    let mut text = string(rt.alloc(), "x")?;
+    if !have_no_nul(list) {
+        return Ok(want.is_none());
+    }
     text.extend(list.iter().copied())?;
     Ok(matches!(want, Some(want) if has_text(text.as_cstr16(), want)))
 }
@@ -109,10 +113,11 @@ fn takes(
 #[test]
 fn pushed_parts_and_lists(rt: HostRuntime) -> Result<(), Fail> {
     let more = CStr16::from_u16_with_nul(&[97, 0xe9, 0])?;
-    let (a, e) = (Char16::try_from('a')?, Char16::try_from('é')?);
-    assert!(rt; takes(&rt, more.as_slice(), &[a, e], Some("xaéaé"))?);
-    assert!(rt; takes(&rt, more.as_slice_with_nul(), &[a], None)?);
-    assert!(rt; takes(&rt, more.as_slice(), &[a, NUL_16], None)?);
+    assert!(rt; takes_part(&rt, more.as_slice(), Some("xaé"))?);
+    assert!(rt; takes_part(&rt, more.as_slice_with_nul(), None)?);
+    let e = Char16::try_from('é')?;
+    assert!(rt; takes_list(&rt, &[e, e], Some("xéé"))?);
+    assert!(rt; takes_list(&rt, &[e, NUL_16], None)?);
     Ok(())
 }
 

@@ -7,7 +7,7 @@ use std::io::{self, Read};
 use std::test::Fail;
 use uefi_path::{Path, PathBuf, PathError};
 use uefi_text::FromSliceWithNulError::{InvalidChar, NotNulTerminated};
-use uefi_text::{CStr16, Char16Slice};
+use uefi_text::{CStr16, Char16, Char16Slice};
 use upath::{
     JudgeError, PathCommand, RunFault, StreamFault, Watched, all_parents, judge, pieces,
     run_commands, run_streams, run_text,
@@ -44,19 +44,21 @@ enum Verdict {
 
 /// The string of units with their NUL.
 fn borrow(units: &[u16]) -> Result<CStr16<'_>, AllocError> {
-    CStr16::from_u16_with_nul(units).map_err(|_| AllocError)
+    match CStr16::from_u16_with_nul(units) {
+        Ok(text) => Ok(text),
+        Err(_) => Err(AllocError),
+    }
 }
 
 /// Whether units are `a` and `\b` after it, again and again, `count` components in all.
 fn are_components(units: &[u16], count: usize) -> bool {
-    match (units.split_first(), count.checked_sub(1)) {
-        (None, None) => true,
-        (Some((97, others)), Some(pushes)) => {
-            others.len() == pushes.saturating_mul(2)
-                && others.chunks(2).all(|pair| pair == [92u16, 98].as_slice())
+    for (place, unit) in units.iter().enumerate() {
+        let want = if place % 2 == 1 { 92 } else { 98 };
+        if *unit != (if place == 0 { 97 } else { want }) {
+            return false;
         }
-        _ => false,
     }
+    units.len() == count.saturating_mul(2).saturating_sub(1)
 }
 
 /// Whether the commands of a long list are done, or the path is what those that were done made of it.
@@ -105,18 +107,27 @@ fn needs_no_memory(heap: &Refusing<Global>) -> Result<bool, AllocError> {
     Ok(run_commands(heap, &mut path, &commands).is_ok() && path.is_empty())
 }
 
+/// Whether this is what bytes are judged to be.
+fn is_verdict(verdict: Option<JudgeError>, want: Verdict) -> bool {
+    match want {
+        Verdict::Path => verdict.is_none(),
+        Verdict::Empty => verdict == Some(JudgeError::Invalid(PathError::Empty)),
+        Verdict::Illegal => match Char16::try_from('>') {
+            Ok(c) => verdict == Some(JudgeError::Invalid(PathError::IllegalChar(c))),
+            Err(_) => false,
+        },
+        Verdict::HalfUnit => verdict == Some(JudgeError::HalfUnit),
+        Verdict::Open => verdict == Some(JudgeError::Text(NotNulTerminated)),
+        Verdict::Surrogate => verdict == Some(JudgeError::Text(InvalidChar(0))),
+    }
+}
+
 /// Whether the verdict on bytes is this, or memory ran out.
 fn judges(heap: &Refusing<Global>, bytes: &[u8], want: Verdict) -> Result<bool, AllocError> {
-    Ok(match (judge(heap, bytes).err(), want) {
-        (Some(JudgeError::OutOfMemory), _) => return Err(AllocError),
-        (None, Verdict::Path) => true,
-        (Some(JudgeError::Invalid(PathError::Empty)), Verdict::Empty) => true,
-        (Some(JudgeError::Invalid(PathError::IllegalChar(_))), Verdict::Illegal) => true,
-        (Some(JudgeError::HalfUnit), Verdict::HalfUnit) => true,
-        (Some(JudgeError::Text(NotNulTerminated)), Verdict::Open) => true,
-        (Some(JudgeError::Text(InvalidChar(0))), Verdict::Surrogate) => true,
-        _ => false,
-    })
+    match judge(heap, bytes).err() {
+        Some(JudgeError::OutOfMemory) => Err(AllocError),
+        verdict => Ok(is_verdict(verdict, want)),
+    }
 }
 
 /// Whether a path has two parents and is unchanged.
@@ -190,9 +201,9 @@ const OUTPUT: &[u8] =
       parents 4\n| a\xc3\xa9\\c\\b\\c\n| a\xc3\xa9\\c\\b\n| a\xc3\xa9\\c\n| a\xc3\xa9\n\
       = a\xc3\xa9\\c\\b\\c\\d\n= a\xc3\xa9\\c\\b\\c\ngreater\nok\n= \npath is empty\n";
 
-/// Each call, how many requests come before it, and how many it makes at least and at most. Of judged bytes one
-/// request is for the text, and one for the places of separators: both come after what the bytes are refused for
-/// and before the verdict on the path.
+/// Each call, how many requests come before it, and how many it makes at least and at most. Of judged
+/// bytes one request is for the text, and one for the places of separators: both come after what the
+/// bytes are refused for and before the verdict on the path.
 const ROWS: &[(Call, u64, u64, u64)] = &[
     (Call::RunCommands, 1, 2, 998),
     (Call::RunEachCommand, 1, 3, 98),
@@ -230,8 +241,8 @@ fn lists(
     Ok(pieces(heap, path)?.as_slice() == want)
 }
 
-/// The same where the request of that number is refused and the one after it too. Nothing is said where neither
-/// came.
+/// The same where the request of that number is refused and the one after it too. Nothing is said where
+/// neither came.
 fn lists_twice_refused(
     alloc: Global,
     number: u64,
@@ -250,8 +261,8 @@ fn lists_twice_refused(
     })
 }
 
-/// A list that is refused room to grow asks once more, for less: so a refusal need not end it, and where both
-/// are refused the list ends, or is whole.
+/// A list that is refused room to grow asks once more, for less: so a refusal need not end it, and
+/// where both are refused the list ends, or is whole.
 #[test]
 fn requests_for_components(rt: HostRuntime) -> Result<(), Fail> {
     let text = string(rt.alloc(), r"a\\\\\\\\\\b\c\d\e\f\g\h\i\j\k\l")?;

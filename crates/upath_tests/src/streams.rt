@@ -7,7 +7,8 @@ use std::io::{self, ErrorKind, Read, Write};
 use std::test::Fail;
 use upath::{StreamFault, Watched, run_streams};
 
-/// Kinds of an error: those after which a caller might make the call again, those that end a stream, and others.
+/// Kinds of an error: those after which a caller might make the call again, those that end a stream,
+/// and others.
 pub(crate) const KINDS: &[ErrorKind] = &[
     ErrorKind::Interrupted,
     ErrorKind::WouldBlock,
@@ -54,8 +55,8 @@ impl Read for FailingReader<'_> {
     }
 }
 
-/// Takes at most `step` bytes a call. The write of the number `failing`, counted from 1, fails, or takes none
-/// where `failure` is none, and the first flush fails where `flush` says so.
+/// Takes at most `step` bytes a call. The write of the number `failing`, counted from 1, fails, or
+/// takes none where `failure` is none, and the first flush fails where `flush` says so.
 #[derive(Drop)]
 pub(crate) struct FailingWriter {
     pub(crate) held: Vec<u8>,
@@ -118,7 +119,8 @@ struct Ended<'a> {
     writer: FailingWriter,
 }
 
-/// A run of which this read fails, and none at 0, after which the marks say which of the two streams failed.
+/// A run of which this read fails, and none at 0, after which the marks say which of the two streams
+/// failed.
 fn end_of<'a>(
     rt: &HostRuntime,
     run: Run<'a>,
@@ -211,8 +213,8 @@ fn ends_in_flush(
     Ok(end.outcome == Err(StreamFault::Write) && end.writer.has_taken(run.output, writes, 1))
 }
 
-/// Whether each read, each write and the flush that fails with this kind ends a run, and each write that takes
-/// nothing. Of a long input the last call fails alone.
+/// Whether each read, each write and the flush that fails with this kind ends a run, and each write
+/// that takes nothing. Of a long input the last call fails alone.
 fn each_call_ends(rt: &HostRuntime, run: Run<'_>, kind: ErrorKind) -> Result<bool, Fail> {
     let (reads, writes) = calls_of(rt, run)?;
     let is_short = run.input.len() < 10_000;

@@ -18,42 +18,47 @@ fn flush_by_trait<W: Write>(writer: &mut W) -> io::Result<()> {
     writer.flush()
 }
 
-/// What a read returned, an error by its kind.
+/// What a call returned, an error by its kind.
+fn by_kind<T>(outcome: io::Result<T>) -> Result<T, ErrorKind> {
+    match outcome {
+        Ok(value) => Ok(value),
+        Err(error) => Err(error.kind()),
+    }
+}
+
+/// What a read returned.
 fn read(
     by_trait: bool,
     reader: &mut Watched<FailingReader<'_>>,
     buf: &mut [u8],
 ) -> Result<usize, ErrorKind> {
-    let outcome = if by_trait {
-        read_by_trait(reader, buf)
+    if by_trait {
+        by_kind(read_by_trait(reader, buf))
     } else {
-        reader.read(buf)
-    };
-    outcome.map_err(|error| error.kind())
+        by_kind(reader.read(buf))
+    }
 }
 
-/// What a write returned, an error by its kind.
+/// What a write returned.
 fn write(
     by_trait: bool,
     writer: &mut Watched<FailingWriter>,
     buf: &[u8],
 ) -> Result<usize, ErrorKind> {
-    let outcome = if by_trait {
-        write_by_trait(writer, buf)
+    if by_trait {
+        by_kind(write_by_trait(writer, buf))
     } else {
-        writer.write(buf)
-    };
-    outcome.map_err(|error| error.kind())
+        by_kind(writer.write(buf))
+    }
 }
 
-/// What a flush returned, an error by its kind.
+/// What a flush returned.
 fn flush(by_trait: bool, writer: &mut Watched<FailingWriter>) -> Result<(), ErrorKind> {
-    let outcome = if by_trait {
-        flush_by_trait(writer)
+    if by_trait {
+        by_kind(flush_by_trait(writer))
     } else {
-        writer.flush()
-    };
-    outcome.map_err(|error| error.kind())
+        by_kind(writer.flush())
+    }
 }
 
 /// A watched reader of this input, whose call of the number `failing` fails.
@@ -79,8 +84,8 @@ fn writer_of(
     Watched::new(writer)
 }
 
-/// Whether a read that fails returns its kind and sets the mark, and the next one gives all that there is and
-/// leaves the mark.
+/// Whether a read that fails returns its kind and sets the mark, and the next one gives all that there
+/// is and leaves the mark.
 fn marks_a_read(by_trait: bool, kind: ErrorKind) -> bool {
     let mut reader = reader_of(b"ab", 1, kind);
     let mut buf = [0; 3];
@@ -137,8 +142,8 @@ fn gives(rt: &HostRuntime, by_trait: bool, input: &[u8], room: usize) -> Result<
     Ok(is_first && is_second && !reader.has_failed() && reader.into_inner().calls == 2)
 }
 
-/// Whether a write takes these bytes and a flush follows, and neither sets a mark; nor does a write of nothing
-/// that takes nothing.
+/// Whether a write takes these bytes and a flush follows, and neither sets a mark; nor does a write of
+/// nothing that takes nothing.
 fn takes(rt: &HostRuntime, by_trait: bool, bytes: &[u8]) -> bool {
     let mut writer = writer_of(rt, 2, None);
     let is_taken = write(by_trait, &mut writer, bytes) == Ok(bytes.len());
