@@ -48,6 +48,7 @@ const COMPONENTS: &[(&str, &str, usize)] = &[
     (r"a\", "|a|", 2),
     (r"foo\bar\hello", "|foo|bar|hello", 3),
     (r"\foo\bar\hello", "|foo|bar|hello", 3),
+    (r"\hello\foo\bar", "|hello|foo|bar", 3),
     (r"\\a", "||a", 2),
     (r"a/b\c", "|a/b|c", 3),
     (r"a\\b", "|a||b", 3),

@@ -82,13 +82,6 @@ pub(crate) fn leaves(
 
 /// Packed units, what stands in the buffer then, and why they are refused, if they are.
 const BUFFERS: &[(&[u8], &[u16], Option<UnalignedCStr16Error>)] = &[
-    (b"t\0e\0s\0t\0\0\0", &[9, 9, 9, 9], Some(BufferTooSmall)),
-    (b"t\0e\0s\0t\0\0\0", &[0x74, 0x65, 0x73, 0x74, 0], None),
-    (
-        b"t\0e\0s\0t\0\0\0",
-        &[0x74, 0x65, 0x73, 0x74, 0, 9, 9],
-        None,
-    ),
     (&[0, 0], &[0, 9], None),
     (&[], &[], Some(NotNulTerminated)),
     (&[0x41], &[9, 9, 9], Some(NotNulTerminated)),
@@ -120,6 +113,11 @@ fn strings_in_buffers(rt: HostRuntime) -> Result<(), Fail> {
     for (bytes, after, want) in BUFFERS {
         assert!(rt; are_buffered(&rt, bytes, after, *want)?, "{bytes:?}");
     }
+    let (test, units) = (&TEST_AFTER_ONE[1..], &[0x74, 0x65, 0x73, 0x74, 0, 9]);
+    assert!(rt; are_buffered(&rt, test, &[9; 4], Some(BufferTooSmall))?);
+    assert!(rt;
+        are_buffered(&rt, test, &units[..5], None)? && are_buffered(&rt, test, units, None)?
+    );
     Ok(())
 }
 

@@ -29,13 +29,10 @@ fn a_list_of_commands(rt: HostRuntime) -> Result<(), Fail> {
         PathCommand::Push(Path::new(second.as_cstr16())),
         PathCommand::Parent,
         PathCommand::Parent,
-        PathCommand::Join(Path::new(first.as_cstr16())),
         PathCommand::Clear,
+        PathCommand::Join(Path::new(first.as_cstr16())),
     ];
-    for (done, want) in ["", r"\a", r"\a\b", "a", "a", r"a\\a", ""]
-        .iter()
-        .enumerate()
-    {
+    for (done, want) in ["", r"\a", r"\a\b", "a", "a", "", r"\a"].iter().enumerate() {
         assert!(rt; leads_to(&rt, &commands, done, want)?, "{done}");
     }
     Ok(())
