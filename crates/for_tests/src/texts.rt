@@ -1,0 +1,82 @@
+//! Strings of Rust texts, strings compared with such, what values print, rows of tables that are texts,
+//! and bytes in hexadecimal.
+
+use std::alloc::{Allocator, Global};
+use std::cmp::Ordering;
+use std::fmt::{Debug, Display};
+use std::test::Fail;
+use uefi_text::{CStr16, CString16};
+
+/// The string of a Rust text.
+pub fn string<A: Allocator>(alloc: A, text: &str) -> Result<CString16<A>, Fail> {
+    Ok(CString16::try_from_str(alloc, text)?)
+}
+
+/// A text this many times in a row.
+pub fn repeated<A: Allocator>(alloc: A, piece: &str, count: u64) -> Result<String<A>, Fail> {
+    Ok(piece.repeat(alloc, count as usize)?)
+}
+
+/// Whether a string has the characters of this text.
+pub fn has_text(string: CStr16<'_>, want: &str) -> bool {
+    let mut characters = string.iter();
+    for c in want.chars() {
+        match characters.next() {
+            Some(character) if character.eq_char(c) => {}
+            _ => return false,
+        }
+    }
+    characters.next().is_none()
+}
+
+/// Whether a value prints this for users.
+pub fn shows<T: Display>(alloc: Global, value: &T, want: &str) -> bool {
+    matches!(format!(in alloc; "{value}"), Ok(printed) if printed.as_str() == want)
+}
+
+/// Whether a value prints this: what it prints for users, a bar, and what it prints for programmers.
+pub fn prints<T: Display + Debug>(alloc: Global, value: &T, want: &str) -> bool {
+    matches!(format!(in alloc; "{value}|{value:?}"), Ok(printed) if printed.as_str() == want)
+}
+
+/// A row of a table that is a text: what stands before the first space of a line, and what follows it.
+pub fn split_row(line: &str) -> (&str, &str) {
+    line.split_once(' ').unwrap_or((line, ""))
+}
+
+/// Whether two values stand in this order, and are equal only where it says so.
+pub fn are_ordered<T: Ord>(a: &T, b: &T, want: Ordering) -> bool {
+    a.cmp(b) == want && a.partial_cmp(b) == Some(want) && (a == b) == (want == Ordering::Equal)
+}
+
+/// Whether each element is this one.
+pub fn are_all<T: PartialEq>(list: &[T], want: &T) -> bool {
+    for element in list {
+        if element != want {
+            return false;
+        }
+    }
+    true
+}
+
+/// Whether a buffer begins with these, and else holds this.
+pub fn holds<T: PartialEq>(buffer: &[T], front: &[T], filler: &T) -> bool {
+    buffer.starts_with(front) && are_all(buffer.get(front.len()..).unwrap_or(&[]), filler)
+}
+
+/// The bytes of a text in hexadecimal, two digits each.
+pub fn bytes(alloc: Global, digits: &str) -> Result<Vec<u8>, Fail> {
+    let mut bytes = Vec::new(alloc);
+    let mut high = None;
+    for digit in digits.chars() {
+        let value = digit.to_digit(16).ok_or("a digit")? as u8;
+        match high {
+            None => high = Some(value),
+            Some(first) => {
+                bytes.push(first % 16 * 16 + value % 16)?;
+                high = None;
+            }
+        }
+    }
+    Ok(bytes)
+}

@@ -1,0 +1,140 @@
+//! The file paths of paths: the names of their nodes, one after the other.
+
+use for_tests::{bytes, has_text, holds, string};
+use std::test::Fail;
+use uefi_device_path::{
+    DevicePath, DevicePathBuf, DevicePathInstance, DeviceSubType, DeviceType, FilePathCause,
+    FilePathError, FilePathWriteError,
+};
+use uefi_text::FromSliceWithNulError::{InteriorNul, InvalidChar, NotNulTerminated};
+
+/// A path of one node that names no file, and of nodes with these data.
+fn named(rt: &HostRuntime, names: &[&[u8]]) -> Result<DevicePathBuf, Fail> {
+    let mut path = DevicePathBuf::new(rt.alloc())?;
+    path.push(DeviceType::HARDWARE, DeviceSubType(1), &[0, 0])?;
+    for name in names {
+        path.push(DeviceType::MEDIA, DeviceSubType::MEDIA_FILE_PATH, name)?;
+    }
+    Ok(path)
+}
+
+/// What a call says, and left in a buffer of nines, that writes these units where they fit into `len`
+/// places.
+fn has_written(
+    written: Result<usize, FilePathWriteError>,
+    room: &[u16; 64],
+    units: &[u16],
+    len: usize,
+) -> bool {
+    let (said, count) = match written {
+        Ok(count) => (count == units.len() && count <= len, count),
+        Err(FilePathWriteError::BufferTooSmall(count)) => (count == units.len() && len < count, 0),
+        Err(FilePathWriteError::Name(_)) => (false, 0),
+    };
+    said && holds(room, units.get(..count).unwrap_or(&[]), &9)
+}
+
+/// Whether a path and an instance of it write these units to each buffer that has room for them, and to no
+/// other.
+fn write(path: DevicePath<'_>, instance: DevicePathInstance<'_>, units: &[u16]) -> bool {
+    for len in 0..units.len() + 2 {
+        let (mut room, mut other) = ([9; 64], [9; 64]);
+        let written = path.write_file_path(room.get_mut(..len).unwrap_or_default());
+        let same = instance.write_file_path(other.get_mut(..len).unwrap_or_default());
+        if !has_written(written, &room, units, len) || !has_written(same, &other, units, len) {
+            return false;
+        }
+    }
+    true
+}
+
+/// Whether a path and its only instance have this file path, in memory and in buffers.
+fn joins(rt: &HostRuntime, path: DevicePath<'_>, want: &str) -> Result<bool, Fail> {
+    let instance = path.instance_iter().next().ok_or("an instance")?;
+    let want_string = string(rt.alloc(), want)?;
+    Ok(
+        has_text(path.file_path(rt.alloc())?.to_cstr16(), want)
+            && has_text(instance.file_path(rt.alloc())?.to_cstr16(), want)
+            && write(
+                path,
+                instance,
+                want_string.as_cstr16().to_u16_slice_with_nul(),
+            ),
+    )
+}
+
+/// Names of Latin-1, in bytes of units, and the path that they are together.
+const ROWS: &[(&[&[u8]], &str)] = &[
+    (&[], ""),
+    (&[b"\\\0E\0F\0I\0\\\0B\0\0\0"], r"\EFI\B"),
+    (&[b"\\\0E\0\\\0\0\0", b"B\0\0\0"], r"\E\B"),
+    (&[b"\\\0E\0\0\0", b"\\\0B\0\0\0"], r"\E\B"),
+    (&[b"\\\0E\0\\\0\0\0", b"\\\0B\0\0\0"], r"\E\B"),
+    (&[b"E\0\0\0", b"B\0\0\0"], r"E\B"),
+    (&[b"/\0E\0/\0\0\0", b"/\0B\0\0\0"], r"\E\B"),
+    (&[b"\0\0", b"a\0\0\0"], "a"),
+    (&[b"\0\0", b"\\\0a\0\0\0"], r"\a"),
+    (&[b"a\0\0\0", b"\0\0"], "a"),
+    (&[b"a\0\0\0", b"\\\0\0\0"], "a"),
+    (&[b"\\\0\0\0", b"\\\0\0\0", b"a\0\0\0"], r"\a"),
+];
+
+#[test]
+fn joined(rt: HostRuntime) -> Result<(), Fail> {
+    for (names, want) in ROWS {
+        let path = named(&rt, names)?;
+        assert!(rt; joins(&rt, path.as_device_path(), want)?, "{names:?}");
+    }
+    Ok(())
+}
+
+/// A file path is borrowed from the buffer that it was written to.
+#[test]
+fn borrowed(rt: HostRuntime) -> Result<(), Fail> {
+    let path = named(&rt, &[b"/\0E\0F\0I\0/\0\0\0"])?;
+    let path = path.as_device_path();
+    let instance = path.instance_iter().next().ok_or("an instance")?;
+    let mut room = [9; 7];
+    assert!(rt; path.file_path_in_buf(&mut room)?.num_chars() == 5);
+    assert!(rt; instance.file_path_in_buf(&mut room)?.num_chars() == 5);
+    assert!(rt; room == [0x5c, 0x45, 0x46, 0x49, 0x5c, 0, 9]);
+    let short = path.file_path_in_buf(&mut room[..5]).err();
+    assert!(rt; short == Some(FilePathWriteError::BufferTooSmall(6)));
+    Ok(())
+}
+
+/// Data of a node, which begin at offset 18, and why they are no name.
+const REFUSED: &[(&str, FilePathCause)] = &[
+    ("61", FilePathCause::HalfUnit),
+    ("", FilePathCause::Text(NotNulTerminated)),
+    ("6100", FilePathCause::Text(NotNulTerminated)),
+    ("610000006200", FilePathCause::Text(InteriorNul(1))),
+    ("610000d80000", FilePathCause::Text(InvalidChar(1))),
+];
+
+/// Whether a path and its only instance have no file path for this reason, in memory and in a buffer
+/// without a place.
+fn are_refused(rt: &HostRuntime, path: DevicePath<'_>, want: FilePathError) -> Result<bool, Fail> {
+    let instance = path.instance_iter().next().ok_or("an instance")?;
+    let written = Some(FilePathWriteError::Name(want));
+    Ok(
+        path.file_path(rt.alloc()).err() == Some(want)
+            && instance.file_path(rt.alloc()).err() == Some(want)
+            && path.write_file_path(&mut []).err() == written
+            && instance.write_file_path(&mut []).err() == written,
+    )
+}
+
+#[test]
+fn refused(rt: HostRuntime) -> Result<(), Fail> {
+    for (digits, cause) in REFUSED {
+        let data = bytes(rt.alloc(), digits)?;
+        let path = named(&rt, &[b"a\0\0\0", &data])?;
+        let want = FilePathError {
+            cause: *cause,
+            offset: 18,
+        };
+        assert!(rt; are_refused(&rt, path.as_device_path(), want)?, "{digits}");
+    }
+    Ok(())
+}

@@ -1,0 +1,137 @@
+//! Entries with each byte replaced or moved by one, and each of their prefixes: how many of them are
+//! load options, and a sum over the causes and the offsets of all others. The values come from a reader
+//! in Python that was written from the UEFI Specification alone.
+
+use crate::entries;
+use for_tests::bytes;
+use std::alloc::{AllocError, Global};
+use std::test::Fail;
+use uefi_device_path::{LoadOption, LoadOptionCause, NodeError};
+
+/// What was seen of many byte strings.
+#[derive(Clone, Copy)]
+struct Seen {
+    accepted: u64,
+    sum: u64,
+}
+
+/// A number for each cause; zero is for what is accepted.
+fn number_of(cause: LoadOptionCause) -> u64 {
+    match cause {
+        LoadOptionCause::TooShort => 1,
+        LoadOptionCause::DescriptionWithoutEnd => 2,
+        LoadOptionCause::ListBeyondEnd => 3,
+        LoadOptionCause::EmptyList => 4,
+        LoadOptionCause::FilePathList(NodeError::Missing) => 10,
+        LoadOptionCause::FilePathList(NodeError::TruncatedHeader) => 11,
+        LoadOptionCause::FilePathList(NodeError::UnknownEnd) => 12,
+        LoadOptionCause::FilePathList(NodeError::LengthBelowHeader) => 13,
+        LoadOptionCause::FilePathList(NodeError::EndWithData) => 14,
+        LoadOptionCause::FilePathList(NodeError::BeyondEnd) => 15,
+    }
+}
+
+/// Adds what one byte string gives.
+fn see(seen: Seen, bytes: &[u8]) -> Seen {
+    let (number, offset) = match LoadOption::from_bytes(bytes) {
+        Ok(_) => (0, 0),
+        Err(error) => (number_of(error.cause), error.offset as u64),
+    };
+    let accepted = seen.accepted.wrapping_add(u64::from(number == 0));
+    let sum = seen.sum.wrapping_mul(31).wrapping_add(number);
+    Seen {
+        accepted,
+        sum: sum.wrapping_mul(31).wrapping_add(offset),
+    }
+}
+
+const NOTHING: Seen = Seen {
+    accepted: 0,
+    sum: 0,
+};
+
+/// Bytes that readers are known to take wrongly: zero, the shortest lengths, and the type and the
+/// sub-types of end nodes.
+const HOSTILE: &[u8] = &[0, 1, 3, 4, 0x7f, 0xff];
+
+/// What an entry gives with each byte replaced by each hostile one.
+fn see_replaced(alloc: Global, entry: &[u8]) -> Result<Seen, AllocError> {
+    let mut bytes = Vec::from_slice(alloc, entry)?;
+    let mut seen = NOTHING;
+    for place in 0..entry.len() {
+        for byte in HOSTILE {
+            if let Some(changed) = bytes.get_mut(place) {
+                *changed = *byte;
+            }
+            seen = see(seen, &bytes);
+        }
+        if let (Some(changed), Some(byte)) = (bytes.get_mut(place), entry.get(place)) {
+            *changed = *byte;
+        }
+    }
+    Ok(seen)
+}
+
+/// What an entry gives with each byte, so each length too, grown and cut by one.
+fn see_nudged(alloc: Global, entry: &[u8]) -> Result<Seen, AllocError> {
+    let mut bytes = Vec::from_slice(alloc, entry)?;
+    let mut seen = NOTHING;
+    for (place, byte) in entry.iter().enumerate() {
+        for nudged in [byte.wrapping_add(1), byte.wrapping_sub(1)] {
+            if let Some(changed) = bytes.get_mut(place) {
+                *changed = nudged;
+            }
+            seen = see(seen, &bytes);
+        }
+        if let Some(changed) = bytes.get_mut(place) {
+            *changed = *byte;
+        }
+    }
+    Ok(seen)
+}
+
+/// What each prefix of an entry gives, from no bytes to all.
+fn see_prefixes(entry: &[u8]) -> Seen {
+    let mut seen = NOTHING;
+    for len in 0..=entry.len() {
+        seen = see(seen, &entry[..len]);
+    }
+    seen
+}
+
+/// Whether this many byte strings that come from an entry are load options, and the three sums over all
+/// others have this one.
+fn gives(alloc: Global, entry: &[u8], accepted: u64, sum: u64) -> Result<bool, AllocError> {
+    let (replaced, nudged) = (see_replaced(alloc, entry)?, see_nudged(alloc, entry)?);
+    let cut = see_prefixes(entry);
+    let all = replaced.accepted.wrapping_add(nudged.accepted);
+    let sums = replaced.sum.wrapping_mul(31).wrapping_add(nudged.sum);
+    Ok(
+        all.wrapping_add(cut.accepted) == accepted
+            && sums.wrapping_mul(31).wrapping_add(cut.sum) == sum,
+    )
+}
+
+/// Entries, how many load options their bytes give once replaced, nudged and cut, and the sum of the
+/// others.
+const ROWS: &[(&str, u64, u64)] = &[
+    (entries::BOOT0001, 850, 0xe8a5_870b_a828_fbcc),
+    (entries::BOOT0002, 951, 0xbe19_ef21_c7b3_9a32),
+    (entries::BOOT0003, 292, 0xb488_3b7a_5f0f_4057),
+    (entries::BOOT000A, 334, 0x3f5e_4b56_f5d8_2815),
+    (entries::BOOT0010, 542, 0xc583_0edc_93ae_4b40),
+    (entries::BOOT0011, 841, 0xff5f_d346_c1e4_14bb),
+    (entries::BOOT0013, 754, 0xf431_4d43_9c01_e62c),
+    (entries::BOOT0014, 675, 0x5823_f2cb_d0cc_2659),
+    (entries::BOOT0024, 525, 0x1271_ce77_1b8e_6821),
+    (entries::BOOT0031, 536, 0x2f0c_012d_dfb6_5cf0),
+];
+
+#[test]
+fn hostile_entries(rt: HostRuntime) -> Result<(), Fail> {
+    for (entry, accepted, sum) in ROWS {
+        let entry = bytes(rt.alloc(), entry)?;
+        assert!(rt; gives(rt.alloc(), &entry, *accepted, *sum)?, "{entry:?}");
+    }
+    Ok(())
+}

@@ -1,0 +1,31 @@
+//! Tests of `uefi_device_path` and the crates that it re-exports: device paths, their nodes and texts,
+//! and load options. The values come from the UEFI Specification, the entries of `examples/data`, and a
+//! reader in Python that was written from the specification alone.
+#![tactic(auto)]
+
+#[cfg(test)]
+mod build;
+#[cfg(test)]
+mod device_path;
+#[cfg(test)]
+mod documents;
+#[cfg(test)]
+mod entries;
+#[cfg(test)]
+mod file_path;
+#[cfg(test)]
+mod hostile_entries;
+#[cfg(test)]
+mod load_option;
+#[cfg(test)]
+mod node_text;
+#[cfg(test)]
+mod option_builder;
+#[cfg(test)]
+mod out_of_memory;
+#[cfg(test)]
+mod path_reader;
+#[cfg(test)]
+mod path_text;
+#[cfg(test)]
+mod typed_node;

@@ -1,0 +1,92 @@
+//! Device paths read from their texts: the bytes of each, by the layouts of the UEFI Specification 2.10,
+//! section 10.3, and where a text is none.
+
+use for_tests::{bytes, split_row};
+use std::alloc::Global;
+use std::test::Fail;
+use uefi_device_path::{DevicePathBuf, PathTextError};
+
+/// The bytes of nodes without the one that ends the path, and their text: devices as firmware prints
+/// them before a partition, partitions, names of files, and instances. The first line is the empty
+/// path.
+const TEXTS: &str = "
+02010c00d041030a0000000001010600021f PciRoot(0x0)/Pci(0x1F,0x2)
+02010c00d041080a78563412 PcieRoot(0x12345678)
+02010c00d041020c0a000000 Acpi(PNP0C02,0xA)
+02010c00d141030a00000000 Acpi(0x0A0341D1,0x0)
+030506000300 USB(0x3,0x0)
+03120a000100ffff0000 Sata(0x1,0xFFFF,0x0)
+03171000010000001c03b0715b382500 NVMe(0x1,00-25-38-5B-71-B0-03-1C)
+01010500ab Path(1,1,AB)
+09c80400 Path(9,200)
+04012a0001000000000800000000000000001000000000000123456789abcdef0123456789abcdef0202 \
+    HD(1,GPT,67452301-AB89-EFCD-0123-456789ABCDEF,0x800,0x100000)
+04012a00020000003f000000000000000100000000000000d3c2b1a00000000000000000000000000101 \
+    HD(2,MBR,0xA0B1C2D3,0x3F,0x1)
+04041a005c004500460049005c00e90028003dd800de29000000 \\EFI\\é(😀)
+0305060001007f0104007f01040004040a005c0061000000 USB(0x1,0x0),,\\a";
+
+/// Whether a text is read as the path of these bytes, and that path is printed so.
+fn is_read(alloc: Global, text: &str, nodes: &[u8]) -> Result<bool, Fail> {
+    let path = DevicePathBuf::from_text(alloc, text)?;
+    let path = path.as_device_path();
+    let end: &[u8] = &[0x7f, 0xff, 4, 0];
+    Ok(path.as_bytes().strip_prefix(nodes) == Some(end) && path.to_string(alloc)?.as_str() == text)
+}
+
+#[test]
+fn texts(rt: HostRuntime) -> Result<(), Fail> {
+    for line in TEXTS.split('\n') {
+        let (nodes, text) = split_row(line);
+        assert!(rt;
+            is_read(rt.alloc(), text, &bytes(rt.alloc(), nodes)?)?,
+            "{line}"
+        );
+    }
+    Ok(())
+}
+
+/// Texts that are none, and where.
+const REFUSED: &[(&str, usize)] = &[
+    ("PciRoot(0x0)/", 13),
+    ("PciRoot(0x0)Pci(0x0,0x0)", 12),
+    ("/Pci(0x0,0x0)", 0),
+    ("PciRoot(0x00)", 0),
+    ("PciRoot(0x0)/Pci(0x1f,0x2)", 13),
+    ("PciRoot(0x0)/Pci(0x1F,0x100)", 13),
+    ("Acpi(PNP0A03,0x0)", 0),
+    ("Acpi(0x0A0341D0,0x0)", 0),
+    ("USB(0x1,0x0),USB(0x1)", 13),
+    ("HD(01,MBR,0xA0B1C2D3,0x3F,0x1)", 0),
+    ("Path(1,1,ABCD)", 0),
+    ("Path(127,1)", 0),
+    ("Path(127,3)", 0),
+    ("Path(127,255)", 0),
+    ("Path(256,0)", 0),
+    ("EFI", 0),
+    ("\\a/\\b/c", 6),
+    ("\\a\n", 0),
+];
+
+/// Whether a text is none, and from this byte on.
+fn is_refused(alloc: Global, text: &str, place: usize) -> bool {
+    matches!(DevicePathBuf::from_text(alloc, text), Err(PathTextError::NoNode(at)) if at == place)
+}
+
+#[test]
+fn refused(rt: HostRuntime) {
+    for (text, place) in REFUSED {
+        assert!(rt; is_refused(rt.alloc(), text, *place), "{text}");
+    }
+}
+
+/// A text of 50,000 ends of instances is read, and one more byte is refused there.
+#[test]
+fn long_texts(rt: HostRuntime) -> Result<(), Fail> {
+    let mut text = ",".repeat(rt.alloc(), 50_000)?;
+    let path = DevicePathBuf::from_text(rt.alloc(), &text)?;
+    assert!(rt; path.as_device_path().node_iter().count() == 50_000);
+    text.push('x')?;
+    assert!(rt; is_refused(rt.alloc(), &text, 50_000));
+    Ok(())
+}

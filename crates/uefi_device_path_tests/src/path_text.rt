@@ -1,0 +1,121 @@
+//! What is printed of paths and their instances, and written into buffers. A line is a path in
+//! hexadecimal and what it prints.
+
+use for_tests::{bytes, shows, split_row};
+use std::test::Fail;
+use uefi_device_path::{AllowShortcuts, DevicePath, DisplayOnly, TextWriteError};
+
+/// Paths in the form that can be read back.
+const PATHS: &str = "\
+7fff0400
+02010c00d041030a0000000001010600021f03120a000000ffff000004012a00010000000008000000000000004006000000\
+    000028732ac11ff8d211ba4b00a0c93ec93b0202040430005c004500460049005c0042004f004f0054005c0042004f004f00\
+    54005800360034002e0045004600490000007fff0400 \
+    PciRoot(0x0)/Pci(0x1F,0x2)/Sata(0x0,0xFFFF,0x0)/HD(1,GPT,C12A7328-F81F-11D2-BA4B-00A0C93EC93B,0x800,\
+    0x64000)/\\EFI\\BOOT\\BOOTX64.EFI
+04071400c9bdb87cebf8344faaea3ee4af6516a10406140083a5047c3e9e1c4fad65e05268d0b4d17fff0400 \
+    Fv(7CB8BDC9-F8EB-4F34-AAEA-3EE4AF6516A1)/FvFile(7C04A583-9E3E-4F1C-AD65-E05268D0B4D1)
+7f0104007fff0400 ,
+010104007f0104007f01040009020400090304007fff0400 Path(1,1),,Path(9,2)/Path(9,3)
+040408006100000004040800620000007fff0400 a/b
+04040e0061003dd800de3dd800007fff0400 a😀\u{fffd}";
+
+/// A path for display alone.
+const DISPLAY_ONLY: &str = "\
+02010c00d041030a00000000010106000019030b25000013720ab0ff00000000000000000000000000000000000000000000\
+    0000000001030c1300c0a80064c0a80001000050001100007fff0400 \
+    PciRoot(0x0)/Pci(0x19,0x0)/MAC(0013720AB0FF,0x1)/IPv4(192.168.0.1)";
+
+/// A path of two terminals, with shortcuts.
+const SHORTCUTS: &str = "\
+02010c00d041010500000000030a14005347c1e0bef9d2119a0c0090273fc14d7f0104000305060001007fff0400 \
+    Serial(0x0)/VenPcAnsi(),USB(0x1,0x0)";
+
+/// Whether units are those of a text, and then a NUL.
+fn are_text(units: &[u16], want: &str) -> bool {
+    let Some((last, units)) = units.split_last() else {
+        return false;
+    };
+    *last == 0 && units.iter().copied().eq(want.encode_utf16())
+}
+
+/// Whether a buffer of just the places that a text and its NUL need is filled with them, and one with a
+/// place less is refused, and holds the first units.
+fn fills_buffer(
+    path: DevicePath<'_>,
+    display_only: DisplayOnly,
+    shortcuts: AllowShortcuts,
+    want: &str,
+) -> bool {
+    let mut room = [0xffff; 256];
+    let len = want.encode_utf16().count();
+    if 256 <= len {
+        return false;
+    }
+    let refused = path
+        .text_in_buf(&mut room[..len], display_only, shortcuts)
+        .err();
+    let is_cut = room[..len].iter().copied().eq(want.encode_utf16());
+    let is_refused = refused == Some(TextWriteError::BufferTooSmall(len + 1));
+    match path.text_in_buf(&mut room[..len + 1], display_only, shortcuts) {
+        Ok(units) => is_cut && is_refused && are_text(units, want),
+        Err(_) => false,
+    }
+}
+
+/// Whether the path of each line prints what follows it, in memory and in buffers.
+fn are_printed(
+    rt: &HostRuntime,
+    table: &str,
+    display_only: bool,
+    shortcuts: bool,
+) -> Result<bool, Fail> {
+    let (display_only, shortcuts) = (DisplayOnly(display_only), AllowShortcuts(shortcuts));
+    for line in table.split('\n') {
+        let (digits, want) = split_row(line);
+        let bytes = bytes(rt.alloc(), digits)?;
+        let path = DevicePath::from_bytes(&bytes)?;
+        if !shows(rt.alloc(), &path.display(display_only, shortcuts), want)
+            || !fills_buffer(path, display_only, shortcuts, want)
+        {
+            return Ok(false);
+        }
+    }
+    Ok(true)
+}
+
+#[test]
+fn paths(rt: HostRuntime) -> Result<(), Fail> {
+    assert!(rt; are_printed(&rt, PATHS, false, false)?);
+    assert!(rt; are_printed(&rt, DISPLAY_ONLY, true, false)?);
+    assert!(rt; are_printed(&rt, SHORTCUTS, false, true)?);
+    Ok(())
+}
+
+/// Whether the instances of a path have these texts.
+fn instances_print(rt: &HostRuntime, path: DevicePath<'_>, want: [&str; 2]) -> bool {
+    let mut instances = path.instance_iter();
+    for want in want {
+        match instances.next() {
+            Some(it)
+                if shows(
+                    rt.alloc(),
+                    &it.display(DisplayOnly(true), AllowShortcuts(true)),
+                    want,
+                ) => {}
+            _ => return false,
+        }
+    }
+    instances.next().is_none()
+}
+
+#[test]
+fn instances(rt: HostRuntime) -> Result<(), Fail> {
+    let (terminals, _) = split_row(SHORTCUTS);
+    let terminals = bytes(rt.alloc(), terminals)?;
+    let want = ["Serial(0x0)/VenPcAnsi()", "USB(0x1,0x0)"];
+    assert!(rt; instances_print(&rt, DevicePath::from_bytes(&terminals)?, want));
+    let empty = DevicePath::from_bytes(&[0x7f, 1, 4, 0, 0x7f, 0xff, 4, 0])?;
+    assert!(rt; instances_print(&rt, empty, ["", ""]));
+    Ok(())
+}

@@ -1,0 +1,99 @@
+//! The components of paths.
+
+use crate::fixtures::buffer;
+use for_tests::string;
+use std::test::Fail;
+use uefi_path::{Components, Path};
+use uefi_text::CStr16;
+
+/// The components of a path, with a bar before each.
+fn barred(rt: &HostRuntime, path: Path<'_>) -> Result<String, Fail> {
+    let mut shown = String::new(rt.alloc());
+    for component in path.components() {
+        shown.push('|')?;
+        for character in component.iter() {
+            shown.push(char::from(character))?;
+        }
+    }
+    Ok(shown)
+}
+
+/// Whether both ways to make a path of a string keep the string.
+fn keeps(string: CStr16<'_>) -> bool {
+    let path = Path::new(string);
+    Path::from(string) == path && path.to_cstr16() == string
+}
+
+/// Whether the path of a text has these components, and its buffer this many; and both are as empty as the
+/// text.
+fn has_components(rt: &HostRuntime, text: &str, want: &str, owned: usize) -> Result<bool, Fail> {
+    let (string, path) = (string(rt.alloc(), text)?, buffer(rt, text)?);
+    let borrowed = Path::new(string.as_cstr16());
+    Ok(
+        barred(rt, borrowed)?.as_str() == want
+            && keeps(string.as_cstr16())
+            && borrowed.is_empty() == text.is_empty()
+            && path.is_empty() == text.is_empty()
+            && path.components().count() == owned,
+    )
+}
+
+/// The components, and how many the buffer of a text has: each slash separates components of a buffer
+/// alone.
+const COMPONENTS: &[(&str, &str, usize)] = &[
+    ("", "", 0),
+    ("/", "|/", 0),
+    (r"\", "", 0),
+    (r"\\", "||", 2),
+    (r"a\", "|a|", 2),
+    (r"foo\bar\hello", "|foo|bar|hello", 3),
+    (r"\foo\bar\hello", "|foo|bar|hello", 3),
+    (r"\hello\foo\bar", "|hello|foo|bar", 3),
+    (r"\\a", "||a", 2),
+    (r"a/b\c", "|a/b|c", 3),
+    (r"a\\b", "|a||b", 3),
+];
+
+#[test]
+fn components_of_texts(rt: HostRuntime) -> Result<(), Fail> {
+    for (text, want, owned) in COMPONENTS {
+        assert!(rt; has_components(&rt, text, want, *owned)?, "{text}");
+    }
+    Ok(())
+}
+
+/// Whether the components of `a\` are a name and an empty one, as many as the hint allows, and no more
+/// come, however often one asks.
+fn ends_for_good(mut components: Components<'_>) -> bool {
+    let (least, most) = components.size_hint();
+    least <= 2
+        && matches!(most, Some(most) if 2 <= most)
+        && matches!(components.next(), Some(name) if name.len() == 1)
+        && matches!(components.next(), Some(empty) if empty.len() == 0)
+        && components.size_hint() == (0, Some(0))
+        && components.next().is_none()
+        && components.next().is_none()
+}
+
+#[test]
+fn components_end_for_good(rt: HostRuntime) -> Result<(), Fail> {
+    assert!(rt; ends_for_good(buffer(&rt, r"a\")?.components()));
+    Ok(())
+}
+
+/// Components print what is left of the text, and nothing after the last.
+#[test]
+fn printed_components(rt: HostRuntime) -> Result<(), Fail> {
+    let path = buffer(&rt, r"\a\é")?;
+    let mut components = path.components();
+    for want in [
+        r"Components(Some(['a', '\\', 'é']))",
+        "Components(Some(['é']))",
+        "Components(None)",
+    ] {
+        let printed = format!(in rt.alloc(); "{components:?}")?;
+        assert!(rt; printed.as_str() == want, "{want}");
+        let _next = components.next();
+    }
+    Ok(())
+}

@@ -1,0 +1,24 @@
+//! Tests of `uefi_path`: components, order and names, buffers, parents, the verdict on a path, normal
+//! paths, and the examples of the documents.
+#![tactic(auto)]
+
+#[cfg(test)]
+mod components;
+#[cfg(test)]
+mod documents;
+#[cfg(test)]
+mod fixtures;
+#[cfg(test)]
+mod normal;
+#[cfg(test)]
+mod out_of_memory;
+#[cfg(test)]
+mod parents;
+#[cfg(test)]
+mod path;
+#[cfg(test)]
+mod pathbuf;
+#[cfg(test)]
+mod validation;
+#[cfg(test)]
+mod written;

@@ -1,0 +1,90 @@
+//! Normal paths: what is left of a path's components, and why a path has none.
+
+use crate::fixtures::is_path;
+use for_tests::{prints, repeated, shows, string};
+use std::test::Fail;
+use uefi_path::{NormalizeError, Path, PathError};
+use uefi_text::Char16;
+
+/// Whether the normal path of a text has this text.
+fn is_normal_path(rt: &HostRuntime, text: &str, want: &str) -> Result<bool, Fail> {
+    let string = string(rt.alloc(), text)?;
+    match Path::new(string.as_cstr16()).normalize(rt.alloc()) {
+        Ok(path) => Ok(is_path(&path, want)),
+        Err(_) => Ok(false),
+    }
+}
+
+/// Whether a text has no normal path, for this reason.
+fn is_refused(rt: &HostRuntime, text: &str, why: PathError) -> Result<bool, Fail> {
+    let string = string(rt.alloc(), text)?;
+    match Path::new(string.as_cstr16()).normalize(rt.alloc()) {
+        Ok(_) => Ok(false),
+        Err(error) => Ok(error == NormalizeError::Invalid(why)),
+    }
+}
+
+/// Texts, and those of their normal paths.
+pub(crate) const NORMAL: &[(&str, &str)] = &[
+    (r"a\..\b", "b"),
+    (r"a\b\..\..\c", "c"),
+    (r"a\.\b\..\..", r"\"),
+    (".", r"\"),
+    (r"\", r"\"),
+    (r"...\b", r"...\b"),
+    (r"\a\b", r"a\b"),
+    (r"a\..", r"\"),
+    (r".a\a.\.. \ .", r".a\a.\.. \ ."),
+    ("é\\\u{ffff}\\..", "é"),
+];
+
+#[test]
+fn paths_and_their_normal_paths(rt: HostRuntime) -> Result<(), Fail> {
+    for (text, want) in NORMAL {
+        assert!(rt; is_normal_path(&rt, text, want)?, "{text}");
+    }
+    Ok(())
+}
+
+#[test]
+fn paths_without_normal_path(rt: HostRuntime) -> Result<(), Fail> {
+    let slash = Char16::try_from('/')?;
+    for (text, why) in [
+        ("", PathError::Empty),
+        (r"a\..\", PathError::EmptyComponent),
+        ("a/..", PathError::IllegalChar(slash)),
+        (r"..\a", PathError::ClimbsAboveRoot),
+        (r"a\..\..", PathError::ClimbsAboveRoot),
+        (r"a\\..\..", PathError::EmptyComponent),
+    ] {
+        assert!(rt; is_refused(&rt, text, why)?, "{text}");
+    }
+    Ok(())
+}
+
+#[test]
+fn long_paths(rt: HostRuntime) -> Result<(), Fail> {
+    let mut text = repeated(rt.alloc(), r"ab\", 50_000)?;
+    text.push_str("c")?;
+    assert!(rt; is_normal_path(&rt, &text, &text)?);
+    text.push_str(&repeated(rt.alloc(), r"\..", 50_000)?)?;
+    assert!(rt; is_normal_path(&rt, &text, "ab")?);
+    Ok(())
+}
+
+#[test]
+fn printed_refusals(rt: HostRuntime) -> Result<(), Fail> {
+    let illegal = NormalizeError::Invalid(PathError::IllegalChar(Char16::try_from('>')?));
+    let want = "path contains an illegal character (value 62)|Invalid(IllegalChar('>'))";
+    assert!(rt; prints(rt.alloc(), &illegal, want));
+    let climbs = NormalizeError::Invalid(PathError::ClimbsAboveRoot);
+    assert!(rt;
+        prints(
+            rt.alloc(),
+            &climbs,
+            "path climbs above the root|Invalid(ClimbsAboveRoot)"
+        )
+    );
+    assert!(rt; shows(rt.alloc(), &NormalizeError::OutOfMemory, "out of memory"));
+    Ok(())
+}

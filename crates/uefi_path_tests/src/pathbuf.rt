@@ -1,0 +1,159 @@
+//! Path buffers as they are made, pushed to, joined, copied, cleared and printed.
+
+use crate::fixtures::{buffer, is_path};
+use for_tests::{prints, string};
+use std::alloc::AllocError;
+use std::test::Fail;
+use uefi_path::{CountedUnits, Path, PathBuf};
+
+/// Texts, and those of their buffers.
+const REPLACED: &[(&str, &str)] = &[
+    ("", ""),
+    ("/", r"\"),
+    (r"/a//b\", r"\a\\b\"),
+    (r"\hello\foo\bar", r"\hello\foo\bar"),
+];
+
+#[test]
+fn replaced_slashes(rt: HostRuntime) -> Result<(), Fail> {
+    for (text, want) in REPLACED {
+        let (string, taken) = (string(rt.alloc(), text)?, buffer(&rt, text)?);
+        let copied = PathBuf::from(rt.alloc(), string.as_cstr16())?;
+        let is_right = is_path(&copied, want) && is_path(&taken, want) && copied == taken;
+        assert!(rt;
+            is_right && copied.to_string(rt.alloc())?.as_str() == *want,
+            "{text}"
+        );
+    }
+    Ok(())
+}
+
+#[test]
+fn printed_buffers(rt: HostRuntime) -> Result<(), Fail> {
+    assert!(rt;
+        prints(
+            rt.alloc(),
+            &PathBuf::new(rt.alloc())?,
+            "|PathBuf(CStr16([]))"
+        )
+    );
+    let want = r"\a\é|PathBuf(CStr16(['\\', 'a', '\\', 'é']))";
+    assert!(rt; prints(rt.alloc(), &buffer(&rt, r"/a\é")?, want));
+    Ok(())
+}
+
+/// Whether a path that is cleared twice is empty each time.
+fn clears_twice(mut path: PathBuf) -> bool {
+    path.clear();
+    let is_empty = path.is_empty() && is_path(&path, "");
+    path.clear();
+    is_empty && path.is_empty()
+}
+
+/// A copy keeps its text while the path is cleared.
+#[test]
+fn copied_and_cleared(rt: HostRuntime) -> Result<(), Fail> {
+    let path = pushed_in_turn(&rt, &["first"])?;
+    let copy = path.clone()?;
+    assert!(rt; is_path(&path, "first") && clears_twice(path) && is_path(&copy, "first"));
+    Ok(())
+}
+
+/// Whether both joins of a path with another have this text.
+fn joins(
+    rt: &HostRuntime,
+    path: Path<'_>,
+    other: Path<'_>,
+    want: &str,
+) -> Result<bool, AllocError> {
+    Ok(
+        is_path(&path.join(rt.alloc(), other)?, want)
+            && is_path(&path.to_path_buf(rt.alloc())?.join(other)?, want),
+    )
+}
+
+/// Whether the buffer of a path after a push of another has this text, and after a push of its text, whose
+/// reads are counted, and of no text after that.
+fn pushes(
+    rt: &HostRuntime,
+    path: Path<'_>,
+    other: Path<'_>,
+    want: &str,
+) -> Result<bool, AllocError> {
+    let (mut plain, mut counted) = (path.to_path_buf(rt.alloc())?, path.to_path_buf(rt.alloc())?);
+    let empty = PathBuf::new(rt.alloc())?;
+    plain.push(other)?;
+    counted.push_counted(&mut CountedUnits::new(other.to_cstr16()))?;
+    counted.push_counted(&mut CountedUnits::new(empty.to_cstr16()))?;
+    Ok(is_path(&plain, want) && is_path(&counted, want))
+}
+
+/// Whether both joins and both pushes have this text.
+pub(crate) fn joins_and_pushes(
+    rt: &HostRuntime,
+    text: &str,
+    other: &str,
+    want: &str,
+) -> Result<bool, Fail> {
+    let (text, other) = (string(rt.alloc(), text)?, string(rt.alloc(), other)?);
+    let (path, other) = (Path::new(text.as_cstr16()), Path::new(other.as_cstr16()));
+    Ok(joins(rt, path, other, want)? && pushes(rt, path, other, want)?)
+}
+
+/// Texts, what is pushed to them, and the text of the path then.
+const PUSHES: &[(&str, &str, &str)] = &[
+    ("", "", ""),
+    ("", r"\x", r"\x"),
+    ("", "/x/y", r"\x\y"),
+    ("a", "", "a"),
+    ("a", "b", r"a\b"),
+    (r"a\", "b", r"a\b"),
+    ("a", "/b", r"a\\b"),
+    ("a", r"\b", r"a\\b"),
+    (r"\", r"\x", r"\\x"),
+    (r"a\b", r"c\d", r"a\b\c\d"),
+];
+
+#[test]
+fn pushed_and_joined(rt: HostRuntime) -> Result<(), Fail> {
+    for (text, other, want) in PUSHES {
+        assert!(rt; joins_and_pushes(&rt, text, other, want)?, "{text}, {want}");
+    }
+    Ok(())
+}
+
+/// The empty path after these are pushed in turn.
+fn pushed_in_turn(rt: &HostRuntime, parts: &[&str]) -> Result<PathBuf, Fail> {
+    let mut path = PathBuf::new(rt.alloc())?;
+    for part in parts {
+        path.push(buffer(rt, part)?.as_path())?;
+    }
+    Ok(path)
+}
+
+/// Texts that are pushed in turn, the text of the path, and one of a path that equals it.
+const SEVERAL: &[(&[&str], &str, &str)] = &[
+    (
+        &["first", "second", "third"],
+        r"first\second\third",
+        r"\first\second\third",
+    ),
+    (&[r"\first", "second"], r"\first\second", r"first\second"),
+    (
+        &["first", "", "", "", "second"],
+        r"first\second",
+        r"\first\second",
+    ),
+];
+
+#[test]
+fn several_pushes(rt: HostRuntime) -> Result<(), Fail> {
+    for (parts, want, equal) in SEVERAL {
+        let path = pushed_in_turn(&rt, parts)?;
+        assert!(rt;
+            is_path(&path, want) && path == buffer(&rt, equal)?,
+            "{want}"
+        );
+    }
+    Ok(())
+}

@@ -1,0 +1,180 @@
+//! Which paths are accepted, and why the others are refused: the first component with a fault decides, at
+//! each place where one is hidden.
+
+use crate::fixtures::buffer;
+use crate::validation::Verdict::{Accepted, ClimbsAboveRoot, Empty, EmptyComponent, IllegalChar};
+use for_tests::{hostile_places, repeated, shows, string};
+use std::test::Fail;
+use uefi_path::{CHARACTER_DENY_LIST, Path, PathError, separator_str, validate_path};
+use uefi_text::Char16;
+
+/// Whether a path is accepted, or why it is refused, if so with the number of the character.
+#[derive(Clone, Copy)]
+enum Verdict {
+    Accepted,
+    Empty,
+    EmptyComponent,
+    IllegalChar(u16),
+    ClimbsAboveRoot,
+}
+
+/// Whether a path is judged so.
+fn is_judged(path: Path<'_>, want: Verdict) -> bool {
+    let judged = validate_path(path);
+    match want {
+        Accepted => judged == Ok(()),
+        Empty => judged == Err(PathError::Empty),
+        EmptyComponent => judged == Err(PathError::EmptyComponent),
+        IllegalChar(number) => match Char16::try_from(number) {
+            Ok(character) => judged == Err(PathError::IllegalChar(character)),
+            Err(_) => false,
+        },
+        ClimbsAboveRoot => judged == Err(PathError::ClimbsAboveRoot),
+    }
+}
+
+/// Whether the path of a text is judged so, and its buffer, in which each slash is replaced.
+fn are_judged(
+    rt: &HostRuntime,
+    text: &str,
+    borrowed: Verdict,
+    owned: Verdict,
+) -> Result<bool, Fail> {
+    let string = string(rt.alloc(), text)?;
+    Ok(
+        is_judged(Path::new(string.as_cstr16()), borrowed)
+            && is_judged(buffer(rt, text)?.as_path(), owned),
+    )
+}
+
+/// Texts, and how their paths are judged, borrowed and in a buffer.
+const TEXTS: &[(&str, Verdict, Verdict)] = &[
+    (r"\", Accepted, Accepted),
+    ("a", Accepted, Accepted),
+    (".", Accepted, Accepted),
+    (r"a\..", Accepted, Accepted),
+    (r"a\b\..\..", Accepted, Accepted),
+    (r"é\ \~", Accepted, Accepted),
+    (r"hello\foo\bar", Accepted, Accepted),
+    ("", Empty, Empty),
+    (r"\\", EmptyComponent, EmptyComponent),
+    (r"a\", EmptyComponent, EmptyComponent),
+    (r"\\a", EmptyComponent, EmptyComponent),
+    (r"a\\b>", EmptyComponent, EmptyComponent),
+    (r"hello\\bar", EmptyComponent, EmptyComponent),
+    (r"a>b\\c", IllegalChar(62), IllegalChar(62)),
+    (r"hello\f>oo\bar", IllegalChar(62), IllegalChar(62)),
+    ("a/b", IllegalChar(47), Accepted),
+    ("..", ClimbsAboveRoot, ClimbsAboveRoot),
+    (r"a\..\..\b>", ClimbsAboveRoot, ClimbsAboveRoot),
+    ("..>", IllegalChar(62), IllegalChar(62)),
+    (r"b>\..\..", IllegalChar(62), IllegalChar(62)),
+    (r"a\\..\..", EmptyComponent, EmptyComponent),
+];
+
+#[test]
+fn judged_paths(rt: HostRuntime) -> Result<(), Fail> {
+    for (text, borrowed, owned) in TEXTS {
+        assert!(rt; are_judged(&rt, text, *borrowed, *owned)?, "{text}");
+    }
+    Ok(())
+}
+
+/// What stands among other characters, how the path is judged, and how its buffer is.
+const HOSTILE: &[(&str, Verdict, Verdict)] = &[
+    ("a", Accepted, Accepted),
+    (r"a\b", Accepted, Accepted),
+    ("\u{ffff}", Accepted, Accepted),
+    (r"\.\b", Accepted, Accepted),
+    (r"a\..\b", Accepted, Accepted),
+    (r"\..\..\", ClimbsAboveRoot, ClimbsAboveRoot),
+    ("a/b", IllegalChar(47), Accepted),
+    ("\"", IllegalChar(34), IllegalChar(34)),
+    ("*", IllegalChar(42), IllegalChar(42)),
+    (":", IllegalChar(58), IllegalChar(58)),
+    ("<", IllegalChar(60), IllegalChar(60)),
+    (">", IllegalChar(62), IllegalChar(62)),
+    ("?", IllegalChar(63), IllegalChar(63)),
+    ("|", IllegalChar(124), IllegalChar(124)),
+    ("?*", IllegalChar(63), IllegalChar(63)),
+    (r"\\", EmptyComponent, EmptyComponent),
+    ("a//b", IllegalChar(47), EmptyComponent),
+    (r"a\\b>", EmptyComponent, EmptyComponent),
+    (r"a>\\b", IllegalChar(62), IllegalChar(62)),
+    (r"a\b>", IllegalChar(62), IllegalChar(62)),
+    (r"a>b\*", IllegalChar(62), IllegalChar(62)),
+    (r"a\/\*", IllegalChar(47), EmptyComponent),
+    (r"\\>\\", EmptyComponent, EmptyComponent),
+];
+
+/// As many other characters, with these at the place.
+fn text_of(rt: &HostRuntime, others: usize, place: usize, middle: &str) -> Result<String, Fail> {
+    let mut text = repeated(rt.alloc(), "a", place as u64)?;
+    text.push_str(middle)?;
+    for _ in place..others {
+        text.push('a')?;
+    }
+    Ok(text)
+}
+
+/// Places around 48 and 256 characters, where a verdict that looks at blocks would begin another one:
+/// how many others there are, and how many of them stand before it.
+const LONG_PLACES: &[(usize, usize)] = &[
+    (45, 44),
+    (46, 46),
+    (47, 0),
+    (47, 47),
+    (48, 24),
+    (253, 253),
+    (254, 127),
+    (255, 255),
+    (256, 0),
+    (257, 256),
+];
+
+#[test]
+fn hostile_paths(rt: HostRuntime) -> Result<(), Fail> {
+    let mut places = hostile_places(rt.alloc())?;
+    places.extend_from_slice(LONG_PLACES)?;
+    for (others, place) in &places {
+        for (middle, borrowed, owned) in HOSTILE {
+            let text = text_of(&rt, *others, *place, middle)?;
+            assert!(rt; are_judged(&rt, &text, *borrowed, *owned)?, "{text}");
+        }
+    }
+    Ok(())
+}
+
+#[test]
+fn denied_characters(rt: HostRuntime) {
+    let numbers: &[u16] = &[0, 34, 42, 47, 58, 60, 62, 63, 92, 124];
+    for (character, want) in CHARACTER_DENY_LIST.iter().zip(numbers) {
+        assert!(rt; u16::from(*character) == *want, "{want}");
+    }
+    assert!(rt; CHARACTER_DENY_LIST.len() == numbers.len());
+    assert!(rt; separator_str().to_u16_slice() == [92u16].as_slice());
+}
+
+#[test]
+fn printed_errors(rt: HostRuntime) -> Result<(), Fail> {
+    let (illegal, last) = (Char16::try_from('>')?, Char16::try_from(0xffffu16)?);
+    for (error, want) in [
+        (PathError::Empty, "path is empty"),
+        (
+            PathError::EmptyComponent,
+            "path contains an empty component",
+        ),
+        (
+            PathError::IllegalChar(illegal),
+            "path contains an illegal character (value 62)",
+        ),
+        (
+            PathError::IllegalChar(last),
+            "path contains an illegal character (value 65535)",
+        ),
+        (PathError::ClimbsAboveRoot, "path climbs above the root"),
+    ] {
+        assert!(rt; shows(rt.alloc(), &error, want), "{want}");
+    }
+    Ok(())
+}

@@ -1,0 +1,80 @@
+//! Strings written into sinks of characters.
+
+ghost use Rattle.std.specs.Prelude.{◌≡◌, ◌+◌, ◌<◌, ◌⊎◌, encode_utf8, length};
+
+use arrayvec::ArrayString;
+use std::fmt;
+use std::test::Fail;
+use uefi_text::{CStr16, CharSink};
+
+/// Whether a sink with room for four bytes takes of `aébc`, after nothing and after `x`, as much as
+/// fits, and no byte of the character that does not. What stands in a sink stays there.
+fn fills_four(string: CStr16<'_>) -> bool {
+    let mut small: ArrayString<4> = ArrayString::new();
+    let mut begun: ArrayString<4> = ArrayString::new();
+    begun.push('x');
+    string.as_str_in_buf(&mut small).is_err()
+        && small.as_str() == "aéb"
+        && string.as_str_in_buf(&mut begun).is_err()
+        && begun.as_str() == "xaé"
+}
+
+/// Whether a sink with just the room takes all of `aébc`, and one with no room the empty string.
+fn fills_exactly(string: CStr16<'_>, empty: CStr16<'_>) -> bool {
+    let mut exact: ArrayString<5> = ArrayString::new();
+    let mut none: ArrayString<0> = ArrayString::new();
+    string.as_str_in_buf(&mut exact).is_ok()
+        && exact.as_str() == "aébc"
+        && empty.as_str_in_buf(&mut none).is_ok()
+}
+
+#[test]
+fn sinks_of_fixed_room(rt: HostRuntime) -> Result<(), Fail> {
+    let string = CStr16::from_u16_with_nul(&[97, 0xe9, 98, 99, 0])?;
+    let empty = CStr16::from_u16_with_nul(&[0])?;
+    assert!(rt; fills_four(string) && fills_exactly(string, empty));
+    Ok(())
+}
+
+/// A text that takes `LEN` bytes and refuses what comes then: a sink that a caller defines.
+#[derive(Drop)]
+struct Closing<const LEN: usize> {
+    text: ArrayString<64>,
+}
+
+impl<const LEN: usize> CharSink for Closing<LEN> {
+    ghost text = { λ sink. sink.text.bytes };
+
+    ghost may_refuse = { λ text c.
+        (64 < length text + length (encode_utf8 c)) ⊎ (length text ≡ LEN) };
+
+    fn write_char(&mut self, c: char) -> fmt::Result {
+        if self.text.len() == LEN {
+            return Err(fmt::Error);
+        }
+        match self.text.try_push(c) {
+            Ok(()) => Ok(()),
+            Err(_) => Err(fmt::Error),
+        }
+    }
+}
+
+/// Whether a sink takes these first letters of `abc`, and says whether they are all.
+fn takes_letters<const LEN: usize>(string: CStr16<'_>, taken: &str) -> bool {
+    let mut sink: Closing<LEN> = Closing {
+        text: ArrayString::new(),
+    };
+    let answer = string.as_str_in_buf(&mut sink);
+    answer.is_ok() == (taken == "abc") && sink.text.as_str() == taken
+}
+
+/// A sink that refuses at each character in turn, and one that refuses none.
+#[test]
+fn sinks_that_refuse_at_each_character(rt: HostRuntime) -> Result<(), Fail> {
+    let string = CStr16::from_u16_with_nul(&[97, 98, 99, 0])?;
+    assert!(rt; takes_letters::<0>(string, ""));
+    assert!(rt; takes_letters::<1>(string, "a"));
+    assert!(rt; takes_letters::<2>(string, "ab"));
+    assert!(rt; takes_letters::<3>(string, "abc"));
+    Ok(())
+}

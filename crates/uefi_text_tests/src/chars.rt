@@ -1,0 +1,84 @@
+//! Characters of Latin-1 and of UCS-2.
+
+use for_tests::prints;
+use std::test::Fail;
+use uefi_text::chars::{Char8, Char16, CharConversionError, NUL_8, NUL_16};
+
+/// Characters, and their numbers as a byte and as a code unit, where they have one.
+const CHARACTERS: &[(char, Option<u8>, Option<u16>)] = &[
+    ('A', Some(65), Some(65)),
+    ('\0', Some(0), Some(0)),
+    ('é', Some(0xe9), Some(0xe9)),
+    ('ÿ', Some(255), Some(255)),
+    ('Ā', None, Some(0x100)),
+    ('ꋃ', None, Some(0xa2c3)),
+    ('\u{ffff}', None, Some(0xffff)),
+    ('\u{10000}', None, None),
+    ('😀', None, None),
+];
+
+/// Whether a character becomes this byte, which gives it back, or is refused.
+fn has_byte(character: char, want: Option<u8>) -> bool {
+    match (Char8::try_from(character), want) {
+        (Ok(made), Some(byte)) => {
+            u8::from(made) == byte
+                && char::from(Char8::from(byte)) == character
+                && made.eq_char(character)
+                && !made.eq_char('\u{141}')
+        }
+        (Err(error), None) => error == CharConversionError,
+        _ => false,
+    }
+}
+
+/// Whether a character becomes this code unit both ways, and the unit gives it back, or is refused.
+fn has_unit(character: char, want: Option<u16>) -> bool {
+    match (Char16::try_from_char(character), want) {
+        (Ok(made), Some(unit)) => {
+            u16::from(made) == unit
+                && Char16::try_from(character) == Ok(made)
+                && char::from(made) == character
+                && made.eq_char(character)
+                && !made.eq_char('\u{10041}')
+                && made.is_ascii() == character.is_ascii()
+        }
+        (Err(error), None) => Char16::try_from(character) == Err(error),
+        _ => false,
+    }
+}
+
+#[test]
+fn characters_and_their_numbers(rt: HostRuntime) {
+    for (character, byte, unit) in CHARACTERS {
+        let is_right = has_byte(*character, *byte) && has_unit(*character, *unit);
+        assert!(rt; is_right, "{character:?}");
+    }
+    assert!(rt; Char8::default() == NUL_8 && Char16::default() == NUL_16);
+}
+
+/// Units, and whether they are characters.
+const UNITS: &[(u16, bool)] = &[
+    (0, true),
+    (0xd7ff, true),
+    (0xd800, false),
+    (0xdfff, false),
+    (0xe000, true),
+    (0xffff, true),
+];
+
+#[test]
+fn code_units_as_characters(rt: HostRuntime) {
+    for (unit, want) in UNITS {
+        assert!(rt; Char16::try_from(*unit).is_ok() == *want, "{unit}");
+    }
+}
+
+#[test]
+fn printed_characters(rt: HostRuntime) -> Result<(), Fail> {
+    assert!(rt; prints(rt.alloc(), &Char8::from(65), "A|'A'"));
+    assert!(rt; prints(rt.alloc(), &Char8::from(0xe9), "é|'é'"));
+    assert!(rt; prints(rt.alloc(), &NUL_8, "\0|'\\0'"));
+    assert!(rt; prints(rt.alloc(), &Char16::try_from('ꋃ')?, "ꋃ|'ꋃ'"));
+    assert!(rt; prints(rt.alloc(), &Char16::try_from('\n')?, "\n|'\\n'"));
+    Ok(())
+}

@@ -1,0 +1,104 @@
+//! Borrowed strings of Latin-1, and Rust texts of Latin-1 as arrays.
+
+use for_tests::{hostile_places, prints};
+use std::test::Fail;
+use uefi_text::FromSliceWithNulError::{InteriorNul, NotNulTerminated};
+use uefi_text::{
+    CStr8, FromSliceWithNulError, has_no_nul, is_latin1, str_num_latin1_chars, str_to_latin1,
+};
+
+/// Bytes, and what their string prints, or why they are refused.
+const BYTES: &[(&[u8], Result<&str, FromSliceWithNulError>)] = &[
+    (&[97, 0], Ok("a|CStr8(['a'])")),
+    (&[65, 0], Ok("A|CStr8(['A'])")),
+    (&[0xe9, 0], Ok("é|CStr8(['é'])")),
+    (&[97, 98, 99, 0], Ok("abc|CStr8(['a', 'b', 'c'])")),
+    (&[0xe9, 10, 0], Ok("é\n|CStr8(['é', '\\n'])")),
+    (&[0], Ok("|CStr8([])")),
+    (&[65], Err(NotNulTerminated)),
+    (&[], Err(NotNulTerminated)),
+    (&[0, 65], Err(InteriorNul(0))),
+    (&[65, 0, 66, 0], Err(InteriorNul(1))),
+];
+
+/// Whether bytes become a string that keeps them and prints this, or are refused.
+fn are_read(rt: &HostRuntime, bytes: &[u8], want: Result<&str, FromSliceWithNulError>) -> bool {
+    match (CStr8::from_bytes_with_nul(bytes), want) {
+        (Ok(string), Ok(want)) => string.as_bytes() == bytes && prints(rt.alloc(), &string, want),
+        (Err(error), Err(want)) => error == want,
+        _ => false,
+    }
+}
+
+#[test]
+fn strings_of_bytes(rt: HostRuntime) {
+    for (bytes, want) in BYTES {
+        assert!(rt; are_read(&rt, bytes, *want), "{bytes:?}");
+    }
+}
+
+/// Whether a zero among this many others ends the string of all bytes, or is refused with its place; and
+/// whether the bytes before it are refused.
+fn decides(rt: &HostRuntime, others: usize, place: usize) -> Result<bool, Fail> {
+    let mut bytes = Vec::new(rt.alloc());
+    bytes.resize(place, 0xe9)?;
+    let before = CStr8::from_bytes_with_nul(&bytes).err();
+    bytes.push(0)?;
+    bytes.resize(others.saturating_add(1), 0xe9)?;
+    let all = CStr8::from_bytes_with_nul(&bytes).err();
+    let want = if place == others {
+        None
+    } else {
+        Some(InteriorNul(place))
+    };
+    Ok(before == Some(NotNulTerminated) && all == want)
+}
+
+#[test]
+fn zeros_at_each_place(rt: HostRuntime) -> Result<(), Fail> {
+    for (others, place) in &hostile_places(rt.alloc())? {
+        assert!(rt;
+            decides(&rt, *others, *place)?,
+            "{others} others, at {place}"
+        );
+    }
+    Ok(())
+}
+
+/// Texts, and how many characters they have, if they are of Latin-1.
+const COUNTS: &[(&str, Option<usize>)] = &[
+    ("ÿ", Some(1)),
+    ("Ā", None),
+    ("", Some(0)),
+    ("é\0", Some(2)),
+    ("aé\u{80}\u{7f}", Some(4)),
+    ("\u{ffff}", None),
+    ("😀", None),
+];
+
+/// Whether a text is one of this many characters of Latin-1, or none of Latin-1.
+fn is_counted(text: &str, want: Option<usize>) -> bool {
+    if is_latin1(text) {
+        want == Some(str_num_latin1_chars(text))
+    } else {
+        want.is_none()
+    }
+}
+
+/// The bytes of a text, if it is one character of Latin-1 and no NUL: what a caller tests is what the call
+/// asks for.
+fn one_character(text: &str) -> Option<[u8; 2]> {
+    if is_latin1(text) && has_no_nul(text) && str_num_latin1_chars(text) == 1 {
+        Some(str_to_latin1(text))
+    } else {
+        None
+    }
+}
+
+#[test]
+fn texts_of_latin1(rt: HostRuntime) {
+    for (text, want) in COUNTS {
+        assert!(rt; is_counted(text, *want), "{text}");
+    }
+    assert!(rt; one_character("é") == Some([0xe9, 0]) && one_character("\0").is_none());
+}

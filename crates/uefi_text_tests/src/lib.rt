@@ -1,0 +1,32 @@
+//! Tests of `uefi_text`: characters, strings of Latin-1 and of UCS-2, borrowed and owned, packed
+//! numbers, and the runs of `for_tests` that refuse requests for memory.
+#![tactic(auto)]
+
+#[cfg(test)]
+mod char_sink;
+#[cfg(test)]
+mod chars;
+#[cfg(test)]
+mod comparisons;
+#[cfg(test)]
+mod eq_str_until_nul;
+#[cfg(test)]
+mod errors;
+#[cfg(test)]
+mod hostile_texts;
+#[cfg(test)]
+mod hostile_units;
+#[cfg(test)]
+mod latin1;
+#[cfg(test)]
+mod out_of_memory;
+#[cfg(test)]
+mod owned_strs;
+#[cfg(test)]
+mod packed_strings;
+#[cfg(test)]
+mod refusals;
+#[cfg(test)]
+mod strs;
+#[cfg(test)]
+mod unaligned_slice;

@@ -1,0 +1,177 @@
+//! Strings of packed code units, in buffers and in memory of their own.
+
+use for_tests::{has_text, hostile_places};
+use std::test::Fail;
+use uefi_text::UnalignedCStr16Error::{BufferTooSmall, InteriorNul, InvalidChar, NotNulTerminated};
+use uefi_text::{CStr16, CString16, UnalignedCStr16Error, UnalignedSlice};
+
+/// `test` and its NUL, after one other byte.
+const TEST_AFTER_ONE: [u8; 11] = [0xff, 0x74, 0, 0x65, 0, 0x73, 0, 0x74, 0, 0, 0];
+
+/// Whether packed units become the string of a text by both calls.
+fn are_copied(rt: &HostRuntime, bytes: &[u8], want: &str) -> Result<bool, Fail> {
+    let Some(items) = UnalignedSlice::from_unit_bytes(bytes) else {
+        return Ok(false);
+    };
+    let string = items.to_cstring16(rt.alloc())?;
+    Ok(
+        has_text(string.as_cstr16(), want)
+            && CString16::try_from_unaligned(rt.alloc(), &items)? == string,
+    )
+}
+
+#[test]
+fn strings_in_memory_of_their_own(rt: HostRuntime) -> Result<(), Fail> {
+    assert!(rt; are_copied(&rt, &TEST_AFTER_ONE[1..], "test")?);
+    Ok(())
+}
+
+/// A way from packed units to a string in a buffer.
+#[derive(Clone, Copy)]
+enum Way {
+    Write,
+    Borrow,
+    FromSlice,
+}
+
+/// Whether this is the string of these units, with its NUL, or why there is none.
+fn is_answer(
+    answer: Result<CStr16<'_>, UnalignedCStr16Error>,
+    units: Option<&[u16]>,
+    want: Option<UnalignedCStr16Error>,
+) -> bool {
+    match answer {
+        Ok(string) => want.is_none() && Some(string.to_u16_slice_with_nul()) == units,
+        Err(error) => want == Some(error),
+    }
+}
+
+/// Whether the items are the string of these units in a buffer, or are refused for this cause.
+fn is_answered(
+    way: Way,
+    items: &UnalignedSlice<'_, u16>,
+    buffer: &mut [u16],
+    units: Option<&[u16]>,
+    want: Option<UnalignedCStr16Error>,
+) -> bool {
+    match way {
+        Way::Write => items.write_cstr16(buffer).err() == want,
+        Way::Borrow => is_answer(items.to_cstr16(buffer), units, want),
+        Way::FromSlice => is_answer(CStr16::from_unaligned_slice(items, buffer), units, want),
+    }
+}
+
+/// Whether the items are a string in a buffer of nines, or refused for this cause, and it then holds
+/// this, each way.
+pub(crate) fn leaves(
+    rt: &HostRuntime,
+    items: &UnalignedSlice<'_, u16>,
+    after: &[u16],
+    want: Option<UnalignedCStr16Error>,
+) -> Result<bool, Fail> {
+    let units = after.get(..items.len());
+    let mut buffer = vec![in rt.alloc(); 9u16; after.len()]?;
+    for way in [Way::Write, Way::Borrow, Way::FromSlice] {
+        buffer.fill(9);
+        if !is_answered(way, items, &mut buffer, units, want) || buffer.as_slice() != after {
+            return Ok(false);
+        }
+    }
+    Ok(true)
+}
+
+/// Packed units, what stands in the buffer then, and why they are refused, if they are.
+const BUFFERS: &[(&[u8], &[u16], Option<UnalignedCStr16Error>)] = &[
+    (&[0, 0], &[0, 9], None),
+    (&[], &[], Some(NotNulTerminated)),
+    (&[0x41], &[9, 9, 9], Some(NotNulTerminated)),
+    (&[0x41, 0], &[65, 9, 9], Some(NotNulTerminated)),
+    (&[0, 0xd8, 0, 0], &[9], Some(BufferTooSmall)),
+    (&[0, 0xd8, 0, 0], &[0xd800, 0, 9], Some(InvalidChar(0))),
+    (
+        &[0x61, 0, 0, 0, 0x62, 0],
+        &[97, 0, 98],
+        Some(InteriorNul(1)),
+    ),
+];
+
+/// Whether packed units leave this in a buffer.
+fn are_buffered(
+    rt: &HostRuntime,
+    bytes: &[u8],
+    after: &[u16],
+    want: Option<UnalignedCStr16Error>,
+) -> Result<bool, Fail> {
+    match UnalignedSlice::<u16>::try_new(bytes, bytes.len() / 2) {
+        Some(items) => leaves(rt, &items, after, want),
+        None => Ok(false),
+    }
+}
+
+#[test]
+fn strings_in_buffers(rt: HostRuntime) -> Result<(), Fail> {
+    for (bytes, after, want) in BUFFERS {
+        assert!(rt; are_buffered(&rt, bytes, after, *want)?, "{bytes:?}");
+    }
+    let (test, units) = (&TEST_AFTER_ONE[1..], &[0x74, 0x65, 0x73, 0x74, 0, 9]);
+    assert!(rt; are_buffered(&rt, test, &[9; 4], Some(BufferTooSmall))?);
+    assert!(rt;
+        are_buffered(&rt, test, &units[..5], None)? && are_buffered(&rt, test, units, None)?
+    );
+    Ok(())
+}
+
+/// Whether bytes begin with these units, up to and with a NUL, and then these bytes follow; or have no NUL.
+fn is_split(bytes: &[u8], want: Option<(&[u16], &[u8])>) -> bool {
+    match (UnalignedSlice::split_until_nul(bytes), want) {
+        (Some((string, after)), Some((units, rest))) => {
+            string.len() == units.len() && string.iter().eq(units.iter().copied()) && after == rest
+        }
+        (None, None) => true,
+        _ => false,
+    }
+}
+
+/// Bytes, the units up to and with their first NUL, and the bytes after it. Two zeros may belong to two
+/// units, and the last byte to half of one.
+const SPLITS: &[(&[u8], Option<(&[u16], &[u8])>)] = &[
+    (&[0, 0], Some((&[0], &[]))),
+    (&[0, 0, 0, 0, 7], Some((&[0], &[0, 0, 7]))),
+    (&[0, 0x41, 0, 0, 9], Some((&[0x4100, 0], &[9]))),
+    (&[0x3d, 0xd8, 0, 0, 1, 2], Some((&[0xd83d, 0], &[1, 2]))),
+    (&[0xff, 0, 0, 0xff, 0, 0], Some((&[0xff, 0xff00, 0], &[]))),
+    (&[], None),
+    (&[0], None),
+    (&[0x41, 0], None),
+    (&[0x41, 0, 0], None),
+    (&[0x41, 0, 0, 0x42, 0x43], None),
+];
+
+#[test]
+fn units_up_to_a_nul(rt: HostRuntime) {
+    for (bytes, want) in SPLITS {
+        assert!(rt; is_split(bytes, *want), "{bytes:?}");
+    }
+}
+
+/// Whether a NUL at this place of units of `a` is found there, at an odd place of memory.
+fn is_found_at(rt: &HostRuntime, place: usize) -> Result<bool, Fail> {
+    let mut bytes = vec![in rt.alloc(); 0xffu8]?;
+    let mut units = Vec::new(rt.alloc());
+    for _ in 0..place {
+        bytes.extend_from_slice(&[0x61, 0])?;
+        units.push(0x61u16)?;
+    }
+    bytes.extend_from_slice(&[0, 0, 5])?;
+    units.push(0)?;
+    Ok(is_split(bytes.get(1..).unwrap_or(&[]), Some((&units, &[5]))))
+}
+
+#[test]
+fn units_up_to_a_nul_at_each_place(rt: HostRuntime) -> Result<(), Fail> {
+    for (_, place) in &hostile_places(rt.alloc())? {
+        assert!(rt; is_found_at(&rt, *place)?, "{place} units");
+    }
+    assert!(rt; is_found_at(&rt, 40_000)?);
+    Ok(())
+}

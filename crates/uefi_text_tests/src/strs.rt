@@ -1,0 +1,385 @@
+//! Borrowed strings: which code units, characters, bytes and Rust texts become strings, why others are
+//! refused, and what strings give back.
+
+use for_tests::{has_text, prints, string};
+use std::test::Fail;
+use uefi_text::FromSliceWithNulError::{InteriorNul, InvalidChar, NotNulTerminated};
+use uefi_text::{
+    CStr16, CString16, Char16, Char16Slice, FromSliceUntilNulError as UntilNul,
+    FromSliceWithNulError as WithNul, FromStrError, FromStrWithBufError as WithBuffer, NUL_16,
+};
+
+/// Whether this is the string of all units, of which as many come before its NUL, or why there is none.
+pub(crate) fn is_whole(
+    units: &[u16],
+    answer: Result<CStr16<'_>, WithNul>,
+    want: Result<usize, WithNul>,
+) -> bool {
+    match (answer, want) {
+        (Ok(string), Ok(len)) => {
+            string.to_u16_slice_with_nul() == units
+                && Some(string.to_u16_slice()) == units.get(..len)
+        }
+        (Err(error), Err(want)) => error == want,
+        _ => false,
+    }
+}
+
+/// The same of an owned string.
+pub(crate) fn is_whole_owned(
+    units: &[u16],
+    answer: &Result<CString16, WithNul>,
+    want: Result<usize, WithNul>,
+) -> bool {
+    match answer {
+        Ok(string) => is_whole(units, Ok(string.as_cstr16()), want),
+        Err(error) => is_whole(units, Err(*error), want),
+    }
+}
+
+/// Whether this is the string of as many units, before the first NUL, or why there is none.
+fn is_front(
+    units: &[u16],
+    answer: Result<CStr16<'_>, UntilNul>,
+    want: Result<usize, UntilNul>,
+) -> bool {
+    match (answer, want) {
+        (Ok(string), Ok(len)) => Some(string.to_u16_slice()) == units.get(..len),
+        (Err(error), Err(want)) => error == want,
+        _ => false,
+    }
+}
+
+/// The characters that units are before the first surrogate.
+pub(crate) fn characters(rt: &HostRuntime, units: &[u16]) -> Result<Vec<Char16>, Fail> {
+    let mut characters = Vec::new(rt.alloc());
+    for unit in units {
+        match Char16::try_from(*unit) {
+            Ok(character) => characters.push(character)?,
+            Err(_) => break,
+        }
+    }
+    Ok(characters)
+}
+
+/// Whether characters are read as their units are.
+fn are_read(
+    rt: &HostRuntime,
+    list: &[Char16],
+    units: &[u16],
+    whole: Result<usize, WithNul>,
+    front: Result<usize, UntilNul>,
+) -> bool {
+    is_whole_owned(
+        units,
+        &CStr16::from_char16_with_nul(rt.alloc(), list),
+        whole,
+    ) && match &CStr16::from_char16_until_nul(rt.alloc(), list) {
+        Ok(string) => is_front(units, Ok(string.as_cstr16()), front),
+        Err(error) => is_front(units, Err(*error), front),
+    }
+}
+
+/// Whether units, and their characters if no surrogate is among them, are strings of as many characters:
+/// all of them, and those up to the first NUL; or why they are none.
+pub(crate) fn are_strings(
+    rt: &HostRuntime,
+    units: &[u16],
+    whole: Result<usize, WithNul>,
+    front: Result<usize, UntilNul>,
+) -> Result<bool, Fail> {
+    let list = characters(rt, units)?;
+    Ok(
+        is_whole(units, CStr16::from_u16_with_nul(units), whole)
+            && is_front(units, CStr16::from_u16_until_nul(units), front)
+            && (list.len() < units.len() || are_read(rt, &list, units, whole, front)),
+    )
+}
+
+/// Units, and how many come before the NUL of their string: of all of them, and of those up to the
+/// first NUL.
+const UNITS: &[(&[u16], Result<usize, WithNul>, Result<usize, UntilNul>)] = &[
+    (&[], Err(NotNulTerminated), Err(UntilNul::NoNul)),
+    (&[65], Err(NotNulTerminated), Err(UntilNul::NoNul)),
+    (&[65, 66], Err(NotNulTerminated), Err(UntilNul::NoNul)),
+    (&[97, 98], Err(NotNulTerminated), Err(UntilNul::NoNul)),
+    (&[0], Ok(0), Ok(0)),
+    (&[65, 0], Ok(1), Ok(1)),
+    (&[97, 98, 0], Ok(2), Ok(2)),
+    (&[0xd7ff, 0xe000, 0xffff, 0], Ok(3), Ok(3)),
+    (&[0, 97], Err(InteriorNul(0)), Ok(0)),
+    (&[65, 0, 66], Err(InteriorNul(1)), Ok(1)),
+    (&[97, 0, 98, 0], Err(InteriorNul(1)), Ok(1)),
+    (&[97, 0, 0xd800], Err(InteriorNul(1)), Ok(1)),
+    (
+        &[0xd800, 0, 65, 0],
+        Err(InvalidChar(0)),
+        Err(UntilNul::InvalidChar(0)),
+    ),
+    (
+        &[65, 0xde01, 0],
+        Err(InvalidChar(1)),
+        Err(UntilNul::InvalidChar(1)),
+    ),
+    (
+        &[0xd83d, 0xde00, 0],
+        Err(InvalidChar(0)),
+        Err(UntilNul::InvalidChar(0)),
+    ),
+];
+
+#[test]
+fn strings_of_units_and_characters(rt: HostRuntime) -> Result<(), Fail> {
+    for (units, whole, front) in UNITS {
+        assert!(rt; are_strings(&rt, units, *whole, *front)?, "{units:?}");
+    }
+    Ok(())
+}
+
+/// Whether bytes become the string of these units, which gives them back, or are refused.
+fn is_string_of(rt: &HostRuntime, bytes: &[u8], want: Result<&[u16], WithNul>) -> bool {
+    match (&CStr16::from_bytes_with_nul(rt.alloc(), bytes), want) {
+        (Ok(string), Ok(units)) => {
+            let string = string.as_cstr16();
+            string.to_u16_slice_with_nul() == units
+                && matches!(string.as_bytes(rt.alloc()), Ok(back) if back.as_slice() == bytes)
+        }
+        (Err(error), Err(want)) => *error == want,
+        _ => false,
+    }
+}
+
+/// Bytes, and the units of their string, or why they are refused.
+const BYTES: &[(&[u8], Result<&[u16], WithNul>)] = &[
+    (&[0, 0], Ok(&[0])),
+    (&[0x61, 0, 0, 0], Ok(&[97, 0])),
+    (&[0x41, 0, 0x42, 0, 0, 0], Ok(&[65, 66, 0])),
+    (&[0xe9, 0, 0xff, 0xff, 0, 0], Ok(&[0xe9, 0xffff, 0])),
+    (&[], Err(NotNulTerminated)),
+    (&[0], Err(NotNulTerminated)),
+    (&[0x41, 0, 0], Err(NotNulTerminated)),
+    (&[0x41, 0, 0x42, 0], Err(NotNulTerminated)),
+    (&[0x41, 0, 0, 1], Err(NotNulTerminated)),
+    (&[0, 0xd8], Err(NotNulTerminated)),
+    (&[0, 0xd8, 0, 0], Err(InvalidChar(0))),
+    (&[0, 0, 0, 0], Err(InteriorNul(0))),
+    (&[0x41, 0, 0, 0, 0x42, 0, 0, 0], Err(InteriorNul(1))),
+];
+
+/// From an even place of memory and from an odd one.
+#[test]
+fn strings_of_bytes(rt: HostRuntime) -> Result<(), Fail> {
+    for (bytes, want) in BYTES {
+        let mut moved = vec![in rt.alloc(); 0xffu8]?;
+        moved.extend_from_slice(bytes)?;
+        let is_right = is_string_of(&rt, bytes, *want)
+            && is_string_of(&rt, moved.get(1..).unwrap_or(&[]), *want);
+        assert!(rt; is_right, "{bytes:?}");
+    }
+    Ok(())
+}
+
+/// Whether a string gives its bytes, and they give it back.
+pub(crate) fn gives_bytes(rt: &HostRuntime, string: CStr16<'_>) -> Result<bool, Fail> {
+    let bytes = string.as_bytes(rt.alloc())?;
+    Ok(is_string_of(rt, &bytes, Ok(string.to_u16_slice_with_nul())))
+}
+
+/// Whether a string gives this text, and adds its bytes after those that stand there.
+pub(crate) fn gives_text(rt: &HostRuntime, string: CStr16<'_>, text: &str) -> Result<bool, Fail> {
+    let mut bytes = vec![in rt.alloc(); b'x']?;
+    string.as_slice().add_utf8_to(&mut bytes)?;
+    Ok(
+        bytes.split_first() == Some((&b'x', text.as_bytes()))
+            && string.to_rust_string(rt.alloc())?.as_str() == text,
+    )
+}
+
+/// Whether a string has these units with its NUL, by each view of them.
+fn has_units(string: CStr16<'_>, units: &[u16]) -> bool {
+    let text = units.get(..string.num_chars()).unwrap_or(&[]);
+    string.to_u16_slice_with_nul() == units
+        && string.as_slice_with_nul().units() == units
+        && string.as_slice().units() == text
+        && string.num_bytes() == units.len().saturating_mul(2)
+        && string.is_empty() == text.is_empty()
+}
+
+/// Units of strings, and their texts.
+const TEXTS: &[(&[u16], &str)] = &[
+    (&[0], ""),
+    (&[97, 0], "a"),
+    (&[120, 0], "x"),
+    (&[97, 98, 0], "ab"),
+    (&[97, 98, 99, 0], "abc"),
+    (&[65, 66, 67, 0], "ABC"),
+    (&[0x7f, 0], "\u{7f}"),
+    (&[0x80, 0], "\u{80}"),
+    (&[0x7ff, 0], "\u{7ff}"),
+    (&[0x800, 0], "\u{800}"),
+    (&[97, 0xe9, 0x20ac, 0xffff, 98, 0], "aé€\u{ffff}b"),
+];
+
+/// Whether the string of a text has these units, gives its bytes and the text back, and equals its copy.
+fn is_string(rt: &HostRuntime, text: &str, units: &[u16]) -> Result<bool, Fail> {
+    let owned = string(rt.alloc(), text)?;
+    let string = owned.as_cstr16();
+    Ok(
+        has_units(string, units)
+            && string.is_ascii() == text.is_ascii()
+            && string.to_string(rt.alloc())?.as_str() == text
+            && gives_bytes(rt, string)?
+            && gives_text(rt, string, text)?
+            && string.eq_cstr16(string.to_owned(rt.alloc())?.as_cstr16()),
+    )
+}
+
+#[test]
+fn strings_and_what_they_give(rt: HostRuntime) -> Result<(), Fail> {
+    for (units, text) in TEXTS {
+        assert!(rt; is_string(&rt, text, units)?, "{text}");
+    }
+    Ok(())
+}
+
+/// Whether the text is written into a buffer of nines or refused for this cause, and the buffer then holds
+/// this; and whether it becomes a string there.
+pub(crate) fn is_buffered(
+    rt: &HostRuntime,
+    text: &str,
+    want: Result<usize, WithBuffer>,
+    after: &[u16],
+) -> Result<bool, Fail> {
+    let mut buffer = vec![in rt.alloc(); 9u16; after.len()]?;
+    let is_written = CStr16::write_str(text, &mut buffer) == want && buffer.as_slice() == after;
+    buffer.fill(9);
+    let is_borrowed = match (CStr16::from_str_with_buf(text, &mut buffer), want) {
+        (Ok(string), Ok(len)) => Some(string.to_u16_slice_with_nul()) == after.get(..len),
+        (Err(error), Err(want)) => error == want,
+        _ => false,
+    };
+    Ok(is_written && is_borrowed && buffer.as_slice() == after)
+}
+
+/// How many units are written of a text into nines, or why they are no string, and what stands there then.
+const BUFFERS: &[(&str, Result<usize, WithBuffer>, &[u16])] = &[
+    ("A", Ok(2), &[65, 0, 9, 9]),
+    ("ABC", Ok(4), &[65, 66, 67, 0]),
+    ("ABCD", Err(WithBuffer::BufferTooSmall), &[65, 66, 67, 68]),
+    (
+        "ab😀",
+        Err(WithBuffer::BufferTooSmall),
+        &[97, 98, 0xd83d, 0xde00],
+    ),
+    (
+        "abc😀",
+        Err(WithBuffer::BufferTooSmall),
+        &[97, 98, 99, 0xd83d],
+    ),
+    (
+        "a😀",
+        Err(WithBuffer::InvalidChar(1)),
+        &[97, 0xd83d, 0xde00, 0],
+    ),
+    ("a\0b", Err(WithBuffer::InteriorNul(1)), &[97, 0, 98, 0]),
+    ("", Err(WithBuffer::BufferTooSmall), &[]),
+    ("", Ok(1), &[0]),
+];
+
+#[test]
+fn texts_in_buffers(rt: HostRuntime) -> Result<(), Fail> {
+    for (text, want, after) in BUFFERS {
+        assert!(rt; is_buffered(&rt, text, *want, after)?, "{after:?}");
+    }
+    Ok(())
+}
+
+/// Whether the characters of `abc` come from both ends, and none after them, however often one asks.
+fn come_from_both_ends(string: CStr16<'_>) -> bool {
+    let mut characters = string.iter();
+    characters.size_hint() == (3, Some(3))
+        && matches!(characters.next_back(), Some(c) if c.eq_char('c'))
+        && matches!(characters.next(), Some(c) if c.eq_char('a'))
+        && characters.size_hint() == (1, Some(1))
+        && matches!(characters.next_back(), Some(c) if c.eq_char('b'))
+        && characters.next_back().is_none()
+        && characters.next().is_none()
+        && characters.next().is_none()
+}
+
+/// Whether loops over a string and over its characters with the NUL count this many.
+fn are_counted(string: CStr16<'_>, len: usize) -> bool {
+    let (mut characters, mut all) = (0usize, 0usize);
+    for _ in string {
+        characters = characters.saturating_add(1);
+    }
+    for _ in string.as_slice_with_nul() {
+        all = all.saturating_add(1);
+    }
+    characters == len && all == len.saturating_add(1)
+}
+
+/// Whether the characters of `abc` with its NUL are what they should be, one by one and in parts.
+fn come_with_nul(all: Char16Slice<'_>) -> bool {
+    all.len() == 4
+        && matches!(all.get(1), Some(c) if c.eq_char('b'))
+        && all.get(3) == Some(NUL_16)
+        && all.get(4).is_none()
+        && all.part(1, 1).is_empty()
+        && all.part(0, 3).has_no_nul()
+        && !all.has_no_nul()
+}
+
+#[test]
+fn characters_of_a_string(rt: HostRuntime) -> Result<(), Fail> {
+    let string = CStr16::from_u16_with_nul(&[97, 98, 99, 0])?;
+    assert!(rt; come_from_both_ends(string));
+    assert!(rt; are_counted(string, 3));
+    let all = string.as_slice_with_nul();
+    if all.len() == 4 {
+        assert!(rt; come_with_nul(all));
+    }
+    Ok(())
+}
+
+/// Whether characters become the string of a text, or are refused for a NUL among them.
+fn becomes(rt: &HostRuntime, part: Char16Slice<'_>, want: Option<&str>) -> bool {
+    match (&part.to_cstring16(rt.alloc()), want) {
+        (Ok(string), Some(want)) => has_text(string.as_cstr16(), want),
+        (Err(error), None) => *error == FromStrError::InteriorNul,
+        _ => false,
+    }
+}
+
+/// Parts of `aé` with its NUL, from a place to another, and the text that each is.
+const PARTS: &[(usize, usize, Option<&str>)] = &[
+    (0, 2, Some("aé")),
+    (1, 2, Some("é")),
+    (1, 1, Some("")),
+    (0, 3, None),
+];
+
+#[test]
+fn parts_as_strings(rt: HostRuntime) -> Result<(), Fail> {
+    let all = CStr16::from_u16_with_nul(&[97, 0xe9, 0])?.as_slice_with_nul();
+    for (start, end, want) in PARTS {
+        let is_right = *start <= *end
+            && *end <= all.len()
+            && becomes(&rt, all.part(*start, *end), *want);
+        assert!(rt; is_right, "{start} to {end}");
+    }
+    Ok(())
+}
+
+#[test]
+fn printed_strings(rt: HostRuntime) -> Result<(), Fail> {
+    let string = CStr16::from_u16_with_nul(&[0xe9, 10, 0])?;
+    assert!(rt; prints(rt.alloc(), &string, "é\n|CStr16(['é', '\\n'])"));
+    let all = string.as_slice_with_nul();
+    assert!(rt; prints(rt.alloc(), &all, "é\n\0|['é', '\\n', '\\0']"));
+    let mut left = string.iter();
+    let _first = left.next();
+    let printed = format!(in rt.alloc(); "{left:?}")?;
+    assert!(rt; printed.as_str() == "CStr16Iter([10])");
+    Ok(())
+}

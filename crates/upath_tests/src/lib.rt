@@ -1,0 +1,22 @@
+//! Tests of `upath`, what programs do with paths: bytes judged, lists of commands, lines of commands,
+//! runs over streams that fail, and each request for memory refused in turn.
+#![tactic(auto)]
+
+#[cfg(test)]
+mod errors;
+#[cfg(test)]
+mod hostile_lines;
+#[cfg(test)]
+mod judging;
+#[cfg(test)]
+mod long_paths;
+#[cfg(test)]
+mod out_of_memory;
+#[cfg(test)]
+mod path_commands;
+#[cfg(test)]
+mod run;
+#[cfg(test)]
+mod streams;
+#[cfg(test)]
+mod watched;

@@ -1,0 +1,312 @@
+//! Readers and writers of which one call fails, and would succeed if it were made again: each call in turn,
+//! where one byte goes through a call, a few do, or all, of short inputs and of long ones. They count their
+//! calls, so that a further one is seen. An interrupted call is a failed one.
+
+use for_tests::repeated;
+use std::io::{self, ErrorKind, Read, Write};
+use std::test::Fail;
+use upath::{StreamFault, Watched, run_streams};
+
+/// Kinds of an error: those after which a caller might make the call again, those that end a stream,
+/// and others.
+pub(crate) const KINDS: &[ErrorKind] = &[
+    ErrorKind::Interrupted,
+    ErrorKind::WouldBlock,
+    ErrorKind::TimedOut,
+    ErrorKind::Other,
+    ErrorKind::UnexpectedEof,
+    ErrorKind::WriteZero,
+    ErrorKind::BrokenPipe,
+    ErrorKind::OutOfMemory,
+    ErrorKind::StorageFull,
+    ErrorKind::NotFound,
+    ErrorKind::Uncategorized,
+];
+
+/// A run, and how many bytes a call of its reader gives or of its writer takes at most.
+#[derive(Clone, Copy)]
+struct Run<'a> {
+    input: &'a [u8],
+    output: &'a [u8],
+    step: usize,
+}
+
+/// Gives at most `step` bytes a call. The call of the number `failing`, counted from 1, fails; none at 0.
+#[derive(Drop)]
+pub(crate) struct FailingReader<'a> {
+    pub(crate) rest: &'a [u8],
+    pub(crate) step: usize,
+    pub(crate) failing: usize,
+    pub(crate) kind: ErrorKind,
+    pub(crate) calls: usize,
+}
+
+impl Read for FailingReader<'_> {
+    fn read(&mut self, buf: &mut [u8]) -> io::Result<usize> {
+        self.calls = self.calls.saturating_add(1);
+        if self.calls == self.failing {
+            return Err(io::Error::from(self.kind));
+        }
+        let len = self.step.min(buf.len()).min(self.rest.len());
+        let (given, others) = self.rest.split_at(len);
+        buf[..len].copy_from_slice(given);
+        self.rest = others;
+        Ok(len)
+    }
+}
+
+/// Takes at most `step` bytes a call. The write of the number `failing`, counted from 1, fails, or
+/// takes none where `failure` is none, and the first flush fails where `flush` says so.
+#[derive(Drop)]
+pub(crate) struct FailingWriter {
+    pub(crate) held: Vec<u8>,
+    pub(crate) step: usize,
+    pub(crate) failing: usize,
+    pub(crate) failure: Option<ErrorKind>,
+    pub(crate) flush: Option<ErrorKind>,
+    pub(crate) writes: usize,
+    pub(crate) flushes: usize,
+}
+
+impl FailingWriter {
+    /// A writer that takes all.
+    pub(crate) fn new(rt: &HostRuntime, step: usize) -> FailingWriter {
+        FailingWriter {
+            held: Vec::new(rt.alloc()),
+            step,
+            failing: 0,
+            failure: None,
+            flush: None,
+            writes: 0,
+            flushes: 0,
+        }
+    }
+
+    /// Whether it holds this, after these numbers of writes and flushes.
+    pub(crate) fn has_taken(&self, held: &[u8], writes: usize, flushes: usize) -> bool {
+        self.held.as_slice() == held && self.writes == writes && self.flushes == flushes
+    }
+}
+
+impl Write for FailingWriter {
+    fn write(&mut self, buf: &[u8]) -> io::Result<usize> {
+        self.writes = self.writes.saturating_add(1);
+        if self.writes == self.failing {
+            return match self.failure {
+                Some(kind) => Err(io::Error::from(kind)),
+                None => Ok(0),
+            };
+        }
+        let taken = self.step.min(buf.len());
+        self.held.extend_from_slice(&buf[..taken])?;
+        Ok(taken)
+    }
+
+    fn flush(&mut self) -> io::Result<()> {
+        self.flushes = self.flushes.saturating_add(1);
+        match self.flush {
+            Some(kind) if self.flushes == 1 => Err(io::Error::from(kind)),
+            _ => Ok(()),
+        }
+    }
+}
+
+/// What a run returned, and its reader and its writer after it.
+#[derive(Drop)]
+struct Ended<'a> {
+    outcome: Result<(), StreamFault>,
+    reader: FailingReader<'a>,
+    writer: FailingWriter,
+}
+
+/// A run of which this read fails, and none at 0, after which the marks say which of the two streams
+/// failed.
+fn end_of<'a>(
+    rt: &HostRuntime,
+    run: Run<'a>,
+    failing: usize,
+    kind: ErrorKind,
+    writer: FailingWriter,
+) -> Result<Ended<'a>, Fail> {
+    let mut reader = Watched::new(FailingReader {
+        rest: run.input,
+        step: run.step,
+        failing,
+        kind,
+        calls: 0,
+    });
+    let mut writer = Watched::new(writer);
+    let outcome = run_streams(rt.alloc(), &mut reader, &mut writer);
+    if reader.has_failed() != (outcome == Err(StreamFault::Read))
+        || writer.has_failed() != (outcome == Err(StreamFault::Write))
+    {
+        return Err("a mark".into());
+    }
+    Ok(Ended {
+        outcome,
+        reader: reader.into_inner(),
+        writer: writer.into_inner(),
+    })
+}
+
+/// How many calls a run makes of a reader and a writer that don't fail, after which all is written and
+/// flushed once.
+fn calls_of(rt: &HostRuntime, run: Run<'_>) -> Result<(usize, usize), Fail> {
+    let end = end_of(
+        rt,
+        run,
+        0,
+        ErrorKind::Other,
+        FailingWriter::new(rt, run.step),
+    )?;
+    let writes = end.writer.writes;
+    if end.outcome.is_err()
+        || !end.reader.rest.is_empty()
+        || !end.writer.has_taken(run.output, writes, 1)
+    {
+        return Err("a run without a failed call".into());
+    }
+    Ok((end.reader.calls, writes))
+}
+
+/// Whether a run of which this read fails reports that, reads no more, and writes nothing.
+fn ends_unwritten(
+    rt: &HostRuntime,
+    run: Run<'_>,
+    failing: usize,
+    kind: ErrorKind,
+) -> Result<bool, Fail> {
+    let end = end_of(rt, run, failing, kind, FailingWriter::new(rt, run.step))?;
+    Ok(
+        end.outcome == Err(StreamFault::Read)
+            && end.reader.calls == failing
+            && end.writer.has_taken(b"", 0, 0),
+    )
+}
+
+/// Whether a run of which this write fails writes what those before it took, and calls no more.
+fn ends_in_write(
+    rt: &HostRuntime,
+    run: Run<'_>,
+    failing: usize,
+    failure: Option<ErrorKind>,
+) -> Result<bool, Fail> {
+    let mut writer = FailingWriter::new(rt, run.step);
+    writer.failing = failing;
+    writer.failure = failure;
+    let end = end_of(rt, run, 0, ErrorKind::Other, writer)?;
+    let len = run.step.saturating_mul(failing.saturating_sub(1));
+    let taken = run.output.get(..len).unwrap_or(&[]);
+    Ok(end.outcome == Err(StreamFault::Write) && end.writer.has_taken(taken, failing, 0))
+}
+
+/// Whether a run whose flush fails writes all, and flushes no more.
+fn ends_in_flush(
+    rt: &HostRuntime,
+    run: Run<'_>,
+    writes: usize,
+    kind: ErrorKind,
+) -> Result<bool, Fail> {
+    let mut writer = FailingWriter::new(rt, run.step);
+    writer.flush = Some(kind);
+    let end = end_of(rt, run, 0, ErrorKind::Other, writer)?;
+    Ok(end.outcome == Err(StreamFault::Write) && end.writer.has_taken(run.output, writes, 1))
+}
+
+/// Whether each read, each write and the flush that fails with this kind ends a run, and each write
+/// that takes nothing. Of a long input the last call fails alone.
+fn each_call_ends(rt: &HostRuntime, run: Run<'_>, kind: ErrorKind) -> Result<bool, Fail> {
+    let (reads, writes) = calls_of(rt, run)?;
+    let is_short = run.input.len() < 10_000;
+    for failing in (if is_short { 1 } else { reads })..=reads {
+        if !ends_unwritten(rt, run, failing, kind)? {
+            return Ok(false);
+        }
+    }
+    for failing in (if is_short { 1 } else { writes })..=writes {
+        if !ends_in_write(rt, run, failing, None)?
+            || !ends_in_write(rt, run, failing, Some(kind))?
+        {
+            return Ok(false);
+        }
+    }
+    ends_in_flush(rt, run, writes, kind)
+}
+
+/// No input, the shortest one that is not empty, another, and that of the program's stored run.
+const SHORT: &[(&[u8], &[u8])] = &[
+    (b"", b""),
+    (b"\n", b"? unknown command\n"),
+    (
+        b"from \\foo\\bar\npieces\n",
+        b"= \\foo\\bar\npieces 2\n| foo\n| bar\n",
+    ),
+    (
+        b"from /a\npush b\nup\nparent\nparent\npieces\ncheck\n",
+        b"= \\a\n= \\a\\b\nparents 1\n| a\n= a\nnone\npieces 1\n| a\nok\n",
+    ),
+];
+
+#[test]
+fn each_call_that_fails(rt: HostRuntime) -> Result<(), Fail> {
+    for (input, output) in SHORT {
+        for step in [1, 5, 99] {
+            let run = Run {
+                input,
+                output,
+                step,
+            };
+            for kind in KINDS {
+                assert!(rt; each_call_ends(&rt, run, *kind)?, "{output:?}, {kind:?}");
+            }
+        }
+    }
+    Ok(())
+}
+
+/// Whether the calls that fail end a run of a line that sets the path to this many characters, where `step`
+/// bytes go through a call.
+fn long_line_ends(rt: &HostRuntime, len: u64, step: usize) -> Result<bool, Fail> {
+    let text = repeated(rt.alloc(), "a", len)?;
+    let input = format!(in rt.alloc(); "from {text}\n")?;
+    let output = format!(in rt.alloc(); "= {text}\n")?;
+    let run = Run {
+        input: input.as_bytes(),
+        output: output.as_bytes(),
+        step,
+    };
+    each_call_ends(rt, run, ErrorKind::Interrupted)
+}
+
+/// The input has 4,095, 4,096, 4,097 or 65,536 bytes, or the output has.
+#[test]
+fn calls_that_fail_on_long_lines(rt: HostRuntime) -> Result<(), Fail> {
+    for len in [4089, 4090, 4091, 4092, 4093, 4094, 65530, 65533] {
+        for step in [1500, usize::MAX] {
+            assert!(rt; long_line_ends(&rt, len, step)?, "{len} characters, {step}");
+        }
+    }
+    Ok(())
+}
+
+/// Whether the last calls of a run over as many lines that are no command, each of this many bytes, end it.
+fn unknown_lines_end(rt: &HostRuntime, len: u64, count: u64) -> Result<bool, Fail> {
+    let mut line = repeated(rt.alloc(), "x", len)?;
+    line.push('\n')?;
+    let input = repeated(rt.alloc(), &line, count)?;
+    let output = repeated(rt.alloc(), "? unknown command\n", count)?;
+    let run = Run {
+        input: input.as_bytes(),
+        output: output.as_bytes(),
+        step: 700_000,
+    };
+    each_call_ends(rt, run, ErrorKind::Interrupted)
+}
+
+/// An input of 2,000,000 bytes, and an output of as many.
+#[test]
+fn calls_that_fail_on_the_longest(rt: HostRuntime) -> Result<(), Fail> {
+    assert!(rt; unknown_lines_end(&rt, 1_999_999, 1)?);
+    assert!(rt; unknown_lines_end(&rt, 0, 111_112)?);
+    Ok(())
+}
