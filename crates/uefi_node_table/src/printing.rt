@@ -4,7 +4,7 @@
 ghost use Rattle.std.specs.Fmt.{WritesInCalls};
 ghost use Rattle.std.specs.List.{list_all};
 ghost use Rattle.std.specs.Option.{option_map};
-ghost use Rattle.std.specs.Prelude.{◌≡◌, ◌≤◌, IsTrue, length, map, slice_index};
+ghost use Rattle.std.specs.Prelude.{◌≡◌, ◌≤◌, [], if◌then◌else◌, IsTrue, length, map, slice_index};
 ghost use Rattle.uefi_text.specs.Packed.{little_endian};
 ghost use Rattle.uefi_node_table.specs.Fields.{field_text, fits_shape};
 ghost use Rattle.uefi_node_table.specs.Rows.{as_form, as_piece, find_form, form_text, has_bytes, is_laid_out, is_used, is_within, matches, piece_text, pieces_text, tail_text};
@@ -174,7 +174,7 @@ pub fn put_form<S: TextSink>(
 ) -> bool
     ensures found { result ≡ has_form display_only kind sub_kind content.now }
     ensures text { WritesInCalls S.puts sink.old
-        (table_text display_only kind sub_kind content.now) sink.new }
+        (if result then table_text display_only kind sub_kind content.now else []) sink.new }
 {
     match form_of(display_only, kind, sub_kind, content) {
         Some(row) => {
