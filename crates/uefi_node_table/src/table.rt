@@ -148,28 +148,9 @@ const IPV6: &[Row] = &[
     row!(3 13 Read 56 [] [38 = 0x02] "IPv6(" [Ipv6 16 ",0x"] [Hexadecimal 36 2 ",StatefulAutoConfigure,"] [Ipv6 0 ",0x"] [Hexadecimal 39 1 ","] [Ipv6 40 ")"] Nothing ""),
 ];
 
-/// Connections by TCP over IP version 6 of older nodes, without these.
-#[rattlefmt::skip]
-const IPV6_SHORT_TCP: &[Row] = &[
-    row!(3 13 Read 56 [36 = 0x06, 37 = 0x00, 38 = 0x00] [] "IPv6(" [Ipv6 16 ",TCP,Static,"] [Ipv6 0 ",0x"] [Hexadecimal 39 1 ","] [Ipv6 40 ")"] Nothing ""),
-    row!(3 13 Read 56 [36 = 0x06, 37 = 0x00, 38 = 0x01] [] "IPv6(" [Ipv6 16 ",TCP,StatelessAutoConfigure,"] [Ipv6 0 ",0x"] [Hexadecimal 39 1 ","] [Ipv6 40 ")"] Nothing ""),
-    row!(3 13 Read 56 [36 = 0x06, 37 = 0x00] [38 = 0x02] "IPv6(" [Ipv6 16 ",TCP,StatefulAutoConfigure,"] [Ipv6 0 ",0x"] [Hexadecimal 39 1 ","] [Ipv6 40 ")"] Nothing ""),
-];
-
-/// Connections by UDP over IP version 6 of older nodes.
-#[rattlefmt::skip]
-const IPV6_SHORT_UDP: &[Row] = &[
-    row!(3 13 Read 56 [36 = 0x11, 37 = 0x00, 38 = 0x00] [] "IPv6(" [Ipv6 16 ",UDP,Static,"] [Ipv6 0 ",0x"] [Hexadecimal 39 1 ","] [Ipv6 40 ")"] Nothing ""),
-    row!(3 13 Read 56 [36 = 0x11, 37 = 0x00, 38 = 0x01] [] "IPv6(" [Ipv6 16 ",UDP,StatelessAutoConfigure,"] [Ipv6 0 ",0x"] [Hexadecimal 39 1 ","] [Ipv6 40 ")"] Nothing ""),
-    row!(3 13 Read 56 [36 = 0x11, 37 = 0x00] [38 = 0x02] "IPv6(" [Ipv6 16 ",UDP,StatefulAutoConfigure,"] [Ipv6 0 ",0x"] [Hexadecimal 39 1 ","] [Ipv6 40 ")"] Nothing ""),
-];
-
-/// Connections by other protocols over IP version 6 of older nodes.
+/// Connections over IP version 6 of older nodes, without these.
 #[rattlefmt::skip]
 const IPV6_SHORT: &[Row] = &[
-    row!(3 13 Read 56 [38 = 0x00] [] "IPv6(" [Ipv6 16 ",0x"] [Hexadecimal 36 2 ",Static,"] [Ipv6 0 ",0x"] [Hexadecimal 39 1 ","] [Ipv6 40 ")"] Nothing ""),
-    row!(3 13 Read 56 [38 = 0x01] [] "IPv6(" [Ipv6 16 ",0x"] [Hexadecimal 36 2 ",StatelessAutoConfigure,"] [Ipv6 0 ",0x"] [Hexadecimal 39 1 ","] [Ipv6 40 ")"] Nothing ""),
-    row!(3 13 Read 56 [] [38 = 0x02] "IPv6(" [Ipv6 16 ",0x"] [Hexadecimal 36 2 ",StatefulAutoConfigure,"] [Ipv6 0 ",0x"] [Hexadecimal 39 1 ","] [Ipv6 40 ")"] Nothing ""),
     row!(3 13 Read 39 [36 = 0x06, 37 = 0x00, 38 = 0x00] [] "IPv6(" [Ipv6 16 ",TCP,Static,"] [Ipv6 0 ")"] Nothing ""),
     row!(3 13 Read 39 [36 = 0x06, 37 = 0x00, 38 = 0x01] [] "IPv6(" [Ipv6 16 ",TCP,StatelessAutoConfigure,"] [Ipv6 0 ")"] Nothing ""),
     row!(3 13 Read 39 [36 = 0x06, 37 = 0x00] [38 = 0x02] "IPv6(" [Ipv6 16 ",TCP,StatefulAutoConfigure,"] [Ipv6 0 ")"] Nothing ""),
@@ -223,7 +204,7 @@ const MEDIA: &[Row] = &[
 ];
 
 /// How many groups of forms there are.
-pub const GROUPS: usize = 10;
+pub const GROUPS: usize = 8;
 
 /// The forms of [`HARDWARE`].
 ///
@@ -267,22 +248,6 @@ fn ipv6() -> &'static [Row]
     IPV6
 }
 
-/// The forms of [`IPV6_SHORT_TCP`].
-fn ipv6_short_tcp() -> &'static [Row]
-    ensures forms { map as_form result.now ≡ map const_form IPV6_SHORT_TCP.now }
-    ensures few { length result.now ≤ 1000 }
-{
-    IPV6_SHORT_TCP
-}
-
-/// The forms of [`IPV6_SHORT_UDP`].
-fn ipv6_short_udp() -> &'static [Row]
-    ensures forms { map as_form result.now ≡ map const_form IPV6_SHORT_UDP.now }
-    ensures few { length result.now ≤ 1000 }
-{
-    IPV6_SHORT_UDP
-}
-
 /// The forms of [`IPV6_SHORT`].
 fn ipv6_short() -> &'static [Row]
     ensures forms { map as_form result.now ≡ map const_form IPV6_SHORT.now }
@@ -319,11 +284,9 @@ pub fn group(index: usize) -> &'static [Row]
         2 => messaging(),
         3 => ipv4(),
         4 => ipv6(),
-        5 => ipv6_short_tcp(),
-        6 => ipv6_short_udp(),
-        7 => ipv6_short(),
-        8 => usb_classes(),
-        9 => media(),
+        5 => ipv6_short(),
+        6 => usb_classes(),
+        7 => media(),
         _ => &[],
     }
 }
