@@ -9,16 +9,11 @@
 #![tactic(auto)]
 
 pub mod acpi;
-mod acpi_text;
 pub mod bios_boot_spec;
-mod bios_boot_spec_text;
 pub mod errors;
 pub mod hardware;
-mod hardware_text;
 pub mod media;
-mod media_text;
 pub mod messaging;
-mod messaging_text;
 pub mod node;
 pub mod node_text;
 pub mod typed_node;

@@ -1,167 +1,139 @@
-//! Nodes as people read them.
-#![tactic(auto, using(uefi_field_texts::proofs::Puts::puts), unfolding(crate::specs::NodeTexts::unknown_text, crate::specs::NodeTexts::hardware_node_text, crate::specs::NodeTexts::acpi_node_text, crate::specs::NodeTexts::ip_node_text, crate::specs::NodeTexts::messaging_node_text, crate::specs::NodeTexts::volume_node_text, crate::specs::NodeTexts::media_node_text, crate::specs::NodeTexts::boot_node_text, crate::specs::NodeTexts::node_text, crate::specs::NodeViews::printed_node))]
+//! Nodes as people read them: by the table, and those whose text no row of it can say.
+#![tactic(auto, using(uefi_field_texts::proofs::Puts::puts), unfolding(crate::specs::NodeTexts::unknown_text, crate::specs::NodeTexts::irregular_text, crate::specs::NodeTexts::node_text, crate::specs::NodeViews::printed_node))]
 
 ghost use Rattle.std.specs.Fmt.{WritesInCalls};
-ghost use Rattle.std.specs.Prelude.{◌≡◌};
-ghost use Rattle.uefi_device_nodes.specs.NodeTexts.{acpi_node_text, hardware_node_text, ip_node_text, media_node_text, messaging_node_text, node_text, unknown_text};
-ghost use Rattle.uefi_device_nodes.specs.NodeViews.{node_of};
+ghost use Rattle.std.specs.Prelude.{◌≡◌, [], if◌then◌else◌};
+ghost use Rattle.uefi_device_nodes.specs.NodeTexts.{boot_text, expanded_text, irregular_text, is_irregular, node_text, short_name, unknown_text};
+ghost use Rattle.uefi_device_nodes.specs.NodeViews.{data_of, node_of};
+ghost use Rattle.uefi_device_nodes.specs.Nodes.{node_with};
 
-use crate::acpi::{Acpi, Expanded};
-use crate::acpi_text::put_expanded;
+use crate::acpi::Expanded;
 use crate::bios_boot_spec::BootSpecification;
-use crate::bios_boot_spec_text::put_boot;
-use crate::hardware::{HardwareVendor, Pci};
-use crate::media::{
-    CdRom, FilePath, FirmwareFile, FirmwareVolume, HardDrive, MediaVendor, RamDisk,
-};
-use crate::media_text::put_cd_rom;
-use crate::messaging::{
-    Emmc, Ipv4, Ipv6, MacAddress, MessagingVendor, NvmeNamespace, Sata, Sd, Uri, Usb,
-};
-use crate::messaging_text::{put_ipv4, put_ipv6, put_vendor};
-use crate::node::{DevicePathNode, DeviceType};
+use crate::media::FilePath;
+use crate::node::DevicePathNode;
+use crate::typed_node::{NodeKind, TypedNode};
 use std::fmt;
 use uefi_field_texts::forms::{AllowShortcuts, DisplayOnly};
-use uefi_field_texts::hexadecimal::{put_comma_bytes, put_decimal};
+use uefi_field_texts::hexadecimal::{put_comma_bytes, put_decimal, put_hex};
+use uefi_field_texts::ids::{has_uid_alone, id_strings, put_eisa_id};
+use uefi_field_texts::names::{put_boot_type, vendor_name};
 use uefi_field_texts::sink::{Printed, TextSink, print};
+use uefi_field_texts::texts::{put_byte_text, put_utf16_text, until_nul};
+use uefi_node_table::printing::put_form;
+use uefi_text::Packed;
 
-/// Puts a node of no kind.
-fn put_unknown<S: TextSink>(sink: &mut S, node: DevicePathNode<'_>)
-    ensures { WritesInCalls S.puts sink.old (unknown_text (node_of node.entry)) sink.new }
+/// A node that is printed: its type, its sub-type and its data, and the form that is wanted.
+#[derive(Clone, Copy)]
+struct Parts<'a> {
+    device_type: u8,
+    sub_type: u8,
+    data: &'a [u8],
+    display_only: bool,
+    allow_shortcuts: bool,
+}
+
+/// Puts a node of no kind: `Path(TYPE,SUBTYPE,BYTES)`.
+fn put_unknown<S: TextSink>(sink: &mut S, node: &Parts<'_>)
+    ensures { WritesInCalls S.puts sink.old (unknown_text
+        (node_with node.now.device_type node.now.sub_type node.now.data.now)) sink.new }
 {
-    let (kind, sub_kind) = (node.device_type().0, node.sub_type().0);
-    put_decimal(sink, "Path(", u64::from(kind));
-    put_decimal(sink, ",", u64::from(sub_kind));
-    put_comma_bytes(sink, node.data());
+    put_decimal(sink, "Path(", u64::from(node.device_type));
+    put_decimal(sink, ",", u64::from(node.sub_type));
+    put_comma_bytes(sink, node.data);
     sink.put_str(")");
 }
 
-/// Puts a node of type Hardware.
-fn put_hardware<S: TextSink>(sink: &mut S, node: DevicePathNode<'_>)
-    ensures { WritesInCalls S.puts sink.old (hardware_node_text (node_of node.entry)) sink.new }
+/// Puts a device that ACPI names by numbers or by strings: `AcpiEx(HID,CID,0xUID,HIDSTR,CIDSTR,UIDSTR)`, each
+/// ID as three letters and four digits, or `0`; or `AcpiExp(HID,CID,UIDSTR)` where shortcuts are wanted.
+fn put_expanded<S: TextSink>(sink: &mut S, node: &Expanded<'_>, allow_shortcuts: bool)
+    ensures { WritesInCalls S.puts sink.old (expanded_text allow_shortcuts (data_of node.now)) sink.new }
 {
-    if let Ok(pci) = Pci::from_node(node) {
-        pci.put(sink);
+    let strings = id_strings(node.id_strings());
+    if allow_shortcuts && has_uid_alone(node.id_strings()) {
+        put_eisa_id(sink, "AcpiExp(", node.hid());
+        put_eisa_id(sink, ",", node.cid());
+        put_byte_text(sink, ",", strings.uid);
+        sink.put_str(")");
         return;
     }
-    if let Ok(vendor) = HardwareVendor::from_node(node) {
-        vendor.put(sink);
-        return;
-    }
-    put_unknown(sink, node);
+    put_eisa_id(sink, "AcpiEx(", node.hid());
+    put_eisa_id(sink, ",", node.cid());
+    put_hex(sink, ",0x", u64::from(node.uid()));
+    put_byte_text(sink, ",", strings.hid);
+    put_byte_text(sink, ",", strings.cid);
+    put_byte_text(sink, ",", strings.uid);
+    sink.put_str(")");
 }
 
-/// Puts a node of type ACPI.
-fn put_acpi<S: TextSink>(sink: &mut S, node: DevicePathNode<'_>, allow_shortcuts: bool)
-    ensures { WritesInCalls S.puts sink.old
-        (acpi_node_text allow_shortcuts (node_of node.entry)) sink.new }
+/// Puts a device that a legacy BIOS can boot: `BBS(TYPE,DESCRIPTION,0xFLAGS)`.
+fn put_boot<S: TextSink>(sink: &mut S, node: &BootSpecification<'_>, display_only: bool)
+    ensures { WritesInCalls S.puts sink.old (boot_text display_only (data_of node.now)) sink.new }
 {
-    if let Ok(device) = Acpi::from_node(node) {
-        device.put(sink);
+    put_boot_type(sink, "BBS(", node.device_type());
+    put_byte_text(sink, ",", until_nul(node.description_string()));
+    if display_only {
+        sink.put_str(")");
         return;
     }
-    if let Ok(device) = Expanded::from_node(node) {
-        put_expanded(sink, &device, allow_shortcuts);
-        return;
-    }
-    put_unknown(sink, node);
+    put_hex(sink, ",0x", u64::from(node.status_flag()));
+    sink.put_str(")");
 }
 
-/// Puts a node of type Messaging that is a connection over IP.
-fn put_ip<S: TextSink>(sink: &mut S, node: DevicePathNode<'_>, display_only: bool)
-    ensures { WritesInCalls S.puts sink.old
-        (ip_node_text display_only (node_of node.entry)) sink.new }
+/// The shorter name of a vendor's node of messages without data, or an empty text.
+fn short_name(node: &Parts<'_>) -> &'static str
+    ensures { result.now ≡ short_name (node_with node.now.device_type node.now.sub_type node.now.data.now) }
 {
-    if let Ok(address) = MacAddress::from_node(node) {
-        address.put(sink);
-        return;
+    if node.device_type != 3 || node.sub_type != 10 || node.data.len() != 16 {
+        return "";
     }
-    if let Ok(endpoint) = Ipv4::from_node(node) {
-        put_ipv4(sink, &endpoint, display_only);
-        return;
-    }
-    if let Ok(endpoint) = Ipv6::from_node(node) {
-        put_ipv6(sink, &endpoint, display_only);
-        return;
-    }
-    if let Ok(uri) = Uri::from_node(node) {
-        uri.put(sink);
-        return;
-    }
-    put_unknown(sink, node);
+    let (first, second) = node.data.split_at(8);
+    vendor_name(u64::read_le(first), u64::read_le(second))
 }
 
-/// Puts any node of type Messaging.
-fn put_messaging<S: TextSink>(
-    sink: &mut S,
-    node: DevicePathNode<'_>,
-    display_only: bool,
-    allow_shortcuts: bool,
-)
-    ensures { WritesInCalls S.puts sink.old
-        (messaging_node_text display_only allow_shortcuts (node_of node.entry)) sink.new }
+/// Puts a node whose text no row of the table can say. Returns whether it is one; puts nothing where it is not.
+fn put_irregular<S: TextSink>(sink: &mut S, node: &Parts<'_>) -> bool
+    ensures found { result ≡ is_irregular node.now.allow_shortcuts
+        (node_with node.now.device_type node.now.sub_type node.now.data.now) }
+    ensures text { WritesInCalls S.puts sink.old (if result then irregular_text node.now.display_only
+        node.now.allow_shortcuts (node_with node.now.device_type node.now.sub_type node.now.data.now)
+        else []) sink.new }
 {
-    if let Ok(usb) = Usb::from_node(node) {
-        usb.put(sink);
-        return;
+    if node.device_type == 4 && node.sub_type == 4 && node.data.len() % 2 == 0 {
+        put_utf16_text(sink, node.data);
+        return true;
     }
-    if let Ok(vendor) = MessagingVendor::from_node(node) {
-        put_vendor(sink, &vendor, allow_shortcuts);
-        return;
+    if let Ok(device) = Expanded::from_parts(node.device_type, node.sub_type, node.data) {
+        put_expanded(sink, &device, node.allow_shortcuts);
+        return true;
     }
-    if let Ok(sata) = Sata::from_node(node) {
-        sata.put(sink);
-        return;
+    if let Ok(device) = BootSpecification::from_parts(node.device_type, node.sub_type, node.data) {
+        put_boot(sink, &device, node.display_only);
+        return true;
     }
-    if let Ok(namespace) = NvmeNamespace::from_node(node) {
-        namespace.put(sink);
-        return;
+    let name = if node.allow_shortcuts {
+        short_name(node)
+    } else {
+        ""
+    };
+    if name.is_empty() {
+        return false;
     }
-    if let Ok(card) = Sd::from_node(node) {
-        card.put(sink);
-        return;
-    }
-    if let Ok(card) = Emmc::from_node(node) {
-        card.put(sink);
-        return;
-    }
-    put_ip(sink, node, display_only);
+    sink.put_str(name);
+    true
 }
 
-/// Puts any node of type Media.
-fn put_media<S: TextSink>(sink: &mut S, node: DevicePathNode<'_>, display_only: bool)
-    ensures { WritesInCalls S.puts sink.old
-        (media_node_text display_only (node_of node.entry)) sink.new }
+/// Puts any node.
+fn put_node<S: TextSink>(sink: &mut S, node: &Parts<'_>)
+    ensures { WritesInCalls S.puts sink.old (node_text node.now.display_only node.now.allow_shortcuts
+        (node_with node.now.device_type node.now.sub_type node.now.data.now)) sink.new }
 {
-    if let Ok(file) = FilePath::from_node(node) {
-        file.put(sink);
+    if put_irregular(sink, node) {
         return;
     }
-    if let Ok(drive) = HardDrive::from_node(node) {
-        drive.put(sink);
-        return;
+    let (device_type, sub_type) = (node.device_type, node.sub_type);
+    if !put_form(sink, node.display_only, device_type, sub_type, node.data) {
+        put_unknown(sink, node);
     }
-    if let Ok(disc) = CdRom::from_node(node) {
-        put_cd_rom(sink, &disc, display_only);
-        return;
-    }
-    if let Ok(vendor) = MediaVendor::from_node(node) {
-        vendor.put(sink);
-        return;
-    }
-    if let Ok(file) = FirmwareFile::from_node(node) {
-        file.put(sink);
-        return;
-    }
-    if let Ok(volume) = FirmwareVolume::from_node(node) {
-        volume.put(sink);
-        return;
-    }
-    if let Ok(disk) = RamDisk::from_node(node) {
-        disk.put(sink);
-        return;
-    }
-    put_unknown(sink, node);
 }
 
 /// What is printed of a node. A contract sees it as `printed_node` of it: the text, in UTF-8.
@@ -177,7 +149,7 @@ impl<'a> DevicePathNode<'a> {
 
     /// What is printed of the node, for a `{}` of a format (UEFI Specification 2.10, section 10.6.1): the
     /// form of its kind, or `Path(TYPE,SUBTYPE,BYTES)` where it is of none, or too short for its kind.
-    /// Nothing that a terminal obeys stands in it. Takes no memory.
+    /// No control character stands in it. Takes no memory.
     pub fn display(
         &self,
         display_only: DisplayOnly,
@@ -200,19 +172,14 @@ impl<'a> Printed for NodeText<'a> {
     ghost printed = { printed_node };
 
     fn put<S: TextSink>(&self, sink: &mut S) {
-        match self.node.device_type() {
-            DeviceType::HARDWARE => put_hardware(sink, self.node),
-            DeviceType::ACPI => put_acpi(sink, self.node, self.allow_shortcuts),
-            DeviceType::MESSAGING => {
-                put_messaging(sink, self.node, self.display_only, self.allow_shortcuts)
-            }
-            DeviceType::MEDIA => put_media(sink, self.node, self.display_only),
-            DeviceType::BIOS_BOOT_SPEC => match BootSpecification::from_node(self.node) {
-                Ok(device) => put_boot(sink, &device, self.display_only),
-                Err(_) => put_unknown(sink, self.node),
-            },
-            _ => put_unknown(sink, self.node),
-        }
+        let node = Parts {
+            device_type: self.node.device_type().0,
+            sub_type: self.node.sub_type().0,
+            data: self.node.data(),
+            display_only: self.display_only,
+            allow_shortcuts: self.allow_shortcuts,
+        };
+        put_node(sink, &node);
     }
 }
 
@@ -238,5 +205,67 @@ impl<'a> fmt::Display for DevicePathNode<'a> {
 
     fn fmt<W: fmt::Write>(&self, f: &mut fmt::Formatter<W>) -> fmt::Result {
         print(f, &self.display(DisplayOnly(false), AllowShortcuts(false)))
+    }
+}
+
+/// The text that may be read back, without shorter names.
+impl<'a, K: NodeKind> Printed for TypedNode<'a, K> {
+    ghost use Rattle.std.specs.Prelude.{false};
+    ghost use Rattle.uefi_device_nodes.specs.NodeTexts.{node_text};
+    ghost use Rattle.uefi_device_nodes.specs.NodeViews.{data_of};
+    ghost use Rattle.uefi_device_nodes.specs.Nodes.{node_with};
+
+    ghost printed = { λ node. node_text false false (node_with K.DEVICE_TYPE K.SUB_TYPE (data_of node)) };
+
+    fn put<S: TextSink>(&self, sink: &mut S) {
+        let node = Parts {
+            device_type: K::DEVICE_TYPE,
+            sub_type: K::SUB_TYPE,
+            data: self.data(),
+            display_only: false,
+            allow_shortcuts: false,
+        };
+        put_node(sink, &node);
+    }
+}
+
+/// Prints that text.
+impl<'a, K: NodeKind> fmt::Display for TypedNode<'a, K> {
+    ghost use Rattle.std.specs.Prelude.{Some, false};
+    ghost use Rattle.uefi_device_nodes.specs.NodeTexts.{node_text};
+    ghost use Rattle.uefi_device_nodes.specs.NodeViews.{data_of};
+    ghost use Rattle.uefi_device_nodes.specs.Nodes.{node_with};
+
+    ghost output = { λ node. Some (node_text false false
+        (node_with K.DEVICE_TYPE K.SUB_TYPE (data_of node))) };
+
+    fn fmt<W: fmt::Write>(&self, f: &mut fmt::Formatter<W>) -> fmt::Result {
+        print(f, self)
+    }
+}
+
+/// The name up to its NUL: U+FFFD for each surrogate that has no partner, and each control character as
+/// `\u{HEX}`.
+impl<'a> Printed for FilePath<'a> {
+    ghost use Rattle.uefi_device_nodes.specs.NodeViews.{file_node};
+    ghost use Rattle.uefi_field_texts.specs.FieldTexts.{utf16_text};
+
+    ghost printed = { λ path. utf16_text (file_node path).content };
+
+    fn put<S: TextSink>(&self, sink: &mut S) {
+        put_utf16_text(sink, self.data());
+    }
+}
+
+/// Prints the name.
+impl<'a> fmt::Display for FilePath<'a> {
+    ghost use Rattle.std.specs.Prelude.{Some};
+    ghost use Rattle.uefi_device_nodes.specs.NodeViews.{file_node};
+    ghost use Rattle.uefi_field_texts.specs.FieldTexts.{utf16_text};
+
+    ghost output = { λ path. Some (utf16_text (file_node path).content) };
+
+    fn fmt<W: fmt::Write>(&self, f: &mut fmt::Formatter<W>) -> fmt::Result {
+        print(f, self)
     }
 }

@@ -1,17 +1,15 @@
 //! What all nodes have in common whose data have fields at fixed places.
 #![tactic(auto, unfolding(crate::specs::NodeViews::node_of, crate::specs::NodeViews::data_of))]
 
-ghost use Rattle.std.specs.Fmt.{WritesInCalls};
 ghost use Rattle.std.specs.Prelude.{◌≡◌, ℕ, List, ◌+◌, ◌≤◌, ◌<◌, ◌^◌, ◌↔◌, drop, length, slice_range, IfOk, IfSome, IsOk, IsSome, None};
 ghost use Rattle.std.specs.Result.{result_err};
+ghost use Rattle.uefi_device_nodes.specs.Nodes.{node_with};
 ghost use Rattle.uefi_device_nodes.specs.TypedNodes.{IsOfKind, kind_refusal, number_at};
 
 use crate::errors::NodeConversionError;
 use crate::node::DevicePathNode;
 use std::alloc::AllocError;
-use std::fmt;
 use std::marker::PhantomData;
-use uefi_field_texts::sink::{Printed, TextSink, print};
 use uefi_text::Packed;
 
 /// A kind of node: its type, its sub-type, and how many bytes of data each node of it has at least.
@@ -54,10 +52,24 @@ impl<'a, K: NodeKind> TypedNode<'a, K> {
         ensures refusal { result_err result
             ≡ kind_refusal K.DEVICE_TYPE K.SUB_TYPE K.LEAST (node_of node.entry) }
     {
-        if node.device_type().0 != K::DEVICE_TYPE || node.sub_type().0 != K::SUB_TYPE {
+        Self::from_parts(node.device_type().0, node.sub_type().0, node.data())
+    }
+
+    /// The same of a type, a sub-type and data.
+    pub(crate) fn from_parts(
+        device_type: u8,
+        sub_type: u8,
+        data: &'a [u8],
+    ) -> Result<Self, NodeConversionError>
+        ensures ok { IfOk result (λ typed. data_of typed ≡ data.entry.now) }
+        ensures accepts { IsOk result
+            ↔ IsOfKind K.DEVICE_TYPE K.SUB_TYPE K.LEAST (node_with device_type sub_type data.entry.now) }
+        ensures refusal { result_err result
+            ≡ kind_refusal K.DEVICE_TYPE K.SUB_TYPE K.LEAST (node_with device_type sub_type data.entry.now) }
+    {
+        if device_type != K::DEVICE_TYPE || sub_type != K::SUB_TYPE {
             return Err(NodeConversionError::DifferentType);
         }
-        let data = node.data();
         if data.len() < K::LEAST {
             return Err(NodeConversionError::InvalidLength);
         }
@@ -124,40 +136,5 @@ impl<'a, K: NodeKind> Clone for TypedNode<'a, K> {
 
     fn clone(&self) -> Result<Self, AllocError> {
         Ok(*self)
-    }
-}
-
-/// A kind whose nodes have a text, in the form that may be read back, without shorter names.
-pub trait PrintedKind: NodeKind {
-    ghost use Rattle.uefi_device_nodes.specs.NodeViews.{data_of};
-
-    /// The text of a node with these data, in UTF-8.
-    ghost printed: { List ℕ → List ℕ };
-
-    /// Puts the text of a node into a sink.
-    fn put<S: TextSink>(node: &TypedNode<'_, Self>, sink: &mut S)
-        ensures { WritesInCalls S.puts sink.old (printed (data_of node.now)) sink.new };
-}
-
-/// The text of the node's kind.
-impl<'a, K: PrintedKind> Printed for TypedNode<'a, K> {
-    ghost use Rattle.uefi_device_nodes.specs.NodeViews.{data_of};
-
-    ghost printed = { λ node. K.printed (data_of node) };
-
-    fn put<S: TextSink>(&self, sink: &mut S) {
-        K::put(self, sink);
-    }
-}
-
-/// Prints the text that may be read back, without shorter names.
-impl<'a, K: PrintedKind> fmt::Display for TypedNode<'a, K> {
-    ghost use Rattle.std.specs.Prelude.{Some};
-    ghost use Rattle.uefi_device_nodes.specs.NodeViews.{data_of};
-
-    ghost output = { λ node. Some (K.printed (data_of node)) };
-
-    fn fmt<W: fmt::Write>(&self, f: &mut fmt::Formatter<W>) -> fmt::Result {
-        print(f, self)
     }
 }

@@ -54,6 +54,6 @@ pub use path_reader::PathTextError;
 pub use path_text::PathText;
 pub use uefi_device_nodes::node::{DevicePathNode, DeviceSubType, DeviceType};
 pub use uefi_device_nodes::node_text::NodeText;
-pub use uefi_device_nodes::typed_node::{NodeKind, PrintedKind, TypedNode};
+pub use uefi_device_nodes::typed_node::{NodeKind, TypedNode};
 pub use uefi_device_nodes::{acpi, bios_boot_spec, hardware, media, messaging};
 pub use uefi_field_texts::forms::{AllowShortcuts, DisplayOnly};

@@ -35,12 +35,6 @@ unfoldable pub comma_bytes : List ℕ → List ℕ
 comma_bytes [] = []
 comma_bytes (byte ∷ bytes) = codes "," ++ hex_bytes (byte ∷ bytes)
 
--- a GUID: three numbers that lie with their low byte first, and eight bytes
-unfoldable pub guid_text : List ℕ → List ℕ
-guid_text bytes = hex_back (slice_range bytes 0 4) ++ (codes "-" ++ (hex_back (slice_range bytes 4 6)
-    ++ (codes "-" ++ (hex_back (slice_range bytes 6 8) ++ (codes "-" ++ (hex_bytes (slice_range bytes 8 10)
-    ++ (codes "-" ++ hex_bytes (slice_range bytes 10 16))))))))
-
 -- one of the three letters of an ID, by the five low bits of a number: 1 is A
 unfoldable pub eisa_letter : ℕ → List ℕ
 eisa_letter n = encode_utf8 (n % 32 + 64)
@@ -49,25 +43,6 @@ eisa_letter n = encode_utf8 (n % 32 + 64)
 unfoldable pub eisa_text : ℕ → List ℕ
 eisa_text id = if id == 0 then codes "0"
     else eisa_letter (id / 1024) ++ (eisa_letter (id / 32) ++ (eisa_letter id ++ hex_four (id / 65536)))
-
--- an address of IP version 4
-unfoldable pub ipv4_address : List ℕ → List ℕ
-ipv4_address bytes = decimal (slice_index bytes 0) ++ (codes "." ++ (decimal (slice_index bytes 1)
-    ++ (codes "." ++ (decimal (slice_index bytes 2) ++ (codes "." ++ decimal (slice_index bytes 3))))))
-
--- four groups of an address of IP version 6, two bytes each
-unfoldable pub ipv6_half : List ℕ → List ℕ
-ipv6_half bytes = hex_bytes (slice_range bytes 0 2) ++ (codes ":" ++ (hex_bytes (slice_range bytes 2 4)
-    ++ (codes ":" ++ (hex_bytes (slice_range bytes 4 6) ++ (codes ":"
-    ++ hex_bytes (slice_range bytes 6 8))))))
-
--- all eight
-unfoldable pub ipv6_address : List ℕ → List ℕ
-ipv6_address bytes = ipv6_half (slice_range bytes 0 8) ++ (codes ":" ++ ipv6_half (slice_range bytes 8 16))
-
--- a protocol over IP, by the number that the IANA gave it
-unfoldable pub protocol_text : ℕ → List ℕ
-protocol_text n = if n == 6 then codes "TCP" else if n == 17 then codes "UDP" else codes "0x" ++ hex n
 
 -- elements up to the first zero, or all
 abbrev pub until_nul : List ℕ → List ℕ
@@ -102,16 +77,6 @@ shown_units units = flat_map shown_char (utf16_lossy_chars units)
 unfoldable pub utf16_text : List ℕ → List ℕ
 utf16_text bytes = shown_units (until_nul (units_of_bytes bytes))
 
--- what stands before the number of a device that ACPI names by a number under PNP
-unfoldable pub pnp_start : ℕ → List ℕ
-pnp_start id = if id == 0x0a03 then codes "PciRoot("
-    else if id == 0x0a08 then codes "PcieRoot("
-    else if id == 0x0604 then codes "Floppy("
-    else if id == 0x0301 then codes "Keyboard("
-    else if id == 0x0501 then codes "Serial("
-    else if id == 0x0401 then codes "ParallelPort("
-    else concat (codes "Acpi(PNP" ∷ hex_four id ∷ codes "," ∷ [])
-
 -- the shorter name of a vendor, by the two halves of its GUID, or none:
 -- E0C14753-F9BE-11D2-9A0C-0090273FC14D, DFA66065-B419-11D3-9A2D-0090273FC14D,
 -- 7BAEC70B-57E0-4C76-8E87-2F9E28088343,
@@ -123,27 +88,6 @@ vendor_name first second =
     else if (first == 0x4c7657e07baec70b) && (second == 0x438308289e2f878e) then codes "VenVt100Plus()"
     else if (first == 0x4acf8becad15a0d6) && (second == 0x882d7ee71dd073a0) then codes "VenUtf8()"
     else if (first == 0x41ec3858eba4e8d2) && (second == 0xd06096ba472681a2) then codes "DebugPort()"
-    else []
-
--- how the local address came, of IP version 4
-unfoldable pub ipv4_origin : ℕ → List ℕ
-ipv4_origin origin = if origin == 0 then codes "DHCP" else codes "Static"
-
--- how the local address came, of IP version 6
-unfoldable pub ipv6_origin : ℕ → List ℕ
-ipv6_origin origin = if origin == 0 then codes "Static"
-    else if origin == 1 then codes "StatelessAutoConfigure" else codes "StatefulAutoConfigure"
-
--- the name of a type of RAM disks, by the two halves of its GUID, or none:
--- 77AB535A-45FC-624B-5560-F7B281D1F96E, 3D5ABD30-4175-87CE-6D64-D2ADE523C4BB,
--- 5CEA02C9-4D07-69D3-269F-4496FBE096F9
--- and 08018188-42CD-BB48-100F-5387D53DED3D
-unfoldable pub ram_disk_name : ℕ → ℕ → List ℕ
-ram_disk_name first second =
-    if (first == 0x624b45fc77ab535a) && (second == 0x6ef9d181b2f76055) then codes "VirtualDisk"
-    else if (first == 0x87ce41753d5abd30) && (second == 0xbbc423e5add2646d) then codes "VirtualCD"
-    else if (first == 0x69d34d075cea02c9) && (second == 0xf996e0fb96449f26) then codes "PersistentVirtualDisk"
-    else if (first == 0xbb4842cd08018188) && (second == 0x3ded3dd587530f10) then codes "PersistentVirtualCD"
     else []
 
 -- the type of a device that a legacy BIOS can boot

@@ -6,11 +6,7 @@
 //! Callers use `uefi_device_path`, which prints nodes and paths.
 #![tactic(auto)]
 
-#[doc(hidden)]
-pub mod addresses;
 pub mod forms;
-#[doc(hidden)]
-pub mod guid;
 #[doc(hidden)]
 pub mod hexadecimal;
 #[doc(hidden)]

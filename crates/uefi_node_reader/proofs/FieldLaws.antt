@@ -9,8 +9,12 @@ use borrow.Author.Tests.{eq-eqb, eqb-true, leb-true, lt-ltb, ltb-true}
 use Rattle.uefi_text.specs.Packed.{IsByte, little_endian}
 use Rattle.uefi_field_texts.specs.FieldTexts.{dashed_back, hex_back, hex_bytes, hex_two}
 use Rattle.uefi_node_reader.specs.Numerals.{digit_of, has_digit, number_read}
-use Rattle.uefi_node_reader.specs.Fields.{◌>>=◌, after, byte_read, more_read, bytes_read, low_bytes, as_bytes, turned, AreValues, Field, Hexadecimal, Decimal, Back, Forth, Dashed, field_text, field_read, Piece, pieces_text, ended, piece_read, pieces_read, IsValue}
-use Rattle.std.specs.Prelude.{nat_lt, nat_le, not, ◌≢◌, MatchOption}
+use Rattle.uefi_node_reader.specs.TableReading.{field_base, ends_field}
+use Rattle.uefi_node_reader.specs.Fields.{◌>>=◌, after, byte_read, more_read, bytes_read, low_bytes, as_bytes, turned, field_read, IsValue}
+use Rattle.uefi_node_table.specs.Fields.{field_text, fits_shape}
+use Rattle.uefi_node_table.specs.declared.rows.Shape.{Shape}
+use Rattle.uefi_node_table.specs.declared.rows.Shape.TheVariants.{Hexadecimal, Decimal, Back, Forth, Dashed}
+use Rattle.std.specs.Prelude.{nat_le, not, ◌≢◌, MatchOption}
 use Rattle.std.specs.Option.{option_map}
 use Rattle.std.proofs.Common.{Bor}
 use Rattle.std.proofs.lemmas.List.{get_or-reverse, length-reverse, reverse-reverse}
@@ -165,26 +169,19 @@ value_bound (suc w) (b ∷ bs) h =
     let others = value_bound w bs (omega (arith, h.0), All-tail IsByte b bs h.1) in
     omega (arith, pow-suc 256 w)
 
--- the base of the digits that a field may go on with, or 0
-abbrev pub field_base : Field → ℕ
-field_base Hexadecimal = 16
-field_base Decimal = 10
-field_base Back = 0
-field_base Forth = 0
-field_base Dashed = 0
+ltb_zero : (n : ℕ) → ltb n 0 ≡ false
+ltb_zero n = by (ltb n 0) refl
+  where
+    by : (b : Bool) → ltb n 0 ≡ b → b ≡ false
+    by false p = refl
+    by true p = absurd (omega (arith, ltb-true n 0 p))
 
--- the test for an ending that none of the digits of the field may be
-abbrev pub ends_field : ℕ → List ℕ → Bool
-ends_field base [] = false
-ends_field base (c ∷ cs) = not (nat_lt (digit_of c) base)
-
--- the test for pieces that are read back: a number of one to eight bytes, with an end
-abbrev pub is_sound : List Piece → Bool
-is_sound [] = true
-is_sound (p ∷ ps) = (nat_le 1 p.width && nat_le p.width 8) && (ends_field (field_base p.field) p.ending && is_sound ps)
-
-ends_is : (base : ℕ) (ending rest : List ℕ) → ends_field base ending ≡ true → has_digit base (ending ++ rest) ≡ false
-ends_is base [] rest e = cc
+pub ends_is : (base : ℕ) (ending rest : List ℕ) → ends_field base ending ≡ true → has_digit base (ending ++ rest) ≡ false
+ends_is base [] rest e = no_digit rest
+  where
+    no_digit : (rest : List ℕ) → has_digit base rest ≡ false
+    no_digit [] = refl
+    no_digit (c ∷ cs) = let zero_base = eqb-true base 0 e in ap (λ (b : ℕ). ltb (digit_of c) b) zero_base ∙ ltb_zero (digit_of c)
 ends_is base (c ∷ cs) rest e = by (ltb (digit_of c) base) refl e
   where
     by : (b : Bool) → ltb (digit_of c) base ≡ b → not b ≡ true → ltb (digit_of c) base ≡ false
@@ -196,6 +193,14 @@ limits width low high =
     let least = pow-le-pow_right {n = 256} (omega arith) {i = 1} {j = width} low in
     let most = pow-le-pow_right {n = 256} (omega arith) {i = width} {j = 8} high in
     (omega arith, omega arith)
+
+number_bounds : (width : ℕ) → nat_le 1 width && nat_le width 8 ≡ true → (1 ≤ width) × (width ≤ 8)
+number_bounds width e = by (leb 1 width) (leb width 8) refl refl e
+  where
+    by : (a b : Bool) → leb 1 width ≡ a → leb width 8 ≡ b → a && b ≡ true → (1 ≤ width) × (width ≤ 8)
+    by false b p q e = cc
+    by true false p q e = cc
+    by true true p q e = (leb-true _ _ p, leb-true _ _ q)
 
 hex_bytes_is : (bytes : List ℕ) → hex_bytes bytes ≡ join_by hex_two [] bytes
 unfolding hex_bytes
@@ -225,19 +230,19 @@ number_field base upper is small width low high value rest h e =
     rw (number_again base upper is (256 ^ width) (limits width low high).1 (little_endian value) (value_bound width value h) rest e)
     (ap (λ (x : List ℕ). Some (x, rest)) (value_low width value h))
 
-pub field_again : (field : Field) (width : ℕ) → 1 ≤ width → width ≤ 8 → (value rest : List ℕ) → IsValue width value
+pub field_again : (field : Shape) (width : ℕ) → fits_shape field width ≡ true → (value rest : List ℕ) → IsValue width value
     → has_digit (field_base field) rest ≡ false → field_read field width (field_text field value ++ rest) ≡ Some (value, rest)
-field_again Hexadecimal width low high value rest h e = number_field 16 true hexadecimal (omega arith) width low high value rest h e
-field_again Decimal width low high value rest h e = number_field 10 false decimal_base (omega arith) width low high value rest h e
-field_again Back width low high value rest h e =
+field_again Hexadecimal width fits value rest h e = let bounds = number_bounds width fits in number_field 16 true hexadecimal (omega arith) width bounds.0 bounds.1 value rest h e
+field_again Decimal width fits value rest h e = let bounds = number_bounds width fits in number_field 10 false decimal_base (omega arith) width bounds.0 bounds.1 value rest h e
+field_again Back width fits value rest h e =
     let back = reversed_is width value h in
     ap (λ (x : List ℕ). bytes_read [] width (x ++ rest) >>= turned) (back_is value)
     ∙ ap (λ (n : ℕ). bytes_read [] n (join_by hex_two [] (reverse value) ++ rest) >>= turned) (sym back.0)
     ∙ after_some _ turned _ (bytes_again [] (reverse value) rest back.1) ∙ ap (λ (x : List ℕ). Some (x, rest)) (reverse-reverse value)
-field_again Forth width low high value rest h e =
+field_again Forth width fits value rest h e =
     ap (λ (x : List ℕ). bytes_read [] width (x ++ rest)) (hex_bytes_is value)
     ∙ ap (λ (n : ℕ). bytes_read [] n (join_by hex_two [] value ++ rest)) (sym h.0) ∙ bytes_again [] value rest h.1
-field_again Dashed width low high value rest h e =
+field_again Dashed width fits value rest h e =
     let back = reversed_is width value h in
     ap (λ (x : List ℕ). bytes_read (codes "-") width (x ++ rest) >>= turned) (dashed_is value)
     ∙ ap (λ (n : ℕ). bytes_read (codes "-") n (join_by hex_two (codes "-") (reverse value) ++ rest) >>= turned) (sym back.0)
@@ -263,75 +268,16 @@ turned_takes between width text value rest e =
     let back : p.0.0 ≡ reverse value = sym (reverse-reverse p.0.0) ∙ ap reverse same.0 in
     (b.0 ∙ (λ i. join_by hex_two between (back i) ++ same.1 i), subst (λ (x : List ℕ). IsValue width x) same.0 (reversed_is width p.0.0 b.1))
 
-pub field_takes : (field : Field) (width : ℕ) → 1 ≤ width → width ≤ 8 → (text value rest : List ℕ)
+pub field_takes : (field : Shape) (width : ℕ) → fits_shape field width ≡ true → (text value rest : List ℕ)
     → field_read field width text ≡ Some (value, rest) → (text ≡ field_text field value ++ rest) × IsValue width value
-field_takes Hexadecimal width low high text value rest e = number_field_takes 16 true hexadecimal (omega arith) width low high text value rest e
-field_takes Decimal width low high text value rest e = number_field_takes 10 false decimal_base (omega arith) width low high text value rest e
-field_takes Back width low high text value rest e =
+field_takes Hexadecimal width fits text value rest e = let bounds = number_bounds width fits in number_field_takes 16 true hexadecimal (omega arith) width bounds.0 bounds.1 text value rest e
+field_takes Decimal width fits text value rest e = let bounds = number_bounds width fits in number_field_takes 10 false decimal_base (omega arith) width bounds.0 bounds.1 text value rest e
+field_takes Back width fits text value rest e =
     let r = turned_takes [] width text value rest e in (r.0 ∙ ap (λ (x : List ℕ). x ++ rest) (sym (back_is value)), r.1)
-field_takes Forth width low high text value rest e =
+field_takes Forth width fits text value rest e =
     let r = bytes_takes [] width text value rest e in (r.0 ∙ ap (λ (x : List ℕ). x ++ rest) (sym (hex_bytes_is value)), r.1)
-field_takes Dashed width low high text value rest e =
+field_takes Dashed width fits text value rest e =
     let r = turned_takes (codes "-") width text value rest e in (r.0 ∙ ap (λ (x : List ℕ). x ++ rest) (sym (dashed_is value)), r.1)
-
--- what holds of the first of sound pieces and of the others
-sound_first : (p : Piece) (ps : List Piece) → is_sound (p ∷ ps) ≡ true
-    → (1 ≤ p.width) × (p.width ≤ 8) × (ends_field (field_base p.field) p.ending ≡ true) × (is_sound ps ≡ true)
-sound_first p ps e = by (leb 1 p.width) (leb p.width 8) (ends_field (field_base p.field) p.ending) (is_sound ps) refl refl refl refl e
-  where
-    by : (a b c d : Bool) → leb 1 p.width ≡ a → leb p.width 8 ≡ b → ends_field (field_base p.field) p.ending ≡ c → is_sound ps ≡ d
-        → (a && b) && (c && d) ≡ true
-        → (1 ≤ p.width) × (p.width ≤ 8) × (ends_field (field_base p.field) p.ending ≡ true) × (is_sound ps ≡ true)
-    by false b c d p1 p2 p3 p4 e = cc
-    by true false c d p1 p2 p3 p4 e = cc
-    by true true false d p1 p2 p3 p4 e = cc
-    by true true true false p1 p2 p3 p4 e = cc
-    by true true true true p1 p2 p3 p4 e = (leb-true _ _ p1, leb-true _ _ p2, p3, p4)
-
-pub piece_again : (p : Piece) (value rest : List ℕ) → 1 ≤ p.width → p.width ≤ 8 → ends_field (field_base p.field) p.ending ≡ true
-    → IsValue p.width value → piece_read p (field_text p.field value ++ (p.ending ++ rest)) ≡ Some (value, rest)
-piece_again p value rest low high ends is =
-    rw (field_again p.field p.width low high value (p.ending ++ rest) is (ends_is (field_base p.field) p.ending rest ends))
-    (rw (after_again p.ending rest) refl)
-
-piece_takes : (p : Piece) (text value rest : List ℕ) → 1 ≤ p.width → p.width ≤ 8 → piece_read p text ≡ Some (value, rest)
-    → (text ≡ field_text p.field value ++ (p.ending ++ rest)) × IsValue p.width value
-piece_takes p text value rest low high e =
-    let v = bind_some (field_read p.field p.width text) (ended p.ending) (value, rest) e in
-    let t = bind_some (after p.ending v.0.1) _ (value, rest) v.2 in
-    let first = field_takes p.field p.width low high text v.0.0 v.0.1 v.1 in
-    let then = after_takes p.ending v.0.1 t.0 t.1 in
-    let same = some_pair (v.0.0, t.0) (value, rest) t.2 in (
-      first.0 ∙ ap (λ (x : List ℕ). field_text p.field v.0.0 ++ x) then ∙ (λ i. field_text p.field (same.0 i) ++ (p.ending ++ same.1 i)),
-      subst (λ (x : List ℕ). IsValue p.width x) same.0 first.1,
-    )
-
-pub pieces_again : (pieces : List Piece) (values : List (List ℕ)) (rest : List ℕ) → is_sound pieces ≡ true → AreValues pieces values
-    → pieces_read pieces (pieces_text pieces values ++ rest) ≡ Some (values, rest)
-pieces_again [] [] rest sound are = refl
-pieces_again [] (v ∷ vs) rest sound are = absurd are
-pieces_again (p ∷ ps) [] rest sound are = absurd are
-pieces_again (p ∷ ps) (v ∷ vs) rest sound are =
-    let s = sound_first p ps sound in
-    let tail : List ℕ = pieces_text ps vs ++ rest in
-    let grouped : (field_text p.field v ++ (p.ending ++ pieces_text ps vs)) ++ rest ≡ field_text p.field v ++ (p.ending ++ tail) = simp append_assoc in
-    ap (λ (x : List ℕ). pieces_read (p ∷ ps) x) grouped
-    ∙ rw (piece_again p v tail s.0 s.1 s.2 are.0) (rw (pieces_again ps vs rest s.3 are.1) refl)
-
-pub pieces_takes : (pieces : List Piece) (text : List ℕ) (values : List (List ℕ)) (rest : List ℕ) → is_sound pieces ≡ true
-    → pieces_read pieces text ≡ Some (values, rest) → (text ≡ pieces_text pieces values ++ rest) × AreValues pieces values
-pieces_takes [] text values rest sound e =
-    let same = some_pair ([], text) (values, rest) e in
-    (same.1, subst (λ (x : List (List ℕ)). AreValues [] x) same.0 tt)
-pieces_takes (p ∷ ps) text values rest sound e =
-    let s = sound_first p ps sound in
-    let v = bind_some (piece_read p text) _ (values, rest) e in
-    let o = bind_some (pieces_read ps v.0.1) _ (values, rest) v.2 in
-    let first = piece_takes p text v.0.0 v.0.1 s.0 s.1 v.1 in
-    let others = pieces_takes ps v.0.1 o.0.0 o.0.1 s.3 o.1 in
-    let same = some_pair (v.0.0 ∷ o.0.0, o.0.1) (values, rest) o.2 in
-    let whole : text ≡ pieces_text (p ∷ ps) (v.0.0 ∷ o.0.0) ++ o.0.1 = first.0 ∙ ap (λ (x : List ℕ). field_text p.field v.0.0 ++ (p.ending ++ x)) others.0 ∙ simp append_assoc in
-    (whole ∙ (λ i. pieces_text (p ∷ ps) (same.0 i) ++ same.1 i), subst (λ (x : List (List ℕ)). AreValues (p ∷ ps) x) same.0 (first.1, others.1))
 
 -- what is left of a text after a literal, as `strip_prefix` says it
 pub stripped : (literal text : List ℕ) (r : Option (Bor (List ℕ)))

@@ -1,8 +1,12 @@
 pub mod Digits
-pub mod FieldLaws
 pub mod ByteRuns
-pub mod FormLaws
-pub mod AllForms
+pub mod FieldLaws
+pub mod Places
+pub mod PieceLaws
+pub mod TailLaws
+pub mod TableLaws
+pub mod PieceReads
+pub mod Groups
 pub mod PlainNodes
 pub mod NamedFiles
 pub mod NodeLaws

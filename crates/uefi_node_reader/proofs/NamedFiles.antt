@@ -17,8 +17,8 @@ use Rattle.uefi_text.specs.UnitBytes.{unit_bytes, units_of_bytes}
 use Rattle.uefi_text.specs.Units.{is_nul}
 use Rattle.uefi_field_texts.specs.FieldTexts.{is_control, shown_char, shown_units, until_nul, utf16_text}
 use Rattle.uefi_device_nodes.specs.Nodes.{Node, node_with}
-use Rattle.uefi_device_nodes.specs.NodeTexts.{media_node_text, node_text}
-use Rattle.uefi_node_reader.specs.Forms.{read_if}
+use Rattle.uefi_device_nodes.specs.NodeTexts.{irregular_text, node_text}
+use Rattle.uefi_node_reader.specs.Fields.{read_if}
 use Rattle.uefi_node_reader.proofs.Digits.{some_pair}
 use Rattle.uefi_node_reader.specs.NamedFiles.{begins_name, ends_name, is_after_node, is_name, is_name_char, IsNamed, name_bytes, name_data, name_read}
 
@@ -134,7 +134,7 @@ shown_back (c ∷ cs) e =
 -- the text of a node that holds a name is the name
 pub named_text : (cs : List ℕ) → all_scalars cs ≡ true → list_all is_name_char cs ≡ true
     → node_text false false (node_with 4 4 (name_data cs)) ≡ encodes cs
-unfolding node_text media_node_text utf16_text shown_units
+unfolding node_text irregular_text utf16_text shown_units
 named_text cs s e =
     let us : List ℕ = flat_map encode_utf16 cs in
     let whole : eqb (length (unit_bytes (us ++ 0 ∷ [])) % 2) 0 ≡ true = eq-eqb _ 0 (omega (arith, even (us ++ 0 ∷ []))) in

@@ -7,162 +7,37 @@ use Rattle.std.proofs.lemmas.List.Elements.{All-nil, All-cons, All-head, All-tai
 use borrow.Author.Tests.{eqb-true, lt-ltb, ltb-true}
 use Rattle.uefi_text.specs.Packed.{IsByte}
 use Rattle.uefi_field_texts.specs.FieldTexts.{comma_bytes, hex_bytes, hex_two}
-use Rattle.uefi_device_nodes.specs.FileNodes.{is_file}
 use Rattle.uefi_device_nodes.specs.Nodes.{Node, node_with}
-use Rattle.uefi_device_nodes.specs.NodeTexts.{acpi_node_text, boot_node_text, hardware_node_text, ip_node_text, media_node_text, messaging_node_text, node_text, unknown_text, volume_node_text}
-use Rattle.uefi_device_nodes.specs.TypedNodes.{is_kind}
+use Rattle.uefi_node_table.specs.Table.{has_form, table_text}
+use Rattle.uefi_device_nodes.specs.NodeTexts.{irregular_text, is_irregular, node_text, unknown_text}
 use Rattle.uefi_node_reader.specs.Numerals.{digit_of, has_digit, number_read}
-use Rattle.uefi_node_reader.specs.Fields.{after}
-use Rattle.uefi_node_reader.specs.Forms.{read_if}
-use Rattle.uefi_node_reader.specs.PlainNodes.{IsPlain, comma_read, has_device_form, has_form, has_media_form, has_messaging_form, is_plain, plain_read, run_read, some_run}
+use Rattle.uefi_node_reader.specs.Fields.{after, comma_read, read_if}
+use Rattle.uefi_node_reader.specs.PlainNodes.{IsPlain, is_formed, is_plain, plain_read}
 use Rattle.uefi_node_reader.proofs.Digits.{decimal_base, hexadecimal, number_again, number_takes, some_pair}
-use Rattle.uefi_node_reader.proofs.FieldLaws.{after_takes, bind_some, two_digits}
+use Rattle.uefi_node_reader.proofs.FieldLaws.{after_takes, bind_some}
+use Rattle.uefi_node_reader.proofs.TailLaws.{comma_again, comma_takes}
 
 no_or : (a b : Bool) → a || b ≡ false → (a ≡ false) × (b ≡ false)
 no_or false b e = (refl, e)
 no_or true b e = cc
 
-skip : (b : Bool) (x y z : List ℕ) → b ≡ false → y ≡ z → cond b x y ≡ z
-skip false x y z e h = h
-skip true x y z e h = cc
-
-same_either : (b : Bool) (x y z : List ℕ) → x ≡ z → y ≡ z → cond b x y ≡ z
-same_either false x y z p q = q
-same_either true x y z p q = p
-
 -- a node of no kind is printed with its data
-pub plain_text : (node : Node) → has_form node ≡ false → node_text false false node ≡ unknown_text node
-unfolding node_text hardware_node_text acpi_node_text messaging_node_text ip_node_text media_node_text volume_node_text boot_node_text
+pub plain_text : (node : Node) → is_formed node ≡ false → node_text false false node ≡ unknown_text node
+unfolding node_text
 plain_text node e =
-    let parts = no_or (has_device_form node) _ e in
-    let others = no_or (has_messaging_form node) (has_media_form node) parts.1 in
-    let d1 = no_or (is_kind 1 1 2 node) _ parts.0 in
-    let d2 = no_or (is_kind 1 4 16 node) _ d1.1 in
-    let d3 = no_or (is_kind 2 1 8 node) _ d2.1 in
-    let m1 = no_or (is_kind 3 5 2 node) _ others.0 in
-    let m2 = no_or (is_kind 3 10 16 node) _ m1.1 in
-    let m3 = no_or (is_kind 3 18 6 node) _ m2.1 in
-    let m4 = no_or (is_kind 3 23 12 node) _ m3.1 in
-    let m5 = no_or (is_kind 3 26 1 node) _ m4.1 in
-    let m6 = no_or (is_kind 3 29 1 node) _ m5.1 in
-    let m7 = no_or (is_kind 3 11 33 node) _ m6.1 in
-    let m8 = no_or (is_kind 3 12 15 node) _ m7.1 in
-    let m9 = no_or (is_kind 3 13 56 node) _ m8.1 in
-    let v0 = no_or (is_file node && (length node.content % 2 == 0)) _ others.1 in
-    let v1 = no_or (is_kind 4 1 38 node) _ v0.1 in
-    let v2 = no_or (is_kind 4 2 20 node) _ v1.1 in
-    let v3 = no_or (is_kind 4 3 16 node) _ v2.1 in
-    let v4 = no_or (is_kind 4 6 16 node) _ v3.1 in
-    let v5 = no_or (is_kind 4 7 16 node) _ v4.1 in
-    let v6 = no_or (is_kind 4 9 34 node) (is_kind 5 1 5 node) v5.1 in
-    same_either _ _ _ _ (skip _ _ _ _ d1.0 (skip _ _ _ _ d2.0 refl))
-    (same_either _ _ _ _ (skip _ _ _ _ d3.0 (skip _ _ _ _ d3.1 refl))
-    (same_either _ _ _ _ (skip _ _ _ _ m1.0 (skip _ _ _ _ m2.0 (skip _ _ _ _ m3.0 (skip _ _ _ _ m4.0 (skip _ _ _ _ m5.0 (skip _ _ _ _ m6.0
-    (skip _ _ _ _ m7.0 (skip _ _ _ _ m8.0 (skip _ _ _ _ m9.0 (skip _ _ _ _ m9.1 refl))))))))))
-    (same_either _ _ _ _ (skip _ _ _ _ v0.0 (skip _ _ _ _ v1.0 (skip _ _ _ _ v2.0 (skip _ _ _ _ v3.0 (skip _ _ _ _ v4.0 (skip _ _ _ _ v5.0 (skip _ _ _ _ v6.0 refl)))))))
-    (same_either _ _ _ _ (skip _ _ _ _ v6.1 refl) refl))))
+    let parts = no_or (is_irregular false node) (has_form false node.device_type node.sub_type node.content) e in
+    ap (λ (b : Bool). cond b (irregular_text false false node) (cond (has_form false node.device_type node.sub_type node.content)
+    (table_text false node.device_type node.sub_type node.content) (unknown_text node))) parts.0
+    ∙ ap (λ (b : Bool). cond b (table_text false node.device_type node.sub_type node.content) (unknown_text node)) parts.1
 
 -- what a plain node is not
-pub plain_parts : (node : Node) → is_plain node ≡ true → has_form node ≡ false
-plain_parts node e = by (eqb node.device_type 0x7f) (has_form node) e
+pub plain_parts : (node : Node) → is_plain node ≡ true → is_formed node ≡ false
+plain_parts node e = by (eqb node.device_type 0x7f) (is_formed node) e
   where
     by : (a b : Bool) → not a && (not b && leb (length node.content) 0xfffb) ≡ true → b ≡ false
     by true b p = cc
     by false true p = cc
     by false false p = refl
-
-run_end : (rest : List ℕ) → run_read (codes ")" ++ rest) ≡ ([], codes ")" ++ rest)
-run_end [] = refl
-run_end (r ∷ rs) = refl
-
-run_again : (bytes : List ℕ) → All IsByte bytes → (rest : List ℕ) → run_read (hex_bytes bytes ++ (codes ")" ++ rest)) ≡ (bytes, codes ")" ++ rest)
-unfolding hex_bytes
-run_again [] all rest = run_end rest
-run_again (b ∷ bs) all rest =
-    let small = All-head IsByte b bs all in
-    let others = run_again bs (All-tail IsByte b bs all) rest in
-    let tail : List ℕ = flat_map hex_two bs ++ (codes ")" ++ rest) in
-    let x = hexadecimal.reads (b / 16) (omega arith) in
-    let y = hexadecimal.reads (b % 16) (omega arith) in
-    let whole : b / 16 * 16 + b % 16 ≡ b = omega arith in
-    let left : List ℕ × List ℕ = ([], digit_glyph true (b / 16) ∷ digit_glyph true (b % 16) ∷ tail) in
-    let found : ℕ → List ℕ × List ℕ = λ n. (n ∷ (run_read tail).0, (run_read tail).1) in
-    ap run_read (append_assoc (hex_two b) (flat_map hex_two bs) (codes ")" ++ rest))
-    ∙ ap (λ (l : List ℕ). run_read (l ++ tail)) (two_digits b small)
-    ∙ (λ i. cond (ltb (x i) 16 && ltb (y i) 16) (found (x i * 16 + y i)) left)
-    ∙ (λ i. cond (lt-ltb (b / 16) 16 (omega arith) i && lt-ltb (b % 16) 16 (omega arith) i) (found (whole i)) left)
-    ∙ (λ i. (b ∷ (others i).0, (others i).1))
-
-run_takes : (text : List ℕ) → (text ≡ hex_bytes (run_read text).0 ++ (run_read text).1) × All IsByte (run_read text).0
-unfolding hex_bytes
-run_takes [] = (refl, All-nil IsByte)
-run_takes (a ∷ []) = (refl, All-nil IsByte)
-run_takes (a ∷ b ∷ text) = by (ltb (digit_of a) 16) (ltb (digit_of b) 16) refl refl (run_takes text)
-  where
-    found : List ℕ × List ℕ
-    found = ((digit_of a * 16 + digit_of b) ∷ (run_read text).0, (run_read text).1)
-
-    left : List ℕ × List ℕ
-    left = ([], a ∷ b ∷ text)
-
-    Is : List ℕ × List ℕ → Type 0
-    Is r = (a ∷ b ∷ text ≡ flat_map hex_two r.0 ++ r.1) × All IsByte r.0
-
-    by : (t s : Bool) → ltb (digit_of a) 16 ≡ t → ltb (digit_of b) 16 ≡ s
-        → (text ≡ flat_map hex_two (run_read text).0 ++ (run_read text).1) × All IsByte (run_read text).0
-        → Is (cond (ltb (digit_of a) 16 && ltb (digit_of b) 16) found left)
-    by t s p q h = subst (λ (c : Bool). Is (cond (c && ltb (digit_of b) 16) found left)) (sym p) (subst (λ (c : Bool). Is (cond (t && c) found left)) (sym q) (at t s p q h))
-      where
-        at : (t s : Bool) → ltb (digit_of a) 16 ≡ t → ltb (digit_of b) 16 ≡ s
-            → (text ≡ flat_map hex_two (run_read text).0 ++ (run_read text).1) × All IsByte (run_read text).0
-            → Is (cond (t && s) found left)
-        at false s p q h = (refl, All-nil IsByte)
-        at true false p q h = (refl, All-nil IsByte)
-        at true true p q h =
-            let low = ltb-true _ _ p in
-            let high = ltb-true _ _ q in
-            let byte : ℕ = digit_of a * 16 + digit_of b in
-            let small : byte < 256 = omega arith in
-            let first : byte / 16 ≡ digit_of a = omega arith in
-            let second : byte % 16 ≡ digit_of b = omega arith in
-            let heads : hex_two byte ≡ a ∷ b ∷ [] = two_digits byte small ∙ (λ i. (ap (λ (d : ℕ). digit_glyph true d) first
-            ∙ hexadecimal.writes a low) i ∷ (ap (λ (d : ℕ). digit_glyph true d) second ∙ hexadecimal.writes b high) i ∷ []) in (
-              ap (λ (l : List ℕ). a ∷ b ∷ l) h.0 ∙ ap (λ (l : List ℕ). l ++ (flat_map hex_two (run_read text).0 ++ (run_read text).1)) (sym heads)
-                  ∙ sym (append_assoc (hex_two byte) (flat_map hex_two (run_read text).0) (run_read text).1),
-              All-cons IsByte byte (run_read text).0 small h.1,
-            )
-
-comma_again : (bytes : List ℕ) → All IsByte bytes → (rest : List ℕ)
-    → comma_read (comma_bytes bytes ++ (codes ")" ++ rest)) ≡ Some (bytes, codes ")" ++ rest)
-unfolding comma_bytes
-comma_again [] all rest = refl
-comma_again (b ∷ bs) all rest = (λ i. some_run (run_again (b ∷ bs) all rest i).0 (run_again (b ∷ bs) all rest i).1)
-
-comma_takes : (text bytes rest : List ℕ) → comma_read text ≡ Some (bytes, rest) → (text ≡ comma_bytes bytes ++ rest) × All IsByte bytes
-unfolding comma_bytes
-comma_takes [] bytes rest e =
-    let same = some_pair ([], []) (bytes, rest) e in
-    ((λ i. no_bytes (same.0 i) ++ same.1 i), subst (λ (x : List ℕ). All IsByte x) same.0 (All-nil IsByte))
-  where
-    no_bytes : List ℕ → List ℕ
-    no_bytes bytes = comma_bytes bytes
-comma_takes (c ∷ cs) bytes rest e = by (eqb c 44) refl e (run_takes cs)
-  where
-    Taken : Type 0
-    Taken = (c ∷ cs ≡ comma_bytes bytes ++ rest) × All IsByte bytes
-
-    some : (run t : List ℕ) → (cs ≡ hex_bytes run ++ t) × All IsByte run → c ≡ 44 → some_run run t ≡ Some (bytes, rest) → Taken
-    some [] t h q p = cc
-    some (b ∷ bs) t h q p =
-        let same = some_pair (b ∷ bs, t) (bytes, rest) p in
-        ((λ i. q i ∷ h.0 i) ∙ (λ i. comma_bytes (same.0 i) ++ same.1 i), subst (λ (x : List ℕ). All IsByte x) same.0 h.1)
-
-    by : (t : Bool) → eqb c 44 ≡ t → cond t (some_run (run_read cs).0 (run_read cs).1) (Some ([], c ∷ cs)) ≡ Some (bytes, rest)
-        → (cs ≡ hex_bytes (run_read cs).0 ++ (run_read cs).1) × All IsByte (run_read cs).0 → Taken
-    by true p q h = some (run_read cs).0 (run_read cs).1 h (eqb-true c 44 p) q
-    by false p q h =
-        let same = some_pair ([], c ∷ cs) (bytes, rest) q in
-        ((λ i. comma_bytes (same.0 i) ++ same.1 i), subst (λ (x : List ℕ). All IsByte x) same.0 (All-nil IsByte))
 
 no_more_digits : (bytes rest : List ℕ) → has_digit 10 (comma_bytes bytes ++ (codes ")" ++ rest)) ≡ false
 unfolding comma_bytes
@@ -184,7 +59,7 @@ plain_again node is rest =
     ∙ ap plain_read (unknown_parts node rest)
     ∙ rw (number_again 10 false decimal_base 256 (omega arith) node.device_type is.device_type c refl)
     (rw (number_again 10 false decimal_base 256 (omega arith) node.sub_type is.sub_type b (no_more_digits node.content rest))
-    (rw (comma_again node.content is.content rest) (ap (λ (t : Bool). read_if t node rest) is.plain)))
+    (rw (comma_again node.content is.content 41 [] rest refl refl) (ap (λ (t : Bool). read_if t node rest) is.plain)))
 
 if_takes : (t : Bool) (made node : Node) (left rest : List ℕ) → read_if t made left ≡ Some (node, rest) → (t ≡ true) × (made ≡ node) × (left ≡ rest)
 if_takes false made node left rest e = cc

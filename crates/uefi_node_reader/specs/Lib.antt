@@ -1,7 +1,6 @@
 pub mod Numerals
 pub mod Fields
-pub mod Forms
+pub mod TableReading
 pub mod PlainNodes
-pub mod FixedNodes
 pub mod NamedFiles
 pub mod Laws

@@ -7,7 +7,9 @@ use Rattle.uefi_text.specs.UnitBytes.{unit_bytes}
 use Rattle.uefi_text.specs.Units.{nul_terminated}
 use Rattle.uefi_field_texts.specs.FieldTexts.{is_control}
 use Rattle.uefi_device_nodes.specs.Nodes.{Node, node_with}
-use Rattle.uefi_node_reader.specs.Forms.{either_read, forms, forms_read, IsOfOne, read_if}
+use Rattle.uefi_node_table.specs.Table.{forms}
+use Rattle.uefi_node_reader.specs.Fields.{either_read, read_if}
+use Rattle.uefi_node_reader.specs.TableReading.{IsTabled, table_read}
 use Rattle.uefi_node_reader.specs.PlainNodes.{IsPlain, plain_read}
 
 -- the test for a byte that ends a name: a slash or a comma
@@ -49,11 +51,11 @@ name_read text = read_if (is_utf8 (name_bytes text) && is_name (chars (name_byte
 
 -- a node whose text holds all that it holds
 abbrev pub IsTold : Node → Type 0
-IsTold node = IsOfOne forms node ⊎ (IsPlain node ⊎ IsNamed node)
+IsTold node = IsTabled forms node ⊎ (IsPlain node ⊎ IsNamed node)
 
 -- the node whose text bytes begin with, and what stands after it
 unfoldable pub node_read : List ℕ → Option (Node × List ℕ)
-node_read text = either_read (forms_read forms text) (either_read (plain_read text) (name_read text))
+node_read text = either_read (table_read forms text) (either_read (plain_read text) (name_read text))
 
 -- the test for bytes that may stand after a node: none, or a slash or a comma first
 abbrev pub is_after_node : List ℕ → Bool

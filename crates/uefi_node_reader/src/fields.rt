@@ -1,11 +1,14 @@
 //! Fields of nodes read from their texts.
 #![tactic(auto)]
 
-ghost use Rattle.std.specs.Prelude.{◌≡◌, ◌+◌, ◌^◌, length, if◌then◌else◌};
+ghost use Rattle.std.specs.Prelude.{◌≡◌, ◌+◌, ◌^◌, ◌≤◌, IsTrue, length, if◌then◌else◌};
 ghost use Rattle.std.specs.Option.{option_and_then, option_map};
-ghost use Rattle.uefi_node_reader.specs.Fields.{after, byte_read, bytes_read, low_bytes, field_read, piece, piece_read, Hexadecimal, Decimal, Back, Forth, Dashed};
+ghost use Rattle.uefi_node_reader.specs.Fields.{after, as_bytes, byte_read, bytes_read, field_read, low_bytes, turned};
+ghost use Rattle.uefi_node_table.specs.Fields.{fits_shape};
+ghost use Rattle.uefi_node_reader.specs.Numerals.{number_read};
 
 use crate::numerals::{digit_of, number};
+use uefi_node_table::rows::Shape;
 
 /// What stands after a literal that a text begins with.
 pub(crate) fn after<'a>(literal: &[u8], text: &'a [u8]) -> Option<&'a [u8]>
@@ -54,72 +57,67 @@ fn fill<'a>(between: &[u8], found: &mut [u8], text: &'a [u8]) -> Option<&'a [u8]
     Some(rest)
 }
 
-/// The low bytes of a number, the lowest first.
-fn low_bytes<const N: usize>(number: u64) -> [u8; N]
-    ensures { result ≡ low_bytes N number }
+/// The highest number of a width.
+fn last(width: usize) -> u64
+    requires some { 1 ≤ width }
+    requires few { width ≤ 8 }
+    ensures { result + 1 ≡ 256 ^ width }
 {
-    let mut bytes = [0; N];
+    match width {
+        1 => 0xff,
+        2 => 0xffff,
+        3 => 0xff_ffff,
+        4 => 0xffff_ffff,
+        5 => 0xff_ffff_ffff,
+        6 => 0xffff_ffff_ffff,
+        7 => 0xff_ffff_ffff_ffff,
+        _ => u64::MAX,
+    }
+}
+
+/// Fills a buffer with the low bytes of a number, the lowest first.
+fn put_low(found: &mut [u8], number: u64)
+    ensures { found.new ≡ low_bytes (length found.old) number }
+{
     let mut rest = number;
-    for place in 0..N {
-        bytes[place] = (rest % 256) as u8;
+    for place in 0..found.len() {
+        found[place] = (rest % 256) as u8;
         rest /= 256;
     }
-    bytes
 }
 
-/// A number of `N` bytes in hexadecimal, which is up to `last`, and what stands after its ending.
-pub(crate) fn hexadecimal<'a, const N: usize>(
-    last: u64,
-    ending: &[u8],
-    text: &'a [u8],
-) -> Option<([u8; N], &'a [u8])>
-    requires { last + 1 ≡ 256 ^ N }
-    ensures { option_map (λ x. (x.0, x.1.now)) result
-        ≡ piece_read (piece Hexadecimal N ending.now) text.now }
-{
-    let (value, rest) = number(16, last, text)?;
-    Some((low_bytes(value), after(ending, rest)?))
-}
-
-/// A number of `N` bytes in decimal, which is up to `last`, and what stands after its ending.
-pub(crate) fn decimal<'a, const N: usize>(
-    last: u64,
-    ending: &[u8],
-    text: &'a [u8],
-) -> Option<([u8; N], &'a [u8])>
-    requires { last + 1 ≡ 256 ^ N }
-    ensures { option_map (λ x. (x.0, x.1.now)) result
-        ≡ piece_read (piece Decimal N ending.now) text.now }
-{
-    let (value, rest) = number(10, last, text)?;
-    Some((low_bytes(value), after(ending, rest)?))
-}
-
-/// Fills a buffer with bytes that stand in their order. Returns what stands after their ending.
-pub(crate) fn forth<'a>(ending: &[u8], found: &mut [u8], text: &'a [u8]) -> Option<&'a [u8]>
+/// Fills a buffer with the bytes of a number in a base. Returns what stands after it.
+fn number_into<'a>(base: u64, found: &mut [u8], text: &'a [u8]) -> Option<&'a [u8]>
+    requires some { 1 ≤ length found.old }
+    requires few { length found.old ≤ 8 }
     ensures { option_map (λ x. (found.new, x.now)) result
-        ≡ piece_read (piece Forth (length found.old) ending.now) text.now }
+        ≡ option_and_then (as_bytes (length found.old)) (number_read base (256 ^ length found.old) text.now) }
 {
-    after(ending, fill(&[], found, text)?)
+    let (value, rest) = number(base, last(found.len()), text)?;
+    put_low(found, value);
+    Some(rest)
 }
 
-/// Fills a buffer with bytes that stand from the last to the first. Returns what stands after their
-/// ending.
-pub(crate) fn back<'a>(ending: &[u8], found: &mut [u8], text: &'a [u8]) -> Option<&'a [u8]>
+/// Fills a buffer with bytes that stand from the last to the first.
+fn fill_back<'a>(between: &[u8], found: &mut [u8], text: &'a [u8]) -> Option<&'a [u8]>
     ensures { option_map (λ x. (found.new, x.now)) result
-        ≡ piece_read (piece Back (length found.old) ending.now) text.now }
+        ≡ option_and_then turned (bytes_read between.now (length found.old) text.now) }
 {
-    let rest = fill(&[], found, text)?;
+    let rest = fill(between, found, text)?;
     found.reverse();
-    after(ending, rest)
+    Some(rest)
 }
 
-/// The same with dashes between the bytes.
-pub(crate) fn dashed<'a>(ending: &[u8], found: &mut [u8], text: &'a [u8]) -> Option<&'a [u8]>
-    ensures { option_map (λ x. (found.new, x.now)) result
-        ≡ piece_read (piece Dashed (length found.old) ending.now) text.now }
+/// Fills a buffer with the bytes of a field. Returns what stands after it.
+pub(crate) fn read_value<'a>(shape: Shape, found: &mut [u8], text: &'a [u8]) -> Option<&'a [u8]>
+    requires { IsTrue (fits_shape shape (length found.old)) }
+    ensures { option_map (λ x. (found.new, x.now)) result ≡ field_read shape (length found.old) text.now }
 {
-    let rest = fill(b"-", found, text)?;
-    found.reverse();
-    after(ending, rest)
+    match shape {
+        Shape::Hexadecimal => number_into(16, found, text),
+        Shape::Decimal => number_into(10, found, text),
+        Shape::Back => fill_back(&[], found, text),
+        Shape::Forth => fill(&[], found, text),
+        Shape::Dashed => fill_back(b"-", found, text),
+    }
 }

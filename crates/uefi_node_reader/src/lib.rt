@@ -5,9 +5,9 @@
 #![tactic(auto)]
 
 mod fields;
-mod forms;
 mod names;
 #[doc(hidden)]
 pub mod nodes;
 mod numerals;
 mod plain;
+mod table_reader;

@@ -4,34 +4,13 @@
 ghost use Rattle.std.specs.Prelude.{◌≡◌, IfOk};
 ghost use Rattle.std.specs.Option.{option_map};
 ghost use Rattle.uefi_device_nodes.specs.Nodes.{node_with};
-ghost use Rattle.uefi_node_reader.specs.FixedNodes.{fixed_node};
 ghost use Rattle.uefi_node_reader.specs.Laws.{NodeAgain, NodeFits, NodeStarts, NodeTakes, NodeTextOnce};
 ghost use Rattle.uefi_node_reader.specs.NamedFiles.{node_read};
 
-use crate::forms::{FixedNode, fixed};
 use crate::names::name;
 use crate::plain::plain;
+use crate::table_reader::by_table;
 use std::alloc::{AllocError, Allocator};
-
-/// Writes the data of a node into a vector, in place of what it held. Returns its type and its sub-type.
-fn put_fixed<A: Allocator>(
-    content: &mut Vec<u8, A>,
-    node: &FixedNode,
-) -> Result<(u8, u8), AllocError>
-    ensures { IfOk result (λ types. node_with types.0 types.1 content.new.items ≡ fixed_node node.now) }
-{
-    content.clear();
-    let (types, data): (_, &[u8]) = match node {
-        FixedNode::Pci(data) => ((1, 1), data),
-        FixedNode::Usb(data) => ((3, 5), data),
-        FixedNode::Sata(data) => ((3, 18), data),
-        FixedNode::Nvme(data) => ((3, 23), data),
-        FixedNode::HardDrive(data) => ((4, 1), data),
-        FixedNode::Acpi(data) => ((2, 1), data),
-    };
-    content.extend_from_slice(data)?;
-    Ok(types)
-}
 
 /// Reads the node whose text bytes begin with, its data into a vector, in place of what it held. Returns
 /// its type, its sub-type and what stands after it; `None` exactly where no node that is told has such a
@@ -43,9 +22,8 @@ pub fn read_node<'a, A: Allocator>(
     ensures { IfOk result (λ read. option_map
         (λ x. (node_with x.0 x.1 content.new.items, x.2.now)) read ≡ node_read text.now) }
 {
-    if let Some((node, rest)) = fixed(text) {
-        let (device_type, sub_type) = put_fixed(content, &node)?;
-        return Ok(Some((device_type, sub_type, rest)));
+    if let Some(read) = by_table(content, text)? {
+        return Ok(Some(read));
     }
     if let Some(read) = plain(content, text)? {
         return Ok(Some(read));

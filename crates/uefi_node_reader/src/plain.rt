@@ -1,94 +1,46 @@
 //! Nodes of no kind, read from their types and their data.
 #![tactic(auto)]
 
-ghost use Rattle.std.specs.Prelude.{◌≡◌, ◌++◌, ◌%◌, ◌==◌, ◌&&◌, length, IfOk};
+ghost use Rattle.std.specs.Prelude.{◌≡◌, ◌++◌, IfOk, false};
 ghost use Rattle.std.specs.Option.{option_and_then, option_map};
 ghost use Rattle.uefi_device_nodes.specs.Nodes.{node_with};
-ghost use Rattle.uefi_device_nodes.specs.TypedNodes.{is_kind};
+ghost use Rattle.uefi_device_nodes.specs.NodeTexts.{is_irregular};
+ghost use Rattle.uefi_node_reader.specs.Fields.{comma_read, run_read};
 ghost use Rattle.uefi_node_reader.specs.Numerals.{number_read};
-ghost use Rattle.uefi_node_reader.specs.PlainNodes.{comma_read, has_device_form, has_form, has_media_form, has_messaging_form, is_plain, plain_read, plain_rest, run_read};
+ghost use Rattle.uefi_node_reader.specs.PlainNodes.{is_plain, plain_read, plain_rest};
 
 use crate::fields::{after, byte};
 use crate::numerals::number;
 use std::alloc::{AllocError, Allocator};
+use uefi_node_table::printing::has_form;
 
-/// A node: its type, its sub-type and its data.
-#[derive(Clone, Copy)]
-struct Parts<'a> {
-    device_type: u8,
-    sub_type: u8,
-    content: &'a [u8],
-}
-
-/// Whether a node is of a kind, with no fewer bytes of data than that has.
-fn is_kind(node: &Parts<'_>, kind: u8, sub_kind: u8, least: usize) -> bool
-    ensures { result ≡ is_kind kind sub_kind least
-        (node_with node.now.device_type node.now.sub_type node.now.content.now) }
+/// Whether a node is printed in a form of its own that no row of the table says.
+fn is_irregular(device_type: u8, sub_type: u8, content: &[u8]) -> bool
+    ensures { result ≡ is_irregular false (node_with device_type sub_type content.now) }
 {
-    node.device_type == kind && node.sub_type == sub_kind && least <= node.content.len()
-}
-
-/// Whether a node of Hardware or ACPI has a form of its own.
-fn has_device_form(node: &Parts<'_>) -> bool
-    ensures { result ≡ has_device_form
-        (node_with node.now.device_type node.now.sub_type node.now.content.now) }
-{
-    is_kind(node, 1, 1, 2)
-        || is_kind(node, 1, 4, 16)
-        || is_kind(node, 2, 1, 8)
-        || is_kind(node, 2, 2, 15)
-}
-
-/// The same of Messaging.
-fn has_messaging_form(node: &Parts<'_>) -> bool
-    ensures { result ≡ has_messaging_form
-        (node_with node.now.device_type node.now.sub_type node.now.content.now) }
-{
-    is_kind(node, 3, 5, 2)
-        || is_kind(node, 3, 10, 16)
-        || is_kind(node, 3, 18, 6)
-        || is_kind(node, 3, 23, 12)
-        || is_kind(node, 3, 26, 1)
-        || is_kind(node, 3, 29, 1)
-        || is_kind(node, 3, 11, 33)
-        || is_kind(node, 3, 12, 15)
-        || is_kind(node, 3, 13, 56)
-        || is_kind(node, 3, 24, 0)
-}
-
-/// The same of Media and BIOS Boot Specification.
-fn has_media_form(node: &Parts<'_>) -> bool
-    ensures { result ≡ has_media_form
-        (node_with node.now.device_type node.now.sub_type node.now.content.now) }
-{
-    let is_file = node.device_type == 4 && node.sub_type == 4 && node.content.len() % 2 == 0;
-    is_file
-        || is_kind(node, 4, 1, 38)
-        || is_kind(node, 4, 2, 20)
-        || is_kind(node, 4, 3, 16)
-        || is_kind(node, 4, 6, 16)
-        || is_kind(node, 4, 7, 16)
-        || is_kind(node, 4, 9, 34)
-        || is_kind(node, 5, 1, 5)
+    match (device_type, sub_type) {
+        (4, 4) => content.len() % 2 == 0,
+        (2, 2) => 15 <= content.len(),
+        (5, 1) => 5 <= content.len(),
+        _ => false,
+    }
 }
 
 /// Whether a node has no form of its own, and may stand in a path without ending an instance.
 fn is_plain(device_type: u8, sub_type: u8, content: &[u8]) -> bool
     ensures { result ≡ is_plain (node_with device_type sub_type content.now) }
 {
-    let node = Parts {
-        device_type,
-        sub_type,
-        content,
-    };
-    if has_device_form(&node) || has_messaging_form(&node) || has_media_form(&node) {
+    if is_irregular(device_type, sub_type, content) {
+        return false;
+    }
+    if has_form(false, device_type, sub_type, content) {
         return false;
     }
     device_type != 0x7f && content.len() <= 0xfffb
 }
 
 /// Appends all bytes that stand as two digits each. Returns what stands after them.
-fn push_run<'a, A: Allocator>(
+pub(crate) fn push_run<'a, A: Allocator>(
     content: &mut Vec<u8, A>,
     text: &'a [u8],
 ) -> Result<&'a [u8], AllocError>

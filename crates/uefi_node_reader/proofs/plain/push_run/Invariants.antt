@@ -1,5 +1,5 @@
 use Rattle.std.proofs.Common.{◌≡◌, ◌++◌, length}
-use Rattle.uefi_node_reader.specs.PlainNodes.{run_read}
+use Rattle.uefi_node_reader.specs.Fields.{run_read}
 use Rattle.uefi_node_reader.proofs.plain.push_run.Given as goal
 
 abbrev pub invariant-bytes : goal.invariant-bytes

@@ -1,0 +1,112 @@
+-- Forms that stand one group after the other, and what is computed of the whole table.
+use Rattle.std.proofs.Common.{◌≡◌, ℕ, zero, suc, ◌+◌, ◌-◌, ◌<◌, ◌≤◌, Bool, true, false, cond, List, [], ◌∷◌, ◌++◌, length, refl, sym, ap, ◌∙◌, arith}
+use Rattle.std.specs.Prelude.{Option, Some, None}
+use Rattle.std.specs.List.{list_all}
+use Rattle.uefi_node_table.specs.Rows.{Form}
+use Rattle.uefi_node_table.specs.Table.{forms, forms_from, group_forms}
+use Rattle.uefi_node_table.proofs.Groups.{next_group}
+use Rattle.uefi_device_nodes.specs.Nodes.{Node}
+use Rattle.uefi_node_reader.specs.Fields.{either_read}
+use Rattle.uefi_node_reader.specs.TableReading.{all_differ, form_place, form_read, forms_read, is_filled, is_sound, kept}
+
+pub table_sound : list_all is_sound forms ≡ true
+unfolding group_forms
+table_sound = refl
+
+pub table_differs : all_differ forms ≡ true
+unfolding group_forms
+table_differs = refl
+
+-- the same of each group
+pub group_sound : (index : ℕ) → index < 8 → list_all is_sound (group_forms index) ≡ true
+unfolding group_forms
+group_sound zero l = refl
+group_sound (suc zero) l = refl
+group_sound (suc (suc zero)) l = refl
+group_sound (suc (suc (suc zero))) l = refl
+group_sound (suc (suc (suc (suc zero)))) l = refl
+group_sound (suc (suc (suc (suc (suc zero))))) l = refl
+group_sound (suc (suc (suc (suc (suc (suc zero)))))) l = refl
+group_sound (suc (suc (suc (suc (suc (suc (suc zero))))))) l = refl
+group_sound (suc (suc (suc (suc (suc (suc (suc (suc n)))))))) l = absurd (omega arith)
+
+pub group_filled : (index : ℕ) → index < 8 → list_all is_filled (group_forms index) ≡ true
+unfolding group_forms
+group_filled zero l = refl
+group_filled (suc zero) l = refl
+group_filled (suc (suc zero)) l = refl
+group_filled (suc (suc (suc zero))) l = refl
+group_filled (suc (suc (suc (suc zero)))) l = refl
+group_filled (suc (suc (suc (suc (suc zero))))) l = refl
+group_filled (suc (suc (suc (suc (suc (suc zero)))))) l = refl
+group_filled (suc (suc (suc (suc (suc (suc (suc zero))))))) l = refl
+group_filled (suc (suc (suc (suc (suc (suc (suc (suc n)))))))) l = absurd (omega arith)
+
+module _ (test : Form → Bool) where
+  place_within : (xs bs : List Form) → form_place test xs < length xs → form_place test (xs ++ bs) ≡ form_place test xs
+  place_within [] bs l = absurd (omega arith)
+  place_within (a ∷ xs) bs l = by (test a) refl l (place_within xs bs)
+    where
+      by : (b : Bool) → test a ≡ b → cond b 0 (form_place test xs + 1) < suc (length xs) → (form_place test xs < length xs → form_place test (xs ++ bs) ≡ form_place test xs)
+          → cond (test a) 0 (form_place test (xs ++ bs) + 1) ≡ cond (test a) 0 (form_place test xs + 1)
+      by true p q h = ap (λ (b : Bool). cond b 0 (form_place test (xs ++ bs) + 1)) p ∙ sym (ap (λ (b : Bool). cond b 0 (form_place test xs + 1)) p)
+      by false p q h = ap (λ (n : ℕ). cond (test a) 0 (n + 1)) (h (omega arith))
+
+  place_past : (xs bs : List Form) → length xs ≤ form_place test xs → form_place test (xs ++ bs) ≡ length xs + form_place test bs
+  place_past [] bs l = omega arith
+  place_past (a ∷ xs) bs l = by (test a) refl l (place_past xs bs)
+    where
+      by : (b : Bool) → test a ≡ b → suc (length xs) ≤ cond b 0 (form_place test xs + 1) → (length xs ≤ form_place test xs → form_place test (xs ++ bs) ≡ length xs + form_place test bs)
+          → cond (test a) 0 (form_place test (xs ++ bs) + 1) ≡ suc (length xs) + form_place test bs
+      by true p q h = absurd (omega arith)
+      by false p q h = let others = h (omega arith) in ap (λ (b : Bool). cond b 0 (form_place test (xs ++ bs) + 1)) p ∙ omega arith
+
+either_assoc : (x y z : Option (Node × List ℕ)) → either_read x (either_read y z) ≡ either_read (either_read x y) z
+either_assoc None y z = refl
+either_assoc (Some x) y z = refl
+
+reads_append : (all : List Form) (place : ℕ) (xs bs : List Form) (text : List ℕ)
+    → forms_read all place (xs ++ bs) text ≡ either_read (forms_read all place xs text) (forms_read all (place + length xs) bs text)
+reads_append all place [] bs text = ap (λ (n : ℕ). forms_read all n bs text) {x = place} {y = place + 0} (omega arith)
+reads_append all place (a ∷ xs) bs text =
+    ap (λ (o : Option (Node × List ℕ)). either_read (kept all place a (form_read a text)) o)
+    (reads_append all (place + 1) xs bs text ∙ ap (λ (n : ℕ). either_read (forms_read all (place + 1) xs text) (forms_read all n bs text)) {x = place + 1 + length xs} {y = place + suc (length xs)} (omega arith))
+    ∙ either_assoc (kept all place a (form_read a text)) (forms_read all (place + 1) xs text) (forms_read all (place + suc (length xs)) bs text)
+
+module _ (index : ℕ) (more : index < 8) (group : List Form) (is : group ≡ group_forms index) where
+  rest : List Form
+  rest = forms_from (index + 1) (8 - (index + 1))
+
+  here : forms_from index (8 - index) ≡ group ++ rest
+  unfolding rest
+  here = next_group index more ∙ ap (λ (l : List Form). l ++ forms_from (index + 1) (8 - (index + 1))) (sym is)
+
+  -- the search for a place in one group more
+  pub within_step : (test : Form → Bool) (before place all : ℕ) → place ≡ form_place test group → place < length group
+      → before + form_place test (forms_from index (8 - index)) ≡ all → before + place ≡ all
+  within_step test before place all e l a = ap (λ (n : ℕ). before + n)
+      (e ∙ sym (place_within test group rest (omega arith)) ∙ ap (λ (l : List Form). form_place test l) (sym here)) ∙ a
+
+  pub past_step : (test : Form → Bool) (before place all : ℕ) → place ≡ form_place test group → length group ≤ place
+      → before + form_place test (forms_from index (8 - index)) ≡ all
+      → before + length group + form_place test (forms_from (index + 1) (8 - (index + 1))) ≡ all
+  unfolding rest
+  past_step test before place all e l a =
+      let past : form_place test (forms_from index (8 - index)) ≡ length group + form_place test (forms_from (index + 1) (8 - (index + 1))) =
+      ap (λ (l : List Form). form_place test l) here ∙ place_past test group rest (omega arith) in
+      omega arith
+
+  -- reading in one group more
+  pub read_step : (before : ℕ) (text : List ℕ) (read : Node × List ℕ) (all : Option (Node × List ℕ)) → Some read ≡ forms_read forms before group text
+      → forms_read forms before (forms_from index (8 - index)) text ≡ all → Some read ≡ all
+  read_step before text read all e a =
+      ap (λ (o : Option (Node × List ℕ)). either_read o (forms_read forms (before + length group) rest text)) e
+      ∙ sym (reads_append forms before group rest text) ∙ ap (λ (l : List Form). forms_read forms before l text) (sym here) ∙ a
+
+  pub unread_step : (before : ℕ) (text : List ℕ) (all : Option (Node × List ℕ)) → None ≡ forms_read forms before group text
+      → forms_read forms before (forms_from index (8 - index)) text ≡ all
+      → forms_read forms (before + length group) (forms_from (index + 1) (8 - (index + 1))) text ≡ all
+  unfolding rest
+  unread_step before text all e a =
+      ap (λ (o : Option (Node × List ℕ)). either_read o (forms_read forms (before + length group) (forms_from (index + 1) (8 - (index + 1))) text)) e
+      ∙ sym (reads_append forms before group rest text) ∙ ap (λ (l : List Form). forms_read forms before l text) (sym here) ∙ a

@@ -1,0 +1,124 @@
+-- The forms of nodes: how each is printed (UEFI Specification 2.10, section 10.6.1).
+use Rattle.std.specs.Borrow.{Bor}
+use Rattle.std.specs.Prelude.{ℕ, ◌+◌, Bool, true, nat_le, ◌==◌, ◌&&◌, if◌then◌else◌, List, [], ◌∷◌, ◌++◌, length, drop, slice_range, slice_index, map, Option, Some, None}
+use Rattle.std.specs.List.{flat_map, list_all}
+use Rattle.uefi_field_texts.specs.FieldTexts.{comma_bytes, shown_bytes}
+use Rattle.uefi_node_table.specs.Fields.{field_text, fits_shape}
+use Rattle.uefi_node_table.specs.declared.rows.Mode.{Mode}
+use Rattle.uefi_node_table.specs.declared.rows.Mode.TheVariants.{Read, Printed, Display}
+use Rattle.uefi_node_table.specs.declared.rows.Shape.{Shape}
+use Rattle.uefi_node_table.specs.declared.rows.Tail.{Tail}
+use Rattle.uefi_node_table.specs.declared.rows.Tail.TheVariants.{Nothing, Bytes, Text}
+use Rattle.uefi_node_table.specs.declared.rows.PieceOf.{PieceOf}
+use Rattle.uefi_node_table.specs.declared.rows.RowOf.{RowOf}
+
+-- a field: how it stands in the text, where it lies in the data, and what stands after it
+pub record Piece : Type 0 where
+  pub shape : Shape
+  pub place : ℕ
+  pub width : ℕ
+  pub ending : List ℕ
+
+-- a form of nodes: a row of the table
+pub record Form : Type 0 where
+  pub kind : ℕ
+  pub sub_kind : ℕ
+  pub mode : Mode
+  pub least : ℕ
+  pub when : List (ℕ × ℕ)
+  pub also : List (ℕ × ℕ)
+  pub start : List ℕ
+  pub pieces : List Piece
+  pub tail : Tail
+  pub close : List ℕ
+
+-- the field that a value is
+abbrev pub as_piece : PieceOf (Bor (List ℕ)) → Piece
+as_piece p = record { shape = p.shape; place = p.place; width = p.width; ending = p.ending.now }
+
+-- the form that a value is
+abbrev pub as_form : RowOf (Bor (List ℕ)) (Bor (List (ℕ × ℕ))) (Bor (List (PieceOf (Bor (List ℕ))))) → Form
+as_form r = record {
+  kind = r.kind;
+  sub_kind = r.sub_kind;
+  mode = r.mode;
+  least = r.least;
+  when = r.when.now;
+  also = r.also.now;
+  start = r.start.now;
+  pieces = map as_piece r.pieces.now;
+  tail = r.tail;
+  close = r.close.now;
+}
+
+-- the field that a constant is, whose references have no places
+abbrev pub const_piece : PieceOf (record { now : List ℕ }) → Piece
+const_piece p = record { shape = p.shape; place = p.place; width = p.width; ending = p.ending.now }
+
+-- the form that a constant is
+abbrev pub const_form : RowOf (record { now : List ℕ }) (record { now : List (ℕ × ℕ) })
+    (record { now : List (PieceOf (record { now : List ℕ })) }) → Form
+const_form r = record {
+  kind = r.kind;
+  sub_kind = r.sub_kind;
+  mode = r.mode;
+  least = r.least;
+  when = r.when.now;
+  also = r.also.now;
+  start = r.start.now;
+  pieces = map const_piece r.pieces.now;
+  tail = r.tail;
+  close = r.close.now;
+}
+
+-- the bytes of a field in data
+abbrev pub value_at : Piece → List ℕ → List ℕ
+value_at piece content = slice_range content piece.place (piece.place + piece.width)
+
+-- the text of a field, and what stands after it
+abbrev pub piece_text : List ℕ → Piece → List ℕ
+piece_text content piece = field_text piece.shape (value_at piece content) ++ piece.ending
+
+-- the text of fields
+abbrev pub pieces_text : List Piece → List ℕ → List ℕ
+pieces_text pieces content = flat_map (piece_text content) pieces
+
+-- the text of the data after the fixed part
+abbrev pub tail_text : Tail → List ℕ → List ℕ
+tail_text Nothing bytes = []
+tail_text Bytes bytes = comma_bytes bytes
+tail_text Text bytes = shown_bytes bytes
+
+-- the text of a node of a form, by its data
+abbrev pub form_text : Form → List ℕ → List ℕ
+form_text form content = form.start ++ (pieces_text form.pieces content
+    ++ (tail_text form.tail (drop (form.least) content) ++ form.close))
+
+-- the test for data that hold these bytes
+abbrev pub has_bytes : List (ℕ × ℕ) → List ℕ → Bool
+has_bytes bytes content = list_all (λ b. slice_index content b.0 == b.1) bytes
+
+-- the test for a form that is used for a text, for display alone or not
+abbrev pub is_used : Bool → Mode → Bool
+is_used display_only Read = true
+is_used display_only Printed = true
+is_used display_only Display = display_only
+
+-- the test for a form that a node of a type, a sub-type and data may have
+abbrev pub matches : Bool → ℕ → ℕ → List ℕ → Form → Bool
+matches display_only kind sub_kind content form =
+    ((form.kind == kind) && ((form.sub_kind == sub_kind) && is_used display_only form.mode))
+    && (nat_le (form.least) (length content) && has_bytes form.when content)
+
+-- the first form that passes a test
+abbrev pub find_form : (Form → Bool) → List Form → Option Form
+find_form test [] = None
+find_form test (form ∷ forms) = if test form then Some form else find_form test forms
+
+-- the test for a field that lies within this many bytes
+abbrev pub is_within : ℕ → Piece → Bool
+is_within size piece = nat_le (piece.place + piece.width) size && fits_shape piece.shape piece.width
+
+-- the test for a form whose fields lie in the fixed part
+abbrev pub is_laid_out : Form → Bool
+is_laid_out form = list_all (is_within (form.least)) form.pieces

@@ -1,0 +1,186 @@
+//! Nodes printed by the table.
+#![tactic(auto, using(uefi_field_texts::proofs::Puts::puts), unfolding(crate::specs::Table::has_form, crate::specs::Table::table_text))]
+
+ghost use Rattle.std.specs.Fmt.{WritesInCalls};
+ghost use Rattle.std.specs.List.{list_all};
+ghost use Rattle.std.specs.Option.{option_map};
+ghost use Rattle.std.specs.Prelude.{◌≡◌, ◌≤◌, [], if◌then◌else◌, IsTrue, length, map, slice_index};
+ghost use Rattle.uefi_text.specs.Packed.{little_endian};
+ghost use Rattle.uefi_node_table.specs.Fields.{field_text, fits_shape};
+ghost use Rattle.uefi_node_table.specs.Rows.{as_form, as_piece, find_form, form_text, has_bytes, is_laid_out, is_used, is_within, matches, piece_text, pieces_text, tail_text};
+ghost use Rattle.uefi_node_table.specs.Table.{forms, has_form, table_text};
+
+use crate::rows::{Mode, Piece, Row, Shape, Tail};
+use crate::table::{GROUPS, group};
+use uefi_field_texts::hexadecimal::{
+    put_back, put_bytes, put_comma_bytes, put_dashed_back, put_decimal, put_hex,
+};
+use uefi_field_texts::sink::TextSink;
+use uefi_field_texts::texts::put_byte_text;
+
+/// The number that bytes encode, the low byte first.
+fn number_of(bytes: &[u8]) -> u64
+    requires { length bytes.now ≤ 8 }
+    ensures { result ≡ little_endian bytes.now }
+{
+    let mut number = 0;
+    for place in 0..bytes.len() {
+        number = number * 256 + u64::from(bytes[bytes.len() - 1 - place]);
+    }
+    number
+}
+
+/// Puts the bytes of a field.
+fn put_value<S: TextSink>(sink: &mut S, shape: Shape, bytes: &[u8])
+    requires { IsTrue (fits_shape shape (length bytes.now)) }
+    ensures { WritesInCalls S.puts sink.old (field_text shape bytes.now) sink.new }
+{
+    match shape {
+        Shape::Hexadecimal => put_hex(sink, "", number_of(bytes)),
+        Shape::Decimal => put_decimal(sink, "", number_of(bytes)),
+        Shape::Back => put_back(sink, "", bytes),
+        Shape::Forth => put_bytes(sink, "", bytes),
+        Shape::Dashed => put_dashed_back(sink, bytes),
+    }
+}
+
+/// Puts a field, and what stands after it.
+fn put_piece<S: TextSink>(sink: &mut S, piece: &Piece, content: &[u8])
+    requires { IsTrue (is_within (length content.now) (as_piece piece.now)) }
+    ensures { WritesInCalls S.puts sink.old (piece_text content.now (as_piece piece.now)) sink.new }
+{
+    let value = &content[piece.place..piece.place + piece.width];
+    put_value(sink, piece.shape, value);
+    sink.put_str(piece.ending);
+}
+
+/// Puts the fields of a form.
+fn put_pieces<S: TextSink>(sink: &mut S, pieces: &[Piece], content: &[u8])
+    requires { IsTrue (list_all (is_within (length content.now)) (map as_piece pieces.now)) }
+    ensures { WritesInCalls S.puts sink.old (pieces_text (map as_piece pieces.now) content.now) sink.new }
+{
+    for piece in pieces {
+        put_piece(sink, piece, content);
+    }
+}
+
+/// Puts the data after the fixed part.
+fn put_tail<S: TextSink>(sink: &mut S, tail: Tail, bytes: &[u8])
+    ensures { WritesInCalls S.puts sink.old (tail_text tail bytes.now) sink.new }
+{
+    match tail {
+        Tail::Nothing => {}
+        Tail::Bytes => put_comma_bytes(sink, bytes),
+        Tail::Text => put_byte_text(sink, "", bytes),
+    }
+}
+
+/// Puts the data of a node in a form.
+fn put_row<S: TextSink>(sink: &mut S, row: &Row, content: &[u8])
+    requires laid_out { IsTrue (is_laid_out (as_form row.now)) }
+    requires long { row.now.least ≤ length content.now }
+    ensures { WritesInCalls S.puts sink.old (form_text (as_form row.now) content.now) sink.new }
+{
+    sink.put_str(row.start);
+    put_pieces(sink, row.pieces, content);
+    put_tail(sink, row.tail, &content[row.least..]);
+    sink.put_str(row.close);
+}
+
+/// The byte at a place, or 0 after the last.
+fn byte_at(content: &[u8], place: usize) -> u8
+    ensures { result ≡ slice_index content.now place }
+{
+    if place < content.len() {
+        return content[place];
+    }
+    0
+}
+
+/// Whether data hold these bytes.
+fn has_bytes(bytes: &[(usize, u8)], content: &[u8]) -> bool
+    ensures { result ≡ has_bytes bytes.now content.now }
+{
+    bytes
+        .iter()
+        .all(|(place, byte)| byte_at(content, *place) == *byte)
+}
+
+/// Whether a form is used for a text.
+fn is_used(mode: Mode, display_only: bool) -> bool
+    ensures { result ≡ is_used display_only mode }
+{
+    match mode {
+        Mode::Read => true,
+        Mode::Printed => true,
+        Mode::Display => display_only,
+    }
+}
+
+/// Whether a node may have a form.
+pub fn matches(row: &Row, display_only: bool, kind: u8, sub_kind: u8, content: &[u8]) -> bool
+    ensures { result ≡ matches display_only kind sub_kind content.now (as_form row.now) }
+{
+    let is_kind = row.kind == kind && row.sub_kind == sub_kind && is_used(row.mode, display_only);
+    is_kind && row.least <= content.len() && has_bytes(row.when, content)
+}
+
+/// The first form of these that a node may have.
+fn find_row<'a>(
+    rows: &'a [Row],
+    display_only: bool,
+    kind: u8,
+    sub_kind: u8,
+    content: &[u8],
+) -> Option<&'a Row>
+    ensures { option_map (λ row. as_form row.now) result
+        ≡ find_form (matches display_only kind sub_kind content.now) (map as_form rows.now) }
+{
+    for row in rows {
+        if matches(row, display_only, kind, sub_kind, content) {
+            return Some(row);
+        }
+    }
+    None
+}
+
+/// The form of the table that a node is printed in.
+fn form_of(display_only: bool, kind: u8, sub_kind: u8, content: &[u8]) -> Option<&'static Row>
+    ensures { option_map (λ row. as_form row.now) result
+        ≡ find_form (matches display_only kind sub_kind content.now) forms }
+{
+    for index in 0..GROUPS {
+        if let Some(row) = find_row(group(index), display_only, kind, sub_kind, content) {
+            return Some(row);
+        }
+    }
+    None
+}
+
+/// Whether a node has a form of the table.
+pub fn has_form(display_only: bool, kind: u8, sub_kind: u8, content: &[u8]) -> bool
+    ensures { result ≡ has_form display_only kind sub_kind content.now }
+{
+    form_of(display_only, kind, sub_kind, content).is_some()
+}
+
+/// Puts a node in its form of the table. Returns whether it has one, and puts nothing where it has none.
+pub fn put_form<S: TextSink>(
+    sink: &mut S,
+    display_only: bool,
+    kind: u8,
+    sub_kind: u8,
+    content: &[u8],
+) -> bool
+    ensures found { result ≡ has_form display_only kind sub_kind content.now }
+    ensures text { WritesInCalls S.puts sink.old
+        (if result then table_text display_only kind sub_kind content.now else []) sink.new }
+{
+    match form_of(display_only, kind, sub_kind, content) {
+        Some(row) => {
+            put_row(sink, row, content);
+            true
+        }
+        None => false,
+    }
+}

@@ -1,0 +1,84 @@
+//! What a row of the table holds: a form of nodes, and where its fields lie.
+#![tactic(auto)]
+
+/// How the bytes of a field stand in a text.
+#[derive(Clone, Copy)]
+pub enum Shape {
+    /// A number, its low byte first, in hexadecimal without zeros at its start.
+    Hexadecimal,
+    /// The same in decimal.
+    Decimal,
+    /// Two digits for each byte, from the last byte to the first.
+    Back,
+    /// The same from the first byte to the last.
+    Forth,
+    /// Two digits for each byte, from the last to the first, with dashes between them.
+    Dashed,
+}
+
+/// A field in the order of the text. `T` is a text that stays as long as the program: no contract can name a
+/// constant whose type has a reference of its own.
+#[derive(Clone, Copy)]
+pub struct PieceOf<T> {
+    /// How it stands in a text.
+    pub shape: Shape,
+    /// Where its first byte lies in the data.
+    pub place: usize,
+    /// How many bytes it has.
+    pub width: usize,
+    /// What stands after it.
+    pub ending: T,
+}
+
+/// What the data hold after the fixed bytes.
+#[derive(Clone, Copy)]
+pub enum Tail {
+    /// Nothing that is printed.
+    Nothing,
+    /// Bytes, which stand as two digits each after a comma, or no bytes and no comma.
+    Bytes,
+    /// A text of bytes.
+    Text,
+}
+
+/// For which texts a form is used.
+#[derive(Clone, Copy)]
+pub enum Mode {
+    /// All texts, and it is read back.
+    Read,
+    /// All texts, and it is not read back.
+    Printed,
+    /// Texts for display alone.
+    Display,
+}
+
+/// A form of the nodes of one kind. A node is printed in the first form of the table that it fits.
+#[derive(Clone, Copy)]
+pub struct RowOf<T, B, P> {
+    /// The type.
+    pub kind: u8,
+    /// The sub-type.
+    pub sub_kind: u8,
+    /// For which texts it is used.
+    pub mode: Mode,
+    /// How many bytes the data have at least: those are their fixed part.
+    pub least: usize,
+    /// Bytes of the fixed part that distinguish this form from others of its kind: where each lies, and what it is.
+    pub when: B,
+    /// Other bytes of the fixed part that are not zero in a node that is read, and lie in no field.
+    pub also: B,
+    /// What the text begins with.
+    pub start: T,
+    /// The fields, in the order of the text.
+    pub pieces: P,
+    /// What the data hold after the fixed part.
+    pub tail: Tail,
+    /// What the text ends with.
+    pub close: T,
+}
+
+/// A field.
+pub type Piece = PieceOf<&'static str>;
+
+/// A form.
+pub type Row = RowOf<&'static str, &'static [(usize, u8)], &'static [Piece]>;

@@ -1,0 +1,292 @@
+//! The table of kinds of nodes (UEFI Specification 2.10, sections 10.3 and 10.6.1): a row for each form in which a node is
+//! printed. A kind whose text a row can say stands here and nowhere else. `specs/Rows.antt` says what a row means.
+#![tactic(auto)]
+
+ghost use Rattle.std.specs.Prelude.{◌≡◌, ◌≤◌, length, map};
+ghost use Rattle.uefi_node_table.specs.Rows.{as_form, const_form};
+ghost use Rattle.uefi_node_table.specs.Table.{group_forms};
+
+use crate::rows::{Mode, PieceOf, Row, RowOf, Shape, Tail};
+
+/// A field of these.
+macro_rules! field {
+    ($shape:ident, $place:expr, $width:expr, $ending:expr) => {
+        PieceOf { shape: Shape::$shape, place: $place, width: $width, ending: $ending }
+    };
+}
+
+/// The fields of a form: a GUID is five of them, and an address of IP four or eight.
+macro_rules! fields {
+    ([$($done:expr),*]) => { &[$($done),*] };
+    ([$($done:expr),*] [Guid $at:literal $ending:literal] $($rest:tt)*) => {
+        fields!([$($done,)* field!(Back, $at, 4, "-"), field!(Back, $at + 4, 2, "-"),
+            field!(Back, $at + 6, 2, "-"), field!(Forth, $at + 8, 2, "-"),
+            field!(Forth, $at + 10, 6, $ending)] $($rest)*)
+    };
+    ([$($done:expr),*] [Ipv4 $at:literal $ending:literal] $($rest:tt)*) => {
+        fields!([$($done,)* field!(Decimal, $at, 1, "."), field!(Decimal, $at + 1, 1, "."),
+            field!(Decimal, $at + 2, 1, "."), field!(Decimal, $at + 3, 1, $ending)] $($rest)*)
+    };
+    ([$($done:expr),*] [Ipv6 $at:literal $ending:literal] $($rest:tt)*) => {
+        fields!([$($done,)* field!(Forth, $at, 2, ":"), field!(Forth, $at + 2, 2, ":"),
+            field!(Forth, $at + 4, 2, ":"), field!(Forth, $at + 6, 2, ":"),
+            field!(Forth, $at + 8, 2, ":"), field!(Forth, $at + 10, 2, ":"),
+            field!(Forth, $at + 12, 2, ":"), field!(Forth, $at + 14, 2, $ending)] $($rest)*)
+    };
+    ([$($done:expr),*] [$shape:ident $at:literal $width:literal $ending:literal] $($rest:tt)*) => {
+        fields!([$($done,)* field!($shape, $at, $width, $ending)] $($rest)*)
+    };
+}
+
+/// A form of these.
+macro_rules! row {
+    ($kind:literal $sub_kind:literal $mode:ident $least:literal [$($at:literal = $byte:literal),*]
+        [$($too:literal = $other:literal),*] $start:literal $([$($field:tt)*])* $tail:ident $close:literal) => {
+        RowOf {
+            kind: $kind,
+            sub_kind: $sub_kind,
+            mode: Mode::$mode,
+            least: $least,
+            when: &[$(($at, $byte)),*],
+            also: &[$(($too, $other)),*],
+            start: $start,
+            pieces: fields!([] $([$($field)*])*),
+            tail: Tail::$tail,
+            close: $close,
+        }
+    };
+}
+
+/// Nodes of type Hardware.
+#[rattlefmt::skip]
+const HARDWARE: &[Row] = &[
+    row!(1 1 Read 2 [] [] "Pci(0x" [Hexadecimal 1 1 ",0x"] [Hexadecimal 0 1 ")"] Nothing ""),
+    row!(1 2 Read 1 [] [] "PcCard(0x" [Hexadecimal 0 1 ")"] Nothing ""),
+    row!(1 3 Read 20 [] [] "MemoryMapped(0x" [Hexadecimal 0 4 ",0x"] [Hexadecimal 4 8 ",0x"] [Hexadecimal 12 8 ")"] Nothing ""),
+    row!(1 4 Read 16 [] [] "VenHw(" [Guid 0 ""] Bytes ")"),
+    row!(1 5 Read 4 [] [] "Ctrl(0x" [Hexadecimal 0 4 ")"] Nothing ""),
+    row!(1 6 Read 9 [] [] "BMC(0x" [Hexadecimal 0 1 ",0x"] [Hexadecimal 1 8 ")"] Nothing ""),
+];
+
+/// Nodes of type ACPI that name a device by two numbers.
+#[rattlefmt::skip]
+const ACPI: &[Row] = &[
+    row!(2 1 Read 8 [0 = 0xd0, 1 = 0x41, 2 = 0x03, 3 = 0x0a] [] "PciRoot(0x" [Hexadecimal 4 4 ")"] Nothing ""),
+    row!(2 1 Read 8 [0 = 0xd0, 1 = 0x41, 2 = 0x08, 3 = 0x0a] [] "PcieRoot(0x" [Hexadecimal 4 4 ")"] Nothing ""),
+    row!(2 1 Read 8 [0 = 0xd0, 1 = 0x41, 2 = 0x04, 3 = 0x06] [] "Floppy(0x" [Hexadecimal 4 4 ")"] Nothing ""),
+    row!(2 1 Read 8 [0 = 0xd0, 1 = 0x41, 2 = 0x01, 3 = 0x03] [] "Keyboard(0x" [Hexadecimal 4 4 ")"] Nothing ""),
+    row!(2 1 Read 8 [0 = 0xd0, 1 = 0x41, 2 = 0x01, 3 = 0x05] [] "Serial(0x" [Hexadecimal 4 4 ")"] Nothing ""),
+    row!(2 1 Read 8 [0 = 0xd0, 1 = 0x41, 2 = 0x01, 3 = 0x04] [] "ParallelPort(0x" [Hexadecimal 4 4 ")"] Nothing ""),
+    row!(2 1 Read 8 [0 = 0xd0, 1 = 0x41] [] "Acpi(PNP" [Back 2 2 ",0x"] [Hexadecimal 4 4 ")"] Nothing ""),
+    row!(2 1 Read 8 [] [] "Acpi(0x" [Back 0 4 ",0x"] [Hexadecimal 4 4 ")"] Nothing ""),
+];
+
+/// Nodes of type Messaging, but for those below.
+#[rattlefmt::skip]
+const MESSAGING: &[Row] = &[
+    row!(3 1 Display 4 [] [] "Ata(0x" [Hexadecimal 2 2 ")"] Nothing ""),
+    row!(3 1 Read 4 [0 = 0x01, 1 = 0x01] [] "Ata(Secondary,Slave,0x" [Hexadecimal 2 2 ")"] Nothing ""),
+    row!(3 1 Read 4 [0 = 0x01] [] "Ata(Secondary,Master,0x" [Hexadecimal 2 2 ")"] Nothing ""),
+    row!(3 1 Read 4 [1 = 0x01] [] "Ata(Primary,Slave,0x" [Hexadecimal 2 2 ")"] Nothing ""),
+    row!(3 1 Read 4 [] [] "Ata(Primary,Master,0x" [Hexadecimal 2 2 ")"] Nothing ""),
+    row!(3 2 Read 4 [] [] "Scsi(0x" [Hexadecimal 0 2 ",0x"] [Hexadecimal 2 2 ")"] Nothing ""),
+    row!(3 3 Read 20 [] [] "Fibre(0x" [Hexadecimal 4 8 ",0x"] [Hexadecimal 12 8 ")"] Nothing ""),
+    row!(3 4 Read 12 [] [] "I1394(" [Back 4 8 ")"] Nothing ""),
+    row!(3 5 Read 2 [] [] "USB(0x" [Hexadecimal 0 1 ",0x"] [Hexadecimal 1 1 ")"] Nothing ""),
+    row!(3 6 Read 4 [] [] "I2O(0x" [Hexadecimal 0 4 ")"] Nothing ""),
+    row!(3 9 Read 44 [] [] "Infiniband(0x" [Hexadecimal 0 4 ","] [Guid 4 ",0x"] [Hexadecimal 20 8 ",0x"] [Hexadecimal 28 8 ",0x"] [Hexadecimal 36 8 ")"] Nothing ""),
+    row!(3 10 Read 20 [0 = 0x9d, 1 = 0x9a, 2 = 0x49, 3 = 0x37, 4 = 0x2f, 5 = 0x54, 6 = 0x89, 7 = 0x4c, 8 = 0xa0, 9 = 0x26, 10 = 0x35, 11 = 0xda, 12 = 0x14, 13 = 0x20, 14 = 0x94, 15 = 0xe4, 16 = 0x00, 17 = 0x00, 18 = 0x00, 19 = 0x00] [] "UartFlowCtrl(None)" Nothing ""),
+    row!(3 10 Read 20 [0 = 0x9d, 1 = 0x9a, 2 = 0x49, 3 = 0x37, 4 = 0x2f, 5 = 0x54, 6 = 0x89, 7 = 0x4c, 8 = 0xa0, 9 = 0x26, 10 = 0x35, 11 = 0xda, 12 = 0x14, 13 = 0x20, 14 = 0x94, 15 = 0xe4, 16 = 0x01, 17 = 0x00, 18 = 0x00, 19 = 0x00] [] "UartFlowCtrl(Hardware)" Nothing ""),
+    row!(3 10 Read 20 [0 = 0x9d, 1 = 0x9a, 2 = 0x49, 3 = 0x37, 4 = 0x2f, 5 = 0x54, 6 = 0x89, 7 = 0x4c, 8 = 0xa0, 9 = 0x26, 10 = 0x35, 11 = 0xda, 12 = 0x14, 13 = 0x20, 14 = 0x94, 15 = 0xe4, 16 = 0x02, 17 = 0x00, 18 = 0x00, 19 = 0x00] [] "UartFlowCtrl(XonXoff)" Nothing ""),
+    row!(3 10 Read 16 [] [] "VenMsg(" [Guid 0 ""] Bytes ")"),
+    row!(3 11 Read 33 [32 = 0x00] [] "MAC(" [Forth 0 6 ",0x0)"] Nothing ""),
+    row!(3 11 Read 33 [32 = 0x01] [] "MAC(" [Forth 0 6 ",0x1)"] Nothing ""),
+    row!(3 11 Printed 33 [] [] "MAC(" [Forth 0 32 ",0x"] [Hexadecimal 32 1 ")"] Nothing ""),
+    row!(3 17 Read 1 [] [] "Unit(0x" [Hexadecimal 0 1 ")"] Nothing ""),
+    row!(3 18 Read 6 [] [] "Sata(0x" [Hexadecimal 0 2 ",0x"] [Hexadecimal 2 2 ",0x"] [Hexadecimal 4 2 ")"] Nothing ""),
+    row!(3 20 Read 2 [] [] "Vlan(" [Decimal 0 2 ")"] Nothing ""),
+    row!(3 21 Read 20 [] [] "FibreEx(0x" [Forth 4 8 ",0x"] [Forth 12 8 ")"] Nothing ""),
+    row!(3 23 Read 12 [] [] "NVMe(0x" [Hexadecimal 0 4 ","] [Dashed 4 8 ")"] Nothing ""),
+    row!(3 24 Printed 0 [] [] "Uri(" Text ")"),
+    row!(3 25 Read 2 [] [] "UFS(0x" [Hexadecimal 0 1 ",0x"] [Hexadecimal 1 1 ")"] Nothing ""),
+    row!(3 26 Read 1 [] [] "SD(0x" [Hexadecimal 0 1 ")"] Nothing ""),
+    row!(3 27 Read 6 [] [] "Bluetooth(" [Forth 0 6 ")"] Nothing ""),
+    row!(3 29 Read 1 [] [] "eMMC(0x" [Hexadecimal 0 1 ")"] Nothing ""),
+    row!(3 30 Read 7 [] [] "BluetoothLE(" [Forth 0 6 ",0x"] [Forth 6 1 ")"] Nothing ""),
+];
+
+/// Connections over IP version 4, with a gateway and a mask and without.
+#[rattlefmt::skip]
+const IPV4: &[Row] = &[
+    row!(3 12 Display 15 [] [] "IPv4(" [Ipv4 4 ")"] Nothing ""),
+    row!(3 12 Read 23 [12 = 0x06, 13 = 0x00, 14 = 0x00] [] "IPv4(" [Ipv4 4 ",TCP,DHCP,"] [Ipv4 0 ","] [Ipv4 15 ","] [Ipv4 19 ")"] Nothing ""),
+    row!(3 12 Read 23 [12 = 0x06, 13 = 0x00] [14 = 0x01] "IPv4(" [Ipv4 4 ",TCP,Static,"] [Ipv4 0 ","] [Ipv4 15 ","] [Ipv4 19 ")"] Nothing ""),
+    row!(3 12 Read 23 [12 = 0x11, 13 = 0x00, 14 = 0x00] [] "IPv4(" [Ipv4 4 ",UDP,DHCP,"] [Ipv4 0 ","] [Ipv4 15 ","] [Ipv4 19 ")"] Nothing ""),
+    row!(3 12 Read 23 [12 = 0x11, 13 = 0x00] [14 = 0x01] "IPv4(" [Ipv4 4 ",UDP,Static,"] [Ipv4 0 ","] [Ipv4 15 ","] [Ipv4 19 ")"] Nothing ""),
+    row!(3 12 Read 23 [14 = 0x00] [] "IPv4(" [Ipv4 4 ",0x"] [Hexadecimal 12 2 ",DHCP,"] [Ipv4 0 ","] [Ipv4 15 ","] [Ipv4 19 ")"] Nothing ""),
+    row!(3 12 Read 23 [] [14 = 0x01] "IPv4(" [Ipv4 4 ",0x"] [Hexadecimal 12 2 ",Static,"] [Ipv4 0 ","] [Ipv4 15 ","] [Ipv4 19 ")"] Nothing ""),
+    row!(3 12 Read 15 [12 = 0x06, 13 = 0x00, 14 = 0x00] [] "IPv4(" [Ipv4 4 ",TCP,DHCP,"] [Ipv4 0 ")"] Nothing ""),
+    row!(3 12 Read 15 [12 = 0x06, 13 = 0x00] [14 = 0x01] "IPv4(" [Ipv4 4 ",TCP,Static,"] [Ipv4 0 ")"] Nothing ""),
+    row!(3 12 Read 15 [12 = 0x11, 13 = 0x00, 14 = 0x00] [] "IPv4(" [Ipv4 4 ",UDP,DHCP,"] [Ipv4 0 ")"] Nothing ""),
+    row!(3 12 Read 15 [12 = 0x11, 13 = 0x00] [14 = 0x01] "IPv4(" [Ipv4 4 ",UDP,Static,"] [Ipv4 0 ")"] Nothing ""),
+    row!(3 12 Read 15 [14 = 0x00] [] "IPv4(" [Ipv4 4 ",0x"] [Hexadecimal 12 2 ",DHCP,"] [Ipv4 0 ")"] Nothing ""),
+    row!(3 12 Read 15 [] [14 = 0x01] "IPv4(" [Ipv4 4 ",0x"] [Hexadecimal 12 2 ",Static,"] [Ipv4 0 ")"] Nothing ""),
+];
+
+/// Connections over IP version 6, with a prefix and a gateway.
+#[rattlefmt::skip]
+const IPV6: &[Row] = &[
+    row!(3 13 Display 39 [] [] "IPv6(" [Ipv6 16 ")"] Nothing ""),
+    row!(3 13 Read 56 [36 = 0x06, 37 = 0x00, 38 = 0x00] [] "IPv6(" [Ipv6 16 ",TCP,Static,"] [Ipv6 0 ",0x"] [Hexadecimal 39 1 ","] [Ipv6 40 ")"] Nothing ""),
+    row!(3 13 Read 56 [36 = 0x06, 37 = 0x00, 38 = 0x01] [] "IPv6(" [Ipv6 16 ",TCP,StatelessAutoConfigure,"] [Ipv6 0 ",0x"] [Hexadecimal 39 1 ","] [Ipv6 40 ")"] Nothing ""),
+    row!(3 13 Read 56 [36 = 0x06, 37 = 0x00] [38 = 0x02] "IPv6(" [Ipv6 16 ",TCP,StatefulAutoConfigure,"] [Ipv6 0 ",0x"] [Hexadecimal 39 1 ","] [Ipv6 40 ")"] Nothing ""),
+    row!(3 13 Read 56 [36 = 0x11, 37 = 0x00, 38 = 0x00] [] "IPv6(" [Ipv6 16 ",UDP,Static,"] [Ipv6 0 ",0x"] [Hexadecimal 39 1 ","] [Ipv6 40 ")"] Nothing ""),
+    row!(3 13 Read 56 [36 = 0x11, 37 = 0x00, 38 = 0x01] [] "IPv6(" [Ipv6 16 ",UDP,StatelessAutoConfigure,"] [Ipv6 0 ",0x"] [Hexadecimal 39 1 ","] [Ipv6 40 ")"] Nothing ""),
+    row!(3 13 Read 56 [36 = 0x11, 37 = 0x00] [38 = 0x02] "IPv6(" [Ipv6 16 ",UDP,StatefulAutoConfigure,"] [Ipv6 0 ",0x"] [Hexadecimal 39 1 ","] [Ipv6 40 ")"] Nothing ""),
+    row!(3 13 Read 56 [38 = 0x00] [] "IPv6(" [Ipv6 16 ",0x"] [Hexadecimal 36 2 ",Static,"] [Ipv6 0 ",0x"] [Hexadecimal 39 1 ","] [Ipv6 40 ")"] Nothing ""),
+    row!(3 13 Read 56 [38 = 0x01] [] "IPv6(" [Ipv6 16 ",0x"] [Hexadecimal 36 2 ",StatelessAutoConfigure,"] [Ipv6 0 ",0x"] [Hexadecimal 39 1 ","] [Ipv6 40 ")"] Nothing ""),
+    row!(3 13 Read 56 [] [38 = 0x02] "IPv6(" [Ipv6 16 ",0x"] [Hexadecimal 36 2 ",StatefulAutoConfigure,"] [Ipv6 0 ",0x"] [Hexadecimal 39 1 ","] [Ipv6 40 ")"] Nothing ""),
+];
+
+/// Connections over IP version 6 of older nodes, without these.
+#[rattlefmt::skip]
+const IPV6_SHORT: &[Row] = &[
+    row!(3 13 Read 39 [36 = 0x06, 37 = 0x00, 38 = 0x00] [] "IPv6(" [Ipv6 16 ",TCP,Static,"] [Ipv6 0 ")"] Nothing ""),
+    row!(3 13 Read 39 [36 = 0x06, 37 = 0x00, 38 = 0x01] [] "IPv6(" [Ipv6 16 ",TCP,StatelessAutoConfigure,"] [Ipv6 0 ")"] Nothing ""),
+    row!(3 13 Read 39 [36 = 0x06, 37 = 0x00] [38 = 0x02] "IPv6(" [Ipv6 16 ",TCP,StatefulAutoConfigure,"] [Ipv6 0 ")"] Nothing ""),
+    row!(3 13 Read 39 [36 = 0x11, 37 = 0x00, 38 = 0x00] [] "IPv6(" [Ipv6 16 ",UDP,Static,"] [Ipv6 0 ")"] Nothing ""),
+    row!(3 13 Read 39 [36 = 0x11, 37 = 0x00, 38 = 0x01] [] "IPv6(" [Ipv6 16 ",UDP,StatelessAutoConfigure,"] [Ipv6 0 ")"] Nothing ""),
+    row!(3 13 Read 39 [36 = 0x11, 37 = 0x00] [38 = 0x02] "IPv6(" [Ipv6 16 ",UDP,StatefulAutoConfigure,"] [Ipv6 0 ")"] Nothing ""),
+    row!(3 13 Read 39 [38 = 0x00] [] "IPv6(" [Ipv6 16 ",0x"] [Hexadecimal 36 2 ",Static,"] [Ipv6 0 ")"] Nothing ""),
+    row!(3 13 Read 39 [38 = 0x01] [] "IPv6(" [Ipv6 16 ",0x"] [Hexadecimal 36 2 ",StatelessAutoConfigure,"] [Ipv6 0 ")"] Nothing ""),
+    row!(3 13 Read 39 [] [38 = 0x02] "IPv6(" [Ipv6 16 ",0x"] [Hexadecimal 36 2 ",StatefulAutoConfigure,"] [Ipv6 0 ")"] Nothing ""),
+];
+
+/// Classes of USB devices.
+#[rattlefmt::skip]
+const USB_CLASSES: &[Row] = &[
+    row!(3 15 Read 7 [4 = 0x01] [] "UsbAudio(0x" [Hexadecimal 0 2 ",0x"] [Hexadecimal 2 2 ",0x"] [Hexadecimal 5 1 ",0x"] [Hexadecimal 6 1 ")"] Nothing ""),
+    row!(3 15 Read 7 [4 = 0x02] [] "UsbCDCControl(0x" [Hexadecimal 0 2 ",0x"] [Hexadecimal 2 2 ",0x"] [Hexadecimal 5 1 ",0x"] [Hexadecimal 6 1 ")"] Nothing ""),
+    row!(3 15 Read 7 [4 = 0x03] [] "UsbHID(0x" [Hexadecimal 0 2 ",0x"] [Hexadecimal 2 2 ",0x"] [Hexadecimal 5 1 ",0x"] [Hexadecimal 6 1 ")"] Nothing ""),
+    row!(3 15 Read 7 [4 = 0x06] [] "UsbImage(0x" [Hexadecimal 0 2 ",0x"] [Hexadecimal 2 2 ",0x"] [Hexadecimal 5 1 ",0x"] [Hexadecimal 6 1 ")"] Nothing ""),
+    row!(3 15 Read 7 [4 = 0x07] [] "UsbPrinter(0x" [Hexadecimal 0 2 ",0x"] [Hexadecimal 2 2 ",0x"] [Hexadecimal 5 1 ",0x"] [Hexadecimal 6 1 ")"] Nothing ""),
+    row!(3 15 Read 7 [4 = 0x08] [] "UsbMassStorage(0x" [Hexadecimal 0 2 ",0x"] [Hexadecimal 2 2 ",0x"] [Hexadecimal 5 1 ",0x"] [Hexadecimal 6 1 ")"] Nothing ""),
+    row!(3 15 Read 7 [4 = 0x09] [] "UsbHub(0x" [Hexadecimal 0 2 ",0x"] [Hexadecimal 2 2 ",0x"] [Hexadecimal 5 1 ",0x"] [Hexadecimal 6 1 ")"] Nothing ""),
+    row!(3 15 Read 7 [4 = 0x0a] [] "UsbCDCData(0x" [Hexadecimal 0 2 ",0x"] [Hexadecimal 2 2 ",0x"] [Hexadecimal 5 1 ",0x"] [Hexadecimal 6 1 ")"] Nothing ""),
+    row!(3 15 Read 7 [4 = 0x0b] [] "UsbSmartCard(0x" [Hexadecimal 0 2 ",0x"] [Hexadecimal 2 2 ",0x"] [Hexadecimal 5 1 ",0x"] [Hexadecimal 6 1 ")"] Nothing ""),
+    row!(3 15 Read 7 [4 = 0x0e] [] "UsbVideo(0x" [Hexadecimal 0 2 ",0x"] [Hexadecimal 2 2 ",0x"] [Hexadecimal 5 1 ",0x"] [Hexadecimal 6 1 ")"] Nothing ""),
+    row!(3 15 Read 7 [4 = 0xdc] [] "UsbDiagnostic(0x" [Hexadecimal 0 2 ",0x"] [Hexadecimal 2 2 ",0x"] [Hexadecimal 5 1 ",0x"] [Hexadecimal 6 1 ")"] Nothing ""),
+    row!(3 15 Read 7 [4 = 0xe0] [] "UsbWireless(0x" [Hexadecimal 0 2 ",0x"] [Hexadecimal 2 2 ",0x"] [Hexadecimal 5 1 ",0x"] [Hexadecimal 6 1 ")"] Nothing ""),
+    row!(3 15 Read 7 [4 = 0xfe, 5 = 0x01] [] "UsbDeviceFirmwareUpdate(0x" [Hexadecimal 0 2 ",0x"] [Hexadecimal 2 2 ",0x"] [Hexadecimal 6 1 ")"] Nothing ""),
+    row!(3 15 Read 7 [4 = 0xfe, 5 = 0x02] [] "UsbIrdaBridge(0x" [Hexadecimal 0 2 ",0x"] [Hexadecimal 2 2 ",0x"] [Hexadecimal 6 1 ")"] Nothing ""),
+    row!(3 15 Read 7 [4 = 0xfe, 5 = 0x03] [] "UsbTestAndMeasurement(0x" [Hexadecimal 0 2 ",0x"] [Hexadecimal 2 2 ",0x"] [Hexadecimal 6 1 ")"] Nothing ""),
+    row!(3 15 Read 7 [] [] "UsbClass(0x" [Hexadecimal 0 2 ",0x"] [Hexadecimal 2 2 ",0x"] [Hexadecimal 4 1 ",0x"] [Hexadecimal 5 1 ",0x"] [Hexadecimal 6 1 ")"] Nothing ""),
+];
+
+/// Nodes of type Media, but for those that name files.
+#[rattlefmt::skip]
+const MEDIA: &[Row] = &[
+    row!(4 1 Read 38 [37 = 0x01] [36 = 0x01] "HD(" [Decimal 0 4 ",MBR,0x"] [Back 20 4 ",0x"] [Hexadecimal 4 8 ",0x"] [Hexadecimal 12 8 ")"] Nothing ""),
+    row!(4 1 Read 38 [37 = 0x02] [36 = 0x02] "HD(" [Decimal 0 4 ",GPT,"] [Guid 20 ",0x"] [Hexadecimal 4 8 ",0x"] [Hexadecimal 12 8 ")"] Nothing ""),
+    row!(4 1 Printed 38 [] [] "HD(" [Decimal 0 4 ","] [Decimal 37 1 ",0,0x"] [Hexadecimal 4 8 ",0x"] [Hexadecimal 12 8 ")"] Nothing ""),
+    row!(4 2 Display 20 [] [] "CDROM(0x" [Hexadecimal 0 4 ")"] Nothing ""),
+    row!(4 2 Read 20 [] [] "CDROM(0x" [Hexadecimal 0 4 ",0x"] [Hexadecimal 4 8 ",0x"] [Hexadecimal 12 8 ")"] Nothing ""),
+    row!(4 3 Read 16 [] [] "VenMedia(" [Guid 0 ""] Bytes ")"),
+    row!(4 5 Read 16 [] [] "Media(" [Guid 0 ")"] Nothing ""),
+    row!(4 6 Read 16 [] [] "FvFile(" [Guid 0 ")"] Nothing ""),
+    row!(4 7 Read 16 [] [] "Fv(" [Guid 0 ")"] Nothing ""),
+    row!(4 8 Read 20 [] [] "Offset(0x" [Hexadecimal 4 8 ",0x"] [Hexadecimal 12 8 ")"] Nothing ""),
+    row!(4 9 Read 34 [16 = 0x5a, 17 = 0x53, 18 = 0xab, 19 = 0x77, 20 = 0xfc, 21 = 0x45, 22 = 0x4b, 23 = 0x62, 24 = 0x55, 25 = 0x60, 26 = 0xf7, 27 = 0xb2, 28 = 0x81, 29 = 0xd1, 30 = 0xf9, 31 = 0x6e] [] "VirtualDisk(0x" [Hexadecimal 0 8 ",0x"] [Hexadecimal 8 8 ","] [Decimal 32 2 ")"] Nothing ""),
+    row!(4 9 Read 34 [16 = 0x30, 17 = 0xbd, 18 = 0x5a, 19 = 0x3d, 20 = 0x75, 21 = 0x41, 22 = 0xce, 23 = 0x87, 24 = 0x6d, 25 = 0x64, 26 = 0xd2, 27 = 0xad, 28 = 0xe5, 29 = 0x23, 30 = 0xc4, 31 = 0xbb] [] "VirtualCD(0x" [Hexadecimal 0 8 ",0x"] [Hexadecimal 8 8 ","] [Decimal 32 2 ")"] Nothing ""),
+    row!(4 9 Read 34 [16 = 0xc9, 17 = 0x02, 18 = 0xea, 19 = 0x5c, 20 = 0x07, 21 = 0x4d, 22 = 0xd3, 23 = 0x69, 24 = 0x26, 25 = 0x9f, 26 = 0x44, 27 = 0x96, 28 = 0xfb, 29 = 0xe0, 30 = 0x96, 31 = 0xf9] [] "PersistentVirtualDisk(0x" [Hexadecimal 0 8 ",0x"] [Hexadecimal 8 8 ","] [Decimal 32 2 ")"] Nothing ""),
+    row!(4 9 Read 34 [16 = 0x88, 17 = 0x81, 18 = 0x01, 19 = 0x08, 20 = 0xcd, 21 = 0x42, 22 = 0x48, 23 = 0xbb, 24 = 0x10, 25 = 0x0f, 26 = 0x53, 27 = 0x87, 28 = 0xd5, 29 = 0x3d, 30 = 0xed, 31 = 0x3d] [] "PersistentVirtualCD(0x" [Hexadecimal 0 8 ",0x"] [Hexadecimal 8 8 ","] [Decimal 32 2 ")"] Nothing ""),
+    row!(4 9 Read 34 [] [] "RamDisk(0x" [Hexadecimal 0 8 ",0x"] [Hexadecimal 8 8 ","] [Decimal 32 2 ","] [Guid 16 ")"] Nothing ""),
+];
+
+/// How many groups of forms there are.
+pub const GROUPS: usize = 8;
+
+/// The forms of [`HARDWARE`].
+///
+/// Each constant has a function of its own, since one that names them all is too large to check.
+fn hardware() -> &'static [Row]
+    ensures forms { map as_form result.now ≡ map const_form HARDWARE.now }
+    ensures few { length result.now ≤ 1000 }
+{
+    HARDWARE
+}
+
+/// The forms of [`ACPI`].
+fn acpi() -> &'static [Row]
+    ensures forms { map as_form result.now ≡ map const_form ACPI.now }
+    ensures few { length result.now ≤ 1000 }
+{
+    ACPI
+}
+
+/// The forms of [`MESSAGING`].
+fn messaging() -> &'static [Row]
+    ensures forms { map as_form result.now ≡ map const_form MESSAGING.now }
+    ensures few { length result.now ≤ 1000 }
+{
+    MESSAGING
+}
+
+/// The forms of [`IPV4`].
+fn ipv4() -> &'static [Row]
+    ensures forms { map as_form result.now ≡ map const_form IPV4.now }
+    ensures few { length result.now ≤ 1000 }
+{
+    IPV4
+}
+
+/// The forms of [`IPV6`].
+fn ipv6() -> &'static [Row]
+    ensures forms { map as_form result.now ≡ map const_form IPV6.now }
+    ensures few { length result.now ≤ 1000 }
+{
+    IPV6
+}
+
+/// The forms of [`IPV6_SHORT`].
+fn ipv6_short() -> &'static [Row]
+    ensures forms { map as_form result.now ≡ map const_form IPV6_SHORT.now }
+    ensures few { length result.now ≤ 1000 }
+{
+    IPV6_SHORT
+}
+
+/// The forms of [`USB_CLASSES`].
+fn usb_classes() -> &'static [Row]
+    ensures forms { map as_form result.now ≡ map const_form USB_CLASSES.now }
+    ensures few { length result.now ≤ 1000 }
+{
+    USB_CLASSES
+}
+
+/// The forms of [`MEDIA`].
+fn media() -> &'static [Row]
+    ensures forms { map as_form result.now ≡ map const_form MEDIA.now }
+    ensures few { length result.now ≤ 1000 }
+{
+    MEDIA
+}
+
+/// The forms of a group.
+#[tactic(auto, unfolding(crate::specs::Table::group_forms))]
+pub fn group(index: usize) -> &'static [Row]
+    ensures forms { map as_form result.now ≡ group_forms index }
+    ensures few { length result.now ≤ 1000 }
+{
+    match index {
+        0 => hardware(),
+        1 => acpi(),
+        2 => messaging(),
+        3 => ipv4(),
+        4 => ipv6(),
+        5 => ipv6_short(),
+        6 => usb_classes(),
+        7 => media(),
+        _ => &[],
+    }
+}
