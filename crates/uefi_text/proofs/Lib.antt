@@ -15,3 +15,4 @@ pub mod Values
 pub mod Items
 pub mod Runs
 pub mod PackedStrings
+pub mod Caseless

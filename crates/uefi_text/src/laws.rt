@@ -1,5 +1,6 @@
 //! The laws by which users of strings reason. They speak of the definitions that the contracts of
 //! the working calls cite. Each law is a function that does nothing: its contract is the law.
+ghost use Rattle.uefi_text.specs.CaseLaws.{AsciiCase, AsciiSameWithoutCase, CaselessIsEquivalence, CaselessOrderIsTotal, CaselessWhereSame, LowerOfUpper, LowerOnce, SameWithoutCase, TiesWithoutCase, UpperOfLower, UpperOnce};
 ghost use Rattle.uefi_text.specs.Laws.{AcceptedWhereEncoded, EncodeOneText, EncodedOnce, TextWhereUnrefused, TextsAreCharacters, TextsAreEncoded};
 
 /// Every text is encoded by exactly one list of bytes, no bytes encode two texts, and bytes are accepted
@@ -16,4 +17,28 @@ pub fn bytes_once()
 pub fn text_once()
     ensures unrefused { TextWhereUnrefused }
     ensures characters { TextsAreCharacters }
+{}
+
+/// Each case is reached at once, and is the same whichever case a unit had before.
+pub fn case_once()
+    ensures upper { UpperOnce }
+    ensures lower { LowerOnce }
+    ensures upper_of_lower { UpperOfLower }
+    ensures lower_of_upper { LowerOfUpper }
+{}
+
+/// `eq_ignore_case` is an equivalence that holds of equal texts, and `cmp_ignore_case` a total order that says
+/// `Equal` exactly where it holds.
+pub fn caseless()
+    ensures equivalence { CaselessIsEquivalence }
+    ensures same { CaselessWhereSame }
+    ensures equal { SameWithoutCase }
+    ensures total { CaselessOrderIsTotal }
+    ensures ties { TiesWithoutCase }
+{}
+
+/// The case of ASCII is the usual one: there `eq_ignore_case` is std's `eq_ignore_ascii_case`.
+pub fn ascii_case()
+    ensures units { AsciiCase }
+    ensures same { AsciiSameWithoutCase }
 {}

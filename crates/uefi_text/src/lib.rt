@@ -27,6 +27,7 @@
 //! `items_of` it. No clause outside this crate speaks of a NUL's place, of a buffer or of a capacity.
 #![tactic(auto)]
 
+pub mod case;
 pub mod char_sink;
 pub mod chars;
 mod code_units;
