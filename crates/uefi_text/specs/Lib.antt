@@ -15,6 +15,9 @@ pub mod PackedLaws
 pub mod EqStrUntilNul
 pub mod Laws
 pub mod CaseLaws
+pub mod Patterns
+pub mod PatternParts
+pub mod PatternLaws
 pub mod PackedStrings
 pub mod Runs
 pub mod Views

@@ -1,6 +1,7 @@
 //! The laws by which users of strings reason. They speak of the definitions that the contracts of
 //! the working calls cite. Each law is a function that does nothing: its contract is the law.
 ghost use Rattle.uefi_text.specs.CaseLaws.{AsciiCase, AsciiSameWithoutCase, CaselessIsEquivalence, CaselessOrderIsTotal, CaselessWhereSame, LowerOfUpper, LowerOnce, SameWithoutCase, TiesWithoutCase, UpperOfLower, UpperOnce};
+ghost use Rattle.uefi_text.specs.PatternLaws.{AnyUnits, CaseIsIgnored, ItselfAlone, NothingAlone, OneOfSet, OneUnit, OpenSet, PlainIsSame};
 ghost use Rattle.uefi_text.specs.Laws.{AcceptedWhereEncoded, EncodeOneText, EncodedOnce, TextWhereUnrefused, TextsAreCharacters, TextsAreEncoded};
 
 /// Every text is encoded by exactly one list of bytes, no bytes encode two texts, and bytes are accepted
@@ -41,4 +42,21 @@ pub fn caseless()
 pub fn ascii_case()
     ensures units { AsciiCase }
     ensures same { AsciiSameWithoutCase }
+{}
+
+/// What a pattern matches, by the way that it begins.
+pub fn pattern_rules()
+    ensures nothing { NothingAlone }
+    ensures any { AnyUnits }
+    ensures one { OneUnit }
+    ensures set { OneOfSet }
+    ensures open_set { OpenSet }
+    ensures itself { ItselfAlone }
+{}
+
+/// The case of a text does not matter, and a pattern without `*`, `?` and `[` matches exactly the texts that are the
+/// same without case.
+pub fn patterns_without_case()
+    ensures plain { PlainIsSame }
+    ensures case { CaseIsIgnored }
 {}

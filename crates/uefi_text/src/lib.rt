@@ -38,8 +38,10 @@ pub mod laws;
 pub mod owned_strs;
 mod packed;
 mod packed_strings;
+pub mod patterns;
 #[doc(hidden)]
 pub mod scans;
+pub mod steps;
 pub mod strs;
 pub mod unaligned_slice;
 mod utf8;
