@@ -14,3 +14,6 @@ pub mod NormalForms
 pub mod CutPieces
 pub mod NamesLeft
 pub mod Climbing
+pub mod WithoutCase
+pub mod FileNames
+pub mod Ancestors

@@ -35,8 +35,11 @@
 //! separators: no clause outside speaks of one.
 #![tactic(auto)]
 
+mod ancestors;
+mod caseless;
 mod components;
 mod counted;
+mod file_names;
 mod kinds;
 pub mod laws;
 mod names;
@@ -50,6 +53,7 @@ mod tails;
 mod validation;
 mod written;
 
+pub use ancestors::Ancestors;
 pub use components::Components;
 pub use counted::CountedUnits;
 pub use normal::NormalizeError;

@@ -4,6 +4,7 @@
 ghost use Rattle.std.specs.Prelude.{◌≡◌, ℕ, ◌+◌, ◌<◌, ◌^◌, ◌↔◌, [], ◌∷◌, ◌++◌, All, List, None, length, option_map, IfSome, IsSome, IsTrue};
 ghost use Rattle.std.specs.List.{last_or};
 ghost use Rattle.uefi_path.specs.Components.{AreComponents, StartsWith, components_of};
+ghost use Rattle.uefi_path.specs.FileNames.{EndsWith};
 ghost use Rattle.uefi_path.specs.Separators.{canonical, separator};
 ghost use Rattle.uefi_text.specs.Runs.{GivesEach};
 ghost use Rattle.uefi_text.specs.Units.{IsText};
@@ -95,6 +96,15 @@ impl<'a> Path<'a> {
         ensures no_nul { IfSome result (λ rest. GivesNoNulIn rest) }
     {
         self.components().strip(base.components())
+    }
+
+    /// Whether the components of this path end with those of another. So `\a\bc` ends with `bc` and with `a\bc`, and not
+    /// with `c`; and every path ends with the empty one. Takes no memory; at most one pass over each, from the end, which
+    /// stops at the first components that differ.
+    pub fn ends_with(&self, child: Path<'_>) -> bool
+        ensures { IsTrue result ↔ EndsWith (path_text self.now) (path_text child.entry) }
+    {
+        self.components().end_with(child.components())
     }
 
     /// Whether the text is empty. A lone separator is not, though it equals the empty path.
