@@ -21,6 +21,8 @@ mod judgement;
 #[cfg(test)]
 mod long_paths;
 #[cfg(test)]
+mod names;
+#[cfg(test)]
 mod normal_paths;
 #[cfg(test)]
 mod out_of_memory;

@@ -6,6 +6,8 @@
 #![tactic(auto)]
 
 #[cfg(test)]
+mod case;
+#[cfg(test)]
 mod conversions;
 #[cfg(test)]
 mod hostile_bytes;
@@ -19,6 +21,8 @@ mod long_texts;
 mod out_of_memory;
 #[cfg(test)]
 mod parts;
+#[cfg(test)]
+mod patterns;
 #[cfg(test)]
 mod rust_texts;
 #[cfg(test)]
