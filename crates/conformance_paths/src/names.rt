@@ -1,12 +1,12 @@
 //! Paths without case and patterns of them; stems, extensions, endings and ancestors. The rows of the last four are
 //! those of the documentation of Rust's `std::path::Path`, with `\` for `/`, where the two agree.
 
-use crate::fixtures::buffer;
+use crate::fixtures::{buffer, shows};
 use conformance::{has_text, string};
 use std::cmp::Ordering;
 use std::fmt::Write;
 use std::test::Fail;
-use uefi_path::Path;
+use uefi_path::{Path, validate_path_at};
 use uefi_text::{CStr16, CString16, Char16Slice};
 
 /// Two paths, and how they compare without case.
@@ -193,5 +193,66 @@ fn components_from_both_ends(rt: HostRuntime) -> Result<(), Fail> {
     let mut components = owned.components();
     assert!(rt; matches!(components.next_back(), Some(c) if c.units() == [99].as_slice()));
     assert!(rt; components.count() == 2);
+    Ok(())
+}
+
+/// A path, and what is left of it once its last component was removed, if it has another.
+const POPPED: &[(&str, Option<&str>)] = &[
+    (r"\foo\bar", Some(r"\foo")),
+    (r"a\\b", Some(r"a\")),
+    (r"a\", Some("a")),
+    (r"\a", None),
+    ("a", None),
+    (r"\", None),
+    ("", None),
+];
+
+/// Whether a path loses its last component, and has as many components as the path of its text.
+fn pops(rt: &HostRuntime, text: &str, want: Option<&str>) -> Result<bool, Fail> {
+    let mut path = buffer(rt, text)?;
+    let has_popped = path.pop();
+    let same = path.components().count() == path.as_path().components().count();
+    Ok(has_popped == want.is_some() && shows(&path, want.unwrap_or(text)) && same)
+}
+
+#[test]
+fn popped_paths(rt: HostRuntime) -> Result<(), Fail> {
+    for (text, want) in POPPED {
+        assert!(rt; pops(&rt, text, *want)?, "{text}");
+    }
+    Ok(())
+}
+
+/// A path, and where its first component at fault begins and why it is refused; nothing of a path that is accepted.
+const FAULTS: &[(&str, &str)] = &[
+    ("", "0: path is empty"),
+    (r"\", ""),
+    (r"\efi\boot", ""),
+    (r"\efi\\boot", "5: path contains an empty component"),
+    (r"efi\", "4: path contains an empty component"),
+    (r"\..\a", "1: path climbs above the root"),
+    (r"a\..\..\b", "5: path climbs above the root"),
+    (
+        r"\efi\b*?ot",
+        "5: path contains an illegal character (value 42)",
+    ),
+];
+
+/// What is printed of a path's fault.
+fn fault(rt: &HostRuntime, path: Path<'_>) -> Result<CString16, Fail> {
+    let mut printed = string(rt.alloc(), "")?;
+    if let Err(fault) = validate_path_at(path) {
+        write!(printed, "{}: {}", fault.place, fault.error)?;
+    }
+    Ok(printed)
+}
+
+#[test]
+fn places_of_faults(rt: HostRuntime) -> Result<(), Fail> {
+    for (text, want) in FAULTS {
+        let path = string(rt.alloc(), text)?;
+        let printed = fault(&rt, Path::new(path.as_cstr16()))?;
+        assert!(rt; has_text(printed.as_cstr16(), want), "{text}");
+    }
     Ok(())
 }

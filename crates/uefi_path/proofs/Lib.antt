@@ -28,3 +28,5 @@ pub mod SeparatorBits
 pub mod NamedFiles
 pub mod Beginnings
 pub mod PathsWithoutCase
+mod LastPlaces
+pub mod FaultPlaces

@@ -17,3 +17,5 @@ pub mod Climbing
 pub mod WithoutCase
 pub mod FileNames
 pub mod Ancestors
+pub mod Popping
+pub mod FaultPlaces

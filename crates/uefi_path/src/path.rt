@@ -1,7 +1,7 @@
 //! Paths that are borrowed. `specs/Views.antt` says what a path shows.
 #![tactic(auto, unfolding(crate::specs::Views::path_text, crate::specs::Views::components_left))]
 
-ghost use Rattle.std.specs.Prelude.{◌≡◌, ℕ, ◌+◌, ◌<◌, ◌^◌, ◌↔◌, [], ◌∷◌, ◌++◌, All, List, None, length, option_map, IfSome, IsSome, IsTrue};
+ghost use Rattle.std.specs.Prelude.{◌≡◌, ℕ, ◌+◌, ◌<◌, ◌≤◌, ◌^◌, ◌↔◌, [], ◌∷◌, ◌++◌, All, List, None, drop, length, option_map, IfSome, IsSome, IsTrue};
 ghost use Rattle.std.specs.List.{last_or};
 ghost use Rattle.uefi_path.specs.Components.{AreComponents, StartsWith, components_of};
 ghost use Rattle.uefi_path.specs.FileNames.{EndsWith};
@@ -112,6 +112,15 @@ impl<'a> Path<'a> {
         ensures { IsTrue result ↔ (path_text self.now ≡ []) }
     {
         self.string.is_empty()
+    }
+
+    /// Where the text without one leading separator begins.
+    pub(crate) fn canonical_start(&self) -> usize
+        ensures start { drop result (path_text self.now) ≡ canonical (path_text self.now) }
+        ensures within { result ≤ length (path_text self.now) }
+    {
+        let text = self.string.as_slice();
+        if text.get(0) == Some(SEPARATOR) { 1 } else { 0 }
     }
 
     /// The text without one leading separator.
