@@ -29,11 +29,12 @@ abbrev pub ItselfAlone : Type 0
 ItselfAlone = (c : ℕ) (pattern text : List ℕ) → c ≢ star → c ≢ question_mark → c ≢ left_bracket → Matches (c ∷ pattern) text
     ↔ ((unit : ℕ) × (back : List ℕ) × (text ≡ unit ∷ back) × (upper c ≡ upper unit) × Matches pattern back)
 
--- a pattern of units that mean themselves matches exactly what is the same without case
+-- units that mean themselves in a pattern
 abbrev pub IsPlain : List ℕ → Type 0
 IsPlain [] = Unit {0}
 IsPlain (c ∷ cs) = ((c ≢ star) × (c ≢ question_mark) × (c ≢ left_bracket)) × IsPlain cs
 
+-- a pattern of such units matches exactly what is the same without case
 abbrev pub PlainIsSame : Type 0
 PlainIsSame = (pattern text : List ℕ) → IsPlain pattern → Matches pattern text ↔ (uppers pattern ≡ uppers text)
 
