@@ -8,8 +8,6 @@ mod build;
 #[cfg(test)]
 mod device_path;
 #[cfg(test)]
-mod documents;
-#[cfg(test)]
 mod entries;
 #[cfg(test)]
 mod file_path;

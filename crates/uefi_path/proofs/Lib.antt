@@ -25,3 +25,8 @@ mod Counts
 pub mod TailUnits
 pub mod Depth
 pub mod SeparatorBits
+pub mod NamedFiles
+pub mod Beginnings
+pub mod PathsWithoutCase
+mod LastPlaces
+pub mod FaultPlaces

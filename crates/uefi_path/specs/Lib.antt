@@ -14,3 +14,8 @@ pub mod NormalForms
 pub mod CutPieces
 pub mod NamesLeft
 pub mod Climbing
+pub mod WithoutCase
+pub mod FileNames
+pub mod Ancestors
+pub mod Popping
+pub mod FaultPlaces

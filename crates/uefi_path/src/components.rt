@@ -7,11 +7,12 @@ ghost use Rattle.uefi_path.specs.Components.{AreComponents, components_of};
 ghost use Rattle.uefi_path.specs.Parents.{is_non_empty};
 ghost use Rattle.uefi_path.specs.Separators.{canonical, is_separator, places_from};
 ghost use Rattle.uefi_path.specs.SeparatorsLeft.{places_left};
+ghost use Rattle.uefi_path.specs.WithoutCase.{MatchEach, capital_pieces};
 ghost use Rattle.uefi_text.specs.Runs.{GivesEach};
 ghost use Rattle.uefi_text.specs.Units.{IsText};
 ghost use Rattle.uefi_text.specs.Views.{text_of, units_of};
 
-use crate::separators::Separators;
+use crate::separators::{Separators, cut_last};
 use std::fmt;
 use uefi_text::strs::{CStr16, Char16Slice};
 
@@ -87,6 +88,15 @@ impl<'a> Rest<'a> {
             separators,
         };
         (self.text.part(self.start, place), Some(after))
+    }
+
+    /// What is left before the last component, and that component.
+    fn cut_back(self) -> (Option<Rest<'a>>, Char16Slice<'a>)
+        ensures { slice_split is_separator (units_left self.entry)
+            ≡ pieces_of_rest result.0 ++ units_of result.1 ∷ [] }
+    {
+        let (front, last) = cut_last(self.units());
+        (front.map(Rest::of), last)
     }
 }
 
@@ -175,6 +185,65 @@ impl<'a> Components<'a> {
         }
         Some(rest)
     }
+
+    /// As [`Components::strip`], without case.
+    pub(crate) fn strip_ignore_case(self, base: Components<'_>) -> Option<Components<'a>>
+        requires texts { All IsText (components_left self) }
+        requires bound { length (components_left self) < 2 ^ 64 }
+        ensures starts { IsSome result ↔ ((rest : List (List ℕ)) × (capital_pieces (components_left self.entry)
+            ≡ capital_pieces (components_left base.entry) ++ rest)) }
+        ensures rest { IfSome result (λ rest.
+            components_left rest ≡ drop (length (components_left base.entry)) (components_left self.entry)) }
+        ensures texts { IfSome result (λ rest. All IsText (components_left rest)) }
+        ensures bound { IfSome result (λ rest. length (components_left rest) < 2 ^ 64) }
+        ensures runs { IfSome result (λ rest. GivesEach units_of components_left rest) }
+        ensures no_nul { IfSome result (λ rest. GivesNoNulIn rest) }
+    {
+        let mut rest = self;
+        for component in base {
+            let Some(own) = rest.next() else {
+                return None;
+            };
+            if !own.eq_ignore_case(component) {
+                return None;
+            }
+        }
+        Some(rest)
+    }
+
+    /// Whether each of these matches the pattern at its place, and there are as many of both.
+    pub(crate) fn match_each(self, patterns: Components<'_>) -> bool
+        ensures { IsTrue result ↔ MatchEach (components_left patterns.entry) (components_left self.entry) }
+    {
+        let mut rest = self;
+        for pattern in patterns {
+            let Some(component) = rest.next() else {
+                return false;
+            };
+            if !component.matches(pattern) {
+                return false;
+            }
+        }
+        rest.is_done()
+    }
+
+    /// Whether they end with those of a child.
+    pub(crate) fn end_with(self, child: Components<'_>) -> bool
+        ensures { IsTrue result ↔ ((front : List (List ℕ))
+            × (components_left self.entry ≡ front ++ components_left child.entry)) }
+    {
+        let mut rest = self;
+        let mut names = child;
+        while let Some(name) = names.next_back() {
+            let Some(own) = rest.next_back() else {
+                return false;
+            };
+            if own != name {
+                return false;
+            }
+        }
+        true
+    }
 }
 
 /// Gives the components in order, and then `None` for ever.
@@ -209,6 +278,21 @@ impl<'a> Iterator for Components<'a> {
             None => (0, Some(0)),
             Some(rest) => (1, Some(rest.units().units().len() + 1)),
         }
+    }
+}
+
+/// Gives the components from the last one on. Each costs a pass over it, of a path buffer too.
+impl<'a> DoubleEndedIterator for Components<'a> {
+    ghost use Rattle.std.specs.Iterator.{YieldsLastBy};
+    ghost use Rattle.uefi_text.specs.Views.{units_of};
+    ghost use Rattle.uefi_path.specs.Views.{components_left};
+
+    ghost next_back_gives = { YieldsLastBy units_of components_left };
+
+    fn next_back(&mut self) -> Option<Char16Slice<'a>> {
+        let (before, component) = self.rest?.cut_back();
+        self.rest = before;
+        Some(component)
     }
 }
 

@@ -1,5 +1,7 @@
 //! The laws by which users of paths reason. They speak of the definitions that the contracts of the
 //! working calls cite. Each law is a function that does nothing: its contract is the law.
+ghost use Rattle.uefi_path.specs.Ancestors.{BeginningsArePrefixes};
+ghost use Rattle.uefi_path.specs.FileNames.{NamedOnce, NamedOrNot};
 ghost use Rattle.uefi_path.specs.Laws.{AreComponentsWhereSame, ComponentsOnce, NoComponentsOfEmpty, OneMoreThanSeparators, TextsHaveComponents};
 ghost use Rattle.uefi_path.specs.Laws.{EqualWhereSameCanonical, EqualityIsEquivalence, OrderIsTotal, OrderTiesEqual, SameParent};
 ghost use Rattle.uefi_path.specs.Laws.{EmptyAfterIsUnit, EmptyBeforeIsUnit, PushingIsAssociative};
@@ -118,4 +120,16 @@ pub fn normal_once()
     ensures names { NormalHoldsNames }
     ensures again { NormalIsNormal }
     ensures agree { NormalPathsAgree }
+{}
+
+/// A name has one stem and one extension, or no extension.
+pub fn named_once()
+    ensures once { NamedOnce }
+    ensures or_not { NamedOrNot }
+{}
+
+/// The beginnings of a path that has components are its canonical text and its shorter prefixes, which are the
+/// successive parents of a valid one ([`parents_enumerate`]).
+pub fn ancestors_enumerate()
+    ensures { BeginningsArePrefixes }
 {}

@@ -35,8 +35,12 @@
 //! separators: no clause outside speaks of one.
 #![tactic(auto)]
 
+mod ancestors;
+mod caseless;
 mod components;
 mod counted;
+mod fault_places;
+mod file_names;
 mod kinds;
 pub mod laws;
 mod names;
@@ -50,8 +54,10 @@ mod tails;
 mod validation;
 mod written;
 
+pub use ancestors::Ancestors;
 pub use components::Components;
 pub use counted::CountedUnits;
+pub use fault_places::{PathFault, validate_path_at};
 pub use normal::NormalizeError;
 pub use path::{Path, separator_str};
 pub use pathbuf::PathBuf;

@@ -1,9 +1,10 @@
 //! Paths that are borrowed. `specs/Views.antt` says what a path shows.
 #![tactic(auto, unfolding(crate::specs::Views::path_text, crate::specs::Views::components_left))]
 
-ghost use Rattle.std.specs.Prelude.{◌≡◌, ℕ, ◌+◌, ◌<◌, ◌^◌, ◌↔◌, [], ◌∷◌, ◌++◌, All, List, None, length, option_map, IfSome, IsSome, IsTrue};
+ghost use Rattle.std.specs.Prelude.{◌≡◌, ℕ, ◌+◌, ◌<◌, ◌≤◌, ◌^◌, ◌↔◌, [], ◌∷◌, ◌++◌, All, List, None, drop, length, option_map, IfSome, IsSome, IsTrue};
 ghost use Rattle.std.specs.List.{last_or};
 ghost use Rattle.uefi_path.specs.Components.{AreComponents, StartsWith, components_of};
+ghost use Rattle.uefi_path.specs.FileNames.{EndsWith};
 ghost use Rattle.uefi_path.specs.Separators.{canonical, separator};
 ghost use Rattle.uefi_text.specs.Runs.{GivesEach};
 ghost use Rattle.uefi_text.specs.Units.{IsText};
@@ -97,11 +98,29 @@ impl<'a> Path<'a> {
         self.components().strip(base.components())
     }
 
+    /// Whether the components of this path end with those of another. So `\a\bc` ends with `bc` and with `a\bc`, and not
+    /// with `c`; and every path ends with the empty one. Takes no memory; at most one pass over each, from the end, which
+    /// stops at the first components that differ.
+    pub fn ends_with(&self, child: Path<'_>) -> bool
+        ensures { IsTrue result ↔ EndsWith (path_text self.now) (path_text child.entry) }
+    {
+        self.components().end_with(child.components())
+    }
+
     /// Whether the text is empty. A lone separator is not, though it equals the empty path.
     pub fn is_empty(&self) -> bool
         ensures { IsTrue result ↔ (path_text self.now ≡ []) }
     {
         self.string.is_empty()
+    }
+
+    /// Where the text without one leading separator begins.
+    pub(crate) fn canonical_start(&self) -> usize
+        ensures start { drop result (path_text self.now) ≡ canonical (path_text self.now) }
+        ensures within { result ≤ length (path_text self.now) }
+    {
+        let text = self.string.as_slice();
+        if text.get(0) == Some(SEPARATOR) { 1 } else { 0 }
     }
 
     /// The text without one leading separator.

@@ -3,7 +3,8 @@ ghost use Rattle.std.specs.Prelude.{◌≡◌, ◌≢◌, ℕ, ◌+◌, ◌<◌,
 ghost use Rattle.std.specs.List.{last_or, list_any, slice_range, slice_split};
 ghost use Rattle.uefi_path.specs.Components.{AreComponents, IsPiece, StartsWith, components_of};
 ghost use Rattle.uefi_path.specs.Components as pieces_joined;
-ghost use Rattle.uefi_path.specs.Parents.{parent_of_components, parent_text};
+ghost use Rattle.uefi_path.specs.Parents.{all_but_last, parent_of_components, parent_text};
+ghost use Rattle.uefi_path.specs.Popping.{IsPopped};
 ghost use Rattle.uefi_path.specs.Runs.{GivesNoNulIn};
 ghost use Rattle.uefi_path.specs.Pushing.{IsPush, appended, needs_separator, pushed};
 ghost use Rattle.uefi_path.specs.Separators.{IsPlain, canonical, is_slash, is_separator, places_of, with_separators};
@@ -16,6 +17,7 @@ use crate::components::{Components, Rest};
 use crate::counted::CountedUnits;
 use crate::path::Path;
 use crate::separators::{add_places, count_separators, cut_last};
+use crate::slices::others_end;
 use crate::tails::make_tail;
 use crate::written::write_all_but_last;
 use std::alloc::{AllocError, Allocator, Global};
@@ -382,6 +384,23 @@ impl<A: Allocator + Copy> PathBuf<A> {
         // A clause of this call says how long the path can be.
         let _text = self.string.as_cstr16().as_slice();
         parent_of(self.alloc(), self.components())
+    }
+
+    /// Removes the last component and the separator before it, and says whether it did. A path of at most one
+    /// component stays as it is, as it has no parent. Takes no memory and gives none back; reads the component that
+    /// goes alone.
+    pub fn pop(&mut self) -> bool
+        ensures removed { IsTrue result → IsPopped self.old self.new }
+        ensures others { IsTrue result → canonical self.new ≡ pieces_joined.joined (all_but_last (components_of self.old)) }
+        ensures some { IsTrue result ↔ (all_but_last (components_of self.old) ≢ []) }
+        ensures none { result ≡ false → self.new ≡ self.old }
+    {
+        let Some(end) = others_end(self.string.as_cstr16().to_u16_slice()) else {
+            return false;
+        };
+        self.string.truncate(end);
+        self.places.truncate(self.places.len().saturating_sub(1));
+        true
     }
 
     /// Makes the path empty. Takes no memory and gives none back.

@@ -100,7 +100,7 @@ pub(crate) fn find_fault(component: Char16Slice<'_>) -> Option<PathError>
 
 /// How many names are left after a component, where there were this many before it; `None` where the
 /// component climbs above where the path starts.
-fn depth_after(depth: usize, component: Char16Slice<'_>) -> Option<usize>
+pub(crate) fn depth_after(depth: usize, component: Char16Slice<'_>) -> Option<usize>
     requires { depth + 1 < 2 ^ 64 }
     ensures { result ≡ depth_after (kind (units_of component.entry)) depth }
 {

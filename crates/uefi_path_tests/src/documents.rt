@@ -1,43 +1,9 @@
-//! The examples of the documents.
+//! The examples in the first comments of `uefi_text` and `uefi_path`.
 
-use crate::fixtures::is_path;
 use std::alloc::AllocError;
 use std::test::Fail;
 use uefi_path::{Path, PathBuf, validate_path};
 use uefi_text::{CStr16, CString16, FromSliceWithNulError, UnalignedSlice};
-
-/// A path out of a text, and of code units that lie elsewhere.
-fn boot_path(rt: &HostRuntime, units: &[u16]) -> Result<PathBuf, Fail> {
-    // A view of the units, or the exact refusal with its place.
-    let boot = CStr16::from_u16_with_nul(units)?;
-
-    // An owned string, and a path over it, in which each `/` becomes the separator.
-    let folder = CString16::try_from_str(rt.alloc(), "/efi")?;
-    let mut path = PathBuf::from(rt.alloc(), folder.as_cstr16())?;
-    path.push(Path::new(boot))?;
-    Ok(path)
-}
-
-/// Prints a path, and then its components, a line each.
-fn print_path(rt: &HostRuntime, path: Path<'_>) -> Result<(), Fail> {
-    println!(rt; "{path}")?;
-    for component in path.components() {
-        println!(rt; "{component}")?;
-    }
-    Ok(())
-}
-
-#[test]
-fn the_example_of_the_readme(rt: HostRuntime) -> Result<(), Fail> {
-    let broken = CStr16::from_u16_with_nul(&[0x65, 0xd800, 0]);
-    assert_eq!(rt; broken.err(), Some(FromSliceWithNulError::InvalidChar(1)));
-
-    // Prints `\efi\boot`, `efi` and `boot`.
-    let path = boot_path(&rt, &[0x62, 0x6f, 0x6f, 0x74, 0])?;
-    assert!(rt; validate_path(path.as_path()).is_ok());
-    assert!(rt; is_path(&path, r"\efi\boot"));
-    print_path(&rt, path.as_path())
-}
 
 /// The path of the examples, its slash replaced.
 fn efi_boot(rt: &HostRuntime) -> Result<PathBuf, Fail> {

@@ -9,6 +9,8 @@ mod documents;
 #[cfg(test)]
 mod fixtures;
 #[cfg(test)]
+mod names;
+#[cfg(test)]
 mod normal;
 #[cfg(test)]
 mod out_of_memory;

@@ -15,3 +15,11 @@ pub mod Values
 pub mod Items
 pub mod Runs
 pub mod PackedStrings
+pub mod Caseless
+pub mod PatternCuts
+pub mod FirstParts
+pub mod GreedySearch
+pub mod SearchSteps
+pub mod SearchCosts
+pub mod SetPlaces
+pub mod PatternsWithoutCase

@@ -1,4 +1,5 @@
 pub mod Units
+pub mod Case
 pub mod Scans
 pub mod ShortChars
 pub mod Latin1
@@ -13,6 +14,10 @@ pub mod UnitBytes
 pub mod PackedLaws
 pub mod EqStrUntilNul
 pub mod Laws
+pub mod CaseLaws
+pub mod Patterns
+pub mod PatternParts
+pub mod PatternLaws
 pub mod PackedStrings
 pub mod Runs
 pub mod Views

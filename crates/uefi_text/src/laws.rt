@@ -1,5 +1,7 @@
 //! The laws by which users of strings reason. They speak of the definitions that the contracts of
 //! the working calls cite. Each law is a function that does nothing: its contract is the law.
+ghost use Rattle.uefi_text.specs.CaseLaws.{AsciiCase, AsciiSameWithoutCase, CaselessIsEquivalence, CaselessOrderIsTotal, CaselessWhereSame, LowerOfUpper, LowerOnce, SameWithoutCase, TiesWithoutCase, UpperOfLower, UpperOnce};
+ghost use Rattle.uefi_text.specs.PatternLaws.{AnyUnits, CaseIsIgnored, ItselfAlone, NothingAlone, OneOfSet, OneUnit, OpenSet, PlainIsSame};
 ghost use Rattle.uefi_text.specs.Laws.{AcceptedWhereEncoded, EncodeOneText, EncodedOnce, TextWhereUnrefused, TextsAreCharacters, TextsAreEncoded};
 
 /// Every text is encoded by exactly one list of bytes, no bytes encode two texts, and bytes are accepted
@@ -16,4 +18,45 @@ pub fn bytes_once()
 pub fn text_once()
     ensures unrefused { TextWhereUnrefused }
     ensures characters { TextsAreCharacters }
+{}
+
+/// Each case is reached at once, and is the same whichever case a unit had before.
+pub fn case_once()
+    ensures upper { UpperOnce }
+    ensures lower { LowerOnce }
+    ensures upper_of_lower { UpperOfLower }
+    ensures lower_of_upper { LowerOfUpper }
+{}
+
+/// `eq_ignore_case` is an equivalence that holds of equal texts, and `cmp_ignore_case` a total order that says
+/// `Equal` exactly where it holds.
+pub fn caseless()
+    ensures equivalence { CaselessIsEquivalence }
+    ensures same { CaselessWhereSame }
+    ensures equal { SameWithoutCase }
+    ensures total { CaselessOrderIsTotal }
+    ensures ties { TiesWithoutCase }
+{}
+
+/// The case of ASCII is the usual one: there `eq_ignore_case` is std's `eq_ignore_ascii_case`.
+pub fn ascii_case()
+    ensures units { AsciiCase }
+    ensures same { AsciiSameWithoutCase }
+{}
+
+/// What a pattern matches, by the way that it begins.
+pub fn pattern_rules()
+    ensures nothing { NothingAlone }
+    ensures any { AnyUnits }
+    ensures one { OneUnit }
+    ensures set { OneOfSet }
+    ensures open_set { OpenSet }
+    ensures itself { ItselfAlone }
+{}
+
+/// The case of a text does not matter, and a pattern without `*`, `?` and `[` matches exactly the texts that are the
+/// same without case.
+pub fn patterns_without_case()
+    ensures plain { PlainIsSame }
+    ensures case { CaseIsIgnored }
 {}

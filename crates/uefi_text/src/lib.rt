@@ -27,6 +27,7 @@
 //! `items_of` it. No clause outside this crate speaks of a NUL's place, of a buffer or of a capacity.
 #![tactic(auto)]
 
+pub mod case;
 pub mod char_sink;
 pub mod chars;
 mod code_units;
@@ -37,8 +38,10 @@ pub mod laws;
 pub mod owned_strs;
 mod packed;
 mod packed_strings;
+pub mod patterns;
 #[doc(hidden)]
 pub mod scans;
+pub mod steps;
 pub mod strs;
 pub mod unaligned_slice;
 mod utf8;

@@ -7,6 +7,7 @@ ghost use Rattle.std.specs.Result.{result_err};
 ghost use Rattle.uefi_text.specs.FromStr.{is_deciding_char, from_str_refusal};
 ghost use Rattle.uefi_text.specs.Runs.{CopiesNoNul};
 
+use crate::case::{Case, set_case};
 use crate::chars::{Char16, NUL_16};
 use crate::code_units::{text_len, units_of_text, write_text};
 use crate::eq_str_until_nul::EqStrUntilNul;
@@ -198,6 +199,7 @@ impl<'a> Char16Slice<'a> {
 impl<A: Allocator> CString16<A> {
     ghost use Rattle.std.specs.Iterator.{IsFinite};
     ghost use Rattle.std.specs.Iterator.Runs.{SomeRun, WholeRun};
+    ghost use Rattle.uefi_text.specs.Case.{in_case, lowers, uppers};
     ghost use Rattle.uefi_text.specs.FromSliceWithNul.{with_nul_refusal};
     ghost use Rattle.uefi_text.specs.Runs.{GivesNoNul};
     ghost use Rattle.uefi_text.specs.Views.{text_of, units_of};
@@ -414,6 +416,28 @@ impl<A: Allocator> CString16<A> {
                 u16::from(replace),
             );
         }
+    }
+
+    /// Puts the text in upper case, character by character, as `StrUpr` does (UEFI Specification 2.10, section
+    /// 21.1). One pass; takes no memory.
+    pub fn make_uppercase(&mut self)
+        ensures { self.new ≡ uppers self.old }
+    {
+        self.set_case(Case::Upper);
+    }
+
+    /// Puts the text in lower case, character by character, as `StrLwr` does. One pass; takes no memory.
+    pub fn make_lowercase(&mut self)
+        ensures { self.new ≡ lowers self.old }
+    {
+        self.set_case(Case::Lower);
+    }
+
+    /// Puts the text in a case. The NUL has none.
+    fn set_case(&mut self, case: Case)
+        ensures { self.new ≡ map (in_case case) self.old }
+    {
+        set_case(&mut self.units, case);
     }
 
     /// The number of characters of the text, the NUL not counted.

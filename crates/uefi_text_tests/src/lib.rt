@@ -3,6 +3,8 @@
 #![tactic(auto)]
 
 #[cfg(test)]
+mod case;
+#[cfg(test)]
 mod char_sink;
 #[cfg(test)]
 mod chars;
@@ -24,6 +26,8 @@ mod out_of_memory;
 mod owned_strs;
 #[cfg(test)]
 mod packed_strings;
+#[cfg(test)]
+mod patterns;
 #[cfg(test)]
 mod refusals;
 #[cfg(test)]

@@ -1,0 +1,43 @@
+-- Components taken off two lists at once, from the front without case and from the back.
+use Rattle.std.proofs.Common.{◌≡◌, ◌∙◌, ◌↔◌, ℕ, List, [], ◌∷◌, ◌++◌, ap, sym, drop, length, length-append, append_assoc, arith}
+use Rattle.std.proofs.lemmas.List.{same_from_push}
+use Rattle.uefi_text.specs.Case.{uppers}
+use Rattle.uefi_path.specs.WithoutCase.{capital_pieces}
+
+-- one more that is the same without case
+same_first : (own piece : List ℕ) (ours theirs more : List (List ℕ)) → uppers own ≡ uppers piece
+    → (capital_pieces (own ∷ ours) ≡ capital_pieces (piece ∷ theirs) ++ more) ↔ (capital_pieces ours ≡ capital_pieces theirs ++ more)
+same_first own piece ours theirs more same = (λ e. cc, λ e i. same i ∷ e i)
+
+pub same_step : {P : Type 0} (own piece : List ℕ) (us vs ours theirs more : List (List ℕ)) → us ≡ own ∷ ours → vs ≡ piece ∷ theirs
+    → uppers own ≡ uppers piece → P ↔ (capital_pieces us ≡ capital_pieces vs ++ more) → P ↔ (capital_pieces ours ≡ capital_pieces theirs ++ more)
+same_step own piece us vs ours theirs more first other same so_far =
+    let both = same_first own piece ours theirs more same in
+    let left : capital_pieces us ≡ capital_pieces (own ∷ ours) = ap capital_pieces first in
+    let right : capital_pieces vs ++ more ≡ capital_pieces (piece ∷ theirs) ++ more = ap (λ ps. capital_pieces ps ++ more) other in
+    (λ p. both.0 (sym left ∙ so_far.0 p ∙ right), λ e. so_far.1 (left ∙ both.1 e ∙ sym right))
+
+pub dropped_step : (own piece : List ℕ) (us vs ours theirs : List (List ℕ)) → us ≡ own ∷ ours → vs ≡ piece ∷ theirs
+    → drop (length vs) us ≡ drop (length theirs) ours
+dropped_step own piece us vs ours theirs first other = λ i. drop (length (other i)) (first i)
+
+-- one more from the back
+pub back_step : {P : Type 0} (own piece : List ℕ) (us vs ours theirs front : List (List ℕ)) → us ≡ ours ++ own ∷ [] → vs ≡ theirs ++ piece ∷ []
+    → own ≡ piece → P ↔ (us ≡ front ++ vs) → P ↔ (ours ≡ front ++ theirs)
+back_step own piece us vs ours theirs front last other same so_far =
+    let whole : front ++ vs ≡ (front ++ theirs) ++ piece ∷ [] = ap (λ ps. front ++ ps) other ∙ sym (append_assoc front theirs (piece ∷ [])) in (
+      λ p. (same_from_push ours (front ++ theirs) own piece (sym last ∙ so_far.0 p ∙ whole)).0,
+      λ e. so_far.1 (last ∙ (λ i. e i ++ same i ∷ []) ∙ sym whole),
+    )
+
+-- which has to be the same
+pub back_same : (own piece : List ℕ) (us vs ours theirs front : List (List ℕ)) → us ≡ ours ++ own ∷ [] → vs ≡ theirs ++ piece ∷ []
+    → us ≡ front ++ vs → own ≡ piece
+back_same own piece us vs ours theirs front last other e =
+    (same_from_push ours (front ++ theirs) own piece
+    (sym last ∙ e ∙ ap (λ ps. front ++ ps) other ∙ sym (append_assoc front theirs (piece ∷ [])))).1
+
+-- and has to be there
+pub back_some : (piece : List ℕ) (us vs theirs front : List (List ℕ)) → us ≡ [] → vs ≡ theirs ++ piece ∷ [] → us ≡ front ++ vs → ⊥
+back_some piece us vs theirs front none other e =
+    omega (arith, ap length (sym none ∙ e ∙ ap (λ ps. front ++ ps) other), length-append front (theirs ++ piece ∷ []), length-append theirs (piece ∷ []))

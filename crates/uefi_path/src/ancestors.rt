@@ -1,0 +1,57 @@
+//! The beginnings of a path: the path itself, and then each shorter one. No call takes memory.
+#![tactic(auto, unfolding(crate::specs::Ancestors::ancestors_left))]
+
+ghost use Rattle.std.specs.Prelude.{◌≡◌};
+ghost use Rattle.uefi_path.specs.Ancestors.{ancestors_left, beginnings};
+ghost use Rattle.uefi_path.specs.Components.{components_of};
+ghost use Rattle.uefi_path.specs.Views.{path_text};
+ghost use Rattle.uefi_text.specs.Runs.{GivesEach};
+ghost use Rattle.uefi_text.specs.Views.{units_of};
+
+use crate::path::Path;
+use crate::separators::cut_last;
+use uefi_text::strs::Char16Slice;
+
+/// An iterator over the beginnings of a path, the longest first. A contract sees it as `ancestors_left` of it: those
+/// that are still to come.
+#[derive(Clone, Copy)]
+pub struct Ancestors<'a> {
+    /// The next one; `None` after the first component alone.
+    rest: Option<Char16Slice<'a>>,
+}
+
+impl<'a> Path<'a> {
+    /// The canonical text of the path, then the same without its last component, and so on down to the first
+    /// component alone. A path without components has none. Those after the first are the successive parents of a
+    /// valid path. All of them together cost one pass over the text.
+    pub fn ancestors(&self) -> Ancestors<'a>
+        ensures same { ancestors_left result ≡ beginnings (components_of (path_text self.now)) }
+        ensures runs { GivesEach units_of ancestors_left result }
+    {
+        let text = self.canonical();
+        if text.is_empty() {
+            return Ancestors { rest: None };
+        }
+        Ancestors { rest: Some(text) }
+    }
+}
+
+/// Gives the beginnings, the longest first, and then `None` for ever.
+impl<'a> Iterator for Ancestors<'a> {
+    type Item = Char16Slice<'a>;
+
+    ghost use Rattle.std.specs.Iterator.{YieldsFirstBy, item_count};
+    ghost use Rattle.uefi_path.specs.Ancestors.{ancestors_left};
+    ghost use Rattle.uefi_text.specs.Views.{units_of};
+
+    ghost next_gives = { YieldsFirstBy units_of ancestors_left };
+
+    ghost remaining = { item_count ancestors_left };
+
+    fn next(&mut self) -> Option<Char16Slice<'a>> {
+        let text = self.rest?;
+        let (before, _) = cut_last(text);
+        self.rest = before;
+        Some(text)
+    }
+}

@@ -1,0 +1,68 @@
+//! Paths compared without case, and matched against patterns. Case and patterns are those of the firmware's Unicode
+//! collation (UEFI Specification 2.10, section 21.1). No call takes memory.
+ghost use Rattle.std.specs.Prelude.{◌≡◌, ◌<◌, ◌^◌, ◌↔◌, All, IfSome, IsSome, IsTrue, drop, length};
+ghost use Rattle.uefi_path.specs.Components.{components_of};
+ghost use Rattle.uefi_path.specs.Separators.{canonical};
+ghost use Rattle.uefi_path.specs.Views.{path_text};
+ghost use Rattle.uefi_path.specs.WithoutCase.{MatchesPath, StartsWithoutCase};
+ghost use Rattle.uefi_text.specs.Case.{caseless_order, uppers};
+ghost use Rattle.uefi_text.specs.Runs.{GivesEach};
+ghost use Rattle.uefi_text.specs.Units.{IsText};
+ghost use Rattle.uefi_text.specs.Views.{units_of};
+
+use crate::components::Components;
+use crate::path::Path;
+use std::cmp::Ordering;
+
+impl<'a> Path<'a> {
+    ghost use Rattle.uefi_path.specs.Runs.{GivesNoNulIn};
+    ghost use Rattle.uefi_path.specs.Views.{components_left};
+
+    /// Whether both paths are equal without case: their canonical texts are.
+    pub fn eq_ignore_case(&self, other: Path<'_>) -> bool
+        ensures { IsTrue result
+            ↔ (uppers (canonical (path_text self.now)) ≡ uppers (canonical (path_text other.entry))) }
+    {
+        self.canonical().eq_ignore_case(other.canonical())
+    }
+
+    /// How both paths compare without case: as their canonical texts do. `Equal` exactly where
+    /// [`Path::eq_ignore_case`] holds.
+    pub fn cmp_ignore_case(&self, other: Path<'_>) -> Ordering
+        ensures { result ≡ caseless_order (canonical (path_text self.now)) (canonical (path_text other.entry)) }
+    {
+        self.canonical().cmp_ignore_case(other.canonical())
+    }
+
+    /// Whether the components of this path begin with those of the base, without case, as [`Path::starts_with`] does
+    /// with case. At most one pass over each, which ends at the first components that differ.
+    pub fn starts_with_ignore_case(&self, base: Path<'_>) -> bool
+        ensures { IsTrue result ↔ StartsWithoutCase (path_text self.now) (path_text base.entry) }
+    {
+        self.strip_prefix_ignore_case(base).is_some()
+    }
+
+    /// The components of this path after as many as the base has, where it starts with the base without case; else
+    /// `None`. At most one pass over each, which ends at the first components that differ.
+    pub fn strip_prefix_ignore_case(&self, base: Path<'_>) -> Option<Components<'a>>
+        ensures starts { IsSome result ↔ StartsWithoutCase (path_text self.now) (path_text base.entry) }
+        ensures rest { IfSome result (λ rest. components_left rest
+            ≡ drop (length (components_of (path_text base.entry))) (components_of (path_text self.now))) }
+        ensures texts { IfSome result (λ rest. All IsText (components_left rest)) }
+        ensures bound { IfSome result (λ rest. length (components_left rest) < 2 ^ 64) }
+        ensures runs { IfSome result (λ rest. GivesEach units_of components_left rest) }
+        ensures no_nul { IfSome result (λ rest. GivesNoNulIn rest) }
+    {
+        self.components().strip_ignore_case(base.components())
+    }
+
+    /// Whether a pattern matches this path: each of its components the one at the same place, as
+    /// `CStr16::matches` does, and both have as many. So neither `*` nor `?` takes a separator, and one that stands
+    /// between `[` and `]` ends a component too. At most one pass over each path, and the time that its components
+    /// take.
+    pub fn matches(&self, pattern: Path<'_>) -> bool
+        ensures { IsTrue result ↔ MatchesPath (path_text pattern.entry) (path_text self.now) }
+    {
+        self.components().match_each(pattern.components())
+    }
+}

@@ -1,0 +1,58 @@
+//! Where the component begins for which a path is refused.
+ghost use Rattle.std.specs.Prelude.{◌≡◌, ◌↔◌, IfErr, IsOk, MatchOption, None};
+ghost use Rattle.uefi_path.specs.FaultPlaces.{IsRefusedAt};
+ghost use Rattle.uefi_path.specs.Verdicts.{IsValid, verdict};
+ghost use Rattle.uefi_path.specs.Views.{path_text};
+
+use crate::path::Path;
+use crate::validation::{PathError, depth_after, find_fault};
+
+/// Why a path is refused, and where.
+#[derive(Clone, Copy, Debug, PartialEq, Eq)]
+pub struct PathFault {
+    /// Why: the error of [`validate_path`](crate::validate_path).
+    pub error: PathError,
+
+    /// Where the component at fault begins in the text of the path: how many characters stand before it, a leading
+    /// separator among them. 0 where the text is empty.
+    pub place: usize,
+}
+
+/// Why a path is refused and where, if it is.
+fn find_path_fault(path: Path<'_>) -> Option<PathFault>
+    ensures { MatchOption result (verdict (path_text path.entry) ≡ None)
+        (λ fault. IsRefusedAt (path_text path.entry) fault) }
+{
+    if path.is_empty() {
+        let error = PathError::Empty;
+        return Some(PathFault { error, place: 0 });
+    }
+    // A clause of this call says how long the path can be.
+    let _text = path.to_cstr16().as_slice();
+    let mut place = path.canonical_start();
+    let mut depth = 0;
+    for component in path.components() {
+        if let Some(error) = find_fault(component) {
+            return Some(PathFault { error, place });
+        }
+        let Some(left) = depth_after(depth, component) else {
+            let error = PathError::ClimbsAboveRoot;
+            return Some(PathFault { error, place });
+        };
+        depth = left;
+        place += component.len() + 1;
+    }
+    None
+}
+
+/// Whether a path is accepted, as [`validate_path`](crate::validate_path) says; or why not, and where its first
+/// component at fault begins. At most two passes over each component, which stop at the fault. Takes no memory.
+pub fn validate_path_at(path: Path<'_>) -> Result<(), PathFault>
+    ensures valid { IsOk result ↔ IsValid (path_text path.entry) }
+    ensures refusal { IfErr result (λ fault. IsRefusedAt (path_text path.entry) fault) }
+{
+    match find_path_fault(path) {
+        None => Ok(()),
+        Some(fault) => Err(fault),
+    }
+}

@@ -1,0 +1,64 @@
+//! The stem and the extension of a path's last component. No call takes memory.
+ghost use Rattle.std.specs.Prelude.{◌<◌, ◌+◌, IfSome, MatchOption, None, drop, length, option_map, take};
+ghost use Rattle.std.specs.List.{last_or};
+ghost use Rattle.uefi_path.specs.Components.{components_of};
+ghost use Rattle.uefi_path.specs.FileNames.{HasNoExtension, IsExtension, IsLastDot, IsNamed, IsStem};
+ghost use Rattle.uefi_path.specs.Views.{path_text};
+ghost use Rattle.uefi_text.specs.Views.{units_of};
+
+use crate::kinds::{Kind, kind_of};
+use crate::path::Path;
+use uefi_text::strs::Char16Slice;
+
+/// What stands between a stem and an extension.
+const DOT: u16 = 0x2e;
+
+/// The place of the last dot that is not at the start.
+fn last_dot(name: &[u16]) -> Option<usize>
+    ensures { IsLastDot name.now result }
+{
+    for i in (1..name.len()).rev() {
+        if name[i] == DOT {
+            return Some(i);
+        }
+    }
+    None
+}
+
+/// The place of the dot between the stem and the extension of a name.
+fn extension_dot(name: Char16Slice<'_>) -> Option<usize>
+    ensures cut { MatchOption result (HasNoExtension (units_of name.entry)) (λ dot.
+        IsNamed (units_of name.entry) (take dot (units_of name.entry)) (drop (dot + 1) (units_of name.entry))) }
+    ensures within { IfSome result (λ dot. dot < length (units_of name.entry)) }
+{
+    match kind_of(name) {
+        Kind::DotDot => None,
+        _ => last_dot(name.units()),
+    }
+}
+
+impl<'a> Path<'a> {
+    /// The last component up to its extension: what stands before its last dot. It is the whole component where no dot
+    /// stands after its first character, and for `..`. `None` where there is no component. Reads that component
+    /// alone.
+    pub fn file_stem(&self) -> Option<Char16Slice<'a>>
+        ensures { IsStem (last_or None (components_of (path_text self.now))) (option_map units_of result) }
+    {
+        let name = self.file_name()?;
+        match extension_dot(name) {
+            None => Some(name),
+            Some(dot) => Some(name.part(0, dot)),
+        }
+    }
+
+    /// What stands after the last dot of the last component; it may be empty. `None` where that component has no dot
+    /// after its first character, where it is `..`, and where there is no component. Reads that component alone.
+    pub fn extension(&self) -> Option<Char16Slice<'a>>
+        ensures { IsExtension (last_or None (components_of (path_text self.now))) (option_map units_of result) }
+    {
+        let name = self.file_name()?;
+        let dot = extension_dot(name)?;
+        let end = name.len();
+        Some(name.part(dot + 1, end))
+    }
+}

@@ -1,0 +1,55 @@
+-- The steps of the search, as the code makes them.
+use Rattle.std.proofs.Common.{◌≡◌, ◌∙◌, ◌+◌, ◌-◌, ◌<◌, ◌≤◌, ◌≢◌, ◌↔◌, ℕ, Bool, IsTrue, List, [], ◌∷◌, ap, sym, subst, take, drop, get_or, length, Some, Option}
+use Rattle.std.proofs.Math.ListN.{drop_of_length-le}
+use Rattle.std.proofs.lemmas.List.{drop-drop, take_rest}
+use Rattle.uefi_text.specs.Patterns.{Matches, Nothing, Any}
+use Rattle.uefi_text.specs.PatternParts.{Refuses, TakesOne}
+use Rattle.uefi_text.specs.declared.patterns.Star.{Star}
+use Rattle.uefi_text.proofs.Caseless.{next}
+use Rattle.uefi_text.proofs.FirstParts.{refuses_nothing}
+use Rattle.uefi_text.proofs.GreedySearch.{Searching, at_star, takes, goes_back, ends, star_at_end}
+
+pub star_step : (pattern text : List ℕ) (at place : ℕ) (star : Option Star) → Searching pattern text at place star
+    → at < length pattern → get_or pattern at 0 ≡ 42 → Searching pattern text (at + 1) place (Some (record { after = at + 1; tried = place }))
+star_step pattern text at place star s inside is =
+    at_star pattern text at place star s (next pattern at inside ∙ ap (λ c. c ∷ drop (at + 1) pattern) is)
+
+pub unit_step : (pattern text : List ℕ) (at place n : ℕ) (star : Option Star) → Searching pattern text at place star → place < length text
+    → TakesOne (take (length pattern - at) (drop at pattern)) (drop n (take (length pattern - at) (drop at pattern))) (get_or text place 0)
+    → Searching pattern text (at + n) (place + 1) star
+unit_step pattern text at place n star s inside step =
+    let here : TakesOne (drop at pattern) (drop n (drop at pattern)) (get_or text place 0) =
+    subst (λ us. TakesOne us (drop n us) (get_or text place 0)) (take_rest pattern at) step in
+    takes pattern text at (at + n) place (get_or text place 0) star s
+    (subst (λ us. TakesOne (drop at pattern) us (get_or text place 0)) (drop-drop n at pattern) here) (next text place inside)
+
+pub back_step : (pattern text : List ℕ) (at place : ℕ) (star : Option Star) (last : Star) → Searching pattern text at place star → star ≡ Some last
+    → place < length text → Refuses (take (length pattern - at) (drop at pattern)) (get_or text place 0)
+    → Searching pattern text last.after (last.tried + 1) (Some (record { after = last.after; tried = last.tried + 1 }))
+back_step pattern text at place star last s is inside refuses =
+    goes_back pattern text at place (get_or text place 0) last (subst (Searching pattern text at place) is s)
+    (subst (λ us. Refuses us (get_or text place 0)) (take_rest pattern at) refuses) (next text place inside)
+
+-- at the end of the text, what is left of the pattern decides
+pub at_end : (pattern text : List ℕ) (at place : ℕ) (star : Option Star) (all : Bool) → Searching pattern text at place star → length text ≤ place
+    → (IsTrue all ↔ Matches (take (length pattern - at) (drop at pattern)) []) → IsTrue all ↔ Matches pattern text
+at_end pattern text at place star all s past is =
+    let both = ends pattern text at place star s (drop_of_length-le text past) in
+    let left : IsTrue all ↔ Matches (drop at pattern) [] = subst (λ us. IsTrue all ↔ Matches us []) (take_rest pattern at) is in
+    (λ holds. both.0 (left.0 holds), λ m. left.1 (both.1 m))
+
+-- one `*` more or less matches nothing alike
+pub star_of_nothing : (pattern : List ℕ) (i : ℕ) → i < length pattern → get_or pattern i 0 ≡ 42
+    → Matches (drop i pattern) [] ↔ Matches pattern [] → Matches (drop (i + 1) pattern) [] ↔ Matches pattern []
+star_of_nothing pattern i inside is before =
+    let here : drop i pattern ≡ 42 ∷ drop (i + 1) pattern = next pattern i inside ∙ ap (λ c. c ∷ drop (i + 1) pattern) is in (
+      λ m. before.0 (subst (λ us. Matches us []) (sym here) (Any [] m)),
+      λ m. star_at_end (drop (i + 1) pattern) (subst (λ us. Matches us []) here (before.1 m)),
+    )
+
+pub other_of_nothing : (pattern : List ℕ) (i : ℕ) → i < length pattern → get_or pattern i 0 ≢ 42
+    → Matches (drop i pattern) [] ↔ Matches pattern [] → ¬ Matches pattern []
+other_of_nothing pattern i inside other before m = refuses_nothing (drop i pattern) (drop (i + 1) pattern) (get_or pattern i 0) (next pattern i inside) other (before.1 m)
+
+pub all_of_nothing : (pattern : List ℕ) (i : ℕ) → length pattern ≤ i → Matches (drop i pattern) [] ↔ Matches pattern [] → Matches pattern []
+all_of_nothing pattern i past before = before.0 (subst (λ us. Matches us []) (sym (drop_of_length-le pattern past)) Nothing)

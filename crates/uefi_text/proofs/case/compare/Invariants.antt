@@ -1,0 +1,7 @@
+use Rattle.std.proofs.Common.{◌≡◌, drop}
+use Rattle.uefi_text.specs.Case.{caseless_order}
+use Rattle.uefi_text.proofs.case.compare.Given as goal
+
+-- what is left decides
+abbrev pub invariant-loop-i : goal.invariant-loop-i
+invariant-loop-i l = caseless_order (drop l.i l.units) (drop l.i l.others) ≡ caseless_order l.units l.others

@@ -1,0 +1,139 @@
+//! Upper and lower case, and strings compared without it, as the firmware's Unicode collation does for
+//! English: `StriColl`, `StrUpr` and `StrLwr` (UEFI Specification 2.10, section 21.1). No call takes memory.
+//!
+//! The letters that have a case are `a` to `z` and the small letters of Latin-1, U+00E0 to U+00FE but the division
+//! sign U+00F7. Their upper case is 32 below them. Any other character is its own upper case and its own lower
+//! case. `specs/Case.antt` has the definitions.
+ghost use Rattle.std.specs.Prelude.{◌≡◌, ◌↔◌, IsTrue, map};
+ghost use Rattle.uefi_text.specs.Case.{caseless_order, in_case, is_lowercase, lower, upper, uppers};
+ghost use Rattle.uefi_text.specs.Views.{text_of, units_of};
+
+use crate::chars::Char16;
+use crate::strs::{CStr16, Char16Slice};
+use std::cmp::Ordering;
+
+/// Whether a unit has an upper case, 32 below it.
+#[inline(always)]
+fn is_lowercase(unit: u16) -> bool
+    ensures { result ≡ is_lowercase unit }
+{
+    matches!(unit, 0x61..=0x7a | 0xe0..=0xf6 | 0xf8..=0xfe)
+}
+
+/// A unit in upper case.
+#[inline(always)]
+pub(crate) fn upper(unit: u16) -> u16
+    ensures { result ≡ upper unit }
+{
+    if is_lowercase(unit) { unit - 32 } else { unit }
+}
+
+/// A unit in lower case.
+#[inline(always)]
+fn lower(unit: u16) -> u16
+    ensures { result ≡ lower unit }
+{
+    if unit < 0xff && is_lowercase(unit + 32) {
+        unit + 32
+    } else {
+        unit
+    }
+}
+
+/// Upper or lower case.
+#[derive(Clone, Copy)]
+pub(crate) enum Case {
+    Upper,
+    Lower,
+}
+
+/// A unit in a case.
+#[inline(always)]
+fn in_case(case: Case, unit: u16) -> u16
+    ensures { result ≡ in_case case unit }
+{
+    match case {
+        Case::Upper => upper(unit),
+        Case::Lower => lower(unit),
+    }
+}
+
+/// Puts units in a case.
+#[tactic(auto, using(std::proofs::lemmas::List::take_all, std::proofs::lemmas::List::drop_all))]
+pub(crate) fn set_case(units: &mut [u16], case: Case)
+    ensures { units.new ≡ map (in_case case) units.old }
+{
+    for unit in units.iter_mut() {
+        *unit = in_case(case, *unit);
+    }
+}
+
+/// How units compare without case.
+fn compare(units: &[u16], others: &[u16]) -> Ordering
+    ensures { result ≡ caseless_order units.now others.now }
+{
+    for i in 0..units.len().min(others.len()) {
+        let order = upper(units[i]).cmp(&upper(others[i]));
+        if order != Ordering::Equal {
+            return order;
+        }
+    }
+    units.len().cmp(&others.len())
+}
+
+/// Whether units are the same without case.
+fn are_same(units: &[u16], others: &[u16]) -> bool
+    ensures { IsTrue result ↔ (uppers units.now ≡ uppers others.now) }
+{
+    units.len() == others.len() && compare(units, others).is_eq()
+}
+
+impl Char16 {
+    /// The character in upper case.
+    pub fn to_uppercase(&self) -> Char16
+        ensures { result ≡ upper self.now }
+    {
+        Char16::from_unit(upper(u16::from(*self)))
+    }
+
+    /// The character in lower case.
+    pub fn to_lowercase(&self) -> Char16
+        ensures { result ≡ lower self.now }
+    {
+        Char16::from_unit(lower(u16::from(*self)))
+    }
+}
+
+impl<'a> CStr16<'a> {
+    /// Whether both strings are the same without case: their texts in upper case are. One pass, which ends at
+    /// the first characters that differ, or at once where the lengths do.
+    pub fn eq_ignore_case(&self, other: CStr16<'_>) -> bool
+        ensures { IsTrue result ↔ (uppers (text_of self.now) ≡ uppers (text_of other.entry)) }
+    {
+        are_same(self.to_u16_slice(), other.to_u16_slice())
+    }
+
+    /// How both strings compare without case, as `StriColl` compares them: by the first characters that differ
+    /// in upper case, and where one text is a prefix of the other, the shorter is less. One pass, which ends there.
+    pub fn cmp_ignore_case(&self, other: CStr16<'_>) -> Ordering
+        ensures { result ≡ caseless_order (text_of self.now) (text_of other.entry) }
+    {
+        compare(self.to_u16_slice(), other.to_u16_slice())
+    }
+}
+
+impl<'a> Char16Slice<'a> {
+    /// Whether both slices are the same without case, as [`CStr16::eq_ignore_case`].
+    pub fn eq_ignore_case(&self, other: Char16Slice<'_>) -> bool
+        ensures { IsTrue result ↔ (uppers (units_of self.now) ≡ uppers (units_of other.entry)) }
+    {
+        are_same(self.units(), other.units())
+    }
+
+    /// How both slices compare without case, as [`CStr16::cmp_ignore_case`].
+    pub fn cmp_ignore_case(&self, other: Char16Slice<'_>) -> Ordering
+        ensures { result ≡ caseless_order (units_of self.now) (units_of other.entry) }
+    {
+        compare(self.units(), other.units())
+    }
+}

@@ -1,0 +1,95 @@
+//! Patterns: the examples of the UEFI Specification 2.10, section 21.1, and corners of sets as EDK II's driver
+//! `EnglishDxe` decides them.
+
+use for_tests::string;
+use std::test::Fail;
+use uefi_text::CStr16;
+
+/// A pattern, a text, and whether one matches the other.
+const ROWS: &[(&str, &str, bool)] = &[
+    // The specification's own: all names that end in .FW, one letter, one of these signs, one z, names of two
+    // characters that begin with D and have any extension.
+    ("*.FW", "boot.fw", true),
+    ("*.FW", ".FW", true),
+    ("*.FW", "boot.fwx", false),
+    ("[a-z]", "q", true),
+    ("[a-z]", "Q", true),
+    ("[a-z]", "4", false),
+    ("[!@#$%^&*()]", "*", true),
+    ("[!@#$%^&*()]", "a", false),
+    ("z", "Z", true),
+    ("D?.*", "da.txt", true),
+    ("D?.*", "DX.", true),
+    ("D?.*", "D.txt", false),
+    // Nothing, and stars.
+    ("", "", true),
+    ("", "a", false),
+    ("*", "", true),
+    ("?", "", false),
+    ("a**", "a", true),
+    ("a**?", "a", false),
+    ("*ab*ab", "aabab_abaab", true),
+    ("*ab*ab", "abb", false),
+    ("*[ab][bc]?c*", "xxabbabcc", true),
+    // Sets: the first `]` ends one, and none is complemented or escaped.
+    ("[]", "a", false),
+    ("[]]", "]", false),
+    ("[^a]", "^", true),
+    ("[^a]", "b", false),
+    ("[a]]", "a]", true),
+    ("a]", "a]", true),
+    ("[?*[]", "[", true),
+    ("[ab]", "", false),
+    // Ranges.
+    ("[c-a]", "b", false),
+    ("[c-a]", "a", true),
+    ("[c-a]", "c", true),
+    ("[-a]", "!", true),
+    ("[-a]", "b", false),
+    ("[a-]", "-", false),
+    ("[a-]", "a", true),
+    ("[a--]", "-", true),
+    ("[a-c-e]", "d", true),
+    ("[Y-b]", "Z", false),
+    ("[X-_]", "^", true),
+    ("[\u{e0}-\u{e5}]", "\u{c3}", true),
+    // Without `]`.
+    ("[a", "a", false),
+    ("[", "[", false),
+    ("*[", "", false),
+];
+
+/// Whether a pattern matches a text, by strings and by slices.
+fn matches(pattern: CStr16<'_>, text: CStr16<'_>, want: bool) -> bool {
+    text.matches(pattern) == want && text.as_slice().matches(pattern.as_slice()) == want
+}
+
+#[test]
+fn patterns_and_texts(rt: HostRuntime) -> Result<(), Fail> {
+    for (pattern, text, want) in ROWS {
+        let (a, b) = (string(rt.alloc(), pattern)?, string(rt.alloc(), text)?);
+        assert!(rt;
+            matches(a.as_cstr16(), b.as_cstr16(), *want),
+            "{pattern} and {text}"
+        );
+    }
+    Ok(())
+}
+
+#[test]
+fn many_stars(rt: HostRuntime) -> Result<(), Fail> {
+    let mut pattern = string(rt.alloc(), "")?;
+    let mut text = string(rt.alloc(), "")?;
+    let (part, end) = (string(rt.alloc(), "*a")?, string(rt.alloc(), "b")?);
+    for _ in 0..500 {
+        pattern.push_str(part.as_cstr16())?;
+    }
+    pattern.push_str(end.as_cstr16())?;
+    for _ in 0..10_000 {
+        text.push_part(part.as_cstr16().as_slice().part(1, 2))?;
+    }
+    assert!(rt; !text.as_cstr16().matches(pattern.as_cstr16()));
+    text.push_str(end.as_cstr16())?;
+    assert!(rt; text.as_cstr16().matches(pattern.as_cstr16()));
+    Ok(())
+}
