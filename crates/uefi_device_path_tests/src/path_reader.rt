@@ -1,6 +1,7 @@
 //! Device paths read from their texts: the bytes of each, by the layouts of the UEFI Specification 2.10,
 //! section 10.3, and where a text is none.
 
+use crate::node_text::REGULAR;
 use for_tests::{bytes, split_row};
 use std::alloc::Global;
 use std::test::Fail;
@@ -37,6 +38,18 @@ fn is_read(alloc: Global, text: &str, nodes: &[u8]) -> Result<bool, Fail> {
 #[test]
 fn texts(rt: HostRuntime) -> Result<(), Fail> {
     for line in TEXTS.split('\n') {
+        let (nodes, text) = split_row(line);
+        assert!(rt;
+            is_read(rt.alloc(), text, &bytes(rt.alloc(), nodes)?)?,
+            "{line}"
+        );
+    }
+    Ok(())
+}
+
+#[test]
+fn texts_of_each_kind(rt: HostRuntime) -> Result<(), Fail> {
+    for line in REGULAR.split('\n') {
         let (nodes, text) = split_row(line);
         assert!(rt;
             is_read(rt.alloc(), text, &bytes(rt.alloc(), nodes)?)?,

@@ -1,7 +1,7 @@
 //! Paths without case and patterns of them; stems, extensions, endings and ancestors. The rows of the last four are
 //! those of the documentation of Rust's `std::path::Path`, with `\` for `/`, where the two agree.
 
-use crate::fixtures::{buffer, shows};
+use crate::fixtures::{buffer, is_path};
 use for_tests::{has_text, string};
 use std::cmp::Ordering;
 use std::fmt::Write;
@@ -212,7 +212,7 @@ fn pops(rt: &HostRuntime, text: &str, want: Option<&str>) -> Result<bool, Fail> 
     let mut path = buffer(rt, text)?;
     let has_popped = path.pop();
     let same = path.components().count() == path.as_path().components().count();
-    Ok(has_popped == want.is_some() && shows(&path, want.unwrap_or(text)) && same)
+    Ok(has_popped == want.is_some() && is_path(&path, want.unwrap_or(text)) && same)
 }
 
 #[test]
