@@ -45,7 +45,7 @@ pub without_separator : (text : List ℕ) → IsPiece text → slice_split is_se
 without_separator text piece = slice_split_none is_separator text (passes_over text piece)
 
 -- the same of a part of the text from there on, and of the part before the separator
-to_the_end : (text : List ℕ) (start end : ℕ) → end ≡ length text → slice_range text start end ≡ drop start text
+pub to_the_end : (text : List ℕ) (start end : ℕ) → end ≡ length text → slice_range text start end ≡ drop start text
 to_the_end text start end e =
     let rest = drop start text in
     let count : end - start ≡ length rest = omega (arith, e, length-drop start text) in

@@ -30,3 +30,4 @@ pub mod Beginnings
 pub mod PathsWithoutCase
 mod LastPlaces
 pub mod FaultPlaces
+mod Renamed

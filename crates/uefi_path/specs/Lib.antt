@@ -19,3 +19,4 @@ pub mod FileNames
 pub mod Ancestors
 pub mod Popping
 pub mod FaultPlaces
+pub mod Renaming

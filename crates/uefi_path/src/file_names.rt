@@ -1,5 +1,5 @@
 //! The stem and the extension of a path's last component. No call takes memory.
-ghost use Rattle.std.specs.Prelude.{◌<◌, ◌+◌, IfSome, MatchOption, None, drop, length, option_map, take};
+ghost use Rattle.std.specs.Prelude.{◌<◌, ◌≤◌, ◌+◌, IfSome, MatchOption, None, Some, drop, length, option_map, take};
 ghost use Rattle.std.specs.List.{last_or};
 ghost use Rattle.uefi_path.specs.Components.{components_of};
 ghost use Rattle.uefi_path.specs.FileNames.{HasNoExtension, IsExtension, IsLastDot, IsNamed, IsStem};
@@ -37,6 +37,17 @@ fn extension_dot(name: Char16Slice<'_>) -> Option<usize>
     }
 }
 
+/// The length of the stem of a name.
+pub(crate) fn stem_len(name: Char16Slice<'_>) -> usize
+    ensures stem { IsStem (Some (units_of name.entry)) (Some (take result (units_of name.entry))) }
+    ensures within { result ≤ length (units_of name.entry) }
+{
+    match extension_dot(name) {
+        None => name.len(),
+        Some(dot) => dot,
+    }
+}
+
 impl<'a> Path<'a> {
     /// The last component up to its extension: what stands before its last dot. It is the whole component where no dot
     /// stands after its first character, and for `..`. `None` where there is no component. Reads that component
@@ -45,10 +56,7 @@ impl<'a> Path<'a> {
         ensures { IsStem (last_or None (components_of (path_text self.now))) (option_map units_of result) }
     {
         let name = self.file_name()?;
-        match extension_dot(name) {
-            None => Some(name),
-            Some(dot) => Some(name.part(0, dot)),
-        }
+        Some(name.part(0, stem_len(name)))
     }
 
     /// What stands after the last dot of the last component; it may be empty. `None` where that component has no dot

@@ -1,5 +1,5 @@
 //! Paths that are owned, and the calls of [`Path`] that make one.
-ghost use Rattle.std.specs.Prelude.{◌≡◌, ◌≢◌, ℕ, ◌+◌, ◌<◌, ◌≤◌, ◌^◌, ◌↔◌, [], ◌∷◌, ◌++◌, All, List, Some, None, drop, fold, false, if◌then◌else◌, length, map, option_map, replicate, ◌-◌, IsTrue, IsOk, IsSome, IfOk, IfErr, IfSome, OnOk, OnErr};
+ghost use Rattle.std.specs.Prelude.{◌≡◌, ◌≢◌, ℕ, ◌+◌, ◌<◌, ◌≤◌, ◌^◌, ◌↔◌, [], ◌∷◌, ◌++◌, All, List, Some, None, drop, fold, false, true, if◌then◌else◌, length, map, option_map, replicate, take, ◌-◌, IsTrue, IsOk, IsSome, IfOk, IfErr, IfSome, OnOk, OnErr};
 ghost use Rattle.std.specs.List.{last_or, list_any, slice_range, slice_split};
 ghost use Rattle.uefi_path.specs.Components.{AreComponents, IsPiece, StartsWith, components_of};
 ghost use Rattle.uefi_path.specs.Components as pieces_joined;
@@ -7,6 +7,7 @@ ghost use Rattle.uefi_path.specs.Parents.{all_but_last, parent_of_components, pa
 ghost use Rattle.uefi_path.specs.Popping.{IsPopped};
 ghost use Rattle.uefi_path.specs.Runs.{GivesNoNulIn};
 ghost use Rattle.uefi_path.specs.Pushing.{IsPush, appended, needs_separator, pushed};
+ghost use Rattle.uefi_path.specs.Renaming.{IsExtended, IsRenamed, StartsName, dotted};
 ghost use Rattle.uefi_path.specs.Separators.{IsPlain, canonical, is_slash, is_separator, places_of, with_separators};
 ghost use Rattle.uefi_path.specs.SuccessiveParents.{parent_chain, parents_of};
 ghost use Rattle.uefi_path.specs.Views.{components_left, path_text};
@@ -15,16 +16,17 @@ ghost use Rattle.uefi_text.specs.Views.{text_of, units_of};
 
 use crate::components::{Components, Rest};
 use crate::counted::CountedUnits;
+use crate::file_names::stem_len;
 use crate::path::Path;
 use crate::separators::{add_places, count_separators, cut_last};
-use crate::slices::others_end;
+use crate::slices::{last_component, others_end};
 use crate::tails::make_tail;
 use crate::written::write_all_but_last;
 use std::alloc::{AllocError, Allocator, Global};
 use std::cmp::Ordering;
 use std::fmt;
 use std::marker::Model;
-use uefi_text::chars::{SEPARATOR, SLASH};
+use uefi_text::chars::{Char16, SEPARATOR, SLASH};
 use uefi_text::owned_strs::CString16;
 use uefi_text::strs::{CStr16, Char16Slice};
 
@@ -40,6 +42,7 @@ pub struct PathBuf<A: Allocator = Global> {
 
 impl<A: Allocator> Model for PathBuf<A> {
     ghost use Rattle.std.specs.Prelude.{◌≡◌, ℕ, List};
+    ghost use Rattle.uefi_path.specs.Renaming.{IsExtended, IsRenamed, StartsName, dotted};
     ghost use Rattle.uefi_path.specs.Separators.{IsPlain, places_of};
 
     ghost Value = { List ℕ };
@@ -149,6 +152,17 @@ fn copy_places<A: Allocator>(
     let mut copy = Vec::with_capacity(alloc, room)?;
     copy.extend_from_slice(places)?;
     Ok(copy)
+}
+
+/// Where the last component begins, or the length where there is none.
+fn name_start(units: &[u16]) -> usize
+    ensures within { result ≤ length units.now }
+    ensures name { StartsName units.now result (last_or None (components_of units.now)) }
+{
+    match last_component(units) {
+        Some(start) => start,
+        None => units.len(),
+    }
 }
 
 /// Owned paths of a borrowed one.
@@ -401,6 +415,66 @@ impl<A: Allocator + Copy> PathBuf<A> {
         self.string.truncate(end);
         self.places.truncate(self.places.len().saturating_sub(1));
         true
+    }
+
+    /// The first characters of the path and a text after them, each slash replaced.
+    fn with_end(&self, len: usize, end: CStr16<'_>) -> Result<Self, AllocError>
+        requires { len ≤ length self.now }
+        ensures { IfOk result (λ path. path ≡ with_separators (take len self.now ++ text_of end.entry)) }
+    {
+        let front = self.string.as_cstr16().as_slice().part(0, len);
+        let room = len.saturating_add(end.num_chars());
+        let mut string = CString16::with_capacity(self.alloc(), room)?;
+        string.push_part(front)?;
+        string.push_str(end)?;
+        PathBuf::from_string(self.alloc(), string)
+    }
+
+    /// Replaces the last component by a name, each slash of it replaced; a path without components gets the name. Or
+    /// returns `AllocError`, and the path is unchanged. Takes memory as [`PathBuf::from`] does.
+    pub fn set_file_name(&mut self, name: CStr16<'_>) -> Result<(), AllocError>
+        ensures ok { OnOk result (IsRenamed self.old self.new (text_of name.entry)) }
+        ensures err { OnErr result (self.new ≡ self.old) }
+    {
+        let start = name_start(self.string.as_cstr16().to_u16_slice());
+        *self = self.with_end(start, name)?;
+        Ok(())
+    }
+
+    /// The first characters of the path, and after them a dot and an extension, each slash replaced; no dot before the
+    /// empty extension.
+    fn with_extension(&self, len: usize, extension: CStr16<'_>) -> Result<Self, AllocError>
+        requires { len ≤ length self.now }
+        ensures { IfOk result (λ path. path ≡ with_separators (take len self.now ++ dotted (text_of extension.entry))) }
+    {
+        if extension.is_empty() {
+            return self.with_end(len, extension);
+        }
+        let mut end = CString16::with_capacity(
+            self.alloc(),
+            extension.num_chars().saturating_add(1),
+        )?;
+        end.push(Char16::try_from_char('.').unwrap())?;
+        end.push_str(extension)?;
+        self.with_end(len, end.as_cstr16())
+    }
+
+    /// Puts an extension after the stem of the last component, with a dot before it and each slash replaced; the empty
+    /// one takes the extension away. Returns whether there is a component; or `AllocError`, and the path is unchanged.
+    /// Takes memory as [`PathBuf::from`] does, and once for the extension, where it is not empty.
+    pub fn set_extension(&mut self, extension: CStr16<'_>) -> Result<bool, AllocError>
+        ensures ok { IfOk result (λ is_set. is_set ≡ true → IsExtended self.old self.new (text_of extension.entry)) }
+        ensures none { IfOk result (λ is_set. is_set ≡ false → self.new ≡ self.old) }
+        ensures some { IfOk result (λ is_set. IsTrue is_set ↔ (components_of self.old ≢ [])) }
+        ensures err { OnErr result (self.new ≡ self.old) }
+    {
+        let text = self.string.as_cstr16().as_slice();
+        let Some(start) = last_component(text.units()) else {
+            return Ok(false);
+        };
+        let name = text.part(start, text.len());
+        *self = self.with_extension(start + stem_len(name), extension)?;
+        Ok(true)
     }
 
     /// Makes the path empty. Takes no memory and gives none back.

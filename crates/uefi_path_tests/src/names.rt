@@ -2,11 +2,12 @@
 //! those of the documentation of Rust's `std::path::Path`, with `\` for `/`, where the two agree.
 
 use crate::fixtures::{buffer, is_path};
-use for_tests::{has_text, string};
+use for_tests::{Refusing, has_text, out_of_memory, requests, string};
+use std::alloc::{AllocError, Allocator, Global};
 use std::cmp::Ordering;
 use std::fmt::Write;
 use std::test::Fail;
-use uefi_path::{Path, validate_path_at};
+use uefi_path::{Components, Path, PathBuf, validate_path_at};
 use uefi_text::{CStr16, CString16, Char16Slice};
 
 /// Two paths, and how they compare without case.
@@ -54,10 +55,11 @@ const PREFIXES: &[(&str, &str, Option<usize>, bool)] = &[
 
 /// Whether a path starts with another without case, with so many components left, and ends with it or not.
 fn starts_and_ends(path: Path<'_>, other: Path<'_>, left: Option<usize>, ends: bool) -> bool {
-    let rest = path
-        .strip_prefix_ignore_case(other)
-        .map(|rest| rest.count());
-    rest == left
+    let is_left = match path.strip_prefix_ignore_case(other) {
+        Some(rest) => left == Some(rest.count()),
+        None => left.is_none(),
+    };
+    is_left
         && path.starts_with_ignore_case(other) == left.is_some()
         && path.ends_with(other) == ends
 }
@@ -175,9 +177,8 @@ fn ancestors_of_paths(rt: HostRuntime) -> Result<(), Fail> {
     Ok(())
 }
 
-/// Whether the components of `\a\b\c` come from both ends, and none after them.
-fn come_from_both_ends(path: Path<'_>) -> bool {
-    let mut components = path.components();
+/// Whether the components `a`, `b` and `c` come from both ends, and none after them.
+fn come_from_both_ends(mut components: Components<'_>) -> bool {
     matches!(components.next_back(), Some(c) if c.units() == [99].as_slice())
         && matches!(components.next(), Some(c) if c.units() == [97].as_slice())
         && matches!(components.next_back(), Some(c) if c.units() == [98].as_slice())
@@ -188,11 +189,9 @@ fn come_from_both_ends(path: Path<'_>) -> bool {
 #[test]
 fn components_from_both_ends(rt: HostRuntime) -> Result<(), Fail> {
     let borrowed = string(rt.alloc(), r"\a\b\c")?;
-    assert!(rt; come_from_both_ends(Path::new(borrowed.as_cstr16())));
+    assert!(rt; come_from_both_ends(Path::new(borrowed.as_cstr16()).components()));
     let owned = buffer(&rt, r"\a\b\c")?;
-    let mut components = owned.components();
-    assert!(rt; matches!(components.next_back(), Some(c) if c.units() == [99].as_slice()));
-    assert!(rt; components.count() == 2);
+    assert!(rt; come_from_both_ends(owned.components()));
     Ok(())
 }
 
@@ -253,6 +252,101 @@ fn places_of_faults(rt: HostRuntime) -> Result<(), Fail> {
         let path = string(rt.alloc(), text)?;
         let printed = fault(&rt, Path::new(path.as_cstr16()))?;
         assert!(rt; has_text(printed.as_cstr16(), want), "{text}");
+    }
+    Ok(())
+}
+
+/// A path, a name, and the path with that name in place of its own.
+const RENAMED: &[(&str, &str, &str)] = &[
+    (r"\", "bar", r"\bar"),
+    ("", "bar", "bar"),
+    (r"\foo.txt", "bar.txt", r"\bar.txt"),
+    (r"tmp\foo", "bar", r"tmp\bar"),
+    (r"tmp\", "bar", r"tmp\bar"),
+    ("a", "b/c", r"b\c"),
+    (r"a\b", "", r"a\"),
+];
+
+/// A path, an extension, and the path with that extension.
+const EXTENDED: &[(&str, &str, &str)] = &[
+    (r"\feel\the", "force", r"\feel\the.force"),
+    (r"\feel\the.force", "dark.side", r"\feel\the.dark.side"),
+    (r"\feel\the.dark.side", "cookie", r"\feel\the.dark.cookie"),
+    (r"\feel\the.dark.cookie", "", r"\feel\the.dark"),
+    (r"\feel\the", "", r"\feel\the"),
+    (r"a.b\.c", "d", r"a.b\.c.d"),
+];
+
+/// Whether a path shows a text, and has as many components as the path of that text.
+fn is_path<A: Allocator + Copy>(path: &PathBuf<A>, want: CStr16<'_>) -> bool {
+    path.to_cstr16() == want && path.components().count() == Path::new(want).components().count()
+}
+
+/// Whether a path takes a name, or is unchanged where memory is refused.
+fn takes_name(
+    heap: &Refusing<Global>,
+    text: CStr16<'_>,
+    name: CStr16<'_>,
+    want: CStr16<'_>,
+) -> Result<bool, AllocError> {
+    let mut path = PathBuf::from(heap, text)?;
+    match path.set_file_name(name) {
+        Ok(()) => Ok(is_path(&path, want)),
+        Err(_) => out_of_memory(is_path(&path, text)),
+    }
+}
+
+/// Whether a path takes an extension, or is unchanged where memory is refused.
+fn takes_extension(
+    heap: &Refusing<Global>,
+    text: CStr16<'_>,
+    extension: CStr16<'_>,
+    want: CStr16<'_>,
+) -> Result<bool, AllocError> {
+    let mut path = PathBuf::from(heap, text)?;
+    match path.set_extension(extension) {
+        Ok(is_set) => Ok(is_set && is_path(&path, want)),
+        Err(_) => out_of_memory(is_path(&path, text)),
+    }
+}
+
+#[test]
+fn paths_with_another_name(rt: HostRuntime) -> Result<(), Fail> {
+    for (text, name, want) in RENAMED {
+        let (a, b) = (string(rt.alloc(), text)?, string(rt.alloc(), name)?);
+        let c = string(rt.alloc(), want)?;
+        let (text, name, want) = (a.as_cstr16(), b.as_cstr16(), c.as_cstr16());
+        let asked = requests(rt.alloc(), 0, |heap| takes_name(heap, text, name, want))?;
+        assert!(rt; 1 < asked, "{text}");
+    }
+    Ok(())
+}
+
+#[test]
+fn paths_with_another_extension(rt: HostRuntime) -> Result<(), Fail> {
+    for (text, extension, want) in EXTENDED {
+        let (a, b) = (string(rt.alloc(), text)?, string(rt.alloc(), extension)?);
+        let c = string(rt.alloc(), want)?;
+        let (text, other, want) = (a.as_cstr16(), b.as_cstr16(), c.as_cstr16());
+        let asked = requests(
+            rt.alloc(),
+            0,
+            |heap| takes_extension(heap, text, other, want),
+        )?;
+        assert!(rt; 1 < asked, "{text}");
+    }
+    Ok(())
+}
+
+#[test]
+fn extension_of_no_component(rt: HostRuntime) -> Result<(), Fail> {
+    let extension = string(rt.alloc(), "efi")?;
+    for text in [r"\", ""] {
+        let mut path = buffer(&rt, text)?;
+        assert!(rt;
+            !path.set_extension(extension.as_cstr16())? && is_path(&path, text),
+            "{text}"
+        );
     }
     Ok(())
 }

@@ -196,8 +196,8 @@ impl<'a> Char16Slice<'a> {
         matches_uncounted::<Brand>(pattern.units(), self.units(), Blank::new(1))
     }
 
-    /// What [`Char16Slice::matches`] does, in counted steps: each looks at one character of the pattern, and at one of
-    /// these at most.
+    /// What [`Char16Slice::matches`] does, in counted steps: each looks at two characters of the pattern at most, and at
+    /// one of these.
     pub fn matches_counted<L: Ledger>(&self, pattern: Char16Slice<'_>, steps: &mut Steps<L>) -> bool
         ensures matches { IsTrue result ↔ Matches (units_of pattern.entry) (units_of self.now) }
         ensures cost { steps.new
