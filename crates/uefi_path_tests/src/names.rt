@@ -278,7 +278,7 @@ const EXTENDED: &[(&str, &str, &str)] = &[
 ];
 
 /// Whether a path shows a text, and has as many components as the path of that text.
-fn is_path<A: Allocator + Copy>(path: &PathBuf<A>, want: CStr16<'_>) -> bool {
+fn is_path_of<A: Allocator + Copy>(path: &PathBuf<A>, want: CStr16<'_>) -> bool {
     path.to_cstr16() == want && path.components().count() == Path::new(want).components().count()
 }
 
@@ -291,8 +291,8 @@ fn takes_name(
 ) -> Result<bool, AllocError> {
     let mut path = PathBuf::from(heap, text)?;
     match path.set_file_name(name) {
-        Ok(()) => Ok(is_path(&path, want)),
-        Err(_) => out_of_memory(is_path(&path, text)),
+        Ok(()) => Ok(is_path_of(&path, want)),
+        Err(_) => out_of_memory(is_path_of(&path, text)),
     }
 }
 
@@ -305,8 +305,8 @@ fn takes_extension(
 ) -> Result<bool, AllocError> {
     let mut path = PathBuf::from(heap, text)?;
     match path.set_extension(extension) {
-        Ok(is_set) => Ok(is_set && is_path(&path, want)),
-        Err(_) => out_of_memory(is_path(&path, text)),
+        Ok(is_set) => Ok(is_set && is_path_of(&path, want)),
+        Err(_) => out_of_memory(is_path_of(&path, text)),
     }
 }
 
