@@ -5,15 +5,19 @@ import struct
 
 import samples
 
-# Bytes of vendors' GUIDs that have a shorter name, and of a RAM disk.
+# Bytes of vendors' GUIDs that have a name of their own, and of a RAM disk.
 TERMINAL = bytes.fromhex("5347c1e0bef9d2119a0c0090273fc14d")
+UART = bytes.fromhex("9d9a49372f54894ca02635da142094e4")
+UART_TEXT = "37499A9D-542F-4C89-A026-35DA142094E4"
 RAM_DISK = bytes.fromhex("5a53ab77fc454b625560f7b281d1f96e")
 # IDs of PNP with a name of their own, and one without.
 PNP = [0x0A03, 0x0A08, 0x0604, 0x0301, 0x0501, 0x0401, 0x0C08]
+# Classes of USB devices with a name of their own, and two without.
+USB_CLASSES = [0x01, 0x02, 0x03, 0x06, 0x07, 0x08, 0x09, 0x0A, 0x0B, 0x0E, 0xDC, 0xE0, 0xFE, 0xFE, 0xFE, 0x05, 0xFF]
 
 
 def nodes_of(source):
-    """A node of each kind, with the type, the sub-type and the data."""
+    """A node of each kind at least, with the type, the sub-type and the data."""
     byte = lambda: source.choice([0, 1, 9, 10, 16, 255, source.randrange(256)])
     some = lambda least, most=None: bytes(byte() for _ in range(source.randint(least, most or least)))
     word = lambda: source.choice(["a", "EFI", "B\u00e9", "x.efi", "0", "long name"])
@@ -22,14 +26,20 @@ def nodes_of(source):
     pnp = lambda: struct.pack("<HH", 0x41D0, source.choice(PNP)) if source.random() < 0.7 else some(4)
     strings = lambda: b"".join(source.choice([b"", b"ID0", b"PNP0A03"]) + b"\0" for _ in range(3))
     return [
-        (1, 1, some(2)), (1, 4, some(16, 20)),
+        (1, 1, some(2)), (1, 2, some(1)), (1, 3, some(20)), (1, 4, some(16, 20)), (1, 5, some(4)), (1, 6, some(9)),
         (2, 1, pnp() + some(4)), (2, 2, pnp() + some(4) + pnp() + strings()),
-        (3, 5, some(2)), (3, 10, guid(TERMINAL) + source.choice([b"", some(1, 4)])), (3, 11, some(32) + bytes([source.randrange(3)])),
+        (3, 1, some(4)), (3, 2, some(4)), (3, 3, some(20)), (3, 4, some(12)), (3, 5, some(2)), (3, 6, some(4)), (3, 9, some(44)),
+        (3, 10, guid(TERMINAL) + source.choice([b"", some(1, 4)])), (3, 10, UART + struct.pack("<I", source.randrange(3))),
+        (3, 11, some(32) + bytes([source.randrange(3)])),
         (3, 12, some(12) + struct.pack("<HB", source.choice([6, 17, 1]), source.randrange(3)) + source.choice([b"", some(8)])),
         (3, 13, some(36) + struct.pack("<HB", source.choice([6, 17, 1]), source.randrange(4)) + some(17)),
-        (3, 18, some(6)), (3, 23, some(12)), (3, 24, source.choice([b"", b"http://boot.example/a.efi"])), (3, 26, some(1)), (3, 29, some(1)),
+        (3, 13, some(36) + struct.pack("<HB", source.choice([6, 17, 1]), source.randrange(3))),
+        (3, 15, some(4) + bytes([source.choice(USB_CLASSES), source.choice([byte(), 1, 2, 3])]) + some(1)), (3, 17, some(1)),
+        (3, 18, some(6)), (3, 20, some(2)), (3, 21, some(20)), (3, 25, some(2)), (3, 27, some(6)), (3, 30, some(7)),
+        (3, 23, some(12)), (3, 24, source.choice([b"", b"http://boot.example/a.efi"])), (3, 26, some(1)), (3, 29, some(1)),
         (4, 1, some(36) + bytes([source.randrange(3), source.randrange(3)])), (4, 2, some(20)), (4, 3, some(16, 20)),
-        (4, 4, text().encode("utf-16-le") + b"\0\0"), (4, 6, some(16)), (4, 7, some(16)),
+        (4, 4, text().encode("utf-16-le") + b"\0\0"), (4, 5, some(16)), (4, 6, some(16)), (4, 7, some(16)),
+        (4, 8, some(20)),
         (4, 9, some(16) + guid(RAM_DISK) + some(2)),
         (5, 1, struct.pack("<HH", source.randrange(8), source.randrange(300)) + source.choice([b"", b"disk", b"C: 0"]) + b"\0"),
     ]
@@ -39,9 +49,10 @@ def many(turns):
     """Paths of one node of each kind, of all kinds together, and of two instances, as often as this."""
     source = random.Random(20261125)
     for _ in range(turns):
-        nodes = [samples.node(*it) for it in nodes_of(source)]
-        yield from (it + samples.END for it in nodes)
-        yield nodes[2] + nodes[0] + samples.END_INSTANCE + nodes[-5] + nodes[-4] + samples.END
+        nodes = nodes_of(source)
+        yield from (samples.node(*it) + samples.END for it in nodes)
+        of = {it[:2]: samples.node(*it) for it in nodes}
+        yield of[2, 1] + of[1, 1] + samples.END_INSTANCE + of[4, 4] + of[4, 6] + samples.END
 
 
 def with_number(text):
@@ -55,6 +66,7 @@ KNOWN = [
     ("AcpiEx in fewer words", lambda ours, theirs: ours.startswith("AcpiEx(") and theirs.startswith(("AcpiEx(", "AcpiExp(", "PciRoot(", "PcieRoot("))),
     ("AcpiExp in fewer words", lambda ours, theirs: ours.startswith("AcpiExp(") and theirs.startswith(("PciRoot(", "PcieRoot("))),
     ("the shorter name of a vendor, and data lost", lambda ours, theirs: ours.startswith("VenMsg(E0C14753-F9BE-11D2-9A0C-0090273FC14D,") and theirs == "VenPcAnsi()"),
+    ("flow control without shortcuts", lambda ours, theirs: ours.startswith("UartFlowCtrl(") and theirs.startswith(f"VenMsg({UART_TEXT},")),
     ("a number as one below 0", lambda ours, theirs: ours == with_number(theirs) != theirs),
 ]
 
