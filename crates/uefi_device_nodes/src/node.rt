@@ -43,8 +43,161 @@ pub struct DeviceSubType(
 );
 
 impl DeviceSubType {
+    /// Of [`DeviceType::HARDWARE`]: a device on a PCI bus.
+    pub const HARDWARE_PCI: DeviceSubType = DeviceSubType(0x01);
+
+    /// Of [`DeviceType::HARDWARE`]: a PC card.
+    pub const HARDWARE_PCCARD: DeviceSubType = DeviceSubType(0x02);
+
+    /// Of [`DeviceType::HARDWARE`]: memory.
+    pub const HARDWARE_MEMORY_MAPPED: DeviceSubType = DeviceSubType(0x03);
+
+    /// Of [`DeviceType::HARDWARE`]: a vendor's own.
+    pub const HARDWARE_VENDOR: DeviceSubType = DeviceSubType(0x04);
+
+    /// Of [`DeviceType::HARDWARE`]: a controller.
+    pub const HARDWARE_CONTROLLER: DeviceSubType = DeviceSubType(0x05);
+
+    /// Of [`DeviceType::HARDWARE`]: the interface of a management controller.
+    pub const HARDWARE_BMC: DeviceSubType = DeviceSubType(0x06);
+
+    /// Of [`DeviceType::ACPI`]: a device with two numbers.
+    pub const ACPI: DeviceSubType = DeviceSubType(0x01);
+
+    /// Of [`DeviceType::ACPI`]: a device with numbers and strings.
+    pub const ACPI_EXPANDED: DeviceSubType = DeviceSubType(0x02);
+
+    /// Of [`DeviceType::ACPI`]: the outputs of a display adapter.
+    pub const ACPI_ADR: DeviceSubType = DeviceSubType(0x03);
+
+    /// Of [`DeviceType::ACPI`]: a persistent memory module.
+    pub const ACPI_NVDIMM: DeviceSubType = DeviceSubType(0x04);
+
+    /// Of [`DeviceType::MESSAGING`]: an ATAPI drive.
+    pub const MESSAGING_ATAPI: DeviceSubType = DeviceSubType(0x01);
+
+    /// Of [`DeviceType::MESSAGING`]: a SCSI device.
+    pub const MESSAGING_SCSI: DeviceSubType = DeviceSubType(0x02);
+
+    /// Of [`DeviceType::MESSAGING`]: a device on Fibre Channel.
+    pub const MESSAGING_FIBRE_CHANNEL: DeviceSubType = DeviceSubType(0x03);
+
+    /// Of [`DeviceType::MESSAGING`]: a FireWire device.
+    pub const MESSAGING_1394: DeviceSubType = DeviceSubType(0x04);
+
+    /// Of [`DeviceType::MESSAGING`]: a device on a USB bus.
+    pub const MESSAGING_USB: DeviceSubType = DeviceSubType(0x05);
+
+    /// Of [`DeviceType::MESSAGING`]: an I2O device.
+    pub const MESSAGING_I2O: DeviceSubType = DeviceSubType(0x06);
+
+    /// Of [`DeviceType::MESSAGING`]: a device on InfiniBand.
+    pub const MESSAGING_INFINIBAND: DeviceSubType = DeviceSubType(0x09);
+
+    /// Of [`DeviceType::MESSAGING`]: a vendor's own.
+    pub const MESSAGING_VENDOR: DeviceSubType = DeviceSubType(0x0a);
+
+    /// Of [`DeviceType::MESSAGING`]: a network interface.
+    pub const MESSAGING_MAC_ADDRESS: DeviceSubType = DeviceSubType(0x0b);
+
+    /// Of [`DeviceType::MESSAGING`]: a connection over IP version 4.
+    pub const MESSAGING_IPV4: DeviceSubType = DeviceSubType(0x0c);
+
+    /// Of [`DeviceType::MESSAGING`]: a connection over IP version 6.
+    pub const MESSAGING_IPV6: DeviceSubType = DeviceSubType(0x0d);
+
+    /// Of [`DeviceType::MESSAGING`]: a serial port.
+    pub const MESSAGING_UART: DeviceSubType = DeviceSubType(0x0e);
+
+    /// Of [`DeviceType::MESSAGING`]: a class of USB devices.
+    pub const MESSAGING_USB_CLASS: DeviceSubType = DeviceSubType(0x0f);
+
+    /// Of [`DeviceType::MESSAGING`]: a USB device by its serial number.
+    pub const MESSAGING_USB_WWID: DeviceSubType = DeviceSubType(0x10);
+
+    /// Of [`DeviceType::MESSAGING`]: a logical unit.
+    pub const MESSAGING_DEVICE_LOGICAL_UNIT: DeviceSubType = DeviceSubType(0x11);
+
+    /// Of [`DeviceType::MESSAGING`]: a device on SATA.
+    pub const MESSAGING_SATA: DeviceSubType = DeviceSubType(0x12);
+
+    /// Of [`DeviceType::MESSAGING`]: an iSCSI target.
+    pub const MESSAGING_ISCSI: DeviceSubType = DeviceSubType(0x13);
+
+    /// Of [`DeviceType::MESSAGING`]: a virtual network.
+    pub const MESSAGING_VLAN: DeviceSubType = DeviceSubType(0x14);
+
+    /// Of [`DeviceType::MESSAGING`]: a device on Fibre Channel, with its bytes in order.
+    pub const MESSAGING_FIBRE_CHANNEL_EX: DeviceSubType = DeviceSubType(0x15);
+
+    /// Of [`DeviceType::MESSAGING`]: a device on SAS.
+    pub const MESSAGING_SCSI_SAS_EX: DeviceSubType = DeviceSubType(0x16);
+
+    /// Of [`DeviceType::MESSAGING`]: a namespace of an NVMe drive.
+    pub const MESSAGING_NVME_NAMESPACE: DeviceSubType = DeviceSubType(0x17);
+
+    /// Of [`DeviceType::MESSAGING`]: a URI.
+    pub const MESSAGING_URI: DeviceSubType = DeviceSubType(0x18);
+
+    /// Of [`DeviceType::MESSAGING`]: a device on UFS.
+    pub const MESSAGING_UFS: DeviceSubType = DeviceSubType(0x19);
+
+    /// Of [`DeviceType::MESSAGING`]: an SD card.
+    pub const MESSAGING_SD: DeviceSubType = DeviceSubType(0x1a);
+
+    /// Of [`DeviceType::MESSAGING`]: a Bluetooth device.
+    pub const MESSAGING_BLUETOOTH: DeviceSubType = DeviceSubType(0x1b);
+
+    /// Of [`DeviceType::MESSAGING`]: a wireless network.
+    pub const MESSAGING_WIFI: DeviceSubType = DeviceSubType(0x1c);
+
+    /// Of [`DeviceType::MESSAGING`]: an eMMC device.
+    pub const MESSAGING_EMMC: DeviceSubType = DeviceSubType(0x1d);
+
+    /// Of [`DeviceType::MESSAGING`]: a Bluetooth Low Energy device.
+    pub const MESSAGING_BLUETOOTH_LE: DeviceSubType = DeviceSubType(0x1e);
+
+    /// Of [`DeviceType::MESSAGING`]: name servers.
+    pub const MESSAGING_DNS: DeviceSubType = DeviceSubType(0x1f);
+
+    /// Of [`DeviceType::MESSAGING`]: a namespace of a persistent memory module.
+    pub const MESSAGING_NVDIMM_NAMESPACE: DeviceSubType = DeviceSubType(0x20);
+
+    /// Of [`DeviceType::MESSAGING`]: a REST service.
+    pub const MESSAGING_REST_SERVICE: DeviceSubType = DeviceSubType(0x21);
+
+    /// Of [`DeviceType::MESSAGING`]: a namespace of an NVMe drive over a network.
+    pub const MESSAGING_NVME_OF_NAMESPACE: DeviceSubType = DeviceSubType(0x22);
+
+    /// Of [`DeviceType::MEDIA`]: a partition.
+    pub const MEDIA_HARD_DRIVE: DeviceSubType = DeviceSubType(0x01);
+
+    /// Of [`DeviceType::MEDIA`]: a boot entry of a CD-ROM.
+    pub const MEDIA_CD_ROM: DeviceSubType = DeviceSubType(0x02);
+
+    /// Of [`DeviceType::MEDIA`]: a vendor's own.
+    pub const MEDIA_VENDOR: DeviceSubType = DeviceSubType(0x03);
+
     /// Of [`DeviceType::MEDIA`]: a file.
     pub const MEDIA_FILE_PATH: DeviceSubType = DeviceSubType(0x04);
+
+    /// Of [`DeviceType::MEDIA`]: a protocol.
+    pub const MEDIA_PROTOCOL: DeviceSubType = DeviceSubType(0x05);
+
+    /// Of [`DeviceType::MEDIA`]: a file of a firmware volume.
+    pub const MEDIA_PIWG_FIRMWARE_FILE: DeviceSubType = DeviceSubType(0x06);
+
+    /// Of [`DeviceType::MEDIA`]: a firmware volume.
+    pub const MEDIA_PIWG_FIRMWARE_VOLUME: DeviceSubType = DeviceSubType(0x07);
+
+    /// Of [`DeviceType::MEDIA`]: a range of bytes.
+    pub const MEDIA_RELATIVE_OFFSET_RANGE: DeviceSubType = DeviceSubType(0x08);
+
+    /// Of [`DeviceType::MEDIA`]: a RAM disk.
+    pub const MEDIA_RAM_DISK: DeviceSubType = DeviceSubType(0x09);
+
+    /// Of [`DeviceType::BIOS_BOOT_SPEC`]: what a legacy BIOS can boot.
+    pub const BIOS_BOOT_SPECIFICATION: DeviceSubType = DeviceSubType(0x01);
 
     /// Of [`DeviceType::END`]: the end of an instance, after which another follows.
     pub const END_INSTANCE: DeviceSubType = DeviceSubType(0x01);
