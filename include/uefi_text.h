@@ -1,8 +1,8 @@
 /*
  * Strings, packed code units, paths, device paths and load options as UEFI firmware holds them.
  *
- * Each call is proved to do what its comment says, for every input, where its caller keeps these rules. No call can test
- * them:
+ * Each call has a contract that is proved for every input where its caller keeps these rules (crates/uefi_c/CALLING.md); the
+ * comments here say in words what the contracts say. No call can test the rules:
  *
  * - A pointer is never null, also where the count is 0.
  * - It is aligned as its type asks: one to units, and one to a character, to two bytes, one to a size or a struct to eight.
