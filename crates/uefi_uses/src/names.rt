@@ -1,5 +1,5 @@
 //! The length of a name.
-ghost use Rattle.std.specs.Prelude.{◌≡◌, ◌×◌, List, ℕ, IfOk, length};
+ghost use Rattle.std.specs.Prelude.{◌≡◌, List, ℕ, IfOk, length};
 ghost use Rattle.std.specs.Result.{result_err};
 ghost use Rattle.uefi_text.specs.FromSliceWithNul.{with_nul_refusal};
 ghost use Rattle.uefi_text.specs.Units.{nul_terminated};

@@ -1,4 +1,5 @@
 use crate::entries::{line_of_entry, starts_by_itself};
+use crate::loaders::is_offered;
 use crate::names::name_len;
 use crate::paths::{EntryError, entry_path};
 use crate::stored::is_entry;
@@ -74,6 +75,23 @@ fn names(rt: HostRuntime) {
         name_len(&[0x48, 0xd800, 0]),
         Err(FromSliceWithNulError::InvalidChar(1))
     );
+}
+
+/// Whether the menu of `\EFI\menu\Menu.efi` offers a file.
+fn offers(rt: &HostRuntime, file: &str) -> Result<bool, Fail> {
+    let pattern = CString16::try_from_str(rt.alloc(), "\\EFI\\*\\*.efi")?;
+    let menu = CString16::try_from_str(rt.alloc(), "\\EFI\\menu\\Menu.efi")?;
+    let file = CString16::try_from_str(rt.alloc(), file)?;
+    let (file, pattern) = (Path::new(file.as_cstr16()), Path::new(pattern.as_cstr16()));
+    Ok(is_offered(file, pattern, Path::new(menu.as_cstr16())))
+}
+
+#[test]
+fn loaders(rt: HostRuntime) -> Result<(), Fail> {
+    assert!(rt; offers(&rt, "\\efi\\Debian\\SHIMX64.EFI")?);
+    assert!(rt; !offers(&rt, "\\EFI\\MENU\\menu.EFI")?);
+    assert!(rt; !offers(&rt, "\\EFI\\shimx64.efi")?);
+    Ok(())
 }
 
 /// An active entry with one device path.

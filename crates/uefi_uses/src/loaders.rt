@@ -1,0 +1,17 @@
+//! The files that a menu offers.
+ghost use Rattle.std.specs.Prelude.{◌≡◌, ◌↔◌, ¬◌, IsTrue};
+ghost use Rattle.uefi_path.specs.WithoutCase.{MatchesPath};
+ghost use Rattle.uefi_path.specs.Separators.{canonical};
+ghost use Rattle.uefi_path.specs.Views.{path_text};
+ghost use Rattle.uefi_text.specs.Case.{uppers};
+
+use uefi_path::Path;
+
+/// Whether a menu offers to start a file: its path matches a pattern such as `\EFI\*\*.efi`, and is not that of the menu
+/// itself. Upper and lower case are the same for both, as they are for firmware.
+pub fn is_offered(file: Path<'_>, pattern: Path<'_>, menu: Path<'_>) -> bool
+    ensures { IsTrue result ↔ MatchesPath (path_text pattern.entry) (path_text file.entry)
+        × ¬ (uppers (canonical (path_text file.entry)) ≡ uppers (canonical (path_text menu.entry))) }
+{
+    file.matches(pattern) && !file.eq_ignore_case(menu)
+}
