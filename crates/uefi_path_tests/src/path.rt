@@ -4,7 +4,7 @@ use crate::fixtures::buffer;
 use for_tests::{are_ordered, has_text, prints, string};
 use std::cmp::Ordering::{self, Equal, Greater, Less};
 use std::test::Fail;
-use uefi_path::{Components, Path, PathBuf};
+use uefi_path::{Path, PathBuf};
 
 /// Whether the borrowed paths of two texts stand in the first order, and their buffers in the second.
 fn compare(
@@ -73,19 +73,15 @@ fn file_names(rt: HostRuntime) -> Result<(), Fail> {
     Ok(())
 }
 
-/// How many components there are, if any are given.
-fn count_of(components: Option<Components<'_>>) -> Option<usize> {
-    match components {
-        Some(components) => Some(components.count()),
-        None => None,
-    }
-}
-
 /// Whether a path starts with another, and then has this many components after those of it.
 fn leaves(path: &PathBuf, base: Path<'_>, want: Option<usize>) -> bool {
-    path.starts_with(base) == want.is_some()
+    let is_left = match path.strip_prefix(base) {
+        Some(rest) => want == Some(rest.count()),
+        None => want.is_none(),
+    };
+    is_left
+        && path.starts_with(base) == want.is_some()
         && path.as_path().starts_with(base) == want.is_some()
-        && count_of(path.strip_prefix(base)) == want
         && path.as_path().strip_prefix(base).is_some() == want.is_some()
 }
 

@@ -1,5 +1,5 @@
 //! The files that a menu offers.
-ghost use Rattle.std.specs.Prelude.{◌≡◌, ◌↔◌, ¬◌, IsTrue};
+ghost use Rattle.std.specs.Prelude.{◌≡◌, ◌↔◌, IsTrue};
 ghost use Rattle.uefi_path.specs.WithoutCase.{MatchesPath};
 ghost use Rattle.uefi_path.specs.Separators.{canonical};
 ghost use Rattle.uefi_path.specs.Views.{path_text};
