@@ -1,5 +1,5 @@
-//! Callers of the library, with contracts of their own: what a boot menu does with its entries. The page of each crate
-//! shows one of them.
+//! Callers of the library, with contracts of their own: what a boot menu does with its entries. The
+//! page of each crate shows one of them.
 //!
 //! They stand where a crate of another repository would: on public clauses alone, with no proof file.
 #![tactic(auto)]

@@ -7,8 +7,8 @@ ghost use Rattle.uefi_text.specs.Case.{uppers};
 
 use uefi_path::Path;
 
-/// Whether a menu offers to start a file: its path matches a pattern such as `\EFI\*\*.efi`, and is not that of the menu
-/// itself. Upper and lower case are the same for both, as they are for firmware.
+/// Whether a menu offers to start a file: its path matches a pattern such as `\EFI\*\*.efi`, and is
+/// not that of the menu itself. Case makes no difference to either, as it makes none to firmware.
 pub fn is_offered(file: Path<'_>, pattern: Path<'_>, menu: Path<'_>) -> bool
     ensures { IsTrue result ↔ MatchesPath (path_text pattern.entry) (path_text file.entry)
         × ¬ (uppers (canonical (path_text file.entry)) ≡ uppers (canonical (path_text menu.entry))) }
