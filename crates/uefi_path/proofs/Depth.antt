@@ -19,10 +19,10 @@ use Rattle.uefi_path.proofs.Rewriting.{kind-DotDot, kind-Name, name_kind}
 abbrev pub Accepted : List (List ℕ) → ℕ → Type 0
 Accepted cs depth = first_fault cs depth ≡ None
 
-abbrev AcceptedAt : List (List ℕ) → Option ℕ → Type 0
+abbrev pub AcceptedAt : List (List ℕ) → Option ℕ → Type 0
 AcceptedAt cs left = fault_at left (first_fault cs) ≡ None
 
-first_accepted : (c : List ℕ) (cs : List (List ℕ)) (depth : ℕ) → Accepted (c ∷ cs) depth
+pub first_accepted : (c : List ℕ) (cs : List (List ℕ)) (depth : ℕ) → Accepted (c ∷ cs) depth
     → IsGood c × AcceptedAt cs (depth_after (kind c) depth)
 first_accepted c cs depth accepted = neither (fault c) _ accepted
   where
@@ -30,7 +30,7 @@ first_accepted c cs depth accepted = neither (fault c) _ accepted
     neither None second e = (refl, e)
     neither (Some error) second e = absurd (cc)
 
-with_first : (c : List ℕ) (cs : List (List ℕ)) (depth : ℕ) → IsGood c → AcceptedAt cs (depth_after (kind c) depth)
+pub with_first : (c : List ℕ) (cs : List (List ℕ)) (depth : ℕ) → IsGood c → AcceptedAt cs (depth_after (kind c) depth)
     → Accepted (c ∷ cs) depth
 with_first c cs depth good others =
     ap (λ o. option_or o (fault_at (depth_after (kind c) depth) (first_fault cs))) good ∙ others

@@ -31,3 +31,4 @@ pub mod PathsWithoutCase
 mod LastPlaces
 pub mod FaultPlaces
 mod Renamed
+mod Refusals

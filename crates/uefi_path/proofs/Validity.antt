@@ -3,7 +3,7 @@ use Rattle.uefi_text.specs.Units.{replaced}
 use Rattle.std.proofs.Common.{◌≡◌, ◌≢◌, ℕ, List, [], ◌∷◌, ◌++◌, if◌then◌else◌, All, Bool, true, false, Option, None, Some, inl, inr, ap, sym, refl, subst, ◌∙◌, ◌⊎◌, arith, length, length-append}
 use Rattle.std.specs.List.{find}
 use Rattle.std.specs.Option.{option_map}
-use Rattle.std.proofs.lemmas.Bool.{cases_Bool, cond-false, cond-true, eqb-true, true≢false}
+use Rattle.std.proofs.lemmas.Bool.{cases_Bool, cond-false, cond-true, eqb-true, false≢true, ne_eqb, true≢false}
 use Rattle.std.proofs.lemmas.List.Elements.{All-append, All-cons, All-head, All-nil, All-tail, All-weaker}
 use Rattle.uefi_path.specs.Components.{IsPiece, components_of, joined}
 use Rattle.uefi_path.specs.Parents.{is_non_empty}
@@ -13,7 +13,7 @@ use Rattle.uefi_path.specs.Verdicts.{IsGood, first_fault, is_denied, verdict}
 use Rattle.uefi_path.specs.declared.validation.PathError.TheVariants.{IllegalChar}
 use Rattle.uefi_path.proofs.Depth.{Accepted, Accepted-append, good_components}
 use Rattle.uefi_path.proofs.Joining.{canonical-no, canonical-yes, components_of-pushed}
-use Rattle.uefi_path.proofs.Parents.{after_separator, open_joined}
+use Rattle.uefi_path.proofs.Parents.{IsFull, after_separator, open_joined}
 use Rattle.uefi_path.proofs.Pushing.{separator_is_plain}
 use Rattle.uefi_path.proofs.Splitting.{AreComponents-components_of}
 
@@ -127,20 +127,35 @@ open_canonical (u ∷ us) missing =
       | inr other ↦ ap needs_separator (sym (canonical-no u us other)) ∙ missing
     ]
 
-open_pieces : (text : List ℕ) (cs : List (List ℕ)) → joined cs ≡ canonical text → All IsGood cs
+open_pieces : (text : List ℕ) (cs : List (List ℕ)) → joined cs ≡ canonical text → All IsPiece cs → All IsFull cs
     → (canonical text ≡ []) ⊎ (needs_separator text ≡ true)
-open_pieces text [] e good = inl (sym e)
-open_pieces text (c ∷ cs) e good =
-    inr (open_canonical text
-    (ap needs_separator (sym e)
-    ∙ open_joined c cs (All-good_piece (c ∷ cs) good) (All-good_non_empty (c ∷ cs) good)))
+open_pieces text [] e pieces full = inl (sym e)
+open_pieces text (c ∷ cs) e pieces full = inr (open_canonical text (ap needs_separator (sym e) ∙ open_joined c cs pieces full))
+
+-- a text whose components are not empty has none, or ends in no separator
+pub full-open : (text : List ℕ) → All IsFull (components_of text) → (canonical text ≡ []) ⊎ (needs_separator text ≡ true)
+full-open text full =
+    let are = AreComponents-components_of text in open_pieces text (components_of text) are.join are.are_pieces full
+
+-- and its canonical text begins with none
+relative_pieces : (text : List ℕ) (cs : List (List ℕ)) → joined cs ≡ text → All IsPiece cs → All IsFull cs → canonical text ≡ text
+relative_pieces text [] e pieces full = ap canonical (sym e) ∙ e
+relative_pieces text ([] ∷ cs) e pieces full = absurd (false≢true (All-head IsFull [] cs full))
+relative_pieces text ((u ∷ us) ∷ []) e pieces full =
+    let other = ne_eqb u separator (All-head (λ unit. unit ≢ separator) u us (All-head IsPiece (u ∷ us) [] pieces)) in
+    ap canonical (sym e) ∙ canonical-no u us other ∙ e
+relative_pieces text ((u ∷ us) ∷ q ∷ ps) e pieces full =
+    let other = ne_eqb u separator (All-head (λ unit. unit ≢ separator) u us (All-head IsPiece (u ∷ us) (q ∷ ps) pieces)) in
+    ap canonical (sym e) ∙ canonical-no u (us ++ separator ∷ joined (q ∷ ps)) other ∙ e
+
+pub full-relative : (text : List ℕ) → All IsFull (components_of text) → canonical (canonical text) ≡ canonical text
+full-relative text full =
+    let are = AreComponents-components_of text in relative_pieces (canonical text) (components_of text) are.join are.are_pieces full
 
 -- a valid text has no component or ends in no separator
 pub valid-open : (text : List ℕ) → verdict text ≡ None
     → (canonical text ≡ []) ⊎ (needs_separator text ≡ true)
-valid-open text valid =
-    open_pieces text (components_of text) (AreComponents-components_of text).join
-    (valid-components text valid)
+valid-open text valid = full-open text (All-good_non_empty (components_of text) (valid-components text valid))
 
 appended-non_empty : (text : List ℕ) (u : ℕ) (us : List ℕ) → appended text (u ∷ us) ≢ []
 appended-non_empty text u us =

@@ -5,13 +5,16 @@ use Rattle.std.specs.Cmp.Lexicographic.{pointwise, slice_cmp}
 use Rattle.std.specs.Ordering.{nat_cmp}
 use Rattle.std.specs.declared.cmp.Ordering.{Ordering}
 use Rattle.std.specs.declared.cmp.Ordering.TheVariants.{Equal}
+use Rattle.uefi_path.specs.Climbing.{NoneClimbs, dot_dots, names}
 use Rattle.uefi_path.specs.Components.{AreComponents, components_of}
-use Rattle.uefi_path.specs.NormalForms.{IsName, NormalForm, Rewrites, normal_of, normal_text}
+use Rattle.uefi_path.specs.NormalForms.{IsName, NormalForm, dot_dot, Rewrites, normal_of, normal_text}
 use Rattle.uefi_path.specs.Parents.{parent_text}
 use Rattle.uefi_path.specs.Pushing.{needs_separator, pushed}
 use Rattle.uefi_path.specs.Separators.{IsPlain, canonical, is_separator, separator}
 use Rattle.uefi_path.specs.SuccessiveParents.{AreParents, parents_of, shorter_prefixes}
-use Rattle.uefi_path.specs.Verdicts.{IsGood, IsValid, verdict}
+use Rattle.uefi_path.specs.Verdicts.{IsGood, IsValid, fault, verdict}
+use Rattle.uefi_path.specs.declared.validation.PathError.{PathError}
+use Rattle.uefi_path.specs.declared.validation.PathError.TheVariants.{ClimbsAboveRoot, Empty}
 
 -- every text has components
 abbrev pub TextsHaveComponents : Type 0
@@ -101,6 +104,28 @@ ComponentsAreJoined = (text part : List ℕ) → TakesMore text → IsPlain part
 abbrev pub JoinedAreValid : Type 0
 JoinedAreValid = (text part : List ℕ) → verdict text ≡ None → verdict part ≡ None → IsRelative part
     → verdict (pushed text part) ≡ None
+
+-- a text whose components are not empty takes a part after it, and its canonical text is relative
+abbrev pub FullTextsTakeMore : Type 0
+FullTextsTakeMore = (text : List ℕ) → All (λ component. component ≢ []) (components_of text)
+    → TakesMore text × IsRelative (canonical text)
+
+-- the first component for which a path is refused: those before it are good and none of them climbs, and it names no
+-- file, or is a `..` before which at least as many `..` as names stand
+pub record IsRefusedFor (components : List (List ℕ)) (error : PathError) : Type 0 where
+  pub front : List (List ℕ)
+  pub component : List ℕ
+  pub rest : List (List ℕ)
+  pub split : components ≡ front ++ component ∷ rest
+  pub good : All IsGood front
+  pub none_climbs : NoneClimbs front
+  pub why : (fault component ≡ Some error)
+      ⊎ ((component ≡ dot_dot) × (names front ≤ dot_dots front) × (error ≡ ClimbsAboveRoot))
+
+-- a path is refused as empty, or for the first of its components that has a fault or climbs
+abbrev pub RefusedForFirst : Type 0
+RefusedForFirst = (text : List ℕ) (error : PathError) → (verdict text ≡ Some error)
+    ↔ (((text ≡ []) × (error ≡ Empty)) ⊎ ((text ≢ []) × IsRefusedFor (components_of text) error))
 
 -- equal paths that have components stay equal when the same is pushed on both
 abbrev pub JoinedAreSame : Type 0

@@ -5,9 +5,9 @@ ghost use Rattle.uefi_path.specs.FileNames.{NamedOnce, NamedOrNot};
 ghost use Rattle.uefi_path.specs.Laws.{AreComponentsWhereSame, ComponentsOnce, NoComponentsOfEmpty, OneMoreThanSeparators, TextsHaveComponents};
 ghost use Rattle.uefi_path.specs.Laws.{EqualWhereSameCanonical, EqualityIsEquivalence, OrderIsTotal, OrderTiesEqual, SameParent};
 ghost use Rattle.uefi_path.specs.Laws.{EmptyAfterIsUnit, EmptyBeforeIsUnit, PushingIsAssociative};
-ghost use Rattle.uefi_path.specs.Laws.{ComponentsAreJoined, JoinedAreSame, JoinedAreValid};
+ghost use Rattle.uefi_path.specs.Laws.{ComponentsAreJoined, FullTextsTakeMore, JoinedAreSame, JoinedAreValid};
 ghost use Rattle.uefi_path.specs.Laws.{ParentIsNotDoubled, ParentIsRelative, ParentIsValid};
-ghost use Rattle.uefi_path.specs.Laws.{CanonicalIsEqual, ComponentsRebuild, ParentOfJoined, ValidWhereUnrefused};
+ghost use Rattle.uefi_path.specs.Laws.{CanonicalIsEqual, ComponentsRebuild, ParentOfJoined, RefusedForFirst, ValidWhereUnrefused};
 ghost use Rattle.uefi_path.specs.Laws.{AreParentsWhereSame, FewerParents, ParentsArePrefixes, ParentsOfAreParents, WalkingUpEnds};
 ghost use Rattle.uefi_path.specs.Laws.{NormalFormWhereSame, NormalFormsAgree, NormalFormsExist, NormalFormsOnce, NormalHoldsNames, NormalIsNormal, NormalIsValid, NormalPathsAgree};
 
@@ -24,6 +24,12 @@ pub fn split_once()
 /// A path is valid exactly where `validate_path` does not refuse it.
 pub fn validity()
     ensures { ValidWhereUnrefused }
+{}
+
+/// A path is refused as empty, or for its first component that names no file or climbs above the root: those
+/// before it are good and none of them climbs.
+pub fn refused_for_first()
+    ensures { RefusedForFirst }
 {}
 
 /// Equal paths have the same parent, or both have none.
@@ -51,7 +57,8 @@ pub fn join_monoid()
 /// The components of two joined paths are those of the first and then those of the second, where
 /// the first ends in no separator, or is empty or the root, and the second begins with none.
 pub fn join_components()
-    ensures { ComponentsAreJoined }
+    ensures joined { ComponentsAreJoined }
+    ensures full { FullTextsTakeMore }
 {}
 
 /// Two valid paths, of which the second begins with no separator, join to a valid one.

@@ -1,5 +1,19 @@
+use Rattle.std.proofs.Common.{◌≢◌, List, [], ◌∷◌, ℕ, refl}
+use Rattle.std.proofs.lemmas.List.Elements.{All-weaker}
+use Rattle.uefi_path.specs.Components.{components_of}
 use Rattle.uefi_path.proofs.Joining.{components_of-pushed}
+use Rattle.uefi_path.proofs.Parents.{IsFull}
+use Rattle.uefi_path.proofs.Validity.{full-open, full-relative}
 use Rattle.uefi_path.proofs.laws.join_components.Goals as goal
 
-pub returns : goal.returns
-returns c text part takes plain relative = components_of-pushed text part plain takes relative
+full : (component : List ℕ) → component ≢ [] → IsFull component
+full [] some = absurd (some refl)
+full (u ∷ us) some = refl
+
+pub returns-clause-joined : goal.returns-clause-joined
+returns-clause-joined c text part takes plain relative = components_of-pushed text part plain takes relative
+
+pub returns-clause-full : goal.returns-clause-full
+returns-clause-full c text some =
+    let all = All-weaker (λ component. component ≢ []) IsFull full (components_of text) some in
+    (full-open text all, full-relative text all)
