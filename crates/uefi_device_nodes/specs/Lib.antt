@@ -5,3 +5,5 @@ pub mod NodeViews
 pub mod NodeErrorTexts
 pub mod TypedNodes
 pub mod NodeTexts
+pub mod Layouts
+pub mod NodeEnums

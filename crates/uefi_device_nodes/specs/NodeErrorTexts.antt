@@ -18,3 +18,4 @@ node_error_text node.BeyondEnd = codes "a node's length is more than the bytes h
 abbrev pub node_conversion_error_text : NodeConversionError → List ℕ
 node_conversion_error_text conversion.DifferentType = codes "the node is of another type or sub-type"
 node_conversion_error_text conversion.InvalidLength = codes "no node of this kind has this length"
+node_conversion_error_text conversion.UnsupportedType = codes "no kind has this type and sub-type"

@@ -19,7 +19,7 @@ printed_node text = node_text text.display_only text.allow_shortcuts (node_of te
 unfoldable pub file_node : FilePath → Node
 file_node path = node_of path.node
 
-module _ {K : Type 0} {P : _} where
+module _ {kind sub_kind least : ℕ} where
   -- the data of a node of a kind
-  unfoldable pub data_of : TypedNode K P → List ℕ
+  unfoldable pub data_of : TypedNode kind sub_kind least → List ℕ
   data_of node = node.data.now

@@ -1,34 +1,20 @@
 //! Nodes of type ACPI (UEFI Specification 2.10, section 10.3.3).
 #![tactic(auto)]
 
-ghost use Rattle.std.specs.Prelude.{◌≡◌, drop};
+ghost use Rattle.std.specs.Prelude.{◌≡◌, ◌/◌, drop, length};
+ghost use Rattle.uefi_field_texts.specs.FieldTexts.{cid_string, hid_string, uid_string};
 ghost use Rattle.uefi_device_nodes.specs.TypedNodes.{number_at};
+ghost use Rattle.uefi_text.specs.Packed.{packed_items};
+ghost use Rattle.uefi_text.specs.Views.{items_of};
 
-use crate::typed_node::{NodeKind, TypedNode};
-
-/// The kind of [`Acpi`].
-#[derive(Clone, Copy)]
-pub struct AcpiKind;
-
-/// The numbers of its layout in the UEFI Specification.
-impl NodeKind for AcpiKind {
-    const DEVICE_TYPE: u8 = 2;
-
-    ghost DEVICE_TYPE = { 2 };
-
-    const SUB_TYPE: u8 = 1;
-
-    ghost SUB_TYPE = { 1 };
-
-    const LEAST: usize = 8;
-
-    ghost LEAST = { 8 };
-}
+use crate::typed_node::TypedNode;
+use uefi_field_texts::ids::id_strings;
+use uefi_text::UnalignedSlice;
 
 /// A device that ACPI names by two numbers.
-pub type Acpi<'a> = TypedNode<'a, AcpiKind>;
+pub type Acpi<'a> = TypedNode<'a, 2, 1, 8>;
 
-impl<'a> TypedNode<'a, AcpiKind> {
+impl<'a> Acpi<'a> {
     ghost use Rattle.uefi_device_nodes.specs.NodeViews.{data_of};
 
     /// The number of its hardware ID, `_HID`.
@@ -46,29 +32,10 @@ impl<'a> TypedNode<'a, AcpiKind> {
     }
 }
 
-/// The kind of [`Expanded`].
-#[derive(Clone, Copy)]
-pub struct ExpandedKind;
-
-/// The numbers of its layout in the UEFI Specification.
-impl NodeKind for ExpandedKind {
-    const DEVICE_TYPE: u8 = 2;
-
-    ghost DEVICE_TYPE = { 2 };
-
-    const SUB_TYPE: u8 = 2;
-
-    ghost SUB_TYPE = { 2 };
-
-    const LEAST: usize = 15;
-
-    ghost LEAST = { 15 };
-}
-
 /// A device that ACPI names by numbers or by strings.
-pub type Expanded<'a> = TypedNode<'a, ExpandedKind>;
+pub type Expanded<'a> = TypedNode<'a, 2, 2, 15>;
 
-impl<'a> TypedNode<'a, ExpandedKind> {
+impl<'a> Expanded<'a> {
     ghost use Rattle.uefi_device_nodes.specs.NodeViews.{data_of};
 
     /// The number of its hardware ID, `_HID`.
@@ -97,5 +64,55 @@ impl<'a> TypedNode<'a, ExpandedKind> {
         ensures { result.now ≡ drop 12 (data_of self.now) }
     {
         self.tail(12)
+    }
+
+    /// The string of `_HID`, without its NUL.
+    pub fn hid_str(&self) -> &'a [u8]
+        ensures { result.now ≡ hid_string (drop 12 (data_of self.now)) }
+    {
+        id_strings(self.id_strings()).hid
+    }
+
+    /// The string of `_UID`, without its NUL; empty where the data ends before it.
+    pub fn uid_str(&self) -> &'a [u8]
+        ensures { result.now ≡ uid_string (drop 12 (data_of self.now)) }
+    {
+        id_strings(self.id_strings()).uid
+    }
+
+    /// The string of `_CID`, without its NUL; empty where the data ends before it.
+    pub fn cid_str(&self) -> &'a [u8]
+        ensures { result.now ≡ cid_string (drop 12 (data_of self.now)) }
+    {
+        id_strings(self.id_strings()).cid
+    }
+}
+
+/// The outputs of a display adapter.
+pub type Adr<'a> = TypedNode<'a, 2, 3, 4>;
+
+impl<'a> Adr<'a> {
+    ghost use Rattle.uefi_device_nodes.specs.NodeViews.{data_of};
+
+    /// The `_ADR` values of the outputs, one or more. Bytes after the last whole one are left out.
+    pub fn adr(&self) -> UnalignedSlice<'a, u32>
+        ensures { items_of result ≡ packed_items 4 (length (data_of self.now) / 4) (data_of self.now) }
+    {
+        let values = self.data();
+        UnalignedSlice::new(values, values.len() / 4)
+    }
+}
+
+/// A persistent memory module.
+pub type Nvdimm<'a> = TypedNode<'a, 2, 4, 4>;
+
+impl<'a> Nvdimm<'a> {
+    ghost use Rattle.uefi_device_nodes.specs.NodeViews.{data_of};
+
+    /// The handle of the module in the table NFIT.
+    pub fn nfit_device_handle(&self) -> u32
+        ensures { result ≡ number_at 0 4 (data_of self.now) }
+    {
+        self.number(0)
     }
 }

@@ -4,31 +4,12 @@
 ghost use Rattle.std.specs.Prelude.{◌≡◌, drop};
 ghost use Rattle.uefi_device_nodes.specs.TypedNodes.{number_at};
 
-use crate::typed_node::{NodeKind, TypedNode};
-
-/// The kind of [`BootSpecification`].
-#[derive(Clone, Copy)]
-pub struct BootSpecificationKind;
-
-/// The numbers of its layout in the UEFI Specification.
-impl NodeKind for BootSpecificationKind {
-    const DEVICE_TYPE: u8 = 5;
-
-    ghost DEVICE_TYPE = { 5 };
-
-    const SUB_TYPE: u8 = 1;
-
-    ghost SUB_TYPE = { 1 };
-
-    const LEAST: usize = 5;
-
-    ghost LEAST = { 5 };
-}
+use crate::typed_node::TypedNode;
 
 /// A device that a legacy BIOS can boot.
-pub type BootSpecification<'a> = TypedNode<'a, BootSpecificationKind>;
+pub type BootSpecification<'a> = TypedNode<'a, 5, 1, 5>;
 
-impl<'a> TypedNode<'a, BootSpecificationKind> {
+impl<'a> BootSpecification<'a> {
     ghost use Rattle.uefi_device_nodes.specs.NodeViews.{data_of};
 
     /// The type of the device, by the BIOS Boot Specification.

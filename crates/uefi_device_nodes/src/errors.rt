@@ -47,6 +47,8 @@ pub enum NodeConversionError {
     DifferentType,
     /// Its data has a length that none of its kind has.
     InvalidLength,
+    /// No kind that has a view has its type and its sub-type.
+    UnsupportedType,
 }
 
 /// Prints what is wrong, in words.
@@ -60,6 +62,7 @@ impl fmt::Display for NodeConversionError {
         match self {
             Self::DifferentType => f.write_str("the node is of another type or sub-type"),
             Self::InvalidLength => f.write_str("no node of this kind has this length"),
+            Self::UnsupportedType => f.write_str("no kind has this type and sub-type"),
         }
     }
 }

@@ -4,31 +4,12 @@
 ghost use Rattle.std.specs.Prelude.{◌≡◌, drop, slice_range};
 ghost use Rattle.uefi_device_nodes.specs.TypedNodes.{number_at};
 
-use crate::typed_node::{NodeKind, TypedNode};
-
-/// The kind of [`Pci`].
-#[derive(Clone, Copy)]
-pub struct PciKind;
-
-/// The numbers of its layout in the UEFI Specification.
-impl NodeKind for PciKind {
-    const DEVICE_TYPE: u8 = 1;
-
-    ghost DEVICE_TYPE = { 1 };
-
-    const SUB_TYPE: u8 = 1;
-
-    ghost SUB_TYPE = { 1 };
-
-    const LEAST: usize = 2;
-
-    ghost LEAST = { 2 };
-}
+use crate::typed_node::TypedNode;
 
 /// A device on a PCI bus.
-pub type Pci<'a> = TypedNode<'a, PciKind>;
+pub type Pci<'a> = TypedNode<'a, 1, 1, 2>;
 
-impl<'a> TypedNode<'a, PciKind> {
+impl<'a> Pci<'a> {
     ghost use Rattle.uefi_device_nodes.specs.NodeViews.{data_of};
 
     /// The number of the function.
@@ -46,36 +27,62 @@ impl<'a> TypedNode<'a, PciKind> {
     }
 }
 
-/// The kind of [`HardwareVendor`].
-#[derive(Clone, Copy)]
-pub struct HardwareVendorKind;
+/// A PC card.
+pub type Pccard<'a> = TypedNode<'a, 1, 2, 1>;
 
-/// The numbers of its layout in the UEFI Specification.
-impl NodeKind for HardwareVendorKind {
-    const DEVICE_TYPE: u8 = 1;
+impl<'a> Pccard<'a> {
+    ghost use Rattle.uefi_device_nodes.specs.NodeViews.{data_of};
 
-    ghost DEVICE_TYPE = { 1 };
+    /// The number of the function, from 0 on.
+    pub fn function(&self) -> u8
+        ensures { result ≡ number_at 0 1 (data_of self.now) }
+    {
+        self.number(0)
+    }
+}
 
-    const SUB_TYPE: u8 = 4;
+/// A range of memory.
+pub type MemoryMapped<'a> = TypedNode<'a, 1, 3, 20>;
 
-    ghost SUB_TYPE = { 4 };
+impl<'a> MemoryMapped<'a> {
+    ghost use Rattle.uefi_device_nodes.specs.NodeViews.{data_of};
 
-    const LEAST: usize = 16;
+    /// The type of the memory, as in the memory map of the firmware.
+    pub fn memory_type(&self) -> u32
+        ensures { result ≡ number_at 0 4 (data_of self.now) }
+    {
+        self.number(0)
+    }
 
-    ghost LEAST = { 16 };
+    /// The address of its first byte.
+    pub fn starting_address(&self) -> u64
+        ensures { result ≡ number_at 4 8 (data_of self.now) }
+    {
+        self.number(4)
+    }
+
+    /// The address of its last byte.
+    pub fn ending_address(&self) -> u64
+        ensures { result ≡ number_at 12 8 (data_of self.now) }
+    {
+        self.number(12)
+    }
 }
 
 /// A node of a vendor's own, named by a GUID.
-pub type HardwareVendor<'a> = TypedNode<'a, HardwareVendorKind>;
+pub type HardwareVendor<'a> = TypedNode<'a, 1, 4, 16>;
 
-impl<'a> TypedNode<'a, HardwareVendorKind> {
+/// The same, as the Rust crate `uefi` names it.
+pub type Vendor<'a> = HardwareVendor<'a>;
+
+impl<'a> HardwareVendor<'a> {
     ghost use Rattle.uefi_device_nodes.specs.NodeViews.{data_of};
 
     /// The bytes of the GUID that names the vendor.
-    pub fn vendor_guid(&self) -> &'a [u8]
-        ensures { result.now ≡ slice_range (data_of self.now) 0 16 }
+    pub fn vendor_guid(&self) -> [u8; 16]
+        ensures { result ≡ slice_range (data_of self.now) 0 16 }
     {
-        self.part(0, 16)
+        self.bytes(0)
     }
 
     /// The data that the vendor defines.
@@ -83,5 +90,40 @@ impl<'a> TypedNode<'a, HardwareVendorKind> {
         ensures { result.now ≡ drop 16 (data_of self.now) }
     {
         self.tail(16)
+    }
+}
+
+/// A controller.
+pub type Controller<'a> = TypedNode<'a, 1, 5, 4>;
+
+impl<'a> Controller<'a> {
+    ghost use Rattle.uefi_device_nodes.specs.NodeViews.{data_of};
+
+    /// The number of the controller.
+    pub fn controller_number(&self) -> u32
+        ensures { result ≡ number_at 0 4 (data_of self.now) }
+    {
+        self.number(0)
+    }
+}
+
+/// The host interface of a management controller.
+pub type Bmc<'a> = TypedNode<'a, 1, 6, 9>;
+
+impl<'a> Bmc<'a> {
+    ghost use Rattle.uefi_device_nodes.specs.NodeViews.{data_of};
+
+    /// The type of the interface: 0 unknown, 1 KCS, 2 SMIC, 3 BT.
+    pub fn interface_type(&self) -> u8
+        ensures { result ≡ number_at 0 1 (data_of self.now) }
+    {
+        self.number(0)
+    }
+
+    /// The base address of the interface; its lowest bit is set for I/O ports, and clear for memory.
+    pub fn base_address(&self) -> u64
+        ensures { result ≡ number_at 1 8 (data_of self.now) }
+    {
+        self.number(1)
     }
 }

@@ -10,7 +10,7 @@ ghost use Rattle.uefi_text.specs.UnitBytes.{unit_bytes, units_of_bytes};
 
 use crate::errors::NodeConversionError;
 use crate::node::{DevicePathNode, DeviceSubType, DeviceType};
-use crate::typed_node::{NodeKind, TypedNode};
+use crate::typed_node::TypedNode;
 use uefi_text::UnalignedSlice;
 
 /// A node that names a file. A contract sees it as `file_node` of it: the node.
@@ -59,29 +59,25 @@ impl<'a> FilePath<'a> {
     }
 }
 
-/// The kind of [`HardDrive`].
-#[derive(Clone, Copy)]
-pub struct HardDriveKind;
+/// The view that [`FilePath::from_node`] gives, or its refusal.
+impl<'a> TryFrom<DevicePathNode<'a>> for FilePath<'a> {
+    ghost use Rattle.uefi_device_nodes.specs.FileNodes.{file_path_refusal};
+    ghost use Rattle.uefi_device_nodes.specs.NodeViews.{node_of, file_node};
 
-/// The numbers of its layout in the UEFI Specification.
-impl NodeKind for HardDriveKind {
-    const DEVICE_TYPE: u8 = 4;
+    type Error = NodeConversionError;
 
-    ghost DEVICE_TYPE = { 4 };
+    ghost try_from_gives = { λ node result. IfOk result (λ path. file_node path ≡ node_of node)
+        × (result_err result ≡ file_path_refusal (node_of node)) };
 
-    const SUB_TYPE: u8 = 1;
-
-    ghost SUB_TYPE = { 1 };
-
-    const LEAST: usize = 38;
-
-    ghost LEAST = { 38 };
+    fn try_from(node: DevicePathNode<'a>) -> Result<Self, NodeConversionError> {
+        Self::from_node(node)
+    }
 }
 
 /// A partition of a hard drive.
-pub type HardDrive<'a> = TypedNode<'a, HardDriveKind>;
+pub type HardDrive<'a> = TypedNode<'a, 4, 1, 38>;
 
-impl<'a> TypedNode<'a, HardDriveKind> {
+impl<'a> HardDrive<'a> {
     ghost use Rattle.uefi_device_nodes.specs.NodeViews.{data_of};
 
     /// The number of the partition, from 1 on; 0 is the whole drive.
@@ -106,10 +102,10 @@ impl<'a> TypedNode<'a, HardDriveKind> {
     }
 
     /// Its signature, of the type that [`HardDrive::signature_type`] says.
-    pub fn partition_signature(&self) -> &'a [u8]
-        ensures { result.now ≡ slice_range (data_of self.now) 20 36 }
+    pub fn partition_signature(&self) -> [u8; 16]
+        ensures { result ≡ slice_range (data_of self.now) 20 36 }
     {
-        self.part(20, 16)
+        self.bytes(20)
     }
 
     /// The format of the table: 1 is MBR, 2 is GPT.
@@ -127,29 +123,10 @@ impl<'a> TypedNode<'a, HardDriveKind> {
     }
 }
 
-/// The kind of [`CdRom`].
-#[derive(Clone, Copy)]
-pub struct CdRomKind;
-
-/// The numbers of its layout in the UEFI Specification.
-impl NodeKind for CdRomKind {
-    const DEVICE_TYPE: u8 = 4;
-
-    ghost DEVICE_TYPE = { 4 };
-
-    const SUB_TYPE: u8 = 2;
-
-    ghost SUB_TYPE = { 2 };
-
-    const LEAST: usize = 20;
-
-    ghost LEAST = { 20 };
-}
-
 /// A boot entry of a CD-ROM.
-pub type CdRom<'a> = TypedNode<'a, CdRomKind>;
+pub type CdRom<'a> = TypedNode<'a, 4, 2, 20>;
 
-impl<'a> TypedNode<'a, CdRomKind> {
+impl<'a> CdRom<'a> {
     ghost use Rattle.uefi_device_nodes.specs.NodeViews.{data_of};
 
     /// The number of the entry in the boot catalog.
@@ -174,36 +151,20 @@ impl<'a> TypedNode<'a, CdRomKind> {
     }
 }
 
-/// The kind of [`MediaVendor`].
-#[derive(Clone, Copy)]
-pub struct MediaVendorKind;
-
-/// The numbers of its layout in the UEFI Specification.
-impl NodeKind for MediaVendorKind {
-    const DEVICE_TYPE: u8 = 4;
-
-    ghost DEVICE_TYPE = { 4 };
-
-    const SUB_TYPE: u8 = 3;
-
-    ghost SUB_TYPE = { 3 };
-
-    const LEAST: usize = 16;
-
-    ghost LEAST = { 16 };
-}
-
 /// A node of a vendor's own, named by a GUID.
-pub type MediaVendor<'a> = TypedNode<'a, MediaVendorKind>;
+pub type MediaVendor<'a> = TypedNode<'a, 4, 3, 16>;
 
-impl<'a> TypedNode<'a, MediaVendorKind> {
+/// The same, as the Rust crate `uefi` names it.
+pub type Vendor<'a> = MediaVendor<'a>;
+
+impl<'a> MediaVendor<'a> {
     ghost use Rattle.uefi_device_nodes.specs.NodeViews.{data_of};
 
     /// The bytes of the GUID that names the vendor.
-    pub fn vendor_guid(&self) -> &'a [u8]
-        ensures { result.now ≡ slice_range (data_of self.now) 0 16 }
+    pub fn vendor_guid(&self) -> [u8; 16]
+        ensures { result ≡ slice_range (data_of self.now) 0 16 }
     {
-        self.part(0, 16)
+        self.bytes(0)
     }
 
     /// The data that the vendor defines.
@@ -214,95 +175,79 @@ impl<'a> TypedNode<'a, MediaVendorKind> {
     }
 }
 
-/// The kind of [`FirmwareFile`].
-#[derive(Clone, Copy)]
-pub struct FirmwareFileKind;
+/// A protocol of the firmware.
+pub type Protocol<'a> = TypedNode<'a, 4, 5, 16>;
 
-/// The numbers of its layout in the UEFI Specification.
-impl NodeKind for FirmwareFileKind {
-    const DEVICE_TYPE: u8 = 4;
+impl<'a> Protocol<'a> {
+    ghost use Rattle.uefi_device_nodes.specs.NodeViews.{data_of};
 
-    ghost DEVICE_TYPE = { 4 };
-
-    const SUB_TYPE: u8 = 6;
-
-    ghost SUB_TYPE = { 6 };
-
-    const LEAST: usize = 16;
-
-    ghost LEAST = { 16 };
+    /// The bytes of the GUID that names the protocol.
+    pub fn protocol_guid(&self) -> [u8; 16]
+        ensures { result ≡ slice_range (data_of self.now) 0 16 }
+    {
+        self.bytes(0)
+    }
 }
 
 /// A file of a firmware volume.
-pub type FirmwareFile<'a> = TypedNode<'a, FirmwareFileKind>;
+pub type FirmwareFile<'a> = TypedNode<'a, 4, 6, 16>;
 
-impl<'a> TypedNode<'a, FirmwareFileKind> {
+/// The same, as the Rust crate `uefi` names it.
+pub type PiwgFirmwareFile<'a> = FirmwareFile<'a>;
+
+impl<'a> FirmwareFile<'a> {
     ghost use Rattle.uefi_device_nodes.specs.NodeViews.{data_of};
 
     /// The bytes of the GUID that names the file.
-    pub fn file_name(&self) -> &'a [u8]
-        ensures { result.now ≡ slice_range (data_of self.now) 0 16 }
+    pub fn file_name(&self) -> [u8; 16]
+        ensures { result ≡ slice_range (data_of self.now) 0 16 }
     {
-        self.part(0, 16)
+        self.bytes(0)
     }
-}
-
-/// The kind of [`FirmwareVolume`].
-#[derive(Clone, Copy)]
-pub struct FirmwareVolumeKind;
-
-/// The numbers of its layout in the UEFI Specification.
-impl NodeKind for FirmwareVolumeKind {
-    const DEVICE_TYPE: u8 = 4;
-
-    ghost DEVICE_TYPE = { 4 };
-
-    const SUB_TYPE: u8 = 7;
-
-    ghost SUB_TYPE = { 7 };
-
-    const LEAST: usize = 16;
-
-    ghost LEAST = { 16 };
 }
 
 /// A firmware volume.
-pub type FirmwareVolume<'a> = TypedNode<'a, FirmwareVolumeKind>;
+pub type FirmwareVolume<'a> = TypedNode<'a, 4, 7, 16>;
 
-impl<'a> TypedNode<'a, FirmwareVolumeKind> {
+/// The same, as the Rust crate `uefi` names it.
+pub type PiwgFirmwareVolume<'a> = FirmwareVolume<'a>;
+
+impl<'a> FirmwareVolume<'a> {
     ghost use Rattle.uefi_device_nodes.specs.NodeViews.{data_of};
 
     /// The bytes of the GUID that names the volume.
-    pub fn volume_name(&self) -> &'a [u8]
-        ensures { result.now ≡ slice_range (data_of self.now) 0 16 }
+    pub fn volume_name(&self) -> [u8; 16]
+        ensures { result ≡ slice_range (data_of self.now) 0 16 }
     {
-        self.part(0, 16)
+        self.bytes(0)
     }
 }
 
-/// The kind of [`RamDisk`].
-#[derive(Clone, Copy)]
-pub struct RamDiskKind;
+/// A range of bytes of the medium before it.
+pub type RelativeOffsetRange<'a> = TypedNode<'a, 4, 8, 20>;
 
-/// The numbers of its layout in the UEFI Specification.
-impl NodeKind for RamDiskKind {
-    const DEVICE_TYPE: u8 = 4;
+impl<'a> RelativeOffsetRange<'a> {
+    ghost use Rattle.uefi_device_nodes.specs.NodeViews.{data_of};
 
-    ghost DEVICE_TYPE = { 4 };
+    /// Where its first byte lies.
+    pub fn starting_offset(&self) -> u64
+        ensures { result ≡ number_at 4 8 (data_of self.now) }
+    {
+        self.number(4)
+    }
 
-    const SUB_TYPE: u8 = 9;
-
-    ghost SUB_TYPE = { 9 };
-
-    const LEAST: usize = 34;
-
-    ghost LEAST = { 34 };
+    /// Where its last byte lies.
+    pub fn ending_offset(&self) -> u64
+        ensures { result ≡ number_at 12 8 (data_of self.now) }
+    {
+        self.number(12)
+    }
 }
 
 /// A RAM disk.
-pub type RamDisk<'a> = TypedNode<'a, RamDiskKind>;
+pub type RamDisk<'a> = TypedNode<'a, 4, 9, 34>;
 
-impl<'a> TypedNode<'a, RamDiskKind> {
+impl<'a> RamDisk<'a> {
     ghost use Rattle.uefi_device_nodes.specs.NodeViews.{data_of};
 
     /// The address of its first byte.
@@ -320,10 +265,10 @@ impl<'a> TypedNode<'a, RamDiskKind> {
     }
 
     /// The bytes of the GUID of its type.
-    pub fn disk_type(&self) -> &'a [u8]
-        ensures { result.now ≡ slice_range (data_of self.now) 16 32 }
+    pub fn disk_type(&self) -> [u8; 16]
+        ensures { result ≡ slice_range (data_of self.now) 16 32 }
     {
-        self.part(16, 16)
+        self.bytes(16)
     }
 
     /// The number of the disk.

@@ -1,34 +1,127 @@
-//! Nodes of type Messaging (UEFI Specification 2.10, section 10.3.4).
+//! Nodes of type Messaging (UEFI Specification 2.10, section 10.3.4). Those of networks stand in `network`.
 #![tactic(auto)]
 
-ghost use Rattle.std.specs.Prelude.{◌≡◌, ◌≤◌, ◌↔◌, IfSome, IsSome, drop, length, slice_range};
+ghost use Rattle.std.specs.Prelude.{◌≡◌, ◌%◌, ◌↔◌, IfSome, IsSome, drop, length, slice_range};
 ghost use Rattle.uefi_device_nodes.specs.TypedNodes.{number_at};
+ghost use Rattle.uefi_text.specs.UnitBytes.{units_of_bytes};
+ghost use Rattle.uefi_text.specs.Views.{items_of};
 
-use crate::typed_node::{NodeKind, TypedNode};
+pub use crate::network::{
+    Bluetooth, BluetoothLe, Dns, Infiniband, Ipv4, Ipv6, Iscsi, MacAddress, NvmeOfNamespace,
+    RestService, Uri, Vlan, Wifi,
+};
+use crate::typed_node::TypedNode;
+use uefi_text::UnalignedSlice;
 
-/// The kind of [`Usb`].
-#[derive(Clone, Copy)]
-pub struct UsbKind;
+/// A drive on an ATA bus.
+pub type Atapi<'a> = TypedNode<'a, 3, 1, 4>;
 
-/// The numbers of its layout in the UEFI Specification.
-impl NodeKind for UsbKind {
-    const DEVICE_TYPE: u8 = 3;
+impl<'a> Atapi<'a> {
+    ghost use Rattle.uefi_device_nodes.specs.NodeViews.{data_of};
 
-    ghost DEVICE_TYPE = { 3 };
+    /// The bus: 0 is the primary one, 1 the secondary one.
+    pub fn primary_secondary(&self) -> u8
+        ensures { result ≡ number_at 0 1 (data_of self.now) }
+    {
+        self.number(0)
+    }
 
-    const SUB_TYPE: u8 = 5;
+    /// The drive on the bus: 0 is the master, 1 the slave.
+    pub fn master_slave(&self) -> u8
+        ensures { result ≡ number_at 1 1 (data_of self.now) }
+    {
+        self.number(1)
+    }
 
-    ghost SUB_TYPE = { 5 };
+    /// The logical unit number.
+    pub fn logical_unit_number(&self) -> u16
+        ensures { result ≡ number_at 2 2 (data_of self.now) }
+    {
+        self.number(2)
+    }
+}
 
-    const LEAST: usize = 2;
+/// A device on a SCSI bus.
+pub type Scsi<'a> = TypedNode<'a, 3, 2, 4>;
 
-    ghost LEAST = { 2 };
+impl<'a> Scsi<'a> {
+    ghost use Rattle.uefi_device_nodes.specs.NodeViews.{data_of};
+
+    /// The number of the target on its bus.
+    pub fn target_id(&self) -> u16
+        ensures { result ≡ number_at 0 2 (data_of self.now) }
+    {
+        self.number(0)
+    }
+
+    /// The logical unit number.
+    pub fn logical_unit_number(&self) -> u16
+        ensures { result ≡ number_at 2 2 (data_of self.now) }
+    {
+        self.number(2)
+    }
+}
+
+/// A device on Fibre Channel.
+pub type FibreChannel<'a> = TypedNode<'a, 3, 3, 20>;
+
+impl<'a> FibreChannel<'a> {
+    ghost use Rattle.uefi_device_nodes.specs.NodeViews.{data_of};
+
+    /// The world wide name.
+    pub fn world_wide_name(&self) -> u64
+        ensures { result ≡ number_at 4 8 (data_of self.now) }
+    {
+        self.number(4)
+    }
+
+    /// The logical unit number.
+    pub fn logical_unit_number(&self) -> u64
+        ensures { result ≡ number_at 12 8 (data_of self.now) }
+    {
+        self.number(12)
+    }
+}
+
+/// A device on Fibre Channel, by bytes in the order of the bus.
+pub type FibreChannelEx<'a> = TypedNode<'a, 3, 21, 20>;
+
+impl<'a> FibreChannelEx<'a> {
+    ghost use Rattle.uefi_device_nodes.specs.NodeViews.{data_of};
+
+    /// The bytes of the world wide name.
+    pub fn world_wide_name(&self) -> [u8; 8]
+        ensures { result ≡ slice_range (data_of self.now) 4 12 }
+    {
+        self.bytes(4)
+    }
+
+    /// The bytes of the logical unit number.
+    pub fn logical_unit_number(&self) -> [u8; 8]
+        ensures { result ≡ slice_range (data_of self.now) 12 20 }
+    {
+        self.bytes(12)
+    }
+}
+
+/// A FireWire device.
+pub type Ieee1394<'a> = TypedNode<'a, 3, 4, 12>;
+
+impl<'a> Ieee1394<'a> {
+    ghost use Rattle.uefi_device_nodes.specs.NodeViews.{data_of};
+
+    /// The bytes of its GUID, of eight bytes.
+    pub fn guid(&self) -> [u8; 8]
+        ensures { result ≡ slice_range (data_of self.now) 4 12 }
+    {
+        self.bytes(4)
+    }
 }
 
 /// A device on a USB bus.
-pub type Usb<'a> = TypedNode<'a, UsbKind>;
+pub type Usb<'a> = TypedNode<'a, 3, 5, 2>;
 
-impl<'a> TypedNode<'a, UsbKind> {
+impl<'a> Usb<'a> {
     ghost use Rattle.uefi_device_nodes.specs.NodeViews.{data_of};
 
     /// The number of the port of its hub.
@@ -46,277 +139,118 @@ impl<'a> TypedNode<'a, UsbKind> {
     }
 }
 
-/// The kind of [`MessagingVendor`].
-#[derive(Clone, Copy)]
-pub struct MessagingVendorKind;
+/// A USB device by its serial number.
+pub type UsbWwid<'a> = TypedNode<'a, 3, 16, 6>;
 
-/// The numbers of its layout in the UEFI Specification.
-impl NodeKind for MessagingVendorKind {
-    const DEVICE_TYPE: u8 = 3;
-
-    ghost DEVICE_TYPE = { 3 };
-
-    const SUB_TYPE: u8 = 10;
-
-    ghost SUB_TYPE = { 10 };
-
-    const LEAST: usize = 16;
-
-    ghost LEAST = { 16 };
-}
-
-/// A node of a vendor's own, named by a GUID.
-pub type MessagingVendor<'a> = TypedNode<'a, MessagingVendorKind>;
-
-impl<'a> TypedNode<'a, MessagingVendorKind> {
+impl<'a> UsbWwid<'a> {
     ghost use Rattle.uefi_device_nodes.specs.NodeViews.{data_of};
 
-    /// The bytes of the GUID that names the vendor.
-    pub fn vendor_guid(&self) -> &'a [u8]
-        ensures { result.now ≡ slice_range (data_of self.now) 0 16 }
+    /// The number of its interface.
+    pub fn interface_number(&self) -> u16
+        ensures { result ≡ number_at 0 2 (data_of self.now) }
     {
-        self.part(0, 16)
+        self.number(0)
     }
 
-    /// The data that the vendor defines.
-    pub fn vendor_defined_data(&self) -> &'a [u8]
-        ensures { result.now ≡ drop 16 (data_of self.now) }
+    /// The ID of its vendor.
+    pub fn device_vendor_id(&self) -> u16
+        ensures { result ≡ number_at 2 2 (data_of self.now) }
     {
-        self.tail(16)
+        self.number(2)
+    }
+
+    /// The ID of the product.
+    pub fn device_product_id(&self) -> u16
+        ensures { result ≡ number_at 4 2 (data_of self.now) }
+    {
+        self.number(4)
+    }
+
+    /// The code units of the last 64 or fewer characters of the serial number, without a NUL, or `None`
+    /// where half a unit is left.
+    pub fn serial_number(&self) -> Option<UnalignedSlice<'a, u16>>
+        ensures some { IsSome result ↔ (length (drop 6 (data_of self.now)) % 2 ≡ 0) }
+        ensures units { IfSome result (λ units.
+            items_of units ≡ units_of_bytes (drop 6 (data_of self.now))) }
+    {
+        UnalignedSlice::from_unit_bytes(self.tail(6))
     }
 }
 
-/// The kind of [`MacAddress`].
-#[derive(Clone, Copy)]
-pub struct MacAddressKind;
+/// Each USB device of a class.
+pub type UsbClass<'a> = TypedNode<'a, 3, 15, 7>;
 
-/// The numbers of its layout in the UEFI Specification.
-impl NodeKind for MacAddressKind {
-    const DEVICE_TYPE: u8 = 3;
-
-    ghost DEVICE_TYPE = { 3 };
-
-    const SUB_TYPE: u8 = 11;
-
-    ghost SUB_TYPE = { 11 };
-
-    const LEAST: usize = 33;
-
-    ghost LEAST = { 33 };
-}
-
-/// A network interface.
-pub type MacAddress<'a> = TypedNode<'a, MacAddressKind>;
-
-impl<'a> TypedNode<'a, MacAddressKind> {
+impl<'a> UsbClass<'a> {
     ghost use Rattle.uefi_device_nodes.specs.NodeViews.{data_of};
 
-    /// The address, filled up with zeros.
-    pub fn mac_address(&self) -> &'a [u8]
-        ensures { result.now ≡ slice_range (data_of self.now) 0 32 }
+    /// The ID of the vendor; 0xffff is any.
+    pub fn vendor_id(&self) -> u16
+        ensures { result ≡ number_at 0 2 (data_of self.now) }
     {
-        self.part(0, 32)
+        self.number(0)
     }
 
-    /// The type of the interface, by RFC 3232.
-    pub fn interface_type(&self) -> u8
-        ensures { result ≡ number_at 32 1 (data_of self.now) }
+    /// The ID of the product; 0xffff is any.
+    pub fn product_id(&self) -> u16
+        ensures { result ≡ number_at 2 2 (data_of self.now) }
     {
-        self.number(32)
+        self.number(2)
+    }
+
+    /// The class; 0xff is any.
+    pub fn device_class(&self) -> u8
+        ensures { result ≡ number_at 4 1 (data_of self.now) }
+    {
+        self.number(4)
+    }
+
+    /// The subclass; 0xff is any.
+    pub fn device_subclass(&self) -> u8
+        ensures { result ≡ number_at 5 1 (data_of self.now) }
+    {
+        self.number(5)
+    }
+
+    /// The protocol; 0xff is any.
+    pub fn device_protocol(&self) -> u8
+        ensures { result ≡ number_at 6 1 (data_of self.now) }
+    {
+        self.number(6)
     }
 }
 
-/// The kind of [`Ipv4`].
-#[derive(Clone, Copy)]
-pub struct Ipv4Kind;
+/// A logical unit of the device before it.
+pub type DeviceLogicalUnit<'a> = TypedNode<'a, 3, 17, 1>;
 
-/// The numbers of its layout in the UEFI Specification.
-impl NodeKind for Ipv4Kind {
-    const DEVICE_TYPE: u8 = 3;
-
-    ghost DEVICE_TYPE = { 3 };
-
-    const SUB_TYPE: u8 = 12;
-
-    ghost SUB_TYPE = { 12 };
-
-    const LEAST: usize = 15;
-
-    ghost LEAST = { 15 };
-}
-
-/// An endpoint of a connection over IP version 4.
-pub type Ipv4<'a> = TypedNode<'a, Ipv4Kind>;
-
-impl<'a> TypedNode<'a, Ipv4Kind> {
+impl<'a> DeviceLogicalUnit<'a> {
     ghost use Rattle.uefi_device_nodes.specs.NodeViews.{data_of};
 
-    /// The local address.
-    pub fn local_ip_address(&self) -> &'a [u8]
-        ensures { result.now ≡ slice_range (data_of self.now) 0 4 }
+    /// The logical unit number.
+    pub fn logical_unit_number(&self) -> u8
+        ensures { result ≡ number_at 0 1 (data_of self.now) }
     {
-        self.part(0, 4)
-    }
-
-    /// The remote address.
-    pub fn remote_ip_address(&self) -> &'a [u8]
-        ensures { result.now ≡ slice_range (data_of self.now) 4 8 }
-    {
-        self.part(4, 4)
-    }
-
-    /// The local port.
-    pub fn local_port(&self) -> u16
-        ensures { result ≡ number_at 8 2 (data_of self.now) }
-    {
-        self.number(8)
-    }
-
-    /// The remote port.
-    pub fn remote_port(&self) -> u16
-        ensures { result ≡ number_at 10 2 (data_of self.now) }
-    {
-        self.number(10)
-    }
-
-    /// The protocol over IP, as that of UDP or TCP.
-    pub fn protocol(&self) -> u16
-        ensures { result ≡ number_at 12 2 (data_of self.now) }
-    {
-        self.number(12)
-    }
-
-    /// Zero where the local address came by DHCP.
-    pub fn ip_address_origin(&self) -> u8
-        ensures { result ≡ number_at 14 1 (data_of self.now) }
-    {
-        self.number(14)
-    }
-
-    /// The address of the gateway, or `None` where the node ends before it: nodes of 19 bytes, from
-    /// before the standard had this field, have none.
-    pub fn gateway_ip_address(&self) -> Option<&'a [u8]>
-        ensures some { IsSome result ↔ (19 ≤ length (data_of self.now)) }
-        ensures bytes { IfSome result (λ bytes. bytes.now ≡ slice_range (data_of self.now) 15 19) }
-    {
-        self.later_part(15, 4)
-    }
-
-    /// The mask of the subnet, or `None` where the node ends before it, as [`Ipv4::gateway_ip_address`]
-    /// says.
-    pub fn subnet_mask(&self) -> Option<&'a [u8]>
-        ensures some { IsSome result ↔ (23 ≤ length (data_of self.now)) }
-        ensures bytes { IfSome result (λ bytes. bytes.now ≡ slice_range (data_of self.now) 19 23) }
-    {
-        self.later_part(19, 4)
+        self.number(0)
     }
 }
 
-/// The kind of [`Ipv6`].
-#[derive(Clone, Copy)]
-pub struct Ipv6Kind;
+/// A device on an I2O bus.
+pub type I2o<'a> = TypedNode<'a, 3, 6, 4>;
 
-/// The numbers of its layout in the UEFI Specification.
-impl NodeKind for Ipv6Kind {
-    const DEVICE_TYPE: u8 = 3;
-
-    ghost DEVICE_TYPE = { 3 };
-
-    const SUB_TYPE: u8 = 13;
-
-    ghost SUB_TYPE = { 13 };
-
-    const LEAST: usize = 56;
-
-    ghost LEAST = { 56 };
-}
-
-/// An endpoint of a connection over IP version 6.
-pub type Ipv6<'a> = TypedNode<'a, Ipv6Kind>;
-
-impl<'a> TypedNode<'a, Ipv6Kind> {
+impl<'a> I2o<'a> {
     ghost use Rattle.uefi_device_nodes.specs.NodeViews.{data_of};
 
-    /// The local address.
-    pub fn local_ip_address(&self) -> &'a [u8]
-        ensures { result.now ≡ slice_range (data_of self.now) 0 16 }
+    /// The number of the target on its bus.
+    pub fn target_id(&self) -> u32
+        ensures { result ≡ number_at 0 4 (data_of self.now) }
     {
-        self.part(0, 16)
+        self.number(0)
     }
-
-    /// The remote address.
-    pub fn remote_ip_address(&self) -> &'a [u8]
-        ensures { result.now ≡ slice_range (data_of self.now) 16 32 }
-    {
-        self.part(16, 16)
-    }
-
-    /// The local port.
-    pub fn local_port(&self) -> u16
-        ensures { result ≡ number_at 32 2 (data_of self.now) }
-    {
-        self.number(32)
-    }
-
-    /// The remote port.
-    pub fn remote_port(&self) -> u16
-        ensures { result ≡ number_at 34 2 (data_of self.now) }
-    {
-        self.number(34)
-    }
-
-    /// The protocol over IP, as that of UDP or TCP.
-    pub fn protocol(&self) -> u16
-        ensures { result ≡ number_at 36 2 (data_of self.now) }
-    {
-        self.number(36)
-    }
-
-    /// How the local address was set: 0 by hand, 1 automatically without state, 2 automatically with state.
-    pub fn ip_address_origin(&self) -> u8
-        ensures { result ≡ number_at 38 1 (data_of self.now) }
-    {
-        self.number(38)
-    }
-
-    /// How many bits the prefix has.
-    pub fn prefix_length(&self) -> u8
-        ensures { result ≡ number_at 39 1 (data_of self.now) }
-    {
-        self.number(39)
-    }
-
-    /// The address of the gateway.
-    pub fn gateway_ip_address(&self) -> &'a [u8]
-        ensures { result.now ≡ slice_range (data_of self.now) 40 56 }
-    {
-        self.part(40, 16)
-    }
-}
-
-/// The kind of [`Sata`].
-#[derive(Clone, Copy)]
-pub struct SataKind;
-
-/// The numbers of its layout in the UEFI Specification.
-impl NodeKind for SataKind {
-    const DEVICE_TYPE: u8 = 3;
-
-    ghost DEVICE_TYPE = { 3 };
-
-    const SUB_TYPE: u8 = 18;
-
-    ghost SUB_TYPE = { 18 };
-
-    const LEAST: usize = 6;
-
-    ghost LEAST = { 6 };
 }
 
 /// A device on a SATA port.
-pub type Sata<'a> = TypedNode<'a, SataKind>;
+pub type Sata<'a> = TypedNode<'a, 3, 18, 6>;
 
-impl<'a> TypedNode<'a, SataKind> {
+impl<'a> Sata<'a> {
     ghost use Rattle.uefi_device_nodes.specs.NodeViews.{data_of};
 
     /// The number of the port of the host bus adapter.
@@ -341,29 +275,104 @@ impl<'a> TypedNode<'a, SataKind> {
     }
 }
 
-/// The kind of [`NvmeNamespace`].
-#[derive(Clone, Copy)]
-pub struct NvmeNamespaceKind;
+/// A device on SAS.
+pub type SasEx<'a> = TypedNode<'a, 3, 22, 20>;
 
-/// The numbers of its layout in the UEFI Specification.
-impl NodeKind for NvmeNamespaceKind {
-    const DEVICE_TYPE: u8 = 3;
+impl<'a> SasEx<'a> {
+    ghost use Rattle.uefi_device_nodes.specs.NodeViews.{data_of};
 
-    ghost DEVICE_TYPE = { 3 };
+    /// The bytes of the SAS address.
+    pub fn sas_address(&self) -> [u8; 8]
+        ensures { result ≡ slice_range (data_of self.now) 0 8 }
+    {
+        self.bytes(0)
+    }
 
-    const SUB_TYPE: u8 = 23;
+    /// The bytes of the logical unit number.
+    pub fn logical_unit_number(&self) -> [u8; 8]
+        ensures { result ≡ slice_range (data_of self.now) 8 16 }
+    {
+        self.bytes(8)
+    }
 
-    ghost SUB_TYPE = { 23 };
+    /// What is known of the device and of how it is attached.
+    pub fn info(&self) -> u16
+        ensures { result ≡ number_at 16 2 (data_of self.now) }
+    {
+        self.number(16)
+    }
 
-    const LEAST: usize = 12;
+    /// The relative target port.
+    pub fn relative_target_port(&self) -> u16
+        ensures { result ≡ number_at 18 2 (data_of self.now) }
+    {
+        self.number(18)
+    }
+}
 
-    ghost LEAST = { 12 };
+/// A serial port.
+pub type Uart<'a> = TypedNode<'a, 3, 14, 15>;
+
+impl<'a> Uart<'a> {
+    ghost use Rattle.uefi_device_nodes.specs.NodeViews.{data_of};
+
+    /// The baud rate; 0 is the default of the device.
+    pub fn baud_rate(&self) -> u64
+        ensures { result ≡ number_at 4 8 (data_of self.now) }
+    {
+        self.number(4)
+    }
+
+    /// How many data bits; 0 is the default of the device.
+    pub fn data_bits(&self) -> u8
+        ensures { result ≡ number_at 12 1 (data_of self.now) }
+    {
+        self.number(12)
+    }
+
+    /// The parity: 0 default, 1 none, 2 even, 3 odd, 4 mark, 5 space.
+    pub fn parity(&self) -> u8
+        ensures { result ≡ number_at 13 1 (data_of self.now) }
+    {
+        self.number(13)
+    }
+
+    /// The stop bits: 0 default, 1 one, 2 one and a half, 3 two.
+    pub fn stop_bits(&self) -> u8
+        ensures { result ≡ number_at 14 1 (data_of self.now) }
+    {
+        self.number(14)
+    }
+}
+
+/// A node of a vendor's own, named by a GUID.
+pub type MessagingVendor<'a> = TypedNode<'a, 3, 10, 16>;
+
+/// The same, as the Rust crate `uefi` names it.
+pub type Vendor<'a> = MessagingVendor<'a>;
+
+impl<'a> MessagingVendor<'a> {
+    ghost use Rattle.uefi_device_nodes.specs.NodeViews.{data_of};
+
+    /// The bytes of the GUID that names the vendor.
+    pub fn vendor_guid(&self) -> [u8; 16]
+        ensures { result ≡ slice_range (data_of self.now) 0 16 }
+    {
+        self.bytes(0)
+    }
+
+    /// The data that the vendor defines.
+    pub fn vendor_defined_data(&self) -> &'a [u8]
+        ensures { result.now ≡ drop 16 (data_of self.now) }
+    {
+        self.tail(16)
+    }
 }
 
 /// A namespace of NVM Express.
-pub type NvmeNamespace<'a> = TypedNode<'a, NvmeNamespaceKind>;
+pub type NvmeNamespace<'a> = TypedNode<'a, 3, 23, 12>;
 
-impl<'a> TypedNode<'a, NvmeNamespaceKind> {
+impl<'a> NvmeNamespace<'a> {
     ghost use Rattle.uefi_device_nodes.specs.NodeViews.{data_of};
 
     /// The number of the namespace.
@@ -381,62 +390,31 @@ impl<'a> TypedNode<'a, NvmeNamespaceKind> {
     }
 }
 
-/// The kind of [`Uri`].
-#[derive(Clone, Copy)]
-pub struct UriKind;
+/// A device on UFS.
+pub type Ufs<'a> = TypedNode<'a, 3, 25, 2>;
 
-/// The numbers of its layout in the UEFI Specification.
-impl NodeKind for UriKind {
-    const DEVICE_TYPE: u8 = 3;
-
-    ghost DEVICE_TYPE = { 3 };
-
-    const SUB_TYPE: u8 = 24;
-
-    ghost SUB_TYPE = { 24 };
-
-    const LEAST: usize = 0;
-
-    ghost LEAST = { 0 };
-}
-
-/// What a URI names.
-pub type Uri<'a> = TypedNode<'a, UriKind>;
-
-impl<'a> TypedNode<'a, UriKind> {
+impl<'a> Ufs<'a> {
     ghost use Rattle.uefi_device_nodes.specs.NodeViews.{data_of};
 
-    /// The bytes of the URI.
-    pub fn value(&self) -> &'a [u8]
-        ensures { result.now ≡ drop 0 (data_of self.now) }
+    /// The number of the target on its bus.
+    pub fn target_id(&self) -> u8
+        ensures { result ≡ number_at 0 1 (data_of self.now) }
     {
-        self.tail(0)
+        self.number(0)
     }
-}
 
-/// The kind of [`Sd`].
-#[derive(Clone, Copy)]
-pub struct SdKind;
-
-/// The numbers of its layout in the UEFI Specification.
-impl NodeKind for SdKind {
-    const DEVICE_TYPE: u8 = 3;
-
-    ghost DEVICE_TYPE = { 3 };
-
-    const SUB_TYPE: u8 = 26;
-
-    ghost SUB_TYPE = { 26 };
-
-    const LEAST: usize = 1;
-
-    ghost LEAST = { 1 };
+    /// The logical unit number.
+    pub fn logical_unit_number(&self) -> u8
+        ensures { result ≡ number_at 1 1 (data_of self.now) }
+    {
+        self.number(1)
+    }
 }
 
 /// An SD card.
-pub type Sd<'a> = TypedNode<'a, SdKind>;
+pub type Sd<'a> = TypedNode<'a, 3, 26, 1>;
 
-impl<'a> TypedNode<'a, SdKind> {
+impl<'a> Sd<'a> {
     ghost use Rattle.uefi_device_nodes.specs.NodeViews.{data_of};
 
     /// The number of the slot.
@@ -447,29 +425,10 @@ impl<'a> TypedNode<'a, SdKind> {
     }
 }
 
-/// The kind of [`Emmc`].
-#[derive(Clone, Copy)]
-pub struct EmmcKind;
-
-/// The numbers of its layout in the UEFI Specification.
-impl NodeKind for EmmcKind {
-    const DEVICE_TYPE: u8 = 3;
-
-    ghost DEVICE_TYPE = { 3 };
-
-    const SUB_TYPE: u8 = 29;
-
-    ghost SUB_TYPE = { 29 };
-
-    const LEAST: usize = 1;
-
-    ghost LEAST = { 1 };
-}
-
 /// An eMMC card.
-pub type Emmc<'a> = TypedNode<'a, EmmcKind>;
+pub type Emmc<'a> = TypedNode<'a, 3, 29, 1>;
 
-impl<'a> TypedNode<'a, EmmcKind> {
+impl<'a> Emmc<'a> {
     ghost use Rattle.uefi_device_nodes.specs.NodeViews.{data_of};
 
     /// The number of the slot.
@@ -477,5 +436,19 @@ impl<'a> TypedNode<'a, EmmcKind> {
         ensures { result ≡ number_at 0 1 (data_of self.now) }
     {
         self.number(0)
+    }
+}
+
+/// A namespace of a persistent memory module.
+pub type NvdimmNamespace<'a> = TypedNode<'a, 3, 32, 16>;
+
+impl<'a> NvdimmNamespace<'a> {
+    ghost use Rattle.uefi_device_nodes.specs.NodeViews.{data_of};
+
+    /// The bytes of the UUID that labels the namespace.
+    pub fn uuid(&self) -> [u8; 16]
+        ensures { result ≡ slice_range (data_of self.now) 0 16 }
+    {
+        self.bytes(0)
     }
 }

@@ -1,12 +1,14 @@
 //! One node of a device path.
 #![tactic(auto, unfolding(crate::specs::NodeViews::node_of))]
 
-ghost use Rattle.std.specs.Prelude.{◌≡◌, ◌≢◌, ℕ, ◌+◌, ◌<◌, ◌≤◌, ◌^◌, ◌↔◌, ◌++◌, length, IfOk, IsTrue, None};
+ghost use Rattle.std.specs.Prelude.{◌≡◌, ◌≢◌, ℕ, ◌+◌, ◌<◌, ◌≤◌, ◌^◌, ◌↔◌, ◌++◌, length, slice_index, IfOk, IsTrue, None, Some};
 ghost use Rattle.std.specs.Result.{result_err};
 ghost use Rattle.uefi_device_nodes.specs.NodeFaults.{fault_place};
-ghost use Rattle.uefi_device_nodes.specs.Nodes.{IsSound, end_entire, first_node, node_bytes, node_length};
+ghost use Rattle.uefi_device_nodes.specs.Nodes.{IsSound, end_entire, first_node, node_bytes, node_length, stated_length};
 
 use crate::errors::NodeError;
+use std::fmt;
+use std::hash::{Hash, Hasher};
 
 /// The type of a node (UEFI Specification 2.10, section 10.3).
 #[derive(Clone, Copy, Debug, PartialEq, Eq)]
@@ -233,48 +235,87 @@ impl<'a> DevicePathNode<'a> {
     ghost use Rattle.uefi_device_nodes.specs.Nodes.{is_end_instance};
     ghost use Rattle.uefi_device_nodes.specs.NodeViews.{node_of};
 
+    /// The node of this length that bytes begin with, and the bytes after it.
+    #[inline(always)]
+    fn cut(bytes: &'a [u8], len: usize) -> (Self, &'a [u8])
+        requires begins { node_fault bytes.now ≡ None }
+        requires len { len ≡ stated_length bytes.now }
+        ensures split { bytes.now ≡ node_bytes (node_of result.0) ++ result.1.now }
+        ensures sound { IsSound (node_of result.0) }
+    {
+        let (node, rest) = bytes.split_at(len);
+        (DevicePathNode { bytes: node }, rest)
+    }
+
     /// The node that bytes begin with, and the bytes after it, where a node begins. For device paths
     /// alone, which prove of bytes that nodes begin there; all others have [`DevicePathNode::split_first`],
     /// which looks.
     #[doc(hidden)]
+    #[inline(always)]
     pub fn take_first(bytes: &'a [u8]) -> (Self, &'a [u8])
         requires { node_fault bytes.now ≡ None }
         ensures split { bytes.now ≡ node_bytes (node_of result.0) ++ result.1.now }
         ensures sound { IsSound (node_of result.0) }
     {
         let length = u16::from_le_bytes([bytes[2], bytes[3]]) as usize;
-        let (node, rest) = bytes.split_at(length);
-        (DevicePathNode { bytes: node }, rest)
+        DevicePathNode::cut(bytes, length)
     }
 
-    /// The node that bytes begin with, and the bytes after it. The node may be one that ends an instance
-    /// or the path. Refused for the first cause that holds, in the order in which [`NodeError`] lists them.
+    /// Splits bytes into the node that they begin with and the bytes after it. The node may be one that ends an
+    /// instance or the path. Fails with the first cause that holds, in the order in which [`NodeError`] lists them.
+    #[inline(always)]
     pub fn split_first(bytes: &'a [u8]) -> Result<(Self, &'a [u8]), NodeError>
         ensures ok { IfOk result (λ split. bytes.now ≡ node_bytes (node_of split.0) ++ split.1.now) }
         ensures sound { IfOk result (λ split. IsSound (node_of split.0)) }
         ensures refusal { result_err result ≡ node_fault bytes.now }
     {
-        if bytes.is_empty() {
-            return Err(NodeError::Missing);
-        }
         if bytes.len() < 4 {
-            return Err(NodeError::TruncatedHeader);
-        }
-        let is_end = bytes[0] == 0x7f;
-        if is_end && bytes[1] != 0x01 && bytes[1] != 0xff {
-            return Err(NodeError::UnknownEnd);
+            return Err(DevicePathNode::cut_fault(bytes));
         }
         let length = u16::from_le_bytes([bytes[2], bytes[3]]) as usize;
+        if bytes[0] == 0x7f {
+            return DevicePathNode::split_end(bytes, length);
+        }
         if length < 4 {
             return Err(NodeError::LengthBelowHeader);
-        }
-        if is_end && length != 4 {
-            return Err(NodeError::EndWithData);
         }
         if bytes.len() < length {
             return Err(NodeError::BeyondEnd);
         }
-        Ok(DevicePathNode::take_first(bytes))
+        Ok(DevicePathNode::cut(bytes, length))
+    }
+
+    /// Why no node begins at bytes that are fewer than a header.
+    #[cold]
+    fn cut_fault(bytes: &[u8]) -> NodeError
+        requires { length bytes.now < 4 }
+        ensures { node_fault bytes.now ≡ Some result }
+    {
+        if bytes.is_empty() {
+            return NodeError::Missing;
+        }
+        NodeError::TruncatedHeader
+    }
+
+    /// The same of bytes with the header of a node of type End, which states this length.
+    fn split_end(bytes: &'a [u8], len: usize) -> Result<(Self, &'a [u8]), NodeError>
+        requires header { 4 ≤ length bytes.now }
+        requires is_end { slice_index bytes.now 0 ≡ 0x7f }
+        requires len { len ≡ stated_length bytes.now }
+        ensures ok { IfOk result (λ split. bytes.now ≡ node_bytes (node_of split.0) ++ split.1.now) }
+        ensures sound { IfOk result (λ split. IsSound (node_of split.0)) }
+        ensures refusal { result_err result ≡ node_fault bytes.now }
+    {
+        if bytes[1] != 0x01 && bytes[1] != 0xff {
+            return Err(NodeError::UnknownEnd);
+        }
+        if len < 4 {
+            return Err(NodeError::LengthBelowHeader);
+        }
+        if len != 4 {
+            return Err(NodeError::EndWithData);
+        }
+        Ok(DevicePathNode::cut(bytes, len))
     }
 
     /// All bytes of the node.
@@ -332,5 +373,53 @@ impl<'a> DevicePathNode<'a> {
         ensures { result ≡ is_end_instance (node_of self.now) }
     {
         self.bytes[0] == 0x7f && self.bytes[1] == 0x01
+    }
+}
+
+/// Two nodes are equal exactly when their bytes are.
+impl<'a> PartialEq for DevicePathNode<'a> {
+    ghost use Rattle.std.specs.Cmp.{on_per, partial_equiv_from_equiv};
+    ghost use Rattle.std.specs.Prelude.{nat_eq};
+    ghost use Rattle.std.specs.Cmp.Lexicographic.{nat_list_eq_equiv, pointwise};
+    ghost use Rattle.uefi_device_nodes.specs.NodeViews.{node_of};
+
+    ghost eq = { λ a b. pointwise nat_eq (node_bytes (node_of a)) (node_bytes (node_of b)) };
+
+    ghost laws = { on_per (λ a. node_bytes (node_of a)) (partial_equiv_from_equiv nat_list_eq_equiv) };
+
+    fn eq(&self, other: &Self) -> bool {
+        self.as_bytes() == other.as_bytes()
+    }
+}
+
+impl<'a> Eq for DevicePathNode<'a> {
+    ghost use Rattle.std.specs.Cmp.Lexicographic.{on_texts_equal};
+    ghost use Rattle.uefi_device_nodes.specs.NodeViews.{node_of};
+
+    ghost laws = { on_texts_equal (λ a. node_bytes (node_of a)) };
+}
+
+/// Hashes the bytes.
+impl<'a> Hash for DevicePathNode<'a> {
+    ghost use Rattle.std.proofs.Common.{rules};
+    ghost use Rattle.std.specs.Hash as fed;
+    ghost use Rattle.std.specs.Cmp.Rules.{comparing, hashing};
+    ghost use Rattle.uefi_device_nodes.specs.NodeViews.{node_of};
+
+    ghost hash_input = { λ a. fed.slice fed.u8 (node_bytes (node_of a)) };
+
+    ghost respects_eq = { Prim.search (hashing, comparing, rules) };
+
+    fn hash<H: Hasher>(&self, state: &mut H) {
+        self.as_bytes().hash(state);
+    }
+}
+
+/// Writes the bytes.
+impl<'a> fmt::Debug for DevicePathNode<'a> {
+    fn fmt<W: fmt::Write>(&self, f: &mut fmt::Formatter<W>) -> fmt::Result {
+        f.debug_tuple("DevicePathNode")
+            .field(&self.as_bytes())
+            .finish()
     }
 }

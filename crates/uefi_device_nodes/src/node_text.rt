@@ -11,7 +11,7 @@ use crate::acpi::Expanded;
 use crate::bios_boot_spec::BootSpecification;
 use crate::media::FilePath;
 use crate::node::DevicePathNode;
-use crate::typed_node::{NodeKind, TypedNode};
+use crate::typed_node::TypedNode;
 use std::fmt;
 use uefi_field_texts::forms::{AllowShortcuts, DisplayOnly};
 use uefi_field_texts::hexadecimal::{put_comma_bytes, put_decimal, put_hex};
@@ -209,18 +209,19 @@ impl<'a> fmt::Display for DevicePathNode<'a> {
 }
 
 /// The text that may be read back, without shorter names.
-impl<'a, K: NodeKind> Printed for TypedNode<'a, K> {
+impl<'a, const DEVICE_TYPE: u8, const SUB_TYPE: u8, const LEAST: usize> Printed
+    for TypedNode<'a, DEVICE_TYPE, SUB_TYPE, LEAST> {
     ghost use Rattle.std.specs.Prelude.{false};
     ghost use Rattle.uefi_device_nodes.specs.NodeTexts.{node_text};
     ghost use Rattle.uefi_device_nodes.specs.NodeViews.{data_of};
     ghost use Rattle.uefi_device_nodes.specs.Nodes.{node_with};
 
-    ghost printed = { λ node. node_text false false (node_with K.DEVICE_TYPE K.SUB_TYPE (data_of node)) };
+    ghost printed = { λ node. node_text false false (node_with DEVICE_TYPE SUB_TYPE (data_of node)) };
 
     fn put<S: TextSink>(&self, sink: &mut S) {
         let node = Parts {
-            device_type: K::DEVICE_TYPE,
-            sub_type: K::SUB_TYPE,
+            device_type: DEVICE_TYPE,
+            sub_type: SUB_TYPE,
             data: self.data(),
             display_only: false,
             allow_shortcuts: false,
@@ -230,14 +231,15 @@ impl<'a, K: NodeKind> Printed for TypedNode<'a, K> {
 }
 
 /// Prints that text.
-impl<'a, K: NodeKind> fmt::Display for TypedNode<'a, K> {
+impl<'a, const DEVICE_TYPE: u8, const SUB_TYPE: u8, const LEAST: usize> fmt::Display
+    for TypedNode<'a, DEVICE_TYPE, SUB_TYPE, LEAST> {
     ghost use Rattle.std.specs.Prelude.{Some, false};
     ghost use Rattle.uefi_device_nodes.specs.NodeTexts.{node_text};
     ghost use Rattle.uefi_device_nodes.specs.NodeViews.{data_of};
     ghost use Rattle.uefi_device_nodes.specs.Nodes.{node_with};
 
     ghost output = { λ node. Some (node_text false false
-        (node_with K.DEVICE_TYPE K.SUB_TYPE (data_of node))) };
+        (node_with DEVICE_TYPE SUB_TYPE (data_of node))) };
 
     fn fmt<W: fmt::Write>(&self, f: &mut fmt::Formatter<W>) -> fmt::Result {
         print(f, self)

@@ -104,9 +104,11 @@ boot_type_text kind = if kind == 1 then codes "Floppy"
 abbrev pub hid_string : List ℕ → List ℕ
 hid_string bytes = until_nul bytes
 
+-- that of _UID
 abbrev pub uid_string : List ℕ → List ℕ
 uid_string bytes = until_nul (after_nul bytes)
 
+-- that of _CID
 abbrev pub cid_string : List ℕ → List ℕ
 cid_string bytes = until_nul (after_nul (after_nul bytes))
 

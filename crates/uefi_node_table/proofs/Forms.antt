@@ -5,7 +5,7 @@ use Rattle.std.specs.List.{list_all}
 use Rattle.std.proofs.lemmas.Bool.{le-leb, leb-true}
 use Rattle.std.proofs.lemmas.Slice.{between_to_end}
 use Rattle.uefi_node_table.specs.Fields.{fits_shape}
-use Rattle.uefi_node_table.specs.Rows.{Piece, Form, find_form, form_text, is_within, matches, pieces_text, tail_text}
+use Rattle.uefi_node_table.specs.Rows.{Piece, Form, find_form, form_text, is_within, lead_text, matches, pieces_text, tail_text}
 use Rattle.uefi_node_table.proofs.Lists.{and_true, both}
 
 -- fields within data lie within longer data
@@ -36,6 +36,7 @@ long_enough display_only kind sub_kind content form e = leb-true _ _ (both _ _ (
 
 -- the parts of the text of a node
 pub parts_text : (form : Form) (content : List ℕ)
-    → form.start ++ (pieces_text form.pieces content ++ (tail_text form.tail (slice_range content (form.least) (length content)) ++ form.close)) ≡ form_text form content
-parts_text form content = ap (λ (x : List ℕ). form.start ++ (pieces_text form.pieces content ++ (tail_text form.tail x ++ form.close)))
+    → form.start ++ (lead_text form.tail (slice_range content (form.least) (length content))
+    ++ (pieces_text form.pieces content ++ (tail_text form.tail (slice_range content (form.least) (length content)) ++ form.close))) ≡ form_text form content
+parts_text form content = ap (λ (x : List ℕ). form.start ++ (lead_text form.tail x ++ (pieces_text form.pieces content ++ (tail_text form.tail x ++ form.close))))
     (between_to_end content (form.least) (length content) (omega arith))

@@ -1,3 +1,4 @@
 pub mod Lists
+pub mod Items
 pub mod Forms
 pub mod Groups

@@ -1,16 +1,21 @@
 -- The forms of nodes: how each is printed (UEFI Specification 2.10, section 10.6.1).
 use Rattle.std.specs.Borrow.{Bor}
-use Rattle.std.specs.Prelude.{ℕ, ◌+◌, Bool, true, nat_le, ◌==◌, ◌&&◌, if◌then◌else◌, List, [], ◌∷◌, ◌++◌, length, drop, slice_range, slice_index, map, Option, Some, None}
+use Rattle.std.specs.Prelude.{ℕ, ◌+◌, ◌/◌, Bool, true, nat_le, ◌==◌, ◌&&◌, if◌then◌else◌, List, [], ◌∷◌, ◌++◌, length, codes, drop, slice_range, slice_index, map, Option, Some, None}
 use Rattle.std.specs.List.{flat_map, list_all}
-use Rattle.uefi_field_texts.specs.FieldTexts.{comma_bytes, shown_bytes}
+use Rattle.std.specs.Simd.{first_chunks}
+use Rattle.uefi_field_texts.specs.FieldTexts.{comma_bytes, shown_bytes, until_nul, utf16_text}
 use Rattle.uefi_node_table.specs.Fields.{field_text, fits_shape}
 use Rattle.uefi_node_table.specs.declared.rows.Mode.{Mode}
 use Rattle.uefi_node_table.specs.declared.rows.Mode.TheVariants.{Read, Printed, Display}
 use Rattle.uefi_node_table.specs.declared.rows.Shape.{Shape}
 use Rattle.uefi_node_table.specs.declared.rows.Tail.{Tail}
-use Rattle.uefi_node_table.specs.declared.rows.Tail.TheVariants.{Nothing, Bytes, Text}
+use Rattle.uefi_node_table.specs.declared.rows.Tail.TheVariants.{Nothing, Bytes, Text, Utf16, Name, Repeated}
 use Rattle.uefi_node_table.specs.declared.rows.PieceOf.{PieceOf}
 use Rattle.uefi_node_table.specs.declared.rows.RowOf.{RowOf}
+use Rattle.uefi_node_table.specs.declared.rows.ItemOf.{ItemOf}
+use Rattle.uefi_node_table.specs.declared.rows.Items.{Items}
+use Rattle.uefi_node_table.specs.declared.rows.Items.TheVariants.{Numbers, Ipv4, Ipv6}
+use Rattle.uefi_node_table.specs.declared.table.TheConstants.{NUMBERS, IPV4_ADDRESSES, IPV6_ADDRESSES}
 
 -- a field: how it stands in the text, where it lies in the data, and what stands after it
 pub record Piece : Type 0 where
@@ -83,16 +88,60 @@ piece_text content piece = field_text piece.shape (value_at piece content) ++ pi
 abbrev pub pieces_text : List Piece → List ℕ → List ℕ
 pieces_text pieces content = flat_map (piece_text content) pieces
 
+-- what each item of a list has: how many bytes, what its text begins with, and its fields
+pub record Item : Type 0 where
+  pub size : ℕ
+  pub start : List ℕ
+  pub pieces : List Piece
+
+-- the item that a value is
+abbrev pub as_item : ItemOf (Bor (List ℕ)) (Bor (List (PieceOf (Bor (List ℕ))))) → Item
+as_item i = record { size = i.size; start = i.start.now; pieces = map as_piece i.pieces.now }
+
+-- the item that a constant is
+abbrev pub const_item : ItemOf (record { now : List ℕ }) (record { now : List (PieceOf (record { now : List ℕ })) }) → Item
+const_item i = record { size = i.size; start = i.start.now; pieces = map const_piece i.pieces.now }
+
+-- the items of a list
+unfoldable pub item_of : Items → Item
+item_of Numbers = const_item NUMBERS
+item_of Ipv4 = const_item IPV4_ADDRESSES
+item_of Ipv6 = const_item IPV6_ADDRESSES
+
+-- the text of an item
+abbrev pub item_text : Item → List ℕ → List ℕ
+item_text item bytes = item.start ++ pieces_text item.pieces bytes
+
+-- the bytes of each whole item
+abbrev pub items_of : ℕ → List ℕ → List (List ℕ)
+items_of size bytes = first_chunks size (length bytes / size) bytes
+
+-- the text of a list
+abbrev pub list_text : Item → List ℕ → List ℕ
+list_text item bytes = flat_map (item_text item) (items_of item.size bytes)
+
 -- the text of the data after the fixed part
 abbrev pub tail_text : Tail → List ℕ → List ℕ
 tail_text Nothing bytes = []
 tail_text Bytes bytes = comma_bytes bytes
 tail_text Text bytes = shown_bytes bytes
+tail_text Utf16 bytes = utf16_text bytes
+tail_text Name bytes = []
+tail_text (Repeated items) bytes = list_text (item_of items) bytes
+
+-- the text of the data after the fixed part that stands before the fields
+abbrev pub lead_text : Tail → List ℕ → List ℕ
+lead_text Nothing bytes = []
+lead_text Bytes bytes = []
+lead_text Text bytes = []
+lead_text Utf16 bytes = []
+lead_text Name bytes = shown_bytes (until_nul bytes) ++ codes ",0x"
+lead_text (Repeated items) bytes = []
 
 -- the text of a node of a form, by its data
 abbrev pub form_text : Form → List ℕ → List ℕ
-form_text form content = form.start ++ (pieces_text form.pieces content
-    ++ (tail_text form.tail (drop (form.least) content) ++ form.close))
+form_text form content = form.start ++ (lead_text form.tail (drop (form.least) content)
+    ++ (pieces_text form.pieces content ++ (tail_text form.tail (drop (form.least) content) ++ form.close)))
 
 -- the test for data that hold these bytes
 abbrev pub has_bytes : List (ℕ × ℕ) → List ℕ → Bool

@@ -5,3 +5,4 @@
 pub mod printing;
 pub mod rows;
 pub mod table;
+pub mod words;

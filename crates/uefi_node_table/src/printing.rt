@@ -4,30 +4,52 @@
 ghost use Rattle.std.specs.Fmt.{WritesInCalls};
 ghost use Rattle.std.specs.List.{list_all};
 ghost use Rattle.std.specs.Option.{option_map};
-ghost use Rattle.std.specs.Prelude.{◌≡◌, ◌≤◌, [], if◌then◌else◌, IsTrue, length, map, slice_index};
+ghost use Rattle.std.specs.Prelude.{◌≡◌, ◌+◌, ◌^◌, ◌<◌, ◌≤◌, [], if◌then◌else◌, IsTrue, length, map, slice_index};
 ghost use Rattle.uefi_text.specs.Packed.{little_endian};
-ghost use Rattle.uefi_node_table.specs.Fields.{field_text, fits_shape};
-ghost use Rattle.uefi_node_table.specs.Rows.{as_form, as_piece, find_form, form_text, has_bytes, is_laid_out, is_used, is_within, matches, piece_text, pieces_text, tail_text};
+ghost use Rattle.uefi_field_texts.specs.FieldTexts.{hex};
+ghost use Rattle.uefi_node_table.specs.Fields.{default_text, field_text, fits_shape};
+ghost use Rattle.uefi_node_table.specs.Rows.{as_form, as_item, as_piece, find_form, form_text, has_bytes, is_laid_out, is_used, is_within, item_text, lead_text, list_text, matches, piece_text, pieces_text, tail_text};
 ghost use Rattle.uefi_node_table.specs.Table.{forms, has_form, table_text};
 
-use crate::rows::{Mode, Piece, Row, Shape, Tail};
-use crate::table::{GROUPS, group};
+use crate::rows::{Item, Mode, Piece, Row, Shape, Tail};
+use crate::table::{GROUPS, group, item_of};
+use crate::words::{word_for, words_of};
 use uefi_field_texts::hexadecimal::{
     put_back, put_bytes, put_comma_bytes, put_dashed_back, put_decimal, put_hex,
 };
 use uefi_field_texts::sink::TextSink;
-use uefi_field_texts::texts::put_byte_text;
+use uefi_field_texts::texts::{put_byte_text, put_utf16_text, until_nul};
 
 /// The number that bytes encode, the low byte first.
 fn number_of(bytes: &[u8]) -> u64
     requires { length bytes.now ≤ 8 }
-    ensures { result ≡ little_endian bytes.now }
+    ensures number { result ≡ little_endian bytes.now }
+    ensures small { result < 256 ^ length bytes.now }
 {
     let mut number = 0;
     for place in 0..bytes.len() {
         number = number * 256 + u64::from(bytes[bytes.len() - 1 - place]);
     }
     number
+}
+
+/// Puts a number in decimal, or a word in place of 0.
+fn put_or_default<S: TextSink>(sink: &mut S, number: u64)
+    ensures { WritesInCalls S.puts sink.old (default_text number) sink.new }
+{
+    if number == 0 {
+        sink.put_str("DEFAULT");
+        return;
+    }
+    put_decimal(sink, "", number);
+}
+
+/// Puts the number after that of a byte, in hexadecimal.
+fn put_next<S: TextSink>(sink: &mut S, bytes: &[u8])
+    requires { length bytes.now ≡ 1 }
+    ensures { WritesInCalls S.puts sink.old (hex (little_endian bytes.now + 1)) sink.new }
+{
+    put_hex(sink, "", number_of(bytes) + 1);
 }
 
 /// Puts the bytes of a field.
@@ -38,9 +60,13 @@ fn put_value<S: TextSink>(sink: &mut S, shape: Shape, bytes: &[u8])
     match shape {
         Shape::Hexadecimal => put_hex(sink, "", number_of(bytes)),
         Shape::Decimal => put_decimal(sink, "", number_of(bytes)),
+        Shape::OrDefault => put_or_default(sink, number_of(bytes)),
         Shape::Back => put_back(sink, "", bytes),
         Shape::Forth => put_bytes(sink, "", bytes),
         Shape::Dashed => put_dashed_back(sink, bytes),
+        Shape::Next => put_next(sink, bytes),
+        Shape::Padded => put_byte_text(sink, "", until_nul(bytes)),
+        Shape::Word(words) => sink.put_str(word_for(words_of(words), number_of(bytes))),
     }
 }
 
@@ -64,6 +90,29 @@ fn put_pieces<S: TextSink>(sink: &mut S, pieces: &[Piece], content: &[u8])
     }
 }
 
+/// Puts an item of a list.
+fn put_item<S: TextSink>(sink: &mut S, item: &Item, bytes: &[u8])
+    requires { IsTrue (list_all (is_within (length bytes.now)) (map as_piece item.now.pieces.now)) }
+    ensures { WritesInCalls S.puts sink.old (item_text (as_item item.now) bytes.now) sink.new }
+{
+    sink.put_str(item.start);
+    put_pieces(sink, item.pieces, bytes);
+}
+
+/// Puts the whole items of a list.
+fn put_list<S: TextSink>(sink: &mut S, item: &Item, bytes: &[u8])
+    requires some { 0 < item.now.size }
+    requires laid_out { IsTrue (list_all (is_within item.now.size) (map as_piece item.now.pieces.now)) }
+    ensures { WritesInCalls S.puts sink.old (list_text (as_item item.now) bytes.now) sink.new }
+{
+    let mut rest = bytes;
+    'items: for _ in 0..bytes.len() / item.size {
+        let (first, others) = rest.split_at(item.size);
+        put_item(sink, item, first);
+        rest = others;
+    }
+}
+
 /// Puts the data after the fixed part.
 fn put_tail<S: TextSink>(sink: &mut S, tail: Tail, bytes: &[u8])
     ensures { WritesInCalls S.puts sink.old (tail_text tail bytes.now) sink.new }
@@ -72,6 +121,19 @@ fn put_tail<S: TextSink>(sink: &mut S, tail: Tail, bytes: &[u8])
         Tail::Nothing => {}
         Tail::Bytes => put_comma_bytes(sink, bytes),
         Tail::Text => put_byte_text(sink, "", bytes),
+        Tail::Utf16 => put_utf16_text(sink, bytes),
+        Tail::Name => {}
+        Tail::Repeated(items) => put_list(sink, &item_of(items), bytes),
+    }
+}
+
+/// Puts the data after the fixed part that stand before the fields.
+fn put_lead<S: TextSink>(sink: &mut S, tail: Tail, bytes: &[u8])
+    ensures { WritesInCalls S.puts sink.old (lead_text tail bytes.now) sink.new }
+{
+    if let Tail::Name = tail {
+        put_byte_text(sink, "", until_nul(bytes));
+        sink.put_str(",0x");
     }
 }
 
@@ -82,6 +144,7 @@ fn put_row<S: TextSink>(sink: &mut S, row: &Row, content: &[u8])
     ensures { WritesInCalls S.puts sink.old (form_text (as_form row.now) content.now) sink.new }
 {
     sink.put_str(row.start);
+    put_lead(sink, row.tail, &content[row.least..]);
     put_pieces(sink, row.pieces, content);
     put_tail(sink, row.tail, &content[row.least..]);
     sink.put_str(row.close);

@@ -1,6 +1,8 @@
 //! What a row of the table holds: a form of nodes, and where its fields lie.
 #![tactic(auto)]
 
+use crate::words::Words;
+
 /// How the bytes of a field stand in a text.
 #[derive(Clone, Copy)]
 pub enum Shape {
@@ -8,12 +10,20 @@ pub enum Shape {
     Hexadecimal,
     /// The same in decimal.
     Decimal,
+    /// The same in decimal, or the word `DEFAULT` where it is 0.
+    OrDefault,
     /// Two digits for each byte, from the last byte to the first.
     Back,
     /// The same from the first byte to the last.
     Forth,
     /// Two digits for each byte, from the last to the first, with dashes between them.
     Dashed,
+    /// The number after that of a byte, in hexadecimal: of the first, 0, it is 1.
+    Next,
+    /// A text of bytes up to a zero, or all of them.
+    Padded,
+    /// A word that stands for a number.
+    Word(Words),
 }
 
 /// A field in the order of the text. `T` is a text that stays as long as the program: no contract can name a
@@ -39,7 +49,38 @@ pub enum Tail {
     Bytes,
     /// A text of bytes.
     Text,
+    /// A text in UTF-16, up to a NUL.
+    Utf16,
+    /// A text of bytes up to a zero, which stands before the fields, and `,0x`.
+    Name,
+    /// Items of a list, as many as there are whole ones.
+    Repeated(Items),
 }
+
+/// A list, by its items.
+#[derive(Clone, Copy)]
+pub enum Items {
+    /// Numbers of four bytes.
+    Numbers,
+    /// Addresses of IP version 4 in 16 bytes.
+    Ipv4,
+    /// Addresses of IP version 6.
+    Ipv6,
+}
+
+/// What each item of a list has.
+#[derive(Clone, Copy)]
+pub struct ItemOf<T, P> {
+    /// How many bytes it has.
+    pub size: usize,
+    /// What its text begins with.
+    pub start: T,
+    /// Its fields, in the order of the text.
+    pub pieces: P,
+}
+
+/// What each item has.
+pub type Item = ItemOf<&'static str, &'static [Piece]>;
 
 /// For which texts a form is used.
 #[derive(Clone, Copy)]

@@ -2,14 +2,19 @@
 //! printed. A kind whose text a row can say stands here and nowhere else. `specs/Rows.antt` says what a row means.
 #![tactic(auto)]
 
-ghost use Rattle.std.specs.Prelude.{◌≡◌, ◌≤◌, length, map};
-ghost use Rattle.uefi_node_table.specs.Rows.{as_form, const_form};
+ghost use Rattle.std.specs.Prelude.{◌≡◌, ◌<◌, ◌≤◌, IsTrue, length, map};
+ghost use Rattle.std.specs.List.{list_all};
+ghost use Rattle.uefi_node_table.specs.Rows.{as_form, as_item, as_piece, const_form, is_within, item_of};
 ghost use Rattle.uefi_node_table.specs.Table.{group_forms};
 
-use crate::rows::{Mode, PieceOf, Row, RowOf, Shape, Tail};
+use crate::rows::{Item, ItemOf, Items, Mode, PieceOf, Row, RowOf, Shape, Tail};
+use crate::words::Words;
 
 /// A field of these.
 macro_rules! field {
+    (Word($words:ident), $place:expr, $width:expr, $ending:expr) => {
+        PieceOf { shape: Shape::Word(Words::$words), place: $place, width: $width, ending: $ending }
+    };
     ($shape:ident, $place:expr, $width:expr, $ending:expr) => {
         PieceOf { shape: Shape::$shape, place: $place, width: $width, ending: $ending }
     };
@@ -33,15 +38,28 @@ macro_rules! fields {
             field!(Forth, $at + 8, 2, ":"), field!(Forth, $at + 10, 2, ":"),
             field!(Forth, $at + 12, 2, ":"), field!(Forth, $at + 14, 2, $ending)] $($rest)*)
     };
+    ([$($done:expr),*] [Word $words:ident $at:literal $width:literal] $($rest:tt)*) => {
+        fields!([$($done,)* field!(Word($words), $at, $width, "")] $($rest)*)
+    };
     ([$($done:expr),*] [$shape:ident $at:literal $width:literal $ending:literal] $($rest:tt)*) => {
         fields!([$($done,)* field!($shape, $at, $width, $ending)] $($rest)*)
+    };
+}
+
+/// What follows the fixed part: a tail, or a list of items.
+macro_rules! tail {
+    ($tail:ident) => {
+        Tail::$tail
+    };
+    (Repeated $items:ident) => {
+        Tail::Repeated(Items::$items)
     };
 }
 
 /// A form of these.
 macro_rules! row {
     ($kind:literal $sub_kind:literal $mode:ident $least:literal [$($at:literal = $byte:literal),*]
-        [$($too:literal = $other:literal),*] $start:literal $([$($field:tt)*])* $tail:ident $close:literal) => {
+        [$($too:literal = $other:literal),*] $start:literal $([$($field:tt)*])* $($tail:ident)+ $close:literal) => {
         RowOf {
             kind: $kind,
             sub_kind: $sub_kind,
@@ -51,11 +69,32 @@ macro_rules! row {
             also: &[$(($too, $other)),*],
             start: $start,
             pieces: fields!([] $([$($field)*])*),
-            tail: Tail::$tail,
+            tail: tail!($($tail)+),
             close: $close,
         }
     };
 }
+
+/// The items of [`Items::Numbers`].
+const NUMBERS: Item = ItemOf {
+    size: 4,
+    start: ",0x",
+    pieces: fields!([] [Hexadecimal 0 4 ""]),
+};
+
+/// The items of [`Items::Ipv4`].
+const IPV4_ADDRESSES: Item = ItemOf {
+    size: 16,
+    start: ",",
+    pieces: fields!([] [Ipv4 0 ""]),
+};
+
+/// The items of [`Items::Ipv6`].
+const IPV6_ADDRESSES: Item = ItemOf {
+    size: 16,
+    start: ",",
+    pieces: fields!([] [Ipv6 0 ""]),
+};
 
 /// Nodes of type Hardware.
 #[rattlefmt::skip]
@@ -78,10 +117,63 @@ const ACPI: &[Row] = &[
     row!(2 1 Read 8 [0 = 0xd0, 1 = 0x41, 2 = 0x01, 3 = 0x05] [] "Serial(0x" [Hexadecimal 4 4 ")"] Nothing ""),
     row!(2 1 Read 8 [0 = 0xd0, 1 = 0x41, 2 = 0x01, 3 = 0x04] [] "ParallelPort(0x" [Hexadecimal 4 4 ")"] Nothing ""),
     row!(2 1 Read 8 [0 = 0xd0, 1 = 0x41] [] "Acpi(PNP" [Back 2 2 ",0x"] [Hexadecimal 4 4 ")"] Nothing ""),
+    row!(2 3 Read 4 [] [] "AcpiAdr(0x" [Hexadecimal 0 4 ""] Repeated Numbers ")"),
     row!(2 1 Read 8 [] [] "Acpi(0x" [Back 0 4 ",0x"] [Hexadecimal 4 4 ")"] Nothing ""),
 ];
 
-/// Nodes of type Messaging, but for those below.
+/// SAS devices, as a vendor's nodes of messages with the GUID D487DDB4-008B-11D9-AFDC-001083FFCA4D, in no bay. They stand
+/// before the nodes of all vendors.
+#[rattlefmt::skip]
+const SAS: &[Row] = &[
+    row!(3 10 Read 40 [0 = 0xb4, 1 = 0xdd, 2 = 0x87, 3 = 0xd4, 4 = 0x8b, 5 = 0x00, 6 = 0xd9, 7 = 0x11, 8 = 0xaf, 9 = 0xdc, 10 = 0x00, 11 = 0x10, 12 = 0x83, 13 = 0xff, 14 = 0xca, 15 = 0x4d, 36 = 0x00, 37 = 0x00] [] "SAS(0x" [Hexadecimal 20 8 ",0x"] [Hexadecimal 28 8 ",0x"] [Hexadecimal 38 2 ",NoTopology,0,0,0,0x"] [Hexadecimal 16 4 ")"] Nothing ""),
+    row!(3 10 Read 40 [0 = 0xb4, 1 = 0xdd, 2 = 0x87, 3 = 0xd4, 4 = 0x8b, 5 = 0x00, 6 = 0xd9, 7 = 0x11, 8 = 0xaf, 9 = 0xdc, 10 = 0x00, 11 = 0x10, 12 = 0x83, 13 = 0xff, 14 = 0xca, 15 = 0x4d, 36 = 0x01, 37 = 0x00] [] "SAS(0x" [Hexadecimal 20 8 ",0x"] [Hexadecimal 28 8 ",0x"] [Hexadecimal 38 2 ",SAS,Internal,Direct,0,0x"] [Hexadecimal 16 4 ")"] Nothing ""),
+    row!(3 10 Read 40 [0 = 0xb4, 1 = 0xdd, 2 = 0x87, 3 = 0xd4, 4 = 0x8b, 5 = 0x00, 6 = 0xd9, 7 = 0x11, 8 = 0xaf, 9 = 0xdc, 10 = 0x00, 11 = 0x10, 12 = 0x83, 13 = 0xff, 14 = 0xca, 15 = 0x4d, 36 = 0x11, 37 = 0x00] [] "SAS(0x" [Hexadecimal 20 8 ",0x"] [Hexadecimal 28 8 ",0x"] [Hexadecimal 38 2 ",SATA,Internal,Direct,0,0x"] [Hexadecimal 16 4 ")"] Nothing ""),
+    row!(3 10 Read 40 [0 = 0xb4, 1 = 0xdd, 2 = 0x87, 3 = 0xd4, 4 = 0x8b, 5 = 0x00, 6 = 0xd9, 7 = 0x11, 8 = 0xaf, 9 = 0xdc, 10 = 0x00, 11 = 0x10, 12 = 0x83, 13 = 0xff, 14 = 0xca, 15 = 0x4d, 36 = 0x21, 37 = 0x00] [] "SAS(0x" [Hexadecimal 20 8 ",0x"] [Hexadecimal 28 8 ",0x"] [Hexadecimal 38 2 ",SAS,External,Direct,0,0x"] [Hexadecimal 16 4 ")"] Nothing ""),
+    row!(3 10 Read 40 [0 = 0xb4, 1 = 0xdd, 2 = 0x87, 3 = 0xd4, 4 = 0x8b, 5 = 0x00, 6 = 0xd9, 7 = 0x11, 8 = 0xaf, 9 = 0xdc, 10 = 0x00, 11 = 0x10, 12 = 0x83, 13 = 0xff, 14 = 0xca, 15 = 0x4d, 36 = 0x31, 37 = 0x00] [] "SAS(0x" [Hexadecimal 20 8 ",0x"] [Hexadecimal 28 8 ",0x"] [Hexadecimal 38 2 ",SATA,External,Direct,0,0x"] [Hexadecimal 16 4 ")"] Nothing ""),
+    row!(3 10 Read 40 [0 = 0xb4, 1 = 0xdd, 2 = 0x87, 3 = 0xd4, 4 = 0x8b, 5 = 0x00, 6 = 0xd9, 7 = 0x11, 8 = 0xaf, 9 = 0xdc, 10 = 0x00, 11 = 0x10, 12 = 0x83, 13 = 0xff, 14 = 0xca, 15 = 0x4d, 36 = 0x41, 37 = 0x00] [] "SAS(0x" [Hexadecimal 20 8 ",0x"] [Hexadecimal 28 8 ",0x"] [Hexadecimal 38 2 ",SAS,Internal,Expanded,0,0x"] [Hexadecimal 16 4 ")"] Nothing ""),
+    row!(3 10 Read 40 [0 = 0xb4, 1 = 0xdd, 2 = 0x87, 3 = 0xd4, 4 = 0x8b, 5 = 0x00, 6 = 0xd9, 7 = 0x11, 8 = 0xaf, 9 = 0xdc, 10 = 0x00, 11 = 0x10, 12 = 0x83, 13 = 0xff, 14 = 0xca, 15 = 0x4d, 36 = 0x51, 37 = 0x00] [] "SAS(0x" [Hexadecimal 20 8 ",0x"] [Hexadecimal 28 8 ",0x"] [Hexadecimal 38 2 ",SATA,Internal,Expanded,0,0x"] [Hexadecimal 16 4 ")"] Nothing ""),
+    row!(3 10 Read 40 [0 = 0xb4, 1 = 0xdd, 2 = 0x87, 3 = 0xd4, 4 = 0x8b, 5 = 0x00, 6 = 0xd9, 7 = 0x11, 8 = 0xaf, 9 = 0xdc, 10 = 0x00, 11 = 0x10, 12 = 0x83, 13 = 0xff, 14 = 0xca, 15 = 0x4d, 36 = 0x61, 37 = 0x00] [] "SAS(0x" [Hexadecimal 20 8 ",0x"] [Hexadecimal 28 8 ",0x"] [Hexadecimal 38 2 ",SAS,External,Expanded,0,0x"] [Hexadecimal 16 4 ")"] Nothing ""),
+    row!(3 10 Read 40 [0 = 0xb4, 1 = 0xdd, 2 = 0x87, 3 = 0xd4, 4 = 0x8b, 5 = 0x00, 6 = 0xd9, 7 = 0x11, 8 = 0xaf, 9 = 0xdc, 10 = 0x00, 11 = 0x10, 12 = 0x83, 13 = 0xff, 14 = 0xca, 15 = 0x4d, 36 = 0x71, 37 = 0x00] [] "SAS(0x" [Hexadecimal 20 8 ",0x"] [Hexadecimal 28 8 ",0x"] [Hexadecimal 38 2 ",SATA,External,Expanded,0,0x"] [Hexadecimal 16 4 ")"] Nothing ""),
+];
+
+/// The same in a bay of a drive, and with a topology that no word tells.
+#[rattlefmt::skip]
+const SAS_IN_BAYS: &[Row] = &[
+    row!(3 10 Read 40 [0 = 0xb4, 1 = 0xdd, 2 = 0x87, 3 = 0xd4, 4 = 0x8b, 5 = 0x00, 6 = 0xd9, 7 = 0x11, 8 = 0xaf, 9 = 0xdc, 10 = 0x00, 11 = 0x10, 12 = 0x83, 13 = 0xff, 14 = 0xca, 15 = 0x4d, 36 = 0x02] [] "SAS(0x" [Hexadecimal 20 8 ",0x"] [Hexadecimal 28 8 ",0x"] [Hexadecimal 38 2 ",SAS,Internal,Direct,0x"] [Next 37 1 ",0x"] [Hexadecimal 16 4 ")"] Nothing ""),
+    row!(3 10 Read 40 [0 = 0xb4, 1 = 0xdd, 2 = 0x87, 3 = 0xd4, 4 = 0x8b, 5 = 0x00, 6 = 0xd9, 7 = 0x11, 8 = 0xaf, 9 = 0xdc, 10 = 0x00, 11 = 0x10, 12 = 0x83, 13 = 0xff, 14 = 0xca, 15 = 0x4d, 36 = 0x12] [] "SAS(0x" [Hexadecimal 20 8 ",0x"] [Hexadecimal 28 8 ",0x"] [Hexadecimal 38 2 ",SATA,Internal,Direct,0x"] [Next 37 1 ",0x"] [Hexadecimal 16 4 ")"] Nothing ""),
+    row!(3 10 Read 40 [0 = 0xb4, 1 = 0xdd, 2 = 0x87, 3 = 0xd4, 4 = 0x8b, 5 = 0x00, 6 = 0xd9, 7 = 0x11, 8 = 0xaf, 9 = 0xdc, 10 = 0x00, 11 = 0x10, 12 = 0x83, 13 = 0xff, 14 = 0xca, 15 = 0x4d, 36 = 0x22] [] "SAS(0x" [Hexadecimal 20 8 ",0x"] [Hexadecimal 28 8 ",0x"] [Hexadecimal 38 2 ",SAS,External,Direct,0x"] [Next 37 1 ",0x"] [Hexadecimal 16 4 ")"] Nothing ""),
+    row!(3 10 Read 40 [0 = 0xb4, 1 = 0xdd, 2 = 0x87, 3 = 0xd4, 4 = 0x8b, 5 = 0x00, 6 = 0xd9, 7 = 0x11, 8 = 0xaf, 9 = 0xdc, 10 = 0x00, 11 = 0x10, 12 = 0x83, 13 = 0xff, 14 = 0xca, 15 = 0x4d, 36 = 0x32] [] "SAS(0x" [Hexadecimal 20 8 ",0x"] [Hexadecimal 28 8 ",0x"] [Hexadecimal 38 2 ",SATA,External,Direct,0x"] [Next 37 1 ",0x"] [Hexadecimal 16 4 ")"] Nothing ""),
+    row!(3 10 Read 40 [0 = 0xb4, 1 = 0xdd, 2 = 0x87, 3 = 0xd4, 4 = 0x8b, 5 = 0x00, 6 = 0xd9, 7 = 0x11, 8 = 0xaf, 9 = 0xdc, 10 = 0x00, 11 = 0x10, 12 = 0x83, 13 = 0xff, 14 = 0xca, 15 = 0x4d, 36 = 0x42] [] "SAS(0x" [Hexadecimal 20 8 ",0x"] [Hexadecimal 28 8 ",0x"] [Hexadecimal 38 2 ",SAS,Internal,Expanded,0x"] [Next 37 1 ",0x"] [Hexadecimal 16 4 ")"] Nothing ""),
+    row!(3 10 Read 40 [0 = 0xb4, 1 = 0xdd, 2 = 0x87, 3 = 0xd4, 4 = 0x8b, 5 = 0x00, 6 = 0xd9, 7 = 0x11, 8 = 0xaf, 9 = 0xdc, 10 = 0x00, 11 = 0x10, 12 = 0x83, 13 = 0xff, 14 = 0xca, 15 = 0x4d, 36 = 0x52] [] "SAS(0x" [Hexadecimal 20 8 ",0x"] [Hexadecimal 28 8 ",0x"] [Hexadecimal 38 2 ",SATA,Internal,Expanded,0x"] [Next 37 1 ",0x"] [Hexadecimal 16 4 ")"] Nothing ""),
+    row!(3 10 Read 40 [0 = 0xb4, 1 = 0xdd, 2 = 0x87, 3 = 0xd4, 4 = 0x8b, 5 = 0x00, 6 = 0xd9, 7 = 0x11, 8 = 0xaf, 9 = 0xdc, 10 = 0x00, 11 = 0x10, 12 = 0x83, 13 = 0xff, 14 = 0xca, 15 = 0x4d, 36 = 0x62] [] "SAS(0x" [Hexadecimal 20 8 ",0x"] [Hexadecimal 28 8 ",0x"] [Hexadecimal 38 2 ",SAS,External,Expanded,0x"] [Next 37 1 ",0x"] [Hexadecimal 16 4 ")"] Nothing ""),
+    row!(3 10 Read 40 [0 = 0xb4, 1 = 0xdd, 2 = 0x87, 3 = 0xd4, 4 = 0x8b, 5 = 0x00, 6 = 0xd9, 7 = 0x11, 8 = 0xaf, 9 = 0xdc, 10 = 0x00, 11 = 0x10, 12 = 0x83, 13 = 0xff, 14 = 0xca, 15 = 0x4d, 36 = 0x72] [] "SAS(0x" [Hexadecimal 20 8 ",0x"] [Hexadecimal 28 8 ",0x"] [Hexadecimal 38 2 ",SATA,External,Expanded,0x"] [Next 37 1 ",0x"] [Hexadecimal 16 4 ")"] Nothing ""),
+    row!(3 10 Read 40 [0 = 0xb4, 1 = 0xdd, 2 = 0x87, 3 = 0xd4, 4 = 0x8b, 5 = 0x00, 6 = 0xd9, 7 = 0x11, 8 = 0xaf, 9 = 0xdc, 10 = 0x00, 11 = 0x10, 12 = 0x83, 13 = 0xff, 14 = 0xca, 15 = 0x4d] [] "SAS(0x" [Hexadecimal 20 8 ",0x"] [Hexadecimal 28 8 ",0x"] [Hexadecimal 38 2 ",0x"] [Hexadecimal 36 2 ",0,0,0,0x"] [Hexadecimal 16 4 ")"] Nothing ""),
+];
+
+/// SAS devices, as nodes of their own.
+#[rattlefmt::skip]
+const SAS_EX: &[Row] = &[
+    row!(3 22 Read 20 [16 = 0x00, 17 = 0x00] [] "SasEx(0x" [Forth 0 8 ",0x"] [Forth 8 8 ",0x"] [Hexadecimal 18 2 ",NoTopology,0,0,0)"] Nothing ""),
+    row!(3 22 Read 20 [16 = 0x01, 17 = 0x00] [] "SasEx(0x" [Forth 0 8 ",0x"] [Forth 8 8 ",0x"] [Hexadecimal 18 2 ",SAS,Internal,Direct,0)"] Nothing ""),
+    row!(3 22 Read 20 [16 = 0x11, 17 = 0x00] [] "SasEx(0x" [Forth 0 8 ",0x"] [Forth 8 8 ",0x"] [Hexadecimal 18 2 ",SATA,Internal,Direct,0)"] Nothing ""),
+    row!(3 22 Read 20 [16 = 0x21, 17 = 0x00] [] "SasEx(0x" [Forth 0 8 ",0x"] [Forth 8 8 ",0x"] [Hexadecimal 18 2 ",SAS,External,Direct,0)"] Nothing ""),
+    row!(3 22 Read 20 [16 = 0x31, 17 = 0x00] [] "SasEx(0x" [Forth 0 8 ",0x"] [Forth 8 8 ",0x"] [Hexadecimal 18 2 ",SATA,External,Direct,0)"] Nothing ""),
+    row!(3 22 Read 20 [16 = 0x41, 17 = 0x00] [] "SasEx(0x" [Forth 0 8 ",0x"] [Forth 8 8 ",0x"] [Hexadecimal 18 2 ",SAS,Internal,Expanded,0)"] Nothing ""),
+    row!(3 22 Read 20 [16 = 0x51, 17 = 0x00] [] "SasEx(0x" [Forth 0 8 ",0x"] [Forth 8 8 ",0x"] [Hexadecimal 18 2 ",SATA,Internal,Expanded,0)"] Nothing ""),
+    row!(3 22 Read 20 [16 = 0x61, 17 = 0x00] [] "SasEx(0x" [Forth 0 8 ",0x"] [Forth 8 8 ",0x"] [Hexadecimal 18 2 ",SAS,External,Expanded,0)"] Nothing ""),
+    row!(3 22 Read 20 [16 = 0x71, 17 = 0x00] [] "SasEx(0x" [Forth 0 8 ",0x"] [Forth 8 8 ",0x"] [Hexadecimal 18 2 ",SATA,External,Expanded,0)"] Nothing ""),
+    row!(3 22 Read 20 [16 = 0x02] [] "SasEx(0x" [Forth 0 8 ",0x"] [Forth 8 8 ",0x"] [Hexadecimal 18 2 ",SAS,Internal,Direct,0x"] [Next 17 1 ")"] Nothing ""),
+    row!(3 22 Read 20 [16 = 0x12] [] "SasEx(0x" [Forth 0 8 ",0x"] [Forth 8 8 ",0x"] [Hexadecimal 18 2 ",SATA,Internal,Direct,0x"] [Next 17 1 ")"] Nothing ""),
+    row!(3 22 Read 20 [16 = 0x22] [] "SasEx(0x" [Forth 0 8 ",0x"] [Forth 8 8 ",0x"] [Hexadecimal 18 2 ",SAS,External,Direct,0x"] [Next 17 1 ")"] Nothing ""),
+    row!(3 22 Read 20 [16 = 0x32] [] "SasEx(0x" [Forth 0 8 ",0x"] [Forth 8 8 ",0x"] [Hexadecimal 18 2 ",SATA,External,Direct,0x"] [Next 17 1 ")"] Nothing ""),
+    row!(3 22 Read 20 [16 = 0x42] [] "SasEx(0x" [Forth 0 8 ",0x"] [Forth 8 8 ",0x"] [Hexadecimal 18 2 ",SAS,Internal,Expanded,0x"] [Next 17 1 ")"] Nothing ""),
+    row!(3 22 Read 20 [16 = 0x52] [] "SasEx(0x" [Forth 0 8 ",0x"] [Forth 8 8 ",0x"] [Hexadecimal 18 2 ",SATA,Internal,Expanded,0x"] [Next 17 1 ")"] Nothing ""),
+    row!(3 22 Read 20 [16 = 0x62] [] "SasEx(0x" [Forth 0 8 ",0x"] [Forth 8 8 ",0x"] [Hexadecimal 18 2 ",SAS,External,Expanded,0x"] [Next 17 1 ")"] Nothing ""),
+    row!(3 22 Read 20 [16 = 0x72] [] "SasEx(0x" [Forth 0 8 ",0x"] [Forth 8 8 ",0x"] [Hexadecimal 18 2 ",SATA,External,Expanded,0x"] [Next 17 1 ")"] Nothing ""),
+    row!(3 22 Read 20 [] [] "SasEx(0x" [Forth 0 8 ",0x"] [Forth 8 8 ",0x"] [Hexadecimal 18 2 ",0x"] [Hexadecimal 16 2 ",0,0,0)"] Nothing ""),
+];
+
+/// Nodes of type Messaging, but for those above and below.
 #[rattlefmt::skip]
 const MESSAGING: &[Row] = &[
     row!(3 1 Display 4 [] [] "Ata(0x" [Hexadecimal 2 2 ")"] Nothing ""),
@@ -102,12 +194,18 @@ const MESSAGING: &[Row] = &[
     row!(3 11 Read 33 [32 = 0x00] [] "MAC(" [Forth 0 6 ",0x0)"] Nothing ""),
     row!(3 11 Read 33 [32 = 0x01] [] "MAC(" [Forth 0 6 ",0x1)"] Nothing ""),
     row!(3 11 Printed 33 [] [] "MAC(" [Forth 0 32 ",0x"] [Hexadecimal 32 1 ")"] Nothing ""),
+    row!(3 14 Read 15 [] [] "Uart(" [OrDefault 4 8 ","] [OrDefault 12 1 ","] [Word Parity 13 1] [Word StopBits 14 1] Nothing ""),
+    row!(3 16 Read 6 [] [] "UsbWwid(0x" [Hexadecimal 2 2 ",0x"] [Hexadecimal 4 2 ",0x"] [Hexadecimal 0 2 ",\""] Utf16 "\")"),
+    row!(3 31 Read 17 [0 = 0x00] [] "Dns(" [Ipv4 1 ""] Repeated Ipv4 ")"),
+    row!(3 31 Read 17 [] [0 = 0x01] "Dns(" [Ipv6 1 ""] Repeated Ipv6 ")"),
     row!(3 17 Read 1 [] [] "Unit(0x" [Hexadecimal 0 1 ")"] Nothing ""),
     row!(3 18 Read 6 [] [] "Sata(0x" [Hexadecimal 0 2 ",0x"] [Hexadecimal 2 2 ",0x"] [Hexadecimal 4 2 ")"] Nothing ""),
     row!(3 20 Read 2 [] [] "Vlan(" [Decimal 0 2 ")"] Nothing ""),
     row!(3 21 Read 20 [] [] "FibreEx(0x" [Forth 4 8 ",0x"] [Forth 12 8 ")"] Nothing ""),
     row!(3 23 Read 12 [] [] "NVMe(0x" [Hexadecimal 0 4 ","] [Dashed 4 8 ")"] Nothing ""),
-    row!(3 24 Printed 0 [] [] "Uri(" Text ")"),
+    row!(3 19 Printed 14 [] [] "iSCSI(" [Hexadecimal 12 2 ",0x"] [Forth 4 8 ","] [Word Digests 2 1] [Word Login 3 1] [Word Protocol 0 2] Name ""),
+    row!(3 28 Printed 32 [] [] "Wi-Fi(" [Padded 0 32 ")"] Nothing ""),
+    row!(3 24 Read 0 [] [] "Uri(" Text ")"),
     row!(3 25 Read 2 [] [] "UFS(0x" [Hexadecimal 0 1 ",0x"] [Hexadecimal 1 1 ")"] Nothing ""),
     row!(3 26 Read 1 [] [] "SD(0x" [Hexadecimal 0 1 ")"] Nothing ""),
     row!(3 27 Read 6 [] [] "Bluetooth(" [Forth 0 6 ")"] Nothing ""),
@@ -203,8 +301,23 @@ const MEDIA: &[Row] = &[
     row!(4 9 Read 34 [] [] "RamDisk(0x" [Hexadecimal 0 8 ",0x"] [Hexadecimal 8 8 ","] [Decimal 32 2 ","] [Guid 16 ")"] Nothing ""),
 ];
 
+/// What each item of a list has.
+#[tactic(auto, unfolding(crate::specs::Rows::item_of))]
+pub fn item_of(items: Items) -> Item
+    ensures item { as_item result ≡ item_of items }
+    ensures some { 0 < result.size }
+    ensures few { result.size ≤ 16 }
+    ensures laid_out { IsTrue (list_all (is_within result.size) (map as_piece result.pieces.now)) }
+{
+    match items {
+        Items::Numbers => NUMBERS,
+        Items::Ipv4 => IPV4_ADDRESSES,
+        Items::Ipv6 => IPV6_ADDRESSES,
+    }
+}
+
 /// How many groups of forms there are.
-pub const GROUPS: usize = 8;
+pub const GROUPS: usize = 11;
 
 /// The forms of [`HARDWARE`].
 ///
@@ -222,6 +335,30 @@ fn acpi() -> &'static [Row]
     ensures few { length result.now ≤ 1000 }
 {
     ACPI
+}
+
+/// The forms of [`SAS`].
+fn sas() -> &'static [Row]
+    ensures forms { map as_form result.now ≡ map const_form SAS.now }
+    ensures few { length result.now ≤ 1000 }
+{
+    SAS
+}
+
+/// The forms of [`SAS_IN_BAYS`].
+fn sas_in_bays() -> &'static [Row]
+    ensures forms { map as_form result.now ≡ map const_form SAS_IN_BAYS.now }
+    ensures few { length result.now ≤ 1000 }
+{
+    SAS_IN_BAYS
+}
+
+/// The forms of [`SAS_EX`].
+fn sas_ex() -> &'static [Row]
+    ensures forms { map as_form result.now ≡ map const_form SAS_EX.now }
+    ensures few { length result.now ≤ 1000 }
+{
+    SAS_EX
 }
 
 /// The forms of [`MESSAGING`].
@@ -281,12 +418,15 @@ pub fn group(index: usize) -> &'static [Row]
     match index {
         0 => hardware(),
         1 => acpi(),
-        2 => messaging(),
-        3 => ipv4(),
-        4 => ipv6(),
-        5 => ipv6_short(),
-        6 => usb_classes(),
-        7 => media(),
+        2 => sas(),
+        3 => sas_in_bays(),
+        4 => sas_ex(),
+        5 => messaging(),
+        6 => ipv4(),
+        7 => ipv6(),
+        8 => ipv6_short(),
+        9 => usb_classes(),
+        10 => media(),
         _ => &[],
     }
 }

@@ -1,0 +1,309 @@
+//! Nodes by their kinds.
+#![tactic(auto, unfolding(crate::specs::NodeViews::node_of))]
+
+ghost use Rattle.std.specs.Prelude.{◌≡◌, IfOk};
+ghost use Rattle.std.specs.Result.{result_err};
+ghost use Rattle.uefi_device_nodes.specs.NodeEnums.{IsNodeOf, acpi_kinds, bios_boot_spec_kinds, hardware_kinds, media_kinds, messaging_kinds, second_messaging_kinds, third_messaging_kinds, refusal_among};
+ghost use Rattle.uefi_device_nodes.specs.NodeViews.{node_of};
+
+use crate::errors::NodeConversionError;
+use crate::media::FilePath;
+use crate::node::{DevicePathNode, DeviceSubType, DeviceType};
+use crate::{acpi, bios_boot_spec, hardware, media, messaging};
+
+/// A node as the view of its kind. The variants are named by type and kind, as in the Rust crate `uefi`.
+#[derive(Clone, Copy)]
+pub enum DevicePathNodeEnum<'a> {
+    /// A device on a PCI bus.
+    HardwarePci(hardware::Pci<'a>),
+    /// A PC card.
+    HardwarePccard(hardware::Pccard<'a>),
+    /// A range of memory.
+    HardwareMemoryMapped(hardware::MemoryMapped<'a>),
+    /// A node of a vendor's own, named by a GUID.
+    HardwareVendor(hardware::HardwareVendor<'a>),
+    /// A controller.
+    HardwareController(hardware::Controller<'a>),
+    /// The host interface of a management controller.
+    HardwareBmc(hardware::Bmc<'a>),
+    /// A device that ACPI names by two numbers.
+    AcpiAcpi(acpi::Acpi<'a>),
+    /// A device that ACPI names by numbers or by strings.
+    AcpiExpanded(acpi::Expanded<'a>),
+    /// The outputs of a display adapter.
+    AcpiAdr(acpi::Adr<'a>),
+    /// A persistent memory module.
+    AcpiNvdimm(acpi::Nvdimm<'a>),
+    /// A drive on an ATA bus.
+    MessagingAtapi(messaging::Atapi<'a>),
+    /// A device on a SCSI bus.
+    MessagingScsi(messaging::Scsi<'a>),
+    /// A device on Fibre Channel.
+    MessagingFibreChannel(messaging::FibreChannel<'a>),
+    /// A FireWire device.
+    MessagingIeee1394(messaging::Ieee1394<'a>),
+    /// A device on a USB bus.
+    MessagingUsb(messaging::Usb<'a>),
+    /// A device on an I2O bus.
+    MessagingI2o(messaging::I2o<'a>),
+    /// A device on InfiniBand.
+    MessagingInfiniband(messaging::Infiniband<'a>),
+    /// A node of a vendor's own, named by a GUID.
+    MessagingVendor(messaging::MessagingVendor<'a>),
+    /// A network interface.
+    MessagingMacAddress(messaging::MacAddress<'a>),
+    /// An endpoint of a connection over IP version 4.
+    MessagingIpv4(messaging::Ipv4<'a>),
+    /// An endpoint of a connection over IP version 6.
+    MessagingIpv6(messaging::Ipv6<'a>),
+    /// A serial port.
+    MessagingUart(messaging::Uart<'a>),
+    /// Each USB device of a class.
+    MessagingUsbClass(messaging::UsbClass<'a>),
+    /// A USB device by its serial number.
+    MessagingUsbWwid(messaging::UsbWwid<'a>),
+    /// A logical unit of the device before it.
+    MessagingDeviceLogicalUnit(messaging::DeviceLogicalUnit<'a>),
+    /// A device on a SATA port.
+    MessagingSata(messaging::Sata<'a>),
+    /// An iSCSI target.
+    MessagingIscsi(messaging::Iscsi<'a>),
+    /// A virtual network.
+    MessagingVlan(messaging::Vlan<'a>),
+    /// A device on Fibre Channel, by bytes in the order of the bus.
+    MessagingFibreChannelEx(messaging::FibreChannelEx<'a>),
+    /// A device on SAS.
+    MessagingSasEx(messaging::SasEx<'a>),
+    /// A namespace of NVM Express.
+    MessagingNvmeNamespace(messaging::NvmeNamespace<'a>),
+    /// What a URI names.
+    MessagingUri(messaging::Uri<'a>),
+    /// A device on UFS.
+    MessagingUfs(messaging::Ufs<'a>),
+    /// An SD card.
+    MessagingSd(messaging::Sd<'a>),
+    /// A Bluetooth device.
+    MessagingBluetooth(messaging::Bluetooth<'a>),
+    /// A wireless network.
+    MessagingWifi(messaging::Wifi<'a>),
+    /// An eMMC card.
+    MessagingEmmc(messaging::Emmc<'a>),
+    /// A Bluetooth Low Energy device.
+    MessagingBluetoothLe(messaging::BluetoothLe<'a>),
+    /// Name servers.
+    MessagingDns(messaging::Dns<'a>),
+    /// A namespace of a persistent memory module.
+    MessagingNvdimmNamespace(messaging::NvdimmNamespace<'a>),
+    /// A REST service.
+    MessagingRestService(messaging::RestService<'a>),
+    /// A namespace of NVM Express over a network.
+    MessagingNvmeOfNamespace(messaging::NvmeOfNamespace<'a>),
+    /// A partition of a hard drive.
+    MediaHardDrive(media::HardDrive<'a>),
+    /// A boot entry of a CD-ROM.
+    MediaCdRom(media::CdRom<'a>),
+    /// A node of a vendor's own, named by a GUID.
+    MediaVendor(media::MediaVendor<'a>),
+    /// A file.
+    MediaFilePath(FilePath<'a>),
+    /// A protocol of the firmware.
+    MediaProtocol(media::Protocol<'a>),
+    /// A file of a firmware volume.
+    MediaPiwgFirmwareFile(media::FirmwareFile<'a>),
+    /// A firmware volume.
+    MediaPiwgFirmwareVolume(media::FirmwareVolume<'a>),
+    /// A range of bytes of the medium before it.
+    MediaRelativeOffsetRange(media::RelativeOffsetRange<'a>),
+    /// A RAM disk.
+    MediaRamDisk(media::RamDisk<'a>),
+    /// A device that a legacy BIOS can boot.
+    BiosBootSpecBootSpecification(bios_boot_spec::BootSpecification<'a>),
+}
+
+/// The view of a node of type Hardware.
+fn hardware_node(node: DevicePathNode<'_>) -> Result<DevicePathNodeEnum<'_>, NodeConversionError>
+    requires { (node_of node).device_type ≡ 1 }
+    ensures ok { IfOk result (λ view. IsNodeOf view (node_of node.entry)) }
+    ensures refusal { result_err result ≡ refusal_among hardware_kinds (node_of node.entry) }
+{
+    Ok(match node.sub_type().0 {
+        1 => DevicePathNodeEnum::HardwarePci(hardware::Pci::from_node(node)?),
+        2 => DevicePathNodeEnum::HardwarePccard(hardware::Pccard::from_node(node)?),
+        3 => DevicePathNodeEnum::HardwareMemoryMapped(hardware::MemoryMapped::from_node(node)?),
+        4 => DevicePathNodeEnum::HardwareVendor(hardware::HardwareVendor::from_node(node)?),
+        5 => DevicePathNodeEnum::HardwareController(hardware::Controller::from_node(node)?),
+        6 => DevicePathNodeEnum::HardwareBmc(hardware::Bmc::from_node(node)?),
+        _ => return Err(NodeConversionError::UnsupportedType),
+    })
+}
+
+/// The view of a node of type ACPI.
+fn acpi_node(node: DevicePathNode<'_>) -> Result<DevicePathNodeEnum<'_>, NodeConversionError>
+    requires { (node_of node).device_type ≡ 2 }
+    ensures ok { IfOk result (λ view. IsNodeOf view (node_of node.entry)) }
+    ensures refusal { result_err result ≡ refusal_among acpi_kinds (node_of node.entry) }
+{
+    Ok(match node.sub_type().0 {
+        1 => DevicePathNodeEnum::AcpiAcpi(acpi::Acpi::from_node(node)?),
+        2 => DevicePathNodeEnum::AcpiExpanded(acpi::Expanded::from_node(node)?),
+        3 => DevicePathNodeEnum::AcpiAdr(acpi::Adr::from_node(node)?),
+        4 => DevicePathNodeEnum::AcpiNvdimm(acpi::Nvdimm::from_node(node)?),
+        _ => return Err(NodeConversionError::UnsupportedType),
+    })
+}
+
+/// The view of a node of type Messaging.
+fn messaging_node(node: DevicePathNode<'_>) -> Result<DevicePathNodeEnum<'_>, NodeConversionError>
+    requires { (node_of node).device_type ≡ 3 }
+    ensures ok { IfOk result (λ view. IsNodeOf view (node_of node.entry)) }
+    ensures refusal { result_err result ≡ refusal_among messaging_kinds (node_of node.entry) }
+{
+    Ok(match node.sub_type().0 {
+        1 => DevicePathNodeEnum::MessagingAtapi(messaging::Atapi::from_node(node)?),
+        2 => DevicePathNodeEnum::MessagingScsi(messaging::Scsi::from_node(node)?),
+        3 => DevicePathNodeEnum::MessagingFibreChannel(messaging::FibreChannel::from_node(node)?),
+        4 => DevicePathNodeEnum::MessagingIeee1394(messaging::Ieee1394::from_node(node)?),
+        5 => DevicePathNodeEnum::MessagingUsb(messaging::Usb::from_node(node)?),
+        6 => DevicePathNodeEnum::MessagingI2o(messaging::I2o::from_node(node)?),
+        9 => DevicePathNodeEnum::MessagingInfiniband(messaging::Infiniband::from_node(node)?),
+        10 => DevicePathNodeEnum::MessagingVendor(messaging::MessagingVendor::from_node(node)?),
+        11 => DevicePathNodeEnum::MessagingMacAddress(messaging::MacAddress::from_node(node)?),
+        12 => DevicePathNodeEnum::MessagingIpv4(messaging::Ipv4::from_node(node)?),
+        13 => DevicePathNodeEnum::MessagingIpv6(messaging::Ipv6::from_node(node)?),
+        _ => return second_messaging_node(node),
+    })
+}
+
+/// The view of a node of type Messaging, of a sub-type above 13.
+fn second_messaging_node(
+    node: DevicePathNode<'_>,
+) -> Result<DevicePathNodeEnum<'_>, NodeConversionError>
+    requires { (node_of node).device_type ≡ 3 }
+    ensures ok { IfOk result (λ view. IsNodeOf view (node_of node.entry)) }
+    ensures refusal { result_err result ≡ refusal_among second_messaging_kinds (node_of node.entry) }
+{
+    Ok(match node.sub_type().0 {
+        14 => DevicePathNodeEnum::MessagingUart(messaging::Uart::from_node(node)?),
+        15 => DevicePathNodeEnum::MessagingUsbClass(messaging::UsbClass::from_node(node)?),
+        16 => DevicePathNodeEnum::MessagingUsbWwid(messaging::UsbWwid::from_node(node)?),
+        17 => DevicePathNodeEnum::MessagingDeviceLogicalUnit(
+            messaging::DeviceLogicalUnit::from_node(node)?,
+        ),
+        18 => DevicePathNodeEnum::MessagingSata(messaging::Sata::from_node(node)?),
+        19 => DevicePathNodeEnum::MessagingIscsi(messaging::Iscsi::from_node(node)?),
+        20 => DevicePathNodeEnum::MessagingVlan(messaging::Vlan::from_node(node)?),
+        21 => DevicePathNodeEnum::MessagingFibreChannelEx(messaging::FibreChannelEx::from_node(
+            node,
+        )?),
+        22 => DevicePathNodeEnum::MessagingSasEx(messaging::SasEx::from_node(node)?),
+        23 => DevicePathNodeEnum::MessagingNvmeNamespace(messaging::NvmeNamespace::from_node(
+            node,
+        )?),
+        _ => return third_messaging_node(node),
+    })
+}
+
+/// The view of a node of type Messaging, of a sub-type above 23.
+fn third_messaging_node(
+    node: DevicePathNode<'_>,
+) -> Result<DevicePathNodeEnum<'_>, NodeConversionError>
+    requires { (node_of node).device_type ≡ 3 }
+    ensures ok { IfOk result (λ view. IsNodeOf view (node_of node.entry)) }
+    ensures refusal { result_err result ≡ refusal_among third_messaging_kinds (node_of node.entry) }
+{
+    Ok(match node.sub_type().0 {
+        24 => DevicePathNodeEnum::MessagingUri(messaging::Uri::from_node(node)?),
+        25 => DevicePathNodeEnum::MessagingUfs(messaging::Ufs::from_node(node)?),
+        26 => DevicePathNodeEnum::MessagingSd(messaging::Sd::from_node(node)?),
+        27 => DevicePathNodeEnum::MessagingBluetooth(messaging::Bluetooth::from_node(node)?),
+        28 => DevicePathNodeEnum::MessagingWifi(messaging::Wifi::from_node(node)?),
+        29 => DevicePathNodeEnum::MessagingEmmc(messaging::Emmc::from_node(node)?),
+        30 => DevicePathNodeEnum::MessagingBluetoothLe(messaging::BluetoothLe::from_node(node)?),
+        31 => DevicePathNodeEnum::MessagingDns(messaging::Dns::from_node(node)?),
+        32 => DevicePathNodeEnum::MessagingNvdimmNamespace(messaging::NvdimmNamespace::from_node(
+            node,
+        )?),
+        33 => DevicePathNodeEnum::MessagingRestService(messaging::RestService::from_node(node)?),
+        34 => DevicePathNodeEnum::MessagingNvmeOfNamespace(messaging::NvmeOfNamespace::from_node(
+            node,
+        )?),
+        _ => return Err(NodeConversionError::UnsupportedType),
+    })
+}
+
+/// The view of a node of type Media.
+fn media_node(node: DevicePathNode<'_>) -> Result<DevicePathNodeEnum<'_>, NodeConversionError>
+    requires { (node_of node).device_type ≡ 4 }
+    ensures ok { IfOk result (λ view. IsNodeOf view (node_of node.entry)) }
+    ensures refusal { result_err result ≡ refusal_among media_kinds (node_of node.entry) }
+{
+    Ok(match node.sub_type().0 {
+        1 => DevicePathNodeEnum::MediaHardDrive(media::HardDrive::from_node(node)?),
+        2 => DevicePathNodeEnum::MediaCdRom(media::CdRom::from_node(node)?),
+        3 => DevicePathNodeEnum::MediaVendor(media::MediaVendor::from_node(node)?),
+        5 => DevicePathNodeEnum::MediaProtocol(media::Protocol::from_node(node)?),
+        6 => DevicePathNodeEnum::MediaPiwgFirmwareFile(media::FirmwareFile::from_node(node)?),
+        7 => DevicePathNodeEnum::MediaPiwgFirmwareVolume(media::FirmwareVolume::from_node(node)?),
+        8 => DevicePathNodeEnum::MediaRelativeOffsetRange(media::RelativeOffsetRange::from_node(
+            node,
+        )?),
+        9 => DevicePathNodeEnum::MediaRamDisk(media::RamDisk::from_node(node)?),
+        _ => return Err(NodeConversionError::UnsupportedType),
+    })
+}
+
+/// The view of a node of type BIOS Boot Specification.
+fn bios_boot_spec_node(
+    node: DevicePathNode<'_>,
+) -> Result<DevicePathNodeEnum<'_>, NodeConversionError>
+    requires { (node_of node).device_type ≡ 5 }
+    ensures ok { IfOk result (λ view. IsNodeOf view (node_of node.entry)) }
+    ensures refusal { result_err result ≡ refusal_among bios_boot_spec_kinds (node_of node.entry) }
+{
+    Ok(match node.sub_type().0 {
+        1 => DevicePathNodeEnum::BiosBootSpecBootSpecification(
+            bios_boot_spec::BootSpecification::from_node(node)?,
+        ),
+        _ => return Err(NodeConversionError::UnsupportedType),
+    })
+}
+
+impl<'a> DevicePathNode<'a> {
+    ghost use Rattle.uefi_device_nodes.specs.NodeEnums.{enum_refusal};
+
+    /// The node as the view of its kind. Refused as `UnsupportedType` where its type and its sub-type are
+    /// those of no kind that has a view, and then as `InvalidLength` where its data have a length that none
+    /// of its kind has.
+    pub fn as_enum(&self) -> Result<DevicePathNodeEnum<'a>, NodeConversionError>
+        ensures ok { IfOk result (λ view. IsNodeOf view (node_of self.now)) }
+        ensures refusal { result_err result ≡ enum_refusal (node_of self.now) }
+    {
+        match self.device_type() {
+            DeviceType::HARDWARE => hardware_node(*self),
+            DeviceType::ACPI => acpi_node(*self),
+            DeviceType::MESSAGING => messaging_node(*self),
+            DeviceType::MEDIA => {
+                if self.sub_type() == DeviceSubType::MEDIA_FILE_PATH {
+                    return Ok(DevicePathNodeEnum::MediaFilePath(FilePath::from_node(*self)?));
+                }
+                media_node(*self)
+            }
+            DeviceType::BIOS_BOOT_SPEC => bios_boot_spec_node(*self),
+            _ => Err(NodeConversionError::UnsupportedType),
+        }
+    }
+}
+
+/// The view that [`DevicePathNode::as_enum`] gives, or its refusal.
+impl<'a> TryFrom<DevicePathNode<'a>> for DevicePathNodeEnum<'a> {
+    ghost use Rattle.uefi_device_nodes.specs.NodeEnums.{enum_refusal};
+
+    type Error = NodeConversionError;
+
+    ghost try_from_gives = { λ node result. IfOk result (λ view. IsNodeOf view (node_of node))
+        × (result_err result ≡ enum_refusal (node_of node)) };
+
+    fn try_from(node: DevicePathNode<'a>) -> Result<Self, NodeConversionError> {
+        node.as_enum()
+    }
+}

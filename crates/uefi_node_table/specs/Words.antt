@@ -1,0 +1,38 @@
+-- Words that stand for numbers.
+use Rattle.std.specs.Borrow.{Bor}
+use Rattle.std.specs.Prelude.{ℕ, Bool, ◌==◌, ◌||◌, bit_and, if◌then◌else◌, List, [], ◌∷◌, map}
+use Rattle.uefi_node_table.specs.declared.words.TheConstants.{PARITY, STOP_BITS, DIGESTS, LOGIN, PROTOCOL}
+use Rattle.uefi_node_table.specs.declared.words.Words.{Words}
+use Rattle.uefi_node_table.specs.declared.words.Words.TheVariants.{Parity, StopBits, Digests, Login, Protocol}
+use Rattle.uefi_node_table.specs.declared.words.WordOf.{WordOf}
+
+-- a word: the bits of a number that count, what they are, and the text
+pub record Word : Type 0 where
+  pub mask : ℕ
+  pub number : ℕ
+  pub text : List ℕ
+
+-- the word that a value is
+abbrev pub as_word : WordOf (Bor (List ℕ)) → Word
+as_word w = record { mask = w.mask; number = w.number; text = w.text.now }
+
+-- the word that a constant is, whose references have no places
+abbrev pub const_word : WordOf (record { now : List ℕ }) → Word
+const_word w = record { mask = w.mask; number = w.number; text = w.text.now }
+
+-- the words of a list
+unfoldable pub words_of : Words → List Word
+words_of Parity = map const_word PARITY.now
+words_of StopBits = map const_word STOP_BITS.now
+words_of Digests = map const_word DIGESTS.now
+words_of Login = map const_word LOGIN.now
+words_of Protocol = map const_word PROTOCOL.now
+
+-- the test for a word that stands for a number
+abbrev pub suits : ℕ → Word → Bool
+suits n word = (word.mask == 0) || (bit_and n word.mask == word.number)
+
+-- the first word for a number
+abbrev pub word_text : List Word → ℕ → List ℕ
+word_text [] n = []
+word_text (word ∷ words) n = if suits n word then word.text else word_text words n
