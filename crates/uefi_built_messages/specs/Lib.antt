@@ -1,0 +1,2 @@
+pub mod MessagingNodes
+pub mod NetworkNodes

@@ -1,0 +1,616 @@
+//! Nodes of type Messaging that are built (UEFI Specification 2.10, section 10.3.4). Those of networks
+//! stand in `network`.
+#![tactic(auto)]
+
+pub use crate::network::{
+    Bluetooth, BluetoothLe, Dns, Infiniband, Ipv4, Ipv6, Iscsi, MacAddress, NvmeOfNamespace,
+    RestService, Uri, Vlan, Wifi,
+};
+use uefi_built_nodes::BuildNode;
+use uefi_device_nodes::{DeviceSubType, DeviceType};
+use uefi_text::scans::split;
+
+/// A drive on an ATA bus.
+#[derive(Clone, Copy)]
+pub struct Atapi {
+    /// The bus: 0 is the primary one, 1 the secondary one.
+    pub primary_secondary: u8,
+    /// The drive on the bus: 0 is the master, 1 the slave.
+    pub master_slave: u8,
+    /// The logical unit number.
+    pub logical_unit_number: u16,
+}
+
+/// The node of these fields.
+impl BuildNode for Atapi {
+    ghost use Rattle.uefi_built_messages.specs.MessagingNodes.{atapi_node};
+
+    ghost node = { atapi_node };
+
+    fn full_type(&self) -> (DeviceType, DeviceSubType) {
+        (DeviceType::MESSAGING, DeviceSubType::MESSAGING_ATAPI)
+    }
+
+    fn data_len(&self) -> usize {
+        4
+    }
+
+    fn write_data(&self, bytes: &mut [u8]) {
+        let (numbers, rest) = bytes.split_at_mut(2);
+        numbers.copy_from_slice(&[self.primary_secondary, self.master_slave]);
+        rest.copy_from_slice(&self.logical_unit_number.to_le_bytes());
+    }
+}
+
+/// A device on a SCSI bus.
+#[derive(Clone, Copy)]
+pub struct Scsi {
+    /// The number of the target on its bus.
+    pub target_id: u16,
+    /// The logical unit number.
+    pub logical_unit_number: u16,
+}
+
+/// The node of these fields.
+impl BuildNode for Scsi {
+    ghost use Rattle.uefi_built_messages.specs.MessagingNodes.{scsi_node};
+
+    ghost node = { scsi_node };
+
+    fn full_type(&self) -> (DeviceType, DeviceSubType) {
+        (DeviceType::MESSAGING, DeviceSubType::MESSAGING_SCSI)
+    }
+
+    fn data_len(&self) -> usize {
+        4
+    }
+
+    fn write_data(&self, bytes: &mut [u8]) {
+        let (target_id, rest) = bytes.split_at_mut(2);
+        target_id.copy_from_slice(&self.target_id.to_le_bytes());
+        rest.copy_from_slice(&self.logical_unit_number.to_le_bytes());
+    }
+}
+
+/// A device on Fibre Channel.
+#[derive(Clone, Copy)]
+pub struct FibreChannel {
+    /// The world wide name.
+    pub world_wide_name: u64,
+    /// The logical unit number.
+    pub logical_unit_number: u64,
+}
+
+/// The node of these fields.
+impl BuildNode for FibreChannel {
+    ghost use Rattle.uefi_built_messages.specs.MessagingNodes.{fibre_channel_node};
+
+    ghost node = { fibre_channel_node };
+
+    fn full_type(&self) -> (DeviceType, DeviceSubType) {
+        (
+            DeviceType::MESSAGING,
+            DeviceSubType::MESSAGING_FIBRE_CHANNEL,
+        )
+    }
+
+    fn data_len(&self) -> usize {
+        20
+    }
+
+    fn write_data(&self, bytes: &mut [u8]) {
+        let (reserved, rest) = bytes.split_at_mut(4);
+        reserved.copy_from_slice(&[0; 4]);
+        let (world_wide_name, rest) = rest.split_at_mut(8);
+        world_wide_name.copy_from_slice(&self.world_wide_name.to_le_bytes());
+        rest.copy_from_slice(&self.logical_unit_number.to_le_bytes());
+    }
+}
+
+/// A device on Fibre Channel, by bytes in the order of the bus.
+#[derive(Clone, Copy)]
+pub struct FibreChannelEx {
+    /// The bytes of the world wide name.
+    pub world_wide_name: [u8; 8],
+    /// The bytes of the logical unit number.
+    pub logical_unit_number: [u8; 8],
+}
+
+/// The node of these fields.
+impl BuildNode for FibreChannelEx {
+    ghost use Rattle.uefi_built_messages.specs.MessagingNodes.{fibre_channel_ex_node};
+
+    ghost node = { fibre_channel_ex_node };
+
+    fn full_type(&self) -> (DeviceType, DeviceSubType) {
+        (
+            DeviceType::MESSAGING,
+            DeviceSubType::MESSAGING_FIBRE_CHANNEL_EX,
+        )
+    }
+
+    fn data_len(&self) -> usize {
+        20
+    }
+
+    fn write_data(&self, bytes: &mut [u8]) {
+        let (reserved, rest) = bytes.split_at_mut(4);
+        reserved.copy_from_slice(&[0; 4]);
+        let (world_wide_name, rest) = rest.split_at_mut(8);
+        world_wide_name.copy_from_slice(&self.world_wide_name);
+        rest.copy_from_slice(&self.logical_unit_number);
+    }
+}
+
+/// A FireWire device.
+#[derive(Clone, Copy)]
+pub struct Ieee1394 {
+    /// The bytes of its GUID, of eight bytes.
+    pub guid: [u8; 8],
+}
+
+/// The node of these fields.
+impl BuildNode for Ieee1394 {
+    ghost use Rattle.uefi_built_messages.specs.MessagingNodes.{ieee1394_node};
+
+    ghost node = { ieee1394_node };
+
+    fn full_type(&self) -> (DeviceType, DeviceSubType) {
+        (DeviceType::MESSAGING, DeviceSubType::MESSAGING_1394)
+    }
+
+    fn data_len(&self) -> usize {
+        12
+    }
+
+    fn write_data(&self, bytes: &mut [u8]) {
+        let (reserved, rest) = bytes.split_at_mut(4);
+        reserved.copy_from_slice(&[0; 4]);
+        rest.copy_from_slice(&self.guid);
+    }
+}
+
+/// A device on a USB bus.
+#[derive(Clone, Copy)]
+pub struct Usb {
+    /// The number of the port of its hub.
+    pub parent_port_number: u8,
+    /// The number of its interface.
+    pub interface: u8,
+}
+
+/// The node of these fields.
+impl BuildNode for Usb {
+    ghost use Rattle.uefi_built_messages.specs.MessagingNodes.{usb_node};
+
+    ghost node = { usb_node };
+
+    fn full_type(&self) -> (DeviceType, DeviceSubType) {
+        (DeviceType::MESSAGING, DeviceSubType::MESSAGING_USB)
+    }
+
+    fn data_len(&self) -> usize {
+        2
+    }
+
+    fn write_data(&self, bytes: &mut [u8]) {
+        bytes.copy_from_slice(&[self.parent_port_number, self.interface]);
+    }
+}
+
+/// A USB device by its serial number.
+#[derive(Clone, Copy)]
+pub struct UsbWwid<'a> {
+    /// The number of its interface.
+    pub interface_number: u16,
+    /// The ID of its vendor.
+    pub device_vendor_id: u16,
+    /// The ID of the product.
+    pub device_product_id: u16,
+    /// The code units of the last 64 or fewer characters of the serial number, without a NUL.
+    pub serial_number: &'a [u16],
+}
+
+/// The node of these fields.
+impl BuildNode for UsbWwid<'_> {
+    ghost use Rattle.uefi_built_messages.specs.MessagingNodes.{usb_wwid_node};
+
+    ghost node = { usb_wwid_node };
+
+    fn full_type(&self) -> (DeviceType, DeviceSubType) {
+        (DeviceType::MESSAGING, DeviceSubType::MESSAGING_USB_WWID)
+    }
+
+    fn data_len(&self) -> usize {
+        6 + 2 * self.serial_number.len()
+    }
+
+    fn write_data(&self, bytes: &mut [u8]) {
+        let (interface_number, rest) = bytes.split_at_mut(2);
+        interface_number.copy_from_slice(&self.interface_number.to_le_bytes());
+        let (device_vendor_id, rest) = rest.split_at_mut(2);
+        device_vendor_id.copy_from_slice(&self.device_vendor_id.to_le_bytes());
+        let (device_product_id, rest) = rest.split_at_mut(2);
+        device_product_id.copy_from_slice(&self.device_product_id.to_le_bytes());
+        split(rest, self.serial_number);
+    }
+}
+
+/// Each USB device of a class.
+#[derive(Clone, Copy)]
+pub struct UsbClass {
+    /// The ID of the vendor; 0xffff is any.
+    pub vendor_id: u16,
+    /// The ID of the product; 0xffff is any.
+    pub product_id: u16,
+    /// The class; 0xff is any.
+    pub device_class: u8,
+    /// The subclass; 0xff is any.
+    pub device_subclass: u8,
+    /// The protocol; 0xff is any.
+    pub device_protocol: u8,
+}
+
+/// The node of these fields.
+impl BuildNode for UsbClass {
+    ghost use Rattle.uefi_built_messages.specs.MessagingNodes.{usb_class_node};
+
+    ghost node = { usb_class_node };
+
+    fn full_type(&self) -> (DeviceType, DeviceSubType) {
+        (DeviceType::MESSAGING, DeviceSubType::MESSAGING_USB_CLASS)
+    }
+
+    fn data_len(&self) -> usize {
+        7
+    }
+
+    fn write_data(&self, bytes: &mut [u8]) {
+        let (vendor_id, rest) = bytes.split_at_mut(2);
+        vendor_id.copy_from_slice(&self.vendor_id.to_le_bytes());
+        let (product_id, rest) = rest.split_at_mut(2);
+        product_id.copy_from_slice(&self.product_id.to_le_bytes());
+        rest.copy_from_slice(&[
+            self.device_class,
+            self.device_subclass,
+            self.device_protocol,
+        ]);
+    }
+}
+
+/// A logical unit of the device before it.
+#[derive(Clone, Copy)]
+pub struct DeviceLogicalUnit {
+    /// The logical unit number.
+    pub logical_unit_number: u8,
+}
+
+/// The node of these fields.
+impl BuildNode for DeviceLogicalUnit {
+    ghost use Rattle.uefi_built_messages.specs.MessagingNodes.{device_logical_unit_node};
+
+    ghost node = { device_logical_unit_node };
+
+    fn full_type(&self) -> (DeviceType, DeviceSubType) {
+        (
+            DeviceType::MESSAGING,
+            DeviceSubType::MESSAGING_DEVICE_LOGICAL_UNIT,
+        )
+    }
+
+    fn data_len(&self) -> usize {
+        1
+    }
+
+    fn write_data(&self, bytes: &mut [u8]) {
+        bytes.copy_from_slice(&[self.logical_unit_number]);
+    }
+}
+
+/// A device on an I2O bus.
+#[derive(Clone, Copy)]
+pub struct I2o {
+    /// The number of the target on its bus.
+    pub target_id: u32,
+}
+
+/// The node of these fields.
+impl BuildNode for I2o {
+    ghost use Rattle.uefi_built_messages.specs.MessagingNodes.{i2o_node};
+
+    ghost node = { i2o_node };
+
+    fn full_type(&self) -> (DeviceType, DeviceSubType) {
+        (DeviceType::MESSAGING, DeviceSubType::MESSAGING_I2O)
+    }
+
+    fn data_len(&self) -> usize {
+        4
+    }
+
+    fn write_data(&self, bytes: &mut [u8]) {
+        bytes.copy_from_slice(&self.target_id.to_le_bytes());
+    }
+}
+
+/// A device on a SATA port.
+#[derive(Clone, Copy)]
+pub struct Sata {
+    /// The number of the port of the host bus adapter.
+    pub hba_port_number: u16,
+    /// The number of the port of a port multiplier; 0xffff where there is none.
+    pub port_multiplier_port_number: u16,
+    /// The logical unit number.
+    pub logical_unit_number: u16,
+}
+
+/// The node of these fields.
+impl BuildNode for Sata {
+    ghost use Rattle.uefi_built_messages.specs.MessagingNodes.{sata_node};
+
+    ghost node = { sata_node };
+
+    fn full_type(&self) -> (DeviceType, DeviceSubType) {
+        (DeviceType::MESSAGING, DeviceSubType::MESSAGING_SATA)
+    }
+
+    fn data_len(&self) -> usize {
+        6
+    }
+
+    fn write_data(&self, bytes: &mut [u8]) {
+        let (hba_port_number, rest) = bytes.split_at_mut(2);
+        hba_port_number.copy_from_slice(&self.hba_port_number.to_le_bytes());
+        let (port_multiplier_port_number, rest) = rest.split_at_mut(2);
+        port_multiplier_port_number.copy_from_slice(
+            &self.port_multiplier_port_number.to_le_bytes(),
+        );
+        rest.copy_from_slice(&self.logical_unit_number.to_le_bytes());
+    }
+}
+
+/// A device on SAS.
+#[derive(Clone, Copy)]
+pub struct SasEx {
+    /// The bytes of the SAS address.
+    pub sas_address: [u8; 8],
+    /// The bytes of the logical unit number.
+    pub logical_unit_number: [u8; 8],
+    /// What is known of the device and of how it is attached.
+    pub info: u16,
+    /// The relative target port.
+    pub relative_target_port: u16,
+}
+
+/// The node of these fields.
+impl BuildNode for SasEx {
+    ghost use Rattle.uefi_built_messages.specs.MessagingNodes.{sas_ex_node};
+
+    ghost node = { sas_ex_node };
+
+    fn full_type(&self) -> (DeviceType, DeviceSubType) {
+        (DeviceType::MESSAGING, DeviceSubType::MESSAGING_SCSI_SAS_EX)
+    }
+
+    fn data_len(&self) -> usize {
+        20
+    }
+
+    fn write_data(&self, bytes: &mut [u8]) {
+        let (sas_address, rest) = bytes.split_at_mut(8);
+        sas_address.copy_from_slice(&self.sas_address);
+        let (logical_unit_number, rest) = rest.split_at_mut(8);
+        logical_unit_number.copy_from_slice(&self.logical_unit_number);
+        let (info, rest) = rest.split_at_mut(2);
+        info.copy_from_slice(&self.info.to_le_bytes());
+        rest.copy_from_slice(&self.relative_target_port.to_le_bytes());
+    }
+}
+
+/// A serial port.
+#[derive(Clone, Copy)]
+pub struct Uart {
+    /// The baud rate; 0 is the default of the device.
+    pub baud_rate: u64,
+    /// How many data bits; 0 is the default of the device.
+    pub data_bits: u8,
+    /// The parity: 0 default, 1 none, 2 even, 3 odd, 4 mark, 5 space.
+    pub parity: u8,
+    /// The stop bits: 0 default, 1 one, 2 one and a half, 3 two.
+    pub stop_bits: u8,
+}
+
+/// The node of these fields.
+impl BuildNode for Uart {
+    ghost use Rattle.uefi_built_messages.specs.MessagingNodes.{uart_node};
+
+    ghost node = { uart_node };
+
+    fn full_type(&self) -> (DeviceType, DeviceSubType) {
+        (DeviceType::MESSAGING, DeviceSubType::MESSAGING_UART)
+    }
+
+    fn data_len(&self) -> usize {
+        15
+    }
+
+    fn write_data(&self, bytes: &mut [u8]) {
+        let (reserved, rest) = bytes.split_at_mut(4);
+        reserved.copy_from_slice(&[0; 4]);
+        let (baud_rate, rest) = rest.split_at_mut(8);
+        baud_rate.copy_from_slice(&self.baud_rate.to_le_bytes());
+        rest.copy_from_slice(&[self.data_bits, self.parity, self.stop_bits]);
+    }
+}
+
+/// A node of a vendor's own, named by a GUID.
+#[derive(Clone, Copy)]
+pub struct Vendor<'a> {
+    /// The bytes of the GUID that names the vendor.
+    pub vendor_guid: [u8; 16],
+    /// The data that the vendor defines.
+    pub vendor_defined_data: &'a [u8],
+}
+
+/// The node of these fields.
+impl BuildNode for Vendor<'_> {
+    ghost use Rattle.uefi_built_messages.specs.MessagingNodes.{messaging_vendor_node};
+
+    ghost node = { messaging_vendor_node };
+
+    fn full_type(&self) -> (DeviceType, DeviceSubType) {
+        (DeviceType::MESSAGING, DeviceSubType::MESSAGING_VENDOR)
+    }
+
+    fn data_len(&self) -> usize {
+        16 + self.vendor_defined_data.len()
+    }
+
+    fn write_data(&self, bytes: &mut [u8]) {
+        let (vendor_guid, rest) = bytes.split_at_mut(16);
+        vendor_guid.copy_from_slice(&self.vendor_guid);
+        rest.copy_from_slice(self.vendor_defined_data);
+    }
+}
+
+/// A namespace of NVM Express.
+#[derive(Clone, Copy)]
+pub struct NvmeNamespace {
+    /// The number of the namespace.
+    pub namespace_identifier: u32,
+    /// The extended unique identifier, EUI-64.
+    pub ieee_extended_unique_identifier: u64,
+}
+
+/// The node of these fields.
+impl BuildNode for NvmeNamespace {
+    ghost use Rattle.uefi_built_messages.specs.MessagingNodes.{nvme_namespace_node};
+
+    ghost node = { nvme_namespace_node };
+
+    fn full_type(&self) -> (DeviceType, DeviceSubType) {
+        (
+            DeviceType::MESSAGING,
+            DeviceSubType::MESSAGING_NVME_NAMESPACE,
+        )
+    }
+
+    fn data_len(&self) -> usize {
+        12
+    }
+
+    fn write_data(&self, bytes: &mut [u8]) {
+        let (namespace_identifier, rest) = bytes.split_at_mut(4);
+        namespace_identifier.copy_from_slice(&self.namespace_identifier.to_le_bytes());
+        rest.copy_from_slice(&self.ieee_extended_unique_identifier.to_le_bytes());
+    }
+}
+
+/// A device on UFS.
+#[derive(Clone, Copy)]
+pub struct Ufs {
+    /// The number of the target on its bus.
+    pub target_id: u8,
+    /// The logical unit number.
+    pub logical_unit_number: u8,
+}
+
+/// The node of these fields.
+impl BuildNode for Ufs {
+    ghost use Rattle.uefi_built_messages.specs.MessagingNodes.{ufs_node};
+
+    ghost node = { ufs_node };
+
+    fn full_type(&self) -> (DeviceType, DeviceSubType) {
+        (DeviceType::MESSAGING, DeviceSubType::MESSAGING_UFS)
+    }
+
+    fn data_len(&self) -> usize {
+        2
+    }
+
+    fn write_data(&self, bytes: &mut [u8]) {
+        bytes.copy_from_slice(&[self.target_id, self.logical_unit_number]);
+    }
+}
+
+/// An SD card.
+#[derive(Clone, Copy)]
+pub struct Sd {
+    /// The number of the slot.
+    pub slot_number: u8,
+}
+
+/// The node of these fields.
+impl BuildNode for Sd {
+    ghost use Rattle.uefi_built_messages.specs.MessagingNodes.{sd_node};
+
+    ghost node = { sd_node };
+
+    fn full_type(&self) -> (DeviceType, DeviceSubType) {
+        (DeviceType::MESSAGING, DeviceSubType::MESSAGING_SD)
+    }
+
+    fn data_len(&self) -> usize {
+        1
+    }
+
+    fn write_data(&self, bytes: &mut [u8]) {
+        bytes.copy_from_slice(&[self.slot_number]);
+    }
+}
+
+/// An eMMC card.
+#[derive(Clone, Copy)]
+pub struct Emmc {
+    /// The number of the slot.
+    pub slot_number: u8,
+}
+
+/// The node of these fields.
+impl BuildNode for Emmc {
+    ghost use Rattle.uefi_built_messages.specs.MessagingNodes.{emmc_node};
+
+    ghost node = { emmc_node };
+
+    fn full_type(&self) -> (DeviceType, DeviceSubType) {
+        (DeviceType::MESSAGING, DeviceSubType::MESSAGING_EMMC)
+    }
+
+    fn data_len(&self) -> usize {
+        1
+    }
+
+    fn write_data(&self, bytes: &mut [u8]) {
+        bytes.copy_from_slice(&[self.slot_number]);
+    }
+}
+
+/// A namespace of a persistent memory module.
+#[derive(Clone, Copy)]
+pub struct NvdimmNamespace {
+    /// The bytes of the UUID that labels the namespace.
+    pub uuid: [u8; 16],
+}
+
+/// The node of these fields.
+impl BuildNode for NvdimmNamespace {
+    ghost use Rattle.uefi_built_messages.specs.MessagingNodes.{nvdimm_namespace_node};
+
+    ghost node = { nvdimm_namespace_node };
+
+    fn full_type(&self) -> (DeviceType, DeviceSubType) {
+        (
+            DeviceType::MESSAGING,
+            DeviceSubType::MESSAGING_NVDIMM_NAMESPACE,
+        )
+    }
+
+    fn data_len(&self) -> usize {
+        16
+    }
+
+    fn write_data(&self, bytes: &mut [u8]) {
+        bytes.copy_from_slice(&self.uuid);
+    }
+}

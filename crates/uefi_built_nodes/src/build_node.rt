@@ -1,0 +1,77 @@
+//! What can be added to a device path as a node.
+#![tactic(auto)]
+
+ghost use Rattle.std.specs.Prelude.{◌≡◌, length};
+ghost use Rattle.uefi_device_nodes.specs.Nodes.{Node};
+
+use uefi_device_nodes::{DevicePathNode, DeviceSubType, DeviceType};
+
+/// A node that can be added to a device path. A contract sees it as `node` of it: its type, its sub-type
+/// and its data.
+pub trait BuildNode {
+    /// The node, as contracts see it.
+    ghost node: { Self → Node };
+
+    /// The type and the sub-type.
+    fn full_type(&self) -> (DeviceType, DeviceSubType)
+        ensures device_type { result.0.0 ≡ (node self.now).device_type }
+        ensures sub_type { result.1.0 ≡ (node self.now).sub_type };
+
+    /// How many bytes of data the node has.
+    fn data_len(&self) -> usize
+        ensures { result ≡ length (node self.now).content };
+
+    /// Writes the data to bytes, which are as many as [`BuildNode::data_len`] says.
+    fn write_data(&self, bytes: &mut [u8])
+        requires { length bytes.old ≡ length (node self.now).content }
+        ensures { bytes.new ≡ (node self.now).content };
+}
+
+/// A node that was read, or that another path has.
+impl BuildNode for DevicePathNode<'_> {
+    ghost use Rattle.uefi_device_nodes.specs.NodeViews.{node_of};
+
+    ghost node = { node_of };
+
+    fn full_type(&self) -> (DeviceType, DeviceSubType) {
+        DevicePathNode::full_type(self)
+    }
+
+    fn data_len(&self) -> usize {
+        self.data().len()
+    }
+
+    fn write_data(&self, bytes: &mut [u8]) {
+        bytes.copy_from_slice(self.data());
+    }
+}
+
+/// A node of any type, by its data.
+#[derive(Clone, Copy)]
+pub struct RawNode<'a> {
+    /// Its type.
+    pub device_type: DeviceType,
+    /// Its sub-type.
+    pub sub_type: DeviceSubType,
+    /// Its data.
+    pub content: &'a [u8],
+}
+
+/// The node of these.
+impl BuildNode for RawNode<'_> {
+    ghost use Rattle.uefi_built_nodes.specs.RawNodes.{raw_node};
+
+    ghost node = { raw_node };
+
+    fn full_type(&self) -> (DeviceType, DeviceSubType) {
+        (self.device_type, self.sub_type)
+    }
+
+    fn data_len(&self) -> usize {
+        self.content.len()
+    }
+
+    fn write_data(&self, bytes: &mut [u8]) {
+        bytes.copy_from_slice(self.content);
+    }
+}

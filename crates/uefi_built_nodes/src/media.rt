@@ -1,0 +1,292 @@
+//! Nodes of type Media that are built (UEFI Specification 2.10, section 10.3.5).
+#![tactic(auto)]
+
+use crate::build_node::BuildNode;
+use uefi_device_nodes::{DeviceSubType, DeviceType};
+use uefi_text::CStr16;
+use uefi_text::scans::split;
+
+/// A partition of a hard drive.
+#[derive(Clone, Copy)]
+pub struct HardDrive {
+    /// The number of the partition, from 1 on; 0 is the whole drive.
+    pub partition_number: u32,
+    /// The first block of the partition.
+    pub partition_start: u64,
+    /// How many blocks it has.
+    pub partition_size: u64,
+    /// Its signature, of the type that `signature_type` says.
+    pub partition_signature: [u8; 16],
+    /// The format of the table: 1 is MBR, 2 is GPT.
+    pub partition_format: u8,
+    /// The type of the signature: 0 is none, 1 is that of an MBR, 2 is a GUID.
+    pub signature_type: u8,
+}
+
+/// The node of these fields.
+impl BuildNode for HardDrive {
+    ghost use Rattle.uefi_built_nodes.specs.MediaNodes.{hard_drive_node};
+
+    ghost node = { hard_drive_node };
+
+    fn full_type(&self) -> (DeviceType, DeviceSubType) {
+        (DeviceType::MEDIA, DeviceSubType::MEDIA_HARD_DRIVE)
+    }
+
+    fn data_len(&self) -> usize {
+        38
+    }
+
+    fn write_data(&self, bytes: &mut [u8]) {
+        let (partition_number, rest) = bytes.split_at_mut(4);
+        partition_number.copy_from_slice(&self.partition_number.to_le_bytes());
+        let (partition_start, rest) = rest.split_at_mut(8);
+        partition_start.copy_from_slice(&self.partition_start.to_le_bytes());
+        let (partition_size, rest) = rest.split_at_mut(8);
+        partition_size.copy_from_slice(&self.partition_size.to_le_bytes());
+        let (partition_signature, rest) = rest.split_at_mut(16);
+        partition_signature.copy_from_slice(&self.partition_signature);
+        rest.copy_from_slice(&[self.partition_format, self.signature_type]);
+    }
+}
+
+/// A boot entry of a CD-ROM.
+#[derive(Clone, Copy)]
+pub struct CdRom {
+    /// The number of the entry in the boot catalog.
+    pub boot_entry: u32,
+    /// The first block.
+    pub partition_start: u64,
+    /// How many blocks it has.
+    pub partition_size: u64,
+}
+
+/// The node of these fields.
+impl BuildNode for CdRom {
+    ghost use Rattle.uefi_built_nodes.specs.MediaNodes.{cd_rom_node};
+
+    ghost node = { cd_rom_node };
+
+    fn full_type(&self) -> (DeviceType, DeviceSubType) {
+        (DeviceType::MEDIA, DeviceSubType::MEDIA_CD_ROM)
+    }
+
+    fn data_len(&self) -> usize {
+        20
+    }
+
+    fn write_data(&self, bytes: &mut [u8]) {
+        let (boot_entry, rest) = bytes.split_at_mut(4);
+        boot_entry.copy_from_slice(&self.boot_entry.to_le_bytes());
+        let (partition_start, rest) = rest.split_at_mut(8);
+        partition_start.copy_from_slice(&self.partition_start.to_le_bytes());
+        rest.copy_from_slice(&self.partition_size.to_le_bytes());
+    }
+}
+
+/// A node of a vendor's own, named by a GUID.
+#[derive(Clone, Copy)]
+pub struct Vendor<'a> {
+    /// The bytes of the GUID that names the vendor.
+    pub vendor_guid: [u8; 16],
+    /// The data that the vendor defines.
+    pub vendor_defined_data: &'a [u8],
+}
+
+/// The node of these fields.
+impl BuildNode for Vendor<'_> {
+    ghost use Rattle.uefi_built_nodes.specs.MediaNodes.{media_vendor_node};
+
+    ghost node = { media_vendor_node };
+
+    fn full_type(&self) -> (DeviceType, DeviceSubType) {
+        (DeviceType::MEDIA, DeviceSubType::MEDIA_VENDOR)
+    }
+
+    fn data_len(&self) -> usize {
+        16 + self.vendor_defined_data.len()
+    }
+
+    fn write_data(&self, bytes: &mut [u8]) {
+        let (vendor_guid, rest) = bytes.split_at_mut(16);
+        vendor_guid.copy_from_slice(&self.vendor_guid);
+        rest.copy_from_slice(self.vendor_defined_data);
+    }
+}
+
+/// A file.
+#[derive(Clone, Copy)]
+pub struct FilePath<'a> {
+    /// Its name, which the node has with its NUL.
+    pub path_name: CStr16<'a>,
+}
+
+/// The node of these fields.
+impl BuildNode for FilePath<'_> {
+    ghost use Rattle.uefi_built_nodes.specs.MediaNodes.{file_path_node};
+
+    ghost node = { file_path_node };
+
+    fn full_type(&self) -> (DeviceType, DeviceSubType) {
+        (DeviceType::MEDIA, DeviceSubType::MEDIA_FILE_PATH)
+    }
+
+    fn data_len(&self) -> usize {
+        2 * self.path_name.to_u16_slice_with_nul().len()
+    }
+
+    fn write_data(&self, bytes: &mut [u8]) {
+        split(bytes, self.path_name.to_u16_slice_with_nul());
+    }
+}
+
+/// A protocol of the firmware.
+#[derive(Clone, Copy)]
+pub struct Protocol {
+    /// The bytes of the GUID that names the protocol.
+    pub protocol_guid: [u8; 16],
+}
+
+/// The node of these fields.
+impl BuildNode for Protocol {
+    ghost use Rattle.uefi_built_nodes.specs.MediaNodes.{protocol_node};
+
+    ghost node = { protocol_node };
+
+    fn full_type(&self) -> (DeviceType, DeviceSubType) {
+        (DeviceType::MEDIA, DeviceSubType::MEDIA_PROTOCOL)
+    }
+
+    fn data_len(&self) -> usize {
+        16
+    }
+
+    fn write_data(&self, bytes: &mut [u8]) {
+        bytes.copy_from_slice(&self.protocol_guid);
+    }
+}
+
+/// A file of a firmware volume.
+#[derive(Clone, Copy)]
+pub struct PiwgFirmwareFile {
+    /// The bytes of the GUID that names the file.
+    pub file_name: [u8; 16],
+}
+
+/// The node of these fields.
+impl BuildNode for PiwgFirmwareFile {
+    ghost use Rattle.uefi_built_nodes.specs.MediaNodes.{firmware_file_node};
+
+    ghost node = { firmware_file_node };
+
+    fn full_type(&self) -> (DeviceType, DeviceSubType) {
+        (DeviceType::MEDIA, DeviceSubType::MEDIA_PIWG_FIRMWARE_FILE)
+    }
+
+    fn data_len(&self) -> usize {
+        16
+    }
+
+    fn write_data(&self, bytes: &mut [u8]) {
+        bytes.copy_from_slice(&self.file_name);
+    }
+}
+
+/// A firmware volume.
+#[derive(Clone, Copy)]
+pub struct PiwgFirmwareVolume {
+    /// The bytes of the GUID that names the volume.
+    pub volume_name: [u8; 16],
+}
+
+/// The node of these fields.
+impl BuildNode for PiwgFirmwareVolume {
+    ghost use Rattle.uefi_built_nodes.specs.MediaNodes.{firmware_volume_node};
+
+    ghost node = { firmware_volume_node };
+
+    fn full_type(&self) -> (DeviceType, DeviceSubType) {
+        (DeviceType::MEDIA, DeviceSubType::MEDIA_PIWG_FIRMWARE_VOLUME)
+    }
+
+    fn data_len(&self) -> usize {
+        16
+    }
+
+    fn write_data(&self, bytes: &mut [u8]) {
+        bytes.copy_from_slice(&self.volume_name);
+    }
+}
+
+/// A range of bytes of the medium before it.
+#[derive(Clone, Copy)]
+pub struct RelativeOffsetRange {
+    /// Where its first byte lies.
+    pub starting_offset: u64,
+    /// Where its last byte lies.
+    pub ending_offset: u64,
+}
+
+/// The node of these fields.
+impl BuildNode for RelativeOffsetRange {
+    ghost use Rattle.uefi_built_nodes.specs.MediaNodes.{relative_offset_range_node};
+
+    ghost node = { relative_offset_range_node };
+
+    fn full_type(&self) -> (DeviceType, DeviceSubType) {
+        (
+            DeviceType::MEDIA,
+            DeviceSubType::MEDIA_RELATIVE_OFFSET_RANGE,
+        )
+    }
+
+    fn data_len(&self) -> usize {
+        20
+    }
+
+    fn write_data(&self, bytes: &mut [u8]) {
+        let (reserved, rest) = bytes.split_at_mut(4);
+        reserved.copy_from_slice(&[0; 4]);
+        let (starting_offset, rest) = rest.split_at_mut(8);
+        starting_offset.copy_from_slice(&self.starting_offset.to_le_bytes());
+        rest.copy_from_slice(&self.ending_offset.to_le_bytes());
+    }
+}
+
+/// A RAM disk.
+#[derive(Clone, Copy)]
+pub struct RamDisk {
+    /// The address of its first byte.
+    pub starting_address: u64,
+    /// The address of its last byte.
+    pub ending_address: u64,
+    /// The bytes of the GUID of its type.
+    pub disk_type: [u8; 16],
+    /// The number of the disk.
+    pub disk_instance: u16,
+}
+
+/// The node of these fields.
+impl BuildNode for RamDisk {
+    ghost use Rattle.uefi_built_nodes.specs.MediaNodes.{ram_disk_node};
+
+    ghost node = { ram_disk_node };
+
+    fn full_type(&self) -> (DeviceType, DeviceSubType) {
+        (DeviceType::MEDIA, DeviceSubType::MEDIA_RAM_DISK)
+    }
+
+    fn data_len(&self) -> usize {
+        34
+    }
+
+    fn write_data(&self, bytes: &mut [u8]) {
+        let (starting_address, rest) = bytes.split_at_mut(8);
+        starting_address.copy_from_slice(&self.starting_address.to_le_bytes());
+        let (ending_address, rest) = rest.split_at_mut(8);
+        ending_address.copy_from_slice(&self.ending_address.to_le_bytes());
+        let (disk_type, rest) = rest.split_at_mut(16);
+        disk_type.copy_from_slice(&self.disk_type);
+        rest.copy_from_slice(&self.disk_instance.to_le_bytes());
+    }
+}
