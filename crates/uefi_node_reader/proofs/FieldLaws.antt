@@ -1,48 +1,29 @@
 -- The texts of fields are read back, and what is read is printed so.
-use Rattle.std.proofs.Common.{◌≡◌, ℕ, zero, suc, ◌+◌, ◌-◌, ◌*◌, ◌/◌, ◌%◌, ◌^◌, ◌<◌, ◌≤◌, Bool, true, false, cond, eqb, leb, ltb, ◌&&◌, List, [], ◌∷◌, ◌++◌, codes, length, reverse, refl, ap, sym, subst, ◌∙◌, append_assoc, arith}
-use Rattle.std.specs.Prelude.{All, Option, Some, None, option_and_then}
+use Rattle.std.proofs.Common.{◌≡◌, true≢false, ℕ, zero, suc, ◌+◌, ◌-◌, ◌*◌, ◌/◌, ◌%◌, ◌^◌, ◌<◌, ◌≤◌, Bool, true, false, cond, eqb, leb, ltb, ◌&&◌, List, [], ◌∷◌, ◌++◌, codes, length, reverse, refl, ap, sym, subst, ◌∙◌, append_assoc, arith}
+use Rattle.std.specs.Prelude.{All, Option, Some, None}
 use Rattle.std.specs.Fmt.{digits, digit_glyph}
 use Rattle.std.specs.List.{flat_map, join_by}
 use Rattle.std.proofs.lemmas.List.Elements.{All-nil, All-cons, All-from_get_or, All-get_or, All-head, All-tail}
 use native.Mathlib.Nat.{pow-suc, pow-zero}
-use borrow.Author.Tests.{eq-eqb, eqb-true, leb-true, lt-ltb, ltb-true}
+use borrow.Author.Tests.{eq-eqb, eqb-true, ne_eqb, leb-true, lt-ltb, ltb-false, ltb-true}
 use Rattle.uefi_text.specs.Packed.{IsByte, little_endian}
 use Rattle.uefi_field_texts.specs.FieldTexts.{dashed_back, hex_back, hex_bytes, hex_two}
 use Rattle.uefi_node_reader.specs.Numerals.{digit_of, has_digit, number_read}
-use Rattle.uefi_node_reader.specs.TableReading.{field_base, ends_field}
-use Rattle.uefi_node_reader.specs.Fields.{◌>>=◌, after, byte_read, more_read, bytes_read, low_bytes, as_bytes, turned, field_read, IsValue}
-use Rattle.uefi_node_table.specs.Fields.{field_text, fits_shape}
+use Rattle.uefi_node_reader.specs.TableReading.{ends_field, goes_on}
+use Rattle.uefi_node_reader.specs.Fields.{◌>>=◌, byte_read, more_read, bytes_read, default_read, less_one, low_bytes, as_bytes, next_read, or_default, turned, field_kept, field_read, IsValue}
+use Rattle.uefi_node_reader.specs.Words.{after, are_sound, word_number, word_read}
+use Rattle.uefi_node_table.specs.Fields.{default_text, field_text, fits_shape}
+use Rattle.uefi_node_table.specs.Words.{word_text, words_of}
 use Rattle.uefi_node_table.specs.declared.rows.Shape.{Shape}
-use Rattle.uefi_node_table.specs.declared.rows.Shape.TheVariants.{Hexadecimal, Decimal, Back, Forth, Dashed}
-use Rattle.std.specs.Prelude.{nat_le, not, ◌≢◌, MatchOption}
-use Rattle.std.specs.Option.{option_map}
-use Rattle.std.proofs.Common.{Bor}
+use Rattle.uefi_node_table.specs.declared.rows.Shape.TheVariants.{Hexadecimal, Decimal, OrDefault, Back, Forth, Dashed, Next, Padded, Word}
+use Rattle.uefi_node_table.specs.declared.words.Words.{Words}
+use Rattle.uefi_node_table.specs.declared.words.Words.TheVariants.{Parity, StopBits, Digests, Login, Protocol}
+use Rattle.std.specs.Prelude.{nat_le, not, ◌≢◌}
 use Rattle.std.proofs.lemmas.List.{get_or-reverse, length-reverse, reverse-reverse}
 use Rattle.std.proofs.Math.Nat.{pow-le-pow_right}
+use Rattle.uefi_node_reader.proofs.Literals.{after_again, after_some, after_takes, bind_some}
+use Rattle.uefi_node_reader.proofs.WordLaws.{word_again, word_takes}
 use Rattle.uefi_node_reader.proofs.Digits.{IsBase, decimal_base, digits_one, hexadecimal, number_again, number_takes, some_pair}
-
--- what a first step read, where a second read something after it
-pub bind_some : {A B : Type 0} (r : Option A) (f : A → Option B) (y : B) → (r >>= f) ≡ Some y → (x : A) × (r ≡ Some x) × (f x ≡ Some y)
-bind_some None f y e = cc
-bind_some (Some x) f y e = (x, refl, e)
-
--- the second step, after what the first read
-pub after_some : {A B : Type 0} (r : Option A) (f : A → Option B) (x : A) → r ≡ Some x → (r >>= f) ≡ f x
-after_some r f x e = ap (λ o. option_and_then f o) e
-
-pub after_again : (literal rest : List ℕ) → after literal (literal ++ rest) ≡ Some rest
-after_again [] rest = refl
-after_again (c ∷ cs) rest = ap (λ (t : Bool). cond t (after cs (cs ++ rest)) None) (eq-eqb c c refl) ∙ after_again cs rest
-
-pub after_takes : (literal text rest : List ℕ) → after literal text ≡ Some rest → text ≡ literal ++ rest
-after_takes [] text rest e = cc
-after_takes (c ∷ cs) [] rest e = cc
-after_takes (c ∷ cs) (t ∷ ts) rest e = by (eqb c t) refl e (after_takes cs ts rest)
-  where
-    by : (b : Bool) → eqb c t ≡ b → cond b (after cs ts) None ≡ Some rest → (after cs ts ≡ Some rest → ts ≡ cs ++ rest)
-        → t ∷ ts ≡ c ∷ (cs ++ rest)
-    by false p q h = cc
-    by true p q h = let same = eqb-true c t p in let others = h q in cc
 
 -- a byte as its two digits
 pub two_digits : (byte : ℕ) → byte < 256 → hex_two byte ≡ digit_glyph true (byte / 16) ∷ digit_glyph true (byte % 16) ∷ []
@@ -169,32 +150,61 @@ value_bound (suc w) (b ∷ bs) h =
     let others = value_bound w bs (omega (arith, h.0), All-tail IsByte b bs h.1) in
     omega (arith, pow-suc 256 w)
 
-ltb_zero : (n : ℕ) → ltb n 0 ≡ false
-ltb_zero n = by (ltb n 0) refl
-  where
-    by : (b : Bool) → ltb n 0 ≡ b → b ≡ false
-    by false p = refl
-    by true p = absurd (omega (arith, ltb-true n 0 p))
+-- no field goes on with its ending
+goes_first : (shape : Shape) (c : ℕ) (cs : List ℕ) → goes_on shape (c ∷ cs) ≡ goes_on shape (c ∷ [])
+goes_first Hexadecimal c cs = refl
+goes_first Decimal c cs = refl
+goes_first OrDefault c cs = refl
+goes_first Back c cs = refl
+goes_first Forth c cs = refl
+goes_first Dashed c cs = refl
+goes_first Next c cs = refl
+goes_first Padded c cs = refl
+goes_first (Word list) c cs = refl
 
-pub ends_is : (base : ℕ) (ending rest : List ℕ) → ends_field base ending ≡ true → has_digit base (ending ++ rest) ≡ false
-ends_is base [] rest e = no_digit rest
-  where
-    no_digit : (rest : List ℕ) → has_digit base rest ≡ false
-    no_digit [] = refl
-    no_digit (c ∷ cs) = let zero_base = eqb-true base 0 e in ap (λ (b : ℕ). ltb (digit_of c) b) zero_base ∙ ltb_zero (digit_of c)
-ends_is base (c ∷ cs) rest e = by (ltb (digit_of c) base) refl e
-  where
-    by : (b : Bool) → ltb (digit_of c) base ≡ b → not b ≡ true → ltb (digit_of c) base ≡ false
-    by false p q = p
-    by true p q = cc
+no_test : (b : Bool) → not b ≡ true → b ≡ false
+no_test false e = refl
+no_test true e = cc
 
-limits : (width : ℕ) → 1 ≤ width → width ≤ 8 → (16 ≤ 256 ^ width) × (256 ^ width ≤ 2 ^ 64)
+pub ends_is : (shape : Shape) (ending rest : List ℕ) → ends_field shape ending ≡ true → goes_on shape (ending ++ rest) ≡ false
+ends_is shape (c ∷ cs) rest e = goes_first shape c (cs ++ rest) ∙ no_test (goes_on shape (c ∷ [])) e
+ends_is Hexadecimal [] rest e = cc
+ends_is Decimal [] rest e = cc
+ends_is OrDefault [] rest e = cc
+ends_is Back [] rest e = refl
+ends_is Forth [] rest e = refl
+ends_is Dashed [] rest e = refl
+ends_is Next [] rest e = cc
+ends_is Padded [] rest e = cc
+ends_is (Word list) [] rest e = refl
+
+-- nor with what begins with no digit
+decimal_too : (text : List ℕ) → has_digit 16 text ≡ false → has_digit 10 text ≡ false
+decimal_too [] e = refl
+decimal_too (c ∷ cs) e = by (ltb (digit_of c) 10) refl
+  where
+    by : (b : Bool) → ltb (digit_of c) 10 ≡ b → ltb (digit_of c) 10 ≡ false
+    by false p = p
+    by true p = let low = ltb-true _ _ p in let high = ltb-false _ _ e in absurd (omega arith)
+
+pub open_is : (shape : Shape) (rest : List ℕ) → not (goes_on shape []) ≡ true → has_digit 16 rest ≡ false → goes_on shape rest ≡ false
+open_is Hexadecimal rest n e = e
+open_is Decimal rest n e = decimal_too rest e
+open_is OrDefault rest n e = decimal_too rest e
+open_is Back rest n e = refl
+open_is Forth rest n e = refl
+open_is Dashed rest n e = refl
+open_is Next rest n e = e
+open_is Padded rest n e = cc
+open_is (Word list) rest n e = refl
+
+pub limits : (width : ℕ) → 1 ≤ width → width ≤ 8 → (16 ≤ 256 ^ width) × (256 ^ width ≤ 2 ^ 64)
 limits width low high =
     let least = pow-le-pow_right {n = 256} (omega arith) {i = 1} {j = width} low in
     let most = pow-le-pow_right {n = 256} (omega arith) {i = width} {j = 8} high in
     (omega arith, omega arith)
 
-number_bounds : (width : ℕ) → nat_le 1 width && nat_le width 8 ≡ true → (1 ≤ width) × (width ≤ 8)
+pub number_bounds : (width : ℕ) → nat_le 1 width && nat_le width 8 ≡ true → (1 ≤ width) × (width ≤ 8)
 number_bounds width e = by (leb 1 width) (leb width 8) refl refl e
   where
     by : (a b : Bool) → leb 1 width ≡ a → leb width 8 ≡ b → a && b ≡ true → (1 ≤ width) × (width ≤ 8)
@@ -215,7 +225,7 @@ dashed_is : (bytes : List ℕ) → dashed_back bytes ≡ join_by hex_two (codes 
 unfolding dashed_back
 dashed_is bytes = refl
 
-reversed_is : (width : ℕ) (bytes : List ℕ) → IsValue width bytes → IsValue width (reverse bytes)
+pub reversed_is : (width : ℕ) (bytes : List ℕ) → IsValue width bytes → IsValue width (reverse bytes)
 reversed_is width bytes h = (
   length-reverse bytes ∙ h.0,
   All-from_get_or IsByte (reverse bytes) 0 (λ i l.
@@ -230,10 +240,59 @@ number_field base upper is small width low high value rest h e =
     rw (number_again base upper is (256 ^ width) (limits width low high).1 (little_endian value) (value_bound width value h) rest e)
     (ap (λ (x : List ℕ). Some (x, rest)) (value_low width value h))
 
+default_field : (width : ℕ) → 1 ≤ width → width ≤ 8 → (value rest : List ℕ) → IsValue width value → has_digit 10 rest ≡ false
+    → (default_read (256 ^ width) (default_text (little_endian value) ++ rest) >>= as_bytes width) ≡ Some (value, rest)
+default_field width low high value rest h e = by (eqb n 0) refl
+  where
+    n : ℕ
+    n = little_endian value
+
+    limit : ℕ
+    limit = 256 ^ width
+
+    read : List ℕ → Option (List ℕ × List ℕ)
+    read text = default_read limit (text ++ rest) >>= as_bytes width
+
+    by : (b : Bool) → eqb n 0 ≡ b → read (cond b (codes "DEFAULT") (digits 10 false n)) ≡ Some (value, rest)
+    by true p = ap (λ (x : List ℕ). Some (x, rest)) (ap (λ (x : ℕ). low_bytes width x) (sym (eqb-true n 0 p)) ∙ value_low width value h)
+    by false p =
+        let number = number_again 10 false decimal_base limit (limits width low high).1 n (value_bound width value h) rest e in
+        rw number (rw p (ap (λ (x : List ℕ). Some (x, rest)) (value_low width value h)))
+
+next_field : (value rest : List ℕ) → IsValue 1 value → has_digit 16 rest ≡ false
+    → (next_read (digits 16 true (little_endian value + 1) ++ rest) >>= as_bytes 1) ≡ Some (value, rest)
+next_field value rest h e =
+    let n : ℕ = little_endian value in
+    let small : n < 256 = omega (arith, value_bound 1 value h) in
+    let number = number_again 16 true hexadecimal 257 (omega arith) (n + 1) (omega arith) rest e in
+    let some : eqb (n + 1) 0 ≡ false = ne_eqb (n + 1) 0 (λ z. omega arith) in
+    let same : n + 1 - 1 ≡ n = omega arith in
+    ap (λ (o : Option (ℕ × List ℕ)). o >>= less_one >>= as_bytes 1) number
+    ∙ ap (λ (b : Bool). cond b None (Some (n + 1 - 1, rest)) >>= as_bytes 1) some
+    ∙ ap (λ (k : ℕ). Some (low_bytes 1 k, rest)) same
+    ∙ ap (λ (x : List ℕ). Some (x, rest)) (value_low 1 value h)
+
+pub sound_words : (list : Words) → are_sound (words_of list) ≡ true
+unfolding words_of
+sound_words Parity = refl
+sound_words StopBits = refl
+sound_words Digests = refl
+sound_words Login = refl
+sound_words Protocol = refl
+
 pub field_again : (field : Shape) (width : ℕ) → fits_shape field width ≡ true → (value rest : List ℕ) → IsValue width value
-    → has_digit (field_base field) rest ≡ false → field_read field width (field_text field value ++ rest) ≡ Some (value, rest)
+    → goes_on field rest ≡ false → field_read field width (field_text field value ++ rest) ≡ Some (field_kept field value, rest)
 field_again Hexadecimal width fits value rest h e = let bounds = number_bounds width fits in number_field 16 true hexadecimal (omega arith) width bounds.0 bounds.1 value rest h e
 field_again Decimal width fits value rest h e = let bounds = number_bounds width fits in number_field 10 false decimal_base (omega arith) width bounds.0 bounds.1 value rest h e
+field_again OrDefault width fits value rest h e = let bounds = number_bounds width fits in default_field width bounds.0 bounds.1 value rest h e
+field_again Next width fits value rest h e =
+    let one = eqb-true width 1 fits in
+    ap (λ (k : ℕ). next_read (digits 16 true (little_endian value + 1) ++ rest) >>= as_bytes k) one
+    ∙ next_field value rest (h.0 ∙ one, h.1) e
+field_again Padded width fits value rest h e = cc
+field_again (Word list) width fits value rest h e =
+    after_some _ (as_bytes width) _ (word_again (words_of list) (sound_words list) (little_endian value) rest)
+    ∙ ap (λ (k : ℕ). Some (low_bytes k (word_number (words_of list) (little_endian value)), rest)) (sym h.0)
 field_again Back width fits value rest h e =
     let back = reversed_is width value h in
     ap (λ (x : List ℕ). bytes_read [] width (x ++ rest) >>= turned) (back_is value)
@@ -268,24 +327,94 @@ turned_takes between width text value rest e =
     let back : p.0.0 ≡ reverse value = sym (reverse-reverse p.0.0) ∙ ap reverse same.0 in
     (b.0 ∙ (λ i. join_by hex_two between (back i) ++ same.1 i), subst (λ (x : List ℕ). IsValue width x) same.0 (reversed_is width p.0.0 b.1))
 
-pub field_takes : (field : Shape) (width : ℕ) → fits_shape field width ≡ true → (text value rest : List ℕ)
-    → field_read field width text ≡ Some (value, rest) → (text ≡ field_text field value ++ rest) × IsValue width value
-field_takes Hexadecimal width fits text value rest e = let bounds = number_bounds width fits in number_field_takes 16 true hexadecimal (omega arith) width bounds.0 bounds.1 text value rest e
-field_takes Decimal width fits text value rest e = let bounds = number_bounds width fits in number_field_takes 10 false decimal_base (omega arith) width bounds.0 bounds.1 text value rest e
-field_takes Back width fits text value rest e =
-    let r = turned_takes [] width text value rest e in (r.0 ∙ ap (λ (x : List ℕ). x ++ rest) (sym (back_is value)), r.1)
-field_takes Forth width fits text value rest e =
-    let r = bytes_takes [] width text value rest e in (r.0 ∙ ap (λ (x : List ℕ). x ++ rest) (sym (hex_bytes_is value)), r.1)
-field_takes Dashed width fits text value rest e =
-    let r = turned_takes (codes "-") width text value rest e in (r.0 ∙ ap (λ (x : List ℕ). x ++ rest) (sym (dashed_is value)), r.1)
-
--- what is left of a text after a literal, as `strip_prefix` says it
-pub stripped : (literal text : List ℕ) (r : Option (Bor (List ℕ)))
-    → MatchOption r ((rest : List ℕ) → text ≢ literal ++ rest) (λ x. text ≡ literal ++ x.now)
-    → option_map (λ (x : Bor (List ℕ)). x.now) r ≡ after literal text
-stripped literal text None h = by (after literal text) refl
+default_takes : (width : ℕ) → 1 ≤ width → width ≤ 8 → (text value rest : List ℕ) → (default_read (256 ^ width) text >>= as_bytes width) ≡ Some (value, rest)
+    → (text ≡ default_text (little_endian value) ++ rest) × IsValue width value
+default_takes width low high text value rest e =
+    let p = bind_some (default_read limit text) (as_bytes width) (value, rest) e in
+    let same = some_pair (low_bytes width p.0.0, p.0.1) (value, rest) p.2 in
+    let read = by (number_read 10 limit text) (after (codes "DEFAULT") text) p.0 refl refl p.1 in
+    let number : p.0.0 ≡ little_endian value = sym (low_value width p.0.0 read.1) ∙ ap (λ (x : List ℕ). little_endian x) same.0 in
+    (read.0 ∙ (λ i. default_text (number i) ++ same.1 i), subst (λ (x : List ℕ). IsValue width x) same.0 (low_is width p.0.0))
   where
-    by : (o : Option (List ℕ)) → after literal text ≡ o → None ≡ o
-    by None e = refl
-    by (Some rest) e = absurd (h rest (after_takes literal text rest e))
-stripped literal text (Some x) h = sym (ap (λ (t : List ℕ). after literal t) h ∙ after_again literal x.now)
+    limit : ℕ
+    limit = 256 ^ width
+
+    by : (a : Option (ℕ × List ℕ)) (b : Option (List ℕ)) (x : ℕ × List ℕ) → number_read 10 limit text ≡ a → after (codes "DEFAULT") text ≡ b
+        → or_default a b ≡ Some x → (text ≡ default_text x.0 ++ x.1) × (x.0 < limit)
+    by None None x p q r = cc
+    by None (Some t) x p q r =
+        let same = some_pair (0, t) x r in
+        (after_takes (codes "DEFAULT") text t q ∙ (λ i. default_text (same.0 i) ++ same.1 i), subst (λ (n : ℕ). n < limit) same.0 (omega (arith, (limits width low high).0)))
+    by (Some n) b x p q r = at (eqb n.0 0) refl r
+      where
+        at : (z : Bool) → eqb n.0 0 ≡ z → cond z None (Some n) ≡ Some x → (text ≡ default_text x.0 ++ x.1) × (x.0 < limit)
+        at true y z = cc
+        at false y z =
+            let same = some_pair n x z in
+            let within = limits width low high in
+            let t = number_takes 10 false decimal_base limit (omega arith) within.1 text n.0 n.1 p in (
+              t.0 ∙ ap (λ (c : Bool). cond c (codes "DEFAULT") (digits 10 false n.0) ++ n.1) (sym y) ∙ (λ i. default_text (same.0 i) ++ same.1 i),
+              subst (λ (k : ℕ). k < limit) same.0 t.1,
+            )
+
+next_takes : (text value rest : List ℕ) → (next_read text >>= as_bytes 1) ≡ Some (value, rest)
+    → (text ≡ digits 16 true (little_endian value + 1) ++ rest) × IsValue 1 value
+next_takes text value rest e =
+    let p = bind_some (next_read text) (as_bytes 1) (value, rest) e in
+    let q = bind_some (number_read 16 257 text) less_one p.0 p.1 in
+    let t = number_takes 16 true hexadecimal 257 (omega arith) (omega arith) text q.0.0 q.0.1 q.1 in
+    let next = by q.0 p.0 (eqb q.0.0 0) refl q.2 in
+    let same = some_pair (low_bytes 1 p.0.0, p.0.1) (value, rest) p.2 in
+    let number : p.0.0 ≡ little_endian value = sym (low_value 1 p.0.0 (omega (arith, t.1, next.0))) ∙ ap (λ (x : List ℕ). little_endian x) same.0 in (
+      t.0 ∙ (λ i. digits 16 true (next.0 i) ++ next.1 i) ∙ (λ i. digits 16 true (number i + 1) ++ same.1 i),
+      subst (λ (x : List ℕ). IsValue 1 x) same.0 (low_is 1 p.0.0),
+    )
+  where
+    by : (read less : ℕ × List ℕ) (b : Bool) → eqb read.0 0 ≡ b → cond b None (Some (read.0 - 1, read.1)) ≡ Some less
+        → (read.0 ≡ less.0 + 1) × (read.1 ≡ less.1)
+    by read less true p q = cc
+    by read less false p q =
+        let same = some_pair (read.0 - 1, read.1) less q in
+        let some : read.0 ≢ 0 = λ z. true≢false (sym (eq-eqb read.0 0 z) ∙ p) in
+        (omega (arith, same.0), same.1)
+
+words_take : (list : Words) (width : ℕ) → 1 ≤ width → width ≤ 8 → (text value rest : List ℕ) → (word_read (words_of list) text >>= as_bytes width) ≡ Some (value, rest)
+    → (text ≡ word_text (words_of list) (little_endian value) ++ rest) × (IsValue width value) × (field_kept (Word list) value ≡ value)
+words_take list width low high text value rest e =
+    let p = bind_some (word_read (words_of list) text) (as_bytes width) (value, rest) e in
+    let same = some_pair (low_bytes width p.0.0, p.0.1) (value, rest) p.2 in
+    let read = word_takes (words_of list) (sound_words list) text p.0.0 p.0.1 p.1 in
+    let least = pow-le-pow_right {n = 256} (omega arith) {i = 1} {j = width} low in
+    let number : little_endian value ≡ p.0.0 = ap (λ (x : List ℕ). little_endian x) (sym same.0) ∙ low_value width p.0.0 (omega (arith, read.small)) in
+    let is : IsValue width value = subst (λ (x : List ℕ). IsValue width x) same.0 (low_is width p.0.0) in (
+      read.text_is ∙ (λ i. word_text (words_of list) (sym number i) ++ same.1 i),
+      is,
+      (λ i. low_bytes (is.0 i) (word_number (words_of list) (number i))) ∙ ap (λ (n : ℕ). low_bytes width n) read.own ∙ same.0,
+    )
+
+-- what is known of a field that was read
+abbrev pub FieldTaken : Shape → ℕ → List ℕ → List ℕ → List ℕ → Type 0
+FieldTaken field width text value rest = (text ≡ field_text field value ++ rest) × (IsValue width value) × (field_kept field value ≡ value)
+
+pub field_takes : (field : Shape) (width : ℕ) → fits_shape field width ≡ true → (text value rest : List ℕ)
+    → field_read field width text ≡ Some (value, rest) → FieldTaken field width text value rest
+field_takes Hexadecimal width fits text value rest e =
+    let bounds = number_bounds width fits in
+    let r = number_field_takes 16 true hexadecimal (omega arith) width bounds.0 bounds.1 text value rest e in (r.0, r.1, refl)
+field_takes Decimal width fits text value rest e =
+    let bounds = number_bounds width fits in
+    let r = number_field_takes 10 false decimal_base (omega arith) width bounds.0 bounds.1 text value rest e in (r.0, r.1, refl)
+field_takes OrDefault width fits text value rest e =
+    let bounds = number_bounds width fits in
+    let r = default_takes width bounds.0 bounds.1 text value rest e in (r.0, r.1, refl)
+field_takes Next width fits text value rest e =
+    let one = eqb-true width 1 fits in
+    let r = next_takes text value rest (ap (λ (k : ℕ). next_read text >>= as_bytes k) (sym one) ∙ e) in (r.0, (r.1.0 ∙ sym one, r.1.1), refl)
+field_takes Padded width fits text value rest e = cc
+field_takes (Word list) width fits text value rest e = let bounds = number_bounds width fits in words_take list width bounds.0 bounds.1 text value rest e
+field_takes Back width fits text value rest e =
+    let r = turned_takes [] width text value rest e in (r.0 ∙ ap (λ (x : List ℕ). x ++ rest) (sym (back_is value)), r.1, refl)
+field_takes Forth width fits text value rest e =
+    let r = bytes_takes [] width text value rest e in (r.0 ∙ ap (λ (x : List ℕ). x ++ rest) (sym (hex_bytes_is value)), r.1, refl)
+field_takes Dashed width fits text value rest e =
+    let r = turned_takes (codes "-") width text value rest e in (r.0 ∙ ap (λ (x : List ℕ). x ++ rest) (sym (dashed_is value)), r.1, refl)

@@ -2,7 +2,7 @@
 use Rattle.std.proofs.Common.{◌≡◌, ℕ, zero, suc, ◌+◌, ◌-◌, ◌<◌, ◌≤◌, Bool, true, false, cond, List, [], ◌∷◌, ◌++◌, length, refl, sym, ap, ◌∙◌, arith}
 use Rattle.std.specs.Prelude.{Option, Some, None}
 use Rattle.std.specs.List.{list_all}
-use Rattle.uefi_node_table.specs.Rows.{Form}
+use Rattle.uefi_node_table.specs.Rows.{Form, item_of}
 use Rattle.uefi_node_table.specs.Table.{forms, forms_from, group_forms}
 use Rattle.uefi_node_table.proofs.Groups.{next_group}
 use Rattle.uefi_device_nodes.specs.Nodes.{Node}
@@ -10,7 +10,7 @@ use Rattle.uefi_node_reader.specs.Fields.{either_read}
 use Rattle.uefi_node_reader.specs.TableReading.{all_differ, form_place, form_read, forms_read, is_filled, is_sound, kept}
 
 pub table_sound : list_all is_sound forms ≡ true
-unfolding group_forms
+unfolding group_forms item_of
 table_sound = refl
 
 pub table_differs : all_differ forms ≡ true
@@ -18,8 +18,8 @@ unfolding group_forms
 table_differs = refl
 
 -- the same of each group
-pub group_sound : (index : ℕ) → index < 8 → list_all is_sound (group_forms index) ≡ true
-unfolding group_forms
+pub group_sound : (index : ℕ) → index < 11 → list_all is_sound (group_forms index) ≡ true
+unfolding group_forms item_of
 group_sound zero l = refl
 group_sound (suc zero) l = refl
 group_sound (suc (suc zero)) l = refl
@@ -28,9 +28,12 @@ group_sound (suc (suc (suc (suc zero)))) l = refl
 group_sound (suc (suc (suc (suc (suc zero))))) l = refl
 group_sound (suc (suc (suc (suc (suc (suc zero)))))) l = refl
 group_sound (suc (suc (suc (suc (suc (suc (suc zero))))))) l = refl
-group_sound (suc (suc (suc (suc (suc (suc (suc (suc n)))))))) l = absurd (omega arith)
+group_sound (suc (suc (suc (suc (suc (suc (suc (suc zero)))))))) l = refl
+group_sound (suc (suc (suc (suc (suc (suc (suc (suc (suc zero))))))))) l = refl
+group_sound (suc (suc (suc (suc (suc (suc (suc (suc (suc (suc zero)))))))))) l = refl
+group_sound (suc (suc (suc (suc (suc (suc (suc (suc (suc (suc (suc n))))))))))) l = absurd (omega arith)
 
-pub group_filled : (index : ℕ) → index < 8 → list_all is_filled (group_forms index) ≡ true
+pub group_filled : (index : ℕ) → index < 11 → list_all is_filled (group_forms index) ≡ true
 unfolding group_forms
 group_filled zero l = refl
 group_filled (suc zero) l = refl
@@ -40,7 +43,10 @@ group_filled (suc (suc (suc (suc zero)))) l = refl
 group_filled (suc (suc (suc (suc (suc zero))))) l = refl
 group_filled (suc (suc (suc (suc (suc (suc zero)))))) l = refl
 group_filled (suc (suc (suc (suc (suc (suc (suc zero))))))) l = refl
-group_filled (suc (suc (suc (suc (suc (suc (suc (suc n)))))))) l = absurd (omega arith)
+group_filled (suc (suc (suc (suc (suc (suc (suc (suc zero)))))))) l = refl
+group_filled (suc (suc (suc (suc (suc (suc (suc (suc (suc zero))))))))) l = refl
+group_filled (suc (suc (suc (suc (suc (suc (suc (suc (suc (suc zero)))))))))) l = refl
+group_filled (suc (suc (suc (suc (suc (suc (suc (suc (suc (suc (suc n))))))))))) l = absurd (omega arith)
 
 module _ (test : Form → Bool) where
   place_within : (xs bs : List Form) → form_place test xs < length xs → form_place test (xs ++ bs) ≡ form_place test xs
@@ -73,40 +79,40 @@ reads_append all place (a ∷ xs) bs text =
     (reads_append all (place + 1) xs bs text ∙ ap (λ (n : ℕ). either_read (forms_read all (place + 1) xs text) (forms_read all n bs text)) {x = place + 1 + length xs} {y = place + suc (length xs)} (omega arith))
     ∙ either_assoc (kept all place a (form_read a text)) (forms_read all (place + 1) xs text) (forms_read all (place + suc (length xs)) bs text)
 
-module _ (index : ℕ) (more : index < 8) (group : List Form) (is : group ≡ group_forms index) where
+module _ (index : ℕ) (more : index < 11) (group : List Form) (is : group ≡ group_forms index) where
   rest : List Form
-  rest = forms_from (index + 1) (8 - (index + 1))
+  rest = forms_from (index + 1) (11 - (index + 1))
 
-  here : forms_from index (8 - index) ≡ group ++ rest
+  here : forms_from index (11 - index) ≡ group ++ rest
   unfolding rest
-  here = next_group index more ∙ ap (λ (l : List Form). l ++ forms_from (index + 1) (8 - (index + 1))) (sym is)
+  here = next_group index more ∙ ap (λ (l : List Form). l ++ forms_from (index + 1) (11 - (index + 1))) (sym is)
 
   -- the search for a place in one group more
   pub within_step : (test : Form → Bool) (before place all : ℕ) → place ≡ form_place test group → place < length group
-      → before + form_place test (forms_from index (8 - index)) ≡ all → before + place ≡ all
+      → before + form_place test (forms_from index (11 - index)) ≡ all → before + place ≡ all
   within_step test before place all e l a = ap (λ (n : ℕ). before + n)
       (e ∙ sym (place_within test group rest (omega arith)) ∙ ap (λ (l : List Form). form_place test l) (sym here)) ∙ a
 
   pub past_step : (test : Form → Bool) (before place all : ℕ) → place ≡ form_place test group → length group ≤ place
-      → before + form_place test (forms_from index (8 - index)) ≡ all
-      → before + length group + form_place test (forms_from (index + 1) (8 - (index + 1))) ≡ all
+      → before + form_place test (forms_from index (11 - index)) ≡ all
+      → before + length group + form_place test (forms_from (index + 1) (11 - (index + 1))) ≡ all
   unfolding rest
   past_step test before place all e l a =
-      let past : form_place test (forms_from index (8 - index)) ≡ length group + form_place test (forms_from (index + 1) (8 - (index + 1))) =
+      let past : form_place test (forms_from index (11 - index)) ≡ length group + form_place test (forms_from (index + 1) (11 - (index + 1))) =
       ap (λ (l : List Form). form_place test l) here ∙ place_past test group rest (omega arith) in
       omega arith
 
   -- reading in one group more
   pub read_step : (before : ℕ) (text : List ℕ) (read : Node × List ℕ) (all : Option (Node × List ℕ)) → Some read ≡ forms_read forms before group text
-      → forms_read forms before (forms_from index (8 - index)) text ≡ all → Some read ≡ all
+      → forms_read forms before (forms_from index (11 - index)) text ≡ all → Some read ≡ all
   read_step before text read all e a =
       ap (λ (o : Option (Node × List ℕ)). either_read o (forms_read forms (before + length group) rest text)) e
       ∙ sym (reads_append forms before group rest text) ∙ ap (λ (l : List Form). forms_read forms before l text) (sym here) ∙ a
 
   pub unread_step : (before : ℕ) (text : List ℕ) (all : Option (Node × List ℕ)) → None ≡ forms_read forms before group text
-      → forms_read forms before (forms_from index (8 - index)) text ≡ all
-      → forms_read forms (before + length group) (forms_from (index + 1) (8 - (index + 1))) text ≡ all
+      → forms_read forms before (forms_from index (11 - index)) text ≡ all
+      → forms_read forms (before + length group) (forms_from (index + 1) (11 - (index + 1))) text ≡ all
   unfolding rest
   unread_step before text all e a =
-      ap (λ (o : Option (Node × List ℕ)). either_read o (forms_read forms (before + length group) (forms_from (index + 1) (8 - (index + 1))) text)) e
+      ap (λ (o : Option (Node × List ℕ)). either_read o (forms_read forms (before + length group) (forms_from (index + 1) (11 - (index + 1))) text)) e
       ∙ sym (reads_append forms before group rest text) ∙ ap (λ (l : List Form). forms_read forms before l text) (sym here) ∙ a

@@ -1,8 +1,14 @@
 pub mod Digits
 pub mod ByteRuns
+pub mod Literals
+pub mod WordLaws
 pub mod FieldLaws
+pub mod DigitTexts
 pub mod Places
 pub mod PieceLaws
+pub mod ListLaws
+pub mod ListReads
+pub mod ClearTexts
 pub mod TailLaws
 pub mod TableLaws
 pub mod PieceReads

@@ -30,7 +30,7 @@ not_true : (b : Bool) → not b ≡ true → b ≡ false
 not_true false e = refl
 not_true true e = cc
 
-even : (us : List ℕ) → length (unit_bytes us) ≡ 2 * length us
+pub even : (us : List ℕ) → length (unit_bytes us) ≡ 2 * length us
 even [] = refl
 even (u ∷ us) = let others = even us in omega arith
 
@@ -40,17 +40,17 @@ items_back (u ∷ us) =
     let first : u % 256 + 256 * (u / 256 + 256 * 0) ≡ u = omega arith in
     (λ i. first i ∷ items_back us i)
 
-units_back : (us : List ℕ) → units_of_bytes (unit_bytes us) ≡ us
+pub units_back : (us : List ℕ) → units_of_bytes (unit_bytes us) ≡ us
 units_back us =
     let count : length (unit_bytes us) / 2 ≡ length us = omega (arith, even us) in
     ap (λ (n : ℕ). packed_items 2 n (unit_bytes us)) count ∙ items_back us
 
 -- the test for units among which no NUL is
-abbrev no_nul : List ℕ → Bool
+abbrev pub no_nul : List ℕ → Bool
 no_nul us = list_all (λ u. not (is_nul u)) us
 
 -- the place of the first that passes, after others that do not
-place_of : (p : ℕ → Bool) (xs rest : List ℕ) → list_all (λ x. not (p x)) xs ≡ true → position_or_len p rest ≡ 0
+pub place_of : (p : ℕ → Bool) (xs rest : List ℕ) → list_all (λ x. not (p x)) xs ≡ true → position_or_len p rest ≡ 0
     → position_or_len p (xs ++ rest) ≡ length xs
 place_of p [] rest e h = h
 place_of p (x ∷ xs) rest e h =
@@ -104,7 +104,7 @@ lossy_first c us s = by (ltb c 0x1_0000) refl (scalar_cases c s)
         let same : surrogate_pair_char high low ≡ c = omega arith in
         pair_first high low us h l ∙ ap (λ (x : ℕ). x ∷ utf16_lossy_chars us) same
 
-lossy_back : (cs : List ℕ) → all_scalars cs ≡ true → utf16_lossy_chars (flat_map encode_utf16 cs) ≡ cs
+pub lossy_back : (cs : List ℕ) → all_scalars cs ≡ true → utf16_lossy_chars (flat_map encode_utf16 cs) ≡ cs
 unfolding utf16_chars
 lossy_back [] s = refl
 lossy_back (c ∷ cs) s =

@@ -4,14 +4,15 @@ use Rattle.std.specs.Prelude.{not, Option, Some, None, codes}
 use Rattle.std.proofs.Common.{◌%◌, eqb, leb, ◌&&◌, ◌||◌, cond, ◌≤◌, ◌≡◌, ℕ, true, false, List, [], ◌∷◌, ◌++◌, refl, ap, sym, ◌∙◌, append_assoc, inl, inr, length, Bool, arith}
 use borrow.Author.Tests.{eqb-true, leb-true}
 use lib.Utf8.{encode, encodes}
-use Rattle.uefi_node_table.specs.Rows.{Form, find_form, form_text, is_used}
+use Rattle.uefi_node_table.specs.Rows.{Form, is_used}
 use Rattle.uefi_node_table.specs.Table.{forms, group_forms, has_form, is_found, table_text, text_in}
 use Rattle.uefi_node_table.proofs.Forms.{found}
 use Rattle.uefi_node_table.proofs.Lists.{both}
 use Rattle.uefi_device_nodes.specs.Nodes.{Node}
 use Rattle.uefi_device_nodes.specs.NodeTexts.{irregular_text, is_irregular, node_text, unknown_text}
 use Rattle.uefi_node_reader.specs.Fields.{either_read}
-use Rattle.uefi_node_reader.specs.TableReading.{IsTabled, clash, printed_by, prints, table_read}
+use Rattle.uefi_node_reader.specs.TableReading.{IsTabled, printed_by, prints, table_read}
+use Rattle.uefi_node_reader.specs.Words.{clash}
 use Rattle.uefi_node_reader.specs.PlainNodes.{is_formed, is_plain, plain_read}
 use Rattle.uefi_node_reader.specs.NamedFiles.{name_data, is_name_char, begins_name, is_after_node, IsTold, name_read, node_read, is_name}
 use Rattle.uefi_node_reader.specs.Laws.{NodeTextOnce}

@@ -1,19 +1,26 @@
 -- The texts of fields are read back into their places, and what is read is printed so.
-use Rattle.std.proofs.Common.{◌≡◌, ℕ, ◌+◌, ◌≤◌, Bool, true, false, cond, eqb, List, [], ◌∷◌, ◌&&◌, ◌||◌, ◌++◌, length, refl, sym, ap, subst, ◌∙◌, append_assoc, arith}
-use Rattle.std.specs.Prelude.{All, Option, Some, None, option_and_then}
+use Rattle.std.proofs.Common.{◌≡◌, ℕ, ◌+◌, ◌≤◌, Bool, true, false, eqb, List, [], ◌∷◌, ◌&&◌, ◌||◌, ◌++◌, length, refl, sym, ap, subst, ◌∙◌, append_assoc, arith}
+use Rattle.std.specs.Prelude.{All, not, Option, Some, None, option_and_then}
 use Rattle.std.specs.List.{list_all}
 use Rattle.std.proofs.lemmas.Bool.{leb-true}
 use borrow.Author.Tests.{eqb-true}
 use Rattle.uefi_text.specs.Packed.{IsByte}
-use Rattle.uefi_node_reader.specs.Fields.{after, field_read, IsValue}
+use Rattle.uefi_node_reader.specs.Fields.{field_kept, field_read, IsValue}
+use Rattle.uefi_node_reader.specs.Words.{after}
 use Rattle.uefi_node_table.specs.Fields.{field_text, fits_shape}
+use Rattle.uefi_node_reader.specs.Numerals.{has_digit}
 use Rattle.uefi_node_table.specs.Rows.{Piece, is_within, piece_text, pieces_text, value_at}
-use Rattle.uefi_node_reader.specs.TableReading.{are_apart, ends_piece, field_base, is_apart, put_at}
-use Rattle.uefi_node_reader.specs.TableReading.{clash, overlay, piece_put, pieces_differ, pieces_put, same_text, shape_number}
+use Rattle.uefi_node_reader.specs.TableReading.{are_apart, ends_field, ends_pieces, goes_on, is_apart, is_empty, put_at}
+use Rattle.uefi_node_reader.specs.TableReading.{are_parted, list_number, overlay, piece_put, pieces_differ, pieces_put, same_shape}
+use Rattle.uefi_node_reader.specs.Words.{clash, same_text}
 use Rattle.uefi_node_table.specs.declared.rows.Shape.{Shape}
-use Rattle.uefi_node_table.specs.declared.rows.Shape.TheVariants.{Hexadecimal, Decimal, Back, Forth, Dashed}
+use Rattle.uefi_node_table.specs.declared.rows.Shape.TheVariants.{Hexadecimal, Decimal, OrDefault, Back, Forth, Dashed, Next, Padded, Word}
+use Rattle.uefi_node_table.specs.declared.words.Words.{Words}
+use Rattle.uefi_node_table.specs.declared.words.Words.TheVariants.{Parity, StopBits, Digests, Login, Protocol}
 use Rattle.uefi_node_reader.proofs.Digits.{some_pair}
-use Rattle.uefi_node_reader.proofs.FieldLaws.{after_again, after_some, after_takes, bind_some, ends_is, field_again, field_takes}
+use Rattle.uefi_node_reader.proofs.DigitTexts.{parted_none}
+use Rattle.uefi_node_reader.proofs.Literals.{after_again, after_some, after_takes, bind_some, clash_none, same_is}
+use Rattle.uefi_node_reader.proofs.FieldLaws.{ends_is, field_again, field_takes, open_is}
 use Rattle.uefi_node_table.proofs.Lists.{both}
 use Rattle.uefi_node_reader.proofs.Places.{length-put, put_bytes, put_get, put_other, value_is}
 
@@ -59,99 +66,98 @@ pieces_takes n (p ∷ ps) content text found rest w a l c e =
       text_is = first.0 ∙ ap (λ (y : List ℕ). field_text p.shape v.0.0 ++ y) (then ∙ ap (λ (y : List ℕ). p.ending ++ y) others.text_is)
           ∙ ap (λ (y : List ℕ). field_text p.shape y ++ (p.ending ++ (pieces_text ps found ++ rest))) (sym value)
           ∙ sym (text_parts p found (pieces_text ps found) rest);
-      overlaid = ap (λ (y : List ℕ). overlay ps found (put_at p y content)) value ∙ others.overlaid;
+      overlaid = ap (λ (y : List ℕ). overlay ps found (put_at p y content)) (ap (field_kept p.shape) value ∙ first.2) ∙ others.overlaid;
       size = others.size ∙ length-put p v.0.0 content wide long;
       bytes = others.bytes;
       others = λ q h. let hs = both (is_apart q p) (list_all (is_apart q) ps) h in others.others q hs.1 ∙ put_other q p v.0.0 content hs.0 wide long;
     }
 
-piece_again : (p : Piece) (content value tail : List ℕ) → fits_shape p.shape p.width ≡ true → ends_piece p ≡ true → IsValue p.width value
-    → piece_put p content (field_text p.shape value ++ (p.ending ++ tail)) ≡ Some (put_at p value content, tail)
+-- a text that ends a field before others: its own ending, or where it has none and no other follows, what begins with no digit
+and_false : (b : Bool) → b && false ≡ true → (Z : Type 0) → Z
+and_false true e Z = cc
+and_false false e Z = cc
+
+piece_ends : (free : Bool) (p : Piece) (others : List Piece) (source rest : List ℕ)
+    → ends_field p.shape p.ending || (free && (is_empty others && (is_empty p.ending && not (goes_on p.shape [])))) ≡ true → (free ≡ true → has_digit 16 rest ≡ false)
+    → goes_on p.shape (p.ending ++ (pieces_text others source ++ rest)) ≡ false
+piece_ends free p others source rest e h = by (ends_field p.shape p.ending) refl others e
+  where
+    bare : (ending tail : List ℕ) → is_empty ending ≡ true → not (goes_on p.shape []) ≡ true → has_digit 16 tail ≡ false → goes_on p.shape (ending ++ tail) ≡ false
+    bare [] tail b n d = open_is p.shape tail n d
+    bare (c ∷ cs) tail b n d = cc
+
+    by : (b : Bool) → ends_field p.shape p.ending ≡ b → (others : List Piece) → b || (free && (is_empty others && (is_empty p.ending && not (goes_on p.shape [])))) ≡ true
+        → goes_on p.shape (p.ending ++ (pieces_text others source ++ rest)) ≡ false
+    by true f others g = ends_is p.shape p.ending (pieces_text others source ++ rest) f
+    by false f [] g =
+        let parts = both free (is_empty p.ending && not (goes_on p.shape [])) g in
+        let last = both (is_empty p.ending) (not (goes_on p.shape [])) parts.1 in
+        bare p.ending rest last.0 last.1 (h parts.0)
+    by false f (q ∷ qs) g = and_false free g _
+
+piece_again : (p : Piece) (content value tail : List ℕ) → fits_shape p.shape p.width ≡ true → goes_on p.shape (p.ending ++ tail) ≡ false → IsValue p.width value
+    → piece_put p content (field_text p.shape value ++ (p.ending ++ tail)) ≡ Some (put_at p (field_kept p.shape value) content, tail)
 piece_again p content value tail f e is =
-    rw (field_again p.shape p.width f value (p.ending ++ tail) is (ends_is (field_base p.shape) p.ending tail e))
+    rw (field_again p.shape p.width f value (p.ending ++ tail) is e)
     (rw (after_again p.ending tail) refl)
 
 pub pieces_again : (n : ℕ) (pieces : List Piece) (content source rest : List ℕ) → list_all (is_within n) pieces ≡ true
-    → list_all ends_piece pieces ≡ true → n ≤ length source → All IsByte source
+    → (free : Bool) → ends_pieces free pieces ≡ true → (free ≡ true → has_digit 16 rest ≡ false) → n ≤ length source → All IsByte source
     → pieces_put pieces content (pieces_text pieces source ++ rest) ≡ Some (overlay pieces source content, rest)
-pieces_again n [] content source rest w e l s = refl
-pieces_again n (p ∷ ps) content source rest w e l s =
+pieces_again n [] content source rest w free e h l s = refl
+pieces_again n (p ∷ ps) content source rest w free e h l s =
     let ws = both (is_within n p) (list_all (is_within n) ps) w in
-    let es = both (ends_piece p) (list_all ends_piece ps) e in
+    let es = both (ends_field p.shape p.ending || (free && (is_empty ps && (is_empty p.ending && not (goes_on p.shape []))))) (ends_pieces free ps) e in
     let here = within_parts n p ws.0 in
     let value : List ℕ = value_at p source in
     let tail : List ℕ = pieces_text ps source ++ rest in
     ap (λ (x : List ℕ). pieces_put (p ∷ ps) content x) (text_parts p source (pieces_text ps source) rest)
-    ∙ after_some _ (λ (read : List ℕ × List ℕ). pieces_put ps read.0 read.1) (put_at p value content, tail)
-    (piece_again p content value tail here.1 es.0 (value_is p source (omega (arith, here.0)) s))
-    ∙ pieces_again n ps (put_at p value content) source rest ws.1 es.1 l s
+    ∙ after_some _ (λ (read : List ℕ × List ℕ). pieces_put ps read.0 read.1) (put_at p (field_kept p.shape value) content, tail)
+    (piece_again p content value tail here.1 (piece_ends free p ps source rest es.0 h) (value_is p source (omega (arith, here.0)) s))
+    ∙ pieces_again n ps (put_at p (field_kept p.shape value) content) source rest ws.1 free es.1 h l s
 
--- texts that differ
-pub clash_none : (one other rest : List ℕ) → clash one other ≡ true → after one (other ++ rest) ≡ None
-clash_none [] other rest e = cc
-clash_none (c ∷ cs) [] rest e = cc
-clash_none (c ∷ cs) (d ∷ ds) rest e = by (eqb c d) refl e (clash_none cs ds rest)
-  where
-    by : (b : Bool) → eqb c d ≡ b → cond b (clash cs ds) true ≡ true → (clash cs ds ≡ true → after cs (ds ++ rest) ≡ None)
-        → cond (eqb c d) (after cs (ds ++ rest)) None ≡ None
-    by true p q h = ap (λ (b : Bool). cond b (after cs (ds ++ rest)) None) p ∙ h q
-    by false p q h = ap (λ (b : Bool). cond b (after cs (ds ++ rest)) None) p
+same_list : (a b : Words) → eqb (list_number a) (list_number b) ≡ true → a ≡ b
+same_list Parity Parity e = refl
+same_list StopBits StopBits e = refl
+same_list Digests Digests e = refl
+same_list Login Login e = refl
+same_list Protocol Protocol e = refl
+same_list a b e = cc
 
--- texts that are the same
-pub same_is : (one other : List ℕ) → same_text one other ≡ true → one ≡ other
-same_is [] [] e = refl
-same_is [] (d ∷ ds) e = cc
-same_is (c ∷ cs) [] e = cc
-same_is (c ∷ cs) (d ∷ ds) e =
-    let parts = both (eqb c d) (same_text cs ds) e in λ i. eqb-true c d parts.0 i ∷ same_is cs ds parts.1 i
-
-same_shape : (a b : Shape) → eqb (shape_number a) (shape_number b) ≡ true → a ≡ b
-same_shape Hexadecimal Hexadecimal e = refl
-same_shape Hexadecimal Decimal e = cc
-same_shape Hexadecimal Back e = cc
-same_shape Hexadecimal Forth e = cc
-same_shape Hexadecimal Dashed e = cc
-same_shape Decimal Hexadecimal e = cc
-same_shape Decimal Decimal e = refl
-same_shape Decimal Back e = cc
-same_shape Decimal Forth e = cc
-same_shape Decimal Dashed e = cc
-same_shape Back Hexadecimal e = cc
-same_shape Back Decimal e = cc
-same_shape Back Back e = refl
-same_shape Back Forth e = cc
-same_shape Back Dashed e = cc
-same_shape Forth Hexadecimal e = cc
-same_shape Forth Decimal e = cc
-same_shape Forth Back e = cc
-same_shape Forth Forth e = refl
-same_shape Forth Dashed e = cc
-same_shape Dashed Hexadecimal e = cc
-same_shape Dashed Decimal e = cc
-same_shape Dashed Back e = cc
-same_shape Dashed Forth e = cc
-same_shape Dashed Dashed e = refl
+shape_is : (a b : Shape) → same_shape a b ≡ true → a ≡ b
+shape_is Hexadecimal Hexadecimal e = refl
+shape_is Decimal Decimal e = refl
+shape_is OrDefault OrDefault e = refl
+shape_is Back Back e = refl
+shape_is Forth Forth e = refl
+shape_is Dashed Dashed e = refl
+shape_is Next Next e = refl
+shape_is Padded Padded e = refl
+shape_is (Word a) (Word b) e = ap Word (same_list a b e)
+shape_is a b e = cc
 
 -- fields are not read where others stand that differ
 pub differ_none : (n : ℕ) (ps qs : List Piece) (content source rest : List ℕ) → pieces_differ ps qs ≡ true → list_all (is_within n) qs ≡ true
-    → list_all ends_piece qs ≡ true → n ≤ length source → All IsByte source
+    → (free : Bool) → ends_pieces free qs ≡ true → (free ≡ true → has_digit 16 rest ≡ false) → n ≤ length source → All IsByte source
     → pieces_put ps content (pieces_text qs source ++ rest) ≡ None
-differ_none n [] qs content source rest d w e l s = cc
-differ_none n (p ∷ ps) [] content source rest d w e l s = cc
-differ_none n (p ∷ ps) (q ∷ qs) content source rest d w e l s =
-    let ds = both (eqb (shape_number p.shape) (shape_number q.shape) && eqb p.width q.width) (clash p.ending q.ending || (same_text p.ending q.ending && pieces_differ ps qs)) d in
-    let alike = both (eqb (shape_number p.shape) (shape_number q.shape)) (eqb p.width q.width) ds.0 in
+differ_none n [] qs content source rest d w free e h l s = cc
+differ_none n (p ∷ ps) [] content source rest d w free e h l s = cc
+differ_none n (p ∷ ps) (q ∷ qs) content source rest d w free e h l s =
     let ws = both (is_within n q) (list_all (is_within n) qs) w in
-    let es = both (ends_piece q) (list_all ends_piece qs) e in
     let here = within_parts n q ws.0 in
-    let shape = same_shape p.shape q.shape alike.0 in
+    let whole = text_parts q source (pieces_text qs source) rest in
+    let is = value_is q source (omega (arith, here.0)) s in
+    ap (λ (x : List ℕ). pieces_put (p ∷ ps) content x) whole ∙ either (are_parted p q) refl d here.1 is (λ d.
+    let ds = both (same_shape p.shape q.shape && eqb p.width q.width) (clash p.ending q.ending || (same_text p.ending q.ending && pieces_differ ps qs)) d in
+    let alike = both (same_shape p.shape q.shape) (eqb p.width q.width) ds.0 in
+    let es = both (ends_field q.shape q.ending || (free && (is_empty qs && (is_empty q.ending && not (goes_on q.shape []))))) (ends_pieces free qs) e in
+    let shape = shape_is p.shape q.shape alike.0 in
     let width = eqb-true p.width q.width alike.1 in
-    let read : field_read p.shape p.width (field_text q.shape value ++ (q.ending ++ tail)) ≡ Some (value, q.ending ++ tail) =
+    let read : field_read p.shape p.width (field_text q.shape value ++ (q.ending ++ tail)) ≡ Some (kept, q.ending ++ tail) =
     (λ i. field_read (shape i) (width i) (field_text q.shape value ++ (q.ending ++ tail)))
-    ∙ field_again q.shape q.width here.1 value (q.ending ++ tail) (value_is q source (omega (arith, here.0)) s) (ends_is (field_base q.shape) q.ending tail es.0) in
-    ap (λ (x : List ℕ). pieces_put (p ∷ ps) content x) (text_parts q source (pieces_text qs source) rest)
-    ∙ ap (λ (o : Option (List ℕ × List ℕ)). go (option_and_then from_value o)) read
-    ∙ by (clash p.ending q.ending) refl ds.1 (λ h. differ_none n ps qs (put_at p value content) source rest h ws.1 es.1 l s)
+    ∙ field_again q.shape q.width here.1 value (q.ending ++ tail) is (piece_ends free q qs source rest es.0 h) in
+    ap (λ (o : Option (List ℕ × List ℕ)). go (option_and_then from_value o)) read
+    ∙ by (clash p.ending q.ending) refl ds.1 (λ d. differ_none n ps qs (put_at p kept content) source rest d ws.1 free es.1 h l s))
   where
     go : Option (List ℕ × List ℕ) → Option (List ℕ × List ℕ)
     go o = option_and_then (λ (x : List ℕ × List ℕ). pieces_put ps x.0 x.1) o
@@ -165,15 +171,27 @@ differ_none n (p ∷ ps) (q ∷ qs) content source rest d w e l s =
     value : List ℕ
     value = value_at q source
 
+    either : (b : Bool) → are_parted p q ≡ b
+        → b || ((same_shape p.shape q.shape && eqb p.width q.width) && (clash p.ending q.ending || (same_text p.ending q.ending && pieces_differ ps qs))) ≡ true
+        → fits_shape q.shape q.width ≡ true → IsValue q.width value
+        → ((same_shape p.shape q.shape && eqb p.width q.width) && (clash p.ending q.ending || (same_text p.ending q.ending && pieces_differ ps qs)) ≡ true
+        → pieces_put (p ∷ ps) content (field_text q.shape value ++ (q.ending ++ (pieces_text qs source ++ rest))) ≡ None)
+        → pieces_put (p ∷ ps) content (field_text q.shape value ++ (q.ending ++ (pieces_text qs source ++ rest))) ≡ None
+    either true a e f is others = ap go (parted_none p q a f content value (pieces_text qs source ++ rest) is)
+    either false a e f is others = others e
+
+    kept : List ℕ
+    kept = field_kept q.shape value
+
     tail : List ℕ
     tail = pieces_text qs source ++ rest
 
     by : (b : Bool) → clash p.ending q.ending ≡ b → b || (same_text p.ending q.ending && pieces_differ ps qs) ≡ true
-        → (pieces_differ ps qs ≡ true → pieces_put ps (put_at p value content) tail ≡ None)
-        → go (option_and_then (put value) (after p.ending (q.ending ++ tail))) ≡ None
-    by true h i others = ap (λ (o : Option (List ℕ)). go (option_and_then (put value) o)) (clash_none p.ending q.ending tail h)
+        → (pieces_differ ps qs ≡ true → pieces_put ps (put_at p kept content) tail ≡ None)
+        → go (option_and_then (put kept) (after p.ending (q.ending ++ tail))) ≡ None
+    by true h i others = ap (λ (o : Option (List ℕ)). go (option_and_then (put kept) o)) (clash_none p.ending q.ending tail h)
     by false h i others =
         let parts = both (same_text p.ending q.ending) (pieces_differ ps qs) i in
-        ap (λ (o : Option (List ℕ)). go (option_and_then (put value) o))
+        ap (λ (o : Option (List ℕ)). go (option_and_then (put kept) o))
         (ap (λ (y : List ℕ). after y (q.ending ++ tail)) (same_is p.ending q.ending parts.0) ∙ after_again q.ending tail)
         ∙ others parts.1

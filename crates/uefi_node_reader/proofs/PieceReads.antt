@@ -4,11 +4,12 @@ use Rattle.std.specs.Prelude.{Option, Some, None, option_and_then, slice_range}
 use Rattle.std.specs.Option.{option_map}
 use Rattle.std.proofs.lemmas.List.Edits.{length-between}
 use borrow.Rule.Slice.PartMut.{put_mid}
-use Rattle.uefi_node_reader.specs.Fields.{after, field_read}
+use Rattle.uefi_node_reader.specs.Fields.{field_read}
+use Rattle.uefi_node_reader.specs.Words.{after}
 use Rattle.uefi_node_table.specs.Rows.{Piece}
 use Rattle.uefi_node_reader.specs.TableReading.{put_at}
 use Rattle.uefi_node_reader.specs.TableReading.{piece_put}
-use Rattle.uefi_node_reader.proofs.FieldLaws.{after_some}
+use Rattle.uefi_node_reader.proofs.Literals.{after_some}
 
 pub read_in_place : (p : Piece) (content text found ending : List ℕ) (left : Option (Bor (List ℕ))) (rest : Bor (List ℕ)) (end : Option (Bor (List ℕ)))
     → p.place + p.width ≤ length content

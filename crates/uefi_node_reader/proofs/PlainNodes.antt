@@ -1,20 +1,17 @@
 -- Nodes of no kind are read back, and what is read is printed so.
-use Rattle.std.proofs.Common.{◌≡◌, ℕ, ◌+◌, ◌*◌, ◌/◌, ◌%◌, ◌<◌, Bool, true, false, cond, eqb, leb, ltb, ◌&&◌, ◌||◌, List, [], ◌∷◌, ◌++◌, codes, length, refl, ap, sym, subst, ◌∙◌, append_assoc, arith}
-use Rattle.std.specs.Prelude.{All, Some, not, ◌==◌}
-use Rattle.std.specs.Fmt.{decimal, digit_glyph}
-use Rattle.std.specs.List.{flat_map}
-use Rattle.std.proofs.lemmas.List.Elements.{All-nil, All-cons, All-head, All-tail}
-use borrow.Author.Tests.{eqb-true, lt-ltb, ltb-true}
-use Rattle.uefi_text.specs.Packed.{IsByte}
-use Rattle.uefi_field_texts.specs.FieldTexts.{comma_bytes, hex_bytes, hex_two}
+use Rattle.std.proofs.Common.{◌≡◌, ℕ, Bool, true, false, cond, eqb, leb, ◌&&◌, ◌||◌, List, [], ◌∷◌, ◌++◌, codes, length, refl, ap, sym, subst, ◌∙◌, append_assoc, arith}
+use Rattle.std.specs.Prelude.{Some, not}
+use Rattle.std.specs.Fmt.{decimal}
+use Rattle.uefi_field_texts.specs.FieldTexts.{comma_bytes}
 use Rattle.uefi_device_nodes.specs.Nodes.{Node, node_with}
 use Rattle.uefi_node_table.specs.Table.{has_form, table_text}
 use Rattle.uefi_device_nodes.specs.NodeTexts.{irregular_text, is_irregular, node_text, unknown_text}
-use Rattle.uefi_node_reader.specs.Numerals.{digit_of, has_digit, number_read}
-use Rattle.uefi_node_reader.specs.Fields.{after, comma_read, read_if}
+use Rattle.uefi_node_reader.specs.Numerals.{has_digit, number_read}
+use Rattle.uefi_node_reader.specs.Fields.{comma_read, read_if}
+use Rattle.uefi_node_reader.specs.Words.{after}
 use Rattle.uefi_node_reader.specs.PlainNodes.{IsPlain, is_formed, is_plain, plain_read}
-use Rattle.uefi_node_reader.proofs.Digits.{decimal_base, hexadecimal, number_again, number_takes, some_pair}
-use Rattle.uefi_node_reader.proofs.FieldLaws.{after_takes, bind_some}
+use Rattle.uefi_node_reader.proofs.Digits.{decimal_base, number_again, number_takes, some_pair}
+use Rattle.uefi_node_reader.proofs.Literals.{after_takes, bind_some}
 use Rattle.uefi_node_reader.proofs.TailLaws.{comma_again, comma_takes}
 
 no_or : (a b : Bool) → a || b ≡ false → (a ≡ false) × (b ≡ false)

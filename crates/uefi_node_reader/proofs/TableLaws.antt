@@ -9,17 +9,19 @@ use Rattle.std.proofs.lemmas.List.Elements.{All-append, All-drop, All-nil, All-c
 use borrow.Author.Tests.{eq-eqb, eqb-true, ltb-true}
 use Rattle.uefi_text.specs.Packed.{IsByte}
 use Rattle.uefi_node_table.specs.Fields.{field_text}
-use Rattle.uefi_node_table.specs.Rows.{Form, find_form, form_text, is_used, is_within, matches, pieces_text, tail_text, value_at, Piece}
+use Rattle.uefi_node_table.specs.Rows.{Form, Piece, find_form, form_text, is_used, is_within, lead_text, pieces_text, tail_text, value_at}
 use Rattle.uefi_node_table.specs.Table.{text_in}
 use Rattle.uefi_device_nodes.specs.Nodes.{Node, node_with}
-use Rattle.uefi_node_reader.specs.Fields.{◌>>=◌, after, either_read, read_if}
-use Rattle.uefi_node_reader.specs.TableReading.{IsTabled, IsWhole, added, all_differ, are_apart, blank, clash, closed, differ, ends_piece, ends_tail, form_place, form_read, forms_read, is_kept, is_read, is_sound, kept, overlay, pieces_differ, pieces_put, printed_by, prints, put_at, rest_read, same_text, table_read, tail_kept, tail_read}
+use Rattle.uefi_node_reader.specs.Fields.{◌>>=◌, either_read, field_kept, read_if}
+use Rattle.uefi_node_reader.specs.Words.{after}
+use Rattle.uefi_node_reader.specs.TableReading.{IsTabled, IsTailTold, IsWhole, added, all_differ, are_apart, blank, closed, differ, ends_pieces, ends_tail, form_place, form_read, forms_read, is_kept, is_open, is_read, is_sound, kept, overlay, pieces_differ, pieces_put, printed_by, prints, put_at, rest_read, table_read, tail_read}
+use Rattle.uefi_node_reader.specs.Words.{clash, same_text}
 use Rattle.uefi_node_reader.proofs.Digits.{some_pair}
-use Rattle.uefi_node_reader.proofs.FieldLaws.{after_again, after_some, after_takes, bind_some}
+use Rattle.uefi_node_reader.proofs.Literals.{after_again, after_some, after_takes, bind_some, clash_none, same_is}
 use Rattle.uefi_node_table.proofs.Forms.{found, long_enough}
 use Rattle.uefi_node_table.proofs.Lists.{and_true, both}
-use Rattle.uefi_node_reader.proofs.PieceLaws.{clash_none, differ_none, pieces_again, pieces_takes, same_is, within_parts}
-use Rattle.uefi_node_reader.proofs.TailLaws.{tail_again, tail_takes}
+use Rattle.uefi_node_reader.proofs.PieceLaws.{differ_none, pieces_again, pieces_takes, within_parts}
+use Rattle.uefi_node_reader.proofs.TailLaws.{no_lead, tail_again, tail_starts, tail_takes}
 
 are_bytes : (bytes : List ℕ) → list_all (λ b. ltb b 256) bytes ≡ true → All IsByte bytes
 are_bytes [] e = All-nil IsByte
@@ -34,7 +36,7 @@ asked false b p e = cc
 record Sound (form : Form) : Type 0 where
   pub within : list_all (is_within (length (blank form))) form.pieces ≡ true
   pub apart : are_apart form.pieces ≡ true
-  pub ends : list_all ends_piece form.pieces ≡ true
+  pub ends : ends_pieces (is_open form.tail) form.pieces ≡ true
   pub tail_ends : ends_tail form.tail form.close ≡ true
   pub bytes : All IsByte (blank form)
   pub size : length (blank form) ≡ form.least
@@ -43,7 +45,7 @@ sound : (form : Form) → is_read form.mode ≡ true → is_sound form ≡ true 
 sound form r e =
     let parts = both (list_all (is_within (length (blank form))) form.pieces && are_apart form.pieces) _ (asked (is_read form.mode) _ r e) in
     let low = both (list_all (is_within (length (blank form))) form.pieces) (are_apart form.pieces) parts.0 in
-    let high = both (list_all ends_piece form.pieces) _ parts.1 in
+    let high = both (ends_pieces (is_open form.tail) form.pieces) _ parts.1 in
     let last = both (ends_tail form.tail form.close) _ high.1 in
     let fixed = both (list_all (λ b. ltb b 256) (blank form)) _ last.1 in
     record { within = low.0; apart = low.1; ends = high.0; tail_ends = last.0; bytes = are_bytes (blank form) fixed.0; size = eqb-true _ _ fixed.1 }
@@ -63,9 +65,16 @@ is_body form text x e = by (is_read form.mode) refl e
     by false p q = cc
 
 -- the text of a node, with what follows
-text_parts : (form : Form) (content rest : List ℕ) → form_text form content ++ rest
+parts_and : (form : Form) (content rest : List ℕ) → form_text form content ++ rest
+    ≡ form.start ++ (lead_text form.tail (drop form.least content) ++ (pieces_text form.pieces content
+    ++ (tail_text form.tail (drop form.least content) ++ (form.close ++ rest))))
+parts_and form content rest = simp append_assoc
+
+text_parts : (form : Form) (content rest : List ℕ) → ends_tail form.tail form.close ≡ true → form_text form content ++ rest
     ≡ form.start ++ (pieces_text form.pieces content ++ (tail_text form.tail (drop form.least content) ++ (form.close ++ rest)))
-text_parts form content rest = simp append_assoc
+text_parts form content rest e = parts_and form content rest
+    ∙ ap (λ (x : List ℕ). form.start ++ (x ++ (pieces_text form.pieces content ++ (tail_text form.tail (drop form.least content) ++ (form.close ++ rest)))))
+    (no_lead form.tail form.close (drop form.least content) e)
 
 form_again : (form : Form) → is_read form.mode ≡ true → is_sound form ≡ true → (content : List ℕ) → form.least ≤ length content → All IsByte content → IsWhole form content
     → (rest : List ℕ) → form_read form (form_text form content ++ rest) ≡ Some (content, rest)
@@ -77,11 +86,13 @@ form_again form r s content l all whole rest =
     let head : List ℕ = overlay form.pieces content (blank form) in
     let long : length (blank form) ≤ length content = omega (arith, is.size) in
     reads form (form_text form content ++ rest) r
-    ∙ ap (λ (x : List ℕ). body form x) (text_parts form content rest)
+    ∙ ap (λ (x : List ℕ). body form x) (text_parts form content rest is.tail_ends)
     ∙ after_some _ (λ (t : List ℕ). pieces_put form.pieces (blank form) t >>= rest_read form) (pieces_text form.pieces content ++ tail) (after_again form.start (pieces_text form.pieces content ++ tail))
-    ∙ after_some _ (rest_read form) (head, tail) (pieces_again (length (blank form)) form.pieces (blank form) content tail is.within is.ends long all)
-    ∙ ap (λ (o : Option (List ℕ × List ℕ)). o >>= added head >>= closed form.close) (tail_again form.tail form.close extra rest is.tail_ends (All-drop IsByte form.least content all))
-    ∙ ap (λ (x : List ℕ). closed form.close (x, ending)) whole
+    ∙ after_some _ (rest_read form) (head, tail) (pieces_again (length (blank form)) form.pieces (blank form) content tail is.within (is_open form.tail) is.ends
+    (tail_starts form.tail form.close extra rest is.tail_ends) long all)
+    ∙ ap (λ (o : Option (List ℕ × List ℕ)). o >>= added head >>= closed form.close)
+    (tail_again form.tail form.close extra rest is.tail_ends (All-drop IsByte form.least content all) whole.1)
+    ∙ ap (λ (x : List ℕ). closed form.close (x, ending)) whole.0
     ∙ ap (λ (o : Option (List ℕ)). option_and_then (λ (r : List ℕ). Some (content, r)) o) (after_again form.close rest)
 
 -- what is known of data that were read in a form
@@ -103,7 +114,8 @@ values_same n head extra l (p ∷ ps) w =
     let value : value_at p (head ++ extra) ≡ value_at p head = between_is (head ++ extra) p.place to
     ∙ ap (λ (x : List ℕ). drop p.place x) (take-append-le to head extra (omega (arith, here.0))) ∙ sym (between_is head p.place to) in (
       (λ i. (field_text p.shape (value i) ++ p.ending) ++ others.0 i),
-      λ content. ap (λ (x : List ℕ). overlay ps (head ++ extra) (put_at p x content)) value ∙ others.1 (put_at p (value_at p head) content),
+      λ content. ap (λ (x : List ℕ). overlay ps (head ++ extra) (put_at p (field_kept p.shape x) content)) value
+          ∙ others.1 (put_at p (field_kept p.shape (value_at p head)) content),
     )
 
 form_takes : (form : Form) → is_sound form ≡ true → (text content rest : List ℕ) → form_read form text ≡ Some (content, rest) → Taken form text content rest
@@ -113,13 +125,13 @@ form_takes form s text content rest read =
     let n : ℕ = length (blank form) in
     let t = bind_some (after form.start text) _ (content, rest) r.1 in
     let h = bind_some (pieces_put form.pieces (blank form) t.0) (rest_read form) (content, rest) t.2 in
-    let a = bind_some (tail_read form.tail h.0.1 >>= added h.0.0) (closed form.close) (content, rest) h.2 in
-    let x = bind_some (tail_read form.tail h.0.1) (added h.0.0) a.0 a.1 in
+    let a = bind_some (tail_read form.tail form.close h.0.1 >>= added h.0.0) (closed form.close) (content, rest) h.2 in
+    let x = bind_some (tail_read form.tail form.close h.0.1) (added h.0.0) a.0 a.1 in
     let c = bind_some (after form.close a.0.1) _ (content, rest) a.2 in
     let same = some_pair (h.0.0 ++ x.0.0, x.0.1) a.0 x.2 in
     let same_end = some_pair (a.0.0, c.0) (content, rest) c.2 in
     let fields = pieces_takes n form.pieces (blank form) t.0 h.0.0 h.0.1 is.within is.apart refl is.bytes h.1 in
-    let tail = tail_takes form.tail h.0.1 x.0.0 x.0.1 x.1 in
+    let tail = tail_takes form.tail form.close h.0.1 x.0.0 x.0.1 x.1 in
     let head : List ℕ = h.0.0 in
     let extra : List ℕ = x.0.0 in
     let values = values_same n head extra fields.size form.pieces is.within in
@@ -129,9 +141,12 @@ form_takes form s text content rest read =
           ∙ ap (λ (y : List ℕ). pieces_text form.pieces head ++ y) (tail.0 ∙ ap (λ (y : List ℕ). tail_text form.tail extra ++ y)
           (same.1 ∙ after_takes form.close a.0.1 c.0 c.1 ∙ ap (λ (y : List ℕ). form.close ++ y) same_end.1)))
           ∙ (λ i. form.start ++ (sym values.0 i ++ (tail_text form.tail (sym left i) ++ (form.close ++ rest))))
-          ∙ sym (text_parts form (head ++ extra) rest);
+          ∙ sym (text_parts form (head ++ extra) rest is.tail_ends);
       read = r.0;
-      whole = (λ i. values.1 (blank form) i ++ tail_kept form.tail (left i)) ∙ (λ i. fields.overlaid i ++ tail.2 i);
+      whole = (
+        (λ i. values.1 (blank form) i ++ left i) ∙ ap (λ (y : List ℕ). y ++ extra) fields.overlaid,
+        subst (λ (y : List ℕ). IsTailTold form.tail form.close y) (sym left) tail.2,
+      );
       bytes = All-append IsByte head extra fields.bytes tail.1;
     } in
     subst (λ (y : List ℕ). Taken form text y rest) (same.0 ∙ same_end.0) made
@@ -240,12 +255,13 @@ not_read one other d r s content rest l all = first (is_read one.mode) refl
         let parts = both (same_text one.start other.start) (pieces_differ one.pieces other.pieces) q in
         ap go (ap (λ (y : List ℕ). after y (other.start ++ others)) (same_is one.start other.start parts.0) ∙ after_again other.start others)
         ∙ ap (λ (o : Option (List ℕ × List ℕ)). option_and_then (rest_read one) o)
-        (differ_none (length (blank other)) one.pieces other.pieces (blank one) content tail parts.1 is.within is.ends (omega (arith, is.size)) all)
+        (differ_none (length (blank other)) one.pieces other.pieces (blank one) content tail parts.1 is.within (is_open other.tail) is.ends
+        (tail_starts other.tail other.close (drop other.least content) rest is.tail_ends) (omega (arith, is.size)) all)
 
     first : (b : Bool) → is_read one.mode ≡ b → form_read one (form_text other content ++ rest) ≡ None
     first false p = ap (λ (b : Bool). cond b (body one (form_text other content ++ rest)) None) p
     first true p =
-        reads one (form_text other content ++ rest) p ∙ ap (λ (x : List ℕ). body one x) (text_parts other content rest)
+        reads one (form_text other content ++ rest) p ∙ ap (λ (x : List ℕ). body one x) (text_parts other content rest is.tail_ends)
         ∙ by (clash one.start other.start) refl (asked (is_read other.mode) _ r (asked (is_read one.mode) _ p d))
 
 one_of : (one form : Form) (before others : List Form) → list_all (differ one) (before ++ form ∷ others) ≡ true → differ one form ≡ true

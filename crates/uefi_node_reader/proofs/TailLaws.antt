@@ -2,19 +2,24 @@
 use Rattle.std.proofs.Common.{◌≡◌, ℕ, ◌+◌, ◌*◌, ◌/◌, ◌%◌, ◌<◌, Bool, true, false, cond, eqb, ltb, ◌&&◌, List, [], ◌∷◌, ◌++◌, refl, ap, sym, subst, ◌∙◌, append_assoc, arith}
 use Rattle.std.specs.Prelude.{All, Some, not}
 use Rattle.std.specs.Fmt.{digit_glyph}
-use Rattle.std.specs.List.{flat_map}
+use Rattle.std.specs.List.{flat_map, list_all}
 use Rattle.std.proofs.lemmas.List.Elements.{All-nil, All-cons, All-head, All-tail}
 use borrow.Author.Tests.{eqb-true, lt-ltb, ltb-true}
 use Rattle.uefi_text.specs.Packed.{IsByte}
-use Rattle.uefi_field_texts.specs.FieldTexts.{comma_bytes, hex_bytes, hex_two}
-use Rattle.uefi_node_reader.specs.Numerals.{digit_of}
-use Rattle.uefi_node_reader.specs.TableReading.{ends_tail}
-use Rattle.uefi_node_table.specs.Rows.{tail_text}
-use Rattle.uefi_node_reader.specs.Fields.{comma_read, run_read, some_run}
-use Rattle.uefi_node_reader.specs.TableReading.{tail_kept, tail_read}
+use Rattle.uefi_text.specs.UnitBytes.{unit_bytes}
+use Rattle.uefi_field_texts.specs.FieldTexts.{comma_bytes, hex_bytes, hex_two, utf16_text}
+use Rattle.uefi_node_reader.specs.Numerals.{digit_of, has_digit}
+use Rattle.uefi_node_reader.specs.Words.{clash}
+use Rattle.uefi_node_reader.proofs.Literals.{clash_none}
+use Rattle.uefi_node_reader.proofs.ListLaws.{apart, list_again, list_starts, list_takes, sound_items}
+use Rattle.uefi_node_reader.specs.TableReading.{begins_apart, ends_tail, is_open}
+use Rattle.uefi_node_table.specs.Rows.{item_of, lead_text, tail_text}
+use Rattle.uefi_node_reader.specs.Fields.{clear_run, comma_read, is_clear, run_read, some_run}
+use Rattle.uefi_node_reader.specs.TableReading.{IsTailTold, as_units, first_of, tail_read}
 use Rattle.uefi_node_table.specs.declared.rows.Tail.{Tail}
-use Rattle.uefi_node_table.specs.declared.rows.Tail.TheVariants.{Nothing, Bytes, Text}
+use Rattle.uefi_node_table.specs.declared.rows.Tail.TheVariants.{Nothing, Bytes, Text, Utf16, Name, Repeated}
 use Rattle.uefi_node_reader.proofs.Digits.{hexadecimal, some_pair}
+use Rattle.uefi_node_reader.proofs.ClearTexts.{clear_again, clear_bytes, clear_takes, clear_units, shown_clear, utf16_clear}
 use Rattle.uefi_node_reader.proofs.FieldLaws.{two_digits}
 use Rattle.uefi_node_table.proofs.Lists.{both}
 
@@ -122,18 +127,67 @@ comma_takes (c ∷ cs) bytes rest e = by (eqb c 44) refl e (run_takes cs)
         let same = some_pair ([], c ∷ cs) (bytes, rest) q in
         ((λ i. comma_bytes (same.0 i) ++ same.1 i), subst (λ (x : List ℕ). All IsByte x) same.0 (All-nil IsByte))
 
-pub tail_again : (tail : Tail) (close bytes rest : List ℕ) → ends_tail tail close ≡ true → All IsByte bytes
-    → tail_read tail (tail_text tail bytes ++ (close ++ rest)) ≡ Some (tail_kept tail bytes, close ++ rest)
-tail_again Nothing close bytes rest e all = refl
-tail_again Text close bytes rest e all = cc
-tail_again Bytes [] bytes rest e all = cc
-tail_again Bytes (c ∷ cs) bytes rest e all =
+-- what stands after a list, or in place of one
+pub tail_starts : (tail : Tail) (close bytes rest : List ℕ) → ends_tail tail close ≡ true → is_open tail ≡ true
+    → has_digit 16 (tail_text tail bytes ++ (close ++ rest)) ≡ false
+tail_starts Nothing close bytes rest e o = cc
+tail_starts Bytes close bytes rest e o = cc
+tail_starts Text close bytes rest e o = cc
+tail_starts Utf16 close bytes rest e o = cc
+tail_starts Name close bytes rest e o = cc
+tail_starts (Repeated items) close bytes rest e o =
+    let parts = both (clash (item_of items).start close) (begins_apart close) e in
+    list_starts (item_of items) (sound_items items) bytes (close ++ rest) (apart close rest parts.1)
+
+pub tail_again : (tail : Tail) (close bytes rest : List ℕ) → ends_tail tail close ≡ true → All IsByte bytes → IsTailTold tail close bytes
+    → tail_read tail close (tail_text tail bytes ++ (close ++ rest)) ≡ Some (bytes, close ++ rest)
+tail_again Nothing close bytes rest e all told = λ i. Some (sym told i, close ++ rest)
+tail_again Text [] bytes rest e all told = cc
+tail_again Text (c ∷ cs) bytes rest e all told =
+    ap (λ (x : List ℕ). Some (clear_run c (x ++ ((c ∷ cs) ++ rest)))) (shown_clear c bytes told)
+    ∙ ap (λ (x : List ℕ × List ℕ). Some x) (clear_again c bytes (cs ++ rest) told)
+tail_again Utf16 [] bytes rest e all told = cc
+tail_again Utf16 (c ∷ cs) bytes rest e all told =
+    ap (λ (x : List ℕ). as_units (clear_run c (x ++ ((c ∷ cs) ++ rest)))) (ap utf16_text told.1.0 ∙ utf16_clear c told.0 told.1.1)
+    ∙ ap as_units (clear_again c told.0 (cs ++ rest) told.1.1) ∙ (λ i. Some (sym told.1.0 i, (c ∷ cs) ++ rest))
+tail_again Name close bytes rest e all told = cc
+tail_again (Repeated items) close bytes rest e all told =
+    let parts = both (clash (item_of items).start close) (begins_apart close) e in
+    list_again (item_of items) (sound_items items) bytes told all (close ++ rest)
+    (clash_none (item_of items).start close rest parts.0) (apart close rest parts.1)
+tail_again Bytes [] bytes rest e all told = cc
+tail_again Bytes (c ∷ cs) bytes rest e all told =
     let parts = both (not (ltb (digit_of c) 16)) (not (eqb c 44)) e in
     comma_again bytes all c cs rest (no_test _ parts.0) (no_test _ parts.1)
 
-pub tail_takes : (tail : Tail) (text bytes rest : List ℕ) → tail_read tail text ≡ Some (bytes, rest)
-    → (text ≡ tail_text tail bytes ++ rest) × (All IsByte bytes) × (tail_kept tail bytes ≡ bytes)
-tail_takes Nothing text bytes rest e =
-    let same = some_pair ([], text) (bytes, rest) e in (same.1, subst (λ (x : List ℕ). All IsByte x) same.0 (All-nil IsByte), same.0)
-tail_takes Bytes text bytes rest e = let read = comma_takes text bytes rest e in (read.0, read.1, refl)
-tail_takes Text text bytes rest e = cc
+pub tail_takes : (tail : Tail) (close text bytes rest : List ℕ) → tail_read tail close text ≡ Some (bytes, rest)
+    → (text ≡ tail_text tail bytes ++ rest) × (All IsByte bytes) × (IsTailTold tail close bytes)
+tail_takes Nothing close text bytes rest e =
+    let same = some_pair ([], text) (bytes, rest) e in (same.1, subst (λ (x : List ℕ). All IsByte x) same.0 (All-nil IsByte), sym same.0)
+tail_takes Bytes close text bytes rest e = let read = comma_takes text bytes rest e in (read.0, read.1, tt)
+tail_takes Text close text bytes rest e =
+    let stop : ℕ = first_of close in
+    let run = clear_takes stop text in
+    let same = some_pair (clear_run stop text) (bytes, rest) e in
+    let told : list_all (is_clear stop) bytes ≡ true = ap (λ (x : List ℕ). list_all (is_clear stop) x) (sym same.0) ∙ run.1 in
+    (run.0 ∙ (λ i. same.0 i ++ same.1 i) ∙ ap (λ (x : List ℕ). x ++ rest) (sym (shown_clear stop bytes told)), clear_bytes stop bytes told, told)
+tail_takes Utf16 close text bytes rest e =
+    let stop : ℕ = first_of close in
+    let run = clear_takes stop text in
+    let name : List ℕ = (clear_run stop text).0 in
+    let same = some_pair (unit_bytes name, (clear_run stop text).1) (bytes, rest) e in (
+      run.0 ∙ ap (λ (x : List ℕ). x ++ (clear_run stop text).1) (sym (utf16_clear stop name run.1)) ∙ (λ i. utf16_text (same.0 i) ++ same.1 i),
+      subst (λ (x : List ℕ). All IsByte x) same.0 (clear_units stop name run.1),
+      (name, (sym same.0, run.1)),
+    )
+tail_takes (Repeated items) close text bytes rest e = list_takes (item_of items) (sound_items items) text bytes rest e
+tail_takes Name close text bytes rest e = cc
+
+-- nothing stands before the fields of a form that is read
+pub no_lead : (tail : Tail) (close bytes : List ℕ) → ends_tail tail close ≡ true → lead_text tail bytes ≡ []
+no_lead Nothing close bytes e = refl
+no_lead Bytes close bytes e = refl
+no_lead Text close bytes e = refl
+no_lead Utf16 close bytes e = refl
+no_lead Name close bytes e = cc
+no_lead (Repeated items) close bytes e = refl

@@ -1,19 +1,24 @@
 -- How nodes are read from their texts, by the forms of the table that print them.
-use Rattle.std.specs.Prelude.{◌≡◌, ℕ, ◌+◌, ◌*◌, Bool, true, false, nat_le, nat_lt, not, ◌==◌, ◌&&◌, ◌||◌, if◌then◌else◌, List, [], ◌∷◌, ◌++◌, length, take, drop, slice_set, All, Option, Some, None}
+use Rattle.std.specs.Prelude.{◌≡◌, ℕ, zero, suc, ◌+◌, Bool, true, false, nat_le, nat_lt, not, ◌==◌, ◌&&◌, ◌||◌, if◌then◌else◌, List, [], ◌∷◌, ◌++◌, length, take, drop, slice_set, All, Option, Some, None}
 use Rattle.std.proofs.Math.ListN.{replicate}
-use Rattle.std.specs.List.{list_all}
+use Rattle.std.specs.List.{concat, list_all}
 use Rattle.uefi_text.specs.Packed.{IsByte}
-use Rattle.uefi_node_table.specs.Rows.{Piece, Form, find_form, is_within, matches, value_at}
+use Rattle.uefi_text.specs.UnitBytes.{unit_bytes}
+use Rattle.uefi_node_table.specs.Rows.{Piece, Form, Item, find_form, is_within, item_of, matches, value_at}
 use Rattle.uefi_node_table.specs.Table.{text_in}
+use Rattle.uefi_node_table.specs.Fields.{fits_shape}
 use Rattle.uefi_node_table.specs.declared.rows.Mode.{Mode}
 use Rattle.uefi_node_table.specs.declared.rows.Mode.TheVariants.{Read, Printed, Display}
 use Rattle.uefi_node_table.specs.declared.rows.Shape.{Shape}
-use Rattle.uefi_node_table.specs.declared.rows.Shape.TheVariants.{Hexadecimal, Decimal, Back, Forth, Dashed}
+use Rattle.uefi_node_table.specs.declared.rows.Shape.TheVariants.{Hexadecimal, Decimal, OrDefault, Back, Forth, Dashed, Next, Padded, Word}
 use Rattle.uefi_node_table.specs.declared.rows.Tail.{Tail}
-use Rattle.uefi_node_table.specs.declared.rows.Tail.TheVariants.{Nothing, Bytes, Text}
+use Rattle.uefi_node_table.specs.declared.rows.Tail.TheVariants.{Nothing, Bytes, Text, Utf16, Name, Repeated}
 use Rattle.uefi_device_nodes.specs.Nodes.{Node, node_with}
-use Rattle.uefi_node_reader.specs.Fields.{◌>>=◌, after, comma_read, either_read, field_read, read_if}
-use Rattle.uefi_node_reader.specs.Numerals.{digit_of}
+use Rattle.uefi_node_table.specs.declared.words.Words.{Words}
+use Rattle.uefi_node_table.specs.declared.words.Words.TheVariants.{Parity, StopBits, Digests, Login, Protocol}
+use Rattle.uefi_node_reader.specs.Fields.{◌>>=◌, clear_run, comma_read, either_read, field_kept, field_read, is_clear, read_if}
+use Rattle.uefi_node_reader.specs.Numerals.{digit_of, has_digit}
+use Rattle.uefi_node_reader.specs.Words.{after, clash, same_text}
 
 -- data with these bytes at their places
 abbrev pub put_all : List (ℕ × ℕ) → List ℕ → List ℕ
@@ -38,11 +43,38 @@ abbrev pub pieces_put : List Piece → List ℕ → List ℕ → Option (List �
 pieces_put [] content text = Some (content, text)
 pieces_put (piece ∷ pieces) content text = piece_put piece content text >>= λ read. pieces_put pieces read.0 read.1
 
--- the data after the fields, and what stands after them
-abbrev pub tail_read : Tail → List ℕ → Option (List ℕ × List ℕ)
-tail_read Nothing text = Some ([], text)
-tail_read Bytes text = comma_read text
-tail_read Text text = None
+-- the items that a text goes on with, by what stands after the start of the first, if it begins with one
+abbrev pub more_items : (List ℕ → Option (List ℕ × List ℕ)) → Item → List ℕ → Option (List ℕ) → Option (List ℕ × List ℕ)
+more_items others item text None = Some ([], text)
+more_items others item text (Some fields) = pieces_put item.pieces (replicate item.size 0) fields >>= λ first.
+    others first.1 >>= λ read. Some (first.0 ++ read.0, read.1)
+
+-- the items that a text begins with, no more than this many
+abbrev pub items_read : ℕ → Item → List ℕ → Option (List ℕ × List ℕ)
+items_read zero item text = Some ([], text)
+items_read (suc most) item text = more_items (items_read most item) item text (after item.start text)
+
+-- all items that a text begins with, and what stands after them
+abbrev pub list_read : Item → List ℕ → Option (List ℕ × List ℕ)
+list_read item text = items_read (length text) item text
+
+-- the first byte of a text, or 0
+abbrev pub first_of : List ℕ → ℕ
+first_of [] = 0
+first_of (c ∷ cs) = c
+
+-- the units of characters that were read
+abbrev pub as_units : List ℕ × List ℕ → Option (List ℕ × List ℕ)
+as_units run = Some (unit_bytes run.0, run.1)
+
+-- the data after the fields, before the end of the text, and what stands after them
+abbrev pub tail_read : Tail → List ℕ → List ℕ → Option (List ℕ × List ℕ)
+tail_read Nothing close text = Some ([], text)
+tail_read Bytes close text = comma_read text
+tail_read Text close text = Some (clear_run (first_of close) text)
+tail_read Utf16 close text = as_units (clear_run (first_of close) text)
+tail_read Name close text = None
+tail_read (Repeated items) close text = list_read (item_of items) text
 
 -- bytes after data
 abbrev pub added : List ℕ → List ℕ × List ℕ → Option (List ℕ × List ℕ)
@@ -54,7 +86,7 @@ closed close read = after close read.1 >>= λ rest. Some (read.0, rest)
 
 -- the data after the fields and the end of the text, after fields that were read
 abbrev pub rest_read : Form → List ℕ × List ℕ → Option (List ℕ × List ℕ)
-rest_read form head = tail_read form.tail head.1 >>= added head.0 >>= closed form.close
+rest_read form head = tail_read form.tail form.close head.1 >>= added head.0 >>= closed form.close
 
 -- the test for a form whose texts are read
 abbrev pub is_read : Mode → Bool
@@ -96,21 +128,33 @@ forms_read all place (form ∷ forms) text =
 abbrev pub table_read : List Form → List ℕ → Option (Node × List ℕ)
 table_read forms text = forms_read forms 0 forms text
 
--- data with the fields of others
+-- data with the fields of others, as they are read
 abbrev pub overlay : List Piece → List ℕ → List ℕ → List ℕ
 overlay [] data_ content = content
-overlay (piece ∷ pieces) data_ content = overlay pieces data_ (put_at piece (value_at piece data_) content)
+overlay (piece ∷ pieces) data_ content = overlay pieces data_ (put_at piece (field_kept piece.shape (value_at piece data_)) content)
 
--- the data after the fields that are printed
-abbrev pub tail_kept : Tail → List ℕ → List ℕ
-tail_kept Nothing bytes = []
-tail_kept Bytes bytes = bytes
-tail_kept Text bytes = bytes
+-- bytes that an item of a list holds all of: its fields, and 0 for each other byte
+abbrev pub IsItem : Item → List ℕ → Type 0
+IsItem item bytes = (length bytes ≡ item.size) × (overlay item.pieces bytes (replicate item.size 0) ≡ bytes)
+
+-- bytes that are items of a list
+abbrev pub AreItems : Item → List ℕ → Type 0
+AreItems item bytes = (items : List (List ℕ)) × ((bytes ≡ concat items) × All (IsItem item) items)
+
+-- data after the fields whose text, before the end, tells all of them
+abbrev pub IsTailTold : Tail → List ℕ → List ℕ → Type 0
+IsTailTold Nothing close bytes = bytes ≡ []
+IsTailTold Bytes close bytes = Unit {0}
+IsTailTold Text close bytes = list_all (is_clear (first_of close)) bytes ≡ true
+IsTailTold Utf16 close bytes =
+    (text : List ℕ) × ((bytes ≡ unit_bytes text) × (list_all (is_clear (first_of close)) text ≡ true))
+IsTailTold Name close bytes = Unit {0}
+IsTailTold (Repeated items) close bytes = AreItems (item_of items) bytes
 
 -- data that a form holds all of: its fixed bytes, the fields, and what follows them
 abbrev pub IsWhole : Form → List ℕ → Type 0
-IsWhole form content =
-    overlay form.pieces content (blank form) ++ tail_kept form.tail (drop form.least content) ≡ content
+IsWhole form content = (overlay form.pieces content (blank form) ++ drop form.least content ≡ content)
+    × IsTailTold form.tail form.close (drop form.least content)
 
 -- the text of a node in its form of the table, or nothing
 abbrev pub printed_by : List Form → Node → List ℕ
@@ -133,27 +177,69 @@ abbrev pub are_apart : List Piece → Bool
 are_apart [] = true
 are_apart (piece ∷ pieces) = list_all (is_apart piece) pieces && are_apart pieces
 
--- the base of the digits that a field may go on with, or 0
-abbrev pub field_base : Shape → ℕ
-field_base Hexadecimal = 16
-field_base Decimal = 10
-field_base Back = 0
-field_base Forth = 0
-field_base Dashed = 0
+-- the test for a text that a field would go on with
+abbrev pub goes_on : Shape → List ℕ → Bool
+goes_on Hexadecimal text = has_digit 16 text
+goes_on Decimal text = has_digit 10 text
+goes_on OrDefault text = has_digit 10 text
+goes_on Back text = false
+goes_on Forth text = false
+goes_on Dashed text = false
+goes_on Next text = has_digit 16 text
+goes_on Padded text = true
+goes_on (Word list) text = false
 
--- the test for an ending that none of the digits of the field may be
-abbrev pub ends_field : ℕ → List ℕ → Bool
-ends_field base [] = base == 0
-ends_field base (c ∷ cs) = not (nat_lt (digit_of c) base)
+-- the test for a shape whose text is as long as it has to be
+abbrev pub is_closed : Shape → Bool
+is_closed Hexadecimal = false
+is_closed Decimal = false
+is_closed OrDefault = false
+is_closed Back = true
+is_closed Forth = true
+is_closed Dashed = true
+is_closed Next = false
+is_closed Padded = false
+is_closed (Word list) = true
 
--- the test for a field that its ending ends
-abbrev pub ends_piece : Piece → Bool
-ends_piece p = ends_field (field_base p.shape) p.ending
+-- the test for an ending that no field of a shape goes on with
+abbrev pub ends_field : Shape → List ℕ → Bool
+ends_field shape [] = is_closed shape
+ends_field shape (c ∷ cs) = not (goes_on shape (c ∷ []))
 
--- the test for a tail and the end of a text, where bytes go on with no digit
+-- the test for an empty list
+abbrev pub is_empty : {X : Type 0} → List X → Bool
+is_empty [] = true
+is_empty (x ∷ xs) = false
+
+-- the test for fields that their endings end, but for the last where no digit follows it
+abbrev pub ends_pieces : Bool → List Piece → Bool
+ends_pieces free [] = true
+ends_pieces free (piece ∷ pieces) =
+    (ends_field piece.shape piece.ending || (free && (is_empty pieces && (is_empty piece.ending && not (goes_on piece.shape []))))) && ends_pieces free pieces
+
+-- the test for a text that begins with no digit, and is not empty
+abbrev pub begins_apart : List ℕ → Bool
+begins_apart [] = false
+begins_apart (c ∷ cs) = not (nat_lt (digit_of c) 16)
+
+-- the test for a tail that begins with no digit, as what stands after an empty one
+abbrev pub is_open : Tail → Bool
+is_open Nothing = false
+is_open Bytes = false
+is_open Text = false
+is_open Utf16 = false
+is_open Name = false
+is_open (Repeated items) = true
+
+-- the test for a tail that the end of a text ends: bytes go on with no digit, and a text with no byte but that one
 abbrev pub ends_tail : Tail → List ℕ → Bool
 ends_tail Nothing close = true
-ends_tail Text close = false
+ends_tail (Repeated items) close = clash (item_of items).start close && begins_apart close
+ends_tail Name close = false
+ends_tail Text [] = false
+ends_tail Text (c ∷ cs) = true
+ends_tail Utf16 [] = false
+ends_tail Utf16 (c ∷ cs) = true
 ends_tail Bytes [] = false
 ends_tail Bytes (c ∷ cs) = not (nat_lt (digit_of c) 16) && not (c == 44)
 
@@ -164,41 +250,64 @@ are_within size bytes = list_all (λ b. nat_lt b.0 size) bytes
 -- the test for a form that is read back what it prints
 abbrev pub is_sound : Form → Bool
 is_sound form = not (is_read form.mode) || ((list_all (is_within (length (blank form))) form.pieces && are_apart form.pieces)
-    && (list_all ends_piece form.pieces
+    && (ends_pieces (is_open form.tail) form.pieces
     && (ends_tail form.tail form.close && (list_all (λ b. nat_lt b 256) (blank form) && (length (blank form) == form.least)))))
+
+-- the test for items of a list that are read back what they print
+abbrev pub is_sound_item : Item → Bool
+is_sound_item item = (list_all (is_within item.size) item.pieces && are_apart item.pieces)
+    && (ends_pieces true item.pieces && (begins_apart item.start && nat_lt 0 item.size))
 
 -- the test for a form whose fixed bytes lie in the fixed part
 abbrev pub is_filled : Form → Bool
 is_filled form = are_within form.least form.when && are_within form.least form.also
 
--- the number of a shape
-abbrev pub shape_number : Shape → ℕ
-shape_number Hexadecimal = 0
-shape_number Decimal = 1
-shape_number Back = 2
-shape_number Forth = 3
-shape_number Dashed = 4
+-- the number of a list of words
+abbrev pub list_number : Words → ℕ
+list_number Parity = 0
+list_number StopBits = 1
+list_number Digests = 2
+list_number Login = 3
+list_number Protocol = 4
 
--- the test for texts that differ at a place that both have
-abbrev pub clash : List ℕ → List ℕ → Bool
-clash [] others = false
-clash (c ∷ cs) [] = false
-clash (c ∷ cs) (d ∷ ds) = if c == d then clash cs ds else true
+-- the test for equal shapes
+abbrev pub same_shape : Shape → Shape → Bool
+same_shape Hexadecimal Hexadecimal = true
+same_shape Decimal Decimal = true
+same_shape OrDefault OrDefault = true
+same_shape Back Back = true
+same_shape Forth Forth = true
+same_shape Dashed Dashed = true
+same_shape Next Next = true
+same_shape Padded Padded = true
+same_shape (Word one) (Word other) = list_number one == list_number other
+same_shape one other = false
 
--- the test for equal texts
-abbrev pub same_text : List ℕ → List ℕ → Bool
-same_text [] [] = true
-same_text [] (d ∷ ds) = false
-same_text (c ∷ cs) [] = false
-same_text (c ∷ cs) (d ∷ ds) = (c == d) && same_text cs ds
+-- the test for a shape whose texts are digits alone
+abbrev pub is_digits : Shape → Bool
+is_digits Hexadecimal = true
+is_digits Decimal = true
+is_digits Back = true
+is_digits Forth = true
+is_digits shape = false
 
--- the test for fields of which the first are not read where the second stand: alike up to two endings that
--- differ
+-- the test for endings that begin otherwise, and with no digit
+abbrev pub ends_apart : List ℕ → List ℕ → Bool
+ends_apart [] others = false
+ends_apart (c ∷ cs) [] = false
+ends_apart (c ∷ cs) (d ∷ ds) = not (c == d) && (not (nat_lt (digit_of c) 16) && not (nat_lt (digit_of d) 16))
+
+-- the test for a field that is not read where another stands: after digits another byte follows
+abbrev pub are_parted : Piece → Piece → Bool
+are_parted p q = (is_digits p.shape && is_digits q.shape) && (fits_shape p.shape p.width && ends_apart p.ending q.ending)
+
+-- the test for fields of which the first are not read where the second stand: a field parts them, or they are alike up to two
+-- endings that differ
 abbrev pub pieces_differ : List Piece → List Piece → Bool
 pieces_differ [] others = false
 pieces_differ (p ∷ ps) [] = false
-pieces_differ (p ∷ ps) (q ∷ qs) = ((shape_number p.shape == shape_number q.shape) && (p.width == q.width))
-    && (clash p.ending q.ending || (same_text p.ending q.ending && pieces_differ ps qs))
+pieces_differ (p ∷ ps) (q ∷ qs) = are_parted p q || ((same_shape p.shape q.shape && (p.width == q.width))
+    && (clash p.ending q.ending || (same_text p.ending q.ending && pieces_differ ps qs)))
 
 -- the test for a form that is not read where a node stands in the other
 abbrev pub differ : Form → Form → Bool

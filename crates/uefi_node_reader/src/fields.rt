@@ -1,14 +1,17 @@
 //! Fields of nodes read from their texts.
 #![tactic(auto)]
 
-ghost use Rattle.std.specs.Prelude.{◌≡◌, ◌+◌, ◌^◌, ◌≤◌, IsTrue, length, if◌then◌else◌};
+ghost use Rattle.std.specs.Prelude.{◌≡◌, ◌+◌, ◌^◌, ◌≤◌, IsTrue, length, map, if◌then◌else◌};
 ghost use Rattle.std.specs.Option.{option_and_then, option_map};
-ghost use Rattle.uefi_node_reader.specs.Fields.{after, as_bytes, byte_read, bytes_read, field_read, low_bytes, turned};
+ghost use Rattle.uefi_node_reader.specs.Fields.{as_bytes, byte_read, bytes_read, default_read, field_read, low_bytes, next_read, turned};
+ghost use Rattle.uefi_node_reader.specs.Words.{after, word_read};
+ghost use Rattle.uefi_node_table.specs.Words.{as_word, words_of};
 ghost use Rattle.uefi_node_table.specs.Fields.{fits_shape};
 ghost use Rattle.uefi_node_reader.specs.Numerals.{number_read};
 
 use crate::numerals::{digit_of, number};
 use uefi_node_table::rows::Shape;
+use uefi_node_table::words::{Word, Words, words_of};
 
 /// What stands after a literal that a text begins with.
 pub(crate) fn after<'a>(literal: &[u8], text: &'a [u8]) -> Option<&'a [u8]>
@@ -98,6 +101,64 @@ fn number_into<'a>(base: u64, found: &mut [u8], text: &'a [u8]) -> Option<&'a [u
     Some(rest)
 }
 
+/// The number up to `last` that a text begins with in decimal, or 0 for the word `DEFAULT`, and what stands after it.
+fn number_or_default(last: u64, text: &[u8]) -> Option<(u64, &[u8])>
+    ensures { option_map (λ x. (x.0, x.1.now)) result ≡ default_read (last + 1) text.now }
+{
+    match number(10, last, text) {
+        Some((0, _)) => None,
+        Some(read) => Some(read),
+        None => Some((0, after(b"DEFAULT", text)?)),
+    }
+}
+
+/// Fills a buffer with the bytes of such a number. Returns what stands after it.
+fn default_into<'a>(found: &mut [u8], text: &'a [u8]) -> Option<&'a [u8]>
+    requires some { 1 ≤ length found.old }
+    requires few { length found.old ≤ 8 }
+    ensures { option_map (λ x. (found.new, x.now)) result
+        ≡ option_and_then (as_bytes (length found.old)) (default_read (256 ^ length found.old) text.now) }
+{
+    let (value, rest) = number_or_default(last(found.len()), text)?;
+    put_low(found, value);
+    Some(rest)
+}
+
+/// Fills a buffer of one byte with that whose next number a text begins with. Returns what stands after it.
+fn next_into<'a>(found: &mut [u8], text: &'a [u8]) -> Option<&'a [u8]>
+    ensures { option_map (λ x. (found.new, x.now)) result
+        ≡ option_and_then (as_bytes (length found.old)) (next_read text.now) }
+{
+    let (value, rest) = number(16, 256, text)?;
+    if value == 0 {
+        return None;
+    }
+    put_low(found, value - 1);
+    Some(rest)
+}
+
+/// The number of the word that a text begins with, and what stands after it.
+fn word<'a>(words: &[Word], text: &'a [u8]) -> Option<(u64, &'a [u8])>
+    ensures { option_map (λ x. (x.0, x.1.now)) result ≡ word_read (map as_word words.now) text.now }
+{
+    for word in words {
+        if let Some(rest) = after(word.text.as_bytes(), text) {
+            return Some((word.number, rest));
+        }
+    }
+    None
+}
+
+/// Fills a buffer with the bytes of the number of a word. Returns what stands after it.
+fn word_into<'a>(words: Words, found: &mut [u8], text: &'a [u8]) -> Option<&'a [u8]>
+    ensures { option_map (λ x. (found.new, x.now)) result
+        ≡ option_and_then (as_bytes (length found.old)) (word_read (words_of words) text.now) }
+{
+    let (value, rest) = word(words_of(words), text)?;
+    put_low(found, value);
+    Some(rest)
+}
+
 /// Fills a buffer with bytes that stand from the last to the first.
 fn fill_back<'a>(between: &[u8], found: &mut [u8], text: &'a [u8]) -> Option<&'a [u8]>
     ensures { option_map (λ x. (found.new, x.now)) result
@@ -116,8 +177,12 @@ pub(crate) fn read_value<'a>(shape: Shape, found: &mut [u8], text: &'a [u8]) -> 
     match shape {
         Shape::Hexadecimal => number_into(16, found, text),
         Shape::Decimal => number_into(10, found, text),
+        Shape::OrDefault => default_into(found, text),
         Shape::Back => fill_back(&[], found, text),
         Shape::Forth => fill(&[], found, text),
         Shape::Dashed => fill_back(b"-", found, text),
+        Shape::Next => next_into(found, text),
+        Shape::Padded => None,
+        Shape::Word(words) => word_into(words, found, text),
     }
 }

@@ -3,19 +3,22 @@
 
 ghost use Rattle.std.specs.List.{list_all};
 ghost use Rattle.std.specs.Option.{option_and_then, option_map};
-ghost use Rattle.std.specs.Prelude.{◌≡◌, ◌<◌, ◌+◌, ◌^◌, ◌++◌, IfOk, IsTrue, OnOk, length, map};
-ghost use Rattle.uefi_node_table.specs.Rows.{as_form, as_piece, is_within};
+ghost use Rattle.std.specs.Prelude.{◌≡◌, ◌<◌, ◌≤◌, ◌+◌, ◌^◌, ◌++◌, IfOk, IsTrue, OnOk, length, map};
+ghost use Rattle.uefi_node_table.specs.Rows.{as_form, as_item, as_piece, is_within};
+ghost use Rattle.std.proofs.Math.ListN.{replicate};
 ghost use Rattle.uefi_node_table.specs.Table.{forms};
 ghost use Rattle.uefi_device_nodes.specs.Nodes.{node_with};
-ghost use Rattle.uefi_node_reader.specs.Fields.{after};
-ghost use Rattle.uefi_node_reader.specs.TableReading.{added, are_within, blank, form_place, form_read, forms_read, is_filled, is_read, is_sound, piece_put, pieces_put, prints, put_all, table_read, tail_read};
+ghost use Rattle.uefi_node_reader.specs.Words.{after};
+ghost use Rattle.uefi_node_reader.specs.Fields.{comma_read};
+ghost use Rattle.uefi_node_reader.specs.TableReading.{added, are_within, blank, form_place, form_read, forms_read, is_filled, is_read, is_sound, list_read, piece_put, pieces_put, prints, put_all, table_read, tail_read};
 
+use crate::clear_texts::{first_of, push_clear, push_clear_units};
 use crate::fields::{after, read_value};
 use crate::plain::push_run;
 use std::alloc::{AllocError, Allocator};
 use uefi_node_table::printing::matches;
-use uefi_node_table::rows::{Mode, Piece, Row, Tail};
-use uefi_node_table::table::{GROUPS, group};
+use uefi_node_table::rows::{Item, Mode, Piece, Row, Tail};
+use uefi_node_table::table::{GROUPS, group, item_of};
 
 /// Puts the field that a text begins with into data. Returns what stands after its ending.
 fn read_piece<'a>(piece: &Piece, content: &mut [u8], text: &'a [u8]) -> Option<&'a [u8]>
@@ -41,20 +44,14 @@ fn read_pieces<'a>(pieces: &[Piece], content: &mut [u8], text: &'a [u8]) -> Opti
     Some(rest)
 }
 
-/// Appends the data after the fixed part. Returns what stands after them.
-fn read_tail<'a, A: Allocator>(
-    tail: Tail,
+/// Appends bytes after a comma, or none. Returns what stands after them.
+fn push_comma_bytes<'a, A: Allocator>(
     content: &mut Vec<u8, A>,
     text: &'a [u8],
 ) -> Result<Option<&'a [u8]>, AllocError>
     ensures { IfOk result (λ read. option_map (λ rest. (content.new.items, rest.now)) read
-        ≡ option_and_then (added content.old.items) (tail_read tail text.now)) }
+        ≡ option_and_then (added content.old.items) (comma_read text.now)) }
 {
-    match tail {
-        Tail::Nothing => return Ok(Some(text)),
-        Tail::Text => return Ok(None),
-        Tail::Bytes => {}
-    }
     let [b',', digits @ ..] = text else {
         return Ok(Some(text));
     };
@@ -64,6 +61,77 @@ fn read_tail<'a, A: Allocator>(
         return Ok(None);
     }
     Ok(Some(rest))
+}
+
+/// Appends an item of a list, whose fields a text begins with. Returns what stands after them.
+fn push_item<'a, A: Allocator>(
+    content: &mut Vec<u8, A>,
+    item: &Item,
+    text: &'a [u8],
+) -> Result<Option<&'a [u8]>, AllocError>
+    requires few { item.now.size ≤ 16 }
+    requires laid_out { IsTrue (list_all (is_within item.now.size) (map as_piece item.now.pieces.now)) }
+    ensures { IfOk result (λ read. option_map (λ rest. (content.new.items, rest.now)) read
+        ≡ option_and_then (added content.old.items)
+        (pieces_put (map as_piece item.now.pieces.now) (replicate item.now.size 0) text.now)) }
+{
+    let mut buffer = [0; 16];
+    let bytes = &mut buffer[..item.size];
+    let Some(rest) = read_pieces(item.pieces, bytes, text) else {
+        return Ok(None);
+    };
+    content.extend_from_slice(bytes)?;
+    Ok(Some(rest))
+}
+
+/// Appends all items of a list that a text begins with. Returns what stands after them.
+fn push_items<'a, A: Allocator>(
+    content: &mut Vec<u8, A>,
+    item: &Item,
+    text: &'a [u8],
+) -> Result<Option<&'a [u8]>, AllocError>
+    requires few { item.now.size ≤ 16 }
+    requires laid_out { IsTrue (list_all (is_within item.now.size) (map as_piece item.now.pieces.now)) }
+    ensures { IfOk result (λ read. option_map (λ rest. (content.new.items, rest.now)) read
+        ≡ option_and_then (added content.old.items) (list_read (as_item item.now) text.now)) }
+{
+    let mut rest = text;
+    'items: for _ in 0..text.len() {
+        let Some(fields) = after(item.start.as_bytes(), rest) else {
+            return Ok(Some(rest));
+        };
+        let Some(others) = push_item(content, item, fields)? else {
+            return Ok(None);
+        };
+        rest = others;
+    }
+    Ok(Some(rest))
+}
+
+/// Appends the data after the fixed part. Returns what stands after them.
+fn read_tail<'a, A: Allocator>(
+    tail: Tail,
+    close: &[u8],
+    content: &mut Vec<u8, A>,
+    text: &'a [u8],
+) -> Result<Option<&'a [u8]>, AllocError>
+    ensures { IfOk result (λ read. option_map (λ rest. (content.new.items, rest.now)) read
+        ≡ option_and_then (added content.old.items) (tail_read tail close.now text.now)) }
+{
+    match tail {
+        Tail::Nothing => Ok(Some(text)),
+        Tail::Bytes => push_comma_bytes(content, text),
+        Tail::Text => {
+            let rest = push_clear(content, first_of(close), text)?;
+            Ok(Some(rest))
+        }
+        Tail::Utf16 => {
+            let rest = push_clear_units(content, first_of(close), text)?;
+            Ok(Some(rest))
+        }
+        Tail::Name => Ok(None),
+        Tail::Repeated(items) => push_items(content, &item_of(items), text),
+    }
 }
 
 /// Puts bytes at their places.
@@ -109,7 +177,7 @@ fn read_row<'a, A: Allocator>(
     let Some(rest) = read_pieces(row.pieces, content, rest) else {
         return Ok(None);
     };
-    let Some(rest) = read_tail(row.tail, content, rest)? else {
+    let Some(rest) = read_tail(row.tail, row.close.as_bytes(), content, rest)? else {
         return Ok(None);
     };
     Ok(after(row.close.as_bytes(), rest))

@@ -1,6 +1,6 @@
 use Rattle.std.proofs.lemmas.Bool.Decides.{Decides-eqb}
 use Rattle.std.proofs.lemmas.Slice.Eq.{strip_prefix_is}
-use Rattle.uefi_node_reader.proofs.FieldLaws.{stripped}
+use Rattle.uefi_node_reader.proofs.Literals.{stripped}
 use Rattle.uefi_node_reader.proofs.fields.after.Goals as goal
 
 pub returns : goal.returns

@@ -1,0 +1,61 @@
+-- Literals that a text begins with, and texts that differ.
+use Rattle.std.proofs.Common.{◌≡◌, ◌≢◌, ℕ, Bool, true, false, cond, eqb, List, [], ◌∷◌, ◌++◌, Bor, refl, sym, ap, ◌∙◌}
+use Rattle.std.specs.Prelude.{MatchOption, Option, Some, None, option_and_then}
+use Rattle.std.specs.Option.{option_map}
+use borrow.Author.Tests.{eq-eqb, eqb-true}
+use Rattle.uefi_node_table.proofs.Lists.{both}
+use Rattle.uefi_node_reader.specs.Fields.{◌>>=◌}
+use Rattle.uefi_node_reader.specs.Words.{after, clash, same_text}
+
+-- what a first step read, where a second read something after it
+pub bind_some : {A B : Type 0} (r : Option A) (f : A → Option B) (y : B) → (r >>= f) ≡ Some y → (x : A) × (r ≡ Some x) × (f x ≡ Some y)
+bind_some None f y e = cc
+bind_some (Some x) f y e = (x, refl, e)
+
+-- the second step, after what the first read
+pub after_some : {A B : Type 0} (r : Option A) (f : A → Option B) (x : A) → r ≡ Some x → (r >>= f) ≡ f x
+after_some r f x e = ap (λ o. option_and_then f o) e
+
+pub after_again : (literal rest : List ℕ) → after literal (literal ++ rest) ≡ Some rest
+after_again [] rest = refl
+after_again (c ∷ cs) rest = ap (λ (t : Bool). cond t (after cs (cs ++ rest)) None) (eq-eqb c c refl) ∙ after_again cs rest
+
+pub after_takes : (literal text rest : List ℕ) → after literal text ≡ Some rest → text ≡ literal ++ rest
+after_takes [] text rest e = cc
+after_takes (c ∷ cs) [] rest e = cc
+after_takes (c ∷ cs) (t ∷ ts) rest e = by (eqb c t) refl e (after_takes cs ts rest)
+  where
+    by : (b : Bool) → eqb c t ≡ b → cond b (after cs ts) None ≡ Some rest → (after cs ts ≡ Some rest → ts ≡ cs ++ rest)
+        → t ∷ ts ≡ c ∷ (cs ++ rest)
+    by false p q h = cc
+    by true p q h = let same = eqb-true c t p in let others = h q in cc
+
+-- texts that differ
+pub clash_none : (one other rest : List ℕ) → clash one other ≡ true → after one (other ++ rest) ≡ None
+clash_none [] other rest e = cc
+clash_none (c ∷ cs) [] rest e = cc
+clash_none (c ∷ cs) (d ∷ ds) rest e = by (eqb c d) refl e (clash_none cs ds rest)
+  where
+    by : (b : Bool) → eqb c d ≡ b → cond b (clash cs ds) true ≡ true → (clash cs ds ≡ true → after cs (ds ++ rest) ≡ None)
+        → cond (eqb c d) (after cs (ds ++ rest)) None ≡ None
+    by true p q h = ap (λ (b : Bool). cond b (after cs (ds ++ rest)) None) p ∙ h q
+    by false p q h = ap (λ (b : Bool). cond b (after cs (ds ++ rest)) None) p
+
+-- texts that are the same
+pub same_is : (one other : List ℕ) → same_text one other ≡ true → one ≡ other
+same_is [] [] e = refl
+same_is [] (d ∷ ds) e = cc
+same_is (c ∷ cs) [] e = cc
+same_is (c ∷ cs) (d ∷ ds) e =
+    let parts = both (eqb c d) (same_text cs ds) e in λ i. eqb-true c d parts.0 i ∷ same_is cs ds parts.1 i
+
+-- what is left of a text after a literal, as `strip_prefix` says it
+pub stripped : (literal text : List ℕ) (r : Option (Bor (List ℕ)))
+    → MatchOption r ((rest : List ℕ) → text ≢ literal ++ rest) (λ x. text ≡ literal ++ x.now)
+    → option_map (λ (x : Bor (List ℕ)). x.now) r ≡ after literal text
+stripped literal text None h = by (after literal text) refl
+  where
+    by : (o : Option (List ℕ)) → after literal text ≡ o → None ≡ o
+    by None e = refl
+    by (Some rest) e = absurd (h rest (after_takes literal text rest e))
+stripped literal text (Some x) h = sym (ap (λ (t : List ℕ). after literal t) h ∙ after_again literal x.now)

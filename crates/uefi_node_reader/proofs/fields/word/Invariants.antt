@@ -1,0 +1,7 @@
+use Rattle.std.proofs.Common.{◌≡◌, drop, map}
+use Rattle.uefi_node_table.specs.Words.{as_word}
+use Rattle.uefi_node_reader.specs.Words.{word_read}
+use Rattle.uefi_node_reader.proofs.fields.word.Given as goal
+
+abbrev pub invariant-loop-word : goal.invariant-loop-word
+invariant-loop-word l = word_read (map as_word (drop l.word-index l.words)) l.text ≡ word_read (map as_word l.words) l.text
