@@ -123,7 +123,7 @@ fn write_node<W: Write, A: Allocator>(
 ) -> Result<bool, fmt::Error> {
     match FilePath::from_node(node) {
         Ok(file) => write_file(out, alloc, offset, file.path_name()),
-        Err(NodeConversionError::DifferentType) => Ok(true),
+        Err(NodeConversionError::DifferentType | NodeConversionError::UnsupportedType) => Ok(true),
         Err(NodeConversionError::InvalidLength) => {
             let last = offset.saturating_add(node.data().len() - 1);
             write_malformed(out, last, "file path", "it ends in half a unit")?;

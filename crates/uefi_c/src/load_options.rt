@@ -74,29 +74,29 @@ fn parts_of(option: &LoadOption<'_>) -> LoadOptionParts
 
 /// Reads a load option, the value of a variable `Boot####`: `OK`, or why the bytes are none.
 ///
-/// At `OK` `parts` become where its parts stand, and `place` becomes how many bytes there are. Refused as
-/// [`LoadOption::from_bytes`] refuses the bytes, for the first fault: `place` becomes its offset, and `parts`
-/// stay unchanged. The description may hold surrogates. One pass, and one more over the first path; takes no
+/// At `OK` `option` becomes where its parts stand, and `place` becomes how many bytes there are. Refused as
+/// [`LoadOption::from_bytes`] refuses the bytes, for the first fault: `place` becomes its offset, and `option`
+/// stays unchanged. The description may hold surrogates. One pass, and one more over the first path; takes no
 /// memory (UEFI Specification 2.10, section 3.1.3).
 #[unsafe(no_mangle)]
 pub extern "C" fn uefi_load_option_read(
     bytes: &[u8],
-    parts: &mut LoadOptionParts,
+    option: &mut LoadOptionParts,
     place: &mut usize,
 ) -> u32
     ensures accepts { (result ≡ OK) ↔ ((entry : Entry) × IsEntry entry × (bytes.now ≡ entry_bytes entry)) }
     ensures parts { (entry : Entry) → IsEntry entry → bytes.now ≡ entry_bytes entry
-        → HasParts entry parts.new × (place.new ≡ length bytes.now) }
+        → HasParts entry option.new × (place.new ≡ length bytes.now) }
     ensures refuses { result ≢ OK → (error : LoadOptionError) × EntryRefusedFor bytes.now error }
     ensures refusal { (error : LoadOptionError) → EntryRefusedFor bytes.now error
         → (result ≡ option_reason error.cause) × (place.new ≡ error.offset) }
-    ensures unchanged { result ≢ OK → parts.new ≡ parts.old }
+    ensures unchanged { result ≢ OK → option.new ≡ option.old }
 {
     // The law does nothing: it says that no load option is refused.
     laws::options_once();
     match LoadOption::from_bytes(bytes) {
-        Ok(option) => {
-            *parts = parts_of(&option);
+        Ok(read) => {
+            *option = parts_of(&read);
             *place = bytes.len();
             OK
         }

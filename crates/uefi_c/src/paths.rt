@@ -154,22 +154,24 @@ pub extern "C" fn uefi_path_next_component(
     text: &[u16],
     place: &mut usize,
     start: &mut usize,
-    len: &mut usize,
+    component_length: &mut usize,
 ) -> bool
     ensures next { IsTrue result → components_from text.now place.old
-        ≡ slice_range text.now start.new (start.new + len.new) ∷ components_from text.now place.new }
+        ≡ slice_range text.now start.new (start.new + component_length.new)
+        ∷ components_from text.now place.new }
     ensures start { IsTrue result → start.new ≡ component_place text.now place.old }
-    ensures after { IsTrue result → place.new ≡ start.new + len.new + 1 }
-    ensures within { IsTrue result → start.new + len.new ≤ length text.now }
+    ensures after { IsTrue result → place.new ≡ start.new + component_length.new + 1 }
+    ensures within { IsTrue result → start.new + component_length.new ≤ length text.now }
     ensures none { IsFalse result → (components_from text.now place.old ≡ [])
-        × (place.new ≡ place.old) × (start.new ≡ start.old) × (len.new ≡ len.old) }
+        × (place.new ≡ place.old) × (start.new ≡ start.old)
+        × (component_length.new ≡ component_length.old) }
 {
     let Some(first) = component_start(text, *place) else {
         return false;
     };
     let count = piece_len(&text[first..]);
     *start = first;
-    *len = count;
+    *component_length = count;
     *place = first + count + 1;
     true
 }
@@ -202,20 +204,20 @@ pub extern "C" fn uefi_path_file_name(text: &[u16], start: &mut usize) -> bool
 /// stays unchanged where there is no parent. One pass over the last component, from its end; takes no
 /// memory.
 #[unsafe(no_mangle)]
-pub extern "C" fn uefi_path_parent_length(text: &[u16], len: &mut usize) -> bool
+pub extern "C" fn uefi_path_parent_length(text: &[u16], parent_length: &mut usize) -> bool
     ensures parent { IsTrue result
-        → canonical (take len.new text.now) ≡ joined (all_but_last (components_of text.now)) }
+        → canonical (take parent_length.new text.now) ≡ joined (all_but_last (components_of text.now)) }
     ensures valid { IsTrue result → IsValid text.now
-        → parent_text text.now ≡ Some (canonical (take len.new text.now)) }
+        → parent_text text.now ≡ Some (canonical (take parent_length.new text.now)) }
     ensures some { IsTrue result ↔ (all_but_last (components_of text.now) ≢ []) }
-    ensures separator { IsTrue result → slice_index text.now len.new ≡ separator }
-    ensures last { IsTrue result → IsPiece (drop (len.new + 1) text.now) }
-    ensures shorter { IsTrue result → len.new < length text.now }
-    ensures unchanged { IsFalse result → len.new ≡ len.old }
+    ensures separator { IsTrue result → slice_index text.now parent_length.new ≡ separator }
+    ensures last { IsTrue result → IsPiece (drop (parent_length.new + 1) text.now) }
+    ensures shorter { IsTrue result → parent_length.new < length text.now }
+    ensures unchanged { IsFalse result → parent_length.new ≡ parent_length.old }
 {
     let Some(end) = others_end(text) else {
         return false;
     };
-    *len = end;
+    *parent_length = end;
     true
 }

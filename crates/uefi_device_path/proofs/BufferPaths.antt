@@ -1,5 +1,5 @@
 -- A file path that is written unit by unit.
-use Rattle.std.proofs.Common.{◌≡◌, ◌∙◌, ap, sym, refl, subst, inl, inr, ℕ, ◌+◌, ◌<◌, ◌≤◌, ◌==◌, Bool, ◌&&◌, false, nat_lt, if◌then◌else◌, List, [], ◌∷◌, ◌++◌, length, get_or, take, drop, append_assoc, arith}
+use Rattle.std.proofs.Common.{◌≡◌, ◌∙◌, ap, sym, refl, subst, inl, inr, ℕ, ◌+◌, ◌<◌, ◌≤◌, ◌==◌, Bool, ◌&&◌, false, nat_lt, if◌then◌else◌, List, [], ◌∷◌, ◌++◌, fold, length, get_or, take, drop, append_assoc, arith}
 use Rattle.std.proofs.lemmas.Bool.{cases_Bool, cases_lt, le-ltb, lt-ltb}
 use Rattle.std.proofs.lemmas.Grind.{common_steps}
 use Rattle.std.proofs.lemmas.List.{append-nil, drop-append-le, drop_all, map-append, take_all, take_more}
@@ -7,7 +7,9 @@ use Rattle.std.proofs.lemmas.List.Elements.{All-append, All-cons, All-head, All-
 use Rattle.uefi_text.specs.Units.{IsText, IsTextUnit, replaced}
 use Rattle.uefi_path.specs.Pushing.{needs_separator}
 use Rattle.uefi_path.specs.Separators.{becomes_separator, separator, slash, with_separators}
-use Rattle.uefi_device_path.specs.FilePaths.{is_rooted, name_after}
+use Rattle.uefi_device_nodes.specs.FileNodes.{is_file}
+use Rattle.uefi_device_nodes.specs.Nodes.{Node}
+use Rattle.uefi_device_path.specs.FilePaths.{file_path, is_rooted, name_after, name_in, with_node}
 
 -- the units of a name so far: none, one more, and all
 pub units_none : (path text : List ℕ) (start : ℕ) → path ++ with_separators (drop start (take start text)) ≡ path
@@ -109,3 +111,40 @@ text_after path name path_is name_is =
     subst IsText (sym (name_after_parts path name))
     (All-append IsTextUnit (before_name path some) (with_separators (drop start name)) before
     (text_replaced (drop start name) (text_part start name name_is)))
+
+-- slashes that were replaced are none
+pub replaced_twice : (units : List ℕ) → with_separators (with_separators units) ≡ with_separators units
+replaced_twice [] = refl
+replaced_twice (u ∷ units) = elim (cases_Bool (u == slash)) [
+  | inl is ↦ rw is (ap (λ us. separator ∷ us) (replaced_twice units))
+  | inr other ↦ rw (other, other) (ap (λ us. u ∷ us) (replaced_twice units))
+]
+
+-- a path without slashes has none with a name after it
+plain_after : (path name : List ℕ) → with_separators path ≡ path → with_separators (name_after path name) ≡ name_after path name
+plain_after path name plain =
+    let some = nat_lt (start_of path name) (length name) in
+    let tail = drop (start_of path name) name in
+    let before : with_separators (before_name path some) ≡ before_name path some = elim (cases_Bool (needs_separator path && some)) [
+      | inl is ↦ rw is (map-append (replaced slash separator) path (separator ∷ []) ∙ ap (λ us. us ++ separator ∷ []) plain)
+      | inr other ↦ rw other plain
+    ] in
+    ap with_separators (name_after_parts path name)
+    ∙ map-append (replaced slash separator) (before_name path some) (with_separators tail)
+    ∙ ap (λ us. us ++ with_separators (with_separators tail)) before
+    ∙ ap (λ us. before_name path some ++ us) (replaced_twice tail)
+    ∙ sym (name_after_parts path name)
+
+plain_fold : (nodes : List Node) (path : List ℕ) → with_separators path ≡ path
+    → with_separators (fold with_node path nodes) ≡ fold with_node path nodes
+plain_fold [] path plain = plain
+plain_fold (n ∷ nodes) path plain =
+    let next : with_separators (with_node path n) ≡ with_node path n = elim (cases_Bool (is_file n)) [
+      | inl file ↦ rw file (plain_after path (name_in n.content) plain)
+      | inr other ↦ rw other plain
+    ] in
+    plain_fold nodes (with_node path n) next
+
+-- a file path has no slash
+pub file_path_plain : (nodes : List Node) → with_separators (file_path nodes) ≡ file_path nodes
+file_path_plain nodes = plain_fold nodes [] refl

@@ -11,3 +11,4 @@ pub mod BufferPaths
 pub mod PathTexts
 pub mod Units
 pub mod PathReading
+pub mod NamesInARow

@@ -7,7 +7,6 @@ use Rattle.uefi_device_nodes.specs.Nodes.{Node, IsInner, IsSound, node_bytes, no
 use Rattle.uefi_device_path.specs.Paths.{AreNodes, BeginWith, BeginWithPath, IsPath, joined, nodes_in, nodes_within, path_bytes, without_end}
 use Rattle.uefi_device_path.specs.declared.errors.DevicePathError.{DevicePathError}
 use Rattle.uefi_device_nodes.specs.declared.errors.NodeError.{NodeError}
-use Rattle.uefi_device_nodes.specs.declared.errors.NodeError.TheVariants.{Missing, TruncatedHeader, UnknownEnd, LengthBelowHeader, EndWithData, BeyondEnd}
 use Rattle.uefi_device_nodes.specs.NodeFaults.{fault_place, node_fault}
 use Rattle.uefi_device_path.specs.Faults.{RefusedFor}
 
@@ -224,3 +223,23 @@ refused_once bytes e f one other =
     let long : length (joined other.0) ≡ length (joined one.0) = ap (λ ns. length (joined ns)) (sym both.0) in
     let offset : f.offset ≡ e.offset = omega (arith, other.2.offset, one.2.offset, place, long) in
     same_error f.cause e.cause f.offset e.offset reason offset
+
+-- a node stands where a path begins
+pub path_no_fault : (rest : List ℕ) (ms : List Node) → BeginWithPath rest ms → node_fault rest ≡ None
+path_no_fault rest [] begins = ap node_fault begins.1.join ∙ no_fault end_entire begins.0 (λ _. (refl, λ _. refl))
+path_no_fault rest (m ∷ ms) begins =
+    ap node_fault (begins.1.join ∙ append_assoc (node_bytes m) (joined ms) (node_bytes end_entire ++ begins.0))
+    ∙ no_fault m (joined ms ++ (node_bytes end_entire ++ begins.0)) (All-head IsInner m ms begins.1.inner).sound
+
+-- and where it does not end the path, the others begin after it
+pub path_step : (rest after : List ℕ) (node : Node) (ms : List Node) → BeginWithPath rest ms → rest ≡ node_bytes node ++ after
+    → node ≢ end_entire → IsInner node × ((ks : List Node) × BeginWithPath after ks)
+path_step rest after node [] begins e other =
+    absurd (other (prefix_free node end_entire after begins.0 (sym e ∙ begins.1.join)).0)
+path_step rest after node (m ∷ ms) begins e other =
+    let more = joined ms ++ (node_bytes end_entire ++ begins.0) in
+    let both = prefix_free node m after more
+    (sym e ∙ begins.1.join ∙ append_assoc (node_bytes m) (joined ms) (node_bytes end_entire ++ begins.0)) in (
+      subst IsInner (sym both.0) (All-head IsInner m ms begins.1.inner),
+      (ms, (begins.0, record { inner = All-tail IsInner m ms begins.1.inner; join = both.1 })),
+    )

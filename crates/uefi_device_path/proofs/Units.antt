@@ -1,7 +1,8 @@
 -- The units of a text that is read character by character, and written part by part.
-use Rattle.std.proofs.Common.{◌≡◌, ℕ, ◌+◌, ◌-◌, ◌/◌, ◌%◌, ◌<◌, ◌≤◌, set, take, drop, List, [], ◌∷◌, ◌++◌, length, append_assoc, ap, sym, subst, ◌∙◌, arith}
+use Rattle.std.proofs.Common.{◌≡◌, ℕ, ◌+◌, ◌-◌, ◌/◌, ◌%◌, ◌<◌, ◌≤◌, set, take, drop, get_or, List, [], ◌∷◌, ◌++◌, length, append_assoc, length-append, add-one, ap, sym, refl, subst, ◌∙◌, arith}
 use Rattle.std.proofs.lemmas.Grind.{common_steps, flat_map-append}
-use Rattle.std.proofs.lemmas.List.{append-nil, drop-drop, drop-set, nil_from_length, take-append-drop, take-set}
+use Rattle.std.proofs.Math.Seq.{drop-cons, set-append_seam}
+use Rattle.std.proofs.lemmas.List.{append-nil, nil_from_length, take_all}
 use Rattle.std.proofs.lemmas.Str.{chars-append, chars-nil, chars_past_char, IsUtf8-encode}
 use Rattle.std.specs.Char.{IsScalar}
 use Rattle.std.specs.Char.Escape.{encode_utf16}
@@ -57,19 +58,27 @@ units_one c scalar =
     let one = chars_past_char (encode_utf8 c) [] c (IsUtf8-encode c scalar) (sym (append-nil (encode_utf8 c))) in
     ap (λ (cs : List ℕ). flat_map encode_utf16 cs) (one ∙ ap (λ (cs : List ℕ). c ∷ cs) chars-nil) ∙ append-nil (encode_utf16 c)
 
--- a NUL after units that were written
-pub nul_after : (units old new : List ℕ) (len : ℕ) → len ≡ length units → len < length new → AreSunk units old new len
-    → set new len 0 ≡ nul_terminated units ++ drop (length units + 1) old
-nul_after units old new len all room sunk =
+-- one unit more, where the buffer has a place for it
+pub unit_more : (units old buffer : List ℕ) (unit : ℕ) → length units < length old
+    → buffer ≡ take (length old) units ++ drop (length units) old
+    → set buffer (length units) unit ≡ take (length old) (units ++ unit ∷ []) ++ drop (length (units ++ unit ∷ [])) old
+unit_more units old buffer unit room written =
     let n = length units in
-    let room_n : n < length new = omega (arith, all, room) in
-    let fits : n ≤ length old = omega (arith, room_n, sunk.same) in
-    let at : set new len 0 ≡ set new n 0 = ap (λ (i : ℕ). set new i 0) all in
-    let front : take n (set new n 0) ≡ units = take-set new n 0 ∙ sunk.front fits in
-    let rest : drop (n + 1) new ≡ drop (n + 1) old =
-    sym (drop-drop 1 n new) ∙ ap (drop 1) (sunk.back fits) ∙ drop-drop 1 n old in
-    let back : drop n (set new n 0) ≡ 0 ∷ drop (n + 1) old = drop-set new n 0 room_n ∙ ap (λ (us : List ℕ). 0 ∷ us) rest in
-    at ∙ sym (take-append-drop n (set new n 0))
-    ∙ ap (λ (us : List ℕ). us ++ drop n (set new n 0)) front
-    ∙ ap (λ (us : List ℕ). units ++ us) back
-    ∙ sym (append_assoc units (0 ∷ []) (drop (n + 1) old))
+    let more : length (units ++ unit ∷ []) ≡ n + 1 = length-append units (unit ∷ []) in
+    let rest = drop (n + 1) old in
+    let cut : drop n old ≡ get_or old n 0 ∷ rest = rw (add-one, drop-cons old n 0) refl in
+    ap (λ us. set us n unit) (written ∙ ap (λ us. us ++ drop n old) (take_all (length old) units (omega (arith, room))) ∙ ap (λ us. units ++ us) cut)
+    ∙ set-append_seam units (get_or old n 0) rest unit
+    ∙ sym (append_assoc units (unit ∷ []) rest)
+    ∙ ap (λ us. us ++ rest) (sym (take_all (length old) (units ++ unit ∷ []) (omega (arith, more, room))))
+    ∙ ap (λ i. take (length old) (units ++ unit ∷ []) ++ drop i old) (sym more)
+
+-- a NUL after units that were written
+pub nul_after : (units old new : List ℕ) → length units < length old
+    → new ≡ take (length old) units ++ drop (length units) old
+    → set new (length units) 0 ≡ nul_terminated units ++ drop (length units + 1) old
+nul_after units old new room written =
+    let more : length (units ++ 0 ∷ []) ≡ length units + 1 = length-append units (0 ∷ []) in
+    unit_more units old new 0 room written
+    ∙ ap (λ us. us ++ drop (length (units ++ 0 ∷ [])) old) (take_all (length old) (units ++ 0 ∷ []) (omega (arith, more, room)))
+    ∙ ap (λ i. nul_terminated units ++ drop i old) more

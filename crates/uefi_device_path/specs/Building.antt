@@ -1,10 +1,16 @@
 -- Which nodes are refused by a device path that grows.
 use Rattle.std.specs.Prelude.{ℕ, ◌+◌, List, nat_lt, ◌==◌, ◌&&◌, not, if◌then◌else◌, length, Option, Some, None}
 use Rattle.uefi_device_nodes.specs.Nodes.{is_end_instance}
-use Rattle.uefi_device_nodes.specs.Nodes.{Node, node_length}
+use Rattle.uefi_device_nodes.specs.Nodes.{Node, node_length, node_with}
+use Rattle.uefi_text.specs.UnitBytes.{unit_bytes}
+use Rattle.uefi_text.specs.Units.{nul_terminated}
 use Rattle.uefi_device_path.specs.Paths.{path_bytes}
 use Rattle.uefi_device_path.specs.declared.errors.BuildError.{BuildError}
 use Rattle.uefi_device_path.specs.declared.errors.BuildError.TheVariants.{BufferTooSmall, EndNode, NodeTooLong}
+
+-- the node that names a file: its name and a NUL
+abbrev pub node_of_name : List ℕ → Node
+node_of_name name = node_with 4 4 (unit_bytes (nul_terminated name))
 
 -- why a node may not stand before the end of a path, or none
 abbrev pub build_refusal : Node → Option BuildError

@@ -1,8 +1,8 @@
 -- Why bytes do not begin with a device path.
-use Rattle.std.specs.Prelude.{◌≡◌, ℕ, ◌+◌, List, length, Some}
+use Rattle.std.specs.Prelude.{◌≡◌, ◌↔◌, ℕ, ◌+◌, IfErr, IfOk, IsOk, List, Result, length, Some}
 use Rattle.uefi_device_nodes.specs.NodeFaults.{fault_place, node_fault}
 use Rattle.uefi_device_nodes.specs.Nodes.{Node}
-use Rattle.uefi_device_path.specs.Paths.{BeginWith, joined}
+use Rattle.uefi_device_path.specs.Paths.{BeginWith, BeginWithPath, joined}
 use Rattle.uefi_device_path.specs.declared.errors.DevicePathError.{DevicePathError}
 
 -- bytes are these nodes and then a rest at which no node begins, for the cause and at the place that
@@ -16,3 +16,12 @@ pub record Refuses (bytes : List ℕ) (error : DevicePathError) (nodes : List No
 -- bytes are refused for this error
 abbrev pub RefusedFor : List ℕ → DevicePathError → Type 0
 RefusedFor bytes error = (nodes : List Node) × (rest : List ℕ) × Refuses bytes error nodes rest
+
+-- what reading the path that bytes begin with gives: it, which is the only one, or the only refusal
+abbrev pub GivesPath : {P : Type 0} → (P → List Node) → List ℕ → Result P DevicePathError → Type 0
+GivesPath nodes_of bytes result =
+    IfOk result (λ path. BeginWithPath bytes (nodes_of path))
+    × IfOk result (λ path. (nodes : List Node) → BeginWithPath bytes nodes → nodes ≡ nodes_of path)
+    × (IsOk result ↔ ((nodes : List Node) × BeginWithPath bytes nodes))
+    × IfErr result (λ error. RefusedFor bytes error)
+    × IfErr result (λ error. (other : DevicePathError) → RefusedFor bytes other → other ≡ error)

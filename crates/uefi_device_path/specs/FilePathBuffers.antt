@@ -5,7 +5,7 @@ use Rattle.uefi_device_nodes.specs.Nodes.{Node}
 use Rattle.uefi_device_path.specs.FilePaths.{FileRefusedFor, IsReadable, file_path}
 use Rattle.uefi_device_path.specs.declared.errors.FilePathWriteError.{FilePathWriteError}
 use Rattle.uefi_device_path.specs.declared.errors.FilePathWriteError.TheVariants.{BufferTooSmall, Name}
-use Rattle.uefi_device_path.specs.declared.file_path_buffer.Written.{Written}
+use Rattle.uefi_device_path.specs.declared.file_path.Written.{Written}
 
 -- a path was counted, and written to the start of a buffer that has room for it, which was `old`
 pub record IsWritten (path : List ℕ) (written : Written) (old buffer : List ℕ) : Type 0 where

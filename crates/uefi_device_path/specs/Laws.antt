@@ -1,5 +1,11 @@
 -- The laws of device paths and load options, over the definitions that contracts of working calls cite.
-use Rattle.std.specs.Prelude.{◌≡◌, ℕ, ◌+◌, ◌-◌, Bool, true, false, List, ◌++◌, All, take}
+use Rattle.std.specs.Prelude.{◌≡◌, ◌≢◌, ℕ, ◌+◌, ◌-◌, Bool, true, false, List, [], ◌∷◌, ◌++◌, All, filter, fold, take}
+use Rattle.std.specs.List.{flat_map}
+use Rattle.uefi_path.specs.Components.{components_of}
+use Rattle.uefi_path.specs.Laws.{IsRelative}
+use Rattle.uefi_path.specs.Pushing.{pushed}
+use Rattle.uefi_path.specs.Separators.{with_separators}
+use Rattle.uefi_device_nodes.specs.FileNodes.{is_file}
 use Rattle.uefi_device_nodes.specs.Nodes.{Node, IsInner}
 use Rattle.uefi_device_nodes.specs.NodeFaults.{fault_place}
 use Rattle.uefi_device_nodes.specs.declared.errors.NodeError.{NodeError}
@@ -8,6 +14,7 @@ use Rattle.uefi_device_path.specs.PathReading.{AreTold}
 use Rattle.uefi_device_path.specs.PathTexts.{path_text}
 use Rattle.uefi_device_path.specs.Paths.{BeginWithPath, path_bytes}
 use Rattle.uefi_device_path.specs.Faults.{RefusedFor}
+use Rattle.uefi_device_path.specs.FilePaths.{file_names, file_path, name_in}
 use Rattle.uefi_device_path.specs.LoadOptions.{Entry, EntryRefusedFor, IsEntry, entry_bytes}
 use Rattle.uefi_device_path.specs.declared.errors.DevicePathError.{DevicePathError}
 use Rattle.uefi_device_path.specs.declared.errors.LoadOptionError.{LoadOptionError}
@@ -71,3 +78,21 @@ OptionsNeverBoth = (entry : Entry) (error : LoadOptionError) → IsEntry entry
 abbrev pub TextsOnce : Type 0
 TextsOnce = (nodes others : List Node) → AreTold nodes → AreTold others
     → path_text false false nodes ≡ path_text false false others → nodes ≡ others
+
+-- the file path of one node that names a file is its name, each slash replaced
+abbrev pub OneName : Type 0
+OneName = (node : Node) → is_file node ≡ true → file_path (node ∷ []) ≡ with_separators (name_in node.content)
+
+-- nodes that name no file change nothing
+abbrev pub OnlyFilesCount : Type 0
+OnlyFilesCount = (nodes : List Node) → file_path nodes ≡ file_path (filter is_file nodes)
+
+-- names that begin with no separator are pushed one after the other
+abbrev pub RelativeNamesArePushed : Type 0
+RelativeNamesArePushed = (nodes : List Node) → All IsRelative (file_names nodes)
+    → file_path nodes ≡ fold pushed [] (file_names nodes)
+
+-- the components are those of the names in a row, where none of these is empty
+abbrev pub NamesInARow : Type 0
+NamesInARow = (nodes : List Node) → All (λ name. All (λ component. component ≢ []) (components_of name)) (file_names nodes)
+    → components_of (file_path nodes) ≡ flat_map components_of (file_names nodes)

@@ -5,6 +5,15 @@ pub use Rattle.uefi_device_nodes.specs.NodeViews
 pub use Rattle.uefi_device_nodes.specs.NodeErrorTexts
 pub use Rattle.uefi_device_nodes.specs.TypedNodes
 pub use Rattle.uefi_device_nodes.specs.NodeTexts
+pub use Rattle.uefi_built_nodes.specs.RawNodes
+pub use Rattle.uefi_built_nodes.specs.HardwareNodes
+pub use Rattle.uefi_built_nodes.specs.AcpiNodes
+pub use Rattle.uefi_built_nodes.specs.MediaNodes
+pub use Rattle.uefi_built_nodes.specs.BootNodes
+pub use Rattle.uefi_built_messages.specs.MessagingNodes
+pub use Rattle.uefi_built_messages.specs.NetworkNodes
+pub use Rattle.uefi_device_nodes.specs.NodeEnums
+pub use Rattle.uefi_device_nodes.specs.Layouts
 pub use Rattle.uefi_device_nodes.specs.declared.errors.NodeError
 pub use Rattle.uefi_device_nodes.specs.declared.errors.NodeConversionError
 pub use Rattle.uefi_device_nodes.specs.declared.node.DevicePathNode

@@ -1,5 +1,5 @@
 -- Boot load options (UEFI Specification 2.10, section 3.1.3).
-use Rattle.std.specs.Prelude.{◌≡◌, ◌≢◌, ℕ, ◌+◌, ◌-◌, ◌*◌, ◌/◌, ◌%◌, ◌<◌, ◌≤◌, List, [], ◌∷◌, ◌++◌, All, length, take, drop, slice_index}
+use Rattle.std.specs.Prelude.{◌≡◌, ◌≢◌, ◌↔◌, IfErr, IfOk, IsOk, Result, ℕ, ◌+◌, ◌-◌, ◌*◌, ◌/◌, ◌%◌, ◌<◌, ◌≤◌, List, [], ◌∷◌, ◌++◌, All, length, take, drop, slice_index}
 use Rattle.std.specs.Char.Utf16.{utf16_lossy_chars}
 use Rattle.std.specs.Str.{encode_utf8_all}
 use Rattle.uefi_text.specs.Units.{nul_terminated}
@@ -80,3 +80,12 @@ IsWrong bytes (FilePathList cause) offset = (description : List ℕ) × (rest : 
 -- bytes are no load option, for this error
 abbrev pub EntryRefusedFor : List ℕ → LoadOptionError → Type 0
 EntryRefusedFor bytes error = IsWrong bytes error.cause error.offset
+
+-- what reading the load option that bytes are gives: it, which is the only one, or the only refusal
+abbrev pub GivesOption : {O : Type 0} → (O → Entry) → List ℕ → Result O LoadOptionError → Type 0
+GivesOption entry_of bytes result =
+    IfOk result (λ option. IsEntry (entry_of option) × (bytes ≡ entry_bytes (entry_of option)))
+    × IfOk result (λ option. (entry : Entry) → IsEntry entry → bytes ≡ entry_bytes entry → entry ≡ entry_of option)
+    × (IsOk result ↔ ((entry : Entry) × IsEntry entry × (bytes ≡ entry_bytes entry)))
+    × IfErr result (λ error. EntryRefusedFor bytes error)
+    × IfErr result (λ error. (other : LoadOptionError) → EntryRefusedFor bytes other → other ≡ error)

@@ -1,5 +1,5 @@
 -- A text that is written into a caller's buffer as UTF-16.
-use Rattle.std.specs.Prelude.{◌≡◌, ℕ, ◌+◌, ◌-◌, ◌<◌, ◌≤◌, ◌^◌, List, length, take, drop, min}
+use Rattle.std.specs.Prelude.{◌≡◌, ℕ, ◌+◌, ◌-◌, ◌<◌, ◌^◌, List, ◌++◌, length, take, drop, min}
 use Rattle.std.specs.Char.Escape.{encode_utf16}
 use Rattle.std.specs.List.{flat_map}
 use Rattle.std.specs.Str.{chars}
@@ -10,13 +10,11 @@ use Rattle.uefi_device_path.specs.declared.errors.TextWriteError.TheVariants.{Bu
 unfoldable pub utf16_units : List ℕ → List ℕ
 utf16_units text = flat_map encode_utf16 (chars text)
 
--- units were counted, as far as a `usize` counts, and written to the start of a buffer that has room for
--- them, which was `old`
+-- units were counted, as far as a `usize` counts, and as many of the first as have room were written to the start
+-- of a buffer, which was `old`
 pub record AreSunk (units old buffer : List ℕ) (len : ℕ) : Type 0 where
   pub count : len ≡ min (length units) (2 ^ 64 - 1)
-  pub same : length buffer ≡ length old
-  pub front : length units ≤ length old → take (length units) buffer ≡ units
-  pub back : length units ≤ length old → drop (length units) buffer ≡ drop (length units) old
+  pub written : buffer ≡ take (length old) units ++ drop (length units) old
 
 -- units and their NUL are not written to `room` places, for this error
 abbrev pub TextRefusedFor : List ℕ → ℕ → TextWriteError → Type 0

@@ -4,15 +4,19 @@
 ghost use Rattle.std.specs.Prelude.{◌≡◌, ℕ, ◌+◌, ◌-◌, ◌<◌, ◌≤◌, ◌∷◌, ◌++◌, ◌%◌, ◌/◌, [], List, length, take, IfOk, IfErr, OnOk, OnErr, None, unwrap_or};
 ghost use Rattle.std.specs.Result.{result_err};
 ghost use Rattle.std.specs.Vec.{vec_capacity, vec_len};
-ghost use Rattle.uefi_device_nodes.specs.Nodes.{end_entire, node_bytes, node_with};
+ghost use Rattle.uefi_device_nodes.specs.Nodes.{end_entire, node_bytes, node_length, node_with};
 ghost use Rattle.uefi_device_path.specs.Paths.{path_bytes, without_end};
-ghost use Rattle.uefi_device_path.specs.Building.{build_refusal};
+ghost use Rattle.uefi_device_path.specs.Building.{build_refusal, node_of_name};
+ghost use Rattle.uefi_path.specs.Views.{path_text};
 
 use crate::device_path::DevicePath;
-use crate::errors::BuildError;
+pub use crate::errors::BuildError;
 use std::alloc::{AllocError, Allocator, Global};
 use std::marker::Model;
+pub use uefi_built_messages::messaging;
+pub use uefi_built_nodes::{BuildNode, RawNode, acpi, bios_boot_spec, hardware, media};
 use uefi_device_nodes::{DeviceSubType, DeviceType};
+use uefi_path::Path;
 
 /// A device path in memory of its own, which grows. A contract sees it as the list of its nodes, without
 /// the one that ends it.
@@ -34,41 +38,43 @@ impl<A: Allocator> Model for DevicePathBuf<A> {
 }
 
 /// Writes a node over the last four bytes, and the node that ends a path after it.
-fn put_node<A: Allocator>(bytes: &mut Vec<u8, A>, header: [u8; 4], content: &[u8])
+fn put_node<N: BuildNode, A: Allocator>(bytes: &mut Vec<u8, A>, header: [u8; 4], node: &N)
     requires end { 4 ≤ vec_len bytes.old }
-    requires room { vec_len bytes.old + length content.now + 4 ≤ vec_capacity bytes.old }
+    requires room { vec_len bytes.old + length (N.node node.now).content + 4 ≤ vec_capacity bytes.old }
     ensures { bytes.new.items ≡ without_end bytes.old.items
-        ++ (header ++ (content.now ++ node_bytes end_entire)) }
+        ++ (header ++ ((N.node node.now).content ++ node_bytes end_entire)) }
 {
-    bytes.truncate(bytes.len() - 4);
+    let start = bytes.len();
+    bytes.truncate(start - 4);
     let _ = bytes.extend_from_slice(&header);
-    let _ = bytes.extend_from_slice(content);
+    let _ = bytes.resize(start + node.data_len(), 0);
+    node.write_data(&mut bytes.as_mut_slice()[start..]);
     let _ = bytes.extend_from_slice(&[0x7f, 0xff, 4, 0]);
 }
 
 /// Why a node may not stand before the end of a path, if it may not.
-pub(crate) fn check_node(
-    device_type: DeviceType,
-    sub_type: DeviceSubType,
-    content: &[u8],
-) -> Result<(), BuildError>
-    ensures { result_err result ≡ build_refusal (node_with device_type.0 sub_type.0 content.now) }
+pub(crate) fn check_node<N: BuildNode>(node: &N) -> Result<(), BuildError>
+    ensures { result_err result ≡ build_refusal (N.node node.now) }
 {
-    if device_type.0 == 0x7f && (sub_type.0 != 0x01 || !content.is_empty()) {
+    let (device_type, sub_type) = node.full_type();
+    let len = node.data_len();
+    if device_type.0 == 0x7f && (sub_type.0 != 0x01 || len != 0) {
         return Err(BuildError::EndNode);
     }
-    if 0xfffb < content.len() {
+    if 0xfffb < len {
         return Err(BuildError::NodeTooLong);
     }
     Ok(())
 }
 
-/// The header of a node with this many bytes of data.
-pub(crate) fn node_header(device_type: DeviceType, sub_type: DeviceSubType, len: usize) -> [u8; 4]
-    requires { len ≤ 0xfffb }
-    ensures { result ≡ device_type.0 ∷ sub_type.0 ∷ (len + 4) % 256 ∷ (len + 4) / 256 ∷ [] }
+/// The header of a node that may stand before the end of a path.
+pub(crate) fn node_header<N: BuildNode>(node: &N) -> [u8; 4]
+    requires { build_refusal (N.node node.now) ≡ None }
+    ensures { let built = N.node node.now in result ≡ built.device_type ∷ built.sub_type
+        ∷ node_length built % 256 ∷ node_length built / 256 ∷ [] }
 {
-    let length = (len + 4) as u16;
+    let (device_type, sub_type) = node.full_type();
+    let length = (node.data_len() + 4) as u16;
     [
         device_type.0,
         sub_type.0,
@@ -89,9 +95,28 @@ impl<A: Allocator> DevicePathBuf<A> {
         })
     }
 
-    /// Adds a node before the end. Refused as `EndNode` for a node of type End that does not end an
-    /// instance, as `NodeTooLong` for more than 65,531 bytes of data, and then as `OutOfMemory`; the path
-    /// is then unchanged. Takes memory where it has no room.
+    /// Adds a node before the end: one that was built, or that another path has. Refused as `EndNode` for a
+    /// node of type End that does not end an instance, as `NodeTooLong` for more than 65,531 bytes of data,
+    /// and then as `OutOfMemory`; the path is then unchanged. Takes memory where it has no room.
+    pub fn push_node<N: BuildNode>(&mut self, node: &N) -> Result<(), BuildError>
+        ensures ok { OnOk result (self.new ≡ self.old ++ N.node node.now ∷ []) }
+        ensures accepted { OnOk result (build_refusal (N.node node.now) ≡ None) }
+        ensures err { OnErr result (self.new ≡ self.old) }
+        ensures refusal { IfErr result (λ error.
+            error ≡ unwrap_or (build_refusal (N.node node.now)) BuildError.OutOfMemory) }
+    {
+        if let Err(error) = check_node(node) {
+            return Err(error);
+        }
+        if self.bytes.reserve(node.data_len() + 4).is_err() {
+            return Err(BuildError::OutOfMemory);
+        }
+        let header = node_header(node);
+        put_node(&mut self.bytes, header, node);
+        Ok(())
+    }
+
+    /// Adds a node of a type, a sub-type and data, as [`DevicePathBuf::push_node`] does.
     pub fn push(
         &mut self,
         device_type: DeviceType,
@@ -106,15 +131,23 @@ impl<A: Allocator> DevicePathBuf<A> {
         ensures refusal { let node = node_with device_type.0 sub_type.0 content.now in
             IfErr result (λ error. error ≡ unwrap_or (build_refusal node) BuildError.OutOfMemory) }
     {
-        if let Err(error) = check_node(device_type, sub_type, content) {
-            return Err(error);
-        }
-        if self.bytes.reserve(content.len() + 4).is_err() {
-            return Err(BuildError::OutOfMemory);
-        }
-        let header = node_header(device_type, sub_type, content.len());
-        put_node(&mut self.bytes, header, content);
-        Ok(())
+        self.push_node(&RawNode {
+            device_type,
+            sub_type,
+            content,
+        })
+    }
+
+    /// Adds a node that names a file: the text of a path and a NUL, as [`DevicePathBuf::push_node`] adds it.
+    pub fn push_file(&mut self, path: Path<'_>) -> Result<(), BuildError>
+        ensures ok { OnOk result (self.new ≡ self.old ++ node_of_name (path_text path.entry) ∷ []) }
+        ensures err { OnErr result (self.new ≡ self.old) }
+        ensures refusal { IfErr result (λ error.
+            error ≡ unwrap_or (build_refusal (node_of_name (path_text path.entry))) BuildError.OutOfMemory) }
+    {
+        self.push_node(&media::FilePath {
+            path_name: path.to_cstr16(),
+        })
     }
 
     /// The path, borrowed.

@@ -4,23 +4,26 @@
 ghost use Rattle.std.specs.Prelude.{◌≡◌, ℕ, ◌+◌, ◌-◌, ◌<◌, ◌≤◌, ◌∷◌, ◌++◌, [], List, length, take, nat_lt, if◌then◌else◌, IfOk, OnErr, OnOk, None, Some};
 ghost use Rattle.std.specs.Result.{result_err};
 ghost use Rattle.uefi_device_nodes.specs.Nodes.{end_entire, node_bytes, node_with};
-ghost use Rattle.uefi_device_path.specs.Building.{push_refusal};
+ghost use Rattle.uefi_device_path.specs.Building.{node_of_name, push_refusal};
+ghost use Rattle.uefi_path.specs.Views.{path_text};
 ghost use Rattle.uefi_device_path.specs.Paths.{IsPath, nodes_in, without_end};
 
 use crate::build::{check_node, node_header};
 use crate::device_path::DevicePath;
 use crate::errors::BuildError;
+use uefi_built_nodes::{BuildNode, RawNode, media};
 use uefi_device_nodes::{DeviceSubType, DeviceType};
+use uefi_path::Path;
 
 /// Writes a node, and the node that ends a path after it.
-fn put_node(places: &mut [u8], header: [u8; 4], content: &[u8])
-    requires { length places.now ≡ length content.now + 8 }
-    ensures { places.new ≡ header ++ (content.now ++ node_bytes end_entire) }
+fn put_node<N: BuildNode>(places: &mut [u8], header: [u8; 4], node: &N)
+    requires { length places.now ≡ length (N.node node.now).content + 8 }
+    ensures { places.new ≡ header ++ ((N.node node.now).content ++ node_bytes end_entire) }
 {
     let (start, rest) = places.split_at_mut(4);
     start.copy_from_slice(&header);
-    let (middle, end) = rest.split_at_mut(content.len());
-    middle.copy_from_slice(content);
+    let (middle, end) = rest.split_at_mut(node.data_len());
+    node.write_data(middle);
     end.copy_from_slice(&[0x7f, 0xff, 4, 0]);
 }
 
@@ -55,9 +58,31 @@ impl<'a> DevicePathBuilder<'a> {
         })
     }
 
-    /// Adds a node before the end. Refused as `EndNode` for a node of type End that does not end an
-    /// instance, as `NodeTooLong` for more than 65,531 bytes of data, and then as `BufferTooSmall`, with
-    /// the count of bytes that the path then needs; the path is then unchanged. Takes no memory.
+    /// Adds a node before the end: one that was built, or that another path has. Refused as `EndNode` for a
+    /// node of type End that does not end an instance, as `NodeTooLong` for more than 65,531 bytes of data,
+    /// and then as `BufferTooSmall`, with the count of bytes that the path then needs; the path is then
+    /// unchanged. Takes no memory.
+    pub fn push_node<N: BuildNode>(&mut self, node: &N) -> Result<(), BuildError>
+        ensures ok { OnOk result (builder_nodes self.new ≡ builder_nodes self.old ++ N.node node.now ∷ []) }
+        ensures err { OnErr result (builder_nodes self.new ≡ builder_nodes self.old) }
+        ensures room { builder_room self.new ≡ builder_room self.old }
+        ensures refusal { result_err result
+            ≡ push_refusal (builder_nodes self.old) (N.node node.now) (builder_room self.old) }
+    {
+        if let Err(error) = check_node(node) {
+            return Err(error);
+        }
+        let end = self.len + node.data_len() + 4;
+        if self.buffer.len() < end {
+            return Err(BuildError::BufferTooSmall(end));
+        }
+        let header = node_header(node);
+        put_node(&mut self.buffer[self.len - 4..end], header, node);
+        self.len = end;
+        Ok(())
+    }
+
+    /// Adds a node of a type, a sub-type and data, as [`DevicePathBuilder::push_node`] does.
     pub fn push(
         &mut self,
         device_type: DeviceType,
@@ -71,17 +96,26 @@ impl<'a> DevicePathBuilder<'a> {
         ensures refusal { let node = node_with device_type.0 sub_type.0 content.now in
             result_err result ≡ push_refusal (builder_nodes self.old) node (builder_room self.old) }
     {
-        if let Err(error) = check_node(device_type, sub_type, content) {
-            return Err(error);
-        }
-        let end = self.len + content.len() + 4;
-        if self.buffer.len() < end {
-            return Err(BuildError::BufferTooSmall(end));
-        }
-        let header = node_header(device_type, sub_type, content.len());
-        put_node(&mut self.buffer[self.len - 4..end], header, content);
-        self.len = end;
-        Ok(())
+        self.push_node(&RawNode {
+            device_type,
+            sub_type,
+            content,
+        })
+    }
+
+    /// Adds a node that names a file: the text of a path and a NUL, as [`DevicePathBuilder::push_node`]
+    /// adds it.
+    pub fn push_file(&mut self, path: Path<'_>) -> Result<(), BuildError>
+        ensures ok { let node = node_of_name (path_text path.entry) in
+            OnOk result (builder_nodes self.new ≡ builder_nodes self.old ++ node ∷ []) }
+        ensures err { OnErr result (builder_nodes self.new ≡ builder_nodes self.old) }
+        ensures room { builder_room self.new ≡ builder_room self.old }
+        ensures refusal { let node = node_of_name (path_text path.entry) in
+            result_err result ≡ push_refusal (builder_nodes self.old) node (builder_room self.old) }
+    {
+        self.push_node(&media::FilePath {
+            path_name: path.to_cstr16(),
+        })
     }
 
     /// The path, borrowed from the builder.

@@ -1,26 +1,26 @@
 //! Device paths, and the nodes of one.
 #![tactic(auto, unfolding(crate::specs::Views::nodes_of, crate::specs::Views::nodes_left))]
 
-ghost use Rattle.std.specs.Prelude.{◌≡◌, ◌≢◌, ℕ, ◌+◌, ◌<◌, ◌≤◌, ◌^◌, ◌↔◌, ◌++◌, [], List, All, length, drop, IfOk, IfErr, IsOk, IfSome, IsTrue, None, OnErr, OnOk};
+ghost use Rattle.std.specs.Prelude.{◌≡◌, ◌≢◌, ℕ, ◌+◌, ◌<◌, ◌≤◌, ◌^◌, ◌↔◌, ◌++◌, [], List, All, length, drop, take, IfOk, IfErr, IsOk, IfSome, IsTrue, None, OnErr, OnOk};
 ghost use Rattle.std.specs.Result.{result_err};
 ghost use Rattle.uefi_device_path.specs.FilePathBuffers.{WriteRefusedFor};
 ghost use Rattle.uefi_text.specs.Units.{IsText, nul_terminated};
 ghost use Rattle.uefi_text.specs.Views.{text_of};
-ghost use Rattle.uefi_device_path.specs.FilePaths.{FileRefusedFor, IsReadable, file_path};
+ghost use Rattle.uefi_device_path.specs.FilePaths.{FilePathRefusedFor, IsReadable, file_path};
 ghost use Rattle.uefi_device_nodes.specs.Nodes.{IsInner, Node, end_entire, node_bytes, node_length};
 ghost use Rattle.uefi_device_path.specs.Paths.{AreNodes, BeginWith, BeginWithPath, IsPath, joined, nodes_in, path_bytes, without_end};
 
 use crate::errors::{
     DevicePathError, FilePathCause, FilePathError, FilePathWriteError, TextWriteError,
 };
-use crate::file_path::file_path_in;
-use crate::file_path_buffer::write_file_path_in;
+use crate::file_path::{file_path_in, write_file_path_in};
 use crate::instance::DevicePathInstanceIterator;
 use crate::node_iterator::DevicePathNodeIterator;
 use crate::path_text::PathText;
 use crate::unit_sink::write_units;
 use std::alloc::Allocator;
 use std::fmt;
+use std::hash::{Hash, Hasher};
 use uefi_device_nodes::node::{DevicePathNode, fault_place};
 use uefi_device_nodes::{AllowShortcuts, DisplayOnly};
 use uefi_field_texts::sink::print;
@@ -83,14 +83,22 @@ impl<'a> DevicePath<'a> {
         }
     }
 
-    /// The device path that bytes begin with, and the bytes after it, where they begin with one.
+    /// The device path that bytes begin with, and the bytes after it, where they begin with one: no header is
+    /// tested again.
     pub(crate) fn take_first(bytes: &'a [u8]) -> (Self, &'a [u8])
         requires { (nodes : List Node) × BeginWithPath bytes.now nodes }
         ensures { BeginWith bytes.now (nodes_of result.0) (node_bytes end_entire ++ result.1.now) }
     {
-        match DevicePath::read(bytes) {
-            Ok(split) => split,
-            Err(_) => unreachable!(),
+        let mut rest = bytes;
+        'nodes: loop {
+            let (node, after) = DevicePathNode::take_first(rest);
+            if node.is_end_entire() {
+                let path = DevicePath {
+                    bytes: &bytes[..bytes.len() - after.len()],
+                };
+                return (path, after);
+            }
+            rest = after;
         }
     }
 
@@ -156,8 +164,7 @@ impl<'a> DevicePath<'a> {
     pub fn file_path<A: Allocator + Copy>(&self, alloc: A) -> Result<PathBuf<A>, FilePathError>
         ensures ok { IfOk result (λ path. path ≡ file_path (nodes_of self.now)) }
         ensures accepted { IfOk result (λ _. All IsReadable (nodes_of self.now)) }
-        ensures refusal { IfErr result (λ error. error.cause ≢ FilePathCause.OutOfMemory →
-            FileRefusedFor (nodes_of self.now) error) }
+        ensures refusal { IfErr result (λ error. FilePathRefusedFor (nodes_of self.now) error) }
     {
         file_path_in(alloc, &self.bytes[..self.bytes.len() - 4])
     }
@@ -230,6 +237,8 @@ impl<'a> DevicePath<'a> {
             (path_text display_only.0 allow_shortcuts.0 (nodes_of self.now)))
             ++ drop (length (utf16_units
             (path_text display_only.0 allow_shortcuts.0 (nodes_of self.now))) + 1) buffer.old) }
+        ensures small { OnErr result (buffer.new ≡ take (length buffer.old) (utf16_units
+            (path_text display_only.0 allow_shortcuts.0 (nodes_of self.now)))) }
         ensures refusal { IfErr result (λ error. TextRefusedFor
             (utf16_units (path_text display_only.0 allow_shortcuts.0 (nodes_of self.now)))
             (length buffer.old) error) }
@@ -268,15 +277,60 @@ impl<'a> DevicePath<'a> {
     }
 }
 
+/// Two paths are equal exactly when their bytes are.
+impl<'a> PartialEq for DevicePath<'a> {
+    ghost use Rattle.std.specs.Cmp.{on_per, partial_equiv_from_equiv};
+    ghost use Rattle.std.specs.Prelude.{nat_eq};
+    ghost use Rattle.std.specs.Cmp.Lexicographic.{nat_list_eq_equiv, pointwise};
+    ghost use Rattle.uefi_device_path.specs.Views.{nodes_of};
+
+    ghost eq = { λ a b. pointwise nat_eq (path_bytes (nodes_of a)) (path_bytes (nodes_of b)) };
+
+    ghost laws = { on_per (λ a. path_bytes (nodes_of a)) (partial_equiv_from_equiv nat_list_eq_equiv) };
+
+    fn eq(&self, other: &Self) -> bool {
+        self.as_bytes() == other.as_bytes()
+    }
+}
+
+impl<'a> Eq for DevicePath<'a> {
+    ghost use Rattle.std.specs.Cmp.Lexicographic.{on_texts_equal};
+    ghost use Rattle.uefi_device_path.specs.Views.{nodes_of};
+
+    ghost laws = { on_texts_equal (λ a. path_bytes (nodes_of a)) };
+}
+
+/// Hashes the bytes.
+impl<'a> Hash for DevicePath<'a> {
+    ghost use Rattle.std.proofs.Common.{rules};
+    ghost use Rattle.std.specs.Hash as fed;
+    ghost use Rattle.std.specs.Cmp.Rules.{comparing, hashing};
+    ghost use Rattle.uefi_device_path.specs.Views.{nodes_of};
+
+    ghost hash_input = { λ a. fed.slice fed.u8 (path_bytes (nodes_of a)) };
+
+    ghost respects_eq = { Prim.search (hashing, comparing, rules) };
+
+    fn hash<H: Hasher>(&self, state: &mut H) {
+        self.as_bytes().hash(state);
+    }
+}
+
+/// Writes the bytes.
+impl<'a> fmt::Debug for DevicePath<'a> {
+    fn fmt<W: fmt::Write>(&self, f: &mut fmt::Formatter<W>) -> fmt::Result {
+        f.debug_tuple("DevicePath").field(&self.as_bytes()).finish()
+    }
+}
+
 /// [`DevicePath::from_bytes`] of the bytes.
 impl<'a> TryFrom<&'a [u8]> for DevicePath<'a> {
     type Error = DevicePathError;
 
-    ghost use Rattle.uefi_device_path.specs.Faults.{RefusedFor};
+    ghost use Rattle.uefi_device_path.specs.Faults.{GivesPath};
     ghost use Rattle.uefi_device_path.specs.Views.{nodes_of};
 
-    ghost try_from_gives = { λ bytes result. IfOk result (λ path. BeginWithPath bytes.now (nodes_of path))
-        × IfErr result (λ error. RefusedFor bytes.now error) };
+    ghost try_from_gives = { λ bytes result. GivesPath nodes_of bytes.now result };
 
     fn try_from(bytes: &'a [u8]) -> Result<Self, DevicePathError> {
         DevicePath::from_bytes(bytes)

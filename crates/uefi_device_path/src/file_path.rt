@@ -1,120 +1,282 @@
-//! The file path of a path: the names of its nodes that name files, one after the other.
+//! The file path of a path: the names of its nodes that name files, one after the other, in memory of its own or
+//! in a caller's buffer.
 #![tactic(auto)]
 
-ghost use Rattle.std.specs.Prelude.{◌≡◌, ◌≢◌, ℕ, ◌+◌, ◌-◌, ◌<◌, ◌≤◌, All, length, IfOk, IfErr, OnErr, OnOk, None, true, unwrap_or};
-ghost use Rattle.uefi_text.specs.Units.{IsText};
-ghost use Rattle.uefi_text.specs.Views.{text_of};
+ghost use Rattle.std.specs.Prelude.{◌≡◌, ℕ, ◌+◌, ◌*◌, ◌<◌, ◌≤◌, ◌^◌, ◌∷◌, ◌++◌, [], ◌&&◌, ◌==◌, List, All, drop, length, nat_lt, if◌then◌else◌, IfOk, IfErr, OnErr, OnOk, Some, true};
+ghost use Rattle.std.specs.Result.{result_err};
+ghost use Rattle.uefi_text.specs.UnalignedCStr16.{with_prefix};
+ghost use Rattle.uefi_text.specs.UnitBytes.{units_of_bytes};
+ghost use Rattle.uefi_text.specs.Units.{IsString, IsText, nul_terminated, replaced, without_nul};
+ghost use Rattle.uefi_text.specs.Views.{items_of};
+ghost use Rattle.uefi_path.specs.Pushing.{needs_separator};
+ghost use Rattle.uefi_path.specs.Separators.{separator, slash, with_separators};
 ghost use Rattle.uefi_device_nodes.specs.FileNodes.{is_file};
-ghost use Rattle.uefi_device_path.specs.FilePaths.{FileRefusedFor, IsReadable, file_path, is_rooted, name_after, name_fault, name_in, with_node};
-ghost use Rattle.uefi_device_path.specs.Paths.{AreNodes, nodes_in};
 ghost use Rattle.uefi_device_nodes.specs.NodeViews.{node_of};
+ghost use Rattle.uefi_device_path.specs.FilePathBuffers.{IsWritten, WriteRefusedFor};
+ghost use Rattle.uefi_device_path.specs.FilePaths.{FilePathRefusedFor, FileRefusedFor, IsReadable, file_path, is_rooted, name_after, name_fault, with_node};
+ghost use Rattle.uefi_device_path.specs.Paths.{AreNodes, nodes_in};
 
-use crate::errors::{FilePathCause, FilePathError};
+use crate::errors::{FilePathCause, FilePathError, FilePathWriteError};
 use std::alloc::{AllocError, Allocator};
 use uefi_device_nodes::{DevicePathNode, DeviceSubType, DeviceType};
-use uefi_path::{Path, PathBuf};
-use uefi_text::{CStr16, CString16, FromSliceWithNulError, UnalignedSlice};
+use uefi_path::PathBuf;
+use uefi_path::slices::with_separator;
+use uefi_text::{CString16, UnalignedSlice};
+
+/// How many units a path has so far, and whether a separator is missing after them.
+#[derive(Clone, Copy)]
+struct Written {
+    len: usize,
+    is_missing: bool,
+}
+
+/// Adds a unit to a path, and writes it where the buffer has a place for it.
+fn put_unit(buffer: &mut [u16], written: Written, unit: u16) -> Written
+    requires { written.len + 1 < 2 ^ 64 }
+    ensures written { (path old : List ℕ) → IsWritten path written old buffer.old →
+        IsWritten (path ++ unit ∷ []) result old buffer.new }
+    ensures len { result.len ≡ written.len + 1 }
+{
+    if written.len < buffer.len() {
+        buffer[written.len] = unit;
+    }
+    Written {
+        len: written.len + 1,
+        is_missing: unit != 0x5c,
+    }
+}
+
+/// Adds the separator that is missing before a name of some units.
+fn put_missing(buffer: &mut [u16], written: Written, is_some: bool) -> Written
+    requires { written.len + 1 < 2 ^ 64 }
+    ensures written { (path old : List ℕ) → IsWritten path written old buffer.old →
+        IsWritten (if needs_separator path && is_some then path ++ separator ∷ [] else path)
+        result old buffer.new }
+    ensures len { result.len ≤ written.len + 1 }
+{
+    if written.is_missing && is_some {
+        return put_unit(buffer, written, 0x5c);
+    }
+    written
+}
 
 /// Whether a name begins with a separator or a slash.
-fn is_rooted(name: CStr16<'_>) -> bool
-    ensures { result ≡ is_rooted (text_of name.entry) }
+fn is_rooted_name(name: &UnalignedSlice<'_, u16>) -> bool
+    requires { IsString (items_of name.now) }
+    ensures { result ≡ is_rooted (without_nul (items_of name.now)) }
 {
-    matches!(name.to_u16_slice().first(), Some(0x5c | 0x2f))
+    matches!(name.get(0), Some(0x5c | 0x2f))
 }
 
-/// Pushes a name after a path, without the separator that it begins with where the path has text.
-fn push_after<A: Allocator + Copy>(
-    path: &mut PathBuf<A>,
-    alloc: A,
-    name: CStr16<'_>,
-) -> Result<(), AllocError>
-    ensures ok { OnOk result (path.new ≡ name_after path.old (text_of name.entry)) }
+/// Where the units of a name begin that are added: after the separator that it begins with, where the path
+/// has text.
+fn name_start(written: Written, name: &UnalignedSlice<'_, u16>) -> usize
+    requires { IsString (items_of name.now) }
+    ensures place { result ≡ (if written.len == 0 then 0
+        else if is_rooted (without_nul (items_of name.now)) then 1 else 0) }
+    ensures within { result ≤ 1 }
 {
-    if path.is_empty() || !is_rooted(name) {
-        return path.push(Path::new(name));
-    }
-    let characters = name.as_slice();
-    match characters.part(1, characters.len()).to_cstring16(alloc) {
-        Ok(rest) => path.push(Path::new(rest.as_cstr16())),
-        Err(_) => Err(AllocError),
-    }
+    usize::from(written.len != 0 && is_rooted_name(name))
 }
 
-/// Adds the name that data are to a path.
-fn add_name<A: Allocator + Copy>(
-    path: &mut PathBuf<A>,
-    alloc: A,
-    content: &[u8],
-) -> Result<(), FilePathCause>
-    ensures ok { OnOk result (path.new ≡ name_after path.old (name_in content.now)) }
-    ensures accepted { OnOk result (name_fault content.now ≡ None) }
-    ensures refusal { IfErr result (λ cause.
-        cause ≡ unwrap_or (name_fault content.now) FilePathCause.OutOfMemory) }
+/// Adds the units of a name from a place on, each slash replaced, without its NUL.
+fn put_units(
+    buffer: &mut [u16],
+    written: Written,
+    name: &UnalignedSlice<'_, u16>,
+    start: usize,
+) -> Written
+    requires is_string { IsString (items_of name.now) }
+    requires room { written.len + length (items_of name.now) < 2 ^ 64 }
+    ensures written { (path old : List ℕ) → IsWritten path written old buffer.old →
+        IsWritten (path ++ with_separators (drop start (without_nul (items_of name.now))))
+        result old buffer.new }
+    ensures len { result.len + 1 ≤ written.len + length (items_of name.now) }
 {
-    let Some(units) = UnalignedSlice::from_unit_bytes(content) else {
+    let mut made = written;
+    for place in start..name.len() - 1 {
+        let unit = name.get(place).unwrap();
+        made = put_unit(buffer, made, with_separator(unit));
+    }
+    made
+}
+
+/// Adds a name to a path, without the separator that it begins with where the path has text.
+fn put_name(buffer: &mut [u16], written: Written, name: &UnalignedSlice<'_, u16>) -> Written
+    requires is_string { IsString (items_of name.now) }
+    requires room { written.len + length (items_of name.now) + 1 < 2 ^ 64 }
+    ensures written { (path old : List ℕ) → IsWritten path written old buffer.old →
+        IsWritten (name_after path (without_nul (items_of name.now))) result old buffer.new }
+    ensures len { result.len ≤ written.len + length (items_of name.now) }
+{
+    let start = name_start(written, name);
+    let made = put_missing(buffer, written, start + 1 < name.len());
+    put_units(buffer, made, name, start)
+}
+
+/// The units of the name that data are, with their NUL.
+fn name_units(content: &[u8]) -> Result<UnalignedSlice<'_, u16>, FilePathCause>
+    ensures units { IfOk result (λ name. items_of name ≡ units_of_bytes content.now) }
+    ensures is_string { IfOk result (λ name. IsString (items_of name)) }
+    ensures len { IfOk result (λ name. length (items_of name) ≤ length content.now) }
+    ensures refusal { result_err result ≡ name_fault content.now }
+{
+    let Some(name) = UnalignedSlice::from_unit_bytes(content) else {
         return Err(FilePathCause::HalfUnit);
     };
-    let name = match units.to_cstring16(alloc) {
-        Ok(name) => name,
-        Err(FromSliceWithNulError::OutOfMemory) => return Err(FilePathCause::OutOfMemory),
-        Err(error) => return Err(FilePathCause::Text(error)),
-    };
-    match push_after(path, alloc, name.as_cstr16()) {
-        Ok(()) => Ok(()),
-        Err(_) => Err(FilePathCause::OutOfMemory),
+    match name.check_cstr16() {
+        Ok(()) => Ok(name),
+        Err(error) => Err(FilePathCause::Text(error)),
     }
 }
 
 /// Whether a node names a file.
-pub(crate) fn names_file(node: DevicePathNode<'_>) -> bool
+fn names_file(node: DevicePathNode<'_>) -> bool
     ensures { result ≡ is_file (node_of node.entry) }
 {
     node.device_type() == DeviceType::MEDIA && node.sub_type() == DeviceSubType::MEDIA_FILE_PATH
 }
 
 /// Adds the name of a node to a path, where it names a file.
-fn add_node<A: Allocator + Copy>(
-    path: &mut PathBuf<A>,
-    alloc: A,
+fn put_node(
+    buffer: &mut [u16],
+    written: Written,
     node: DevicePathNode<'_>,
-) -> Result<(), FilePathCause>
-    ensures ok { OnOk result (path.new ≡ with_node path.old (node_of node.entry)) }
-    ensures accepted { OnOk result (IsReadable (node_of node.entry)) }
+) -> Result<Written, FilePathCause>
+    requires { written.len + length (node_of node).content + 1 < 2 ^ 64 }
+    ensures written { IfOk result (λ after. (path old : List ℕ) → IsWritten path written old buffer.old →
+        IsWritten (with_node path (node_of node.entry)) after old buffer.new) }
+    ensures len { IfOk result (λ after. after.len ≤ written.len + length (node_of node.entry).content) }
+    ensures text { OnOk result ((path : List ℕ) → IsText path →
+        IsText (with_node path (node_of node.entry))) }
+    ensures readable { OnOk result (IsReadable (node_of node.entry)) }
     ensures file { OnErr result (is_file (node_of node.entry) ≡ true) }
-    ensures refusal { IfErr result (λ cause.
-        cause ≡ unwrap_or (name_fault (node_of node.entry).content) FilePathCause.OutOfMemory) }
+    ensures refusal { IfErr result (λ cause. name_fault (node_of node.entry).content ≡ Some cause) }
 {
-    if names_file(node) {
-        return add_name(path, alloc, node.data());
+    if !names_file(node) {
+        return Ok(written);
     }
-    Ok(())
+    match name_units(node.data()) {
+        Ok(name) => Ok(put_name(buffer, written, &name)),
+        Err(cause) => Err(cause),
+    }
 }
 
-/// The names of the nodes that bytes are, one after the other, where each is a name.
+/// How many units the file path of the nodes has that bytes are. Writes it to the start of a buffer, where
+/// this has room.
+fn put_file_path(buffer: &mut [u16], bytes: &[u8]) -> Result<usize, FilePathError>
+    requires { AreNodes bytes.now }
+    ensures len { IfOk result (λ len. len ≡ length (file_path (nodes_in bytes.now))) }
+    ensures bound { IfOk result (λ len. len ≤ length bytes.now) }
+    ensures text { OnOk result (IsText (file_path (nodes_in bytes.now))) }
+    ensures readable { OnOk result (All IsReadable (nodes_in bytes.now)) }
+    ensures same { OnOk result (length buffer.new ≡ length buffer.old) }
+    ensures buffer { OnOk result (length (file_path (nodes_in bytes.now)) ≡ length buffer.old →
+        buffer.new ≡ file_path (nodes_in bytes.now)) }
+    ensures refusal { IfErr result (λ error. FileRefusedFor (nodes_in bytes.now) error) }
+{
+    let mut written = Written {
+        len: 0,
+        is_missing: false,
+    };
+    let mut rest = bytes;
+    while !rest.is_empty() {
+        let offset = bytes.len() - rest.len() + 4;
+        let (node, after) = DevicePathNode::take_first(rest);
+        match put_node(buffer, written, node) {
+            Ok(more) => written = more,
+            Err(cause) => return Err(FilePathError { cause, offset }),
+        }
+        rest = after;
+    }
+    Ok(written.len)
+}
+
+/// Writes the file path of the nodes that bytes are, and its NUL, into as many places as these units are.
+fn fill_file_path(places: &mut [u16], bytes: &[u8])
+    requires nodes { AreNodes bytes.now }
+    requires readable { All IsReadable (nodes_in bytes.now) }
+    requires room { length places.now ≡ length (file_path (nodes_in bytes.now)) + 1 }
+    ensures { places.new ≡ nul_terminated (file_path (nodes_in bytes.now)) }
+{
+    let len = places.len() - 1;
+    places[len] = 0;
+    match put_file_path(&mut places[..len], bytes) {
+        Ok(_) => {}
+        Err(_) => unreachable!(),
+    }
+}
+
+/// Writes the file path of the nodes that bytes are, and its NUL, to the start of a buffer.
+pub(crate) fn write_file_path_in(
+    bytes: &[u8],
+    buffer: &mut [u16],
+) -> Result<usize, FilePathWriteError>
+    requires { AreNodes bytes.now }
+    ensures len { IfOk result (λ len. len ≡ length (file_path (nodes_in bytes.now)) + 1) }
+    ensures text { OnOk result (IsText (file_path (nodes_in bytes.now))) }
+    ensures readable { OnOk result (All IsReadable (nodes_in bytes.now)) }
+    ensures room { IfOk result (λ len. len ≤ length buffer.old) }
+    ensures ok { OnOk result (buffer.new
+        ≡ nul_terminated (file_path (nodes_in bytes.now))
+        ++ drop (length (file_path (nodes_in bytes.now)) + 1) buffer.old) }
+    ensures err { OnErr result (buffer.new ≡ buffer.old) }
+    ensures refusal { IfErr result (λ error. WriteRefusedFor (nodes_in bytes.now) (length buffer.old) error) }
+{
+    let len = match put_file_path(&mut [], bytes) {
+        Ok(len) => len,
+        Err(error) => return Err(FilePathWriteError::Name(error)),
+    };
+    if buffer.len() <= len {
+        return Err(FilePathWriteError::BufferTooSmall(len + 1));
+    }
+    fill_file_path(&mut buffer[..len + 1], bytes);
+    Ok(len + 1)
+}
+
+/// The file path of the nodes that bytes are, which has this many units, in memory of its own.
+fn copy_file_path<A: Allocator + Copy>(
+    alloc: A,
+    bytes: &[u8],
+    len: usize,
+) -> Result<PathBuf<A>, AllocError>
+    requires nodes { AreNodes bytes.now }
+    requires readable { All IsReadable (nodes_in bytes.now) }
+    requires text { IsText (file_path (nodes_in bytes.now)) }
+    requires len { len ≡ length (file_path (nodes_in bytes.now)) }
+    requires bound { len + 1 < 2 ^ 64 }
+    ensures { IfOk result (λ path. path ≡ file_path (nodes_in bytes.now)) }
+{
+    let mut units = Vec::new(alloc);
+    units.resize(len + 1, 0)?;
+    fill_file_path(&mut units, bytes);
+    let string = CString16::try_from_vec(units).unwrap();
+    match PathBuf::new_from_cstring16(alloc, string) {
+        Ok(path) => Ok(path),
+        Err(_) => Err(AllocError),
+    }
+}
+
+/// The file path of the nodes that bytes are, in memory of its own, which is asked for once each name is known
+/// to be one.
 pub(crate) fn file_path_in<A: Allocator + Copy>(
     alloc: A,
     bytes: &[u8],
 ) -> Result<PathBuf<A>, FilePathError>
     requires { AreNodes bytes.now }
     ensures ok { IfOk result (λ path. path ≡ file_path (nodes_in bytes.now)) }
-    ensures accepted { IfOk result (λ _. All IsReadable (nodes_in bytes.now)) }
-    ensures refusal { IfErr result (λ error. error.cause ≢ FilePathCause.OutOfMemory →
-        FileRefusedFor (nodes_in bytes.now) error) }
+    ensures readable { OnOk result (All IsReadable (nodes_in bytes.now)) }
+    ensures refusal { IfErr result (λ error. FilePathRefusedFor (nodes_in bytes.now) error) }
 {
-    let Ok(mut path) = PathBuf::new(alloc) else {
-        return Err(FilePathError {
+    let len = match put_file_path(&mut [], bytes) {
+        Ok(len) => len,
+        Err(error) => return Err(error),
+    };
+    match copy_file_path(alloc, bytes, len) {
+        Ok(path) => Ok(path),
+        Err(_) => Err(FilePathError {
             cause: FilePathCause::OutOfMemory,
             offset: 0,
-        });
-    };
-    let mut rest = bytes;
-    while !rest.is_empty() {
-        let offset = bytes.len() - rest.len() + 4;
-        let (node, after) = DevicePathNode::take_first(rest);
-        if let Err(cause) = add_node(&mut path, alloc, node) {
-            return Err(FilePathError { cause, offset });
-        }
-        rest = after;
+        }),
     }
-    Ok(path)
 }

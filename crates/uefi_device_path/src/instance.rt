@@ -6,17 +6,18 @@ ghost use Rattle.std.specs.Option.{ForSome};
 ghost use Rattle.uefi_device_path.specs.FilePathBuffers.{WriteRefusedFor};
 ghost use Rattle.uefi_text.specs.Units.{IsText, nul_terminated};
 ghost use Rattle.uefi_text.specs.Views.{text_of};
-ghost use Rattle.uefi_device_path.specs.FilePaths.{FileRefusedFor, IsReadable, file_path};
+ghost use Rattle.uefi_device_path.specs.FilePaths.{FilePathRefusedFor, IsReadable, file_path};
 ghost use Rattle.uefi_device_nodes.specs.Nodes.{IsInner};
 ghost use Rattle.uefi_device_path.specs.Paths.{AreNodes, joined, nodes_in};
 ghost use Rattle.uefi_device_nodes.specs.Nodes.{is_end_instance};
 ghost use Rattle.uefi_device_path.specs.Instances.{instances, instances_in};
 
 use crate::errors::{FilePathCause, FilePathError, FilePathWriteError};
-use crate::file_path::file_path_in;
-use crate::file_path_buffer::write_file_path_in;
+use crate::file_path::{file_path_in, write_file_path_in};
 use crate::node_iterator::DevicePathNodeIterator;
 use std::alloc::Allocator;
+use std::fmt;
+use std::hash::{Hash, Hasher};
 use uefi_device_nodes::DevicePathNode;
 use uefi_path::PathBuf;
 use uefi_text::CStr16;
@@ -85,8 +86,7 @@ impl<'a> DevicePathInstance<'a> {
     pub fn file_path<A: Allocator + Copy>(&self, alloc: A) -> Result<PathBuf<A>, FilePathError>
         ensures ok { IfOk result (λ path. path ≡ file_path (instance_nodes self.now)) }
         ensures accepted { IfOk result (λ _. All IsReadable (instance_nodes self.now)) }
-        ensures refusal { IfErr result (λ error. error.cause ≢ FilePathCause.OutOfMemory →
-            FileRefusedFor (instance_nodes self.now) error) }
+        ensures refusal { IfErr result (λ error. FilePathRefusedFor (instance_nodes self.now) error) }
     {
         file_path_in(alloc, self.bytes)
     }
@@ -123,6 +123,54 @@ impl<'a> DevicePathInstance<'a> {
             Ok(len) => Ok(CStr16::from_string(&buf[..len])),
             Err(error) => Err(error),
         }
+    }
+}
+
+/// Two instances are equal exactly when their bytes are.
+impl<'a> PartialEq for DevicePathInstance<'a> {
+    ghost use Rattle.std.specs.Cmp.{on_per, partial_equiv_from_equiv};
+    ghost use Rattle.std.specs.Prelude.{nat_eq};
+    ghost use Rattle.std.specs.Cmp.Lexicographic.{nat_list_eq_equiv, pointwise};
+    ghost use Rattle.uefi_device_path.specs.Views.{instance_nodes};
+
+    ghost eq = { λ a b. pointwise nat_eq (joined (instance_nodes a)) (joined (instance_nodes b)) };
+
+    ghost laws = { on_per (λ a. joined (instance_nodes a)) (partial_equiv_from_equiv nat_list_eq_equiv) };
+
+    fn eq(&self, other: &Self) -> bool {
+        self.as_bytes() == other.as_bytes()
+    }
+}
+
+impl<'a> Eq for DevicePathInstance<'a> {
+    ghost use Rattle.std.specs.Cmp.Lexicographic.{on_texts_equal};
+    ghost use Rattle.uefi_device_path.specs.Views.{instance_nodes};
+
+    ghost laws = { on_texts_equal (λ a. joined (instance_nodes a)) };
+}
+
+/// Hashes the bytes.
+impl<'a> Hash for DevicePathInstance<'a> {
+    ghost use Rattle.std.proofs.Common.{rules};
+    ghost use Rattle.std.specs.Hash as fed;
+    ghost use Rattle.std.specs.Cmp.Rules.{comparing, hashing};
+    ghost use Rattle.uefi_device_path.specs.Views.{instance_nodes};
+
+    ghost hash_input = { λ a. fed.slice fed.u8 (joined (instance_nodes a)) };
+
+    ghost respects_eq = { Prim.search (hashing, comparing, rules) };
+
+    fn hash<H: Hasher>(&self, state: &mut H) {
+        self.as_bytes().hash(state);
+    }
+}
+
+/// Writes the bytes.
+impl<'a> fmt::Debug for DevicePathInstance<'a> {
+    fn fmt<W: fmt::Write>(&self, f: &mut fmt::Formatter<W>) -> fmt::Result {
+        f.debug_tuple("DevicePathInstance")
+            .field(&self.as_bytes())
+            .finish()
     }
 }
 

@@ -1,9 +1,13 @@
 //! The laws by which users of device paths and load options reason. They speak of the definitions that
 //! the contracts of the working calls cite. Each law is a function that does nothing: its contract is the
 //! law.
-ghost use Rattle.uefi_device_path.specs.Laws.{AcceptedWithMore, BuiltIsRead, BytesOnce, NeverBoth, OptionsNeverBoth, OptionsOnce, PathsOnce, RefusedByHeader, TextsOnce};
+ghost use Rattle.uefi_device_path.specs.Laws.{AcceptedWithMore, BuiltIsRead, BytesOnce, NamesInARow, NeverBoth, OneName, OnlyFilesCount, OptionsNeverBoth, OptionsOnce, PathsOnce, RefusedByHeader, RelativeNamesArePushed, TextsOnce};
 
+pub use uefi_built_messages::laws as built_messages;
+pub use uefi_built_nodes::laws as built_nodes;
+pub use uefi_device_nodes::layouts;
 use uefi_node_reader::nodes::nodes_are_read;
+use uefi_path::laws::join_components;
 
 /// Bytes and nodes determine one another: bytes begin with one path at most, no two paths have the same
 /// bytes, and the bytes of nodes are read as these nodes.
@@ -39,4 +43,16 @@ pub fn texts_once()
     ensures { TextsOnce }
 {
     nodes_are_read();
+}
+
+/// A file path is made of the names of the nodes that name files, and of nothing else: one name is the whole path,
+/// names that begin with no separator are pushed one after the other, and the components are those of the names in a
+/// row, where none of these is empty.
+pub fn file_paths()
+    ensures one { OneName }
+    ensures others { OnlyFilesCount }
+    ensures relative { RelativeNamesArePushed }
+    ensures components { NamesInARow }
+{
+    join_components();
 }

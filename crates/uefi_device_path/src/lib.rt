@@ -16,18 +16,20 @@
 //! }
 //! ```
 //!
+//! [`DevicePathNode::as_enum`] gives the view of a node's kind, with a call for each field, and [`build`] has a
+//! struct for each kind of node that can be pushed on a path.
+//!
 //! A contract sees a node as `node_of` it, a record of its type, its sub-type and its data; a path as
 //! `nodes_of` it, the list of its nodes without the one that ends it; and a load option as `entry_of` it.
 //! A refusal says what is wrong and at which offset, and is the only one that holds of the bytes. No call
 //! takes memory but those that say so.
 #![tactic(auto)]
 
-mod build;
+pub mod build;
 mod builder;
 mod device_path;
 mod errors;
 mod file_path;
-mod file_path_buffer;
 mod instance;
 pub mod laws;
 mod load_option;
@@ -38,7 +40,7 @@ mod path_reader;
 mod path_text;
 mod unit_sink;
 
-pub use build::DevicePathBuf;
+pub use build::{BuildNode, DevicePathBuf};
 pub use builder::DevicePathBuilder;
 pub use device_path::DevicePath;
 pub use errors::{
@@ -53,7 +55,8 @@ pub use path_list::{DevicePaths, check_paths};
 pub use path_reader::PathTextError;
 pub use path_text::PathText;
 pub use uefi_device_nodes::node::{DevicePathNode, DeviceSubType, DeviceType};
+pub use uefi_device_nodes::node_enum::DevicePathNodeEnum;
 pub use uefi_device_nodes::node_text::NodeText;
-pub use uefi_device_nodes::typed_node::{NodeKind, TypedNode};
+pub use uefi_device_nodes::typed_node::TypedNode;
 pub use uefi_device_nodes::{acpi, bios_boot_spec, hardware, media, messaging};
 pub use uefi_field_texts::forms::{AllowShortcuts, DisplayOnly};

@@ -194,11 +194,10 @@ impl<'a> LoadOption<'a> {
 impl<'a> TryFrom<&'a [u8]> for LoadOption<'a> {
     type Error = LoadOptionError;
 
+    ghost use Rattle.uefi_device_path.specs.LoadOptions.{GivesOption};
     ghost use Rattle.uefi_device_path.specs.Views.{entry_of};
 
-    ghost try_from_gives = { λ bytes result.
-        IfOk result (λ option. IsEntry (entry_of option) × (bytes.now ≡ entry_bytes (entry_of option)))
-        × IfErr result (λ error. EntryRefusedFor bytes.now error) };
+    ghost try_from_gives = { λ bytes result. GivesOption entry_of bytes.now result };
 
     fn try_from(bytes: &'a [u8]) -> Result<Self, LoadOptionError> {
         LoadOption::from_bytes(bytes)

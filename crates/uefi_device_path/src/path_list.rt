@@ -1,18 +1,23 @@
 //! Device paths that lie packed, one after the other.
 #![tactic(auto, unfolding(crate::specs::Views::paths_left))]
 
-ghost use Rattle.std.specs.Prelude.{◌≡◌, ◌≤◌, ◌<◌, ◌^◌, length, OnOk, IfErr};
+ghost use Rattle.std.specs.Prelude.{◌≡◌, ◌≤◌, ◌<◌, ◌^◌, ◌↔◌, length, IsOk, OnOk, IfErr};
 ghost use Rattle.uefi_device_path.specs.PathLists.{ArePacked, IsPathList, ListRefusedFor, paths_in};
+ghost use Rattle.uefi_device_path.specs.declared.errors.DevicePathError.{DevicePathError};
 
 use crate::device_path::DevicePath;
 use crate::errors::DevicePathError;
 
-/// Whether bytes are device paths, one or more, and nothing else. Refused as
-/// [`DevicePath::split_first`] refuses the bytes from the first path on that is none, with the offset
-/// from the first byte of all.
+/// Whether bytes are one device path or more, and nothing else.
+///
+/// Fails at the first path that is malformed with the error of [`DevicePath::split_first`], whose offset counts from
+/// the first byte of all. One pass; allocates nothing.
 pub fn check_paths(bytes: &[u8]) -> Result<(), DevicePathError>
     ensures ok { OnOk result (IsPathList bytes.now) }
+    ensures accepts { IsOk result ↔ IsPathList bytes.now }
     ensures refusal { IfErr result (λ error. ListRefusedFor bytes.now error) }
+    ensures only_refusal { IfErr result (λ error. (other : DevicePathError) →
+        ListRefusedFor bytes.now other → other ≡ error) }
     ensures within { IfErr result (λ error. error.offset ≤ length bytes.now) }
 {
     let mut rest = bytes;

@@ -1,7 +1,7 @@
 //! A caller's buffer that takes a text as UTF-16.
 #![tactic(auto)]
 
-ghost use Rattle.std.specs.Prelude.{◌≡◌, ℕ, ◌+◌, ◌≤◌, ◌++◌, ◌∷◌, [], List, IfErr, IfOk, OnOk, drop, length};
+ghost use Rattle.std.specs.Prelude.{◌≡◌, ℕ, ◌+◌, ◌≤◌, ◌++◌, ◌∷◌, [], List, IfErr, IfOk, OnErr, OnOk, drop, length, take};
 ghost use Rattle.std.specs.Char.Escape.{encode_utf16};
 ghost use Rattle.uefi_device_path.specs.PathUnits.{AreSunk, TextRefusedFor, utf16_units};
 ghost use Rattle.uefi_device_path.specs.Views.{printed_path};
@@ -98,6 +98,8 @@ pub(crate) fn write_units(buffer: &mut [u16], text: PathText<'_>) -> Result<usiz
     ensures room { IfOk result (λ len. len ≤ length buffer.old) }
     ensures ok { OnOk result (buffer.new ≡ nul_terminated (utf16_units (printed_path text.entry))
         ++ drop (length (utf16_units (printed_path text.entry)) + 1) buffer.old) }
+    ensures small { OnErr result (buffer.new
+        ≡ take (length buffer.old) (utf16_units (printed_path text.entry))) }
     ensures refusal { IfErr result (λ error.
         TextRefusedFor (utf16_units (printed_path text.entry)) (length buffer.old) error) }
 {

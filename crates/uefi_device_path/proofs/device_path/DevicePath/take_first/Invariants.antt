@@ -1,0 +1,12 @@
+use Rattle.std.proofs.Common.{List, length, ◌≤◌}
+use Rattle.uefi_device_nodes.specs.Nodes.{Node}
+use Rattle.uefi_device_path.specs.Paths.{BeginWith, BeginWithPath}
+use Rattle.uefi_device_path.proofs.device_path.DevicePath.take_first.Given as goal
+
+-- so far there were nodes, and the others of the path are left
+abbrev pub invariant-nodes : goal.invariant-nodes
+invariant-nodes l = (length l.rest ≤ length l.bytes) × ((nodes : List Node) × BeginWith l.bytes nodes l.rest)
+    × ((nodes : List Node) × BeginWithPath l.rest nodes)
+
+abbrev pub decreases-nodes : goal.decreases-nodes
+decreases-nodes l = length l.rest
