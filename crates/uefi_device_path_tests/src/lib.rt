@@ -6,6 +6,8 @@
 #[cfg(test)]
 mod build;
 #[cfg(test)]
+mod built_nodes;
+#[cfg(test)]
 mod device_path;
 #[cfg(test)]
 mod entries;
@@ -25,5 +27,7 @@ mod out_of_memory;
 mod path_reader;
 #[cfg(test)]
 mod path_text;
+#[cfg(test)]
+mod typed_fields;
 #[cfg(test)]
 mod typed_node;

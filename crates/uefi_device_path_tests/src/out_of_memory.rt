@@ -2,20 +2,23 @@
 //! refused in turn; and long ones, with ample memory.
 
 use crate::option_builder::END;
-use for_tests::{Refusing, out_of_memory, requests};
+use for_tests::{Refusing, out_of_memory, repeated, requests};
 use std::alloc::{AllocError, Global};
 use std::test::Fail;
 use uefi_device_path::{
     BuildError, DevicePath, DevicePathBuf, DeviceSubType, DeviceType, FilePathCause, LoadOption,
     LoadOptionBuilder, OptionBuildError, PathTextError,
 };
-use uefi_text::FromSliceWithNulError;
+use uefi_path::Path;
+use uefi_text::{CStr16, FromSliceWithNulError};
 
 /// A call that takes memory, and what it is given.
 #[derive(Clone, Copy)]
 enum Call<'a> {
     /// How many nodes are pushed to a new path, and the data of each.
     Push(usize, &'a [u8]),
+    /// How many nodes that name files are pushed to a new path, and the name of each.
+    PushFile(usize, &'a [u16]),
     /// The data of a node that names a file, and how many characters the name has.
     FilePath(&'a [u8], usize),
     /// A text.
@@ -32,6 +35,21 @@ fn builds(heap: &Refusing<Global>, count: usize, data: &[u8]) -> Result<bool, Al
     let mut path = DevicePathBuf::new(heap)?;
     for done in 0..count {
         if let Err(error) = path.push(DeviceType::MEDIA, DeviceSubType::MEDIA_FILE_PATH, data) {
+            let kept = path.as_device_path().node_iter().count() == done;
+            return out_of_memory(kept && error == BuildError::OutOfMemory);
+        }
+    }
+    Ok(path.as_device_path().node_iter().count() == count)
+}
+
+/// The same of nodes that name files.
+fn names(heap: &Refusing<Global>, count: usize, name: &[u16]) -> Result<bool, AllocError> {
+    let Ok(name) = CStr16::from_u16_with_nul(name) else {
+        return Ok(false);
+    };
+    let mut path = DevicePathBuf::new(heap)?;
+    for done in 0..count {
+        if let Err(error) = path.push_file(Path::new(name)) {
             let kept = path.as_device_path().node_iter().count() == done;
             return out_of_memory(kept && error == BuildError::OutOfMemory);
         }
@@ -93,6 +111,7 @@ fn is_shown(heap: &Refusing<Global>, bytes: &[u8], len: usize) -> Result<bool, A
 fn answers(call: Call<'_>, heap: &Refusing<Global>) -> Result<bool, AllocError> {
     match call {
         Call::Push(count, data) => builds(heap, count, data),
+        Call::PushFile(count, name) => names(heap, count, name),
         Call::FilePath(bytes, len) => has_name(heap, bytes, len),
         Call::FromText(text) => is_read(heap, text),
         Call::ToVec(description) => is_made(heap, description),
@@ -112,7 +131,9 @@ const ROWS: &[(Call<'static>, u64, u64)] = &[
     (Call::Push(0, &[]), 1, 1),
     (Call::Push(1, &[7; 10]), 2, 2),
     (Call::Push(1, &[7; 5000]), 2, 2),
-    (Call::FilePath(NAMED, 1), 2, 2),
+    (Call::PushFile(1, &[0x61, 0]), 2, 2),
+    (Call::PushFile(1, &[0]), 2, 2),
+    (Call::FilePath(NAMED, 1), 1, 1),
     (Call::FromText("PciRoot(0x0)/Pci(0x1F,0x2)"), 3, 99),
     (Call::FromText("USB(0x1,0x0),,\\a"), 3, 99),
     (Call::ToVec(&[0x61]), 1, 1),
@@ -126,6 +147,155 @@ fn requests_of_each_call(rt: HostRuntime) -> Result<(), Fail> {
     for (row, (call, least, most)) in ROWS.iter().enumerate() {
         let count = requests(rt.alloc(), 0, |heap| answers(*call, heap))?;
         assert!(rt; *least <= count && count <= *most, "{row}: {count}");
+    }
+    Ok(())
+}
+
+/// Characters of one unit, of one unit and three bytes, and of two units.
+const CHARACTERS: &[char] = &['a', 'é', '中', '😀'];
+
+/// Data of a node that names a file: a character this many times, after a separator or not, and a NUL.
+fn name_of(alloc: Global, character: char, count: u64, is_rooted: bool) -> Result<Vec<u8>, Fail> {
+    let mut name = String::from_str(alloc, if is_rooted { "\\" } else { "" })?;
+    name.push_str(repeated(alloc, character.to_string(alloc)?.as_str(), count)?.as_str())?;
+    Ok(unit_bytes(alloc, name.as_str())?)
+}
+
+/// The units of a text and a NUL, two bytes for each.
+fn unit_bytes(alloc: Global, text: &str) -> Result<Vec<u8>, AllocError> {
+    let mut bytes = Vec::new(alloc);
+    for unit in text.encode_utf16() {
+        bytes.extend_from_slice(&unit.to_le_bytes())?;
+    }
+    bytes.extend_from_slice(&[0, 0])?;
+    Ok(bytes)
+}
+
+/// How many nodes name files, how many characters each name has, and whether it begins with a separator: one
+/// request for the text, and one for the places of separators.
+const FILE_PATHS: &[(u64, u64, bool, u64)] = &[
+    (1, 0, false, 1),
+    (1, 0, true, 2),
+    (1, 7, false, 1),
+    (1, 8, true, 2),
+    (1, 300, false, 1),
+    (1, 1000, true, 2),
+    (2, 1, false, 2),
+    (3, 300, true, 2),
+    (60, 30, true, 2),
+    (400, 4, false, 2),
+    (2, 16_000, true, 2),
+];
+
+#[test]
+fn file_paths_of_each_size(rt: HostRuntime) -> Result<(), Fail> {
+    for (nodes, characters, is_rooted, wanted) in FILE_PATHS {
+        let data = name_of(rt.alloc(), 'é', *characters, *is_rooted)?;
+        let mut path = DevicePathBuf::new(rt.alloc())?;
+        for _ in 0..*nodes {
+            path.push(DeviceType::MEDIA, DeviceSubType::MEDIA_FILE_PATH, &data)?;
+        }
+        let all = nodes.saturating_mul(characters.saturating_add(1));
+        let len = all.saturating_sub(u64::from(!*is_rooted)) as usize;
+        let bytes = path.as_device_path().as_bytes();
+        let count = requests(rt.alloc(), 0, |heap| has_name(heap, bytes, len))?;
+        assert!(rt;
+            count == *wanted,
+            "{nodes} {characters} {is_rooted}: {count}"
+        );
+    }
+    Ok(())
+}
+
+/// Texts of nodes, one of them this many times in a row: nodes, bytes of a node, characters of a name.
+const TEXTS: &[(&str, &str, u64, &str)] = &[
+    ("Pci(0x0,0x0)", "/Pci(0x1F,0x7)", 400, ""),
+    ("Path(3,99,", "0F", 1, ")"),
+    ("Path(3,99,", "0F", 300, ")"),
+    ("Path(3,99,", "0F", 2000, ")"),
+    ("\\", "a", 300, ""),
+    ("\\", "é", 1000, ""),
+    ("\\", "中", 1, ""),
+    ("\\", "中", 300, ""),
+    ("\\", "😀", 200, ""),
+    ("USB(0x1,0x0)", ",USB(0x1,0x0)", 100, "/\\a"),
+];
+
+#[test]
+fn texts_of_each_size(rt: HostRuntime) -> Result<(), Fail> {
+    for (front, piece, count, back) in TEXTS {
+        let mut text = String::from_str(rt.alloc(), front)?;
+        text.push_str(repeated(rt.alloc(), piece, *count)?.as_str())?;
+        text.push_str(back)?;
+        let made = requests(rt.alloc(), 0, |heap| is_read(heap, text.as_str()))?;
+        assert!(rt; 2 < made, "{piece}: {made}");
+    }
+    Ok(())
+}
+
+/// How often a description has a character, and how many bytes of optional data follow the path.
+const DESCRIPTIONS: &[(u64, usize)] = &[(0, 0), (1, 136), (300, 0), (300, 136), (1000, 5000)];
+
+/// Whether each call that takes memory returns the description of an option with this one and these optional data:
+/// one request for a string, and two or more for a text that is not empty.
+fn describes(rt: &HostRuntime, text: &str, optional: &[u8]) -> Result<bool, Fail> {
+    let bytes = unit_bytes(rt.alloc(), text)?;
+    let mut option = Vec::from_slice(rt.alloc(), &[1, 0, 0, 0, 4, 0])?;
+    option.extend_from_slice(&bytes)?;
+    option.extend_from_slice(END)?;
+    option.extend_from_slice(optional)?;
+    let shown = requests(rt.alloc(), 0, |heap| is_shown(heap, &option, text.len()))?;
+    let is_shown = text.is_empty() || 2 <= shown;
+    if text.contains('😀') {
+        return Ok(is_shown);
+    }
+    let len = text.chars().count();
+    let count = requests(rt.alloc(), 0, |heap| has_description(heap, &option, len))?;
+    Ok(count == 1 && is_shown)
+}
+
+#[test]
+fn descriptions_of_each_size(rt: HostRuntime) -> Result<(), Fail> {
+    for (count, optional) in DESCRIPTIONS {
+        let data = vec![in rt.alloc(); 7u8; *optional]?;
+        for character in CHARACTERS {
+            let one = character.to_string(rt.alloc())?;
+            let text = repeated(rt.alloc(), one.as_str(), *count)?;
+            assert!(rt;
+                describes(&rt, text.as_str(), &data)?,
+                "{count} {character}"
+            );
+        }
+    }
+    Ok(())
+}
+
+/// Whether an option of this description, of paths and of optional data is written with one request.
+fn writes(rt: &HostRuntime, len: usize, paths: usize, optional: usize) -> Result<bool, Fail> {
+    let description = vec![in rt.alloc(); 0xe9u16; len]?;
+    let data = vec![in rt.alloc(); 7u8; optional]?;
+    let list = vec![in rt.alloc(); DevicePath::from_bytes(NAMED)?; paths]?;
+    let whole = len
+        .saturating_mul(2)
+        .saturating_add(paths.saturating_mul(12))
+        .saturating_add(optional)
+        .saturating_add(8);
+    let count = requests(rt.alloc(), 0, |heap| {
+        match LoadOptionBuilder::new(1, &description, &list, &data).to_vec(heap) {
+            Ok(bytes) => Ok(bytes.len() == whole),
+            Err(error) => out_of_memory(error == OptionBuildError::OutOfMemory),
+        }
+    })?;
+    Ok(count == 1)
+}
+
+#[test]
+fn options_of_each_size(rt: HostRuntime) -> Result<(), Fail> {
+    for (len, paths, optional) in [(0, 1, 0), (1, 2, 136), (300, 400, 0), (1000, 5461, 5000)] {
+        assert!(rt;
+            writes(&rt, len, paths, optional)?,
+            "{len} {paths} {optional}"
+        );
     }
     Ok(())
 }

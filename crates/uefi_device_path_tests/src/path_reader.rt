@@ -1,7 +1,7 @@
 //! Device paths read from their texts: the bytes of each, by the layouts of the UEFI Specification 2.10,
 //! section 10.3, and where a text is none.
 
-use crate::node_text::REGULAR;
+use crate::node_text::{REGULAR, SAS};
 use for_tests::{bytes, split_row};
 use std::alloc::Global;
 use std::test::Fail;
@@ -47,14 +47,21 @@ fn texts(rt: HostRuntime) -> Result<(), Fail> {
     Ok(())
 }
 
+/// The first line of a table whose text is not read so.
+fn find_unread(alloc: Global, table: &'static str) -> Result<Option<&'static str>, Fail> {
+    for line in table.split('\n') {
+        let (nodes, text) = split_row(line);
+        if !is_read(alloc, text, &bytes(alloc, nodes)?)? {
+            return Ok(Some(line));
+        }
+    }
+    Ok(None)
+}
+
 #[test]
 fn texts_of_each_kind(rt: HostRuntime) -> Result<(), Fail> {
-    for line in REGULAR.split('\n') {
-        let (nodes, text) = split_row(line);
-        assert!(rt;
-            is_read(rt.alloc(), text, &bytes(rt.alloc(), nodes)?)?,
-            "{line}"
-        );
+    for table in [REGULAR, SAS] {
+        assert_eq!(rt; find_unread(rt.alloc(), table)?, None);
     }
     Ok(())
 }
@@ -70,6 +77,25 @@ const REFUSED: &[(&str, usize)] = &[
     ("Acpi(PNP0A03,0x0)", 0),
     ("Acpi(0x0A0341D0,0x0)", 0),
     ("USB(0x1,0x0),USB(0x1)", 13),
+    ("Uart(0,8,N,1)", 0),
+    ("Uart(115200,8,N,1.6)", 0),
+    (
+        "SasEx(0x0000000000000001,0x0000000000000002,0x0,SAS,Internal,Direct,0x101)",
+        0,
+    ),
+    (
+        "SasEx(0x0000000000000001,0x0000000000000002,0x0,0x1,0,0,0)",
+        0,
+    ),
+    ("AcpiAdr(0x1,)", 0),
+    ("AcpiAdr()", 0),
+    ("Dns(8.8.8.8,)", 0),
+    ("Dns(8.8.8.8,0001:0000:0000:0000:0000:0000:0000:0001)", 0),
+    ("Dns(8.8.8.256)", 0),
+    ("UsbWwid(0x1,0x2,0x3,\"\u{e9}\")", 0),
+    ("UsbWwid(0x1,0x2,0x3,\"a\"b\")", 0),
+    ("Uri(a)b)", 6),
+    ("Wi-Fi(home)", 0),
     ("HD(01,MBR,0xA0B1C2D3,0x3F,0x1)", 0),
     ("Path(1,1,ABCD)", 0),
     ("Path(127,1)", 0),

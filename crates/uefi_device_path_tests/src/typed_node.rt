@@ -22,7 +22,7 @@ fn hard_drive(rt: HostRuntime) -> Result<(), Fail> {
     assert!(rt; drive.partition_number() == 1);
     assert!(rt; (drive.partition_start(), drive.partition_size()) == (2048, 1_048_576));
     assert!(rt; (drive.partition_format(), drive.signature_type()) == (2, 2));
-    assert!(rt; drive.partition_signature().last() == Some(&15));
+    assert!(rt; drive.partition_signature()[15] == 15);
     Ok(())
 }
 
@@ -42,6 +42,22 @@ fn devices(rt: HostRuntime) -> Result<(), Fail> {
     assert!(rt; (usb.parent_port_number(), usb.interface()) == (7, 1));
     let boot = BootSpecification::from_node(node(&[5, 1, 9, 0, 2, 0, 3, 0, 0])?)?;
     assert!(rt; (boot.device_type(), boot.status_flag()) == (2, 3));
+    Ok(())
+}
+
+/// The strings of the IDs of a host bridge, and of a node that ends before the last two.
+#[test]
+fn strings_of_ids(rt: HostRuntime) -> Result<(), Fail> {
+    let bridge = node(
+        b"\x02\x02\x1e\x00\xd0\x41\x08\x0a\x10\0\0\0\xd0\x41\x03\x0aACPI0004\0U1\0C\0",
+    )?;
+    let bridge = Expanded::from_node(bridge)?;
+    assert!(rt; bridge.hid_str() == b"ACPI0004".as_slice() && bridge.cid_str() == b"C".as_slice());
+    assert!(rt; bridge.uid_str() == b"U1".as_slice());
+    let short = node(b"\x02\x02\x13\x00\x43\x04\x34\x12\x07\0\0\0\0\0\0\0xyz")?;
+    let short = Expanded::from_node(short)?;
+    assert!(rt; short.hid_str() == b"xyz".as_slice());
+    assert!(rt; short.uid_str().is_empty() && short.cid_str().is_empty());
     Ok(())
 }
 
@@ -125,8 +141,8 @@ fn gateways(rt: HostRuntime) -> Result<(), Fail> {
         0,
     ];
     let whole = Ipv4::from_node(node(&bytes)?)?;
-    assert!(rt; whole.gateway_ip_address() == Some([11, 12, 13, 14].as_slice()));
-    assert!(rt; whole.subnet_mask() == Some([255, 255, 255, 0].as_slice()));
+    assert!(rt; whole.gateway_ip_address() == Some([11, 12, 13, 14]));
+    assert!(rt; whole.subnet_mask() == Some([255, 255, 255, 0]));
     for (len, gateway, mask) in GATEWAYS {
         bytes[2] = *len;
         let short = Ipv4::from_node(node(&bytes)?)?;

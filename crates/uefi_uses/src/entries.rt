@@ -1,9 +1,14 @@
-//! Boot entries: which start by themselves, and how a menu shows one.
-ghost use Rattle.std.specs.Prelude.{◌≡◌, ◌↔◌, ◌%◌, IfErr, IfOk, IsTrue};
+//! Boot entries: which start by themselves, how a menu shows one, and the path of a new one.
+ghost use Rattle.std.specs.Prelude.{◌≡◌, ◌↔◌, ◌%◌, ◌∷◌, [], IfErr, IfOk, IsTrue};
+ghost use Rattle.uefi_device_path.specs.Building.{node_of_name};
 ghost use Rattle.uefi_device_path.specs.LoadOptions.{Entry, EntryRefusedFor, IsEntry, entry_bytes};
+ghost use Rattle.uefi_device_path.specs.MediaNodes.{hard_drive_node};
+ghost use Rattle.uefi_path.specs.Views.{path_text};
 
 use std::alloc::Global;
-use uefi_device_path::{LoadOption, LoadOptionError};
+use uefi_device_path::build::media::HardDrive;
+use uefi_device_path::{BuildError, DevicePathBuf, LoadOption, LoadOptionError};
+use uefi_path::Path;
 
 /// Whether firmware starts a boot entry by itself, or why the bytes are no boot entry.
 pub fn starts_by_itself(bytes: &[u8]) -> Result<bool, LoadOptionError>
@@ -23,4 +28,21 @@ pub fn line_of_entry(alloc: Global, bytes: &[u8]) -> anyhow::Result<String> {
         line.push_str(&format!(in alloc; ", {path}")?)?;
     }
     Ok(line)
+}
+
+/// The device path of a file on a partition, as a boot entry holds it.
+pub fn path_of_file(
+    alloc: Global,
+    partition: &HardDrive,
+    file: Path<'_>,
+) -> Result<DevicePathBuf, BuildError>
+    ensures { IfOk result (λ path.
+        path ≡ hard_drive_node partition.now ∷ node_of_name (path_text file.entry) ∷ []) }
+{
+    let Ok(mut path) = DevicePathBuf::new(alloc) else {
+        return Err(BuildError::OutOfMemory);
+    };
+    path.push_node(partition)?;
+    path.push_file(file)?;
+    Ok(path)
 }

@@ -1,9 +1,10 @@
-use crate::entries::{line_of_entry, starts_by_itself};
+use crate::entries::{line_of_entry, path_of_file, starts_by_itself};
 use crate::loaders::is_offered;
 use crate::names::name_len;
 use crate::paths::{EntryError, entry_path};
 use crate::stored::is_entry;
 use std::test::Fail;
+use uefi_device_path::build::media::HardDrive;
 use uefi_device_path::{LoadOptionCause, LoadOptionError};
 use uefi_path::{Path, PathError};
 use uefi_text::{CString16, FromSliceWithNulError, FromStrError};
@@ -112,5 +113,25 @@ fn boot_entries(rt: HostRuntime) -> Result<(), Fail> {
         offset: 4,
     };
     assert_eq!(rt; starts_by_itself(cut), Err(refused));
+    Ok(())
+}
+
+#[test]
+fn paths_of_files(rt: HostRuntime) -> Result<(), Fail> {
+    let partition = HardDrive {
+        partition_number: 1,
+        partition_start: 2048,
+        partition_size: 0x10_0000,
+        partition_signature: [0, 1, 2, 3, 4, 5, 6, 7, 8, 9, 10, 11, 12, 13, 14, 15],
+        partition_format: 2,
+        signature_type: 2,
+    };
+    let name = CString16::try_from_str(rt.alloc(), "\\a.efi")?;
+    let path = path_of_file(rt.alloc(), &partition, Path::new(name.as_cstr16()))?;
+    let text = format!(in rt.alloc(); "{}", path.as_device_path())?;
+    assert_eq!(rt;
+        text.as_str(),
+        "HD(1,GPT,03020100-0504-0706-0809-0A0B0C0D0E0F,0x800,0x100000)/\\a.efi"
+    );
     Ok(())
 }
