@@ -9,6 +9,11 @@ import samples
 TERMINAL = bytes.fromhex("5347c1e0bef9d2119a0c0090273fc14d")
 UART = bytes.fromhex("9d9a49372f54894ca02635da142094e4")
 UART_TEXT = "37499A9D-542F-4C89-A026-35DA142094E4"
+SAS = bytes.fromhex("b4dd87d48b00d911afdc001083ffca4d")
+SAS_TEXT = "D487DDB4-008B-11D9-AFDC-001083FFCA4D"
+# Topologies of SAS devices that words tell: in no bay and in one.
+TOPOLOGIES = [b"\0\0", *(bytes([16 * it + 1, 0]) for it in range(8))]
+BAYS = [16 * it + 2 for it in range(8)]
 RAM_DISK = bytes.fromhex("5a53ab77fc454b625560f7b281d1f96e")
 # IDs of PNP with a name of their own, and one without.
 PNP = [0x0A03, 0x0A08, 0x0604, 0x0301, 0x0501, 0x0401, 0x0C08]
@@ -25,6 +30,8 @@ def nodes_of(source):
     guid = lambda known: known if source.random() < 0.3 else some(16)
     pnp = lambda: struct.pack("<HH", 0x41D0, source.choice(PNP)) if source.random() < 0.7 else some(4)
     strings = lambda: b"".join(source.choice([b"", b"ID0", b"PNP0A03"]) + b"\0" for _ in range(3))
+    small = lambda most: bytes([source.randrange(most)])
+    topology = lambda: source.choice([source.choice(TOPOLOGIES), bytes([source.choice(BAYS), byte()]), bytes([source.choice([0x83, 4, 15]), byte()])])
     return [
         (1, 1, some(2)), (1, 2, some(1)), (1, 3, some(20)), (1, 4, some(16, 20)), (1, 5, some(4)), (1, 6, some(9)),
         (2, 1, pnp() + some(4)), (2, 2, pnp() + some(4) + pnp() + strings()),
@@ -34,6 +41,13 @@ def nodes_of(source):
         (3, 12, some(12) + struct.pack("<HB", source.choice([6, 17, 1]), source.randrange(3)) + source.choice([b"", some(8)])),
         (3, 13, some(36) + struct.pack("<HB", source.choice([6, 17, 1]), source.randrange(4)) + some(17)),
         (3, 13, some(36) + struct.pack("<HB", source.choice([6, 17, 1]), source.randrange(3))),
+        (3, 10, SAS + some(20) + topology() + some(2)), (3, 22, some(16) + topology() + some(2)),
+        (3, 14, some(4) + source.choice([bytes(8), some(8)]) + some(1) + small(7) + small(5)),
+        (2, 3, some(4) + b"".join(some(4) for _ in range(source.randrange(4)))),
+        (3, 16, some(6) + source.choice(["A1b2", "no NUL", "x\0", "\u00e9\0"]).encode("utf-16-le")),
+        (3, 19, struct.pack("<HH", source.randrange(2), source.randrange(2**16)) + some(10) + source.choice([b"iqn.2001-04.com.example:disk", b"a"]) + b"\0"),
+        (3, 28, source.choice([b"home", b"long name", b"0123456789abcdef0123456789ABCDEF"]).ljust(32, b"\0")),
+        (3, 31, small(2) + b"".join(some(16) for _ in range(source.randrange(1, 4)))),
         (3, 15, some(4) + bytes([source.choice(USB_CLASSES), source.choice([byte(), 1, 2, 3])]) + some(1)), (3, 17, some(1)),
         (3, 18, some(6)), (3, 20, some(2)), (3, 21, some(20)), (3, 25, some(2)), (3, 27, some(6)), (3, 30, some(7)),
         (3, 23, some(12)), (3, 24, source.choice([b"", b"http://boot.example/a.efi"])), (3, 26, some(1)), (3, 29, some(1)),
@@ -56,17 +70,18 @@ def many(turns):
 
 
 def with_number(text):
-    """A text of the firmware's in which no number of a partition is below 0."""
-    return re.sub(r"(?<=HD\()-\d+", lambda it: str(int(it[0]) + 2**32), text)
+    """A text of the firmware's in which no number of a partition and no baud rate is below 0."""
+    text = re.sub(r"(?<=HD\()-\d+", lambda it: str(int(it[0]) + 2**32), text)
+    return re.sub(r"(?<=Uart\()-\d+", lambda it: str(int(it[0]) + 2**64), text)
 
 
 # Where the firmware prints something else of a node: why, and whether it did that here, by our text and its own.
 KNOWN = [
-    ("a kind without a form here", lambda ours, theirs: ours.startswith("Path(")),
     ("AcpiEx in fewer words", lambda ours, theirs: ours.startswith("AcpiEx(") and theirs.startswith(("AcpiEx(", "AcpiExp(", "PciRoot(", "PcieRoot("))),
     ("AcpiExp in fewer words", lambda ours, theirs: ours.startswith("AcpiExp(") and theirs.startswith(("PciRoot(", "PcieRoot("))),
     ("the shorter name of a vendor, and data lost", lambda ours, theirs: ours.startswith("VenMsg(E0C14753-F9BE-11D2-9A0C-0090273FC14D,") and theirs == "VenPcAnsi()"),
     ("flow control without shortcuts", lambda ours, theirs: ours.startswith("UartFlowCtrl(") and theirs.startswith(f"VenMsg({UART_TEXT},")),
+    ("SAS without shortcuts", lambda ours, theirs: ours.startswith("SAS(") and theirs.startswith(f"VenMsg({SAS_TEXT},")),
     ("a number as one below 0", lambda ours, theirs: ours == with_number(theirs) != theirs),
 ]
 
