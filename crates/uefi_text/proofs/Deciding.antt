@@ -1,4 +1,5 @@
--- What a constructor takes is a string exactly where the first element that no text holds is a NUL in the last place.
+-- What a constructor takes is a string exactly where the first element that no text holds is a NUL in
+-- the last place.
 use Rattle.std.proofs.Common.{◌≡◌, ◌≢◌, ℕ, ◌+◌, ◌-◌, ◌<◌, ◌^◌, ◌∙◌, ap, subst, sym, Bool, true, false, All, List, [], ◌∷◌, ◌++◌, length, get_or, take, Some, None, Option, arith, refl}
 use Rattle.std.specs.List.{before_first, position, position_or_len}
 use Rattle.std.specs.Option.{unwrap_or}

@@ -1,10 +1,11 @@
 -- Why going back to the last `*` alone is enough.
 --
--- A search stands at a place of the pattern and at a place of the text. `Later` is what was not tried yet: that
--- the last `*` takes more units. The pattern matches the text exactly where it matches from here, or later.
--- What makes earlier stars needless is `leads`: whatever the units after the last `*` match begins with as many
--- units as the search went since. So a match that begins later reaches this place of the pattern later in the
--- text, and at a `*` (or at the text's end) what matches later in the text matches here.
+-- A search stands at a place of the pattern and at a place of the text. `Later` is what was not tried
+-- yet: that the last `*` takes more units. The pattern matches the text exactly where it matches from
+-- here, or later. What makes earlier stars needless is `leads`: whatever the units after the last `*`
+-- match begins with as many units as the search went since. So a match that begins later reaches this
+-- place of the pattern later in the text, and at a `*` (or at the text's end) what matches later in the
+-- text matches here.
 use Rattle.std.proofs.Common.{inl, inr, ◌⊎◌, ◌≡◌, ◌∙◌, ◌+◌, ◌-◌, ◌≤◌, ℕ, List, [], ◌∷◌, ◌++◌, ap, sym, subst, refl, take, drop, length, arith, append_assoc, length-append, Some, None, Option}
 use Rattle.std.proofs.lemmas.List.{drop-append-le, drop-drop, take-append-drop}
 use Rattle.uefi_text.specs.Patterns.{Matches, Any}

@@ -130,7 +130,8 @@ length-encode_utf8_all-le us small =
 abbrev IsInside : ℕ → Type 0
 IsInside b = (128 ≤ b) × (b < 192)
 
--- a byte with which a character begins: of ASCII, of the rest of Latin-1, of the other characters of UCS-2, and of all others
+-- a byte with which a character begins: of ASCII, of the rest of Latin-1, of the other characters of
+-- UCS-2, and of all others
 abbrev Begins : ℕ → ℕ → Type 0
 Begins c b = (c < 128) × (b ≡ c) ⊎ (128 ≤ c) × (c < 256) × (192 ≤ b) × (b < 196) ⊎ (256 ≤ c) × (c < 65536) × (196 ≤ b) × (b < 240) ⊎ (65536 ≤ c) × (240 ≤ b)
 

@@ -49,7 +49,8 @@ TiesWithoutCase = (text other : List ℕ) → (caseless_order text other ≡ Equ
 
 -- the case of ASCII is std's
 abbrev pub AsciiCase : Type 0
-AsciiCase = (unit : ℕ) → unit < 2 ^ 7 → (upper unit ≡ to_ascii_uppercase unit) × (lower unit ≡ to_ascii_lowercase unit)
+AsciiCase = (unit : ℕ) → unit < 2 ^ 7
+    → (upper unit ≡ to_ascii_uppercase unit) × (lower unit ≡ to_ascii_lowercase unit)
 
 -- texts of ASCII are the same without case where std says so
 abbrev pub AsciiSameWithoutCase : Type 0

@@ -1,7 +1,6 @@
 pub mod Units
 pub mod Case
 pub mod Scans
-pub mod ShortChars
 pub mod Latin1
 pub mod FromSliceUntilNul
 pub mod FromSliceWithNul

@@ -23,15 +23,18 @@ pub record TakesOne (pattern rest : List ℕ) (unit : ℕ) : Type 0 where
 abbrev pub is_right_bracket : ℕ → Bool
 is_right_bracket c = c == right_bracket
 
--- whether the rest of a set after a `-` begins with a unit that ends a range which takes another, or is the same
+-- whether the rest of a set after a `-` begins with a unit that ends a range which takes another, or is
+-- the same
 abbrev pub range_takes : ℕ → List ℕ → ℕ → Bool
 range_takes first [] unit = false
-range_takes first (last ∷ _) unit = nat_le (upper first) (upper unit) && nat_le (upper unit) (upper last) || upper last == upper unit
+range_takes first (last ∷ _) unit =
+    nat_le (upper first) (upper unit) && nat_le (upper unit) (upper last) || upper last == upper unit
 
 -- whether a unit is one of those in the rest of a set, after another unit of it
 abbrev pub rest_takes : ℕ → List ℕ → ℕ → Bool
 rest_takes before [] unit = false
-rest_takes before (c ∷ cs) unit = (if c == hyphen then range_takes before cs unit else upper c == upper unit) || rest_takes c cs unit
+rest_takes before (c ∷ cs) unit =
+    (if c == hyphen then range_takes before cs unit else upper c == upper unit) || rest_takes c cs unit
 
 -- whether a unit is one of a set
 abbrev pub set_takes : List ℕ → ℕ → Bool

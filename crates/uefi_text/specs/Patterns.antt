@@ -30,12 +30,14 @@ last_of before (c ∷ cs) = last_of c cs
 
 -- a unit of a set, other than `-`, is this one in upper case
 abbrev pub HasUnit : List ℕ → ℕ → Type 0
-HasUnit set capital = (front : List ℕ) × (c : ℕ) × (rest : List ℕ) × (set ≡ front ++ c ∷ rest) × (c ≢ hyphen) × (upper c ≡ capital)
+HasUnit set capital = (front : List ℕ) × (c : ℕ) × (rest : List ℕ)
+    × (set ≡ front ++ c ∷ rest) × (c ≢ hyphen) × (upper c ≡ capital)
 
 -- in a set, which follows a unit, a `-` stands between two units that this one lies between in upper case, or
 -- before one that is this one
 abbrev pub HasRange : ℕ → List ℕ → ℕ → Type 0
-HasRange before set capital = (front : List ℕ) × (last : ℕ) × (rest : List ℕ) × (set ≡ front ++ hyphen ∷ last ∷ rest)
+HasRange before set capital = (front : List ℕ) × (last : ℕ) × (rest : List ℕ)
+    × (set ≡ front ++ hyphen ∷ last ∷ rest)
     × (((upper (last_of before front) ≤ capital) × (capital ≤ upper last)) ⊎ (upper last ≡ capital))
 
 -- a unit is one of a set. A range that nothing stands before begins at 0
@@ -47,12 +49,16 @@ pub data Matches : List ℕ → List ℕ → Type 0 where
   -- the empty pattern matches the empty text
   Nothing : Matches [] []
   -- `*` matches any units
-  Any : {pattern back : List ℕ} (front : List ℕ) → Matches pattern back → Matches (star ∷ pattern) (front ++ back)
+  Any : {pattern back : List ℕ} (front : List ℕ) → Matches pattern back
+      → Matches (star ∷ pattern) (front ++ back)
   -- `?` matches any one unit
-  One : {pattern back : List ℕ} (unit : ℕ) → Matches pattern back → Matches (question_mark ∷ pattern) (unit ∷ back)
+  One : {pattern back : List ℕ} (unit : ℕ) → Matches pattern back
+      → Matches (question_mark ∷ pattern) (unit ∷ back)
   -- `[`, a set and `]` match one unit of the set
-  OneOf : {pattern back : List ℕ} (set : List ℕ) (unit : ℕ) → HasNoEnd set → IsInSet set unit → Matches pattern back
+  OneOf : {pattern back : List ℕ} (set : List ℕ) (unit : ℕ)
+      → HasNoEnd set → IsInSet set unit → Matches pattern back
       → Matches (left_bracket ∷ (set ++ right_bracket ∷ pattern)) (unit ∷ back)
   -- any other unit matches itself without case
-  Itself : {pattern back : List ℕ} (c unit : ℕ) → c ≢ star → c ≢ question_mark → c ≢ left_bracket → upper c ≡ upper unit → Matches pattern back
+  Itself : {pattern back : List ℕ} (c unit : ℕ) → c ≢ star → c ≢ question_mark → c ≢ left_bracket
+      → upper c ≡ upper unit → Matches pattern back
       → Matches (c ∷ pattern) (unit ∷ back)

@@ -1,9 +1,9 @@
 //! Upper and lower case, and strings compared without it, as the firmware's Unicode collation does for
 //! English: `StriColl`, `StrUpr` and `StrLwr` (UEFI Specification 2.10, section 21.1). No call takes memory.
 //!
-//! The letters that have a case are `a` to `z` and the small letters of Latin-1, U+00E0 to U+00FE but the division
-//! sign U+00F7. Their upper case is 32 below them. Any other character is its own upper case and its own lower
-//! case. `specs/Case.antt` has the definitions.
+//! The letters that have a case are `a` to `z` and the small letters of Latin-1, U+00E0 to U+00FE but
+//! the division sign U+00F7. Their upper case is 32 below them. Any other character is its own upper
+//! case and its own lower case. `specs/Case.antt` has the definitions.
 ghost use Rattle.std.specs.Prelude.{◌≡◌, ◌↔◌, IsTrue, map};
 ghost use Rattle.uefi_text.specs.Case.{caseless_order, in_case, is_lowercase, lower, upper, uppers};
 ghost use Rattle.uefi_text.specs.Views.{text_of, units_of};
@@ -113,8 +113,9 @@ impl<'a> CStr16<'a> {
         are_same(self.to_u16_slice(), other.to_u16_slice())
     }
 
-    /// How both strings compare without case, as `StriColl` compares them: by the first characters that differ
-    /// in upper case, and where one text is a prefix of the other, the shorter is less. One pass, which ends there.
+    /// How both strings compare without case, as `StriColl` compares them: by the first characters
+    /// that differ in upper case, and where one text is a prefix of the other, the shorter is less.
+    /// One pass, which ends there.
     pub fn cmp_ignore_case(&self, other: CStr16<'_>) -> Ordering
         ensures { result ≡ caseless_order (text_of self.now) (text_of other.entry) }
     {

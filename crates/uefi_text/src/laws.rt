@@ -28,8 +28,8 @@ pub fn case_once()
     ensures lower_of_upper { LowerOfUpper }
 {}
 
-/// `eq_ignore_case` is an equivalence that holds of equal texts, and `cmp_ignore_case` a total order that says
-/// `Equal` exactly where it holds.
+/// `eq_ignore_case` is an equivalence that holds of equal texts, and `cmp_ignore_case` a total order
+/// that says `Equal` exactly where it holds.
 pub fn caseless()
     ensures equivalence { CaselessIsEquivalence }
     ensures same { CaselessWhereSame }
@@ -54,8 +54,8 @@ pub fn pattern_rules()
     ensures itself { ItselfAlone }
 {}
 
-/// The case of a text does not matter, and a pattern without `*`, `?` and `[` matches exactly the texts that are the
-/// same without case.
+/// The case of a text does not matter, and a pattern without `*`, `?` and `[` matches exactly the
+/// texts that are the same without case.
 pub fn patterns_without_case()
     ensures plain { PlainIsSame }
     ensures case { CaseIsIgnored }

@@ -418,7 +418,8 @@ impl<A: Allocator> CString16<A> {
         }
     }
 
-    /// Puts the text in upper case, character by character, as `StrUpr` does (UEFI Specification 2.10, section
+    /// Puts the text in upper case, character by character, as `StrUpr` does (UEFI Specification
+    /// 2.10, section
     /// 21.1). One pass; takes no memory.
     pub fn make_uppercase(&mut self)
         ensures { self.new ≡ uppers self.old }

@@ -8,9 +8,10 @@
 //! | `[`, a set, `]` | one character of the set |
 //! | any other character | itself, without case |
 //!
-//! A set ends at its first `]`. In it `-` stands for all characters from the one before it to the one after it, in the
-//! order of their upper cases; before the first character of a set comes U+0000. A `[` without `]` matches
-//! nothing. `specs/Patterns.antt` says what a pattern matches, by one rule for each way that it begins.
+//! A set ends at its first `]`. In it `-` stands for all characters from the one before it to the one
+//! after it, in the order of their upper cases; before the first character of a set comes U+0000. A
+//! `[` without `]` matches nothing. `specs/Patterns.antt` says what a pattern matches, by one rule
+//! for each way that it begins.
 ghost use Rattle.std.specs.Prelude.{◌≡◌, ◌≢◌, ◌==◌, ◌↔◌, ◌+◌, ◌*◌, ◌<◌, ◌≤◌, [], IsTrue, MatchOption, drop, length, position, slice_index};
 ghost use Rattle.uefi_text.specs.PatternParts.{Refuses, TakesOne, is_right_bracket, range_takes};
 ghost use Rattle.uefi_text.specs.Patterns.{IsInSet, Matches, star};
@@ -133,8 +134,8 @@ fn matches_nothing<L: Ledger>(pattern: &[u16], steps: &mut Steps<L>) -> bool
 
 /// Whether a pattern matches a text.
 ///
-/// Where a unit is refused the search goes back to the last `*` alone, which takes one unit more: what matches later in
-/// the text after an earlier `*` also reaches the last one later.
+/// Where a unit is refused the search goes back to the last `*` alone, which takes one unit more:
+/// what matches later in the text after an earlier `*` also reaches the last one later.
 fn matches_units<L: Ledger>(pattern: &[u16], text: &[u16], steps: &mut Steps<L>) -> bool
     ensures matches { IsTrue result ↔ Matches pattern.now text.now }
     ensures cost { steps.new ≤ steps.old + 2 * (length pattern.now + 1) * (length text.now + 1) }
@@ -179,8 +180,8 @@ fn matches_uncounted<L: Ledger>(pattern: &[u16], text: &[u16], blank: Blank) -> 
 }
 
 impl<'a> CStr16<'a> {
-    /// Whether a pattern matches the whole string, without case. [`Char16Slice::matches_counted`] says how long that
-    /// takes at most.
+    /// Whether a pattern matches the whole string, without case. [`Char16Slice::matches_counted`]
+    /// says how long that takes at most.
     pub fn matches(&self, pattern: CStr16<'_>) -> bool
         ensures { IsTrue result ↔ Matches (text_of pattern.entry) (text_of self.now) }
     {
@@ -196,8 +197,8 @@ impl<'a> Char16Slice<'a> {
         matches_uncounted::<Brand>(pattern.units(), self.units(), Blank::new(1))
     }
 
-    /// What [`Char16Slice::matches`] does, in counted steps: each looks at two characters of the pattern at most, and at
-    /// one of these.
+    /// What [`Char16Slice::matches`] does, in counted steps: each looks at two characters of the
+    /// pattern at most, and at one of these.
     pub fn matches_counted<L: Ledger>(&self, pattern: Char16Slice<'_>, steps: &mut Steps<L>) -> bool
         ensures matches { IsTrue result ↔ Matches (units_of pattern.entry) (units_of self.now) }
         ensures cost { steps.new

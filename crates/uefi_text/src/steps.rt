@@ -4,7 +4,8 @@ ghost use Rattle.std.specs.Prelude.{◌≡◌, ◌+◌, ◌<◌, ℕ};
 use std::marker::Model;
 use std::sync::ledger::{Blank, Book, Ledger, Share};
 
-/// How many steps were taken. A contract sees it as that number, and nothing else does: the program cannot read it.
+/// How many steps were taken. A contract sees it as that number, and nothing else does: the program
+/// cannot read it.
 #[derive(Drop)]
 pub struct Steps<L: Ledger> {
     book: Book<L>,

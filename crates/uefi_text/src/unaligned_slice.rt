@@ -23,7 +23,7 @@
 //! for each type that implements it.
 #![tactic(auto, using(crate::proofs::Packing::packing), unfolding(crate::specs::Views::items_of, crate::specs::Views::items_left, crate::specs::Views::into_iter_items_left))]
 
-ghost use Rattle.std.specs.Prelude.{◌≡◌, ℕ, ◌+◌, ◌++◌, ◌*◌, ◌^◌, ◌<◌, ◌≤◌, ◌↔◌, [], length, map, take, slice_index, slice_get, slice_range, IfOk, IfErr, IfSome, IsSome, IsTrue};
+ghost use Rattle.std.specs.Prelude.{◌≡◌, ℕ, ◌+◌, ◌++◌, ◌*◌, ◌^◌, ◌<◌, ◌≤◌, ◌↔◌, [], length, map, take, slice_index, slice_get, slice_range, IfOk, IfErr, IfSome, IsOk, IsSome, IsTrue};
 ghost use Rattle.std.specs.Iterator.{UpTo, YieldsFirstBy, item_count};
 ghost use Rattle.std.specs.Iterator.SizeHint.{IsWithinCount};
 ghost use Rattle.std.specs.Option.{option_map};
@@ -318,12 +318,13 @@ impl<'a, T: Packed> UnalignedSlice<'a, T> {
     /// The items as a vector, or `AllocError`. One request for memory, of exactly the size of the
     /// items, and none where there are no items. Linear in the items.
     pub fn to_vec<A: Allocator>(&self, alloc: A) -> Result<Vec<T, A>, AllocError>
-        ensures { IfOk result (λ items. map T.number items.items ≡ items_of self.now) }
+        ensures ok { IfOk result (λ items. map T.number items.items ≡ items_of self.now) }
+        ensures empty { items_of self.now ≡ [] → IsOk result }
     {
-        let mut items = Vec::with_capacity(alloc, self.len)?;
         let Some(first) = self.get(0) else {
-            return Ok(items);
+            return Ok(Vec::new(alloc));
         };
+        let mut items = Vec::with_capacity(alloc, self.len)?;
         if self.len <= FEW_ITEMS {
             push_blocks(self.bytes, self.len, &mut [first; PIECE], &mut items);
         } else {

@@ -1,5 +1,5 @@
-//! Upper and lower case, and strings compared without it. The letters of Latin-1 and their cases are those of the
-//! Unicode Character Database.
+//! Upper and lower case, and strings compared without it. The letters of Latin-1 and their cases are
+//! those of the Unicode Character Database.
 
 use for_tests::{has_text, string};
 use std::cmp::Ordering;

@@ -1,5 +1,5 @@
-//! Patterns: the examples of the UEFI Specification 2.10, section 21.1, and corners of sets as EDK II's driver
-//! `EnglishDxe` decides them.
+//! Patterns: the examples of the UEFI Specification 2.10, section 21.1, and corners of sets as EDK
+//! II's driver `EnglishDxe` decides them.
 
 use for_tests::string;
 use std::test::Fail;

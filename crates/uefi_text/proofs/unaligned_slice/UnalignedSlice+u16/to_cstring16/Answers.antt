@@ -8,7 +8,7 @@ use Rattle.uefi_text.proofs.unaligned_slice.UnalignedSlice+u16.to_cstring16.Goal
 
 pub from_string-requires : goal.from_string-requires
 from_string-requires g c =
-    let same : c.in-Ok.units.items ≡ items_of c.args.self.now = sym (map-id c.in-Ok.units.items) ∙ c.in-Ok.ensures in
+    let same : c.in-Ok.units.items ≡ items_of c.args.self.now = sym (map-id c.in-Ok.units.items) ∙ c.in-Ok.ensures.ok in
     rw same (search rules)
 
 pub returns-in_err-check_with_nul-clause-memory : goal.returns-in_err-check_with_nul-clause-memory
@@ -17,4 +17,4 @@ returns-in_err-check_with_nul-clause-memory g c =
     rw (error.1, error.2) (with_nul-refused (items_of c.args.self.now) _ c.in_err-check_with_nul.ensures.refusal)
 
 pub returns-in-Ok-clause-ok : goal.returns-in-Ok-clause-ok
-returns-in-Ok-clause-ok g c = c.from_string.ensures.same ∙ sym (map-id c.in-Ok.units.items) ∙ c.in-Ok.ensures
+returns-in-Ok-clause-ok g c = c.from_string.ensures.same ∙ sym (map-id c.in-Ok.units.items) ∙ c.in-Ok.ensures.ok
