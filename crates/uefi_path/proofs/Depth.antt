@@ -1,5 +1,5 @@
--- Components that the verdict accepts: they are good, and none climbs. So are a part of them and others in a row,
--- and their normal form holds names alone.
+-- Components that the verdict accepts: they are good, and none climbs. So are a part of them and others
+-- in a row, and their normal form holds names alone.
 use Rattle.std.proofs.Common.{◌≡◌, ℕ, zero, suc, ◌+◌, ◌<◌, ◌≤◌, ◌&&◌, Bool, true, false, nat_lt, IsTrue, List, [], ◌∷◌, ◌++◌, All, length, Option, None, Some, take, ap, sym, refl, subst, ◌∙◌, arith}
 use Rattle.std.specs.List.{slice_get}
 use Rattle.std.specs.Option.{option_or}
@@ -15,7 +15,8 @@ use Rattle.uefi_path.specs.declared.kinds.Kind.TheVariants.{Dot, DotDot, Name}
 use Rattle.uefi_path.specs.declared.validation.PathError.{PathError}
 use Rattle.uefi_path.proofs.Rewriting.{kind-DotDot, kind-Name, name_kind}
 
--- components that are accepted where this many names are left before them, and after a piece, unless it climbs
+-- components that are accepted where this many names are left before them, and after a piece, unless it
+-- climbs
 abbrev pub Accepted : List (List ℕ) → ℕ → Type 0
 Accepted cs depth = first_fault cs depth ≡ None
 
@@ -209,8 +210,8 @@ both : (a b : Bool) → IsTrue (a && b) → IsTrue a × IsTrue b
 both false b e = cc
 both true b e = (refl, e)
 
--- where the components that are left have the fault, so has the next of them, or what is after it, or there is
--- none
+-- where the components that are left have the fault, so has the next of them, or what is after it, or
+-- there is none
 module _ (found : Option PathError) (left : List (List ℕ)) (depth : ℕ) (same : first_fault left depth ≡ found) where
   pub fault_here : (c : List ℕ) (cs : List (List ℕ)) (error : PathError) → left ≡ c ∷ cs → fault c ≡ Some error
       → found ≡ Some error

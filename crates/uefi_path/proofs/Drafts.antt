@@ -1,4 +1,5 @@
--- A text that is made of components, added one after the other: how long it is so far, and what is still to come.
+-- A text that is made of components, added one after the other: how long it is so far, and what is
+-- still to come.
 use Rattle.std.proofs.Common.{subst, IsTrue, ◌↔◌, cond, ◌≡◌, ℕ, ◌+◌, ◌≤◌, List, [], ◌∷◌, ◌++◌, length, All, Bool, true, false, not, if◌then◌else◌, inl, inr, drop, set, ◌-◌, ap, refl, sym, ◌∙◌, arith, length-append, ◌<◌, Some, Option, replicate, add_comm, append_assoc}
 use borrow.Rule.Slice.PartMut.{put_mid}
 use Rattle.std.specs.List.{fold}

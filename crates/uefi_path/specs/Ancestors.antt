@@ -16,4 +16,5 @@ ancestors_left ancestors = beginnings (pieces_left ancestors.rest)
 
 -- a path that has components begins with its canonical text and with its shorter prefixes
 abbrev pub BeginningsArePrefixes : Type 0
-BeginningsArePrefixes = (text : List ℕ) → components_of text ≢ [] → beginnings (components_of text) ≡ canonical text ∷ shorter_prefixes text
+BeginningsArePrefixes = (text : List ℕ) → components_of text ≢ []
+    → beginnings (components_of text) ≡ canonical text ∷ shorter_prefixes text

@@ -5,8 +5,8 @@ use Rattle.uefi_path.specs.Verdicts.{first_fault, verdict}
 use Rattle.uefi_path.specs.declared.validation.PathError.{PathError}
 use Rattle.uefi_path.specs.declared.fault_places.PathFault.{PathFault}
 
--- the component that begins at a place is the first at fault: those before it are accepted, and with it they are
--- refused for this error
+-- the component that begins at a place is the first at fault: those before it are accepted, and with it
+-- they are refused for this error
 pub record IsFirstFault (text : List ℕ) (place : ℕ) (error : PathError) : Type 0 where
   pub before : List (List ℕ)
   pub component : List ℕ

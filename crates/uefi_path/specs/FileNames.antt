@@ -38,7 +38,8 @@ IsExtension (Some name) (Some extension) = (stem : List ℕ) × IsNamed name ste
 abbrev pub IsStem : Option (List ℕ) → Option (List ℕ) → Type 0
 IsStem None stem = stem ≡ None
 IsStem (Some name) None = ⊥
-IsStem (Some name) (Some stem) = (HasNoExtension name × (stem ≡ name)) ⊎ ((extension : List ℕ) × IsNamed name stem extension)
+IsStem (Some name) (Some stem) =
+    (HasNoExtension name × (stem ≡ name)) ⊎ ((extension : List ℕ) × IsNamed name stem extension)
 
 -- a path ends with another: its components are some, and then those of the other
 abbrev pub EndsWith : List ℕ → List ℕ → Type 0
@@ -46,8 +47,8 @@ EndsWith text child = (front : List (List ℕ)) × (components_of text ≡ front
 
 -- a name has one stem and one extension
 abbrev pub NamedOnce : Type 0
-NamedOnce = (name stem extension other after : List ℕ) → IsNamed name stem extension → IsNamed name other after
-    → (stem ≡ other) × (extension ≡ after)
+NamedOnce = (name stem extension other after : List ℕ)
+    → IsNamed name stem extension → IsNamed name other after → (stem ≡ other) × (extension ≡ after)
 
 -- or none
 abbrev pub NamedOrNot : Type 0

@@ -110,8 +110,8 @@ abbrev pub FullTextsTakeMore : Type 0
 FullTextsTakeMore = (text : List ℕ) → All (λ component. component ≢ []) (components_of text)
     → TakesMore text × IsRelative (canonical text)
 
--- the first component for which a path is refused: those before it are good and none of them climbs, and it names no
--- file, or is a `..` before which at least as many `..` as names stand
+-- the first component for which a path is refused: those before it are good and none of them climbs,
+-- and it names no file, or is a `..` before which at least as many `..` as names stand
 pub record IsRefusedFor (components : List (List ℕ)) (error : PathError) : Type 0 where
   pub front : List (List ℕ)
   pub component : List ℕ

@@ -10,11 +10,13 @@ pub record EndsInName (text front name : List ℕ) : Type 0 where
   pub whole : text ≡ front ++ name
   pub last : last_or None (components_of text) ≡ Some name
 
--- the name took the place of the last component, or stands after a path that has none; its slashes were replaced
+-- the name took the place of the last component, or stands after a path that has none; its slashes were
+-- replaced
 abbrev pub IsRenamed : List ℕ → List ℕ → List ℕ → Type 0
 IsRenamed old new name =
     ((last_or None (components_of old) ≡ None) × (new ≡ old ++ with_separators name))
-    ⊎ ((front : List ℕ) × (component : List ℕ) × EndsInName old front component × (new ≡ front ++ with_separators name))
+    ⊎ ((front : List ℕ) × (component : List ℕ)
+        × EndsInName old front component × (new ≡ front ++ with_separators name))
 
 -- from this place on a text is its last component, or nothing, where it has none
 abbrev pub StartsName : List ℕ → ℕ → Option (List ℕ) → Type 0

@@ -11,7 +11,8 @@ capital_pieces pieces = map uppers pieces
 -- a path starts with a base without case: its components are the same as those of the base, and then some
 abbrev pub StartsWithoutCase : List ℕ → List ℕ → Type 0
 StartsWithoutCase text base =
-    (rest : List (List ℕ)) × (capital_pieces (components_of text) ≡ capital_pieces (components_of base) ++ rest)
+    (rest : List (List ℕ))
+    × (capital_pieces (components_of text) ≡ capital_pieces (components_of base) ++ rest)
 
 -- each of the patterns matches the piece at its place, and there are as many of both
 abbrev pub MatchEach : List (List ℕ) → List (List ℕ) → Type 0

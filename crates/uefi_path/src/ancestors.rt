@@ -12,8 +12,8 @@ use crate::path::Path;
 use crate::separators::cut_last;
 use uefi_text::strs::Char16Slice;
 
-/// An iterator over the beginnings of a path, the longest first. A contract sees it as `ancestors_left` of it: those
-/// that are still to come.
+/// An iterator over the beginnings of a path, the longest first. A contract sees it as
+/// `ancestors_left` of it: those that are still to come.
 #[derive(Clone, Copy)]
 pub struct Ancestors<'a> {
     /// The next one; `None` after the first component alone.
@@ -21,9 +21,9 @@ pub struct Ancestors<'a> {
 }
 
 impl<'a> Path<'a> {
-    /// The canonical text of the path, then the same without its last component, and so on down to the first
-    /// component alone. A path without components has none. Those after the first are the successive parents of a
-    /// valid path. All of them together cost one pass over the text.
+    /// The canonical text of the path, then the same without its last component, and so on down to
+    /// the first component alone. A path without components has none. Those after the first are the
+    /// successive parents of a valid path. All of them together cost one pass over the text.
     pub fn ancestors(&self) -> Ancestors<'a>
         ensures same { ancestors_left result ≡ beginnings (components_of (path_text self.now)) }
         ensures runs { GivesEach units_of ancestors_left result }

@@ -1,5 +1,5 @@
-//! Paths compared without case, and matched against patterns. Case and patterns are those of the firmware's Unicode
-//! collation (UEFI Specification 2.10, section 21.1). No call takes memory.
+//! Paths compared without case, and matched against patterns. Case and patterns are those of the
+//! firmware's Unicode collation (UEFI Specification 2.10, section 21.1). No call takes memory.
 ghost use Rattle.std.specs.Prelude.{◌≡◌, ◌<◌, ◌^◌, ◌↔◌, All, IfSome, IsSome, IsTrue, drop, length};
 ghost use Rattle.uefi_path.specs.Components.{components_of};
 ghost use Rattle.uefi_path.specs.Separators.{canonical};
@@ -29,21 +29,24 @@ impl<'a> Path<'a> {
     /// How both paths compare without case: as their canonical texts do. `Equal` exactly where
     /// [`Path::eq_ignore_case`] holds.
     pub fn cmp_ignore_case(&self, other: Path<'_>) -> Ordering
-        ensures { result ≡ caseless_order (canonical (path_text self.now)) (canonical (path_text other.entry)) }
+        ensures { result
+            ≡ caseless_order (canonical (path_text self.now)) (canonical (path_text other.entry)) }
     {
         self.canonical().cmp_ignore_case(other.canonical())
     }
 
-    /// Whether the components of this path begin with those of the base, without case, as [`Path::starts_with`] does
-    /// with case. At most one pass over each, which ends at the first components that differ.
+    /// Whether the components of this path begin with those of the base, without case, as
+    /// [`Path::starts_with`] does with case. At most one pass over each, which ends at the first
+    /// components that differ.
     pub fn starts_with_ignore_case(&self, base: Path<'_>) -> bool
         ensures { IsTrue result ↔ StartsWithoutCase (path_text self.now) (path_text base.entry) }
     {
         self.strip_prefix_ignore_case(base).is_some()
     }
 
-    /// The components of this path after as many as the base has, where it starts with the base without case; else
-    /// `None`. At most one pass over each, which ends at the first components that differ.
+    /// The components of this path after as many as the base has, where it starts with the base
+    /// without case; else `None`. At most one pass over each, which ends at the first components that
+    /// differ.
     pub fn strip_prefix_ignore_case(&self, base: Path<'_>) -> Option<Components<'a>>
         ensures starts { IsSome result ↔ StartsWithoutCase (path_text self.now) (path_text base.entry) }
         ensures rest { IfSome result (λ rest. components_left rest
@@ -57,9 +60,9 @@ impl<'a> Path<'a> {
     }
 
     /// Whether a pattern matches this path: each of its components the one at the same place, as
-    /// `CStr16::matches` does, and both have as many. So neither `*` nor `?` takes a separator, and one that stands
-    /// between `[` and `]` ends a component too. At most one pass over each path, and the time that its components
-    /// take.
+    /// `CStr16::matches` does, and both have as many. So neither `*` nor `?` takes a separator, and
+    /// one that stands between `[` and `]` ends a component too. At most one pass over each path, and
+    /// the time that its components take.
     pub fn matches(&self, pattern: Path<'_>) -> bool
         ensures { IsTrue result ↔ MatchesPath (path_text pattern.entry) (path_text self.now) }
     {

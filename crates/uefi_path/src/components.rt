@@ -190,7 +190,8 @@ impl<'a> Components<'a> {
     pub(crate) fn strip_ignore_case(self, base: Components<'_>) -> Option<Components<'a>>
         requires texts { All IsText (components_left self) }
         requires bound { length (components_left self) < 2 ^ 64 }
-        ensures starts { IsSome result ↔ ((rest : List (List ℕ)) × (capital_pieces (components_left self.entry)
+        ensures starts { IsSome result ↔ ((rest : List (List ℕ))
+            × (capital_pieces (components_left self.entry)
             ≡ capital_pieces (components_left base.entry) ++ rest)) }
         ensures rest { IfSome result (λ rest.
             components_left rest ≡ drop (length (components_left base.entry)) (components_left self.entry)) }

@@ -13,8 +13,8 @@ pub struct PathFault {
     /// Why: the error of [`validate_path`](crate::validate_path).
     pub error: PathError,
 
-    /// Where the component at fault begins in the text of the path: how many characters stand before it, a leading
-    /// separator among them. 0 where the text is empty.
+    /// Where the component at fault begins in the text of the path: how many characters stand before
+    /// it, a leading separator among them. 0 where the text is empty.
     pub place: usize,
 }
 
@@ -45,8 +45,9 @@ fn find_path_fault(path: Path<'_>) -> Option<PathFault>
     None
 }
 
-/// Whether a path is accepted, as [`validate_path`](crate::validate_path) says; or why not, and where its first
-/// component at fault begins. At most two passes over each component, which stop at the fault. Takes no memory.
+/// Whether a path is accepted, as [`validate_path`](crate::validate_path) says; or why not, and where
+/// its first component at fault begins. At most two passes over each component, which stop at the
+/// fault. Takes no memory.
 pub fn validate_path_at(path: Path<'_>) -> Result<(), PathFault>
     ensures valid { IsOk result ↔ IsValid (path_text path.entry) }
     ensures refusal { IfErr result (λ fault. IsRefusedAt (path_text path.entry) fault) }

@@ -28,7 +28,8 @@ fn last_dot(name: &[u16]) -> Option<usize>
 /// The place of the dot between the stem and the extension of a name.
 fn extension_dot(name: Char16Slice<'_>) -> Option<usize>
     ensures cut { MatchOption result (HasNoExtension (units_of name.entry)) (λ dot.
-        IsNamed (units_of name.entry) (take dot (units_of name.entry)) (drop (dot + 1) (units_of name.entry))) }
+        IsNamed (units_of name.entry) (take dot (units_of name.entry))
+            (drop (dot + 1) (units_of name.entry))) }
     ensures within { IfSome result (λ dot. dot < length (units_of name.entry)) }
 {
     match kind_of(name) {
@@ -49,9 +50,9 @@ pub(crate) fn stem_len(name: Char16Slice<'_>) -> usize
 }
 
 impl<'a> Path<'a> {
-    /// The last component up to its extension: what stands before its last dot. It is the whole component where no dot
-    /// stands after its first character, and for `..`. `None` where there is no component. Reads that component
-    /// alone.
+    /// The last component up to its extension: what stands before its last dot. It is the whole
+    /// component where no dot stands after its first character, and for `..`. `None` where there is
+    /// no component. Reads that component alone.
     pub fn file_stem(&self) -> Option<Char16Slice<'a>>
         ensures { IsStem (last_or None (components_of (path_text self.now))) (option_map units_of result) }
     {
@@ -59,10 +60,12 @@ impl<'a> Path<'a> {
         Some(name.part(0, stem_len(name)))
     }
 
-    /// What stands after the last dot of the last component; it may be empty. `None` where that component has no dot
-    /// after its first character, where it is `..`, and where there is no component. Reads that component alone.
+    /// What stands after the last dot of the last component; it may be empty. `None` where that
+    /// component has no dot after its first character, where it is `..`, and where there is no
+    /// component. Reads that component alone.
     pub fn extension(&self) -> Option<Char16Slice<'a>>
-        ensures { IsExtension (last_or None (components_of (path_text self.now))) (option_map units_of result) }
+        ensures { IsExtension (last_or None (components_of (path_text self.now)))
+            (option_map units_of result) }
     {
         let name = self.file_name()?;
         let dot = extension_dot(name)?;

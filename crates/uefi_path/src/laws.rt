@@ -135,8 +135,8 @@ pub fn named_once()
     ensures or_not { NamedOrNot }
 {}
 
-/// The beginnings of a path that has components are its canonical text and its shorter prefixes, which are the
-/// successive parents of a valid one ([`parents_enumerate`]).
+/// The beginnings of a path that has components are its canonical text and its shorter prefixes,
+/// which are the successive parents of a valid one ([`parents_enumerate`]).
 pub fn ancestors_enumerate()
     ensures { BeginningsArePrefixes }
 {}

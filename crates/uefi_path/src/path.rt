@@ -98,9 +98,9 @@ impl<'a> Path<'a> {
         self.components().strip(base.components())
     }
 
-    /// Whether the components of this path end with those of another. So `\a\bc` ends with `bc` and with `a\bc`, and not
-    /// with `c`; and every path ends with the empty one. Takes no memory; at most one pass over each, from the end, which
-    /// stops at the first components that differ.
+    /// Whether the components of this path end with those of another. So `\a\bc` ends with `bc` and
+    /// with `a\bc`, and not with `c`; and every path ends with the empty one. Takes no memory; at
+    /// most one pass over each, from the end, which stops at the first components that differ.
     pub fn ends_with(&self, child: Path<'_>) -> bool
         ensures { IsTrue result ↔ EndsWith (path_text self.now) (path_text child.entry) }
     {

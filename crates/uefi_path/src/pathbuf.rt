@@ -400,12 +400,13 @@ impl<A: Allocator + Copy> PathBuf<A> {
         parent_of(self.alloc(), self.components())
     }
 
-    /// Removes the last component and the separator before it, and says whether it did. A path of at most one
-    /// component stays as it is, as it has no parent. Takes no memory and gives none back; reads the component that
-    /// goes alone.
+    /// Removes the last component and the separator before it, and says whether it did. A path of at
+    /// most one component stays as it is, as it has no parent. Takes no memory and gives none back;
+    /// reads the component that goes alone.
     pub fn pop(&mut self) -> bool
         ensures removed { IsTrue result → IsPopped self.old self.new }
-        ensures others { IsTrue result → canonical self.new ≡ pieces_joined.joined (all_but_last (components_of self.old)) }
+        ensures others { IsTrue result → canonical self.new
+            ≡ pieces_joined.joined (all_but_last (components_of self.old)) }
         ensures some { IsTrue result ↔ (all_but_last (components_of self.old) ≢ []) }
         ensures none { result ≡ false → self.new ≡ self.old }
     {
@@ -430,8 +431,9 @@ impl<A: Allocator + Copy> PathBuf<A> {
         PathBuf::from_string(self.alloc(), string)
     }
 
-    /// Replaces the last component by a name, each slash of it replaced; a path without components gets the name. Or
-    /// returns `AllocError`, and the path is unchanged. Takes memory as [`PathBuf::from`] does.
+    /// Replaces the last component by a name, each slash of it replaced; a path without components
+    /// gets the name. Or returns `AllocError`, and the path is unchanged. Takes memory as
+    /// [`PathBuf::from`] does.
     pub fn set_file_name(&mut self, name: CStr16<'_>) -> Result<(), AllocError>
         ensures ok { OnOk result (IsRenamed self.old self.new (text_of name.entry)) }
         ensures err { OnErr result (self.new ≡ self.old) }
@@ -441,11 +443,12 @@ impl<A: Allocator + Copy> PathBuf<A> {
         Ok(())
     }
 
-    /// The first characters of the path, and after them a dot and an extension, each slash replaced; no dot before the
-    /// empty extension.
+    /// The first characters of the path, and after them a dot and an extension, each slash replaced;
+    /// no dot before the empty extension.
     fn with_extension(&self, len: usize, extension: CStr16<'_>) -> Result<Self, AllocError>
         requires { len ≤ length self.now }
-        ensures { IfOk result (λ path. path ≡ with_separators (take len self.now ++ dotted (text_of extension.entry))) }
+        ensures { IfOk result (λ path.
+            path ≡ with_separators (take len self.now ++ dotted (text_of extension.entry))) }
     {
         if extension.is_empty() {
             return self.with_end(len, extension);
@@ -459,11 +462,13 @@ impl<A: Allocator + Copy> PathBuf<A> {
         self.with_end(len, end.as_cstr16())
     }
 
-    /// Puts an extension after the stem of the last component, with a dot before it and each slash replaced; the empty
-    /// one takes the extension away. Returns whether there is a component; or `AllocError`, and the path is unchanged.
-    /// Takes memory as [`PathBuf::from`] does, and once for the extension, where it is not empty.
+    /// Puts an extension after the stem of the last component, with a dot before it and each slash
+    /// replaced; the empty one takes the extension away. Returns whether there is a component; or
+    /// `AllocError`, and the path is unchanged. Takes memory as [`PathBuf::from`] does, and once for
+    /// the extension, where it is not empty.
     pub fn set_extension(&mut self, extension: CStr16<'_>) -> Result<bool, AllocError>
-        ensures ok { IfOk result (λ is_set. is_set ≡ true → IsExtended self.old self.new (text_of extension.entry)) }
+        ensures ok { IfOk result (λ is_set.
+            is_set ≡ true → IsExtended self.old self.new (text_of extension.entry)) }
         ensures none { IfOk result (λ is_set. is_set ≡ false → self.new ≡ self.old) }
         ensures some { IfOk result (λ is_set. IsTrue is_set ↔ (components_of self.old ≢ [])) }
         ensures err { OnErr result (self.new ≡ self.old) }

@@ -1,5 +1,6 @@
-//! Paths without case and patterns of them; stems, extensions, endings and ancestors. The rows of the last four are
-//! those of the documentation of Rust's `std::path::Path`, with `\` for `/`, where the two agree.
+//! Paths without case and patterns of them; stems, extensions, endings and ancestors. The rows of the
+//! last four are those of the documentation of Rust's `std::path::Path`, with `\` for `/`, where the
+//! two agree.
 
 use crate::fixtures::{buffer, is_path};
 use for_tests::{Refusing, has_text, out_of_memory, requests, string};
@@ -40,7 +41,8 @@ fn paths_without_case(rt: HostRuntime) -> Result<(), Fail> {
     Ok(())
 }
 
-/// A path, another, how many components are left after it without case, and whether the first ends with the second.
+/// A path, another, how many components are left after it without case, and whether the first ends
+/// with the second.
 const PREFIXES: &[(&str, &str, Option<usize>, bool)] = &[
     (r"\efi\boot\a", r"EFI\Boot", Some(1), false),
     (r"\efi\boot", r"EFI\Boot", Some(0), false),
@@ -222,7 +224,8 @@ fn popped_paths(rt: HostRuntime) -> Result<(), Fail> {
     Ok(())
 }
 
-/// A path, and where its first component at fault begins and why it is refused; nothing of a path that is accepted.
+/// A path, and where its first component at fault begins and why it is refused; nothing of a path
+/// that is accepted.
 const FAULTS: &[(&str, &str)] = &[
     ("", "0: path is empty"),
     (r"\", ""),

@@ -1,4 +1,5 @@
--- The components but the one that is held back are written, each slash replaced, and what stands after them stays.
+-- The components but the one that is held back are written, each slash replaced, and what stands after
+-- them stays.
 use Rattle.std.proofs.Common.{◌≡◌, ◌≤◌, ℕ, ◌∷◌, ◌++◌, [], List, drop, length}
 use Rattle.std.specs.List.{fold}
 use Rattle.uefi_text.specs.Views.{units_of}
