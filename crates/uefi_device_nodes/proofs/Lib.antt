@@ -1,1 +1,2 @@
 pub mod SoundNodes
+pub mod ShownNodes

@@ -7,3 +7,4 @@ pub mod TypedNodes
 pub mod NodeTexts
 pub mod Layouts
 pub mod NodeEnums
+pub mod ShownNodes

@@ -71,8 +71,8 @@ IsNodeOf (view.MediaRelativeOffsetRange shown) node = Shows shown node
 IsNodeOf (view.MediaRamDisk shown) node = Shows shown node
 IsNodeOf (view.BiosBootSpecBootSpecification shown) node = Shows shown node
 
--- the kinds of type Hardware whose nodes have fields: the sub-type of each, and how many bytes of data a node has
--- at least
+-- the kinds of type Hardware whose nodes have fields: the sub-type of each, and how many bytes of data
+-- a node has at least
 abbrev pub hardware_kinds : List (ℕ × ℕ)
 hardware_kinds = (1, 2) ∷ (2, 1) ∷ (3, 20) ∷ (4, 16) ∷ (5, 4) ∷ (6, 9) ∷ []
 
@@ -82,13 +82,13 @@ acpi_kinds = (1, 8) ∷ (2, 15) ∷ (3, 4) ∷ (4, 4) ∷ []
 
 -- those of type Messaging with sub-types above 23
 abbrev pub third_messaging_kinds : List (ℕ × ℕ)
-third_messaging_kinds = (24, 0) ∷ (25, 2) ∷ (26, 1) ∷ (27, 6) ∷ (28, 32) ∷ (29, 1) ∷ (30, 7) ∷ (31, 1) ∷ (32, 16) ∷
-    (33, 2) ∷ (34, 17) ∷ []
+third_messaging_kinds = (24, 0) ∷ (25, 2) ∷ (26, 1) ∷ (27, 6) ∷ (28, 32) ∷ (29, 1) ∷ (30, 7) ∷ (31, 1) ∷
+    (32, 16) ∷ (33, 2) ∷ (34, 17) ∷ []
 
 -- and above 13
 abbrev pub second_messaging_kinds : List (ℕ × ℕ)
-second_messaging_kinds = (14, 15) ∷ (15, 7) ∷ (16, 6) ∷ (17, 1) ∷ (18, 6) ∷ (19, 14) ∷ (20, 2) ∷ (21, 20) ∷ (22, 20) ∷
-    (23, 12) ∷ third_messaging_kinds
+second_messaging_kinds = (14, 15) ∷ (15, 7) ∷ (16, 6) ∷ (17, 1) ∷ (18, 6) ∷ (19, 14) ∷ (20, 2) ∷ (21, 20) ∷
+    (22, 20) ∷ (23, 12) ∷ third_messaging_kinds
 
 -- all of type Messaging
 abbrev pub messaging_kinds : List (ℕ × ℕ)

@@ -1,5 +1,5 @@
--- What is printed of nodes, in UTF-8 (UEFI Specification 2.10, section 10.6.1): by the table of kinds, and of those
--- nodes whose text no row of it can say.
+-- What is printed of nodes, in UTF-8 (UEFI Specification 2.10, section 10.6.1): by the table of kinds,
+-- and of those nodes whose text no row of it can say.
 use Rattle.std.specs.Prelude.{ℕ, ◌%◌, ◌==◌, ◌&&◌, ◌||◌, not, Bool, if◌then◌else◌, List, [], ◌∷◌, ◌++◌, codes, drop, length}
 use Rattle.std.specs.Fmt.{decimal}
 use Rattle.std.specs.List.{concat}
@@ -52,7 +52,8 @@ is_short shortcuts node = shortcuts && not (length (short_name node) == 0)
 
 -- the test for a node whose text no row of the table can say
 abbrev pub is_irregular : Bool → Node → Bool
-is_irregular shortcuts node = is_file_node node || (is_kind 2 2 15 node || (is_kind 5 1 5 node || is_short shortcuts node))
+is_irregular shortcuts node =
+    is_file_node node || (is_kind 2 2 15 node || (is_kind 5 1 5 node || is_short shortcuts node))
 
 -- the text of such a node: of a file it is the name
 unfoldable pub irregular_text : Bool → Bool → Node → List ℕ

@@ -2,6 +2,7 @@
 //! table, where a row of it can say the text of the kind.
 #![tactic(auto, unfolding(uefi_node_table::specs::Table::group_forms))]
 
+ghost use Rattle.std.specs.Prelude.{◌≡◌};
 ghost use Rattle.uefi_device_nodes.specs.Layouts.{HasType, IsInTable};
 
 use crate::acpi::{Acpi, Adr, Expanded, Nvdimm};
@@ -51,6 +52,7 @@ pub fn acpi(acpi: Acpi<'_>, expanded: Expanded<'_>, adr: Adr<'_>, nvdimm: Nvdimm
     ensures acpi_layout { IsInTable acpi.entry }
     ensures expanded { HasType DeviceType.ACPI DeviceSubType.ACPI_EXPANDED expanded.entry }
     ensures adr { HasType DeviceType.ACPI DeviceSubType.ACPI_ADR adr.entry }
+    ensures adr_layout { IsInTable adr.entry }
     ensures nvdimm { HasType DeviceType.ACPI DeviceSubType.ACPI_NVDIMM nvdimm.entry }
 {}
 
@@ -84,6 +86,7 @@ pub fn messaging(
     ensures usb { HasType DeviceType.MESSAGING DeviceSubType.MESSAGING_USB usb.entry }
     ensures usb_layout { IsInTable usb.entry }
     ensures usb_wwid { HasType DeviceType.MESSAGING DeviceSubType.MESSAGING_USB_WWID usb_wwid.entry }
+    ensures usb_wwid_layout { IsInTable usb_wwid.entry }
     ensures usb_class { HasType DeviceType.MESSAGING DeviceSubType.MESSAGING_USB_CLASS usb_class.entry }
     ensures usb_class_layout { IsInTable usb_class.entry }
     ensures device_logical_unit { HasType DeviceType.MESSAGING
@@ -94,6 +97,7 @@ pub fn messaging(
     ensures sata { HasType DeviceType.MESSAGING DeviceSubType.MESSAGING_SATA sata.entry }
     ensures sata_layout { IsInTable sata.entry }
     ensures sas_ex { HasType DeviceType.MESSAGING DeviceSubType.MESSAGING_SCSI_SAS_EX sas_ex.entry }
+    ensures sas_ex_layout { IsInTable sas_ex.entry }
 {}
 
 /// The others of them.
@@ -107,6 +111,7 @@ pub fn more_messaging(
     nvdimm_namespace: NvdimmNamespace<'_>,
 )
     ensures uart { HasType DeviceType.MESSAGING DeviceSubType.MESSAGING_UART uart.entry }
+    ensures uart_layout { IsInTable uart.entry }
     ensures vendor { HasType DeviceType.MESSAGING DeviceSubType.MESSAGING_VENDOR vendor.entry }
     ensures vendor_layout { IsInTable vendor.entry }
     ensures nvme_namespace { HasType DeviceType.MESSAGING
@@ -148,6 +153,7 @@ pub fn network(
     ensures infiniband { HasType DeviceType.MESSAGING DeviceSubType.MESSAGING_INFINIBAND infiniband.entry }
     ensures infiniband_layout { IsInTable infiniband.entry }
     ensures iscsi { HasType DeviceType.MESSAGING DeviceSubType.MESSAGING_ISCSI iscsi.entry }
+    ensures iscsi_layout { IsInTable iscsi.entry }
     ensures uri { HasType DeviceType.MESSAGING DeviceSubType.MESSAGING_URI uri.entry }
     ensures uri_layout { IsInTable uri.entry }
     ensures bluetooth { HasType DeviceType.MESSAGING DeviceSubType.MESSAGING_BLUETOOTH bluetooth.entry }
@@ -156,6 +162,7 @@ pub fn network(
         DeviceSubType.MESSAGING_BLUETOOTH_LE bluetooth_le.entry }
     ensures bluetooth_le_layout { IsInTable bluetooth_le.entry }
     ensures wifi { HasType DeviceType.MESSAGING DeviceSubType.MESSAGING_WIFI wifi.entry }
+    ensures wifi_layout { IsInTable wifi.entry }
     ensures dns { HasType DeviceType.MESSAGING DeviceSubType.MESSAGING_DNS dns.entry }
     ensures rest_service { HasType DeviceType.MESSAGING
         DeviceSubType.MESSAGING_REST_SERVICE rest_service.entry }
@@ -203,4 +210,88 @@ pub fn media(
 pub fn bios_boot_spec(boot_specification: BootSpecification<'_>)
     ensures boot_specification { HasType DeviceType.BIOS_BOOT_SPEC
         DeviceSubType.BIOS_BOOT_SPECIFICATION boot_specification.entry }
+{}
+
+/// The numbers of the types.
+pub fn types()
+    ensures hardware { DeviceType.HARDWARE.0 ≡ 0x01 }
+    ensures acpi { DeviceType.ACPI.0 ≡ 0x02 }
+    ensures messaging { DeviceType.MESSAGING.0 ≡ 0x03 }
+    ensures media { DeviceType.MEDIA.0 ≡ 0x04 }
+    ensures bios_boot_spec { DeviceType.BIOS_BOOT_SPEC.0 ≡ 0x05 }
+    ensures end { DeviceType.END.0 ≡ 0x7f }
+{}
+
+/// The numbers of the sub-types of type Hardware.
+pub fn hardware_sub_types()
+    ensures pci { DeviceSubType.HARDWARE_PCI.0 ≡ 0x01 }
+    ensures pccard { DeviceSubType.HARDWARE_PCCARD.0 ≡ 0x02 }
+    ensures memory_mapped { DeviceSubType.HARDWARE_MEMORY_MAPPED.0 ≡ 0x03 }
+    ensures vendor { DeviceSubType.HARDWARE_VENDOR.0 ≡ 0x04 }
+    ensures controller { DeviceSubType.HARDWARE_CONTROLLER.0 ≡ 0x05 }
+    ensures bmc { DeviceSubType.HARDWARE_BMC.0 ≡ 0x06 }
+{}
+
+/// The numbers of the sub-types of type ACPI.
+pub fn acpi_sub_types()
+    ensures acpi { DeviceSubType.ACPI.0 ≡ 0x01 }
+    ensures acpi_expanded { DeviceSubType.ACPI_EXPANDED.0 ≡ 0x02 }
+    ensures acpi_adr { DeviceSubType.ACPI_ADR.0 ≡ 0x03 }
+    ensures acpi_nvdimm { DeviceSubType.ACPI_NVDIMM.0 ≡ 0x04 }
+{}
+
+/// The numbers of the sub-types of type Messaging.
+pub fn messaging_sub_types()
+    ensures atapi { DeviceSubType.MESSAGING_ATAPI.0 ≡ 0x01 }
+    ensures scsi { DeviceSubType.MESSAGING_SCSI.0 ≡ 0x02 }
+    ensures fibre_channel { DeviceSubType.MESSAGING_FIBRE_CHANNEL.0 ≡ 0x03 }
+    ensures ieee1394 { DeviceSubType.MESSAGING_1394.0 ≡ 0x04 }
+    ensures usb { DeviceSubType.MESSAGING_USB.0 ≡ 0x05 }
+    ensures i2o { DeviceSubType.MESSAGING_I2O.0 ≡ 0x06 }
+    ensures infiniband { DeviceSubType.MESSAGING_INFINIBAND.0 ≡ 0x09 }
+    ensures vendor { DeviceSubType.MESSAGING_VENDOR.0 ≡ 0x0a }
+    ensures mac_address { DeviceSubType.MESSAGING_MAC_ADDRESS.0 ≡ 0x0b }
+    ensures ipv4 { DeviceSubType.MESSAGING_IPV4.0 ≡ 0x0c }
+    ensures ipv6 { DeviceSubType.MESSAGING_IPV6.0 ≡ 0x0d }
+    ensures uart { DeviceSubType.MESSAGING_UART.0 ≡ 0x0e }
+    ensures usb_class { DeviceSubType.MESSAGING_USB_CLASS.0 ≡ 0x0f }
+    ensures usb_wwid { DeviceSubType.MESSAGING_USB_WWID.0 ≡ 0x10 }
+    ensures device_logical_unit { DeviceSubType.MESSAGING_DEVICE_LOGICAL_UNIT.0 ≡ 0x11 }
+    ensures sata { DeviceSubType.MESSAGING_SATA.0 ≡ 0x12 }
+    ensures iscsi { DeviceSubType.MESSAGING_ISCSI.0 ≡ 0x13 }
+    ensures vlan { DeviceSubType.MESSAGING_VLAN.0 ≡ 0x14 }
+    ensures fibre_channel_ex { DeviceSubType.MESSAGING_FIBRE_CHANNEL_EX.0 ≡ 0x15 }
+    ensures scsi_sas_ex { DeviceSubType.MESSAGING_SCSI_SAS_EX.0 ≡ 0x16 }
+    ensures nvme_namespace { DeviceSubType.MESSAGING_NVME_NAMESPACE.0 ≡ 0x17 }
+    ensures uri { DeviceSubType.MESSAGING_URI.0 ≡ 0x18 }
+    ensures ufs { DeviceSubType.MESSAGING_UFS.0 ≡ 0x19 }
+    ensures sd { DeviceSubType.MESSAGING_SD.0 ≡ 0x1a }
+    ensures bluetooth { DeviceSubType.MESSAGING_BLUETOOTH.0 ≡ 0x1b }
+    ensures wifi { DeviceSubType.MESSAGING_WIFI.0 ≡ 0x1c }
+    ensures emmc { DeviceSubType.MESSAGING_EMMC.0 ≡ 0x1d }
+    ensures bluetooth_le { DeviceSubType.MESSAGING_BLUETOOTH_LE.0 ≡ 0x1e }
+    ensures dns { DeviceSubType.MESSAGING_DNS.0 ≡ 0x1f }
+    ensures nvdimm_namespace { DeviceSubType.MESSAGING_NVDIMM_NAMESPACE.0 ≡ 0x20 }
+    ensures rest_service { DeviceSubType.MESSAGING_REST_SERVICE.0 ≡ 0x21 }
+    ensures nvme_of_namespace { DeviceSubType.MESSAGING_NVME_OF_NAMESPACE.0 ≡ 0x22 }
+{}
+
+/// The numbers of the sub-types of type Media.
+pub fn media_sub_types()
+    ensures hard_drive { DeviceSubType.MEDIA_HARD_DRIVE.0 ≡ 0x01 }
+    ensures cd_rom { DeviceSubType.MEDIA_CD_ROM.0 ≡ 0x02 }
+    ensures vendor { DeviceSubType.MEDIA_VENDOR.0 ≡ 0x03 }
+    ensures file_path { DeviceSubType.MEDIA_FILE_PATH.0 ≡ 0x04 }
+    ensures protocol { DeviceSubType.MEDIA_PROTOCOL.0 ≡ 0x05 }
+    ensures piwg_firmware_file { DeviceSubType.MEDIA_PIWG_FIRMWARE_FILE.0 ≡ 0x06 }
+    ensures piwg_firmware_volume { DeviceSubType.MEDIA_PIWG_FIRMWARE_VOLUME.0 ≡ 0x07 }
+    ensures relative_offset_range { DeviceSubType.MEDIA_RELATIVE_OFFSET_RANGE.0 ≡ 0x08 }
+    ensures ram_disk { DeviceSubType.MEDIA_RAM_DISK.0 ≡ 0x09 }
+{}
+
+/// The numbers of the sub-types of the types BIOS Boot Specification and End.
+pub fn other_sub_types()
+    ensures bios_boot_specification { DeviceSubType.BIOS_BOOT_SPECIFICATION.0 ≡ 0x01 }
+    ensures end_instance { DeviceSubType.END_INSTANCE.0 ≡ 0x01 }
+    ensures end_entire { DeviceSubType.END_ENTIRE.0 ≡ 0xff }
 {}

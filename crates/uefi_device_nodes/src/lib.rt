@@ -12,6 +12,8 @@ pub mod acpi;
 pub mod bios_boot_spec;
 pub mod errors;
 pub mod hardware;
+#[doc(hidden)]
+pub mod laws;
 pub mod layouts;
 pub mod media;
 pub mod messaging;

@@ -261,8 +261,9 @@ impl<'a> DevicePathNode<'a> {
         DevicePathNode::cut(bytes, length)
     }
 
-    /// Splits bytes into the node that they begin with and the bytes after it. The node may be one that ends an
-    /// instance or the path. Fails with the first cause that holds, in the order in which [`NodeError`] lists them.
+    /// Splits bytes into the node that they begin with and the bytes after it. The node may be one
+    /// that ends an instance or the path. Fails with the first cause that holds, in the order in
+    /// which [`NodeError`] lists them.
     #[inline(always)]
     pub fn split_first(bytes: &'a [u8]) -> Result<(Self, &'a [u8]), NodeError>
         ensures ok { IfOk result (λ split. bytes.now ≡ node_bytes (node_of split.0) ++ split.1.now) }

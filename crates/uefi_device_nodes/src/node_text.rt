@@ -90,7 +90,8 @@ fn short_name(node: &Parts<'_>) -> &'static str
     vendor_name(u64::read_le(first), u64::read_le(second))
 }
 
-/// Puts a node whose text no row of the table can say. Returns whether it is one; puts nothing where it is not.
+/// Puts a node whose text no row of the table can say. Returns whether it is one; puts nothing where
+/// it is not.
 fn put_irregular<S: TextSink>(sink: &mut S, node: &Parts<'_>) -> bool
     ensures found { result ≡ is_irregular node.now.allow_shortcuts
         (node_with node.now.device_type node.now.sub_type node.now.data.now) }
@@ -147,9 +148,10 @@ pub struct NodeText<'a> {
 impl<'a> DevicePathNode<'a> {
     ghost use Rattle.uefi_device_nodes.specs.NodeViews.{printed_node};
 
-    /// What is printed of the node, for a `{}` of a format (UEFI Specification 2.10, section 10.6.1): the
-    /// form of its kind, or `Path(TYPE,SUBTYPE,BYTES)` where it is of none, or too short for its kind.
-    /// No control character stands in it. Takes no memory.
+    /// What is printed of the node, for a `{}` of a format (UEFI Specification 2.10, section 10.6.1):
+    /// the form of its kind, or `Path(TYPE,SUBTYPE,BYTES)` where it is of none, or too short for its
+    /// kind. No control character stands in it, and none that turns its direction or ends its line.
+    /// Takes no memory.
     pub fn display(
         &self,
         display_only: DisplayOnly,

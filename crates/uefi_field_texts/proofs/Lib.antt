@@ -3,3 +3,4 @@ pub mod Numerals
 pub mod Places
 pub mod Puts
 pub mod Surrogates
+pub mod ShownTexts

@@ -1,6 +1,6 @@
 -- What is printed of the fields of nodes, in UTF-8.
-use Rattle.std.specs.Prelude.{ℕ, ◌+◌, ◌/◌, ◌%◌, ◌==◌, ◌||◌, ◌&&◌, Bool, true, nat_le, nat_lt, if◌then◌else◌, List, [], ◌∷◌, ◌++◌, codes, length, not, take, drop, slice_index, slice_range, reverse, encode_utf8}
-use Rattle.std.specs.Fmt.{digits, decimal}
+use Rattle.std.specs.Prelude.{ℕ, ◌+◌, ◌/◌, ◌%◌, ◌==◌, ◌||◌, ◌&&◌, Bool, true, nat_le, nat_lt, if◌then◌else◌, List, [], ◌∷◌, ◌++◌, codes, length, not, take, drop, reverse, encode_utf8}
+use Rattle.std.specs.Fmt.{digits}
 use Rattle.std.specs.List.{concat, flat_map, join_by, position_or_len}
 use Rattle.std.specs.Char.Utf16.{utf16_lossy_chars}
 use Rattle.uefi_text.specs.Units.{is_nul}
@@ -65,9 +65,19 @@ shown_bytes bytes = flat_map shown_byte bytes
 abbrev pub is_control : ℕ → Bool
 is_control c = nat_lt c 0x20 || (nat_le 0x7f c && nat_lt c 0xa0)
 
--- a character of a text: itself where it is none of control
+-- the test for a character that turns the direction of a text, or ends its line (Unicode Standard,
+-- Annex 9 and section 5.8)
+abbrev pub is_reordering : ℕ → Bool
+is_reordering c = (c == 0x61c) || ((nat_le 0x200e c && nat_lt c 0x2010)
+    || ((nat_le 0x2028 c && nat_lt c 0x202f) || (nat_le 0x2066 c && nat_lt c 0x206a)))
+
+-- the test for a character that no text prints as it is
+abbrev pub is_escaped : ℕ → Bool
+is_escaped c = is_control c || is_reordering c
+
+-- a character of a text: itself, or its number
 unfoldable pub shown_char : ℕ → List ℕ
-shown_char c = if is_control c then concat (codes "\\u{" ∷ hex c ∷ codes "}" ∷ []) else encode_utf8 c
+shown_char c = if is_escaped c then concat (codes "\\u{" ∷ hex c ∷ codes "}" ∷ []) else encode_utf8 c
 
 -- code units: the characters that they encode, and U+FFFD for each surrogate that has no partner
 unfoldable pub shown_units : List ℕ → List ℕ

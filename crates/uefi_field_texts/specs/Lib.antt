@@ -1,1 +1,2 @@
 pub mod FieldTexts
+pub mod ShownTexts

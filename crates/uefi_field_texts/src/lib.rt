@@ -12,6 +12,8 @@ pub mod hexadecimal;
 #[doc(hidden)]
 pub mod ids;
 #[doc(hidden)]
+pub mod laws;
+#[doc(hidden)]
 pub mod names;
 #[doc(hidden)]
 pub mod sink;

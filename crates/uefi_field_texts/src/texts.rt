@@ -6,7 +6,7 @@ ghost use Rattle.std.specs.List.{position_or_len};
 ghost use Rattle.std.specs.Char.Utf16.{is_high_surrogate, is_low_surrogate, lone_unit_char, surrogate_pair_char, utf16_lossy_chars};
 ghost use Rattle.std.specs.Option.{unwrap_or};
 ghost use Rattle.std.specs.Prelude.{◌≡◌, ◌+◌, ◌<◌, ◌≤◌, ◌∷◌, ◌++◌, ◌&&◌, drop, length, slice_index, true};
-ghost use Rattle.uefi_field_texts.specs.FieldTexts.{after_nul, shown_byte, shown_bytes, shown_char, until_nul, utf16_text};
+ghost use Rattle.uefi_field_texts.specs.FieldTexts.{after_nul, is_escaped, shown_byte, shown_bytes, shown_char, until_nul, utf16_text};
 ghost use Rattle.uefi_text.specs.UnitBytes.{units_of_bytes};
 ghost use Rattle.uefi_text.specs.Units.{is_nul};
 ghost use Rattle.uefi_text.specs.Views.{items_of};
@@ -69,13 +69,29 @@ pub fn put_byte_text<S: TextSink>(sink: &mut S, text: &str, bytes: &[u8])
     }
 }
 
+/// Whether texts escape a character: a control character, or one that turns the direction of a text
+/// or ends its line, so that a person reads something else than what stands there (U+061C, U+200E,
+/// U+200F, U+2028 to U+202E and U+2066 to U+2069).
+pub fn is_escaped(character: char) -> bool
+    ensures { result ≡ is_escaped character }
+{
+    matches!(
+        character,
+        '\0'..='\u{1f}'
+            | '\u{7f}'..='\u{9f}'
+            | '\u{61c}'
+            | '\u{200e}'..='\u{200f}'
+            | '\u{2028}'..='\u{202e}'
+            | '\u{2066}'..='\u{2069}'
+    )
+}
+
 /// Puts a character of a text.
 fn put_shown<S: TextSink>(sink: &mut S, character: char)
     ensures { WritesInCalls S.puts sink.old (shown_char character) sink.new }
 {
-    let code = character as u32;
-    if code < 0x20 || (code >= 0x7f && code < 0xa0) {
-        put_hex(sink, "\\u{", u64::from(code));
+    if is_escaped(character) {
+        put_hex(sink, "\\u{", u64::from(character as u32));
         sink.put_str("}");
         return;
     }
@@ -159,7 +175,8 @@ fn char_at(units: &UnalignedSlice<'_, u16>, place: usize) -> (char, usize)
 
 /// Puts the text that bytes encode in UTF-16, the low byte of each unit first, as of a file's name: the
 /// characters up to the NUL, or all where there is none, U+FFFD for each surrogate that has no partner
-/// (Unicode Standard, section 3.9), and each control character as `\u{HEX}`.
+/// (Unicode Standard, section 3.9), and each character that [`is_escaped`] as
+/// `\u{HEX}`.
 pub fn put_utf16_text<S: TextSink>(sink: &mut S, bytes: &[u8])
     ensures { WritesInCalls S.puts sink.old (utf16_text bytes.now) sink.new }
 {

@@ -14,7 +14,7 @@ use lib.Utf8.{low_scalar}
 use Rattle.uefi_text.specs.Packed.{IsByte}
 use Rattle.uefi_text.specs.UnitBytes.{unit_bytes}
 use Rattle.uefi_text.specs.Units.{is_nul}
-use Rattle.uefi_field_texts.specs.FieldTexts.{is_control, shown_byte, shown_bytes, shown_char, shown_units, until_nul, utf16_text}
+use Rattle.uefi_field_texts.specs.FieldTexts.{is_escaped, shown_byte, shown_bytes, shown_char, shown_units, until_nul, utf16_text}
 use Rattle.uefi_node_table.proofs.Lists.{and_true, both}
 use Rattle.uefi_node_reader.specs.Fields.{clear_run, is_clear}
 use Rattle.uefi_node_reader.proofs.NamedFiles.{lossy_back, no_nul, place_of, units_back}
@@ -110,7 +110,7 @@ char_clear : (stop c : ℕ) → is_clear stop c ≡ true → shown_char c ≡ c 
 unfolding shown_char
 char_clear stop c e =
     let is = clear stop c e in
-    let shown : is_control c ≡ false = grind (arith, nat_tests, is.least, is.most) in
+    let shown : is_escaped c ≡ false = grind (arith, nat_tests, is.least, is.most) in
     rw shown (encode_ascii c (omega (arith, is.most)))
 
 unit_clear : (stop c : ℕ) → is_clear stop c ≡ true → encode_utf16 c ≡ c ∷ []

@@ -15,7 +15,7 @@ use lib.Utf8.{encode, encodes, scalar, scalar_cases}
 use Rattle.uefi_text.specs.Packed.{packed_items}
 use Rattle.uefi_text.specs.UnitBytes.{unit_bytes, units_of_bytes}
 use Rattle.uefi_text.specs.Units.{is_nul}
-use Rattle.uefi_field_texts.specs.FieldTexts.{is_control, shown_char, shown_units, until_nul, utf16_text}
+use Rattle.uefi_field_texts.specs.FieldTexts.{is_escaped, shown_char, shown_units, until_nul, utf16_text}
 use Rattle.uefi_device_nodes.specs.Nodes.{Node, node_with}
 use Rattle.uefi_device_nodes.specs.NodeTexts.{irregular_text, node_text}
 use Rattle.uefi_node_reader.specs.Fields.{read_if}
@@ -111,25 +111,25 @@ lossy_back (c ∷ cs) s =
     let p = both_true (scalar c) (all_scalars cs) s in
     lossy_first c (flat_map encode_utf16 cs) p.0 ∙ ap (λ (x : List ℕ). c ∷ x) (lossy_back cs p.1)
 
-unit_no_nul : (c : ℕ) → is_control c ≡ false → no_nul (encode_utf16 c) ≡ true
+unit_no_nul : (c : ℕ) → is_escaped c ≡ false → no_nul (encode_utf16 c) ≡ true
 unit_no_nul c e =
-    let some : c ≢ 0 = λ z. true≢false (ap is_control (sym z) ∙ e) in
+    let some : c ≢ 0 = λ z. true≢false (ap is_escaped (sym z) ∙ e) in
     grind (arith, nat_tests)
 
 units_no_nul : (cs : List ℕ) → list_all is_name_char cs ≡ true → no_nul (flat_map encode_utf16 cs) ≡ true
 units_no_nul [] e = refl
 units_no_nul (c ∷ cs) e =
     let p = both_true (is_name_char c) (list_all is_name_char cs) e in
-    let q = both_true (not (is_control c)) (not (ends_name c)) p.0 in
-    no_nul-append (encode_utf16 c) (flat_map encode_utf16 cs) (unit_no_nul c (not_true (is_control c) q.0)) (units_no_nul cs p.1)
+    let q = both_true (not (is_escaped c)) (not (ends_name c)) p.0 in
+    no_nul-append (encode_utf16 c) (flat_map encode_utf16 cs) (unit_no_nul c (not_true (is_escaped c) q.0)) (units_no_nul cs p.1)
 
 shown_back : (cs : List ℕ) → list_all is_name_char cs ≡ true → flat_map shown_char cs ≡ encodes cs
 unfolding shown_char
 shown_back [] e = refl
 shown_back (c ∷ cs) e =
     let p = both_true (is_name_char c) (list_all is_name_char cs) e in
-    let q = both_true (not (is_control c)) (not (ends_name c)) p.0 in
-    rw (not_true (is_control c) q.0) (ap (λ (x : List ℕ). encode c ++ x) (shown_back cs p.1))
+    let q = both_true (not (is_escaped c)) (not (ends_name c)) p.0 in
+    rw (not_true (is_escaped c) q.0) (ap (λ (x : List ℕ). encode c ++ x) (shown_back cs p.1))
 
 -- the text of a node that holds a name is the name
 pub named_text : (cs : List ℕ) → all_scalars cs ≡ true → list_all is_name_char cs ≡ true
@@ -173,7 +173,7 @@ name_goes_on : (cs : List ℕ) → list_all is_name_char cs ≡ true → list_al
 name_goes_on [] e = refl
 name_goes_on (c ∷ cs) e =
     let p = both_true (is_name_char c) (list_all is_name_char cs) e in
-    let q = both_true (not (is_control c)) (not (ends_name c)) p.0 in
+    let q = both_true (not (is_escaped c)) (not (ends_name c)) p.0 in
     all-append goes_on (encode c) (encodes cs) (encode_goes_on c q.1) (name_goes_on cs p.1)
 
 ends_at : (rest : List ℕ) → is_after_node rest ≡ true → position_or_len ends_name rest ≡ 0

@@ -5,7 +5,7 @@ use Rattle.std.specs.List.{flat_map, list_all, position_or_len}
 use Rattle.std.specs.Str.{all_scalars, chars, is_utf8}
 use Rattle.uefi_text.specs.UnitBytes.{unit_bytes}
 use Rattle.uefi_text.specs.Units.{nul_terminated}
-use Rattle.uefi_field_texts.specs.FieldTexts.{is_control}
+use Rattle.uefi_field_texts.specs.FieldTexts.{is_escaped}
 use Rattle.uefi_device_nodes.specs.Nodes.{Node, node_with}
 use Rattle.uefi_node_table.specs.Table.{forms}
 use Rattle.uefi_node_reader.specs.Fields.{either_read, read_if}
@@ -16,9 +16,9 @@ use Rattle.uefi_node_reader.specs.PlainNodes.{IsPlain, plain_read}
 abbrev pub ends_name : ℕ → Bool
 ends_name byte = (byte == 47) || (byte == 44)
 
--- the test for a character of a name: none of control, and none that ends it
+-- the test for a character of a name: none that is escaped, and none that ends it
 abbrev pub is_name_char : ℕ → Bool
-is_name_char c = not (is_control c) && not (ends_name c)
+is_name_char c = not (is_escaped c) && not (ends_name c)
 
 -- the test for characters that begin with a backslash
 abbrev pub begins_name : List ℕ → Bool

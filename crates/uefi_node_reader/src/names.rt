@@ -11,6 +11,7 @@ ghost use Rattle.uefi_device_nodes.specs.Nodes.{node_with};
 ghost use Rattle.uefi_node_reader.specs.NamedFiles.{begins_name, ends_name, is_name_char, name_read};
 
 use std::alloc::{AllocError, Allocator};
+use uefi_field_texts::texts::is_escaped;
 
 /// Whether a byte ends a name.
 fn ends_name(byte: u8) -> bool
@@ -32,11 +33,11 @@ fn name_len(text: &[u8]) -> usize
     text.len()
 }
 
-/// Whether a character may stand in a name: it is none of control, and ends none.
+/// Whether a character may stand in a name: it is printed as it is, and ends none.
 fn is_name_char(c: char) -> bool
     ensures { result ≡ is_name_char c }
 {
-    !matches!(c, '\0'..='\u{1f}' | '\u{7f}'..='\u{9f}' | '/' | ',')
+    !is_escaped(c) && c != '/' && c != ','
 }
 
 /// Whether a text begins with a backslash.

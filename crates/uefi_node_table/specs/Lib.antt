@@ -2,3 +2,4 @@ pub mod Fields
 pub mod Rows
 pub mod Table
 pub mod Words
+pub mod ShownTexts

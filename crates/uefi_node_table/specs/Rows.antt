@@ -99,7 +99,8 @@ abbrev pub as_item : ItemOf (Bor (List ℕ)) (Bor (List (PieceOf (Bor (List ℕ)
 as_item i = record { size = i.size; start = i.start.now; pieces = map as_piece i.pieces.now }
 
 -- the item that a constant is
-abbrev pub const_item : ItemOf (record { now : List ℕ }) (record { now : List (PieceOf (record { now : List ℕ })) }) → Item
+abbrev pub const_item :
+    ItemOf (record { now : List ℕ }) (record { now : List (PieceOf (record { now : List ℕ })) }) → Item
 const_item i = record { size = i.size; start = i.start.now; pieces = map const_piece i.pieces.now }
 
 -- the items of a list

@@ -1,7 +1,8 @@
-//! The table of kinds of device path nodes, and nodes printed by it. No crate above uses it but those of device
-//! paths.
+//! The table of kinds of device path nodes, and nodes printed by it. No crate above uses it but those
+//! of device paths.
 #![tactic(auto)]
 
+pub mod laws;
 pub mod printing;
 pub mod rows;
 pub mod table;

@@ -104,7 +104,8 @@ pub struct RowOf<T, B, P> {
     pub mode: Mode,
     /// How many bytes the data have at least: those are their fixed part.
     pub least: usize,
-    /// Bytes of the fixed part that distinguish this form from others of its kind: where each lies, and what it is.
+    /// Bytes of the fixed part that distinguish this form from others of its kind: where each lies,
+    /// and what it is.
     pub when: B,
     /// Other bytes of the fixed part that are not zero in a node that is read, and lie in no field.
     pub also: B,

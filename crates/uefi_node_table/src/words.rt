@@ -1,5 +1,5 @@
-//! Words that stand for numbers in texts of nodes (UEFI Specification 2.10, section 10.6.1), and in those of EDK II.
-//! `specs/Words.antt` says what a list means.
+//! Words that stand for numbers in texts of nodes (UEFI Specification 2.10, section 10.6.1), and in
+//! those of EDK II. `specs/Words.antt` says what a list means.
 #![tactic(auto, unfolding(crate::specs::Words::words_of))]
 
 ghost use Rattle.std.specs.Prelude.{◌≡◌, ◌≤◌, length, map};

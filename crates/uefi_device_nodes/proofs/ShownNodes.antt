@@ -1,0 +1,122 @@
+-- No text of a node holds a character that texts escape.
+use Rattle.std.proofs.Common.{◌==◌, ◌&&◌, Bool, true, false, if◌then◌else◌, List, [], ◌∷◌, ◌++◌, codes, drop, length, ℕ, refl}
+use Rattle.std.specs.Prelude.{All}
+use Rattle.std.specs.Fmt.{decimal}
+use Rattle.std.specs.List.{concat}
+use Rattle.uefi_text.specs.Packed.{IsByte}
+use Rattle.uefi_field_texts.specs.FieldTexts.{boot_type_text, cid_string, comma_bytes, eisa_text, has_uid_alone, hex, hid_string, shown_bytes, uid_string, until_nul, utf16_text}
+use Rattle.uefi_field_texts.specs.ShownTexts.{AsciiShown, BytesShown, IsShown, JoinedShown, NamesShown, NumbersShown, UnitsShown}
+use Rattle.uefi_node_table.specs.ShownTexts.{TableShown}
+use Rattle.uefi_node_table.specs.Table.{has_form, table_text}
+use Rattle.uefi_device_nodes.specs.Nodes.{Node}
+use Rattle.uefi_device_nodes.specs.NodeTexts.{boot_end_text, boot_text, expanded_text, irregular_text, is_file_node, is_irregular, node_text, short_name, unknown_text}
+use Rattle.uefi_device_nodes.specs.ShownNodes.{NodesShown}
+use Rattle.uefi_device_nodes.specs.TypedNodes.{is_kind, number_at}
+
+module _ (joined : JoinedShown) (ascii : AsciiShown) (numbers : NumbersShown) (bytes_are : BytesShown) (names : NamesShown) (units : UnitsShown) (table : TableShown) where
+  none : IsShown []
+  none = ascii [] refl
+
+  pick : (t : Bool) (one other : List ℕ) → IsShown one → IsShown other → IsShown (if t then one else other)
+  pick true one other e f = e
+  pick false one other e f = f
+
+  abbrev Each : List (List ℕ) → Type 0
+  Each [] = Unit {0}
+  Each (part ∷ parts) = IsShown part × Each parts
+
+  -- parts in a row
+  row : (parts : List (List ℕ)) → Each parts → IsShown (concat parts)
+  row [] each = none
+  row (part ∷ parts) each = joined part (concat parts) each.0 (row parts each.1)
+
+  text : (bytes : List ℕ) → IsShown (shown_bytes bytes)
+  text bytes = (bytes_are bytes).4
+
+  expanded : (shortcuts : Bool) (content : List ℕ) → IsShown (expanded_text shortcuts content)
+  expanded shortcuts content =
+      let strings : List ℕ = drop 12 content in
+      let hid : List ℕ = eisa_text (number_at 0 4 content) in
+      let cid : List ℕ = eisa_text (number_at 8 4 content) in
+      let is_hid = (names (number_at 0 4 content) 0).0 in
+      let is_cid = (names (number_at 8 4 content) 0).0 in
+      let comma = ascii (codes ",") refl in
+      let end = ascii (codes ")") refl in
+      pick (shortcuts && has_uid_alone strings) _ _
+      (row (codes "AcpiExp(" ∷ hid ∷ codes "," ∷ cid ∷ codes "," ∷ shown_bytes (uid_string strings) ∷ codes ")" ∷ [])
+      (ascii (codes "AcpiExp(") refl, (is_hid, (comma, (is_cid, (comma, (text (uid_string strings), (end, tt))))))))
+      (row (codes "AcpiEx(" ∷ hid ∷ codes "," ∷ cid ∷ codes ",0x" ∷ hex (number_at 4 4 content) ∷ codes "," ∷ shown_bytes (hid_string strings)
+      ∷ codes "," ∷ shown_bytes (cid_string strings) ∷ codes "," ∷ shown_bytes (uid_string strings) ∷ codes ")" ∷ []) (
+        ascii (codes "AcpiEx(") refl,
+        (
+          is_hid,
+          (
+            comma,
+            (
+              is_cid,
+              (
+                ascii (codes ",0x") refl,
+                (
+                  (numbers (number_at 4 4 content)).0,
+                  (
+                    comma,
+                    (text (hid_string strings), (comma, (text (cid_string strings), (comma, (text (uid_string strings), (end, tt)))))),
+                  ),
+                ),
+              ),
+            ),
+          ),
+        ),
+      ))
+
+  boot_end : (display_only : Bool) (flags : ℕ) → IsShown (boot_end_text display_only flags)
+  boot_end display_only flags =
+      let end = ascii (codes ")") refl in
+      pick display_only (codes ")") _ end
+      (row (codes ",0x" ∷ hex flags ∷ codes ")" ∷ []) (ascii (codes ",0x") refl, ((numbers flags).0, (end, tt))))
+
+  boot : (display_only : Bool) (content : List ℕ) → IsShown (boot_text display_only content)
+  boot display_only content =
+      let name = shown_bytes (until_nul (drop 4 content)) in
+      let end = boot_end_text display_only (number_at 2 2 content) in
+      joined (codes "BBS(") (boot_type_text (number_at 0 2 content) ++ (codes "," ++ (name ++ end))) (ascii (codes "BBS(") refl)
+      (joined (boot_type_text (number_at 0 2 content)) (codes "," ++ (name ++ end)) (names (number_at 0 2 content) 0).1
+      (joined (codes ",") (name ++ end) (ascii (codes ",") refl)
+      (joined name end (text (until_nul (drop 4 content))) (boot_end display_only (number_at 2 2 content)))))
+
+  unknown : (node : Node) → IsShown (unknown_text node)
+  unfolding unknown_text
+  unknown node =
+      row (codes "Path(" ∷ decimal node.device_type ∷ codes "," ∷ decimal node.sub_type ∷ comma_bytes node.content ∷ codes ")" ∷ []) (
+        ascii (codes "Path(") refl,
+        (
+          (numbers node.device_type).1,
+          (
+            ascii (codes ",") refl,
+            (
+              (numbers node.sub_type).1,
+              ((bytes_are node.content).3, (ascii (codes ")") refl, tt)),
+            ),
+          ),
+        ),
+      )
+
+  short : (node : Node) → IsShown (short_name node)
+  short node =
+      pick ((node.device_type == 3) && ((node.sub_type == 10) && (length node.content == 16))) _ []
+      (names (number_at 0 8 node.content) (number_at 8 8 node.content)).2 none
+
+  irregular : (display_only shortcuts : Bool) (node : Node) → All IsByte node.content → IsShown (irregular_text display_only shortcuts node)
+  unfolding irregular_text
+  irregular display_only shortcuts node h =
+      pick (is_file_node node) (utf16_text node.content) _ (units node.content h)
+      (pick (is_kind 2 2 15 node) (expanded_text shortcuts node.content) _ (expanded shortcuts node.content)
+      (pick (is_kind 5 1 5 node) (boot_text display_only node.content) (short_name node) (boot display_only node.content) (short node)))
+
+  pub shown : NodesShown
+  unfolding node_text
+  shown display_only shortcuts node h =
+      pick (is_irregular shortcuts node) (irregular_text display_only shortcuts node) _ (irregular display_only shortcuts node h)
+      (pick (has_form display_only node.device_type node.sub_type node.content)
+      (table_text display_only node.device_type node.sub_type node.content) (unknown_text node)
+      (table display_only node.device_type node.sub_type node.content h) (unknown node))

@@ -1,0 +1,143 @@
+-- No text of the table holds a character that texts escape.
+use Rattle.std.proofs.Common.{◌≡◌, ℕ, ◌+◌, ◌==◌, ◌&&◌, Bool, true, false, if◌then◌else◌, List, [], ◌∷◌, ◌++◌, codes, drop, refl}
+use Rattle.std.specs.Prelude.{All, Option, Some, None}
+use Rattle.std.specs.Fmt.{decimal}
+use Rattle.std.specs.List.{flat_map, list_all}
+use Rattle.std.proofs.lemmas.List.Elements.{All-drop}
+use Rattle.uefi_text.specs.Packed.{IsByte, little_endian}
+use Rattle.uefi_field_texts.specs.FieldTexts.{shown_bytes, until_nul}
+use Rattle.uefi_field_texts.specs.ShownTexts.{AsciiShown, BytesShown, IsShown, JoinedShown, NumbersShown, UnitsShown, is_printable}
+use Rattle.uefi_node_table.specs.Fields.{field_text}
+use Rattle.uefi_node_table.specs.Rows.{Form, Piece, form_text, item_of, item_text, items_of, lead_text, matches, pieces_text, tail_text, value_at}
+use Rattle.uefi_node_table.specs.ShownTexts.{TableShown}
+use Rattle.uefi_node_table.specs.Table.{form_of, forms, group_forms, table_text, text_in}
+use Rattle.uefi_node_table.specs.Words.{Word, suits, word_text, words_of}
+use Rattle.uefi_node_table.specs.declared.rows.Items.{Items}
+use Rattle.uefi_node_table.specs.declared.rows.Items.TheVariants.{Ipv4, Ipv6, Numbers}
+use Rattle.uefi_node_table.specs.declared.rows.Shape.{Shape}
+use Rattle.uefi_node_table.specs.declared.rows.Shape.TheVariants.{Back, Dashed, Decimal, Forth, Hexadecimal, Next, OrDefault, Padded, Word as AWord}
+use Rattle.uefi_node_table.specs.declared.rows.Tail.{Tail}
+use Rattle.uefi_node_table.specs.declared.rows.Tail.TheVariants.{Bytes, Name, Nothing, Repeated, Text, Utf16}
+use Rattle.uefi_node_table.specs.declared.words.Words.{Words}
+use Rattle.uefi_node_table.specs.declared.words.Words.TheVariants.{Digests, Login, Parity, Protocol, StopBits}
+use Rattle.uefi_node_table.proofs.Forms.{found}
+use Rattle.uefi_node_table.proofs.Lists.{both}
+
+-- the tests for literals of printable ASCII alone
+ends_clean : Piece → Bool
+ends_clean piece = list_all is_printable piece.ending
+
+is_clean : Form → Bool
+is_clean form = list_all is_printable form.start && (list_all ends_clean form.pieces && list_all is_printable form.close)
+
+clean_word : Word → Bool
+clean_word word = list_all is_printable word.text
+
+-- each literal of the table is: computed
+table_clean : list_all is_clean forms ≡ true
+unfolding group_forms is_clean ends_clean
+table_clean = refl
+
+words_clean : (words : Words) → list_all clean_word (words_of words) ≡ true
+unfolding words_of clean_word
+words_clean Parity = refl
+words_clean StopBits = refl
+words_clean Digests = refl
+words_clean Login = refl
+words_clean Protocol = refl
+
+starts_clean : (items : Items) → list_all is_printable (item_of items).start ≡ true
+unfolding item_of
+starts_clean Numbers = refl
+starts_clean Ipv4 = refl
+starts_clean Ipv6 = refl
+
+items_clean : (items : Items) → list_all ends_clean (item_of items).pieces ≡ true
+unfolding item_of ends_clean
+items_clean Numbers = refl
+items_clean Ipv4 = refl
+items_clean Ipv6 = refl
+
+module _ (joined : JoinedShown) (ascii : AsciiShown) (numbers : NumbersShown) (bytes_are : BytesShown) (units : UnitsShown) where
+  none : IsShown []
+  none = ascii [] refl
+
+  word_shown : (words : List Word) → list_all clean_word words ≡ true → (n : ℕ) → IsShown (word_text words n)
+  unfolding clean_word
+  word_shown [] e n = none
+  word_shown (w ∷ ws) e n =
+      let p = both (list_all is_printable w.text) (list_all clean_word ws) e in
+      by (suits n w) (ascii w.text p.0) (word_shown ws p.1 n)
+    where
+      by : (t : Bool) → IsShown w.text → IsShown (word_text ws n) → IsShown (if t then w.text else word_text ws n)
+      by true one others = one
+      by false one others = others
+
+  field_shown : (shape : Shape) (bytes : List ℕ) → IsShown (field_text shape bytes)
+  field_shown Hexadecimal bytes = (numbers (little_endian bytes)).0
+  field_shown Decimal bytes = (numbers (little_endian bytes)).1
+  field_shown OrDefault bytes = by (little_endian bytes == 0)
+    where
+      by : (t : Bool) → IsShown (if t then codes "DEFAULT" else decimal (little_endian bytes))
+      by true = ascii (codes "DEFAULT") refl
+      by false = (numbers (little_endian bytes)).1
+  field_shown Back bytes = (bytes_are bytes).1
+  field_shown Forth bytes = (bytes_are bytes).0
+  field_shown Dashed bytes = (bytes_are bytes).2
+  field_shown Next bytes = (numbers (little_endian bytes + 1)).0
+  field_shown Padded bytes = (bytes_are (until_nul bytes)).4
+  field_shown (AWord words) bytes = word_shown (words_of words) (words_clean words) (little_endian bytes)
+
+  pieces_shown : (pieces : List Piece) → list_all ends_clean pieces ≡ true → (content : List ℕ) → IsShown (pieces_text pieces content)
+  unfolding ends_clean
+  pieces_shown [] e content = none
+  pieces_shown (piece ∷ pieces) e content =
+      let p = both (list_all is_printable piece.ending) (list_all ends_clean pieces) e in
+      let field = field_text piece.shape (value_at piece content) in
+      joined (field ++ piece.ending) (pieces_text pieces content)
+      (joined field piece.ending (field_shown piece.shape (value_at piece content)) (ascii piece.ending p.0))
+      (pieces_shown pieces p.1 content)
+
+  list_shown : (items : Items) (chunks : List (List ℕ)) → IsShown (flat_map (item_text (item_of items)) chunks)
+  list_shown items [] = none
+  list_shown items (chunk ∷ chunks) =
+      let item = item_of items in
+      joined (item.start ++ pieces_text item.pieces chunk) (flat_map (item_text item) chunks)
+      (joined item.start (pieces_text item.pieces chunk) (ascii item.start (starts_clean items)) (pieces_shown item.pieces (items_clean items) chunk))
+      (list_shown items chunks)
+
+  tail_shown : (tail : Tail) (bytes : List ℕ) → All IsByte bytes → IsShown (tail_text tail bytes)
+  tail_shown Nothing bytes h = none
+  tail_shown Bytes bytes h = (bytes_are bytes).3
+  tail_shown Text bytes h = (bytes_are bytes).4
+  tail_shown Utf16 bytes h = units bytes h
+  tail_shown Name bytes h = none
+  tail_shown (Repeated items) bytes h = list_shown items (items_of (item_of items).size bytes)
+
+  lead_shown : (tail : Tail) (bytes : List ℕ) → IsShown (lead_text tail bytes)
+  lead_shown Nothing bytes = none
+  lead_shown Bytes bytes = none
+  lead_shown Text bytes = none
+  lead_shown Utf16 bytes = none
+  lead_shown Name bytes = joined (shown_bytes (until_nul bytes)) (codes ",0x") (bytes_are (until_nul bytes)).4 (ascii (codes ",0x") refl)
+  lead_shown (Repeated items) bytes = none
+
+  form_shown : (form : Form) → is_clean form ≡ true → (content : List ℕ) → All IsByte content → IsShown (form_text form content)
+  unfolding is_clean
+  form_shown form e content h =
+      let p = both (list_all is_printable form.start) (list_all ends_clean form.pieces && list_all is_printable form.close) e in
+      let q = both (list_all ends_clean form.pieces) (list_all is_printable form.close) p.1 in
+      let after = drop form.least content in
+      joined form.start (lead_text form.tail after ++ (pieces_text form.pieces content ++ (tail_text form.tail after ++ form.close))) (ascii form.start p.0)
+      (joined (lead_text form.tail after) (pieces_text form.pieces content ++ (tail_text form.tail after ++ form.close)) (lead_shown form.tail after)
+      (joined (pieces_text form.pieces content) (tail_text form.tail after ++ form.close) (pieces_shown form.pieces q.0 content)
+      (joined (tail_text form.tail after) form.close (tail_shown form.tail after (All-drop IsByte form.least content h)) (ascii form.close q.1))))
+
+  pub table_shown : TableShown
+  unfolding table_text
+  table_shown display_only kind sub_kind content h = by (form_of display_only kind sub_kind content) refl
+    where
+      by : (o : Option Form) → form_of display_only kind sub_kind content ≡ o → IsShown (text_in o content)
+      by None e = none
+      by (Some form) e =
+          form_shown form (found (matches display_only kind sub_kind content) is_clean forms form e table_clean).0 content h
