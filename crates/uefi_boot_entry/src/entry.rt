@@ -3,7 +3,7 @@ use crate::words::{words_of, words_of_path};
 use std::alloc::Allocator;
 use std::fmt::{self, Write};
 use uefi_device_path::media::FilePath;
-use uefi_device_path::{DevicePath, DevicePathNode, LoadOption, NodeConversionError};
+use uefi_device_path::{DevicePath, DevicePathNode, LoadOption, NodeConversionError, is_escaped};
 use uefi_path::{Path, validate_path};
 use uefi_text::strs::Char16Slice;
 use uefi_text::{CStr16, FromSliceWithNulError, UnalignedSlice};
@@ -16,9 +16,9 @@ pub(crate) const MOST_BYTES: usize = 65536;
 /// reserved.
 const VARIABLE_ATTRIBUTES: [u8; 4] = [7, 0, 0, 0];
 
-/// Writes a character, or `?` for one that a terminal obeys.
+/// Writes a character, or `?` for one that texts of device paths escape.
 fn write_shown<W: Write>(out: &mut W, character: char) -> fmt::Result {
-    out.write_char(if character.is_control() {
+    out.write_char(if is_escaped(character) {
         '?'
     } else {
         character

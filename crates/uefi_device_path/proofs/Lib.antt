@@ -12,3 +12,4 @@ pub mod PathTexts
 pub mod Units
 pub mod PathReading
 pub mod NamesInARow
+pub mod ShownPaths

@@ -11,7 +11,9 @@ use Rattle.uefi_device_nodes.specs.NodeFaults.{fault_place}
 use Rattle.uefi_device_nodes.specs.declared.errors.NodeError.{NodeError}
 use Rattle.uefi_device_nodes.specs.declared.errors.NodeError.TheVariants.{Missing, TruncatedHeader, UnknownEnd, LengthBelowHeader, EndWithData, BeyondEnd}
 use Rattle.uefi_device_path.specs.PathReading.{AreTold}
-use Rattle.uefi_device_path.specs.PathTexts.{path_text}
+use Rattle.uefi_text.specs.Packed.{IsByte}
+use Rattle.uefi_field_texts.specs.ShownTexts.{IsShown}
+use Rattle.uefi_device_path.specs.PathTexts.{instance_text, path_text}
 use Rattle.uefi_device_path.specs.Paths.{BeginWithPath, path_bytes}
 use Rattle.uefi_device_path.specs.Faults.{RefusedFor}
 use Rattle.uefi_device_path.specs.FilePaths.{file_names, file_path, name_in}
@@ -94,5 +96,16 @@ RelativeNamesArePushed = (nodes : List Node) → All IsRelative (file_names node
 
 -- the components are those of the names in a row, where none of these is empty
 abbrev pub NamesInARow : Type 0
-NamesInARow = (nodes : List Node) → All (λ name. All (λ component. component ≢ []) (components_of name)) (file_names nodes)
+NamesInARow = (nodes : List Node)
+    → All (λ name. All (λ component. component ≢ []) (components_of name)) (file_names nodes)
     → components_of (file_path nodes) ≡ flat_map components_of (file_names nodes)
+
+-- no text of nodes holds a character that texts escape
+abbrev pub PathsShown : Type 0
+PathsShown = (display_only shortcuts : Bool) (nodes : List Node) → All (λ node. All IsByte node.content) nodes
+    → IsShown (path_text display_only shortcuts nodes)
+
+-- nor does one of an instance
+abbrev pub InstancesShown : Type 0
+InstancesShown = (display_only shortcuts : Bool) (nodes : List Node) → All (λ node. All IsByte node.content) nodes
+    → IsShown (instance_text display_only shortcuts nodes)

@@ -2,10 +2,10 @@
 use Rattle.std.specs.Prelude.{◌≡◌, ◌≢◌, ◌↔◌, IfErr, IfOk, IsOk, Result, ℕ, ◌+◌, ◌-◌, ◌*◌, ◌/◌, ◌%◌, ◌<◌, ◌≤◌, List, [], ◌∷◌, ◌++◌, All, length, take, drop, slice_index}
 use Rattle.std.specs.Char.Utf16.{utf16_lossy_chars}
 use Rattle.std.specs.Str.{encode_utf8_all}
-use Rattle.uefi_text.specs.Units.{nul_terminated}
+use Rattle.uefi_text.specs.Units.{nul_terminated, without_nul}
 use Rattle.uefi_text.specs.UnitBytes.{unit_bytes}
 use Rattle.uefi_device_nodes.specs.Nodes.{Node}
-use Rattle.uefi_device_path.specs.PathLists.{ArePaths, ListRefusedFor, list_bytes}
+use Rattle.uefi_device_path.specs.PathLists.{ArePaths, ListRefusedFor, list_bytes, paths_in}
 use Rattle.uefi_device_path.specs.declared.errors.DevicePathError.{DevicePathError}
 use Rattle.uefi_device_path.specs.declared.errors.LoadOptionCause.{LoadOptionCause}
 use Rattle.uefi_device_path.specs.declared.errors.LoadOptionCause.TheVariants.{TooShort, DescriptionWithoutEnd, ListBeyondEnd, EmptyList, FilePathList}
@@ -18,6 +18,16 @@ pub record Entry : Type 0 where
   pub description : List ℕ
   pub paths : List (List Node)
   pub optional : List ℕ
+
+-- what the parts of a load option say: its attributes, the units of its description and their NUL, the bytes of its
+-- device paths, and the bytes after them
+abbrev pub entry_with : ℕ → List ℕ → List ℕ → List ℕ → Entry
+entry_with attributes units list optional = record {
+  attributes = attributes;
+  description = without_nul units;
+  paths = paths_in list;
+  optional = optional;
+}
 
 -- a load option has a description without NUL, and a device path or more
 pub record IsEntry (entry : Entry) : Type 0 where
@@ -85,7 +95,8 @@ EntryRefusedFor bytes error = IsWrong bytes error.cause error.offset
 abbrev pub GivesOption : {O : Type 0} → (O → Entry) → List ℕ → Result O LoadOptionError → Type 0
 GivesOption entry_of bytes result =
     IfOk result (λ option. IsEntry (entry_of option) × (bytes ≡ entry_bytes (entry_of option)))
-    × IfOk result (λ option. (entry : Entry) → IsEntry entry → bytes ≡ entry_bytes entry → entry ≡ entry_of option)
+    × IfOk result (λ option.
+        (entry : Entry) → IsEntry entry → bytes ≡ entry_bytes entry → entry ≡ entry_of option)
     × (IsOk result ↔ ((entry : Entry) × IsEntry entry × (bytes ≡ entry_bytes entry)))
     × IfErr result (λ error. EntryRefusedFor bytes error)
     × IfErr result (λ error. (other : LoadOptionError) → EntryRefusedFor bytes other → other ≡ error)

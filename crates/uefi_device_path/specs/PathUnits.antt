@@ -10,8 +10,8 @@ use Rattle.uefi_device_path.specs.declared.errors.TextWriteError.TheVariants.{Bu
 unfoldable pub utf16_units : List ℕ → List ℕ
 utf16_units text = flat_map encode_utf16 (chars text)
 
--- units were counted, as far as a `usize` counts, and as many of the first as have room were written to the start
--- of a buffer, which was `old`
+-- units were counted, as far as a `usize` counts, and as many of the first as have room were written to
+-- the start of a buffer, which was `old`
 pub record AreSunk (units old buffer : List ℕ) (len : ℕ) : Type 0 where
   pub count : len ≡ min (length units) (2 ^ 64 - 1)
   pub written : buffer ≡ take (length old) units ++ drop (length units) old

@@ -1,5 +1,5 @@
-//! The file path of a path: the names of its nodes that name files, one after the other, in memory of its own or
-//! in a caller's buffer.
+//! The file path of a path: the names of its nodes that name files, one after the other, in memory of
+//! its own or in a caller's buffer.
 #![tactic(auto)]
 
 ghost use Rattle.std.specs.Prelude.{◌≡◌, ℕ, ◌+◌, ◌*◌, ◌<◌, ◌≤◌, ◌^◌, ◌∷◌, ◌++◌, [], ◌&&◌, ◌==◌, List, All, drop, length, nat_lt, if◌then◌else◌, IfOk, IfErr, OnErr, OnOk, Some, true};
@@ -257,8 +257,8 @@ fn copy_file_path<A: Allocator + Copy>(
     }
 }
 
-/// The file path of the nodes that bytes are, in memory of its own, which is asked for once each name is known
-/// to be one.
+/// The file path of the nodes that bytes are, in memory of its own, which is asked for once each name
+/// is known to be one.
 pub(crate) fn file_path_in<A: Allocator + Copy>(
     alloc: A,
     bytes: &[u8],

@@ -1,11 +1,13 @@
 //! The laws by which users of device paths and load options reason. They speak of the definitions that
 //! the contracts of the working calls cite. Each law is a function that does nothing: its contract is the
 //! law.
-ghost use Rattle.uefi_device_path.specs.Laws.{AcceptedWithMore, BuiltIsRead, BytesOnce, NamesInARow, NeverBoth, OneName, OnlyFilesCount, OptionsNeverBoth, OptionsOnce, PathsOnce, RefusedByHeader, RelativeNamesArePushed, TextsOnce};
+ghost use Rattle.uefi_device_path.specs.Laws.{AcceptedWithMore, BuiltIsRead, BytesOnce, InstancesShown, NamesInARow, NeverBoth, OneName, OnlyFilesCount, OptionsNeverBoth, OptionsOnce, PathsOnce, PathsShown, RefusedByHeader, RelativeNamesArePushed, TextsOnce};
 
 pub use uefi_built_messages::laws as built_messages;
 pub use uefi_built_nodes::laws as built_nodes;
 pub use uefi_device_nodes::layouts;
+use uefi_device_nodes::laws::nodes_are_shown;
+use uefi_field_texts::laws::fields_are_shown;
 use uefi_node_reader::nodes::nodes_are_read;
 use uefi_path::laws::join_components;
 
@@ -45,9 +47,9 @@ pub fn texts_once()
     nodes_are_read();
 }
 
-/// A file path is made of the names of the nodes that name files, and of nothing else: one name is the whole path,
-/// names that begin with no separator are pushed one after the other, and the components are those of the names in a
-/// row, where none of these is empty.
+/// A file path is made of the names of the nodes that name files, and of nothing else: one name is
+/// the whole path, names that begin with no separator are pushed one after the other, and the
+/// components are those of the names in a row, where none of these is empty.
 pub fn file_paths()
     ensures one { OneName }
     ensures others { OnlyFilesCount }
@@ -55,4 +57,14 @@ pub fn file_paths()
     ensures components { NamesInARow }
 {
     join_components();
+}
+
+/// No text of a device path or of an instance holds a control character, nor one that turns the direction of a text or
+/// ends its line: none that [`is_escaped`](crate::is_escaped).
+pub fn nothing_is_hidden()
+    ensures paths { PathsShown }
+    ensures instances { InstancesShown }
+{
+    fields_are_shown();
+    nodes_are_shown();
 }

@@ -16,8 +16,8 @@
 //! }
 //! ```
 //!
-//! [`DevicePathNode::as_enum`] gives the view of a node's kind, with a call for each field, and [`build`] has a
-//! struct for each kind of node that can be pushed on a path.
+//! [`DevicePathNode::as_enum`] gives the view of a node's kind, with a call for each field, and
+//! [`build`] has a struct for each kind of node that can be pushed on a path.
 //!
 //! A contract sees a node as `node_of` it, a record of its type, its sub-type and its data; a path as
 //! `nodes_of` it, the list of its nodes without the one that ends it; and a load option as `entry_of` it.
@@ -58,5 +58,6 @@ pub use uefi_device_nodes::node::{DevicePathNode, DeviceSubType, DeviceType};
 pub use uefi_device_nodes::node_enum::DevicePathNodeEnum;
 pub use uefi_device_nodes::node_text::NodeText;
 pub use uefi_device_nodes::typed_node::TypedNode;
+pub use uefi_field_texts::texts::is_escaped;
 pub use uefi_device_nodes::{acpi, bios_boot_spec, hardware, media, messaging};
 pub use uefi_field_texts::forms::{AllowShortcuts, DisplayOnly};

@@ -7,22 +7,26 @@ ghost use Rattle.uefi_text.specs.Units.{IsNulTerminated, IsString, nul_terminate
 ghost use Rattle.uefi_text.specs.Views.{items_of};
 ghost use Rattle.uefi_device_path.specs.PathLists.{IsPathList, list_bytes};
 ghost use Rattle.std.specs.String.{string_bytes};
-ghost use Rattle.uefi_device_path.specs.LoadOptions.{Entry, EntryRefusedFor, IsEntry, entry_bytes, lossy_utf8};
+ghost use Rattle.uefi_device_path.specs.LoadOptions.{Entry, EntryRefusedFor, IsEntry, entry_bytes, entry_with, lossy_utf8};
 
 use crate::errors::{LoadOptionCause, LoadOptionError};
 use crate::path_list::{DevicePaths, check_paths};
 use std::alloc::{AllocError, Allocator};
+use std::fmt;
+use std::hash::{Hash, Hasher};
 use uefi_text::{CString16, FromSliceWithNulError, UnalignedSlice};
 
 /// A boot load option that lies in borrowed bytes. A contract sees it as `entry_of` it.
 #[derive(Clone, Copy)]
 pub struct LoadOption<'a> {
+    bytes: &'a [u8],
     attributes: u32,
     description: UnalignedSlice<'a, u16>,
     list: &'a [u8],
     optional: &'a [u8],
     pub ghost ends: { IsNulTerminated (items_of description) },
     pub ghost is_path_list: { IsPathList list.now },
+    pub ghost whole: { bytes.now ≡ entry_bytes (entry_with attributes (items_of description) list.now optional.now) },
 }
 
 impl<'a> LoadOption<'a> {
@@ -87,6 +91,7 @@ impl<'a> LoadOption<'a> {
         let (list, optional) = rest.split_at(list_length);
         match check_paths(list) {
             Ok(()) => Ok(LoadOption {
+                bytes,
                 attributes,
                 description,
                 list,
@@ -97,6 +102,14 @@ impl<'a> LoadOption<'a> {
                 offset: start + error.offset,
             }),
         }
+    }
+
+    /// All bytes of the load option.
+    pub fn as_bytes(&self) -> &'a [u8]
+        ensures bytes { result.now ≡ entry_bytes (entry_of self.now) }
+        ensures entry { IsEntry (entry_of self.now) }
+    {
+        self.bytes
     }
 
     /// The attributes.
@@ -187,6 +200,52 @@ impl<'a> LoadOption<'a> {
         ensures { result.now ≡ (entry_of self.now).optional }
     {
         self.optional
+    }
+}
+
+/// Two load options are equal exactly when their bytes are.
+impl<'a> PartialEq for LoadOption<'a> {
+    ghost use Rattle.std.specs.Cmp.{on_per, partial_equiv_from_equiv};
+    ghost use Rattle.std.specs.Prelude.{nat_eq};
+    ghost use Rattle.std.specs.Cmp.Lexicographic.{nat_list_eq_equiv, pointwise};
+    ghost use Rattle.uefi_device_path.specs.Views.{entry_of};
+
+    ghost eq = { λ a b. pointwise nat_eq (entry_bytes (entry_of a)) (entry_bytes (entry_of b)) };
+
+    ghost laws = { on_per (λ a. entry_bytes (entry_of a)) (partial_equiv_from_equiv nat_list_eq_equiv) };
+
+    fn eq(&self, other: &Self) -> bool {
+        self.as_bytes() == other.as_bytes()
+    }
+}
+
+impl<'a> Eq for LoadOption<'a> {
+    ghost use Rattle.std.specs.Cmp.Lexicographic.{on_texts_equal};
+    ghost use Rattle.uefi_device_path.specs.Views.{entry_of};
+
+    ghost laws = { on_texts_equal (λ a. entry_bytes (entry_of a)) };
+}
+
+/// Hashes the bytes.
+impl<'a> Hash for LoadOption<'a> {
+    ghost use Rattle.std.proofs.Common.{rules};
+    ghost use Rattle.std.specs.Hash as fed;
+    ghost use Rattle.std.specs.Cmp.Rules.{comparing, hashing};
+    ghost use Rattle.uefi_device_path.specs.Views.{entry_of};
+
+    ghost hash_input = { λ a. fed.slice fed.u8 (entry_bytes (entry_of a)) };
+
+    ghost respects_eq = { Prim.search (hashing, comparing, rules) };
+
+    fn hash<H: Hasher>(&self, state: &mut H) {
+        self.as_bytes().hash(state);
+    }
+}
+
+/// Writes the bytes.
+impl<'a> fmt::Debug for LoadOption<'a> {
+    fn fmt<W: fmt::Write>(&self, f: &mut fmt::Formatter<W>) -> fmt::Result {
+        f.debug_tuple("LoadOption").field(&self.as_bytes()).finish()
     }
 }
 

@@ -10,8 +10,8 @@ use crate::errors::DevicePathError;
 
 /// Whether bytes are one device path or more, and nothing else.
 ///
-/// Fails at the first path that is malformed with the error of [`DevicePath::split_first`], whose offset counts from
-/// the first byte of all. One pass; allocates nothing.
+/// Fails at the first path that is malformed with the error of [`DevicePath::split_first`], whose
+/// offset counts from the first byte of all. One pass; allocates nothing.
 pub fn check_paths(bytes: &[u8]) -> Result<(), DevicePathError>
     ensures ok { OnOk result (IsPathList bytes.now) }
     ensures accepts { IsOk result ↔ IsPathList bytes.now }

@@ -207,7 +207,8 @@ fn messaging_nodes_from_12(rt: HostRuntime) -> Result<(), Fail> {
         is_built(
             &rt,
             &node,
-            "030d3c000102030405060708090a0b0c0d0e0f101112131415161718191a1b1c1d1e1f202122232425262728292a2b2c2d2e2f303132333435363738"
+            "030d3c000102030405060708090a0b0c0d0e0f101112131415161718191a1b1c1d1e1f\
+            202122232425262728292a2b2c2d2e2f303132333435363738"
         )?
     );
     let node = messaging::Uart {
@@ -474,7 +475,8 @@ fn boot_nodes(rt: HostRuntime) -> Result<(), Fail> {
 
 /// A boot entry's path: a partition, and a file on it.
 const PATH: &str =
-    "04012a0001000000000800000000000000001000000000000102030405060708090a0b0c0d0e0f10020204040c005c0061002e000000";
+    "04012a0001000000000800000000000000001000000000000102030405060708090a0b0c0d0e0f100202\
+    04040c005c0061002e000000";
 
 #[test]
 fn path_of_a_boot_entry(rt: HostRuntime) -> Result<(), Fail> {

@@ -35,6 +35,8 @@ fn says(entry: &[u8], row: &Row) -> bool {
         && option.file_path_list().len() == row.4
         && has_nodes(&option, row.5)
         && option.optional_data() == row.6
+        && option.as_bytes() == entry
+        && LoadOption::from_bytes(entry) == Ok(option)
 }
 
 #[test]

@@ -49,7 +49,8 @@ const MESSAGING: &str = "\
 031c24000061000000000000000000000000000000000000000000000000000000000000 Wi-Fi()
 03180d00611b5b324a7fe97e20 Uri(a\\x1B[2J\\x7F\\xE9~ )";
 
-/// Nodes that are read back from what they print: of each kind in the table of kinds a row at least, as EDK II prints it.
+/// Nodes that are read back from what they print: of each kind in the table of kinds a row at least,
+/// as EDK II prints it.
 pub(crate) const REGULAR: &str = "\
 01010600021f Pci(0x1F,0x2)
 010106000000 Pci(0x0,0x0)
@@ -257,6 +258,9 @@ const MEDIA: &str = "\
 04040e00e900ac203dd800de0000 é€😀
 04040e0000d8610000dc3dd80000 \u{fffd}a\u{fffd}\u{fffd}
 040416001b005b0032004a0007007f009b00a0000000 \\u{1B}[2J\\u{7}\\u{7F}\\u{9B}\u{a0}
+040424001b061c061d060d200e200f201020272028202e202f206520662069206a200000 \
+    \u{61b}\\u{61C}\u{61d}\u{200d}\\u{200E}\\u{200F}\u{2010}\u{2027}\
+    \\u{2028}\\u{202E}\u{202f}\u{2065}\\u{2066}\\u{2069}\u{206a}
 05010a00010000007800 BBS(Floppy,x,0x0)
 05010a00020000007800 BBS(HD,x,0x0)
 05010a00030000007800 BBS(CDROM,x,0x0)

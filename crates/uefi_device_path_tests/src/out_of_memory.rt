@@ -236,8 +236,8 @@ fn texts_of_each_size(rt: HostRuntime) -> Result<(), Fail> {
 /// How often a description has a character, and how many bytes of optional data follow the path.
 const DESCRIPTIONS: &[(u64, usize)] = &[(0, 0), (1, 136), (300, 0), (300, 136), (1000, 5000)];
 
-/// Whether each call that takes memory returns the description of an option with this one and these optional data:
-/// one request for a string, and two or more for a text that is not empty.
+/// Whether each call that takes memory returns the description of an option with this one and these
+/// optional data: one request for a string, and two or more for a text that is not empty.
 fn describes(rt: &HostRuntime, text: &str, optional: &[u8]) -> Result<bool, Fail> {
     let bytes = unit_bytes(rt.alloc(), text)?;
     let mut option = Vec::from_slice(rt.alloc(), &[1, 0, 0, 0, 4, 0])?;

@@ -105,6 +105,7 @@ const REFUSED: &[(&str, usize)] = &[
     ("EFI", 0),
     ("\\a/\\b/c", 6),
     ("\\a\n", 0),
+    ("\\\u{202e}fie.exe", 0),
 ];
 
 /// Whether a text is none, and from this byte on.

@@ -306,8 +306,8 @@ fn is_disk(node: DevicePathNode<'_>) -> bool {
     }
 }
 
-/// Whether another node of type Media, or one of type BIOS Boot Specification, has the view of its kind, with its
-/// fields.
+/// Whether another node of type Media, or one of type BIOS Boot Specification, has the view of its
+/// kind, with its fields.
 fn is_media(node: DevicePathNode<'_>) -> bool {
     match node.as_enum() {
         Ok(DevicePathNodeEnum::MediaProtocol(view)) => {
