@@ -29,8 +29,8 @@ struct entry {
     size_t size;
 };
 
-/* A line of text, in units and in UTF-8, and what is shown of a device path. */
-static uint16_t units[MOST_UNITS], shown[MOST_SHOWN];
+/* A line of text, in units, in those that are shown of it, and in UTF-8, and what is shown of a device path. */
+static uint16_t units[MOST_UNITS], open_units[MOST_UNITS], shown[MOST_SHOWN];
 static uint8_t utf8[MOST_UTF8];
 
 /* What is malformed, where the reason says it. */
@@ -84,18 +84,21 @@ static bool refuse(size_t offset, const char *what, const char *why)
     return false;
 }
 
-/* Prints the text of the string that `string` begins with, and `?` for what a terminal would obey. */
+/* A control character, or one that turns the direction of a text or ends its line. */
+static bool is_hidden(uint16_t unit)
+{
+    return (0 < unit && unit < 0x20) || (0x7f <= unit && unit < 0xa0) || unit == 0x61c || (unit & ~1) == 0x200e
+        || (0x2028 <= unit && unit < 0x202f) || (0x2066 <= unit && unit < 0x206a);
+}
+
+/* Prints the text of the string that `string` begins with, and `?` for each character that is hidden. */
 static void print_text(const uint16_t *string, size_t count)
 {
     size_t length = 0;
-    if (uefi_utf8_from_string(string, count, utf8, sizeof utf8, &length) != UEFI_OK)
-        return;
-    for (size_t i = 0; i < length; i++) {
-        /* Two bytes encode U+0080 to U+009F, and a NUL follows the last. */
-        bool is_pair = utf8[i] == 0xc2 && utf8[i + 1] < 0xa0;
-        putchar(utf8[i] < 0x20 || utf8[i] == 0x7f || is_pair ? '?' : utf8[i]);
-        i += is_pair;
-    }
+    for (size_t i = 0; i < count; i++)
+        open_units[i] = is_hidden(string[i]) ? '?' : string[i];
+    if (uefi_utf8_from_string(open_units, count, utf8, sizeof utf8, &length) == UEFI_OK)
+        fwrite(utf8, 1, length, stdout);
 }
 
 /* Prints the path of a file path node, whose units the bytes from `at` on are, and the verdict on it. */

@@ -47,10 +47,11 @@ static long read_variable(const char *folder, const char *name)
     return is_whole && ATTRIBUTES <= size ? (long)(size - ATTRIBUTES) : -1;
 }
 
-/* Prints a character in UTF-8, and `?` for one that a terminal obeys. */
+/* Prints a character in UTF-8, and `?` for one of control, and one that turns the direction of a text or ends its line. */
 static void print_character(uint32_t character)
 {
-    if (character < 0x20 || (0x7f <= character && character < 0xa0))
+    if (character < 0x20 || (0x7f <= character && character < 0xa0) || character == 0x61c || character >> 1 == 0x200e >> 1
+        || (0x2028 <= character && character < 0x202f) || (0x2066 <= character && character < 0x206a))
         character = '?';
     if (character < 0x80) {
         putchar((int)character);

@@ -63,6 +63,7 @@ def named():
         entry("at an odd place", ODD + DISK + path("\\EFI\\menu.efi") + END),
         entry("Überprüfung ▶", DISK + path("\\EFI\\Ü.efi") + END),
         entry("surrogate \ud83d\ude00", DISK + path("\\EFI\\menu.efi") + END),
+        entry("turned \u202efie.exe \u2069\u200e", DISK + path("\\EFI\\\u061cgpj\u2066.efi") + END),
         entry("obeyed \x1b[2J\x07", DISK + path("\\EFI\\\x1b[31mmenu.efi") + END),
         entry("surrogate in the path", DISK + path("\\EFI\\\udfff") + END),
         entry("more after the NUL", DISK + node(4, 4, text("\\EFI") + text("x")) + END),
@@ -91,9 +92,9 @@ def named():
 
 
 WORDS = ["EFI", "BOOT", "BOOTX64.EFI", "debian", "shimx64.efi", ".", "..", "a", "b c", "grub.efi",
-         "Über", "漢字", "a:b", "", "x*", "q?", "<", "\x7f", "\x01", "n" * 255, "n" * 256, "\ud800", "\0"]
+         "Über", "漢字", "a:b", "", "x*", "q?", "<", "\x7f", "\x01", "\u202e", "\u061c", "n" * 255, "n" * 256, "\ud800", "\0"]
 DESCRIPTIONS = ["debian", "", "Windows Boot Manager", "Überprüfung ▶", "a" * 60, "UEFI: USB, Partition 1", "😀",
-                "\ud800x", "bell\a", "é", "\uffff", "in\0side"]
+                "\ud800x", "bell\a", "\u200e\u2029", "é", "\uffff", "in\0side"]
 
 
 def random_bytes(source, count):
@@ -176,6 +177,16 @@ def large():
         yield bytes([1, 0, 0, 0, 0, 0]) + b"\xd8" * (size - 6)
     yield b""
     yield bytes(65536)
+
+
+def longest():
+    """Longer ones, up to more bytes than a program takes, one that prints more than 200,000, and attributes that begin as those that Linux adds."""
+    head = len(entry("", path("\\a") + END))
+    for size in (20000, 40001, *range(65525, 65542)):
+        yield entry("", path("\\a") + END, data=bytes(size - head))
+        yield entry("d" * ((size - head) // 2), path("\\a") + END)[:size]
+    yield entry("", path("\\" + "\u202e" * 32000) + END)
+    yield from (entry("seven", path("\\a") + END, attributes) for attributes in (7, 0x107, 0x10007, 0x1000007))
 
 
 if __name__ == "__main__":
