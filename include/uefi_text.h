@@ -320,7 +320,8 @@ uefi_result UEFI_CALL uefi_device_path_file_path(const uefi_byte *bytes, uefi_si
  * says, where the bytes begin with no device path, with its `*place`, and the buffer stays unchanged; or
  * UEFI_BUFFER_TOO_SMALL, exactly where `room` is no more than the length of the text, and it is not specified what the
  * buffer then holds. At UEFI_OK and UEFI_BUFFER_TOO_SMALL `*place` becomes that length: how many units the text has, its NUL
- * not counted. No unit is a control character. A character above U+FFFF is two units.
+ * not counted. No unit is a control character, or one that turns the direction of a text or ends its line. A character above
+ * U+FFFF is two units.
  */
 uefi_result UEFI_CALL uefi_device_path_text(const uefi_byte *bytes, uefi_size byte_count,
                                             uefi_bool display_only, uefi_bool allow_shortcuts,
