@@ -241,7 +241,7 @@ static bool print_file(const char *path)
     if (!is_read)
         return refuse(size, "file", "it cannot be read");
     if (size > MOST_BYTES)
-        return refuse(MOST_BYTES, "file", "it is longer than a variable");
+        return refuse(MOST_BYTES, "entry", "it is longer than a variable");
 
     /* No load option begins with these: the third bit of its attributes is reserved. */
     static const uint8_t attributes[] = {VARIABLE_ATTRIBUTES, 0, 0, 0};
