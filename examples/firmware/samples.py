@@ -63,7 +63,6 @@ def named():
         entry("at an odd place", ODD + DISK + path("\\EFI\\menu.efi") + END),
         entry("Überprüfung ▶", DISK + path("\\EFI\\Ü.efi") + END),
         entry("surrogate \ud83d\ude00", DISK + path("\\EFI\\menu.efi") + END),
-        entry("turned \u202efie.exe \u2069\u200e", DISK + path("\\EFI\\\u061cgpj\u2066.efi") + END),
         entry("obeyed \x1b[2J\x07", DISK + path("\\EFI\\\x1b[31mmenu.efi") + END),
         entry("surrogate in the path", DISK + path("\\EFI\\\udfff") + END),
         entry("more after the NUL", DISK + node(4, 4, text("\\EFI") + text("x")) + END),
@@ -88,6 +87,7 @@ def named():
         entry("too long", path("\\EFI\\menu.efi") + END, data=bytes(17000)),
         entry("two paths", DISK + path("\\EFI\\menu.efi") + END + ODD + path("x\0y") + END, data=b"fast"),
         entry("another end in the second path", DISK + path("\\EFI\\menu.efi") + END + bytes([0x7F, 2, 4, 0])),
+        entry("turned \u202efie.exe \u2069\u200e", DISK + path("\\EFI\\\u061cgpj\u2066.efi") + END),
     ]
 
 

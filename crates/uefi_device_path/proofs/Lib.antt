@@ -11,5 +11,6 @@ pub mod BufferPaths
 pub mod PathTexts
 pub mod Units
 pub mod PathReading
+pub mod TextStops
 pub mod NamesInARow
 pub mod ShownPaths

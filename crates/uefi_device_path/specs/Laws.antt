@@ -10,7 +10,7 @@ use Rattle.uefi_device_nodes.specs.Nodes.{Node, IsInner}
 use Rattle.uefi_device_nodes.specs.NodeFaults.{fault_place}
 use Rattle.uefi_device_nodes.specs.declared.errors.NodeError.{NodeError}
 use Rattle.uefi_device_nodes.specs.declared.errors.NodeError.TheVariants.{Missing, TruncatedHeader, UnknownEnd, LengthBelowHeader, EndWithData, BeyondEnd}
-use Rattle.uefi_device_path.specs.PathReading.{AreTold}
+use Rattle.uefi_device_path.specs.PathReading.{AreTold, StopsAt}
 use Rattle.uefi_text.specs.Packed.{IsByte}
 use Rattle.uefi_field_texts.specs.ShownTexts.{IsShown}
 use Rattle.uefi_device_path.specs.PathTexts.{instance_text, path_text}
@@ -80,6 +80,15 @@ OptionsNeverBoth = (entry : Entry) (error : LoadOptionError) → IsEntry entry
 abbrev pub TextsOnce : Type 0
 TextsOnce = (nodes others : List Node) → AreTold nodes → AreTold others
     → path_text false false nodes ≡ path_text false false others → nodes ≡ others
+
+-- a text stops at one place at most being that of nodes of which the text tells all
+abbrev pub StopsOnce : Type 0
+StopsOnce = (text : List ℕ) (place other : ℕ) → StopsAt text place → StopsAt text other → place ≡ other
+
+-- no text of nodes of which the text tells all stops being one
+abbrev pub TextsNeverBoth : Type 0
+TextsNeverBoth = (nodes : List Node) (place : ℕ) → AreTold nodes
+    → StopsAt (path_text false false nodes) place → ⊥
 
 -- the file path of one node that names a file is its name, each slash replaced
 abbrev pub OneName : Type 0

@@ -31,6 +31,5 @@ pub mod OptionBuilding
 pub mod Instances
 pub mod PathTexts
 pub mod PathReading
-pub mod ReadingSteps
 pub mod PathUnits
 pub mod Laws

@@ -1,9 +1,12 @@
--- How device paths are read from their texts.
-use Rattle.std.specs.Prelude.{◌≡◌, ℕ, zero, suc, ◌-◌, Bool, true, false, ◌==◌, ◌⊎◌, if◌then◌else◌, List, [], ◌∷◌, length, All, Option, Some, None, Result, Ok, Err}
-use Rattle.uefi_device_nodes.specs.Nodes.{Node, node_with}
+-- Which nodes are read from the text of a path, and where a text stops being that of such nodes.
+use Rattle.std.specs.Prelude.{◌≡◌, ℕ, Bool, true, false, ◌==◌, ◌⊎◌, if◌then◌else◌, List, [], ◌∷◌, ◌++◌, length, codes, All, Option, Some, None}
+use Rattle.std.specs.List.{last_or}
+use Rattle.uefi_device_nodes.specs.Nodes.{Node, is_end_instance, node_with}
+use Rattle.uefi_device_nodes.specs.NodeTexts.{node_text}
+use Rattle.uefi_device_path.specs.PathTexts.{path_text}
 use Rattle.uefi_device_path.specs.declared.path_reader.PathTextError.{PathTextError}
 use Rattle.uefi_device_path.specs.declared.path_reader.PathTextError.TheVariants.{NoNode, OutOfMemory}
-use Rattle.uefi_node_reader.specs.NamedFiles.{IsTold, node_read}
+use Rattle.uefi_node_reader.specs.NamedFiles.{IsTold, is_after_node}
 
 -- the node that ends an instance
 abbrev pub end_instance : Node
@@ -13,41 +16,45 @@ end_instance = node_with 0x7f 0x01 []
 abbrev pub AreTold : List Node → Type 0
 AreTold nodes = All (λ node. IsTold node ⊎ (node ≡ end_instance)) nodes
 
--- a node before others that were read
-abbrev pub before : Node → Result (List Node) (List ℕ) → Result (List Node) (List ℕ)
-before node (Ok nodes) = Ok (node ∷ nodes)
-before node (Err rest) = Err rest
+-- a text begins with this node, whose text holds all that it holds, before a slash, a comma or the end
+pub record BeginsWithNode (text : List ℕ) (node : Node) (after : List ℕ) : Type 0 where
+  pub told : IsTold node
+  pub splits : text ≡ node_text false false node ++ after
+  pub ends : is_after_node after ≡ true
 
--- a node that was read of `text`, and then others; where it is none, `text` is what no node was read of
-abbrev pub then_read : (List ℕ → Result (List Node) (List ℕ)) → List ℕ → Option (Node × List ℕ)
-    → Result (List Node) (List ℕ)
-then_read others text None = Err text
-then_read others text (Some read) = before read.0 (others read.1)
+-- a text begins with no such node
+abbrev pub NoneBegins : List ℕ → Type 0
+NoneBegins text = (node : Node) (after : List ℕ) → BeginsWithNode text node after → ⊥
 
--- where the text of a node begins: at the start of an instance here, else after a slash
-abbrev pub node_place : Bool → List ℕ → Option (List ℕ)
-node_place true text = Some text
-node_place false [] = None
-node_place false (byte ∷ bytes) = if byte == 47 then Some bytes else None
+-- the test for the place after a node, or after none: an instance begins there
+abbrev pub starts_instance : Option Node → Bool
+starts_instance None = true
+starts_instance (Some node) = is_end_instance node
 
--- the nodes of a text, no more than `count` of them, at the start of an instance or after a node: before a
--- comma an instance ends, and a slash stands before each node but the first of an instance; or what is left
--- where the first stands that is none
-abbrev pub nodes_read : ℕ → Bool → List ℕ → Result (List Node) (List ℕ)
-nodes_read zero at_start text = Err text
-nodes_read (suc count) at_start [] = Ok []
-nodes_read (suc count) at_start (byte ∷ bytes) =
-    if byte == 44 then before end_instance (nodes_read count true bytes)
-    else if at_start then then_read (nodes_read count false) (byte ∷ bytes) (node_read (byte ∷ bytes))
-    else if byte == 47 then then_read (nodes_read count false) bytes (node_read bytes)
-    else Err (byte ∷ bytes)
+-- the text of nodes up to where one more node begins: a slash stands between two nodes of an instance
+abbrev pub text_before : List Node → List ℕ
+text_before nodes =
+    path_text false false nodes ++ (if starts_instance (last_or None nodes) then [] else codes "/")
 
--- the nodes of a text, or what is left of it where the first stands that is none
-unfoldable pub path_read : List ℕ → Result (List Node) (List ℕ)
-path_read text = nodes_read (suc (length text)) true text
+-- the test for bytes that may stand after an instance: none, or a comma first
+abbrev pub is_after_instance : List ℕ → Bool
+is_after_instance [] = true
+is_after_instance (byte ∷ bytes) = byte == 44
 
--- why a text is no path: memory was refused, or where the first node stands that is none
+-- a text is that of nodes up to this place, where one more node has to begin, and none does; an instance may
+-- be empty, so where one begins, no node has to if a comma or the end stands there
+pub record Stops (text : List ℕ) (place : ℕ) (nodes : List Node) (rest : List ℕ) : Type 0 where
+  pub told : AreTold nodes
+  pub begins : text ≡ text_before nodes ++ rest
+  pub none : NoneBegins rest
+  pub not_empty : starts_instance (last_or None nodes) ≡ true → is_after_instance rest ≡ false
+  pub offset : place ≡ length (text_before nodes)
+
+-- the place where a text stops being that of nodes of which the text tells all
+abbrev pub StopsAt : List ℕ → ℕ → Type 0
+StopsAt text place = (nodes : List Node) × (rest : List ℕ) × Stops text place nodes rest
+
+-- why a text is no path: memory was refused, or where it stops being the text of one
 abbrev pub IsReadError : List ℕ → PathTextError → Type 0
 IsReadError text OutOfMemory = Unit {0}
-IsReadError text (NoNode place) = (rest : List ℕ) × (path_read text ≡ Err rest)
-    × (place ≡ length text - length rest)
+IsReadError text (NoNode place) = StopsAt text place

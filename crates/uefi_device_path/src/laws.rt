@@ -1,14 +1,14 @@
 //! The laws by which users of device paths and load options reason. They speak of the definitions that
 //! the contracts of the working calls cite. Each law is a function that does nothing: its contract is the
 //! law.
-ghost use Rattle.uefi_device_path.specs.Laws.{AcceptedWithMore, BuiltIsRead, BytesOnce, InstancesShown, NamesInARow, NeverBoth, OneName, OnlyFilesCount, OptionsNeverBoth, OptionsOnce, PathsOnce, PathsShown, RefusedByHeader, RelativeNamesArePushed, TextsOnce};
+ghost use Rattle.uefi_device_path.specs.Laws.{AcceptedWithMore, BuiltIsRead, BytesOnce, InstancesShown, NamesInARow, NeverBoth, OneName, OnlyFilesCount, OptionsNeverBoth, OptionsOnce, PathsOnce, PathsShown, RefusedByHeader, RelativeNamesArePushed, StopsOnce, TextsNeverBoth, TextsOnce};
 
 pub use uefi_built_messages::laws as built_messages;
 pub use uefi_built_nodes::laws as built_nodes;
 pub use uefi_device_nodes::layouts;
 use uefi_device_nodes::laws::nodes_are_shown;
 use uefi_field_texts::laws::fields_are_shown;
-use uefi_node_reader::nodes::nodes_are_read;
+use uefi_node_reader::nodes::{node_text_once, nodes_are_read};
 use uefi_path::laws::join_components;
 
 /// Bytes and nodes determine one another: bytes begin with one path at most, no two paths have the same
@@ -45,6 +45,17 @@ pub fn texts_once()
     ensures { TextsOnce }
 {
     nodes_are_read();
+    node_text_once();
+}
+
+/// A text of nodes of which the text tells all is never refused as `NoNode`, and any other text at one byte
+/// at most.
+pub fn stopped_texts()
+    ensures once { StopsOnce }
+    ensures never_both { TextsNeverBoth }
+{
+    nodes_are_read();
+    node_text_once();
 }
 
 /// A file path is made of the names of the nodes that name files, and of nothing else: one name is

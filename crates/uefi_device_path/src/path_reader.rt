@@ -1,13 +1,11 @@
 //! Device paths read from their texts.
 #![tactic(auto)]
 
-ghost use Rattle.std.specs.Prelude.{◌≡◌, ℕ, false, ◌-◌, ◌<◌, ◌∷◌, ◌++◌, [], List, length, IfOk, IfErr, MatchOption, OnOk, Ok, Err, Some, None};
+ghost use Rattle.std.specs.Prelude.{◌≡◌, ℕ, ◌<◌, true, false, if◌then◌else◌, ◌⊎◌, ◌∷◌, ◌++◌, [], List, length, drop, IfOk, IfErr, MatchOption, OnOk, Err};
 ghost use Rattle.uefi_device_nodes.specs.Nodes.{Node};
-ghost use Rattle.uefi_device_path.specs.PathReading.{AreTold, end_instance, IsReadError, node_place, path_read};
-ghost use Rattle.uefi_device_path.specs.ReadingSteps.{NextOf};
-ghost use Rattle.std.specs.Option.{option_map};
+ghost use Rattle.uefi_device_path.specs.PathReading.{AreTold, BeginsWithNode, IsReadError, NoneBegins, StopsAt, end_instance, is_after_instance};
 ghost use Rattle.uefi_device_path.specs.PathTexts.{path_text};
-ghost use Rattle.uefi_node_reader.specs.NamedFiles.{node_read};
+ghost use Rattle.uefi_node_reader.specs.NamedFiles.{is_after_node};
 
 use crate::build::DevicePathBuf;
 use crate::errors::BuildError;
@@ -15,12 +13,13 @@ use std::alloc::Allocator;
 use std::error::Error;
 use std::fmt;
 use uefi_device_nodes::{DeviceSubType, DeviceType};
-use uefi_node_reader::nodes::{nodes_are_read, read_node};
+use uefi_node_reader::nodes::{node_text_once, nodes_are_read, read_node};
 
 /// Why a text is not read as a device path.
 #[derive(Clone, Copy, Debug, PartialEq, Eq)]
 pub enum PathTextError {
-    /// From this byte on no text of a node stands, or what stands there follows no node.
+    /// A node has to begin at this byte, and none does: no text of a node stands here that `/`, `,` or the
+    /// end of the text follows.
     NoNode(usize),
     /// Memory was refused.
     OutOfMemory,
@@ -43,17 +42,6 @@ impl fmt::Display for PathTextError {
 
 impl Error for PathTextError {}
 
-/// What is left of a text after a step.
-#[derive(Clone, Copy)]
-enum Next<'a> {
-    /// An instance begins.
-    Started(&'a [u8]),
-    /// A node was read.
-    Went(&'a [u8]),
-    /// No node was read.
-    Stopped(&'a [u8]),
-}
-
 /// Adds the node that ends an instance. Refused for memory alone.
 fn push_end<A: Allocator>(path: &mut DevicePathBuf<A>) -> Result<(), BuildError>
     ensures ok { OnOk result (path.new ≡ path.old ++ end_instance ∷ []) }
@@ -62,15 +50,25 @@ fn push_end<A: Allocator>(path: &mut DevicePathBuf<A>) -> Result<(), BuildError>
     path.push(DeviceType(0x7f), DeviceSubType(0x01), &[])
 }
 
-/// Adds the node whose text bytes begin with, and returns what stands after it; `None` where they begin with
-/// none. Refused for memory alone.
+/// Whether bytes may stand after a node: none, or a slash or a comma first.
+fn is_after_node(bytes: &[u8]) -> bool
+    ensures { result ≡ is_after_node bytes.now }
+{
+    match bytes {
+        [] => true,
+        [first, ..] => *first == b'/' || *first == b',',
+    }
+}
+
+/// Adds the node whose text bytes begin with before a slash, a comma or their end, and returns what stands
+/// after it; `None` where they begin with none. Refused for memory alone.
 fn push_node<'a, A: Allocator>(
     path: &mut DevicePathBuf<A>,
     content: &mut Vec<u8, A>,
     text: &'a [u8],
 ) -> Result<Option<&'a [u8]>, BuildError>
-    ensures ok { IfOk result (λ read. MatchOption read (node_read text.now ≡ None)
-        (λ rest. (node : Node) × (node_read text.now ≡ Some (node, rest.now))
+    ensures ok { IfOk result (λ read. MatchOption read (NoneBegins text.now)
+        (λ rest. (node : Node) × BeginsWithNode text.now node rest.now
         × (path.new ≡ path.old ++ node ∷ []))) }
     ensures memory { IfErr result (λ error. error ≡ BuildError.OutOfMemory) }
 {
@@ -81,53 +79,38 @@ fn push_node<'a, A: Allocator>(
     let Some((device_type, sub_type, rest)) = read else {
         return Ok(None);
     };
+    if !is_after_node(rest) {
+        return Ok(None);
+    }
     match path.push(DeviceType(device_type), DeviceSubType(sub_type), content) {
         Ok(()) => Ok(Some(rest)),
         Err(error) => Err(error),
     }
 }
 
-/// Where the text of a node begins: at the start of an instance here, else after a slash.
-fn node_start(at_start: bool, text: &[u8]) -> Option<&[u8]>
-    ensures { option_map (λ x. x.now) result ≡ node_place at_start text.now }
+/// What stands after a comma that a text begins with, or `None`.
+fn after_comma(text: &[u8]) -> Option<&[u8]>
+    requires { 0 < length text.now }
+    ensures { MatchOption result (is_after_instance text.now ≡ false) (λ rest. text.now ≡ 44 ∷ rest.now) }
 {
-    if at_start {
-        return Some(text);
-    }
     match text {
-        [b'/', after @ ..] => Some(after),
+        [b',', rest @ ..] => Some(rest),
         _ => None,
     }
 }
 
-/// Adds the node or the end of an instance that a text begins with. Returns what stands after it, and
-/// whether an instance begins there; or what no node was read of.
-fn push_next<'a, A: Allocator>(
-    path: &mut DevicePathBuf<A>,
-    content: &mut Vec<u8, A>,
-    at_start: bool,
-    text: &'a [u8],
-) -> Result<Next<'a>, BuildError>
+/// Where a node has to begin: at the start of an instance here, else after the slash that stands here.
+fn node_start(at_start: bool, text: &[u8]) -> &[u8]
     requires { 0 < length text.now }
-    ensures memory { IfErr result (λ error. error ≡ BuildError.OutOfMemory) }
-    ensures ok { IfOk result (λ next. NextOf path.old path.new at_start text.now next) }
+    ensures { result.now ≡ (if at_start then text.now else drop 1 text.now) }
 {
-    if let [b',', after @ ..] = text {
-        push_end(path)?;
-        return Ok(Next::Started(after));
-    }
-    let Some(place) = node_start(at_start, text) else {
-        return Ok(Next::Stopped(text));
-    };
-    match push_node(path, content, place)? {
-        None => Ok(Next::Stopped(place)),
-        Some(rest) => Ok(Next::Went(rest)),
-    }
+    if at_start { text } else { &text[1..] }
 }
 
 /// The path whose text bytes are.
 fn read_path<A: Allocator + Copy>(alloc: A, text: &[u8]) -> Result<DevicePathBuf<A>, PathTextError>
-    ensures exact { IfOk result (λ path. path_read text.now ≡ Ok path) }
+    ensures told { IfOk result (λ path. AreTold path) }
+    ensures ok { IfOk result (λ path. path_text false false path ≡ text.now) }
     ensures refusal { IfErr result (IsReadError text.now) }
 {
     nodes_are_read();
@@ -138,20 +121,24 @@ fn read_path<A: Allocator + Copy>(alloc: A, text: &[u8]) -> Result<DevicePathBuf
     let mut rest = text;
     let mut at_start = true;
     'nodes: while !rest.is_empty() {
-        let Ok(next) = push_next(&mut path, &mut content, at_start, rest) else {
-            return Err(PathTextError::OutOfMemory);
-        };
-        match next {
-            Next::Started(after) => {
+        match after_comma(rest) {
+            Some(after) => {
+                let Ok(()) = push_end(&mut path) else {
+                    return Err(PathTextError::OutOfMemory);
+                };
                 rest = after;
                 at_start = true;
             }
-            Next::Went(after) => {
+            None => {
+                let place = node_start(at_start, rest);
+                let Ok(read) = push_node(&mut path, &mut content, place) else {
+                    return Err(PathTextError::OutOfMemory);
+                };
+                let Some(after) = read else {
+                    return Err(PathTextError::NoNode(text.len() - place.len()));
+                };
                 rest = after;
                 at_start = false;
-            }
-            Next::Stopped(left) => {
-                return Err(PathTextError::NoNode(text.len().saturating_sub(left.len())));
             }
         }
     }
@@ -159,19 +146,23 @@ fn read_path<A: Allocator + Copy>(alloc: A, text: &[u8]) -> Result<DevicePathBuf
 }
 
 impl<A: Allocator + Copy> DevicePathBuf<A> {
-    ghost use Rattle.uefi_device_path.specs.declared.path_reader.PathTextError.TheVariants.{OutOfMemory};
+    ghost use Rattle.uefi_device_path.specs.declared.path_reader.PathTextError.TheVariants.{NoNode, OutOfMemory};
 
     /// The path whose text this is: the one that is printed of it in the form that is to be read back,
     /// without shorter names (UEFI Specification 2.10, section 10.6.1). Refused as `OutOfMemory`, and as
-    /// `NoNode` exactly where it is no such text of nodes of which the text tells all. Takes memory.
+    /// `NoNode` exactly where it is no such text of nodes of which the text tells all, at the byte where it
+    /// stops being one. Takes memory.
     pub fn from_text(alloc: A, text: &str) -> Result<Self, PathTextError>
         ensures told { IfOk result (λ path. AreTold path) }
         ensures ok { IfOk result (λ path. path_text false false path ≡ text.now) }
         ensures only { (nodes : List Node) → AreTold nodes → path_text false false nodes ≡ text.now
             → IfOk result (λ path. path ≡ nodes) × IfErr result (λ error. error ≡ OutOfMemory) }
         ensures refusal { IfErr result (IsReadError text.now) }
+        ensures only_refusal { (place : ℕ) → StopsAt text.now place
+            → (result ≡ Err (NoNode place)) ⊎ (result ≡ Err OutOfMemory) }
     {
         nodes_are_read();
+        node_text_once();
         read_path(alloc, text.as_bytes())
     }
 }

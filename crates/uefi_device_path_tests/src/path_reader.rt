@@ -66,11 +66,17 @@ fn texts_of_each_kind(rt: HostRuntime) -> Result<(), Fail> {
     Ok(())
 }
 
-/// Texts that are none, and where.
+/// Texts that are none, and where the first node begins that is none.
 const REFUSED: &[(&str, usize)] = &[
     ("PciRoot(0x0)/", 13),
-    ("PciRoot(0x0)Pci(0x0,0x0)", 12),
+    ("PciRoot(0x0)/,", 13),
+    ("PciRoot(0x0)//Pci(0x0,0x0)", 13),
+    ("PciRoot(0x0)Pci(0x0,0x0)", 0),
+    ("PciRoot(0x0)x", 0),
+    ("PciRoot(0x0)/Pci(0x0,0x0) ", 13),
+    (",PciRoot(0x0),Pci(0x0,0x0)x,", 14),
     ("/Pci(0x0,0x0)", 0),
+    (",,/", 2),
     ("PciRoot(0x00)", 0),
     ("PciRoot(0x0)/Pci(0x1f,0x2)", 13),
     ("PciRoot(0x0)/Pci(0x1F,0x100)", 13),
@@ -94,7 +100,7 @@ const REFUSED: &[(&str, usize)] = &[
     ("Dns(8.8.8.256)", 0),
     ("UsbWwid(0x1,0x2,0x3,\"\u{e9}\")", 0),
     ("UsbWwid(0x1,0x2,0x3,\"a\"b\")", 0),
-    ("Uri(a)b)", 6),
+    ("Uri(a)b)", 0),
     ("Wi-Fi(home)", 0),
     ("HD(01,MBR,0xA0B1C2D3,0x3F,0x1)", 0),
     ("Path(1,1,ABCD)", 0),
@@ -108,7 +114,7 @@ const REFUSED: &[(&str, usize)] = &[
     ("\\\u{202e}fie.exe", 0),
 ];
 
-/// Whether a text is none, and from this byte on.
+/// Whether a text is none, and stops being one at this byte.
 fn is_refused(alloc: Global, text: &str, place: usize) -> bool {
     matches!(DevicePathBuf::from_text(alloc, text), Err(PathTextError::NoNode(at)) if at == place)
 }

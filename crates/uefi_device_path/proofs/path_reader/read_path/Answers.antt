@@ -1,37 +1,55 @@
-use Rattle.std.proofs.Common.{◌<◌, true, List, length, sym, subst, arith}
+use Rattle.std.proofs.Common.{true, List, sym, subst, arith}
 use Rattle.std.proofs.lemmas.Bool.Decides.{nat_tests}
 use Rattle.uefi_device_nodes.specs.Nodes.{Node}
-use Rattle.uefi_device_path.specs.PathReading.{path_read}
-use Rattle.uefi_device_path.proofs.PathReading.{begins, GoesOn, started, stopped, went}
+use Rattle.uefi_device_path.proofs.PathReading.{done, Going, going_first, over_comma, over_node, place_within, stopped}
 use Rattle.uefi_device_path.proofs.path_reader.read_path.Goals as goal
 
 pub nodes-init : goal.nodes-init
-nodes-init g c = subst (λ (x : List Node). GoesOn x true c.args.text.now (path_read c.args.text.now)) (sym c.in-Ok.ensures) (begins c.args.text.now)
+nodes-init g c =
+    let text = c.args.text.now in
+    subst (λ (x : List Node). Going text x true text) (sym c.in-Ok.ensures) (going_first text)
 
-pub nodes-preserved-in-Started : goal.nodes-preserved-in-Started
-nodes-preserved-in-Started g c =
-    let next = rw c.in-Started.is at c.in-Ok-push_next.ensures.ok in
-    (started c.nodes.path c.push_next.new.path c.nodes.at_start c.nodes.rest.now c.in-Started.after.now (path_read c.args.text.now) c.nodes.invariant next.0 next.1).0
+pub nodes-preserved-in-Some : goal.nodes-preserved-in-Some
+nodes-preserved-in-Some g c =
+    (over_comma c.args.text.now c.nodes.path c.push_end.new.path c.nodes.at_start c.nodes.rest.now
+    c.in-Some.after.now c.nodes.invariant c.in-Some.ensures c.in-Ok-push_end.ensures.ok).0
+
+pub nodes-smaller-in-Some : goal.nodes-smaller-in-Some
+nodes-smaller-in-Some g c =
+    (over_comma c.args.text.now c.nodes.path c.push_end.new.path c.nodes.at_start c.nodes.rest.now
+    c.in-Some.after.now c.nodes.invariant c.in-Some.ensures c.in-Ok-push_end.ensures.ok).1
+
+pub overflow_sub-result : goal.overflow_sub-result
+overflow_sub-result g c =
+    place_within c.args.text.now c.nodes.path c.nodes.at_start c.nodes.rest.now c.node_start-place.result.now
+    c.nodes.invariant c.node_start-place.ensures
+
+pub returns-in_default-read-clause-refusal : goal.returns-in_default-read-clause-refusal
+returns-in_default-read-clause-refusal g c =
+    stopped c.args.text.now c.nodes.path c.nodes.at_start c.nodes.rest.now c.node_start-place.result.now
+    c.nodes.invariant c.in-None.ensures c.node_start-place.ensures
+    (rw c.in_default-read.is at c.in-Ok-push_node.ensures.ok)
 
 pub nodes-preserved : goal.nodes-preserved
 nodes-preserved g c =
-    let next = rw c.in-Went.is at c.in-Ok-push_next.ensures.ok in
-    let some : 0 < length c.nodes.rest.now = grind (arith, nat_tests) in
-    (went c.nodes_are_read.ensures.takes c.nodes_are_read.ensures.starts
-    c.nodes.path c.push_next.new.path c.nodes.at_start c.nodes.rest.now c.in-Went.after.now (path_read c.args.text.now) c.nodes.invariant some next).0
+    let laws = c.nodes_are_read.ensures in
+    let read = rw c.in-Some-read.is at c.in-Ok-push_node.ensures.ok in
+    (over_node laws.fits laws.starts c.args.text.now c.nodes.path c.push_node.new.path c.nodes.at_start
+    c.nodes.rest.now c.node_start-place.result.now c.in-Some-read.after.now read.0 c.nodes.invariant
+    c.in-None.ensures c.node_start-place.ensures read.1 read.2).0
 
 pub nodes-smaller : goal.nodes-smaller
 nodes-smaller g c =
-    let next = rw c.in-Went.is at c.in-Ok-push_next.ensures.ok in
-    let some : 0 < length c.nodes.rest.now = grind (arith, nat_tests) in
-    (went c.nodes_are_read.ensures.takes c.nodes_are_read.ensures.starts
-    c.nodes.path c.push_next.new.path c.nodes.at_start c.nodes.rest.now c.in-Went.after.now (path_read c.args.text.now) c.nodes.invariant some next).1
+    let laws = c.nodes_are_read.ensures in
+    let read = rw c.in-Some-read.is at c.in-Ok-push_node.ensures.ok in
+    (over_node laws.fits laws.starts c.args.text.now c.nodes.path c.push_node.new.path c.nodes.at_start
+    c.nodes.rest.now c.node_start-place.result.now c.in-Some-read.after.now read.0 c.nodes.invariant
+    c.in-None.ensures c.node_start-place.ensures read.1 read.2).1
 
-pub returns-in-Stopped-clause-refusal : goal.returns-in-Stopped-clause-refusal
-returns-in-Stopped-clause-refusal g c =
-    let next = rw c.in-Stopped.is at c.in-Ok-push_next.ensures.ok in
-    let some : 0 < length c.nodes.rest.now = grind (arith, nat_tests) in (
-      c.in-Stopped.left.now,
-      stopped c.nodes.path c.nodes.at_start c.nodes.rest.now c.in-Stopped.left.now (path_read c.args.text.now) c.nodes.invariant some next,
-      c.saturating_sub.ensures,
-    )
+pub returns-clause-told : goal.returns-clause-told
+returns-clause-told g c = c.nodes.invariant.told
+
+pub returns-clause-ok : goal.returns-clause-ok
+returns-clause-ok g c =
+    done c.args.text.now c.nodes.path c.nodes.at_start c.nodes.rest.now c.nodes.invariant
+    (grind (arith, nat_tests))

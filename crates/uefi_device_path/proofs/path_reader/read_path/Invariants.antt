@@ -1,10 +1,9 @@
 use Rattle.std.proofs.Common.{length}
-use Rattle.uefi_device_path.specs.PathReading.{path_read}
-use Rattle.uefi_device_path.proofs.PathReading.{GoesOn}
+use Rattle.uefi_device_path.proofs.PathReading.{Going}
 use Rattle.uefi_device_path.proofs.path_reader.read_path.Given as goal
 
 abbrev pub invariant-nodes : goal.invariant-nodes
-invariant-nodes g l = GoesOn l.path l.at_start l.rest (path_read l.text)
+invariant-nodes g l = Going l.text l.path l.at_start l.rest
 
 abbrev pub decreases-nodes : goal.decreases-nodes
 decreases-nodes g l = length l.rest

@@ -1,21 +1,25 @@
-use Rattle.std.proofs.Common.{◌≡◌, List, ℕ, subst}
-use Rattle.std.specs.Prelude.{IfErr, IfOk, Ok}
-use Rattle.uefi_device_path.specs.PathReading.{IsReadError, path_read}
-use Rattle.uefi_device_path.proofs.PathReading.{if_only, if_told}
+use Rattle.std.proofs.Common.{List, ℕ, subst}
+use Rattle.uefi_device_path.proofs.TextStops.{if_only, if_stops, IsRead}
 use Rattle.uefi_device_path.proofs.build.DevicePathBuf.from_text.Goals as goal
-
-pub returns-clause-told : goal.returns-clause-told
-returns-clause-told g c =
-    let exact = subst (λ (x : List ℕ). IfOk c.read_path.result (λ path. path_read x ≡ Ok path)) c.as_bytes.ensures.value c.read_path.ensures.exact in
-    (if_told c.nodes_are_read.ensures.takes c.nodes_are_read.ensures.fits c.args.text.now c.read_path.result exact).0
-
-pub returns-clause-ok : goal.returns-clause-ok
-returns-clause-ok g c =
-    let exact = subst (λ (x : List ℕ). IfOk c.read_path.result (λ path. path_read x ≡ Ok path)) c.as_bytes.ensures.value c.read_path.ensures.exact in
-    (if_told c.nodes_are_read.ensures.takes c.nodes_are_read.ensures.fits c.args.text.now c.read_path.result exact).1
 
 pub returns-clause-only : goal.returns-clause-only
 returns-clause-only g c =
-    let exact = subst (λ (x : List ℕ). IfOk c.read_path.result (λ path. path_read x ≡ Ok path)) c.as_bytes.ensures.value c.read_path.ensures.exact in
-    let refusal = subst (λ (x : List ℕ). IfErr c.read_path.result (IsReadError x)) c.as_bytes.ensures.value c.read_path.ensures.refusal in
-    if_only c.nodes_are_read.ensures.again c.nodes_are_read.ensures.starts c.nodes_are_read.ensures.fits c.args.text.now c.read_path.result exact refusal
+    let read : IsRead c.as_bytes.result.now c.read_path.result = record {
+      told = c.read_path.ensures.told;
+      ok = c.read_path.ensures.ok;
+      refusal = c.read_path.ensures.refusal;
+    } in
+    if_only c.node_text_once.ensures c.nodes_are_read.ensures.starts c.nodes_are_read.ensures.fits
+    c.args.text.now c.read_path.result
+    (subst (λ (x : List ℕ). IsRead x c.read_path.result) c.as_bytes.ensures.value read)
+
+pub returns-clause-only_refusal : goal.returns-clause-only_refusal
+returns-clause-only_refusal g c =
+    let read : IsRead c.as_bytes.result.now c.read_path.result = record {
+      told = c.read_path.ensures.told;
+      ok = c.read_path.ensures.ok;
+      refusal = c.read_path.ensures.refusal;
+    } in
+    if_stops c.node_text_once.ensures c.nodes_are_read.ensures.starts c.nodes_are_read.ensures.fits
+    c.args.text.now c.read_path.result
+    (subst (λ (x : List ℕ). IsRead x c.read_path.result) c.as_bytes.ensures.value read)
