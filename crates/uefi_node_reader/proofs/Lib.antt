@@ -16,3 +16,5 @@ pub mod Groups
 pub mod PlainNodes
 pub mod NamedFiles
 pub mod NodeLaws
+pub mod LenientReads
+pub mod LenientLaws

@@ -5,3 +5,5 @@ pub mod Words
 pub mod PlainNodes
 pub mod NamedFiles
 pub mod Laws
+pub mod LenientFields
+pub mod LenientNodes

@@ -61,7 +61,7 @@ fn fill<'a>(between: &[u8], found: &mut [u8], text: &'a [u8]) -> Option<&'a [u8]
 }
 
 /// The highest number of a width.
-fn last(width: usize) -> u64
+pub(crate) fn last(width: usize) -> u64
     requires some { 1 ≤ width }
     requires few { width ≤ 8 }
     ensures { result + 1 ≡ 256 ^ width }
@@ -79,7 +79,7 @@ fn last(width: usize) -> u64
 }
 
 /// Fills a buffer with the low bytes of a number, the lowest first.
-fn put_low(found: &mut [u8], number: u64)
+pub(crate) fn put_low(found: &mut [u8], number: u64)
     ensures { found.new ≡ low_bytes (length found.old) number }
 {
     let mut rest = number;

@@ -6,6 +6,9 @@
 
 mod clear_texts;
 mod fields;
+mod lenient_fields;
+mod lenient_names;
+mod lenient_table;
 mod names;
 #[doc(hidden)]
 pub mod nodes;

@@ -14,14 +14,14 @@ use std::alloc::{AllocError, Allocator};
 use uefi_field_texts::texts::is_escaped;
 
 /// Whether a byte ends a name.
-fn ends_name(byte: u8) -> bool
+pub(crate) fn ends_name(byte: u8) -> bool
     ensures { result ≡ ends_name byte }
 {
     byte == b'/' || byte == b','
 }
 
 /// How many bytes of a text stand before a slash or a comma.
-fn name_len(text: &[u8]) -> usize
+pub(crate) fn name_len(text: &[u8]) -> usize
     ensures place { result ≡ position_or_len ends_name text.now }
     ensures within { result ≤ length text.now }
 {

@@ -5,9 +5,12 @@ ghost use Rattle.std.specs.Prelude.{◌≡◌, IfOk};
 ghost use Rattle.std.specs.Option.{option_map};
 ghost use Rattle.uefi_device_nodes.specs.Nodes.{node_with};
 ghost use Rattle.uefi_node_reader.specs.Laws.{NodeAgain, NodeFits, NodeStarts, NodeTakes, NodeTextOnce};
-ghost use Rattle.uefi_node_reader.specs.NamedFiles.{node_read};
+ghost use Rattle.uefi_node_reader.specs.LenientNodes.{LenientAgain, LenientTakes, call_read, ended, file_read, lenient_read};
+ghost use Rattle.uefi_node_reader.specs.NamedFiles.{is_after_node, node_read};
 
-use crate::names::name;
+use crate::lenient_names::{bare, file};
+use crate::lenient_table::by_call;
+use crate::names::{ends_name, name};
 use crate::plain::plain;
 use crate::table_reader::by_table;
 use std::alloc::{AllocError, Allocator};
@@ -34,6 +37,94 @@ pub fn read_node<'a, A: Allocator>(
     Ok(Some((4, 4, rest)))
 }
 
+/// Whether a node may end before a text: before a slash, a comma or the end.
+fn is_after_node(text: &[u8]) -> bool
+    ensures { result ≡ is_after_node text.now }
+{
+    match text {
+        [first, ..] => ends_name(*first),
+        [] => true,
+    }
+}
+
+/// Reads the node that a text begins with as it is printed, where it ends as a node may end.
+fn printed<'a, A: Allocator>(
+    content: &mut Vec<u8, A>,
+    text: &'a [u8],
+) -> Result<Option<(u8, u8, &'a [u8])>, AllocError>
+    ensures { IfOk result (λ read. option_map
+        (λ x. (node_with x.0 x.1 content.new.items, x.2.now)) read ≡ ended (node_read text.now)) }
+{
+    match read_node(content, text)? {
+        Some((kind, sub_kind, rest)) if is_after_node(rest) => Ok(Some((kind, sub_kind, rest))),
+        _ => Ok(None),
+    }
+}
+
+/// The same of a name in `File(..)`.
+fn named<'a, A: Allocator + Copy>(
+    alloc: A,
+    content: &mut Vec<u8, A>,
+    text: &'a [u8],
+) -> Result<Option<(u8, u8, &'a [u8])>, AllocError>
+    ensures { IfOk result (λ read. option_map
+        (λ x. (node_with x.0 x.1 content.new.items, x.2.now)) read ≡ ended (file_read text.now)) }
+{
+    match file(alloc, content, text)? {
+        Some(rest) if is_after_node(rest) => Ok(Some((4, 4, rest))),
+        _ => Ok(None),
+    }
+}
+
+/// The same of a form of the table.
+fn called<'a, A: Allocator + Copy>(
+    alloc: A,
+    content: &mut Vec<u8, A>,
+    text: &'a [u8],
+) -> Result<Option<(u8, u8, &'a [u8])>, AllocError>
+    ensures { IfOk result (λ read. option_map
+        (λ x. (node_with x.0 x.1 content.new.items, x.2.now)) read ≡ ended (call_read text.now)) }
+{
+    match by_call(alloc, content, text)? {
+        Some((kind, sub_kind, rest)) if is_after_node(rest) => Ok(Some((kind, sub_kind, rest))),
+        _ => Ok(None),
+    }
+}
+
+/// Reads the node that a text begins with, as people write it, its data into a vector, in place of what it held.
+/// Returns its type, its sub-type and what stands after it: a slash, a comma or nothing.
+///
+/// What [`read_node`] reads there is read so. Else a call of the table is read up to its first `)`: in either case,
+/// with blanks, with numbers in hexadecimal after `0x` or else in decimal, with zeros at their start, and with the last
+/// numbers left out, for which their defaults stand. So is `File(NAME)`, and a name without its first backslash that
+/// has no `(` in it. `AllocError` where memory is refused.
+///
+/// Not read so: texts in calls (`Uri`, the serial number of `UsbWwid`), the words of `Uart` in lower case, further
+/// numbers of `AcpiAdr` with `0x`, blanks outside of calls.
+#[tactic(auto, unfolding(crate::specs::LenientNodes::lenient_read))]
+pub fn read_lenient_node<'a, A: Allocator + Copy>(
+    alloc: A,
+    content: &mut Vec<u8, A>,
+    text: &'a [u8],
+) -> Result<Option<(u8, u8, &'a [u8])>, AllocError>
+    ensures { IfOk result (λ read. option_map
+        (λ x. (node_with x.0 x.1 content.new.items, x.2.now)) read ≡ lenient_read text.now) }
+{
+    if let Some(read) = printed(content, text)? {
+        return Ok(Some(read));
+    }
+    if let Some(read) = named(alloc, content, text)? {
+        return Ok(Some(read));
+    }
+    if let Some(read) = called(alloc, content, text)? {
+        return Ok(Some(read));
+    }
+    let Some(rest) = bare(alloc, content, text)? else {
+        return Ok(None);
+    };
+    Ok(Some((4, 4, rest)))
+}
+
 /// What is read is told, and is printed so; and what is printed of a node that is told is read as that
 /// node, whatever may stand after it.
 pub fn nodes_are_read()
@@ -46,4 +137,11 @@ pub fn nodes_are_read()
 /// Two nodes that are told and have the same text are the same, whatever stands after them.
 pub fn node_text_once()
     ensures { NodeTextOnce }
+{}
+
+/// What is read leniently is told, and a slash, a comma or the end follows it; and what is read before one of these
+/// is read leniently as the same node.
+pub fn nodes_are_read_leniently()
+    ensures takes { LenientTakes }
+    ensures again { LenientAgain }
 {}

@@ -18,7 +18,7 @@ pub(crate) fn digit_of(byte: u8) -> u64
 
 /// The number of all digits that a text begins with, after those of `first`, and what stands after them.
 /// `None` where it is above `last`.
-fn digits_after(base: u64, last: u64, first: u64, text: &[u8]) -> Option<(u64, &[u8])>
+pub(crate) fn digits_after(base: u64, last: u64, first: u64, text: &[u8]) -> Option<(u64, &[u8])>
     ensures { option_map (λ x. (x.0, x.1.now)) result ≡ digits_after base (last + 1) first text.now }
 {
     let mut number = first;

@@ -109,7 +109,7 @@ fn push_items<'a, A: Allocator>(
 }
 
 /// Appends the data after the fixed part. Returns what stands after them.
-fn read_tail<'a, A: Allocator>(
+pub(crate) fn read_tail<'a, A: Allocator>(
     tail: Tail,
     close: &[u8],
     content: &mut Vec<u8, A>,
@@ -145,7 +145,7 @@ fn put_bytes(content: &mut [u8], bytes: &[(usize, u8)])
 }
 
 /// Makes the fixed part of a form's data, in place of what a vector held.
-fn put_blank<A: Allocator>(content: &mut Vec<u8, A>, row: &Row) -> Result<(), AllocError>
+pub(crate) fn put_blank<A: Allocator>(content: &mut Vec<u8, A>, row: &Row) -> Result<(), AllocError>
     requires { IsTrue (is_filled (as_form row.now)) }
     ensures { OnOk result (content.new.items ≡ blank (as_form row.now)) }
 {

@@ -1,0 +1,251 @@
+//! Fields read as people write them. The texts are in upper case, and have no blanks.
+#![tactic(auto)]
+
+ghost use Rattle.std.specs.Prelude.{◌≡◌, ◌+◌, ◌^◌, ◌≤◌, IsTrue, codes, if◌then◌else◌, is_some, length, map};
+ghost use Rattle.std.specs.List.{list_all};
+ghost use Rattle.std.specs.Option.{option_and_then, option_map};
+ghost use Rattle.uefi_node_table.specs.Fields.{fits_shape};
+ghost use Rattle.uefi_node_table.specs.Rows.{as_piece, is_within};
+ghost use Rattle.uefi_node_table.specs.Words.{as_word, words_of};
+ghost use Rattle.uefi_node_reader.specs.Fields.{as_bytes, less_one};
+ghost use Rattle.uefi_node_reader.specs.LenientFields.{after_ending, after_letter, after_literal, any_field, any_number, any_word, begins_base, is_number, left_out, number_or_word, past_base, piece_set, pieces_set, some_digits, value_or_spare};
+
+use crate::clear_texts::first_of;
+use crate::fields::{after, last, put_low, read_value};
+use crate::numerals::{digit_of, digits_after};
+use uefi_node_table::rows::{Piece, Shape};
+use uefi_node_table::words::{Word, Words, words_of};
+
+/// Whether a text begins with `0` and another byte.
+fn begins_base(x: u8, text: &[u8]) -> bool
+    ensures { result ≡ begins_base x text.now }
+{
+    match text {
+        [first, second, ..] => *first == b'0' && *second == x,
+        _ => false,
+    }
+}
+
+/// What stands after `0X`, or all of a text that begins otherwise.
+fn past_base(text: &[u8]) -> &[u8]
+    ensures { result.now ≡ past_base text.now }
+{
+    match text {
+        [b'0', b'X', rest @ ..] => rest,
+        _ => text,
+    }
+}
+
+/// What stands after a byte, in either case.
+fn after_letter(letter: u8, text: &[u8]) -> Option<&[u8]>
+    ensures { option_map (λ x. x.now) result ≡ after_letter letter text.now }
+{
+    match text {
+        [first, rest @ ..] if letter.to_ascii_uppercase() == first.to_ascii_uppercase() => Some(
+            rest,
+        ),
+        _ => None,
+    }
+}
+
+/// What stands after a literal of the table, in either case. Its `0x` may be left out, and at its end it is
+/// that of the number which follows.
+pub(crate) fn after_literal<'a>(literal: &[u8], text: &'a [u8]) -> Option<&'a [u8]>
+    ensures { option_map (λ x. x.now) result ≡ after_literal literal.now text.now }
+{
+    let mut left = literal;
+    let mut at_x = false;
+    let mut rest = text;
+    'letters: while let [letter, others @ ..] = left {
+        if at_x {
+            rest = if others.is_empty() {
+                rest
+            } else {
+                past_base(rest)
+            };
+            at_x = false;
+        } else if begins_base(b'x', left) {
+            at_x = true;
+        } else {
+            rest = after_letter(*letter, rest)?;
+        }
+        left = others;
+    }
+    Some(rest)
+}
+
+/// The number up to `last` of one digit or more, and what stands after them.
+fn some_digits(base: u64, last: u64, text: &[u8]) -> Option<(u64, &[u8])>
+    ensures { option_map (λ x. (x.0, x.1.now)) result ≡ some_digits base (last + 1) text.now }
+{
+    match text {
+        [first, ..] if digit_of(*first) < base => digits_after(base, last, 0, text),
+        _ => None,
+    }
+}
+
+/// The number up to `last` that a text begins with, and what stands after it.
+fn any_number(last: u64, text: &[u8]) -> Option<(u64, &[u8])>
+    ensures { option_map (λ x. (x.0, x.1.now)) result ≡ any_number (last + 1) text.now }
+{
+    if begins_base(b'X', text) {
+        return some_digits(16, last, past_base(text));
+    }
+    some_digits(10, last, text)
+}
+
+/// The same, or 0 for the word `DEFAULT`.
+fn number_or_word(last: u64, text: &[u8]) -> Option<(u64, &[u8])>
+    ensures { option_map (λ x. (x.0, x.1.now)) result ≡ number_or_word (last + 1) text.now }
+{
+    match text {
+        [first, ..] if digit_of(*first) < 10 => any_number(last, text),
+        _ => Some((0, after(b"DEFAULT", text)?)),
+    }
+}
+
+/// Fills a buffer with the bytes of a number, or of 0 for that word where `or_word`. Returns what stands after it.
+fn number_into<'a>(or_word: bool, found: &mut [u8], text: &'a [u8]) -> Option<&'a [u8]>
+    requires some { 1 ≤ length found.old }
+    requires few { length found.old ≤ 8 }
+    ensures { option_map (λ x. (found.new, x.now)) result ≡ option_and_then (as_bytes (length found.old))
+        (if or_word then number_or_word (256 ^ length found.old) text.now
+        else any_number (256 ^ length found.old) text.now) }
+{
+    let most = last(found.len());
+    let (value, rest) = if or_word {
+        number_or_word(most, text)?
+    } else {
+        any_number(most, text)?
+    };
+    put_low(found, value);
+    Some(rest)
+}
+
+/// Fills a buffer of one byte with that whose next number a text begins with. Returns what stands after it.
+fn next_into<'a>(found: &mut [u8], text: &'a [u8]) -> Option<&'a [u8]>
+    ensures { option_map (λ x. (found.new, x.now)) result
+        ≡ option_and_then (as_bytes (length found.old)) (option_and_then less_one (any_number 257 text.now)) }
+{
+    let (value, rest) = any_number(256, text)?;
+    if value == 0 {
+        return None;
+    }
+    put_low(found, value - 1);
+    Some(rest)
+}
+
+/// The number of the word that a text begins with, in either case, and what stands after it.
+fn any_word<'a>(words: &[Word], text: &'a [u8]) -> Option<(u64, &'a [u8])>
+    ensures { option_map (λ x. (x.0, x.1.now)) result ≡ any_word (map as_word words.now) text.now }
+{
+    for word in words {
+        if let Some(rest) = after_literal(word.text.as_bytes(), text) {
+            return Some((word.number, rest));
+        }
+    }
+    None
+}
+
+/// Fills a buffer with the bytes of the number of a word. Returns what stands after it.
+fn word_into<'a>(words: Words, found: &mut [u8], text: &'a [u8]) -> Option<&'a [u8]>
+    ensures { option_map (λ x. (found.new, x.now)) result
+        ≡ option_and_then (as_bytes (length found.old)) (any_word (words_of words) text.now) }
+{
+    let (value, rest) = any_word(words_of(words), text)?;
+    put_low(found, value);
+    Some(rest)
+}
+
+/// Fills a buffer with the bytes of a field. Returns what stands after it.
+fn read_field<'a>(shape: Shape, found: &mut [u8], text: &'a [u8]) -> Option<&'a [u8]>
+    requires { IsTrue (fits_shape shape (length found.old)) }
+    ensures { option_map (λ x. (found.new, x.now)) result ≡ any_field shape (length found.old) text.now }
+{
+    match shape {
+        Shape::Hexadecimal => number_into(false, found, text),
+        Shape::Decimal => number_into(false, found, text),
+        Shape::OrDefault => number_into(true, found, text),
+        Shape::Next => next_into(found, text),
+        Shape::Word(words) => word_into(words, found, text),
+        _ => read_value(shape, found, past_base(text)),
+    }
+}
+
+/// Whether a shape may be left out: a number.
+fn is_number(shape: Shape) -> bool
+    ensures { result ≡ is_number shape }
+{
+    matches!(shape, Shape::Hexadecimal | Shape::Decimal)
+}
+
+/// Fills a buffer with the bytes of a field, or with `spare` where a number is left out. Returns what stands after it.
+fn value_or_spare<'a>(shape: Shape, spare: u8, found: &mut [u8], text: &'a [u8]) -> Option<&'a [u8]>
+    requires { IsTrue (fits_shape shape (length found.old)) }
+    ensures { option_map (λ x. (found.new, x.now)) result
+        ≡ value_or_spare shape spare (length found.old) text.now }
+{
+    if is_number(shape) && first_of(text) == b')' {
+        found.fill(spare);
+        return Some(text);
+    }
+    read_field(shape, found, text)
+}
+
+/// The byte that a field is made of where it is left out (UEFI Specification 2.10, section 10.6.1): all ones for
+/// the port multiplier of SATA and for the fields of a class of USB devices, else 0.
+fn left_out(kind: u8, sub_kind: u8, place: usize) -> u8
+    ensures { result ≡ left_out kind sub_kind place }
+{
+    if kind == 3 && (sub_kind == 15 || sub_kind == 18 && place == 2) {
+        return 0xff;
+    }
+    0
+}
+
+/// What stands after the ending of a field: a comma, and its `0x`, may be left out before `)`.
+fn after_ending<'a>(ending: &[u8], text: &'a [u8]) -> Option<&'a [u8]>
+    ensures { option_map (λ x. x.now) result ≡ after_ending ending.now text.now }
+{
+    if first_of(text) == b')' && after_literal(ending, b",").is_some() {
+        return Some(text);
+    }
+    after_literal(ending, text)
+}
+
+/// Puts the field that a text begins with into the data of a node of a kind. Returns what stands after its ending.
+fn set_piece<'a>(
+    kind: u8,
+    sub_kind: u8,
+    piece: &Piece,
+    content: &mut [u8],
+    text: &'a [u8],
+) -> Option<&'a [u8]>
+    requires { IsTrue (is_within (length content.old) (as_piece piece.now)) }
+    ensures { option_map (λ rest. (content.new, rest.now)) result
+        ≡ piece_set kind sub_kind (as_piece piece.now) content.old text.now }
+{
+    let (from, to) = (piece.place, piece.place + piece.width);
+    let spare = left_out(kind, sub_kind, piece.place);
+    let rest = value_or_spare(piece.shape, spare, &mut content[from..to], text)?;
+    after_ending(piece.ending.as_bytes(), rest)
+}
+
+/// The same of fields.
+pub(crate) fn set_pieces<'a>(
+    kind: u8,
+    sub_kind: u8,
+    pieces: &[Piece],
+    content: &mut [u8],
+    text: &'a [u8],
+) -> Option<&'a [u8]>
+    requires { IsTrue (list_all (is_within (length content.old)) (map as_piece pieces.now)) }
+    ensures { option_map (λ rest. (content.new, rest.now)) result
+        ≡ pieces_set kind sub_kind (map as_piece pieces.now) content.old text.now }
+{
+    let mut rest = text;
+    for piece in pieces {
+        rest = set_piece(kind, sub_kind, piece, content, rest)?;
+    }
+    Some(rest)
+}

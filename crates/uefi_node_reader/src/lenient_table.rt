@@ -1,0 +1,217 @@
+//! Nodes as people write them, read by the table.
+#![tactic(auto)]
+
+ghost use Rattle.std.specs.List.{list_all};
+ghost use Rattle.std.specs.Option.{option_map};
+ghost use Rattle.std.specs.Prelude.{◌≡◌, ◌<◌, ◌==◌, IfOk, IfSome, IsTrue, OnOk, length, map, position};
+ghost use Rattle.uefi_node_table.specs.Rows.{as_form};
+ghost use Rattle.uefi_node_table.specs.Table.{forms};
+ghost use Rattle.uefi_device_nodes.specs.Nodes.{node_with};
+ghost use Rattle.uefi_node_reader.specs.LenientNodes.{call_read, cut_call, form_set, forms_set, is_blank, is_textless, tells, tidied};
+ghost use Rattle.uefi_node_reader.specs.TableReading.{is_filled, is_sound};
+
+use crate::fields::after;
+use crate::lenient_fields::{after_literal, set_pieces};
+use crate::table_reader::{by_table, put_blank, read_tail};
+use std::alloc::{AllocError, Allocator};
+use std::fmt;
+use uefi_field_texts::sink::{Printed, TextSink, print};
+use uefi_node_table::printing::put_form;
+use uefi_node_table::rows::{Mode, Row, Tail};
+use uefi_node_table::table::{GROUPS, group};
+
+/// The text of a node in its form of the table, or nothing.
+#[derive(Clone, Copy)]
+struct TableText<'a> {
+    kind: u8,
+    sub_kind: u8,
+    content: &'a [u8],
+}
+
+/// The text.
+impl<'a> Printed for TableText<'a> {
+    ghost use Rattle.std.specs.Prelude.{false};
+    ghost use Rattle.uefi_node_table.specs.Table.{table_text};
+
+    ghost printed = { λ text. table_text false text.kind text.sub_kind text.content.now };
+
+    fn put<S: TextSink>(&self, sink: &mut S) {
+        put_form(sink, false, self.kind, self.sub_kind, self.content);
+    }
+}
+
+/// Prints the text.
+impl<'a> fmt::Display for TableText<'a> {
+    ghost use Rattle.std.specs.Prelude.{Some, false};
+    ghost use Rattle.uefi_node_table.specs.Table.{table_text};
+
+    ghost output = { λ text. Some (table_text false text.kind text.sub_kind text.content.now) };
+
+    fn fmt<W: fmt::Write>(&self, f: &mut fmt::Formatter<W>) -> fmt::Result {
+        print(f, self)
+    }
+}
+
+/// Whether the text of a node in the table is that of this very node.
+#[tactic(auto, unfolding(crate::specs::LenientNodes::tells))]
+fn tells<A: Allocator + Copy>(
+    alloc: A,
+    kind: u8,
+    sub_kind: u8,
+    content: &[u8],
+) -> Result<bool, AllocError>
+    ensures { IfOk result (λ same. same ≡ tells (node_with kind sub_kind content.now)) }
+{
+    let text = TableText {
+        kind,
+        sub_kind,
+        content,
+    }
+    .to_string(alloc)?;
+    let mut again = Vec::new(alloc);
+    let Some((other_kind, other_sub_kind, _)) = by_table(&mut again, text.as_bytes())? else {
+        return Ok(false);
+    };
+    Ok(other_kind == kind && other_sub_kind == sub_kind && again.as_slice() == content)
+}
+
+/// Whether a byte is a blank.
+fn is_blank(byte: u8) -> bool
+    ensures { result ≡ is_blank byte }
+{
+    byte == b' ' || byte == b'\t'
+}
+
+/// Puts the text of a call up to its `)` into a vector, in upper case and without blanks.
+fn tidy<A: Allocator>(call: &mut Vec<u8, A>, text: &[u8]) -> Result<(), AllocError>
+    ensures { OnOk result (call.new.items ≡ tidied text.now) }
+{
+    call.clear();
+    for byte in text {
+        if !is_blank(*byte) {
+            call.push(byte.to_ascii_uppercase())?;
+        }
+    }
+    call.push(b')')?;
+    Ok(())
+}
+
+/// Where a text has its first `)`.
+fn end_of_call(text: &[u8]) -> Option<usize>
+    ensures place { result ≡ position (λ c. c == 41) text.now }
+    ensures within { IfSome result (λ place. place < length text.now) }
+{
+    text.iter().position(|byte| *byte == b')')
+}
+
+/// What stands before the first `)`, and what after it.
+pub(crate) fn cut_call(text: &[u8]) -> Option<(&[u8], &[u8])>
+    ensures { option_map (λ x. (x.0.now, x.1.now)) result ≡ cut_call text.now }
+{
+    let place = end_of_call(text)?;
+    Some((&text[..place], &text[place + 1..]))
+}
+
+/// Whether data after the fields hold no text.
+fn is_textless(tail: Tail) -> bool
+    ensures { result ≡ is_textless tail }
+{
+    match tail {
+        Tail::Nothing => true,
+        Tail::Bytes => true,
+        Tail::Repeated(_) => true,
+        _ => false,
+    }
+}
+
+/// Reads a node of a form from its tidied text, its data into a vector, in place of what it held. Returns what stands
+/// after it.
+fn set_row<'a, A: Allocator>(
+    row: &Row,
+    content: &mut Vec<u8, A>,
+    text: &'a [u8],
+) -> Result<Option<&'a [u8]>, AllocError>
+    requires sound { IsTrue (is_sound (as_form row.now)) }
+    requires filled { IsTrue (is_filled (as_form row.now)) }
+    ensures { IfOk result (λ read. option_map (λ rest. (content.new.items, rest.now)) read
+        ≡ form_set (as_form row.now) text.now) }
+{
+    let Mode::Read = row.mode else {
+        return Ok(None);
+    };
+    if !is_textless(row.tail) {
+        return Ok(None);
+    }
+    let Some(rest) = after_literal(row.start.as_bytes(), text) else {
+        return Ok(None);
+    };
+    put_blank(content, row)?;
+    let Some(rest) = set_pieces(row.kind, row.sub_kind, row.pieces, content, rest) else {
+        return Ok(None);
+    };
+    let Some(rest) = read_tail(row.tail, row.close.as_bytes(), content, rest)? else {
+        return Ok(None);
+    };
+    Ok(after(row.close.as_bytes(), rest))
+}
+
+/// Reads the node of the first of these forms that a tidied text has, its data into a vector, in place of what it
+/// held. Returns its type, its sub-type and what stands after it.
+fn set_group<'a, A: Allocator + Copy>(
+    alloc: A,
+    rows: &[Row],
+    content: &mut Vec<u8, A>,
+    text: &'a [u8],
+) -> Result<Option<(u8, u8, &'a [u8])>, AllocError>
+    requires sound { IsTrue (list_all is_sound (map as_form rows.now)) }
+    requires filled { IsTrue (list_all is_filled (map as_form rows.now)) }
+    ensures { IfOk result (λ read. option_map
+        (λ x. (node_with x.0 x.1 content.new.items, x.2.now)) read ≡ forms_set (map as_form rows.now) text.now) }
+{
+    for row in rows {
+        if let Some(rest) = set_row(row, content, text)? {
+            if rest.is_empty() && tells(alloc, row.kind, row.sub_kind, content)? {
+                return Ok(Some((row.kind, row.sub_kind, rest)));
+            }
+        }
+    }
+    Ok(None)
+}
+
+/// The same of all forms of the table.
+fn set_table<'a, A: Allocator + Copy>(
+    alloc: A,
+    content: &mut Vec<u8, A>,
+    text: &'a [u8],
+) -> Result<Option<(u8, u8, &'a [u8])>, AllocError>
+    ensures { IfOk result (λ read. option_map
+        (λ x. (node_with x.0 x.1 content.new.items, x.2.now)) read ≡ forms_set forms text.now) }
+{
+    for index in 0..GROUPS {
+        if let Some(read) = set_group(alloc, group(index), content, text)? {
+            return Ok(Some(read));
+        }
+    }
+    Ok(None)
+}
+
+/// Reads the node of a form of the table that a text begins with, its data into a vector, in place of what it held.
+/// Returns its type, its sub-type and what stands after it.
+pub(crate) fn by_call<'a, A: Allocator + Copy>(
+    alloc: A,
+    content: &mut Vec<u8, A>,
+    text: &'a [u8],
+) -> Result<Option<(u8, u8, &'a [u8])>, AllocError>
+    ensures { IfOk result (λ read. option_map
+        (λ x. (node_with x.0 x.1 content.new.items, x.2.now)) read ≡ call_read text.now) }
+{
+    let Some((front, rest)) = cut_call(text) else {
+        return Ok(None);
+    };
+    let mut call = Vec::new(alloc);
+    tidy(&mut call, front)?;
+    let Some((kind, sub_kind, _)) = set_table(alloc, content, &call)? else {
+        return Ok(None);
+    };
+    Ok(Some((kind, sub_kind, rest)))
+}
