@@ -1,32 +1,41 @@
 -- What is read leniently is told, and what is read strictly is read so too.
-use Rattle.std.proofs.Common.{◌≡◌, ℕ, suc, ◌+◌, Bool, true, false, cond, eqb, not, ◌==◌, ◌&&◌, ◌⊎◌, List, [], ◌∷◌, drop, refl, sym, ap, subst, ◌∙◌, inl, inr, arith}
-use Rattle.std.specs.Prelude.{Option, Some, None, codes, nat_eq}
+use Rattle.std.proofs.Common.{◌≡◌, ◌++◌, append_assoc, take, ℕ, suc, ◌+◌, Bool, true, false, cond, eqb, not, ◌==◌, ◌&&◌, ◌⊎◌, List, [], ◌∷◌, drop, refl, sym, ap, subst, ◌∙◌, inl, inr, arith}
+use Rattle.std.specs.Prelude.{Option, Some, None, codes, nat_eq, position}
 use Rattle.std.specs.Cmp.Lexicographic.{pointwise, same_text}
-use Rattle.std.specs.List.{list_all, position_or_len}
+use Rattle.std.specs.Char.{to_ascii_uppercase}
+use Rattle.std.specs.List.{position_or_len}
+use Rattle.std.specs.Option.{option_map, option_or}
+use Rattle.std.specs.Str.{chars, is_utf8}
+use Rattle.std.proofs.lemmas.List.{take-append-drop}
 use borrow.Author.Tests.{eqb-true}
 use Rattle.uefi_node_table.proofs.Lists.{both}
 use Rattle.uefi_node_table.specs.Rows.{Form}
 use Rattle.uefi_node_table.specs.Table.{forms, table_text}
 use Rattle.uefi_device_nodes.specs.Nodes.{Node, node_with}
 use Rattle.uefi_node_reader.specs.Fields.{◌>>=◌, either_read, read_if}
-use Rattle.uefi_node_reader.specs.LenientFields.{after_literal}
-use Rattle.uefi_node_reader.specs.LenientNodes.{LenientAgain, LenientTakes, bare_read, call_read, cut_call, ended, file_read, form_set, forms_set, is_node, lenient_read, rooted, tells, tidied, told_in, whole_name}
-use Rattle.uefi_node_reader.specs.NamedFiles.{IsTold, ends_name, is_after_node, name_bytes, name_read, node_read}
+use Rattle.uefi_device_nodes.specs.NodeTexts.{node_text}
+use Rattle.uefi_node_reader.specs.LenientFields.{after_letter, after_literal, begins_base, literal_left, past_base}
+use Rattle.uefi_node_reader.specs.LenientNodes.{IsRestOf, LenientAgain, LenientEnds, LenientTakes, bare_read, begins_call, call_read, cut_call, ended, file_read, form_set, forms_set, is_node, lenient_read, rooted, tells, path_set, tidied, told_in, whole}
+use Rattle.uefi_node_reader.specs.NamedFiles.{IsTold, ends_name, is_after_node, is_name, name_bytes, name_data, name_read, node_read}
+use Rattle.uefi_node_reader.specs.PlainNodes.{plain_read}
 use Rattle.uefi_node_reader.specs.TableReading.{is_empty, table_read}
 use Rattle.uefi_node_reader.proofs.Digits.{some_pair}
 use Rattle.uefi_node_reader.proofs.Groups.{table_sound}
 use Rattle.uefi_node_reader.proofs.Literals.{bind_some}
 use Rattle.uefi_node_reader.proofs.NamedFiles.{name_takes}
-use Rattle.uefi_node_reader.proofs.NodeLaws.{node_takes}
+use Rattle.uefi_node_reader.proofs.NodeLaws.{node_starts, node_takes}
+use Rattle.uefi_node_reader.proofs.PlainNodes.{plain_takes}
 use Rattle.uefi_node_reader.proofs.TableLaws.{table_takes}
 
 -- what was read, if a test holds
-if_read : (b : Bool) (x node : Node) (r rest : List ℕ) → read_if b x r ≡ Some (node, rest) → (b ≡ true) × (x ≡ node) × (r ≡ rest)
+if_read : (b : Bool) (x node : Node) (r rest : List ℕ) → read_if b x r ≡ Some (node, rest)
+    → (b ≡ true) × (x ≡ node) × (r ≡ rest)
 if_read false x node r rest e = cc
 if_read true x node r rest e = let p = some_pair (x, r) (node, rest) e in (refl, p.0, p.1)
 
 -- one of two that were read
-one_read : (a b : Option (Node × List ℕ)) (x : Node × List ℕ) → either_read a b ≡ Some x → (a ≡ Some x) ⊎ (b ≡ Some x)
+one_read : (a b : Option (Node × List ℕ)) (x : Node × List ℕ) → either_read a b ≡ Some x
+    → (a ≡ Some x) ⊎ (b ≡ Some x)
 one_read None b x e = inr e
 one_read (Some y) b x e = inl e
 
@@ -42,46 +51,250 @@ tells_told node e = by (table_read forms text) refl e
     by None p q = cc
     by (Some read) p q =
         let kind = both (eqb read.0.device_type node.device_type) _ q in
-        let sub_kind = both (eqb read.0.sub_type node.sub_type) (pointwise nat_eq read.0.content node.content) kind.1 in
-        let content = same_text read.0.content node.content (sym sub_kind.1) in
-        let same : read.0 ≡ node = λ i. node_with (eqb-true _ _ kind.0 i) (eqb-true _ _ sub_kind.0 i) (content i) in
+        let others =
+        both (eqb read.0.sub_type node.sub_type) (pointwise nat_eq read.0.content node.content) kind.1 in
+        let content = same_text read.0.content node.content (sym others.1) in
+        let same : read.0 ≡ node =
+        λ i. node_with (eqb-true _ _ kind.0 i) (eqb-true _ _ others.0 i) (content i) in
         subst IsTold same (inl (table_takes forms table_sound text read.0 read.1 p).0)
 
-form_told : (form : Form) (o : Option (List ℕ × List ℕ)) (read : Node × List ℕ) → told_in form o ≡ Some read → IsTold read.0
-form_told form None read e = cc
-form_told form (Some r) read e =
-    let node : Node = node_with form.kind form.sub_kind r.0 in
-    let q = if_read (is_empty r.1 && tells node) node read.0 r.1 read.1 e in
-    subst IsTold q.1 (tells_told node (both (is_empty r.1) (tells node) q.0).1)
+form_told : (form : Form) (o : Option (List ℕ × List ℕ)) (node : Node)
+    → told_in form o ≡ Some node → IsTold node
+form_told form None node e = cc
+form_told form (Some read) node e = by (is_empty read.1) (tells own) refl e
+  where
+    own : Node
+    own = node_with form.kind form.sub_kind read.0
 
-forms_told : (all : List Form) (text : List ℕ) (read : Node × List ℕ) → forms_set all text ≡ Some read → IsTold read.0
-forms_told [] text read e = cc
-forms_told (form ∷ others) text read e = elim (one_read (told_in form (form_set form text)) (forms_set others text) read e) [
-  | inl p ↦ form_told form (form_set form text) read p
-  | inr p ↦ forms_told others text read p
-]
+    by : (a b : Bool) → tells own ≡ b → cond (a && b) (Some own) None ≡ Some node → IsTold node
+    by false b p q = cc
+    by true false p q = cc
+    by true true p q = let same : own ≡ node = cc in subst IsTold same (tells_told own p)
+
+-- one of two that were read
+one_node : (a b : Option Node) (x : Node) → option_or a b ≡ Some x → (a ≡ Some x) ⊎ (b ≡ Some x)
+one_node None b x e = inr e
+one_node (Some y) b x e = inl e
+
+forms_told : (all : List Form) (text : List ℕ) (node : Node) → forms_set all text ≡ Some node → IsTold node
+forms_told [] text node e = cc
+forms_told (form ∷ others) text node e =
+    elim (one_node (told_in form (form_set form text)) (forms_set others text) node e) [
+      | inl p ↦ form_told form (form_set form text) node p
+      | inr p ↦ forms_told others text node p
+    ]
+
+-- a node after which nothing stands
+whole_read : (o : Option (Node × List ℕ)) (node : Node) → whole o ≡ Some node
+    → (rest : List ℕ) × (o ≡ Some (node, rest))
+whole_read None node e = cc
+whole_read (Some read) node e = by (is_empty read.1) e
+  where
+    by : (b : Bool) → cond b (Some read.0) None ≡ Some node
+        → (rest : List ℕ) × (Some read ≡ Some (node, rest))
+    by false q = cc
+    by true q = let same : read.0 ≡ node = cc in (read.1, λ i. Some (same i, read.1))
+
+path_told : (text : List ℕ) (node : Node) → path_set text ≡ Some node → IsTold node
+path_told text node e =
+    let begun = bind_some (after_literal (codes "Path(") text) _ node e in
+    let read = whole_read (plain_read (codes "Path(" ++ begun.0)) node begun.2 in
+    inr (inl (plain_takes (codes "Path(" ++ begun.0) node read.0 read.1).0)
+
+name_told : (text : List ℕ) (node : Node) → whole (name_read text) ≡ Some node → IsTold node
+name_told text node e =
+    let read = whole_read (name_read text) node e in inr (inr (name_takes text node read.0 read.1).0)
+
+-- a node that was read, with what stands after it
+with_rest : (o : Option Node) (after : List ℕ) (node : Node) (rest : List ℕ)
+    → option_map {U = Node × List ℕ} (λ (x : Node). (x, after)) o ≡ Some (node, rest)
+    → (o ≡ Some node) × (after ≡ rest)
+with_rest None after node rest e = cc
+with_rest (Some x) after node rest e = let p = some_pair (x, after) (node, rest) e in (λ i. Some (p.0 i), p.1)
+
+-- what a call was read of
+called : (text : List ℕ) (node : Node) (rest : List ℕ) → call_read text ≡ Some (node, rest)
+    → (call : List ℕ × List ℕ) × (cut_call text ≡ Some call)
+    × ((option_or (forms_set forms (tidied call.0)) (path_set (tidied call.0)) ≡ Some node) × (call.1 ≡ rest))
+called text node rest e =
+    let call = bind_some (cut_call text) _ (node, rest) e in
+    (call.0, call.1, with_rest _ call.0.1 node rest call.2)
 
 call_told : (text : List ℕ) (node : Node) (rest : List ℕ) → call_read text ≡ Some (node, rest) → IsTold node
 call_told text node rest e =
-    let call = bind_some (cut_call text) _ (node, rest) e in
-    let read = bind_some (forms_set forms (tidied call.0.0)) _ (node, rest) call.2 in
-    subst IsTold (some_pair (read.0.0, call.0.1) (node, rest) read.2).0 (forms_told forms (tidied call.0.0) read.0 read.1)
+    let call = called text node rest e in
+    elim (one_node (forms_set forms (tidied call.0.0)) (path_set (tidied call.0.0)) node call.2.0) [
+      | inl p ↦ forms_told forms (tidied call.0.0) node p
+      | inr p ↦ path_told (tidied call.0.0) node p
+    ]
 
--- a name that was read, and what stands after it
-name_told : (text after : List ℕ) (node : Node) (rest : List ℕ) → whole_name (name_read text) after ≡ Some (node, rest)
-    → IsTold node × (after ≡ rest)
-name_told text after node rest e = by (name_read text) refl e
-  where
-    by : (o : Option (Node × List ℕ)) → name_read text ≡ o → whole_name o after ≡ Some (node, rest) → IsTold node × (after ≡ rest)
-    by None p q = cc
-    by (Some read) p q =
-        let w = if_read (is_empty read.1) read.0 node after rest q in
-        (subst IsTold w.1 (inr (inr (name_takes text read.0 read.1 p).0)), w.2)
+-- what a name in `File(..)` was read of
+filed : (text : List ℕ) (node : Node) (rest : List ℕ) → file_read text ≡ Some (node, rest)
+    → (call : List ℕ × List ℕ) × (after_literal (codes "File(") text >>= cut_call ≡ Some call)
+    × ((whole (name_read (rooted call.0)) ≡ Some node) × (call.1 ≡ rest))
+filed text node rest e =
+    let call = bind_some (after_literal (codes "File(") text >>= cut_call) _ (node, rest) e in
+    (call.0, call.1, with_rest _ call.0.1 node rest call.2)
 
 file_told : (text : List ℕ) (node : Node) (rest : List ℕ) → file_read text ≡ Some (node, rest) → IsTold node
-file_told text node rest e =
-    let call = bind_some (after_literal (codes "File(") text >>= cut_call) _ (node, rest) e in
-    (name_told (rooted call.0.0) call.0.1 node rest call.2).0
+file_told text node rest e = let call = filed text node rest e in name_told (rooted call.0.0) node call.2.0
+
+-- what was read, and ends where a node may end
+ends : (o : Option (Node × List ℕ)) (node : Node) (rest : List ℕ) → ended o ≡ Some (node, rest)
+    → (o ≡ Some (node, rest)) × (is_after_node rest ≡ true)
+ends None node rest e = cc
+ends (Some read) node rest e =
+    let q = if_read (is_after_node read.1) read.0 node read.1 rest e in
+    (λ i. Some (q.1 i, q.2 i), ap is_after_node (sym q.2) ∙ q.0)
+
+-- one of the four that are tried
+module _ (text : List ℕ) (node : Node) (rest : List ℕ) (Goal : Type 0)
+    (strict : node_read text ≡ Some (node, rest) → is_after_node rest ≡ true → Goal)
+    (file : file_read text ≡ Some (node, rest) → is_after_node rest ≡ true → Goal)
+    (call : call_read text ≡ Some (node, rest) → is_after_node rest ≡ true → Goal)
+    (bare : bare_read text ≡ Some (node, rest) → Goal) where
+  either_call : ended (either_read (file_read text) (call_read text)) ≡ Some (node, rest) → Goal
+  either_call e =
+      let q = ends (either_read (file_read text) (call_read text)) node rest e in
+      elim (one_read (file_read text) (call_read text) (node, rest) q.0) [
+        | inl f ↦ file f q.1
+        | inr c ↦ call c q.1
+      ]
+
+  call_or_name : (b : Bool)
+      → cond b (ended (either_read (file_read text) (call_read text))) (bare_read text) ≡ Some (node, rest)
+      → Goal
+  call_or_name true e = either_call e
+  call_or_name false e = bare e
+
+  one_of_four : lenient_read text ≡ Some (node, rest) → Goal
+  unfolding lenient_read
+  one_of_four e = elim (one_read (ended (node_read text)) _ (node, rest) e) [
+    | inl p ↦ let q = ends (node_read text) node rest p in strict q.0 q.1
+    | inr p ↦ call_or_name (begins_call text) p
+  ]
+
+pub lenient_takes : LenientTakes
+lenient_takes text node rest e = one_of_four text node rest (IsTold node)
+    (λ p _. (node_takes text node rest p).0)
+    (λ p _. file_told text node rest p) (λ p _. call_told text node rest p)
+    (λ p. name_told (rooted (name_bytes text)) node (with_rest _ _ node rest p).0) e
+
+pub lenient_again : LenientAgain
+unfolding lenient_read
+lenient_again text node rest e after =
+    let strict : ended (node_read text) ≡ Some (node, rest) =
+    ap ended e ∙ ap (λ (b : Bool). read_if b node rest) after in
+    ap (λ (o : Option (Node × List ℕ)). either_read o
+    (cond (begins_call text) (ended (either_read (file_read text) (call_read text))) (bare_read text))) strict
+
+-- the end of a text
+abbrev IsEnd : List ℕ → List ℕ → Type 0
+IsEnd text rest = (front : List ℕ) × (text ≡ front ++ rest)
+
+whole_end : (text : List ℕ) → IsEnd text text
+whole_end text = ([], refl)
+
+then_end : (text middle rest : List ℕ) → IsEnd text middle → IsEnd middle rest → IsEnd text rest
+then_end text middle rest (front, p) (others, q) =
+    (front ++ others, p ∙ ap (λ (x : List ℕ). front ++ x) q ∙ sym (append_assoc front others rest))
+
+drop_end : (n : ℕ) (text : List ℕ) → IsEnd text (drop n text)
+drop_end n text = (take n text, sym (take-append-drop n text))
+
+-- what stands after one byte or more
+more_end : (c : ℕ) (text rest : List ℕ) → IsEnd text rest → IsRestOf (c ∷ text) rest
+more_end c text rest (front, p) = (c, front, λ i. c ∷ p i)
+
+then_rest : (text middle rest : List ℕ) → IsEnd text middle → IsRestOf middle rest → IsRestOf text rest
+then_rest text middle rest ([], p) (c, others, q) = (c, others, p ∙ q)
+then_rest text middle rest (b ∷ front, p) (c, others, q) =
+    let left = then_end (front ++ middle) middle rest (front, refl) (c ∷ others, q) in
+    let more = more_end b (front ++ middle) rest left in
+    (more.0, more.1, p ∙ more.2)
+
+dropped : (m n c : ℕ) (text : List ℕ) → m ≡ suc n → IsRestOf (c ∷ text) (drop m (c ∷ text))
+dropped m n c text e = let more = more_end c text (drop n text) (drop_end n text) in
+    subst (λ (k : ℕ). IsRestOf (c ∷ text) (drop k (c ∷ text))) (sym e) more
+
+-- what stands after a literal ends the text
+base_end : (text : List ℕ) → IsEnd text (past_base text)
+base_end [] = whole_end []
+base_end (c ∷ []) = whole_end (c ∷ [])
+base_end (c ∷ d ∷ cs) = by (eqb c 48 && eqb d 120)
+  where
+    by : (b : Bool) → IsEnd (c ∷ d ∷ cs) (cond b cs (c ∷ d ∷ cs))
+    by true = (c ∷ d ∷ [], refl)
+    by false = whole_end (c ∷ d ∷ cs)
+
+letter_end : (c : ℕ) (text rest : List ℕ) → after_letter c text ≡ Some rest → IsEnd text rest
+letter_end c [] rest e = cc
+letter_end c (t ∷ ts) rest e = by (eqb (to_ascii_uppercase c) (to_ascii_uppercase t)) e
+  where
+    by : (b : Bool) → cond b (Some ts) None ≡ Some rest → IsEnd (t ∷ ts) rest
+    by false q = cc
+    by true q = let same : ts ≡ rest = cc in (t ∷ [], λ i. t ∷ same i)
+
+literal_end : (literal : List ℕ) (at_x : Bool) (text rest : List ℕ)
+    → literal_left literal at_x text ≡ Some rest → IsEnd text rest
+literal_end [] at_x text rest e = let same : text ≡ rest = cc in ([], same)
+literal_end (c ∷ cs) true text rest e = by (is_empty cs) e (literal_end cs false)
+  where
+    by : (b : Bool) → literal_left cs false (cond b text (past_base text)) ≡ Some rest
+        → ((t r : List ℕ) → literal_left cs false t ≡ Some r → IsEnd t r) → IsEnd text rest
+    by true q others = others text rest q
+    by false q others = then_end text (past_base text) rest (base_end text) (others (past_base text) rest q)
+literal_end (c ∷ cs) false text rest e = by (begins_base (c ∷ cs)) e (literal_end cs)
+  where
+    by : (b : Bool)
+        → cond b (literal_left cs true text) (after_letter c text >>= literal_left cs false) ≡ Some rest
+        → ((x : Bool) (t r : List ℕ) → literal_left cs x t ≡ Some r → IsEnd t r) → IsEnd text rest
+    by true q others = others true text rest q
+    by false q others =
+        let letter = bind_some (after_letter c text) (literal_left cs false) rest q in
+        let after = others false letter.0 rest letter.2 in
+        then_end text letter.0 rest (letter_end c text letter.0 letter.1) after
+
+-- what stands after a call
+cut_end : (text : List ℕ) (call : List ℕ × List ℕ) → cut_call text ≡ Some call → IsRestOf text call.1
+cut_end [] call e = cc
+cut_end (c ∷ cs) call e = by (position (λ (x : ℕ). x == 41) (c ∷ cs)) e
+  where
+    parts : ℕ → List ℕ × List ℕ
+    parts place = (take place (c ∷ cs), drop (place + 1) (c ∷ cs))
+
+    by : (o : Option ℕ) → option_map parts o ≡ Some call → IsRestOf (c ∷ cs) call.1
+    by None q = cc
+    by (Some place) q = subst (λ (x : List ℕ). IsRestOf (c ∷ cs) x) (some_pair (parts place) call q).1
+        (dropped (place + 1) place c cs (omega arith))
+
+call_end : (text : List ℕ) (node : Node) (rest : List ℕ)
+    → call_read text ≡ Some (node, rest) → IsRestOf text rest
+call_end text node rest e = let call = called text node rest e in
+    subst (λ (x : List ℕ). IsRestOf text x) call.2.1 (cut_end text call.0 call.1)
+
+file_end : (text : List ℕ) (node : Node) (rest : List ℕ)
+    → file_read text ≡ Some (node, rest) → IsRestOf text rest
+file_end text node rest e =
+    let call = filed text node rest e in
+    let begun = bind_some (after_literal (codes "File(") text) cut_call call.0 call.1 in
+    let after = literal_end (codes "File(") false text begun.0 begun.1 in
+    subst (λ (x : List ℕ). IsRestOf text x) call.2.1
+    (then_rest text begun.0 call.0.1 after (cut_end begun.0 call.0 begun.2))
+
+strict_end : (text : List ℕ) (node : Node) (rest : List ℕ) → node_read text ≡ Some (node, rest)
+    → is_after_node rest ≡ true → IsRestOf text rest
+strict_end text node rest e after =
+    let read = node_takes text node rest e in
+    by (node_text false false node) read.1 (node_starts node read.0 rest)
+  where
+    by : (own : List ℕ) → text ≡ own ++ rest → is_after_node (own ++ rest) ≡ false → IsRestOf text rest
+    by [] p q = cc
+    by (c ∷ cs) p q = (c, cs, p)
+
+-- where a name ends, by whether the first byte ends it
+abbrev name_place : List ℕ → Bool → ℕ
+name_place others first = cond (not first) (1 + position_or_len ends_name others) 0
 
 -- after a name stands nothing, or what ends it
 after_name : (text : List ℕ) → is_after_node (drop (position_or_len ends_name text) text) ≡ true
@@ -89,44 +302,40 @@ after_name [] = refl
 after_name (c ∷ cs) = by (ends_name c) refl (after_name cs)
   where
     by : (b : Bool) → ends_name c ≡ b → is_after_node (drop (position_or_len ends_name cs) cs) ≡ true
-        → is_after_node (drop (position_or_len ends_name (c ∷ cs)) (c ∷ cs)) ≡ true
-    by true e h = ap (λ (t : Bool). is_after_node (drop (cond (not t) (1 + position_or_len ends_name cs) 0) (c ∷ cs))) e ∙ e
-    by false e h = ap (λ (t : Bool). is_after_node (drop (cond (not t) (1 + position_or_len ends_name cs) 0) (c ∷ cs))) e
-        ∙ ap (λ (n : ℕ). is_after_node (drop n (c ∷ cs))) {x = 1 + position_or_len ends_name cs} {y = suc (position_or_len ends_name cs)} (omega arith)
-        ∙ h
+        → is_after_node (drop (name_place cs (ends_name c)) (c ∷ cs)) ≡ true
+    by true e h = ap (λ (t : Bool). is_after_node (drop (name_place cs t) (c ∷ cs))) e ∙ e
+    by false e h = ap (λ (t : Bool). is_after_node (drop (name_place cs t) (c ∷ cs))) e
+        ∙ ap (λ (n : ℕ). is_after_node (drop n (c ∷ cs))) {x = 1 + position_or_len ends_name cs}
+        {y = suc (position_or_len ends_name cs)} (omega arith) ∙ h
 
-bare_told : (text : List ℕ) (node : Node) (rest : List ℕ) → bare_read text ≡ Some (node, rest) → IsTold node × (is_after_node rest ≡ true)
-bare_told text node rest e = by (list_all (λ c. not (c == 40)) (name_bytes text)) e
+-- an empty name is none
+no_name : whole (name_read []) ≡ None
+unfolding chars
+no_name = by (is_utf8 [])
   where
-    after : List ℕ
-    after = drop (position_or_len ends_name text) text
+    by : (b : Bool)
+        → whole (read_if (b && is_name (chars [])) (node_with 4 4 (name_data (chars []))) []) ≡ None
+    by true = refl
+    by false = refl
 
-    by : (b : Bool) → cond b (whole_name (name_read (rooted (name_bytes text))) after) None ≡ Some (node, rest) → IsTold node × (is_after_node rest ≡ true)
-    by false q = cc
-    by true q = let t = name_told (rooted (name_bytes text)) after node rest q in (t.0, ap is_after_node (sym t.1) ∙ after_name text)
+bare_rest : (text : List ℕ) (node : Node) → whole (name_read (rooted (name_bytes text))) ≡ Some node
+    → IsRestOf text (drop (position_or_len ends_name text) text)
+bare_rest [] node e = let none = no_name in cc
+bare_rest (c ∷ cs) node e = by (ends_name c) e
+  where
+    by : (b : Bool) → whole (name_read (rooted (take (name_place cs b) (c ∷ cs)))) ≡ Some node
+        → IsRestOf (c ∷ cs) (drop (name_place cs b) (c ∷ cs))
+    by true q = let none = no_name in cc
+    by false q = dropped (1 + position_or_len ends_name cs) (position_or_len ends_name cs) c cs (omega arith)
 
--- what was read, and ends where a node may end
-ends : (o : Option (Node × List ℕ)) (node : Node) (rest : List ℕ) → ended o ≡ Some (node, rest) → (o ≡ Some (node, rest)) × (is_after_node rest ≡ true)
-ends None node rest e = cc
-ends (Some read) node rest e =
-    let q = if_read (is_after_node read.1) read.0 node read.1 rest e in
-    (λ i. Some (q.1 i, q.2 i), ap is_after_node (sym q.2) ∙ q.0)
+bare_end : (text : List ℕ) (node : Node) (rest : List ℕ) → bare_read text ≡ Some (node, rest)
+    → IsRestOf text rest × (is_after_node rest ≡ true)
+bare_end text node rest e =
+    let name = with_rest (whole (name_read (rooted (name_bytes text)))) _ node rest e in
+    subst (λ (x : List ℕ). IsRestOf text x × (is_after_node x ≡ true)) name.1
+    (bare_rest text node name.0, after_name text)
 
-pub lenient_takes : LenientTakes
-unfolding lenient_read
-lenient_takes text node rest e = elim (one_read (ended (node_read text)) _ (node, rest) e) [
-  | inl p ↦ let q = ends (node_read text) node rest p in ((node_takes text node rest q.0).0, q.1)
-  | inr p ↦ elim (one_read (ended (file_read text)) _ (node, rest) p) [
-    | inl f ↦ let q = ends (file_read text) node rest f in (file_told text node rest q.0, q.1)
-    | inr f ↦ elim (one_read (ended (call_read text)) (bare_read text) (node, rest) f) [
-      | inl c ↦ let q = ends (call_read text) node rest c in (call_told text node rest q.0, q.1)
-      | inr c ↦ bare_told text node rest c
-    ]
-  ]
-]
-
-pub lenient_again : LenientAgain
-unfolding lenient_read
-lenient_again text node rest e after =
-    let strict : ended (node_read text) ≡ Some (node, rest) = ap ended e ∙ ap (λ (b : Bool). read_if b node rest) after in
-    ap (λ (o : Option (Node × List ℕ)). either_read o (either_read (ended (file_read text)) (either_read (ended (call_read text)) (bare_read text)))) strict
+pub lenient_ends : LenientEnds
+lenient_ends text node rest e = one_of_four text node rest (IsRestOf text rest × (is_after_node rest ≡ true))
+    (λ p after. (strict_end text node rest p after, after)) (λ p after. (file_end text node rest p, after))
+    (λ p after. (call_end text node rest p, after)) (bare_end text node rest) e

@@ -1,4 +1,4 @@
--- Fields of nodes as people write them: in either case, with numbers in either base, and with the last numbers left out.
+-- Fields of nodes as people write them: in either case, numbers in either base, and the last left out.
 use Rattle.std.specs.Prelude.{ℕ, ◌^◌, Bool, true, false, ◌==◌, ◌&&◌, ◌||◌, if◌then◌else◌, List, [], ◌∷◌, codes, Option, Some, None, is_some}
 use Rattle.std.proofs.Math.ListN.{replicate}
 use Rattle.std.specs.Char.{to_ascii_uppercase}
@@ -12,29 +12,29 @@ use Rattle.uefi_node_reader.specs.Numerals.{digits_after, has_digit}
 use Rattle.uefi_node_reader.specs.TableReading.{first_of, is_empty, put_at}
 use Rattle.uefi_node_reader.specs.Words.{after, or_word}
 
--- the test for bytes that begin with `0` and another byte
-abbrev pub begins_base : ℕ → List ℕ → Bool
-begins_base x [] = false
-begins_base x (c ∷ []) = false
-begins_base x (c ∷ d ∷ cs) = (c == 48) && (d == x)
+-- the test for bytes that begin with `0x`
+abbrev pub begins_base : List ℕ → Bool
+begins_base [] = false
+begins_base (c ∷ []) = false
+begins_base (c ∷ d ∷ cs) = (c == 48) && (d == 120)
 
--- what stands after `0X`, or all of a text that begins otherwise
+-- what stands after `0x`, or all of a text that begins otherwise
 abbrev pub past_base : List ℕ → List ℕ
 past_base [] = []
 past_base (c ∷ []) = c ∷ []
-past_base (c ∷ d ∷ cs) = if (c == 48) && (d == 88) then cs else c ∷ d ∷ cs
+past_base (c ∷ d ∷ cs) = if (c == 48) && (d == 120) then cs else c ∷ d ∷ cs
 
 -- what stands after a byte, in either case
 abbrev pub after_letter : ℕ → List ℕ → Option (List ℕ)
 after_letter c [] = None
 after_letter c (t ∷ ts) = if to_ascii_uppercase c == to_ascii_uppercase t then Some ts else None
 
--- what stands after a literal of the table in either case, from the `x` of its `0x` on where `at_x`: the `0x` may be
--- left out, and at the end it is that of the number which follows
+-- what stands after a literal of the table in either case, from the `x` of its `0x` on where `at_x`. The `0x`
+-- may be left out, and at the end it is that of the number which follows
 abbrev pub literal_left : List ℕ → Bool → List ℕ → Option (List ℕ)
 literal_left [] at_x text = Some text
 literal_left (c ∷ cs) true text = literal_left cs false (if is_empty cs then text else past_base text)
-literal_left (c ∷ cs) false text = if begins_base 120 (c ∷ cs) then literal_left cs true text
+literal_left (c ∷ cs) false text = if begins_base (c ∷ cs) then literal_left cs true text
     else after_letter c text >>= literal_left cs false
 
 -- what stands after a whole literal
@@ -45,9 +45,10 @@ after_literal literal text = literal_left literal false text
 abbrev pub some_digits : ℕ → ℕ → List ℕ → Option (ℕ × List ℕ)
 some_digits base limit text = if has_digit base text then digits_after base limit 0 text else None
 
--- the number that a text begins with: after `0X` in hexadecimal, else in decimal
+-- the number that a text begins with: after `0x` in hexadecimal, else in decimal
 abbrev pub any_number : ℕ → List ℕ → Option (ℕ × List ℕ)
-any_number limit text = if begins_base 88 text then some_digits 16 limit (past_base text) else some_digits 10 limit text
+any_number limit text =
+    if begins_base text then some_digits 16 limit (past_base text) else some_digits 10 limit text
 
 -- the same, or the word for 0
 abbrev pub number_or_word : ℕ → List ℕ → Option (ℕ × List ℕ)
@@ -59,7 +60,7 @@ abbrev pub any_word : List words.Word → List ℕ → Option (ℕ × List ℕ)
 any_word [] text = None
 any_word (word ∷ words) text = or_word word.number (after_literal word.text text) (any_word words text)
 
--- the bytes of a field, and what stands after it: digits of bytes may stand after `0X`
+-- the bytes of a field, and what stands after it: digits of bytes may stand after `0x`
 abbrev pub any_field : Shape → ℕ → List ℕ → Option (List ℕ × List ℕ)
 any_field Hexadecimal width text = any_number (256 ^ width) text >>= as_bytes width
 any_field Decimal width text = any_number (256 ^ width) text >>= as_bytes width
@@ -74,28 +75,30 @@ is_number Hexadecimal = true
 is_number Decimal = true
 is_number shape = false
 
--- the byte that a field is made of where it is left out (UEFI Specification 2.10, section 10.6.1): all ones for the port
--- multiplier of SATA and for the fields of a class of USB devices, else 0
+-- the byte that a field is made of where it is left out (UEFI Specification 2.10, section 10.6.1): all ones
+-- for the port multiplier of SATA and for the fields of a class of USB devices, else 0
 abbrev pub left_out : ℕ → ℕ → ℕ → ℕ
-left_out kind sub_kind place = if (kind == 3) && ((sub_kind == 15) || ((sub_kind == 18) && (place == 2))) then 0xff else 0
+left_out kind sub_kind place =
+    if (kind == 3) && ((sub_kind == 15) || ((sub_kind == 18) && (place == 2))) then 0xff else 0
 
 -- the bytes of a field, of which `spare` is each where a number is left out before `)`
 abbrev pub value_or_spare : Shape → ℕ → ℕ → List ℕ → Option (List ℕ × List ℕ)
-value_or_spare shape spare width text = if is_number shape && (first_of text == 41) then Some (replicate width spare, text)
-    else any_field shape width text
+value_or_spare shape spare width text = if is_number shape && (first_of text == 41)
+    then Some (replicate width spare, text) else any_field shape width text
 
 -- what stands after the ending of a field: a comma, and its `0x`, may be left out before `)`
 abbrev pub after_ending : List ℕ → List ℕ → Option (List ℕ)
-after_ending ending text = if (first_of text == 41) && is_some (after_literal ending (codes ",")) then Some text
-    else after_literal ending text
+after_ending ending text = if (first_of text == 41) && is_some (after_literal ending (codes ","))
+    then Some text else after_literal ending text
 
 -- the data of a node of a kind with the field that a text begins with, and what stands after its ending
 abbrev pub piece_set : ℕ → ℕ → Piece → List ℕ → List ℕ → Option (List ℕ × List ℕ)
-piece_set kind sub_kind piece content text = value_or_spare piece.shape (left_out kind sub_kind piece.place) piece.width text >>= λ value.
+piece_set kind sub_kind piece content text =
+    value_or_spare piece.shape (left_out kind sub_kind piece.place) piece.width text >>= λ value.
     after_ending piece.ending value.1 >>= λ rest. Some (put_at piece value.0 content, rest)
 
 -- the same of fields
 abbrev pub pieces_set : ℕ → ℕ → List Piece → List ℕ → List ℕ → Option (List ℕ × List ℕ)
 pieces_set kind sub_kind [] content text = Some (content, text)
-pieces_set kind sub_kind (piece ∷ pieces) content text = piece_set kind sub_kind piece content text >>= λ read.
-    pieces_set kind sub_kind pieces read.0 read.1
+pieces_set kind sub_kind (piece ∷ pieces) content text =
+    piece_set kind sub_kind piece content text >>= λ read. pieces_set kind sub_kind pieces read.0 read.1

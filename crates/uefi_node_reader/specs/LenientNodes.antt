@@ -1,8 +1,8 @@
 -- Nodes as people write them. Each is one that is told.
 use Rattle.std.specs.Prelude.{◌≡◌, ℕ, ◌+◌, Bool, true, false, not, nat_eq, ◌==◌, ◌&&◌, ◌||◌, if◌then◌else◌, List, [], ◌∷◌, ◌++◌, codes, filter, map, take, drop, position, Option, Some, None}
 use Rattle.std.specs.Char.{to_ascii_uppercase}
-use Rattle.std.specs.List.{list_all, position_or_len}
-use Rattle.std.specs.Option.{option_map}
+use Rattle.std.specs.List.{list_any, position_or_len}
+use Rattle.std.specs.Option.{option_map, option_or}
 use Rattle.std.specs.Cmp.Lexicographic.{pointwise}
 use Rattle.uefi_node_table.specs.Rows.{Form}
 use Rattle.uefi_node_table.specs.Table.{forms, table_text}
@@ -12,15 +12,20 @@ use Rattle.uefi_device_nodes.specs.Nodes.{Node, node_with}
 use Rattle.uefi_node_reader.specs.Fields.{◌>>=◌, either_read, read_if}
 use Rattle.uefi_node_reader.specs.LenientFields.{after_literal, pieces_set}
 use Rattle.uefi_node_reader.specs.NamedFiles.{ends_name, is_after_node, IsTold, name_bytes, name_read, node_read}
+use Rattle.uefi_node_reader.specs.PlainNodes.{plain_read}
 use Rattle.uefi_node_reader.specs.TableReading.{blank, is_empty, is_read, rest_read, table_read}
 
 -- the test for a blank: a space or a tab
 abbrev pub is_blank : ℕ → Bool
 is_blank byte = (byte == 32) || (byte == 9)
 
--- the text of a call up to its `)`, in upper case and without blanks
+-- a byte in upper case, but an `x` as the table has it in `0x`
+abbrev pub tidied_byte : ℕ → ℕ
+tidied_byte byte = if to_ascii_uppercase byte == 88 then 120 else to_ascii_uppercase byte
+
+-- the text of a call up to its `)`, in such bytes and without blanks
 abbrev pub tidied : List ℕ → List ℕ
-tidied text = map to_ascii_uppercase (filter (λ c. not (is_blank c)) text) ++ codes ")"
+tidied text = map tidied_byte (filter (λ c. not (is_blank c)) text) ++ codes ")"
 
 -- what stands before the first `)`, and what after it
 abbrev pub cut_call : List ℕ → Option (List ℕ × List ℕ)
@@ -36,8 +41,8 @@ is_textless tail = false
 -- the data of a node of a form, by its tidied text, and what stands after it
 abbrev pub form_set : Form → List ℕ → Option (List ℕ × List ℕ)
 form_set form text = if is_read form.mode && is_textless form.tail
-    then (after_literal form.start text >>= λ t. pieces_set form.kind form.sub_kind form.pieces (blank form) t >>= rest_read form)
-    else None
+    then (after_literal form.start text >>= λ t.
+    pieces_set form.kind form.sub_kind form.pieces (blank form) t >>= rest_read form) else None
 
 -- the test for a node that was read, if it is this one
 abbrev pub is_node : Node → Option (Node × List ℕ) → Bool
@@ -49,57 +54,76 @@ is_node node (Some read) = (read.0.device_type == node.device_type)
 unfoldable pub tells : Node → Bool
 tells node = is_node node (table_read forms (table_text false node.device_type node.sub_type node.content))
 
--- the node of a form that has these data, where its text tells them, and nothing stands after what they were read from
-abbrev pub told_in : Form → Option (List ℕ × List ℕ) → Option (Node × List ℕ)
+-- the node of a form with data that were read, where nothing stands after them, and its text tells it
+abbrev pub told_in : Form → Option (List ℕ × List ℕ) → Option Node
 told_in form None = None
-told_in form (Some read) = read_if (is_empty read.1 && tells (node_with form.kind form.sub_kind read.0))
-    (node_with form.kind form.sub_kind read.0) read.1
+told_in form (Some read) = if is_empty read.1 && tells (node_with form.kind form.sub_kind read.0)
+    then Some (node_with form.kind form.sub_kind read.0) else None
 
 -- the node in the first of these forms that a tidied text has
-abbrev pub forms_set : List Form → List ℕ → Option (Node × List ℕ)
+abbrev pub forms_set : List Form → List ℕ → Option Node
 forms_set [] text = None
-forms_set (form ∷ forms) text = either_read (told_in form (form_set form text)) (forms_set forms text)
+forms_set (form ∷ forms) text = option_or (told_in form (form_set form text)) (forms_set forms text)
 
--- the node of a form of the table that a text begins with, and what stands after it
+-- the node that was read, where nothing stands after it
+abbrev pub whole : Option (Node × List ℕ) → Option Node
+whole None = None
+whole (Some read) = if is_empty read.1 then Some read.0 else None
+
+-- the node of no kind that a tidied text has
+abbrev pub path_set : List ℕ → Option Node
+path_set text = after_literal (codes "Path(") text >>= λ rest. whole (plain_read (codes "Path(" ++ rest))
+
+-- the node whose call a text begins with, and what stands after it
 abbrev pub call_read : List ℕ → Option (Node × List ℕ)
-call_read text = cut_call text >>= λ call. forms_set forms (tidied call.0) >>= λ read. Some (read.0, call.1)
+call_read text = cut_call text >>= λ call. option_map (λ node. (node, call.1))
+    (option_or (forms_set forms (tidied call.0)) (path_set (tidied call.0)))
 
 -- a name with a backslash at its start
 abbrev pub rooted : List ℕ → List ℕ
 rooted [] = []
 rooted (c ∷ cs) = if c == 92 then c ∷ cs else 92 ∷ c ∷ cs
 
--- the node with a name, where nothing stands after it
-abbrev pub whole_name : Option (Node × List ℕ) → List ℕ → Option (Node × List ℕ)
-whole_name None after = None
-whole_name (Some read) after = read_if (is_empty read.1) read.0 after
-
 -- the node with the name that stands in `File(..)`, as it stands there
 abbrev pub file_read : List ℕ → Option (Node × List ℕ)
-file_read text = after_literal (codes "File(") text >>= cut_call >>= λ call. whole_name (name_read (rooted call.0)) call.1
+file_read text = after_literal (codes "File(") text >>= cut_call >>= λ call.
+    option_map (λ node. (node, call.1)) (whole (name_read (rooted call.0)))
 
--- the node with the name that a text begins with, without its first backslash and with no parenthesis
+-- the node with the name that a text begins with, without its first backslash
 abbrev pub bare_read : List ℕ → Option (Node × List ℕ)
-bare_read text = if list_all (λ c. not (c == 40)) (name_bytes text)
-    then whole_name (name_read (rooted (name_bytes text))) (drop (position_or_len ends_name text) text) else None
+bare_read text = option_map (λ node. (node, drop (position_or_len ends_name text) text))
+    (whole (name_read (rooted (name_bytes text))))
+
+-- the test for a text that begins with a call: a `(` stands before a slash or a comma
+abbrev pub begins_call : List ℕ → Bool
+begins_call text = list_any (λ c. c == 40) (name_bytes text)
 
 -- what was read, if it ends where a node may end
 abbrev pub ended : Option (Node × List ℕ) → Option (Node × List ℕ)
 ended None = None
 ended (Some read) = read_if (is_after_node read.1) read.0 read.1
 
--- the node whose text bytes begin with as people write it, and what stands after it: as it is printed, as `File(..)`, in a
--- form of the table, or a bare name
+-- the end of a text, after one byte or more
+abbrev pub IsRestOf : List ℕ → List ℕ → Type 0
+IsRestOf text rest = (first : ℕ) × (front : List ℕ) × (text ≡ first ∷ (front ++ rest))
+
+-- the node whose text bytes begin with as people write it, and what stands after it: as it is printed, in
+-- `File(..)`, as another call, or as a bare name
 unfoldable pub lenient_read : List ℕ → Option (Node × List ℕ)
 lenient_read text = either_read (ended (node_read text))
-    (either_read (ended (file_read text)) (either_read (ended (call_read text)) (bare_read text)))
+    (if begins_call text then ended (either_read (file_read text) (call_read text)) else bare_read text)
 
--- what is read leniently is told, and ends where a node may end
+-- what is read leniently is told
 abbrev pub LenientTakes : Type 0
-LenientTakes = (text : List ℕ) (node : Node) (rest : List ℕ) → lenient_read text ≡ Some (node, rest)
-    → IsTold node × (is_after_node rest ≡ true)
+LenientTakes = (text : List ℕ) (node : Node) (rest : List ℕ)
+    → lenient_read text ≡ Some (node, rest) → IsTold node
 
--- what is read where a node may end, is read leniently as the same
+-- what stands after it is the end of the text, after one byte or more, and may stand after a node
+abbrev pub LenientEnds : Type 0
+LenientEnds = (text : List ℕ) (node : Node) (rest : List ℕ) → lenient_read text ≡ Some (node, rest)
+    → IsRestOf text rest × (is_after_node rest ≡ true)
+
+-- what is read where a node may end is read leniently as the same
 abbrev pub LenientAgain : Type 0
 LenientAgain = (text : List ℕ) (node : Node) (rest : List ℕ) → node_read text ≡ Some (node, rest)
     → is_after_node rest ≡ true → lenient_read text ≡ Some (node, rest)

@@ -1,4 +1,4 @@
-//! Fields read as people write them. The texts are in upper case, and have no blanks.
+//! Fields read as people write them. The texts are in upper case but for each `x`, and have no blanks.
 #![tactic(auto)]
 
 ghost use Rattle.std.specs.Prelude.{◌≡◌, ◌+◌, ◌^◌, ◌≤◌, IsTrue, codes, if◌then◌else◌, is_some, length, map};
@@ -16,22 +16,19 @@ use crate::numerals::{digit_of, digits_after};
 use uefi_node_table::rows::{Piece, Shape};
 use uefi_node_table::words::{Word, Words, words_of};
 
-/// Whether a text begins with `0` and another byte.
-fn begins_base(x: u8, text: &[u8]) -> bool
-    ensures { result ≡ begins_base x text.now }
+/// Whether a text begins with `0x`.
+fn begins_base(text: &[u8]) -> bool
+    ensures { result ≡ begins_base text.now }
 {
-    match text {
-        [first, second, ..] => *first == b'0' && *second == x,
-        _ => false,
-    }
+    matches!(text, [b'0', b'x', ..])
 }
 
-/// What stands after `0X`, or all of a text that begins otherwise.
+/// What stands after `0x`, or all of a text that begins otherwise.
 fn past_base(text: &[u8]) -> &[u8]
     ensures { result.now ≡ past_base text.now }
 {
     match text {
-        [b'0', b'X', rest @ ..] => rest,
+        [b'0', b'x', rest @ ..] => rest,
         _ => text,
     }
 }
@@ -64,7 +61,7 @@ pub(crate) fn after_literal<'a>(literal: &[u8], text: &'a [u8]) -> Option<&'a [u
                 past_base(rest)
             };
             at_x = false;
-        } else if begins_base(b'x', left) {
+        } else if begins_base(left) {
             at_x = true;
         } else {
             rest = after_letter(*letter, rest)?;
@@ -88,7 +85,7 @@ fn some_digits(base: u64, last: u64, text: &[u8]) -> Option<(u64, &[u8])>
 fn any_number(last: u64, text: &[u8]) -> Option<(u64, &[u8])>
     ensures { option_map (λ x. (x.0, x.1.now)) result ≡ any_number (last + 1) text.now }
 {
-    if begins_base(b'X', text) {
+    if begins_base(text) {
         return some_digits(16, last, past_base(text));
     }
     some_digits(10, last, text)
@@ -104,7 +101,8 @@ fn number_or_word(last: u64, text: &[u8]) -> Option<(u64, &[u8])>
     }
 }
 
-/// Fills a buffer with the bytes of a number, or of 0 for that word where `or_word`. Returns what stands after it.
+/// Fills a buffer with the bytes of a number, or of 0 for that word where `or_word`. Returns what stands
+/// after it.
 fn number_into<'a>(or_word: bool, found: &mut [u8], text: &'a [u8]) -> Option<&'a [u8]>
     requires some { 1 ≤ length found.old }
     requires few { length found.old ≤ 8 }
@@ -179,7 +177,8 @@ fn is_number(shape: Shape) -> bool
     matches!(shape, Shape::Hexadecimal | Shape::Decimal)
 }
 
-/// Fills a buffer with the bytes of a field, or with `spare` where a number is left out. Returns what stands after it.
+/// Fills a buffer with the bytes of a field, or with `spare` where a number is left out. Returns what stands
+/// after it.
 fn value_or_spare<'a>(shape: Shape, spare: u8, found: &mut [u8], text: &'a [u8]) -> Option<&'a [u8]>
     requires { IsTrue (fits_shape shape (length found.old)) }
     ensures { option_map (λ x. (found.new, x.now)) result
@@ -192,8 +191,8 @@ fn value_or_spare<'a>(shape: Shape, spare: u8, found: &mut [u8], text: &'a [u8])
     read_field(shape, found, text)
 }
 
-/// The byte that a field is made of where it is left out (UEFI Specification 2.10, section 10.6.1): all ones for
-/// the port multiplier of SATA and for the fields of a class of USB devices, else 0.
+/// The byte that a field is made of where it is left out (UEFI Specification 2.10, section 10.6.1): all ones
+/// for the port multiplier of SATA and for the fields of a class of USB devices, else 0.
 fn left_out(kind: u8, sub_kind: u8, place: usize) -> u8
     ensures { result ≡ left_out kind sub_kind place }
 {
@@ -213,7 +212,8 @@ fn after_ending<'a>(ending: &[u8], text: &'a [u8]) -> Option<&'a [u8]>
     after_literal(ending, text)
 }
 
-/// Puts the field that a text begins with into the data of a node of a kind. Returns what stands after its ending.
+/// Puts the field that a text begins with into the data of a node of a kind. Returns what stands after its
+/// ending.
 fn set_piece<'a>(
     kind: u8,
     sub_kind: u8,

@@ -1,11 +1,10 @@
 //! Names of files as people write them: in `File(..)`, or without a backslash at their start.
 #![tactic(auto)]
 
-ghost use Rattle.std.specs.List.{list_all};
 ghost use Rattle.std.specs.Option.{option_map};
-ghost use Rattle.std.specs.Prelude.{◌≡◌, ◌==◌, not, IfOk, OnOk, codes};
+ghost use Rattle.std.specs.Prelude.{◌≡◌, IfOk, None, OnOk, Some, if◌then◌else◌};
 ghost use Rattle.uefi_device_nodes.specs.Nodes.{node_with};
-ghost use Rattle.uefi_node_reader.specs.LenientNodes.{bare_read, file_read, rooted, whole_name};
+ghost use Rattle.uefi_node_reader.specs.LenientNodes.{bare_read, begins_call, file_read, rooted, whole};
 ghost use Rattle.uefi_node_reader.specs.NamedFiles.{name_read};
 
 use crate::lenient_fields::after_literal;
@@ -26,23 +25,19 @@ fn put_rooted<A: Allocator>(whole: &mut Vec<u8, A>, name: &[u8]) -> Result<(), A
     whole.extend_from_slice(name)
 }
 
-/// Reads a whole name into a vector, as the data of a node, in place of what it held. Returns what stands after it, or
-/// `None` where it is no name.
-fn whole_name<'a, A: Allocator + Copy>(
+/// Reads a whole name into a vector, as the data of a node, in place of what it held. Returns whether it is
+/// a name.
+fn whole_name<A: Allocator + Copy>(
     alloc: A,
     content: &mut Vec<u8, A>,
     text: &[u8],
-    rest: &'a [u8],
-) -> Result<Option<&'a [u8]>, AllocError>
-    ensures { IfOk result (λ read. option_map (λ after. (node_with 4 4 content.new.items, after.now)) read
-        ≡ whole_name (name_read (rooted text.now)) rest.entry.now) }
+) -> Result<bool, AllocError>
+    ensures { IfOk result (λ read. (if read then Some (node_with 4 4 content.new.items) else None)
+        ≡ whole (name_read (rooted text.now))) }
 {
-    let mut whole = Vec::new(alloc);
-    put_rooted(&mut whole, text)?;
-    match name(content, &whole)? {
-        Some([]) => Ok(Some(rest)),
-        _ => Ok(None),
-    }
+    let mut rooted = Vec::new(alloc);
+    put_rooted(&mut rooted, text)?;
+    Ok(matches!(name(content, &rooted)?, Some([])))
 }
 
 /// Reads the name that stands in `File(..)`. Returns what stands after it.
@@ -60,14 +55,18 @@ pub(crate) fn file<'a, A: Allocator + Copy>(
     let Some((name, rest)) = cut_call(call) else {
         return Ok(None);
     };
-    whole_name(alloc, content, name, rest)
+    if whole_name(alloc, content, name)? {
+        return Ok(Some(rest));
+    }
+    Ok(None)
 }
 
-/// Whether a byte is no `(`.
-fn is_no_call(name: &[u8]) -> bool
-    ensures { result ≡ list_all (λ c. not (c == 40)) name.now }
+/// Whether a text begins with a call: a `(` stands before a slash or a comma.
+pub(crate) fn begins_call(text: &[u8]) -> bool
+    ensures { result ≡ begins_call text.now }
 {
-    name.iter().all(|byte| *byte != b'(')
+    let name = &text[..name_len(text)];
+    name.iter().any(|byte| *byte == b'(')
 }
 
 /// Reads the name that a text begins with, without its first backslash. Returns what stands after it.
@@ -80,8 +79,8 @@ pub(crate) fn bare<'a, A: Allocator + Copy>(
         ≡ bare_read text.now) }
 {
     let (front, rest) = text.split_at(name_len(text));
-    if !is_no_call(front) {
-        return Ok(None);
+    if whole_name(alloc, content, front)? {
+        return Ok(Some(rest));
     }
-    whole_name(alloc, content, front, rest)
+    Ok(None)
 }

@@ -2,16 +2,17 @@
 #![tactic(auto)]
 
 ghost use Rattle.std.specs.List.{list_all};
-ghost use Rattle.std.specs.Option.{option_map};
+ghost use Rattle.std.specs.Option.{option_map, option_or};
 ghost use Rattle.std.specs.Prelude.{◌≡◌, ◌<◌, ◌==◌, IfOk, IfSome, IsTrue, OnOk, length, map, position};
 ghost use Rattle.uefi_node_table.specs.Rows.{as_form};
 ghost use Rattle.uefi_node_table.specs.Table.{forms};
 ghost use Rattle.uefi_device_nodes.specs.Nodes.{node_with};
-ghost use Rattle.uefi_node_reader.specs.LenientNodes.{call_read, cut_call, form_set, forms_set, is_blank, is_textless, tells, tidied};
+ghost use Rattle.uefi_node_reader.specs.LenientNodes.{call_read, cut_call, form_set, forms_set, is_blank, is_textless, path_set, tells, tidied, tidied_byte};
 ghost use Rattle.uefi_node_reader.specs.TableReading.{is_filled, is_sound};
 
 use crate::fields::after;
 use crate::lenient_fields::{after_literal, set_pieces};
+use crate::plain::plain;
 use crate::table_reader::{by_table, put_blank, read_tail};
 use std::alloc::{AllocError, Allocator};
 use std::fmt;
@@ -82,14 +83,24 @@ fn is_blank(byte: u8) -> bool
     byte == b' ' || byte == b'\t'
 }
 
-/// Puts the text of a call up to its `)` into a vector, in upper case and without blanks.
+/// A byte in upper case, but an `x` as the table has it in `0x`.
+fn tidied_byte(byte: u8) -> u8
+    ensures { result ≡ tidied_byte byte }
+{
+    match byte.to_ascii_uppercase() {
+        b'X' => b'x',
+        upper => upper,
+    }
+}
+
+/// Puts the text of a call up to its `)` into a vector, in such bytes and without blanks.
 fn tidy<A: Allocator>(call: &mut Vec<u8, A>, text: &[u8]) -> Result<(), AllocError>
     ensures { OnOk result (call.new.items ≡ tidied text.now) }
 {
     call.clear();
     for byte in text {
         if !is_blank(*byte) {
-            call.push(byte.to_ascii_uppercase())?;
+            call.push(tidied_byte(*byte))?;
         }
     }
     call.push(b')')?;
@@ -124,8 +135,8 @@ fn is_textless(tail: Tail) -> bool
     }
 }
 
-/// Reads a node of a form from its tidied text, its data into a vector, in place of what it held. Returns what stands
-/// after it.
+/// Reads a node of a form from its tidied text, its data into a vector, in place of what it held. Returns
+/// what stands after it.
 fn set_row<'a, A: Allocator>(
     row: &Row,
     content: &mut Vec<u8, A>,
@@ -155,23 +166,23 @@ fn set_row<'a, A: Allocator>(
     Ok(after(row.close.as_bytes(), rest))
 }
 
-/// Reads the node of the first of these forms that a tidied text has, its data into a vector, in place of what it
-/// held. Returns its type, its sub-type and what stands after it.
-fn set_group<'a, A: Allocator + Copy>(
+/// Reads the node of the first of these forms that a tidied text has, its data into a vector, in place of
+/// what it held. Returns its type and its sub-type.
+fn set_group<A: Allocator + Copy>(
     alloc: A,
     rows: &[Row],
     content: &mut Vec<u8, A>,
-    text: &'a [u8],
-) -> Result<Option<(u8, u8, &'a [u8])>, AllocError>
+    text: &[u8],
+) -> Result<Option<(u8, u8)>, AllocError>
     requires sound { IsTrue (list_all is_sound (map as_form rows.now)) }
     requires filled { IsTrue (list_all is_filled (map as_form rows.now)) }
-    ensures { IfOk result (λ read. option_map
-        (λ x. (node_with x.0 x.1 content.new.items, x.2.now)) read ≡ forms_set (map as_form rows.now) text.now) }
+    ensures { IfOk result (λ read. option_map (λ x. node_with x.0 x.1 content.new.items) read
+        ≡ forms_set (map as_form rows.now) text.now) }
 {
     for row in rows {
         if let Some(rest) = set_row(row, content, text)? {
             if rest.is_empty() && tells(alloc, row.kind, row.sub_kind, content)? {
-                return Ok(Some((row.kind, row.sub_kind, rest)));
+                return Ok(Some((row.kind, row.sub_kind)));
             }
         }
     }
@@ -179,13 +190,13 @@ fn set_group<'a, A: Allocator + Copy>(
 }
 
 /// The same of all forms of the table.
-fn set_table<'a, A: Allocator + Copy>(
+fn set_table<A: Allocator + Copy>(
     alloc: A,
     content: &mut Vec<u8, A>,
-    text: &'a [u8],
-) -> Result<Option<(u8, u8, &'a [u8])>, AllocError>
-    ensures { IfOk result (λ read. option_map
-        (λ x. (node_with x.0 x.1 content.new.items, x.2.now)) read ≡ forms_set forms text.now) }
+    text: &[u8],
+) -> Result<Option<(u8, u8)>, AllocError>
+    ensures { IfOk result (λ read. option_map (λ x. node_with x.0 x.1 content.new.items) read
+        ≡ forms_set forms text.now) }
 {
     for index in 0..GROUPS {
         if let Some(read) = set_group(alloc, group(index), content, text)? {
@@ -195,8 +206,44 @@ fn set_table<'a, A: Allocator + Copy>(
     Ok(None)
 }
 
-/// Reads the node of a form of the table that a text begins with, its data into a vector, in place of what it held.
-/// Returns its type, its sub-type and what stands after it.
+/// The same of a node of no kind.
+fn set_path<A: Allocator + Copy>(
+    alloc: A,
+    content: &mut Vec<u8, A>,
+    text: &[u8],
+) -> Result<Option<(u8, u8)>, AllocError>
+    ensures { IfOk result (λ read. option_map (λ x. node_with x.0 x.1 content.new.items) read
+        ≡ path_set text.now) }
+{
+    let Some(rest) = after_literal(b"Path(", text) else {
+        return Ok(None);
+    };
+    let mut printed = Vec::new(alloc);
+    printed.extend_from_slice(b"Path(")?;
+    printed.extend_from_slice(rest)?;
+    match plain(content, &printed)? {
+        Some((kind, sub_kind, [])) => Ok(Some((kind, sub_kind))),
+        _ => Ok(None),
+    }
+}
+
+/// The same of either.
+fn set_call<A: Allocator + Copy>(
+    alloc: A,
+    content: &mut Vec<u8, A>,
+    text: &[u8],
+) -> Result<Option<(u8, u8)>, AllocError>
+    ensures { IfOk result (λ read. option_map (λ x. node_with x.0 x.1 content.new.items) read
+        ≡ option_or (forms_set forms text.now) (path_set text.now)) }
+{
+    if let Some(read) = set_table(alloc, content, text)? {
+        return Ok(Some(read));
+    }
+    set_path(alloc, content, text)
+}
+
+/// Reads the node whose call a text begins with, its data into a vector, in place of what it held. Returns
+/// its type, its sub-type and what stands after it.
 pub(crate) fn by_call<'a, A: Allocator + Copy>(
     alloc: A,
     content: &mut Vec<u8, A>,
@@ -210,8 +257,8 @@ pub(crate) fn by_call<'a, A: Allocator + Copy>(
     };
     let mut call = Vec::new(alloc);
     tidy(&mut call, front)?;
-    let Some((kind, sub_kind, _)) = set_table(alloc, content, &call)? else {
-        return Ok(None);
-    };
-    Ok(Some((kind, sub_kind, rest)))
+    match set_call(alloc, content, &call)? {
+        Some((kind, sub_kind)) => Ok(Some((kind, sub_kind, rest))),
+        None => Ok(None),
+    }
 }

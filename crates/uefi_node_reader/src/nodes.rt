@@ -5,10 +5,11 @@ ghost use Rattle.std.specs.Prelude.{◌≡◌, IfOk};
 ghost use Rattle.std.specs.Option.{option_map};
 ghost use Rattle.uefi_device_nodes.specs.Nodes.{node_with};
 ghost use Rattle.uefi_node_reader.specs.Laws.{NodeAgain, NodeFits, NodeStarts, NodeTakes, NodeTextOnce};
-ghost use Rattle.uefi_node_reader.specs.LenientNodes.{LenientAgain, LenientTakes, call_read, ended, file_read, lenient_read};
+ghost use Rattle.uefi_node_reader.specs.Fields.{either_read};
+ghost use Rattle.uefi_node_reader.specs.LenientNodes.{LenientAgain, LenientEnds, LenientTakes, call_read, ended, file_read, lenient_read};
 ghost use Rattle.uefi_node_reader.specs.NamedFiles.{is_after_node, node_read};
 
-use crate::lenient_names::{bare, file};
+use crate::lenient_names::{bare, begins_call, file};
 use crate::lenient_table::by_call;
 use crate::names::{ends_name, name};
 use crate::plain::plain;
@@ -61,46 +62,47 @@ fn printed<'a, A: Allocator>(
     }
 }
 
-/// The same of a name in `File(..)`.
-fn named<'a, A: Allocator + Copy>(
+/// Reads the node whose call a text begins with.
+fn call<'a, A: Allocator + Copy>(
     alloc: A,
     content: &mut Vec<u8, A>,
     text: &'a [u8],
 ) -> Result<Option<(u8, u8, &'a [u8])>, AllocError>
-    ensures { IfOk result (λ read. option_map
-        (λ x. (node_with x.0 x.1 content.new.items, x.2.now)) read ≡ ended (file_read text.now)) }
+    ensures { IfOk result (λ read. option_map (λ x. (node_with x.0 x.1 content.new.items, x.2.now)) read
+        ≡ either_read (file_read text.now) (call_read text.now)) }
 {
-    match file(alloc, content, text)? {
-        Some(rest) if is_after_node(rest) => Ok(Some((4, 4, rest))),
-        _ => Ok(None),
+    if let Some(rest) = file(alloc, content, text)? {
+        return Ok(Some((4, 4, rest)));
     }
+    by_call(alloc, content, text)
 }
 
-/// The same of a form of the table.
+/// The same, where it ends as a node may end.
 fn called<'a, A: Allocator + Copy>(
     alloc: A,
     content: &mut Vec<u8, A>,
     text: &'a [u8],
 ) -> Result<Option<(u8, u8, &'a [u8])>, AllocError>
-    ensures { IfOk result (λ read. option_map
-        (λ x. (node_with x.0 x.1 content.new.items, x.2.now)) read ≡ ended (call_read text.now)) }
+    ensures { IfOk result (λ read. option_map (λ x. (node_with x.0 x.1 content.new.items, x.2.now)) read
+        ≡ ended (either_read (file_read text.now) (call_read text.now))) }
 {
-    match by_call(alloc, content, text)? {
+    match call(alloc, content, text)? {
         Some((kind, sub_kind, rest)) if is_after_node(rest) => Ok(Some((kind, sub_kind, rest))),
         _ => Ok(None),
     }
 }
 
-/// Reads the node that a text begins with, as people write it, its data into a vector, in place of what it held.
-/// Returns its type, its sub-type and what stands after it: a slash, a comma or nothing.
+/// Reads the node that a text begins with, as people write it, its data into a vector, in place of what it
+/// held. Returns its type, its sub-type and what stands after it: nothing, or a slash or a comma first.
 ///
-/// What [`read_node`] reads there is read so. Else a call of the table is read up to its first `)`: in either case,
-/// with blanks, with numbers in hexadecimal after `0x` or else in decimal, with zeros at their start, and with the last
-/// numbers left out, for which their defaults stand. So is `File(NAME)`, and a name without its first backslash that
-/// has no `(` in it. `AllocError` where memory is refused.
+/// A node that [`read_node`] reads there is read as the same. Else a call is read, up to its first `)`, in
+/// either case and without its blanks. A number stands in hexadecimal after `0x`, else in decimal, and may
+/// begin with zeros. Numbers at the end may be left out: they are then 0, or the default of their kind (UEFI
+/// Specification 2.10, section 10.6.1). The name of a file may stand in `File(..)`, or without its first
+/// backslash where it has no `(`. Allocates for copies of the call; `AllocError` where memory is refused.
 ///
-/// Not read so: texts in calls (`Uri`, the serial number of `UsbWwid`), the words of `Uart` in lower case, further
-/// numbers of `AcpiAdr` with `0x`, blanks outside of calls.
+/// Left to [`read_node`], and so read only as printed, are calls that hold texts (`Uri`, `UsbWwid`). The
+/// numbers of `AcpiAdr` after the first are as printed but for their case.
 #[tactic(auto, unfolding(crate::specs::LenientNodes::lenient_read))]
 pub fn read_lenient_node<'a, A: Allocator + Copy>(
     alloc: A,
@@ -113,11 +115,8 @@ pub fn read_lenient_node<'a, A: Allocator + Copy>(
     if let Some(read) = printed(content, text)? {
         return Ok(Some(read));
     }
-    if let Some(read) = named(alloc, content, text)? {
-        return Ok(Some(read));
-    }
-    if let Some(read) = called(alloc, content, text)? {
-        return Ok(Some(read));
+    if begins_call(text) {
+        return called(alloc, content, text);
     }
     let Some(rest) = bare(alloc, content, text)? else {
         return Ok(None);
@@ -139,9 +138,10 @@ pub fn node_text_once()
     ensures { NodeTextOnce }
 {}
 
-/// What is read leniently is told, and a slash, a comma or the end follows it; and what is read before one of these
-/// is read leniently as the same node.
+/// What is read leniently is told, and what stands after it is the rest of the text, which is empty or begins
+/// with a slash or a comma. What is read before one of these is read leniently as the same node.
 pub fn nodes_are_read_leniently()
     ensures takes { LenientTakes }
+    ensures ends { LenientEnds }
     ensures again { LenientAgain }
 {}

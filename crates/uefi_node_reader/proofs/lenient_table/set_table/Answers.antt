@@ -11,17 +11,24 @@ use Rattle.uefi_node_reader.proofs.lenient_table.set_table.Goals as goal
 
 pub set_group-requires-clause-sound : goal.set_group-requires-clause-sound
 set_group-requires-clause-sound g c =
-    ap (λ (l : List Form). list_all is_sound l) c.group.ensures.forms ∙ group_sound c.loop-index.index c.loop-index-test.true
+    ap (λ (l : List Form). list_all is_sound l) c.group.ensures.forms
+    ∙ group_sound c.loop-index.index c.loop-index-test.true
 
 pub set_group-requires-clause-filled : goal.set_group-requires-clause-filled
 set_group-requires-clause-filled g c =
-    ap (λ (l : List Form). list_all is_filled l) c.group.ensures.forms ∙ group_filled c.loop-index.index c.loop-index-test.true
+    ap (λ (l : List Form). list_all is_filled l) c.group.ensures.forms
+    ∙ group_filled c.loop-index.index c.loop-index-test.true
 
 pub returns-in-Some : goal.returns-in-Some
-returns-in-Some g c = set_step c.loop-index.index c.loop-index-test.true (map as_form c.group.result.now) c.group.ensures.forms c.args.text.now
-    (forms_set forms c.args.text.now) c.loop-index.invariant
-    (node_with c.in-Some.read.0 c.in-Some.read.1 c.set_group.new.content.items, c.in-Some.read.2.now) (rw c.in-Some.is at c.in_ok-read.ensures)
+returns-in-Some g c =
+    set_step c.loop-index.index c.loop-index-test.true (map as_form c.group.result.now) c.group.ensures.forms
+    c.args.text.now (forms_set forms c.args.text.now) c.loop-index.invariant
+    (node_with c.in-Some.read.0 c.in-Some.read.1 c.set_group.new.content.items)
+    (rw c.in-Some.is at c.in_ok-read.ensures)
 
 pub loop-index-preserved : goal.loop-index-preserved
-loop-index-preserved g c = unset_step c.loop-index.index c.loop-index-test.true (map as_form c.group.result.now) c.group.ensures.forms c.args.text.now
+loop-index-preserved g c =
+    unset_step c.loop-index.index c.loop-index-test.true (map as_form c.group.result.now)
+    c.group.ensures.forms
+    c.args.text.now
     (forms_set forms c.args.text.now) c.loop-index.invariant (rw c.in_default.is at c.in_ok-read.ensures)
