@@ -14,3 +14,4 @@ pub mod PathReading
 pub mod TextStops
 pub mod NamesInARow
 pub mod ShownPaths
+pub mod LenientReading

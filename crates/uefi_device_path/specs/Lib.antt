@@ -31,5 +31,6 @@ pub mod OptionBuilding
 pub mod Instances
 pub mod PathTexts
 pub mod PathReading
+pub mod LenientReading
 pub mod PathUnits
 pub mod Laws

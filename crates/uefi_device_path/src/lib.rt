@@ -32,6 +32,7 @@ mod errors;
 mod file_path;
 mod instance;
 pub mod laws;
+mod lenient_reader;
 mod load_option;
 mod node_iterator;
 mod option_builder;

@@ -43,7 +43,7 @@ impl fmt::Display for PathTextError {
 impl Error for PathTextError {}
 
 /// Adds the node that ends an instance. Refused for memory alone.
-fn push_end<A: Allocator>(path: &mut DevicePathBuf<A>) -> Result<(), BuildError>
+pub(crate) fn push_end<A: Allocator>(path: &mut DevicePathBuf<A>) -> Result<(), BuildError>
     ensures ok { OnOk result (path.new ≡ path.old ++ end_instance ∷ []) }
     ensures memory { IfErr result (λ error. error ≡ BuildError.OutOfMemory) }
 {
@@ -89,7 +89,7 @@ fn push_node<'a, A: Allocator>(
 }
 
 /// What stands after a comma that a text begins with, or `None`.
-fn after_comma(text: &[u8]) -> Option<&[u8]>
+pub(crate) fn after_comma(text: &[u8]) -> Option<&[u8]>
     requires { 0 < length text.now }
     ensures { MatchOption result (is_after_instance text.now ≡ false) (λ rest. text.now ≡ 44 ∷ rest.now) }
 {
@@ -100,7 +100,7 @@ fn after_comma(text: &[u8]) -> Option<&[u8]>
 }
 
 /// Where a node has to begin: at the start of an instance here, else after the slash that stands here.
-fn node_start(at_start: bool, text: &[u8]) -> &[u8]
+pub(crate) fn node_start(at_start: bool, text: &[u8]) -> &[u8]
     requires { 0 < length text.now }
     ensures { result.now ≡ (if at_start then text.now else drop 1 text.now) }
 {

@@ -16,6 +16,8 @@ mod file_path;
 #[cfg(test)]
 mod hostile_entries;
 #[cfg(test)]
+mod lenient_reader;
+#[cfg(test)]
 mod load_option;
 #[cfg(test)]
 mod node_text;

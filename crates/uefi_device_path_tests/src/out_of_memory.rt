@@ -76,6 +76,14 @@ fn is_read(heap: &Refusing<Global>, text: &str) -> Result<bool, AllocError> {
     }
 }
 
+/// Whether a text as people write it is read as this many nodes, or memory ran out.
+fn has_nodes(heap: &Refusing<Global>, text: &str, nodes: usize) -> Result<bool, AllocError> {
+    match DevicePathBuf::from_lenient_text(heap, text) {
+        Ok(path) => Ok(path.as_device_path().node_iter().count() == nodes),
+        Err(error) => out_of_memory(error == PathTextError::OutOfMemory),
+    }
+}
+
 /// Whether an option of a description is written in memory, or memory ran out.
 fn is_made(heap: &Refusing<Global>, description: &[u16]) -> Result<bool, AllocError> {
     let Ok(path) = DevicePath::from_bytes(END) else {
@@ -228,6 +236,27 @@ fn texts_of_each_size(rt: HostRuntime) -> Result<(), Fail> {
         text.push_str(repeated(rt.alloc(), piece, *count)?.as_str())?;
         text.push_str(back)?;
         let made = requests(rt.alloc(), 0, |heap| is_read(heap, text.as_str()))?;
+        assert!(rt; 2 < made, "{piece}: {made}");
+    }
+    Ok(())
+}
+
+/// The same of texts as people write them, and how many nodes they are.
+const LENIENT_TEXTS: &[(&str, &str, u64, &str, usize)] = &[
+    ("pci(0,0)", "/pci(31,7)", 3, "", 4),
+    ("path(3,99,", "0f", 300, ")", 1),
+    ("file(", "é", 300, ")", 1),
+    ("", "中", 300, "", 1),
+    ("usb(1,0)", ",usb(1)", 2, "/a", 6),
+];
+
+#[test]
+fn lenient_texts_of_each_size(rt: HostRuntime) -> Result<(), Fail> {
+    for (front, piece, count, back, nodes) in LENIENT_TEXTS {
+        let mut text = String::from_str(rt.alloc(), front)?;
+        text.push_str(repeated(rt.alloc(), piece, *count)?.as_str())?;
+        text.push_str(back)?;
+        let made = requests(rt.alloc(), 0, |heap| has_nodes(heap, text.as_str(), *nodes))?;
         assert!(rt; 2 < made, "{piece}: {made}");
     }
     Ok(())

@@ -1,0 +1,121 @@
+//! Device paths read from texts as people write them: the bytes of each, by libefivar, on which efibootmgr
+//! stands, and by the layouts of the UEFI Specification 2.10, section 10.3.
+
+use for_tests::{bytes, split_row};
+use std::alloc::Global;
+use std::test::Fail;
+use uefi_device_path::{DevicePathBuf, PathTextError};
+
+/// Paths that libefivar makes, without the node that ends them, and the texts that it prints of them.
+const BY_LIBEFIVAR: &str = "\
+02010c00d041030a0000000001010600021f03120a000000ffff000004012a000100000000080000000000000040\
+    0600000000001032547698badcfe01020304050607080202040430005c004500460049005c0042004f004f005400\
+    5c0042004f004f0054005800360034002e004500460049000000 \
+    PciRoot(0x0)/Pci(0x1f,0x2)/Sata(0,65535,0)/HD(1,GPT,76543210-ba98-fedc-0102-030405060708,0x800,0x64000)/File(\\EFI\\BOOT\\BOOTX64.EFI)
+02010c00d041030a0000000001010600021f03120a0003000100020004012a000100000000080000000000000040\
+    0600000000001032547698badcfe01020304050607080202040446005c004500460049005c004d00690063007200\
+    6f0073006f00660074005c0042006f006f0074005c0062006f006f0074006d006700660077002e00650066006900\
+    0000 \
+    PciRoot(0x0)/Pci(0x1f,0x2)/Sata(3,1,2)/HD(1,GPT,76543210-ba98-fedc-0102-030405060708,0x800,0x64000)/File(\\EFI\\Microsoft\\Boot\\bootmgfw.efi)
+04012a0001000000000800000000000000400600000000001032547698badcfe0102030405060708020204043400\
+    5c004500460049005c00640065006200690061006e005c0067007200750062007800360034002e00650066006900\
+    0000 \
+    HD(1,GPT,76543210-ba98-fedc-0102-030405060708,0x800,0x64000)/File(\\EFI\\debian\\grubx64.efi)
+040432005c004500460049005c0042004f004f0054005c0042004f004f00540041004100360034002e0045004600\
+    49000000 \
+    File(\\EFI\\BOOT\\BOOTAA64.EFI)
+02010c00d041080a07000000 PcieRoot(0x7)
+02010c00d041010404000000 Acpi(0x040141d0,0x4)
+02010c00d0410c0c05000000 Acpi(0x0c0c41d0,0x5)
+02010c007856341206000000 Acpi(0x12345678,0x6)
+01041a0078563412bc9af0de341256789abcdef0525400abcdef \
+    VenHw(12345678-9abc-def0-3412-56789abcdef0,525400abcdef)
+030a140078563412bc9af0de341256789abcdef0 VenMsg(12345678-9abc-def0-3412-56789abcdef0)
+0403150078563412bc9af0de341256789abcdef052 VenMedia(12345678-9abc-def0-3412-56789abcdef0,52)";
+
+/// Texts that people write, and what they mean.
+const BY_PEOPLE: &str = "\
+04012a00020000003f000000000000000000000010000000103254760000000000000000000000000101 \
+    HD(2,MBR,0x76543210,0x3f,0x1000000000)
+02010c00d041030a00000000 PciRoot(0)
+02010c00d041030a00000000 acpi(pnp0a03,0)
+01010600021f pci( 31 , 2 )
+01010600021f Pci(0x01F,0x02)
+03120a000000ffff0000 Sata(0x0)
+03120a000100ffff0000 SATA(1,65535,0)
+030506000100 USB(1,0)
+030506000100 usb(0X1)
+030f0b00ffffffff08ffff UsbClass(0xFFFF,65535,8)
+030f0b00ffffffff080650 usbmassstorage(65535,0xffff,6,80)
+031d050000 EMMC(0)
+03110500ff unit(255)
+031406006400 Vlan(0x64)
+03171000010000001c03b0715b382500 nvme(1,00-25-38-5b-71-b0-03-1c)
+030b2500525400abcdef000000000000000000000000000000000000000000000000000001 MAC(525400ABCDEF,0x1)
+030b2500525400abcdef000000000000000000000000000000000000000000000000000001 mac(525400abcdef,1)
+030e13000000000000c2010000000000080101 uart(115200,8,n,1)
+030c1b000000000000000000000000000600000000000000000000 IPv4(0.0.0.0,tcp,dhcp,0.0.0.0,0.0.0.0,0.0.0.0)
+04012a00010000000000000000000000000000000000000078563412bc9af0de123456789abcdef00202 \
+    HD(1,GPT,12345678-9abc-def0-1234-56789abcdef0)
+0406140078563412bc9af0de123456789abcdef0 fvfile(12345678-9abc-def0-1234-56789abcdef0)
+0104160078563412bc9af0de123456789abcdef0aabb  VenHw(12345678-9ABC-DEF0-1234-56789ABCDEF0,aabb)
+01010500ab path(1,1,ab)
+04041a005c004500460049005c0078002e006500660069000000 EFI\\x.efi
+04041a005c004500460049005c0078002e006500660069000000 file(\\EFI\\x.efi)
+04012a0002000000000000000000000000000000000000000df0ad0b0000000000000000000000000101 \
+    hd(2,mbr,0x0badf00d)
+04040a005c0061000000 a
+02010c00d041030a0000000001010600021f7f01040004040a005c0061000000 pciroot(0)/pci(0x1f,2),file(a)";
+
+/// Whether a text is read as the path of these bytes, and what is printed of that path is read as it is.
+fn is_read(alloc: Global, text: &str, nodes: &[u8]) -> Result<bool, Fail> {
+    let path = DevicePathBuf::from_lenient_text(alloc, text)?;
+    let path = path.as_device_path();
+    let again = DevicePathBuf::from_text(alloc, path.to_string(alloc)?.as_str())?;
+    let end: &[u8] = &[0x7f, 0xff, 4, 0];
+    Ok(path.as_bytes().strip_prefix(nodes) == Some(end) && again.as_device_path() == path)
+}
+
+#[test]
+fn texts(rt: HostRuntime) -> Result<(), Fail> {
+    for table in [BY_LIBEFIVAR, BY_PEOPLE] {
+        for line in table.split('\n') {
+            let (nodes, text) = split_row(line);
+            assert!(rt;
+                is_read(rt.alloc(), text, &bytes(rt.alloc(), nodes)?)?,
+                "{line}"
+            );
+        }
+    }
+    Ok(())
+}
+
+/// Texts that no path is read of, and where the first node begins that none is.
+const REFUSED: &[(&str, usize)] = &[
+    ("PciRoot(0)/", 11),
+    ("PciRoot(0)/,", 11),
+    ("PciRoot(0)x", 0),
+    ("PciRoot(0", 0),
+    ("PciRoot(0)/Pci(0x100,0)", 11),
+    ("PciRoot(0)/Pci(1,2,3)", 11),
+    ("Pci(f,0)", 0),
+    ("Sata(0,-1,0)", 0),
+    ("HD(128,0,1032547698badcfe0102030405060708,0x0,0x0)", 0),
+    ("a/b//c", 4),
+    ("a\u{202e}", 0),
+    ("(", 0),
+    (",,(", 2),
+];
+
+#[test]
+fn refused(rt: HostRuntime) {
+    for (text, place) in REFUSED {
+        assert!(rt;
+            matches!(
+                DevicePathBuf::from_lenient_text(rt.alloc(), text),
+                Err(PathTextError::NoNode(at)) if at == *place
+            ),
+            "{text}"
+        );
+    }
+}
