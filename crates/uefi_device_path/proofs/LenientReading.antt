@@ -1,7 +1,7 @@
 -- A path is read from a text as people write it: nodes that are told, in the order of the text, and those that are
 -- printed where it is the text of such nodes.
-use Rattle.std.proofs.Common.{◌≡◌, ◌≢◌, ℕ, ◌<◌, ◌≤◌, ◌-◌, Bool, true, false, cond, eqb, List, [], ◌∷◌, ◌++◌, codes, length, drop, inl, inr, refl, ap, sym, subst, ◌∙◌, append_assoc, length-drop, slice_index, arith, true≢false}
-use Rattle.std.specs.Prelude.{All, Option, Some, None}
+use Rattle.std.proofs.Common.{◌≡◌, ℕ, ◌<◌, ◌≤◌, ◌-◌, Bool, true, false, cond, List, [], ◌∷◌, ◌++◌, codes, length, drop, inl, inr, refl, ap, sym, subst, ◌∙◌, append_assoc, length-drop, slice_index, arith, true≢false}
+use Rattle.std.specs.Prelude.{Some, None}
 use Rattle.std.proofs.lemmas.List.{append-nil, length-append}
 use Rattle.std.proofs.lemmas.List.Elements.{All-head, All-nil, All-push, All-tail}
 use Rattle.uefi_device_nodes.specs.Nodes.{Node, is_end_instance}
@@ -12,7 +12,7 @@ use Rattle.uefi_device_path.specs.PathTexts.{path_text}
 use Rattle.uefi_device_path.proofs.PathReading.{IsToldOrEnd, no_end, path_text_is, place_is, printed, rest_text, separator}
 use Rattle.uefi_node_reader.specs.Laws.{NodeAgain, NodeFits, NodeStarts}
 use Rattle.uefi_node_reader.specs.LenientNodes.{IsRestOf, LenientAgain, LenientEnds, LenientTakes, lenient_read}
-use Rattle.uefi_node_reader.specs.NamedFiles.{is_after_node, IsTold, node_read}
+use Rattle.uefi_node_reader.specs.NamedFiles.{is_after_node, IsTold}
 
 -- nodes whose text this is have those that were read before the others, and the rest is the text of the others
 abbrev pub Passes : List ℕ → List Node → Bool → List ℕ → Type 0
@@ -81,10 +81,16 @@ over_comma fits starts text nodes new at_start rest after on is more = (
           where
             one : IsToldOrEnd n → (left : List Node) × (AreTold left × ((all ≡ (nodes ++ end_instance ∷ []) ++ left) × (after ≡ rest_text true left)))
             one (inl told) = absurd (no_comma fits starts at_start n ns told after r)
-            one (inr same) = (ns, (All-tail IsToldOrEnd n ns t, (
-              a ∙ ap (λ (x : Node). nodes ++ x ∷ ns) same ∙ sym (append_assoc nodes (end_instance ∷ []) ns),
-              ap (drop 1) (r ∙ ap (λ (x : Node). rest_text at_start (x ∷ ns)) same),
-            )))
+            one (inr same) = (
+              ns,
+              (
+                All-tail IsToldOrEnd n ns t,
+                (
+                  a ∙ ap (λ (x : Node). nodes ++ x ∷ ns) same ∙ sym (append_assoc nodes (end_instance ∷ []) ns),
+                  ap (drop 1) (r ∙ ap (λ (x : Node). rest_text at_start (x ∷ ns)) same),
+                ),
+              ),
+            )
 
     going : Going text (nodes ++ end_instance ∷ []) true after
     going = record {
@@ -159,11 +165,16 @@ over_node fits again takes ends lenient text nodes new at_start rest place after
         let f = first_read fits again lenient nodes all at_start rest place other whole p.0 p.1.0 p.1.1.1 in
         let pair : (node ≡ f.0) × (after ≡ rest_text false f.1.0) = parts (node, after) (f.0, rest_text false f.1.0) (sym read ∙ f.1.1.1.1) in
         let one = pair.0 in
-        let left = pair.1 in
-        (f.1.0, (f.1.1.1.0, (
-          p.1.1.0 ∙ ap (λ (x : List Node). nodes ++ x) (f.1.1.0 ∙ ap (λ (x : Node). x ∷ f.1.0) (sym one)) ∙ sym (append_assoc nodes (node ∷ []) f.1.0),
-          left,
-        )))
+        let left = pair.1 in (
+          f.1.0,
+          (
+            f.1.1.1.0,
+            (
+              p.1.1.0 ∙ ap (λ (x : List Node). nodes ++ x) (f.1.1.0 ∙ ap (λ (x : Node). x ∷ f.1.0) (sym one)) ∙ sym (append_assoc nodes (node ∷ []) f.1.0),
+              left,
+            ),
+          ),
+        )
 
     going : Going text (nodes ++ node ∷ []) false after
     going = record {

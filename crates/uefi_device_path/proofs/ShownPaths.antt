@@ -1,5 +1,5 @@
 -- No text of a path holds a character that texts escape.
-use Rattle.std.proofs.Common.{◌≡◌, ℕ, Bool, true, false, cond, List, [], ◌∷◌, ◌++◌, codes, refl}
+use Rattle.std.proofs.Common.{ℕ, Bool, true, false, cond, List, [], ◌∷◌, ◌++◌, codes, refl}
 use Rattle.std.specs.Prelude.{All}
 use Rattle.std.specs.List.{flat_map, join_by, onto_first, slice_split}
 use Rattle.std.proofs.lemmas.List.Elements.{All-cons, All-head, All-nil, All-tail}
@@ -33,7 +33,7 @@ module _ (joined : JoinedShown) (ascii : AsciiShown) (nodes_shown : NodesShown) 
     others_shown [] all = ascii [] refl
     others_shown (x ∷ xs) all =
         joined (between ++ text x) (flat_map (λ y. between ++ text y) xs)
-            (joined between (text x) clean (each x (All-head P x xs all))) (others_shown xs (All-tail P x xs all))
+        (joined between (text x) clean (each x (All-head P x xs all))) (others_shown xs (All-tail P x xs all))
 
     join_shown : (xs : List X) → All P xs → IsShown (join_by text between xs)
     join_shown [] all = ascii [] refl
@@ -52,4 +52,4 @@ module _ (joined : JoinedShown) (ascii : AsciiShown) (nodes_shown : NodesShown) 
   unfolding path_text
   paths_shown display_only shortcuts nodes all =
       join_shown (All HasBytes) (instance_text display_only shortcuts) (instances_shown display_only shortcuts) (codes ",") (ascii (codes ",") refl)
-          (instances nodes) (parts_all HasBytes is_end_instance nodes all)
+      (instances nodes) (parts_all HasBytes is_end_instance nodes all)

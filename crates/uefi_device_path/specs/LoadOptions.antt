@@ -96,7 +96,7 @@ abbrev pub GivesOption : {O : Type 0} → (O → Entry) → List ℕ → Result 
 GivesOption entry_of bytes result =
     IfOk result (λ option. IsEntry (entry_of option) × (bytes ≡ entry_bytes (entry_of option)))
     × IfOk result (λ option.
-        (entry : Entry) → IsEntry entry → bytes ≡ entry_bytes entry → entry ≡ entry_of option)
+    (entry : Entry) → IsEntry entry → bytes ≡ entry_bytes entry → entry ≡ entry_of option)
     × (IsOk result ↔ ((entry : Entry) × IsEntry entry × (bytes ≡ entry_bytes entry)))
     × IfErr result (λ error. EntryRefusedFor bytes error)
     × IfErr result (λ error. (other : LoadOptionError) → EntryRefusedFor bytes other → other ≡ error)

@@ -5,8 +5,8 @@ ghost use Rattle.uefi_device_path.specs.Laws.{AcceptedWithMore, BuiltIsRead, Byt
 
 pub use uefi_built_messages::laws as built_messages;
 pub use uefi_built_nodes::laws as built_nodes;
-pub use uefi_device_nodes::layouts;
 use uefi_device_nodes::laws::nodes_are_shown;
+pub use uefi_device_nodes::layouts;
 use uefi_field_texts::laws::fields_are_shown;
 use uefi_node_reader::nodes::{node_text_once, nodes_are_read};
 use uefi_path::laws::join_components;

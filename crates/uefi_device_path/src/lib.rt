@@ -59,6 +59,6 @@ pub use uefi_device_nodes::node::{DevicePathNode, DeviceSubType, DeviceType};
 pub use uefi_device_nodes::node_enum::DevicePathNodeEnum;
 pub use uefi_device_nodes::node_text::NodeText;
 pub use uefi_device_nodes::typed_node::TypedNode;
-pub use uefi_field_texts::texts::is_escaped;
 pub use uefi_device_nodes::{acpi, bios_boot_spec, hardware, media, messaging};
 pub use uefi_field_texts::forms::{AllowShortcuts, DisplayOnly};
+pub use uefi_field_texts::texts::is_escaped;

@@ -1,4 +1,4 @@
-use Rattle.std.proofs.Common.{◌≡◌, true, List, refl, sym, subst, arith}
+use Rattle.std.proofs.Common.{true, List, sym, subst, arith}
 use Rattle.std.proofs.lemmas.Bool.Decides.{nat_tests}
 use Rattle.uefi_device_nodes.specs.Nodes.{Node}
 use Rattle.uefi_device_path.proofs.LenientReading.{Going, going_first, never_printed, over_comma, over_node, place_within, read_all, reads_all, stopped}
@@ -28,10 +28,14 @@ overflow_sub-result g c =
     c.nodes.invariant.1 c.node_start-place.ensures
 
 pub returns-in_default-read-clause-refusal : goal.returns-in_default-read-clause-refusal
-returns-in_default-read-clause-refusal g c = (c.nodes.path, c.nodes.at_start, c.node_start-place.result.now,
-    stopped c.args.text.now c.nodes.path c.nodes.at_start c.nodes.rest.now c.node_start-place.result.now
-    c.nodes.invariant.0 c.in-None.ensures c.node_start-place.ensures
-    (rw c.in_default-read.is at c.in-Ok-push_node.ensures.ok))
+returns-in_default-read-clause-refusal g c = (
+  c.nodes.path,
+  c.nodes.at_start,
+  c.node_start-place.result.now,
+  stopped c.args.text.now c.nodes.path c.nodes.at_start c.nodes.rest.now c.node_start-place.result.now
+      c.nodes.invariant.0 c.in-None.ensures c.node_start-place.ensures
+      (rw c.in_default-read.is at c.in-Ok-push_node.ensures.ok),
+)
 
 pub returns-in_default-read-clause-printed : goal.returns-in_default-read-clause-printed
 returns-in_default-read-clause-printed g c = λ nodes told is.
@@ -63,8 +67,10 @@ pub returns-clause-told : goal.returns-clause-told
 returns-clause-told g c = c.nodes.invariant.0.told
 
 pub returns-clause-ok : goal.returns-clause-ok
-returns-clause-ok g c = (c.nodes.at_start,
-    reads_all c.args.text.now c.nodes.path c.nodes.at_start c.nodes.rest.now c.nodes.invariant.0 (grind (arith, nat_tests)))
+returns-clause-ok g c = (
+  c.nodes.at_start,
+  reads_all c.args.text.now c.nodes.path c.nodes.at_start c.nodes.rest.now c.nodes.invariant.0 (grind (arith, nat_tests)),
+)
 
 pub returns-clause-printed : goal.returns-clause-printed
 returns-clause-printed g c = λ nodes told is. (
