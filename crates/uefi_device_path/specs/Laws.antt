@@ -111,10 +111,12 @@ NamesInARow = (nodes : List Node)
 
 -- no text of nodes holds a character that texts escape
 abbrev pub PathsShown : Type 0
-PathsShown = (display_only shortcuts : Bool) (nodes : List Node) → All (λ node. All IsByte node.content) nodes
+PathsShown = (display_only shortcuts : Bool) (nodes : List Node)
+    → All (λ node. All IsByte node.content) nodes
     → IsShown (path_text display_only shortcuts nodes)
 
 -- nor does one of an instance
 abbrev pub InstancesShown : Type 0
-InstancesShown = (display_only shortcuts : Bool) (nodes : List Node) → All (λ node. All IsByte node.content) nodes
+InstancesShown = (display_only shortcuts : Bool) (nodes : List Node)
+    → All (λ node. All IsByte node.content) nodes
     → IsShown (instance_text display_only shortcuts nodes)

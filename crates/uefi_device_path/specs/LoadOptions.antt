@@ -19,8 +19,8 @@ pub record Entry : Type 0 where
   pub paths : List (List Node)
   pub optional : List ℕ
 
--- what the parts of a load option say: its attributes, the units of its description and their NUL, the bytes of its
--- device paths, and the bytes after them
+-- what the parts of a load option say: its attributes, the units of its description and their NUL, the
+-- bytes of its device paths, and the bytes after them
 abbrev pub entry_with : ℕ → List ℕ → List ℕ → List ℕ → Entry
 entry_with attributes units list optional = record {
   attributes = attributes;

@@ -70,8 +70,8 @@ pub fn file_paths()
     join_components();
 }
 
-/// No text of a device path or of an instance holds a control character, nor one that turns the direction of a text or
-/// ends its line: none that [`is_escaped`](crate::is_escaped).
+/// No text of a device path or of an instance holds a control character, nor one that turns the direction
+/// of a text or ends its line: none that [`is_escaped`](crate::is_escaped).
 pub fn nothing_is_hidden()
     ensures paths { PathsShown }
     ensures instances { InstancesShown }

@@ -86,13 +86,14 @@ fn read_path<A: Allocator + Copy>(alloc: A, text: &[u8]) -> Result<DevicePathBuf
 impl<A: Allocator + Copy> DevicePathBuf<A> {
     ghost use Rattle.uefi_device_path.specs.declared.path_reader.PathTextError.TheVariants.{OutOfMemory};
 
-    /// The path that a text means as people write it, and as `efibootmgr -v` and EDK II's shell print it: with
-    /// names and digits in either case, numbers in decimal or after `0x`, zeros before them, blanks in a call,
-    /// numbers left out at its end, `File(..)`, and a file's name without its first backslash. Where
-    /// [`DevicePathBuf::from_text`] reads a text, it is read as the same path. The text of the path that was
-    /// read is one that `from_text` reads as that path.
+    /// Reads a path from a text as people write it, and as `efibootmgr -v` and EDK II's shell print it:
+    /// names and digits in either case, numbers in decimal or after `0x`, zeros before them, blanks in a
+    /// call, numbers left out at its end, `File(..)`, and a file's name without its first backslash.
     ///
-    /// Refused as `OutOfMemory`, and as `NoNode` at the byte where the first node begins that can't be read.
+    /// A text that [`DevicePathBuf::from_text`] reads is read as the same path. The path that is read prints
+    /// as a text that `from_text` reads as that path. Allocates for the path, and for copies of calls and
+    /// names. Refused as `OutOfMemory`, and as `NoNode` at the byte where the first node begins that can't
+    /// be read.
     pub fn from_lenient_text(alloc: A, text: &str) -> Result<Self, PathTextError>
         ensures told { IfOk result (λ path. AreTold path) }
         ensures ok { IfOk result (λ path. IsReadAs text.now path) }

@@ -26,7 +26,8 @@ pub struct LoadOption<'a> {
     optional: &'a [u8],
     pub ghost ends: { IsNulTerminated (items_of description) },
     pub ghost is_path_list: { IsPathList list.now },
-    pub ghost whole: { bytes.now ≡ entry_bytes (entry_with attributes (items_of description) list.now optional.now) },
+    pub ghost whole: { bytes.now
+        ≡ entry_bytes (entry_with attributes (items_of description) list.now optional.now) },
 }
 
 impl<'a> LoadOption<'a> {

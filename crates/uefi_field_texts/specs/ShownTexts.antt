@@ -33,12 +33,13 @@ NumbersShown = (n : ℕ) → IsShown (hex n) × IsShown (decimal n)
 
 -- of bytes
 abbrev pub BytesShown : Type 0
-BytesShown = (bytes : List ℕ) → IsShown (hex_bytes bytes) × IsShown (hex_back bytes) × IsShown (dashed_back bytes)
-    × IsShown (comma_bytes bytes) × IsShown (shown_bytes bytes)
+BytesShown = (bytes : List ℕ) → IsShown (hex_bytes bytes) × IsShown (hex_back bytes)
+    × IsShown (dashed_back bytes) × IsShown (comma_bytes bytes) × IsShown (shown_bytes bytes)
 
 -- of numbers that have names
 abbrev pub NamesShown : Type 0
-NamesShown = (n other : ℕ) → IsShown (eisa_text n) × IsShown (boot_type_text n) × IsShown (vendor_name n other)
+NamesShown = (n other : ℕ)
+    → IsShown (eisa_text n) × IsShown (boot_type_text n) × IsShown (vendor_name n other)
 
 -- and of code units
 abbrev pub UnitsShown : Type 0

@@ -76,7 +76,9 @@ reads_append : (all : List Form) (place : ℕ) (xs bs : List Form) (text : List 
 reads_append all place [] bs text = ap (λ (n : ℕ). forms_read all n bs text) {x = place} {y = place + 0} (omega arith)
 reads_append all place (a ∷ xs) bs text =
     ap (λ (o : Option (Node × List ℕ)). either_read (kept all place a (form_read a text)) o)
-    (reads_append all (place + 1) xs bs text ∙ ap (λ (n : ℕ). either_read (forms_read all (place + 1) xs text) (forms_read all n bs text)) {x = place + 1 + length xs} {y = place + suc (length xs)} (omega arith))
+    (reads_append all (place + 1) xs bs text
+    ∙ ap (λ (n : ℕ). either_read (forms_read all (place + 1) xs text) (forms_read all n bs text))
+    {x = place + 1 + length xs} {y = place + suc (length xs)} (omega arith))
     ∙ either_assoc (kept all place a (form_read a text)) (forms_read all (place + 1) xs text) (forms_read all (place + suc (length xs)) bs text)
 
 module _ (index : ℕ) (more : index < 11) (group : List Form) (is : group ≡ group_forms index) where

@@ -82,7 +82,8 @@ regular node told =
     record {
       no_end = not_true _ low.0;
       regular = λ i. no_file (eqb node.device_type 4) (eqb node.sub_type 4) (eqb (length node.content % 2) 0) low.1 i
-          || (no_kind (eqb node.device_type 2) (eqb node.sub_type 2) (leb 15 (length node.content)) high.0 i || (no_kind (eqb node.device_type 5) (eqb node.sub_type 1) (leb 5 (length node.content)) high.1 i || false));
+          || (no_kind (eqb node.device_type 2) (eqb node.sub_type 2) (leb 15 (length node.content)) high.0 i
+          || (no_kind (eqb node.device_type 5) (eqb node.sub_type 1) (leb 5 (length node.content)) high.1 i || false));
     }
 
 -- such a node is printed by the table
@@ -116,7 +117,8 @@ pub node_again : (node : Node) → IsTold node → (rest : List ℕ) → is_afte
 unfolding node_read
 node_again node (inl form) rest ends =
     let text : List ℕ = node_text false false node ++ rest in
-    ap (λ r. either_read r (either_read (plain_read text) (name_read text))) (ap (λ (x : List ℕ). table_read forms (x ++ rest)) (tabled_text node form) ∙ table_again forms table_sound table_differs node form rest)
+    ap (λ r. either_read r (either_read (plain_read text) (name_read text)))
+    (ap (λ (x : List ℕ). table_read forms (x ++ rest)) (tabled_text node form) ∙ table_again forms table_sound table_differs node form rest)
 node_again node (inr (inl plain)) rest ends =
     let text : List ℕ = node_text false false node ++ rest in
     let none : table_read forms text ≡ None = ap (λ (x : List ℕ). table_read forms (x ++ rest)) (plain_text node (plain_parts node plain.plain)) ∙ no_form_plain node rest in

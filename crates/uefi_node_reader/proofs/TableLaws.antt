@@ -87,7 +87,8 @@ form_again form r s content l all whole rest =
     let long : length (blank form) ≤ length content = omega (arith, is.size) in
     reads form (form_text form content ++ rest) r
     ∙ ap (λ (x : List ℕ). body form x) (text_parts form content rest is.tail_ends)
-    ∙ after_some _ (λ (t : List ℕ). pieces_put form.pieces (blank form) t >>= rest_read form) (pieces_text form.pieces content ++ tail) (after_again form.start (pieces_text form.pieces content ++ tail))
+    ∙ after_some _ (λ (t : List ℕ). pieces_put form.pieces (blank form) t >>= rest_read form)
+    (pieces_text form.pieces content ++ tail) (after_again form.start (pieces_text form.pieces content ++ tail))
     ∙ after_some _ (rest_read form) (head, tail) (pieces_again (length (blank form)) form.pieces (blank form) content tail is.within (is_open form.tail) is.ends
     (tail_starts form.tail form.close extra rest is.tail_ends) long all)
     ∙ ap (λ (o : Option (List ℕ × List ℕ)). o >>= added head >>= closed form.close)

@@ -115,7 +115,8 @@ is_clear stop byte = (nat_le 0x20 byte && nat_lt byte 0x7f) && not (byte == stop
 -- all such bytes that a text begins with, and what stands after them
 abbrev pub clear_run : ℕ → List ℕ → List ℕ × List ℕ
 clear_run stop [] = ([], [])
-clear_run stop (c ∷ cs) = if is_clear stop c then (c ∷ (clear_run stop cs).0, (clear_run stop cs).1) else ([], c ∷ cs)
+clear_run stop (c ∷ cs) = if is_clear stop c
+    then (c ∷ (clear_run stop cs).0, (clear_run stop cs).1) else ([], c ∷ cs)
 
 -- a node that was read, and what stands after it, if it is printed so
 abbrev pub read_if : Bool → Node → List ℕ → Option (Node × List ℕ)

@@ -14,7 +14,8 @@ is_formed node = is_irregular false node || has_form false node.device_type node
 
 -- the test for a node that is not, may stand in a path and ends no instance
 abbrev pub is_plain : Node → Bool
-is_plain node = not (node.device_type == 0x7f) && (not (is_formed node) && nat_le (length node.content) 0xfffb)
+is_plain node = not (node.device_type == 0x7f)
+    && (not (is_formed node) && nat_le (length node.content) 0xfffb)
 
 -- a node that is printed with all its data, whatever they are
 pub record IsPlain (node : Node) : Type 0 where

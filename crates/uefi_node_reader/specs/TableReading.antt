@@ -31,7 +31,8 @@ blank form = put_all form.also (put_all form.when (replicate form.least 0))
 
 -- the data with a field in place of its bytes
 abbrev pub put_at : Piece → List ℕ → List ℕ → List ℕ
-put_at piece value content = take piece.place content ++ (value ++ drop piece.width (drop piece.place content))
+put_at piece value content =
+    take piece.place content ++ (value ++ drop piece.width (drop piece.place content))
 
 -- the data with the field that a text begins with, and what stands after its ending
 abbrev pub piece_put : Piece → List ℕ → List ℕ → Option (List ℕ × List ℕ)
@@ -41,10 +42,12 @@ piece_put piece content text = field_read piece.shape piece.width text >>= λ va
 -- the same of fields
 abbrev pub pieces_put : List Piece → List ℕ → List ℕ → Option (List ℕ × List ℕ)
 pieces_put [] content text = Some (content, text)
-pieces_put (piece ∷ pieces) content text = piece_put piece content text >>= λ read. pieces_put pieces read.0 read.1
+pieces_put (piece ∷ pieces) content text =
+    piece_put piece content text >>= λ read. pieces_put pieces read.0 read.1
 
 -- the items that a text goes on with, by what stands after the start of the first, if it begins with one
-abbrev pub more_items : (List ℕ → Option (List ℕ × List ℕ)) → Item → List ℕ → Option (List ℕ) → Option (List ℕ × List ℕ)
+abbrev pub more_items : (List ℕ → Option (List ℕ × List ℕ)) → Item → List ℕ → Option (List ℕ)
+    → Option (List ℕ × List ℕ)
 more_items others item text None = Some ([], text)
 more_items others item text (Some fields) = pieces_put item.pieces (replicate item.size 0) fields >>= λ first.
     others first.1 >>= λ read. Some (first.0 ++ read.0, read.1)
@@ -108,7 +111,8 @@ form_place test (form ∷ forms) = if test form then 0 else form_place test form
 abbrev pub prints : Node → Form → Bool
 prints node = matches false node.device_type node.sub_type node.content
 
--- the test for a node that was read in the form at a place: it is printed in that form, and may stand in a path
+-- the test for a node that was read in the form at a place: it is printed in that form, and may stand in
+-- a path
 abbrev pub is_kept : List Form → ℕ → Node → Bool
 is_kept all place node = (form_place (prints node) all == place) && nat_le (length node.content) 0xfffb
 
@@ -131,7 +135,8 @@ table_read forms text = forms_read forms 0 forms text
 -- data with the fields of others, as they are read
 abbrev pub overlay : List Piece → List ℕ → List ℕ → List ℕ
 overlay [] data_ content = content
-overlay (piece ∷ pieces) data_ content = overlay pieces data_ (put_at piece (field_kept piece.shape (value_at piece data_)) content)
+overlay (piece ∷ pieces) data_ content =
+    overlay pieces data_ (put_at piece (field_kept piece.shape (value_at piece data_)) content)
 
 -- bytes that an item of a list holds all of: its fields, and 0 for each other byte
 abbrev pub IsItem : Item → List ℕ → Type 0
@@ -171,7 +176,8 @@ pub record IsTabled (forms : List Form) (node : Node) : Type 0 where
 
 -- the test for fields that lie apart
 abbrev pub is_apart : Piece → Piece → Bool
-is_apart one other = nat_le (one.place + one.width) other.place || nat_le (other.place + other.width) one.place
+is_apart one other =
+    nat_le (one.place + one.width) other.place || nat_le (other.place + other.width) one.place
 
 abbrev pub are_apart : List Piece → Bool
 are_apart [] = true
@@ -215,7 +221,9 @@ is_empty (x ∷ xs) = false
 abbrev pub ends_pieces : Bool → List Piece → Bool
 ends_pieces free [] = true
 ends_pieces free (piece ∷ pieces) =
-    (ends_field piece.shape piece.ending || (free && (is_empty pieces && (is_empty piece.ending && not (goes_on piece.shape []))))) && ends_pieces free pieces
+    (ends_field piece.shape piece.ending || (free
+    && (is_empty pieces && (is_empty piece.ending && not (goes_on piece.shape [])))))
+    && ends_pieces free pieces
 
 -- the test for a text that begins with no digit, and is not empty
 abbrev pub begins_apart : List ℕ → Bool
@@ -231,7 +239,8 @@ is_open Utf16 = false
 is_open Name = false
 is_open (Repeated items) = true
 
--- the test for a tail that the end of a text ends: bytes go on with no digit, and a text with no byte but that one
+-- the test for a tail that the end of a text ends: bytes go on with no digit, and a text with no byte but
+-- that one
 abbrev pub ends_tail : Tail → List ℕ → Bool
 ends_tail Nothing close = true
 ends_tail (Repeated items) close = clash (item_of items).start close && begins_apart close
@@ -249,9 +258,10 @@ are_within size bytes = list_all (λ b. nat_lt b.0 size) bytes
 
 -- the test for a form that is read back what it prints
 abbrev pub is_sound : Form → Bool
-is_sound form = not (is_read form.mode) || ((list_all (is_within (length (blank form))) form.pieces && are_apart form.pieces)
-    && (ends_pieces (is_open form.tail) form.pieces
-    && (ends_tail form.tail form.close && (list_all (λ b. nat_lt b 256) (blank form) && (length (blank form) == form.least)))))
+is_sound form = not (is_read form.mode)
+    || ((list_all (is_within (length (blank form))) form.pieces && are_apart form.pieces)
+    && (ends_pieces (is_open form.tail) form.pieces && (ends_tail form.tail form.close
+    && (list_all (λ b. nat_lt b 256) (blank form) && (length (blank form) == form.least)))))
 
 -- the test for items of a list that are read back what they print
 abbrev pub is_sound_item : Item → Bool
@@ -299,10 +309,11 @@ ends_apart (c ∷ cs) (d ∷ ds) = not (c == d) && (not (nat_lt (digit_of c) 16)
 
 -- the test for a field that is not read where another stands: after digits another byte follows
 abbrev pub are_parted : Piece → Piece → Bool
-are_parted p q = (is_digits p.shape && is_digits q.shape) && (fits_shape p.shape p.width && ends_apart p.ending q.ending)
+are_parted p q = (is_digits p.shape && is_digits q.shape)
+    && (fits_shape p.shape p.width && ends_apart p.ending q.ending)
 
--- the test for fields of which the first are not read where the second stand: a field parts them, or they are alike up to two
--- endings that differ
+-- the test for fields of which the first are not read where the second stand: a field parts them, or they
+-- are alike up to two endings that differ
 abbrev pub pieces_differ : List Piece → List Piece → Bool
 pieces_differ [] others = false
 pieces_differ (p ∷ ps) [] = false

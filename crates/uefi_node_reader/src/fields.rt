@@ -101,7 +101,8 @@ fn number_into<'a>(base: u64, found: &mut [u8], text: &'a [u8]) -> Option<&'a [u
     Some(rest)
 }
 
-/// The number up to `last` that a text begins with in decimal, or 0 for the word `DEFAULT`, and what stands after it.
+/// The number up to `last` that a text begins with in decimal, or 0 for the word `DEFAULT`, and what
+/// stands after it.
 fn number_or_default(last: u64, text: &[u8]) -> Option<(u64, &[u8])>
     ensures { option_map (λ x. (x.0, x.1.now)) result ≡ default_read (last + 1) text.now }
 {

@@ -16,7 +16,7 @@ abbrev pub IsRenamed : List ℕ → List ℕ → List ℕ → Type 0
 IsRenamed old new name =
     ((last_or None (components_of old) ≡ None) × (new ≡ old ++ with_separators name))
     ⊎ ((front : List ℕ) × (component : List ℕ)
-        × EndsInName old front component × (new ≡ front ++ with_separators name))
+    × EndsInName old front component × (new ≡ front ++ with_separators name))
 
 -- from this place on a text is its last component, or nothing, where it has none
 abbrev pub StartsName : List ℕ → ℕ → Option (List ℕ) → Type 0

@@ -29,7 +29,7 @@ fn last_dot(name: &[u16]) -> Option<usize>
 fn extension_dot(name: Char16Slice<'_>) -> Option<usize>
     ensures cut { MatchOption result (HasNoExtension (units_of name.entry)) (λ dot.
         IsNamed (units_of name.entry) (take dot (units_of name.entry))
-            (drop (dot + 1) (units_of name.entry))) }
+        (drop (dot + 1) (units_of name.entry))) }
     ensures within { IfSome result (λ dot. dot < length (units_of name.entry)) }
 {
     match kind_of(name) {

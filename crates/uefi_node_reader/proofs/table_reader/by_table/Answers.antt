@@ -19,7 +19,8 @@ read_group-requires-clause-filled g c =
 
 pub returns-in-Some : goal.returns-in-Some
 returns-in-Some g c = read_step c.loop-index.index c.loop-index-test.true (map as_form c.group-rows.result.now) c.group-rows.ensures.forms c.loop-index.before c.args.text.now
-    (node_with c.in-Some.read.0 c.in-Some.read.1 c.read_group.new.content.items, c.in-Some.read.2.now) (table_read forms c.args.text.now) (rw c.in-Some.is at c.in_ok-read.ensures) c.loop-index.invariant.0
+    (node_with c.in-Some.read.0 c.in-Some.read.1 c.read_group.new.content.items, c.in-Some.read.2.now)
+    (table_read forms c.args.text.now) (rw c.in-Some.is at c.in_ok-read.ensures) c.loop-index.invariant.0
 
 pub loop-index-preserved : goal.loop-index-preserved
 loop-index-preserved g c =
