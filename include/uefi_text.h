@@ -285,7 +285,7 @@ struct uefi_device_node {
 
 /*
  * Whether the bytes begin with a device path: UEFI_OK, and `*place` becomes how many bytes it has, its end node among them;
- * or what is wrong with the first node that is none, UEFI_NO_END_NODE, UEFI_TRUNCATED_HEADER, UEFI_UNKNOWN_END,
+ * or what is wrong with the first malformed node, UEFI_NO_END_NODE, UEFI_TRUNCATED_HEADER, UEFI_UNKNOWN_END,
  * UEFI_LENGTH_BELOW_HEADER, UEFI_END_WITH_DATA or UEFI_NODE_BEYOND_END, the first of these that holds, and `*place` becomes
  * the offset of the bytes that are at fault: the node, its sub-type or its length. What follows the path is not read.
  */
@@ -343,8 +343,8 @@ struct uefi_load_option {
  * Whether the bytes are a load option: UEFI_OK, `*option` becomes what it says, and `*place` becomes `byte_count`; or the
  * first of these that holds, `*place` becomes the offset of what is at fault, and `*option` stays unchanged:
  * UEFI_OPTION_TOO_SHORT, and the offset is `byte_count`; UEFI_DESCRIPTION_WITHOUT_END, and it is the end of the last whole
- * unit; UEFI_LIST_BEYOND_END, and it is 4; UEFI_EMPTY_LIST, and it is where the list begins; or the fault of the first node
- * of the list that is none, as uefi_device_path_check says of each device path in it, and the offset counts from the first
+ * unit; UEFI_LIST_BEYOND_END, and it is 4; UEFI_EMPTY_LIST, and it is where the list begins; or the fault of the first
+ * malformed node of the list, as uefi_device_path_check says of each device path in it, and the offset counts from the first
  * byte of the load option. The description may hold surrogates.
  */
 uefi_result UEFI_CALL uefi_load_option_read(const uefi_byte *bytes, uefi_size byte_count,

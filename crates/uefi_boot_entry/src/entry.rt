@@ -132,7 +132,7 @@ fn write_node<W: Write, A: Allocator>(
     }
 }
 
-/// Writes the files that nodes name, from an offset on, up to the first node that is none, or that
+/// Writes the files that nodes name, from an offset on, up to the first malformed node, or one that
 /// names no file and should. False in the second case.
 fn write_files<W: Write, A: Allocator + Copy>(
     out: &mut W,
@@ -151,7 +151,7 @@ fn write_files<W: Write, A: Allocator + Copy>(
     Ok(true)
 }
 
-/// Writes each device path of a list as people read it, up to the first bytes that are none.
+/// Writes each device path of a list as people read it, up to the first malformed one.
 fn write_device_paths<W: Write>(out: &mut W, list: &[u8]) -> fmt::Result {
     let mut rest = list;
     'paths: while let Ok((path, after)) = DevicePath::split_first(rest) {

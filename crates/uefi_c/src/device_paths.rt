@@ -24,7 +24,7 @@ use uefi_device_path::{
 /// Whether bytes begin with a device path: `OK`, or why not.
 ///
 /// `place` becomes how many bytes the path has, its end node among them; or the offset of the bytes that
-/// are at fault in the first node that is none, as [`DevicePath::from_bytes`] has it. What follows the path
+/// are at fault in the first malformed node, as [`DevicePath::from_bytes`] has it. What follows the path
 /// is not read. One pass; takes no memory (UEFI Specification 2.10, section 10.3.1).
 #[unsafe(no_mangle)]
 pub extern "C" fn uefi_device_path_check(bytes: &[u8], place: &mut usize) -> u32

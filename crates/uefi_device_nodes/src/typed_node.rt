@@ -11,7 +11,7 @@ use crate::node::DevicePathNode;
 use uefi_text::Packed;
 
 /// The data of a node of a kind, with a call for each field: a node of this type and this sub-type, which has
-/// at least so many bytes of data. A contract sees it as `data_of` it.
+/// at least this many bytes of data. A contract sees it as `data_of` it.
 #[derive(Clone, Copy)]
 pub struct TypedNode<'a, const DEVICE_TYPE: u8, const SUB_TYPE: u8, const LEAST: usize> {
     data: &'a [u8],

@@ -15,7 +15,7 @@ pub record IsWritten (path : List ℕ) (written : Written) (old buffer : List �
   pub front : length path ≤ length old → take (length path) buffer ≡ path
   pub back : length path ≤ length old → drop (length path) buffer ≡ drop (length path) old
 
--- nodes have no file path that is written into `room` places, for this error: a name that is none comes first
+-- nodes have no file path that is written into `room` places, for this error: a malformed name comes first
 abbrev pub WriteRefusedFor : List Node → ℕ → FilePathWriteError → Type 0
 WriteRefusedFor nodes room (Name error) = FileRefusedFor nodes error
 WriteRefusedFor nodes room (BufferTooSmall needed) =

@@ -7,7 +7,7 @@ use uefi_text::FromSliceWithNulError;
 /// Why bytes do not begin with a device path.
 #[derive(Clone, Copy, Debug, PartialEq, Eq)]
 pub struct DevicePathError {
-    /// What is wrong with the first node that is none.
+    /// What is wrong with the first malformed node.
     pub cause: NodeError,
 
     /// Where the bytes that are wrong begin, counted from the first byte: the node, its sub-type or

@@ -66,7 +66,7 @@ fn texts_of_each_kind(rt: HostRuntime) -> Result<(), Fail> {
     Ok(())
 }
 
-/// Texts that are none, and where the first node begins that is none.
+/// Texts of no path, and where the first node begins that can't be read.
 const REFUSED: &[(&str, usize)] = &[
     ("PciRoot(0x0)/", 13),
     ("PciRoot(0x0)/,", 13),

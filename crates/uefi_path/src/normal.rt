@@ -107,7 +107,7 @@ impl<'a> Path<'a> {
     /// [`validate_path`](crate::validation::validate_path) reports; `OutOfMemory` comes last. The
     /// passes that judge the path see whether all components are names: then the text is copied,
     /// and else two more passes make the path. Takes memory as [`PathBuf::from`] does: once for the
-    /// text, and once for the places of its separators, where it has any.
+    /// text, and once for the places of its separators, if it has any.
     pub fn normalize<A: Allocator + Copy>(&self, alloc: A) -> Result<PathBuf<A>, NormalizeError>
         ensures valid { IfOk result (λ path. verdict (path_text self.now) ≡ None) }
         ensures ok { IfOk result (λ path.

@@ -70,7 +70,7 @@ fn zeros<A: Allocator>(alloc: A, len: usize) -> Result<Vec<u16, A>, AllocError>
 }
 
 /// The parent of a path of these components, each slash replaced. Takes memory once for the text,
-/// and once for the places of its separators, where it has any.
+/// and once for the places of its separators, if it has any.
 fn parent_of<A: Allocator + Copy>(
     alloc: A,
     components: Components<'_>,
@@ -199,7 +199,7 @@ impl<'a> Path<'a> {
     /// are left out; where the last of them is empty and another is not, a separator ends the
     /// parent. So the parent of `a\\b` is `a\`. A parent is shorter than the path, so climbing from
     /// parent to parent ends. Linear in the text; takes memory once for the text, and once for the
-    /// places of its separators, where it has any.
+    /// places of its separators, if it has any.
     pub fn parent<A: Allocator + Copy>(&self, alloc: A) -> Result<Option<PathBuf<A>>, AllocError>
         ensures ok { IfOk result (λ parent. parent ≡ parent_text (path_text self.now)) }
         ensures none { parent_text (path_text self.now) ≡ None → IsOk result }
@@ -250,7 +250,7 @@ impl<A: Allocator + Copy> PathBuf<A> {
     }
 
     /// Copies a string into a path, each slash replaced; or returns `AllocError`. Takes memory once
-    /// for the text, and once for the places of its separators, where it has any.
+    /// for the text, and once for the places of its separators, if it has any.
     pub fn from(alloc: A, string: CStr16<'_>) -> Result<Self, AllocError>
         ensures { IfOk result (λ path. path ≡ with_separators (text_of string.entry)) }
     {

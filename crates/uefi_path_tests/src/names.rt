@@ -55,7 +55,7 @@ const PREFIXES: &[(&str, &str, Option<usize>, bool)] = &[
     (r"\etc\resolv.conf", "conf", None, false),
 ];
 
-/// Whether a path starts with another without case, with so many components left, and ends with it or not.
+/// Whether a path starts with another without case, with this many components left, and ends with it or not.
 fn starts_and_ends(path: Path<'_>, other: Path<'_>, left: Option<usize>, ends: bool) -> bool {
     let is_left = match path.strip_prefix_ignore_case(other) {
         Some(rest) => left == Some(rest.count()),

@@ -181,7 +181,7 @@ fn count_of(rt: &HostRuntime, call: Call, setup: u64, texts: [&str; 3]) -> Resul
 type Counted = (Call, u64, [&'static str; 3], u64, u64);
 
 /// A path takes over the memory of its string, and gives it back. Beside its text it asks for the places of
-/// its separators, where it has any.
+/// its separators, if it has any.
 const ROWS: &[Counted] = &[
     (Call::New, 0, ["", "", ""], 1, 1),
     (Call::NewFromCString16, 1, ["@", "", "@"], 0, 0),

@@ -4,7 +4,7 @@ use for_tests::prints;
 use std::test::Fail;
 use uefi_text::chars::{Char8, Char16, CharConversionError, NUL_8, NUL_16};
 
-/// Characters, and their numbers as a byte and as a code unit, where they have one.
+/// Characters, and their numbers as a byte and as a code unit, if they have one.
 const CHARACTERS: &[(char, Option<u8>, Option<u16>)] = &[
     ('A', Some(65), Some(65)),
     ('\0', Some(0), Some(0)),
