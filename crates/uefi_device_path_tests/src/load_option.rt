@@ -86,7 +86,7 @@ const TWO_PATHS: &[u8] = &[
     9, 0, 0, 0, 8, 0, 0, 0xd8, 0, 0, 0x7f, 0xff, 4, 0, 0x7f, 0xff, 4, 0, 0x7f, 0xff,
 ];
 
-/// A description as a string; and one with a lone surrogate, which is no string and makes no option unreadable.
+/// A description as a string; and one with a lone surrogate, which is no string. The option is read.
 #[test]
 fn descriptions(rt: HostRuntime) -> Result<(), Fail> {
     let shell = bytes(rt.alloc(), entries::BOOT000A)?;
