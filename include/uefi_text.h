@@ -129,6 +129,23 @@ uefi_bool UEFI_CALL uefi_string_equal(const uefi_unit *first, uefi_size first_co
 uefi_order UEFI_CALL uefi_string_order(const uefi_unit *first, uefi_size first_count,
                                        const uefi_unit *second, uefi_size second_count);
 
+/*
+ * The same without case, as the firmware's Unicode collation has it (UEFI Specification 2.10, section 21.1): `a` to `z`, and
+ * U+00E0 to U+00FE but U+00F7, are the capitals before them. The order is that of the texts in capitals.
+ */
+uefi_bool UEFI_CALL uefi_string_equal_ignore_case(const uefi_unit *first, uefi_size first_count,
+                                                  const uefi_unit *second, uefi_size second_count);
+uefi_order UEFI_CALL uefi_string_order_ignore_case(const uefi_unit *first, uefi_size first_count,
+                                                   const uefi_unit *second, uefi_size second_count);
+
+/*
+ * Whether both begin with a string, and the pattern matches the whole text of `units`, without case, as the collation's
+ * MetaiMatch has it: `*` is any units, `?` is one, `[a-z]` is one of a set. Takes no longer than twice the product of both
+ * lengths, whatever the pattern.
+ */
+uefi_bool UEFI_CALL uefi_string_matches(const uefi_unit *units, uefi_size count,
+                                        const uefi_unit *pattern, uefi_size pattern_count);
+
 /* Whether the units begin with a string whose text is ASCII. */
 uefi_bool UEFI_CALL uefi_string_is_ascii(const uefi_unit *units, uefi_size count);
 
@@ -204,6 +221,17 @@ uefi_bool UEFI_CALL uefi_path_equal(const uefi_unit *first, uefi_size first_coun
 /* As uefi_string_order, of the texts without one separator at their start. */
 uefi_order UEFI_CALL uefi_path_order(const uefi_unit *first, uefi_size first_count,
                                      const uefi_unit *second, uefi_size second_count);
+
+/* Whether both begin with a string, and are equal as paths, without case. */
+uefi_bool UEFI_CALL uefi_path_equal_ignore_case(const uefi_unit *first, uefi_size first_count,
+                                                const uefi_unit *second, uefi_size second_count);
+
+/*
+ * Whether both begin with a string, and each component of the pattern matches the component of the path at the same place, as
+ * uefi_string_matches has it, and both have as many. So neither `*` nor `?` is a separator.
+ */
+uefi_bool UEFI_CALL uefi_path_matches(const uefi_unit *path, uefi_size count,
+                                      const uefi_unit *pattern, uefi_size pattern_count);
 
 /*
  * The next component of a path, from `*place` in its text on; set `*place` to 0 first. `length` units are the text

@@ -12,3 +12,4 @@ pub mod paths;
 pub mod reasons;
 pub mod strings;
 pub mod texts;
+pub mod without_case;

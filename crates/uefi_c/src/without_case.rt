@@ -1,0 +1,96 @@
+//! Strings and paths in units that C holds, compared without case and matched against patterns, as the
+//! firmware's Unicode collation does (UEFI Specification 2.10, section 21.1).
+ghost use Rattle.std.specs.Prelude.{◌≡◌, ◌↔◌, pos, IsTrue};
+ghost use Rattle.uefi_text.specs.Case.{caseless_order, uppers};
+ghost use Rattle.uefi_text.specs.Patterns.{Matches};
+ghost use Rattle.uefi_text.specs.Units.{BeginsWithString};
+ghost use Rattle.uefi_path.specs.Separators.{canonical};
+ghost use Rattle.uefi_path.specs.WithoutCase.{MatchesPath};
+ghost use Rattle.uefi_c.specs.Reasons.{order_number};
+ghost use Rattle.uefi_c.specs.Strings.{text_in};
+
+use crate::reasons::{NO_ORDER, order_number};
+use uefi_path::Path;
+use uefi_text::CStr16;
+
+/// Whether both begin with a string, and have the same text without case. One pass over each; takes no
+/// memory.
+#[unsafe(no_mangle)]
+pub extern "C" fn uefi_string_equal_ignore_case(first: &[u16], second: &[u16]) -> bool
+    ensures { IsTrue result ↔ (BeginsWithString first.now × BeginsWithString second.now
+        × (uppers (text_in first.now) ≡ uppers (text_in second.now))) }
+{
+    let Ok(first) = CStr16::from_u16_until_nul(first) else {
+        return false;
+    };
+    let Ok(second) = CStr16::from_u16_until_nul(second) else {
+        return false;
+    };
+    first.eq_ignore_case(second)
+}
+
+/// The order of two strings without case, which is that of their units in upper case: -1, 0 or 1 where the
+/// first is less, equal or greater, and `NO_ORDER` where one of them does not begin with a string. One pass
+/// over each; takes no memory.
+#[unsafe(no_mangle)]
+pub extern "C" fn uefi_string_order_ignore_case(first: &[u16], second: &[u16]) -> i32
+    ensures order { BeginsWithString first.now → BeginsWithString second.now
+        → result ≡ order_number (caseless_order (text_in first.now) (text_in second.now)) }
+    ensures none { (result ≡ pos 2) ↔ ¬ (BeginsWithString first.now × BeginsWithString second.now) }
+{
+    let Ok(first) = CStr16::from_u16_until_nul(first) else {
+        return NO_ORDER;
+    };
+    let Ok(second) = CStr16::from_u16_until_nul(second) else {
+        return NO_ORDER;
+    };
+    order_number(first.cmp_ignore_case(second))
+}
+
+/// Whether both begin with a string, and the pattern matches the whole text of the other, without case. It
+/// takes no longer than twice the product of both lengths, and no memory.
+#[unsafe(no_mangle)]
+pub extern "C" fn uefi_string_matches(units: &[u16], pattern: &[u16]) -> bool
+    ensures { IsTrue result ↔ (BeginsWithString units.now × BeginsWithString pattern.now
+        × Matches (text_in pattern.now) (text_in units.now)) }
+{
+    let Ok(string) = CStr16::from_u16_until_nul(units) else {
+        return false;
+    };
+    let Ok(pattern) = CStr16::from_u16_until_nul(pattern) else {
+        return false;
+    };
+    string.matches(pattern)
+}
+
+/// Whether both begin with a string, and the paths of these are equal without case: one leading separator
+/// says nothing. One pass over each; takes no memory.
+#[unsafe(no_mangle)]
+pub extern "C" fn uefi_path_equal_ignore_case(first: &[u16], second: &[u16]) -> bool
+    ensures { IsTrue result ↔ (BeginsWithString first.now × BeginsWithString second.now
+        × (uppers (canonical (text_in first.now)) ≡ uppers (canonical (text_in second.now)))) }
+{
+    let Ok(first) = CStr16::from_u16_until_nul(first) else {
+        return false;
+    };
+    let Ok(second) = CStr16::from_u16_until_nul(second) else {
+        return false;
+    };
+    Path::new(first).eq_ignore_case(Path::new(second))
+}
+
+/// Whether both begin with a string, and each component of the pattern matches the component of the path at
+/// the same place, of which both have as many. Takes no memory.
+#[unsafe(no_mangle)]
+pub extern "C" fn uefi_path_matches(path: &[u16], pattern: &[u16]) -> bool
+    ensures { IsTrue result ↔ (BeginsWithString path.now × BeginsWithString pattern.now
+        × MatchesPath (text_in pattern.now) (text_in path.now)) }
+{
+    let Ok(path) = CStr16::from_u16_until_nul(path) else {
+        return false;
+    };
+    let Ok(pattern) = CStr16::from_u16_until_nul(pattern) else {
+        return false;
+    };
+    Path::new(path).matches(Path::new(pattern))
+}
