@@ -3,7 +3,9 @@
 
 use for_tests::{bytes, shows, split_row};
 use std::test::Fail;
-use uefi_device_path::{AllowShortcuts, DevicePath, DisplayOnly, TextWriteError};
+use uefi_device_path::{
+    AllowShortcuts, DevicePath, DevicePathInstance, DisplayOnly, TextWriteError,
+};
 
 /// Paths in the form that can be read back.
 const PATHS: &str = "\
@@ -92,17 +94,30 @@ fn paths(rt: HostRuntime) -> Result<(), Fail> {
     Ok(())
 }
 
+/// Whether an instance prints a text, and fills a buffer of just the room with it, and one place less.
+fn instance_prints(rt: &HostRuntime, instance: DevicePathInstance<'_>, want: &str) -> bool {
+    let (display_only, shortcuts) = (DisplayOnly(true), AllowShortcuts(true));
+    let len = want.len();
+    let mut room = [9; 64];
+    let is_refused = instance.write_text(&mut room[..len], display_only, shortcuts)
+        == Err(TextWriteError::BufferTooSmall(len.saturating_add(1)));
+    let is_cut = room[..len].iter().copied().eq(want.encode_utf16()) && room[len] == 9;
+    match instance.text_in_buf(&mut room[..=len], display_only, shortcuts) {
+        Ok(units) if is_refused && is_cut && are_text(units, want) => shows(
+            rt.alloc(),
+            &instance.display(display_only, shortcuts),
+            want,
+        ),
+        _ => false,
+    }
+}
+
 /// Whether the instances of a path have these texts.
 fn instances_print(rt: &HostRuntime, path: DevicePath<'_>, want: [&str; 2]) -> bool {
     let mut instances = path.instance_iter();
     for want in want {
         match instances.next() {
-            Some(it)
-                if shows(
-                    rt.alloc(),
-                    &it.display(DisplayOnly(true), AllowShortcuts(true)),
-                    want,
-                ) => {}
+            Some(it) if instance_prints(rt, it, want) => {}
             _ => return false,
         }
     }
