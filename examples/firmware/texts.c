@@ -97,14 +97,17 @@ static void put_counts(const char *what)
 static void compare_handles(void)
 {
     static EFI_GUID device_path = {0x09576e91, 0x6d3f, 0x11d2, {0x8e, 0x39, 0x00, 0xa0, 0xc9, 0x69, 0x72, 0x3b}};
+    static EFI_GUID utilities = EFI_DEVICE_PATH_UTILITIES_PROTOCOL_GUID;
+    EFI_DEVICE_PATH_UTILITIES_PROTOCOL *sizes = NULL;
     EFI_HANDLE *handles = NULL;
     UINTN count = 0;
     void *found = NULL;
     size_t size = 0;
-    services->LocateHandleBuffer(ByProtocol, &device_path, NULL, &count, &handles);
+    if (services->LocateProtocol(&utilities, NULL, (void **)&sizes) == EFI_SUCCESS)
+        services->LocateHandleBuffer(ByProtocol, &device_path, NULL, &count, &handles);
     for (UINTN i = 0; i < count; i++)
         if (services->HandleProtocol(handles[i], &device_path, &found) == EFI_SUCCESS &&
-            uefi_device_path_check(found, MOST_BYTES, &size) == UEFI_OK)
+            uefi_device_path_check(found, sizes->GetDevicePathSize(found), &size) == UEFI_OK)
             compare_forms(found, size, i);
     put_counts("handles");
 }
