@@ -31,6 +31,7 @@ mod device_path;
 mod errors;
 mod file_path;
 mod instance;
+mod instance_text;
 pub mod laws;
 mod lenient_reader;
 mod load_option;

@@ -1,17 +1,13 @@
 //! Device paths as people read them.
-#![tactic(auto, using(uefi_field_texts::proofs::Puts::puts), unfolding(crate::specs::PathTexts::instance_text, crate::specs::Views::printed_path, crate::specs::Views::nodes_of, crate::specs::Views::instance_nodes))]
+#![tactic(auto, using(uefi_field_texts::proofs::Puts::puts), unfolding(crate::specs::PathTexts::instance_text, crate::specs::Views::printed_path, crate::specs::Views::nodes_of))]
 
 ghost use Rattle.std.specs.Fmt.{WritesInCalls};
-ghost use Rattle.std.specs.Prelude.{◌≡◌, ◌≢◌, ◌+◌, ◌<◌, ◌≤◌, ◌∷◌, ◌++◌, IfErr, IfOk, OnErr, OnOk, drop, length, take};
+ghost use Rattle.std.specs.Prelude.{◌≡◌, ◌≢◌, ◌<◌, ◌∷◌, length};
 ghost use Rattle.uefi_device_nodes.specs.NodeViews.{node_of};
 ghost use Rattle.uefi_device_path.specs.Paths.{AreNodes, nodes_in};
 ghost use Rattle.uefi_device_path.specs.PathTexts.{instance_text, path_text};
-ghost use Rattle.uefi_device_path.specs.PathUnits.{TextRefusedFor, utf16_units};
-ghost use Rattle.uefi_text.specs.Units.{nul_terminated};
 
-use crate::errors::TextWriteError;
-use crate::instance::{DevicePathInstance, cut_instance};
-use crate::unit_sink::write_units;
+use crate::instance::cut_instance;
 use std::fmt;
 use uefi_device_nodes::{AllowShortcuts, DevicePathNode, DisplayOnly};
 use uefi_field_texts::sink::{Printed, TextSink, print};
@@ -100,81 +96,6 @@ impl<'a> PathText<'a> {
             display_only,
             allow_shortcuts,
         }
-    }
-}
-
-impl<'a> DevicePathInstance<'a> {
-    ghost use Rattle.uefi_device_path.specs.Views.{instance_nodes, printed_path};
-
-    /// What is printed of the instance, for a `{}` of a format (UEFI Specification 2.10, section 10.6.1):
-    /// the texts of its nodes, which [`DevicePathNode::display`] gives, with a slash between each two. Takes
-    /// no memory.
-    pub fn display(
-        &self,
-        display_only: DisplayOnly,
-        allow_shortcuts: AllowShortcuts,
-    ) -> PathText<'a>
-        ensures { printed_path result
-            ≡ path_text display_only.0 allow_shortcuts.0 (instance_nodes self.now) }
-    {
-        PathText::of(self.bytes, display_only, allow_shortcuts)
-    }
-
-    /// Writes this text to the start of a buffer as UTF-16, with a NUL after it, and returns how many units
-    /// these are, as [`DevicePath::write_text`](crate::DevicePath) does.
-    pub fn write_text(
-        &self,
-        buffer: &mut [u16],
-        display_only: DisplayOnly,
-        allow_shortcuts: AllowShortcuts,
-    ) -> Result<usize, TextWriteError>
-        ensures len { IfOk result (λ len. len ≡ length (utf16_units
-            (path_text display_only.0 allow_shortcuts.0 (instance_nodes self.now))) + 1) }
-        ensures room { IfOk result (λ len. len ≤ length buffer.old) }
-        ensures ok { OnOk result (buffer.new ≡ nul_terminated (utf16_units
-            (path_text display_only.0 allow_shortcuts.0 (instance_nodes self.now)))
-            ++ drop (length (utf16_units
-            (path_text display_only.0 allow_shortcuts.0 (instance_nodes self.now))) + 1) buffer.old) }
-        ensures small { OnErr result (buffer.new ≡ take (length buffer.old) (utf16_units
-            (path_text display_only.0 allow_shortcuts.0 (instance_nodes self.now)))) }
-        ensures refusal { IfErr result (λ error. TextRefusedFor
-            (utf16_units (path_text display_only.0 allow_shortcuts.0 (instance_nodes self.now)))
-            (length buffer.old) error) }
-    {
-        write_units(buffer, self.display(display_only, allow_shortcuts))
-    }
-
-    /// The same text, written to the start of a buffer and borrowed from there with its NUL.
-    pub fn text_in_buf<'b>(
-        &self,
-        buf: &'b mut [u16],
-        display_only: DisplayOnly,
-        allow_shortcuts: AllowShortcuts,
-    ) -> Result<&'b [u16], TextWriteError>
-        ensures ok { IfOk result (λ units. units.now ≡ nul_terminated
-            (utf16_units (path_text display_only.0 allow_shortcuts.0 (instance_nodes self.now)))) }
-        ensures room { OnOk result (length (utf16_units
-            (path_text display_only.0 allow_shortcuts.0 (instance_nodes self.now))) < length buf.old) }
-        ensures refusal { IfErr result (λ error. TextRefusedFor
-            (utf16_units (path_text display_only.0 allow_shortcuts.0 (instance_nodes self.now)))
-            (length buf.old) error) }
-    {
-        match self.write_text(buf, display_only, allow_shortcuts) {
-            Ok(len) => Ok(&buf[..len]),
-            Err(error) => Err(error),
-        }
-    }
-}
-
-/// Prints the text that may be read back, without shorter names.
-impl<'a> fmt::Display for DevicePathInstance<'a> {
-    ghost use Rattle.std.specs.Prelude.{Some, false};
-    ghost use Rattle.uefi_device_path.specs.Views.{instance_nodes};
-
-    ghost output = { λ instance. Some (path_text false false (instance_nodes instance)) };
-
-    fn fmt<W: fmt::Write>(&self, f: &mut fmt::Formatter<W>) -> fmt::Result {
-        print(f, &self.display(DisplayOnly(false), AllowShortcuts(false)))
     }
 }
 
