@@ -86,9 +86,9 @@ fn read_path<A: Allocator + Copy>(alloc: A, text: &[u8]) -> Result<DevicePathBuf
 impl<A: Allocator + Copy> DevicePathBuf<A> {
     ghost use Rattle.uefi_device_path.specs.declared.path_reader.PathTextError.TheVariants.{OutOfMemory};
 
-    /// Reads a path from a text as people write it, and as `efibootmgr -v` and EDK II's shell print it:
-    /// names and digits in either case, numbers in decimal or after `0x`, zeros before them, blanks in a
-    /// call, numbers left out at its end, `File(..)`, and a file's name without its first backslash.
+    /// Reads a path from a text as people write it, and as `efibootmgr -v` prints it: names and digits in
+    /// either case, numbers in decimal or after `0x`, zeros before them, blanks in a call, numbers left
+    /// out at its end, `File(..)`, and a file's name without its first backslash.
     ///
     /// A text that [`DevicePathBuf::from_text`] reads is read as the same path. The path that is read prints
     /// as a text that `from_text` reads as that path. Allocates for the path, and for copies of calls and
