@@ -97,12 +97,15 @@ fn paths(rt: HostRuntime) -> Result<(), Fail> {
 /// Whether an instance prints a text, and fills a buffer of just the room with it, and one place less.
 fn instance_prints(rt: &HostRuntime, instance: DevicePathInstance<'_>, want: &str) -> bool {
     let (display_only, shortcuts) = (DisplayOnly(true), AllowShortcuts(true));
-    let len = want.len();
     let mut room = [9; 64];
+    let len = want.encode_utf16().count();
+    if 64 <= len {
+        return false;
+    }
     let is_refused = instance.write_text(&mut room[..len], display_only, shortcuts)
-        == Err(TextWriteError::BufferTooSmall(len.saturating_add(1)));
+        == Err(TextWriteError::BufferTooSmall(len + 1));
     let is_cut = room[..len].iter().copied().eq(want.encode_utf16()) && room[len] == 9;
-    match instance.text_in_buf(&mut room[..=len], display_only, shortcuts) {
+    match instance.text_in_buf(&mut room[..len + 1], display_only, shortcuts) {
         Ok(units) if is_refused && is_cut && are_text(units, want) => shows(
             rt.alloc(),
             &instance.display(display_only, shortcuts),
