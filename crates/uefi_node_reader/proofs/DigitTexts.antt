@@ -91,7 +91,7 @@ no_digit : (b : Bool) → not b ≡ true → b ≡ true → (Z : Type 0) → Z
 no_digit true e f Z = cc
 no_digit false e f Z = cc
 
--- after digits alone the first byte that is none is the same
+-- after digits alone the first byte that is not a digit is the same
 parts : (c d : ℕ) (xs ys r s : List ℕ) → are_digits xs ≡ true → are_digits ys ≡ true → not (is_digit c) ≡ true → not (is_digit d) ≡ true
     → xs ++ c ∷ r ≡ ys ++ d ∷ s → c ≡ d
 parts c d [] [] r s e f g h is = cc

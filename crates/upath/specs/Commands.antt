@@ -4,7 +4,7 @@ use Rattle.std.specs.Str.{bytes_eq, is_utf8}
 use Rattle.upath.specs.declared.commands.Command.{Command}
 use Rattle.upath.specs.declared.commands.Command.TheVariants.{From, Push, Join, Clear, Parent, Pieces, Up, Eq, Cmp, Check, Norm, Unknown, NotUtf8}
 
--- a command, with the bytes of its text where it has one
+-- a command, with the bytes of its text if there is one
 pub data LineCommand : Type 0 where
   from_text : List ℕ → LineCommand
   push_text : List ℕ → LineCommand
