@@ -1,0 +1,4 @@
+pub mod FatNames
+pub mod Trims
+pub mod DottedNames
+pub mod KeptUnits
