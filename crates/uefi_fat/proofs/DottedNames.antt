@@ -1,9 +1,9 @@
 -- A short name is cut at its dot, which is the first.
-use Rattle.std.proofs.Common.{◌≡◌, ◌≢◌, ◌+◌, ◌-◌, ◌<◌, ◌≤◌, ◌↔◌, IsTrue, length-drop, ◌==◌, ℕ, suc, Bool, true, false, cond, not, List, [], ◌∷◌, ◌++◌, Option, None, Some, take, drop, length, get_or, slice_range, inl, inr, arith, ap, sym, refl, subst, ◌∙◌, length-append, add-one}
+use Rattle.std.proofs.Common.{◌≡◌, ◌+◌, ◌-◌, ◌<◌, ◌≤◌, ◌↔◌, IsTrue, length-drop, ℕ, suc, Bool, true, false, not, List, [], ◌∷◌, ◌++◌, None, Some, take, drop, length, get_or, slice_range, inl, inr, arith, ap, sym, refl, subst, ◌∙◌, length-append, add-one}
 use Rattle.std.specs.List.{AllPass, list_all, position, position_or_len}
 use Rattle.std.specs.Prelude.{nat_lt}
 use Rattle.std.proofs.Math.Seq.{drop-cons, take-append_seam, drop-append-add}
-use Rattle.std.proofs.lemmas.Bool.{cond-false, cond-true, eqb-true, false_from_ne_true, true≢false, false≢true}
+use Rattle.std.proofs.lemmas.Bool.{cond-true, eqb-true, false_from_ne_true, true≢false}
 use Rattle.std.proofs.lemmas.Bool.Decides.{nat_tests}
 use Rattle.std.proofs.lemmas.List.{take-append-drop, take_all}
 use Rattle.std.proofs.lemmas.List.Sums.{AllPass-from_list_all, list_all-from_AllPass}

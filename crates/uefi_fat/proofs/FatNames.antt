@@ -1,5 +1,5 @@
 -- A name is one of a file exactly where it is not refused.
-use Rattle.std.proofs.Common.{◌≡◌, ◌≢◌, ◌≤◌, ◌↔◌, ℕ, inl, inr, Bool, true, false, if◌then◌else◌, List, [], ◌∷◌, All, None, Some, Option, Result, Ok, Err, IsOk, arith, length, ap, sym, refl, subst, ◌∙◌}
+use Rattle.std.proofs.Common.{◌≡◌, ◌≢◌, ◌≤◌, ◌↔◌, ℕ, inl, inr, Bool, false, if◌then◌else◌, List, [], ◌∷◌, All, None, Some, Option, Result, Ok, Err, IsOk, arith, length, ap, sym, refl, subst, ◌∙◌}
 use Rattle.std.specs.Prelude.{nat_lt}
 use Rattle.std.specs.List.{find}
 use Rattle.std.specs.Option.{option_map}
@@ -12,7 +12,7 @@ use Rattle.uefi_text.specs.Case.{upper, uppers}
 use Rattle.uefi_fat.specs.LongNames.{IsFatName, is_illegal, name_refusal, trimmed_refusal}
 use Rattle.uefi_fat.specs.Trimming.{trimmed}
 use Rattle.uefi_fat.specs.declared.names.FatNameError.{FatNameError}
-use Rattle.uefi_fat.specs.declared.names.FatNameError.TheVariants.{Empty, IllegalChar, TooLong}
+use Rattle.uefi_fat.specs.declared.names.FatNameError.TheVariants.{IllegalChar, TooLong}
 
 -- nothing is found exactly where all fail
 All-found_none : (p : ℕ → Bool) (us : List ℕ) → find p us ≡ None → All (λ u. p u ≡ false) us

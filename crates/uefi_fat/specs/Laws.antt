@@ -1,5 +1,5 @@
 -- The laws of names on FAT volumes, over the definitions that contracts of working calls cite.
-use Rattle.std.specs.Prelude.{◌≡◌, ◌↔◌, ℕ, Bool, IsTrue, All, List, [], ◌++◌, nat_eq}
+use Rattle.std.specs.Prelude.{◌≡◌, ◌↔◌, ℕ, Bool, IsTrue, List, ◌++◌, nat_eq}
 use Rattle.std.specs.List.{AllPass}
 use Rattle.std.specs.Cmp.{IsEquivalence}
 use Rattle.std.specs.Cmp.Lexicographic.{pointwise}

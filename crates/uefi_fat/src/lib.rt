@@ -26,6 +26,8 @@ pub mod laws;
 mod names;
 mod oem;
 mod short_names;
+#[cfg(test)]
+mod tests;
 
 pub use names::{FatNameError, check_fat_name, is_fat_name, same_fat_file, trimmed};
 pub use oem::{FatBytes, fat_to_str, str_to_fat};

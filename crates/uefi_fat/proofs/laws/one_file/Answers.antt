@@ -1,8 +1,5 @@
 use Rattle.std.proofs.Common.{ap}
-use Rattle.std.proofs.lemmas.Cmp.{nat_list_eq_equiv, on_equiv}
-use Rattle.std.specs.Cmp.Lexicographic.{bytes_decides}
 use Rattle.uefi_text.specs.Case.{uppers}
-use Rattle.uefi_fat.specs.Trimming.{trimmed}
 use Rattle.uefi_fat.proofs.FatNames.{fat_of_one_file}
 use Rattle.uefi_fat.proofs.Trims.{same_without_case, trimmed_once}
 use Rattle.uefi_fat.proofs.laws.one_file.Goals as goal

@@ -1,4 +1,4 @@
-use Rattle.std.proofs.Common.{◌≡◌, ◌∙◌, ◌+◌, ◌<◌, ◌≤◌, ◌∷◌, [], length, min, arith, ap, not, ◌||◌, sym, drop, add-one, length-set}
+use Rattle.std.proofs.Common.{◌≡◌, ◌∙◌, ◌<◌, ◌≤◌, ◌∷◌, length, min, arith, ap, not, ◌||◌, sym, drop, add-one, length-set}
 use Rattle.uefi_text.specs.Views.{units_left, units_of}
 use Rattle.uefi_fat.specs.Oem.{is_unfit, kept_units}
 use Rattle.uefi_fat.proofs.KeptUnits.{next_kept, next_unit, none_left, others_more, replaced_all, replaced_more, whole_buffer, written_more}
