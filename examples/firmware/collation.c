@@ -160,13 +160,23 @@ static void compare_pairs(void)
     put_counts("pairs", &counts);
 }
 
-/* Whether no `]` is after the last `[` of a pattern. */
-static bool has_open_set(const uint16_t *pattern)
+/*
+ * What the firmware makes of a pattern in which no `]` is after a `[`: it takes any unit there, and then what is after the
+ * pattern's NUL as more of it, which here is another NUL. False where the pattern has no such `[`.
+ */
+static bool close_set(uint16_t *pattern)
 {
-    bool is_open = false;
+    uint16_t *open = NULL;
     for (; *pattern != 0; pattern++)
-        is_open = *pattern == '[' || (is_open && *pattern != ']');
-    return is_open;
+        if (*pattern == ']')
+            open = NULL;
+        else if (*pattern == '[' && open == NULL)
+            open = pattern;
+    if (open == NULL)
+        return false;
+    open[0] = '?';
+    open[1] = 0;
+    return true;
 }
 
 /* Patterns of few letters, many of them malformed. What is after the NUL of a pattern are NULs. */
@@ -190,9 +200,12 @@ static void compare_patterns(void)
         make_signed(pattern_signed, pattern);
         bool ours = uefi_string_matches(text, MOST + 1, pattern, 3 * MOST);
         bool ours_signed = uefi_string_matches(text_signed, MOST + 1, pattern_signed, 3 * MOST);
-        bool theirs = firmware->MetaiMatch(firmware, text, pattern) != FALSE;
+        bool theirs = firmware->MetaiMatch(firmware, text, pattern) != FALSE, is_open = false;
         matched += theirs;
-        count(&counts, theirs, ours, ours_signed, has_open_set(pattern), text, pattern);
+        if (close_set(pattern_signed) && close_set(pattern))
+            is_open = theirs && (uefi_string_matches(text, MOST + 1, pattern, 3 * MOST) ||
+                                 uefi_string_matches(text_signed, MOST + 1, pattern_signed, 3 * MOST));
+        count(&counts, theirs, ours, ours_signed, is_open, text, pattern);
     }
     put_counts("patterns", &counts);
     put_count("patterns that match: ", matched, "\n");

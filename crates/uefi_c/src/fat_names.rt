@@ -1,5 +1,5 @@
-//! Names on FAT volumes in units that C holds: which are names of files, which are of one file, and the characters of short
-//! names (UEFI Specification 2.10, sections 13.3 and 21.1).
+//! Names on FAT volumes in units that C holds: which are names of files, which are of one file, and
+//! the characters of short names (UEFI Specification 2.10, sections 13.3 and 21.1).
 ghost use Rattle.std.specs.Prelude.{◌≡◌, ◌↔◌, if◌then◌else◌, length, min, take, IsTrue};
 ghost use Rattle.std.specs.List.{list_any};
 ghost use Rattle.uefi_text.specs.Case.{uppers};
@@ -39,12 +39,13 @@ fn judge_name(name: Char16Slice<'_>, character: &mut u16) -> u32
     }
 }
 
-/// Whether the units begin with a string that a file on a FAT volume can have as its name: `OK`, or why not.
+/// Whether the units begin with a string that a file on a FAT volume can have as its name: `OK`, or
+/// why not.
 ///
-/// Units that begin with no string are refused as by `uefi_string_until_nul`, and then the name as by
-/// `check_fat_name`. `place` becomes what `uefi_string_until_nul` says, which is the length of the text where only
-/// the name is refused. `character` becomes the character of `ILLEGAL_CHAR`, and 0 else. Two passes; takes no
-/// memory.
+/// Units that begin with no string are refused as by `uefi_string_until_nul`, and then the name as
+/// by `check_fat_name`. `place` becomes what `uefi_string_until_nul` says, which is the length of
+/// the text where only the name is refused. `character` becomes the character of `ILLEGAL_CHAR`,
+/// and 0 else. Two passes; takes no memory.
 #[unsafe(no_mangle)]
 pub extern "C" fn uefi_fat_name_check(units: &[u16], place: &mut usize, character: &mut u16) -> u32
     ensures no_string { ¬ BeginsWithString units.now
@@ -70,8 +71,8 @@ pub extern "C" fn uefi_fat_name_check(units: &[u16], place: &mut usize, characte
     }
 }
 
-/// Whether both begin with a string, and these are names of one file on a FAT volume, as `same_fat_file` says. One pass over
-/// each; takes no memory.
+/// Whether both begin with a string, and these are names of one file on a FAT volume, as
+/// `same_fat_file` says. One pass over each; takes no memory.
 #[unsafe(no_mangle)]
 pub extern "C" fn uefi_fat_name_equal(first: &[u16], second: &[u16]) -> bool
     ensures { IsTrue result ↔ (BeginsWithString first.now × BeginsWithString second.now
@@ -86,7 +87,8 @@ pub extern "C" fn uefi_fat_name_equal(first: &[u16], second: &[u16]) -> bool
     same_fat_file(first.as_slice(), second.as_slice())
 }
 
-/// Whether the units begin with a string that is an 8.3 name, as `is_short_name` says. Two passes; takes no memory.
+/// Whether the units begin with a string that is an 8.3 name, as `is_short_name` says. Two passes;
+/// takes no memory.
 #[unsafe(no_mangle)]
 pub extern "C" fn uefi_fat_name_is_short(units: &[u16]) -> bool
     ensures { IsTrue result ↔ (BeginsWithString units.now × IsShortName (text_in units.now)) }
@@ -97,12 +99,13 @@ pub extern "C" fn uefi_fat_name_is_short(units: &[u16]) -> bool
     }
 }
 
-/// Writes the string that units begin with to the start of `bytes` in the characters of short names, as `str_to_fat`
-/// does: `OK`, or `CHAR_REPLACED` where one of them is `_` in place of another.
+/// Writes the string that units begin with to the start of `bytes` in the characters of short
+/// names, as `str_to_fat` does: `OK`, or `CHAR_REPLACED` where one of them is `_` in place of
+/// another.
 ///
-/// `place` becomes how many bytes are written. What is after them stays, and no NUL is written. Units that begin with
-/// no string are refused as by `uefi_string_until_nul`, whose `place` is reported, and the bytes stay unchanged. Two
-/// passes; takes no memory.
+/// `place` becomes how many bytes are written. What is after them stays, and no NUL is written.
+/// Units that begin with no string are refused as by `uefi_string_until_nul`, whose `place` is
+/// reported, and the bytes stay unchanged. Two passes; takes no memory.
 #[unsafe(no_mangle)]
 pub extern "C" fn uefi_fat_from_string(units: &[u16], bytes: &mut [u8], place: &mut usize) -> u32
     ensures no_string { ¬ BeginsWithString units.now
@@ -134,11 +137,12 @@ pub extern "C" fn uefi_fat_from_string(units: &[u16], bytes: &mut [u8], place: &
     }
 }
 
-/// Writes the string of bytes in the characters of short names to the start of `buffer`, as `fat_to_str` does: a unit for
-/// each byte before the first NUL, or for each byte where there is none, and a NUL.
+/// Writes the string of bytes in the characters of short names to the start of `buffer`, as
+/// `fat_to_str` does: a unit for each byte before the first NUL, or for each byte where there is
+/// none, and a NUL.
 ///
-/// `place` becomes how many units the text has. A buffer with no more places than these is `BUFFER_TOO_SMALL`, and
-/// stays unchanged. Two passes; takes no memory.
+/// `place` becomes how many units the text has. A buffer with no more places than these is
+/// `BUFFER_TOO_SMALL`, and stays unchanged. Two passes; takes no memory.
 #[unsafe(no_mangle)]
 pub extern "C" fn uefi_string_from_fat(bytes: &[u8], buffer: &mut [u16], place: &mut usize) -> u32
     ensures reason { result ≡ room_reason (fat_text bytes.now) buffer.old }

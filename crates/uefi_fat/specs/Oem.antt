@@ -26,11 +26,13 @@ fat_bytes name = map fat_byte (kept_units name)
 abbrev pub fat_text : List ℕ → List ℕ
 fat_text bytes = before_first is_nul bytes
 
--- the length of a text that is written with a NUL into so many places, or refused where they are too few
+-- the length of a text that is written with a NUL into so many places, or refused where they are
+-- too few
 abbrev pub written_len : List ℕ → ℕ → Result ℕ ℕ
 written_len text room = if nat_lt (length text) room then Ok (length text) else Err (length text)
 
--- a buffer after a text is written into its first places with a NUL, or unchanged where it has too few
+-- a buffer after a text is written into its first places with a NUL, or unchanged where it has too
+-- few
 abbrev pub written_over : List ℕ → List ℕ → List ℕ
 written_over text buffer =
     if nat_lt (length text) (length buffer)

@@ -1,15 +1,16 @@
-//! The laws by which users of names reason. They speak of the definitions that the contracts of the working calls
-//! cite. Each law is a function that does nothing: its contract is the law.
+//! The laws by which users of names reason. They speak of the definitions that the contracts of the
+//! working calls cite. Each law is a function that does nothing: its contract is the law.
 ghost use Rattle.uefi_fat.specs.Laws.{FatNamesOfOneFile, IsBetweenTrimmed, SameFileAsTrimmed, SameFileIsEquivalence, SameFileWhereTrimmedSame, SameFileWithoutCase, TrimmedOnce};
 
-/// What is trimmed off a name are spaces before it, and spaces and dots after it; and trimming once is enough.
+/// What is trimmed off a name are spaces before it, and spaces and dots after it; and trimming once
+/// is enough.
 pub fn trimming()
     ensures between { IsBetweenTrimmed }
     ensures once { TrimmedOnce }
 {}
 
-/// Being of one file is an equivalence. It holds of a name and its trimmed part, and of names that are the same
-/// without case. A file can have either both of such names or neither.
+/// Being of one file is an equivalence. It holds of a name and its trimmed part, and of names that
+/// are the same without case. A file can have either both of such names or neither.
 pub fn one_file()
     ensures equivalence { SameFileIsEquivalence }
     ensures same { SameFileWhereTrimmedSame }

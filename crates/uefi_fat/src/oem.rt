@@ -1,5 +1,6 @@
-//! Names in the 8-bit characters of short names, as the firmware's Unicode collation converts them: `StrToFat` and
-//! `FatToStr` (UEFI Specification 2.10, section 21.1). These characters are those of Latin-1.
+//! Names in the 8-bit characters of short names, as the firmware's Unicode collation converts them:
+//! `StrToFat` and `FatToStr` (UEFI Specification 2.10, section 21.1). These characters are those of
+//! Latin-1.
 ghost use Rattle.std.specs.Prelude.{◌≡◌, ◌≤◌, length, min, take};
 ghost use Rattle.std.specs.List.{list_any, position_or_len};
 ghost use Rattle.uefi_fat.specs.Oem.{fat_byte, fat_bytes, fat_text, is_unfit, kept_units, written_len, written_over};
@@ -21,8 +22,8 @@ pub struct FatBytes {
     /// How many bytes.
     pub len: usize,
 
-    /// Whether one of them is `_` in place of a character that no short name takes: then the name needs to be kept as
-    /// a long one too.
+    /// Whether one of them is `_` in place of a character that no short name takes: then the name
+    /// needs to be kept as a long one too.
     pub is_replaced: bool,
 }
 
@@ -45,11 +46,12 @@ fn fat_byte(character: Char16) -> u8
     }
 }
 
-/// Writes a name to the start of a buffer in the characters of short names, as `StrToFat` does: each character in
-/// upper case, or `_` where no short name takes it, and no byte for a space or a dot.
+/// Writes a name to the start of a buffer in the characters of short names, as `StrToFat` does:
+/// each character in upper case, or `_` where no short name takes it, and no byte for a space or a
+/// dot.
 ///
-/// Ends with the buffer or the name, whichever is first; what is after the bytes is unchanged, and no NUL is written.
-/// [`is_short_name`](crate::is_short_name) has the characters. One pass.
+/// Ends with the buffer or the name, whichever is first; what is after the bytes is unchanged, and
+/// no NUL is written. [`is_short_name`](crate::is_short_name) has the characters. One pass.
 pub fn str_to_fat(name: Char16Slice<'_>, buffer: &mut [u8]) -> FatBytes
     ensures buffer { buffer.new ≡ with_units (fat_bytes (units_of name.entry)) buffer.old }
     ensures len { result.len ≡ min (length (fat_bytes (units_of name.entry))) (length buffer.old) }
@@ -89,12 +91,12 @@ fn text_len(bytes: &[u8]) -> usize
     bytes.iter().take_while(|byte| **byte != 0).count()
 }
 
-/// Writes the string of bytes in the characters of short names to the start of a buffer, as `FatToStr` does: a unit
-/// for each byte before the first NUL, or for each byte where there is none, and a NUL. Returns how many units it has
-/// without the NUL.
+/// Writes the string of bytes in the characters of short names to the start of a buffer, as
+/// `FatToStr` does: a unit for each byte before the first NUL, or for each byte where there is
+/// none, and a NUL. Returns how many units it has without the NUL.
 ///
-/// `Err` with that number where the buffer has no more places than that: it is then unchanged. What is after the NUL
-/// is unchanged. Two passes.
+/// `Err` with that number where the buffer has no more places than that: it is then unchanged. What
+/// is after the NUL is unchanged. Two passes.
 pub fn fat_to_str(bytes: &[u8], buffer: &mut [u16]) -> Result<usize, usize>
     ensures len { result ≡ written_len (fat_text bytes.now) (length buffer.old) }
     ensures buffer { buffer.new ≡ written_over (fat_text bytes.now) buffer.old }

@@ -1,5 +1,5 @@
-//! Rows of names: what EDK II's FAT driver and its collation for English make of them, but where `docs/DIFFERENCES.md`
-//! says otherwise.
+//! Rows of names: what EDK II's FAT driver and its collation for English make of them, but where
+//! `docs/DIFFERENCES.md` says otherwise.
 use crate::{
     FatBytes, FatNameError, check_fat_name, fat_to_str, is_fat_name, is_short_name, same_fat_file,
     str_to_fat, trimmed,
