@@ -2,9 +2,9 @@
 use Rattle.std.proofs.Common.{◌≡◌, ◌+◌, ◌-◌, ◌≤◌, ◌<◌, ℕ, zero, suc, Bool, true, false, cond, List, [], ◌∷◌, ◌++◌, map, take, drop, length, reverse, arith, ap, sym, refl, subst, ◌∙◌, get_or, append_assoc, inl, inr, length-drop}
 use Rattle.std.specs.List.{AllPass, prefix_len, suffix_len}
 use mathlib.Core.List.{reverse_aux}
-use Rattle.std.proofs.lemmas.Bool.{cases_Bool, cases_lt, cond-false, cond-true}
+use Rattle.std.proofs.lemmas.Bool.{cases_Bool, cases_lt, cond-false, cond-true, false_from_ne_true}
 use Rattle.std.proofs.lemmas.Bool.Decides.{nat_tests}
-use Rattle.std.proofs.lemmas.List.{drop-map, get_or-drop, get_or-reverse, length-map, length-reverse, take-append-drop, take-map, take_all}
+use Rattle.std.proofs.lemmas.List.{drop-map, get_or-drop, get_or-reverse, length-map, length-reverse, reverse-append, take-append-drop, take-map, take_all}
 use Rattle.std.proofs.lemmas.List.Elements.{All-cons, All-from_get_or, All-nil}
 use Rattle.std.proofs.lemmas.List.Sums.{prefix_len-drop_all, prefix_len-drop_no, prefix_len_passes, prefix_len_stops, suffix_len-le-length, suffix_len-take_no}
 use Rattle.uefi_text.specs.Case.{upper, uppers}
@@ -143,4 +143,26 @@ between name =
       leading_pass is_space name,
       trailing_pass is_space_or_dot rest,
       sym cut ∙ sym (append_assoc front (trimmed name) back),
+    )
+
+-- no unit at either end of a trimmed name passes the test there
+first_fails : (p : ℕ → Bool) (x : ℕ) (xs : List ℕ) → prefix_len p (x ∷ xs) ≡ 0 → p x ≡ false
+first_fails p x xs none =
+    false_from_ne_true (p x) (λ passes.
+    let more : prefix_len p (x ∷ xs) ≡ 1 + prefix_len p xs = cond-true (p x) (1 + prefix_len p xs) 0 passes in
+    omega (arith, more, none))
+
+last_fails : (p : ℕ → Bool) (x : ℕ) (xs : List ℕ) → suffix_len p (xs ++ x ∷ []) ≡ 0 → p x ≡ false
+last_fails p x xs none = first_fails p x (reverse xs) (sym (ap (prefix_len p) (reverse-append xs (x ∷ []))) ∙ none)
+
+pub neither_end : (name : List ℕ)
+    → ((first : ℕ) (rest : List ℕ) → trimmed name ≡ first ∷ rest → is_space first ≡ false)
+    × ((front : List ℕ) (last : ℕ) → trimmed name ≡ front ++ last ∷ [] → is_space_or_dot last ≡ false)
+neither_end name =
+    let rest = without_leading is_space name in
+    let start : prefix_len is_space (trimmed name) ≡ 0 =
+    begins is_space rest (length rest - suffix_len is_space_or_dot rest) (none_leading is_space name) in
+    let end : suffix_len is_space_or_dot (trimmed name) ≡ 0 = none_trailing is_space_or_dot rest in (
+      λ first others is. first_fails is_space first others (sym (ap (prefix_len is_space) is) ∙ start),
+      λ front last is. last_fails is_space_or_dot last front (sym (ap (suffix_len is_space_or_dot) is) ∙ end),
     )

@@ -1,5 +1,5 @@
 -- The laws of names on FAT volumes, over the definitions that contracts of working calls cite.
-use Rattle.std.specs.Prelude.{◌≡◌, ◌↔◌, ℕ, Bool, IsTrue, List, ◌++◌, nat_eq}
+use Rattle.std.specs.Prelude.{◌≡◌, ◌↔◌, ℕ, Bool, false, IsTrue, List, [], ◌∷◌, ◌++◌, nat_eq}
 use Rattle.std.specs.List.{AllPass}
 use Rattle.std.specs.Cmp.{IsEquivalence}
 use Rattle.std.specs.Cmp.Lexicographic.{pointwise}
@@ -19,6 +19,12 @@ SameFileIsEquivalence = IsEquivalence is_same_file
 abbrev pub SameFileWhereTrimmedSame : Type 0
 SameFileWhereTrimmedSame = (name other : List ℕ)
     → IsTrue (is_same_file name other) ↔ (uppers (trimmed name) ≡ uppers (trimmed other))
+
+-- a trimmed name begins with no space, and ends in neither a space nor a dot
+abbrev pub NeitherEndIsTrimmed : Type 0
+NeitherEndIsTrimmed = (name : List ℕ)
+    → ((first : ℕ) (rest : List ℕ) → trimmed name ≡ first ∷ rest → is_space first ≡ false)
+    × ((front : List ℕ) (last : ℕ) → trimmed name ≡ front ++ last ∷ [] → is_space_or_dot last ≡ false)
 
 -- trimming once is enough
 abbrev pub TrimmedOnce : Type 0

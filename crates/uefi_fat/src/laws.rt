@@ -1,11 +1,12 @@
 //! The laws by which users of names reason. They speak of the definitions that the contracts of the
 //! working calls cite. Each law is a function that does nothing: its contract is the law.
-ghost use Rattle.uefi_fat.specs.Laws.{FatNamesOfOneFile, IsBetweenTrimmed, SameFileAsTrimmed, SameFileIsEquivalence, SameFileWhereTrimmedSame, SameFileWithoutCase, TrimmedOnce};
+ghost use Rattle.uefi_fat.specs.Laws.{FatNamesOfOneFile, IsBetweenTrimmed, NeitherEndIsTrimmed, SameFileAsTrimmed, SameFileIsEquivalence, SameFileWhereTrimmedSame, SameFileWithoutCase, TrimmedOnce};
 
-/// What is trimmed off a name are spaces before it, and spaces and dots after it; and trimming once
-/// is enough.
+/// What is trimmed off a name are spaces before it, and spaces and dots after it, and all of them; and
+/// trimming once is enough.
 pub fn trimming()
     ensures between { IsBetweenTrimmed }
+    ensures ends { NeitherEndIsTrimmed }
     ensures once { TrimmedOnce }
 {}
 
