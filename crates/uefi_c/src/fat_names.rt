@@ -5,10 +5,11 @@ ghost use Rattle.std.specs.List.{list_any};
 ghost use Rattle.uefi_text.specs.Case.{uppers};
 ghost use Rattle.uefi_text.specs.FromSliceUntilNul.{until_nul_refusal};
 ghost use Rattle.uefi_text.specs.FromStrWithBuf.{with_units};
-ghost use Rattle.uefi_text.specs.Units.{BeginsWithString};
+ghost use Rattle.uefi_text.specs.UnalignedCStr16.{with_prefix};
+ghost use Rattle.uefi_text.specs.Units.{BeginsWithString, nul_terminated};
 ghost use Rattle.uefi_text.specs.Views.{units_of};
 ghost use Rattle.uefi_fat.specs.LongNames.{IsFatName, name_refusal};
-ghost use Rattle.uefi_fat.specs.Oem.{fat_bytes, fat_text, is_unfit, kept_units, written_over};
+ghost use Rattle.uefi_fat.specs.Oem.{fat_bytes, fat_text, is_unfit, kept_units};
 ghost use Rattle.uefi_fat.specs.ShortNames.{IsShortName};
 ghost use Rattle.uefi_fat.specs.Trimming.{trimmed};
 ghost use Rattle.uefi_c.specs.Buffers.{room_reason};
@@ -146,7 +147,7 @@ pub extern "C" fn uefi_fat_from_string(units: &[u16], bytes: &mut [u8], place: &
 #[unsafe(no_mangle)]
 pub extern "C" fn uefi_string_from_fat(bytes: &[u8], buffer: &mut [u16], place: &mut usize) -> u32
     ensures reason { result ≡ room_reason (fat_text bytes.now) buffer.old }
-    ensures buffer { buffer.new ≡ written_over (fat_text bytes.now) buffer.old }
+    ensures buffer { buffer.new ≡ with_prefix (nul_terminated (fat_text bytes.now)) buffer.old }
     ensures place { place.new ≡ length (fat_text bytes.now) }
 {
     match fat_to_str(bytes, buffer) {

@@ -1,8 +1,8 @@
 -- Names in the 8-bit characters of short names, which are those of Latin-1.
-use Rattle.std.specs.Prelude.{ℕ, ◌+◌, Bool, not, nat_lt, if◌then◌else◌, List, ◌++◌, Result, Ok, Err, drop, filter, length, map}
+use Rattle.std.specs.Prelude.{ℕ, Bool, not, nat_lt, if◌then◌else◌, List, Result, Ok, Err, filter, length, map}
 use Rattle.std.specs.List.{before_first}
 use Rattle.uefi_text.specs.Case.{upper}
-use Rattle.uefi_text.specs.Units.{is_nul, nul_terminated}
+use Rattle.uefi_text.specs.Units.{is_nul}
 use Rattle.uefi_fat.specs.ShortNames.{is_fat_unit}
 use Rattle.uefi_fat.specs.Trimming.{is_space_or_dot}
 
@@ -26,15 +26,6 @@ fat_bytes name = map fat_byte (kept_units name)
 abbrev pub fat_text : List ℕ → List ℕ
 fat_text bytes = before_first is_nul bytes
 
--- the length of a text that is written with a NUL into so many places, or refused where they are
--- too few
+-- the length of a text that is written with a NUL, or as an error where there are too few places
 abbrev pub written_len : List ℕ → ℕ → Result ℕ ℕ
 written_len text room = if nat_lt (length text) room then Ok (length text) else Err (length text)
-
--- a buffer after a text is written into its first places with a NUL, or unchanged where it has too
--- few
-abbrev pub written_over : List ℕ → List ℕ → List ℕ
-written_over text buffer =
-    if nat_lt (length text) (length buffer)
-    then nul_terminated text ++ drop (length text + 1) buffer
-    else buffer

@@ -12,8 +12,7 @@ has_case unit = not (upper unit == unit) || not (lower unit == unit)
 abbrev pub is_digit : ℕ → Bool
 is_digit unit = nat_le 48 unit && nat_le unit 57
 
--- the marks that a short name may hold, in the order of their numbers: ! # $ % & ' ( ) - @ ^ _ ` {
--- } ~
+-- the marks of short names, in the order of their numbers: ! # $ % & ' ( ) - @ ^ _ ` { } ~
 abbrev pub marks : List ℕ
 marks =
     33 ∷ 35 ∷ 36 ∷ 37 ∷ 38 ∷ 39 ∷ 40 ∷ 41 ∷ 45 ∷ 64 ∷ 94 ∷ 95 ∷ 96 ∷ 123 ∷ 125 ∷ 126 ∷ []

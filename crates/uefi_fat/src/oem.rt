@@ -3,10 +3,11 @@
 //! Latin-1.
 ghost use Rattle.std.specs.Prelude.{◌≡◌, ◌≤◌, length, min, take};
 ghost use Rattle.std.specs.List.{list_any, position_or_len};
-ghost use Rattle.uefi_fat.specs.Oem.{fat_byte, fat_bytes, fat_text, is_unfit, kept_units, written_len, written_over};
+ghost use Rattle.uefi_fat.specs.Oem.{fat_byte, fat_bytes, fat_text, is_unfit, kept_units, written_len};
 ghost use Rattle.uefi_fat.specs.Trimming.{is_space_or_dot};
 ghost use Rattle.uefi_text.specs.FromStrWithBuf.{with_units};
-ghost use Rattle.uefi_text.specs.Units.{is_nul};
+ghost use Rattle.uefi_text.specs.UnalignedCStr16.{with_prefix};
+ghost use Rattle.uefi_text.specs.Units.{is_nul, nul_terminated};
 ghost use Rattle.uefi_text.specs.Views.{units_of};
 
 use crate::short_names::is_fat_character;
@@ -99,7 +100,7 @@ fn text_len(bytes: &[u8]) -> usize
 /// is after the NUL is unchanged. Two passes.
 pub fn fat_to_str(bytes: &[u8], buffer: &mut [u16]) -> Result<usize, usize>
     ensures len { result ≡ written_len (fat_text bytes.now) (length buffer.old) }
-    ensures buffer { buffer.new ≡ written_over (fat_text bytes.now) buffer.old }
+    ensures buffer { buffer.new ≡ with_prefix (nul_terminated (fat_text bytes.now)) buffer.old }
 {
     let len = text_len(bytes);
     if buffer.len() <= len {
