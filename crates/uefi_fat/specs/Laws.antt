@@ -5,6 +5,7 @@ use Rattle.std.specs.Cmp.{IsEquivalence}
 use Rattle.std.specs.Cmp.Lexicographic.{pointwise}
 use Rattle.uefi_text.specs.Case.{uppers}
 use Rattle.uefi_fat.specs.LongNames.{IsFatName}
+use Rattle.uefi_fat.specs.ShortNames.{IsShortName}
 use Rattle.uefi_fat.specs.Trimming.{is_space, is_space_or_dot, trimmed}
 
 -- whether names are of one file
@@ -43,6 +44,10 @@ SameFileWithoutCase = (name other : List ℕ) → uppers name ≡ uppers other
 abbrev pub IsBetweenTrimmed : Type 0
 IsBetweenTrimmed = (name : List ℕ) → (front : List ℕ) × (back : List ℕ)
     × AllPass is_space front × AllPass is_space_or_dot back × (name ≡ front ++ trimmed name ++ back)
+
+-- an 8.3 name is a name of a file
+abbrev pub ShortNamesAreFatNames : Type 0
+ShortNamesAreFatNames = (name : List ℕ) → IsShortName name → IsFatName name
 
 -- of names of one file either both are names of files, or neither is
 abbrev pub FatNamesOfOneFile : Type 0
