@@ -52,7 +52,7 @@ static void to_fat(const uefi_unit *name, size_t count, size_t room, const char 
     expect(is_so && memcmp(buffer, bytes, place) == 0 && buffer[place] == 7, "bytes of a name", line);
 }
 
-/* Whether bytes become this text in a buffer of so many places, and the next stays. */
+/* Whether bytes become this text in a buffer of `room` places, and the next stays. */
 static void from_fat(const char *bytes, size_t count, size_t room, const uefi_unit *text, size_t length, int line)
 {
     uefi_unit buffer[8] = {7, 7, 7, 7, 7, 7, 7, 7};

@@ -360,7 +360,7 @@ static uint64_t ticks(void)
 }
 #endif
 
-/* Matches a pattern of so many `*a` against so many `a` and a `b`, which it does not match, and prints how long that takes. */
+/* Matches a pattern, `*a` for each star, against `letters` times `a` and a `b`, which it does not match; prints how long that takes. */
 static void time_stars(const char *who, size_t stars, size_t letters, bool is_ours)
 {
     static uint16_t pattern[64], text[257];

@@ -37,8 +37,8 @@ fn set_case(units: &mut [u16], is_upper: bool)
     }
 }
 
-/// Puts the text of the string that units begin with in upper or lower case, and reports its length or why the
-/// units begin with no string.
+/// Puts the text of the string that units begin with in upper or lower case, and reports its length or
+/// why the units begin with no string.
 fn set_case_of_text(buffer: &mut [u16], is_upper: bool, place: &mut usize) -> u32
     ensures reason { result ≡ until_nul_reason (until_nul_refusal buffer.old) }
     ensures buffer { BeginsWithString buffer.old → buffer.new

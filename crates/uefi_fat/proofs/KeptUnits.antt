@@ -88,6 +88,6 @@ replaced_more test units rest n u so_far is next =
     ∙ sym (ap (λ k. list_any test (take k units)) (add-one n) ∙ ap (list_any test) ((next_kept units rest n u next).2)
     ∙ list_any-append test (take n units) (u ∷ []) ∙ ap (λ b. list_any test (take n units) || b) (or_false (test u)))
 
--- nothing is left behind all of a list
+-- nothing is left after all of a list
 pub none_left : (units : List ℕ) (n : ℕ) → drop n units ≡ [] → length units ≤ n
 none_left units n none = omega (arith, ap length none, length-drop n units)

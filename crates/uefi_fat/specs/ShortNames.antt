@@ -25,7 +25,7 @@ is_fat_unit unit = has_case unit || is_digit unit || list_any (λ other. other =
 abbrev pub is_short_unit : ℕ → Bool
 is_short_unit unit = is_fat_unit unit && upper unit == unit
 
--- the base or the extension of a short name: at least one such character, and at most so many
+-- the base or the extension of a short name: one such character or more, and at most `most`
 pub record IsShortPart (most : ℕ) (part : List ℕ) : Type 0 where
   pub not_empty : 0 < length part
   pub within : length part ≤ most

@@ -62,7 +62,7 @@ fn are_short_characters(part: Char16Slice<'_>) -> bool
     true
 }
 
-/// Whether characters are a base or an extension of a short name, which has at most so many.
+/// Whether characters are a base or an extension of a short name, of at most `most`.
 fn is_short_part(part: Char16Slice<'_>, most: usize) -> bool
     ensures { IsTrue result ↔ IsShortPart most (units_of part.entry) }
 {

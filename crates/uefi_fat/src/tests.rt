@@ -153,7 +153,7 @@ fn refusals(rt: HostRuntime) -> Result<(), Fail> {
     Ok(())
 }
 
-/// Whether a name has these bytes in a buffer of so many places, which keeps what follows them.
+/// Whether a name has these bytes in a buffer of `room` places, which keeps what follows them.
 fn has_bytes(
     alloc: Global,
     name: &str,
@@ -187,7 +187,7 @@ fn bytes_of_names(rt: HostRuntime) -> Result<(), Fail> {
     Ok(())
 }
 
-/// Whether bytes become these units before a NUL in a buffer of so many places, or how many they are.
+/// Whether bytes become these units before a NUL in a buffer of `room` places, or how many they are.
 fn has_units(bytes: &[u8], room: usize, units: &[u16]) -> bool {
     let mut buffer = [7; 6];
     if buffer.len() < room || buffer.len() <= units.len() {
