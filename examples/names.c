@@ -1,8 +1,9 @@
 /*
- * Compares names without case, and with patterns, by each call of the library that does so, and compares what comes back with
- * what the UEFI Specification 2.10, section 21.1, gives. Prints each row that differs, and ends with 1 where one does.
+ * Compares names without case, and with patterns, and judges and converts names on FAT volumes, by each call of the library that
+ * does so, and compares what comes back with what the UEFI Specification 2.10, sections 13.3 and 21.1, gives. Prints each row that differs, and ends with 1 where one does.
  */
 #include <stdio.h>
+#include <string.h>
 #include <uchar.h>
 
 #include "uefi_text.h"
@@ -28,6 +29,56 @@ static void expect(bool is_so, const char *call, int line)
     expect(uefi_path_equal_ignore_case(UNITS(first), UNITS(second)) == (is_so), "paths equal", __LINE__)
 #define PATH_MATCHES(path, pattern, is_so)                                                                           \
     expect(uefi_path_matches(UNITS(path), UNITS(pattern)) == (is_so), "path matches", __LINE__)
+
+#define FAT_NAME(name, reason, refused)                                                                              \
+    do {                                                                                                             \
+        uefi_size place = 9;                                                                                         \
+        uefi_unit character = 9;                                                                                     \
+        expect(uefi_fat_name_check(UNITS(name), &place, &character) == (reason) && character == (refused) &&         \
+                   place == sizeof(name) / sizeof(uefi_unit) - 1,                                                    \
+               "FAT name", __LINE__);                                                                                \
+    } while (0)
+#define SAME_NAME(first, second, is_so)                                                                              \
+    expect(uefi_fat_name_equal(UNITS(first), UNITS(second)) == (is_so), "FAT names equal", __LINE__)
+#define SHORT(name, is_so) expect(uefi_fat_name_is_short(UNITS(name)) == (is_so), "short name", __LINE__)
+
+/* Whether a name becomes these bytes in a buffer of as many places at most, and the next stays. */
+static void to_fat(const uefi_unit *name, size_t count, size_t room, const char *bytes, uefi_result reason, int line)
+{
+    uefi_byte buffer[16];
+    uefi_size place = 99;
+    memset(buffer, 7, sizeof buffer);
+    bool is_so = uefi_fat_from_string(name, count, buffer, room, &place) == reason && place == strlen(bytes);
+    expect(is_so && memcmp(buffer, bytes, place) == 0 && buffer[place] == 7, "bytes of a name", line);
+}
+
+/* Whether bytes become this text in a buffer of `room` places, and the next stays. */
+static void from_fat(const char *bytes, size_t count, size_t room, const uefi_unit *text, size_t length, int line)
+{
+    uefi_unit buffer[8] = {7, 7, 7, 7, 7, 7, 7, 7};
+    uefi_size place = 99;
+    uefi_result reason = uefi_string_from_fat((const uefi_byte *)bytes, count, buffer, room, &place);
+    if (room <= length)
+        expect(reason == UEFI_BUFFER_TOO_SMALL && place == length && buffer[0] == 7, "no room for a name", line);
+    else
+        expect(reason == UEFI_OK && place == length && memcmp(buffer, text, 2 * length) == 0 && buffer[length] == 0 &&
+                   buffer[length + 1] == 7,
+               "name of bytes", line);
+}
+
+/* Whether a text is these two in upper case and in lower case, and what follows it stays. */
+static void in_cases(const uefi_unit *text, const uefi_unit *upper, const uefi_unit *lower, size_t length, int line)
+{
+    uefi_unit buffer[8] = {0, 0, 0, 0, 0, 0, 0, 7};
+    uefi_size place = 99;
+    memcpy(buffer, text, 2 * length);
+    expect(uefi_string_make_uppercase(buffer, 8, &place) == UEFI_OK && place == length && memcmp(buffer, upper, 2 * length) == 0 &&
+               buffer[length] == 0 && buffer[7] == 7,
+           "upper case", line);
+    expect(uefi_string_make_lowercase(buffer, 8, &place) == UEFI_OK && place == length && memcmp(buffer, lower, 2 * length) == 0 &&
+               buffer[length] == 0 && buffer[7] == 7,
+           "lower case", line);
+}
 
 int main(void)
 {
@@ -67,5 +118,33 @@ int main(void)
     PATH_MATCHES(u"\\EFI\\BOOT\\a.efi", u"*.efi", false);
     PATH_MATCHES(u"\\EFI\\BOOT", u"\\efi\\*\\*", false);
     expect(!uefi_path_matches(UNITS(u"a"), endless, 1), "no pattern matches a path", __LINE__);
+
+    in_cases((const uefi_unit *)u"aZ\u00e9\u00ff", (const uefi_unit *)u"AZ\u00c9\u00ff", (const uefi_unit *)u"az\u00e9\u00ff", 4, __LINE__);
+    uefi_unit refused[] = {'a', 0xd800, 0};
+    uefi_size fault = 0;
+    expect(uefi_string_make_uppercase(refused, 3, &fault) == UEFI_INVALID_CHAR && fault == 1 && refused[0] == 'a', "no case",
+           __LINE__);
+
+    FAT_NAME(u" BOOTX64.EFI ", UEFI_OK, 0);
+    FAT_NAME(u"..", UEFI_NAME_EMPTY, 0);
+    FAT_NAME(u"a:b*c", UEFI_ILLEGAL_CHAR, ':');
+    uefi_unit long_name[258], character = 0;
+    uefi_size place = 0;
+    for (int i = 0; i < 257; i++)
+        long_name[i] = i == 0 ? '?' : 'a';
+    long_name[257] = 0;
+    expect(uefi_fat_name_check(long_name, 258, &place, &character) == UEFI_NAME_TOO_LONG && character == 0, "long name", __LINE__);
+    expect(uefi_fat_name_check(surrogate, 3, &place, &character) == UEFI_INVALID_CHAR && place == 1, "no name", __LINE__);
+    SAME_NAME(u"Boot. ", u" bOOT", true);
+    SAME_NAME(u"boot.efi", u"boot", false);
+    expect(!uefi_fat_name_equal(endless, 1, endless, 1), "no names equal", __LINE__);
+    SHORT(u"BOOTX64.EFI", true);
+    SHORT(u"bootx64.efi", false);
+    to_fat(UNITS(u"boot x64.efi"), 12, "BOOTX64EFI", UEFI_OK, __LINE__);
+    to_fat(UNITS(u"a+b"), 12, "A_B", UEFI_CHAR_REPLACED, __LINE__);
+    to_fat(UNITS(u"a+b"), 1, "A", UEFI_OK, __LINE__);
+    from_fat("BOOT", 4, 8, UNITS(u"BOOT") - 1, __LINE__);
+    from_fat("BOOT", 4, 4, UNITS(u"BOOT") - 1, __LINE__);
+    from_fat("A\0B", 3, 8, UNITS(u"A") - 1, __LINE__);
     return failed;
 }

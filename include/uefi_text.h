@@ -96,7 +96,10 @@ enum uefi_reason {
     UEFI_DESCRIPTION_WITHOUT_END = 19, /* no NUL ends the description of a load option */
     UEFI_LIST_BEYOND_END = 20,         /* the file path list is longer than what the load option has left */
     UEFI_EMPTY_LIST = 21,              /* the file path list has no bytes */
-    UEFI_END_OF_PATH = 22              /* the node that ends the device path stands there: nothing is wrong */
+    UEFI_END_OF_PATH = 22,             /* the node that ends the device path stands there: nothing is wrong */
+    UEFI_NAME_EMPTY = 23,              /* nothing is left of the name without the spaces and dots around it */
+    UEFI_NAME_TOO_LONG = 24,           /* the name has more than 255 units */
+    UEFI_CHAR_REPLACED = 25            /* a unit became '_', since no short name takes it: nothing is wrong */
 };
 
 /* The order of two strings or paths, where one side does not begin with a string. */
@@ -137,6 +140,14 @@ uefi_bool UEFI_CALL uefi_string_equal_ignore_case(const uefi_unit *first, uefi_s
                                                   const uefi_unit *second, uefi_size second_count);
 uefi_order UEFI_CALL uefi_string_order_ignore_case(const uefi_unit *first, uefi_size first_count,
                                                    const uefi_unit *second, uefi_size second_count);
+
+/*
+ * Puts the text of the string that the buffer begins with in upper or in lower case, as the collation's StrUpr and StrLwr have
+ * it. UEFI_OK, and `*place` becomes the length of the text; what follows it is unchanged. Else the reason and the `*place` of
+ * uefi_string_until_nul, and the buffer is unchanged.
+ */
+uefi_result UEFI_CALL uefi_string_make_uppercase(uefi_unit *buffer, uefi_size room, uefi_size *place);
+uefi_result UEFI_CALL uefi_string_make_lowercase(uefi_unit *buffer, uefi_size room, uefi_size *place);
 
 /*
  * Whether both begin with a string, and the pattern matches the whole text of `units`, without case, as the collation's
@@ -296,6 +307,55 @@ uefi_result UEFI_CALL uefi_path_parent(const uefi_unit *path, uefi_size count, u
  */
 uefi_result UEFI_CALL uefi_path_normalize(const uefi_unit *path, uefi_size count, uefi_unit *buffer, uefi_size room,
                                           uefi_size *place, uefi_unit *character);
+
+/*
+ * Names on FAT volumes, such as one component of a path is. The file system trims a name before it looks for the file: spaces
+ * at the start, and spaces and dots at the end (UEFI Specification 2.10, section 13.3). Case makes no difference to it.
+ */
+
+/*
+ * Whether the units begin with a string that a file can have as its name, by what is left of it when it is trimmed: UEFI_OK;
+ * UEFI_NO_NUL or UEFI_INVALID_CHAR where they begin with no string; UEFI_NAME_EMPTY where nothing is left, as of "." and "..",
+ * which name folders; UEFI_NAME_TOO_LONG where more than 255 units are; or UEFI_ILLEGAL_CHAR where one is below U+0020 or one of
+ * `" * / : < > ? \ |`. `*place` becomes what uefi_string_until_nul says, which is the length of the text where the name is
+ * judged. `*character` becomes the first illegal character, and 0 but for UEFI_ILLEGAL_CHAR.
+ */
+uefi_result UEFI_CALL uefi_fat_name_check(const uefi_unit *units, uefi_size count, uefi_size *place, uefi_unit *character);
+
+/* Whether both begin with a string, and these are names of one file: what is left of them is the same without case. */
+uefi_bool UEFI_CALL uefi_fat_name_equal(const uefi_unit *first, uefi_size first_count,
+                                        const uefi_unit *second, uefi_size second_count);
+
+/*
+ * Whether the units begin with a string that is an 8.3 name as a directory entry holds it: 1 to 8 characters, and then maybe a
+ * dot and 1 to 3 more, all of them capital letters, digits or marks that such names take.
+ */
+uefi_bool UEFI_CALL uefi_fat_name_is_short(const uefi_unit *units, uefi_size count);
+
+/*
+ * Writes the string that the units begin with in the 8-bit characters of 8.3 names, as the collation's StrToFat does
+ * (section 21.1): no byte for a space or a dot, and for any other unit its upper case, or '_' where no 8.3 name takes it.
+ *
+ *   units, count    the string
+ *   bytes, room     where the bytes go, and how many fit; no NUL is written
+ *   *place          out: how many bytes were written
+ *
+ * Returns
+ *   UEFI_OK             the bytes were written, as many as fit; the others are unchanged
+ *   UEFI_CHAR_REPLACED  the same, and one of the bytes is '_' in place of another character
+ *   another reason      the units begin with no string: the reason and the `*place` of uefi_string_until_nul, and the bytes
+ *                       are unchanged
+ */
+uefi_result UEFI_CALL uefi_fat_from_string(const uefi_unit *units, uefi_size count, uefi_byte *bytes, uefi_size room,
+                                           uefi_size *place);
+
+/*
+ * Writes a unit for each byte before the first NUL, or for each byte where there is none, and a NUL, as the collation's
+ * FatToStr does. UEFI_OK, and what follows the NUL is unchanged; or UEFI_BUFFER_TOO_SMALL where room <= *place, and the buffer
+ * is unchanged. `*place` becomes how many units the text has, without the NUL.
+ */
+uefi_result UEFI_CALL uefi_string_from_fat(const uefi_byte *bytes, uefi_size byte_count, uefi_unit *buffer, uefi_size room,
+                                           uefi_size *place);
 
 /*
  * Device paths and load options. A device path is a list of nodes, packed in bytes, of which the last one ends it (UEFI

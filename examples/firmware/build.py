@@ -9,7 +9,8 @@ STRICT = ["-O2", "-Wall", "-Wextra", "-Werror", f"-I{TOP / 'include'}"]
 FREESTANDING = ["-std=c11", "-ffreestanding", "-fno-stack-protector", "-fshort-wchar", *STRICT, *GNU_EFI]
 SECTIONS = [".text", ".sdata", ".data", ".dynamic", ".dynsym", ".rel", ".rela", ".rel.*", ".rela.*", ".reloc"]
 PROGRAMS = {"menu": ["menu", "lines", "reader", "memory"], "hello": ["hello"], "order": ["order"],
-            "timer": ["timer", "planted", "lines", "reader", "memory"], "texts": ["texts", "lines", "reader", "memory"]}
+            "timer": ["timer", "planted", "lines", "reader", "memory"], "texts": ["texts", "lines", "reader", "memory"],
+            "collation": ["collation", "lines", "reader", "memory"]}
 
 
 class Wrong(Exception):

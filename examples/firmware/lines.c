@@ -70,6 +70,13 @@ bool lines_normal(const struct reader *reader, uint16_t *normal, size_t *length,
     return refused == UEFI_OK && !has_long_name(normal, *length);
 }
 
+/* Whether a path is one that firmware starts from a disk without an entry (section 3.5.1.1), whatever its case. */
+static bool is_fallback(const uint16_t *normal, size_t length)
+{
+    static const uint16_t pattern[] = u"EFI\\BOOT\\BOOT*.EFI";
+    return uefi_path_matches(normal, length + 1, pattern, sizeof pattern / sizeof pattern[0]);
+}
+
 /* Prints the file that the reader found: true where it is there. */
 static bool put_file(const struct reader *reader)
 {
@@ -91,6 +98,8 @@ static bool put_file(const struct reader *reader)
     }
     lines_put("\n    file ");
     lines_put_units(normal, length);
+    if (is_fallback(normal, length))
+        lines_put(", a fallback");
     enum lines_found found = lines_look(reader, normal);
     switch (found) {
     case LINES_THERE: lines_put(": there\n"); break;

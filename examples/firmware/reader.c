@@ -44,6 +44,9 @@ const char *reader_reason(uint32_t reason)
     case UEFI_LENGTH_BELOW_HEADER: return "its length is less than its header's";
     case UEFI_END_WITH_DATA: return "its length is not its header's";
     case UEFI_NODE_BEYOND_END: return "its length is more than the file path list has left";
+    case UEFI_NAME_EMPTY: return "the name is empty";
+    case UEFI_NAME_TOO_LONG: return "the name is too long";
+    case UEFI_CHAR_REPLACED: return "a character was replaced";
     }
     return "unknown reason";
 }

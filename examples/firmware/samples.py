@@ -88,6 +88,7 @@ def named():
         entry("two paths", DISK + path("\\EFI\\menu.efi") + END + ODD + path("x\0y") + END, data=b"fast"),
         entry("another end in the second path", DISK + path("\\EFI\\menu.efi") + END + bytes([0x7F, 2, 4, 0])),
         entry("turned \u202efie.exe \u2069\u200e", DISK + path("\\EFI\\\u061cgpj\u2066.efi") + END),
+        entry("a fallback", DISK + path("\\efi\\Boot\\bootX64.EFI") + END),
     ]
 
 

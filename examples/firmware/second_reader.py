@@ -5,11 +5,13 @@ usage: second_reader.py FILE    prints the lines of each entry in a file that sa
 
 It shares nothing with reader.c: it takes an entry apart into lists, and joins these.
 """
+import re
 import struct
 import sys
 
 MOST_BYTES, MOST_NAME, ILLEGAL = 16384, 255, set('"*/:<>?|')
 SURROGATES = range(0xD800, 0xE000)
+FALLBACK = re.compile(r"EFI\\BOOT\\BOOT[^\\]*\.EFI", re.IGNORECASE | re.ASCII | re.DOTALL)
 TEXT_FAULTS = {"nul": "no NUL ends it", "surrogate": "it holds a surrogate", "inside": "more follows its NUL"}
 
 
@@ -152,7 +154,8 @@ def list_lines(data, start, end, look):
             normal, is_accepted = normal_of(path)
             made.append(f"    path {shown(path)}" + ("" if is_accepted else f": refused: {normal}"))
             if is_accepted:
-                made.append(f"    file {shown(map(ord, normal))}{look(normal, disk)}")
+                fallback = ", a fallback" if FALLBACK.fullmatch(normal) else ""
+                made.append(f"    file {shown(map(ord, normal))}{fallback}{look(normal, disk)}")
     except Malformed as error:
         return [*made, malformed(*error.args)]
     return made or ["    names no file"]

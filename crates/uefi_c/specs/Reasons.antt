@@ -8,6 +8,8 @@ use Rattle.uefi_text.specs.declared.errors.FromSliceWithNulError.{FromSliceWithN
 use Rattle.uefi_text.specs.declared.errors.FromSliceWithNulError.TheVariants as with_nul
 use Rattle.uefi_text.specs.declared.errors.FromStrWithBufError.{FromStrWithBufError}
 use Rattle.uefi_text.specs.declared.errors.FromStrWithBufError.TheVariants as with_buf
+use Rattle.uefi_fat.specs.declared.names.FatNameError.{FatNameError}
+use Rattle.uefi_fat.specs.declared.names.FatNameError.TheVariants as fat_name
 use Rattle.uefi_path.specs.declared.validation.PathError.{PathError}
 use Rattle.uefi_path.specs.declared.validation.PathError.TheVariants.{Empty, EmptyComponent, IllegalChar, ClimbsAboveRoot}
 use Rattle.uefi_device_nodes.specs.declared.errors.NodeError.{NodeError}
@@ -16,7 +18,7 @@ use Rattle.uefi_device_path.specs.declared.errors.FilePathCause.{FilePathCause}
 use Rattle.uefi_device_path.specs.declared.errors.FilePathCause.TheVariants as file
 use Rattle.uefi_device_path.specs.declared.errors.LoadOptionCause.{LoadOptionCause}
 use Rattle.uefi_device_path.specs.declared.errors.LoadOptionCause.TheVariants as option
-use Rattle.uefi_c.specs.declared.reasons.TheConstants.{OK, NO_NUL, INVALID_CHAR, INTERIOR_NUL, BUFFER_TOO_SMALL, ODD_BYTES, PATH_EMPTY, EMPTY_COMPONENT, ILLEGAL_CHAR, CLIMBS_ABOVE_ROOT, NO_END_NODE, TRUNCATED_HEADER, UNKNOWN_END, LENGTH_BELOW_HEADER, END_WITH_DATA, NODE_BEYOND_END, OPTION_TOO_SHORT, DESCRIPTION_WITHOUT_END, LIST_BEYOND_END, EMPTY_LIST}
+use Rattle.uefi_c.specs.declared.reasons.TheConstants.{OK, NO_NUL, INVALID_CHAR, INTERIOR_NUL, BUFFER_TOO_SMALL, ODD_BYTES, PATH_EMPTY, EMPTY_COMPONENT, ILLEGAL_CHAR, CLIMBS_ABOVE_ROOT, NO_END_NODE, TRUNCATED_HEADER, UNKNOWN_END, LENGTH_BELOW_HEADER, END_WITH_DATA, NODE_BEYOND_END, OPTION_TOO_SHORT, DESCRIPTION_WITHOUT_END, LIST_BEYOND_END, EMPTY_LIST, NAME_EMPTY, NAME_TOO_LONG}
 
 -- the reason why units begin with no string; memory is never the reason
 abbrev pub until_nul_reason : Option FromSliceUntilNulError → ℕ
@@ -56,6 +58,20 @@ refused_character (Some Empty) = 0
 refused_character (Some EmptyComponent) = 0
 refused_character (Some (IllegalChar character)) = character
 refused_character (Some ClimbsAboveRoot) = 0
+
+-- the reason why a file on a FAT volume can not have a name
+abbrev pub fat_name_reason : Option FatNameError → ℕ
+fat_name_reason None = OK
+fat_name_reason (Some fat_name.Empty) = NAME_EMPTY
+fat_name_reason (Some fat_name.TooLong) = NAME_TOO_LONG
+fat_name_reason (Some (fat_name.IllegalChar character)) = ILLEGAL_CHAR
+
+-- the character for which such a name is refused, and 0 for other reasons
+abbrev pub refused_fat_character : Option FatNameError → ℕ
+refused_fat_character None = 0
+refused_fat_character (Some fat_name.Empty) = 0
+refused_fat_character (Some fat_name.TooLong) = 0
+refused_fat_character (Some (fat_name.IllegalChar character)) = character
 
 -- the number of an order
 abbrev pub order_number : Ordering → ℤ

@@ -6,6 +6,7 @@
 
 pub mod buffers;
 pub mod device_paths;
+pub mod fat_names;
 pub mod load_options;
 pub mod packed;
 pub mod paths;

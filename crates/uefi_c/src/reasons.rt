@@ -1,9 +1,10 @@
 //! Why a call refuses, as numbers: the header's `enum uefi_reason` has the same.
 ghost use Rattle.std.specs.Prelude.{◌≡◌, Some, pos};
-ghost use Rattle.uefi_c.specs.Reasons.{name_reason, node_reason, option_reason, order_number, path_reason, refused_character, until_nul_reason, with_buf_reason, with_nul_reason};
+ghost use Rattle.uefi_c.specs.Reasons.{fat_name_reason, name_reason, node_reason, option_reason, order_number, path_reason, refused_character, refused_fat_character, until_nul_reason, with_buf_reason, with_nul_reason};
 
 use std::cmp::Ordering;
 use uefi_device_path::{FilePathCause, LoadOptionCause, NodeError};
+use uefi_fat::FatNameError;
 use uefi_path::PathError;
 use uefi_text::{FromSliceUntilNulError, FromSliceWithNulError, FromStrWithBufError};
 
@@ -76,6 +77,15 @@ pub const EMPTY_LIST: u32 = 21;
 /// The node that ends the device path stands there.
 pub const END_OF_PATH: u32 = 22;
 
+/// Nothing is left of a name without the spaces and dots around it.
+pub const NAME_EMPTY: u32 = 23;
+
+/// A name has more than 255 units.
+pub const NAME_TOO_LONG: u32 = 24;
+
+/// A unit is replaced by `_`: no short name takes it.
+pub const CHAR_REPLACED: u32 = 25;
+
 /// The order of two strings of which one is none.
 pub const NO_ORDER: i32 = 2;
 
@@ -105,6 +115,9 @@ pub fn numbers()
     ensures list_beyond_end { LIST_BEYOND_END ≡ 20 }
     ensures empty_list { EMPTY_LIST ≡ 21 }
     ensures end_of_path { END_OF_PATH ≡ 22 }
+    ensures name_empty { NAME_EMPTY ≡ 23 }
+    ensures name_too_long { NAME_TOO_LONG ≡ 24 }
+    ensures char_replaced { CHAR_REPLACED ≡ 25 }
     ensures no_order { NO_ORDER ≡ pos 2 }
 {}
 
@@ -152,6 +165,18 @@ pub(crate) fn path_reason(error: PathError) -> (u32, u16)
         PathError::EmptyComponent => (EMPTY_COMPONENT, 0),
         PathError::IllegalChar(character) => (ILLEGAL_CHAR, u16::from(character)),
         PathError::ClimbsAboveRoot => (CLIMBS_ABOVE_ROOT, 0),
+    }
+}
+
+/// The reason why a name is refused, and the character for which it is, or 0.
+pub(crate) fn fat_name_reason(error: FatNameError) -> (u32, u16)
+    ensures reason { result.0 ≡ fat_name_reason (Some error) }
+    ensures character { result.1 ≡ refused_fat_character (Some error) }
+{
+    match error {
+        FatNameError::Empty => (NAME_EMPTY, 0),
+        FatNameError::TooLong => (NAME_TOO_LONG, 0),
+        FatNameError::IllegalChar(character) => (ILLEGAL_CHAR, u16::from(character)),
     }
 }
 

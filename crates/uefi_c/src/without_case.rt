@@ -1,17 +1,88 @@
 //! Strings and paths in units that C holds, compared without case and matched against patterns, as the
 //! firmware's Unicode collation does (UEFI Specification 2.10, section 21.1).
-ghost use Rattle.std.specs.Prelude.{◌≡◌, ◌↔◌, pos, IsTrue};
-ghost use Rattle.uefi_text.specs.Case.{caseless_order, uppers};
+ghost use Rattle.std.specs.Prelude.{◌≡◌, ◌↔◌, ◌++◌, drop, length, map, pos, IsTrue};
+ghost use Rattle.uefi_text.specs.Case.{caseless_order, lowers, uppers};
+ghost use Rattle.uefi_text.specs.FromSliceUntilNul.{until_nul_refusal};
 ghost use Rattle.uefi_text.specs.Patterns.{Matches};
 ghost use Rattle.uefi_text.specs.Units.{BeginsWithString};
 ghost use Rattle.uefi_path.specs.Separators.{canonical};
 ghost use Rattle.uefi_path.specs.WithoutCase.{MatchesPath};
-ghost use Rattle.uefi_c.specs.Reasons.{order_number};
-ghost use Rattle.uefi_c.specs.Strings.{text_in};
+ghost use Rattle.uefi_c.specs.Cases.{cased};
+ghost use Rattle.uefi_c.specs.Reasons.{order_number, until_nul_reason};
+ghost use Rattle.uefi_c.specs.Strings.{text_in, until_nul_place};
 
-use crate::reasons::{NO_ORDER, order_number};
+use crate::reasons::{NO_ORDER, OK, order_number, until_nul_reason};
+use crate::strings::until_nul_place;
 use uefi_path::Path;
-use uefi_text::CStr16;
+use uefi_text::{CStr16, Char16};
+
+/// A unit in upper or lower case. A surrogate has neither.
+fn cased(is_upper: bool, unit: u16) -> u16
+    ensures { result ≡ cased is_upper unit }
+{
+    match Char16::try_from(unit) {
+        Ok(character) if is_upper => u16::from(character.to_uppercase()),
+        Ok(character) => u16::from(character.to_lowercase()),
+        Err(_) => unit,
+    }
+}
+
+/// Puts units in upper or lower case.
+#[tactic(auto, using(std::proofs::lemmas::List::take_all, std::proofs::lemmas::List::drop_all))]
+fn set_case(units: &mut [u16], is_upper: bool)
+    ensures { units.new ≡ map (cased is_upper) units.old }
+{
+    for unit in units.iter_mut() {
+        *unit = cased(is_upper, *unit);
+    }
+}
+
+/// Puts the text of the string that units begin with in upper or lower case, and reports its length or
+/// why the units begin with no string.
+fn set_case_of_text(buffer: &mut [u16], is_upper: bool, place: &mut usize) -> u32
+    ensures reason { result ≡ until_nul_reason (until_nul_refusal buffer.old) }
+    ensures buffer { BeginsWithString buffer.old → buffer.new
+        ≡ map (cased is_upper) (text_in buffer.old) ++ drop (length (text_in buffer.old)) buffer.old }
+    ensures unchanged { ¬ BeginsWithString buffer.old → buffer.new ≡ buffer.old }
+    ensures place { place.new ≡ until_nul_place buffer.old }
+{
+    let len = match CStr16::from_u16_until_nul(buffer) {
+        Ok(string) => string.num_chars(),
+        Err(error) => {
+            *place = until_nul_place(error, buffer);
+            return until_nul_reason(error);
+        }
+    };
+    *place = len;
+    set_case(&mut buffer[..len], is_upper);
+    OK
+}
+
+/// Puts the text of the string that units begin with in upper case, as `StrUpr` does. Units that begin with
+/// no string are refused as by `uefi_string_until_nul`, whose `place` is reported, and stay unchanged; what
+/// follows the text stays. Two passes; takes no memory.
+#[unsafe(no_mangle)]
+pub extern "C" fn uefi_string_make_uppercase(buffer: &mut [u16], place: &mut usize) -> u32
+    ensures reason { result ≡ until_nul_reason (until_nul_refusal buffer.old) }
+    ensures buffer { BeginsWithString buffer.old → buffer.new
+        ≡ uppers (text_in buffer.old) ++ drop (length (text_in buffer.old)) buffer.old }
+    ensures unchanged { ¬ BeginsWithString buffer.old → buffer.new ≡ buffer.old }
+    ensures place { place.new ≡ until_nul_place buffer.old }
+{
+    set_case_of_text(buffer, true, place)
+}
+
+/// The same in lower case, as `StrLwr` does.
+#[unsafe(no_mangle)]
+pub extern "C" fn uefi_string_make_lowercase(buffer: &mut [u16], place: &mut usize) -> u32
+    ensures reason { result ≡ until_nul_reason (until_nul_refusal buffer.old) }
+    ensures buffer { BeginsWithString buffer.old → buffer.new
+        ≡ lowers (text_in buffer.old) ++ drop (length (text_in buffer.old)) buffer.old }
+    ensures unchanged { ¬ BeginsWithString buffer.old → buffer.new ≡ buffer.old }
+    ensures place { place.new ≡ until_nul_place buffer.old }
+{
+    set_case_of_text(buffer, false, place)
+}
 
 /// Whether both begin with a string, and have the same text without case. One pass over each; takes no
 /// memory.

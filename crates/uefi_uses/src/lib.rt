@@ -5,6 +5,7 @@
 #![tactic(auto)]
 
 pub mod entries;
+pub mod fat_names;
 pub mod loaders;
 pub mod names;
 pub mod paths;

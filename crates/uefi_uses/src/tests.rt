@@ -1,4 +1,5 @@
 use crate::entries::{line_of_entry, path_of_file, starts_by_itself};
+use crate::fat_names::takes_place_of;
 use crate::loaders::is_offered;
 use crate::names::name_len;
 use crate::paths::{EntryError, entry_path};
@@ -133,5 +134,13 @@ fn paths_of_files(rt: HostRuntime) -> Result<(), Fail> {
         text.as_str(),
         "HD(1,GPT,03020100-0504-0706-0809-0A0B0C0D0E0F,0x800,0x100000)/\\a.efi"
     );
+    Ok(())
+}
+
+#[test]
+fn names_of_one_file(rt: HostRuntime) -> Result<(), Fail> {
+    let new = CString16::try_from_str(rt.alloc(), "Boot.")?;
+    let present = CString16::try_from_str(rt.alloc(), "BOOT")?;
+    assert!(rt; takes_place_of(new.as_cstr16().as_slice(), present.as_cstr16().as_slice()));
     Ok(())
 }

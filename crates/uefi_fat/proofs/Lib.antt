@@ -1,0 +1,5 @@
+pub mod FatNames
+pub mod Trims
+pub mod DottedNames
+pub mod KeptUnits
+pub mod ShortAreFat

@@ -1,0 +1,12 @@
+-- What is printed of the refusals of a name. The value of a character is in decimal.
+use Rattle.std.specs.Prelude.{ℕ, List, ◌++◌, codes}
+use Rattle.std.specs.Fmt.{decimal}
+use Rattle.uefi_fat.specs.declared.names.FatNameError.{FatNameError}
+use Rattle.uefi_fat.specs.declared.names.FatNameError.TheVariants.{Empty, IllegalChar, TooLong}
+
+-- what is printed of the refusal of a name
+abbrev pub fat_name_error_text : FatNameError → List ℕ
+fat_name_error_text Empty = codes "name is empty without spaces and dots"
+fat_name_error_text TooLong = codes "name has more than 255 characters"
+fat_name_error_text (IllegalChar character) =
+    codes "name contains an illegal character (value " ++ decimal character ++ codes ")"

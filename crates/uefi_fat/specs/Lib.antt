@@ -1,0 +1,6 @@
+pub mod Trimming
+pub mod LongNames
+pub mod ShortNames
+pub mod Oem
+pub mod ErrorTexts
+pub mod Laws

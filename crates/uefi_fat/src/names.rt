@@ -1,0 +1,161 @@
+//! The part of a name that counts, which names are names of files, and which are names of one file.
+ghost use Rattle.std.specs.Prelude.{◌≡◌, ◌↔◌, IsOk, IsTrue, find, length};
+ghost use Rattle.std.specs.List.{prefix_len, suffix_len};
+ghost use Rattle.std.specs.Result.{result_err};
+ghost use Rattle.uefi_fat.specs.LongNames.{IsFatName, is_illegal, name_refusal};
+ghost use Rattle.uefi_fat.specs.Trimming.{is_space, is_space_or_dot, trimmed, without_leading, without_trailing};
+ghost use Rattle.uefi_text.specs.Case.{uppers};
+ghost use Rattle.uefi_text.specs.Views.{units_of};
+
+use std::error::Error;
+use std::fmt;
+use uefi_text::chars::Char16;
+use uefi_text::strs::Char16Slice;
+
+/// The most characters of a name.
+const MOST: usize = 255;
+
+/// Why no file on a FAT volume has a name.
+#[derive(Clone, Copy, Debug, PartialEq, Eq)]
+pub enum FatNameError {
+    /// The trimmed name is empty. So it is of `.` and `..`, which name folders.
+    Empty,
+
+    /// The trimmed name has more than 255 characters.
+    TooLong,
+
+    /// The trimmed name holds this character, the first one that no name may hold.
+    IllegalChar(Char16),
+}
+
+/// Writes the reason, with the number of an illegal character in decimal.
+impl fmt::Display for FatNameError {
+    ghost use Rattle.std.specs.Prelude.{Some};
+    ghost use Rattle.uefi_fat.specs.ErrorTexts.{fat_name_error_text};
+
+    ghost output = { λ error. Some (fat_name_error_text error) };
+
+    fn fmt<W: fmt::Write>(&self, f: &mut fmt::Formatter<W>) -> fmt::Result {
+        match self {
+            FatNameError::Empty => f.write_str("name is empty without spaces and dots"),
+            FatNameError::TooLong => f.write_str("name has more than 255 characters"),
+            FatNameError::IllegalChar(character) => {
+                let value = u16::from(*character);
+                write!(f, "name contains an illegal character (value {value})")
+            }
+        }
+    }
+}
+
+impl Error for FatNameError {}
+
+/// How many units at the start are spaces.
+fn spaces_before(units: &[u16]) -> usize
+    ensures { result ≡ prefix_len is_space units.now }
+{
+    units.iter().take_while(|unit| **unit == 0x20).count()
+}
+
+/// How many units at the end are spaces or dots.
+fn ends_after(units: &[u16]) -> usize
+    ensures { result ≡ suffix_len is_space_or_dot units.now }
+{
+    units
+        .iter()
+        .rev()
+        .take_while(|unit| **unit == 0x20 || **unit == 0x2e)
+        .count()
+}
+
+/// The name after the spaces at its start.
+fn without_spaces_before<'a>(name: Char16Slice<'a>) -> Char16Slice<'a>
+    ensures { units_of result ≡ without_leading is_space (units_of name.entry) }
+{
+    name.part(spaces_before(name.units()), name.len())
+}
+
+/// The name before the spaces and dots at its end.
+fn without_ends_after<'a>(name: Char16Slice<'a>) -> Char16Slice<'a>
+    ensures { units_of result ≡ without_trailing is_space_or_dot (units_of name.entry) }
+{
+    name.part(0, name.len() - ends_after(name.units()))
+}
+
+/// The part of a name that a FAT volume keeps: without the spaces at its start, and without the
+/// spaces and dots at its end. Looks at these, and at one character more at each end.
+pub fn trimmed<'a>(name: Char16Slice<'a>) -> Char16Slice<'a>
+    ensures { units_of result ≡ trimmed (units_of name.entry) }
+{
+    without_ends_after(without_spaces_before(name))
+}
+
+/// Whether no name may hold the character.
+fn is_illegal(character: Char16) -> bool
+    ensures { result ≡ is_illegal character }
+{
+    matches!(
+        u16::from(character),
+        0..=0x1f | 0x22 | 0x2a | 0x2f | 0x3a | 0x3c | 0x3e | 0x3f | 0x5c | 0x7c
+    )
+}
+
+/// The first character that no name may hold.
+fn find_illegal(name: Char16Slice<'_>) -> Option<Char16>
+    ensures { result ≡ find is_illegal (units_of name.entry) }
+{
+    for character in name.iter() {
+        if is_illegal(character) {
+            return Some(character);
+        }
+    }
+    None
+}
+
+/// Why a name is refused, if it is.
+fn judge(name: Char16Slice<'_>) -> Option<FatNameError>
+    ensures { result ≡ name_refusal (units_of name.entry) }
+{
+    let part = trimmed(name);
+    if part.is_empty() {
+        return Some(FatNameError::Empty);
+    }
+    if MOST < part.len() {
+        return Some(FatNameError::TooLong);
+    }
+    find_illegal(part).map(FatNameError::IllegalChar)
+}
+
+/// Whether a file on a FAT volume can have a name: `Ok`, or why not.
+///
+/// The trimmed name decides. It is refused as `Empty` where it has no character, so that `.` and
+/// `..` are refused: these name folders, and the file system looks for them before it trims a name.
+/// It is refused as `TooLong` where it has more than 255 characters, and as `IllegalChar` of the
+/// first character that is below U+0020 or one of `" * / : < > ? \ |`. One pass.
+pub fn check_fat_name(name: Char16Slice<'_>) -> Result<(), FatNameError>
+    ensures refusal { result_err result ≡ name_refusal (units_of name.entry) }
+    ensures valid { IsOk result ↔ IsFatName (units_of name.entry) }
+{
+    match judge(name) {
+        None => Ok(()),
+        Some(error) => Err(error),
+    }
+}
+
+/// Whether a file on a FAT volume can have a name, as [`check_fat_name`] says.
+pub fn is_fat_name(name: Char16Slice<'_>) -> bool
+    ensures { IsTrue result ↔ IsFatName (units_of name.entry) }
+{
+    check_fat_name(name).is_ok()
+}
+
+/// Whether two names are of one file on a FAT volume: their trimmed parts are the same without
+/// case. At most one pass over each.
+///
+/// A file may also have a short name that somebody made up for it, such as `LONGNA~1.TXT`. No name
+/// says which.
+pub fn same_fat_file(first: Char16Slice<'_>, second: Char16Slice<'_>) -> bool
+    ensures { IsTrue result
+        ↔ (uppers (trimmed (units_of first.entry)) ≡ uppers (trimmed (units_of second.entry))) }
+{
+    trimmed(first).eq_ignore_case(trimmed(second))
+}

@@ -1,0 +1,112 @@
+//! Names in the 8-bit characters of short names, as the firmware's Unicode collation converts them:
+//! `StrToFat` and `FatToStr` (UEFI Specification 2.10, section 21.1). These characters are those of
+//! Latin-1.
+ghost use Rattle.std.specs.Prelude.{◌≡◌, ◌≤◌, length, min, take};
+ghost use Rattle.std.specs.List.{list_any, position_or_len};
+ghost use Rattle.uefi_fat.specs.Oem.{fat_byte, fat_bytes, fat_text, is_unfit, kept_units, written_len};
+ghost use Rattle.uefi_fat.specs.Trimming.{is_space_or_dot};
+ghost use Rattle.uefi_text.specs.FromStrWithBuf.{with_units};
+ghost use Rattle.uefi_text.specs.UnalignedCStr16.{with_prefix};
+ghost use Rattle.uefi_text.specs.Units.{is_nul, nul_terminated};
+ghost use Rattle.uefi_text.specs.Views.{units_of};
+
+use crate::short_names::is_fat_character;
+use uefi_text::chars::Char16;
+use uefi_text::strs::Char16Slice;
+
+/// What stands for a character that no short name takes.
+const UNDERSCORE: u8 = 0x5f;
+
+/// What [`str_to_fat`] wrote.
+#[derive(Clone, Copy, Debug, PartialEq, Eq)]
+pub struct FatBytes {
+    /// How many bytes.
+    pub len: usize,
+
+    /// Whether one of them is `_` in place of a character that no short name takes: then the name
+    /// needs to be kept as a long one too.
+    pub is_replaced: bool,
+}
+
+/// Whether a short name leaves the character out.
+fn is_left_out(character: Char16) -> bool
+    ensures { result ≡ is_space_or_dot character }
+{
+    let unit = u16::from(character);
+    unit == 0x20 || unit == 0x2e
+}
+
+/// The byte of a character.
+fn fat_byte(character: Char16) -> u8
+    ensures { result ≡ fat_byte character }
+{
+    if is_fat_character(character) {
+        u16::from(character.to_uppercase()) as u8
+    } else {
+        UNDERSCORE
+    }
+}
+
+/// Writes a name to the start of a buffer in the characters of short names, as `StrToFat` does:
+/// each character in upper case, or `_` where no short name takes it, and no byte for a space or a
+/// dot.
+///
+/// Ends with the buffer or the name, whichever is first; what is after the bytes is unchanged, and
+/// no NUL is written. [`is_short_name`](crate::is_short_name) has the characters. One pass.
+pub fn str_to_fat(name: Char16Slice<'_>, buffer: &mut [u8]) -> FatBytes
+    ensures buffer { buffer.new ≡ with_units (fat_bytes (units_of name.entry)) buffer.old }
+    ensures len { result.len ≡ min (length (fat_bytes (units_of name.entry))) (length buffer.old) }
+    ensures replaced { result.is_replaced
+        ≡ list_any is_unfit (take (length buffer.old) (kept_units (units_of name.entry))) }
+{
+    let mut len = 0;
+    let mut is_replaced = false;
+    for character in name.iter() {
+        if len == buffer.len() {
+            break;
+        }
+        if !is_left_out(character) {
+            buffer[len] = fat_byte(character);
+            is_replaced |= !is_fat_character(character);
+            len += 1;
+        }
+    }
+    FatBytes { len, is_replaced }
+}
+
+/// Writes bytes as units.
+fn widen(places: &mut [u16], bytes: &[u8])
+    requires { length places.now ≡ length bytes.now }
+    ensures { places.new ≡ bytes.now }
+{
+    for i in 0..places.len() {
+        places[i] = u16::from(bytes[i]);
+    }
+}
+
+/// How many bytes are before the first NUL, or how many there are where there is none.
+fn text_len(bytes: &[u8]) -> usize
+    ensures len { result ≡ position_or_len is_nul bytes.now }
+    ensures within { result ≤ length bytes.now }
+{
+    bytes.iter().take_while(|byte| **byte != 0).count()
+}
+
+/// Writes the string of bytes in the characters of short names to the start of a buffer, as
+/// `FatToStr` does: a unit for each byte before the first NUL, or for each byte where there is
+/// none, and a NUL. Returns how many units it has without the NUL.
+///
+/// `Err` with that number where the buffer has no more places than that: it is then unchanged. What
+/// is after the NUL is unchanged. Two passes.
+pub fn fat_to_str(bytes: &[u8], buffer: &mut [u16]) -> Result<usize, usize>
+    ensures len { result ≡ written_len (fat_text bytes.now) (length buffer.old) }
+    ensures buffer { buffer.new ≡ with_prefix (nul_terminated (fat_text bytes.now)) buffer.old }
+{
+    let len = text_len(bytes);
+    if buffer.len() <= len {
+        return Err(len);
+    }
+    widen(&mut buffer[..len], &bytes[..len]);
+    buffer[len] = 0;
+    Ok(len)
+}

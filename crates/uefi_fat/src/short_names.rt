@@ -1,0 +1,102 @@
+//! The 8.3 names of old directory entries, and which characters they take.
+ghost use Rattle.std.specs.Prelude.{◌≡◌, ◌<◌, ◌↔◌, IfSome, IsTrue, length, position};
+ghost use Rattle.std.specs.List.{list_all};
+ghost use Rattle.uefi_fat.specs.ShortNames.{IsShortName, IsShortPart, has_case, is_fat_unit, is_short_unit};
+ghost use Rattle.uefi_fat.specs.Trimming.{is_dot};
+ghost use Rattle.uefi_text.specs.Views.{units_of};
+
+use uefi_text::chars::Char16;
+use uefi_text::strs::Char16Slice;
+
+/// What stands between the base of a short name and its extension.
+const DOT: u16 = 0x2e;
+
+/// The most characters of a base.
+const MOST_OF_BASE: usize = 8;
+
+/// The most characters of an extension.
+const MOST_OF_EXTENSION: usize = 3;
+
+/// Whether upper or lower case changes the character.
+fn has_case(character: Char16) -> bool
+    ensures { result ≡ has_case character }
+{
+    character.to_uppercase() != character || character.to_lowercase() != character
+}
+
+/// Whether a short name takes the character, in upper case.
+pub(crate) fn is_fat_character(character: Char16) -> bool
+    ensures { result ≡ is_fat_unit character }
+{
+    has_case(character)
+        || matches!(
+            u16::from(character),
+            0x30..=0x39
+                | 0x21
+                | 0x23..=0x29
+                | 0x2d
+                | 0x40
+                | 0x5e..=0x60
+                | 0x7b
+                | 0x7d
+                | 0x7e
+        )
+}
+
+/// Whether the character stands in short names: they take it, and it is in upper case.
+fn is_short_character(character: Char16) -> bool
+    ensures { result ≡ is_short_unit character }
+{
+    is_fat_character(character) && character.to_uppercase() == character
+}
+
+/// Whether each of the characters stands in short names.
+fn are_short_characters(part: Char16Slice<'_>) -> bool
+    ensures { result ≡ list_all is_short_unit (units_of part.entry) }
+{
+    for character in part.iter() {
+        if !is_short_character(character) {
+            return false;
+        }
+    }
+    true
+}
+
+/// Whether characters are a base or an extension of a short name, of at most `most`.
+fn is_short_part(part: Char16Slice<'_>, most: usize) -> bool
+    ensures { IsTrue result ↔ IsShortPart most (units_of part.entry) }
+{
+    if part.is_empty() {
+        return false;
+    }
+    if most < part.len() {
+        return false;
+    }
+    are_short_characters(part)
+}
+
+/// The place of the first dot.
+fn first_dot(units: &[u16]) -> Option<usize>
+    ensures place { result ≡ position is_dot units.now }
+    ensures within { IfSome result (λ dot. dot < length units.now) }
+{
+    units.iter().position(|unit| *unit == DOT)
+}
+
+/// Whether a name is an 8.3 name, as it stands in a directory entry: 1 to 8 characters, and then
+/// maybe a dot and 1 to 3 more.
+///
+/// The characters are capital letters, digits and the marks ``! # $ % & ' ( ) - @ ^ _ ` { } ~``.
+/// The letters are those that have a case: `A` to `Z`, and U+00C0 to U+00DE but U+00D7. One pass.
+pub fn is_short_name(name: Char16Slice<'_>) -> bool
+    ensures { IsTrue result ↔ IsShortName (units_of name.entry) }
+{
+    match first_dot(name.units()) {
+        None => is_short_part(name, MOST_OF_BASE),
+        Some(dot) => {
+            let base = name.part(0, dot);
+            let extension = name.part(dot + 1, name.len());
+            is_short_part(base, MOST_OF_BASE) && is_short_part(extension, MOST_OF_EXTENSION)
+        }
+    }
+}
