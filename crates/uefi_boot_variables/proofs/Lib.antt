@@ -1,0 +1,2 @@
+pub mod NameTexts
+pub mod OrderLists

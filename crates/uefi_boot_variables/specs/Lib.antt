@@ -1,0 +1,4 @@
+pub mod Names
+pub mod Orders
+pub mod Laws
+pub mod Views
