@@ -1,13 +1,15 @@
 -- Lists in which numbers stand at most once.
-use Rattle.std.proofs.Common.{◌≡◌, ℕ, zero, suc, ◌+◌, ◌-◌, ◌*◌, ◌<◌, ◌≤◌, ◌↔◌, ◌∙◌, ap, sym, refl, subst, inl, inr, ◌⊎◌, ⊎_elim, Bool, true, false, ◌&&◌, ◌||◌, not, cond, eqb, List, [], ◌∷◌, ◌++◌, length, take, drop, get_or, Option, Some, None, position, Contains, append_assoc, arith}
+use Rattle.std.proofs.Common.{◌≡◌, ◌≢◌, ℕ, zero, suc, ◌+◌, ◌-◌, ◌*◌, ◌<◌, ◌≤◌, ◌↔◌, ◌∙◌, ap, sym, refl, subst, inl, inr, ◌⊎◌, ⊎_elim, Bool, true, false, ◌&&◌, ◌||◌, not, cond, eqb, List, [], ◌∷◌, ◌++◌, length, take, drop, get_or, Option, Some, None, position, Contains, append_assoc, arith}
 use Rattle.std.proofs.lemmas.Bool.{cases_eq, false≢true}
 use Rattle.std.proofs.lemmas.Bool.Decides.{nat_tests}
-use Rattle.std.proofs.lemmas.List.{append-nil, drop_all, length-append, length-take, take-append-drop, take_all, take_more}
+use Rattle.std.proofs.lemmas.List.{append-nil, drop_all, get_or_default, length-append, length-take, take-append-drop, take_all, take_more}
 use Rattle.std.proofs.lemmas.List.Quantifiers.{position-Some}
 use Rattle.std.proofs.lemmas.List.Sums.{fails_before_first, position_or_len_is}
-use Rattle.std.specs.List.{position_or_len}
+use Rattle.std.proofs.lemmas.List.Edits.{get_or-insert_at}
+use Rattle.std.proofs.lemmas.List.Kept.{AllPairs-cons}
+use Rattle.std.specs.List.{AllPairs, position_or_len}
 use Rattle.std.specs.Option.{is_some}
-use Rattle.uefi_boot_variables.specs.Orders.{no_twice, once_each, stands_in, with_front, without}
+use Rattle.uefi_boot_variables.specs.Orders.{no_twice, once_each, stands_in, with_at, with_front, without}
 
 -- a test of two numbers
 eq_true : (a b : ℕ) → a ≡ b → eqb a b ≡ true
@@ -348,3 +350,59 @@ pub front_absent : (r : Bool) (xs ys : List ℕ) (n : ℕ) → r ≡ stands_in n
 front_absent r xs ys n stood is e =
     let absent : stands_in n xs ≡ false = sym stood ∙ is in
     e ∙ without_absent n xs absent ∙ sym (ap (λ (b : Bool). cond b (n ∷ without n xs) xs) absent)
+
+-- a number stands in a list exactly where the list contains it
+contains_first : (b : Bool) (x n : ℕ) (xs : List ℕ) → eqb x n ≡ b → (b || stands_in n xs) ≡ true
+    → (stands_in n xs ≡ true → Contains xs n) → Contains (x ∷ xs) n
+contains_first true x n xs e s ih = (0, omega arith, true_eq x n e)
+contains_first false x n xs e s ih = let c = ih s in (suc c.0, omega (arith, c.1), c.2)
+
+stands_contains : (n : ℕ) (xs : List ℕ) → stands_in n xs ≡ true → Contains xs n
+stands_contains n [] e = absurd (false≢true e)
+stands_contains n (x ∷ xs) e = contains_first (eqb x n) x n xs refl e (stands_contains n xs)
+
+contains_stands : (n : ℕ) (xs : List ℕ) → Contains xs n → stands_in n xs ≡ true
+contains_stands n xs c = stands_at n xs c.0 c.1 (get_or_default xs c.0 0 n c.1 ∙ c.2)
+
+pub stands_is_contains : (n : ℕ) (xs : List ℕ) → (stands_in n xs ≡ true) ↔ Contains xs n
+stands_is_contains n xs = (stands_contains n xs, contains_stands n xs)
+
+-- no number stands twice exactly where those at two places differ
+apart_from_once : (xs : List ℕ) → no_twice xs ≡ true → AllPairs (λ a b. a ≢ b) xs
+apart_from_once [] once = λ i j d below inside. absurd (omega arith)
+apart_from_once (x ∷ xs) once =
+    let parts = and_parts (stands_in x xs) (no_twice xs) once in
+    AllPairs-cons (λ a b. a ≢ b) x xs
+      (λ k d inside same. false≢true (sym parts.0 ∙ stands_at x xs k inside (get_or_default xs k 0 d inside ∙ sym same)))
+      (apart_from_once xs parts.1)
+
+once_first : (s : Bool) (x : ℕ) (xs : List ℕ) → stands_in x xs ≡ s → AllPairs (λ a b. a ≢ b) (x ∷ xs) → no_twice xs ≡ true → no_twice (x ∷ xs) ≡ true
+once_first true x xs e apart rest =
+    let c = stands_contains x xs e in absurd (apart 0 (suc c.0) x (omega arith) (omega (arith, c.1)) (sym c.2))
+once_first false x xs e apart rest = and_both (stands_in x xs) (no_twice xs) e rest
+
+once_from_apart : (xs : List ℕ) → AllPairs (λ a b. a ≢ b) xs → no_twice xs ≡ true
+once_from_apart [] apart = refl
+once_from_apart (x ∷ xs) apart =
+    once_first (stands_in x xs) x xs refl apart
+      (once_from_apart xs (λ i j d below inside. apart (suc i) (suc j) d (omega (arith, below)) (omega (arith, inside))))
+
+pub no_twice_is_apart : (xs : List ℕ) → (no_twice xs ≡ true) ↔ AllPairs (λ a b. a ≢ b) xs
+no_twice_is_apart xs = (apart_from_once xs, once_from_apart xs)
+
+-- the others keep their order where a number is put among them
+without-insert : (n : ℕ) (ys : List ℕ) (p : ℕ) → without n (take p ys ++ n ∷ drop p ys) ≡ without n ys
+without-insert n ys p =
+    without-append n (take p ys) (n ∷ drop p ys)
+    ∙ ap (λ (l : List ℕ). without n (take p ys) ++ l)
+        (dropped (eqb n n) n (without n (drop p ys)) (without n (drop p ys)) (eq_true n n refl) refl)
+    ∙ sym (without-append n (take p ys) (drop p ys)) ∙ ap (without n) (take-append-drop p ys)
+
+pub others_keep_order : (place number : ℕ) (numbers : List ℕ) → without number (with_at place number numbers) ≡ without number numbers
+others_keep_order place number numbers =
+    without-insert number (without number numbers) place ∙ without_absent number (without number numbers) (gone number numbers)
+
+-- a number that is put at a place stands there
+pub put_where_asked : (place number : ℕ) (numbers : List ℕ) → place ≤ length (without number numbers)
+    → get_or (with_at place number numbers) place 0 ≡ number
+put_where_asked place number numbers within = get_or-insert_at (without number numbers) place number 0 within

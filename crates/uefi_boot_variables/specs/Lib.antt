@@ -1,4 +1,5 @@
 pub mod Names
 pub mod Orders
+pub mod Present
 pub mod Laws
 pub mod Views

@@ -1,6 +1,8 @@
 -- What a borrowed value shows. Other crates see these words alone, and no field.
 use Rattle.std.specs.Prelude.{ℕ, List, length, take}
-use Rattle.uefi_text.specs.Views.{items_of}
+use Rattle.uefi_text.specs.Views.{items_left, items_of}
+use Rattle.uefi_boot_variables.specs.Present.{present_options}
+use Rattle.uefi_boot_variables.specs.declared.present.PresentOptions.{PresentOptions}
 use Rattle.uefi_boot_variables.specs.declared.orders.LoadOrder.{LoadOrder}
 use Rattle.uefi_boot_variables.specs.declared.order_buffer.OrderBuffer.{OrderBuffer}
 
@@ -15,3 +17,7 @@ numbers_in buffer = take buffer.len buffer.places.now
 -- how many numbers that memory has room for
 unfoldable pub room_of : OrderBuffer → ℕ
 room_of buffer = length buffer.places.now
+
+-- the options whose variables are there that are still to come
+unfoldable pub options_left : PresentOptions → List (ℕ × List ℕ)
+options_left options = present_options options.variables.now (items_left options.order)
