@@ -373,8 +373,8 @@ apart_from_once [] once = λ i j d below inside. absurd (omega arith)
 apart_from_once (x ∷ xs) once =
     let parts = and_parts (stands_in x xs) (no_twice xs) once in
     AllPairs-cons (λ a b. a ≢ b) x xs
-      (λ k d inside same. false≢true (sym parts.0 ∙ stands_at x xs k inside (get_or_default xs k 0 d inside ∙ sym same)))
-      (apart_from_once xs parts.1)
+    (λ k d inside same. false≢true (sym parts.0 ∙ stands_at x xs k inside (get_or_default xs k 0 d inside ∙ sym same)))
+    (apart_from_once xs parts.1)
 
 once_first : (s : Bool) (x : ℕ) (xs : List ℕ) → stands_in x xs ≡ s → AllPairs (λ a b. a ≢ b) (x ∷ xs) → no_twice xs ≡ true → no_twice (x ∷ xs) ≡ true
 once_first true x xs e apart rest =
@@ -385,7 +385,7 @@ once_from_apart : (xs : List ℕ) → AllPairs (λ a b. a ≢ b) xs → no_twice
 once_from_apart [] apart = refl
 once_from_apart (x ∷ xs) apart =
     once_first (stands_in x xs) x xs refl apart
-      (once_from_apart xs (λ i j d below inside. apart (suc i) (suc j) d (omega (arith, below)) (omega (arith, inside))))
+    (once_from_apart xs (λ i j d below inside. apart (suc i) (suc j) d (omega (arith, below)) (omega (arith, inside))))
 
 pub no_twice_is_apart : (xs : List ℕ) → (no_twice xs ≡ true) ↔ AllPairs (λ a b. a ≢ b) xs
 no_twice_is_apart xs = (apart_from_once xs, once_from_apart xs)
@@ -395,7 +395,7 @@ without-insert : (n : ℕ) (ys : List ℕ) (p : ℕ) → without n (take p ys ++
 without-insert n ys p =
     without-append n (take p ys) (n ∷ drop p ys)
     ∙ ap (λ (l : List ℕ). without n (take p ys) ++ l)
-        (dropped (eqb n n) n (without n (drop p ys)) (without n (drop p ys)) (eq_true n n refl) refl)
+    (dropped (eqb n n) n (without n (drop p ys)) (without n (drop p ys)) (eq_true n n refl) refl)
     ∙ sym (without-append n (take p ys) (drop p ys)) ∙ ap (without n) (take-append-drop p ys)
 
 pub others_keep_order : (place number : ℕ) (numbers : List ℕ) → without number (with_at place number numbers) ≡ without number numbers

@@ -15,3 +15,6 @@ pub use names::{LoadOptionKind, LoadOptionName, NameBufferTooSmall};
 pub use order_buffer::{OrderBuffer, OrderFull};
 pub use orders::{LoadOrder, NotTwoBytes, OddLength, read_number};
 pub use present::PresentOptions;
+
+#[cfg(test)]
+mod tests;

@@ -14,7 +14,7 @@ pub(crate) const MOST_BYTES: usize = 65536;
 /// The attributes of a variable that is kept, and seen at boot and at run time: the four bytes that
 /// Linux puts before it. No load option begins with these, since the third bit of its attributes is
 /// reserved.
-const VARIABLE_ATTRIBUTES: [u8; 4] = [7, 0, 0, 0];
+pub(crate) const VARIABLE_ATTRIBUTES: [u8; 4] = [7, 0, 0, 0];
 
 /// Writes a character, or `?` for one that texts of device paths escape.
 fn write_shown<W: Write>(out: &mut W, character: char) -> fmt::Result {
@@ -210,9 +210,9 @@ fn write_entry<W: Write, A: Allocator + Copy>(
     Ok(false)
 }
 
-/// Writes what the entry in a variable says, with or without the four bytes that Linux puts before
-/// it. Returns whether nothing is malformed in it; or an error where memory was refused.
-pub(crate) fn write_variable<W: Write, A: Allocator + Copy>(
+/// Writes what an entry says, up to the most bytes that a variable has. Returns whether nothing is
+/// malformed in it; or an error where memory was refused.
+pub(crate) fn write_limited<W: Write, A: Allocator + Copy>(
     out: &mut W,
     alloc: A,
     bytes: &[u8],
@@ -221,9 +221,20 @@ pub(crate) fn write_variable<W: Write, A: Allocator + Copy>(
         write_malformed(out, MOST_BYTES, "entry", "it is longer than a variable")?;
         return Ok(false);
     }
-    write_entry(
-        out,
-        alloc,
-        bytes.strip_prefix(&VARIABLE_ATTRIBUTES).unwrap_or(bytes),
-    )
+    write_entry(out, alloc, bytes)
+}
+
+/// Writes what the entry in a variable says, with or without the four bytes that Linux puts before
+/// it, as [`write_limited`] does.
+pub(crate) fn write_variable<W: Write, A: Allocator + Copy>(
+    out: &mut W,
+    alloc: A,
+    bytes: &[u8],
+) -> Result<bool, fmt::Error> {
+    let entry = if bytes.len() <= MOST_BYTES {
+        bytes.strip_prefix(&VARIABLE_ATTRIBUTES).unwrap_or(bytes)
+    } else {
+        bytes
+    };
+    write_limited(out, alloc, entry)
 }

@@ -1,5 +1,5 @@
 use Rattle.std.proofs.Common.{◌≤◌, length}
-use Rattle.uefi_boot_entry.proofs.entry.write_files.Given as goal
+use Rattle.uefi_boot.proofs.entry.write_files.Given as goal
 
 -- what is left is the end of the list
 abbrev pub invariant-nodes : goal.invariant-nodes

@@ -1,5 +1,5 @@
 use Rattle.std.proofs.Common.{length, ◌-◌, ◌≤◌, ◌≡◌}
-use Rattle.uefi_boot_entry.proofs.fill.Given as goal
+use Rattle.uefi_boot.proofs.fill.Given as goal
 
 -- the bytes so far lie in the buffer
 abbrev pub invariant-loop-filled : goal.invariant-loop-filled
