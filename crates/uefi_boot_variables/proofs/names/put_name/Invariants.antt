@@ -1,4 +1,4 @@
-use Rattle.std.proofs.Common.{◌≡◌, ◌++◌, take, drop, length}
+use Rattle.std.proofs.Common.{◌≡◌, take}
 use Rattle.uefi_boot_variables.proofs.names.put_name.Given as goal
 
 -- the units so far are those of the word

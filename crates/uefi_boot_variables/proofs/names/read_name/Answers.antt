@@ -1,4 +1,4 @@
-use Rattle.std.proofs.Common.{◌≡◌, ◌++◌, ◌∙◌, length, map, sym, refl, None, Some, arith, rules}
+use Rattle.std.proofs.Common.{◌≡◌, refl, None, Some, arith, rules}
 use Rattle.std.proofs.lemmas.List.{length-map}
 use Rattle.uefi_boot_variables.proofs.NameTexts.{map_split, name_found, no_name}
 use Rattle.uefi_boot_variables.proofs.names.read_name.Goals as goal

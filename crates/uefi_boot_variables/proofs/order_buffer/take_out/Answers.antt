@@ -1,4 +1,4 @@
-use Rattle.std.proofs.Common.{◌≡◌, ◌++◌, ◌∙◌, take, drop, arith}
+use Rattle.std.proofs.Common.{arith}
 use Rattle.std.proofs.lemmas.Grind.{common_steps}
 use Rattle.uefi_boot_variables.proofs.OrderLists.{moved_out}
 use Rattle.uefi_boot_variables.proofs.order_buffer.take_out.Goals as goal

@@ -1,6 +1,5 @@
-use Rattle.std.proofs.Common.{◌≡◌, ◌++◌, length, take, arith, rules}
+use Rattle.std.proofs.Common.{arith, rules}
 use Rattle.std.proofs.lemmas.Grind.{common_steps}
-use Rattle.uefi_text.specs.Units.{nul_terminated}
 use Rattle.uefi_boot_variables.proofs.NameTexts.{names_are_texts, string_of_text}
 use Rattle.uefi_boot_variables.specs.Names.{name_text}
 use Rattle.uefi_boot_variables.proofs.names.LoadOptionName.to_cstr16.Goals as goal

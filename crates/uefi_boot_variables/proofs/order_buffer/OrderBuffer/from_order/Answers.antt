@@ -1,4 +1,4 @@
-use Rattle.std.proofs.Common.{◌∙◌, ap, sym, length, refl, arith, rules}
+use Rattle.std.proofs.Common.{◌∙◌, ap, length, refl, arith}
 use Rattle.std.proofs.lemmas.List.{take_all}
 use Rattle.uefi_boot_variables.proofs.OrderLists.{order_full, order_more, take_within}
 use Rattle.uefi_boot_variables.specs.Orders.{once_each}

@@ -1,4 +1,3 @@
-use Rattle.std.proofs.Common.{arith}
 use Rattle.uefi_boot_variables.proofs.OrderLists.{front_absent, gone}
 use Rattle.uefi_boot_variables.specs.Views.{numbers_in}
 use Rattle.uefi_boot_variables.proofs.order_buffer.OrderBuffer.move_to_front.Goals as goal

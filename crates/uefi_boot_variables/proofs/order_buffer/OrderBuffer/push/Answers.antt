@@ -1,6 +1,6 @@
-use Rattle.std.proofs.Common.{◌∙◌, sym, arith, rules}
+use Rattle.std.proofs.Common.{◌∙◌, sym, rules}
 use Rattle.uefi_boot_variables.proofs.OrderLists.{pushed_again, pushed_new}
-use Rattle.uefi_boot_variables.specs.Views.{numbers_in, room_of}
+use Rattle.uefi_boot_variables.specs.Views.{numbers_in}
 use Rattle.uefi_boot_variables.proofs.order_buffer.OrderBuffer.push.Goals as goal
 
 pub returns-then-contains-clause-ok : goal.returns-then-contains-clause-ok

@@ -1,8 +1,8 @@
-use Rattle.std.proofs.Common.{◌≡◌, ◌∙◌, ◌+◌, ◌-◌, ◌++◌, ap, suc, sym, subst, take, drop, length, false, arith, rules}
+use Rattle.std.proofs.Common.{◌≡◌, ◌∙◌, ◌-◌, ◌++◌, ap, sym, take, drop, false, arith}
 use Rattle.std.proofs.lemmas.Grind.{common_steps}
 use Rattle.uefi_boot_variables.proofs.OrderLists.{found_at, not_found, stands_at, taken_once, without_absent}
 use Rattle.uefi_boot_variables.specs.Orders.{stands_in, without}
-use Rattle.uefi_boot_variables.specs.Views.{numbers_in, room_of}
+use Rattle.uefi_boot_variables.specs.Views.{numbers_in}
 use Rattle.uefi_boot_variables.proofs.order_buffer.OrderBuffer.remove.Goals as goal
 
 pub returns-in_default-clause-numbers : goal.returns-in_default-clause-numbers

@@ -1,4 +1,3 @@
-use Rattle.std.proofs.Common.{◌∙◌, sym, subst}
 use Rattle.uefi_boot_variables.proofs.OrderLists.{found_contains}
 use Rattle.uefi_boot_variables.specs.Views.{numbers_of}
 use Rattle.uefi_boot_variables.proofs.orders.LoadOrder.contains.Goals as goal
