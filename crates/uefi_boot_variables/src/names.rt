@@ -1,5 +1,5 @@
 //! Names of the variables that hold load options (UEFI Specification 2.10, sections 3.1.3 and 3.3).
-ghost use Rattle.std.specs.Prelude.{◌≡◌, ℕ, ◌+◌, ◌*◌, ◌^◌, ◌<◌, ◌≤◌, ◌↔◌, ◌∷◌, ◌++◌, [], drop, length, map, slice_index, IfOk, IfSome, IsErr, IsTrue, OnErr, OnOk, Some};
+ghost use Rattle.std.specs.Prelude.{◌≡◌, ℕ, ◌+◌, ◌*◌, ◌^◌, ◌<◌, ◌≤◌, ◌↔◌, ◌∷◌, ◌++◌, [], drop, length, map, slice_index, IfErr, IfOk, IfSome, IsErr, IsTrue, OnErr, OnOk, Some};
 ghost use Rattle.uefi_boot_variables.specs.declared.names.LoadOptionKind.{LoadOptionKind};
 ghost use Rattle.uefi_boot_variables.specs.declared.names.LoadOptionName.{LoadOptionName};
 ghost use Rattle.uefi_boot_variables.specs.Names.{digit_of, four_digits, name_text, word_of};
@@ -44,6 +44,10 @@ pub struct NameBufferTooSmall(pub usize);
 
 /// Writes the reason, with the number of places in decimal.
 impl fmt::Display for NameBufferTooSmall {
+    ghost use Rattle.uefi_boot_variables.specs.ErrorTexts.{name_buffer_too_small_text};
+
+    ghost output = { λ error. Some (name_buffer_too_small_text error) };
+
     fn fmt<W: fmt::Write>(&self, f: &mut fmt::Formatter<W>) -> fmt::Result {
         let places = self.0;
         write!(f, "the buffer has no room for {places} units")
@@ -245,6 +249,7 @@ impl LoadOptionName {
             ≡ nul_terminated (name_text self) ++ drop (length (name_text self) + 1) buffer.old) }
         ensures err { OnErr result (buffer.new ≡ buffer.old) }
         ensures refused { IsErr result ↔ (length buffer.old ≤ length (name_text self)) }
+        ensures needs { IfErr result (λ error. error.0 ≡ length (name_text self) + 1) }
     {
         let word = self.kind.word();
         let len = word.len() + 5;
@@ -259,6 +264,7 @@ impl LoadOptionName {
     pub fn to_cstr16(self, buffer: &mut [u16]) -> Result<CStr16<'_>, NameBufferTooSmall>
         ensures ok { IfOk result (λ string. text_of string ≡ name_text self) }
         ensures refused { IsErr result ↔ (length buffer.old ≤ length (name_text self)) }
+        ensures needs { IfErr result (λ error. error.0 ≡ length (name_text self) + 1) }
     {
         let len = self.write_cstr16(buffer)?;
         Ok(CStr16::from_string(&buffer[..len]))

@@ -19,6 +19,11 @@ pub struct OrderFull;
 
 /// Writes the reason.
 impl fmt::Display for OrderFull {
+    ghost use Rattle.std.specs.Prelude.{Some};
+    ghost use Rattle.uefi_boot_variables.specs.ErrorTexts.{order_full_text};
+
+    ghost output = { λ error. Some order_full_text };
+
     fn fmt<W: fmt::Write>(&self, f: &mut fmt::Formatter<W>) -> fmt::Result {
         f.write_str("there is no room for another number")
     }

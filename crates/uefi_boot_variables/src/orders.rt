@@ -2,7 +2,7 @@
 //! `BootNext` and `BootCurrent` (UEFI Specification 2.10, section 3.3).
 #![tactic(auto, unfolding(crate::specs::Views::numbers_of))]
 
-ghost use Rattle.std.specs.Prelude.{◌≡◌, ◌==◌, ◌%◌, ◌<◌, ◌^◌, ◌↔◌, ◌∷◌, [], ℕ, Contains, length, position, slice_get, slice_index, IfOk, IsErr, IsTrue};
+ghost use Rattle.std.specs.Prelude.{◌≡◌, ◌==◌, ◌%◌, ◌<◌, ◌^◌, ◌↔◌, ◌∷◌, [], ℕ, Contains, length, position, slice_get, slice_index, IfErr, IfOk, IsErr, IsTrue, Some};
 ghost use Rattle.uefi_text.specs.UnitBytes.{unit_bytes, units_of_bytes};
 
 use std::error::Error;
@@ -16,6 +16,10 @@ pub struct OddLength;
 
 /// Writes the reason.
 impl fmt::Display for OddLength {
+    ghost use Rattle.uefi_boot_variables.specs.ErrorTexts.{odd_length_text};
+
+    ghost output = { λ error. Some odd_length_text };
+
     fn fmt<W: fmt::Write>(&self, f: &mut fmt::Formatter<W>) -> fmt::Result {
         f.write_str("an order has two bytes for each number")
     }
@@ -29,6 +33,10 @@ pub struct NotTwoBytes(pub usize);
 
 /// Writes the reason, with the count of bytes in decimal.
 impl fmt::Display for NotTwoBytes {
+    ghost use Rattle.uefi_boot_variables.specs.ErrorTexts.{not_two_bytes_text};
+
+    ghost output = { λ error. Some (not_two_bytes_text error) };
+
     fn fmt<W: fmt::Write>(&self, f: &mut fmt::Formatter<W>) -> fmt::Result {
         let count = self.0;
         write!(f, "a number has two bytes, and not {count}")
@@ -42,6 +50,7 @@ impl Error for NotTwoBytes {}
 pub fn read_number(bytes: &[u8]) -> Result<u16, NotTwoBytes>
     ensures ok { IfOk result (λ number. bytes.now ≡ unit_bytes (number ∷ [])) }
     ensures refused { IsErr result ↔ ((length bytes.now ≡ 2) → ⊥) }
+    ensures count { IfErr result (λ error. error.0 ≡ length bytes.now) }
 {
     match bytes {
         [low, high] => Ok(u16::from_le_bytes([*low, *high])),
