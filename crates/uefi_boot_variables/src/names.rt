@@ -50,7 +50,7 @@ impl fmt::Display for NameBufferTooSmall {
 
     fn fmt<W: fmt::Write>(&self, f: &mut fmt::Formatter<W>) -> fmt::Result {
         let places = self.0;
-        write!(f, "the buffer has no room for {places} units")
+        write!(f, "buffer too small: the name needs {places} units")
     }
 }
 
