@@ -4,6 +4,7 @@
 //! They stand where a crate of another repository would: on public clauses alone, with no proof file.
 #![tactic(auto)]
 
+pub mod boot_orders;
 pub mod entries;
 pub mod fat_names;
 pub mod loaders;

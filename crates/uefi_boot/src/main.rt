@@ -1,0 +1,112 @@
+//! Prints what a machine boots: one boot entry from standard input, or all that a folder or files of
+//! variables hold.
+//!
+//! Without an argument, it reads a variable `Boot####` from standard input, a load option (UEFI
+//! Specification 2.10, section 3.1.3), with or without the four bytes of the variable's attributes that
+//! Linux puts before it, and prints whether the entry is active, its description, and each file that it
+//! names, judged.
+//!
+//! The arguments are files of variables, or one folder of them: Linux's `efivars`, whose files are named
+//! by the variable and its GUID, or a folder of files that are named by the variable alone. It prints
+//! `BootOrder`, `BootCurrent` and `BootNext`, and then each entry: those of the order first, in its order,
+//! and then the others by number. Files of other names are passed over.
+//!
+//! Ends with 0 where all is well; with 1 where a variable is malformed, which is printed with the reason and the
+//! offset in the entry; with 2 where a read of standard input or a write failed; with 3, and `out of
+//! memory` on standard error, where memory was refused; with 4, and a message there, where a file or a
+//! folder can't be read.
+#![tactic(auto)]
+
+ghost use Rattle.std.specs.Prelude.{◌≤◌, IfOk, length};
+
+mod entry;
+mod listing;
+mod variables;
+mod words;
+
+use entry::{MOST_BYTES, write_variable};
+use listing::write_listing;
+use std::env;
+use std::io::{self, Read, Write};
+use std::process::ExitCode;
+use variables::{Failure, Variables, read_all};
+
+const HELP: &str = "usage: uefi_boot            prints the boot entry that standard input is
+       uefi_boot FOLDER     prints the boot variables of a folder, such as /sys/firmware/efi/efivars
+       uefi_boot FILE ..    prints those of files, named as Boot0000 or Boot0000-GUID
+status: 0 well, 1 malformed, 2 a read or a write failed, 3 out of memory, 4 a file can't be read
+";
+
+/// The bytes that a reader gives until its end, or until the buffer is full.
+fn fill<R: Read>(reader: &mut R, buffer: &mut [u8]) -> io::Result<usize>
+    ensures { IfOk result (λ count. count ≤ length buffer.new) }
+{
+    let mut filled = 0;
+    while filled < buffer.len() {
+        let count = reader.read(&mut buffer[filled..])?;
+        if count == 0 {
+            break;
+        }
+        filled += count;
+    }
+    Ok(filled)
+}
+
+fn is_out_of_memory(rt: &HostRuntime) -> ExitCode {
+    // Nothing is left to do where standard error can't be written.
+    let _ = eprint!(rt; "out of memory\n");
+    ExitCode::from(3)
+}
+
+/// Writes an output, and ends well or not, as it was found.
+fn end(rt: &HostRuntime, output: &str, is_well: bool) -> ExitCode {
+    if io::writer(rt).write_all(output.as_bytes()).is_err() {
+        return ExitCode::from(2);
+    }
+    ExitCode::from(if is_well { 0 } else { 1 })
+}
+
+/// Prints the entry that standard input is.
+fn print_entry(rt: &HostRuntime) -> ExitCode {
+    let mut buffer = [0; MOST_BYTES + 1];
+    let Ok(count) = fill(&mut rt.reader(), &mut buffer) else {
+        return ExitCode::from(2);
+    };
+    let mut output = String::new(rt.alloc());
+    match write_variable(&mut output, rt.alloc(), &buffer[..count]) {
+        Ok(is_well) => end(rt, output.as_str(), is_well),
+        Err(_) => is_out_of_memory(rt),
+    }
+}
+
+/// Prints what variables say.
+fn print_listing(rt: &HostRuntime, variables: &Variables) -> ExitCode {
+    let mut output = String::new(rt.alloc());
+    match write_listing(&mut output, rt.alloc(), variables) {
+        Ok(is_well) => end(rt, output.as_str(), is_well),
+        Err(_) => is_out_of_memory(rt),
+    }
+}
+
+fn main(rt: HostRuntime) -> ExitCode {
+    let Ok(arguments) = env::args(&rt) else {
+        return is_out_of_memory(&rt);
+    };
+    let mut names = Vec::new(rt.alloc());
+    for argument in arguments.skip(1) {
+        if names.push(argument).is_err() {
+            return is_out_of_memory(&rt);
+        }
+    }
+    if names.is_empty() {
+        return print_entry(&rt);
+    }
+    if names.iter().any(|name| name.as_str() == "--help") {
+        return end(&rt, HELP, true);
+    }
+    match read_all(&rt, &names) {
+        Ok(variables) => print_listing(&rt, &variables),
+        Err(Failure::OutOfMemory) => is_out_of_memory(&rt),
+        Err(Failure::Unreadable) => ExitCode::from(4),
+    }
+}

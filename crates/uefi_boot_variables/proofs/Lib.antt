@@ -1,0 +1,4 @@
+pub mod NameTexts
+pub mod NumberBytes
+pub mod OrderLists
+pub mod Runs

@@ -1,0 +1,408 @@
+-- Lists in which numbers stand at most once.
+use Rattle.std.proofs.Common.{◌≡◌, ◌≢◌, ℕ, zero, suc, ◌+◌, ◌<◌, ◌≤◌, ◌↔◌, ◌∙◌, ap, sym, refl, ⊎_elim, Bool, true, false, ◌&&◌, ◌||◌, not, cond, eqb, List, [], ◌∷◌, ◌++◌, length, take, drop, get_or, Option, Some, None, position, Contains, append_assoc, arith}
+use Rattle.std.proofs.lemmas.Bool.{cases_eq, false≢true}
+use Rattle.std.proofs.lemmas.Bool.Decides.{nat_tests}
+use Rattle.std.proofs.lemmas.List.{append-nil, drop_all, get_or_default, length-append, length-take, take-append-drop, take_all, take_more}
+use Rattle.std.proofs.lemmas.List.Quantifiers.{position-Some}
+use Rattle.std.proofs.lemmas.List.Sums.{fails_before_first, position_or_len_is}
+use Rattle.std.proofs.lemmas.List.Edits.{get_or-insert_at}
+use Rattle.std.proofs.lemmas.List.Kept.{AllPairs-cons}
+use Rattle.std.specs.List.{AllPairs, position_or_len}
+use Rattle.std.specs.Option.{is_some}
+use Rattle.uefi_boot_variables.specs.Orders.{no_twice, once_each, stands_in, with_at, with_front, without}
+
+-- a test of two numbers
+eq_true : (a b : ℕ) → a ≡ b → eqb a b ≡ true
+eq_true a b e = grind (arith, nat_tests)
+
+eq_false : (a b : ℕ) → (a ≡ b → ⊥) → eqb a b ≡ false
+eq_false a b ne = grind (arith, nat_tests)
+
+true_eq : (a b : ℕ) → eqb a b ≡ true → a ≡ b
+true_eq a b e = grind (arith, nat_tests)
+
+false_ne : (a b : ℕ) → eqb a b ≡ false → a ≡ b → ⊥
+false_ne a b e same = grind (arith, nat_tests)
+
+or_left : (b s : Bool) → b ≡ true → (b || s) ≡ true
+or_left true s e = refl
+or_left false s e = cc
+
+or_right : (b s : Bool) → s ≡ true → (b || s) ≡ true
+or_right true s e = refl
+or_right false s e = e
+
+or_false : (b s : Bool) → (b || s) ≡ false → (b ≡ false) × (s ≡ false)
+or_false true s e = cc
+or_false false s e = (refl, e)
+
+neither : (b s : Bool) → b ≡ false → s ≡ false → (b || s) ≡ false
+neither true s e f = cc
+neither false s e f = f
+
+and_parts : (b s : Bool) → (not b && s) ≡ true → (b ≡ false) × (s ≡ true)
+and_parts true s e = cc
+and_parts false s e = (refl, e)
+
+and_both : (b s : Bool) → b ≡ false → s ≡ true → (not b && s) ≡ true
+and_both true s e f = cc
+and_both false s e f = f
+
+-- a list without a number that does not stand in it is the list
+step_absent : (b s : Bool) (x : ℕ) (ws xs : List ℕ) → (b || s) ≡ false → (s ≡ false → ws ≡ xs) → cond (not b) (x ∷ ws) ws ≡ x ∷ xs
+step_absent true s x ws xs e ih = cc
+step_absent false s x ws xs e ih = ap (λ (l : List ℕ). x ∷ l) (ih e)
+
+pub without_absent : (n : ℕ) (xs : List ℕ) → stands_in n xs ≡ false → without n xs ≡ xs
+without_absent n [] e = refl
+without_absent n (x ∷ xs) e = step_absent (eqb x n) (stands_in n xs) x (without n xs) xs e (without_absent n xs)
+
+-- a number that is found stands in the list
+pub stands_at : (n : ℕ) (xs : List ℕ) (p : ℕ) → p < length xs → get_or xs p 0 ≡ n → stands_in n xs ≡ true
+stands_at n [] p inside e = absurd (omega arith)
+stands_at n (x ∷ xs) zero inside e = or_left (eqb x n) (stands_in n xs) (eq_true x n e)
+stands_at n (x ∷ xs) (suc p) inside e = or_right (eqb x n) (stands_in n xs) (stands_at n xs p (omega arith) e)
+
+-- where a number stands at a place, the list without it is the list without that place
+kept : (b : Bool) (x : ℕ) (ws zs : List ℕ) → b ≡ false → ws ≡ zs → cond (not b) (x ∷ ws) ws ≡ x ∷ zs
+kept true x ws zs e f = cc
+kept false x ws zs e f = ap (λ (l : List ℕ). x ∷ l) f
+
+dropped : (b : Bool) (x : ℕ) (ws zs : List ℕ) → b ≡ true → ws ≡ zs → cond (not b) (x ∷ ws) ws ≡ zs
+dropped true x ws zs e f = f
+dropped false x ws zs e f = cc
+
+pub without_at : (n : ℕ) (xs : List ℕ) (p : ℕ) → no_twice xs ≡ true → p < length xs → get_or xs p 0 ≡ n
+    → without n xs ≡ take p xs ++ drop (suc p) xs
+without_at n [] p once inside e = absurd (omega arith)
+without_at n (x ∷ xs) zero once inside e =
+    let parts = and_parts (stands_in x xs) (no_twice xs) once in
+    let absent : stands_in n xs ≡ false = ap (λ (m : ℕ). stands_in m xs) (sym e) ∙ parts.0 in
+    dropped (eqb x n) x (without n xs) xs (eq_true x n e) (without_absent n xs absent)
+without_at n (x ∷ xs) (suc p) once inside e =
+    let parts = and_parts (stands_in x xs) (no_twice xs) once in
+    let stands = stands_at n xs p (omega arith) e in
+    let ne : x ≡ n → ⊥ = λ same. let f : stands_in n xs ≡ false = ap (λ (m : ℕ). stands_in m xs) (sym same) ∙ parts.0 in false≢true (sym f ∙ stands) in
+    kept (eqb x n) x (without n xs) (take p xs ++ drop (suc p) xs) (eq_false x n ne) (without_at n xs p parts.1 (omega arith) e)
+
+-- a number that does not stand in a list does not stand in a part of it
+step_still : (m x : ℕ) (b : Bool) (ws : List ℕ) → eqb x m ≡ false → stands_in m ws ≡ false → stands_in m (cond (not b) (x ∷ ws) ws) ≡ false
+step_still m x true ws e f = f
+step_still m x false ws e f = neither (eqb x m) (stands_in m ws) e f
+
+pub absent-without : (m n : ℕ) (xs : List ℕ) → stands_in m xs ≡ false → stands_in m (without n xs) ≡ false
+absent-without m n [] e = refl
+absent-without m n (x ∷ xs) e =
+    let parts = or_false (eqb x m) (stands_in m xs) e in
+    step_still m x (eqb x n) (without n xs) parts.0 (absent-without m n xs parts.1)
+
+-- a number does not stand in a list without it
+step_gone : (n x : ℕ) (b : Bool) (ws : List ℕ) → eqb x n ≡ b → stands_in n ws ≡ false → stands_in n (cond (not b) (x ∷ ws) ws) ≡ false
+step_gone n x true ws e f = f
+step_gone n x false ws e f = neither (eqb x n) (stands_in n ws) e f
+
+pub gone : (n : ℕ) (xs : List ℕ) → stands_in n (without n xs) ≡ false
+gone n [] = refl
+gone n (x ∷ xs) = step_gone n x (eqb x n) (without n xs) refl (gone n xs)
+
+-- what is left of a list in which none stands twice is one
+step_once : (x : ℕ) (b : Bool) (ws : List ℕ) → stands_in x ws ≡ false → no_twice ws ≡ true → no_twice (cond (not b) (x ∷ ws) ws) ≡ true
+step_once x true ws e f = f
+step_once x false ws e f = and_both (stands_in x ws) (no_twice ws) e f
+
+pub no_twice-without : (n : ℕ) (xs : List ℕ) → no_twice xs ≡ true → no_twice (without n xs) ≡ true
+no_twice-without n [] once = refl
+no_twice-without n (x ∷ xs) once =
+    let parts = and_parts (stands_in x xs) (no_twice xs) once in
+    step_once x (eqb x n) (without n xs) (absent-without x n xs parts.0) (no_twice-without n xs parts.1)
+
+-- a number that is put into a list
+absent-insert : (m n : ℕ) (xs : List ℕ) (p : ℕ) → stands_in m xs ≡ false → eqb n m ≡ false → stands_in m (take p xs ++ n ∷ drop p xs) ≡ false
+absent-insert m n [] zero e ne = neither (eqb n m) false ne refl
+absent-insert m n [] (suc p) e ne = neither (eqb n m) false ne refl
+absent-insert m n (x ∷ xs) zero e ne = neither (eqb n m) (stands_in m (x ∷ xs)) ne e
+absent-insert m n (x ∷ xs) (suc p) e ne =
+    let parts = or_false (eqb x m) (stands_in m xs) e in
+    neither (eqb x m) (stands_in m (take p xs ++ n ∷ drop p xs)) parts.0 (absent-insert m n xs p parts.1 ne)
+
+pub no_twice-insert : (n : ℕ) (xs : List ℕ) (p : ℕ) → no_twice xs ≡ true → stands_in n xs ≡ false → no_twice (take p xs ++ n ∷ drop p xs) ≡ true
+no_twice-insert n [] zero once absent = refl
+no_twice-insert n [] (suc p) once absent = refl
+no_twice-insert n (x ∷ xs) zero once absent = and_both (stands_in n (x ∷ xs)) (no_twice (x ∷ xs)) absent once
+no_twice-insert n (x ∷ xs) (suc p) once absent =
+    let parts = and_parts (stands_in x xs) (no_twice xs) once in
+    let apart = or_false (eqb x n) (stands_in n xs) absent in
+    let ne : eqb n x ≡ false = eq_false n x (λ same. false_ne x n apart.0 (sym same)) in
+    and_both (stands_in x (take p xs ++ n ∷ drop p xs)) (no_twice (take p xs ++ n ∷ drop p xs))
+    (absent-insert x n xs p parts.0 ne) (no_twice-insert n xs p parts.1 apart.1)
+
+-- other numbers stand in a list without one as they did
+step_others : (m x : ℕ) (b : Bool) (ws xs : List ℕ) → (b ≡ true → eqb x m ≡ false) → stands_in m ws ≡ stands_in m xs
+    → stands_in m (cond (not b) (x ∷ ws) ws) ≡ (eqb x m || stands_in m xs)
+step_others m x true ws xs ne same = same ∙ sym (ap (λ (b : Bool). b || stands_in m xs) (ne refl))
+step_others m x false ws xs ne same = ap (λ (s : Bool). eqb x m || s) same
+
+pub others_stay : (m n : ℕ) (xs : List ℕ) → (n ≡ m → ⊥) → stands_in m (without n xs) ≡ stands_in m xs
+others_stay m n [] ne = refl
+others_stay m n (x ∷ xs) ne =
+    step_others m x (eqb x n) (without n xs) xs (λ e. eq_false x m (λ same. ne (sym (true_eq x n e) ∙ same))) (others_stay m n xs ne)
+
+-- each number of a list stands once in the list with each once
+pub stands-once_each : (m : ℕ) (xs : List ℕ) → stands_in m (once_each xs) ≡ stands_in m xs
+stands-once_each m [] = refl
+stands-once_each m (x ∷ xs) =
+    ⊎_elim
+    (λ same. let t = eq_true x m same in
+    or_left (eqb x m) (stands_in m (without x (once_each xs))) t ∙ sym (or_left (eqb x m) (stands_in m xs) t))
+    (λ ne. ap (λ (s : Bool). eqb x m || s) (others_stay m x (once_each xs) ne ∙ stands-once_each m xs))
+    (cases_eq x m)
+
+pub no_twice-once_each : (xs : List ℕ) → no_twice (once_each xs) ≡ true
+no_twice-once_each [] = refl
+no_twice-once_each (x ∷ xs) =
+    and_both (stands_in x (without x (once_each xs))) (no_twice (without x (once_each xs)))
+    (gone x (once_each xs)) (no_twice-without x (once_each xs) (no_twice-once_each xs))
+
+-- lists in which none stands twice are as they are
+pub once_each-same : (xs : List ℕ) → no_twice xs ≡ true → once_each xs ≡ xs
+once_each-same [] once = refl
+once_each-same (x ∷ xs) once =
+    let parts = and_parts (stands_in x xs) (no_twice xs) once in
+    let rest = once_each-same xs parts.1 in
+    ap (λ (l : List ℕ). x ∷ l) (ap (without x) rest ∙ without_absent x xs parts.0)
+
+-- a list without a number, and with another at its end
+step_push : (b : Bool) (x : ℕ) (ws ys : List ℕ) → cond (not b) (x ∷ (ws ++ ys)) (ws ++ ys) ≡ cond (not b) (x ∷ ws) ws ++ ys
+step_push true x ws ys = refl
+step_push false x ws ys = refl
+
+step_map : (b : Bool) (x : ℕ) (us ws : List ℕ) → us ≡ ws → cond (not b) (x ∷ us) us ≡ cond (not b) (x ∷ ws) ws
+step_map b x us ws e = ap (λ (l : List ℕ). cond (not b) (x ∷ l) l) e
+
+without-append : (n : ℕ) (xs ys : List ℕ) → without n (xs ++ ys) ≡ without n xs ++ without n ys
+without-append n [] ys = refl
+without-append n (x ∷ xs) ys =
+    step_map (eqb x n) x (without n (xs ++ ys)) (without n xs ++ without n ys) (without-append n xs ys) ∙ step_push (eqb x n) x (without n xs) (without n ys)
+
+-- one number more, which does not stand there
+pub once_each-new : (xs : List ℕ) (n : ℕ) → stands_in n xs ≡ false → once_each (xs ++ n ∷ []) ≡ once_each xs ++ n ∷ []
+once_each-new [] n absent = refl
+once_each-new (x ∷ xs) n absent =
+    let parts = or_false (eqb x n) (stands_in n xs) absent in
+    let ne : eqb n x ≡ false = eq_false n x (λ same. false_ne x n parts.0 (sym same)) in
+    let last : without x (n ∷ []) ≡ n ∷ [] = kept (eqb n x) n [] [] ne refl in
+    ap (λ (l : List ℕ). x ∷ without x l) (once_each-new xs n parts.1)
+    ∙ ap (λ (l : List ℕ). x ∷ l) (without-append x (once_each xs) (n ∷ []) ∙ ap (λ (l : List ℕ). without x (once_each xs) ++ l) last)
+
+must : (b s : Bool) → (b || s) ≡ true → s ≡ false → b ≡ true
+must true s e f = refl
+must false s e f = cc
+
+again_first : (s : Bool) (x n : ℕ) (xs : List ℕ) → (eqb x n || stands_in n xs) ≡ true → stands_in n xs ≡ s
+    → (stands_in n xs ≡ true → once_each (xs ++ n ∷ []) ≡ once_each xs) → without x (once_each (xs ++ n ∷ [])) ≡ without x (once_each xs)
+again_first true x n xs stands e ih = ap (without x) (ih e)
+again_first false x n xs stands e ih =
+    let same : n ≡ x = sym (true_eq x n (must (eqb x n) (stands_in n xs) stands e)) in
+    let last : without x (n ∷ []) ≡ [] = dropped (eqb n x) n [] [] (eq_true n x same) refl in
+    ap (without x) (once_each-new xs n e) ∙ without-append x (once_each xs) (n ∷ []) ∙ ap (λ (l : List ℕ). without x (once_each xs) ++ l) last ∙ append-nil (without x (once_each xs))
+
+-- one number more, which stands there already
+pub once_each-again : (xs : List ℕ) (n : ℕ) → stands_in n xs ≡ true → once_each (xs ++ n ∷ []) ≡ once_each xs
+once_each-again [] n stands = absurd (false≢true stands)
+once_each-again (x ∷ xs) n stands =
+    ap (λ (l : List ℕ). x ∷ l) (again_first (stands_in n xs) x n xs stands refl (once_each-again xs n))
+
+-- a list has no fewer numbers than a beginning of it
+longer : (s : Bool) (xs : List ℕ) (n : ℕ) → stands_in n xs ≡ s → length (once_each xs) ≤ length (once_each (xs ++ n ∷ []))
+longer true xs n e = omega (arith, ap length (once_each-again xs n e))
+longer false xs n e = omega (arith, ap length (once_each-new xs n e), length-append (once_each xs) (n ∷ []))
+
+pub once_each-grows : (xs ys : List ℕ) → length (once_each xs) ≤ length (once_each (xs ++ ys))
+once_each-grows xs [] = omega (arith, ap (λ (l : List ℕ). length (once_each l)) (append-nil xs))
+once_each-grows xs (y ∷ ys) =
+    omega (arith, longer (stands_in y xs) xs y refl, once_each-grows (xs ++ y ∷ []) ys, ap (λ (l : List ℕ). length (once_each l)) (append_assoc xs (y ∷ []) ys))
+
+-- the first place of a number, by a search from the front
+pub position_found : (xs : List ℕ) (n i : ℕ) → i < length xs → ((k : ℕ) → k < i → eqb (get_or xs k 0) n ≡ false) → get_or xs i 0 ≡ n
+    → Some i ≡ position (λ other. eqb other n) xs
+position_found xs n i inside before here =
+    let place = position_or_len_is (λ other. eqb other n) xs i 0 (omega arith) before (λ _. eq_true (get_or xs i 0) n here) in
+    grind (arith, nat_tests)
+
+pub position_none : (xs : List ℕ) (n i : ℕ) → length xs ≤ i → ((k : ℕ) → k < i → eqb (get_or xs k 0) n ≡ false)
+    → None ≡ position (λ other. eqb other n) xs
+position_none xs n i end before =
+    let place = position_or_len_is (λ other. eqb other n) xs (length xs) 0 (omega arith) (λ k below. before k (omega arith)) (λ h. absurd (omega arith)) in
+    grind (arith, nat_tests)
+
+-- a search finds a place exactly where the number is in the list
+some_found : (xs : List ℕ) (n i : ℕ) → position (λ other. eqb other n) xs ≡ Some i → Contains xs n
+some_found xs n i e =
+    let found = position-Some (λ other. eqb other n) xs i n e in
+    (i, found.0, true_eq (get_or xs i n) n found.1)
+
+none_left : (xs : List ℕ) (n k : ℕ) → k < length xs → get_or xs k n ≡ n → position (λ other. eqb other n) xs ≡ None → ⊥
+none_left xs n k inside here e =
+    let p : ℕ → Bool = λ other. eqb other n in
+    let last : length xs ≤ position_or_len p xs = grind (arith, nat_tests) in
+    let fails = fails_before_first p xs k n (omega (arith, last)) in
+    false≢true (sym fails ∙ eq_true (get_or xs k n) n here)
+
+pub found_contains : (xs : List ℕ) (n : ℕ) (r : Option ℕ) → r ≡ position (λ other. eqb other n) xs
+    → (is_some r ≡ true → Contains xs n) × (Contains xs n → is_some r ≡ true)
+found_contains xs n None e = (λ t. absurd (false≢true t), λ c. absurd (none_left xs n c.0 c.1 c.2 (sym e)))
+found_contains xs n (Some i) e = (λ t. some_found xs n i (sym e), λ c. refl)
+
+-- what a push makes of numbers that stand once each
+pub pushed_again : (xs : List ℕ) (n : ℕ) → no_twice xs ≡ true → stands_in n xs ≡ true → xs ≡ once_each (xs ++ n ∷ [])
+pushed_again xs n once stands = sym (once_each-again xs n stands ∙ once_each-same xs once)
+
+pub pushed_new : (xs ys : List ℕ) (n p : ℕ) → no_twice xs ≡ true → stands_in n xs ≡ false → p ≡ length xs
+    → ys ≡ take p xs ++ n ∷ drop p xs → ys ≡ once_each (xs ++ n ∷ [])
+pushed_new xs ys n p once absent end e =
+    let all : take p xs ≡ xs = take_all p xs (omega arith) in
+    let none : drop p xs ≡ [] = drop_all p xs (omega arith) in
+    e ∙ rw (all, none) (sym (once_each-new xs n absent ∙ ap (λ (l : List ℕ). l ++ n ∷ []) (once_each-same xs once)))
+
+-- what a number put in leaves
+pub put_once : (xs ys : List ℕ) (n p : ℕ) → no_twice xs ≡ true → stands_in n xs ≡ false → ys ≡ take p xs ++ n ∷ drop p xs → no_twice ys ≡ true
+put_once xs ys n p once absent e = rw e (no_twice-insert n xs p once absent)
+
+-- what a number taken out leaves
+pub taken_once : (xs ys : List ℕ) (n p : ℕ) → no_twice xs ≡ true → p < length xs → get_or xs p 0 ≡ n → ys ≡ take p xs ++ drop (suc p) xs
+    → (ys ≡ without n xs) × (no_twice ys ≡ true)
+taken_once xs ys n p once inside here e =
+    let same : ys ≡ without n xs = e ∙ sym (without_at n xs p once inside here) in
+    (same, rw same (no_twice-without n xs once))
+
+-- a number that is found nowhere does not stand in the list
+absent_by_places : (n : ℕ) (xs : List ℕ) → ((k : ℕ) → k < length xs → eqb (get_or xs k 0) n ≡ false) → stands_in n xs ≡ false
+absent_by_places n [] h = refl
+absent_by_places n (x ∷ xs) h =
+    neither (eqb x n) (stands_in n xs) (h 0 (omega arith)) (absent_by_places n xs (λ k below. h (suc k) (omega arith)))
+
+last_of_none : (xs : List ℕ) (n : ℕ) → None ≡ position (λ other. eqb other n) xs → length xs ≤ position_or_len (λ other. eqb other n) xs
+last_of_none xs n e = grind (arith, nat_tests)
+
+pub not_found : (xs : List ℕ) (n : ℕ) → None ≡ position (λ other. eqb other n) xs → stands_in n xs ≡ false
+not_found xs n e =
+    let last = last_of_none xs n e in
+    absent_by_places n xs (λ k below. fails_before_first (λ other. eqb other n) xs k 0 (omega arith))
+
+pub found_at : (xs : List ℕ) (n i : ℕ) → Some i ≡ position (λ other. eqb other n) xs → (i < length xs) × (get_or xs i 0 ≡ n)
+found_at xs n i e =
+    let found = position-Some (λ other. eqb other n) xs i 0 (sym e) in
+    (found.0, true_eq (get_or xs i 0) n found.1)
+
+-- one number more of an order
+once_each-twice : (s : Bool) (xs : List ℕ) (n : ℕ) → stands_in n xs ≡ s → once_each (once_each xs ++ n ∷ []) ≡ once_each (xs ++ n ∷ [])
+once_each-twice true xs n e =
+    once_each-again (once_each xs) n (stands-once_each n xs ∙ e) ∙ once_each-same (once_each xs) (no_twice-once_each xs) ∙ sym (once_each-again xs n e)
+once_each-twice false xs n e =
+    once_each-new (once_each xs) n (stands-once_each n xs ∙ e)
+    ∙ ap (λ (l : List ℕ). l ++ n ∷ []) (once_each-same (once_each xs) (no_twice-once_each xs)) ∙ sym (once_each-new xs n e)
+
+pub order_more : (all zs ys : List ℕ) (i n : ℕ) → i < length all → n ≡ get_or all i 0 → zs ≡ once_each (take i all)
+    → ys ≡ once_each (zs ++ n ∷ []) → ys ≡ once_each (take (i + 1) all)
+order_more all zs ys i n inside here so_far e =
+    e ∙ ap (λ (l : List ℕ). once_each (l ++ n ∷ [])) so_far ∙ once_each-twice (stands_in n (take i all)) (take i all) n refl
+    ∙ ap (λ (m : ℕ). once_each (take i all ++ m ∷ [])) here ∙ ap once_each (sym (take_more all i 0 inside))
+
+-- where a number of an order finds no room, the order has more numbers than there are places
+pub order_full : (all zs : List ℕ) (i n room : ℕ) → i < length all → n ≡ get_or all i 0 → zs ≡ once_each (take i all)
+    → stands_in n zs ≡ false → length zs ≡ room → room < length (once_each all)
+order_full all zs i n room inside here so_far absent full =
+    let new : stands_in n (take i all) ≡ false = sym (stands-once_each n (take i all)) ∙ ap (stands_in n) (sym so_far) ∙ absent in
+    let next : take (i + 1) all ≡ take i all ++ n ∷ [] = take_more all i 0 inside ∙ ap (λ (m : ℕ). take i all ++ m ∷ []) (sym here) in
+    let grown : once_each (take (i + 1) all) ≡ once_each (take i all) ++ n ∷ [] = ap once_each next ∙ once_each-new (take i all) n new in
+    omega (
+      arith,
+      ap length grown,
+      length-append (once_each (take i all)) (n ∷ []),
+      ap length so_far,
+      once_each-grows (take (i + 1) all) (drop (i + 1) all),
+      ap (λ (l : List ℕ). length (once_each l)) (take-append-drop (i + 1) all),
+    )
+
+-- the room that is left once a number was taken out
+pub room_left : (r : Bool) (xs ys : List ℕ) (n room : ℕ) → r ≡ stands_in n xs → ys ≡ without n xs
+    → (r ≡ true → length ys + 1 ≡ length xs) → length xs ≤ room → (stands_in n xs ≡ false → length xs < room) → length ys < room
+room_left true xs ys n room stood e shorter within free = omega (arith, shorter refl)
+room_left false xs ys n room stood e shorter within free =
+    omega (arith, free (sym stood), ap length e, ap length (without_absent n xs (sym stood)))
+
+-- a beginning of a list is no longer than the list
+pub take_within : (n : ℕ) (xs : List ℕ) → length (take n xs) ≤ length xs
+take_within n xs = omega (arith, length-take n xs)
+
+pub take_short : (n : ℕ) (xs : List ℕ) → length (take n xs) ≤ n
+take_short n xs = omega (arith, length-take n xs)
+
+-- the first of the numbers from a place on goes behind them
+pub moved_out : (xs : List ℕ) (p : ℕ) → p < length xs
+    → take p xs ++ (drop 1 (drop p xs) ++ take 1 (drop p xs)) ≡ (take p xs ++ drop (suc p) xs) ++ get_or xs p 0 ∷ []
+moved_out [] p inside = absurd (omega arith)
+moved_out (x ∷ xs) zero inside = refl
+moved_out (x ∷ xs) (suc p) inside = ap (λ (l : List ℕ). x ∷ l) (moved_out xs p (omega arith))
+
+-- what moving to the front makes of a list in which the number does not stand
+pub front_absent : (r : Bool) (xs ys : List ℕ) (n : ℕ) → r ≡ stands_in n xs → r ≡ false → ys ≡ without n xs → ys ≡ with_front n xs
+front_absent r xs ys n stood is e =
+    let absent : stands_in n xs ≡ false = sym stood ∙ is in
+    e ∙ without_absent n xs absent ∙ sym (ap (λ (b : Bool). cond b (n ∷ without n xs) xs) absent)
+
+-- a number stands in a list exactly where the list contains it
+contains_first : (b : Bool) (x n : ℕ) (xs : List ℕ) → eqb x n ≡ b → (b || stands_in n xs) ≡ true
+    → (stands_in n xs ≡ true → Contains xs n) → Contains (x ∷ xs) n
+contains_first true x n xs e s ih = (0, omega arith, true_eq x n e)
+contains_first false x n xs e s ih = let c = ih s in (suc c.0, omega (arith, c.1), c.2)
+
+stands_contains : (n : ℕ) (xs : List ℕ) → stands_in n xs ≡ true → Contains xs n
+stands_contains n [] e = absurd (false≢true e)
+stands_contains n (x ∷ xs) e = contains_first (eqb x n) x n xs refl e (stands_contains n xs)
+
+contains_stands : (n : ℕ) (xs : List ℕ) → Contains xs n → stands_in n xs ≡ true
+contains_stands n xs c = stands_at n xs c.0 c.1 (get_or_default xs c.0 0 n c.1 ∙ c.2)
+
+pub stands_is_contains : (n : ℕ) (xs : List ℕ) → (stands_in n xs ≡ true) ↔ Contains xs n
+stands_is_contains n xs = (stands_contains n xs, contains_stands n xs)
+
+-- no number stands twice exactly where those at two places differ
+apart_from_once : (xs : List ℕ) → no_twice xs ≡ true → AllPairs (λ a b. a ≢ b) xs
+apart_from_once [] once = λ i j d below inside. absurd (omega arith)
+apart_from_once (x ∷ xs) once =
+    let parts = and_parts (stands_in x xs) (no_twice xs) once in
+    AllPairs-cons (λ a b. a ≢ b) x xs
+    (λ k d inside same. false≢true (sym parts.0 ∙ stands_at x xs k inside (get_or_default xs k 0 d inside ∙ sym same)))
+    (apart_from_once xs parts.1)
+
+once_first : (s : Bool) (x : ℕ) (xs : List ℕ) → stands_in x xs ≡ s → AllPairs (λ a b. a ≢ b) (x ∷ xs) → no_twice xs ≡ true → no_twice (x ∷ xs) ≡ true
+once_first true x xs e apart rest =
+    let c = stands_contains x xs e in absurd (apart 0 (suc c.0) x (omega arith) (omega (arith, c.1)) (sym c.2))
+once_first false x xs e apart rest = and_both (stands_in x xs) (no_twice xs) e rest
+
+once_from_apart : (xs : List ℕ) → AllPairs (λ a b. a ≢ b) xs → no_twice xs ≡ true
+once_from_apart [] apart = refl
+once_from_apart (x ∷ xs) apart =
+    once_first (stands_in x xs) x xs refl apart
+    (once_from_apart xs (λ i j d below inside. apart (suc i) (suc j) d (omega (arith, below)) (omega (arith, inside))))
+
+pub no_twice_is_apart : (xs : List ℕ) → (no_twice xs ≡ true) ↔ AllPairs (λ a b. a ≢ b) xs
+no_twice_is_apart xs = (apart_from_once xs, once_from_apart xs)
+
+-- the others keep their order where a number is put among them
+without-insert : (n : ℕ) (ys : List ℕ) (p : ℕ) → without n (take p ys ++ n ∷ drop p ys) ≡ without n ys
+without-insert n ys p =
+    without-append n (take p ys) (n ∷ drop p ys)
+    ∙ ap (λ (l : List ℕ). without n (take p ys) ++ l)
+    (dropped (eqb n n) n (without n (drop p ys)) (without n (drop p ys)) (eq_true n n refl) refl)
+    ∙ sym (without-append n (take p ys) (drop p ys)) ∙ ap (without n) (take-append-drop p ys)
+
+pub others_keep_order : (place number : ℕ) (numbers : List ℕ) → without number (with_at place number numbers) ≡ without number numbers
+others_keep_order place number numbers =
+    without-insert number (without number numbers) place ∙ without_absent number (without number numbers) (gone number numbers)
+
+-- a number that is put at a place stands there
+pub put_where_asked : (place number : ℕ) (numbers : List ℕ) → place ≤ length (without number numbers)
+    → get_or (with_at place number numbers) place 0 ≡ number
+put_where_asked place number numbers within = get_or-insert_at (without number numbers) place number 0 within

@@ -1,0 +1,23 @@
+-- What a borrowed value shows. Other crates see these words alone, and no field.
+use Rattle.std.specs.Prelude.{ℕ, List, length, take}
+use Rattle.uefi_text.specs.Views.{items_left, items_of}
+use Rattle.uefi_boot_variables.specs.Present.{present_options}
+use Rattle.uefi_boot_variables.specs.declared.present.PresentOptions.{PresentOptions}
+use Rattle.uefi_boot_variables.specs.declared.orders.LoadOrder.{LoadOrder}
+use Rattle.uefi_boot_variables.specs.declared.order_buffer.OrderBuffer.{OrderBuffer}
+
+-- the numbers of an order
+unfoldable pub numbers_of : LoadOrder → List ℕ
+numbers_of order = items_of order.numbers
+
+-- the numbers of an order that is edited in memory of the caller
+unfoldable pub numbers_in : OrderBuffer → List ℕ
+numbers_in buffer = take buffer.len buffer.places.now
+
+-- how many numbers that memory has room for
+unfoldable pub room_of : OrderBuffer → ℕ
+room_of buffer = length buffer.places.now
+
+-- the options whose variables are there that are still to come
+unfoldable pub options_left : PresentOptions → List (ℕ × List ℕ)
+options_left options = present_options options.variables.now (items_left options.order)

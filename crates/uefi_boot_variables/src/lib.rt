@@ -1,0 +1,20 @@
+//! The variables that say what a machine boots: their names, and the orders in which options are tried.
+//!
+//! A load option is a variable whose name is a word and four digits, as `Boot001F`, and an order is a
+//! variable that lists the numbers of such names (UEFI Specification 2.10, sections 3.1 and 3.3). A
+//! [`LoadOptionName`] is such a name, read from text and written as text.
+#![tactic(auto)]
+
+pub mod laws;
+pub mod names;
+pub mod order_buffer;
+pub mod orders;
+pub mod present;
+
+pub use names::{LoadOptionKind, LoadOptionName, NameBufferTooSmall};
+pub use order_buffer::{OrderBuffer, OrderFull};
+pub use orders::{LoadOrder, NotTwoBytes, OddLength, read_number};
+pub use present::PresentOptions;
+
+#[cfg(test)]
+mod tests;

@@ -1,0 +1,230 @@
+//! Orders that are edited in memory of the caller.
+//!
+//! The memory is a slice of numbers, as firmware keeps an order once it has read it: `SetVariable` takes
+//! the address of these numbers, and twice their count as the size. Where bytes are wanted instead,
+//! [`OrderBuffer::write_bytes`] writes them.
+#![tactic(auto, unfolding(crate::specs::Views::numbers_in, crate::specs::Views::room_of, crate::specs::Views::numbers_of))]
+
+ghost use Rattle.std.specs.Prelude.{◌≡◌, ◌==◌, ◌+◌, ◌-◌, ◌*◌, ◌<◌, ◌≤◌, ◌↔◌, ◌∷◌, ◌++◌, [], ℕ, drop, insert, length, remove, take, position, true, false, slice_index, IfOk, IsErr, IsTrue, OnErr, OnOk};
+ghost use Rattle.uefi_boot_variables.specs.Orders.{no_twice, once_each, stands_in, with_at, with_front, without};
+ghost use Rattle.uefi_text.specs.UnitBytes.{unit_bytes};
+
+use crate::orders::LoadOrder;
+use std::error::Error;
+use std::fmt;
+
+/// Why an order takes no further number, or is not written: there is no room for it.
+#[derive(Clone, Copy, Debug, PartialEq, Eq)]
+pub struct OrderFull;
+
+/// Writes the reason.
+impl fmt::Display for OrderFull {
+    ghost use Rattle.std.specs.Prelude.{Some};
+    ghost use Rattle.uefi_boot_variables.specs.ErrorTexts.{order_full_text};
+
+    ghost output = { λ error. Some order_full_text };
+
+    fn fmt<W: fmt::Write>(&self, f: &mut fmt::Formatter<W>) -> fmt::Result {
+        f.write_str("there is no room for another number")
+    }
+}
+
+impl Error for OrderFull {}
+
+/// The first place of a number.
+fn place_of(numbers: &[u16], number: u16) -> Option<usize>
+    ensures { result ≡ position (λ other. other == number) numbers.now }
+{
+    numbers.iter().position(|other| *other == number)
+}
+
+/// Takes the number at a place out, and puts it behind the others.
+fn take_out(numbers: &mut [u16], place: usize)
+    requires { place < length numbers.old }
+    ensures { numbers.new ≡ remove numbers.old place ++ slice_index numbers.old place ∷ [] }
+{
+    numbers[place..].rotate_left(1);
+}
+
+/// Puts the last number at a place, before those that stood from there on.
+fn put_in(numbers: &mut [u16], place: usize)
+    requires { place < length numbers.old }
+    ensures { numbers.new ≡ insert (take (length numbers.old - 1) numbers.old) place
+        (slice_index numbers.old (length numbers.old - 1)) }
+{
+    numbers[place..].rotate_right(1);
+}
+
+/// An order that is edited in memory of the caller, in which no number stands twice. A contract sees it
+/// as `numbers_in` it, the list of its numbers, and `room_of` it, how many the memory has places for. No
+/// call takes memory.
+#[derive(Drop)]
+pub struct OrderBuffer<'a> {
+    places: &'a mut [u16],
+    len: usize,
+    pub ghost within: { len ≤ length places.now },
+    pub ghost once: { no_twice (take len places.now) ≡ true },
+}
+
+impl<'a> OrderBuffer<'a> {
+    ghost use Rattle.uefi_boot_variables.specs.Views.{numbers_in, numbers_of, room_of};
+
+    /// The order without numbers, which has room for as many as there are places.
+    pub fn new(places: &'a mut [u16]) -> Self
+        ensures numbers { numbers_in result ≡ [] }
+        ensures room { room_of result ≡ length places.old }
+    {
+        OrderBuffer { places, len: 0 }
+    }
+
+    /// The numbers of an order, each where it stands first. Refused exactly where these are more than
+    /// the places. Compares each number with those before it.
+    pub fn from_order(places: &'a mut [u16], order: &LoadOrder<'_>) -> Result<Self, OrderFull>
+        ensures ok { IfOk result (λ buffer. numbers_in buffer ≡ once_each (numbers_of order.now)) }
+        ensures room { IfOk result (λ buffer. room_of buffer ≡ length places.old) }
+        ensures refused { IsErr result ↔ (length places.old < length (once_each (numbers_of order.now))) }
+    {
+        let mut buffer = OrderBuffer::new(places);
+        for place in 0..order.len() {
+            buffer.push(order.number(place))?;
+        }
+        Ok(buffer)
+    }
+
+    /// The numbers in order.
+    pub fn as_slice(&self) -> &[u16]
+        ensures numbers { result.now ≡ numbers_in self.now }
+        ensures once { no_twice result.now ≡ true }
+    {
+        &self.places[..self.len]
+    }
+
+    /// How many numbers there are.
+    pub fn len(&self) -> usize
+        ensures { result ≡ length (numbers_in self.now) }
+    {
+        self.len
+    }
+
+    /// Whether there are no numbers.
+    pub fn is_empty(&self) -> bool
+        ensures { IsTrue result ↔ (numbers_in self.now ≡ []) }
+    {
+        self.len == 0
+    }
+
+    /// Whether a number stands in the order.
+    pub fn contains(&self, number: u16) -> bool
+        ensures { result ≡ stands_in number (numbers_in self.now) }
+    {
+        self.as_slice().contains(&number)
+    }
+
+    /// Puts a number that does not stand in the order at a place.
+    fn put(&mut self, place: usize, number: u16)
+        requires place { place ≤ length (numbers_in self.old) }
+        requires room { length (numbers_in self.old) < room_of self.old }
+        requires absent { stands_in number (numbers_in self.old) ≡ false }
+        ensures numbers { numbers_in self.new ≡ insert (numbers_in self.old) place number }
+        ensures room { room_of self.new ≡ room_of self.old }
+    {
+        self.places[self.len] = number;
+        put_in(&mut self.places[..self.len + 1], place);
+        self.len += 1;
+    }
+
+    /// Puts a number at the end, unless it stands in the order already. Refused exactly where it does
+    /// not, and there is no room; the order is then unchanged.
+    pub fn push(&mut self, number: u16) -> Result<(), OrderFull>
+        ensures ok { OnOk result (numbers_in self.new ≡ once_each (numbers_in self.old ++ number ∷ [])) }
+        ensures err { OnErr result (numbers_in self.new ≡ numbers_in self.old) }
+        ensures room { room_of self.new ≡ room_of self.old }
+        ensures refused { IsErr result ↔ ((stands_in number (numbers_in self.old) ≡ false)
+            × (length (numbers_in self.old) ≡ room_of self.old)) }
+    {
+        if self.contains(number) {
+            return Ok(());
+        }
+        if self.len == self.places.len() {
+            return Err(OrderFull);
+        }
+        self.put(self.len, number);
+        Ok(())
+    }
+
+    /// Takes a number out, and says whether it stood in the order. The others keep their order.
+    pub fn remove(&mut self, number: u16) -> bool
+        ensures numbers { numbers_in self.new ≡ without number (numbers_in self.old) }
+        ensures stood { result ≡ stands_in number (numbers_in self.old) }
+        ensures len { result ≡ true → length (numbers_in self.new) + 1 ≡ length (numbers_in self.old) }
+        ensures room { room_of self.new ≡ room_of self.old }
+    {
+        let Some(place) = place_of(self.as_slice(), number) else {
+            return false;
+        };
+        take_out(&mut self.places[..self.len], place);
+        self.len -= 1;
+        true
+    }
+
+    /// Puts a number at a place among the others, which keep their order: where it stands in the order
+    /// already, it moves. A place beyond the end is the end. Refused exactly where the number does not
+    /// stand in the order, and there is no room; the order is then unchanged.
+    pub fn insert(&mut self, place: usize, number: u16) -> Result<(), OrderFull>
+        ensures ok { OnOk result (numbers_in self.new ≡ with_at place number (numbers_in self.old)) }
+        ensures err { OnErr result (numbers_in self.new ≡ numbers_in self.old) }
+        ensures room { room_of self.new ≡ room_of self.old }
+        ensures refused { IsErr result ↔ ((stands_in number (numbers_in self.old) ≡ false)
+            × (length (numbers_in self.old) ≡ room_of self.old)) }
+    {
+        if self.len == self.places.len() && !self.contains(number) {
+            return Err(OrderFull);
+        }
+        self.remove(number);
+        self.put(place.min(self.len), number);
+        Ok(())
+    }
+
+    /// Moves a number to the front, and says whether it stood in the order; where it did not, nothing
+    /// changes. The others keep their order.
+    pub fn move_to_front(&mut self, number: u16) -> bool
+        ensures numbers { numbers_in self.new ≡ with_front number (numbers_in self.old) }
+        ensures stood { result ≡ stands_in number (numbers_in self.old) }
+        ensures room { room_of self.new ≡ room_of self.old }
+    {
+        if !self.remove(number) {
+            return false;
+        }
+        self.put(0, number);
+        true
+    }
+
+    /// Writes the bytes of the variable, two for each number and the low one first, at the start of a
+    /// buffer, and returns their count. Refused exactly where the buffer has fewer places; it is then
+    /// unchanged. What follows the bytes is unchanged.
+    pub fn write_bytes(&self, dest: &mut [u8]) -> Result<usize, OrderFull>
+        ensures ok { IfOk result (λ count. count ≡ 2 * length (numbers_in self.now)) }
+        ensures bytes { OnOk result (dest.new ≡ unit_bytes (numbers_in self.now)
+            ++ drop (2 * length (numbers_in self.now)) dest.old) }
+        ensures err { OnErr result (dest.new ≡ dest.old) }
+        ensures refused { IsErr result ↔ (length dest.old < 2 * length (numbers_in self.now)) }
+    {
+        if dest.len() / 2 < self.len {
+            return Err(OrderFull);
+        }
+        put_bytes(self.as_slice(), &mut dest[..2 * self.len]);
+        Ok(2 * self.len)
+    }
+}
+
+/// Writes numbers, two bytes for each and the low one first.
+fn put_bytes(numbers: &[u16], dest: &mut [u8])
+    requires { length dest.old ≡ 2 * length numbers.now }
+    ensures { dest.new ≡ unit_bytes numbers.now }
+{
+    for place in 0..numbers.len() {
+        let number = numbers[place];
+        dest[2 * place] = (number % 256) as u8;
+        dest[2 * place + 1] = (number / 256) as u8;
+    }
+}

@@ -1,0 +1,149 @@
+//! Orders and single numbers, as variables hold them: `BootOrder`, `DriverOrder`, `SysPrepOrder`,
+//! `BootNext` and `BootCurrent` (UEFI Specification 2.10, section 3.3).
+#![tactic(auto, unfolding(crate::specs::Views::numbers_of))]
+
+ghost use Rattle.std.specs.Prelude.{◌≡◌, ◌==◌, ◌%◌, ◌<◌, ◌^◌, ◌↔◌, ◌∷◌, [], ℕ, Contains, length, position, slice_get, slice_index, IfErr, IfOk, IsErr, IsTrue, Some};
+ghost use Rattle.uefi_text.specs.UnitBytes.{unit_bytes, units_of_bytes};
+
+use std::error::Error;
+use std::fmt;
+use uefi_text::UnalignedSlice;
+use uefi_text::unaligned_slice::UnalignedSliceIter;
+
+/// Why bytes are no order: they are odd in number.
+#[derive(Clone, Copy, Debug, PartialEq, Eq)]
+pub struct OddLength;
+
+/// Writes the reason.
+impl fmt::Display for OddLength {
+    ghost use Rattle.uefi_boot_variables.specs.ErrorTexts.{odd_length_text};
+
+    ghost output = { λ error. Some odd_length_text };
+
+    fn fmt<W: fmt::Write>(&self, f: &mut fmt::Formatter<W>) -> fmt::Result {
+        f.write_str("an order has two bytes for each number")
+    }
+}
+
+impl Error for OddLength {}
+
+/// Why bytes are no number: they are not two. It has their count.
+#[derive(Clone, Copy, Debug, PartialEq, Eq)]
+pub struct NotTwoBytes(pub usize);
+
+/// Writes the reason, with the count of bytes in decimal.
+impl fmt::Display for NotTwoBytes {
+    ghost use Rattle.uefi_boot_variables.specs.ErrorTexts.{not_two_bytes_text};
+
+    ghost output = { λ error. Some (not_two_bytes_text error) };
+
+    fn fmt<W: fmt::Write>(&self, f: &mut fmt::Formatter<W>) -> fmt::Result {
+        let count = self.0;
+        write!(f, "a number has two bytes, and not {count}")
+    }
+}
+
+impl Error for NotTwoBytes {}
+
+/// The number that the two bytes of `BootNext` or `BootCurrent` are, the low one first. Refused exactly
+/// where there are fewer or more than two. Takes no memory.
+pub fn read_number(bytes: &[u8]) -> Result<u16, NotTwoBytes>
+    ensures ok { IfOk result (λ number. bytes.now ≡ unit_bytes (number ∷ [])) }
+    ensures refused { IsErr result ↔ ((length bytes.now ≡ 2) → ⊥) }
+    ensures count { IfErr result (λ error. error.0 ≡ length bytes.now) }
+{
+    match bytes {
+        [low, high] => Ok(u16::from_le_bytes([*low, *high])),
+        _ => Err(NotTwoBytes(bytes.len())),
+    }
+}
+
+/// An order: numbers of load options that lie in the bytes of a variable, wherever these begin. A
+/// contract sees it as `numbers_of` it. No call takes memory.
+#[derive(Clone, Copy)]
+pub struct LoadOrder<'a> {
+    numbers: UnalignedSlice<'a, u16>,
+}
+
+impl<'a> LoadOrder<'a> {
+    ghost use Rattle.uefi_boot_variables.specs.Views.{numbers_of};
+    ghost use Rattle.uefi_text.specs.Runs.{GivesEach};
+    ghost use Rattle.uefi_text.specs.Views.{items_left};
+
+    /// The order that the bytes of a variable are, two for each number and the low one first. Refused
+    /// exactly where the bytes are odd in number.
+    pub fn from_bytes(bytes: &'a [u8]) -> Result<Self, OddLength>
+        ensures numbers { IfOk result (λ order. numbers_of order ≡ units_of_bytes bytes.now) }
+        ensures bytes { IfOk result (λ order. unit_bytes (numbers_of order) ≡ bytes.now) }
+        ensures refused { IsErr result ↔ (length bytes.now % 2 ≡ 1) }
+    {
+        match UnalignedSlice::from_unit_bytes(bytes) {
+            Some(numbers) => Ok(LoadOrder { numbers }),
+            None => Err(OddLength),
+        }
+    }
+
+    /// How many numbers there are; one that stands twice counts twice.
+    pub fn len(&self) -> usize
+        ensures { result ≡ length (numbers_of self.now) }
+    {
+        self.numbers.len()
+    }
+
+    /// Whether there are no numbers.
+    pub fn is_empty(&self) -> bool
+        ensures { IsTrue result ↔ (numbers_of self.now ≡ []) }
+    {
+        self.numbers.is_empty()
+    }
+
+    /// The number at a place, or `None` from the length on.
+    pub fn get(&self, place: usize) -> Option<u16>
+        ensures { result ≡ slice_get (numbers_of self.now) place }
+    {
+        self.numbers.get(place)
+    }
+
+    /// The number at a place where there is one.
+    pub(crate) fn number(&self, place: usize) -> u16
+        requires { place < length (numbers_of self.now) }
+        ensures { result ≡ slice_index (numbers_of self.now) place }
+    {
+        self.numbers.get(place).unwrap()
+    }
+
+    /// The numbers in order, and then `None` for ever.
+    pub fn iter(&self) -> UnalignedSliceIter<'a, u16>
+        ensures same { items_left result ≡ numbers_of self.now }
+        ensures bound { length (items_left result) < 2 ^ 64 }
+        ensures runs { GivesEach (λ number. number) items_left result }
+    {
+        self.numbers.iter()
+    }
+
+    /// The first place of a number, or `None` where it does not stand in the order.
+    pub fn position(&self, number: u16) -> Option<usize>
+        ensures { result ≡ position (λ other. other == number) (numbers_of self.now) }
+    {
+        for place in 0..self.len() {
+            if self.number(place) == number {
+                return Some(place);
+            }
+        }
+        None
+    }
+
+    /// Whether a number stands in the order.
+    pub fn contains(&self, number: u16) -> bool
+        ensures { IsTrue result ↔ Contains (numbers_of self.now) number }
+    {
+        self.position(number).is_some()
+    }
+}
+
+/// Prints the numbers as a list.
+impl<'a> fmt::Debug for LoadOrder<'a> {
+    fn fmt<W: fmt::Write>(&self, f: &mut fmt::Formatter<W>) -> fmt::Result {
+        f.debug_tuple("LoadOrder").field(&self.numbers).finish()
+    }
+}

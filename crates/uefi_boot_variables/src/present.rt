@@ -1,0 +1,69 @@
+//! What a boot manager walks: the options of an order whose variables are there.
+#![tactic(auto, unfolding(crate::specs::Views::numbers_of, crate::specs::Views::options_left))]
+
+ghost use Rattle.std.specs.Prelude.{◌≡◌, ◌<◌, ◌^◌, length};
+ghost use Rattle.std.specs.Iterator.{YieldsFirstBy, item_count};
+ghost use Rattle.std.specs.Option.{option_copied};
+ghost use Rattle.uefi_boot_variables.specs.Present.{bytes_of, shown};
+
+use crate::orders::LoadOrder;
+use uefi_text::unaligned_slice::UnalignedSliceIter;
+
+/// The bytes of the first of the variables that has a number.
+fn bytes_of<'a>(variables: &'a [(u16, &'a [u8])], number: u16) -> Option<&'a [u8]>
+    ensures { option_copied result ≡ bytes_of number variables.now }
+{
+    for variable in variables {
+        if variable.0 == number {
+            return Some(variable.1);
+        }
+    }
+    None
+}
+
+/// The options of an order whose variables are there, in its order: the number and the bytes of each. A
+/// contract sees it as `options_left` of it: what is still to come. It takes no memory.
+#[derive(Drop)]
+pub struct PresentOptions<'a> {
+    order: UnalignedSliceIter<'a, u16>,
+    variables: &'a [(u16, &'a [u8])],
+}
+
+impl<'a> LoadOrder<'a> {
+    ghost use Rattle.uefi_boot_variables.specs.Present.{present_options};
+    ghost use Rattle.uefi_boot_variables.specs.Views.{numbers_of, options_left};
+    ghost use Rattle.uefi_text.specs.Runs.{GivesEach};
+
+    /// The options whose variables are among those that are given as number and bytes: for each number of
+    /// the order, in order, the first variable with this number, and nothing where there is none. A number
+    /// that stands twice in the order comes twice. Each step looks through the variables.
+    pub fn present(&self, variables: &'a [(u16, &'a [u8])]) -> PresentOptions<'a>
+        ensures same { options_left result ≡ present_options variables.now (numbers_of self.now) }
+        ensures runs { GivesEach shown options_left result }
+    {
+        PresentOptions {
+            order: self.iter(),
+            variables,
+        }
+    }
+}
+
+/// Gives the options from the front, and then `None` for ever.
+impl<'a> Iterator for PresentOptions<'a> {
+    type Item = (u16, &'a [u8]);
+
+    ghost use Rattle.uefi_boot_variables.specs.Views.{options_left};
+
+    ghost next_gives = { YieldsFirstBy shown options_left };
+
+    ghost remaining = { item_count options_left };
+
+    fn next(&mut self) -> Option<(u16, &'a [u8])> {
+        'numbers: while let Some(number) = self.order.next() {
+            if let Some(bytes) = bytes_of(self.variables, number) {
+                return Some((number, bytes));
+            }
+        }
+        None
+    }
+}

@@ -1,0 +1,150 @@
+//! Rows whose values come from the UEFI Specification 2.10, sections 3.1.1, 3.1.3 and 3.3.
+use crate::{
+    LoadOptionKind, LoadOptionName, LoadOrder, NotTwoBytes, OddLength, OrderBuffer, OrderFull,
+    read_number,
+};
+use std::process::Abort;
+use std::test::Fail;
+use uefi_text::CStr16;
+
+/// Names, and what they are, or `None` for texts that are no name.
+const NAMES: &[(&str, Option<(LoadOptionKind, u16)>)] = &[
+    ("Boot0000", Some((LoadOptionKind::Boot, 0))),
+    ("Boot001F", Some((LoadOptionKind::Boot, 0x1f))),
+    ("BootFFFF", Some((LoadOptionKind::Boot, 0xffff))),
+    ("Driver000A", Some((LoadOptionKind::Driver, 10))),
+    ("SysPrep1234", Some((LoadOptionKind::SysPrep, 0x1234))),
+    (
+        "PlatformRecovery0001",
+        Some((LoadOptionKind::PlatformRecovery, 1)),
+    ),
+    ("", None),
+    ("Boot", None),
+    ("Boot001f", None),
+    ("Boot001", None),
+    ("Boot00001", None),
+    ("BootOrder", None),
+    ("BootNext", None),
+    ("Boot000G", None),
+    ("Boot000/", None),
+    ("Boot000:", None),
+    ("Boot000@", None),
+    ("boot0000", None),
+    ("SysPrepOrder", None),
+    ("Key0000", None),
+    ("0000", None),
+];
+
+fn is_read(text: &str, wanted: Option<(LoadOptionKind, u16)>) -> bool {
+    match (LoadOptionName::from_text(text), wanted) {
+        (None, None) => true,
+        (Some(name), Some((kind, number))) => name.kind == kind && name.number == number,
+        _ => false,
+    }
+}
+
+fn is_read_of_units(text: &str, wanted: Option<(LoadOptionKind, u16)>) -> bool {
+    let mut units = [0; 32];
+    let Ok(string) = CStr16::from_str_with_buf(text, &mut units) else {
+        return false;
+    };
+    LoadOptionName::from_cstr16(string) == LoadOptionName::from_text(text) && is_read(text, wanted)
+}
+
+#[test]
+fn names(rt: HostRuntime) {
+    for (text, wanted) in NAMES {
+        assert!(rt; is_read(text, *wanted), "{text}");
+        assert!(rt; is_read_of_units(text, *wanted), "{text}");
+    }
+}
+
+#[test]
+fn names_are_written(rt: HostRuntime) -> Result<(), Fail> {
+    for (text, wanted) in NAMES {
+        if let Some((kind, number)) = wanted {
+            let name = LoadOptionName {
+                kind: *kind,
+                number: *number,
+            };
+            let printed = name.to_string(rt.alloc())?;
+            assert_eq!(rt; printed.as_str(), *text);
+            let mut units = [0xffff; 32];
+            let string = name.to_cstr16(&mut units)?;
+            assert_eq!(rt; LoadOptionName::from_cstr16(string), Some(name));
+        }
+    }
+    Ok(())
+}
+
+/// Whether an order of these bytes has these numbers.
+fn has(bytes: &[u8], numbers: &[u16]) -> bool {
+    match LoadOrder::from_bytes(bytes) {
+        Ok(order) => order.iter().eq(numbers.iter().copied()),
+        Err(OddLength) => false,
+    }
+}
+
+#[test]
+fn orders(rt: HostRuntime) -> Result<(), Fail> {
+    assert!(rt; has(&[], &[]));
+    assert!(rt; has(&[3, 0, 0, 0, 0x1f, 0x20], &[3, 0, 0x201f]));
+    assert!(rt; LoadOrder::from_bytes(&[3, 0, 0]).is_err());
+    let order = LoadOrder::from_bytes(&[3, 0, 0, 0, 3, 0])?;
+    assert_eq!(rt; order.position(3), Some(0));
+    assert_eq!(rt; order.position(0), Some(1));
+    assert_eq!(rt; order.position(1), None);
+    assert!(rt; order.contains(0) && !order.contains(1));
+    Ok(())
+}
+
+#[test]
+fn numbers(rt: HostRuntime) {
+    assert_eq!(rt; read_number(&[0x34, 0x12]), Ok(0x1234));
+    assert_eq!(rt; read_number(&[1]), Err(NotTwoBytes(1)));
+    assert_eq!(rt; read_number(&[1, 0, 0, 0]), Err(NotTwoBytes(4)));
+}
+
+/// Edits of an order of three numbers in four places, and what it then is.
+fn edit(rt: &impl Abort, order: &mut OrderBuffer<'_>) {
+    assert_eq!(rt; order.as_slice(), [3, 0, 7].as_slice());
+    assert!(rt; order.move_to_front(7));
+    assert!(rt; !order.move_to_front(9));
+    assert_eq!(rt; order.as_slice(), [7, 3, 0].as_slice());
+    assert_eq!(rt; order.insert(9, 9), Ok(()));
+    assert_eq!(rt; order.insert(0, 8), Err(OrderFull));
+    assert_eq!(rt; order.insert(1, 9), Ok(()));
+    assert_eq!(rt; order.as_slice(), [7, 9, 3, 0].as_slice());
+    assert!(rt; order.remove(3));
+    assert!(rt; !order.remove(3));
+    assert_eq!(rt; order.as_slice(), [7, 9, 0].as_slice());
+}
+
+#[test]
+fn edits(rt: HostRuntime) -> Result<(), Fail> {
+    let order = LoadOrder::from_bytes(&[3, 0, 0, 0, 3, 0, 7, 0])?;
+    let mut few = [0; 2];
+    assert!(rt; OrderBuffer::from_order(&mut few, &order).is_err());
+    let mut places = [0xffff; 4];
+    let mut edited = OrderBuffer::from_order(&mut places, &order)?;
+    edit(&rt, &mut edited);
+    let mut bytes = [0xff; 7];
+    assert_eq!(rt; edited.write_bytes(&mut bytes), Ok(6));
+    assert_eq!(rt; bytes.as_slice(), [7, 0, 9, 0, 0, 0, 0xff].as_slice());
+    Ok(())
+}
+
+#[test]
+fn present(rt: HostRuntime) -> Result<(), Fail> {
+    let order = LoadOrder::from_bytes(&[3, 0, 5, 0, 0, 0])?;
+    let variables: &[(u16, &[u8])] = &[(0, &[10]), (1, &[11]), (3, &[13])];
+    let mut walk = order.present(variables);
+    let first = walk.next().ok_or("none")?;
+    assert_eq!(rt; first.0, 3);
+    assert_eq!(rt; first.1, [13].as_slice());
+    let second = walk.next().ok_or("one")?;
+    assert_eq!(rt; second.0, 0);
+    assert_eq!(rt; second.1, [10].as_slice());
+    assert!(rt; walk.next().is_none());
+    Ok(())
+}
