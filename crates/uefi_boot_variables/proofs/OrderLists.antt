@@ -338,7 +338,7 @@ take_within n xs = omega (arith, length-take n xs)
 pub take_short : (n : ℕ) (xs : List ℕ) → length (take n xs) ≤ n
 take_short n xs = omega (arith, length-take n xs)
 
--- the first of the numbers from a place on goes behind them
+-- the first of the numbers from a place on goes after them
 pub moved_out : (xs : List ℕ) (p : ℕ) → p < length xs
     → take p xs ++ (drop 1 (drop p xs) ++ take 1 (drop p xs)) ≡ (take p xs ++ drop (suc p) xs) ++ get_or xs p 0 ∷ []
 moved_out [] p inside = absurd (omega arith)

@@ -15,7 +15,8 @@ NamesAreTexts = (name : LoadOptionName) → name.number < 2 ^ 16 → IsText (nam
 
 -- the test whether a number stands in a list is that
 abbrev pub StandsIsContains : Type 0
-StandsIsContains = (number : ℕ) (numbers : List ℕ) → IsTrue (stands_in number numbers) ↔ Contains numbers number
+StandsIsContains = (number : ℕ) (numbers : List ℕ)
+    → IsTrue (stands_in number numbers) ↔ Contains numbers number
 
 -- the test that no number stands twice is that
 abbrev pub NoTwiceIsApart : Type 0

@@ -18,7 +18,8 @@ digit_of number = if nat_lt number 10 then 48 + number else 55 + number
 -- the four hexadecimal digits of a number below 65536, the highest first
 abbrev pub four_digits : ℕ → List ℕ
 four_digits number =
-    digit_of (number / 4096) ∷ digit_of (number / 256 % 16) ∷ digit_of (number / 16 % 16) ∷ digit_of (number % 16) ∷ []
+    digit_of (number / 4096) ∷ digit_of (number / 256 % 16)
+    ∷ digit_of (number / 16 % 16) ∷ digit_of (number % 16) ∷ []
 
 -- the text of a name
 abbrev pub name_text : LoadOptionName → List ℕ

@@ -38,7 +38,7 @@ fn place_of(numbers: &[u16], number: u16) -> Option<usize>
     numbers.iter().position(|other| *other == number)
 }
 
-/// Takes the number at a place out, and puts it behind the others.
+/// Takes the number at a place out, and puts it after the others.
 fn take_out(numbers: &mut [u16], place: usize)
     requires { place < length numbers.old }
     ensures { numbers.new ≡ remove numbers.old place ++ slice_index numbers.old place ∷ [] }

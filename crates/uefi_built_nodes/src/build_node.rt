@@ -27,6 +27,18 @@ pub trait BuildNode {
         ensures { bytes.new ≡ (node self.now).content };
 }
 
+/// Copies bytes one by one. `copy_from_slice` is a call of `memmove`, which firmware lacks: so it is public
+/// for what C calls.
+#[doc(hidden)]
+pub fn copy_bytes(dest: &mut [u8], bytes: &[u8])
+    requires { length dest.now ≡ length bytes.now }
+    ensures { dest.new ≡ bytes.now }
+{
+    for place in 0..bytes.len() {
+        dest[place] = bytes[place];
+    }
+}
+
 /// A node that was read, or that another path has.
 impl BuildNode for DevicePathNode<'_> {
     ghost use Rattle.uefi_device_nodes.specs.NodeViews.{node_of};
@@ -42,7 +54,7 @@ impl BuildNode for DevicePathNode<'_> {
     }
 
     fn write_data(&self, bytes: &mut [u8]) {
-        bytes.copy_from_slice(self.data());
+        copy_bytes(bytes, self.data());
     }
 }
 
@@ -72,6 +84,6 @@ impl BuildNode for RawNode<'_> {
     }
 
     fn write_data(&self, bytes: &mut [u8]) {
-        bytes.copy_from_slice(self.content);
+        copy_bytes(bytes, self.content);
     }
 }

@@ -1,7 +1,9 @@
 pub mod Splits
+pub mod ShortForms
 pub mod Runs
 pub mod Names
 pub mod Lists
+pub mod ListFaults
 pub mod Entries
 pub mod Building
 pub mod InstanceCuts

@@ -1,11 +1,13 @@
 -- Which nodes are refused by a device path that grows.
-use Rattle.std.specs.Prelude.{ℕ, ◌+◌, List, nat_lt, ◌==◌, ◌&&◌, not, if◌then◌else◌, length, Option, Some, None}
+use Rattle.std.specs.Prelude.{ℕ, ◌+◌, List, ◌++◌, nat_lt, ◌==◌, ◌&&◌, not, if◌then◌else◌, length, Option, Some, None}
 use Rattle.uefi_device_nodes.specs.Nodes.{is_end_instance}
 use Rattle.uefi_device_nodes.specs.Nodes.{Node, node_length, node_with}
 use Rattle.uefi_text.specs.UnitBytes.{unit_bytes}
 use Rattle.uefi_text.specs.Units.{nul_terminated}
 use Rattle.uefi_device_path.specs.Paths.{path_bytes}
 use Rattle.uefi_device_path.specs.declared.errors.BuildError.{BuildError}
+use Rattle.uefi_device_path.specs.declared.errors.GrowError.{GrowError}
+use Rattle.uefi_device_path.specs.declared.errors.GrowError.TheVariants.{Build}
 use Rattle.uefi_device_path.specs.declared.errors.BuildError.TheVariants.{BufferTooSmall, EndNode, NodeTooLong}
 
 -- the node that names a file: its name and a NUL
@@ -30,3 +32,12 @@ room_refusal len room None = if nat_lt room len then Some (BufferTooSmall len) e
 abbrev pub push_refusal : List Node → Node → ℕ → Option BuildError
 push_refusal nodes node room =
     room_refusal (length (path_bytes nodes) + node_length node) room (build_refusal node)
+
+-- why the nodes of another path are not added to a path of these nodes in a buffer of `room` bytes, or none
+abbrev pub append_refusal : List Node → List Node → ℕ → Option BuildError
+append_refusal nodes others room = room_refusal (length (path_bytes (nodes ++ others))) room None
+
+-- the same of the path that a buffer begins with
+abbrev pub grow_refusal : Option BuildError → Option GrowError
+grow_refusal None = None
+grow_refusal (Some error) = Some (Build error)

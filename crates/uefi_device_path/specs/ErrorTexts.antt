@@ -13,6 +13,8 @@ use Rattle.uefi_device_path.specs.declared.errors.LoadOptionCause.{LoadOptionCau
 use Rattle.uefi_device_path.specs.declared.errors.LoadOptionCause.TheVariants as option
 use Rattle.uefi_device_path.specs.declared.errors.LoadOptionError.{LoadOptionError}
 use Rattle.uefi_device_path.specs.declared.errors.BuildError.{BuildError}
+use Rattle.uefi_device_path.specs.declared.errors.GrowError.{GrowError}
+use Rattle.uefi_device_path.specs.declared.errors.GrowError.TheVariants as grow
 use Rattle.uefi_device_path.specs.declared.errors.BuildError.TheVariants as build
 use Rattle.uefi_device_path.specs.declared.errors.OptionBuildError.{OptionBuildError}
 use Rattle.uefi_device_path.specs.declared.errors.OptionBuildError.TheVariants as written
@@ -45,6 +47,11 @@ build_error_text build.NodeTooLong = codes "the node is longer than its header c
 build_error_text (build.BufferTooSmall needed) =
     codes "buffer too small: the device path needs " ++ decimal needed ++ codes " bytes"
 build_error_text build.OutOfMemory = codes "out of memory"
+
+-- what is printed where nothing is added to the path that a buffer begins with
+abbrev pub grow_error_text : GrowError → List ℕ
+grow_error_text (grow.Path error) = device_path_error_text error
+grow_error_text (grow.Build error) = build_error_text error
 
 -- what is printed where a node has no name
 abbrev pub file_path_cause_text : FilePathCause → List ℕ

@@ -26,6 +26,7 @@ pub mod FilePaths
 pub mod FilePathBuffers
 pub mod PathLists
 pub mod LoadOptions
+pub mod LoadOptionParts
 pub mod Building
 pub mod OptionBuilding
 pub mod Instances
@@ -33,4 +34,5 @@ pub mod PathTexts
 pub mod PathReading
 pub mod LenientReading
 pub mod PathUnits
+pub mod Matching
 pub mod Laws

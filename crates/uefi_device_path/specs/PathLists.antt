@@ -1,10 +1,12 @@
 -- Device paths that lie packed, one after the other.
-use Rattle.std.specs.Prelude.{◌≡◌, ◌≢◌, ℕ, ◌+◌, ◌==◌, ◌&&◌, Bool, if◌then◌else◌, List, [], ◌∷◌, ◌++◌, length, All}
+use Rattle.std.specs.Prelude.{◌≡◌, ◌≢◌, ℕ, ◌+◌, ◌==◌, ◌&&◌, Bool, if◌then◌else◌, Some, List, [], ◌∷◌, ◌++◌, length, All}
 use Rattle.std.specs.List.{flat_map, onto_first}
+use Rattle.uefi_device_nodes.specs.NodeFaults.{node_fault}
 use Rattle.uefi_device_nodes.specs.Nodes.{Node, IsInner}
-use Rattle.uefi_device_path.specs.Paths.{nodes_in, path_bytes}
+use Rattle.uefi_device_path.specs.Paths.{joined, nodes_in, path_bytes}
 use Rattle.uefi_device_path.specs.Faults.{RefusedFor}
 use Rattle.uefi_device_path.specs.declared.errors.DevicePathError.{DevicePathError}
+use Rattle.uefi_device_nodes.specs.declared.errors.NodeError.{NodeError}
 
 -- the bytes of device paths, one after the other
 abbrev pub list_bytes : List (List Node) → List ℕ
@@ -57,3 +59,15 @@ abbrev pub ListRefusedFor : List ℕ → DevicePathError → Type 0
 ListRefusedFor bytes error =
     (paths : List (List Node)) × (rest : List ℕ) × (inside : DevicePathError)
     × RefusesList bytes error paths rest inside
+
+-- bytes are these whole device paths, then these nodes of one more, and a rest at which no node begins, for
+-- this cause
+pub record Breaks (bytes : List ℕ) (paths : List (List Node)) (nodes : List Node) (cause : NodeError)
+    (rest : List ℕ) : Type 0 where
+  pub are_paths : ArePaths paths
+  pub inner : All IsInner nodes
+  pub join : bytes ≡ list_bytes paths ++ (joined nodes ++ rest)
+  pub cause_is : node_fault rest ≡ Some cause
+
+abbrev pub BreaksAfter : List ℕ → List (List Node) → List Node → NodeError → Type 0
+BreaksAfter bytes paths nodes cause = (rest : List ℕ) × Breaks bytes paths nodes cause rest

@@ -52,6 +52,18 @@ fn put_node<N: BuildNode, A: Allocator>(bytes: &mut Vec<u8, A>, header: [u8; 4],
     let _ = bytes.extend_from_slice(&[0x7f, 0xff, 4, 0]);
 }
 
+/// Writes the bytes of a path over the last four bytes.
+fn put_path<A: Allocator>(bytes: &mut Vec<u8, A>, path: &[u8])
+    requires end { 4 ≤ vec_len bytes.old }
+    requires room { vec_len bytes.old + (length path.now - 4) ≤ vec_capacity bytes.old }
+    requires path { 4 ≤ length path.now }
+    ensures { bytes.new.items ≡ without_end bytes.old.items ++ path.now }
+{
+    let start = bytes.len();
+    bytes.truncate(start - 4);
+    let _ = bytes.extend_from_slice(path);
+}
+
 /// Why a node may not stand before the end of a path, if it may not.
 pub(crate) fn check_node<N: BuildNode>(node: &N) -> Result<(), BuildError>
     ensures { result_err result ≡ build_refusal (N.node node.now) }
@@ -148,6 +160,21 @@ impl<A: Allocator> DevicePathBuf<A> {
         self.push_node(&media::FilePath {
             path_name: path.to_cstr16(),
         })
+    }
+
+    /// Adds all nodes of another path before the end, as EDK II's `AppendDevicePath` does. Fails with
+    /// `OutOfMemory` alone; the path is then unchanged. Allocates where it has no room, once.
+    pub fn append(&mut self, path: DevicePath<'_>) -> Result<(), BuildError>
+        ensures ok { OnOk result (self.new ≡ self.old ++ nodes_of path.entry) }
+        ensures err { OnErr result (self.new ≡ self.old) }
+        ensures memory { IfErr result (λ error. error ≡ BuildError.OutOfMemory) }
+    {
+        let added = path.as_bytes();
+        if self.bytes.reserve(added.len() - 4).is_err() {
+            return Err(BuildError::OutOfMemory);
+        }
+        put_path(&mut self.bytes, added);
+        Ok(())
     }
 
     /// The path, borrowed.

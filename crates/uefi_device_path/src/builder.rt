@@ -1,31 +1,19 @@
 //! Device paths that are built in a caller's buffer, without memory.
 #![tactic(auto, unfolding(crate::specs::Views::builder_nodes, crate::specs::Views::builder_room))]
 
-ghost use Rattle.std.specs.Prelude.{◌≡◌, ℕ, ◌+◌, ◌-◌, ◌<◌, ◌≤◌, ◌∷◌, ◌++◌, [], List, length, take, nat_lt, if◌then◌else◌, IfOk, OnErr, OnOk, None, Some};
+ghost use Rattle.std.specs.Prelude.{◌≡◌, ◌<◌, ◌≤◌, ◌∷◌, ◌++◌, [], length, take, nat_lt, if◌then◌else◌, IfOk, OnErr, OnOk, None, Some};
 ghost use Rattle.std.specs.Result.{result_err};
-ghost use Rattle.uefi_device_nodes.specs.Nodes.{end_entire, node_bytes, node_with};
-ghost use Rattle.uefi_device_path.specs.Building.{node_of_name, push_refusal};
+ghost use Rattle.uefi_device_nodes.specs.Nodes.{node_with};
+ghost use Rattle.uefi_device_path.specs.Building.{append_refusal, node_of_name, push_refusal};
 ghost use Rattle.uefi_path.specs.Views.{path_text};
-ghost use Rattle.uefi_device_path.specs.Paths.{IsPath, nodes_in, without_end};
+ghost use Rattle.uefi_device_path.specs.Paths.{IsPath};
 
-use crate::build::{check_node, node_header};
 use crate::device_path::DevicePath;
 use crate::errors::BuildError;
+use crate::grow::{append_at, push_at};
 use uefi_built_nodes::{BuildNode, RawNode, media};
 use uefi_device_nodes::{DeviceSubType, DeviceType};
 use uefi_path::Path;
-
-/// Writes a node, and the node that ends a path after it.
-fn put_node<N: BuildNode>(places: &mut [u8], header: [u8; 4], node: &N)
-    requires { length places.now ≡ length (N.node node.now).content + 8 }
-    ensures { places.new ≡ header ++ ((N.node node.now).content ++ node_bytes end_entire) }
-{
-    let (start, rest) = places.split_at_mut(4);
-    start.copy_from_slice(&header);
-    let (middle, end) = rest.split_at_mut(node.data_len());
-    node.write_data(middle);
-    end.copy_from_slice(&[0x7f, 0xff, 4, 0]);
-}
 
 /// A device path that is built in a caller's buffer. A contract sees it as `builder_nodes` of it, the list
 /// of its nodes, without the one that ends it, and `builder_room` of it, the bytes of the buffer.
@@ -69,17 +57,13 @@ impl<'a> DevicePathBuilder<'a> {
         ensures refusal { result_err result
             ≡ push_refusal (builder_nodes self.old) (N.node node.now) (builder_room self.old) }
     {
-        if let Err(error) = check_node(node) {
-            return Err(error);
+        match push_at(self.buffer, self.len, node) {
+            Ok(end) => {
+                self.len = end;
+                Ok(())
+            }
+            Err(error) => Err(error),
         }
-        let end = self.len + node.data_len() + 4;
-        if self.buffer.len() < end {
-            return Err(BuildError::BufferTooSmall(end));
-        }
-        let header = node_header(node);
-        put_node(&mut self.buffer[self.len - 4..end], header, node);
-        self.len = end;
-        Ok(())
     }
 
     /// Adds a node of a type, a sub-type and data, as [`DevicePathBuilder::push_node`] does.
@@ -116,6 +100,24 @@ impl<'a> DevicePathBuilder<'a> {
         self.push_node(&media::FilePath {
             path_name: path.to_cstr16(),
         })
+    }
+
+    /// Adds all nodes of another path before the end. Fails with `BufferTooSmall` and the count of bytes that
+    /// the path then needs, if the buffer has fewer; the path is then unchanged. Allocates nothing.
+    pub fn append(&mut self, path: DevicePath<'_>) -> Result<(), BuildError>
+        ensures ok { OnOk result (builder_nodes self.new ≡ builder_nodes self.old ++ nodes_of path.entry) }
+        ensures err { OnErr result (builder_nodes self.new ≡ builder_nodes self.old) }
+        ensures room { builder_room self.new ≡ builder_room self.old }
+        ensures refusal { result_err result
+            ≡ append_refusal (builder_nodes self.old) (nodes_of path.entry) (builder_room self.old) }
+    {
+        match append_at(self.buffer, self.len, path) {
+            Ok(end) => {
+                self.len = end;
+                Ok(())
+            }
+            Err(error) => Err(error),
+        }
     }
 
     /// The path, borrowed from the builder.

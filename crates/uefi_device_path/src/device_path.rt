@@ -36,6 +36,7 @@ pub struct DevicePath<'a> {
 }
 
 impl<'a> DevicePath<'a> {
+    ghost use Rattle.uefi_device_nodes.specs.NodeFaults.{fault_place};
     ghost use Rattle.uefi_device_path.specs.Faults.{RefusedFor};
     ghost use Rattle.uefi_device_path.specs.Instances.{instances};
     ghost use Rattle.uefi_device_nodes.specs.NodeViews.{node_of};
@@ -59,6 +60,7 @@ impl<'a> DevicePath<'a> {
             BeginWith bytes.now (nodes_of split.0) (node_bytes end_entire ++ split.1.now)) }
         ensures refusal { IfErr result (λ error. RefusedFor bytes.now error) }
         ensures within { IfErr result (λ error. error.offset ≤ length bytes.now) }
+        ensures place { IfErr result (λ error. fault_place error.cause ≤ error.offset) }
     {
         let mut rest = bytes;
         'nodes: loop {

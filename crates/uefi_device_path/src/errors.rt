@@ -236,6 +236,32 @@ impl fmt::Display for BuildError {
 
 impl Error for BuildError {}
 
+/// Why nothing is added to the device path that a buffer begins with.
+#[derive(Clone, Copy, Debug, PartialEq, Eq)]
+pub enum GrowError {
+    /// The buffer begins with no device path.
+    Path(DevicePathError),
+    /// The nodes may not stand there, or the buffer is too small.
+    Build(BuildError),
+}
+
+/// Prints what is wrong, in words.
+impl fmt::Display for GrowError {
+    ghost use Rattle.std.specs.Prelude.{Some};
+    ghost use Rattle.uefi_device_path.specs.ErrorTexts.{grow_error_text};
+
+    ghost output = { λ error. Some (grow_error_text error) };
+
+    fn fmt<W: fmt::Write>(&self, f: &mut fmt::Formatter<W>) -> fmt::Result {
+        match self {
+            Self::Path(error) => write!(f, "{error}"),
+            Self::Build(error) => write!(f, "{error}"),
+        }
+    }
+}
+
+impl Error for GrowError {}
+
 /// Why a load option is not written.
 #[derive(Clone, Copy, Debug, PartialEq, Eq)]
 pub enum OptionBuildError {

@@ -30,11 +30,14 @@ mod builder;
 mod device_path;
 mod errors;
 mod file_path;
+mod grow;
 mod instance;
 mod instance_text;
 pub mod laws;
 mod lenient_reader;
 mod load_option;
+mod load_option_parts;
+mod matching;
 mod node_iterator;
 mod option_builder;
 mod path_list;
@@ -46,11 +49,15 @@ pub use build::{BuildNode, DevicePathBuf};
 pub use builder::DevicePathBuilder;
 pub use device_path::DevicePath;
 pub use errors::{
-    BuildError, DevicePathError, FilePathCause, FilePathError, FilePathWriteError, LoadOptionCause,
-    LoadOptionError, NodeConversionError, NodeError, OptionBuildError, TextWriteError,
+    BuildError, DevicePathError, FilePathCause, FilePathError, FilePathWriteError, GrowError,
+    LoadOptionCause, LoadOptionError, NodeConversionError, NodeError, OptionBuildError,
+    TextWriteError,
 };
+pub use grow::{append_in_buf, push_in_buf};
 pub use instance::{DevicePathInstance, DevicePathInstanceIterator};
 pub use load_option::LoadOption;
+pub use load_option_parts::LoadOptionParts;
+pub use matching::ShortForm;
 pub use node_iterator::DevicePathNodeIterator;
 pub use option_builder::LoadOptionBuilder;
 pub use path_list::{DevicePaths, check_paths};

@@ -10,7 +10,8 @@ ghost use Rattle.std.specs.String.{string_bytes};
 ghost use Rattle.uefi_device_path.specs.LoadOptions.{Entry, EntryRefusedFor, IsEntry, entry_bytes, entry_with, lossy_utf8};
 
 use crate::errors::{LoadOptionCause, LoadOptionError};
-use crate::path_list::{DevicePaths, check_paths};
+use crate::load_option_parts::LoadOptionParts;
+use crate::path_list::{DevicePaths, find_fault};
 use std::alloc::{AllocError, Allocator};
 use std::fmt;
 use std::hash::{Hash, Hasher};
@@ -31,7 +32,8 @@ pub struct LoadOption<'a> {
 }
 
 impl<'a> LoadOption<'a> {
-    ghost use Rattle.uefi_device_path.specs.Views.{entry_of, nodes_of, paths_left};
+    ghost use Rattle.uefi_device_path.specs.Views.{entry_of, nodes_of, parts_of, paths_left};
+    ghost use Rattle.uefi_device_path.specs.LoadOptionParts.{AreWell};
     ghost use Rattle.uefi_device_path.specs.declared.errors.LoadOptionError.{LoadOptionError};
     ghost use Rattle.uefi_text.specs.Runs.{GivesEach};
 
@@ -50,47 +52,63 @@ impl<'a> LoadOption<'a> {
     {
         match LoadOption::read(bytes) {
             Ok(option) => Ok(option),
-            Err(error) => Err(error),
+            Err(parts) => Err(parts.error()),
         }
     }
 
-    /// The load option that the bytes are, field by field.
-    fn read(bytes: &'a [u8]) -> Result<Self, LoadOptionError>
+    /// The load option that the bytes are, or what is well in them up to the first fault: the attributes,
+    /// the description, the device paths before the fault and the nodes before it. What is refused, and
+    /// for what, is as [`LoadOption::from_bytes`] has it. Allocates nothing; one pass.
+    ///
+    /// Firmware such as EDK II boots an entry whose first path is whole, whatever follows that path in the
+    /// list: of such an entry the first of [`LoadOptionParts::device_paths`] is that path.
+    pub fn read_parts(bytes: &'a [u8]) -> Result<Self, LoadOptionParts<'a>>
         ensures entry { IfOk result (λ option. IsEntry (entry_of option)) }
         ensures ok { IfOk result (λ option. bytes.now ≡ entry_bytes (entry_of option)) }
-        ensures refusal { IfErr result (λ error. EntryRefusedFor bytes.now error) }
+        ensures accepts { IsOk result ↔ ((entry : Entry) × IsEntry entry × (bytes.now ≡ entry_bytes entry)) }
+        ensures refusal { IfErr result (λ parts. EntryRefusedFor bytes.now (parts_of parts).error) }
+        ensures well { IfErr result (λ parts. AreWell bytes.now (parts_of parts)) }
+    {
+        match LoadOption::read(bytes) {
+            Ok(option) => Ok(option),
+            Err(parts) => Err(parts),
+        }
+    }
+
+    /// The same, field by field.
+    fn read(bytes: &'a [u8]) -> Result<Self, LoadOptionParts<'a>>
+        ensures entry { IfOk result (λ option. IsEntry (entry_of option)) }
+        ensures ok { IfOk result (λ option. bytes.now ≡ entry_bytes (entry_of option)) }
+        ensures refusal { IfErr result (λ parts. EntryRefusedFor bytes.now (parts_of parts).error) }
+        ensures well { IfErr result (λ parts. AreWell bytes.now (parts_of parts)) }
     {
         let len = bytes.len();
         if len < 6 {
-            return Err(LoadOptionError {
-                cause: LoadOptionCause::TooShort,
-                offset: len,
-            });
+            return Err(LoadOptionParts::without_header(len));
         }
         let attributes = u32::from_le_bytes([bytes[0], bytes[1], bytes[2], bytes[3]]);
         let list_length = u16::from_le_bytes([bytes[4], bytes[5]]) as usize;
         let (_, described) = bytes.split_at(6);
         let Some((description, rest)) = UnalignedSlice::split_until_nul(described) else {
-            return Err(LoadOptionError {
-                cause: LoadOptionCause::DescriptionWithoutEnd,
-                offset: len - len % 2,
-            });
+            return Err(LoadOptionParts::without_description(attributes, len - len % 2));
         };
         if rest.len() < list_length {
-            return Err(LoadOptionError {
+            let error = LoadOptionError {
                 cause: LoadOptionCause::ListBeyondEnd,
                 offset: 4,
-            });
+            };
+            return Err(LoadOptionParts::without_list(attributes, description, error));
         }
         let start = len - rest.len();
         if list_length == 0 {
-            return Err(LoadOptionError {
+            let error = LoadOptionError {
                 cause: LoadOptionCause::EmptyList,
                 offset: start,
-            });
+            };
+            return Err(LoadOptionParts::without_list(attributes, description, error));
         }
         let (list, optional) = rest.split_at(list_length);
-        match check_paths(list) {
+        match find_fault(list) {
             Ok(()) => Ok(LoadOption {
                 bytes,
                 attributes,
@@ -98,10 +116,7 @@ impl<'a> LoadOption<'a> {
                 list,
                 optional,
             }),
-            Err(error) => Err(LoadOptionError {
-                cause: LoadOptionCause::FilePathList(error.cause),
-                offset: start + error.offset,
-            }),
+            Err(fault) => Err(LoadOptionParts::before(attributes, description, start, fault)),
         }
     }
 

@@ -2,11 +2,57 @@
 #![tactic(auto, unfolding(crate::specs::Views::paths_left))]
 
 ghost use Rattle.std.specs.Prelude.{◌≡◌, ◌≤◌, ◌<◌, ◌^◌, ◌↔◌, length, IsOk, OnOk, IfErr};
-ghost use Rattle.uefi_device_path.specs.PathLists.{ArePacked, IsPathList, ListRefusedFor, paths_in};
+ghost use Rattle.uefi_device_path.specs.PathLists.{ArePacked, BreaksAfter, IsPathList, ListRefusedFor, paths_in};
+ghost use Rattle.uefi_device_path.specs.Paths.{AreNodes, nodes_in};
 ghost use Rattle.uefi_device_path.specs.declared.errors.DevicePathError.{DevicePathError};
 
 use crate::device_path::DevicePath;
 use crate::errors::DevicePathError;
+use uefi_device_nodes::node::fault_place;
+
+/// Where bytes stop being device paths, and why.
+#[derive(Clone, Copy)]
+pub(crate) struct ListFault<'a> {
+    /// The whole paths before the fault.
+    pub(crate) paths: &'a [u8],
+    /// The nodes before the fault, of the path in which it lies.
+    pub(crate) nodes: &'a [u8],
+    pub(crate) error: DevicePathError,
+    pub ghost packed: { ArePacked paths.now },
+    pub ghost are_nodes: { AreNodes nodes.now },
+}
+
+/// Looks for the first fault of bytes that should be one device path or more, and nothing else.
+pub(crate) fn find_fault(bytes: &[u8]) -> Result<(), ListFault<'_>>
+    ensures ok { OnOk result (IsPathList bytes.now) }
+    ensures refusal { IfErr result (λ fault. ListRefusedFor bytes.now fault.error) }
+    ensures before { IfErr result (λ fault. BreaksAfter bytes.now (paths_in fault.paths.now)
+        (nodes_in fault.nodes.now) fault.error.cause) }
+    ensures within { IfErr result (λ fault. fault.error.offset ≤ length bytes.now) }
+{
+    let mut rest = bytes;
+    'paths: loop {
+        let start = bytes.len() - rest.len();
+        match DevicePath::read(rest) {
+            Ok((_, after)) => {
+                if after.is_empty() {
+                    return Ok(());
+                }
+                rest = after;
+            }
+            Err(error) => {
+                return Err(ListFault {
+                    paths: &bytes[..start],
+                    nodes: &rest[..error.offset - fault_place(error.cause)],
+                    error: DevicePathError {
+                        cause: error.cause,
+                        offset: start + error.offset,
+                    },
+                });
+            }
+        }
+    }
+}
 
 /// Whether bytes are one device path or more, and nothing else.
 ///
@@ -20,23 +66,9 @@ pub fn check_paths(bytes: &[u8]) -> Result<(), DevicePathError>
         ListRefusedFor bytes.now other → other ≡ error) }
     ensures within { IfErr result (λ error. error.offset ≤ length bytes.now) }
 {
-    let mut rest = bytes;
-    'paths: loop {
-        let start = bytes.len() - rest.len();
-        match DevicePath::read(rest) {
-            Ok((_, after)) => {
-                if after.is_empty() {
-                    return Ok(());
-                }
-                rest = after;
-            }
-            Err(error) => {
-                return Err(DevicePathError {
-                    cause: error.cause,
-                    offset: start + error.offset,
-                });
-            }
-        }
+    match find_fault(bytes) {
+        Ok(()) => Ok(()),
+        Err(fault) => Err(fault.error),
     }
 }
 

@@ -19,6 +19,8 @@ mod hostile_entries;
 mod lenient_reader;
 #[cfg(test)]
 mod load_option;
+mod load_option_parts;
+mod matching;
 #[cfg(test)]
 mod node_text;
 #[cfg(test)]

@@ -24,8 +24,16 @@ pub returns-clause-refused : goal.returns-clause-refused
 unfolding numbers_in room_of
 returns-clause-refused c =
     let n = c.loop-place.buffer.within in
-    let all = take_all c.loop-place.place (numbers_of c.args.order.now) (omega arith) in
-    (λ e. cc, λ fewer. absurd (omega (arith, ap length c.loop-place.invariant.numbers, ap (λ l. length (once_each l)) all, c.loop-place.invariant.room, take_within c.loop-place.buffer.len c.loop-place.buffer.places.now)))
+    let all = take_all c.loop-place.place (numbers_of c.args.order.now) (omega arith) in (
+      λ e. cc,
+      λ fewer. absurd (omega (
+        arith,
+        ap length c.loop-place.invariant.numbers,
+        ap (λ l. length (once_each l)) all,
+        c.loop-place.invariant.room,
+        take_within c.loop-place.buffer.len c.loop-place.buffer.places.now,
+      )),
+    )
 
 pub returns-clause-ok : goal.returns-clause-ok
 returns-clause-ok c =

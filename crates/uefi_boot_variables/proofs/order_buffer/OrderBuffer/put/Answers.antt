@@ -8,4 +8,6 @@ pub invariant_of-self-2-clause-once : goal.invariant_of-self-2-clause-once
 unfolding numbers_in room_of
 invariant_of-self-2-clause-once c =
     let s = c.args.self.now in
-    put_once (take s.len s.places.now) (take (s.len + 1) (c.put_in.new.numbers ++ drop (s.len + 1) (set s.places.now s.len c.args.number))) c.args.number c.args.place s.once c.requires.absent (grind (arith, common_steps))
+    put_once (take s.len s.places.now)
+    (take (s.len + 1) (c.put_in.new.numbers ++ drop (s.len + 1) (set s.places.now s.len c.args.number)))
+    c.args.number c.args.place s.once c.requires.absent (grind (arith, common_steps))

@@ -22,7 +22,8 @@ invariant_of-self-clause-once c =
     let s = c.args.self.now in
     let found = found_at c.as_slice.result.now c.args.number c.in-Some.place c.in-Some.ensures in
     let slice = c.as_slice.ensures.numbers in
-    (taken_once c.as_slice.result.now (take (s.len - 1) (c.take_out.new.numbers ++ drop s.len s.places.now)) c.args.number c.in-Some.place c.as_slice.ensures.once found.0 found.1 (grind (arith, common_steps))).1
+    (taken_once c.as_slice.result.now (take (s.len - 1) (c.take_out.new.numbers ++ drop s.len s.places.now))
+    c.args.number c.in-Some.place c.as_slice.ensures.once found.0 found.1 (grind (arith, common_steps))).1
 
 pub returns-clause-numbers : goal.returns-clause-numbers
 unfolding numbers_in
@@ -30,7 +31,8 @@ returns-clause-numbers c =
     let s = c.args.self.now in
     let found = found_at c.as_slice.result.now c.args.number c.in-Some.place c.in-Some.ensures in
     let slice = c.as_slice.ensures.numbers in
-    (taken_once c.as_slice.result.now (take (s.len - 1) (c.take_out.new.numbers ++ drop s.len s.places.now)) c.args.number c.in-Some.place c.as_slice.ensures.once found.0 found.1 (grind (arith, common_steps))).0
+    (taken_once c.as_slice.result.now (take (s.len - 1) (c.take_out.new.numbers ++ drop s.len s.places.now))
+    c.args.number c.in-Some.place c.as_slice.ensures.once found.0 found.1 (grind (arith, common_steps))).0
     ∙ ap (without c.args.number) slice
 
 pub returns-clause-stood : goal.returns-clause-stood

@@ -1,4 +1,5 @@
-use Rattle.std.proofs.Common.{◌∙◌, sym}
+use Rattle.std.proofs.Common.{◌∙◌, sym, subst}
+use Rattle.uefi_device_path.specs.LoadOptions.{EntryRefusedFor}
 use Rattle.uefi_device_path.specs.Views.{entry_of}
 use Rattle.uefi_device_path.proofs.Entries.{entry_once, entry_refused, entry_refused_once}
 use Rattle.uefi_device_path.proofs.load_option.LoadOption.from_bytes.Goals as goal
@@ -9,8 +10,10 @@ returns-in-Ok-clause-only c = λ entry is_entry e.
 
 pub returns-in-Err-clause-accepts : goal.returns-in-Err-clause-accepts
 returns-in-Err-clause-accepts c =
-    (λ ok. absurd (cc ok), λ found. absurd (entry_refused c.args.bytes.now c.in-Err.error c.in-Err.ensures.refusal found.0 found.1 found.2))
+    let refused = subst (EntryRefusedFor c.args.bytes.now) (sym c.error.ensures) c.in-Err.ensures.refusal in
+    (λ ok. absurd (cc ok), λ found. absurd (entry_refused c.args.bytes.now c.error.result refused found.0 found.1 found.2))
 
 pub returns-in-Err-clause-only_refusal : goal.returns-in-Err-clause-only_refusal
-returns-in-Err-clause-only_refusal c = λ other refused.
-    entry_refused_once c.args.bytes.now c.in-Err.error other c.in-Err.ensures.refusal refused
+returns-in-Err-clause-only_refusal c = λ other again.
+    let refused = subst (EntryRefusedFor c.args.bytes.now) (sym c.error.ensures) c.in-Err.ensures.refusal in
+    entry_refused_once c.args.bytes.now c.error.result other refused again

@@ -8,9 +8,9 @@ unfolding fields_of
 split_at_mut-description-requires c =
     omega (arith, long-entry_bytes (fields_of c.args.self.now), c.requires.whole, c.split_at_mut-header.ensures.back_len)
 
-pub copy_from_slice-requires : goal.copy_from_slice-requires
+pub copy_bytes-requires : goal.copy_bytes-requires
 unfolding fields_of
-copy_from_slice-requires c =
+copy_bytes-requires c =
     omega (
       arith,
       long-entry_bytes (fields_of c.args.self.now),

@@ -1,0 +1,154 @@
+//! Device paths that grow in the buffer in which they lie.
+#![tactic(auto)]
+
+ghost use Rattle.std.specs.Prelude.{◌≡◌, ℕ, ◌+◌, ◌-◌, ◌≤◌, ◌∷◌, ◌++◌, [], List, drop, length, take, Err, IfOk, IsOk, OnErr, OnOk};
+ghost use Rattle.std.specs.Result.{result_err};
+ghost use Rattle.uefi_text.specs.UnalignedCStr16.{with_prefix};
+ghost use Rattle.uefi_device_nodes.specs.Nodes.{Node, end_entire, node_bytes};
+ghost use Rattle.uefi_device_path.specs.Building.{append_refusal, grow_refusal, push_refusal};
+ghost use Rattle.uefi_device_path.specs.Faults.{RefusedFor};
+ghost use Rattle.uefi_device_path.specs.Paths.{BeginWithPath, IsPath, nodes_in, path_bytes, without_end};
+ghost use Rattle.uefi_device_path.specs.Views.{nodes_of};
+ghost use Rattle.uefi_device_path.specs.declared.errors.DevicePathError.{DevicePathError};
+
+use crate::build::{check_node, node_header};
+use crate::device_path::DevicePath;
+use crate::errors::{BuildError, GrowError};
+use uefi_built_nodes::build_node::{BuildNode, copy_bytes};
+
+/// Writes a node, and the node that ends a path after it.
+fn put_node<N: BuildNode>(places: &mut [u8], header: [u8; 4], node: &N)
+    requires { length places.now ≡ length (N.node node.now).content + 8 }
+    ensures { places.new ≡ header ++ ((N.node node.now).content ++ node_bytes end_entire) }
+{
+    let (start, rest) = places.split_at_mut(4);
+    start.copy_from_slice(&header);
+    let (middle, end) = rest.split_at_mut(node.data_len());
+    node.write_data(middle);
+    end.copy_from_slice(&[0x7f, 0xff, 4, 0]);
+}
+
+/// Adds a node before the end of the path that the first `len` bytes of a buffer are, and returns how many
+/// bytes the path then has.
+pub(crate) fn push_at<N: BuildNode>(
+    buffer: &mut [u8],
+    len: usize,
+    node: &N,
+) -> Result<usize, BuildError>
+    requires within { len ≤ length buffer.now }
+    requires is_path { IsPath (take len buffer.now) }
+    ensures within { IfOk result (λ end. end ≤ length buffer.old) }
+    ensures grown { IfOk result (λ end. IsPath (take end buffer.new)) }
+    ensures nodes { IfOk result (λ end. nodes_in (without_end (take end buffer.new))
+        ≡ nodes_in (without_end (take len buffer.old)) ++ N.node node.now ∷ []) }
+    ensures rest { IfOk result (λ end. drop end buffer.new ≡ drop end buffer.old) }
+    ensures err { OnErr result (buffer.new ≡ buffer.old) }
+    ensures refusal { result_err result
+        ≡ push_refusal (nodes_in (without_end (take len buffer.old))) (N.node node.now) (length buffer.old) }
+{
+    if let Err(error) = check_node(node) {
+        return Err(error);
+    }
+    let end = len + node.data_len() + 4;
+    if buffer.len() < end {
+        return Err(BuildError::BufferTooSmall(end));
+    }
+    let header = node_header(node);
+    put_node(&mut buffer[len - 4..end], header, node);
+    Ok(end)
+}
+
+/// Adds the nodes of another path before the end of the path that the first `len` bytes of a buffer are, and
+/// returns how many bytes the path then has.
+pub(crate) fn append_at(
+    buffer: &mut [u8],
+    len: usize,
+    path: DevicePath<'_>,
+) -> Result<usize, BuildError>
+    requires within { len ≤ length buffer.now }
+    requires is_path { IsPath (take len buffer.now) }
+    ensures within { IfOk result (λ end. end ≤ length buffer.old) }
+    ensures grown { IfOk result (λ end. IsPath (take end buffer.new)) }
+    ensures nodes { IfOk result (λ end. nodes_in (without_end (take end buffer.new))
+        ≡ nodes_in (without_end (take len buffer.old)) ++ nodes_of path.entry) }
+    ensures rest { IfOk result (λ end. drop end buffer.new ≡ drop end buffer.old) }
+    ensures err { OnErr result (buffer.new ≡ buffer.old) }
+    ensures refusal { result_err result
+        ≡ append_refusal (nodes_in (without_end (take len buffer.old))) (nodes_of path.entry)
+        (length buffer.old) }
+{
+    let added = path.as_bytes();
+    let end = len.saturating_add(added.len() - 4);
+    if buffer.len() < end {
+        return Err(BuildError::BufferTooSmall(end));
+    }
+    copy_bytes(&mut buffer[len - 4..end], added);
+    Ok(end)
+}
+
+/// How many bytes the path has that a buffer begins with.
+fn path_len(buffer: &[u8]) -> Result<usize, GrowError>
+    ensures within { IfOk result (λ len. len ≤ length buffer.now) }
+    ensures is_path { IfOk result (λ len. IsPath (take len buffer.now)) }
+    ensures begins { IfOk result (λ len.
+        BeginWithPath buffer.now (nodes_in (without_end (take len buffer.now)))) }
+    ensures accepts { (nodes : List Node) → BeginWithPath buffer.now nodes
+        → IfOk result (λ len. nodes ≡ nodes_in (without_end (take len buffer.now))) × IsOk result }
+    ensures refusal { (error : DevicePathError) → RefusedFor buffer.now error
+        → result ≡ Err (GrowError.Path error) }
+{
+    match DevicePath::from_bytes(buffer) {
+        Ok(path) => Ok(path.as_bytes().len()),
+        Err(error) => Err(GrowError::Path(error)),
+    }
+}
+
+/// Adds a node before the end of the device path that a buffer begins with, and returns how many bytes the
+/// path then has. What follows it is unchanged.
+///
+/// Fails with `Path` if the buffer begins with no device path, and then as
+/// [`DevicePathBuilder::push_node`](crate::DevicePathBuilder::push_node) does; the buffer is then
+/// unchanged. Allocates nothing; one pass over the path.
+pub fn push_in_buf<N: BuildNode>(buffer: &mut [u8], node: &N) -> Result<usize, GrowError>
+    ensures no_path { (error : DevicePathError) → RefusedFor buffer.old error
+        → result ≡ Err (GrowError.Path error) }
+    ensures refusal { (nodes : List Node) → BeginWithPath buffer.old nodes
+        → result_err result ≡ grow_refusal (push_refusal nodes (N.node node.now) (length buffer.old)) }
+    ensures len { (nodes : List Node) → BeginWithPath buffer.old nodes
+        → IfOk result (λ len. len ≡ length (path_bytes (nodes ++ N.node node.now ∷ []))) }
+    ensures buffer { (nodes : List Node) → BeginWithPath buffer.old nodes
+        → OnOk result (buffer.new ≡ with_prefix (path_bytes (nodes ++ N.node node.now ∷ [])) buffer.old) }
+    ensures err { OnErr result (buffer.new ≡ buffer.old) }
+{
+    let len = match path_len(buffer) {
+        Ok(len) => len,
+        Err(error) => return Err(error),
+    };
+    match push_at(buffer, len, node) {
+        Ok(len) => Ok(len),
+        Err(error) => Err(GrowError::Build(error)),
+    }
+}
+
+/// Adds the nodes of another path before the end of the device path that a buffer begins with, and returns
+/// how many bytes the path then has, as [`push_in_buf`] does.
+pub fn append_in_buf(buffer: &mut [u8], path: DevicePath<'_>) -> Result<usize, GrowError>
+    ensures no_path { (error : DevicePathError) → RefusedFor buffer.old error
+        → result ≡ Err (GrowError.Path error) }
+    ensures refusal { (nodes : List Node) → BeginWithPath buffer.old nodes
+        → result_err result ≡ grow_refusal (append_refusal nodes (nodes_of path.entry) (length buffer.old)) }
+    ensures len { (nodes : List Node) → BeginWithPath buffer.old nodes
+        → IfOk result (λ len. len ≡ length (path_bytes (nodes ++ nodes_of path.entry))) }
+    ensures buffer { (nodes : List Node) → BeginWithPath buffer.old nodes
+        → OnOk result (buffer.new ≡ with_prefix (path_bytes (nodes ++ nodes_of path.entry)) buffer.old) }
+    ensures err { OnErr result (buffer.new ≡ buffer.old) }
+{
+    let len = match path_len(buffer) {
+        Ok(len) => len,
+        Err(error) => return Err(error),
+    };
+    match append_at(buffer, len, path) {
+        Ok(len) => Ok(len),
+        Err(error) => Err(GrowError::Build(error)),
+    }
+}

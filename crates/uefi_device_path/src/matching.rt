@@ -1,0 +1,143 @@
+//! Device paths beside others: which begin with others, which are short, and which devices they name.
+#![tactic(auto)]
+
+ghost use Rattle.std.specs.Prelude.{◌≡◌, ◌↔◌, ◌++◌, ◌∷◌, [], IsTrue, List, MatchOption};
+ghost use Rattle.uefi_device_nodes.specs.NodeViews.{node_of};
+ghost use Rattle.uefi_device_nodes.specs.Nodes.{Node};
+ghost use Rattle.uefi_device_path.specs.Views.{nodes_of};
+ghost use Rattle.uefi_device_path.specs.Matching.{IsExpansion, Names, NameOnePartition, short_form, short_form_of};
+
+use crate::device_path::DevicePath;
+use uefi_device_nodes::DevicePathNode;
+use uefi_device_nodes::media::HardDrive;
+
+/// What a short-form device path begins with: such a path leaves out where the device is, and firmware looks
+/// for it (UEFI Specification 2.10, section 3.1.2).
+#[derive(Clone, Copy, Debug, PartialEq, Eq)]
+pub enum ShortForm {
+    /// A partition, by its number and signature: `HD(..)`.
+    HardDrive,
+    /// A file, on any volume.
+    File,
+    /// A USB device, by its class.
+    UsbClass,
+    /// A USB device, by its serial number.
+    UsbWwid,
+    /// A URI, over any network interface.
+    Uri,
+}
+
+/// The short form that a path has if this is its first node.
+fn form_of(node: DevicePathNode<'_>) -> Option<ShortForm>
+    ensures { result ≡ short_form_of (node_of node.entry) }
+{
+    match (node.device_type().0, node.sub_type().0) {
+        (4, 1) => Some(ShortForm::HardDrive),
+        (4, 4) => Some(ShortForm::File),
+        (3, 15) => Some(ShortForm::UsbClass),
+        (3, 16) => Some(ShortForm::UsbWwid),
+        (3, 24) => Some(ShortForm::Uri),
+        _ => None,
+    }
+}
+
+/// Whether two nodes name one partition.
+fn name_one_partition(node: DevicePathNode<'_>, other: DevicePathNode<'_>) -> bool
+    ensures { IsTrue result ↔ NameOnePartition (node_of node.entry) (node_of other.entry) }
+{
+    let (Ok(drive), Ok(other)) = (HardDrive::from_node(node), HardDrive::from_node(other)) else {
+        return false;
+    };
+    drive.partition_number() == other.partition_number()
+        && drive.signature_type() == other.signature_type()
+        && drive.partition_signature() == other.partition_signature()
+}
+
+/// Whether two nodes are equal.
+fn are_equal(node: DevicePathNode<'_>, other: DevicePathNode<'_>) -> bool
+    ensures { IsTrue result ↔ (node_of node.entry ≡ node_of other.entry) }
+{
+    node.as_bytes() == other.as_bytes()
+}
+
+/// Whether two paths have the same nodes.
+fn have_same_nodes(path: DevicePath<'_>, other: DevicePath<'_>) -> bool
+    ensures { IsTrue result ↔ (nodes_of path.entry ≡ nodes_of other.entry) }
+{
+    path.as_bytes() == other.as_bytes()
+}
+
+/// Whether the first node of a short form names the device, the file or the resource that a node names.
+fn is_named(first: DevicePathNode<'_>, node: DevicePathNode<'_>) -> bool
+    ensures { IsTrue result ↔ Names (node_of first.entry) (node_of node.entry) }
+{
+    match form_of(first) {
+        Some(ShortForm::HardDrive) => name_one_partition(first, node),
+        Some(ShortForm::File | ShortForm::Uri) => are_equal(first, node),
+        Some(ShortForm::UsbClass | ShortForm::UsbWwid) | None => false,
+    }
+}
+
+impl<'a> DevicePath<'a> {
+    /// The first node and the path of the others, or `None` for a path without nodes.
+    pub fn split_first_node(&self) -> Option<(DevicePathNode<'a>, DevicePath<'a>)>
+        ensures { MatchOption result (nodes_of self.now ≡ [])
+            (λ split. nodes_of self.now ≡ node_of split.0 ∷ nodes_of split.1) }
+    {
+        let (node, rest) = DevicePathNode::take_first(self.as_bytes());
+        if node.is_end_entire() {
+            return None;
+        }
+        Some((node, DevicePath::of_path(rest)))
+    }
+
+    /// The path without the nodes of another at its start, or `None` if it does not begin with them.
+    pub fn strip_prefix(&self, prefix: DevicePath<'_>) -> Option<DevicePath<'a>>
+        ensures { MatchOption result
+            ((rest : List Node) → nodes_of self.now ≡ nodes_of prefix.entry ++ rest → ⊥)
+            (λ rest. nodes_of self.now ≡ nodes_of prefix.entry ++ nodes_of rest) }
+    {
+        let front = prefix.as_bytes();
+        match self.as_bytes().strip_prefix(&front[..front.len() - 4]) {
+            Some(rest) => Some(DevicePath::of_path(rest)),
+            None => None,
+        }
+    }
+
+    /// Whether the path begins with the nodes of another.
+    pub fn starts_with(&self, prefix: DevicePath<'_>) -> bool
+        ensures { IsTrue result ↔ ((rest : List Node) × (nodes_of self.now ≡ nodes_of prefix.entry ++ rest)) }
+    {
+        self.strip_prefix(prefix).is_some()
+    }
+
+    /// The short form that the path has, by its first node, or `None` for any other path.
+    pub fn short_form(&self) -> Option<ShortForm>
+        ensures { result ≡ short_form (nodes_of self.now) }
+    {
+        let (first, _) = self.split_first_node()?;
+        form_of(first)
+    }
+
+    /// Whether this full path is one that a short form stands for: nodes that say where the device is, then
+    /// a node that the first one of the short form names, and then the same nodes.
+    ///
+    /// A partition is named by its number, the type of its signature and its signature; a file and a URI by
+    /// an equal node. No path is the expansion of a short form of a USB device: its nodes don't say which
+    /// class or serial number the device has.
+    pub fn is_expansion_of(&self, short: DevicePath<'_>) -> bool
+        ensures { IsTrue result ↔ IsExpansion (nodes_of self.now) (nodes_of short.entry) }
+    {
+        let Some((first, tail)) = short.split_first_node() else {
+            return false;
+        };
+        let mut rest = *self;
+        'nodes: while let Some((node, after)) = rest.split_first_node() {
+            if have_same_nodes(after, tail) && is_named(first, node) {
+                return true;
+            }
+            rest = after;
+        }
+        false
+    }
+}

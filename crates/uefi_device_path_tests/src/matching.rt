@@ -1,0 +1,150 @@
+//! Device paths beside others: short forms of the UEFI Specification, section 3.1.2, and what they stand for.
+
+use for_tests::bytes;
+use std::alloc::Global;
+use std::test::Fail;
+use uefi_device_path::{DevicePath, DevicePathBuf, ShortForm};
+
+/// Two paths as texts, and whether the first is an expansion of the second.
+const EXPANSIONS: &[(&str, &str, bool)] = &[
+    (
+        "PciRoot(0x0)/Pci(0x1,0x0)/HD(1,MBR,0x12345678,0x800,0x100)/\\a.efi",
+        "HD(1,MBR,0x12345678,0x0,0x0)/\\a.efi",
+        true,
+    ),
+    (
+        "PciRoot(0x0)/HD(2,MBR,0x12345678,0x800,0x100)",
+        "HD(1,MBR,0x12345678,0x800,0x100)",
+        false,
+    ),
+    (
+        "PciRoot(0x0)/HD(1,MBR,0x12345679,0x800,0x100)",
+        "HD(1,MBR,0x12345678,0x800,0x100)",
+        false,
+    ),
+    (
+        "PciRoot(0x0)/HD(1,GPT,78563412-0000-0000-0000-000000000000,0x800,0x100)",
+        "HD(1,MBR,0x12345678,0x800,0x100)",
+        false,
+    ),
+    (
+        "PciRoot(0x0)/HD(1,MBR,0x12345678,0x0,0x0)/\\a.efi",
+        "HD(1,MBR,0x12345678,0x0,0x0)/\\b.efi",
+        false,
+    ),
+    (
+        "PciRoot(0x0)/HD(1,MBR,0x12345678,0x0,0x0)/\\a.efi",
+        "HD(1,MBR,0x12345678,0x0,0x0)",
+        false,
+    ),
+    ("PciRoot(0x0)/\\EFI\\a.efi", "\\EFI\\a.efi", true),
+    ("\\EFI\\a.efi", "\\EFI\\a.efi", true),
+    ("PciRoot(0x0)/\\EFI\\A.efi", "\\EFI\\a.efi", false),
+    (
+        "MAC(0013720AB0FF,0x1)/Uri(http://a/b)",
+        "Uri(http://a/b)",
+        true,
+    ),
+    (
+        "PciRoot(0x0)/UsbClass(0x1,0x2,0x5,0x4,0x5)",
+        "UsbClass(0x1,0x2,0x5,0x4,0x5)",
+        false,
+    ),
+    ("PciRoot(0x0)/Pci(0x1,0x0)", "Pci(0x1,0x0)", false),
+    ("PciRoot(0x0)", "", false),
+];
+
+/// A path as a text, and its short form.
+const SHORT_FORMS: &[(&str, Option<ShortForm>)] = &[
+    (
+        "HD(1,MBR,0x12345678,0x0,0x0)/\\a.efi",
+        Some(ShortForm::HardDrive),
+    ),
+    ("\\a.efi", Some(ShortForm::File)),
+    ("UsbClass(0x1,0x2,0x5,0x4,0x5)", Some(ShortForm::UsbClass)),
+    ("UsbWwid(0x1,0x2,0x3,\"a\")", Some(ShortForm::UsbWwid)),
+    ("Uri(http://a/b)", Some(ShortForm::Uri)),
+    ("PciRoot(0x0)/HD(1,MBR,0x12345678,0x0,0x0)", None),
+    ("CDROM(0x0,0x1,0x2)", None),
+    ("", None),
+];
+
+/// Whether one path as a text is an expansion of another.
+fn is_expansion(alloc: Global, path: &str, short: &str) -> Result<bool, Fail> {
+    let path = DevicePathBuf::from_text(alloc, path)?;
+    let short = DevicePathBuf::from_text(alloc, short)?;
+    Ok(
+        path.as_device_path()
+            .is_expansion_of(short.as_device_path()),
+    )
+}
+
+#[test]
+fn expansions(rt: HostRuntime) -> Result<(), Fail> {
+    for (path, short, want) in EXPANSIONS {
+        assert!(rt;
+            is_expansion(rt.alloc(), path, short)? == *want,
+            "{path}, {short}"
+        );
+    }
+    Ok(())
+}
+
+#[test]
+fn short_forms(rt: HostRuntime) -> Result<(), Fail> {
+    for (text, want) in SHORT_FORMS {
+        let path = DevicePathBuf::from_text(rt.alloc(), text)?;
+        assert!(rt; path.as_device_path().short_form() == *want, "{text}");
+    }
+    Ok(())
+}
+
+/// A partition of seven bytes of data names none, though its type and its sub-type are those of one.
+#[test]
+fn partitions_that_are_cut(rt: HostRuntime) -> Result<(), Fail> {
+    let cut = bytes(rt.alloc(), "04010b00010000000000007fff0400")?;
+    let path = DevicePath::from_bytes(cut.as_slice())?;
+    assert!(rt; path.short_form() == Some(ShortForm::HardDrive));
+    assert!(rt; !path.is_expansion_of(path));
+    Ok(())
+}
+
+/// What is left of one path without another at its start, as texts; `-` where it does not begin with it.
+const PREFIXES: &[(&str, &str, &str)] = &[
+    (
+        "PciRoot(0x0)/Pci(0x1,0x0)/\\a",
+        "PciRoot(0x0)/Pci(0x1,0x0)",
+        "\\a",
+    ),
+    ("PciRoot(0x0)/Pci(0x1,0x0)", "PciRoot(0x0)/Pci(0x1,0x0)", ""),
+    ("PciRoot(0x0)/Pci(0x1,0x0)", "", "PciRoot(0x0)/Pci(0x1,0x0)"),
+    (
+        "PciRoot(0x0)/Pci(0x1,0x0)",
+        "PciRoot(0x0)/Pci(0x2,0x0)",
+        "-",
+    ),
+    ("PciRoot(0x0)", "PciRoot(0x0)/Pci(0x1,0x0)", "-"),
+    ("Path(1,9,0101),\\a", "Path(1,9,01)", "-"),
+];
+
+/// Whether what is left is this.
+fn leaves(alloc: Global, path: &str, prefix: &str, want: &str) -> Result<bool, Fail> {
+    let path = DevicePathBuf::from_text(alloc, path)?;
+    let prefix = DevicePathBuf::from_text(alloc, prefix)?;
+    let (path, prefix) = (path.as_device_path(), prefix.as_device_path());
+    match path.strip_prefix(prefix) {
+        Some(rest) => {
+            let want = DevicePathBuf::from_text(alloc, want)?;
+            Ok(path.starts_with(prefix) && rest == want.as_device_path())
+        }
+        None => Ok(!path.starts_with(prefix) && want == "-"),
+    }
+}
+
+#[test]
+fn prefixes(rt: HostRuntime) -> Result<(), Fail> {
+    for (path, prefix, want) in PREFIXES {
+        assert!(rt; leaves(rt.alloc(), path, prefix, want)?, "{path}, {prefix}");
+    }
+    Ok(())
+}
