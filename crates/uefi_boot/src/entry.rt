@@ -3,7 +3,10 @@ use crate::words::{words_of, words_of_path};
 use std::alloc::Allocator;
 use std::fmt::{self, Write};
 use uefi_device_path::media::FilePath;
-use uefi_device_path::{DevicePath, DevicePathNode, LoadOption, NodeConversionError, is_escaped};
+use uefi_device_path::{
+    DevicePathNode, DevicePathNodeIterator, DevicePaths, LoadOption, LoadOptionParts,
+    NodeConversionError, is_escaped,
+};
 use uefi_path::{Path, validate_path};
 use uefi_text::strs::Char16Slice;
 use uefi_text::{CStr16, FromSliceWithNulError, UnalignedSlice};
@@ -132,59 +135,75 @@ fn write_node<W: Write, A: Allocator>(
     }
 }
 
-/// Writes the files that nodes name, from an offset on, up to the first malformed node, or one that
-/// names no file and should. False in the second case.
+/// Writes the files that nodes name, of which the first begins at an offset, and returns the offset
+/// after them; `None` after a node that should name a file and does not.
 fn write_files<W: Write, A: Allocator + Copy>(
     out: &mut W,
     alloc: A,
     start: usize,
-    list: &[u8],
-) -> Result<bool, fmt::Error> {
-    let mut rest = list;
-    'nodes: while let Ok((node, after)) = DevicePathNode::split_first(rest) {
-        let offset = start.saturating_add(list.len() - rest.len() + 4);
-        if !write_node(out, alloc, offset, node)? {
-            return Ok(false);
+    nodes: DevicePathNodeIterator<'_>,
+) -> Result<Option<usize>, fmt::Error> {
+    let mut offset = start;
+    for node in nodes {
+        if !write_node(out, alloc, offset.saturating_add(4), node)? {
+            return Ok(None);
         }
-        rest = after;
+        offset = offset.saturating_add(usize::from(node.length()));
     }
-    Ok(true)
+    Ok(Some(offset))
 }
 
-/// Writes each device path of a list as people read it, up to the first malformed one.
-fn write_device_paths<W: Write>(out: &mut W, list: &[u8]) -> fmt::Result {
-    let mut rest = list;
-    'paths: while let Ok((path, after)) = DevicePath::split_first(rest) {
+/// The same of device paths, with the nodes that end them.
+fn write_files_of_paths<W: Write, A: Allocator + Copy>(
+    out: &mut W,
+    alloc: A,
+    start: usize,
+    paths: DevicePaths<'_>,
+) -> Result<Option<usize>, fmt::Error> {
+    let mut offset = start;
+    for path in paths {
+        match write_files(out, alloc, offset, path.node_iter())? {
+            Some(end) => offset = end.saturating_add(4),
+            None => return Ok(None),
+        }
+    }
+    Ok(Some(offset))
+}
+
+/// Writes each device path as people read it.
+fn write_device_paths<W: Write>(out: &mut W, paths: DevicePaths<'_>) -> fmt::Result {
+    for path in paths {
         writeln!(out, "  device path: {path}")?;
-        rest = after;
     }
     Ok(())
 }
 
-/// The parts of an entry, of which the nodes are not read yet.
-#[derive(Drop)]
-struct Parts<'a> {
-    is_active: bool,
-    /// The description, up to and with its NUL.
-    description: UnalignedSlice<'a, u16>,
-    /// Where the file path list begins.
-    start: usize,
-    /// The file path list, of no bytes where the entry is too short for it.
-    list: &'a [u8],
+/// Where the file path list begins after a description with its NUL.
+fn list_start(description: UnalignedSlice<'_, u16>) -> usize {
+    description.len().saturating_mul(2).saturating_add(6)
 }
 
-impl<'a> Parts<'a> {
-    fn of(bytes: &'a [u8]) -> Option<Self> {
-        let (header, described) = bytes.split_at_checked(6)?;
-        let (description, rest) = UnalignedSlice::split_until_nul(described)?;
-        let length = u16::from_le_bytes([header[4], header[5]]) as usize;
-        Some(Parts {
-            is_active: header[0] % 2 == 1,
-            description,
-            start: bytes.len().saturating_sub(rest.len()),
-            list: rest.get(..length).unwrap_or(&[]),
-        })
+/// Writes what is well in bytes that are no load option, and then what is malformed; or an error
+/// where memory was refused.
+fn write_parts<W: Write, A: Allocator + Copy>(
+    out: &mut W,
+    alloc: A,
+    parts: LoadOptionParts<'_>,
+) -> fmt::Result {
+    if let (Some(attributes), Some(description)) = (parts.attributes(), parts.description_units()) {
+        write_head(out, attributes % 2 == 1, description)?;
+        write_device_paths(out, parts.device_paths())?;
+        let start = list_start(description);
+        let Some(offset) = write_files_of_paths(out, alloc, start, parts.device_paths())? else {
+            return Ok(());
+        };
+        if write_files(out, alloc, offset, parts.node_iter())?.is_none() {
+            return Ok(());
+        }
     }
+    let error = parts.error();
+    let (part, reason) = words_of(error.cause);
+    write_malformed(out, error.offset, part, reason)
 }
 
 /// Writes what an entry says, and then what is malformed in it, if anything is. Returns whether
@@ -194,20 +213,20 @@ fn write_entry<W: Write, A: Allocator + Copy>(
     alloc: A,
     bytes: &[u8],
 ) -> Result<bool, fmt::Error> {
-    let refusal = LoadOption::from_bytes(bytes).err();
-    if let Some(parts) = Parts::of(bytes) {
-        write_head(out, parts.is_active, parts.description)?;
-        write_device_paths(out, parts.list)?;
-        if !write_files(out, alloc, parts.start, parts.list)? {
-            return Ok(false);
+    match LoadOption::read_parts(bytes) {
+        Ok(option) => {
+            let description = option.description_units();
+            write_head(out, option.is_active(), description)?;
+            write_device_paths(out, option.device_paths())?;
+            let start = list_start(description);
+            let files = write_files_of_paths(out, alloc, start, option.device_paths())?;
+            Ok(files.is_some())
+        }
+        Err(parts) => {
+            write_parts(out, alloc, parts)?;
+            Ok(false)
         }
     }
-    let Some(error) = refusal else {
-        return Ok(true);
-    };
-    let (part, reason) = words_of(error.cause);
-    write_malformed(out, error.offset, part, reason)?;
-    Ok(false)
 }
 
 /// Writes what an entry says, up to the most bytes that a variable has. Returns whether nothing is

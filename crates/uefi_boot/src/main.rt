@@ -11,10 +11,10 @@
 //! `BootOrder`, `BootCurrent` and `BootNext`, and then each entry: those of the order first, in its order,
 //! and then the others by number. Files of other names are passed over.
 //!
-//! Ends with 0 where all is well; with 1 where a variable is malformed, which is printed with the reason and the
-//! offset in the entry; with 2 where a read of standard input or a write failed; with 3, and `out of
-//! memory` on standard error, where memory was refused; with 4, and a message there, where a file or a
-//! folder can't be read.
+//! Ends with 0 where all is well; with 1 where a variable is malformed, which is printed with the
+//! reason and the offset in the entry; with 2 where a read of standard input or a write failed;
+//! with 3, and `out of memory` on standard error, where memory was refused; with 4, and a message
+//! there, where a file or a folder can't be read.
 #![tactic(auto)]
 
 ghost use Rattle.std.specs.Prelude.{◌≤◌, IfOk, length};
@@ -58,7 +58,7 @@ fn is_out_of_memory(rt: &HostRuntime) -> ExitCode {
     ExitCode::from(3)
 }
 
-/// Writes an output, and ends well or not, as it was found.
+/// Writes an output. Ends with 0 where all is well, with 2 where it can't be written, and else with 1.
 fn end(rt: &HostRuntime, output: &str, is_well: bool) -> ExitCode {
     if io::writer(rt).write_all(output.as_bytes()).is_err() {
         return ExitCode::from(2);
