@@ -1,0 +1,5 @@
+pub mod Places
+pub mod Tails
+pub mod Nodes
+pub mod Options
+pub mod Written

@@ -1,0 +1,37 @@
+-- What bytes show: a node of a device path, its text, and the parts of a load option.
+use Rattle.std.specs.Prelude.{◌≡◌, ℕ, Bool, ◌+◌, ◌*◌, List, ◌∷◌, length, slice_range}
+use Rattle.uefi_device_nodes.specs.Nodes.{Node, node_with}
+use Rattle.uefi_device_path.specs.LoadOptions.{Entry}
+use Rattle.uefi_device_path.specs.PathLists.{list_bytes}
+use Rattle.uefi_device_path.specs.Paths.{path_bytes}
+use Rattle.uefi_device_path.specs.PathTexts.{path_text}
+use Rattle.uefi_device_path.specs.PathUnits.{utf16_units}
+use Rattle.uefi_device_path.specs.declared.errors.TextWriteError.{TextWriteError}
+use Rattle.uefi_device_path.specs.declared.errors.TextWriteError.TheVariants.{BufferTooSmall}
+use Rattle.nardcorbel.specs.declared.device_paths.DeviceNode.{DeviceNode}
+use Rattle.nardcorbel.specs.declared.load_options.LoadOptionParts.{LoadOptionParts}
+
+-- the node whose data stand in bytes from its start on
+abbrev pub node_in : List ℕ → DeviceNode → Node
+node_in bytes node =
+    node_with node.device_type node.sub_type (slice_range bytes node.start (node.start + node.length))
+
+-- the text of a device path of these nodes, in UTF-16
+abbrev pub text_units : Bool → Bool → List Node → List ℕ
+text_units display_only shortcuts nodes = utf16_units (path_text display_only shortcuts nodes)
+
+-- how many units a text has with its NUL, which a buffer had no places for
+abbrev pub needed_units : TextWriteError → ℕ
+needed_units (BufferTooSmall needed) = needed
+
+-- where the parts of a load option stand in its bytes, one after the other, and how long they are
+pub record HasParts (entry : Entry) (parts : LoadOptionParts) : Type 0 where
+  pub attributes : parts.attributes ≡ entry.attributes
+  pub description_start : parts.description_start ≡ 6
+  pub description_length : parts.description_length ≡ length entry.description
+  pub list_start : parts.list_start ≡ 6 + 2 * (length entry.description + 1)
+  pub list_length : parts.list_length ≡ length (list_bytes entry.paths)
+  pub path_length : (first : List Node) (others : List (List Node)) → entry.paths ≡ first ∷ others
+      → parts.path_length ≡ length (path_bytes first)
+  pub optional_start : parts.optional_start ≡ parts.list_start + parts.list_length
+  pub optional_length : parts.optional_length ≡ length entry.optional

@@ -1,0 +1,288 @@
+//! Paths that are made in a caller's buffer: whole, or not at all. No call takes memory.
+ghost use Rattle.std.specs.Prelude.{◌≡◌, ℕ, ◌+◌, ◌≤◌, ◌++◌, List, None, Some, length, take};
+ghost use Rattle.uefi_text.specs.FromSliceUntilNul.{until_nul_refusal};
+ghost use Rattle.uefi_text.specs.UnalignedCStr16.{with_prefix};
+ghost use Rattle.uefi_text.specs.Units.{BeginsWithString, nul_terminated};
+ghost use Rattle.uefi_path.specs.Parents.{parent_text};
+ghost use Rattle.uefi_path.specs.Pushing.{pushed};
+ghost use Rattle.uefi_path.specs.Separators.{with_separators};
+ghost use Rattle.nardcorbel.specs.Buffers.{length_shown, room_reason, tail_of};
+ghost use Rattle.uefi_path.specs.Verdicts.{IsValid, verdict};
+ghost use Rattle.uefi_path.specs.Writing.{normal_path};
+ghost use Rattle.nardcorbel.specs.Reasons.{path_reason, refused_character, until_nul_reason};
+ghost use Rattle.nardcorbel.specs.Strings.{text_in, until_nul_place};
+
+use crate::paths::judge;
+use crate::reasons::{BUFFER_TOO_SMALL, NO_PARENT, OK, until_nul_reason};
+use crate::strings::until_nul_place;
+use uefi_path::slices::{with_separator, write_part, write_with_separators};
+use uefi_path::{Path, laws};
+use uefi_text::CStr16;
+
+/// The code unit of the separator.
+const SEPARATOR: u16 = 92;
+
+/// Whether a push of a path after a text adds a separator.
+fn is_separator_missing(text: &[u16], path: &[u16]) -> bool
+    ensures { pushed text.now path.now ≡ text.now ++ tail_of result path.now }
+{
+    !path.is_empty() && !text.is_empty() && text[text.len() - 1] != SEPARATOR
+}
+
+/// The same after a text whose slashes are replaced.
+fn is_separator_missing_replaced(text: &[u16], path: &[u16]) -> bool
+    ensures { pushed (with_separators text.now) path.now
+        ≡ with_separators text.now ++ tail_of result path.now }
+{
+    if path.is_empty() {
+        return false;
+    }
+    if text.is_empty() {
+        return false;
+    }
+    with_separator(text[text.len() - 1]) != SEPARATOR
+}
+
+/// How long a text becomes, when a path is pushed after it, or the greatest `usize` where it becomes longer.
+fn pushed_len(text: &[u16], is_missing: bool, path: &[u16]) -> usize
+    ensures len { result ≡ length_shown (text.now ++ tail_of is_missing path.now) }
+    ensures replaced { result ≡ length_shown (with_separators text.now ++ tail_of is_missing path.now) }
+{
+    text.len()
+        .saturating_add(usize::from(is_missing))
+        .saturating_add(path.len())
+}
+
+/// Writes a NUL after the first `len` units of a buffer, where it has room.
+fn end_text(buffer: &mut [u16], len: usize) -> u32
+    requires { len ≤ length buffer.now }
+    ensures reason { result ≡ room_reason (take len buffer.old) buffer.old }
+    ensures buffer { buffer.new ≡ with_prefix (nul_terminated (take len buffer.old)) buffer.old }
+{
+    if buffer.len() <= len {
+        return BUFFER_TOO_SMALL;
+    }
+    buffer[len] = 0;
+    OK
+}
+
+/// Writes what a push adds after the first `end` units of a buffer, and a NUL, where it has room.
+fn add_tail(buffer: &mut [u16], end: usize, is_missing: bool, path: &[u16], len: usize) -> u32
+    requires within { end ≤ length buffer.now }
+    requires len { len ≡ length_shown (take end buffer.now ++ tail_of is_missing path.now) }
+    ensures reason { result ≡ room_reason (take end buffer.old ++ tail_of is_missing path.now) buffer.old }
+    ensures buffer { buffer.new
+        ≡ with_prefix (nul_terminated (take end buffer.old ++ tail_of is_missing path.now)) buffer.old }
+{
+    if buffer.len() <= len {
+        return BUFFER_TOO_SMALL;
+    }
+    write_part(&mut buffer[end..len], is_missing, path);
+    end_text(buffer, len)
+}
+
+/// Pushes a path on the path that a buffer begins with, in place, as `PathBuf::push` does: a separator
+/// between the two where the first is not empty and does not end in one, and each slash of the second
+/// replaced. The empty path changes nothing.
+///
+/// Units that begin with no string are refused as by `nard_string_until_nul`, those of the buffer first. Else
+/// `place` becomes how many units the path has, or the greatest `usize` where it has more, and a buffer
+/// of no more places is `BUFFER_TOO_SMALL`. Refused, the buffer stays unchanged; what stands after the
+/// NUL stays. One pass over each; takes no memory.
+#[unsafe(no_mangle)]
+pub extern "C" fn nard_path_push(buffer: &mut [u16], path: &[u16], place: &mut usize) -> u32
+    ensures no_string { ¬ BeginsWithString buffer.old
+        → (result ≡ until_nul_reason (until_nul_refusal buffer.old))
+        × (place.new ≡ until_nul_place buffer.old) }
+    ensures no_path { BeginsWithString buffer.old → ¬ BeginsWithString path.now
+        → (result ≡ until_nul_reason (until_nul_refusal path.now))
+        × (place.new ≡ until_nul_place path.now) }
+    ensures unchanged { ¬ (BeginsWithString buffer.old × BeginsWithString path.now)
+        → buffer.new ≡ buffer.old }
+    ensures reason { BeginsWithString buffer.old → BeginsWithString path.now
+        → result ≡ room_reason (pushed (text_in buffer.old) (text_in path.now)) buffer.old }
+    ensures place { BeginsWithString buffer.old → BeginsWithString path.now
+        → place.new ≡ length_shown (pushed (text_in buffer.old) (text_in path.now)) }
+    ensures buffer { BeginsWithString buffer.old → BeginsWithString path.now → buffer.new
+        ≡ with_prefix (nul_terminated (pushed (text_in buffer.old) (text_in path.now))) buffer.old }
+{
+    let text = match CStr16::from_u16_until_nul(buffer) {
+        Ok(string) => string.to_u16_slice(),
+        Err(error) => {
+            *place = until_nul_place(error, buffer);
+            return until_nul_reason(error);
+        }
+    };
+    let path = match CStr16::from_u16_until_nul(path) {
+        Ok(string) => string.to_u16_slice(),
+        Err(error) => {
+            *place = until_nul_place(error, path);
+            return until_nul_reason(error);
+        }
+    };
+    let is_missing = is_separator_missing(text, path);
+    let len = pushed_len(text, is_missing, path);
+    let end = text.len();
+    *place = len;
+    add_tail(buffer, end, is_missing, path, len)
+}
+
+/// Writes the path of a string, each slash replaced, with another pushed after it, as `Path::join` does, into
+/// the first places of a buffer, and a NUL.
+///
+/// Units that begin with no string are refused as by `nard_string_until_nul`, those of `path` first. Else
+/// `place` and a buffer that is too small are as in [`nard_path_push`]. Refused, the buffer stays
+/// unchanged; what stands after the NUL stays. One pass over each; takes no memory.
+#[unsafe(no_mangle)]
+pub extern "C" fn nard_path_join(
+    path: &[u16],
+    other: &[u16],
+    buffer: &mut [u16],
+    place: &mut usize,
+) -> u32
+    ensures no_string { ¬ BeginsWithString path.now
+        → (result ≡ until_nul_reason (until_nul_refusal path.now))
+        × (place.new ≡ until_nul_place path.now) }
+    ensures no_other { BeginsWithString path.now → ¬ BeginsWithString other.now
+        → (result ≡ until_nul_reason (until_nul_refusal other.now))
+        × (place.new ≡ until_nul_place other.now) }
+    ensures unchanged { ¬ (BeginsWithString path.now × BeginsWithString other.now)
+        → buffer.new ≡ buffer.old }
+    ensures reason { BeginsWithString path.now → BeginsWithString other.now → result
+        ≡ room_reason (pushed (with_separators (text_in path.now)) (text_in other.now)) buffer.old }
+    ensures place { BeginsWithString path.now → BeginsWithString other.now → place.new
+        ≡ length_shown (pushed (with_separators (text_in path.now)) (text_in other.now)) }
+    ensures buffer { BeginsWithString path.now → BeginsWithString other.now → buffer.new
+        ≡ with_prefix (nul_terminated (pushed (with_separators (text_in path.now)) (text_in other.now)))
+        buffer.old }
+{
+    let text = match CStr16::from_u16_until_nul(path) {
+        Ok(string) => string.to_u16_slice(),
+        Err(error) => {
+            *place = until_nul_place(error, path);
+            return until_nul_reason(error);
+        }
+    };
+    let added = match CStr16::from_u16_until_nul(other) {
+        Ok(string) => string.to_u16_slice(),
+        Err(error) => {
+            *place = until_nul_place(error, other);
+            return until_nul_reason(error);
+        }
+    };
+    let is_missing = is_separator_missing_replaced(text, added);
+    let len = pushed_len(text, is_missing, added);
+    *place = len;
+    if buffer.len() <= len {
+        return BUFFER_TOO_SMALL;
+    }
+    write_with_separators(&mut buffer[..text.len()], text);
+    add_tail(buffer, text.len(), is_missing, added, len)
+}
+
+/// Writes the parent of a string's path, as `Path::parent` has it, into the first places of a buffer, and
+/// a NUL.
+///
+/// Units that begin with no string are refused as by `nard_string_until_nul`, and a path of at most one
+/// component as `NO_PARENT`, which leaves `place` unchanged. Else `place` becomes how many units the
+/// parent has, and a buffer of no more places is `BUFFER_TOO_SMALL`. Refused, the buffer stays
+/// unchanged; what stands after the NUL stays. Two passes over the path; takes no memory.
+#[unsafe(no_mangle)]
+pub extern "C" fn nard_path_parent(path: &[u16], buffer: &mut [u16], place: &mut usize) -> u32
+    ensures no_string { ¬ BeginsWithString path.now
+        → (result ≡ until_nul_reason (until_nul_refusal path.now))
+        × (place.new ≡ until_nul_place path.now)
+        × (buffer.new ≡ buffer.old) }
+    ensures none { BeginsWithString path.now → parent_text (text_in path.now) ≡ None
+        → (result ≡ NO_PARENT) × (place.new ≡ place.old) × (buffer.new ≡ buffer.old) }
+    ensures reason { BeginsWithString path.now → (parent : List ℕ)
+        → parent_text (text_in path.now) ≡ Some parent → result ≡ room_reason parent buffer.old }
+    ensures place { BeginsWithString path.now → (parent : List ℕ)
+        → parent_text (text_in path.now) ≡ Some parent → place.new ≡ length parent }
+    ensures buffer { BeginsWithString path.now → (parent : List ℕ)
+        → parent_text (text_in path.now) ≡ Some parent
+        → buffer.new ≡ with_prefix (nul_terminated parent) buffer.old }
+{
+    let path = match CStr16::from_u16_until_nul(path) {
+        Ok(string) => Path::new(string),
+        Err(error) => {
+            *place = until_nul_place(error, path);
+            return until_nul_reason(error);
+        }
+    };
+    // The last place is left for the NUL.
+    let room = buffer.len().saturating_sub(1);
+    match path.write_parent(&mut buffer[..room]) {
+        Ok(Some(len)) => {
+            *place = len;
+            end_text(buffer, len)
+        }
+        Ok(None) => NO_PARENT,
+        Err(len) => {
+            *place = len;
+            BUFFER_TOO_SMALL
+        }
+    }
+}
+
+/// Writes the normal path of a string's path, as `Path::normalize` makes it, into the first places of a
+/// buffer, and a NUL.
+///
+/// Units that begin with no string are refused as by `nard_string_until_nul`, and then a path that is not
+/// valid as by `nard_path_verdict`, with its `place` and its `character`. Else `place` becomes how many units
+/// the normal path has, and a buffer of no more places is `BUFFER_TOO_SMALL`. Refused, the buffer stays
+/// unchanged; what stands after the NUL stays. `character` becomes 0 but where a character is the
+/// reason. Two passes over the path after those of `nard_path_verdict`; takes no memory.
+#[unsafe(no_mangle)]
+pub extern "C" fn nard_path_normalize(
+    path: &[u16],
+    buffer: &mut [u16],
+    place: &mut usize,
+    character: &mut u16,
+) -> u32
+    ensures no_string { ¬ BeginsWithString path.now
+        → (result ≡ until_nul_reason (until_nul_refusal path.now))
+        × (place.new ≡ until_nul_place path.now)
+        × (character.new ≡ 0)
+        × (buffer.new ≡ buffer.old) }
+    ensures refused { BeginsWithString path.now → ¬ IsValid (text_in path.now)
+        → (result ≡ path_reason (verdict (text_in path.now)))
+        × (place.new ≡ until_nul_place path.now)
+        × (buffer.new ≡ buffer.old) }
+    ensures character { BeginsWithString path.now
+        → character.new ≡ refused_character (verdict (text_in path.now)) }
+    ensures reason { BeginsWithString path.now → (normal : List ℕ)
+        → normal_path (text_in path.now) ≡ Some normal → result ≡ room_reason normal buffer.old }
+    ensures place { BeginsWithString path.now → (normal : List ℕ)
+        → normal_path (text_in path.now) ≡ Some normal → place.new ≡ length normal }
+    ensures buffer { BeginsWithString path.now → (normal : List ℕ)
+        → normal_path (text_in path.now) ≡ Some normal
+        → buffer.new ≡ with_prefix (nul_terminated normal) buffer.old }
+{
+    // The law does nothing: it says that a path that is not valid is refused.
+    laws::validity();
+    *character = 0;
+    let string = match CStr16::from_u16_until_nul(path) {
+        Ok(string) => string,
+        Err(error) => {
+            *place = until_nul_place(error, path);
+            return until_nul_reason(error);
+        }
+    };
+    // The last place is left for the NUL.
+    let most = buffer.len().saturating_sub(1);
+    match Path::new(string).write_normal(&mut buffer[..most]) {
+        Ok(Some(len)) => {
+            *place = len;
+            end_text(buffer, len)
+        }
+        Ok(None) => {
+            *place = string.num_chars();
+            judge(Path::new(string), character)
+        }
+        Err(len) => {
+            *place = len;
+            BUFFER_TOO_SMALL
+        }
+    }
+}

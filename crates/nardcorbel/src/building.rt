@@ -1,0 +1,307 @@
+//! Device paths and load options that C writes into its own buffers, and device paths beside others.
+ghost use Rattle.std.specs.Prelude.{◌≡◌, ◌≢◌, ◌↔◌, ℕ, ◌+◌, ◌%◌, ◌^◌, ◌<◌, ◌≤◌, ◌++◌, ◌∷◌, [], IsTrue, List, Some, length};
+ghost use Rattle.uefi_text.specs.FromSliceUntilNul.{until_nul_refusal};
+ghost use Rattle.uefi_text.specs.UnalignedCStr16.{with_prefix};
+ghost use Rattle.uefi_text.specs.Units.{BeginsWithString};
+ghost use Rattle.uefi_device_nodes.specs.Nodes.{Node, end_entire, node_bytes, node_with};
+ghost use Rattle.uefi_device_path.specs.Building.{append_refusal, push_refusal};
+ghost use Rattle.uefi_device_path.specs.Faults.{RefusedFor};
+ghost use Rattle.uefi_device_path.specs.LoadOptions.{entry_bytes};
+ghost use Rattle.uefi_device_path.specs.Matching.{IsExpansion};
+ghost use Rattle.uefi_device_path.specs.OptionBuilding.{option_over, write_fault};
+ghost use Rattle.uefi_device_path.specs.Paths.{BeginWithPath, path_bytes};
+ghost use Rattle.uefi_device_path.specs.declared.errors.DevicePathError.{DevicePathError};
+ghost use Rattle.nardcorbel.specs.Building.{build_place, build_reason, entry_of_path, option_build_place, option_build_reason};
+ghost use Rattle.nardcorbel.specs.Reasons.{node_reason, until_nul_reason};
+ghost use Rattle.nardcorbel.specs.Strings.{text_in, until_nul_place};
+
+use crate::reasons::{
+    BUFFER_TOO_SMALL, EMPTY_LIST, INTERIOR_NUL, LIST_TOO_LONG, NODE_OF_END, NODE_TOO_LONG, OK,
+    node_reason, until_nul_reason,
+};
+use crate::strings::until_nul_place;
+use uefi_device_path::build::RawNode;
+use uefi_device_path::{
+    BuildError, DevicePath, DeviceSubType, DeviceType, GrowError, LoadOptionBuilder,
+    OptionBuildError, append_in_buf, laws, push_in_buf,
+};
+use uefi_text::CStr16;
+
+/// The reason why nodes are not added; memory is never the reason.
+fn build_reason(error: BuildError) -> u32
+    ensures { result ≡ build_reason (Some error) }
+{
+    match error {
+        BuildError::EndNode => NODE_OF_END,
+        BuildError::NodeTooLong => NODE_TOO_LONG,
+        BuildError::BufferTooSmall(_) | BuildError::OutOfMemory => BUFFER_TOO_SMALL,
+    }
+}
+
+/// The place that is reported where nodes are not added, and a place was there.
+fn build_place(error: BuildError, place: usize) -> usize
+    ensures { (len : ℕ) → result ≡ build_place (Some error) len place }
+{
+    match error {
+        BuildError::BufferTooSmall(needed) => needed,
+        BuildError::EndNode | BuildError::NodeTooLong | BuildError::OutOfMemory => place,
+    }
+}
+
+/// Writes the device path without nodes to the start of a buffer: its end node alone.
+///
+/// `place` becomes 4, how many bytes it has. A buffer of fewer bytes is `BUFFER_TOO_SMALL`, and
+/// stays unchanged. What stands after the path stays. Takes no memory (UEFI Specification 2.10,
+/// section 10.3.1).
+#[unsafe(no_mangle)]
+pub extern "C" fn nard_device_path_begin(buffer: &mut [u8], place: &mut usize) -> u32
+    ensures ok { (result ≡ OK) ↔ (4 ≤ length buffer.old) }
+    ensures small { result ≢ OK → result ≡ BUFFER_TOO_SMALL }
+    ensures place { place.new ≡ 4 }
+    ensures buffer { buffer.new ≡ with_prefix (path_bytes []) buffer.old }
+{
+    *place = 4;
+    if buffer.len() < 4 {
+        return BUFFER_TOO_SMALL;
+    }
+    buffer[..4].copy_from_slice(&[0x7f, 0xff, 4, 0]);
+    OK
+}
+
+/// Adds a node to the device path that a buffer begins with, before its end, as [`push_in_buf`] does.
+///
+/// Bytes that begin with no device path are refused as by [`nard_device_path_check`], with its
+/// `place`; then a node of type End that ends no instance as `NODE_OF_END`, more than 65,531 bytes
+/// of data as `NODE_TOO_LONG`, and a buffer that is too small as `BUFFER_TOO_SMALL`. `place`
+/// becomes how many bytes the path then has, or needs; it stays unchanged for a node that may not
+/// stand there. Refused, the buffer stays unchanged; what stands after the path stays. Takes no
+/// memory (UEFI Specification 2.10, section 10.3.1).
+#[unsafe(no_mangle)]
+pub extern "C" fn nard_device_path_push(
+    buffer: &mut [u8],
+    device_type: u8,
+    sub_type: u8,
+    content: &[u8],
+    place: &mut usize,
+) -> u32
+    ensures no_path { (error : DevicePathError) → RefusedFor buffer.old error
+        → (result ≡ node_reason error.cause) × (place.new ≡ error.offset) }
+    ensures reason { (nodes : List Node) → BeginWithPath buffer.old nodes → result ≡ build_reason
+        (push_refusal nodes (node_with device_type sub_type content.now) (length buffer.old)) }
+    ensures place { (nodes : List Node) → BeginWithPath buffer.old nodes → place.new ≡ build_place
+        (push_refusal nodes (node_with device_type sub_type content.now) (length buffer.old))
+        (length (path_bytes (nodes ++ node_with device_type sub_type content.now ∷ []))) place.old }
+    ensures buffer { (nodes : List Node) → BeginWithPath buffer.old nodes → result ≡ OK
+        → buffer.new ≡ with_prefix (path_bytes
+        (nodes ++ node_with device_type sub_type content.now ∷ [])) buffer.old }
+    ensures unchanged { result ≢ OK → buffer.new ≡ buffer.old }
+{
+    let node = RawNode {
+        device_type: DeviceType(device_type),
+        sub_type: DeviceSubType(sub_type),
+        content,
+    };
+    match push_in_buf(buffer, &node) {
+        Ok(len) => {
+            *place = len;
+            OK
+        }
+        Err(GrowError::Path(error)) => {
+            *place = error.offset;
+            node_reason(error.cause)
+        }
+        Err(GrowError::Build(error)) => {
+            *place = build_place(error, *place);
+            build_reason(error)
+        }
+    }
+}
+
+/// Adds the nodes of the device path that bytes begin with to the one that a buffer begins with, as
+/// [`append_in_buf`] does.
+///
+/// Refused as by [`nard_device_path_check`], the buffer first and then the bytes, with its `place`;
+/// then a buffer that is too small as `BUFFER_TOO_SMALL`. Else `place` becomes how many bytes the
+/// path then has, or needs. Refused, the buffer stays unchanged; what stands after the path stays.
+/// Takes no memory.
+#[unsafe(no_mangle)]
+pub extern "C" fn nard_device_path_append(buffer: &mut [u8], bytes: &[u8], place: &mut usize) -> u32
+    ensures no_path { (error : DevicePathError) → RefusedFor buffer.old error
+        → (result ≡ node_reason error.cause) × (place.new ≡ error.offset) }
+    ensures no_bytes { (nodes : List Node) → BeginWithPath buffer.old nodes → (error : DevicePathError)
+        → RefusedFor bytes.now error → (result ≡ node_reason error.cause) × (place.new ≡ error.offset) }
+    ensures reason { (nodes : List Node) → (others : List Node) → BeginWithPath buffer.old nodes
+        → BeginWithPath bytes.now others
+        → result ≡ build_reason (append_refusal nodes others (length buffer.old)) }
+    ensures place { (nodes : List Node) → (others : List Node) → BeginWithPath buffer.old nodes
+        → BeginWithPath bytes.now others
+        → place.new ≡ build_place (append_refusal nodes others (length buffer.old))
+        (length (path_bytes (nodes ++ others))) place.old }
+    ensures buffer { (nodes : List Node) → (others : List Node) → BeginWithPath buffer.old nodes
+        → BeginWithPath bytes.now others → result ≡ OK
+        → buffer.new ≡ with_prefix (path_bytes (nodes ++ others)) buffer.old }
+    ensures unchanged { result ≢ OK → buffer.new ≡ buffer.old }
+{
+    // The law does nothing: it says that no path is refused.
+    laws::accepted_paths();
+    if let Err(error) = DevicePath::from_bytes(buffer) {
+        *place = error.offset;
+        return node_reason(error.cause);
+    }
+    let path = match DevicePath::from_bytes(bytes) {
+        Ok(path) => path,
+        Err(error) => {
+            *place = error.offset;
+            return node_reason(error.cause);
+        }
+    };
+    match append_in_buf(buffer, path) {
+        Ok(len) => {
+            *place = len;
+            OK
+        }
+        Err(GrowError::Path(error)) => {
+            *place = error.offset;
+            node_reason(error.cause)
+        }
+        Err(GrowError::Build(error)) => {
+            *place = build_place(error, *place);
+            build_reason(error)
+        }
+    }
+}
+
+/// Whether both begin with a device path, and the second is a short form that stands for the first, as
+/// [`DevicePath::is_expansion_of`] says. Takes no memory (UEFI Specification 2.10, section 3.1.2).
+#[unsafe(no_mangle)]
+pub extern "C" fn nard_device_path_is_expansion(bytes: &[u8], form: &[u8]) -> bool
+    ensures { IsTrue result ↔ ((nodes : List Node) × (others : List Node) × BeginWithPath bytes.now nodes
+        × BeginWithPath form.now others × IsExpansion nodes others) }
+{
+    let Ok(path) = DevicePath::from_bytes(bytes) else {
+        return false;
+    };
+    let Ok(short) = DevicePath::from_bytes(form) else {
+        return false;
+    };
+    path.is_expansion_of(short)
+}
+
+/// Whether both begin with a device path, and the first begins with the nodes of the second: then `place`
+/// becomes the offset of what follows them. Else it stays unchanged. Takes no memory.
+#[unsafe(no_mangle)]
+pub extern "C" fn nard_device_path_strip_prefix(
+    bytes: &[u8],
+    prefix: &[u8],
+    place: &mut usize,
+) -> bool
+    ensures begins { IsTrue result ↔ ((others : List Node) × (rest : List Node)
+        × BeginWithPath bytes.now (others ++ rest) × BeginWithPath prefix.now others) }
+    ensures place { IsTrue result → (others : List Node) → BeginWithPath prefix.now others
+        → place.new + 4 ≡ length (path_bytes others) }
+    ensures unchanged { (IsTrue result → ⊥) → place.new ≡ place.old }
+{
+    let Ok(path) = DevicePath::from_bytes(bytes) else {
+        return false;
+    };
+    let Ok(prefix) = DevicePath::from_bytes(prefix) else {
+        return false;
+    };
+    if !path.starts_with(prefix) {
+        return false;
+    }
+    *place = prefix.as_bytes().len() - 4;
+    true
+}
+
+/// The reason why a load option is not written; memory is never the reason.
+fn option_build_reason(error: OptionBuildError) -> u32
+    ensures { result ≡ option_build_reason (Some error) }
+{
+    match error {
+        OptionBuildError::NulInDescription(_) => INTERIOR_NUL,
+        OptionBuildError::EmptyList => EMPTY_LIST,
+        OptionBuildError::ListTooLong | OptionBuildError::TooLong => LIST_TOO_LONG,
+        OptionBuildError::BufferTooSmall(_) | OptionBuildError::OutOfMemory => BUFFER_TOO_SMALL,
+    }
+}
+
+/// The place that is reported where a load option is not written, and a place was there.
+fn option_build_place(error: OptionBuildError, place: usize) -> usize
+    ensures { (len : ℕ) → result ≡ option_build_place (Some error) len place }
+{
+    match error {
+        OptionBuildError::BufferTooSmall(needed) => needed,
+        OptionBuildError::NulInDescription(_)
+        | OptionBuildError::EmptyList
+        | OptionBuildError::ListTooLong
+        | OptionBuildError::TooLong
+        | OptionBuildError::OutOfMemory => place,
+    }
+}
+
+/// Writes a load option of one device path to the start of a buffer, as [`LoadOptionBuilder::write`] does.
+///
+/// Of `attributes` the lowest 32 bits count. Units of the description that begin with no string are
+/// refused as by `nard_string_until_nul`, then bytes that begin with no device path as by
+/// [`nard_device_path_check`], each with its `place`; then a device path of more than 65,535 bytes
+/// as `LIST_TOO_LONG`, and a buffer that is too small as `BUFFER_TOO_SMALL`. `place` becomes how
+/// many bytes the load option has, or needs; it stays unchanged at `LIST_TOO_LONG`. Refused, the
+/// buffer stays unchanged; what stands after the load option stays. Takes no memory (UEFI
+/// Specification 2.10, section 3.1.3).
+#[unsafe(no_mangle)]
+pub extern "C" fn nard_load_option_write(
+    attributes: usize,
+    description: &[u16],
+    bytes: &[u8],
+    optional: &[u8],
+    buffer: &mut [u8],
+    place: &mut usize,
+) -> u32
+    ensures no_string { ¬ BeginsWithString description.now
+        → (result ≡ until_nul_reason (until_nul_refusal description.now))
+        × (place.new ≡ until_nul_place description.now) × (buffer.new ≡ buffer.old) }
+    ensures no_path { BeginsWithString description.now → (error : DevicePathError)
+        → RefusedFor bytes.now error
+        → (result ≡ node_reason error.cause) × (place.new ≡ error.offset) × (buffer.new ≡ buffer.old) }
+    ensures reason { BeginsWithString description.now → (nodes : List Node) → BeginWithPath bytes.now nodes
+        → result ≡ option_build_reason (write_fault
+        (entry_of_path (attributes % 2 ^ 32) (text_in description.now) nodes optional.now)
+        (length buffer.old)) }
+    ensures place { BeginsWithString description.now → (nodes : List Node) → BeginWithPath bytes.now nodes
+        → let entry = entry_of_path (attributes % 2 ^ 32) (text_in description.now) nodes optional.now in
+        place.new ≡ option_build_place (write_fault entry (length buffer.old)) (length (entry_bytes entry))
+        place.old }
+    ensures buffer { BeginsWithString description.now → (nodes : List Node) → BeginWithPath bytes.now nodes
+        → buffer.new ≡ option_over
+        (entry_of_path (attributes % 2 ^ 32) (text_in description.now) nodes optional.now) buffer.old }
+{
+    // The law does nothing: it says that no path is refused.
+    laws::accepted_paths();
+    let text = match CStr16::from_u16_until_nul(description) {
+        Ok(string) => string.to_u16_slice(),
+        Err(error) => {
+            *place = until_nul_place(error, description);
+            return until_nul_reason(error);
+        }
+    };
+    let path = match DevicePath::from_bytes(bytes) {
+        Ok(path) => path,
+        Err(error) => {
+            *place = error.offset;
+            return node_reason(error.cause);
+        }
+    };
+    let paths = [path];
+    let lowest = (attributes % 0x1_0000_0000) as u32;
+    match LoadOptionBuilder::new(lowest, text, &paths, optional).write(buffer) {
+        Ok(len) => {
+            *place = len;
+            OK
+        }
+        Err(error) => {
+            *place = option_build_place(error, *place);
+            option_build_reason(error)
+        }
+    }
+}

@@ -1,0 +1,17 @@
+//! The library for callers in C, and in whatever calls C: `include/nardcorbel.h` declares each call.
+//!
+//! Each call states the library's own clauses again, over slices and numbers. A slice crosses as a
+//! pointer and a length, and a reason as a number of [`reasons`]. No call takes memory.
+#![tactic(auto)]
+
+pub mod buffers;
+pub mod building;
+pub mod device_paths;
+pub mod fat_names;
+pub mod load_options;
+pub mod packed;
+pub mod paths;
+pub mod reasons;
+pub mod strings;
+pub mod texts;
+pub mod without_case;

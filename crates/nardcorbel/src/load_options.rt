@@ -1,0 +1,108 @@
+//! Load options in bytes that C holds: where their parts stand.
+ghost use Rattle.std.specs.Prelude.{◌≡◌, ◌≢◌, ◌↔◌, ℕ, ◌<◌, ◌^◌, List, ◌∷◌, length};
+ghost use Rattle.uefi_device_nodes.specs.Nodes.{Node};
+ghost use Rattle.uefi_device_path.specs.LoadOptions.{Entry, EntryRefusedFor, IsEntry, entry_bytes};
+ghost use Rattle.uefi_device_path.specs.Paths.{path_bytes};
+ghost use Rattle.uefi_device_path.specs.Views.{entry_of};
+ghost use Rattle.uefi_device_path.specs.declared.errors.LoadOptionError.{LoadOptionError};
+ghost use Rattle.nardcorbel.specs.DevicePaths.{HasParts};
+ghost use Rattle.nardcorbel.specs.Reasons.{option_reason};
+
+use crate::reasons::{OK, option_reason};
+use uefi_device_path::{LoadOption, laws};
+
+/// Where the parts of a load option stand in its bytes, which follow one another. Offsets and lengths are in
+/// bytes, but the description's length, which is in units (UEFI Specification 2.10, section 3.1.3).
+#[repr(C)]
+#[derive(Clone, Copy)]
+pub struct LoadOptionParts {
+    /// The attributes, a number of 32 bits.
+    pub attributes: usize,
+
+    /// The offset of the description.
+    pub description_start: usize,
+
+    /// How many units the description has, its NUL not counted.
+    pub description_length: usize,
+
+    /// The offset of the file path list.
+    pub list_start: usize,
+
+    /// How many bytes the file path list has.
+    pub list_length: usize,
+
+    /// How many bytes the first device path of the list has, its end node among them.
+    pub path_length: usize,
+
+    /// The offset of the optional data.
+    pub optional_start: usize,
+
+    /// How many bytes the optional data have.
+    pub optional_length: usize,
+}
+
+/// How many bytes the first device path of a load option has.
+fn first_path_len(option: &LoadOption<'_>) -> usize
+    ensures { (first : List Node) → (others : List (List Node)) → (entry_of option.now).paths ≡ first ∷ others
+        → result ≡ length (path_bytes first) }
+{
+    match option.device_paths().next() {
+        Some(path) => path.as_bytes().len(),
+        None => 0,
+    }
+}
+
+/// Where the parts of a load option stand.
+fn parts_of(option: &LoadOption<'_>) -> LoadOptionParts
+    requires { length (entry_bytes (entry_of option.now)) < 2 ^ 64 }
+    ensures { HasParts (entry_of option.now) result }
+{
+    let description_length = option.description_units().len() - 1;
+    let list_start = 6 + 2 * (description_length + 1);
+    let list_length = option.file_path_list().len();
+    LoadOptionParts {
+        attributes: option.attributes() as usize,
+        description_start: 6,
+        description_length,
+        list_start,
+        list_length,
+        path_length: first_path_len(option),
+        optional_start: list_start + list_length,
+        optional_length: option.optional_data().len(),
+    }
+}
+
+/// Reads a load option, the value of a variable `Boot####`: `OK`, or why the bytes are none.
+///
+/// At `OK` `option` becomes where its parts stand, and `place` becomes how many bytes there are.
+/// Refused as [`LoadOption::from_bytes`] refuses the bytes, for the first fault: `place` becomes its
+/// offset, and `option` stays unchanged. The description may hold surrogates. One pass, and one more
+/// over the first path; takes no memory (UEFI Specification 2.10, section 3.1.3).
+#[unsafe(no_mangle)]
+pub extern "C" fn nard_load_option_read(
+    bytes: &[u8],
+    option: &mut LoadOptionParts,
+    place: &mut usize,
+) -> u32
+    ensures accepts { (result ≡ OK) ↔ ((entry : Entry) × IsEntry entry × (bytes.now ≡ entry_bytes entry)) }
+    ensures parts { (entry : Entry) → IsEntry entry → bytes.now ≡ entry_bytes entry
+        → HasParts entry option.new × (place.new ≡ length bytes.now) }
+    ensures refuses { result ≢ OK → (error : LoadOptionError) × EntryRefusedFor bytes.now error }
+    ensures refusal { (error : LoadOptionError) → EntryRefusedFor bytes.now error
+        → (result ≡ option_reason error.cause) × (place.new ≡ error.offset) }
+    ensures unchanged { result ≢ OK → option.new ≡ option.old }
+{
+    // The law does nothing: it says that no load option is refused.
+    laws::options_once();
+    match LoadOption::from_bytes(bytes) {
+        Ok(read) => {
+            *option = parts_of(&read);
+            *place = bytes.len();
+            OK
+        }
+        Err(error) => {
+            *place = error.offset;
+            option_reason(error.cause)
+        }
+    }
+}

@@ -1,0 +1,223 @@
+//! Paths in units that C holds: the verdict on one, how two compare, and where its components stand.
+ghost use Rattle.std.specs.Prelude.{◌≡◌, ◌≢◌, ◌↔◌, ◌+◌, ◌-◌, ◌<◌, ◌≤◌, ◌⊎◌, ◌∷◌, [], pos, All, IsFalse, IfSome, IsTrue, MatchOption, None, Some, drop, length, slice_index, slice_range, take};
+ghost use Rattle.std.specs.Cmp.Lexicographic.{slice_cmp};
+ghost use Rattle.std.specs.List.{last_or, position, position_or_len, slice_split};
+ghost use Rattle.std.specs.Ordering.{nat_cmp};
+ghost use Rattle.uefi_text.specs.FromSliceUntilNul.{until_nul_refusal};
+ghost use Rattle.uefi_text.specs.Units.{BeginsWithString};
+ghost use Rattle.uefi_path.specs.Components.{IsPiece, components_of, joined};
+ghost use Rattle.uefi_path.specs.Parents.{all_but_last, parent_text};
+ghost use Rattle.uefi_path.specs.Separators.{canonical, is_separator, separator};
+ghost use Rattle.uefi_path.specs.Verdicts.{IsValid, verdict};
+ghost use Rattle.uefi_path.specs.Views.{path_text};
+ghost use Rattle.nardcorbel.specs.PathPlaces.{component_place, components_from};
+ghost use Rattle.nardcorbel.specs.Reasons.{order_number, path_reason, refused_character, until_nul_reason};
+ghost use Rattle.nardcorbel.specs.Strings.{text_in, until_nul_place};
+
+use crate::reasons::{NO_ORDER, OK, order_number, path_reason, until_nul_reason};
+use crate::strings::until_nul_place;
+use uefi_path::slices::{last_component, others_end};
+use uefi_path::{Path, validate_path};
+use uefi_text::CStr16;
+
+/// The code unit of the separator.
+const SEPARATOR: u16 = 92;
+
+/// Whether a path names a file: `OK`, or why not, and the character that is refused.
+pub(crate) fn judge(path: Path<'_>, character: &mut u16) -> u32
+    ensures reason { result ≡ path_reason (verdict (path_text path.entry)) }
+    ensures valid { (result ≡ OK) ↔ IsValid (path_text path.entry) }
+    ensures character { character.new ≡ refused_character (verdict (path_text path.entry)) }
+{
+    match validate_path(path) {
+        Ok(()) => {
+            *character = 0;
+            OK
+        }
+        Err(error) => {
+            let (reason, refused) = path_reason(error);
+            *character = refused;
+            reason
+        }
+    }
+}
+
+/// Whether the units begin with a string whose path names a file: `OK`, or why not.
+///
+/// Units that begin with no string are refused as by [`nard_string_until_nul`], and then the path as by
+/// `validate_path`. `place` becomes what [`nard_string_until_nul`] says, which is the length of the text
+/// where only the path is refused. `character` becomes the character of `ILLEGAL_CHAR`, and 0 else. One pass
+/// over the units, and those of `validate_path`, two at most; takes no memory.
+#[unsafe(no_mangle)]
+pub extern "C" fn nard_path_verdict(units: &[u16], place: &mut usize, character: &mut u16) -> u32
+    ensures no_string { ¬ BeginsWithString units.now
+        → result ≡ until_nul_reason (until_nul_refusal units.now) }
+    ensures reason { BeginsWithString units.now → result ≡ path_reason (verdict (text_in units.now)) }
+    ensures valid { (result ≡ OK) ↔ (BeginsWithString units.now × IsValid (text_in units.now)) }
+    ensures place { place.new ≡ until_nul_place units.now }
+    ensures no_character { ¬ BeginsWithString units.now → character.new ≡ 0 }
+    ensures character { BeginsWithString units.now
+        → character.new ≡ refused_character (verdict (text_in units.now)) }
+{
+    *character = 0;
+    match CStr16::from_u16_until_nul(units) {
+        Ok(string) => {
+            *place = string.num_chars();
+            judge(Path::new(string), character)
+        }
+        Err(error) => {
+            *place = until_nul_place(error, units);
+            until_nul_reason(error)
+        }
+    }
+}
+
+/// Whether both begin with a string, and the paths of these are equal: one leading separator says
+/// nothing. One pass over each; takes no memory.
+#[unsafe(no_mangle)]
+pub extern "C" fn nard_path_equal(first: &[u16], second: &[u16]) -> bool
+    ensures { IsTrue result ↔ (BeginsWithString first.now × BeginsWithString second.now
+        × (canonical (text_in first.now) ≡ canonical (text_in second.now))) }
+{
+    let Ok(first) = CStr16::from_u16_until_nul(first) else {
+        return false;
+    };
+    let Ok(second) = CStr16::from_u16_until_nul(second) else {
+        return false;
+    };
+    Path::new(first) == Path::new(second)
+}
+
+/// The order of two paths, which is that of their texts without one leading separator, by code unit: -1, 0
+/// or 1 where the first is less, equal or greater, and `NO_ORDER` where one of them does not begin with a
+/// string. One pass over each; takes no memory.
+#[unsafe(no_mangle)]
+pub extern "C" fn nard_path_order(first: &[u16], second: &[u16]) -> i32
+    ensures order { BeginsWithString first.now → BeginsWithString second.now
+        → result ≡ order_number (slice_cmp nat_cmp
+        (canonical (text_in first.now)) (canonical (text_in second.now))) }
+    ensures none { (result ≡ pos 2) ↔ ¬ (BeginsWithString first.now × BeginsWithString second.now) }
+{
+    let Ok(first) = CStr16::from_u16_until_nul(first) else {
+        return NO_ORDER;
+    };
+    let Ok(second) = CStr16::from_u16_until_nul(second) else {
+        return NO_ORDER;
+    };
+    order_number(Path::new(first).cmp(&Path::new(second)))
+}
+
+/// Where the next component begins, if there is one.
+fn component_start(text: &[u16], place: usize) -> Option<usize>
+    ensures left { MatchOption result
+        (components_from text.now place ≡ []) (λ start. (start ≤ length text.now)
+        × (components_from text.now place ≡ slice_split is_separator (drop start text.now))) }
+    ensures place { IfSome result (λ start. start ≡ component_place text.now place) }
+{
+    if 0 < place {
+        return if place <= text.len() {
+            Some(place)
+        } else {
+            None
+        };
+    }
+    match text {
+        [] | [SEPARATOR] => None,
+        [SEPARATOR, ..] => Some(1),
+        _ => Some(0),
+    }
+}
+
+/// The place of the first separator.
+fn find_separator(units: &[u16]) -> Option<usize>
+    ensures { result ≡ position is_separator units.now }
+{
+    units.iter().position(|unit| *unit == SEPARATOR)
+}
+
+/// How many units stand before the first separator.
+fn piece_len(units: &[u16]) -> usize
+    ensures len { result ≡ position_or_len is_separator units.now }
+    ensures within { result ≤ length units.now }
+{
+    find_separator(units).unwrap_or(units.len())
+}
+
+/// The next component of a path, from a place in its text on: whether there is one.
+///
+/// `text` are the units of the path without its NUL, any units. `place` is 0 at first. Where there is a
+/// component it is the `len` units from `start` on, which is `place`, but 1 where a separator begins the text
+/// and `place` is 0; and `place` becomes the place of the next one, after the separator that ends it. Else
+/// all three stay unchanged. An empty component is one, too. One pass over the component; takes no memory.
+#[unsafe(no_mangle)]
+pub extern "C" fn nard_path_next_component(
+    text: &[u16],
+    place: &mut usize,
+    start: &mut usize,
+    component_length: &mut usize,
+) -> bool
+    ensures next { IsTrue result → components_from text.now place.old
+        ≡ slice_range text.now start.new (start.new + component_length.new)
+        ∷ components_from text.now place.new }
+    ensures start { IsTrue result → start.new ≡ component_place text.now place.old }
+    ensures after { IsTrue result → place.new ≡ start.new + component_length.new + 1 }
+    ensures within { IsTrue result → start.new + component_length.new ≤ length text.now }
+    ensures none { IsFalse result → (components_from text.now place.old ≡ [])
+        × (place.new ≡ place.old) × (start.new ≡ start.old)
+        × (component_length.new ≡ component_length.old) }
+{
+    let Some(first) = component_start(text, *place) else {
+        return false;
+    };
+    let count = piece_len(&text[first..]);
+    *start = first;
+    *component_length = count;
+    *place = first + count + 1;
+    true
+}
+
+/// The last component of a path: whether it has one.
+///
+/// `text` are the units of the path without its NUL, any units. `start` becomes the place where the component
+/// begins, which ends with the text, and stays unchanged where there is none. It may be empty. One pass over
+/// the component, from its end; takes no memory.
+#[unsafe(no_mangle)]
+pub extern "C" fn nard_path_file_name(text: &[u16], start: &mut usize) -> bool
+    ensures name { IsTrue result
+        → last_or None (components_of text.now) ≡ Some (drop start.new text.now) }
+    ensures within { IsTrue result → start.new ≤ length text.now }
+    ensures none { IsFalse result → (components_of text.now ≡ []) × (start.new ≡ start.old) }
+{
+    let Some(first) = last_component(text) else {
+        return false;
+    };
+    *start = first;
+    true
+}
+
+/// How many units the parent of a path takes at the start of its text: whether it has a parent, which no
+/// path of at most one component has.
+///
+/// `text` are the units of the path without its NUL, any units. `len` becomes the place of the
+/// separator before the last component: the units before it are a path of all components but the last. Of a
+/// valid path they are the parent, but for a separator at their start. It
+/// stays unchanged where there is no parent. One pass over the last component, from its end; takes no
+/// memory.
+#[unsafe(no_mangle)]
+pub extern "C" fn nard_path_parent_length(text: &[u16], parent_length: &mut usize) -> bool
+    ensures parent { IsTrue result
+        → canonical (take parent_length.new text.now) ≡ joined (all_but_last (components_of text.now)) }
+    ensures valid { IsTrue result → IsValid text.now
+        → parent_text text.now ≡ Some (canonical (take parent_length.new text.now)) }
+    ensures some { IsTrue result ↔ (all_but_last (components_of text.now) ≢ []) }
+    ensures separator { IsTrue result → slice_index text.now parent_length.new ≡ separator }
+    ensures last { IsTrue result → IsPiece (drop (parent_length.new + 1) text.now) }
+    ensures shorter { IsTrue result → parent_length.new < length text.now }
+    ensures unchanged { IsFalse result → parent_length.new ≡ parent_length.old }
+{
+    let Some(end) = others_end(text) else {
+        return false;
+    };
+    *parent_length = end;
+    true
+}

@@ -1,0 +1,249 @@
+//! Why a call refuses, as numbers: the header's `enum nard_reason` has the same.
+ghost use Rattle.std.specs.Prelude.{◌≡◌, Some, pos};
+ghost use Rattle.nardcorbel.specs.Reasons.{fat_name_reason, name_reason, node_reason, option_reason, order_number, path_reason, refused_character, refused_fat_character, until_nul_reason, with_buf_reason, with_nul_reason};
+
+use std::cmp::Ordering;
+use uefi_device_path::{FilePathCause, LoadOptionCause, NodeError};
+use uefi_fat::FatNameError;
+use uefi_path::PathError;
+use uefi_text::{FromSliceUntilNulError, FromSliceWithNulError, FromStrWithBufError};
+
+/// Nothing is refused.
+pub const OK: u32 = 0;
+
+/// No unit is a NUL.
+pub const NO_NUL: u32 = 1;
+
+/// A unit is a surrogate, or a character is above U+FFFF.
+pub const INVALID_CHAR: u32 = 2;
+
+/// More follows the NUL.
+pub const INTERIOR_NUL: u32 = 3;
+
+/// The buffer has too few places.
+pub const BUFFER_TOO_SMALL: u32 = 4;
+
+/// The bytes are not UTF-8.
+pub const NOT_UTF8: u32 = 5;
+
+/// The bytes are odd in number.
+pub const ODD_BYTES: u32 = 6;
+
+/// The path is empty.
+pub const PATH_EMPTY: u32 = 7;
+
+/// A component of the path is empty.
+pub const EMPTY_COMPONENT: u32 = 8;
+
+/// A component holds a character that no file's name may hold.
+pub const ILLEGAL_CHAR: u32 = 9;
+
+/// A component `..` for which no name before it is left.
+pub const CLIMBS_ABOVE_ROOT: u32 = 10;
+
+/// The path has at most one component, and so no parent.
+pub const NO_PARENT: u32 = 11;
+
+/// The bytes end where a node has to begin: no end node ends the device path.
+pub const NO_END_NODE: u32 = 12;
+
+/// The bytes end within the header of a node.
+pub const TRUNCATED_HEADER: u32 = 13;
+
+/// A node of type End has a sub-type that ends neither a path nor an instance.
+pub const UNKNOWN_END: u32 = 14;
+
+/// The header of a node states a length below its own.
+pub const LENGTH_BELOW_HEADER: u32 = 15;
+
+/// A node of type End states a length above its header's.
+pub const END_WITH_DATA: u32 = 16;
+
+/// A node states a length beyond the end of the bytes.
+pub const NODE_BEYOND_END: u32 = 17;
+
+/// The bytes end before the description of a load option.
+pub const OPTION_TOO_SHORT: u32 = 18;
+
+/// No NUL ends the description of a load option.
+pub const DESCRIPTION_WITHOUT_END: u32 = 19;
+
+/// The file path list of a load option goes beyond the end of the bytes.
+pub const LIST_BEYOND_END: u32 = 20;
+
+/// The file path list of a load option has no bytes.
+pub const EMPTY_LIST: u32 = 21;
+
+/// The node that ends the device path stands there.
+pub const END_OF_PATH: u32 = 22;
+
+/// Nothing is left of a name without the spaces and dots around it.
+pub const NAME_EMPTY: u32 = 23;
+
+/// A name has more than 255 units.
+pub const NAME_TOO_LONG: u32 = 24;
+
+/// A unit is replaced by `_`: no short name takes it.
+pub const CHAR_REPLACED: u32 = 25;
+
+/// A node of type End that ends no instance may not stand before the end of a device path.
+pub const NODE_OF_END: u32 = 26;
+
+/// A node has more data than its header can state.
+pub const NODE_TOO_LONG: u32 = 27;
+
+/// A file path list is longer than the header of a load option can state.
+pub const LIST_TOO_LONG: u32 = 28;
+
+/// The order of two strings of which one is none.
+pub const NO_ORDER: i32 = 2;
+
+/// The version of the library: its three numbers, as a byte each, the first one highest.
+#[unsafe(no_mangle)]
+pub extern "C" fn nard_version() -> u32
+    ensures { result ≡ 0x000700 }
+{
+    0x00_07_00
+}
+
+/// Does nothing: its clauses are the numbers that `include/nardcorbel.h` gives the reasons.
+#[doc(hidden)]
+pub fn numbers()
+    ensures ok { OK ≡ 0 }
+    ensures no_nul { NO_NUL ≡ 1 }
+    ensures invalid_char { INVALID_CHAR ≡ 2 }
+    ensures interior_nul { INTERIOR_NUL ≡ 3 }
+    ensures buffer_too_small { BUFFER_TOO_SMALL ≡ 4 }
+    ensures not_utf8 { NOT_UTF8 ≡ 5 }
+    ensures odd_bytes { ODD_BYTES ≡ 6 }
+    ensures path_empty { PATH_EMPTY ≡ 7 }
+    ensures empty_component { EMPTY_COMPONENT ≡ 8 }
+    ensures illegal_char { ILLEGAL_CHAR ≡ 9 }
+    ensures climbs { CLIMBS_ABOVE_ROOT ≡ 10 }
+    ensures no_parent { NO_PARENT ≡ 11 }
+    ensures no_end_node { NO_END_NODE ≡ 12 }
+    ensures truncated_header { TRUNCATED_HEADER ≡ 13 }
+    ensures unknown_end { UNKNOWN_END ≡ 14 }
+    ensures length_below_header { LENGTH_BELOW_HEADER ≡ 15 }
+    ensures end_with_data { END_WITH_DATA ≡ 16 }
+    ensures node_beyond_end { NODE_BEYOND_END ≡ 17 }
+    ensures option_too_short { OPTION_TOO_SHORT ≡ 18 }
+    ensures description_without_end { DESCRIPTION_WITHOUT_END ≡ 19 }
+    ensures list_beyond_end { LIST_BEYOND_END ≡ 20 }
+    ensures empty_list { EMPTY_LIST ≡ 21 }
+    ensures end_of_path { END_OF_PATH ≡ 22 }
+    ensures name_empty { NAME_EMPTY ≡ 23 }
+    ensures name_too_long { NAME_TOO_LONG ≡ 24 }
+    ensures char_replaced { CHAR_REPLACED ≡ 25 }
+    ensures node_of_end { NODE_OF_END ≡ 26 }
+    ensures node_too_long { NODE_TOO_LONG ≡ 27 }
+    ensures list_too_long { LIST_TOO_LONG ≡ 28 }
+    ensures no_order { NO_ORDER ≡ pos 2 }
+{}
+
+/// The reason why units begin with no string.
+pub(crate) fn until_nul_reason(error: FromSliceUntilNulError) -> u32
+    ensures { result ≡ until_nul_reason (Some error) }
+{
+    match error {
+        FromSliceUntilNulError::InvalidChar(_) => INVALID_CHAR,
+        FromSliceUntilNulError::NoNul | FromSliceUntilNulError::OutOfMemory => NO_NUL,
+    }
+}
+
+/// The reason why units are no string.
+pub(crate) fn with_nul_reason(error: FromSliceWithNulError) -> u32
+    ensures { result ≡ with_nul_reason (Some error) }
+{
+    match error {
+        FromSliceWithNulError::InvalidChar(_) => INVALID_CHAR,
+        FromSliceWithNulError::InteriorNul(_) => INTERIOR_NUL,
+        FromSliceWithNulError::NotNulTerminated
+        | FromSliceWithNulError::NotAligned
+        | FromSliceWithNulError::OutOfMemory => NO_NUL,
+    }
+}
+
+/// The reason why a text does not become a string in a buffer.
+pub(crate) fn with_buf_reason(error: FromStrWithBufError) -> u32
+    ensures { result ≡ with_buf_reason (Some error) }
+{
+    match error {
+        FromStrWithBufError::InvalidChar(_) => INVALID_CHAR,
+        FromStrWithBufError::InteriorNul(_) => INTERIOR_NUL,
+        FromStrWithBufError::BufferTooSmall => BUFFER_TOO_SMALL,
+    }
+}
+
+/// The reason why a path is refused, and the character for which it is, or 0.
+pub(crate) fn path_reason(error: PathError) -> (u32, u16)
+    ensures reason { result.0 ≡ path_reason (Some error) }
+    ensures character { result.1 ≡ refused_character (Some error) }
+{
+    match error {
+        PathError::Empty => (PATH_EMPTY, 0),
+        PathError::EmptyComponent => (EMPTY_COMPONENT, 0),
+        PathError::IllegalChar(character) => (ILLEGAL_CHAR, u16::from(character)),
+        PathError::ClimbsAboveRoot => (CLIMBS_ABOVE_ROOT, 0),
+    }
+}
+
+/// The reason why a name is refused, and the character for which it is, or 0.
+pub(crate) fn fat_name_reason(error: FatNameError) -> (u32, u16)
+    ensures reason { result.0 ≡ fat_name_reason (Some error) }
+    ensures character { result.1 ≡ refused_fat_character (Some error) }
+{
+    match error {
+        FatNameError::Empty => (NAME_EMPTY, 0),
+        FatNameError::TooLong => (NAME_TOO_LONG, 0),
+        FatNameError::IllegalChar(character) => (ILLEGAL_CHAR, u16::from(character)),
+    }
+}
+
+/// The reason why no node of a device path stands at a place.
+pub(crate) fn node_reason(error: NodeError) -> u32
+    ensures { result ≡ node_reason error }
+{
+    match error {
+        NodeError::Missing => NO_END_NODE,
+        NodeError::TruncatedHeader => TRUNCATED_HEADER,
+        NodeError::UnknownEnd => UNKNOWN_END,
+        NodeError::LengthBelowHeader => LENGTH_BELOW_HEADER,
+        NodeError::EndWithData => END_WITH_DATA,
+        NodeError::BeyondEnd => NODE_BEYOND_END,
+    }
+}
+
+/// The reason why bytes are no load option.
+pub(crate) fn option_reason(cause: LoadOptionCause) -> u32
+    ensures { result ≡ option_reason cause }
+{
+    match cause {
+        LoadOptionCause::TooShort => OPTION_TOO_SHORT,
+        LoadOptionCause::DescriptionWithoutEnd => DESCRIPTION_WITHOUT_END,
+        LoadOptionCause::ListBeyondEnd => LIST_BEYOND_END,
+        LoadOptionCause::EmptyList => EMPTY_LIST,
+        LoadOptionCause::FilePathList(error) => node_reason(error),
+    }
+}
+
+/// The reason why a node that names a file has no name.
+pub(crate) fn name_reason(cause: FilePathCause) -> u32
+    ensures { result ≡ name_reason cause }
+{
+    match cause {
+        FilePathCause::HalfUnit | FilePathCause::OutOfMemory => ODD_BYTES,
+        FilePathCause::Text(error) => with_nul_reason(error),
+    }
+}
+
+/// The number of an order: negative, zero or positive.
+pub(crate) fn order_number(order: Ordering) -> i32
+    ensures { result ≡ order_number order }
+{
+    match order {
+        Ordering::Less => -1,
+        Ordering::Equal => 0,
+        Ordering::Greater => 1,
+    }
+}

@@ -1,0 +1,127 @@
+//! Strings in units that C holds: which units are one, and how two compare.
+ghost use Rattle.std.specs.Prelude.{◌≡◌, ◌↔◌, ◌+◌, ◌<◌, pos, length, IfErr, IfOk, IsOk, IsTrue, Some};
+ghost use Rattle.std.specs.Cmp.Lexicographic.{slice_cmp};
+ghost use Rattle.std.specs.Ordering.{nat_cmp};
+ghost use Rattle.std.specs.Str.{IsAscii};
+ghost use Rattle.uefi_text.specs.Units.{BeginsWithString, IsString};
+ghost use Rattle.uefi_text.specs.FromSliceUntilNul.{until_nul_refusal};
+ghost use Rattle.uefi_text.specs.FromSliceWithNul.{with_nul_refusal};
+ghost use Rattle.uefi_text.specs.Views.{text_of};
+ghost use Rattle.nardcorbel.specs.Reasons.{order_number, until_nul_reason, with_nul_reason};
+ghost use Rattle.nardcorbel.specs.Strings.{text_in, until_nul_place, until_nul_place_at, with_nul_place, with_nul_place_at};
+
+use crate::reasons::{NO_ORDER, OK, order_number, until_nul_reason, with_nul_reason};
+use uefi_text::{CStr16, FromSliceUntilNulError, FromSliceWithNulError};
+
+/// The place at which units are refused.
+pub(crate) fn until_nul_place(error: FromSliceUntilNulError, units: &[u16]) -> usize
+    ensures { result ≡ until_nul_place_at units.now (Some error) }
+{
+    match error {
+        FromSliceUntilNulError::InvalidChar(index) => index,
+        FromSliceUntilNulError::NoNul | FromSliceUntilNulError::OutOfMemory => units.len(),
+    }
+}
+
+/// The same of units that all have to be one string.
+fn with_nul_place(error: FromSliceWithNulError, units: &[u16]) -> usize
+    ensures { result ≡ with_nul_place_at units.now (Some error) }
+{
+    match error {
+        FromSliceWithNulError::InvalidChar(index) => index,
+        FromSliceWithNulError::InteriorNul(index) => index,
+        FromSliceWithNulError::NotNulTerminated
+        | FromSliceWithNulError::NotAligned
+        | FromSliceWithNulError::OutOfMemory => units.len(),
+    }
+}
+
+/// Whether all of the units are one string: `OK`, or why they are none.
+///
+/// The first unit that is a NUL or a surrogate decides. `place` becomes the length of the text, the
+/// index of the unit that is refused, or the number of units where none is a NUL. One pass, which ends
+/// at that unit; takes no memory.
+#[unsafe(no_mangle)]
+pub extern "C" fn nard_string_with_nul(units: &[u16], place: &mut usize) -> u32
+    ensures reason { result ≡ with_nul_reason (with_nul_refusal units.now) }
+    ensures accepts { (result ≡ OK) ↔ IsString units.now }
+    ensures place { place.new ≡ with_nul_place units.now }
+{
+    match CStr16::from_u16_with_nul(units) {
+        Ok(string) => {
+            *place = string.num_chars();
+            OK
+        }
+        Err(error) => {
+            *place = with_nul_place(error, units);
+            with_nul_reason(error)
+        }
+    }
+}
+
+/// Whether the units begin with a string: `OK`, or why they do not. What follows the first NUL is not
+/// read.
+///
+/// `place` becomes what [`nard_string_with_nul`] says. One pass, which ends at the first NUL or
+/// surrogate; takes no memory.
+#[unsafe(no_mangle)]
+pub extern "C" fn nard_string_until_nul(units: &[u16], place: &mut usize) -> u32
+    ensures reason { result ≡ until_nul_reason (until_nul_refusal units.now) }
+    ensures accepts { (result ≡ OK) ↔ BeginsWithString units.now }
+    ensures place { place.new ≡ until_nul_place units.now }
+{
+    match CStr16::from_u16_until_nul(units) {
+        Ok(string) => {
+            *place = string.num_chars();
+            OK
+        }
+        Err(error) => {
+            *place = until_nul_place(error, units);
+            until_nul_reason(error)
+        }
+    }
+}
+
+/// Whether both begin with a string, and have the same text. One pass over each; takes no memory.
+#[unsafe(no_mangle)]
+pub extern "C" fn nard_string_equal(first: &[u16], second: &[u16]) -> bool
+    ensures { IsTrue result ↔ (BeginsWithString first.now × BeginsWithString second.now
+        × (text_in first.now ≡ text_in second.now)) }
+{
+    let Ok(first) = CStr16::from_u16_until_nul(first) else {
+        return false;
+    };
+    let Ok(second) = CStr16::from_u16_until_nul(second) else {
+        return false;
+    };
+    first.eq_cstr16(second)
+}
+
+/// The order of two strings, by code unit: -1, 0 or 1 where the first is less, equal or greater, and
+/// `NO_ORDER` where one of them does not begin with a string. One pass over each; takes no memory.
+#[unsafe(no_mangle)]
+pub extern "C" fn nard_string_order(first: &[u16], second: &[u16]) -> i32
+    ensures order { BeginsWithString first.now → BeginsWithString second.now
+        → result ≡ order_number (slice_cmp nat_cmp (text_in first.now) (text_in second.now)) }
+    ensures none { (result ≡ pos 2) ↔ ¬ (BeginsWithString first.now × BeginsWithString second.now) }
+{
+    let Ok(first) = CStr16::from_u16_until_nul(first) else {
+        return NO_ORDER;
+    };
+    let Ok(second) = CStr16::from_u16_until_nul(second) else {
+        return NO_ORDER;
+    };
+    order_number(first.cmp(&second))
+}
+
+/// Whether the units begin with a string, and each character of its text is one of ASCII. One pass;
+/// takes no memory.
+#[unsafe(no_mangle)]
+pub extern "C" fn nard_string_is_ascii(units: &[u16]) -> bool
+    ensures { IsTrue result ↔ (BeginsWithString units.now × IsAscii (text_in units.now)) }
+{
+    match CStr16::from_u16_until_nul(units) {
+        Ok(string) => string.is_ascii(),
+        Err(_) => false,
+    }
+}

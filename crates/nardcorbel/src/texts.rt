@@ -1,0 +1,187 @@
+//! Texts in UTF-8, as C programs hold them, and strings.
+ghost use Rattle.std.specs.Prelude.{◌≡◌, ◌≢◌, ◌↔◌, ◌+◌, ◌-◌, ◌<◌, ◌≤◌, ◌^◌, ◌++◌, drop, encode_utf8, if◌then◌else◌, length, min, nat_lt, take, IsTrue, List, Some, ℕ};
+ghost use Rattle.std.specs.Str.{IsUtf8, chars, encode_utf8_all};
+ghost use Rattle.std.specs.Str.Lossy.{utf8_valid_len};
+ghost use Rattle.uefi_text.specs.EqStrUntilNul.{IsEqualUntilNul};
+ghost use Rattle.uefi_text.specs.FromSliceUntilNul.{until_nul_refusal};
+ghost use Rattle.uefi_text.specs.FromStrWithBuf.{from_str_with_buf_refusal, with_text};
+ghost use Rattle.uefi_text.specs.Latin1.{IsLatin1};
+ghost use Rattle.uefi_text.specs.UnalignedCStr16.{with_prefix};
+ghost use Rattle.uefi_text.specs.Units.{BeginsWithString, nul_terminated};
+ghost use Rattle.uefi_text.specs.Views.{text_of};
+ghost use Rattle.nardcorbel.specs.Reasons.{until_nul_reason, with_buf_reason};
+ghost use Rattle.nardcorbel.specs.Strings.{text_in, until_nul_place, with_buf_place, with_buf_place_at};
+
+use crate::reasons::{BUFFER_TOO_SMALL, NOT_UTF8, OK, until_nul_reason, with_buf_reason};
+use crate::strings::until_nul_place;
+use uefi_text::{CStr16, EqStrUntilNul, FromStrWithBufError, is_latin1};
+
+/// The place at which a text is refused.
+fn with_buf_place(error: FromStrWithBufError, room: usize) -> usize
+    ensures { (characters : List ℕ) → result ≡ with_buf_place_at characters room (Some error) }
+{
+    match error {
+        FromStrWithBufError::InvalidChar(index) => index,
+        FromStrWithBufError::InteriorNul(index) => index,
+        FromStrWithBufError::BufferTooSmall => room,
+    }
+}
+
+/// Writes a text in UTF-8 as a string into the prefix of a buffer.
+///
+/// Bytes that are not UTF-8 are `NOT_UTF8`: `place` becomes how many bytes before the fault are, and the
+/// buffer stays unchanged. Else the call does what `CStr16::write_str` says, with its refusals in their
+/// order, and `place` becomes the length of the text; the number of characters before the one that is
+/// refused; or the number of places that the buffer has, where these are too few. One pass over the bytes
+/// and one over the characters; takes no memory.
+#[unsafe(no_mangle)]
+pub extern "C" fn nard_string_from_utf8(bytes: &[u8], buffer: &mut [u16], place: &mut usize) -> u32
+    ensures not_utf8 { (result ≡ NOT_UTF8) ↔ ¬ IsUtf8 bytes.now }
+    ensures reason { IsUtf8 bytes.now
+        → result ≡ with_buf_reason (from_str_with_buf_refusal (chars bytes.now) (length buffer.old)) }
+    ensures buffer { IsUtf8 bytes.now → buffer.new ≡ with_text (chars bytes.now) buffer.old }
+    ensures unchanged { ¬ IsUtf8 bytes.now → buffer.new ≡ buffer.old }
+    ensures place { IsUtf8 bytes.now → place.new ≡ with_buf_place (chars bytes.now) (length buffer.old) }
+    ensures valid { ¬ IsUtf8 bytes.now → place.new ≡ utf8_valid_len bytes.now }
+{
+    let text = match str::from_utf8(bytes) {
+        Ok(text) => text,
+        Err(error) => {
+            *place = error.valid_up_to();
+            return NOT_UTF8;
+        }
+    };
+    let room = buffer.len();
+    match CStr16::write_str(text, buffer) {
+        Ok(len) => {
+            *place = len - 1;
+            OK
+        }
+        Err(error) => {
+            *place = with_buf_place(error, room);
+            with_buf_reason(error)
+        }
+    }
+}
+
+/// Whether the units begin with a string, the bytes are UTF-8, and the two count as equal up to the first
+/// NUL: the string's text, or what the bytes encode before their first NUL, is a prefix of the other of
+/// these. One pass over the bytes, and one that ends at the first difference; takes no memory.
+#[unsafe(no_mangle)]
+pub extern "C" fn nard_string_equal_until_nul(units: &[u16], bytes: &[u8]) -> bool
+    ensures { IsTrue result ↔ (BeginsWithString units.now × IsUtf8 bytes.now
+        × IsEqualUntilNul (text_in units.now) (chars bytes.now)) }
+{
+    let Ok(string) = CStr16::from_u16_until_nul(units) else {
+        return false;
+    };
+    match str::from_utf8(bytes) {
+        Ok(text) => string.eq_str_until_nul(text),
+        Err(_) => false,
+    }
+}
+
+/// Whether the bytes are UTF-8, and each character that they encode is one of Latin-1. One pass for each;
+/// takes no memory.
+#[unsafe(no_mangle)]
+pub extern "C" fn nard_utf8_is_latin1(bytes: &[u8]) -> bool
+    ensures { IsTrue result ↔ (IsUtf8 bytes.now × IsLatin1 (chars bytes.now)) }
+{
+    match str::from_utf8(bytes) {
+        Ok(text) => is_latin1(text),
+        Err(_) => false,
+    }
+}
+
+/// How many bytes the text of a string has in UTF-8, and the greatest `usize` where it has more.
+fn utf8_len(string: CStr16<'_>) -> usize
+    ensures { result ≡ min (length (encode_utf8_all (text_of string.entry))) (2 ^ 64 - 1) }
+{
+    let mut len = 0usize;
+    for character in string.iter() {
+        len = len.saturating_add(char::from(character).len_utf8());
+    }
+    len
+}
+
+/// Writes a character in UTF-8 from a place on, and returns the place after it.
+fn write_char(character: char, bytes: &mut [u8], place: usize) -> usize
+    requires { place + length (encode_utf8 character) ≤ length bytes.now }
+    ensures end { result ≡ place + length (encode_utf8 character) }
+    ensures bytes { bytes.new ≡ take place bytes.old ++ encode_utf8 character
+        ++ drop (place + length (encode_utf8 character)) bytes.old }
+{
+    let mut four = [0; 4];
+    let encoded = character.encode_utf8(&mut four).as_bytes();
+    // Each length by itself: a copy of a length that is known needs no `memcpy`.
+    match encoded {
+        [a] => bytes[place..place + 1].copy_from_slice(&[*a]),
+        [a, b] => bytes[place..place + 2].copy_from_slice(&[*a, *b]),
+        [a, b, c] => bytes[place..place + 3].copy_from_slice(&[*a, *b, *c]),
+        [a, b, c, d] => bytes[place..place + 4].copy_from_slice(&[*a, *b, *c, *d]),
+        _ => {}
+    }
+    place + encoded.len()
+}
+
+/// Writes the text of a string in UTF-8 into bytes that have just the room.
+fn write_utf8(string: CStr16<'_>, bytes: &mut [u8])
+    requires { length bytes.now ≡ length (encode_utf8_all (text_of string)) }
+    ensures { bytes.new ≡ encode_utf8_all (text_of string.entry) }
+{
+    let mut place = 0;
+    for character in string.iter() {
+        place = write_char(char::from(character), bytes, place);
+    }
+}
+
+/// Writes the text of a string in UTF-8, which has `len` bytes, and a NUL into the first places of `bytes`,
+/// where they have room.
+fn write_with_nul(string: CStr16<'_>, bytes: &mut [u8], len: usize) -> u32
+    requires { len ≡ min (length (encode_utf8_all (text_of string))) (2 ^ 64 - 1) }
+    ensures reason { result ≡ (if nat_lt (length (encode_utf8_all (text_of string.entry))) (length bytes.old)
+        then OK else BUFFER_TOO_SMALL) }
+    ensures bytes { bytes.new
+        ≡ with_prefix (nul_terminated (encode_utf8_all (text_of string.entry))) bytes.old }
+{
+    if bytes.len() <= len {
+        return BUFFER_TOO_SMALL;
+    }
+    write_utf8(string, &mut bytes[..len]);
+    bytes[len] = 0;
+    OK
+}
+
+/// Writes the text of the string that units begin with, in UTF-8 and with a NUL, into the first places of
+/// `bytes`.
+///
+/// Units that begin with no string are refused as by `nard_string_until_nul`, with its `place`. Else
+/// `place` becomes how many bytes the text has, or the greatest `usize` where it has more, and bytes
+/// with no more places than these are `BUFFER_TOO_SMALL`. Refused, the bytes stay unchanged; what stands
+/// after the NUL stays. Two passes over the text; takes no memory.
+#[unsafe(no_mangle)]
+pub extern "C" fn nard_utf8_from_string(units: &[u16], bytes: &mut [u8], place: &mut usize) -> u32
+    ensures no_string { ¬ BeginsWithString units.now
+        → result ≡ until_nul_reason (until_nul_refusal units.now) }
+    ensures unchanged { ¬ BeginsWithString units.now → bytes.new ≡ bytes.old }
+    ensures refused_place { ¬ BeginsWithString units.now → place.new ≡ until_nul_place units.now }
+    ensures reason { BeginsWithString units.now
+        → result ≡ (if nat_lt (length (encode_utf8_all (text_in units.now))) (length bytes.old)
+        then OK else BUFFER_TOO_SMALL) }
+    ensures bytes { BeginsWithString units.now
+        → bytes.new ≡ with_prefix (nul_terminated (encode_utf8_all (text_in units.now))) bytes.old }
+    ensures place { BeginsWithString units.now
+        → place.new ≡ min (length (encode_utf8_all (text_in units.now))) (2 ^ 64 - 1) }
+{
+    match CStr16::from_u16_until_nul(units) {
+        Ok(string) => {
+            let len = utf8_len(string);
+            *place = len;
+            write_with_nul(string, bytes, len)
+        }
+        Err(error) => {
+            *place = until_nul_place(error, units);
+            until_nul_reason(error)
+        }
+    }
+}

@@ -1,0 +1,167 @@
+//! Strings and paths in units that C holds, compared without case and matched against patterns, as the
+//! firmware's Unicode collation does (UEFI Specification 2.10, section 21.1).
+ghost use Rattle.std.specs.Prelude.{◌≡◌, ◌↔◌, ◌++◌, drop, length, map, pos, IsTrue};
+ghost use Rattle.uefi_text.specs.Case.{caseless_order, lowers, uppers};
+ghost use Rattle.uefi_text.specs.FromSliceUntilNul.{until_nul_refusal};
+ghost use Rattle.uefi_text.specs.Patterns.{Matches};
+ghost use Rattle.uefi_text.specs.Units.{BeginsWithString};
+ghost use Rattle.uefi_path.specs.Separators.{canonical};
+ghost use Rattle.uefi_path.specs.WithoutCase.{MatchesPath};
+ghost use Rattle.nardcorbel.specs.Cases.{cased};
+ghost use Rattle.nardcorbel.specs.Reasons.{order_number, until_nul_reason};
+ghost use Rattle.nardcorbel.specs.Strings.{text_in, until_nul_place};
+
+use crate::reasons::{NO_ORDER, OK, order_number, until_nul_reason};
+use crate::strings::until_nul_place;
+use uefi_path::Path;
+use uefi_text::{CStr16, Char16};
+
+/// A unit in upper or lower case. A surrogate has neither.
+fn cased(is_upper: bool, unit: u16) -> u16
+    ensures { result ≡ cased is_upper unit }
+{
+    match Char16::try_from(unit) {
+        Ok(character) if is_upper => u16::from(character.to_uppercase()),
+        Ok(character) => u16::from(character.to_lowercase()),
+        Err(_) => unit,
+    }
+}
+
+/// Puts units in upper or lower case.
+#[tactic(auto, using(std::proofs::lemmas::List::take_all, std::proofs::lemmas::List::drop_all))]
+fn set_case(units: &mut [u16], is_upper: bool)
+    ensures { units.new ≡ map (cased is_upper) units.old }
+{
+    for unit in units.iter_mut() {
+        *unit = cased(is_upper, *unit);
+    }
+}
+
+/// Puts the text of the string that units begin with in upper or lower case, and reports its length or
+/// why the units begin with no string.
+fn set_case_of_text(buffer: &mut [u16], is_upper: bool, place: &mut usize) -> u32
+    ensures reason { result ≡ until_nul_reason (until_nul_refusal buffer.old) }
+    ensures buffer { BeginsWithString buffer.old → buffer.new
+        ≡ map (cased is_upper) (text_in buffer.old) ++ drop (length (text_in buffer.old)) buffer.old }
+    ensures unchanged { ¬ BeginsWithString buffer.old → buffer.new ≡ buffer.old }
+    ensures place { place.new ≡ until_nul_place buffer.old }
+{
+    let len = match CStr16::from_u16_until_nul(buffer) {
+        Ok(string) => string.num_chars(),
+        Err(error) => {
+            *place = until_nul_place(error, buffer);
+            return until_nul_reason(error);
+        }
+    };
+    *place = len;
+    set_case(&mut buffer[..len], is_upper);
+    OK
+}
+
+/// Puts the text of the string that units begin with in upper case, as `StrUpr` does. Units that begin with
+/// no string are refused as by `nard_string_until_nul`, whose `place` is reported, and stay unchanged; what
+/// follows the text stays. Two passes; takes no memory.
+#[unsafe(no_mangle)]
+pub extern "C" fn nard_string_make_uppercase(buffer: &mut [u16], place: &mut usize) -> u32
+    ensures reason { result ≡ until_nul_reason (until_nul_refusal buffer.old) }
+    ensures buffer { BeginsWithString buffer.old → buffer.new
+        ≡ uppers (text_in buffer.old) ++ drop (length (text_in buffer.old)) buffer.old }
+    ensures unchanged { ¬ BeginsWithString buffer.old → buffer.new ≡ buffer.old }
+    ensures place { place.new ≡ until_nul_place buffer.old }
+{
+    set_case_of_text(buffer, true, place)
+}
+
+/// The same in lower case, as `StrLwr` does.
+#[unsafe(no_mangle)]
+pub extern "C" fn nard_string_make_lowercase(buffer: &mut [u16], place: &mut usize) -> u32
+    ensures reason { result ≡ until_nul_reason (until_nul_refusal buffer.old) }
+    ensures buffer { BeginsWithString buffer.old → buffer.new
+        ≡ lowers (text_in buffer.old) ++ drop (length (text_in buffer.old)) buffer.old }
+    ensures unchanged { ¬ BeginsWithString buffer.old → buffer.new ≡ buffer.old }
+    ensures place { place.new ≡ until_nul_place buffer.old }
+{
+    set_case_of_text(buffer, false, place)
+}
+
+/// Whether both begin with a string, and have the same text without case. One pass over each; takes no
+/// memory.
+#[unsafe(no_mangle)]
+pub extern "C" fn nard_string_equal_ignore_case(first: &[u16], second: &[u16]) -> bool
+    ensures { IsTrue result ↔ (BeginsWithString first.now × BeginsWithString second.now
+        × (uppers (text_in first.now) ≡ uppers (text_in second.now))) }
+{
+    let Ok(first) = CStr16::from_u16_until_nul(first) else {
+        return false;
+    };
+    let Ok(second) = CStr16::from_u16_until_nul(second) else {
+        return false;
+    };
+    first.eq_ignore_case(second)
+}
+
+/// The order of two strings without case, which is that of their units in upper case: -1, 0 or 1 where the
+/// first is less, equal or greater, and `NO_ORDER` where one of them does not begin with a string. One pass
+/// over each; takes no memory.
+#[unsafe(no_mangle)]
+pub extern "C" fn nard_string_order_ignore_case(first: &[u16], second: &[u16]) -> i32
+    ensures order { BeginsWithString first.now → BeginsWithString second.now
+        → result ≡ order_number (caseless_order (text_in first.now) (text_in second.now)) }
+    ensures none { (result ≡ pos 2) ↔ ¬ (BeginsWithString first.now × BeginsWithString second.now) }
+{
+    let Ok(first) = CStr16::from_u16_until_nul(first) else {
+        return NO_ORDER;
+    };
+    let Ok(second) = CStr16::from_u16_until_nul(second) else {
+        return NO_ORDER;
+    };
+    order_number(first.cmp_ignore_case(second))
+}
+
+/// Whether both begin with a string, and the pattern matches the whole text of the other, without case. It
+/// takes no longer than twice the product of both lengths, and no memory.
+#[unsafe(no_mangle)]
+pub extern "C" fn nard_string_matches(units: &[u16], pattern: &[u16]) -> bool
+    ensures { IsTrue result ↔ (BeginsWithString units.now × BeginsWithString pattern.now
+        × Matches (text_in pattern.now) (text_in units.now)) }
+{
+    let Ok(string) = CStr16::from_u16_until_nul(units) else {
+        return false;
+    };
+    let Ok(pattern) = CStr16::from_u16_until_nul(pattern) else {
+        return false;
+    };
+    string.matches(pattern)
+}
+
+/// Whether both begin with a string, and the paths of these are equal without case: one leading separator
+/// says nothing. One pass over each; takes no memory.
+#[unsafe(no_mangle)]
+pub extern "C" fn nard_path_equal_ignore_case(first: &[u16], second: &[u16]) -> bool
+    ensures { IsTrue result ↔ (BeginsWithString first.now × BeginsWithString second.now
+        × (uppers (canonical (text_in first.now)) ≡ uppers (canonical (text_in second.now)))) }
+{
+    let Ok(first) = CStr16::from_u16_until_nul(first) else {
+        return false;
+    };
+    let Ok(second) = CStr16::from_u16_until_nul(second) else {
+        return false;
+    };
+    Path::new(first).eq_ignore_case(Path::new(second))
+}
+
+/// Whether both begin with a string, and each component of the pattern matches the component of the path at
+/// the same place, of which both have as many. Takes no memory.
+#[unsafe(no_mangle)]
+pub extern "C" fn nard_path_matches(path: &[u16], pattern: &[u16]) -> bool
+    ensures { IsTrue result ↔ (BeginsWithString path.now × BeginsWithString pattern.now
+        × MatchesPath (text_in pattern.now) (text_in path.now)) }
+{
+    let Ok(path) = CStr16::from_u16_until_nul(path) else {
+        return false;
+    };
+    let Ok(pattern) = CStr16::from_u16_until_nul(pattern) else {
+        return false;
+    };
+    Path::new(path).matches(Path::new(pattern))
+}

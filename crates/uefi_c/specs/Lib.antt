@@ -1,6 +1,0 @@
-pub mod Reasons
-pub mod Strings
-pub mod Cases
-pub mod PathPlaces
-pub mod Buffers
-pub mod DevicePaths

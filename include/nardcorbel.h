@@ -1,0 +1,570 @@
+/*
+ * nardcorbel: strings, paths, device paths and load options as UEFI firmware holds them.
+ *
+ * The library reads and writes them in memory that the caller gives: no call allocates, keeps a pointer, or calls anything
+ * else. Every call is proved to do what its contract says, for every input whose caller keeps the rules below. The contracts
+ * are in crates/nardcorbel/CALLING.md; the comments here say the same in words.
+ *
+ * Words
+ *   unit    a code unit of UCS-2, two bytes
+ *   text    units without a NUL and without a surrogate (0xd800 to 0xdfff)
+ *   string  a text and its NUL. Units "begin with a string" if a NUL comes before any surrogate; what follows it is not read.
+ *   path    a string whose components stand between separators, '\'. One separator at its start is ignored.
+ *
+ * What the caller must see to
+ *   - No pointer is null, also where its count is 0.
+ *   - Pointers to units, sizes and structs are aligned for their type. Bytes may lie anywhere, so a device path may too; the
+ *     name in a node may begin at an odd address, and nard_units_from_bytes copies it to an even one.
+ *   - The memory has as many elements as the count or the room says, at most PTRDIFF_MAX bytes. It is initialized, also a
+ *     buffer that a call only writes.
+ *   - A nard_bool is 0 or 1.
+ *   - While a call runs, nobody else writes what it is given or reads what it writes: no interrupt, no event, no processor.
+ *   - What a call writes overlaps nothing else that it is given. What it only reads may overlap.
+ *
+ * What comes back
+ *   - Most calls return a reason: NARD_OK, or why the input is refused. nard_reason_text has it in words.
+ *   - A call that writes a text says in *length how many units it has, its NUL not counted. It needs room for one more. If
+ *     there is less, it returns NARD_BUFFER_TOO_SMALL, and *length is what it would have written. Units after the NUL are
+ *     never touched.
+ *   - If the input is refused, *length is where it is at fault, and the buffer is unchanged.
+ *   - Where a call differs from this, its comment says so.
+ *
+ * Two kinds of archive
+ *   - For programs on Linux, by `rt lib`: ELF for x86-64-v2. It may use the red zone, so firmware must not link it.
+ *   - For firmware, by tools/firmware-lib: ELF and COFF, for any x86-64 and aarch64 processor, without a red zone.
+ */
+#ifndef NARDCORBEL_H
+#define NARDCORBEL_H
+
+#ifndef NARD_TYPES
+#include <stdbool.h>
+#include <stddef.h>
+#include <stdint.h>
+
+/*
+ * The types of the calls. To use others of the same size and sign, define them and NARD_TYPES first: UINT8, CHAR16, UINTN,
+ * BOOLEAN, UINT32 and INT32 under EDK II, or char16_t for a unit in C++.
+ */
+typedef uint8_t nard_byte;
+typedef uint16_t nard_unit;
+typedef size_t nard_size;
+typedef bool nard_bool;
+typedef uint32_t nard_result; /* a reason */
+typedef int32_t nard_order;   /* -1, 0 or 1 for less, equal or greater */
+#endif
+
+#ifndef NARD_CALL
+/* The calling convention: System V's in ELF for x86-64, otherwise the usual one, whatever the compiler is told to use. */
+#if defined(__x86_64__) && defined(__ELF__)
+#define NARD_CALL __attribute__((sysv_abi))
+#elif defined(__x86_64__) && defined(_WIN32) && defined(__GNUC__)
+#define NARD_CALL __attribute__((ms_abi))
+#else
+#define NARD_CALL
+#endif
+#endif
+
+#define NARD_VERSION_MAJOR 0
+#define NARD_VERSION_MINOR 7
+#define NARD_VERSION_PATCH 0
+#define NARD_VERSION "0.7.0"
+
+#ifdef __cplusplus
+extern "C" {
+#endif
+
+/* Why a call refuses its input: the name NARD_.., its number, and what nard_reason_text says. */
+#define NARD_REASONS(REASON) \
+    REASON(OK, 0, "nothing is wrong") \
+    REASON(NO_NUL, 1, "no NUL ends the string") \
+    REASON(INVALID_CHAR, 2, "the string holds a surrogate or a character above U+FFFF") \
+    REASON(INTERIOR_NUL, 3, "something follows the NUL") \
+    REASON(BUFFER_TOO_SMALL, 4, "the buffer is too small") \
+    REASON(NOT_UTF8, 5, "the bytes are not UTF-8") \
+    REASON(ODD_BYTES, 6, "the number of bytes is odd") \
+    REASON(PATH_EMPTY, 7, "the path is empty") \
+    REASON(EMPTY_COMPONENT, 8, "a component of the path is empty") \
+    REASON(ILLEGAL_CHAR, 9, "a component holds a character that file names may not hold") \
+    REASON(CLIMBS_ABOVE_ROOT, 10, "the path climbs above the root") \
+    REASON(NO_PARENT, 11, "the path has no parent") \
+    REASON(NO_END_NODE, 12, "no end node ends the device path") \
+    REASON(TRUNCATED_HEADER, 13, "the bytes end in the header of a node") \
+    REASON(UNKNOWN_END, 14, "an end node ends neither a path nor an instance") \
+    REASON(LENGTH_BELOW_HEADER, 15, "the length of a node is less than that of its header") \
+    REASON(END_WITH_DATA, 16, "an end node has data") \
+    REASON(NODE_BEYOND_END, 17, "a node is longer than the bytes that are left") \
+    REASON(OPTION_TOO_SHORT, 18, "the load option ends in its header") \
+    REASON(DESCRIPTION_WITHOUT_END, 19, "no NUL ends the description") \
+    REASON(LIST_BEYOND_END, 20, "the file path list is longer than the bytes that are left") \
+    REASON(EMPTY_LIST, 21, "the file path list is empty") \
+    REASON(END_OF_PATH, 22, "the device path ends here") /* nothing is wrong */ \
+    REASON(NAME_EMPTY, 23, "the name has nothing but spaces and dots") \
+    REASON(NAME_TOO_LONG, 24, "the name has more than 255 characters") \
+    REASON(CHAR_REPLACED, 25, "a character became '_'") /* nothing is wrong */ \
+    REASON(NODE_OF_END, 26, "an end node may not stand before the end of a device path") \
+    REASON(NODE_TOO_LONG, 27, "the node is longer than its header can state") \
+    REASON(LIST_TOO_LONG, 28, "the file path list is longer than its header can state")
+
+enum nard_reason {
+#define NARD_AS_CONSTANT(name, number, text) NARD_##name = number,
+    NARD_REASONS(NARD_AS_CONSTANT)
+#undef NARD_AS_CONSTANT
+    NARD_NO_ORDER = 2 /* an order, of two things of which one is no string */
+};
+
+/* A reason in words. */
+static inline const char *nard_reason_text(nard_result reason)
+{
+    switch (reason) {
+#define NARD_AS_CASE(name, number, text) \
+    case number: \
+        return text;
+        NARD_REASONS(NARD_AS_CASE)
+#undef NARD_AS_CASE
+    default:
+        return "unknown reason";
+    }
+}
+
+/* The EFI_STATUS for a reason, in programs that have EFI_SUCCESS and the other status codes. */
+#define NARD_EFI_STATUS(reason) \
+    ((reason) == NARD_OK                                               ? EFI_SUCCESS \
+     : (reason) == NARD_BUFFER_TOO_SMALL                               ? EFI_BUFFER_TOO_SMALL \
+     : (reason) == NARD_NO_PARENT || (reason) == NARD_END_OF_PATH ? EFI_NOT_FOUND \
+                                                                       : EFI_INVALID_PARAMETER)
+
+/* ---- Strings ---- */
+
+/*
+ * Checks that all units are one string.
+ *
+ * Returns
+ *   NARD_OK            *length is the length of the text
+ *   NARD_NO_NUL        there is neither a NUL nor a surrogate; *length is count
+ *   NARD_INVALID_CHAR  a surrogate comes first, at *length
+ *   NARD_INTERIOR_NUL  a NUL comes first and is not the last unit, at *length
+ */
+nard_result NARD_CALL nard_string_with_nul(const nard_unit *units, nard_size count, nard_size *length);
+
+/*
+ * Checks that the units begin with a string. Reads up to the first NUL or surrogate.
+ *
+ * Returns
+ *   NARD_OK            *length is the length of the text
+ *   NARD_NO_NUL        there is neither a NUL nor a surrogate; *length is count
+ *   NARD_INVALID_CHAR  a surrogate comes first, at *length
+ */
+nard_result NARD_CALL nard_string_until_nul(const nard_unit *units, nard_size count, nard_size *length);
+
+/* Whether both begin with a string, and the texts are equal. */
+nard_bool NARD_CALL nard_string_equal(const nard_unit *first, nard_size first_count,
+                                      const nard_unit *second, nard_size second_count);
+
+/* The order of two strings, unit by unit: -1, 0 or 1; NARD_NO_ORDER if one of them does not begin with a string. */
+nard_order NARD_CALL nard_string_order(const nard_unit *first, nard_size first_count,
+                                       const nard_unit *second, nard_size second_count);
+
+/* Whether the units begin with a string whose text is ASCII. */
+nard_bool NARD_CALL nard_string_is_ascii(const nard_unit *units, nard_size count);
+
+/*
+ * The same without case, as the firmware's Unicode collation compares names (UEFI Specification 2.10, section 21.1): `a` to
+ * `z`, and U+00E0 to U+00FE but U+00F7, count as their capitals.
+ */
+nard_bool NARD_CALL nard_string_equal_ignore_case(const nard_unit *first, nard_size first_count,
+                                                  const nard_unit *second, nard_size second_count);
+nard_order NARD_CALL nard_string_order_ignore_case(const nard_unit *first, nard_size first_count,
+                                                   const nard_unit *second, nard_size second_count);
+
+/*
+ * Puts the text of the string that a buffer begins with in upper or in lower case, as the collation's StrUpr and StrLwr do.
+ * Returns as nard_string_until_nul; if it is not NARD_OK, the buffer is unchanged.
+ */
+nard_result NARD_CALL nard_string_make_uppercase(nard_unit *buffer, nard_size room, nard_size *length);
+nard_result NARD_CALL nard_string_make_lowercase(nard_unit *buffer, nard_size room, nard_size *length);
+
+/*
+ * Whether both begin with a string, and the pattern matches the whole text of `units` without case, as MetaiMatch does: `*`
+ * is any text, `?` is one unit, `[a-z]` is one unit of a set. Takes at most twice the product of both lengths in steps.
+ */
+nard_bool NARD_CALL nard_string_matches(const nard_unit *units, nard_size count,
+                                        const nard_unit *pattern, nard_size pattern_count);
+
+/* ---- Packed units and UTF-8 ---- */
+
+/*
+ * Copies the units that bytes encode, the low byte first, to the start of a buffer. The bytes may begin at any address.
+ *
+ *   *count   out: half of byte_count, rounded down, whatever is returned
+ *
+ * Returns
+ *   NARD_OK                the units were written; the rest of the buffer is unchanged
+ *   NARD_ODD_BYTES         byte_count is odd; the buffer is unchanged
+ *   NARD_BUFFER_TOO_SMALL  byte_count is even and room < *count; the buffer is unchanged
+ */
+nard_result NARD_CALL nard_units_from_bytes(const nard_byte *bytes, nard_size byte_count,
+                                            nard_unit *buffer, nard_size room, nard_size *count);
+
+/*
+ * Counts the units before the first NUL of those that bytes encode. They may be surrogates; an odd byte at the end is ignored.
+ *
+ * Returns
+ *   NARD_OK      *count is how many units stand before the NUL
+ *   NARD_NO_NUL  there is none; *count is half of byte_count, rounded down
+ */
+nard_result NARD_CALL nard_packed_until_nul(const nard_byte *bytes, nard_size byte_count, nard_size *count);
+
+/*
+ * Writes a text in UTF-8 as a string.
+ *
+ * Returns the first of these that holds
+ *   NARD_NOT_UTF8          *length is how many bytes before the fault are UTF-8; the buffer is unchanged
+ *   NARD_BUFFER_TOO_SMALL  *length is room; the buffer holds the first units of the text's UTF-16
+ *   NARD_INVALID_CHAR      a character is above U+FFFF; *length is how many characters stand before it, and the buffer holds
+ *                          the text's UTF-16 and a NUL
+ *   NARD_INTERIOR_NUL      the same for a NUL
+ *   NARD_OK                *length is the length of the text
+ */
+nard_result NARD_CALL nard_string_from_utf8(const nard_byte *bytes, nard_size byte_count,
+                                            nard_unit *buffer, nard_size room, nard_size *length);
+
+/*
+ * Writes the text of the string that units begin with, as UTF-8 with a NUL.
+ *
+ * Returns
+ *   NARD_OK                            *length is how many bytes stand before the NUL
+ *   NARD_NO_NUL, NARD_INVALID_CHAR     as nard_string_until_nul, *length too; the bytes are unchanged
+ *   NARD_BUFFER_TOO_SMALL              room <= *length; the bytes are unchanged
+ */
+nard_result NARD_CALL nard_utf8_from_string(const nard_unit *units, nard_size count,
+                                            nard_byte *bytes, nard_size room, nard_size *length);
+
+/*
+ * Whether the units begin with a string, the bytes are UTF-8, and one is a prefix of the other: the text of the string, and
+ * what the bytes encode up to their first NUL.
+ */
+nard_bool NARD_CALL nard_string_equal_until_nul(const nard_unit *units, nard_size count,
+                                                const nard_byte *bytes, nard_size byte_count);
+
+/* Whether the bytes are UTF-8, and no character is above U+00FF. */
+nard_bool NARD_CALL nard_utf8_is_latin1(const nard_byte *bytes, nard_size byte_count);
+
+/* ---- Paths ---- */
+
+/*
+ * Checks that the units begin with a string that is a path to a file. A slash is not a separator: nard_path_join with an
+ * empty second path replaces slashes first.
+ *
+ *   *length     out: the length of the text if the path is judged, otherwise as nard_string_until_nul
+ *   *character  out: the character that is not allowed, or 0
+ *
+ * Returns
+ *   NARD_OK
+ *   NARD_NO_NUL, NARD_INVALID_CHAR   as nard_string_until_nul
+ *   NARD_PATH_EMPTY                  the text is empty
+ *   NARD_EMPTY_COMPONENT, NARD_ILLEGAL_CHAR, NARD_CLIMBS_ABOVE_ROOT
+ *                                    the fault of the first component that has one
+ */
+nard_result NARD_CALL nard_path_verdict(const nard_unit *units, nard_size count, nard_size *length, nard_unit *character);
+
+/* Whether both begin with a string, and are equal as paths. */
+nard_bool NARD_CALL nard_path_equal(const nard_unit *first, nard_size first_count,
+                                    const nard_unit *second, nard_size second_count);
+
+/* The order of two paths: that of their texts without one separator at the start, as nard_string_order. */
+nard_order NARD_CALL nard_path_order(const nard_unit *first, nard_size first_count,
+                                     const nard_unit *second, nard_size second_count);
+
+/* Whether both begin with a string, and are equal as paths without case. */
+nard_bool NARD_CALL nard_path_equal_ignore_case(const nard_unit *first, nard_size first_count,
+                                                const nard_unit *second, nard_size second_count);
+
+/* Whether each component of the pattern matches the component at its place, and both have as many: `*` stops at '\'. */
+nard_bool NARD_CALL nard_path_matches(const nard_unit *path, nard_size count,
+                                      const nard_unit *pattern, nard_size pattern_count);
+
+/*
+ * The next component of a text without its NUL.
+ *
+ *   *place             in and out: where to look; 0 at first
+ *   *start             out: where the component begins
+ *   *component_length  out: how many units it has
+ *
+ * Returns true, or false after the last component, and then changes nothing.
+ */
+nard_bool NARD_CALL nard_path_next_component(const nard_unit *text, nard_size length,
+                                             nard_size *place, nard_size *start, nard_size *component_length);
+
+/* The last component of a text without its NUL begins at *start; false if there is none, and *start is unchanged. */
+nard_bool NARD_CALL nard_path_file_name(const nard_unit *text, nard_size length, nard_size *start);
+
+/*
+ * The first *parent_length units of a text without its NUL are a path of all its components but the last; false if it has at
+ * most one component, and *parent_length is unchanged. nard_path_parent writes the parent without a separator at its start.
+ */
+nard_bool NARD_CALL nard_path_parent_length(const nard_unit *text, nard_size length, nard_size *parent_length);
+
+/*
+ * Adds a path to the one in a buffer. Slashes of the added path become separators, and a separator goes between the two if
+ * the first is not empty and does not end in one. An empty path adds nothing.
+ *
+ * Returns
+ *   NARD_OK                          the buffer begins with the path of both
+ *   NARD_NO_NUL, NARD_INVALID_CHAR   the buffer, or then `path`, does not begin with a string: as nard_string_until_nul
+ *   NARD_BUFFER_TOO_SMALL            room <= *length; the buffer is unchanged
+ */
+nard_result NARD_CALL nard_path_push(nard_unit *buffer, nard_size room, const nard_unit *path, nard_size count, nard_size *length);
+
+/* Writes `path`, its slashes replaced, with `other` added, to a buffer. Returns as nard_path_push, `path` before `other`. */
+nard_result NARD_CALL nard_path_join(const nard_unit *path, nard_size count, const nard_unit *other, nard_size other_count,
+                                     nard_unit *buffer, nard_size room, nard_size *length);
+
+/*
+ * Writes the parent of a path to a buffer: all components but the last, slashes replaced, without a separator at the start.
+ * Empty components are left out, but if one stands right before the last component, a separator ends the parent: that of
+ * `a\\b\\c` is `a\b\`.
+ *
+ * Returns
+ *   NARD_OK
+ *   NARD_NO_NUL, NARD_INVALID_CHAR   as nard_string_until_nul
+ *   NARD_NO_PARENT                   the path has at most one component; *length is unchanged
+ *   NARD_BUFFER_TOO_SMALL            room <= *length; the buffer is unchanged
+ */
+nard_result NARD_CALL nard_path_parent(const nard_unit *path, nard_size count, nard_unit *buffer, nard_size room, nard_size *length);
+
+/*
+ * Writes the normal path of a path to a buffer: without `.`, and without each name that a `..` follows. If nothing is left, it
+ * is a lone separator.
+ *
+ * Returns
+ *   NARD_OK                 *character is 0
+ *   NARD_BUFFER_TOO_SMALL   room <= *length, and *character is 0; the buffer is unchanged
+ *   another reason          as nard_path_verdict, with its *length and *character; the buffer is unchanged
+ */
+nard_result NARD_CALL nard_path_normalize(const nard_unit *path, nard_size count, nard_unit *buffer, nard_size room,
+                                          nard_size *length, nard_unit *character);
+
+/* ---- Names on FAT volumes (section 13.3) ---- */
+
+/*
+ * Checks that the units begin with a string that a file on a FAT volume can have as its name. The file system trims a name
+ * before it looks for the file: spaces at the start, and spaces and dots at the end.
+ *
+ *   *length     out: as nard_string_until_nul
+ *   *character  out: the character that is not allowed, or 0
+ *
+ * Returns
+ *   NARD_OK
+ *   NARD_NO_NUL, NARD_INVALID_CHAR   as nard_string_until_nul
+ *   NARD_NAME_EMPTY                  nothing is left of it, as of "." and "..", which name folders
+ *   NARD_NAME_TOO_LONG               more than 255 units are left
+ *   NARD_ILLEGAL_CHAR                a unit that is left is below U+0020, or one of " * / : < > ? \ |
+ */
+nard_result NARD_CALL nard_fat_name_check(const nard_unit *units, nard_size count, nard_size *length, nard_unit *character);
+
+/* Whether both begin with a string, and these name one file: what is left of them, trimmed, is the same without case. */
+nard_bool NARD_CALL nard_fat_name_equal(const nard_unit *first, nard_size first_count,
+                                        const nard_unit *second, nard_size second_count);
+
+/*
+ * Whether the units begin with a string that is an 8.3 name as a directory entry holds it: 1 to 8 characters, and then maybe a
+ * dot and 1 to 3 more, all of them capital letters, digits or marks that such names take.
+ */
+nard_bool NARD_CALL nard_fat_name_is_short(const nard_unit *units, nard_size count);
+
+/*
+ * Writes the string that units begin with in the 8-bit characters of 8.3 names, as the collation's StrToFat does: nothing for
+ * a space or a dot, and for any other unit its upper case, or '_' if no 8.3 name takes it. No NUL is written.
+ *
+ * Returns
+ *   NARD_OK                          *length bytes were written, as many as fit; the others are unchanged
+ *   NARD_CHAR_REPLACED               the same, and one of them is '_' for another character
+ *   NARD_NO_NUL, NARD_INVALID_CHAR   as nard_string_until_nul; the bytes are unchanged
+ */
+nard_result NARD_CALL nard_fat_from_string(const nard_unit *units, nard_size count, nard_byte *bytes, nard_size room,
+                                           nard_size *length);
+
+/*
+ * Writes a unit for each byte before the first NUL, or for each byte if there is none, and a NUL, as the collation's FatToStr
+ * does.
+ *
+ * Returns
+ *   NARD_OK
+ *   NARD_BUFFER_TOO_SMALL   room <= *length; the buffer is unchanged
+ */
+nard_result NARD_CALL nard_string_from_fat(const nard_byte *bytes, nard_size byte_count, nard_unit *buffer, nard_size room,
+                                           nard_size *length);
+
+/* ---- Device paths and load options (UEFI Specification 2.10, chapter 10 and section 3.1.3) ---- */
+
+/*
+ * Checks that bytes begin with a device path. What follows it is not read.
+ *
+ * Returns
+ *   NARD_OK         *length is how many bytes it has, its end node included
+ *   another reason  what is wrong with the first malformed node; *length is the offset of its bytes at fault. In this order:
+ *                   NARD_NO_END_NODE, NARD_TRUNCATED_HEADER, NARD_UNKNOWN_END, NARD_LENGTH_BELOW_HEADER, NARD_END_WITH_DATA,
+ *                   NARD_NODE_BEYOND_END
+ */
+nard_result NARD_CALL nard_device_path_check(const nard_byte *bytes, nard_size byte_count, nard_size *length);
+
+/* A node of a device path. */
+struct nard_device_node {
+    nard_byte device_type; /* its type, and the sub-type that belongs to it */
+    nard_byte sub_type;
+    nard_size start;       /* the offset of its data */
+    nard_size length;      /* how many bytes these are */
+};
+
+/*
+ * Reads the node at an offset.
+ *
+ *   *offset   in and out: where the node begins, 0 at first; where the next one begins
+ *   *node     out: the node, if NARD_OK is returned; otherwise unchanged
+ *
+ * Returns
+ *   NARD_OK           a node, also one that ends an instance (type 0x7f, sub-type 1)
+ *   NARD_END_OF_PATH  the node that ends the path; at *offset the next path of a list begins
+ *   NARD_NO_END_NODE  *offset is byte_count or more, and unchanged
+ *   another reason    as nard_device_path_check; *offset is that of the bytes at fault
+ */
+nard_result NARD_CALL nard_device_path_next_node(const nard_byte *bytes, nard_size byte_count,
+                                                 nard_size *offset, struct nard_device_node *node);
+
+/*
+ * Writes the file path of a device path to a buffer: the names of all nodes that name files, slashes replaced, one separator
+ * between two. The device path is checked first, then the names, then the room.
+ *
+ * Returns
+ *   NARD_OK
+ *   NARD_ODD_BYTES, NARD_NO_NUL, NARD_INVALID_CHAR, NARD_INTERIOR_NUL
+ *                           the data of a file node, at the offset *length, is not a string; the buffer is unchanged
+ *   NARD_BUFFER_TOO_SMALL   room <= *length; the buffer is unchanged
+ *   another reason          as nard_device_path_check; the buffer is unchanged
+ */
+nard_result NARD_CALL nard_device_path_file_path(const nard_byte *bytes, nard_size byte_count,
+                                                 nard_unit *buffer, nard_size room, nard_size *length);
+
+/*
+ * Formats a device path as text, for example
+ *     PciRoot(0x0)/Pci(0x1F,0x2)/Sata(0x0,0xFFFF,0x0)/HD(1,GPT,...)
+ * (section 10.6.1), as UTF-16 with a NUL. No control character and no character that turns the direction of a text is written:
+ * they are escaped.
+ *
+ *   display_only      shorter forms that cannot be read back
+ *   allow_shortcuts   short names such as VenPcAnsi()
+ *
+ * Returns
+ *   NARD_OK
+ *   NARD_BUFFER_TOO_SMALL   room <= *length; the buffer holds the first `room` units of the text
+ *   another reason          as nard_device_path_check; the buffer is unchanged
+ */
+nard_result NARD_CALL nard_device_path_text(const nard_byte *bytes, nard_size byte_count,
+                                            nard_bool display_only, nard_bool allow_shortcuts,
+                                            nard_unit *buffer, nard_size room, nard_size *length);
+
+/* Where the parts of a load option stand in its bytes. */
+struct nard_load_option {
+    nard_size attributes;         /* 32 bits; bit 0 is LOAD_OPTION_ACTIVE */
+    nard_size description_start;
+    nard_size description_length; /* in units, without the NUL */
+    nard_size list_start;         /* the file path list: device paths, one after the other */
+    nard_size list_length;
+    nard_size path_length;        /* of the first device path, its end node included */
+    nard_size optional_start;     /* the optional data */
+    nard_size optional_length;
+};
+
+/*
+ * Reads a load option, the value of a variable Boot####. The description may hold surrogates.
+ *
+ *   *option   out: its parts, if NARD_OK is returned; otherwise unchanged
+ *   *offset   out: byte_count, or where the bytes are at fault
+ *
+ * Returns NARD_OK, or the first of these that holds
+ *   NARD_OPTION_TOO_SHORT         there are fewer than 6 bytes; *offset is byte_count
+ *   NARD_DESCRIPTION_WITHOUT_END  *offset is the end of the last whole unit
+ *   NARD_LIST_BEYOND_END          *offset is 4, that of the list's length
+ *   NARD_EMPTY_LIST               *offset is where the list begins
+ *   another reason                as nard_device_path_check, for the first malformed node of the list
+ */
+nard_result NARD_CALL nard_load_option_read(const nard_byte *bytes, nard_size byte_count,
+                                            struct nard_load_option *option, nard_size *offset);
+
+/* ---- Writing device paths and load options ---- */
+
+/*
+ * Writes a device path without nodes to the start of a buffer: its end node, 4 bytes. nard_device_path_push adds to it.
+ * Returns NARD_OK, or NARD_BUFFER_TOO_SMALL if room < 4, and then leaves the buffer unchanged; *length is 4.
+ */
+nard_result NARD_CALL nard_device_path_begin(nard_byte *buffer, nard_size room, nard_size *length);
+
+/*
+ * Adds a node to the device path that a buffer begins with, before its end.
+ *
+ * Returns NARD_OK, or the first of these that holds
+ *   as nard_device_path_check of the buffer, *length too
+ *   NARD_NODE_OF_END        the node is of type End, and either not of sub-type 1 or with data; *length is unchanged
+ *   NARD_NODE_TOO_LONG      there are more than 65,531 bytes of data; *length is unchanged
+ *   NARD_BUFFER_TOO_SMALL   room < *length, how many bytes the path would have
+ * If it is NARD_OK, *length is how many bytes the path then has, and those after it are unchanged. Otherwise the buffer is.
+ */
+nard_result NARD_CALL nard_device_path_push(nard_byte *buffer, nard_size room, nard_byte device_type, nard_byte sub_type,
+                                            const nard_byte *content, nard_size byte_count, nard_size *length);
+
+/*
+ * Adds the nodes of the device path that bytes begin with to the one that a buffer begins with, before its end.
+ *
+ * Returns NARD_OK, or the first of these that holds
+ *   as nard_device_path_check of the buffer, and then of the bytes, *length too
+ *   NARD_BUFFER_TOO_SMALL   room < *length, how many bytes the path would have
+ * If it is NARD_OK, *length is how many bytes the path then has, and those after it are unchanged. Otherwise the buffer is.
+ */
+nard_result NARD_CALL nard_device_path_append(nard_byte *buffer, nard_size room, const nard_byte *bytes, nard_size byte_count,
+                                              nard_size *length);
+
+/*
+ * Writes a load option of one device path: what a variable Boot#### holds.
+ *
+ *   attributes    32 bits; those above are ignored
+ *   description   a string
+ *   bytes         begin with the device path
+ *   optional      the optional data
+ *
+ * Returns NARD_OK, or the first of these that holds
+ *   NARD_NO_NUL, NARD_INVALID_CHAR   as nard_string_until_nul of the description, *length too
+ *   as nard_device_path_check of the bytes, *length too
+ *   NARD_LIST_TOO_LONG               the device path has more than 65,535 bytes; *length is unchanged
+ *   NARD_BUFFER_TOO_SMALL            room < *length, how many bytes the load option would have
+ * If it is NARD_OK, *length is how many bytes it has, and those after it are unchanged. Otherwise the buffer is.
+ */
+nard_result NARD_CALL nard_load_option_write(nard_size attributes, const nard_unit *description, nard_size count,
+                                             const nard_byte *bytes, nard_size byte_count,
+                                             const nard_byte *optional, nard_size optional_count,
+                                             nard_byte *buffer, nard_size room, nard_size *length);
+
+/* ---- Device paths beside others ---- */
+
+/*
+ * Whether both begin with a device path, and the first with the nodes of the second: what follows them begins at *offset. If
+ * not, *offset is unchanged.
+ */
+nard_bool NARD_CALL nard_device_path_strip_prefix(const nard_byte *bytes, nard_size byte_count,
+                                                  const nard_byte *prefix, nard_size prefix_count, nard_size *offset);
+
+/*
+ * Whether both begin with a device path, and the second is a short form that stands for the first (section 3.1.2): some nodes,
+ * then one that the first node of the short form names, then its other nodes. HD(..) names a partition by number and
+ * signature; a file name and a URI name an equal node.
+ */
+nard_bool NARD_CALL nard_device_path_is_expansion(const nard_byte *bytes, nard_size byte_count,
+                                                  const nard_byte *form, nard_size form_count);
+
+/* The version of the archive: major * 65536 + minor * 256 + patch. */
+nard_result NARD_CALL nard_version(void);
+
+#ifdef __cplusplus
+}
+#endif
+
+#endif
