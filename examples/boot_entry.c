@@ -7,13 +7,13 @@
  * A file is the variable Boot#### as Linux shows it in /sys/firmware/efi/efivars, or as another tool saved it,
  * without the four bytes of the variable's attributes in front. Its number is that of its name. The entry is an
  * EFI_LOAD_OPTION (UEFI Specification 2.10, section 3.1.3), and the library reads each length in it: where it is malformed
- * uefi_load_option_read says why, and at which offset, and what stands before that is printed first. Ends with 1 where an
+ * nard_load_option_read says why, and at which offset, and what stands before that is printed first. Ends with 1 where an
  * entry is malformed.
  */
 #include <stdio.h>
 #include <string.h>
 
-#include "uefi_text.h"
+#include "nardcorbel.h"
 
 /* More than firmware keeps of one variable. */
 enum { MOST_BYTES = 65536, MOST_UNITS = MOST_BYTES / 2, MOST_UTF8 = 3 * MOST_UNITS + 1, MOST_SHOWN = 4 * MOST_BYTES };
@@ -36,49 +36,41 @@ static uint8_t utf8[MOST_UTF8];
 /* What is malformed, where the reason says it. */
 static const char *part_of(uint32_t reason)
 {
-    switch ((enum uefi_reason)reason) {
-    case UEFI_OPTION_TOO_SHORT: return "entry";
-    case UEFI_DESCRIPTION_WITHOUT_END: return "description";
-    case UEFI_LIST_BEYOND_END:
-    case UEFI_EMPTY_LIST:
-    case UEFI_NO_END_NODE: return "file path list";
-    case UEFI_UNKNOWN_END:
-    case UEFI_END_WITH_DATA: return "end node";
+    switch ((enum nard_reason)reason) {
+    case NARD_OPTION_TOO_SHORT: return "entry";
+    case NARD_DESCRIPTION_WITHOUT_END: return "description";
+    case NARD_LIST_BEYOND_END:
+    case NARD_EMPTY_LIST:
+    case NARD_NO_END_NODE: return "file path list";
+    case NARD_UNKNOWN_END:
+    case NARD_END_WITH_DATA: return "end node";
     default: return "node";
     }
 }
 
+/* What is wrong with that part: shorter than nard_reason_text, which does not know which part is printed before it. */
 static const char *reason_text(uint32_t reason)
 {
-    switch ((enum uefi_reason)reason) {
-    case UEFI_OK:
-    case UEFI_END_OF_PATH: return "accepted";
-    case UEFI_NO_NUL:
-    case UEFI_DESCRIPTION_WITHOUT_END: return "no NUL ends it";
-    case UEFI_INVALID_CHAR: return "it holds a surrogate";
-    case UEFI_INTERIOR_NUL: return "more follows its NUL";
-    case UEFI_BUFFER_TOO_SMALL: return "it is too long";
-    case UEFI_NOT_UTF8: return "it is not UTF-8";
-    case UEFI_ODD_BYTES: return "it ends in half a unit";
-    case UEFI_PATH_EMPTY: return "the path is empty";
-    case UEFI_EMPTY_COMPONENT: return "a component is empty";
-    case UEFI_ILLEGAL_CHAR: return "no file's name holds the character";
-    case UEFI_CLIMBS_ABOVE_ROOT: return "the path climbs above the root";
-    case UEFI_NO_PARENT: return "the path has no parent";
-    case UEFI_OPTION_TOO_SHORT: return "it ends before its description";
-    case UEFI_LIST_BEYOND_END: return "its length is more than the entry has left";
-    case UEFI_EMPTY_LIST:
-    case UEFI_NO_END_NODE: return "no end node ends it";
-    case UEFI_TRUNCATED_HEADER: return "the file path list ends in its header";
-    case UEFI_UNKNOWN_END: return "it ends neither a path nor an instance";
-    case UEFI_LENGTH_BELOW_HEADER: return "its length is less than its header's";
-    case UEFI_END_WITH_DATA: return "its length is not its header's";
-    case UEFI_NODE_BEYOND_END: return "its length is more than the file path list has left";
-    case UEFI_NAME_EMPTY: return "the name is empty";
-    case UEFI_NAME_TOO_LONG: return "the name is too long";
-    case UEFI_CHAR_REPLACED: return "a character was replaced";
+    switch ((enum nard_reason)reason) {
+    case NARD_NO_NUL:
+    case NARD_DESCRIPTION_WITHOUT_END: return "no NUL ends it";
+    case NARD_INVALID_CHAR: return "it holds a surrogate";
+    case NARD_INTERIOR_NUL: return "more follows its NUL";
+    case NARD_BUFFER_TOO_SMALL: return "it is too long";
+    case NARD_ODD_BYTES: return "it ends in half a unit";
+    case NARD_EMPTY_COMPONENT: return "a component is empty";
+    case NARD_ILLEGAL_CHAR: return "no file's name holds the character";
+    case NARD_OPTION_TOO_SHORT: return "it ends before its description";
+    case NARD_LIST_BEYOND_END: return "its length is more than the entry has left";
+    case NARD_EMPTY_LIST:
+    case NARD_NO_END_NODE: return "no end node ends it";
+    case NARD_TRUNCATED_HEADER: return "the file path list ends in its header";
+    case NARD_UNKNOWN_END: return "it ends neither a path nor an instance";
+    case NARD_LENGTH_BELOW_HEADER: return "its length is less than its header's";
+    case NARD_END_WITH_DATA: return "its length is not its header's";
+    case NARD_NODE_BEYOND_END: return "its length is more than the file path list has left";
+    default: return nard_reason_text(reason);
     }
-    return "unknown reason";
 }
 
 static bool refuse(size_t offset, const char *what, const char *why)
@@ -100,7 +92,7 @@ static void print_text(const uint16_t *string, size_t count)
     size_t length = 0;
     for (size_t i = 0; i < count; i++)
         open_units[i] = is_hidden(string[i]) ? '?' : string[i];
-    if (uefi_utf8_from_string(open_units, count, utf8, sizeof utf8, &length) == UEFI_OK)
+    if (nard_utf8_from_string(open_units, count, utf8, sizeof utf8, &length) == NARD_OK)
         fwrite(utf8, 1, length, stdout);
 }
 
@@ -109,23 +101,23 @@ static bool print_path(struct entry entry, size_t at, size_t size)
 {
     size_t count = 0, place = 0, start = 0;
     uint16_t character = 0;
-    uint32_t reason = uefi_units_from_bytes(entry.bytes + at, size, units, MOST_UNITS, &count);
-    if (reason != UEFI_OK)
+    uint32_t reason = nard_units_from_bytes(entry.bytes + at, size, units, MOST_UNITS, &count);
+    if (reason != NARD_OK)
         return refuse(at + size - 1, "file path", reason_text(reason));
-    reason = uefi_string_with_nul(units, count, &place);
-    if (reason != UEFI_OK)
+    reason = nard_string_with_nul(units, count, &place);
+    if (reason != NARD_OK)
         return refuse(at + 2 * place, "file path", reason_text(reason));
 
     printf("  path: ");
     print_text(units, count);
-    reason = uefi_path_verdict(units, count, &place, &character);
-    if (reason == UEFI_ILLEGAL_CHAR)
+    reason = nard_path_verdict(units, count, &place, &character);
+    if (reason == NARD_ILLEGAL_CHAR)
         printf(": refused: %s 0x%04x\n", reason_text(reason), (unsigned)character);
-    else if (reason != UEFI_OK)
+    else if (reason != NARD_OK)
         printf(": refused: %s\n", reason_text(reason));
     else
         printf(": accepted\n");
-    if (reason == UEFI_OK && uefi_path_file_name(units, place, &start)) {
+    if (reason == NARD_OK && nard_path_file_name(units, place, &start)) {
         printf("  file: ");
         print_text(units + start, count - start);
         printf("\n");
@@ -136,12 +128,12 @@ static bool print_path(struct entry entry, size_t at, size_t size)
 /* Prints what the nodes say that name files, from the offset `at` on: all whole ones that begin before `end`. */
 static bool print_nodes(struct entry entry, size_t at, size_t end)
 {
-    struct uefi_device_node node = {0, 0, 0, 0};
+    struct nard_device_node node = {0, 0, 0, 0};
     for (;;) {
-        uint32_t reason = uefi_device_path_next_node(entry.bytes, end, &at, &node);
-        if (reason != UEFI_OK && reason != UEFI_END_OF_PATH)
+        uint32_t reason = nard_device_path_next_node(entry.bytes, end, &at, &node);
+        if (reason != NARD_OK && reason != NARD_END_OF_PATH)
             return true;
-        bool names_file = reason == UEFI_OK && node.device_type == MEDIA && node.sub_type == FILE_PATH;
+        bool names_file = reason == NARD_OK && node.device_type == MEDIA && node.sub_type == FILE_PATH;
         if (names_file && !print_path(entry, node.start, node.length))
             return false;
     }
@@ -176,7 +168,7 @@ static void print_units(const uint16_t *from, size_t length)
 static void print_head(struct entry entry, size_t length)
 {
     size_t count = 0;
-    (void)uefi_units_from_bytes(entry.bytes + HEAD, 2 * length, units, MOST_UNITS, &count);
+    (void)nard_units_from_bytes(entry.bytes + HEAD, 2 * length, units, MOST_UNITS, &count);
     printf("  active: %s\n", entry.bytes[0] & ACTIVE ? "yes" : "no");
     printf("  description: ");
     print_units(units, count);
@@ -187,9 +179,9 @@ static void print_head(struct entry entry, size_t length)
 static void print_device_paths(struct entry entry, size_t at, size_t end)
 {
     size_t size = 0, length = 0;
-    while (at <= end && uefi_device_path_check(entry.bytes + at, end - at, &size) == UEFI_OK) {
+    while (at <= end && nard_device_path_check(entry.bytes + at, end - at, &size) == NARD_OK) {
         /* No byte of a path prints more than four units. */
-        if (uefi_device_path_text(entry.bytes + at, size, false, false, shown, MOST_SHOWN, &length) == UEFI_OK) {
+        if (nard_device_path_text(entry.bytes + at, size, false, false, shown, MOST_SHOWN, &length) == NARD_OK) {
             printf("  device path: ");
             print_units(shown, length);
             printf("\n");
@@ -201,19 +193,19 @@ static void print_device_paths(struct entry entry, size_t at, size_t end)
 /* Prints an entry whose bytes begin with its own attributes. */
 static bool print_entry(struct entry entry)
 {
-    struct uefi_load_option option = {0, 0, 0, 0, 0, 0, 0, 0};
+    struct nard_load_option option = {0, 0, 0, 0, 0, 0, 0, 0};
     size_t fault = 0, length = 0;
-    uint32_t reason = uefi_load_option_read(entry.bytes, entry.size, &option, &fault);
-    if (reason == UEFI_OPTION_TOO_SHORT || reason == UEFI_DESCRIPTION_WITHOUT_END)
+    uint32_t reason = nard_load_option_read(entry.bytes, entry.size, &option, &fault);
+    if (reason == NARD_OPTION_TOO_SHORT || reason == NARD_DESCRIPTION_WITHOUT_END)
         return refuse(fault, part_of(reason), reason_text(reason));
     /* All else that is refused stands after the description, or says where the list after it ends. */
-    (void)uefi_packed_until_nul(entry.bytes + HEAD, entry.size - HEAD, &length);
-    size_t list = HEAD + 2 * (length + 1), end = reason == UEFI_OK ? option.optional_start : fault;
+    (void)nard_packed_until_nul(entry.bytes + HEAD, entry.size - HEAD, &length);
+    size_t list = HEAD + 2 * (length + 1), end = reason == NARD_OK ? option.optional_start : fault;
     print_head(entry, length);
     print_device_paths(entry, list, end);
     if (!print_nodes(entry, list, end))
         return false;
-    return reason == UEFI_OK || refuse(fault, part_of(reason), reason_text(reason));
+    return reason == NARD_OK || refuse(fault, part_of(reason), reason_text(reason));
 }
 
 /* The four hexadecimal digits of a name Boot####, which a dash and more may follow. */

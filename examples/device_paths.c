@@ -1,13 +1,13 @@
 /*
- * Reads device paths and load options, good ones and bad ones, by each call of the library that does so, and compares what
- * comes back with what the UEFI Specification 2.10 gives: sections 3.1.3, 10.2 and 10.3. Prints each row that differs, and
- * ends with 1 where one does.
+ * Reads, writes and compares device paths and load options, good ones and bad ones, by each call of the library that does so,
+ * and compares what comes back with what the UEFI Specification 2.10 gives: sections 3.1.2, 3.1.3, 10.2 and 10.3. Prints each
+ * row that differs, and ends with 1 if one does.
  */
 #include <stdio.h>
 #include <string.h>
 #include <uchar.h>
 
-#include "uefi_text.h"
+#include "nardcorbel.h"
 
 /* A PCI function, a file \a, and the node that ends the path; and a load option "b" of that path and one byte more. */
 #define PATH 1, 1, 6, 0, 0, 0x1f, 4, 4, 10, 0, '\\', 0, 'a', 0, 0, 0, 0x7f, 0xff, 4, 0
@@ -35,23 +35,23 @@ struct row {
 static void check_paths(void)
 {
     static const struct row rows[] = {
-        {{0x7f, 0xff, 4, 0, 9}, 5, UEFI_OK, 4},
-        {{0x7f, 1, 4, 0, 0x7f, 0xff, 4, 0}, 8, UEFI_OK, 8},
-        {{0}, 0, UEFI_NO_END_NODE, 0},
-        {{1, 1, 4, 0}, 4, UEFI_NO_END_NODE, 4},
-        {{1, 1, 4, 0, 0x7f, 0xff, 4}, 7, UEFI_TRUNCATED_HEADER, 4},
-        {{0x7f, 2, 3, 0}, 4, UEFI_UNKNOWN_END, 1},
-        {{0x7f, 0xff, 3, 0}, 4, UEFI_LENGTH_BELOW_HEADER, 2},
-        {{0x7f, 0xff, 5, 0, 0}, 5, UEFI_END_WITH_DATA, 2},
-        {{1, 1, 4, 0, 1, 1, 5, 0}, 8, UEFI_NODE_BEYOND_END, 6},
+        {{0x7f, 0xff, 4, 0, 9}, 5, NARD_OK, 4},
+        {{0x7f, 1, 4, 0, 0x7f, 0xff, 4, 0}, 8, NARD_OK, 8},
+        {{0}, 0, NARD_NO_END_NODE, 0},
+        {{1, 1, 4, 0}, 4, NARD_NO_END_NODE, 4},
+        {{1, 1, 4, 0, 0x7f, 0xff, 4}, 7, NARD_TRUNCATED_HEADER, 4},
+        {{0x7f, 2, 3, 0}, 4, NARD_UNKNOWN_END, 1},
+        {{0x7f, 0xff, 3, 0}, 4, NARD_LENGTH_BELOW_HEADER, 2},
+        {{0x7f, 0xff, 5, 0, 0}, 5, NARD_END_WITH_DATA, 2},
+        {{1, 1, 4, 0, 1, 1, 5, 0}, 8, NARD_NODE_BEYOND_END, 6},
     };
     for (size_t i = 0; i < sizeof rows / sizeof rows[0]; i++) {
         size_t place = 99;
-        uint32_t reason = uefi_device_path_check(rows[i].bytes, rows[i].size, &place);
-        expect(reason == rows[i].reason && place == rows[i].place, "uefi_device_path_check", i);
+        uint32_t reason = nard_device_path_check(rows[i].bytes, rows[i].size, &place);
+        expect(reason == rows[i].reason && place == rows[i].place, "nard_device_path_check", i);
     }
     size_t place = 99;
-    expect(uefi_device_path_check(path, sizeof path, &place) == UEFI_OK && place == PATH_SIZE, "uefi_device_path_check", 9);
+    expect(nard_device_path_check(path, sizeof path, &place) == NARD_OK && place == PATH_SIZE, "nard_device_path_check", 9);
 }
 
 static void walk_nodes(void)
@@ -59,51 +59,51 @@ static void walk_nodes(void)
     static const struct {
         uint32_t reason;
         size_t place;
-        struct uefi_device_node node;
+        struct nard_device_node node;
     } rows[] = {
-        {UEFI_OK, 6, {1, 1, 4, 2}},
-        {UEFI_OK, 16, {4, 4, 10, 6}},
-        {UEFI_END_OF_PATH, 20, {4, 4, 10, 6}},
-        {UEFI_TRUNCATED_HEADER, 20, {4, 4, 10, 6}},
+        {NARD_OK, 6, {1, 1, 4, 2}},
+        {NARD_OK, 16, {4, 4, 10, 6}},
+        {NARD_END_OF_PATH, 20, {4, 4, 10, 6}},
+        {NARD_TRUNCATED_HEADER, 20, {4, 4, 10, 6}},
     };
-    struct uefi_device_node node = {0, 0, 0, 0};
+    struct nard_device_node node = {0, 0, 0, 0};
     size_t place = 0, rows_count = sizeof rows / sizeof rows[0];
     for (size_t i = 0; i < rows_count; i++) {
-        uint32_t reason = uefi_device_path_next_node(path, sizeof path, &place, &node);
+        uint32_t reason = nard_device_path_next_node(path, sizeof path, &place, &node);
         bool is_node = node.device_type == rows[i].node.device_type && node.sub_type == rows[i].node.sub_type
                        && node.start == rows[i].node.start && node.length == rows[i].node.length;
-        expect(reason == rows[i].reason && place == rows[i].place && is_node, "uefi_device_path_next_node", i);
+        expect(reason == rows[i].reason && place == rows[i].place && is_node, "nard_device_path_next_node", i);
     }
     /* Any place may be given. */
     size_t far = (size_t)-1;
-    uint32_t reason = uefi_device_path_next_node(path, sizeof path, &far, &node);
-    expect(reason == UEFI_NO_END_NODE && far == (size_t)-1 && node.start == 10, "uefi_device_path_next_node", rows_count);
+    uint32_t reason = nard_device_path_next_node(path, sizeof path, &far, &node);
+    expect(reason == NARD_NO_END_NODE && far == (size_t)-1 && node.start == 10, "nard_device_path_next_node", rows_count);
 }
 
 static void write_file_paths(void)
 {
     static const struct row rows[] = {
-        {{4, 4, 5, 0, 'a', 0x7f, 0xff, 4, 0}, 9, UEFI_ODD_BYTES, 4},
-        {{4, 4, 6, 0, 'a', 0, 0x7f, 0xff, 4, 0}, 10, UEFI_NO_NUL, 4},
-        {{4, 4, 6, 0, 0, 0xd8, 0x7f, 0xff, 4, 0}, 10, UEFI_INVALID_CHAR, 4},
-        {{4, 4, 8, 0, 0, 0, 0, 0, 0x7f, 0xff, 4, 0}, 12, UEFI_INTERIOR_NUL, 4},
-        {{4, 4, 4, 0}, 4, UEFI_NO_END_NODE, 4},
-        {{0x7f, 0xff, 4, 0}, 4, UEFI_OK, 0},
+        {{4, 4, 5, 0, 'a', 0x7f, 0xff, 4, 0}, 9, NARD_ODD_BYTES, 4},
+        {{4, 4, 6, 0, 'a', 0, 0x7f, 0xff, 4, 0}, 10, NARD_NO_NUL, 4},
+        {{4, 4, 6, 0, 0, 0xd8, 0x7f, 0xff, 4, 0}, 10, NARD_INVALID_CHAR, 4},
+        {{4, 4, 8, 0, 0, 0, 0, 0, 0x7f, 0xff, 4, 0}, 12, NARD_INTERIOR_NUL, 4},
+        {{4, 4, 4, 0}, 4, NARD_NO_END_NODE, 4},
+        {{0x7f, 0xff, 4, 0}, 4, NARD_OK, 0},
     };
     for (size_t i = 0; i < sizeof rows / sizeof rows[0]; i++) {
         uint16_t buffer[2] = {7, 7};
         size_t place = 99;
-        uint32_t reason = uefi_device_path_file_path(rows[i].bytes, rows[i].size, buffer, 2, &place);
-        bool is_kept = buffer[0] == (reason == UEFI_OK ? 0 : 7) && buffer[1] == 7;
-        expect(reason == rows[i].reason && place == rows[i].place && is_kept, "uefi_device_path_file_path", i);
+        uint32_t reason = nard_device_path_file_path(rows[i].bytes, rows[i].size, buffer, 2, &place);
+        bool is_kept = buffer[0] == (reason == NARD_OK ? 0 : 7) && buffer[1] == 7;
+        expect(reason == rows[i].reason && place == rows[i].place && is_kept, "nard_device_path_file_path", i);
     }
     uint16_t buffer[4] = {7, 7, 7, 7};
     size_t place = 99;
-    uint32_t reason = uefi_device_path_file_path(path, sizeof path, buffer, 2, &place);
-    expect(reason == UEFI_BUFFER_TOO_SMALL && place == 2 && buffer[0] == 7, "uefi_device_path_file_path", 6);
-    reason = uefi_device_path_file_path(path, sizeof path, buffer, 4, &place);
+    uint32_t reason = nard_device_path_file_path(path, sizeof path, buffer, 2, &place);
+    expect(reason == NARD_BUFFER_TOO_SMALL && place == 2 && buffer[0] == 7, "nard_device_path_file_path", 6);
+    reason = nard_device_path_file_path(path, sizeof path, buffer, 4, &place);
     bool is_path = buffer[0] == '\\' && buffer[1] == 'a' && buffer[2] == 0 && buffer[3] == 7;
-    expect(reason == UEFI_OK && place == 2 && is_path, "uefi_device_path_file_path", 7);
+    expect(reason == NARD_OK && place == 2 && is_path, "nard_device_path_file_path", 7);
 }
 
 static void write_texts(void)
@@ -111,17 +111,17 @@ static void write_texts(void)
     static const char16_t text[] = u"Pci(0x1F,0x0)/\\a";
     enum { LENGTH = sizeof text / sizeof text[0] - 1 };
     static const struct row rows[] = {
-        {{0x7f, 0xff, 4, 0}, 4, UEFI_OK, 0},
-        {{0x7f, 1, 4, 0, 0x7f, 0xff, 4, 0}, 8, UEFI_OK, 1},
-        {{4, 4, 4, 0}, 4, UEFI_NO_END_NODE, 4},
-        {{0x7f, 2, 3, 0}, 4, UEFI_UNKNOWN_END, 1},
+        {{0x7f, 0xff, 4, 0}, 4, NARD_OK, 0},
+        {{0x7f, 1, 4, 0, 0x7f, 0xff, 4, 0}, 8, NARD_OK, 1},
+        {{4, 4, 4, 0}, 4, NARD_NO_END_NODE, 4},
+        {{0x7f, 2, 3, 0}, 4, NARD_UNKNOWN_END, 1},
     };
     for (size_t i = 0; i < sizeof rows / sizeof rows[0]; i++) {
         uint16_t buffer[3] = {7, 7, 7};
         size_t place = 99;
-        uint32_t reason = uefi_device_path_text(rows[i].bytes, rows[i].size, false, false, buffer, 3, &place);
-        bool is_left = reason == UEFI_OK ? buffer[place] == 0 && buffer[2] == 7 : buffer[0] == 7 && buffer[1] == 7;
-        expect(reason == rows[i].reason && place == rows[i].place && is_left, "uefi_device_path_text", i);
+        uint32_t reason = nard_device_path_text(rows[i].bytes, rows[i].size, false, false, buffer, 3, &place);
+        bool is_left = reason == NARD_OK ? buffer[place] == 0 && buffer[2] == 7 : buffer[0] == 7 && buffer[1] == 7;
+        expect(reason == rows[i].reason && place == rows[i].place && is_left, "nard_device_path_text", i);
     }
     /* Each room: refused up to the length of the text, and nothing is written after its end. */
     for (size_t room = 0; room <= LENGTH + 2; room++) {
@@ -129,10 +129,10 @@ static void write_texts(void)
         size_t place = 99;
         for (size_t i = 0; i < LENGTH + 4; i++)
             buffer[i] = 7;
-        uint32_t reason = uefi_device_path_text(path, sizeof path, false, false, buffer, room, &place);
-        bool is_written = reason == UEFI_OK && memcmp(buffer, text, sizeof text) == 0;
-        bool is_well = room <= LENGTH ? reason == UEFI_BUFFER_TOO_SMALL : is_written;
-        expect(is_well && place == LENGTH && buffer[room <= LENGTH ? room : LENGTH + 1] == 7, "uefi_device_path_text", 4 + room);
+        uint32_t reason = nard_device_path_text(path, sizeof path, false, false, buffer, room, &place);
+        bool is_written = reason == NARD_OK && memcmp(buffer, text, sizeof text) == 0;
+        bool is_well = room <= LENGTH ? reason == NARD_BUFFER_TOO_SMALL : is_written;
+        expect(is_well && place == LENGTH && buffer[room <= LENGTH ? room : LENGTH + 1] == 7, "nard_device_path_text", 4 + room);
     }
     /* A terminal by its shorter name and without, and a disc for display alone and to be read back. */
     static const uint8_t terminal[] = {3,    10,   20,   0,    0x53, 0x47, 0xc1, 0xe0, 0xbe, 0xf9, 0xd2, 0x11,
@@ -153,10 +153,10 @@ static void write_texts(void)
     for (size_t i = 0; i < sizeof forms / sizeof forms[0]; i++) {
         uint16_t buffer[64];
         size_t place = 99;
-        uint32_t reason = uefi_device_path_text(forms[i].bytes, forms[i].size, forms[i].display_only, forms[i].allow_shortcuts,
+        uint32_t reason = nard_device_path_text(forms[i].bytes, forms[i].size, forms[i].display_only, forms[i].allow_shortcuts,
                                                 buffer, 64, &place);
         bool is_text = memcmp(buffer, forms[i].text, 2 * forms[i].length + 2) == 0;
-        expect(reason == UEFI_OK && place == forms[i].length && is_text, "uefi_device_path_text", 100 + i);
+        expect(reason == NARD_OK && place == forms[i].length && is_text, "nard_device_path_text", 100 + i);
     }
 }
 
@@ -169,45 +169,143 @@ static void read_options(void)
         uint32_t reason;
         size_t place;
     } rows[] = {
-        {5, 0, 1, UEFI_OPTION_TOO_SHORT, 5},
-        {9, 0, 1, UEFI_DESCRIPTION_WITHOUT_END, 8},
-        {29, 0, 1, UEFI_LIST_BEYOND_END, 4},
-        {31, 4, 0, UEFI_EMPTY_LIST, LIST},
-        {31, 4, 21, UEFI_TRUNCATED_HEADER, LIST + PATH_SIZE},
-        {31, 4, 16, UEFI_NO_END_NODE, LIST + 16},
-        {31, LIST + 17, 2, UEFI_UNKNOWN_END, LIST + 17},
+        {5, 0, 1, NARD_OPTION_TOO_SHORT, 5},
+        {9, 0, 1, NARD_DESCRIPTION_WITHOUT_END, 8},
+        {29, 0, 1, NARD_LIST_BEYOND_END, 4},
+        {31, 4, 0, NARD_EMPTY_LIST, LIST},
+        {31, 4, 21, NARD_TRUNCATED_HEADER, LIST + PATH_SIZE},
+        {31, 4, 16, NARD_NO_END_NODE, LIST + 16},
+        {31, LIST + 17, 2, NARD_UNKNOWN_END, LIST + 17},
     };
     for (size_t i = 0; i < sizeof rows / sizeof rows[0]; i++) {
-        struct uefi_load_option parts = {7, 7, 7, 7, 7, 7, 7, 7};
+        struct nard_load_option parts = {7, 7, 7, 7, 7, 7, 7, 7};
         uint8_t changed[sizeof option];
         size_t place = 99;
         memcpy(changed, option, sizeof option);
         changed[rows[i].at] = rows[i].byte;
-        uint32_t reason = uefi_load_option_read(changed, rows[i].size, &parts, &place);
+        uint32_t reason = nard_load_option_read(changed, rows[i].size, &parts, &place);
         bool is_kept = parts.attributes == 7 && parts.optional_length == 7;
-        expect(reason == rows[i].reason && place == rows[i].place && is_kept, "uefi_load_option_read", i);
+        expect(reason == rows[i].reason && place == rows[i].place && is_kept, "nard_load_option_read", i);
     }
-    struct uefi_load_option parts = {0, 0, 0, 0, 0, 0, 0, 0};
+    struct nard_load_option parts = {0, 0, 0, 0, 0, 0, 0, 0};
     size_t place = 99;
-    uint32_t reason = uefi_load_option_read(option, sizeof option, &parts, &place);
+    uint32_t reason = nard_load_option_read(option, sizeof option, &parts, &place);
     bool is_read = parts.attributes == 1 && parts.description_start == 6 && parts.description_length == 1
                    && parts.list_start == LIST && parts.list_length == PATH_SIZE && parts.path_length == PATH_SIZE
                    && parts.optional_start == LIST + PATH_SIZE && parts.optional_length == 1;
-    expect(reason == UEFI_OK && place == sizeof option && is_read, "uefi_load_option_read", 7);
+    expect(reason == NARD_OK && place == sizeof option && is_read, "nard_load_option_read", 7);
+}
+
+/* Writes `option` node by node, in each room that is too small first, and reads nothing of the buffer after it. */
+static void write_options(void)
+{
+    static const uint8_t end[] = {0x7f, 0xff, 4, 0}, pci[] = {0, 0x1f}, file[] = {'\\', 0, 'a', 0, 0, 0};
+    static const uint16_t description[] = {'b', 0};
+    uint8_t buffer[64], written[64];
+    size_t length = 99;
+    memset(buffer, 7, sizeof buffer);
+    for (size_t room = 0; room < sizeof end; room++) {
+        uint32_t reason = nard_device_path_begin(buffer, room, &length);
+        expect(reason == NARD_BUFFER_TOO_SMALL && length == sizeof end && buffer[0] == 7, "nard_device_path_begin", room);
+    }
+    uint32_t reason = nard_device_path_begin(buffer, sizeof buffer, &length);
+    expect(reason == NARD_OK && length == 4 && memcmp(buffer, end, 4) == 0 && buffer[4] == 7, "nard_device_path_begin", 4);
+
+    static const struct {
+        uint8_t device_type, sub_type;
+        size_t room, count;
+        uint32_t reason;
+        size_t length;
+    } rows[] = {
+        {0x7f, 0xff, 64, 0, NARD_NODE_OF_END, 99},
+        {0x7f, 2, 64, 0, NARD_NODE_OF_END, 99},
+        {1, 1, 64, 65532, NARD_NODE_TOO_LONG, 99},
+        {1, 1, 9, 2, NARD_BUFFER_TOO_SMALL, 10},
+        {1, 1, 3, 2, NARD_TRUNCATED_HEADER, 0},
+        {1, 1, 64, 2, NARD_OK, 10},
+    };
+    static uint8_t content[65532];
+    memcpy(content, pci, sizeof pci);
+    for (size_t i = 0; i < sizeof rows / sizeof rows[0]; i++) {
+        length = 99;
+        reason = nard_device_path_push(buffer, rows[i].room, rows[i].device_type, rows[i].sub_type, content, rows[i].count, &length);
+        bool is_left = rows[i].reason == NARD_OK || memcmp(buffer, end, 4) == 0;
+        expect(reason == rows[i].reason && length == rows[i].length && is_left && buffer[10] == 7, "nard_device_path_push", i);
+    }
+
+    /* The file's node as a path of its own, to be added to that of the PCI function. */
+    uint8_t other[16];
+    bool is_other = nard_device_path_begin(other, sizeof other, &length) == NARD_OK
+                    && nard_device_path_push(other, sizeof other, 4, 4, file, sizeof file, &length) == NARD_OK;
+    expect(is_other && length == 14, "nard_device_path_push", 6);
+    reason = nard_device_path_append(buffer, PATH_SIZE - 1, other, length, &length);
+    expect(reason == NARD_BUFFER_TOO_SMALL && length == PATH_SIZE && buffer[10] == 7, "nard_device_path_append", 0);
+    reason = nard_device_path_append(buffer, sizeof buffer, other, 13, &length);
+    expect(reason == NARD_TRUNCATED_HEADER && length == 10 && buffer[10] == 7, "nard_device_path_append", 1);
+    reason = nard_device_path_append(buffer, sizeof buffer, other, 14, &length);
+    bool is_path = length == PATH_SIZE && memcmp(buffer, path, PATH_SIZE) == 0 && buffer[PATH_SIZE] == 7;
+    expect(reason == NARD_OK && is_path, "nard_device_path_append", 2);
+
+    for (size_t room = 0; room <= sizeof option; room++) {
+        memset(written, 7, sizeof written);
+        reason = nard_load_option_write(1, description, 2, buffer, sizeof buffer, path + PATH_SIZE, 1, written, room, &length);
+        bool is_written = reason == NARD_OK && memcmp(written, option, sizeof option) == 0;
+        bool is_refused = reason == NARD_BUFFER_TOO_SMALL && written[0] == 7;
+        expect((room < sizeof option ? is_refused : is_written) && length == sizeof option && written[room] == 7,
+               "nard_load_option_write", room);
+    }
+    reason = nard_load_option_write(1, description, 1, buffer, sizeof buffer, content, 0, written, sizeof written, &length);
+    expect(reason == NARD_NO_NUL && length == 1, "nard_load_option_write", 100);
+    reason = nard_load_option_write(1, description, 2, content, 0, content, 0, written, sizeof written, &length);
+    expect(reason == NARD_NO_END_NODE && length == 0, "nard_load_option_write", 101);
+}
+
+static void compare_paths(void)
+{
+    /* The second partition of a disk of a controller with a file on it, and what a boot entry says of it in short. */
+#define PARTITION 4, 1, 42, 0, 2, 0, 0, 0, 0, 8, 0, 0, 0, 0, 0, 0, 0, 0, 1, 0, 0, 0, 0, 0, \
+                  1, 2, 3, 4, 5, 6, 7, 8, 9, 10, 11, 12, 13, 14, 15, 16, 2, 2
+#define FILE_AND_END 4, 4, 8, 0, 'a', 0, 0, 0, 0x7f, 0xff, 4, 0
+    static const uint8_t whole[] = {1, 1, 6, 0, 0, 0x1f, PARTITION, FILE_AND_END};
+    static const uint8_t form[] = {PARTITION, FILE_AND_END};
+    static const uint8_t controller[] = {1, 1, 6, 0, 0, 0x1f, 0x7f, 0xff, 4, 0};
+    size_t offset = 99;
+    expect(nard_device_path_strip_prefix(whole, sizeof whole, controller, sizeof controller, &offset) && offset == 6,
+           "nard_device_path_strip_prefix", 0);
+    offset = 99;
+    expect(!nard_device_path_strip_prefix(whole, sizeof whole, form, sizeof form, &offset) && offset == 99,
+           "nard_device_path_strip_prefix", 1);
+    expect(!nard_device_path_strip_prefix(whole, sizeof whole - 1, controller, sizeof controller, &offset),
+           "nard_device_path_strip_prefix", 2);
+    expect(nard_device_path_is_expansion(whole, sizeof whole, form, sizeof form), "nard_device_path_is_expansion", 0);
+    expect(!nard_device_path_is_expansion(controller, sizeof controller, form, sizeof form), "nard_device_path_is_expansion", 1);
+    expect(!nard_device_path_is_expansion(form, sizeof form, whole, sizeof whole), "nard_device_path_is_expansion", 2);
+    /* Another number, another signature, its type and the file matter; the start, the size and the format of the table do not. */
+    static const struct {
+        size_t at;
+        bool is_expansion;
+    } rows[] = {{4, false}, {8, true}, {16, true}, {24, false}, {39, false}, {40, true}, {41, false}, {46, false}};
+    for (size_t i = 0; i < sizeof rows / sizeof rows[0]; i++) {
+        uint8_t changed[sizeof form];
+        memcpy(changed, form, sizeof form);
+        changed[rows[i].at] ^= 3;
+        expect(nard_device_path_is_expansion(whole, sizeof whole, changed, sizeof changed) == rows[i].is_expansion,
+               "nard_device_path_is_expansion", 3 + i);
+    }
 }
 
 static void count_units(void)
 {
     static const struct row rows[] = {
-        {{'a', 0, 0, 0, 'b'}, 5, UEFI_OK, 1},
-        {{0, 0xd8, 0, 0}, 4, UEFI_OK, 1},
-        {{'a', 0, 'b', 0, 0}, 5, UEFI_NO_NUL, 2},
-        {{0}, 0, UEFI_NO_NUL, 0},
+        {{'a', 0, 0, 0, 'b'}, 5, NARD_OK, 1},
+        {{0, 0xd8, 0, 0}, 4, NARD_OK, 1},
+        {{'a', 0, 'b', 0, 0}, 5, NARD_NO_NUL, 2},
+        {{0}, 0, NARD_NO_NUL, 0},
     };
     for (size_t i = 0; i < sizeof rows / sizeof rows[0]; i++) {
         size_t count = 99;
-        uint32_t reason = uefi_packed_until_nul(rows[i].bytes, rows[i].size, &count);
-        expect(reason == rows[i].reason && count == rows[i].place, "uefi_packed_until_nul", i);
+        uint32_t reason = nard_packed_until_nul(rows[i].bytes, rows[i].size, &count);
+        expect(reason == rows[i].reason && count == rows[i].place, "nard_packed_until_nul", i);
     }
 }
 
@@ -218,6 +316,8 @@ int main(void)
     write_file_paths();
     write_texts();
     read_options();
+    write_options();
+    compare_paths();
     count_units();
     return failed;
 }

@@ -6,10 +6,10 @@
 #include <string.h>
 #include <uchar.h>
 
-#include "uefi_text.h"
+#include "nardcorbel.h"
 
 /* Units up to and with the NUL that the compiler puts after them. */
-#define UNITS(text) (const uefi_unit *)(text), sizeof(text) / sizeof(uefi_unit)
+#define UNITS(text) (const nard_unit *)(text), sizeof(text) / sizeof(nard_unit)
 
 static int failed;
 
@@ -22,67 +22,67 @@ static void expect(bool is_so, const char *call, int line)
 }
 
 #define ORDER(first, second, order)                                                                                  \
-    expect(uefi_string_order_ignore_case(UNITS(first), UNITS(second)) == (order), "order", __LINE__);                \
-    expect(uefi_string_equal_ignore_case(UNITS(first), UNITS(second)) == ((order) == 0), "equal", __LINE__)
-#define MATCHES(text, pattern, is_so) expect(uefi_string_matches(UNITS(text), UNITS(pattern)) == (is_so), "matches", __LINE__)
+    expect(nard_string_order_ignore_case(UNITS(first), UNITS(second)) == (order), "order", __LINE__);                \
+    expect(nard_string_equal_ignore_case(UNITS(first), UNITS(second)) == ((order) == 0), "equal", __LINE__)
+#define MATCHES(text, pattern, is_so) expect(nard_string_matches(UNITS(text), UNITS(pattern)) == (is_so), "matches", __LINE__)
 #define SAME_FILE(first, second, is_so)                                                                              \
-    expect(uefi_path_equal_ignore_case(UNITS(first), UNITS(second)) == (is_so), "paths equal", __LINE__)
+    expect(nard_path_equal_ignore_case(UNITS(first), UNITS(second)) == (is_so), "paths equal", __LINE__)
 #define PATH_MATCHES(path, pattern, is_so)                                                                           \
-    expect(uefi_path_matches(UNITS(path), UNITS(pattern)) == (is_so), "path matches", __LINE__)
+    expect(nard_path_matches(UNITS(path), UNITS(pattern)) == (is_so), "path matches", __LINE__)
 
 #define FAT_NAME(name, reason, refused)                                                                              \
     do {                                                                                                             \
-        uefi_size place = 9;                                                                                         \
-        uefi_unit character = 9;                                                                                     \
-        expect(uefi_fat_name_check(UNITS(name), &place, &character) == (reason) && character == (refused) &&         \
-                   place == sizeof(name) / sizeof(uefi_unit) - 1,                                                    \
+        nard_size place = 9;                                                                                         \
+        nard_unit character = 9;                                                                                     \
+        expect(nard_fat_name_check(UNITS(name), &place, &character) == (reason) && character == (refused) &&         \
+                   place == sizeof(name) / sizeof(nard_unit) - 1,                                                    \
                "FAT name", __LINE__);                                                                                \
     } while (0)
 #define SAME_NAME(first, second, is_so)                                                                              \
-    expect(uefi_fat_name_equal(UNITS(first), UNITS(second)) == (is_so), "FAT names equal", __LINE__)
-#define SHORT(name, is_so) expect(uefi_fat_name_is_short(UNITS(name)) == (is_so), "short name", __LINE__)
+    expect(nard_fat_name_equal(UNITS(first), UNITS(second)) == (is_so), "FAT names equal", __LINE__)
+#define SHORT(name, is_so) expect(nard_fat_name_is_short(UNITS(name)) == (is_so), "short name", __LINE__)
 
 /* Whether a name becomes these bytes in a buffer of as many places at most, and the next stays. */
-static void to_fat(const uefi_unit *name, size_t count, size_t room, const char *bytes, uefi_result reason, int line)
+static void to_fat(const nard_unit *name, size_t count, size_t room, const char *bytes, nard_result reason, int line)
 {
-    uefi_byte buffer[16];
-    uefi_size place = 99;
+    nard_byte buffer[16];
+    nard_size place = 99;
     memset(buffer, 7, sizeof buffer);
-    bool is_so = uefi_fat_from_string(name, count, buffer, room, &place) == reason && place == strlen(bytes);
+    bool is_so = nard_fat_from_string(name, count, buffer, room, &place) == reason && place == strlen(bytes);
     expect(is_so && memcmp(buffer, bytes, place) == 0 && buffer[place] == 7, "bytes of a name", line);
 }
 
 /* Whether bytes become this text in a buffer of `room` places, and the next stays. */
-static void from_fat(const char *bytes, size_t count, size_t room, const uefi_unit *text, size_t length, int line)
+static void from_fat(const char *bytes, size_t count, size_t room, const nard_unit *text, size_t length, int line)
 {
-    uefi_unit buffer[8] = {7, 7, 7, 7, 7, 7, 7, 7};
-    uefi_size place = 99;
-    uefi_result reason = uefi_string_from_fat((const uefi_byte *)bytes, count, buffer, room, &place);
+    nard_unit buffer[8] = {7, 7, 7, 7, 7, 7, 7, 7};
+    nard_size place = 99;
+    nard_result reason = nard_string_from_fat((const nard_byte *)bytes, count, buffer, room, &place);
     if (room <= length)
-        expect(reason == UEFI_BUFFER_TOO_SMALL && place == length && buffer[0] == 7, "no room for a name", line);
+        expect(reason == NARD_BUFFER_TOO_SMALL && place == length && buffer[0] == 7, "no room for a name", line);
     else
-        expect(reason == UEFI_OK && place == length && memcmp(buffer, text, 2 * length) == 0 && buffer[length] == 0 &&
+        expect(reason == NARD_OK && place == length && memcmp(buffer, text, 2 * length) == 0 && buffer[length] == 0 &&
                    buffer[length + 1] == 7,
                "name of bytes", line);
 }
 
 /* Whether a text is these two in upper case and in lower case, and what follows it stays. */
-static void in_cases(const uefi_unit *text, const uefi_unit *upper, const uefi_unit *lower, size_t length, int line)
+static void in_cases(const nard_unit *text, const nard_unit *upper, const nard_unit *lower, size_t length, int line)
 {
-    uefi_unit buffer[8] = {0, 0, 0, 0, 0, 0, 0, 7};
-    uefi_size place = 99;
+    nard_unit buffer[8] = {0, 0, 0, 0, 0, 0, 0, 7};
+    nard_size place = 99;
     memcpy(buffer, text, 2 * length);
-    expect(uefi_string_make_uppercase(buffer, 8, &place) == UEFI_OK && place == length && memcmp(buffer, upper, 2 * length) == 0 &&
+    expect(nard_string_make_uppercase(buffer, 8, &place) == NARD_OK && place == length && memcmp(buffer, upper, 2 * length) == 0 &&
                buffer[length] == 0 && buffer[7] == 7,
            "upper case", line);
-    expect(uefi_string_make_lowercase(buffer, 8, &place) == UEFI_OK && place == length && memcmp(buffer, lower, 2 * length) == 0 &&
+    expect(nard_string_make_lowercase(buffer, 8, &place) == NARD_OK && place == length && memcmp(buffer, lower, 2 * length) == 0 &&
                buffer[length] == 0 && buffer[7] == 7,
            "lower case", line);
 }
 
 int main(void)
 {
-    static const uefi_unit surrogate[] = {'a', 0xd800, 0}, endless[] = {'a'};
+    static const nard_unit surrogate[] = {'a', 0xd800, 0}, endless[] = {'a'};
 
     ORDER(u"boot.efi", u"BOOT.EFI", 0);
     ORDER(u"", u"", 0);
@@ -94,9 +94,9 @@ int main(void)
     ORDER(u"\u00e0\u00fe", u"\u00c0\u00de", 0);
     ORDER(u"\u00f7", u"\u00d7", 1);
     ORDER(u"\u00ff", u"\u0178", -1);
-    expect(uefi_string_order_ignore_case(surrogate, 3, UNITS(u"a")) == UEFI_NO_ORDER, "no order", __LINE__);
-    expect(uefi_string_order_ignore_case(UNITS(u"a"), endless, 1) == UEFI_NO_ORDER, "no order", __LINE__);
-    expect(!uefi_string_equal_ignore_case(endless, 1, endless, 1), "not equal", __LINE__);
+    expect(nard_string_order_ignore_case(surrogate, 3, UNITS(u"a")) == NARD_NO_ORDER, "no order", __LINE__);
+    expect(nard_string_order_ignore_case(UNITS(u"a"), endless, 1) == NARD_NO_ORDER, "no order", __LINE__);
+    expect(!nard_string_equal_ignore_case(endless, 1, endless, 1), "not equal", __LINE__);
 
     MATCHES(u"BOOTX64.EFI", u"*.efi", true);
     MATCHES(u"BOOTX64.EFI", u"boot???.efi", true);
@@ -106,43 +106,43 @@ int main(void)
     MATCHES(u"c", u"[a-d]", true);
     MATCHES(u"E", u"[a-d]", false);
     MATCHES(u"a*", u"a", false);
-    expect(!uefi_string_matches(endless, 1, UNITS(u"*")), "no string matches", __LINE__);
-    expect(!uefi_string_matches(UNITS(u"a"), surrogate, 3), "no pattern matches", __LINE__);
+    expect(!nard_string_matches(endless, 1, UNITS(u"*")), "no string matches", __LINE__);
+    expect(!nard_string_matches(UNITS(u"a"), surrogate, 3), "no pattern matches", __LINE__);
 
     SAME_FILE(u"\\EFI\\boot", u"efi\\BOOT", true);
     SAME_FILE(u"\\\\EFI", u"\\efi", false);
     SAME_FILE(u"\\EFI\\boot", u"\\EFI\\boot\\", false);
-    expect(!uefi_path_equal_ignore_case(surrogate, 3, surrogate, 3), "paths not equal", __LINE__);
+    expect(!nard_path_equal_ignore_case(surrogate, 3, surrogate, 3), "paths not equal", __LINE__);
 
     PATH_MATCHES(u"\\EFI\\BOOT\\a.efi", u"efi\\*\\*.EFI", true);
     PATH_MATCHES(u"\\EFI\\BOOT\\a.efi", u"*.efi", false);
     PATH_MATCHES(u"\\EFI\\BOOT", u"\\efi\\*\\*", false);
-    expect(!uefi_path_matches(UNITS(u"a"), endless, 1), "no pattern matches a path", __LINE__);
+    expect(!nard_path_matches(UNITS(u"a"), endless, 1), "no pattern matches a path", __LINE__);
 
-    in_cases((const uefi_unit *)u"aZ\u00e9\u00ff", (const uefi_unit *)u"AZ\u00c9\u00ff", (const uefi_unit *)u"az\u00e9\u00ff", 4, __LINE__);
-    uefi_unit refused[] = {'a', 0xd800, 0};
-    uefi_size fault = 0;
-    expect(uefi_string_make_uppercase(refused, 3, &fault) == UEFI_INVALID_CHAR && fault == 1 && refused[0] == 'a', "no case",
+    in_cases((const nard_unit *)u"aZ\u00e9\u00ff", (const nard_unit *)u"AZ\u00c9\u00ff", (const nard_unit *)u"az\u00e9\u00ff", 4, __LINE__);
+    nard_unit refused[] = {'a', 0xd800, 0};
+    nard_size fault = 0;
+    expect(nard_string_make_uppercase(refused, 3, &fault) == NARD_INVALID_CHAR && fault == 1 && refused[0] == 'a', "no case",
            __LINE__);
 
-    FAT_NAME(u" BOOTX64.EFI ", UEFI_OK, 0);
-    FAT_NAME(u"..", UEFI_NAME_EMPTY, 0);
-    FAT_NAME(u"a:b*c", UEFI_ILLEGAL_CHAR, ':');
-    uefi_unit long_name[258], character = 0;
-    uefi_size place = 0;
+    FAT_NAME(u" BOOTX64.EFI ", NARD_OK, 0);
+    FAT_NAME(u"..", NARD_NAME_EMPTY, 0);
+    FAT_NAME(u"a:b*c", NARD_ILLEGAL_CHAR, ':');
+    nard_unit long_name[258], character = 0;
+    nard_size place = 0;
     for (int i = 0; i < 257; i++)
         long_name[i] = i == 0 ? '?' : 'a';
     long_name[257] = 0;
-    expect(uefi_fat_name_check(long_name, 258, &place, &character) == UEFI_NAME_TOO_LONG && character == 0, "long name", __LINE__);
-    expect(uefi_fat_name_check(surrogate, 3, &place, &character) == UEFI_INVALID_CHAR && place == 1, "no name", __LINE__);
+    expect(nard_fat_name_check(long_name, 258, &place, &character) == NARD_NAME_TOO_LONG && character == 0, "long name", __LINE__);
+    expect(nard_fat_name_check(surrogate, 3, &place, &character) == NARD_INVALID_CHAR && place == 1, "no name", __LINE__);
     SAME_NAME(u"Boot. ", u" bOOT", true);
     SAME_NAME(u"boot.efi", u"boot", false);
-    expect(!uefi_fat_name_equal(endless, 1, endless, 1), "no names equal", __LINE__);
+    expect(!nard_fat_name_equal(endless, 1, endless, 1), "no names equal", __LINE__);
     SHORT(u"BOOTX64.EFI", true);
     SHORT(u"bootx64.efi", false);
-    to_fat(UNITS(u"boot x64.efi"), 12, "BOOTX64EFI", UEFI_OK, __LINE__);
-    to_fat(UNITS(u"a+b"), 12, "A_B", UEFI_CHAR_REPLACED, __LINE__);
-    to_fat(UNITS(u"a+b"), 1, "A", UEFI_OK, __LINE__);
+    to_fat(UNITS(u"boot x64.efi"), 12, "BOOTX64EFI", NARD_OK, __LINE__);
+    to_fat(UNITS(u"a+b"), 12, "A_B", NARD_CHAR_REPLACED, __LINE__);
+    to_fat(UNITS(u"a+b"), 1, "A", NARD_OK, __LINE__);
     from_fat("BOOT", 4, 8, UNITS(u"BOOT") - 1, __LINE__);
     from_fat("BOOT", 4, 4, UNITS(u"BOOT") - 1, __LINE__);
     from_fat("A\0B", 3, 8, UNITS(u"A") - 1, __LINE__);

@@ -1,53 +1,53 @@
 //! Calls the library from Rust, as a firmware program does that builds with `rustc` alone: the functions of
-//! `include/uefi_text.h`, each in a safe wrapper of a few lines.
+//! `include/nardcorbel.h`, each in a safe wrapper of a few lines.
 //!
-//! Build, at the top of the repository: `rustc examples/paths.rs -L crates/uefi_c/out -l static=uefi_c`. `examples/check`
+//! Build, at the top of the repository: `rustc examples/paths.rs -L crates/nardcorbel/out -l static=nardcorbel`. `examples/check`
 //! builds and runs it.
 
 use std::ops::Range;
 
-/// What `include/uefi_text.h` declares, as far as it is called here.
+/// What `include/nardcorbel.h` declares, as far as it is called here.
 mod header {
     extern "C" {
-        pub fn uefi_string_from_utf8(
+        pub fn nard_string_from_utf8(
             bytes: *const u8,
             byte_count: usize,
             buffer: *mut u16,
             room: usize,
             place: *mut usize,
         ) -> u32;
-        pub fn uefi_path_verdict(
+        pub fn nard_path_verdict(
             units: *const u16,
             count: usize,
             place: *mut usize,
             character: *mut u16,
         ) -> u32;
-        pub fn uefi_path_equal(
+        pub fn nard_path_equal(
             first: *const u16,
             first_count: usize,
             second: *const u16,
             second_count: usize,
         ) -> bool;
-        pub fn uefi_path_next_component(
+        pub fn nard_path_next_component(
             text: *const u16,
             length: usize,
             place: *mut usize,
             start: *mut usize,
             component_length: *mut usize,
         ) -> bool;
-        pub fn uefi_path_parent_length(
+        pub fn nard_path_parent_length(
             text: *const u16,
             length: usize,
             parent_length: *mut usize,
         ) -> bool;
-        pub fn uefi_path_push(
+        pub fn nard_path_push(
             buffer: *mut u16,
             room: usize,
             path: *const u16,
             count: usize,
             place: *mut usize,
         ) -> u32;
-        pub fn uefi_path_join(
+        pub fn nard_path_join(
             path: *const u16,
             count: usize,
             other: *const u16,
@@ -56,14 +56,14 @@ mod header {
             room: usize,
             place: *mut usize,
         ) -> u32;
-        pub fn uefi_path_parent(
+        pub fn nard_path_parent(
             path: *const u16,
             count: usize,
             buffer: *mut u16,
             room: usize,
             place: *mut usize,
         ) -> u32;
-        pub fn uefi_path_normalize(
+        pub fn nard_path_normalize(
             path: *const u16,
             count: usize,
             buffer: *mut u16,
@@ -74,7 +74,7 @@ mod header {
     }
 }
 
-/// Why a call refuses: the number of `enum uefi_reason`.
+/// Why a call refuses: the number of `enum nard_reason`.
 struct Reason(u32);
 
 /// Writes a text and a NUL into a buffer, and returns the string.
@@ -82,7 +82,7 @@ fn string_in<'a>(text: &str, buffer: &'a mut [u16]) -> Result<&'a [u16], Reason>
     let mut place = 0;
     // SAFETY: both slices are passed with their lengths, and neither overlaps `place`.
     let reason = unsafe {
-        header::uefi_string_from_utf8(
+        header::nard_string_from_utf8(
             text.as_ptr(),
             text.len(),
             buffer.as_mut_ptr(),
@@ -101,7 +101,7 @@ fn valid_text(string: &[u16]) -> Result<&[u16], Reason> {
     let (mut place, mut character) = (0, 0);
     // SAFETY: the slice is passed with its length.
     let reason = unsafe {
-        header::uefi_path_verdict(string.as_ptr(), string.len(), &mut place, &mut character)
+        header::nard_path_verdict(string.as_ptr(), string.len(), &mut place, &mut character)
     };
     match reason {
         0 => Ok(&string[..place]),
@@ -112,7 +112,7 @@ fn valid_text(string: &[u16]) -> Result<&[u16], Reason> {
 /// Whether two strings are equal as paths.
 fn are_equal(first: &[u16], second: &[u16]) -> bool {
     // SAFETY: each slice is passed with its length.
-    unsafe { header::uefi_path_equal(first.as_ptr(), first.len(), second.as_ptr(), second.len()) }
+    unsafe { header::nard_path_equal(first.as_ptr(), first.len(), second.as_ptr(), second.len()) }
 }
 
 /// The text of all components but the last.
@@ -120,7 +120,7 @@ fn parent(text: &[u16]) -> Option<&[u16]> {
     let mut len = 0;
     // SAFETY: the slice is passed with its length.
     let has_parent =
-        unsafe { header::uefi_path_parent_length(text.as_ptr(), text.len(), &mut len) };
+        unsafe { header::nard_path_parent_length(text.as_ptr(), text.len(), &mut len) };
     has_parent.then(|| &text[..len])
 }
 
@@ -129,7 +129,7 @@ fn next_component(text: &[u16], place: &mut usize) -> Option<Range<usize>> {
     let (mut start, mut len) = (0, 0);
     // SAFETY: the slice is passed with its length, and nothing overlaps.
     let is_there = unsafe {
-        header::uefi_path_next_component(text.as_ptr(), text.len(), place, &mut start, &mut len)
+        header::nard_path_next_component(text.as_ptr(), text.len(), place, &mut start, &mut len)
     };
     is_there.then(|| start..start + len)
 }
@@ -153,7 +153,7 @@ fn join<'a>(first: &[u16], second: &[u16], buffer: &'a mut [u16]) -> Result<&'a 
     let mut place = 0;
     // SAFETY: each slice is passed with its length, and nothing overlaps.
     let reason = unsafe {
-        header::uefi_path_join(
+        header::nard_path_join(
             first.as_ptr(),
             first.len(),
             second.as_ptr(),
@@ -174,7 +174,7 @@ fn push<'a>(buffer: &'a mut [u16], path: &[u16]) -> Result<&'a [u16], usize> {
     let mut place = 0;
     // SAFETY: each slice is passed with its length, and nothing overlaps.
     let reason = unsafe {
-        header::uefi_path_push(
+        header::nard_path_push(
             buffer.as_mut_ptr(),
             buffer.len(),
             path.as_ptr(),
@@ -193,7 +193,7 @@ fn parent_in<'a>(path: &[u16], buffer: &'a mut [u16]) -> (Result<&'a [u16], Reas
     let mut place = 0;
     // SAFETY: each slice is passed with its length, and nothing overlaps.
     let reason = unsafe {
-        header::uefi_path_parent(
+        header::nard_path_parent(
             path.as_ptr(),
             path.len(),
             buffer.as_mut_ptr(),
@@ -212,7 +212,7 @@ fn normal_in<'a>(path: &[u16], buffer: &'a mut [u16]) -> Result<&'a [u16], (Reas
     let (mut place, mut character) = (0, 0);
     // SAFETY: each slice is passed with its length, and nothing overlaps.
     let reason = unsafe {
-        header::uefi_path_normalize(
+        header::nard_path_normalize(
             path.as_ptr(),
             path.len(),
             buffer.as_mut_ptr(),

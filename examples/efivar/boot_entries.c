@@ -8,7 +8,7 @@
  * FOLDER has variables as Linux shows them: each is a file, of its name, a dash and the GUID of its owner, with four bytes of
  * attributes before its value. Where no folder is given it is /sys/firmware/efi/efivars.
  *
- * The library reads each length in an entry. A malformed one is printed with the number of the reason in `enum uefi_reason`,
+ * The library reads each length in an entry. A malformed one is printed with the number of the reason in `enum nard_reason`,
  * and the offset of the fault. Ends with 1 where an entry is malformed or cannot be read.
  */
 #define _POSIX_C_SOURCE 200809L
@@ -17,7 +17,7 @@
 #include <stdlib.h>
 #include <string.h>
 
-#include "uefi_text.h"
+#include "nardcorbel.h"
 
 /* The owner of the variables (UEFI Specification 2.10, section 3.3). */
 #define GLOBAL "8be4df61-93ca-11d2-aa0d-00e098032b8c"
@@ -92,7 +92,7 @@ static void print_numbers(const char *folder, const char *name)
 /* Prints the entry in a variable. Whether it is well. */
 static bool print_entry(const char *folder, const char *name)
 {
-    struct uefi_load_option option = {0, 0, 0, 0, 0, 0, 0, 0};
+    struct nard_load_option option = {0, 0, 0, 0, 0, 0, 0, 0};
     size_t place = 0, length = 0;
     const uint8_t *entry = bytes + ATTRIBUTES;
     long size = read_variable(folder, name);
@@ -100,20 +100,20 @@ static bool print_entry(const char *folder, const char *name)
         printf("%s  cannot be read\n", name);
         return false;
     }
-    uint32_t reason = uefi_load_option_read(entry, (size_t)size, &option, &place);
-    if (reason != UEFI_OK) {
+    uint32_t reason = nard_load_option_read(entry, (size_t)size, &option, &place);
+    if (reason != NARD_OK) {
         printf("%s  malformed at offset %zu: reason %u\n", name, place, (unsigned)reason);
         return false;
     }
     printf("%s%c ", name, option.attributes & ACTIVE ? '*' : ' ');
-    (void)uefi_units_from_bytes(entry + option.description_start, 2 * option.description_length, shown, MOST_SHOWN, &length);
+    (void)nard_units_from_bytes(entry + option.description_start, 2 * option.description_length, shown, MOST_SHOWN, &length);
     print_units(shown, length);
     printf("\t");
-    reason = uefi_device_path_text(entry + option.list_start, option.path_length, false, false, shown, MOST_SHOWN, &length);
-    if (reason == UEFI_OK)
+    reason = nard_device_path_text(entry + option.list_start, option.path_length, false, false, shown, MOST_SHOWN, &length);
+    if (reason == NARD_OK)
         print_units(shown, length);
     printf("\n");
-    return reason == UEFI_OK;
+    return reason == NARD_OK;
 }
 
 /* Whether a file is the variable of an entry: `Boot`, four hexadecimal digits in upper case, and the owner. */

@@ -36,7 +36,7 @@ def by_gnu_efi(name, room, archives):
         run("gcc", *FREESTANDING, "-fpic", "-DGNU_EFI_USE_MS_ABI", *told, "-c", HERE / f"{it}.c", "-o", objects[-1])
     made = room / f"{name}.so"
     run("ld", "-nostdlib", "-znocombreloc", "-T", "/usr/lib/elf_x86_64_efi.lds", "-shared", "-Bsymbolic", "--no-undefined",
-        "--exclude-libs", "ALL", "/usr/lib/crt0-efi-x86_64.o", *objects, "-o", made, archives / "x86_64/libuefi_c.a",
+        "--exclude-libs", "ALL", "/usr/lib/crt0-efi-x86_64.o", *objects, "-o", made, archives / "x86_64/libnardcorbel_firmware.a",
         "-L/usr/lib", "-lgnuefi")
     run("objcopy", *(word for it in SECTIONS for word in ("-j", it)), "--target", "efi-app-x86_64", "--subsystem=10",
         made, room / f"{name}.efi")
@@ -54,6 +54,6 @@ def by_lld(processor):
         for it, made in zip(PROGRAMS[name], objects):
             run("clang", f"--target={processor}-unknown-windows", *FREESTANDING, *convention, "-c", HERE / f"{it}.c", "-o", made)
         run("lld-link", "-subsystem:efi_application", "-entry:efi_main", "-nodefaultlib", *objects,
-            archives / processor / "uefi_c.lib", f"-out:{room / name}.efi")
+            archives / processor / "nardcorbel_firmware.lib", f"-out:{room / name}.efi")
         return room / f"{name}.efi"
     return build

@@ -63,7 +63,7 @@ static void make_signed(uint16_t *to, const uint16_t *text)
     size_t place = 0, length = length_of(text);
     for (size_t i = 0; i <= length; i++)
         to[i] = text[i];
-    uefi_string_make_uppercase(to, length + 1, &place);
+    nard_string_make_uppercase(to, length + 1, &place);
     for (size_t i = 0; i < length; i++)
         to[i] = 0x80 <= text[i] && text[i] <= 0xff ? (uint16_t)(to[i] | 0xff00) : text[i];
 }
@@ -125,10 +125,10 @@ static void compare_cases(bool is_upper)
         uint16_t ours[2] = {(uint16_t)unit, 0}, theirs[2] = {(uint16_t)unit, 0}, as_signed[2] = {0, 0};
         size_t place = 0;
         if (is_upper) {
-            uefi_string_make_uppercase(ours, 2, &place);
+            nard_string_make_uppercase(ours, 2, &place);
             firmware->StrUpr(firmware, theirs);
         } else {
-            uefi_string_make_lowercase(ours, 2, &place);
+            nard_string_make_lowercase(ours, 2, &place);
             firmware->StrLwr(firmware, theirs);
         }
         as_signed[0] = 0x80 <= unit && unit <= 0xff ? (uint16_t)(ours[0] | 0xff00) : ours[0];
@@ -153,8 +153,8 @@ static void compare_pairs(void)
         make_text(second, units);
         make_signed(first_signed, first);
         make_signed(second_signed, second);
-        int ours = uefi_string_order_ignore_case(first, MOST + 1, second, MOST + 1);
-        int ours_signed = uefi_string_order_ignore_case(first_signed, MOST + 1, second_signed, MOST + 1);
+        int ours = nard_string_order_ignore_case(first, MOST + 1, second, MOST + 1);
+        int ours_signed = nard_string_order_ignore_case(first_signed, MOST + 1, second_signed, MOST + 1);
         count(&counts, sign_of(firmware->StriColl(firmware, first, second)), ours, ours_signed, false, first, second);
     }
     put_counts("pairs", &counts);
@@ -198,13 +198,13 @@ static void compare_patterns(void)
                     pattern[at++] = *from;
         make_signed(text_signed, text);
         make_signed(pattern_signed, pattern);
-        bool ours = uefi_string_matches(text, MOST + 1, pattern, 3 * MOST);
-        bool ours_signed = uefi_string_matches(text_signed, MOST + 1, pattern_signed, 3 * MOST);
+        bool ours = nard_string_matches(text, MOST + 1, pattern, 3 * MOST);
+        bool ours_signed = nard_string_matches(text_signed, MOST + 1, pattern_signed, 3 * MOST);
         bool theirs = firmware->MetaiMatch(firmware, text, pattern) != FALSE, is_open = false;
         matched += theirs;
         if (close_set(pattern_signed) && close_set(pattern))
-            is_open = theirs && (uefi_string_matches(text, MOST + 1, pattern, 3 * MOST) ||
-                                 uefi_string_matches(text_signed, MOST + 1, pattern_signed, 3 * MOST));
+            is_open = theirs && (nard_string_matches(text, MOST + 1, pattern, 3 * MOST) ||
+                                 nard_string_matches(text_signed, MOST + 1, pattern_signed, 3 * MOST));
         count(&counts, theirs, ours, ours_signed, is_open, text, pattern);
     }
     put_counts("patterns", &counts);
@@ -218,7 +218,7 @@ static void compare_bytes_of_names(void)
     struct counts counts = {0};
     for (size_t i = 0; i < CONVERSIONS; i++) {
         uint16_t text[MOST + 1], other[MOST + 1];
-        uefi_byte ours[MOST] = {0}, theirs[MOST] = {0};
+        nard_byte ours[MOST] = {0}, theirs[MOST] = {0};
         size_t place = 0, size = next_number(MOST + 1);
         bool is_kept = false, is_same = true, is_replaced;
         make_text(text, units);
@@ -228,14 +228,14 @@ static void compare_bytes_of_names(void)
         }
         is_replaced = firmware->StrToFat(firmware, text, size, (CHAR8 *)theirs) != FALSE;
         counts.compared++;
-        is_same = (uefi_fat_from_string(text, MOST + 1, ours, size, &place) == UEFI_CHAR_REPLACED) == is_replaced;
+        is_same = (nard_fat_from_string(text, MOST + 1, ours, size, &place) == NARD_CHAR_REPLACED) == is_replaced;
         for (size_t k = 0; k < MOST; k++)
             is_same = is_same && ours[k] == theirs[k];
         if (is_same)
             continue;
         for (size_t k = 0; k < MOST; k++)
             ours[k] = 0;
-        is_same = is_kept && (uefi_fat_from_string(other, MOST + 1, ours, size, &place) == UEFI_CHAR_REPLACED) == is_replaced;
+        is_same = is_kept && (nard_fat_from_string(other, MOST + 1, ours, size, &place) == NARD_CHAR_REPLACED) == is_replaced;
         for (size_t k = 0; k < MOST; k++)
             is_same = is_same && (ours[k] == theirs[k] || (ours[k] == '~' && theirs[k] == '\\'));
         if (is_same)
@@ -248,16 +248,16 @@ static void compare_bytes_of_names(void)
 
 static void compare_names_of_bytes(void)
 {
-    static const uefi_byte bytes[] = {'A', '1', ' ', '.', '_', 0x80, 0xc9, 0xff, 0};
+    static const nard_byte bytes[] = {'A', '1', ' ', '.', '_', 0x80, 0xc9, 0xff, 0};
     struct counts counts = {0};
     for (size_t i = 0; i < CONVERSIONS; i++) {
-        uefi_byte name[MOST];
+        nard_byte name[MOST];
         uint16_t ours[MOST + 1] = {0}, theirs[MOST + 1] = {0}, as_signed[MOST + 1] = {0};
         size_t size = next_number(MOST + 1), place = 0;
         bool is_same = true, is_signed = true;
         for (size_t k = 0; k < MOST; k++)
             name[k] = bytes[next_number(sizeof bytes)];
-        uefi_string_from_fat(name, size, ours, MOST + 1, &place);
+        nard_string_from_fat(name, size, ours, MOST + 1, &place);
         firmware->FatToStr(firmware, size, (CHAR8 *)name, theirs);
         for (size_t k = 0; k <= MOST; k++) {
             as_signed[k] = 0x80 <= ours[k] ? (uint16_t)(ours[k] | 0xff00) : ours[k];
@@ -303,7 +303,7 @@ static void try_name(struct counts *counts, EFI_FILE_HANDLE root, const uint16_t
     EFI_FILE_HANDLE file = NULL;
     size_t place = 0;
     uint16_t character = 0;
-    bool ours = uefi_fat_name_check(name, length_of(name) + 1, &place, &character) == UEFI_OK;
+    bool ours = nard_fat_name_check(name, length_of(name) + 1, &place, &character) == NARD_OK;
     bool theirs = open_file(root, &file, name, true) == EFI_SUCCESS;
     if (theirs)
         file->Delete(file);
@@ -329,9 +329,9 @@ static void compare_files(EFI_FILE_HANDLE root)
                 other->Close(other);
             make_signed(first, names[i]);
             make_signed(second, names[k]);
-            bool ours = uefi_fat_name_equal(names[i], length, names[k], other_length);
+            bool ours = nard_fat_name_equal(names[i], length, names[k], other_length);
             same += theirs;
-            count(&counts, theirs, ours, uefi_fat_name_equal(first, length, second, other_length), false, names[i], names[k]);
+            count(&counts, theirs, ours, nard_fat_name_equal(first, length, second, other_length), false, names[i], names[k]);
         }
         file->Delete(file);
     }
@@ -375,7 +375,7 @@ static void time_stars(const char *who, size_t stars, size_t letters, bool is_ou
     services->Stall(10000);
     uint64_t per_ten_ms = ticks() - before + 1;
     before = ticks();
-    bool matches = is_ours ? uefi_string_matches(text, letters + 2, pattern, 2 * stars + 1)
+    bool matches = is_ours ? nard_string_matches(text, letters + 2, pattern, 2 * stars + 1)
                            : firmware->MetaiMatch(firmware, text, pattern) != FALSE;
     uint64_t took = ticks() - before;
     lines_put(who);

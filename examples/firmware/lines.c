@@ -56,7 +56,7 @@ static void put_fault(struct reader_fault fault)
 static bool has_long_name(const uint16_t *normal, size_t length)
 {
     size_t place = 0, start = 0, count = 0;
-    while (uefi_path_next_component(normal, length, &place, &start, &count))
+    while (nard_path_next_component(normal, length, &place, &start, &count))
         if (LINES_MOST_NAME < count)
             return true;
     return false;
@@ -65,16 +65,16 @@ static bool has_long_name(const uint16_t *normal, size_t length)
 bool lines_normal(const struct reader *reader, uint16_t *normal, size_t *length, const char **reason, uint16_t *character)
 {
     uint32_t refused =
-        uefi_path_normalize(reader->path, reader->path_length + 1, normal, READER_MOST_UNITS, length, character);
-    *reason = refused != UEFI_OK ? reader_reason(refused) : "a name is longer than file systems hold";
-    return refused == UEFI_OK && !has_long_name(normal, *length);
+        nard_path_normalize(reader->path, reader->path_length + 1, normal, READER_MOST_UNITS, length, character);
+    *reason = refused != NARD_OK ? reader_reason(refused) : "a name is longer than file systems hold";
+    return refused == NARD_OK && !has_long_name(normal, *length);
 }
 
 /* Whether a path is one that firmware starts from a disk without an entry (section 3.5.1.1), whatever its case. */
 static bool is_fallback(const uint16_t *normal, size_t length)
 {
     static const uint16_t pattern[] = u"EFI\\BOOT\\BOOT*.EFI";
-    return uefi_path_matches(normal, length + 1, pattern, sizeof pattern / sizeof pattern[0]);
+    return nard_path_matches(normal, length + 1, pattern, sizeof pattern / sizeof pattern[0]);
 }
 
 /* Prints the file that the reader found: true where it is there. */

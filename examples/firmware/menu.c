@@ -87,9 +87,9 @@ static const uint8_t *path_of(EFI_HANDLE handle, size_t *size)
 /* The next node of a device path, but for those that end it or an instance: where it begins, and where it ends. */
 static bool next_node(const uint8_t *path, size_t size, size_t *begin, size_t *end)
 {
-    struct uefi_device_node node = {0, 0, 0, 0};
+    struct nard_device_node node = {0, 0, 0, 0};
     *begin = *end;
-    return uefi_device_path_next_node(path, size, end, &node) == UEFI_OK && node.device_type != END;
+    return nard_device_path_next_node(path, size, end, &node) == NARD_OK && node.device_type != END;
 }
 
 static bool is_equal(const uint8_t *first, const uint8_t *second, size_t size)
@@ -165,7 +165,7 @@ static bool write_target(uint8_t *target, EFI_HANDLE volume, const uint16_t *nor
     const uint8_t *path = path_of(volume, &size_of_path);
     while (path != NULL && next_node(path, size_of_path, &before, &after))
         ;
-    if (path == NULL || uefi_path_join(root, 2, normal, length + 1, whole, MOST_TARGET / 2, &place) != UEFI_OK)
+    if (path == NULL || nard_path_join(root, 2, normal, length + 1, whole, MOST_TARGET / 2, &place) != NARD_OK)
         return false;
     size_t bytes = 2 * (place + 1), size = NODE_HEADER + bytes;
     if (MOST_TARGET < before || MOST_TARGET - before < size + sizeof end)
@@ -261,10 +261,10 @@ static void show_entries(void)
 static void put_place(uint16_t number)
 {
     static uint16_t text[MOST_TEXT];
-    struct uefi_load_option option = {0};
+    struct nard_load_option option = {0};
     size_t size = 0, place = 0;
-    if (read_entry(number, &size) != EFI_SUCCESS || uefi_load_option_read(variable, size, &option, &place) != UEFI_OK ||
-        uefi_device_path_text(variable + option.list_start, option.path_length, false, false, text, MOST_TEXT, &place) != UEFI_OK)
+    if (read_entry(number, &size) != EFI_SUCCESS || nard_load_option_read(variable, size, &option, &place) != NARD_OK ||
+        nard_device_path_text(variable + option.list_start, option.path_length, false, false, text, MOST_TEXT, &place) != NARD_OK)
         return;
     lines_put("    ");
     lines_put_units(text, place);

@@ -90,3 +90,17 @@ def is_known(ours, theirs):
     """Whether two texts of a path differ in nothing else, but for a slash that the firmware prints between instances."""
     ours, theirs = ours.replace(",\\", ",/\\").split("/"), theirs.split("/")
     return len(ours) == len(theirs) and all(a == b or any(it(a, b) for _, it in KNOWN) for a, b in zip(ours, theirs))
+
+
+# What the firmware reads of a node's text otherwise: why, and whether it did that here, by our text and that of what it read.
+KNOWN_READ = [
+    ("a node of addresses in its longer form", lambda text, read: text.startswith(("IPv4(", "IPv6(")) and read.startswith(text[:-1] + ",0")),
+    ("DEFAULT as a number, and a parity without a name", lambda text, read: text.startswith("Uart(") and read.startswith("Uart(")),
+    ("an ID that is none of PNP", lambda text, read: text.startswith("Acpi(0x") and read.startswith("Acpi(0x")),
+]
+
+
+def is_known_read(text, read):
+    """Whether the two texts differ in nothing else."""
+    first, second = text.split("/"), read.split("/")
+    return len(first) == len(second) and all(a == b or any(it(a, b) for _, it in KNOWN_READ) for a, b in zip(first, second))

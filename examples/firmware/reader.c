@@ -6,49 +6,42 @@ enum { ACTIVE = 1, HEAD = 6, MEDIA = 4, HARD_DRIVE = 1, FILE_PATH = 4, END = 0x7
 /* What is malformed, where the reason says it. */
 static const char *part_of(uint32_t reason)
 {
-    switch ((enum uefi_reason)reason) {
-    case UEFI_OPTION_TOO_SHORT: return "entry";
-    case UEFI_DESCRIPTION_WITHOUT_END: return "description";
-    case UEFI_LIST_BEYOND_END:
-    case UEFI_EMPTY_LIST:
-    case UEFI_NO_END_NODE: return "file path list";
-    case UEFI_UNKNOWN_END:
-    case UEFI_END_WITH_DATA: return "end node";
+    switch ((enum nard_reason)reason) {
+    case NARD_OPTION_TOO_SHORT: return "entry";
+    case NARD_DESCRIPTION_WITHOUT_END: return "description";
+    case NARD_LIST_BEYOND_END:
+    case NARD_EMPTY_LIST:
+    case NARD_NO_END_NODE: return "file path list";
+    case NARD_UNKNOWN_END:
+    case NARD_END_WITH_DATA: return "end node";
     default: return "node";
     }
 }
 
 const char *reader_reason(uint32_t reason)
 {
-    switch ((enum uefi_reason)reason) {
-    case UEFI_OK:
-    case UEFI_END_OF_PATH: return "nothing is wrong";
-    case UEFI_NO_NUL:
-    case UEFI_DESCRIPTION_WITHOUT_END: return "no NUL ends it";
-    case UEFI_INVALID_CHAR: return "it holds a surrogate";
-    case UEFI_INTERIOR_NUL: return "more follows its NUL";
-    case UEFI_BUFFER_TOO_SMALL: return "it is too long";
-    case UEFI_NOT_UTF8: return "it is not UTF-8";
-    case UEFI_ODD_BYTES: return "it ends in half a unit";
-    case UEFI_PATH_EMPTY: return "the path is empty";
-    case UEFI_EMPTY_COMPONENT: return "a component is empty";
-    case UEFI_ILLEGAL_CHAR: return "no file's name holds the character";
-    case UEFI_CLIMBS_ABOVE_ROOT: return "it climbs above the root";
-    case UEFI_NO_PARENT: return "it has no parent";
-    case UEFI_OPTION_TOO_SHORT: return "it ends before its description";
-    case UEFI_LIST_BEYOND_END: return "its length is more than the entry has left";
-    case UEFI_EMPTY_LIST:
-    case UEFI_NO_END_NODE: return "no end node ends it";
-    case UEFI_TRUNCATED_HEADER: return "the file path list ends in its header";
-    case UEFI_UNKNOWN_END: return "it ends neither a path nor an instance";
-    case UEFI_LENGTH_BELOW_HEADER: return "its length is less than its header's";
-    case UEFI_END_WITH_DATA: return "its length is not its header's";
-    case UEFI_NODE_BEYOND_END: return "its length is more than the file path list has left";
-    case UEFI_NAME_EMPTY: return "the name is empty";
-    case UEFI_NAME_TOO_LONG: return "the name is too long";
-    case UEFI_CHAR_REPLACED: return "a character was replaced";
+    switch ((enum nard_reason)reason) {
+    case NARD_NO_NUL:
+    case NARD_DESCRIPTION_WITHOUT_END: return "no NUL ends it";
+    case NARD_INVALID_CHAR: return "it holds a surrogate";
+    case NARD_INTERIOR_NUL: return "more follows its NUL";
+    case NARD_BUFFER_TOO_SMALL: return "it is too long";
+    case NARD_ODD_BYTES: return "it ends in half a unit";
+    case NARD_PATH_EMPTY: return "the path is empty";
+    case NARD_EMPTY_COMPONENT: return "a component is empty";
+    case NARD_ILLEGAL_CHAR: return "no file's name holds the character";
+    case NARD_CLIMBS_ABOVE_ROOT: return "it climbs above the root";
+    case NARD_OPTION_TOO_SHORT: return "it ends before its description";
+    case NARD_LIST_BEYOND_END: return "its length is more than the entry has left";
+    case NARD_EMPTY_LIST:
+    case NARD_NO_END_NODE: return "no end node ends it";
+    case NARD_TRUNCATED_HEADER: return "the file path list ends in its header";
+    case NARD_UNKNOWN_END: return "it ends neither a path nor an instance";
+    case NARD_LENGTH_BELOW_HEADER: return "its length is less than its header's";
+    case NARD_END_WITH_DATA: return "its length is not its header's";
+    case NARD_NODE_BEYOND_END: return "its length is more than the file path list has left";
+    default: return nard_reason_text(reason);
     }
-    return "unknown reason";
 }
 
 static bool refuse(struct reader *reader, size_t offset, const char *part, const char *reason)
@@ -62,9 +55,9 @@ static bool refuse(struct reader *reader, size_t offset, const char *part, const
 static void read_description(struct reader *reader, size_t length)
 {
     size_t count = 0, place = 0;
-    (void)uefi_units_from_bytes(reader->bytes + HEAD, 2 * (length + 1), reader->description, READER_MOST_UNITS, &count);
-    uint32_t reason = uefi_string_with_nul(reader->description, count, &place);
-    if (reason != UEFI_OK)
+    (void)nard_units_from_bytes(reader->bytes + HEAD, 2 * (length + 1), reader->description, READER_MOST_UNITS, &count);
+    uint32_t reason = nard_string_with_nul(reader->description, count, &place);
+    if (reason != NARD_OK)
         reader->description_fault = (struct reader_fault){HEAD + 2 * place, "description", reader_reason(reason)};
     reader->description_length = length;
 }
@@ -77,40 +70,40 @@ bool reader_begin(struct reader *reader, const uint8_t *bytes, size_t size)
     reader->has_ended = reader->is_active = false;
     reader->description_length = reader->path_length = reader->disk_size = 0;
     reader->fault = reader->description_fault = none;
-    struct uefi_load_option option = {0, 0, 0, 0, 0, 0, 0, 0};
+    struct nard_load_option option = {0, 0, 0, 0, 0, 0, 0, 0};
     size_t place = 0, length = 0;
     if (READER_MOST_BYTES < size)
         return refuse(reader, READER_MOST_BYTES, "entry", "it is too long");
-    uint32_t reason = uefi_load_option_read(bytes, size, &option, &place);
-    if (reason == UEFI_OPTION_TOO_SHORT || reason == UEFI_DESCRIPTION_WITHOUT_END)
+    uint32_t reason = nard_load_option_read(bytes, size, &option, &place);
+    if (reason == NARD_OPTION_TOO_SHORT || reason == NARD_DESCRIPTION_WITHOUT_END)
         return refuse(reader, place, part_of(reason), reader_reason(reason));
     /* All else that is refused stands after the description, or says where the list after it ends. */
-    (void)uefi_packed_until_nul(bytes + HEAD, size - HEAD, &length);
+    (void)nard_packed_until_nul(bytes + HEAD, size - HEAD, &length);
     read_description(reader, length);
     reader->is_active = (bytes[0] & ACTIVE) != 0;
-    if (reason == UEFI_LIST_BEYOND_END)
+    if (reason == NARD_LIST_BEYOND_END)
         return refuse(reader, place, part_of(reason), reader_reason(reason));
-    if (reason != UEFI_OK)
+    if (reason != NARD_OK)
         reader->fault = (struct reader_fault){place, part_of(reason), reader_reason(reason)};
     reader->at = HEAD + 2 * (length + 1);
-    reader->end = reason == UEFI_OK ? option.optional_start : place;
+    reader->end = reason == NARD_OK ? option.optional_start : place;
     return true;
 }
 
 /* Adds the path of a file path node. One separator stands between two nodes, also where both bring one. */
-static bool add_path(struct reader *reader, struct uefi_device_node node)
+static bool add_path(struct reader *reader, struct nard_device_node node)
 {
     size_t text = node.start, count = 0, place = 0;
-    uint32_t reason = uefi_units_from_bytes(reader->bytes + text, node.length, reader->node, READER_MOST_UNITS, &count);
-    if (reason != UEFI_OK)
+    uint32_t reason = nard_units_from_bytes(reader->bytes + text, node.length, reader->node, READER_MOST_UNITS, &count);
+    if (reason != NARD_OK)
         return refuse(reader, text + node.length - 1, "file path", reader_reason(reason));
-    reason = uefi_string_with_nul(reader->node, count, &place);
-    if (reason != UEFI_OK)
+    reason = nard_string_with_nul(reader->node, count, &place);
+    if (reason != NARD_OK)
         return refuse(reader, text + 2 * place, "file path", reader_reason(reason));
     bool brings_separator = reader->node[0] == '\\' || reader->node[0] == '/';
     size_t start = reader->path_length > 0 && brings_separator;
-    reason = uefi_path_push(reader->path, READER_MOST_UNITS, reader->node + start, count - start, &place);
-    if (reason != UEFI_OK)
+    reason = nard_path_push(reader->path, READER_MOST_UNITS, reader->node + start, count - start, &place);
+    if (reason != NARD_OK)
         return refuse(reader, text, "file path", reader_reason(reason));
     reader->path_length = place;
     return true;
@@ -118,18 +111,18 @@ static bool add_path(struct reader *reader, struct uefi_device_node node)
 
 bool reader_next(struct reader *reader)
 {
-    struct uefi_device_node node = {0, 0, 0, 0};
+    struct nard_device_node node = {0, 0, 0, 0};
     bool has_path = false;
     reader->path[0] = 0;
     reader->path_length = reader->disk_size = 0;
     while (!reader->has_ended) {
         size_t at = reader->at;
-        uint32_t reason = uefi_device_path_next_node(reader->bytes, reader->end, &reader->at, &node);
-        reader->has_ended = reason != UEFI_OK;
+        uint32_t reason = nard_device_path_next_node(reader->bytes, reader->end, &reader->at, &node);
+        reader->has_ended = reason != NARD_OK;
         /* No whole node is left before the fault that reader_begin found. */
-        if (reason != UEFI_OK && reason != UEFI_END_OF_PATH)
+        if (reason != NARD_OK && reason != NARD_END_OF_PATH)
             return false;
-        bool is_end = reason == UEFI_END_OF_PATH || node.device_type == END;
+        bool is_end = reason == NARD_END_OF_PATH || node.device_type == END;
         if (is_end && has_path)
             return true;
         if (is_end) {

@@ -6,7 +6,7 @@
 #ifndef READER_H
 #define READER_H
 
-#include "uefi_text.h"
+#include "nardcorbel.h"
 
 enum { READER_MOST_BYTES = 16384, READER_MOST_UNITS = READER_MOST_BYTES / 2 };
 

@@ -92,6 +92,16 @@ def named():
     ]
 
 
+def plain():
+    """Four load options of the usual kind: two that start, one without its file and one without its disk."""
+    return [
+        entry("Hello", DISK + path("\\EFI\\tools\\hello.efi") + END),
+        entry("Boot menu", DISK + path("\\EFI\\menu.efi") + END),
+        entry("debian", DISK + path("\\EFI\\debian\\shimx64.efi") + END),
+        entry("USB stick", OTHER_DISK + path("\\EFI\\BOOT\\BOOTX64.EFI") + END),
+    ]
+
+
 WORDS = ["EFI", "BOOT", "BOOTX64.EFI", "debian", "shimx64.efi", ".", "..", "a", "b c", "grub.efi",
          "Über", "漢字", "a:b", "", "x*", "q?", "<", "\x7f", "\x01", "\u202e", "\u061c", "n" * 255, "n" * 256, "\ud800", "\0"]
 DESCRIPTIONS = ["debian", "", "Windows Boot Manager", "Überprüfung ▶", "a" * 60, "UEFI: USB, Partition 1", "😀",

@@ -3,6 +3,9 @@
  * firmware has, of the boot entries of BootOrder, and of the paths that the variable TestPaths holds one after the other.
  * Prints both texts where they differ, and at the end of each kind how many there were. In TestPaths a number stands before
  * the texts: at which offset the path begins.
+ *
+ * Lets the firmware's EFI_DEVICE_PATH_FROM_TEXT_PROTOCOL read each text, and prints the text, and that of the path which the
+ * firmware reads, if they differ.
  */
 #include <efi.h>
 
@@ -13,9 +16,11 @@ enum { MOST_BYTES = 16384, MOST_UNITS = 8192 };
 static EFI_SYSTEM_TABLE *table;
 static EFI_BOOT_SERVICES *services;
 static EFI_DEVICE_PATH_TO_TEXT_PROTOCOL *firmware;
+static EFI_DEVICE_PATH_FROM_TEXT_PROTOCOL *reader;
+static EFI_DEVICE_PATH_UTILITIES_PROTOCOL *sizes;
 static EFI_GUID global_variable = {0x8be4df61, 0x93ca, 0x11d2, {0xaa, 0x0d, 0x00, 0xe0, 0x98, 0x03, 0x2b, 0x8c}};
 static uint8_t variable[MOST_BYTES];
-static size_t compared, differ;
+static size_t compared, differ, read_back, read_otherwise;
 
 void lines_put_unit(uint16_t unit)
 {
@@ -53,18 +58,18 @@ static void compare(const uint8_t *path, size_t size, bool display_only, bool al
 {
     static uint16_t ours[MOST_UNITS];
     size_t length = 0, same = 0;
-    uint32_t reason = uefi_device_path_text(path, size, display_only, allow_shortcuts, ours, MOST_UNITS, &length);
+    uint32_t reason = nard_device_path_text(path, size, display_only, allow_shortcuts, ours, MOST_UNITS, &length);
     CHAR16 *theirs = firmware->ConvertDevicePathToText((EFI_DEVICE_PATH *)path, display_only, allow_shortcuts);
     size_t their_length = length_of(theirs);
     compared++;
-    while (reason == UEFI_OK && same < length && same < their_length && ours[same] == theirs[same])
+    while (reason == NARD_OK && same < length && same < their_length && ours[same] == theirs[same])
         same++;
-    if (reason != UEFI_OK || same < length || same < their_length) {
+    if (reason != NARD_OK || same < length || same < their_length) {
         differ++;
         lines_put_number(number);
         lines_put(display_only ? " shown" : allow_shortcuts ? " short" : "");
         lines_put(" ours ");
-        lines_put_units(ours, reason == UEFI_OK ? length : 0);
+        lines_put_units(ours, reason == NARD_OK ? length : 0);
         lines_put("\n");
         lines_put_number(number);
         lines_put(" firmware ");
@@ -75,9 +80,40 @@ static void compare(const uint8_t *path, size_t size, bool display_only, bool al
         services->FreePool(theirs);
 }
 
+static void put_text(const char *what, const uint16_t *text, size_t length)
+{
+    lines_put(what);
+    lines_put_units(text, length);
+    lines_put("\n");
+}
+
+/* Compares our text with that of what the firmware reads from it. */
+static void compare_read(const uint8_t *path, size_t size)
+{
+    static uint16_t text[MOST_UNITS], again[MOST_UNITS];
+    size_t length = 0, length_again = 0, same = 0;
+    if (nard_device_path_text(path, size, false, false, text, MOST_UNITS, &length) != NARD_OK)
+        return;
+    uint8_t *made = (uint8_t *)reader->ConvertTextToDevicePath((CHAR16 *)text);
+    size_t made_size = made == NULL ? 0 : sizes->GetDevicePathSize((EFI_DEVICE_PATH *)made);
+    if (nard_device_path_text(made, made_size, false, false, again, MOST_UNITS, &length_again) != NARD_OK)
+        length_again = 0;
+    read_back++;
+    while (same < length && same < length_again && text[same] == again[same])
+        same++;
+    if (same < length || same < length_again) {
+        read_otherwise++;
+        put_text("text ", text, length);
+        put_text("read ", again, length_again);
+    }
+    if (made != NULL)
+        services->FreePool(made);
+}
+
 /* The same in each form. */
 static void compare_forms(const uint8_t *path, size_t size, size_t number)
 {
+    compare_read(path, size);
     compare(path, size, false, false, number);
     compare(path, size, true, false, number);
     compare(path, size, false, true, number);
@@ -90,24 +126,25 @@ static void put_counts(const char *what)
     lines_put_number(compared);
     lines_put(" texts, ");
     lines_put_number(differ);
-    lines_put(" differ\n");
-    compared = differ = 0;
+    lines_put(" differ; ");
+    lines_put_number(read_back);
+    lines_put(" read, ");
+    lines_put_number(read_otherwise);
+    lines_put(" otherwise\n");
+    compared = differ = read_back = read_otherwise = 0;
 }
 
 static void compare_handles(void)
 {
     static EFI_GUID device_path = {0x09576e91, 0x6d3f, 0x11d2, {0x8e, 0x39, 0x00, 0xa0, 0xc9, 0x69, 0x72, 0x3b}};
-    static EFI_GUID utilities = EFI_DEVICE_PATH_UTILITIES_PROTOCOL_GUID;
-    EFI_DEVICE_PATH_UTILITIES_PROTOCOL *sizes = NULL;
     EFI_HANDLE *handles = NULL;
     UINTN count = 0;
     void *found = NULL;
     size_t size = 0;
-    if (services->LocateProtocol(&utilities, NULL, (void **)&sizes) == EFI_SUCCESS)
-        services->LocateHandleBuffer(ByProtocol, &device_path, NULL, &count, &handles);
+    services->LocateHandleBuffer(ByProtocol, &device_path, NULL, &count, &handles);
     for (UINTN i = 0; i < count; i++)
         if (services->HandleProtocol(handles[i], &device_path, &found) == EFI_SUCCESS &&
-            uefi_device_path_check(found, sizes->GetDevicePathSize(found), &size) == UEFI_OK)
+            nard_device_path_check(found, sizes->GetDevicePathSize(found), &size) == NARD_OK)
             compare_forms(found, size, i);
     put_counts("handles");
 }
@@ -120,17 +157,17 @@ static void compare_entries(void)
     for (size_t i = 0; i < count && i < 256; i++)
         order[i] = (uint16_t)(variable[2 * i] | variable[2 * i + 1] << 8);
     for (size_t i = 0; i < count && i < 256; i++) {
-        struct uefi_load_option option = {0};
+        struct nard_load_option option = {0};
         char name[9] = "Boot";
         size_t fault = 0;
         for (int k = 0; k < 4; k++)
             name[4 + k] = "0123456789ABCDEF"[order[i] >> (12 - 4 * k) & 15];
         size_t size = read_variable(name);
-        if (uefi_load_option_read(variable, size, &option, &fault) != UEFI_OK)
+        if (nard_load_option_read(variable, size, &option, &fault) != NARD_OK)
             continue;
         const uint8_t *path = variable + option.list_start;
         compare_forms(path, option.path_length, order[i]);
-        if (uefi_device_path_text(path, option.path_length, false, false, text, MOST_UNITS, &length) == UEFI_OK) {
+        if (nard_device_path_text(path, option.path_length, false, false, text, MOST_UNITS, &length) == NARD_OK) {
             lines_put_name(order[i]);
             lines_put(" ");
             lines_put_units(text, length);
@@ -143,23 +180,28 @@ static void compare_entries(void)
 static void compare_paths(void)
 {
     size_t end = read_variable("TestPaths"), size = 0;
-    for (size_t at = 0; at < end && uefi_device_path_check(variable + at, end - at, &size) == UEFI_OK; at += size)
+    for (size_t at = 0; at < end && nard_device_path_check(variable + at, end - at, &size) == NARD_OK; at += size)
         compare_forms(variable + at, size, at);
     put_counts("paths");
 }
 
 EFI_STATUS efi_main(EFI_HANDLE handle, EFI_SYSTEM_TABLE *system_table)
 {
-    static EFI_GUID to_text = EFI_DEVICE_PATH_TO_TEXT_PROTOCOL_GUID;
-    void *found = NULL;
+    static EFI_GUID to_text = EFI_DEVICE_PATH_TO_TEXT_PROTOCOL_GUID, from_text = EFI_DEVICE_PATH_FROM_TEXT_PROTOCOL_GUID,
+                    utilities = EFI_DEVICE_PATH_UTILITIES_PROTOCOL_GUID;
+    void *found = NULL, *found_reader = NULL, *found_sizes = NULL;
     (void)handle;
     table = system_table;
     services = table->BootServices;
     services->SetWatchdogTimer(0, 0, 0, NULL);
     lines_put("\ntexts\n");
-    if (services->LocateProtocol(&to_text, NULL, &found) != EFI_SUCCESS)
+    if (services->LocateProtocol(&to_text, NULL, &found) != EFI_SUCCESS ||
+        services->LocateProtocol(&from_text, NULL, &found_reader) != EFI_SUCCESS ||
+        services->LocateProtocol(&utilities, NULL, &found_sizes) != EFI_SUCCESS)
         return EFI_UNSUPPORTED;
     firmware = found;
+    reader = found_reader;
+    sizes = found_sizes;
     compare_handles();
     compare_entries();
     compare_paths();

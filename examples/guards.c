@@ -1,0 +1,389 @@
+/*
+ * Tests each call of the library for access out of bounds, and for what it does with a buffer of each size.
+ *
+ * Each input and each buffer ends right before a page that nobody may read or write; in a second round it begins right after
+ * one. A call that writes is made with each room from 0 to two elements more than it needs, and has to return and to leave in
+ * the buffer what the header says. Each call is also made over each beginning of its inputs, where only the bounds count.
+ * Prints each row that differs, and ends with 1 if one does. A call that touches a guard page ends the program.
+ */
+#define _GNU_SOURCE
+#include <stdio.h>
+#include <string.h>
+#include <sys/mman.h>
+#include <uchar.h>
+
+#include "nardcorbel.h"
+
+enum { PAGE = 65536, AREA = 2 * PAGE, FILL = 0xa5, UNCHANGED = 99 };
+enum area { BUFFER = 3, PLACE, CHARACTER, NODE, AREAS }; /* after the areas of three inputs */
+
+/* What becomes of a buffer, and what `reason` and `place` of a row say. */
+enum rule {
+    READ,    /* there is none, or it has as many elements as `out` and becomes `out` */
+    STEP,    /* the same, and *place is `number` at first */
+    REFUSED, /* it is unchanged, whatever its room */
+    TEXT,    /* it begins with `out`, whose last element is a NUL, or is unchanged if that does not fit */
+    WHOLE,   /* the same without a NUL */
+    PREFIX,  /* as TEXT, but it holds the first elements of `out` if not all fit */
+    UTF8,    /* as PREFIX, but *place is the room if not all fit, and `reason` and `place` hold if all do */
+    FITTING  /* it holds what fits of `out`, and `reason` holds once that is more than `place` elements */
+};
+
+struct list {
+    const void *at;
+    size_t count, width;
+};
+
+struct row {
+    const char *name;
+    nard_result (*call)(void);
+    int line;
+    enum rule rule;
+    struct list in[3], before, out; /* `before`: what the buffer begins with, if it is read too */
+    nard_result reason;
+    nard_size place, number;
+    nard_unit character;
+};
+
+static nard_byte *areas[AREAS];
+static bool at_end, is_judged, failed;
+static struct {
+    void *at;
+    size_t count;
+} given[3], buffer;
+static nard_size *place, number;
+static nard_unit *character;
+
+/* Memory of an area, at its end or at its start: a copy, or bytes that show whether they are written. */
+static void *put(enum area area, const void *at, size_t size)
+{
+    nard_byte *memory = areas[area] + (at_end ? AREA - size : 0);
+    return at != NULL ? memcpy(memory, at, size) : memset(memory, FILL, size);
+}
+
+#define IN(i) given[i].at, given[i].count
+#define OUT buffer.at, buffer.count
+#define JUDGED (is_judged = true, character)
+#define CALL(name, ...)                               \
+    static nard_result call_##name(void)              \
+    {                                                 \
+        return (nard_result)nard_##name(__VA_ARGS__); \
+    }
+#define ASKS(name) CALL(name, IN(0))
+#define COMPARES(name) CALL(name, IN(0), IN(1))
+#define FINDS(name) CALL(name, IN(0), place)
+#define CHANGES(name) CALL(name, OUT, place)
+#define ADDS(name) CALL(name, OUT, IN(0), place)
+#define WRITES(name) CALL(name, IN(0), OUT, place)
+ASKS(string_is_ascii) ASKS(utf8_is_latin1) ASKS(fat_name_is_short)
+COMPARES(string_equal) COMPARES(string_order) COMPARES(string_equal_ignore_case) COMPARES(string_order_ignore_case)
+COMPARES(string_matches) COMPARES(path_equal) COMPARES(path_order) COMPARES(path_equal_ignore_case) COMPARES(path_matches)
+COMPARES(fat_name_equal) COMPARES(string_equal_until_nul) COMPARES(device_path_is_expansion)
+FINDS(string_with_nul) FINDS(string_until_nul) FINDS(packed_until_nul) FINDS(path_file_name) FINDS(path_parent_length)
+FINDS(device_path_check)
+CHANGES(string_make_uppercase) CHANGES(string_make_lowercase) CHANGES(device_path_begin)
+ADDS(path_push) ADDS(device_path_append)
+WRITES(units_from_bytes) WRITES(string_from_utf8) WRITES(utf8_from_string) WRITES(path_parent) WRITES(fat_from_string)
+WRITES(string_from_fat) WRITES(device_path_file_path)
+CALL(path_verdict, IN(0), place, JUDGED)
+CALL(path_next_component, IN(0), place, (nard_size *)buffer.at, (nard_size *)buffer.at + 1)
+CALL(path_join, IN(0), IN(1), OUT, place)
+CALL(path_normalize, IN(0), OUT, place, JUDGED)
+CALL(fat_name_check, IN(0), place, JUDGED)
+CALL(device_path_text, IN(0), (number & 1) != 0, (number & 2) != 0, OUT, place)
+CALL(load_option_read, IN(0), buffer.at, place)
+CALL(device_path_push, OUT, (nard_byte)(number >> 8), (nard_byte)number, IN(0), place)
+CALL(load_option_write, number, IN(0), IN(1), IN(2), OUT, place)
+CALL(device_path_strip_prefix, IN(0), IN(1), place)
+CALL(version)
+
+/* The node's fields are the buffer then, or its bytes if there is no node: a struct may have bytes that nobody writes. */
+static nard_result call_device_path_next_node(void)
+{
+    struct nard_device_node *node = put(NODE, NULL, sizeof *node);
+    nard_result reason = nard_device_path_next_node(IN(0), place, node);
+    nard_size fields[] = {node->device_type, node->sub_type, node->start, node->length};
+    memcpy(buffer.at, reason == NARD_OK ? (const void *)fields : node, reason == NARD_OK ? sizeof fields : sizeof *node);
+    return reason;
+}
+
+/* Units with the NUL that the compiler puts after them and without, and bytes without it. */
+#define UNITS(text) {text, sizeof(text) / sizeof(nard_unit), sizeof(nard_unit)}
+#define OPEN(text) {text, sizeof(text) / sizeof(nard_unit) - 1, sizeof(nard_unit)}
+#define BYTES(text) {text, sizeof(text) - 1, 1}
+#define NO_BYTES {NULL, 0, 1}
+#define SIZES(...) {(const nard_size[]){__VA_ARGS__}, sizeof((nard_size[]){__VA_ARGS__}) / sizeof(nard_size), sizeof(nard_size)}
+#define NO_SIZES(count) {NULL, count, sizeof(nard_size)}
+
+/* A PCI function, a file \a, and the node that ends a path; a load option of these; and nodes with a fault. */
+#define PCI "\1\1\6\0\0\x1f"
+#define FILE_A "\4\4\12\0\\\0a\0\0\0"
+#define END "\x7f\xff\4\0"
+#define OPTION "\1\0\0\0\24\0b\0\0\0" PCI FILE_A END "x"
+#define UNKNOWN "\x7f\2\3\0"
+#define BEYOND PCI "\1\1\5\0"
+
+/* Data and paths that are as long as a node and a list can state, or a byte longer. */
+static const nard_byte long_data[65532], full_node[65539] = {1, 1, 0xff, 0xff, [65535] = 0x7f, 0xff, 4};
+static const nard_byte full_list[65535] = {1, 1, 0xfb, 0xff, [65531] = 0x7f, 0xff, 4};
+static const nard_byte full_option[65545] = {[4] = 0xff, 0xff, 'b', [10] = 1, 1, 0xfb, 0xff, [65541] = 0x7f, 0xff, 4};
+static const nard_byte long_list[65536] = {1, 1, 0xfc, 0xff, [65532] = 0x7f, 0xff, 4};
+
+#define ROW(name_, rule_, ...) {.name = #name_, .call = call_##name_, .line = __LINE__, .rule = rule_, __VA_ARGS__}
+#define ANSWER(name, answer, ...) ROW(name, READ, .in = {__VA_ARGS__}, .reason = (nard_result)(answer), .place = UNCHANGED)
+#define FOUND(name, place_, ...) ROW(name, READ, .in = {__VA_ARGS__}, .reason = true, .place = place_)
+#define FAULT(name, rule, reason_, place_, ...) ROW(name, rule, .reason = NARD_##reason_, .place = place_, __VA_ARGS__)
+#define BAD_UNITS(name, rule, ...)                                                  \
+    FAULT(name, rule, NO_NUL, 2, .in = {OPEN(u"ab")}, __VA_ARGS__),                 \
+        FAULT(name, rule, INVALID_CHAR, 1, .in = {UNITS(u"a\xd800")}, __VA_ARGS__), \
+        FAULT(name, rule, NO_NUL, 0, .in = {OPEN(u"")}, __VA_ARGS__)
+#define BAD_PATHS(name, rule, ...)                                                              \
+    FAULT(name, rule, NO_END_NODE, 6, .in = {BYTES(PCI)}, __VA_ARGS__),                         \
+        FAULT(name, rule, TRUNCATED_HEADER, 6, .in = {BYTES(PCI "\x7f\xff\4")}, __VA_ARGS__),   \
+        FAULT(name, rule, UNKNOWN_END, 1, .in = {BYTES(UNKNOWN)}, __VA_ARGS__),                 \
+        FAULT(name, rule, NODE_BEYOND_END, 8, .in = {BYTES(BEYOND)}, __VA_ARGS__)
+#define PAIR(one, two, equal, order, same, caseless, matches, path, path_order_, same_path, path_matches_, fat)   \
+    ANSWER(string_equal, equal, one, two), ANSWER(string_order, order, one, two),                                \
+        ANSWER(string_equal_ignore_case, same, one, two), ANSWER(string_order_ignore_case, caseless, one, two),  \
+        ANSWER(string_matches, matches, one, two), ANSWER(path_equal, path, one, two),                           \
+        ANSWER(path_order, path_order_, one, two), ANSWER(path_equal_ignore_case, same_path, one, two),          \
+        ANSWER(path_matches, path_matches_, one, two), ANSWER(fat_name_equal, fat, one, two)
+
+static const struct row rows[] = {
+    PAIR(UNITS(u"a"), UNITS(u"a"), 1, 0, 1, 0, 1, 1, 0, 1, 1, 1),
+    PAIR(UNITS(u"a"), UNITS(u"A"), 0, 1, 1, 0, 1, 0, 1, 1, 1, 1),
+    PAIR(UNITS(u""), UNITS(u""), 1, 0, 1, 0, 1, 1, 0, 1, 1, 1),
+    PAIR(UNITS(u"\\a"), UNITS(u"a"), 0, -1, 0, 1, 0, 1, 0, 1, 1, 0),
+    PAIR(UNITS(u"ab\\c"), UNITS(u"a*"), 0, 1, 0, 1, 1, 0, 1, 0, 0, 0),
+    PAIR(UNITS(u" a. "), UNITS(u"A"), 0, -1, 0, -1, 0, 0, -1, 0, 0, 1),
+    PAIR(OPEN(u"a"), UNITS(u"a"), 0, NARD_NO_ORDER, 0, NARD_NO_ORDER, 0, 0, NARD_NO_ORDER, 0, 0, 0),
+    PAIR(UNITS(u"*"), UNITS(u"*\xdfff"), 0, NARD_NO_ORDER, 0, NARD_NO_ORDER, 0, 0, NARD_NO_ORDER, 0, 0, 0),
+    ROW(string_with_nul, READ, .in = {UNITS(u"ab")}, .place = 2),
+    FAULT(string_with_nul, READ, INTERIOR_NUL, 1, .in = {UNITS(u"a\0\xd800")}), BAD_UNITS(string_with_nul, READ),
+    ROW(string_until_nul, READ, .in = {UNITS(u"a\0\xd800")}, .place = 1), BAD_UNITS(string_until_nul, READ),
+    ANSWER(string_is_ascii, true, UNITS(u"a\x7f")), ANSWER(string_is_ascii, false, UNITS(u"a\x80")),
+    ANSWER(string_is_ascii, false, OPEN(u"a")),
+    ROW(string_make_uppercase, TEXT, .before = UNITS(u"aZ\u00e9\u00ff"), .out = UNITS(u"AZ\u00c9\u00ff")),
+    ROW(string_make_uppercase, TEXT, .before = UNITS(u"a\0b"), .out = UNITS(u"A")),
+    FAULT(string_make_uppercase, REFUSED, INVALID_CHAR, 1, .before = UNITS(u"a\xd800")),
+    ROW(string_make_lowercase, TEXT, .before = UNITS(u"aZ\u00c9\u00d7"), .out = UNITS(u"az\u00e9\u00d7")),
+    FAULT(string_make_lowercase, REFUSED, INVALID_CHAR, 1, .before = UNITS(u"A\xdfff")),
+    ROW(units_from_bytes, WHOLE, .in = {BYTES("a\0\0\xd8")}, .out = OPEN(u"a\xd800")),
+    ROW(units_from_bytes, WHOLE, .in = {BYTES("")}, .out = OPEN(u"")),
+    FAULT(units_from_bytes, REFUSED, ODD_BYTES, 1, .in = {BYTES("a\0b")}),
+    ROW(packed_until_nul, READ, .in = {BYTES("\0\xd8\0\0b")}, .place = 1),
+    FAULT(packed_until_nul, READ, NO_NUL, 2, .in = {BYTES("a\0b\0\0")}),
+    ROW(string_from_utf8, UTF8, .in = {BYTES("a\xc3\xa9\xe2\x82\xac")}, .out = UNITS(u"a\u00e9\u20ac"), .place = 3),
+    ROW(string_from_utf8, UTF8, .in = {BYTES("")}, .out = UNITS(u""), .place = 0),
+    FAULT(string_from_utf8, UTF8, INVALID_CHAR, 1, .in = {BYTES("a\xf0\x9f\x98\x80z")}, .out = UNITS(u"a\xd83d\xde00z")),
+    FAULT(string_from_utf8, UTF8, INTERIOR_NUL, 1, .in = {BYTES("\xc3\xa9\0b")}, .out = UNITS(u"\u00e9\0b")),
+    FAULT(string_from_utf8, REFUSED, NOT_UTF8, 2, .in = {BYTES("\xc3\xa9\xe2\x82")}),
+    ROW(utf8_from_string, TEXT, .in = {UNITS(u"a\u00e9\u20ac")}, .out = BYTES("a\xc3\xa9\xe2\x82\xac\0")),
+    BAD_UNITS(utf8_from_string, REFUSED, .out = NO_BYTES),
+    ANSWER(string_equal_until_nul, true, UNITS(u"ab"), BYTES("abc")),
+    ANSWER(string_equal_until_nul, true, UNITS(u"ab"), BYTES("a\0c")),
+    ANSWER(string_equal_until_nul, false, UNITS(u"ab"), BYTES("ac")),
+    ANSWER(string_equal_until_nul, false, OPEN(u"ab"), BYTES("ab")),
+    ANSWER(utf8_is_latin1, true, BYTES("a\xc3\xbf")), ANSWER(utf8_is_latin1, false, BYTES("a\xc4\x80")),
+    ANSWER(utf8_is_latin1, false, BYTES("a\xc3")),
+    ROW(path_verdict, READ, .in = {UNITS(u"\\a\\..\\b")}, .place = 7),
+    FAULT(path_verdict, READ, PATH_EMPTY, 0, .in = {UNITS(u"")}),
+    FAULT(path_verdict, READ, EMPTY_COMPONENT, 4, .in = {UNITS(u"a\\\\b")}),
+    FAULT(path_verdict, READ, ILLEGAL_CHAR, 5, .in = {UNITS(u"a\\b:*")}, .character = ':'),
+    FAULT(path_verdict, READ, CLIMBS_ABOVE_ROOT, 7, .in = {UNITS(u"a\\..\\..")}), BAD_UNITS(path_verdict, READ),
+    ROW(path_next_component, STEP, .in = {OPEN(u"\\ab\\\\")}, .number = 0, .reason = true, .place = 4, .out = SIZES(1, 2)),
+    ROW(path_next_component, STEP, .in = {OPEN(u"\\ab\\\\")}, .number = 4, .reason = true, .place = 5, .out = SIZES(4, 0)),
+    ROW(path_next_component, STEP, .in = {OPEN(u"\\ab\\\\")}, .number = 6, .reason = false, .place = 6, .out = NO_SIZES(2)),
+    ROW(path_next_component, STEP, .in = {OPEN(u"\\")}, .number = 0, .reason = false, .place = 0, .out = NO_SIZES(2)),
+    FOUND(path_file_name, 4, OPEN(u"\\ab\\c")), ANSWER(path_file_name, false, OPEN(u"\\")),
+    FOUND(path_parent_length, 3, OPEN(u"\\ab\\c")), ANSWER(path_parent_length, false, OPEN(u"\\ab")),
+    ROW(path_push, TEXT, .before = UNITS(u"\\a"), .in = {UNITS(u"b/c")}, .out = UNITS(u"\\a\\b\\c")),
+    ROW(path_push, TEXT, .before = UNITS(u"a\\"), .in = {UNITS(u"b")}, .out = UNITS(u"a\\b")),
+    ROW(path_push, TEXT, .before = UNITS(u"a/"), .in = {UNITS(u"")}, .out = UNITS(u"a/")),
+    FAULT(path_push, REFUSED, INVALID_CHAR, 1, .before = UNITS(u"a\xd800"), .in = {OPEN(u"b")}),
+    BAD_UNITS(path_push, REFUSED, .before = UNITS(u"\\a")),
+    ROW(path_join, TEXT, .in = {UNITS(u"/a"), UNITS(u"b/")}, .out = UNITS(u"\\a\\b\\")),
+    ROW(path_join, TEXT, .in = {UNITS(u"a/"), UNITS(u"")}, .out = UNITS(u"a\\")),
+    FAULT(path_join, REFUSED, NO_NUL, 2, .in = {OPEN(u"ab"), UNITS(u"\xd800")}),
+    FAULT(path_join, REFUSED, INVALID_CHAR, 0, .in = {UNITS(u"ab"), UNITS(u"\xd800")}),
+    ROW(path_parent, TEXT, .in = {UNITS(u"\\a/b\\c\\d")}, .out = UNITS(u"a\\b\\c")),
+    ROW(path_parent, TEXT, .in = {UNITS(u"a\\\\b\\\\c")}, .out = UNITS(u"a\\b\\")),
+    FAULT(path_parent, REFUSED, NO_PARENT, UNCHANGED, .in = {UNITS(u"\\a")}), BAD_UNITS(path_parent, REFUSED),
+    ROW(path_normalize, TEXT, .in = {UNITS(u"\\a\\.\\b\\..\\c")}, .out = UNITS(u"a\\c")),
+    ROW(path_normalize, TEXT, .in = {UNITS(u"a\\..")}, .out = UNITS(u"\\")),
+    FAULT(path_normalize, REFUSED, EMPTY_COMPONENT, 3, .in = {UNITS(u"a\\\\")}),
+    FAULT(path_normalize, REFUSED, ILLEGAL_CHAR, 3, .in = {UNITS(u"a\\?")}, .character = '?'),
+    BAD_UNITS(path_normalize, REFUSED),
+    ROW(fat_name_check, READ, .in = {UNITS(u" a. ")}, .place = 4),
+    FAULT(fat_name_check, READ, NAME_EMPTY, 2, .in = {UNITS(u"..")}),
+    FAULT(fat_name_check, READ, ILLEGAL_CHAR, 3, .in = {UNITS(u"a|*")}, .character = '|'), BAD_UNITS(fat_name_check, READ),
+    ANSWER(fat_name_is_short, true, UNITS(u"BOOTX64.EFI")), ANSWER(fat_name_is_short, false, UNITS(u"BOOTX64.EFI_")),
+    ANSWER(fat_name_is_short, false, OPEN(u"A")),
+    FAULT(fat_from_string, FITTING, CHAR_REPLACED, 2, .in = {UNITS(u"b c.+d")}, .out = BYTES("BC_D")),
+    ROW(fat_from_string, FITTING, .in = {UNITS(u"boot")}, .out = BYTES("BOOT")),
+    BAD_UNITS(fat_from_string, REFUSED, .out = NO_BYTES),
+    ROW(string_from_fat, TEXT, .in = {BYTES("BO\xff")}, .out = UNITS(u"BO\u00ff")),
+    ROW(string_from_fat, TEXT, .in = {BYTES("A\0B")}, .out = UNITS(u"A")),
+    ROW(string_from_fat, TEXT, .in = {BYTES("")}, .out = UNITS(u"")),
+    ROW(device_path_check, READ, .in = {BYTES(PCI END "x")}, .place = 10),
+    FAULT(device_path_check, READ, LENGTH_BELOW_HEADER, 2, .in = {BYTES("\1\1\3\0")}),
+    FAULT(device_path_check, READ, END_WITH_DATA, 2, .in = {BYTES("\x7f\xff\5\0")}), BAD_PATHS(device_path_check, READ),
+    ROW(device_path_next_node, STEP, .in = {BYTES(END PCI)}, .number = 4, .place = 10, .out = SIZES(1, 1, 8, 2)),
+    FAULT(device_path_next_node, STEP, END_OF_PATH, 10, .in = {BYTES(PCI END)}, .number = 6, .out = NO_SIZES(4)),
+    FAULT(device_path_next_node, STEP, NODE_BEYOND_END, 8, .in = {BYTES(BEYOND)}, .number = 6, .out = NO_SIZES(4)),
+    FAULT(device_path_next_node, STEP, NO_END_NODE, 6, .in = {BYTES(PCI)}, .number = 6, .out = NO_SIZES(4)),
+    FAULT(device_path_next_node, STEP, NO_END_NODE, 77, .in = {BYTES(PCI)}, .number = 77, .out = NO_SIZES(4)),
+    ROW(device_path_file_path, TEXT, .in = {BYTES(PCI FILE_A "\4\4\12\0/\0b\0\0\0" END)}, .out = UNITS(u"\\a\\b")),
+    FAULT(device_path_file_path, REFUSED, ODD_BYTES, 10, .in = {BYTES(PCI "\4\4\5\0a" END)}),
+    FAULT(device_path_file_path, REFUSED, INVALID_CHAR, 4, .in = {BYTES("\4\4\10\0\0\xd8\0\0" END)}),
+    BAD_PATHS(device_path_file_path, REFUSED),
+    ROW(device_path_text, PREFIX, .in = {BYTES(PCI FILE_A END)}, .out = UNITS(u"Pci(0x1F,0x0)/\\a")),
+    ROW(device_path_text, PREFIX, .in = {BYTES("\2\1\14\0\xd0\x41\3\12\1\0\0\0" END)}, .number = 3,
+        .out = UNITS(u"PciRoot(0x1)")),
+    ROW(device_path_text, PREFIX, .in = {BYTES(END)}, .out = UNITS(u"")), BAD_PATHS(device_path_text, REFUSED),
+    ROW(load_option_read, READ, .in = {BYTES(OPTION)}, .place = 31, .out = SIZES(1, 6, 1, 10, 20, 20, 30, 1)),
+    FAULT(load_option_read, READ, OPTION_TOO_SHORT, 5, .in = {BYTES("\1\0\0\0\24")}, .out = NO_SIZES(8)),
+    FAULT(load_option_read, READ, DESCRIPTION_WITHOUT_END, 8, .in = {BYTES("\1\0\0\0\4\0b\0\0")}, .out = NO_SIZES(8)),
+    FAULT(load_option_read, READ, LIST_BEYOND_END, 4, .in = {BYTES("\1\0\0\0\5\0\0\0" END)}, .out = NO_SIZES(8)),
+    FAULT(load_option_read, READ, EMPTY_LIST, 8, .in = {BYTES("\1\0\0\0\0\0\0\0")}, .out = NO_SIZES(8)),
+    FAULT(load_option_read, READ, UNKNOWN_END, 9, .in = {BYTES("\1\0\0\0\4\0\0\0" UNKNOWN)}, .out = NO_SIZES(8)),
+    ROW(device_path_begin, WHOLE, .out = BYTES(END)),
+    ROW(device_path_push, WHOLE, .before = BYTES(PCI END "x"), .in = {BYTES("\0\x1f")}, .number = 0x101,
+        .out = BYTES(PCI PCI END)),
+    ROW(device_path_push, WHOLE, .before = BYTES(END), .in = {BYTES("")}, .number = 0x7f01, .out = BYTES("\x7f\1\4\0" END)),
+    ROW(device_path_push, WHOLE, .before = BYTES(END), .in = {{long_data, 65531, 1}}, .number = 0x101,
+        .out = {full_node, 65539, 1}),
+    FAULT(device_path_push, REFUSED, NODE_OF_END, UNCHANGED, .before = BYTES(PCI END), .in = {BYTES("")}, .number = 0x7fff),
+    FAULT(device_path_push, REFUSED, NODE_OF_END, UNCHANGED, .before = BYTES(END), .in = {BYTES("a")}, .number = 0x7f01),
+    FAULT(device_path_push, REFUSED, NODE_TOO_LONG, UNCHANGED, .before = BYTES(END), .in = {{long_data, 65532, 1}},
+        .number = 0x101),
+    FAULT(device_path_push, REFUSED, UNKNOWN_END, 1, .before = BYTES(UNKNOWN), .in = {BYTES("")}, .number = 0x7fff),
+    ROW(device_path_append, WHOLE, .before = BYTES(PCI END), .in = {BYTES(FILE_A END PCI)}, .out = BYTES(PCI FILE_A END)),
+    ROW(device_path_append, WHOLE, .before = BYTES(PCI END), .in = {BYTES(END)}, .out = BYTES(PCI END)),
+    FAULT(device_path_append, REFUSED, UNKNOWN_END, 1, .before = BYTES(UNKNOWN), .in = {BYTES(BEYOND)}),
+    BAD_PATHS(device_path_append, REFUSED, .before = BYTES(END)),
+    ROW(load_option_write, WHOLE, .in = {UNITS(u"b\0c"), BYTES(PCI FILE_A END FILE_A), BYTES("x")}, .number = 0xf00000001,
+        .out = BYTES(OPTION)),
+    ROW(load_option_write, WHOLE, .in = {UNITS(u"b"), {full_list, 65535, 1}, BYTES("")}, .out = {full_option, 65545, 1}),
+    FAULT(load_option_write, REFUSED, NO_NUL, 1, .in = {OPEN(u"b"), BYTES(UNKNOWN), BYTES("x")}, .out = NO_BYTES),
+    FAULT(load_option_write, REFUSED, UNKNOWN_END, 1, .in = {UNITS(u"b"), BYTES(UNKNOWN), BYTES("x")}, .out = NO_BYTES),
+    FAULT(load_option_write, REFUSED, LIST_TOO_LONG, UNCHANGED, .in = {UNITS(u"b"), {long_list, 65536, 1}, BYTES("x")},
+        .out = NO_BYTES),
+    FOUND(device_path_strip_prefix, 6, BYTES(PCI FILE_A END), BYTES(PCI END)),
+    ANSWER(device_path_strip_prefix, false, BYTES(FILE_A END), BYTES(PCI END)),
+    ANSWER(device_path_strip_prefix, false, BYTES(PCI FILE_A END), BYTES(PCI)),
+    ANSWER(device_path_is_expansion, true, BYTES(PCI FILE_A END), BYTES(FILE_A END)),
+    ANSWER(device_path_is_expansion, false, BYTES(PCI FILE_A END), BYTES(FILE_A)),
+    ANSWER(device_path_is_expansion, false, BYTES(PCI FILE_A), BYTES(FILE_A END)),
+    ANSWER(version, NARD_VERSION_MAJOR << 16 | NARD_VERSION_MINOR << 8 | NARD_VERSION_PATCH, NO_BYTES),
+};
+
+static size_t least(size_t one, size_t two)
+{
+    return one < two ? one : two;
+}
+
+/* How many bytes an element of a row's buffer has. */
+static size_t width_of(const struct row *row)
+{
+    size_t width = row->before.at != NULL ? row->before.width : row->out.width;
+    return width != 0 ? width : sizeof(nard_unit);
+}
+
+/* Lays out what a row gives, `counts` elements of each input and a buffer of `room` elements, and makes its call. */
+static nard_result make(const struct row *row, const size_t *counts, size_t room)
+{
+    size_t width = width_of(row), first = UNCHANGED;
+    for (int i = 0; i < 3; i++) {
+        given[i].count = counts[i];
+        given[i].at = put(i, row->in[i].at, counts[i] * row->in[i].width);
+    }
+    buffer.count = room;
+    buffer.at = put(BUFFER, NULL, room * width);
+    if (row->before.at != NULL)
+        memcpy(buffer.at, row->before.at, least(room, row->before.count) * width);
+    place = put(PLACE, row->rule == STEP ? &row->number : &first, sizeof first);
+    character = put(CHARACTER, NULL, sizeof *character);
+    number = row->number;
+    is_judged = false;
+    return row->call();
+}
+
+static void try_room(const struct row *row, const size_t *counts, size_t room)
+{
+    static nard_byte wanted[AREA];
+    const enum rule rule = row->rule;
+    const size_t width = width_of(row), count = row->out.count;
+    const bool fits = count <= room;
+    size_t written = rule == REFUSED || row->out.at == NULL ? 0 : fits ? count : rule < PREFIX ? 0 : room;
+    size_t wanted_place = rule == TEXT || rule == PREFIX ? count - 1
+                          : rule == WHOLE                ? count
+                          : rule == FITTING              ? written
+                          : rule == UTF8 && !fits        ? room
+                                                         : row->place;
+    nard_result wanted_reason = rule == FITTING && room <= row->place        ? NARD_OK
+                                : fits || rule == REFUSED || rule == FITTING ? row->reason
+                                                                             : NARD_BUFFER_TOO_SMALL;
+    /* A buffer that cuts off what it begins with is refused for that, if it is. */
+    if (row->before.at != NULL && room < row->before.count) {
+        nard_size fault = 0;
+        nard_result reason = width == 1 ? nard_device_path_check(row->before.at, room, &fault)
+                                        : nard_string_until_nul(row->before.at, room, &fault);
+        if (reason != NARD_OK) {
+            wanted_reason = reason;
+            wanted_place = fault;
+            written = 0;
+        }
+    }
+    memset(wanted, FILL, room * width);
+    if (row->before.at != NULL)
+        memcpy(wanted, row->before.at, least(room, row->before.count) * width);
+    if (written != 0)
+        memcpy(wanted, row->out.at, written * width);
+
+    nard_result reason = make(row, counts, room);
+    bool is_so = reason == wanted_reason && *place == wanted_place && memcmp(buffer.at, wanted, room * width) == 0 &&
+                 *character == (is_judged ? row->character : FILL * 0x101);
+    for (int i = 0; i < 3; i++)
+        is_so = is_so && (counts[i] == 0 || memcmp(given[i].at, row->in[i].at, counts[i] * row->in[i].width) == 0);
+    if (!is_so) {
+        printf("%s, line %d, room %zu: WRONG: %s at %zu, for %s at %zu\n", row->name, row->line, room, nard_reason_text(reason),
+               *place, nard_reason_text(wanted_reason), wanted_place);
+        failed = true;
+    }
+}
+
+static void try_row(const struct row *row)
+{
+    size_t counts[] = {row->in[0].count, row->in[1].count, row->in[2].count};
+    size_t needed = row->out.count < row->before.count ? row->before.count : row->out.count;
+    bool is_read = row->rule == READ || row->rule == STEP;
+    for (size_t room = is_read ? needed : 0; room <= (is_read ? needed : needed + 2); room++) {
+        try_room(row, counts, room);
+        if (room == 8 && needed > PAGE / 2)
+            room = needed - 3;
+    }
+    for (int i = 0; i < 3; i++) {
+        for (size_t count = 0; count < row->in[i].count && row->in[i].count < PAGE / 2; count++) {
+            counts[i] = count;
+            make(row, counts, needed);
+        }
+        counts[i] = row->in[i].count;
+    }
+}
+
+int main(void)
+{
+    for (int i = 0; i < AREAS; i++) {
+        nard_byte *pages = mmap(NULL, AREA + 2 * PAGE, PROT_READ | PROT_WRITE, MAP_PRIVATE | MAP_ANONYMOUS, -1, 0);
+        if (pages == MAP_FAILED || mprotect(pages, PAGE, PROT_NONE) != 0 || mprotect(pages + PAGE + AREA, PAGE, PROT_NONE) != 0)
+            return 2;
+        areas[i] = pages + PAGE;
+    }
+    for (int turn = 0; turn < 2; turn++) {
+        at_end = turn == 0;
+        for (size_t i = 0; i < sizeof rows / sizeof rows[0]; i++)
+            try_row(&rows[i]);
+    }
+    return failed;
+}
