@@ -1,0 +1,315 @@
+//! Device paths and load options, read where they lie.
+
+use crate::error::{check, check_bytes, Error};
+use crate::path::Path;
+use crate::strs::CStr16;
+use crate::sys;
+
+/// A device path in borrowed bytes: nodes one after the other, and the one that ends it.
+#[derive(Clone, Copy, Debug, PartialEq, Eq, Hash)]
+pub struct DevicePath<'a>(&'a [u8]);
+
+impl<'a> DevicePath<'a> {
+    /// Reads the device path that bytes begin with, and ignores what follows it.
+    ///
+    /// Fails for the first malformed node. The error's place is the offset of the bytes at fault.
+    pub fn from_bytes(bytes: &'a [u8]) -> Result<Self, Error> {
+        let mut length = 0;
+        // SAFETY: the pointer and the count are those of a slice; `length` is a local.
+        let reason =
+            unsafe { sys::nard_device_path_check(bytes.as_ptr(), bytes.len(), &mut length) };
+        check(reason, length)?;
+        Ok(DevicePath(&bytes[..length]))
+    }
+
+    /// Returns all bytes of the path, its end node included.
+    pub fn as_bytes(&self) -> &'a [u8] {
+        self.0
+    }
+
+    /// Iterates over the nodes, without the one that ends the path.
+    pub fn node_iter(&self) -> DevicePathNodeIterator<'a> {
+        DevicePathNodeIterator {
+            bytes: self.0,
+            offset: 0,
+        }
+    }
+
+    /// Writes the names of all nodes that name files to the start of a buffer, as one path, and returns it.
+    ///
+    /// Fails if such a name is not a string, or if the buffer is too small.
+    pub fn file_path_in_buf<'b>(&self, buffer: &'b mut [u16]) -> Result<&'b Path, Error> {
+        let mut length = 0;
+        // SAFETY: the pointers and the counts are those of slices, the second not shared; `length` is a local.
+        let reason = unsafe {
+            sys::nard_device_path_file_path(
+                self.0.as_ptr(),
+                self.0.len(),
+                buffer.as_mut_ptr(),
+                buffer.len(),
+                &mut length,
+            )
+        };
+        check(reason, length)?;
+        Ok(Path::new(CStr16::of(&buffer[..=length])))
+    }
+
+    /// Formats the path as text, such as `PciRoot(0x0)/Pci(0x1F,0x2)`, into a buffer, and returns its UTF-16 without the NUL.
+    ///
+    /// `display_only` asks for shorter forms that cannot be read back, `allow_shortcuts` for names such as `VenPcAnsi()`.
+    pub fn text_in_buf<'b>(
+        &self,
+        display_only: bool,
+        allow_shortcuts: bool,
+        buffer: &'b mut [u16],
+    ) -> Result<&'b [u16], Error> {
+        let mut length = 0;
+        // SAFETY: the pointers and the counts are those of slices, the second not shared; `length` is a local.
+        let reason = unsafe {
+            sys::nard_device_path_text(
+                self.0.as_ptr(),
+                self.0.len(),
+                display_only,
+                allow_shortcuts,
+                buffer.as_mut_ptr(),
+                buffer.len(),
+                &mut length,
+            )
+        };
+        check(reason, length)?;
+        Ok(&buffer[..length])
+    }
+}
+
+impl<'a> DevicePath<'a> {
+    /// Returns the path without the nodes of another one at its start, or `None` if it does not begin with them.
+    pub fn strip_prefix(&self, prefix: DevicePath<'_>) -> Option<DevicePath<'a>> {
+        let mut offset = 0;
+        // SAFETY: the pointers and the counts are those of slices; `offset` is a local.
+        let begins = unsafe {
+            sys::nard_device_path_strip_prefix(
+                self.0.as_ptr(),
+                self.0.len(),
+                prefix.0.as_ptr(),
+                prefix.0.len(),
+                &mut offset,
+            )
+        };
+        begins.then(|| DevicePath(&self.0[offset..]))
+    }
+
+    /// Returns whether a short form, such as `HD(..)/\file`, stands for this full path.
+    pub fn is_expansion_of(&self, short: DevicePath<'_>) -> bool {
+        // SAFETY: the pointers and the counts are those of slices.
+        unsafe {
+            sys::nard_device_path_is_expansion(
+                self.0.as_ptr(),
+                self.0.len(),
+                short.0.as_ptr(),
+                short.0.len(),
+            )
+        }
+    }
+}
+
+/// Builds a device path in a buffer.
+#[derive(Debug)]
+pub struct DevicePathBuilder<'a> {
+    buffer: &'a mut [u8],
+    length: usize,
+}
+
+impl<'a> DevicePathBuilder<'a> {
+    /// Starts with a path without nodes. Fails if the buffer has fewer than 4 bytes.
+    pub fn with_buf(buffer: &'a mut [u8]) -> Result<Self, Error> {
+        let mut length = 0;
+        // SAFETY: the pointer and the count are those of a slice that is not shared; `length` is a local.
+        let reason =
+            unsafe { sys::nard_device_path_begin(buffer.as_mut_ptr(), buffer.len(), &mut length) };
+        check_bytes(reason, length)?;
+        Ok(DevicePathBuilder { buffer, length })
+    }
+
+    /// Adds a node before the end.
+    ///
+    /// Fails if an end node would stand before the end, or if the data or the path is too long. Then the path is unchanged.
+    pub fn push(&mut self, device_type: u8, sub_type: u8, data: &[u8]) -> Result<(), Error> {
+        let mut length = 0;
+        // SAFETY: the pointers and the counts are those of slices, the first not shared; `length` is a local.
+        let reason = unsafe {
+            sys::nard_device_path_push(
+                self.buffer.as_mut_ptr(),
+                self.buffer.len(),
+                device_type,
+                sub_type,
+                data.as_ptr(),
+                data.len(),
+                &mut length,
+            )
+        };
+        check_bytes(reason, length)?;
+        self.length = length;
+        Ok(())
+    }
+
+    /// Adds all nodes of another path before the end. Fails if the buffer is too small; then the path is unchanged.
+    pub fn append(&mut self, path: DevicePath<'_>) -> Result<(), Error> {
+        let mut length = 0;
+        // SAFETY: the pointers and the counts are those of slices, the first not shared; `length` is a local.
+        let reason = unsafe {
+            sys::nard_device_path_append(
+                self.buffer.as_mut_ptr(),
+                self.buffer.len(),
+                path.0.as_ptr(),
+                path.0.len(),
+                &mut length,
+            )
+        };
+        check_bytes(reason, length)?;
+        self.length = length;
+        Ok(())
+    }
+
+    /// Returns the path, borrowed from the buffer.
+    pub fn finalize(self) -> DevicePath<'a> {
+        DevicePath(&self.buffer[..self.length])
+    }
+}
+
+/// A node of a device path.
+#[derive(Clone, Copy, Debug, PartialEq, Eq, Hash)]
+pub struct DevicePathNode<'a> {
+    /// The type.
+    pub device_type: u8,
+
+    /// The sub-type.
+    pub sub_type: u8,
+
+    /// The data after the header.
+    pub data: &'a [u8],
+}
+
+/// Iterates over the nodes of a device path, first to last.
+#[derive(Clone, Debug)]
+pub struct DevicePathNodeIterator<'a> {
+    bytes: &'a [u8],
+    offset: usize,
+}
+
+impl<'a> Iterator for DevicePathNodeIterator<'a> {
+    type Item = DevicePathNode<'a>;
+
+    fn next(&mut self) -> Option<DevicePathNode<'a>> {
+        let (mut offset, mut node) = (self.offset, sys::DeviceNode::default());
+        // SAFETY: the pointer and the count are those of a slice; the others are locals.
+        let reason = unsafe {
+            sys::nard_device_path_next_node(
+                self.bytes.as_ptr(),
+                self.bytes.len(),
+                &mut offset,
+                &mut node,
+            )
+        };
+        if reason != sys::OK {
+            return None;
+        }
+        self.offset = offset;
+        Some(DevicePathNode {
+            device_type: node.device_type,
+            sub_type: node.sub_type,
+            data: &self.bytes[node.start..node.start + node.length],
+        })
+    }
+}
+
+/// A load option in borrowed bytes: the value of a variable `Boot####`.
+#[derive(Clone, Copy, Debug)]
+pub struct LoadOption<'a> {
+    bytes: &'a [u8],
+    parts: sys::LoadOption,
+}
+
+impl<'a> LoadOption<'a> {
+    /// Reads a load option. Fails for the first fault; the error's place is its offset.
+    pub fn from_bytes(bytes: &'a [u8]) -> Result<Self, Error> {
+        let (mut parts, mut offset) = (sys::LoadOption::default(), 0);
+        // SAFETY: the pointer and the count are those of a slice; the others are locals.
+        let reason = unsafe {
+            sys::nard_load_option_read(bytes.as_ptr(), bytes.len(), &mut parts, &mut offset)
+        };
+        check(reason, offset)?;
+        Ok(LoadOption { bytes, parts })
+    }
+
+    /// Returns the attributes.
+    pub fn attributes(&self) -> u32 {
+        // The library says that these are 32 bits.
+        self.parts.attributes as u32
+    }
+
+    /// Returns whether firmware tries the option by itself: the first bit of the attributes.
+    pub fn is_active(&self) -> bool {
+        self.attributes() % 2 == 1
+    }
+
+    /// Iterates over the code units of the description, without its NUL. They may be surrogates.
+    pub fn description_units(&self) -> impl Iterator<Item = u16> + 'a {
+        let (start, length) = (self.parts.description_start, self.parts.description_length);
+        self.bytes[start..start + 2 * length]
+            .chunks_exact(2)
+            .map(|it| u16::from_le_bytes([it[0], it[1]]))
+    }
+
+    /// Iterates over the characters of the description. U+FFFD stands for each unpaired surrogate.
+    pub fn description_chars(&self) -> impl Iterator<Item = char> + 'a {
+        char::decode_utf16(self.description_units())
+            .map(|it| it.unwrap_or(char::REPLACEMENT_CHARACTER))
+    }
+
+    /// Iterates over the device paths of the file path list. There is at least one.
+    pub fn device_paths(&self) -> impl Iterator<Item = DevicePath<'a>> {
+        let (start, length) = (self.parts.list_start, self.parts.list_length);
+        let mut rest = &self.bytes[start..start + length];
+        core::iter::from_fn(move || {
+            let path = DevicePath::from_bytes(rest).ok()?;
+            rest = &rest[path.as_bytes().len()..];
+            Some(path)
+        })
+    }
+
+    /// Returns the bytes after the file path list.
+    pub fn optional_data(&self) -> &'a [u8] {
+        let (start, length) = (self.parts.optional_start, self.parts.optional_length);
+        &self.bytes[start..start + length]
+    }
+
+    /// Writes a load option of one device path to the start of a buffer, and returns how many bytes it has.
+    ///
+    /// Fails if the device path has more than 65,535 bytes, or if the buffer is too small. Then the buffer is unchanged.
+    pub fn write(
+        attributes: u32,
+        description: &CStr16,
+        path: DevicePath<'_>,
+        optional: &[u8],
+        buffer: &mut [u8],
+    ) -> Result<usize, Error> {
+        let (units, bytes, mut length) = (description.to_u16_slice_with_nul(), path.0, 0);
+        // SAFETY: the pointers and the counts are those of slices, the last not shared; `length` is a local.
+        let reason = unsafe {
+            sys::nard_load_option_write(
+                attributes as usize,
+                units.as_ptr(),
+                units.len(),
+                bytes.as_ptr(),
+                bytes.len(),
+                optional.as_ptr(),
+                optional.len(),
+                buffer.as_mut_ptr(),
+                buffer.len(),
+                &mut length,
+            )
+        };
+        check_bytes(reason, length)?;
+        Ok(length)
+    }
+}

@@ -1,0 +1,126 @@
+//! Why a call refuses its input.
+
+use crate::sys;
+use core::fmt;
+
+/// Why a call refuses its input, and where.
+#[derive(Clone, Copy, Debug, PartialEq, Eq)]
+pub struct Error {
+    /// What is wrong.
+    pub reason: Reason,
+
+    /// For [`Reason::BufferTooSmall`], how many elements the buffer needs. Otherwise the index or offset of the fault in the input.
+    /// It has no meaning where the whole path or node is at fault.
+    pub place: usize,
+}
+
+macro_rules! reasons {
+    ($($name:ident = $number:ident, $text:literal;)*) => {
+        /// What is wrong with an input.
+        #[derive(Clone, Copy, Debug, PartialEq, Eq)]
+        #[non_exhaustive]
+        pub enum Reason {
+            $(
+                #[doc = $text]
+                $name,
+            )*
+            /// A number that this version of the crate does not know.
+            Unknown(u32),
+        }
+
+        impl Reason {
+            pub(crate) fn of(number: u32) -> Self {
+                match number {
+                    $(sys::$number => Reason::$name,)*
+                    other => Reason::Unknown(other),
+                }
+            }
+        }
+
+        impl fmt::Display for Reason {
+            fn fmt(&self, f: &mut fmt::Formatter<'_>) -> fmt::Result {
+                match self {
+                    $(Reason::$name => f.write_str($text),)*
+                    Reason::Unknown(number) => write!(f, "unknown reason {number}"),
+                }
+            }
+        }
+    };
+}
+
+reasons! {
+    NoNul = NO_NUL, "no NUL ends the string";
+    InvalidChar = INVALID_CHAR, "the string holds a surrogate or a character above U+FFFF";
+    InteriorNul = INTERIOR_NUL, "something follows the NUL";
+    BufferTooSmall = BUFFER_TOO_SMALL, "the buffer is too small";
+    NotUtf8 = NOT_UTF8, "the bytes are not UTF-8";
+    OddBytes = ODD_BYTES, "the number of bytes is odd";
+    PathEmpty = PATH_EMPTY, "the path is empty";
+    EmptyComponent = EMPTY_COMPONENT, "a component of the path is empty";
+    IllegalChar = ILLEGAL_CHAR, "a component holds a character that file names may not hold";
+    ClimbsAboveRoot = CLIMBS_ABOVE_ROOT, "the path climbs above the root";
+    NoParent = NO_PARENT, "the path has no parent";
+    NoEndNode = NO_END_NODE, "no end node ends the device path";
+    TruncatedHeader = TRUNCATED_HEADER, "the bytes end in the header of a node";
+    UnknownEnd = UNKNOWN_END, "an end node ends neither a path nor an instance";
+    LengthBelowHeader = LENGTH_BELOW_HEADER, "the length of a node is less than that of its header";
+    EndWithData = END_WITH_DATA, "an end node has data";
+    NodeBeyondEnd = NODE_BEYOND_END, "a node is longer than the bytes that are left";
+    OptionTooShort = OPTION_TOO_SHORT, "the load option ends in its header";
+    DescriptionWithoutEnd = DESCRIPTION_WITHOUT_END, "no NUL ends the description";
+    ListBeyondEnd = LIST_BEYOND_END, "the file path list is longer than the bytes that are left";
+    EmptyList = EMPTY_LIST, "the file path list is empty";
+    NameEmpty = NAME_EMPTY, "the name has nothing but spaces and dots";
+    NameTooLong = NAME_TOO_LONG, "the name has more than 255 characters";
+    NodeOfEnd = NODE_OF_END, "an end node may not stand before the end of a device path";
+    NodeTooLong = NODE_TOO_LONG, "the node is longer than its header can state";
+    ListTooLong = LIST_TOO_LONG, "the file path list is longer than its header can state";
+}
+
+impl fmt::Display for Error {
+    fn fmt(&self, f: &mut fmt::Formatter<'_>) -> fmt::Result {
+        match self.reason {
+            Reason::BufferTooSmall => {
+                write!(f, "{}: it needs room for {}", self.reason, self.place)
+            }
+            Reason::PathEmpty
+            | Reason::EmptyComponent
+            | Reason::IllegalChar
+            | Reason::ClimbsAboveRoot
+            | Reason::NoParent
+            | Reason::NodeOfEnd
+            | Reason::NodeTooLong
+            | Reason::ListTooLong => self.reason.fmt(f),
+            reason => write!(f, "{reason}, at {}", self.place),
+        }
+    }
+}
+
+impl core::error::Error for Error {}
+
+/// The error of a call that writes bytes, and no NUL.
+pub(crate) fn check_bytes(number: u32, place: usize) -> Result<(), Error> {
+    match number {
+        sys::OK => Ok(()),
+        _ => Err(Error {
+            reason: Reason::of(number),
+            place,
+        }),
+    }
+}
+
+/// The error of any other call.
+pub(crate) fn check(number: u32, place: usize) -> Result<(), Error> {
+    match number {
+        sys::OK => Ok(()),
+        // A text also needs room for its NUL.
+        sys::BUFFER_TOO_SMALL => Err(Error {
+            reason: Reason::BufferTooSmall,
+            place: place.saturating_add(1),
+        }),
+        _ => Err(Error {
+            reason: Reason::of(number),
+            place,
+        }),
+    }
+}
