@@ -29,6 +29,8 @@ pub mod NamedFiles
 pub mod Beginnings
 pub mod PathsWithoutCase
 mod LastPlaces
+pub mod PlacedComponents
+mod Slashes
 pub mod FaultPlaces
 mod Renamed
 mod Refusals

@@ -1,22 +1,20 @@
 -- The names of a normal path, found from the last piece on: what each piece changes.
-use Rattle.std.proofs.Common.{◌≡◌, ◌≢◌, ◌≤◌, length, ℕ, zero, suc, List, [], ◌∷◌, ◌++◌, All, inl, inr, append_assoc, refl, sym, ap, ◌∙◌, subst, arith, replicate, None}
+use Rattle.std.proofs.Common.{◌≡◌, ◌≤◌, length, ℕ, zero, suc, List, [], ◌∷◌, ◌++◌, All, inl, inr, append_assoc, refl, sym, ap, ◌∙◌, subst, arith, replicate, None}
 use Rattle.std.proofs.lemmas.List.{append-nil}
 use Rattle.std.proofs.lemmas.List.Elements.{All-head}
-use Rattle.std.specs.List.{slice_split}
 use Rattle.uefi_path.specs.Components.{components_of, joined}
 use Rattle.uefi_path.specs.NamesLeft.{names_before}
 use Rattle.uefi_path.specs.NormalForms.{IsName, before_normal, before_piece, dot, dot_dot, kind, normal_of}
 use Rattle.uefi_path.specs.declared.kinds.Kind.{Kind}
 use Rattle.uefi_path.specs.declared.kinds.Kind.TheVariants.{Dot, DotDot, Name}
-use Rattle.uefi_path.specs.Separators.{canonical, is_separator}
 use Rattle.uefi_path.specs.Verdicts.{IsGood, verdict}
-use Rattle.uefi_text.specs.Units.{IsText, IsTextUnit}
+use Rattle.uefi_text.specs.Units.{IsText}
 use Rattle.uefi_path.proofs.Depth.{names_of_normal}
 use Rattle.uefi_path.proofs.NameTails.{normal_no_longer}
 use Rattle.uefi_path.proofs.NormalPaths.{All-normal}
-use Rattle.uefi_path.proofs.Parents.{All-slice_split}
+use Rattle.uefi_path.proofs.ParentSizes.{units-canonical}
 use Rattle.uefi_path.proofs.Rewriting.{NormalForm-normal_of, name_kind, normal_of-step}
-use Rattle.uefi_path.proofs.Splitting.{AreComponents-components_of, slice_split-canonical}
+use Rattle.uefi_path.proofs.Splitting.{AreComponents-components_of}
 use Rattle.uefi_path.proofs.Validity.{valid-accepted, valid-components}
 
 -- a name after all others stays
@@ -81,43 +79,40 @@ none_before zero are = refl
 none_before (suc climbs) are = absurd ((All-head IsName dot_dot (normal_of (replicate climbs dot_dot)) are).1 refl)
 
 -- all of them, before the first one is taken
-from_start : (text us : List ℕ) → us ≡ canonical text → us ≢ []
-    → names_before (slice_split is_separator us) 0 ≡ normal_of (components_of text)
-from_start text us e some =
-    ap normal_of (append-nil (slice_split is_separator us) ∙ slice_split-canonical text us e some)
+pub from_start : (text : List ℕ) (pieces : List (List ℕ)) → pieces ≡ components_of text
+    → names_before pieces 0 ≡ normal_of (components_of text)
+from_start text pieces e = ap normal_of (append-nil pieces ∙ e)
 
 -- those of a valid path are names
-pub valid_names : (text us : List ℕ) → verdict text ≡ None → us ≡ canonical text → us ≢ []
-    → All IsName (names_before (slice_split is_separator us) 0)
-valid_names text us valid e some =
-    subst (All IsName) (sym (from_start text us e some))
-    (names_of_normal (components_of text) (valid-accepted text valid))
+pub valid_names : (text : List ℕ) (pieces : List (List ℕ)) → verdict text ≡ None → pieces ≡ components_of text
+    → All IsName (names_before pieces 0)
+valid_names text pieces valid e =
+    subst (All IsName) (sym (from_start text pieces e)) (names_of_normal (components_of text) (valid-accepted text valid))
 
 -- and good ones
-pub good_names : (text us : List ℕ) → verdict text ≡ None → us ≡ canonical text → us ≢ []
-    → All IsGood (names_before (slice_split is_separator us) 0)
-good_names text us valid e some =
-    subst (All IsGood) (sym (from_start text us e some))
+pub good_names : (text : List ℕ) (pieces : List (List ℕ)) → verdict text ≡ None → pieces ≡ components_of text
+    → All IsGood (names_before pieces 0)
+good_names text pieces valid e =
+    subst (All IsGood) (sym (from_start text pieces e))
     (All-normal IsGood (components_of text) (normal_of (components_of text))
     (NormalForm-normal_of (components_of text)) (valid-components text valid))
 
 -- and texts, as the path is
-pub text_names : (text us : List ℕ) → us ≡ canonical text → us ≢ [] → IsText us
-    → All IsText (names_before (slice_split is_separator us) 0)
-text_names text us e some is_text =
-    subst (All IsText) (sym (from_start text us e some))
+pub text_names : (text : List ℕ) (pieces : List (List ℕ)) → pieces ≡ components_of text → All IsText pieces
+    → All IsText (names_before pieces 0)
+text_names text pieces e texts =
+    subst (All IsText) (sym (from_start text pieces e))
     (All-normal IsText (components_of text) (normal_of (components_of text))
-    (NormalForm-normal_of (components_of text))
-    (subst (All IsText) (slice_split-canonical text us e some) (All-slice_split IsTextUnit us is_text)))
+    (NormalForm-normal_of (components_of text)) (subst (All IsText) e texts))
 
 -- and no longer than the text
-pub names_no_longer : (text us : List ℕ) → us ≡ canonical text → us ≢ []
-    → length (joined (names_before (slice_split is_separator us) 0)) ≤ length us
-names_no_longer text us e some =
+pub names_no_longer : (text : List ℕ) (pieces : List (List ℕ)) → pieces ≡ components_of text
+    → length (joined (names_before pieces 0)) ≤ length text
+names_no_longer text pieces e =
     omega (
       arith,
-      ap (λ ps. length (joined ps)) (from_start text us e some),
+      ap (λ ps. length (joined ps)) (from_start text pieces e),
       normal_no_longer (components_of text),
       ap length (AreComponents-components_of text).join,
-      ap length e,
+      units-canonical text,
     )

@@ -18,5 +18,6 @@ pub mod WithoutCase
 pub mod FileNames
 pub mod Ancestors
 pub mod Popping
+pub mod ComponentIndices
 pub mod FaultPlaces
 pub mod Renaming

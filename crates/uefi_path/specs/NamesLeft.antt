@@ -1,6 +1,6 @@
 -- The names of a normal path that are still to come, where they are found from the last one on.
 use Rattle.std.specs.Prelude.{ℕ, ◌+◌, ◌<◌, ◌^◌, List, ◌++◌, All, replicate}
-use Rattle.uefi_path.specs.CutPieces.{are_left, pieces_left}
+use Rattle.uefi_path.specs.CutPieces.{are_left, slashed_left}
 use Rattle.uefi_path.specs.NormalForms.{IsName, dot_dot, normal_of}
 use Rattle.uefi_path.specs.declared.names.NamesFromLast.{NamesFromLast}
 
@@ -9,7 +9,7 @@ abbrev pub names_before : List (List ℕ) → ℕ → List (List ℕ)
 names_before pieces climbs = normal_of (pieces ++ replicate climbs dot_dot)
 
 abbrev pub names_left : NamesFromLast → List (List ℕ)
-names_left names = names_before (pieces_left names.rest) names.climbs
+names_left names = names_before (slashed_left names.rest) names.climbs
 
 -- they are names, and the `..` can be counted
 pub record IsWalk (names : NamesFromLast) : Type 0 where

@@ -3,6 +3,8 @@ use Rattle.std.specs.Prelude.{ℕ, List, ◌++◌, codes}
 use Rattle.std.specs.Fmt.{decimal}
 use Rattle.uefi_path.specs.declared.normal.NormalizeError.{NormalizeError}
 use Rattle.uefi_path.specs.declared.normal.NormalizeError.TheVariants.{Invalid, OutOfMemory}
+use Rattle.uefi_path.specs.declared.written.NormalWriteError.{NormalWriteError}
+use Rattle.uefi_path.specs.declared.written.NormalWriteError.TheVariants as write
 use Rattle.uefi_path.specs.declared.validation.PathError.{PathError}
 use Rattle.uefi_path.specs.declared.validation.PathError.TheVariants.{ClimbsAboveRoot, Empty, EmptyComponent, IllegalChar}
 
@@ -18,3 +20,9 @@ path_error_text ClimbsAboveRoot = codes "path climbs above the root"
 abbrev pub normalize_error_text : NormalizeError → List ℕ
 normalize_error_text (Invalid error) = path_error_text error
 normalize_error_text OutOfMemory = codes "out of memory"
+
+-- and where it is not written into a buffer
+abbrev pub normal_write_error_text : NormalWriteError → List ℕ
+normal_write_error_text (write.Invalid error) = path_error_text error
+normal_write_error_text (write.BufferTooSmall needed) =
+    codes "buffer too small: the normal path needs " ++ decimal needed ++ codes " units"

@@ -27,11 +27,8 @@ fn find_path_fault(path: Path<'_>) -> Option<PathFault>
         let error = PathError::Empty;
         return Some(PathFault { error, place: 0 });
     }
-    // A clause of this call says how long the path can be.
-    let _text = path.to_cstr16().as_slice();
-    let mut place = path.canonical_start();
     let mut depth = 0;
-    for component in path.components() {
+    for (place, component) in path.component_indices() {
         if let Some(error) = find_fault(component) {
             return Some(PathFault { error, place });
         }
@@ -40,7 +37,6 @@ fn find_path_fault(path: Path<'_>) -> Option<PathFault>
             return Some(PathFault { error, place });
         };
         depth = left;
-        place += component.len() + 1;
     }
     None
 }

@@ -37,6 +37,7 @@
 
 mod ancestors;
 mod caseless;
+mod component_indices;
 mod components;
 mod counted;
 mod fault_places;
@@ -48,6 +49,7 @@ mod normal;
 mod path;
 mod pathbuf;
 mod separators;
+mod slashed;
 #[doc(hidden)]
 pub mod slices;
 mod tails;
@@ -55,6 +57,7 @@ mod validation;
 mod written;
 
 pub use ancestors::Ancestors;
+pub use component_indices::ComponentIndices;
 pub use components::Components;
 pub use counted::CountedUnits;
 pub use fault_places::{PathFault, validate_path_at};
@@ -63,3 +66,4 @@ pub use path::{Path, separator_str};
 pub use pathbuf::PathBuf;
 pub use uefi_text::chars::{CHARACTER_DENY_LIST, SEPARATOR};
 pub use validation::{PathError, validate_path};
+pub use written::NormalWriteError;

@@ -4,10 +4,10 @@ ghost use Rattle.std.specs.Prelude.{◌≡◌, ◌↔◌, ◌+◌, ◌-◌, ◌<
 ghost use Rattle.std.specs.List.{slice_split};
 ghost use Rattle.std.specs.Option.{option_to_list};
 ghost use Rattle.uefi_path.specs.Components.{IsPiece, components_of, joined};
-ghost use Rattle.uefi_path.specs.CutPieces.{are_left, pieces_left};
+ghost use Rattle.uefi_path.specs.CutPieces.{are_left, slashed_left};
 ghost use Rattle.uefi_path.specs.NamesLeft.{IsWalk, names_before, names_left};
 ghost use Rattle.uefi_path.specs.NormalForms.{normal_of};
-ghost use Rattle.uefi_path.specs.Separators.{is_separator, separator};
+ghost use Rattle.uefi_path.specs.Separators.{separator, with_separators};
 ghost use Rattle.uefi_path.specs.Verdicts.{IsGood, verdict};
 ghost use Rattle.uefi_path.specs.Views.{path_text};
 ghost use Rattle.uefi_text.specs.Units.{IsText};
@@ -15,7 +15,7 @@ ghost use Rattle.uefi_text.specs.Views.{units_of};
 
 use crate::kinds::{Kind, kind_of};
 use crate::path::Path;
-use crate::separators::cut_last;
+use crate::slashed::{cut_last, to_cut};
 use uefi_text::strs::Char16Slice;
 
 /// The names of a normal path that are still to come, from the last one on. In contracts they are
@@ -30,24 +30,20 @@ pub(crate) struct NamesFromLast<'a> {
 }
 
 impl<'a> NamesFromLast<'a> {
-    /// Those of a valid path.
+    /// Those of a path that is valid once its slashes are separators.
     pub(crate) fn of(path: Path<'a>) -> NamesFromLast<'a>
-        requires { verdict (path_text path) ≡ None }
-        ensures names { names_left result ≡ normal_of (components_of (path_text path.entry)) }
+        requires { verdict (with_separators (path_text path)) ≡ None }
+        ensures names { names_left result
+            ≡ normal_of (components_of (with_separators (path_text path.entry))) }
         ensures walk { IsWalk result }
         ensures good { All IsGood (names_left result) }
         ensures texts { All IsText (names_left result) }
         ensures bound { length (joined (names_left result)) + 1 < 2 ^ 64 }
     {
-        let text = path.canonical();
-        if text.is_empty() {
-            return NamesFromLast {
-                rest: None,
-                climbs: 0,
-            };
-        }
+        // A clause of this call says how long the path can be.
+        let _text = path.to_cstr16().as_slice();
         NamesFromLast {
-            rest: Some(text),
+            rest: to_cut(path),
             climbs: 0,
         }
     }

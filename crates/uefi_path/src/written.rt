@@ -1,18 +1,22 @@
 //! Paths that are made in a caller's buffer: whole, or not at all. No call takes memory.
 ghost use Rattle.std.specs.Prelude.{◌≡◌, ◌+◌, ◌-◌, ◌<◌, ◌≤◌, ◌^◌, [], ◌∷◌, ◌++◌, All, IfSome, drop, if◌then◌else◌, length, nat_lt, option_map, take};
-ghost use Rattle.uefi_path.specs.Components.{IsPiece, joined};
+ghost use Rattle.uefi_path.specs.Components.{IsPiece, components_of, joined};
+ghost use Rattle.uefi_path.specs.NormalForms.{normal_of, normal_text};
 ghost use Rattle.uefi_path.specs.NamesLeft.{IsWalk, names_left};
 ghost use Rattle.uefi_path.specs.Parents.{parent_of_components, parent_text};
 ghost use Rattle.uefi_path.specs.Separators.{separator, with_separators};
-ghost use Rattle.uefi_path.specs.Verdicts.{IsGood};
+ghost use Rattle.uefi_path.specs.Verdicts.{IsGood, verdict};
 ghost use Rattle.uefi_path.specs.Views.{components_left, path_text};
-ghost use Rattle.uefi_path.specs.Writing.{normal_path, written_len, written_over};
+ghost use Rattle.uefi_path.specs.Writing.{normal_path, normal_written, written_len, written_over};
 
 use crate::components::Components;
 use crate::names::NamesFromLast;
 use crate::path::Path;
+use crate::slashed::judge_slashed;
 use crate::slices::{write_part, write_with_separators};
-use crate::validation::validate_path;
+use crate::validation::PathError;
+use std::error::Error;
+use std::fmt;
 use uefi_text::chars::SEPARATOR;
 
 /// Writes a part of a path at its place in a buffer, each slash replaced, and a separator before it
@@ -109,6 +113,35 @@ pub(crate) fn write_names(places: &mut [u16], mut names: NamesFromLast<'_>) -> u
     len
 }
 
+/// Why no normal path is written.
+#[derive(Clone, Copy, Debug, PartialEq, Eq)]
+pub enum NormalWriteError {
+    /// The path is not valid, for this reason.
+    Invalid(PathError),
+
+    /// The path is valid. Its normal path has this many units, and the buffer fewer places.
+    BufferTooSmall(usize),
+}
+
+/// Writes the reason.
+impl fmt::Display for NormalWriteError {
+    ghost use Rattle.std.specs.Prelude.{Some};
+    ghost use Rattle.uefi_path.specs.PathErrors.{normal_write_error_text};
+
+    ghost output = { λ error. Some (normal_write_error_text error) };
+
+    fn fmt<W: fmt::Write>(&self, f: &mut fmt::Formatter<W>) -> fmt::Result {
+        match self {
+            NormalWriteError::Invalid(error) => fmt::Display::fmt(error, f),
+            NormalWriteError::BufferTooSmall(needed) => {
+                write!(f, "buffer too small: the normal path needs {needed} units")
+            }
+        }
+    }
+}
+
+impl Error for NormalWriteError {}
+
 /// Paths in a caller's buffer. No call takes memory.
 impl<'a> Path<'a> {
     /// Writes the parent, which [`Path::parent`] makes, to the start of a buffer, and returns how
@@ -134,28 +167,32 @@ impl<'a> Path<'a> {
         Ok(Some(len))
     }
 
-    /// Writes the normal path, which [`Path::normalize`] makes, to the start of a buffer, and
-    /// returns how many units it has. Writes no NUL; what follows the path is unchanged.
+    /// Writes the normal path to the start of a buffer, and returns how many units it has: the one that
+    /// [`Path::normalize`] makes of this path once each slash is a separator. Writes no NUL; what follows
+    /// the path is unchanged.
     ///
-    /// `Ok(None)` where the path is not valid, which [`validate_path`] explains, and `Err` with the
-    /// length of the normal path where the buffer has fewer places: the buffer is then unchanged.
-    /// Two passes over the components after those of [`validate_path`].
-    pub fn write_normal(&self, buffer: &mut [u16]) -> Result<Option<usize>, usize>
-        ensures len { result ≡ written_len (normal_path (path_text self.now)) buffer.old }
-        ensures buffer { buffer.new ≡ written_over (normal_path (path_text self.now)) buffer.old }
+    /// Refused as `Invalid`, with the reason of [`validate_path`](crate::validate_path) for that path,
+    /// and then as `BufferTooSmall`, with the length of the normal path, if the buffer has fewer places.
+    /// Refused, the buffer is unchanged. Two passes over the components after those that judge the path.
+    pub fn write_normal(&self, buffer: &mut [u16]) -> Result<usize, NormalWriteError>
+        ensures len { result ≡ normal_written (verdict (with_separators (path_text self.now)))
+            (normal_text (normal_of (components_of (with_separators (path_text self.now)))))
+            buffer.old }
+        ensures buffer { buffer.new
+            ≡ written_over (normal_path (with_separators (path_text self.now))) buffer.old }
     {
-        if validate_path(*self).is_err() {
-            return Ok(None);
+        if let Err(error) = judge_slashed(*self) {
+            return Err(NormalWriteError::Invalid(error));
         }
         let names = NamesFromLast::of(*self);
         let len = write_names(&mut [], names);
         // Where no name is left the path is the lone separator.
         let room = len.max(1);
         if buffer.len() < room {
-            return Err(room);
+            return Err(NormalWriteError::BufferTooSmall(room));
         }
         buffer[0] = u16::from(SEPARATOR);
         let _len = write_names(&mut buffer[..len], names);
-        Ok(Some(room))
+        Ok(room)
     }
 }

@@ -2,9 +2,9 @@
 
 use crate::normal::NORMAL;
 use crate::parents::PARENTS;
-use for_tests::{holds, string};
+use for_tests::{holds, shows, string};
 use std::test::Fail;
-use uefi_path::Path;
+use uefi_path::{NormalWriteError, Path};
 
 /// What stands in the buffers before.
 const FILLER: u16 = 0x21;
@@ -33,7 +33,11 @@ fn each_is_written(path: Path<'_>, is_normal: bool, want: Option<&[u16]>) -> boo
     for room in 0..=ROOM {
         let mut places = [FILLER; ROOM];
         let answer = if is_normal {
-            path.write_normal(&mut places[..room])
+            match path.write_normal(&mut places[..room]) {
+                Ok(len) => Ok(Some(len)),
+                Err(NormalWriteError::Invalid(_)) => Ok(None),
+                Err(NormalWriteError::BufferTooSmall(needed)) => Err(needed),
+            }
         } else {
             path.write_parent(&mut places[..room])
         };
@@ -62,6 +66,27 @@ fn are_written(
     Ok(each_is_written(Path::new(text.as_cstr16()), is_normal, units))
 }
 
+/// A path with slashes, and the normal path that is written of it.
+const SLASHED: &[(&str, &str)] = &[
+    ("/", r"\"),
+    ("a/..", r"\"),
+    ("/efi/boot/../x", r"efi\x"),
+    (r"\efi/boot\.", r"efi\boot"),
+    (r"a\b/../..\c", "c"),
+];
+
+/// A path of which no normal path is written, and why.
+const REFUSED: &[(&str, &str)] = &[
+    ("", "path is empty"),
+    ("//", "path contains an empty component"),
+    ("/efi/boot/", "path contains an empty component"),
+    (r"a\..\", "path contains an empty component"),
+    ("/a/b*", "path contains an illegal character (value 42)"),
+    ("/..", "path climbs above the root"),
+    (r"..\a", "path climbs above the root"),
+    (r"a\../../b//", "path climbs above the root"),
+];
+
 #[test]
 fn written_parents(rt: HostRuntime) -> Result<(), Fail> {
     for (text, want, _) in PARENTS {
@@ -75,8 +100,20 @@ fn written_normal_paths(rt: HostRuntime) -> Result<(), Fail> {
     for (text, want) in NORMAL {
         assert!(rt; are_written(&rt, text, true, Some(want))?, "{text}");
     }
-    for text in ["", r"a\..\", "a/..", r"..\a"] {
+    for (text, want) in SLASHED {
+        assert!(rt; are_written(&rt, text, true, Some(want))?, "{text}");
+    }
+    for (text, why) in REFUSED {
         assert!(rt; are_written(&rt, text, true, None)?, "{text}");
+        let path = string(rt.alloc(), text)?;
+        if let Err(error) = Path::new(path.as_cstr16()).write_normal(&mut []) {
+            assert!(rt; shows(rt.alloc(), &error, why), "{text}");
+        }
+    }
+    let path = string(rt.alloc(), "a/b")?;
+    if let Err(error) = Path::new(path.as_cstr16()).write_normal(&mut [0; 2]) {
+        let why = "buffer too small: the normal path needs 3 units";
+        assert!(rt; shows(rt.alloc(), &error, why));
     }
     Ok(())
 }

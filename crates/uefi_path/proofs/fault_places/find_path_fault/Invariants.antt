@@ -1,10 +1,11 @@
-use Rattle.std.proofs.Common.{◌+◌, ◌<◌, ◌^◌, length}
-use Rattle.uefi_path.specs.Views.{components_left, path_text}
+use Rattle.std.proofs.Common.{◌+◌, ◌<◌, ◌^◌, length, map}
+use Rattle.uefi_path.specs.ComponentIndices.{indices_left}
+use Rattle.uefi_path.specs.Views.{path_text}
 use Rattle.uefi_path.proofs.FaultPlaces.{IsWalkAt}
 use Rattle.uefi_path.proofs.fault_places.find_path_fault.Given as goal
 
-abbrev pub invariant-loop-component : goal.invariant-loop-component
-invariant-loop-component l = record {
-  walk : IsWalkAt (path_text l.fn.path) l.place l.depth (components_left l.component-iterator);
-  bound : l.depth + length (components_left l.component-iterator) < 2 ^ 64;
+abbrev pub invariant-loop-place : goal.invariant-loop-place
+invariant-loop-place l = record {
+  walk : IsWalkAt (path_text l.fn.path) l.depth (indices_left l.place-iterator);
+  bound : l.depth + length (map (λ item. item.1) (indices_left l.place-iterator)) < 2 ^ 64;
 }

@@ -1,36 +1,37 @@
 -- Those of a valid path are names.
-use Rattle.std.proofs.Common.{arith}
-use Rattle.std.proofs.lemmas.Bool.{false≢true}
+use Rattle.std.proofs.Common.{ap, arith, length}
+use Rattle.std.proofs.lemmas.List.{length-map}
+use Rattle.uefi_text.specs.Units.{replaced}
+use Rattle.uefi_path.specs.CutPieces.{slashed_left}
+use Rattle.uefi_path.specs.Separators.{separator, slash, with_separators}
 use Rattle.uefi_path.specs.Views.{path_text}
-use Rattle.uefi_path.proofs.NamesLeft.{good_names, names_no_longer, text_names, valid_names}
-use Rattle.uefi_text.specs.Views.{units_of}
+use Rattle.uefi_path.proofs.NamesLeft.{from_start, good_names, names_no_longer, text_names, valid_names}
 use Rattle.uefi_path.proofs.names.NamesFromLast.of.Goals as goal
+
+pub returns-clause-names : goal.returns-clause-names
+returns-clause-names c = from_start (with_separators (path_text c.args.path)) _ c.to_cut.ensures.same
 
 pub returns-clause-walk : goal.returns-clause-walk
 returns-clause-walk c =
-    let text = c.canonical-text in
     record {
-      are_names =
-          valid_names (path_text c.args.path) (units_of text.result) c.requires text.ensures.same
-          (λ none. false≢true (c.if-is_empty.ensures.1 none));
-      bound = omega (arith, text.ensures.bound);
+      are_names = valid_names (with_separators (path_text c.args.path)) _ c.requires c.to_cut.ensures.same;
+      bound = omega (arith, c.to_cut.ensures.bound);
     }
 
 pub returns-clause-good : goal.returns-clause-good
-returns-clause-good c =
-    let text = c.canonical-text in
-    good_names (path_text c.args.path) (units_of text.result) c.requires text.ensures.same
-    (λ none. false≢true (c.if-is_empty.ensures.1 none))
+returns-clause-good c = good_names (with_separators (path_text c.args.path)) _ c.requires c.to_cut.ensures.same
+
+pub returns-clause-texts : goal.returns-clause-texts
+returns-clause-texts c = text_names (with_separators (path_text c.args.path)) _ c.to_cut.ensures.same c.to_cut.ensures.texts
 
 pub returns-clause-bound : goal.returns-clause-bound
 returns-clause-bound c =
-    let text = c.canonical-text in
-    let fits = names_no_longer (path_text c.args.path) (units_of text.result) text.ensures.same
-    (λ none. false≢true (c.if-is_empty.ensures.1 none)) in
-    omega (arith, fits, text.ensures.bound)
-
-pub returns-clause-texts : goal.returns-clause-texts
-returns-clause-texts c =
-    let text = c.canonical-text in
-    text_names (path_text c.args.path) (units_of text.result) text.ensures.same
-    (λ none. false≢true (c.if-is_empty.ensures.1 none)) text.ensures.is_text
+    let text = path_text c.args.path in
+    omega (
+      arith,
+      names_no_longer (with_separators text) (slashed_left c.to_cut.result) c.to_cut.ensures.same,
+      length-map text (replaced slash separator),
+      c.as_slice-text.ensures.bound,
+      ap length c.as_slice-text.ensures.same,
+      ap length c.to_cstr16.ensures.same,
+    )

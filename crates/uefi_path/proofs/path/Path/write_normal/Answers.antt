@@ -1,13 +1,14 @@
 -- The names that stay are written, and the lone separator where there are none.
-use Rattle.std.proofs.Common.{◌≡◌, ◌++◌, ℕ, All, List, drop, length, max, rules, set, take, None, Ok, Some, Err, arith, sym, ap, subst, ◌∙◌}
+use Rattle.std.proofs.Common.{◌≡◌, ◌++◌, ℕ, All, List, drop, length, max, rules, set, take, None, Ok, Err, arith, sym, ap, subst, ◌∙◌}
 use Rattle.std.proofs.lemmas.Grind.{common_steps}
 use Rattle.uefi_path.specs.Components.{components_of, joined}
 use Rattle.uefi_path.specs.NamesLeft.{names_left}
 use Rattle.uefi_path.specs.NormalForms.{normal_of, normal_text}
-use Rattle.uefi_path.specs.Separators.{separator}
+use Rattle.uefi_path.specs.Separators.{separator, with_separators}
 use Rattle.uefi_path.specs.Verdicts.{IsGood, verdict}
 use Rattle.uefi_path.specs.Views.{path_text}
 use Rattle.uefi_path.specs.Writing.{normal_path, normal_where}
+use Rattle.uefi_path.specs.declared.written.NormalWriteError.TheVariants.{BufferTooSmall}
 use Rattle.uefi_path.proofs.NameTails.{length-normal_text, normal_text_written}
 use Rattle.uefi_path.proofs.IntoBuffers.{changed, fits, short}
 use Rattle.uefi_path.proofs.path.Path.write_normal.Goals as goal
@@ -22,29 +23,26 @@ normal_len names text len room good are counted most =
 
 pub returns-then-buffer-room-clause-len : goal.returns-then-buffer-room-clause-len
 returns-then-buffer-room-clause-len c =
-    let text = path_text c.args.self.now in
+    let text = with_separators (path_text c.args.self.now) in
     let names = c.of-names.ensures in
     let normal = normal_of (components_of text) in
     let valid : verdict text ≡ None = search rules in
     let len = normal_len _ text _ c.max-room.result names.good names.names c.write_names-len.ensures.len c.max-room.ensures in
-    ap Err len
-    ∙ short (normal_path text) (normal_text normal) c.args.buffer.now (ap (λ refusal. normal_where refusal normal) valid)
-    (omega (arith, len, c.if-buffer-room.true))
+    ap (λ n. Err (BufferTooSmall n)) len
+    ∙ short (verdict text) (normal_text normal) c.args.buffer.now valid (omega (arith, len, c.if-buffer-room.true))
 
 pub returns-clause-len : goal.returns-clause-len
 returns-clause-len c =
-    let text = path_text c.args.self.now in
+    let text = with_separators (path_text c.args.self.now) in
     let names = c.of-names.ensures in
     let normal = normal_of (components_of text) in
     let valid : verdict text ≡ None = search rules in
     let len = normal_len _ text _ c.max-room.result names.good names.names c.write_names-len.ensures.len c.max-room.ensures in
-    ap (λ n. Ok (Some n)) len
-    ∙ fits (normal_path text) (normal_text normal) c.args.buffer.now (ap (λ refusal. normal_where refusal normal) valid)
-    (omega (arith, len, c.if-buffer-room.false))
+    ap Ok len ∙ fits (verdict text) (normal_text normal) c.args.buffer.now valid (omega (arith, len, c.if-buffer-room.false))
 
 pub returns-clause-buffer : goal.returns-clause-buffer
 returns-clause-buffer c =
-    let text = path_text c.args.self.now in
+    let text = with_separators (path_text c.args.self.now) in
     let buffer = c.args.buffer.now in
     let names = c.of-names.ensures in
     let normal = normal_of (components_of text) in

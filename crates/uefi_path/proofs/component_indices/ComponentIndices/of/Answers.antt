@@ -1,0 +1,52 @@
+use Rattle.std.proofs.Common.{All, ap, arith, length, length-drop, subst, sym, ◌∙◌}
+use Rattle.uefi_path.specs.ComponentIndices.{indexed_units, indices_left}
+use Rattle.uefi_path.specs.Components.{joined}
+use Rattle.uefi_path.specs.Views.{components_left, path_text}
+use Rattle.uefi_text.specs.Units.{IsText}
+use Rattle.uefi_path.proofs.PlacedComponents.{begin_at_places, count_placed, pieces_placed}
+use Rattle.uefi_path.proofs.Runs.{gives_each}
+use Rattle.uefi_path.proofs.Splitting.{AreComponents-components_of}
+use Rattle.uefi_path.proofs.component_indices.ComponentIndices.of.Goals as goal
+
+-- the text from the first place on
+begins : goal.returns-clause-places
+unfolding indices_left
+begins c =
+    let text = path_text c.args.path in
+    let start = c.canonical_start-place in
+    begin_at_places text start.result (components_left c.args.components) (λ _. start.ensures.within)
+    (start.ensures.start ∙ sym (AreComponents-components_of text).join ∙ ap joined (sym c.requires.same))
+
+pub returns-clause-places : goal.returns-clause-places
+returns-clause-places c = begins c
+
+pub invariant_of-result : goal.invariant_of-result
+invariant_of-result c =
+    let text = path_text c.args.path in
+    let start = c.canonical_start-place in
+    record {
+      room = λ _. omega (
+        arith,
+        start.ensures.within,
+        ap length (start.ensures.start ∙ sym (AreComponents-components_of text).join ∙ ap joined (sym c.requires.same)),
+        length-drop start.result text,
+        c.as_slice-text.ensures.bound,
+        ap length c.to_cstr16.ensures.same,
+        ap length c.as_slice-text.ensures.same,
+      );
+    }
+
+pub returns-clause-components : goal.returns-clause-components
+unfolding indices_left
+returns-clause-components c = pieces_placed _ (components_left c.args.components) ∙ c.requires.same
+
+pub returns-clause-texts : goal.returns-clause-texts
+unfolding indices_left
+returns-clause-texts c = subst (All IsText) (sym (pieces_placed c.canonical_start-place.result (components_left c.args.components))) c.requires.texts
+
+pub returns-clause-bound : goal.returns-clause-bound
+unfolding indices_left
+returns-clause-bound c = omega (arith, count_placed c.canonical_start-place.result (components_left c.args.components), c.requires.bound)
+
+pub returns-clause-runs : goal.returns-clause-runs
+returns-clause-runs c = gives_each indexed_units indices_left _
