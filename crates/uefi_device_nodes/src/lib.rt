@@ -29,3 +29,4 @@ pub use node_enum::DevicePathNodeEnum;
 pub use node_text::NodeText;
 pub use typed_node::TypedNode;
 pub use uefi_field_texts::forms::{AllowShortcuts, DisplayOnly};
+pub use uefi_field_texts::guid::Guid;

@@ -1,7 +1,7 @@
 //! Nodes of type Media (UEFI Specification 2.10, section 10.3.5).
 #![tactic(auto, unfolding(crate::specs::NodeViews::file_node, crate::specs::NodeViews::node_of))]
 
-ghost use Rattle.std.specs.Prelude.{◌≡◌, ℕ, ◌↔◌, IfOk, IfErr, IsOk, None, drop, length, slice_range};
+ghost use Rattle.std.specs.Prelude.{◌≡◌, ℕ, ◌==◌, ◌↔◌, IfOk, IfErr, IsOk, None, Some, drop, if◌then◌else◌, length, slice_range};
 ghost use Rattle.std.specs.Result.{result_err};
 ghost use Rattle.uefi_device_nodes.specs.Nodes.{first_node};
 ghost use Rattle.uefi_device_nodes.specs.FileNodes.{IsFilePath};
@@ -11,6 +11,7 @@ ghost use Rattle.uefi_text.specs.UnitBytes.{unit_bytes, units_of_bytes};
 use crate::errors::NodeConversionError;
 use crate::node::{DevicePathNode, DeviceSubType, DeviceType};
 use crate::typed_node::TypedNode;
+use uefi_field_texts::guid::Guid;
 use uefi_text::UnalignedSlice;
 
 /// A node that names a file. A contract sees it as `file_node` of it: the node.
@@ -120,6 +121,19 @@ impl<'a> HardDrive<'a> {
         ensures { result ≡ number_at 37 1 (data_of self.now) }
     {
         self.number(37)
+    }
+
+    /// Returns the GUID that names the partition, which is its signature if
+    /// [`HardDrive::signature_type`] is 2, and `None` otherwise.
+    pub fn partition_guid(&self) -> Option<Guid>
+        ensures { result ≡ (if number_at 37 1 (data_of self.now) == 2
+            then Some (slice_range (data_of self.now) 20 36) else None) }
+    {
+        if self.signature_type() == 2 {
+            Some(Guid::from_bytes(self.partition_signature()))
+        } else {
+            None
+        }
     }
 }
 

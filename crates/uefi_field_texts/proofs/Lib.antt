@@ -4,3 +4,4 @@ pub mod Places
 pub mod Puts
 pub mod Surrogates
 pub mod ShownTexts
+pub mod GuidTexts

@@ -1,6 +1,6 @@
 -- No text of a field holds a character that texts escape.
 use Rattle.std.proofs.Common.{◌≡◌, ℕ, zero, suc, ◌+◌, ◌/◌, ◌%◌, ◌<◌, ◌==◌, ◌&&◌, Bool, true, false, if◌then◌else◌, List, [], ◌∷◌, ◌++◌, codes, length, take, drop, map, reverse, refl, ap, sym, ◌∙◌, arith}
-use Rattle.std.specs.Prelude.{All, encode_utf8, nat_le, nat_lt, Some}
+use Rattle.std.specs.Prelude.{All, encode_utf8, nat_le, nat_lt, slice_range, Some}
 use Rattle.std.specs.Char.{IsScalar}
 use Rattle.std.specs.Char.Utf16.{is_high_surrogate, is_low_surrogate, lone_unit_char, surrogate_pair_char, utf16_chars, utf16_lossy_chars}
 use Rattle.std.specs.Fmt.{decimal, digit_glyph, digits, digits_onto}
@@ -16,6 +16,7 @@ use Rattle.uefi_text.specs.Packed.{IsByte, little_endian, packed_items}
 use Rattle.uefi_text.specs.UnitBytes.{units_of_bytes}
 use Rattle.uefi_text.specs.Units.{is_nul}
 use Rattle.uefi_field_texts.specs.FieldTexts.{boot_type_text, comma_bytes, dashed_back, eisa_letter, eisa_text, hex, hex_back, hex_bytes, hex_four, hex_two, is_escaped, shown_byte, shown_bytes, shown_char, shown_units, until_nul, utf16_text, vendor_name}
+use Rattle.uefi_field_texts.specs.Guids.{guid_text}
 use Rattle.uefi_field_texts.specs.ShownTexts.{IsShown, IsShownChar, is_printable}
 
 -- texts of printable ASCII
@@ -249,3 +250,24 @@ names_shown n other = (
   ascii_shown (boot_type_text n) (boot_ascii n),
   ascii_shown (vendor_name n other) (vendor_ascii n other),
 )
+
+-- a dash, a part of a GUID and what follows are printable
+dash_more : (part back : List ℕ) → ascii part → ascii back → ascii (codes "-" ++ (part ++ back))
+dash_more part back part_is back_is = joined (codes "-") (part ++ back) refl (joined part back part_is back_is)
+
+pub guid_shown : (bytes : List ℕ) → IsShown (guid_text bytes)
+unfolding guid_text
+guid_shown bytes =
+    let first = slice_range bytes 0 4 in
+    let second = slice_range bytes 4 6 in
+    let third = slice_range bytes 6 8 in
+    let fourth = slice_range bytes 8 10 in
+    let fifth = slice_range bytes 10 16 in
+    let last = codes "-" ++ hex_bytes fifth in
+    let last_is : ascii last = joined (codes "-") (hex_bytes fifth) refl (bytes_ascii fifth) in
+    let fourth_is = dash_more (hex_bytes fourth) last (bytes_ascii fourth) last_is in
+    let third_is = dash_more (hex_back third) (codes "-" ++ (hex_bytes fourth ++ last)) (back_ascii third) fourth_is in
+    let back = codes "-" ++ (hex_back third ++ (codes "-" ++ (hex_bytes fourth ++ last))) in
+    let second_is = dash_more (hex_back second) back (back_ascii second) third_is in
+    ascii_shown (hex_back first ++ (codes "-" ++ (hex_back second ++ back)))
+    (joined (hex_back first) (codes "-" ++ (hex_back second ++ back)) (back_ascii first) second_is)

@@ -1,2 +1,3 @@
 pub mod FieldTexts
 pub mod ShownTexts
+pub mod Guids

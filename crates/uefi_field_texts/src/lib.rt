@@ -7,6 +7,7 @@
 #![tactic(auto)]
 
 pub mod forms;
+pub mod guid;
 #[doc(hidden)]
 pub mod hexadecimal;
 #[doc(hidden)]

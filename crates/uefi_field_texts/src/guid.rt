@@ -1,0 +1,161 @@
+//! GUIDs: what names vendors, partitions, protocols and the owners of variables.
+#![tactic(auto, using(crate::proofs::Puts::puts), unfolding(crate::specs::Guids::guid_text))]
+
+ghost use Rattle.std.specs.Char.{to_ascii_uppercase};
+ghost use Rattle.std.specs.Fmt.{WritesInCalls, digit_glyph};
+ghost use Rattle.std.specs.Prelude.{◌≡◌, ℕ, ◌+◌, ◌<◌, ◌↔◌, All, IfNone, IfSome, IsSome, IsTrue, List, length, true};
+ghost use Rattle.uefi_field_texts.specs.Guids.{HasBytes, IsDashed, IsGuid, IsGuidText, StandsAt, guid_text};
+ghost use Rattle.uefi_text.specs.Packed.{IsByte};
+
+use crate::hexadecimal::{put_back, put_bytes};
+use crate::sink::{Printed, TextSink, print};
+use std::fmt;
+use std::marker::Model;
+
+/// How many bytes the text of a GUID has.
+const TEXT_LEN: usize = 36;
+
+/// Where in the text the two digits of each byte stand.
+const PLACES: [usize; 16] = [6, 4, 2, 0, 11, 9, 16, 14, 19, 21, 24, 26, 28, 30, 32, 34];
+
+/// A GUID: 16 bytes as they lie in nodes and variables, three numbers with the low byte first, and
+/// then bytes in order (UEFI Specification 2.10, appendix A). GUIDs are equal, ordered and hashed
+/// by these bytes. A contract sees a GUID as the list of them.
+#[derive(Clone, Copy, Debug, PartialEq, Eq, PartialOrd, Ord, Hash)]
+pub struct Guid([u8; 16]);
+
+impl Model for Guid {
+    ghost use Rattle.std.specs.Prelude.{ℕ, List};
+    ghost use Rattle.uefi_field_texts.specs.Guids.{IsGuid};
+
+    ghost Value = { List ℕ };
+
+    ghost view = { λ guid. guid.0 };
+
+    ghost invariant = { λ guid. IsGuid guid.0 };
+
+    ghost inverse = { λ bytes. record { 0 = bytes } };
+}
+
+/// The number of a digit in hexadecimal, in either case; 16 for another byte.
+fn digit_of(byte: u8) -> u8
+    ensures is { result < 16 → digit_glyph true result ≡ to_ascii_uppercase byte }
+    ensures only { (n : ℕ) → n < 16 → digit_glyph true n ≡ to_ascii_uppercase byte → n ≡ result }
+{
+    match byte {
+        b'0'..=b'9' => byte - b'0',
+        b'A'..=b'F' => byte - b'A' + 10,
+        b'a'..=b'f' => byte - b'a' + 10,
+        _ => 16,
+    }
+}
+
+/// The byte whose two digits stand at a place of a text, in either case.
+fn byte_at(text: &[u8], place: usize) -> Option<u8>
+    requires { place + 1 < length text.now }
+    ensures some { IfSome result (λ byte. StandsAt text.now place byte) }
+    ensures small { IfSome result IsByte }
+    ensures none { IfNone result ((byte : ℕ) → IsByte byte → StandsAt text.now place byte → ⊥) }
+{
+    let high = digit_of(text[place]);
+    let low = digit_of(text[place + 1]);
+    if high >= 16 || low >= 16 {
+        return None;
+    }
+    Some(high * 16 + low)
+}
+
+/// Whether a text has the length of a GUID's, and dashes where that has them.
+fn is_dashed(text: &[u8]) -> bool
+    ensures { IsTrue result ↔ IsDashed text.now }
+{
+    text.len() == TEXT_LEN
+        && text[8] == b'-'
+        && text[13] == b'-'
+        && text[18] == b'-'
+        && text[23] == b'-'
+}
+
+/// The bytes whose digits stand at their places of a text.
+fn bytes_in(text: &[u8]) -> Option<[u8; 16]>
+    requires { length text.now ≡ 36 }
+    ensures some { IfSome result (λ bytes. HasBytes text.now bytes) }
+    ensures is_guid { IfSome result IsGuid }
+    ensures none { IfNone result ((bytes : List ℕ) → IsGuid bytes → HasBytes text.now bytes → ⊥) }
+{
+    let mut bytes = [0; 16];
+    for place in 0..16 {
+        let Some(byte) = byte_at(text, PLACES[place]) else {
+            return None;
+        };
+        bytes[place] = byte;
+    }
+    Some(bytes)
+}
+
+/// Does nothing: its contract says of bytes that each is below 256, which is known of slices alone.
+const fn are_bytes(bytes: &[u8])
+    ensures { All IsByte bytes.now }
+{}
+
+impl Guid {
+    /// Creates a GUID from its bytes, as they lie in nodes and variables.
+    pub const fn from_bytes(bytes: [u8; 16]) -> Self
+        ensures { result ≡ bytes }
+    {
+        are_bytes(&bytes);
+        Guid(bytes)
+    }
+
+    /// Returns the bytes, as they lie in nodes and variables.
+    pub const fn to_bytes(self) -> [u8; 16]
+        ensures same { result ≡ self }
+        ensures is_guid { IsGuid result }
+    {
+        self.0
+    }
+
+    /// Reads a GUID from its text, such as `8be4df61-93ca-11d2-aa0d-00e098032b8c`, in either case.
+    /// Returns `None` exactly for every other text: one in braces, without dashes, or with blanks.
+    /// Allocates nothing.
+    pub fn try_parse(text: &str) -> Option<Self>
+        ensures text { IfSome result (λ guid. IsGuidText text.now guid) }
+        ensures only { IfSome result (λ guid. (bytes : List ℕ) → IsGuid bytes
+            → IsGuidText text.now bytes → bytes ≡ guid) }
+        ensures accepts { IsSome result
+            ↔ ((bytes : List ℕ) × IsGuid bytes × IsGuidText text.now bytes) }
+    {
+        let text = text.as_bytes();
+        if !is_dashed(text) {
+            return None;
+        }
+        match bytes_in(text) {
+            Some(bytes) => Some(Guid(bytes)),
+            None => None,
+        }
+    }
+}
+
+/// The text in upper case, as nodes print it.
+impl Printed for Guid {
+    ghost printed = { λ guid. guid_text guid };
+
+    fn put<S: TextSink>(&self, sink: &mut S) {
+        put_back(sink, "", &self.0[..4]);
+        put_back(sink, "-", &self.0[4..6]);
+        put_back(sink, "-", &self.0[6..8]);
+        put_bytes(sink, "-", &self.0[8..10]);
+        put_bytes(sink, "-", &self.0[10..]);
+    }
+}
+
+/// Prints the text in upper case, as nodes print it: `8BE4DF61-93CA-11D2-AA0D-00E098032B8C`.
+impl fmt::Display for Guid {
+    ghost use Rattle.std.specs.Prelude.{Some};
+
+    ghost output = { λ guid. Some (guid_text guid) };
+
+    fn fmt<W: fmt::Write>(&self, f: &mut fmt::Formatter<W>) -> fmt::Result {
+        print(f, self)
+    }
+}
