@@ -1,6 +1,7 @@
 pub mod Splits
 pub mod ShortForms
 pub mod Runs
+pub mod CheckedRuns
 pub mod Names
 pub mod Lists
 pub mod ListFaults

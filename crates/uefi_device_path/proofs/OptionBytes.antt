@@ -3,12 +3,13 @@ use Rattle.std.proofs.Common.{◌≡◌, ◌≢◌, ◌∙◌, ap, sym, refl, in
 use Rattle.std.specs.Prelude.{position}
 use Rattle.std.proofs.lemmas.Bool.{cases_Bool}
 use Rattle.std.proofs.lemmas.Grind.{common_steps}
-use Rattle.std.proofs.lemmas.List.{take-append-drop, take_all, take_more}
+use Rattle.std.proofs.lemmas.List.{drop_at, take-append-drop, take_all, take_more}
 use Rattle.std.proofs.lemmas.List.Elements.{All-cons, All-nil}
 use Rattle.uefi_text.specs.UnitBytes.{unit_bytes}
 use Rattle.uefi_text.specs.Units.{is_nul, nul_terminated}
 use Rattle.uefi_device_nodes.specs.Nodes.{IsInner}
-use Rattle.uefi_device_path.specs.LoadOptions.{Entry, entry_bytes}
+use Rattle.uefi_device_path.specs.LoadOptions.{Entry, entry_bytes, four_bytes, two_bytes}
+use Rattle.uefi_device_path.specs.OptionEdits.{with_attributes, with_description}
 use Rattle.uefi_device_path.specs.PathLists.{ArePaths, list_bytes}
 use Rattle.uefi_device_path.specs.Paths.{path_bytes}
 use Rattle.uefi_device_path.specs.Views.{nodes_of}
@@ -84,3 +85,32 @@ paths_are (path ∷ paths) = All-cons (All IsInner) (nodes_of path) (map nodes_o
 pub some_paths : (paths : List DevicePath) → length paths ≢ 0 → map nodes_of paths ≢ []
 some_paths [] some e = some refl
 some_paths (path ∷ paths) some e = absurd (cc)
+
+-- what stands after the description
+pub after_entry : (entry : Entry) → drop (8 + 2 * length entry.description) (entry_bytes entry) ≡ list_bytes entry.paths ++ entry.optional
+after_entry entry =
+    let units = unit_bytes (nul_terminated entry.description) in
+    let front = four_bytes entry.attributes ++ (two_bytes (length (list_bytes entry.paths)) ++ units) in
+    let text = long-unit_bytes (nul_terminated entry.description) in
+    let terminated = length-append entry.description (0 ∷ []) in
+    drop_at front (list_bytes entry.paths ++ entry.optional) (8 + 2 * length entry.description) (omega (arith, text, terminated))
+
+-- how many bytes it has
+pub long-with_description : (entry : Entry) (text rest : List ℕ) → rest ≡ drop (8 + 2 * length entry.description) (entry_bytes entry)
+    → 8 + 2 * length text + length rest ≡ length (entry_bytes (with_description text entry))
+long-with_description entry text rest is =
+    let long = ap length (is ∙ after_entry entry) ∙ length-append (list_bytes entry.paths) entry.optional in
+    let whole = long-entry_bytes (with_description text entry) in
+    omega (arith, long, whole)
+
+-- a header, another description and what stands after the old one are the load option with it
+pub described_bytes : (entry : Entry) (text : List ℕ)
+    → take 6 (entry_bytes entry) ++ (unit_bytes (nul_terminated text) ++ drop (8 + 2 * length entry.description) (entry_bytes entry))
+    ≡ entry_bytes (with_description text entry)
+described_bytes entry text =
+    ap (λ k. take 6 (entry_bytes entry) ++ (unit_bytes (nul_terminated text) ++ k)) (after_entry entry)
+
+-- other attributes before what stands after the old ones
+pub attributed_bytes : (bytes : List ℕ) (entry : Entry) (attributes : ℕ) → bytes ≡ entry_bytes entry
+    → four_bytes attributes ++ drop 4 bytes ≡ entry_bytes (with_attributes attributes entry)
+attributed_bytes bytes entry attributes e = ap (λ k. four_bytes attributes ++ drop 4 k) e

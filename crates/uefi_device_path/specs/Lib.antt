@@ -5,6 +5,7 @@ pub use Rattle.uefi_device_nodes.specs.NodeViews
 pub use Rattle.uefi_device_nodes.specs.NodeErrorTexts
 pub use Rattle.uefi_device_nodes.specs.TypedNodes
 pub use Rattle.uefi_device_nodes.specs.NodeTexts
+pub use Rattle.uefi_field_texts.specs.Guids
 pub use Rattle.uefi_built_nodes.specs.RawNodes
 pub use Rattle.uefi_built_nodes.specs.HardwareNodes
 pub use Rattle.uefi_built_nodes.specs.AcpiNodes
@@ -21,6 +22,7 @@ pub use Rattle.uefi_device_nodes.specs.declared.media.FilePath
 pub mod Paths
 pub mod Faults
 pub mod ErrorTexts
+pub mod CheckedNodes
 pub mod Views
 pub mod FilePaths
 pub mod FilePathBuffers
@@ -29,6 +31,7 @@ pub mod LoadOptions
 pub mod LoadOptionParts
 pub mod Building
 pub mod OptionBuilding
+pub mod OptionEdits
 pub mod Instances
 pub mod PathTexts
 pub mod PathReading

@@ -8,6 +8,7 @@ pub use uefi_built_nodes::laws as built_nodes;
 use uefi_device_nodes::laws::nodes_are_shown;
 pub use uefi_device_nodes::layouts;
 use uefi_field_texts::laws::fields_are_shown;
+pub use uefi_field_texts::laws::guid_texts;
 use uefi_node_reader::nodes::{node_text_once, nodes_are_read};
 use uefi_path::laws::join_components;
 

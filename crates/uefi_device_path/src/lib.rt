@@ -27,6 +27,7 @@
 
 pub mod build;
 mod builder;
+mod checked_nodes;
 mod device_path;
 mod errors;
 mod file_path;
@@ -40,6 +41,7 @@ mod load_option_parts;
 mod matching;
 mod node_iterator;
 mod option_builder;
+mod option_edits;
 mod path_list;
 mod path_reader;
 mod path_text;
@@ -47,6 +49,7 @@ mod unit_sink;
 
 pub use build::{BuildNode, DevicePathBuf};
 pub use builder::DevicePathBuilder;
+pub use checked_nodes::CheckedNodes;
 pub use device_path::DevicePath;
 pub use errors::{
     BuildError, DevicePathError, FilePathCause, FilePathError, FilePathWriteError, GrowError,
@@ -60,6 +63,7 @@ pub use load_option_parts::LoadOptionParts;
 pub use matching::ShortForm;
 pub use node_iterator::DevicePathNodeIterator;
 pub use option_builder::LoadOptionBuilder;
+pub use option_edits::set_attributes;
 pub use path_list::{DevicePaths, check_paths};
 pub use path_reader::PathTextError;
 pub use path_text::PathText;
@@ -69,4 +73,5 @@ pub use uefi_device_nodes::node_text::NodeText;
 pub use uefi_device_nodes::typed_node::TypedNode;
 pub use uefi_device_nodes::{acpi, bios_boot_spec, hardware, media, messaging};
 pub use uefi_field_texts::forms::{AllowShortcuts, DisplayOnly};
+pub use uefi_field_texts::guid::Guid;
 pub use uefi_field_texts::texts::is_escaped;

@@ -1,8 +1,9 @@
 //! Boot load options: the bytes of the variables `Boot####` (UEFI Specification 2.10, section 3.1.3).
 #![tactic(auto, unfolding(crate::specs::Views::entry_of))]
 
-ghost use Rattle.std.specs.Prelude.{◌≡◌, ℕ, ◌+◌, ◌-◌, ◌*◌, ◌/◌, ◌%◌, ◌<◌, ◌≤◌, ◌↔◌, ◌++◌, ◌^◌, List, length, IfOk, IfErr, IsOk, IsTrue, None, unwrap_or};
+ghost use Rattle.std.specs.Prelude.{◌≡◌, ℕ, ◌+◌, ◌-◌, ◌*◌, ◌/◌, ◌%◌, ◌<◌, ◌≤◌, ◌↔◌, ◌++◌, ◌^◌, List, length, IfOk, IfErr, IfSome, IsOk, IsSome, IsTrue, None, unwrap_or};
 ghost use Rattle.uefi_text.specs.FromSliceWithNul.{with_nul_refusal};
+ghost use Rattle.uefi_text.specs.UnitBytes.{unit_bytes, units_of_bytes};
 ghost use Rattle.uefi_text.specs.Units.{IsNulTerminated, IsString, nul_terminated};
 ghost use Rattle.uefi_text.specs.Views.{items_of};
 ghost use Rattle.uefi_device_path.specs.PathLists.{IsPathList, list_bytes};
@@ -216,6 +217,19 @@ impl<'a> LoadOption<'a> {
         ensures { result.now ≡ (entry_of self.now).optional }
     {
         self.optional
+    }
+
+    /// The code units that the bytes after the file path list encode, two bytes for each, the low one
+    /// first: a command line, where the loader takes one. `None` exactly where the bytes are odd in number.
+    /// The units may hold NULs and surrogates.
+    pub fn optional_units(&self) -> Option<UnalignedSlice<'a, u16>>
+        ensures even { IsSome result ↔ (length (entry_of self.now).optional % 2 ≡ 0) }
+        ensures units { IfSome result (λ units. items_of units
+            ≡ units_of_bytes (entry_of self.now).optional) }
+        ensures bytes { IfSome result (λ units. unit_bytes (items_of units)
+            ≡ (entry_of self.now).optional) }
+    {
+        UnalignedSlice::from_unit_bytes(self.optional)
     }
 }
 

@@ -53,7 +53,7 @@ fn put_header(bytes: &mut [u8], attributes: u32, list: usize)
 }
 
 /// Writes the units of a description, and its NUL.
-fn put_description(bytes: &mut [u8], units: &[u16])
+pub(crate) fn put_description(bytes: &mut [u8], units: &[u16])
     requires { length bytes.now ≡ 2 * length units.now + 2 }
     ensures { bytes.new ≡ unit_bytes (nul_terminated units.now) }
 {

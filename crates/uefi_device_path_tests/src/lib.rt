@@ -8,11 +8,15 @@ mod build;
 #[cfg(test)]
 mod built_nodes;
 #[cfg(test)]
+mod checked_nodes;
+#[cfg(test)]
 mod device_path;
 #[cfg(test)]
 mod entries;
 #[cfg(test)]
 mod file_path;
+#[cfg(test)]
+mod guid;
 #[cfg(test)]
 mod hostile_entries;
 #[cfg(test)]
@@ -25,6 +29,8 @@ mod matching;
 mod node_text;
 #[cfg(test)]
 mod option_builder;
+#[cfg(test)]
+mod option_edits;
 #[cfg(test)]
 mod out_of_memory;
 #[cfg(test)]

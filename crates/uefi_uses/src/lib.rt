@@ -5,6 +5,7 @@
 #![tactic(auto)]
 
 pub mod boot_orders;
+pub mod edits;
 pub mod entries;
 pub mod fat_names;
 pub mod loaders;

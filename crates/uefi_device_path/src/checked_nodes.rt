@@ -1,0 +1,138 @@
+//! The nodes of a device path, each tested as it comes.
+#![tactic(auto, unfolding(crate::specs::Views::checked_bytes, crate::specs::Views::checked_left, crate::specs::Views::rest_of))]
+
+ghost use Rattle.std.specs.Prelude.{◌≡◌, ◌≢◌, ℕ, ◌<◌, ◌^◌, ◌++◌, ◌∷◌, [], List, map, length, Option, None, Some, IfNone, IfSome, OnSome, Ok, Err};
+ghost use Rattle.std.specs.Iterator.{MakesProgress, YieldsFirstBy, item_count};
+ghost use Rattle.std.specs.Option.{option_map};
+ghost use Rattle.uefi_device_nodes.specs.NodeFaults.{node_fault};
+ghost use Rattle.uefi_device_nodes.specs.Nodes.{Node, end_entire, node_bytes};
+ghost use Rattle.uefi_device_path.specs.CheckedNodes.{BeginWithEnd, nodes_before};
+ghost use Rattle.uefi_device_path.specs.Faults.{RefusedFor, Refuses};
+ghost use Rattle.uefi_device_path.specs.Paths.{BeginWith, BeginWithPath};
+ghost use Rattle.uefi_device_path.specs.declared.checked_nodes.Progress.{Progress};
+ghost use Rattle.uefi_device_path.specs.declared.errors.DevicePathError.{DevicePathError};
+
+use crate::errors::DevicePathError;
+use uefi_device_nodes::node::{DevicePathNode, fault_place};
+
+/// How far the bytes are read.
+#[derive(Clone, Copy)]
+enum Progress {
+    /// Up to a node, or to the end.
+    Reading,
+    /// Up to the end.
+    Ended,
+    /// Up to a fault.
+    Failed,
+}
+
+/// The nodes of the device path that bytes begin with, each tested as it comes. A contract sees it
+/// as `checked_left` of it, what is still to come; as `checked_bytes` of it, all of the bytes; and
+/// as `rest_of` it, the bytes after the path once its end was reached.
+#[derive(Drop)]
+pub struct CheckedNodes<'a> {
+    bytes: &'a [u8],
+    rest: &'a [u8],
+    progress: Progress,
+    pub ghost begins: { BeginWith bytes.now (nodes_before bytes.now rest.now) rest.now },
+    pub ghost ended: { progress ≡ Progress.Ended → BeginWithEnd rest.now },
+    pub ghost failed: { progress ≡ Progress.Failed → node_fault rest.now ≢ None },
+}
+
+impl<'a> CheckedNodes<'a> {
+    ghost use Rattle.uefi_device_path.specs.Views.{checked_bytes, checked_left, checked_node, rest_of};
+    ghost use Rattle.uefi_text.specs.Runs.{GivesEach};
+
+    /// Creates an iterator over the nodes of the device path that bytes begin with. Reads none.
+    pub fn new(bytes: &'a [u8]) -> Self
+        ensures accepted { (nodes : List Node) → BeginWithPath bytes.now nodes
+            → checked_left result ≡ map Ok nodes }
+        ensures refused { (error : DevicePathError) (nodes : List Node) (rest : List ℕ)
+            → Refuses bytes.now error nodes rest
+            → checked_left result ≡ map Ok nodes ++ Err error ∷ [] }
+        ensures bytes { checked_bytes result ≡ bytes.now }
+        ensures rest { rest_of result ≡ None }
+        ensures bound { length (checked_left result) < 2 ^ 64 }
+        ensures runs { GivesEach checked_node checked_left result }
+    {
+        CheckedNodes {
+            bytes,
+            rest: bytes,
+            progress: Progress::Reading,
+        }
+    }
+
+    /// Reads one node more, where one or the end should stand.
+    fn read(&mut self) -> Option<Result<DevicePathNode<'a>, DevicePathError>>
+        requires { self.old.progress ≡ Progress.Reading }
+        ensures steps { YieldsFirstBy checked_node checked_left self.old result self.new }
+        ensures bytes { checked_bytes self.new ≡ checked_bytes self.old }
+        ensures ended { IfNone result ((nodes : List Node) (rest : List ℕ)
+            → BeginWith (checked_bytes self.old) nodes (node_bytes end_entire ++ rest)
+            → rest_of self.new ≡ Some rest) }
+        ensures failed { IfNone result ((error : DevicePathError)
+            → RefusedFor (checked_bytes self.old) error → rest_of self.new ≡ None) }
+        ensures not_yet { OnSome result (rest_of self.new ≡ None) }
+    {
+        match DevicePathNode::split_first(self.rest) {
+            Ok((node, after)) => {
+                if node.is_end_entire() {
+                    self.progress = Progress::Ended;
+                    return None;
+                }
+                self.rest = after;
+                Some(Ok(node))
+            }
+            Err(cause) => {
+                let offset = self.bytes.len() - self.rest.len() + fault_place(cause);
+                self.progress = Progress::Failed;
+                Some(Err(DevicePathError { cause, offset }))
+            }
+        }
+    }
+
+    /// Returns the bytes after the path once the iterator has given all nodes and then `None`.
+    /// Returns `None` before that, and after a fault.
+    pub fn rest(&self) -> Option<&'a [u8]>
+        ensures same { option_map (λ rest. rest.now) result ≡ rest_of self.now }
+        ensures after { IfSome result (λ rest. (nodes : List Node)
+            × BeginWith (checked_bytes self.now) nodes (node_bytes end_entire ++ rest.now)) }
+    {
+        match self.progress {
+            Progress::Ended => Some(&self.rest[4..]),
+            Progress::Reading | Progress::Failed => None,
+        }
+    }
+}
+
+/// Gives each node before the one that ends the path, in order. At the first malformed node it
+/// gives the error with which [`DevicePath::from_bytes`](crate::DevicePath::from_bytes) refuses the
+/// bytes. After the last node, and after an error, it gives `None` for ever. Reads each header
+/// once, and allocates nothing.
+impl<'a> Iterator for CheckedNodes<'a> {
+    type Item = Result<DevicePathNode<'a>, DevicePathError>;
+
+    ghost use Rattle.uefi_device_path.specs.Views.{checked_bytes, checked_left, checked_node, rest_of};
+    ghost use Rattle.std.specs.Prelude.{⊤};
+
+    ghost next_gives = { YieldsFirstBy checked_node checked_left };
+
+    ghost remaining = { item_count checked_left };
+
+    fn next(&mut self) -> Option<Result<DevicePathNode<'a>, DevicePathError>>
+        ensures steps { YieldsFirstBy checked_node checked_left self.old result self.new }
+        ensures goes { MakesProgress (λ _. ⊤) (item_count checked_left) self.old result self.new }
+        ensures bytes { checked_bytes self.new ≡ checked_bytes self.old }
+        ensures ended { IfNone result ((nodes : List Node) (rest : List ℕ)
+            → BeginWith (checked_bytes self.old) nodes (node_bytes end_entire ++ rest)
+            → rest_of self.new ≡ Some rest) }
+        ensures failed { IfNone result ((error : DevicePathError)
+            → RefusedFor (checked_bytes self.old) error → rest_of self.new ≡ None) }
+        ensures not_yet { OnSome result (rest_of self.new ≡ None) }
+    {
+        match self.progress {
+            Progress::Reading => self.read(),
+            Progress::Ended | Progress::Failed => None,
+        }
+    }
+}
