@@ -1,15 +1,16 @@
 -- Lists in which numbers stand at most once.
-use Rattle.std.proofs.Common.{◌≡◌, ◌≢◌, ℕ, zero, suc, ◌+◌, ◌<◌, ◌≤◌, ◌↔◌, ◌∙◌, ap, sym, refl, ⊎_elim, Bool, true, false, ◌&&◌, ◌||◌, not, cond, eqb, List, [], ◌∷◌, ◌++◌, length, take, drop, get_or, Option, Some, None, position, Contains, append_assoc, arith}
+use Rattle.std.proofs.Common.{◌≡◌, ◌≢◌, ℕ, zero, suc, ◌+◌, ◌<◌, ◌≤◌, ◌↔◌, ◌∙◌, ap, sym, refl, ⊎_elim, Bool, true, false, ◌&&◌, ◌||◌, not, cond, eqb, List, [], ◌∷◌, ◌++◌, length, set, take, drop, get_or, Option, Some, None, position, Contains, append_assoc, arith}
 use Rattle.std.proofs.lemmas.Bool.{cases_eq, false≢true}
 use Rattle.std.proofs.lemmas.Bool.Decides.{nat_tests}
-use Rattle.std.proofs.lemmas.List.{append-nil, drop_all, get_or_default, length-append, length-take, take-append-drop, take_all, take_more}
+use Rattle.std.proofs.lemmas.List.{append-nil, drop_all, drop_more, get_or_default, length-append, length-take, set_at, take-append-drop, take_all, take_more}
 use Rattle.std.proofs.lemmas.List.Quantifiers.{position-Some}
 use Rattle.std.proofs.lemmas.List.Sums.{fails_before_first, position_or_len_is}
 use Rattle.std.proofs.lemmas.List.Edits.{get_or-insert_at}
 use Rattle.std.proofs.lemmas.List.Kept.{AllPairs-cons}
+use Rattle.std.proofs.lemmas.Grind.{common_steps}
 use Rattle.std.specs.List.{AllPairs, position_or_len}
 use Rattle.std.specs.Option.{is_some}
-use Rattle.uefi_boot_variables.specs.Orders.{no_twice, once_each, stands_in, with_at, with_front, without}
+use Rattle.uefi_boot_variables.specs.Orders.{no_twice, once_each, over, stands_in, with_at, with_front, without}
 
 -- a test of two numbers
 eq_true : (a b : ℕ) → a ≡ b → eqb a b ≡ true
@@ -406,3 +407,80 @@ others_keep_order place number numbers =
 pub put_where_asked : (place number : ℕ) (numbers : List ℕ) → place ≤ length (without number numbers)
     → get_or (with_at place number numbers) place 0 ≡ number
 put_where_asked place number numbers within = get_or-insert_at (without number numbers) place number 0 within
+
+-- a list without a number, by one more of its numbers
+one_more : (n : ℕ) (xs : List ℕ) (p : ℕ) → p < length xs → take (p + 1) xs ≡ take p xs ++ get_or xs p 0 ∷ []
+one_more n xs p inside = grind (arith, common_steps)
+
+without_kept : (n : ℕ) (xs : List ℕ) (p : ℕ) → p < length xs → (get_or xs p 0 ≡ n → ⊥)
+    → without n (take (p + 1) xs) ≡ without n (take p xs) ++ get_or xs p 0 ∷ []
+without_kept n xs p inside other =
+    let x = get_or xs p 0 in
+    ap (without n) (one_more n xs p inside) ∙ without-append n (take p xs) (x ∷ [])
+    ∙ ap (λ (l : List ℕ). without n (take p xs) ++ l) (kept (eqb x n) x [] [] (eq_false x n other) refl)
+
+without_dropped : (n : ℕ) (xs : List ℕ) (p : ℕ) → p < length xs → get_or xs p 0 ≡ n
+    → without n (take (p + 1) xs) ≡ without n (take p xs)
+without_dropped n xs p inside same =
+    let x = get_or xs p 0 in
+    ap (without n) (one_more n xs p inside) ∙ without-append n (take p xs) (x ∷ [])
+    ∙ ap (λ (l : List ℕ). without n (take p xs) ++ l) (dropped (eqb x n) x [] [] (eq_true x n same) refl)
+    ∙ append-nil (without n (take p xs))
+
+-- the number at a place that the numbers that are kept don't reach
+pub not_reached : (front xs places : List ℕ) (k p : ℕ) → k ≡ length front → k ≤ p → places ≡ over front xs → get_or places p 0 ≡ get_or xs p 0
+not_reached front xs places k p len within e = rw e (grind (arith, common_steps))
+
+-- a number that stays takes the first place after those before it
+moved_on : (front xs places : List ℕ) (k x : ℕ) → k ≡ length front → k < length xs → places ≡ over front xs
+    → set places k x ≡ over (front ++ x ∷ []) xs
+moved_on front xs places k x len within e =
+    let n : length (front ++ x ∷ []) ≡ k + 1 = omega (arith, length-append front (x ∷ []), len) in
+    ap (λ (l : List ℕ). set l k x) (e ∙ ap (λ (i : ℕ). front ++ drop i xs) (sym len) ∙ ap (λ (l : List ℕ). front ++ l) (drop_more xs k 0 within))
+    ∙ set_at front (get_or xs k 0) (drop (k + 1) xs) x k (sym len)
+    ∙ sym (append_assoc front (x ∷ []) (drop (k + 1) xs)) ∙ ap (λ (i : ℕ). (front ++ x ∷ []) ++ drop i xs) (sym n)
+
+pub stays : (n : ℕ) (xs places : List ℕ) (k p : ℕ) → p < length xs → k ≡ length (without n (take p xs)) → k ≤ p
+    → places ≡ over (without n (take p xs)) xs → (get_or places p 0 ≡ n → ⊥)
+    → (k + 1 ≡ length (without n (take (p + 1) xs))) × (set places k (get_or places p 0) ≡ over (without n (take (p + 1) xs)) xs)
+stays n xs places k p inside len within e other =
+    let front = without n (take p xs) in
+    let here = not_reached front xs places k p len within e in
+    let all = without_kept n xs p inside (λ same. other (here ∙ same)) in (
+      omega (arith, ap length all, length-append front (get_or xs p 0 ∷ []), len),
+      ap (set places k) here ∙ moved_on front xs places k (get_or xs p 0) len (omega arith) e
+          ∙ ap (λ (l : List ℕ). over l xs) (sym all),
+    )
+
+pub goes : (n : ℕ) (xs places : List ℕ) (k p : ℕ) → p < length xs → k ≡ length (without n (take p xs)) → k ≤ p
+    → places ≡ over (without n (take p xs)) xs → get_or places p 0 ≡ n
+    → (k ≡ length (without n (take (p + 1) xs))) × (places ≡ over (without n (take (p + 1) xs)) xs)
+goes n xs places k p inside len within e same =
+    let here = not_reached (without n (take p xs)) xs places k p len within e in
+    let all = without_dropped n xs p inside (sym here ∙ same) in
+    (len ∙ ap length (sym all), e ∙ ap (λ (l : List ℕ). over l xs) (sym all))
+
+-- a number that is taken out of a list in which none stands twice leaves one number less
+shorter_first : (b : Bool) (x n : ℕ) (xs : List ℕ) → eqb x n ≡ b → (b || stands_in n xs) ≡ true → stands_in x xs ≡ false
+    → (stands_in n xs ≡ true → length (without n xs) + 1 ≡ length xs) → length (cond (not b) (x ∷ without n xs) (without n xs)) + 1 ≡ suc (length xs)
+shorter_first true x n xs same stands absent rest =
+    let gone_there : stands_in n xs ≡ false = ap (λ (m : ℕ). stands_in m xs) (sym (true_eq x n same)) ∙ absent in
+    omega (arith, ap length (without_absent n xs gone_there))
+shorter_first false x n xs other stands absent rest = omega (arith, rest stands)
+
+pub one_less : (n : ℕ) (xs : List ℕ) → no_twice xs ≡ true → stands_in n xs ≡ true → length (without n xs) + 1 ≡ length xs
+one_less n [] once stands = absurd (false≢true stands)
+one_less n (x ∷ xs) once stands =
+    let parts = and_parts (stands_in x xs) (no_twice xs) once in
+    shorter_first (eqb x n) x n xs refl stands parts.0 (one_less n xs parts.1)
+
+-- no number stands twice after an edit
+pub no_twice-with_at : (place n : ℕ) (xs : List ℕ) → no_twice xs ≡ true → no_twice (with_at place n xs) ≡ true
+no_twice-with_at place n xs once = no_twice-insert n (without n xs) place (no_twice-without n xs once) (gone n xs)
+
+front_once : (b : Bool) (n : ℕ) (xs : List ℕ) → no_twice xs ≡ true → no_twice (cond b (n ∷ without n xs) xs) ≡ true
+front_once true n xs once = and_both (stands_in n (without n xs)) (no_twice (without n xs)) (gone n xs) (no_twice-without n xs once)
+front_once false n xs once = once
+
+pub no_twice-with_front : (n : ℕ) (xs : List ℕ) → no_twice xs ≡ true → no_twice (with_front n xs) ≡ true
+no_twice-with_front n xs once = front_once (stands_in n xs) n xs once

@@ -1,5 +1,5 @@
 -- Lists of the numbers of load options, and what edits make of them.
-use Rattle.std.specs.Prelude.{ℕ, Bool, true, ◌&&◌, ◌==◌, not, if◌then◌else◌, List, [], ◌∷◌, filter, insert}
+use Rattle.std.specs.Prelude.{ℕ, Bool, true, ◌&&◌, ◌==◌, not, if◌then◌else◌, List, [], ◌∷◌, ◌++◌, drop, filter, insert, length}
 use Rattle.std.specs.List.{list_any}
 
 -- the test whether a number stands in a list
@@ -27,3 +27,7 @@ with_at place number numbers = insert (without number numbers) place number
 -- a list with a number that stands in it moved to the front, or as it is where the number does not
 abbrev pub with_front : ℕ → List ℕ → List ℕ
 with_front number numbers = if stands_in number numbers then number ∷ without number numbers else numbers
+
+-- places whose first ones hold numbers, and whose others hold what they held
+abbrev pub over : List ℕ → List ℕ → List ℕ
+over numbers places = numbers ++ drop (length numbers) places

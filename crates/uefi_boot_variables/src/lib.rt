@@ -8,11 +8,13 @@
 pub mod laws;
 pub mod names;
 pub mod order_buffer;
+pub mod order_edits;
 pub mod orders;
 pub mod present;
 
 pub use names::{LoadOptionKind, LoadOptionName, NameBufferTooSmall};
-pub use order_buffer::{OrderBuffer, OrderFull};
+pub use order_buffer::OrderBuffer;
+pub use order_edits::OrderFull;
 pub use orders::{LoadOrder, NotTwoBytes, OddLength, read_number};
 pub use present::PresentOptions;
 

@@ -9,51 +9,8 @@ ghost use Rattle.std.specs.Prelude.{◌≡◌, ◌==◌, ◌+◌, ◌-◌, ◌*�
 ghost use Rattle.uefi_boot_variables.specs.Orders.{no_twice, once_each, stands_in, with_at, with_front, without};
 ghost use Rattle.uefi_text.specs.UnitBytes.{unit_bytes};
 
+use crate::order_edits::{OrderFull, insert, move_to_front, put, remove};
 use crate::orders::LoadOrder;
-use std::error::Error;
-use std::fmt;
-
-/// Why an order takes no further number, or is not written: there is no room for it.
-#[derive(Clone, Copy, Debug, PartialEq, Eq)]
-pub struct OrderFull;
-
-/// Writes the reason.
-impl fmt::Display for OrderFull {
-    ghost use Rattle.std.specs.Prelude.{Some};
-    ghost use Rattle.uefi_boot_variables.specs.ErrorTexts.{order_full_text};
-
-    ghost output = { λ error. Some order_full_text };
-
-    fn fmt<W: fmt::Write>(&self, f: &mut fmt::Formatter<W>) -> fmt::Result {
-        f.write_str("there is no room for another number")
-    }
-}
-
-impl Error for OrderFull {}
-
-/// The first place of a number.
-fn place_of(numbers: &[u16], number: u16) -> Option<usize>
-    ensures { result ≡ position (λ other. other == number) numbers.now }
-{
-    numbers.iter().position(|other| *other == number)
-}
-
-/// Takes the number at a place out, and puts it after the others.
-fn take_out(numbers: &mut [u16], place: usize)
-    requires { place < length numbers.old }
-    ensures { numbers.new ≡ remove numbers.old place ++ slice_index numbers.old place ∷ [] }
-{
-    numbers[place..].rotate_left(1);
-}
-
-/// Puts the last number at a place, before those that stood from there on.
-fn put_in(numbers: &mut [u16], place: usize)
-    requires { place < length numbers.old }
-    ensures { numbers.new ≡ insert (take (length numbers.old - 1) numbers.old) place
-        (slice_index numbers.old (length numbers.old - 1)) }
-{
-    numbers[place..].rotate_right(1);
-}
 
 /// An order that is edited in memory of the caller, in which no number stands twice. A contract sees it
 /// as `numbers_in` it, the list of its numbers, and `room_of` it, how many the memory has places for. No
@@ -128,8 +85,7 @@ impl<'a> OrderBuffer<'a> {
         ensures numbers { numbers_in self.new ≡ insert (numbers_in self.old) place number }
         ensures room { room_of self.new ≡ room_of self.old }
     {
-        self.places[self.len] = number;
-        put_in(&mut self.places[..self.len + 1], place);
+        put(self.places, self.len, place, number);
         self.len += 1;
     }
 
@@ -159,12 +115,10 @@ impl<'a> OrderBuffer<'a> {
         ensures len { result ≡ true → length (numbers_in self.new) + 1 ≡ length (numbers_in self.old) }
         ensures room { room_of self.new ≡ room_of self.old }
     {
-        let Some(place) = place_of(self.as_slice(), number) else {
-            return false;
-        };
-        take_out(&mut self.places[..self.len], place);
-        self.len -= 1;
-        true
+        let len = remove(self.places, self.len, number);
+        let stood = len < self.len;
+        self.len = len;
+        stood
     }
 
     /// Puts a number at a place among the others, which keep their order: where it stands in the order
@@ -177,11 +131,7 @@ impl<'a> OrderBuffer<'a> {
         ensures refused { IsErr result ↔ ((stands_in number (numbers_in self.old) ≡ false)
             × (length (numbers_in self.old) ≡ room_of self.old)) }
     {
-        if self.len == self.places.len() && !self.contains(number) {
-            return Err(OrderFull);
-        }
-        self.remove(number);
-        self.put(place.min(self.len), number);
+        self.len = insert(self.places, self.len, place, number)?;
         Ok(())
     }
 
@@ -192,11 +142,9 @@ impl<'a> OrderBuffer<'a> {
         ensures stood { result ≡ stands_in number (numbers_in self.old) }
         ensures room { room_of self.new ≡ room_of self.old }
     {
-        if !self.remove(number) {
-            return false;
-        }
-        self.put(0, number);
-        true
+        let stood = self.contains(number);
+        self.len = move_to_front(self.places, self.len, number);
+        stood
     }
 
     /// Writes the bytes of the variable, two for each number and the low one first, at the start of a

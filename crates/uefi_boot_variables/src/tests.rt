@@ -1,7 +1,7 @@
 //! Rows whose values come from the UEFI Specification 2.10, sections 3.1.1, 3.1.3 and 3.3.
 use crate::{
     LoadOptionKind, LoadOptionName, LoadOrder, NotTwoBytes, OddLength, OrderBuffer, OrderFull,
-    read_number,
+    order_edits, read_number,
 };
 use std::process::Abort;
 use std::test::Fail;
@@ -132,6 +132,27 @@ fn edits(rt: HostRuntime) -> Result<(), Fail> {
     assert_eq!(rt; edited.write_bytes(&mut bytes), Ok(6));
     assert_eq!(rt; bytes.as_slice(), [7, 0, 9, 0, 0, 0, 0xff].as_slice());
     Ok(())
+}
+
+#[test]
+fn edits_of_places(rt: HostRuntime) {
+    let mut places = [3, 0, 3, 7, 9];
+    assert!(rt; order_edits::contains(&places, 4, 7) && !order_edits::contains(&places, 3, 7));
+    assert!(rt; order_edits::contains(&places, 9, 9));
+    assert_eq!(rt; order_edits::remove(&mut places, 4, 3), 2);
+    assert_eq!(rt; places, [0, 7, 3, 7, 9]);
+    assert_eq!(rt; order_edits::insert(&mut places, 2, 0, 5), Ok(3));
+    assert_eq!(rt; places, [5, 0, 7, 7, 9]);
+    assert_eq!(rt;
+        order_edits::insert(&mut places[..3], 3, 0, 8),
+        Err(OrderFull)
+    );
+    assert_eq!(rt; order_edits::insert(&mut places[..3], 9, 9, 5), Ok(3));
+    assert_eq!(rt; places, [0, 7, 5, 7, 9]);
+    assert_eq!(rt; order_edits::move_to_front(&mut places, 4, 7), 3);
+    assert_eq!(rt; places, [7, 0, 5, 7, 9]);
+    assert_eq!(rt; order_edits::move_to_front(&mut places, 3, 9), 3);
+    assert_eq!(rt; places, [7, 0, 5, 7, 9]);
 }
 
 #[test]

@@ -1,0 +1,111 @@
+//! Edits of an order that lies in the first places of a slice.
+//!
+//! `len` says how many numbers the order has; where there are fewer places, it has as many as
+//! these. A number may stand twice in such an order, and no edit leaves the number that it is about
+//! there twice. The places after the order are unchanged. No call takes memory.
+#![tactic(auto)]
+
+ghost use Rattle.std.specs.Prelude.{◌≡◌, ◌+◌, ◌-◌, ◌<◌, ◌≤◌, ◌↔◌, ◌∷◌, ◌++◌, [], drop, false, insert, length, slice_index, take, IfOk, IsErr, OnErr, OnOk};
+ghost use Rattle.uefi_boot_variables.specs.Orders.{over, stands_in, with_at, with_front, without};
+
+use std::error::Error;
+use std::fmt;
+
+/// Why an order takes no further number, or is not written: there is no room for it.
+#[derive(Clone, Copy, Debug, PartialEq, Eq)]
+pub struct OrderFull;
+
+/// Writes the reason.
+impl fmt::Display for OrderFull {
+    ghost use Rattle.std.specs.Prelude.{Some};
+    ghost use Rattle.uefi_boot_variables.specs.ErrorTexts.{order_full_text};
+
+    ghost output = { λ error. Some order_full_text };
+
+    fn fmt<W: fmt::Write>(&self, f: &mut fmt::Formatter<W>) -> fmt::Result {
+        f.write_str("there is no room for another number")
+    }
+}
+
+impl Error for OrderFull {}
+
+/// Whether a number stands in an order.
+pub fn contains(places: &[u16], len: usize, number: u16) -> bool
+    ensures { result ≡ stands_in number (take len places.now) }
+{
+    places[..len.min(places.len())].contains(&number)
+}
+
+/// Takes a number out of an order, wherever it stands, and returns how many numbers are left. The
+/// others keep their order.
+pub fn remove(places: &mut [u16], len: usize, number: u16) -> usize
+    ensures len { result ≡ length (without number (take len places.old)) }
+    ensures places { places.new ≡ over (without number (take len places.old)) places.old }
+{
+    let mut kept = 0;
+    for place in 0..len.min(places.len()) {
+        if places[place] != number {
+            places[kept] = places[place];
+            kept += 1;
+        }
+    }
+    kept
+}
+
+/// Puts a number at a place, before those that stood from there on, of which the last goes.
+fn put_in(numbers: &mut [u16], place: usize, number: u16)
+    requires { place < length numbers.old }
+    ensures { numbers.new ≡ insert (take (length numbers.old - 1) numbers.old) place number }
+{
+    // `rotate_right` would be a call of `memmove`, which firmware does not have.
+    let mut carried = number;
+    for at in place..numbers.len() {
+        let next = numbers[at];
+        numbers[at] = carried;
+        carried = next;
+    }
+}
+
+/// Puts a number at a place of an order, before those that stood from there on.
+pub(crate) fn put(places: &mut [u16], len: usize, place: usize, number: u16)
+    requires room { len < length places.old }
+    requires within { place ≤ len }
+    ensures { places.new ≡ over (insert (take len places.old) place number) places.old }
+{
+    put_in(&mut places[..len + 1], place, number);
+}
+
+/// Puts a number at a place among the others, which keep their order, and returns how many numbers
+/// there are then: where it stands in the order already, it moves. A place beyond the end is the
+/// end. Refused exactly where the number does not stand in the order, and there is no room; the
+/// places are then unchanged.
+pub fn insert(places: &mut [u16], len: usize, place: usize, number: u16) -> Result<usize, OrderFull>
+    ensures ok { IfOk result (λ new_len.
+        new_len ≡ length (with_at place number (take len places.old))) }
+    ensures places { OnOk result
+        (places.new ≡ over (with_at place number (take len places.old)) places.old) }
+    ensures err { OnErr result (places.new ≡ places.old) }
+    ensures refused { IsErr result ↔ ((stands_in number (take len places.old) ≡ false)
+        × (length places.old ≤ len)) }
+{
+    let kept = remove(places, len, number);
+    if places.len() <= kept {
+        return Err(OrderFull);
+    }
+    put(places, kept, place.min(kept), number);
+    Ok(kept + 1)
+}
+
+/// Moves a number of an order to the front, and returns how many numbers there are then; where it
+/// does not stand in the order, nothing changes. The others keep their order.
+pub fn move_to_front(places: &mut [u16], len: usize, number: u16) -> usize
+    ensures len { result ≡ length (with_front number (take len places.old)) }
+    ensures places { places.new ≡ over (with_front number (take len places.old)) places.old }
+{
+    let kept = remove(places, len, number);
+    if kept == len.min(places.len()) {
+        return kept;
+    }
+    put(places, kept, 0, number);
+    kept + 1
+}
