@@ -16,7 +16,7 @@
 #include "nardcorbel.h"
 
 /* More than firmware keeps of one variable. */
-enum { MOST_BYTES = 65536, MOST_UNITS = MOST_BYTES / 2, MOST_UTF8 = 3 * MOST_UNITS + 1, MOST_SHOWN = 4 * MOST_BYTES };
+enum { MOST_BYTES = 65536, MOST_UNITS = MOST_BYTES / 2, MOST_SHOWN = 4 * MOST_BYTES, MOST_UTF8 = 3 * MOST_SHOWN + 1 };
 
 /* LOAD_OPTION_ACTIVE, and the attributes of a variable that is kept, and seen at boot and at run time. */
 enum { ACTIVE = 1, VARIABLE_ATTRIBUTES = 7 };
@@ -30,7 +30,7 @@ struct entry {
 };
 
 /* A line of text, in units, in those that are shown of it, and in UTF-8, and what is shown of a device path. */
-static uint16_t units[MOST_UNITS], open_units[MOST_UNITS], shown[MOST_SHOWN];
+static uint16_t units[MOST_UNITS], open_units[MOST_SHOWN], shown[MOST_SHOWN];
 static uint8_t utf8[MOST_UTF8];
 
 /* What is malformed, where the reason says it. */
@@ -86,13 +86,13 @@ static bool is_hidden(uint16_t unit)
         || (0x2028 <= unit && unit < 0x202f) || (0x2066 <= unit && unit < 0x206a);
 }
 
-/* Prints the text of the string that `string` begins with, and `?` for each character that is hidden. */
-static void print_text(const uint16_t *string, size_t count)
+/* Prints units before a NUL as UTF-8: `?` for each character that is hidden, U+FFFD for a surrogate without a partner. */
+static void print_units(const uint16_t *from, size_t count)
 {
     size_t length = 0;
     for (size_t i = 0; i < count; i++)
-        open_units[i] = is_hidden(string[i]) ? '?' : string[i];
-    if (nard_utf8_from_string(open_units, count, utf8, sizeof utf8, &length) == NARD_OK)
+        open_units[i] = is_hidden(from[i]) ? '?' : from[i];
+    if (nard_utf8_from_units_lossy(open_units, count, utf8, sizeof utf8, &length) == NARD_OK)
         fwrite(utf8, 1, length, stdout);
 }
 
@@ -109,7 +109,7 @@ static bool print_path(struct entry entry, size_t at, size_t size)
         return refuse(at + 2 * place, "file path", reason_text(reason));
 
     printf("  path: ");
-    print_text(units, count);
+    print_units(units, count);
     reason = nard_path_verdict(units, count, &place, &character);
     if (reason == NARD_ILLEGAL_CHAR)
         printf(": refused: %s 0x%04x\n", reason_text(reason), (unsigned)character);
@@ -119,7 +119,7 @@ static bool print_path(struct entry entry, size_t at, size_t size)
         printf(": accepted\n");
     if (reason == NARD_OK && nard_path_file_name(units, place, &start)) {
         printf("  file: ");
-        print_text(units + start, count - start);
+        print_units(units + start, count - start);
         printf("\n");
     }
     return true;
@@ -136,31 +136,6 @@ static bool print_nodes(struct entry entry, size_t at, size_t end)
         bool names_file = reason == NARD_OK && node.device_type == MEDIA && node.sub_type == FILE_PATH;
         if (names_file && !print_path(entry, node.start, node.length))
             return false;
-    }
-}
-
-/* Prints the character that a pair of surrogates is. */
-static void print_pair(uint16_t high, uint16_t low)
-{
-    uint32_t character = 0x10000 + ((uint32_t)(high & 0x3ff) << 10 | (low & 0x3ff));
-    putchar((int)(0xf0 | character >> 18));
-    for (int shift = 12; 0 <= shift; shift -= 6)
-        putchar((int)(0x80 | (character >> shift & 0x3f)));
-}
-
-/* Prints units that firmware shows though they may be no text: U+FFFD stands for a surrogate without its partner. */
-static void print_units(const uint16_t *from, size_t length)
-{
-    for (size_t i = 0; i < length; i++) {
-        const uint16_t one[2] = {from[i], 0};
-        if ((from[i] & 0xf800) != 0xd800) {
-            print_text(one, 2);
-        } else if (from[i] < 0xdc00 && i + 1 < length && (from[i + 1] & 0xfc00) == 0xdc00) {
-            print_pair(from[i], from[i + 1]);
-            i++;
-        } else {
-            printf("\xef\xbf\xbd");
-        }
     }
 }
 
@@ -208,25 +183,26 @@ static bool print_entry(struct entry entry)
     return reason == NARD_OK || refuse(fault, part_of(reason), reason_text(reason));
 }
 
-/* The four hexadecimal digits of a name Boot####, which a dash and more may follow. */
-static const char *number_of_name(const char *path)
+/* Whether the name of a file is Boot####, which a dash and more may follow; then its number. */
+static bool read_name(const char *path, uint16_t *number)
 {
     const char *slash = strrchr(path, '/');
     const char *name = slash == NULL ? path : slash + 1;
-    if (strncmp(name, "Boot", 4) != 0 || strspn(name + 4, "0123456789ABCDEF") != 4)
-        return NULL;
-    return name[8] == '\0' || name[8] == '-' ? name + 4 : NULL;
+    size_t length = 0;
+    uint8_t kind = 0;
+    return nard_string_from_utf8((const uint8_t *)name, strcspn(name, "-"), units, MOST_UNITS, &length) == NARD_OK
+        && nard_boot_name_read(units, length + 1, &kind, number) == NARD_OK && kind == NARD_BOOT;
 }
 
 static bool print_file(const char *path)
 {
     static uint8_t bytes[MOST_BYTES + 1];
-    const char *number = number_of_name(path);
-    if (number == NULL) {
+    uint16_t number = 0;
+    if (!read_name(path, &number)) {
         printf("%s\n", path);
         return refuse(0, "name", "it is not Boot and four hexadecimal digits");
     }
-    printf("Boot%.4s\n", number);
+    printf("Boot%04X\n", (unsigned)number);
     FILE *file = fopen(path, "rb");
     if (file == NULL)
         return refuse(0, "file", "it cannot be opened");

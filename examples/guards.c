@@ -4,10 +4,17 @@
  * Each input and each buffer ends right before a page that nobody may read or write; in a second round it begins right after
  * one. A call that writes is made with each room from 0 to two elements more than it needs, and has to return and to leave in
  * the buffer what the header says. Each call is also made over each beginning of its inputs, where only the bounds count.
+ * In a third round each pointer whose count is 0 is null.
+ *
+ * usage: guards                  the rounds above
+ *        guards uninitialized    one round in memory of malloc, where what a call only writes is not initialized: valgrind then
+ *                                says whether a result depends on it
+ *
  * Prints each row that differs, and ends with 1 if one does. A call that touches a guard page ends the program.
  */
 #define _GNU_SOURCE
 #include <stdio.h>
+#include <stdlib.h>
 #include <string.h>
 #include <sys/mman.h>
 #include <uchar.h>
@@ -25,7 +32,6 @@ enum rule {
     TEXT,    /* it begins with `out`, whose last element is a NUL, or is unchanged if that does not fit */
     WHOLE,   /* the same without a NUL */
     PREFIX,  /* as TEXT, but it holds the first elements of `out` if not all fit */
-    UTF8,    /* as PREFIX, but *place is the room if not all fit, and `reason` and `place` hold if all do */
     FITTING  /* it holds what fits of `out`, and `reason` holds once that is more than `place` elements */
 };
 
@@ -46,7 +52,7 @@ struct row {
 };
 
 static nard_byte *areas[AREAS];
-static bool at_end, is_judged, failed;
+static bool at_end, is_null, is_uninitialized, is_judged, failed;
 static struct {
     void *at;
     size_t count;
@@ -57,6 +63,13 @@ static nard_unit *character;
 /* Memory of an area, at its end or at its start: a copy, or bytes that show whether they are written. */
 static void *put(enum area area, const void *at, size_t size)
 {
+    if (is_null && size == 0)
+        return NULL;
+    if (is_uninitialized) {
+        free(areas[area]);
+        areas[area] = malloc(size);
+        return at != NULL ? memcpy(areas[area], at, size) : areas[area];
+    }
     nard_byte *memory = areas[area] + (at_end ? AREA - size : 0);
     return at != NULL ? memcpy(memory, at, size) : memset(memory, FILL, size);
 }
@@ -84,7 +97,7 @@ FINDS(device_path_check)
 CHANGES(string_make_uppercase) CHANGES(string_make_lowercase) CHANGES(device_path_begin)
 ADDS(path_push) ADDS(device_path_append)
 WRITES(units_from_bytes) WRITES(string_from_utf8) WRITES(utf8_from_string) WRITES(path_parent) WRITES(fat_from_string)
-WRITES(string_from_fat) WRITES(device_path_file_path)
+WRITES(string_from_fat) WRITES(device_path_file_path) WRITES(utf8_from_units_lossy)
 CALL(path_verdict, IN(0), place, JUDGED)
 CALL(path_next_component, IN(0), place, (nard_size *)buffer.at, (nard_size *)buffer.at + 1)
 CALL(path_join, IN(0), IN(1), OUT, place)
@@ -95,6 +108,7 @@ CALL(load_option_read, IN(0), buffer.at, place)
 CALL(device_path_push, OUT, (nard_byte)(number >> 8), (nard_byte)number, IN(0), place)
 CALL(load_option_write, number, IN(0), IN(1), IN(2), OUT, place)
 CALL(device_path_strip_prefix, IN(0), IN(1), place)
+CALL(boot_name_write, (nard_byte)(number >> 16), (nard_unit)number, OUT, place)
 CALL(version)
 
 /* The node's fields are the buffer then, or its bytes if there is no node: a struct may have bytes that nobody writes. */
@@ -107,6 +121,21 @@ static nard_result call_device_path_next_node(void)
     return reason;
 }
 
+/* The number of a name or of an order is the character then. */
+static nard_result call_boot_name_read(void)
+{
+    nard_result reason = nard_boot_name_read(IN(0), buffer.at, character);
+    is_judged = reason == NARD_OK;
+    return reason;
+}
+
+static nard_result call_boot_order_read(void)
+{
+    nard_result reason = nard_boot_order_read(IN(0), number, character);
+    is_judged = reason == NARD_OK;
+    return reason;
+}
+
 /* Units with the NUL that the compiler puts after them and without, and bytes without it. */
 #define UNITS(text) {text, sizeof(text) / sizeof(nard_unit), sizeof(nard_unit)}
 #define OPEN(text) {text, sizeof(text) / sizeof(nard_unit) - 1, sizeof(nard_unit)}
@@ -114,6 +143,7 @@ static nard_result call_device_path_next_node(void)
 #define NO_BYTES {NULL, 0, 1}
 #define SIZES(...) {(const nard_size[]){__VA_ARGS__}, sizeof((nard_size[]){__VA_ARGS__}) / sizeof(nard_size), sizeof(nard_size)}
 #define NO_SIZES(count) {NULL, count, sizeof(nard_size)}
+#define NO_KIND {NULL, 1, 1}
 
 /* A PCI function, a file \a, and the node that ends a path; a load option of these; and nodes with a fault. */
 #define PCI "\1\1\6\0\0\x1f"
@@ -173,10 +203,13 @@ static const struct row rows[] = {
     FAULT(units_from_bytes, REFUSED, ODD_BYTES, 1, .in = {BYTES("a\0b")}),
     ROW(packed_until_nul, READ, .in = {BYTES("\0\xd8\0\0b")}, .place = 1),
     FAULT(packed_until_nul, READ, NO_NUL, 2, .in = {BYTES("a\0b\0\0")}),
-    ROW(string_from_utf8, UTF8, .in = {BYTES("a\xc3\xa9\xe2\x82\xac")}, .out = UNITS(u"a\u00e9\u20ac"), .place = 3),
-    ROW(string_from_utf8, UTF8, .in = {BYTES("")}, .out = UNITS(u""), .place = 0),
-    FAULT(string_from_utf8, UTF8, INVALID_CHAR, 1, .in = {BYTES("a\xf0\x9f\x98\x80z")}, .out = UNITS(u"a\xd83d\xde00z")),
-    FAULT(string_from_utf8, UTF8, INTERIOR_NUL, 1, .in = {BYTES("\xc3\xa9\0b")}, .out = UNITS(u"\u00e9\0b")),
+    ROW(string_from_utf8, TEXT, .in = {BYTES("a\xc3\xa9\xe2\x82\xac")}, .out = UNITS(u"a\u00e9\u20ac")),
+    ROW(string_from_utf8, TEXT, .in = {BYTES("\xef\xbf\xbf")}, .out = UNITS(u"\uffff")),
+    ROW(string_from_utf8, TEXT, .in = {BYTES("")}, .out = UNITS(u"")),
+    FAULT(string_from_utf8, REFUSED, INVALID_CHAR, 1, .in = {BYTES("a\xf0\x9f\x98\x80\0z")}),
+    FAULT(string_from_utf8, REFUSED, INTERIOR_NUL, 2, .in = {BYTES("\xc3\xa9z\0\xf0\x9f\x98\x80")}),
+    FAULT(string_from_utf8, REFUSED, INVALID_CHAR, 0, .in = {BYTES("\xf0\x90\x80\x80")}),
+    FAULT(string_from_utf8, REFUSED, NOT_UTF8, 1, .in = {BYTES("\0\xe2\x82")}),
     FAULT(string_from_utf8, REFUSED, NOT_UTF8, 2, .in = {BYTES("\xc3\xa9\xe2\x82")}),
     ROW(utf8_from_string, TEXT, .in = {UNITS(u"a\u00e9\u20ac")}, .out = BYTES("a\xc3\xa9\xe2\x82\xac\0")),
     BAD_UNITS(utf8_from_string, REFUSED, .out = NO_BYTES),
@@ -211,6 +244,8 @@ static const struct row rows[] = {
     FAULT(path_parent, REFUSED, NO_PARENT, UNCHANGED, .in = {UNITS(u"\\a")}), BAD_UNITS(path_parent, REFUSED),
     ROW(path_normalize, TEXT, .in = {UNITS(u"\\a\\.\\b\\..\\c")}, .out = UNITS(u"a\\c")),
     ROW(path_normalize, TEXT, .in = {UNITS(u"a\\..")}, .out = UNITS(u"\\")),
+    ROW(path_normalize, TEXT, .in = {UNITS(u"/efi/boot\\../x/.")}, .out = UNITS(u"efi\\x")),
+    FAULT(path_normalize, REFUSED, CLIMBS_ABOVE_ROOT, 3, .in = {UNITS(u"/..")}),
     FAULT(path_normalize, REFUSED, EMPTY_COMPONENT, 3, .in = {UNITS(u"a\\\\")}),
     FAULT(path_normalize, REFUSED, ILLEGAL_CHAR, 3, .in = {UNITS(u"a\\?")}, .character = '?'),
     BAD_UNITS(path_normalize, REFUSED),
@@ -275,6 +310,24 @@ static const struct row rows[] = {
     ANSWER(device_path_is_expansion, true, BYTES(PCI FILE_A END), BYTES(FILE_A END)),
     ANSWER(device_path_is_expansion, false, BYTES(PCI FILE_A END), BYTES(FILE_A)),
     ANSWER(device_path_is_expansion, false, BYTES(PCI FILE_A), BYTES(FILE_A END)),
+    ROW(utf8_from_units_lossy, TEXT, .in = {UNITS(u"a\xd83d\xde00\xd800\u00e9\0b")},
+        .out = BYTES("a\xf0\x9f\x98\x80\xef\xbf\xbd\xc3\xa9\0")),
+    ROW(utf8_from_units_lossy, TEXT, .in = {OPEN(u"\xdc00\xd800")}, .out = BYTES("\xef\xbf\xbd\xef\xbf\xbd\0")),
+    ROW(utf8_from_units_lossy, TEXT, .in = {OPEN(u"")}, .out = BYTES("\0")),
+    ROW(boot_name_read, READ, .in = {UNITS(u"Boot001F\0x")}, .place = UNCHANGED, .out = BYTES("\0"), .character = 0x1f),
+    ROW(boot_name_read, READ, .in = {UNITS(u"Driver000A")}, .place = UNCHANGED, .out = BYTES("\1"), .character = 10),
+    ROW(boot_name_read, READ, .in = {UNITS(u"SysPrep1234")}, .place = UNCHANGED, .out = BYTES("\2"), .character = 0x1234),
+    ROW(boot_name_read, READ, .in = {UNITS(u"PlatformRecoveryFFFF")}, .place = UNCHANGED, .out = BYTES("\3"), .character = 0xffff),
+    FAULT(boot_name_read, READ, NOT_A_NAME, UNCHANGED, .in = {UNITS(u"Boot001f")}, .out = NO_KIND),
+    FAULT(boot_name_read, READ, NOT_A_NAME, UNCHANGED, .in = {UNITS(u"BootOrder")}, .out = NO_KIND),
+    FAULT(boot_name_read, READ, NO_NUL, UNCHANGED, .in = {OPEN(u"Boot0001")}, .out = NO_KIND),
+    FAULT(boot_name_read, READ, INVALID_CHAR, UNCHANGED, .in = {UNITS(u"Boot\xd800")}, .out = NO_KIND),
+    ROW(boot_name_write, TEXT, .number = 0x001f, .out = UNITS(u"Boot001F")),
+    ROW(boot_name_write, TEXT, .number = 0x3abcd, .out = UNITS(u"PlatformRecoveryABCD")),
+    FAULT(boot_name_write, REFUSED, NOT_A_NAME, UNCHANGED, .number = 0x40000),
+    ROW(boot_order_read, READ, .in = {BYTES("\3\0\x1f\x20")}, .place = UNCHANGED, .number = 1, .character = 0x201f),
+    FAULT(boot_order_read, READ, END_OF_ORDER, UNCHANGED, .in = {BYTES("\3\0\x1f\x20")}, .number = 2),
+    FAULT(boot_order_read, READ, ODD_BYTES, UNCHANGED, .in = {BYTES("\3\0\x1f")}, .number = 0),
     ANSWER(version, NARD_VERSION_MAJOR << 16 | NARD_VERSION_MINOR << 8 | NARD_VERSION_PATCH, NO_BYTES),
 };
 
@@ -294,15 +347,16 @@ static size_t width_of(const struct row *row)
 static nard_result make(const struct row *row, const size_t *counts, size_t room)
 {
     size_t width = width_of(row), first = UNCHANGED;
+    bool is_place_read = row->rule == STEP || row->place == UNCHANGED;
     for (int i = 0; i < 3; i++) {
         given[i].count = counts[i];
         given[i].at = put(i, row->in[i].at, counts[i] * row->in[i].width);
     }
     buffer.count = room;
     buffer.at = put(BUFFER, NULL, room * width);
-    if (row->before.at != NULL)
+    if (row->before.at != NULL && room != 0)
         memcpy(buffer.at, row->before.at, least(room, row->before.count) * width);
-    place = put(PLACE, row->rule == STEP ? &row->number : &first, sizeof first);
+    place = put(PLACE, row->rule == STEP ? &row->number : is_uninitialized && !is_place_read ? NULL : &first, sizeof first);
     character = put(CHARACTER, NULL, sizeof *character);
     number = row->number;
     is_judged = false;
@@ -319,7 +373,6 @@ static void try_room(const struct row *row, const size_t *counts, size_t room)
     size_t wanted_place = rule == TEXT || rule == PREFIX ? count - 1
                           : rule == WHOLE                ? count
                           : rule == FITTING              ? written
-                          : rule == UTF8 && !fits        ? room
                                                          : row->place;
     nard_result wanted_reason = rule == FITTING && room <= row->place        ? NARD_OK
                                 : fits || rule == REFUSED || rule == FITTING ? row->reason
@@ -341,14 +394,92 @@ static void try_room(const struct row *row, const size_t *counts, size_t room)
     if (written != 0)
         memcpy(wanted, row->out.at, written * width);
 
+    /* Of a buffer that was not initialized only so many elements have a value. */
+    size_t known = is_uninitialized ? written : room;
+    if (row->before.at != NULL && known < row->before.count)
+        known = least(room, row->before.count);
+
     nard_result reason = make(row, counts, room);
-    bool is_so = reason == wanted_reason && *place == wanted_place && memcmp(buffer.at, wanted, room * width) == 0 &&
-                 *character == (is_judged ? row->character : FILL * 0x101);
+    bool is_so = reason == wanted_reason && *place == wanted_place &&
+                 (known == 0 || memcmp(buffer.at, wanted, known * width) == 0) &&
+                 (is_judged ? *character == row->character : is_uninitialized || *character == FILL * 0x101);
     for (int i = 0; i < 3; i++)
         is_so = is_so && (counts[i] == 0 || memcmp(given[i].at, row->in[i].at, counts[i] * row->in[i].width) == 0);
     if (!is_so) {
         printf("%s, line %d, room %zu: WRONG: %s at %zu, for %s at %zu\n", row->name, row->line, room, nard_reason_text(reason),
                *place, nard_reason_text(wanted_reason), wanted_place);
+        failed = true;
+    }
+}
+
+/* Makes a call over an empty input, which is null, and once more over one that is not. */
+static void try_null(const struct row *row, const size_t *counts, size_t room)
+{
+    static nard_byte made[AREA];
+    const size_t size = room * width_of(row);
+    nard_result reason = make(row, counts, room);
+    nard_size at = *place;
+    if (size != 0)
+        memcpy(made, buffer.at, size);
+    is_null = false;
+    if (make(row, counts, room) != reason || *place != at || (size != 0 && memcmp(buffer.at, made, size) != 0)) {
+        printf("%s, line %d: WRONG: null is not as an empty input\n", row->name, row->line);
+        failed = true;
+    }
+    is_null = true;
+}
+
+/* Edits of an order: what they return, and what becomes of the units and of their count. */
+static const struct edit {
+    int line;
+    enum { INSERT, REMOVE, FRONT } edit;
+    struct list before;
+    nard_size room, count;
+    nard_size place;
+    nard_unit number;
+    nard_result result;
+    struct list after;
+    nard_size new_count;
+} edits[] = {
+    {__LINE__, INSERT, OPEN(u"\3\0\7"), 5, 3, 1, 9, NARD_OK, OPEN(u"\3\11\0\7"), 4},
+    {__LINE__, INSERT, OPEN(u"\3\0\7"), 3, 3, 0, 7, NARD_OK, OPEN(u"\7\3\0"), 3},
+    {__LINE__, INSERT, OPEN(u"\3\0\7"), 3, 3, 0, 9, NARD_BUFFER_TOO_SMALL, OPEN(u"\3\0\7"), 3},
+    {__LINE__, INSERT, OPEN(u"\3\0\7"), 4, 3, 99, 3, NARD_OK, OPEN(u"\0\7\3"), 3},
+    {__LINE__, INSERT, OPEN(u"\3\0\7"), 3, 9, 0, 7, NARD_OK, OPEN(u"\7\3\0"), 3},
+    {__LINE__, INSERT, OPEN(u"\3\0\3\7"), 4, 3, 1, 3, NARD_OK, OPEN(u"\0\3\3\7"), 2},
+    {__LINE__, INSERT, OPEN(u""), 2, 0, 1, 9, NARD_OK, OPEN(u"\11"), 1},
+    {__LINE__, INSERT, OPEN(u""), 0, 0, 0, 9, NARD_BUFFER_TOO_SMALL, OPEN(u""), 0},
+    {__LINE__, REMOVE, OPEN(u"\3\0\3\7"), 4, 3, 0, 3, true, OPEN(u"\0\0\3\7"), 1},
+    {__LINE__, REMOVE, OPEN(u"\3\0\7"), 3, 2, 0, 7, false, OPEN(u"\3\0\7"), 2},
+    {__LINE__, REMOVE, OPEN(u""), 0, 0, 0, 7, false, OPEN(u""), 0},
+    {__LINE__, FRONT, OPEN(u"\3\0\7"), 3, 3, 0, 7, true, OPEN(u"\7\3\0"), 3},
+    {__LINE__, FRONT, OPEN(u"\3\0\7"), 3, 2, 0, 7, false, OPEN(u"\3\0\7"), 2},
+    {__LINE__, FRONT, OPEN(u""), 0, 0, 0, 7, false, OPEN(u""), 0},
+};
+
+static void try_edit(const struct edit *it)
+{
+    nard_unit *order = put(BUFFER, NULL, it->room * sizeof *order);
+    nard_size *count = put(PLACE, &it->count, sizeof *count);
+    if (it->before.count != 0)
+        memcpy(order, it->before.at, it->before.count * sizeof *order);
+    nard_result result = it->edit == INSERT   ? nard_boot_order_insert(order, it->room, count, it->place, it->number)
+                         : it->edit == REMOVE ? nard_boot_order_remove(order, it->room, count, it->number)
+                                              : nard_boot_order_move_to_front(order, it->room, count, it->number);
+    if (result != it->result || *count != it->new_count ||
+        (it->after.count != 0 && memcmp(order, it->after.at, it->after.count * sizeof *order) != 0)) {
+        printf("edit of an order, line %d: WRONG: %u, %zu numbers\n", it->line, (unsigned)result, *count);
+        failed = true;
+    }
+}
+
+/* A call is a macro, which evaluates an argument once. */
+static void try_macro(void)
+{
+    const nard_unit text[] = {'a', 0}, *at = text;
+    nard_size count = 2;
+    if (!nard_string_is_ascii(at++, count--) || at != text + 1 || count != 1 || (nard_string_is_ascii)(text, 1)) {
+        printf("nard_string_is_ascii: WRONG\n");
         failed = true;
     }
 }
@@ -367,23 +498,32 @@ static void try_row(const struct row *row)
         for (size_t count = 0; count < row->in[i].count && row->in[i].count < PAGE / 2; count++) {
             counts[i] = count;
             make(row, counts, needed);
+            if (count == 0 && is_null)
+                try_null(row, counts, needed);
         }
         counts[i] = row->in[i].count;
     }
 }
 
-int main(void)
+int main(int argc, char **argv)
 {
-    for (int i = 0; i < AREAS; i++) {
+    is_uninitialized = argc > 1 && strcmp(argv[1], "uninitialized") == 0;
+    for (int i = 0; i < AREAS && !is_uninitialized; i++) {
         nard_byte *pages = mmap(NULL, AREA + 2 * PAGE, PROT_READ | PROT_WRITE, MAP_PRIVATE | MAP_ANONYMOUS, -1, 0);
         if (pages == MAP_FAILED || mprotect(pages, PAGE, PROT_NONE) != 0 || mprotect(pages + PAGE + AREA, PAGE, PROT_NONE) != 0)
             return 2;
         areas[i] = pages + PAGE;
     }
-    for (int turn = 0; turn < 2; turn++) {
-        at_end = turn == 0;
+    for (int turn = 0; turn < (is_uninitialized ? 1 : 3); turn++) {
+        at_end = turn != 1;
+        is_null = turn == 2;
         for (size_t i = 0; i < sizeof rows / sizeof rows[0]; i++)
             try_row(&rows[i]);
+        for (size_t i = 0; i < sizeof edits / sizeof edits[0]; i++)
+            try_edit(&edits[i]);
     }
+    try_macro();
+    for (int i = 0; i < AREAS && is_uninitialized; i++)
+        free(areas[i]);
     return failed;
 }

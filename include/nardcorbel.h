@@ -12,11 +12,11 @@
  *   path    a string whose components stand between separators, '\'. One separator at its start is ignored.
  *
  * What the caller must see to
- *   - No pointer is null, also where its count is 0.
+ *   - A pointer with a count is null only if the count is 0; no other pointer is null.
  *   - Pointers to units, sizes and structs are aligned for their type. Bytes may lie anywhere, so a device path may too; the
  *     name in a node may begin at an odd address, and nard_units_from_bytes copies it to an even one.
- *   - The memory has as many elements as the count or the room says, at most PTRDIFF_MAX bytes. It is initialized, also a
- *     buffer that a call only writes.
+ *   - The memory has as many elements as the count or the room says, at most PTRDIFF_MAX bytes.
+ *   - What a call reads is initialized. What it only writes, a buffer or a number such as *length, need not be.
  *   - A nard_bool is 0 or 1.
  *   - While a call runs, nobody else writes what it is given or reads what it writes: no interrupt, no event, no processor.
  *   - What a call writes overlaps nothing else that it is given. What it only reads may overlap.
@@ -50,7 +50,7 @@ typedef uint16_t nard_unit;
 typedef size_t nard_size;
 typedef bool nard_bool;
 typedef uint32_t nard_result; /* a reason */
-typedef int32_t nard_order;   /* -1, 0 or 1 for less, equal or greater */
+typedef int32_t nard_order;   /* -1, 0 or 1 for less, equal or greater, or NARD_NO_ORDER */
 #endif
 
 #ifndef NARD_CALL
@@ -103,14 +103,18 @@ extern "C" {
     REASON(CHAR_REPLACED, 25, "a character became '_'") /* nothing is wrong */ \
     REASON(NODE_OF_END, 26, "an end node may not stand before the end of a device path") \
     REASON(NODE_TOO_LONG, 27, "the node is longer than its header can state") \
-    REASON(LIST_TOO_LONG, 28, "the file path list is longer than its header can state")
+    REASON(LIST_TOO_LONG, 28, "the file path list is longer than its header can state") \
+    REASON(NOT_A_NAME, 29, "no load option has the name or the kind") \
+    REASON(END_OF_ORDER, 30, "the order ends here") /* nothing is wrong */
 
 enum nard_reason {
 #define NARD_AS_CONSTANT(name, number, text) NARD_##name = number,
     NARD_REASONS(NARD_AS_CONSTANT)
 #undef NARD_AS_CONSTANT
-    NARD_NO_ORDER = 2 /* an order, of two things of which one is no string */
 };
+
+/* The order of two things of which one is no string: the least nard_order. */
+#define NARD_NO_ORDER (-2147483647 - 1)
 
 /* A reason in words. */
 static inline const char *nard_reason_text(nard_result reason)
@@ -128,10 +132,10 @@ static inline const char *nard_reason_text(nard_result reason)
 
 /* The EFI_STATUS for a reason, in programs that have EFI_SUCCESS and the other status codes. */
 #define NARD_EFI_STATUS(reason) \
-    ((reason) == NARD_OK                                               ? EFI_SUCCESS \
-     : (reason) == NARD_BUFFER_TOO_SMALL                               ? EFI_BUFFER_TOO_SMALL \
-     : (reason) == NARD_NO_PARENT || (reason) == NARD_END_OF_PATH ? EFI_NOT_FOUND \
-                                                                       : EFI_INVALID_PARAMETER)
+    ((reason) == NARD_OK                 ? EFI_SUCCESS \
+     : (reason) == NARD_BUFFER_TOO_SMALL ? EFI_BUFFER_TOO_SMALL \
+     : (reason) == NARD_NO_PARENT || (reason) == NARD_END_OF_PATH || (reason) == NARD_END_OF_ORDER ? EFI_NOT_FOUND \
+                                                                                                   : EFI_INVALID_PARAMETER)
 
 /* ---- Strings ---- */
 
@@ -160,7 +164,10 @@ nard_result NARD_CALL nard_string_until_nul(const nard_unit *units, nard_size co
 nard_bool NARD_CALL nard_string_equal(const nard_unit *first, nard_size first_count,
                                       const nard_unit *second, nard_size second_count);
 
-/* The order of two strings, unit by unit: -1, 0 or 1; NARD_NO_ORDER if one of them does not begin with a string. */
+/*
+ * The order of two strings, unit by unit: -1, 0 or 1; NARD_NO_ORDER, which is below 0 too, if one of them does not begin with a
+ * string.
+ */
 nard_order NARD_CALL nard_string_order(const nard_unit *first, nard_size first_count,
                                        const nard_unit *second, nard_size second_count);
 
@@ -217,13 +224,12 @@ nard_result NARD_CALL nard_packed_until_nul(const nard_byte *bytes, nard_size by
 /*
  * Writes a text in UTF-8 as a string.
  *
- * Returns the first of these that holds
- *   NARD_NOT_UTF8          *length is how many bytes before the fault are UTF-8; the buffer is unchanged
- *   NARD_BUFFER_TOO_SMALL  *length is room; the buffer holds the first units of the text's UTF-16
- *   NARD_INVALID_CHAR      a character is above U+FFFF; *length is how many characters stand before it, and the buffer holds
- *                          the text's UTF-16 and a NUL
- *   NARD_INTERIOR_NUL      the same for a NUL
- *   NARD_OK                *length is the length of the text
+ * Returns
+ *   NARD_OK
+ *   NARD_NOT_UTF8                           *length is how many bytes before the fault are UTF-8; the buffer is unchanged
+ *   NARD_INVALID_CHAR, NARD_INTERIOR_NUL    a character is above U+FFFF, or a NUL, whichever comes first; *length is how many
+ *                                           characters stand before it, and the buffer is unchanged
+ *   NARD_BUFFER_TOO_SMALL                   room <= *length; the buffer is unchanged
  */
 nard_result NARD_CALL nard_string_from_utf8(const nard_byte *bytes, nard_size byte_count,
                                             nard_unit *buffer, nard_size room, nard_size *length);
@@ -238,6 +244,18 @@ nard_result NARD_CALL nard_string_from_utf8(const nard_byte *bytes, nard_size by
  */
 nard_result NARD_CALL nard_utf8_from_string(const nard_unit *units, nard_size count,
                                             nard_byte *bytes, nard_size room, nard_size *length);
+
+/*
+ * Writes the units before the first NUL, or all of them if there is none, as UTF-8 with a NUL. Each pair of surrogates is one
+ * character, and U+FFFD stands for each surrogate that has no partner, so that nothing is refused: to show a description or a
+ * name that may be no string.
+ *
+ * Returns
+ *   NARD_OK                 *length is how many bytes stand before the NUL
+ *   NARD_BUFFER_TOO_SMALL   room <= *length; the bytes are unchanged
+ */
+nard_result NARD_CALL nard_utf8_from_units_lossy(const nard_unit *units, nard_size count,
+                                                 nard_byte *bytes, nard_size room, nard_size *length);
 
 /*
  * Whether the units begin with a string, the bytes are UTF-8, and one is a prefix of the other: the text of the string, and
@@ -333,13 +351,14 @@ nard_result NARD_CALL nard_path_join(const nard_unit *path, nard_size count, con
 nard_result NARD_CALL nard_path_parent(const nard_unit *path, nard_size count, nard_unit *buffer, nard_size room, nard_size *length);
 
 /*
- * Writes the normal path of a path to a buffer: without `.`, and without each name that a `..` follows. If nothing is left, it
- * is a lone separator.
+ * Writes the normal path of a path to a buffer, slashes replaced: without `.`, and without each name that a `..` follows. If
+ * nothing is left, it is a lone separator.
  *
  * Returns
  *   NARD_OK                 *character is 0
  *   NARD_BUFFER_TOO_SMALL   room <= *length, and *character is 0; the buffer is unchanged
- *   another reason          as nard_path_verdict, with its *length and *character; the buffer is unchanged
+ *   another reason          as nard_path_verdict of the path with its slashes replaced, with its *length and *character; the
+ *                           buffer is unchanged
  */
 nard_result NARD_CALL nard_path_normalize(const nard_unit *path, nard_size count, nard_unit *buffer, nard_size room,
                                           nard_size *length, nard_unit *character);
@@ -560,8 +579,192 @@ nard_bool NARD_CALL nard_device_path_strip_prefix(const nard_byte *bytes, nard_s
 nard_bool NARD_CALL nard_device_path_is_expansion(const nard_byte *bytes, nard_size byte_count,
                                                   const nard_byte *form, nard_size form_count);
 
+/* ---- Names and orders of load options (section 3.3) ---- */
+
+/* What firmware does with a load option: the word that its name begins with. */
+enum nard_boot_kind {
+    NARD_BOOT = 0,             /* Boot####: a system or an application that is started */
+    NARD_DRIVER = 1,           /* Driver####: a driver that is loaded before anything is booted */
+    NARD_SYS_PREP = 2,         /* SysPrep####: an application that runs before anything is booted */
+    NARD_PLATFORM_RECOVERY = 3 /* PlatformRecovery####: what is started if nothing else boots */
+};
+
+/*
+ * Reads the name of a variable that holds a load option, such as Boot001F: the word of a kind, and a number in four
+ * hexadecimal digits, in upper case.
+ *
+ *   *kind     out: NARD_BOOT, NARD_DRIVER, NARD_SYS_PREP or NARD_PLATFORM_RECOVERY
+ *   *number   out: the number
+ *
+ * Returns
+ *   NARD_OK
+ *   NARD_NO_NUL, NARD_INVALID_CHAR   as nard_string_until_nul; both are unchanged
+ *   NARD_NOT_A_NAME                  the string is no such name; both are unchanged
+ */
+nard_result NARD_CALL nard_boot_name_read(const nard_unit *units, nard_size count, nard_byte *kind, nard_unit *number);
+
+/*
+ * Writes the name of the load option of a kind and a number to a buffer: at most 20 units and a NUL.
+ *
+ * Returns
+ *   NARD_OK
+ *   NARD_NOT_A_NAME         the kind is above 3; the buffer and *length are unchanged
+ *   NARD_BUFFER_TOO_SMALL   room <= *length; the buffer is unchanged
+ */
+nard_result NARD_CALL nard_boot_name_write(nard_byte kind, nard_unit number, nard_unit *buffer, nard_size room,
+                                           nard_size *length);
+
+/*
+ * Reads a number of an order: the value of BootOrder, DriverOrder or SysPrepOrder.
+ *
+ *   place     which number, 0 for the first
+ *   *number   out: the number, if NARD_OK is returned; otherwise unchanged
+ *
+ * Returns
+ *   NARD_OK
+ *   NARD_ODD_BYTES      byte_count is odd, whatever the place
+ *   NARD_END_OF_ORDER   the order has at most `place` numbers
+ */
+nard_result NARD_CALL nard_boot_order_read(const nard_byte *bytes, nard_size byte_count, nard_size place, nard_unit *number);
+
+/*
+ * Edit an order in units, as nard_units_from_bytes reads it and SetVariable takes it: the first *count units of `order`, or
+ * `room` of them if that is less. The numbers that an edit is not about keep their order.
+ *
+ *   *count   in and out: how many numbers there are; the units after them are unchanged
+ *
+ * nard_boot_order_insert puts a number at a place among the others; if it is in the order already, it moves. A place beyond the
+ * end is the end. It returns NARD_OK, or NARD_BUFFER_TOO_SMALL if the number is not in the order, and there is no room for
+ * it; the order and *count are then unchanged.
+ *
+ * The other two return whether the number was in the order. One takes it out, wherever it stands; the other moves it to the
+ * front.
+ */
+nard_result NARD_CALL nard_boot_order_insert(nard_unit *order, nard_size room, nard_size *count, nard_size place, nard_unit number);
+nard_bool NARD_CALL nard_boot_order_remove(nard_unit *order, nard_size room, nard_size *count, nard_unit number);
+nard_bool NARD_CALL nard_boot_order_move_to_front(nard_unit *order, nard_size room, nard_size *count, nard_unit number);
+
 /* The version of the archive: major * 65536 + minor * 256 + patch. */
 nard_result NARD_CALL nard_version(void);
+
+/* ---- Null pointers ---- */
+
+/*
+ * The library takes no null pointer. So each call that takes a pointer with a count is a macro too, which gives the library a
+ * pointer to an element in place of a null pointer. It evaluates each argument once. The function itself is
+ * (nard_string_equal), say; nobody reads or writes the element, since the count of a null pointer has to be 0.
+ */
+static inline const nard_unit *nard_given_units(const nard_unit *units)
+{
+    static const nard_unit none = 0;
+    return units ? units : &none;
+}
+
+static inline const nard_byte *nard_given_bytes(const nard_byte *bytes)
+{
+    static const nard_byte none = 0;
+    return bytes ? bytes : &none;
+}
+
+static inline nard_unit *nard_given_unit_room(nard_unit *buffer)
+{
+    static nard_unit none;
+    return buffer ? buffer : &none;
+}
+
+static inline nard_byte *nard_given_byte_room(nard_byte *buffer)
+{
+    static nard_byte none;
+    return buffer ? buffer : &none;
+}
+
+/* A letter for each argument: U and B for units and bytes that are read, V and C for those that are written, N for another. */
+#define NARD_GIVEN_B(call, a, ...) \
+    (call)(nard_given_bytes(a), __VA_ARGS__)
+#define NARD_GIVEN_BNB(call, a, b, c, ...) \
+    (call)(nard_given_bytes(a), b, nard_given_bytes(c), __VA_ARGS__)
+#define NARD_GIVEN_BNNNV(call, a, b, c, d, e, ...) \
+    (call)(nard_given_bytes(a), b, c, d, nard_given_unit_room(e), __VA_ARGS__)
+#define NARD_GIVEN_BNV(call, a, b, c, ...) \
+    (call)(nard_given_bytes(a), b, nard_given_unit_room(c), __VA_ARGS__)
+#define NARD_GIVEN_C(call, a, ...) \
+    (call)(nard_given_byte_room(a), __VA_ARGS__)
+#define NARD_GIVEN_CNB(call, a, b, c, ...) \
+    (call)(nard_given_byte_room(a), b, nard_given_bytes(c), __VA_ARGS__)
+#define NARD_GIVEN_CNNNB(call, a, b, c, d, e, ...) \
+    (call)(nard_given_byte_room(a), b, c, d, nard_given_bytes(e), __VA_ARGS__)
+#define NARD_GIVEN_NNV(call, a, b, c, ...) \
+    (call)(a, b, nard_given_unit_room(c), __VA_ARGS__)
+#define NARD_GIVEN_NUNBNBNC(call, a, b, c, d, e, f, g, h, ...) \
+    (call)(a, nard_given_units(b), c, nard_given_bytes(d), e, nard_given_bytes(f), g, nard_given_byte_room(h), __VA_ARGS__)
+#define NARD_GIVEN_U(call, a, ...) \
+    (call)(nard_given_units(a), __VA_ARGS__)
+#define NARD_GIVEN_UNB(call, a, b, c, ...) \
+    (call)(nard_given_units(a), b, nard_given_bytes(c), __VA_ARGS__)
+#define NARD_GIVEN_UNC(call, a, b, c, ...) \
+    (call)(nard_given_units(a), b, nard_given_byte_room(c), __VA_ARGS__)
+#define NARD_GIVEN_UNU(call, a, b, c, ...) \
+    (call)(nard_given_units(a), b, nard_given_units(c), __VA_ARGS__)
+#define NARD_GIVEN_UNUNV(call, a, b, c, d, e, ...) \
+    (call)(nard_given_units(a), b, nard_given_units(c), d, nard_given_unit_room(e), __VA_ARGS__)
+#define NARD_GIVEN_UNV(call, a, b, c, ...) \
+    (call)(nard_given_units(a), b, nard_given_unit_room(c), __VA_ARGS__)
+#define NARD_GIVEN_V(call, a, ...) \
+    (call)(nard_given_unit_room(a), __VA_ARGS__)
+#define NARD_GIVEN_VNU(call, a, b, c, ...) \
+    (call)(nard_given_unit_room(a), b, nard_given_units(c), __VA_ARGS__)
+#define NARD_AS_IS(call) call
+#define nard_string_with_nul(...) NARD_AS_IS(NARD_GIVEN_U(nard_string_with_nul, __VA_ARGS__))
+#define nard_string_until_nul(...) NARD_AS_IS(NARD_GIVEN_U(nard_string_until_nul, __VA_ARGS__))
+#define nard_string_equal(...) NARD_AS_IS(NARD_GIVEN_UNU(nard_string_equal, __VA_ARGS__))
+#define nard_string_order(...) NARD_AS_IS(NARD_GIVEN_UNU(nard_string_order, __VA_ARGS__))
+#define nard_string_is_ascii(...) NARD_AS_IS(NARD_GIVEN_U(nard_string_is_ascii, __VA_ARGS__))
+#define nard_string_equal_ignore_case(...) NARD_AS_IS(NARD_GIVEN_UNU(nard_string_equal_ignore_case, __VA_ARGS__))
+#define nard_string_order_ignore_case(...) NARD_AS_IS(NARD_GIVEN_UNU(nard_string_order_ignore_case, __VA_ARGS__))
+#define nard_string_make_uppercase(...) NARD_AS_IS(NARD_GIVEN_V(nard_string_make_uppercase, __VA_ARGS__))
+#define nard_string_make_lowercase(...) NARD_AS_IS(NARD_GIVEN_V(nard_string_make_lowercase, __VA_ARGS__))
+#define nard_string_matches(...) NARD_AS_IS(NARD_GIVEN_UNU(nard_string_matches, __VA_ARGS__))
+#define nard_units_from_bytes(...) NARD_AS_IS(NARD_GIVEN_BNV(nard_units_from_bytes, __VA_ARGS__))
+#define nard_packed_until_nul(...) NARD_AS_IS(NARD_GIVEN_B(nard_packed_until_nul, __VA_ARGS__))
+#define nard_string_from_utf8(...) NARD_AS_IS(NARD_GIVEN_BNV(nard_string_from_utf8, __VA_ARGS__))
+#define nard_utf8_from_string(...) NARD_AS_IS(NARD_GIVEN_UNC(nard_utf8_from_string, __VA_ARGS__))
+#define nard_utf8_from_units_lossy(...) NARD_AS_IS(NARD_GIVEN_UNC(nard_utf8_from_units_lossy, __VA_ARGS__))
+#define nard_string_equal_until_nul(...) NARD_AS_IS(NARD_GIVEN_UNB(nard_string_equal_until_nul, __VA_ARGS__))
+#define nard_utf8_is_latin1(...) NARD_AS_IS(NARD_GIVEN_B(nard_utf8_is_latin1, __VA_ARGS__))
+#define nard_path_verdict(...) NARD_AS_IS(NARD_GIVEN_U(nard_path_verdict, __VA_ARGS__))
+#define nard_path_equal(...) NARD_AS_IS(NARD_GIVEN_UNU(nard_path_equal, __VA_ARGS__))
+#define nard_path_order(...) NARD_AS_IS(NARD_GIVEN_UNU(nard_path_order, __VA_ARGS__))
+#define nard_path_equal_ignore_case(...) NARD_AS_IS(NARD_GIVEN_UNU(nard_path_equal_ignore_case, __VA_ARGS__))
+#define nard_path_matches(...) NARD_AS_IS(NARD_GIVEN_UNU(nard_path_matches, __VA_ARGS__))
+#define nard_path_next_component(...) NARD_AS_IS(NARD_GIVEN_U(nard_path_next_component, __VA_ARGS__))
+#define nard_path_file_name(...) NARD_AS_IS(NARD_GIVEN_U(nard_path_file_name, __VA_ARGS__))
+#define nard_path_parent_length(...) NARD_AS_IS(NARD_GIVEN_U(nard_path_parent_length, __VA_ARGS__))
+#define nard_path_push(...) NARD_AS_IS(NARD_GIVEN_VNU(nard_path_push, __VA_ARGS__))
+#define nard_path_join(...) NARD_AS_IS(NARD_GIVEN_UNUNV(nard_path_join, __VA_ARGS__))
+#define nard_path_parent(...) NARD_AS_IS(NARD_GIVEN_UNV(nard_path_parent, __VA_ARGS__))
+#define nard_path_normalize(...) NARD_AS_IS(NARD_GIVEN_UNV(nard_path_normalize, __VA_ARGS__))
+#define nard_fat_name_check(...) NARD_AS_IS(NARD_GIVEN_U(nard_fat_name_check, __VA_ARGS__))
+#define nard_fat_name_equal(...) NARD_AS_IS(NARD_GIVEN_UNU(nard_fat_name_equal, __VA_ARGS__))
+#define nard_fat_name_is_short(...) NARD_AS_IS(NARD_GIVEN_U(nard_fat_name_is_short, __VA_ARGS__))
+#define nard_fat_from_string(...) NARD_AS_IS(NARD_GIVEN_UNC(nard_fat_from_string, __VA_ARGS__))
+#define nard_string_from_fat(...) NARD_AS_IS(NARD_GIVEN_BNV(nard_string_from_fat, __VA_ARGS__))
+#define nard_device_path_check(...) NARD_AS_IS(NARD_GIVEN_B(nard_device_path_check, __VA_ARGS__))
+#define nard_device_path_next_node(...) NARD_AS_IS(NARD_GIVEN_B(nard_device_path_next_node, __VA_ARGS__))
+#define nard_device_path_file_path(...) NARD_AS_IS(NARD_GIVEN_BNV(nard_device_path_file_path, __VA_ARGS__))
+#define nard_device_path_text(...) NARD_AS_IS(NARD_GIVEN_BNNNV(nard_device_path_text, __VA_ARGS__))
+#define nard_load_option_read(...) NARD_AS_IS(NARD_GIVEN_B(nard_load_option_read, __VA_ARGS__))
+#define nard_device_path_begin(...) NARD_AS_IS(NARD_GIVEN_C(nard_device_path_begin, __VA_ARGS__))
+#define nard_device_path_push(...) NARD_AS_IS(NARD_GIVEN_CNNNB(nard_device_path_push, __VA_ARGS__))
+#define nard_device_path_append(...) NARD_AS_IS(NARD_GIVEN_CNB(nard_device_path_append, __VA_ARGS__))
+#define nard_load_option_write(...) NARD_AS_IS(NARD_GIVEN_NUNBNBNC(nard_load_option_write, __VA_ARGS__))
+#define nard_device_path_strip_prefix(...) NARD_AS_IS(NARD_GIVEN_BNB(nard_device_path_strip_prefix, __VA_ARGS__))
+#define nard_device_path_is_expansion(...) NARD_AS_IS(NARD_GIVEN_BNB(nard_device_path_is_expansion, __VA_ARGS__))
+#define nard_boot_name_read(...) NARD_AS_IS(NARD_GIVEN_U(nard_boot_name_read, __VA_ARGS__))
+#define nard_boot_name_write(...) NARD_AS_IS(NARD_GIVEN_NNV(nard_boot_name_write, __VA_ARGS__))
+#define nard_boot_order_read(...) NARD_AS_IS(NARD_GIVEN_B(nard_boot_order_read, __VA_ARGS__))
+#define nard_boot_order_insert(...) NARD_AS_IS(NARD_GIVEN_V(nard_boot_order_insert, __VA_ARGS__))
+#define nard_boot_order_remove(...) NARD_AS_IS(NARD_GIVEN_V(nard_boot_order_remove, __VA_ARGS__))
+#define nard_boot_order_move_to_front(...) NARD_AS_IS(NARD_GIVEN_V(nard_boot_order_move_to_front, __VA_ARGS__))
 
 #ifdef __cplusplus
 }

@@ -38,8 +38,10 @@ void lines_put_units(const uint16_t *units, size_t length)
 
 void lines_put_name(uint16_t number)
 {
-    lines_put("Boot");
-    put_digits(number);
+    uint16_t name[9] = {0};
+    size_t length = 0;
+    (void)nard_boot_name_write(NARD_BOOT, number, name, 9, &length);
+    lines_put_units(name, length);
 }
 
 static void put_fault(struct reader_fault fault)
@@ -66,7 +68,7 @@ bool lines_normal(const struct reader *reader, uint16_t *normal, size_t *length,
 {
     uint32_t refused =
         nard_path_normalize(reader->path, reader->path_length + 1, normal, READER_MOST_UNITS, length, character);
-    *reason = refused != NARD_OK ? reader_reason(refused) : "a name is longer than file systems hold";
+    *reason = refused != NARD_OK ? nard_reason_text(refused) : "a name is longer than file systems hold";
     return refused == NARD_OK && !has_long_name(normal, *length);
 }
 
@@ -90,7 +92,7 @@ static bool put_file(const struct reader *reader)
         lines_put(": refused: ");
         lines_put(reason);
         if (character != 0) {
-            lines_put(" ");
+            lines_put(": ");
             lines_put_units(&character, 1);
         }
         lines_put("\n");

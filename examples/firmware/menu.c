@@ -10,7 +10,7 @@
 
 _Static_assert(sizeof(CHAR16) == 2 && sizeof(UINTN) == sizeof(size_t), "the types of UEFI are not those of the reader");
 
-enum { MOST_ENTRIES = 256, MOST_TARGET = 2048, MOST_TEXT = 4096, NODE_HEADER = 4, END = 0x7f };
+enum { MOST_ENTRIES = 256, MOST_TARGET = 2048, MOST_TEXT = 4096, MOST_NAME = 24, NODE_HEADER = 4 };
 enum { KEY_UP = 1, KEY_DOWN = 2, MEDIA = 4, FILE_PATH = 4 };
 /* What a boot manager gives an entry to start, in seconds, and a number for it that is not the firmware's. */
 enum { WATCHDOG_SECONDS = 300, WATCHDOG_CODE = 0x10000 };
@@ -52,24 +52,20 @@ static void put_status(EFI_STATUS status)
 }
 
 /* Reads a variable of UEFI's own into a buffer of `room` bytes: how many it has. */
-static EFI_STATUS read_variable(const char *text, void *buffer, size_t room, size_t *size)
+static EFI_STATUS read_variable(const uint16_t *name, void *buffer, size_t room, size_t *size)
 {
-    CHAR16 name[16] = {0};
     UINT32 attributes = 0;
     UINTN bytes = room;
-    for (size_t i = 0; i + 1 < sizeof name / sizeof name[0] && text[i] != '\0'; i++)
-        name[i] = (uint8_t)text[i];
-    EFI_STATUS status = table->RuntimeServices->GetVariable(name, &global_variable, &attributes, &bytes, buffer);
+    EFI_STATUS status = table->RuntimeServices->GetVariable((CHAR16 *)name, &global_variable, &attributes, &bytes, buffer);
     *size = status == EFI_SUCCESS ? bytes : 0;
     return status;
 }
 
 static EFI_STATUS read_entry(uint16_t number, size_t *size)
 {
-    char name[9] = "Boot";
-    for (int i = 0; i < 4; i++)
-        name[4 + i] = "0123456789ABCDEF"[number >> (12 - 4 * i) & 15];
-    name[8] = '\0';
+    uint16_t name[MOST_NAME];
+    size_t length = 0;
+    (void)nard_boot_name_write(NARD_BOOT, number, name, MOST_NAME, &length);
     return read_variable(name, variable, sizeof variable, size);
 }
 
@@ -84,30 +80,16 @@ static const uint8_t *path_of(EFI_HANDLE handle, size_t *size)
     return found;
 }
 
-/* The next node of a device path, but for those that end it or an instance: where it begins, and where it ends. */
-static bool next_node(const uint8_t *path, size_t size, size_t *begin, size_t *end)
-{
-    struct nard_device_node node = {0, 0, 0, 0};
-    *begin = *end;
-    return nard_device_path_next_node(path, size, end, &node) == NARD_OK && node.device_type != END;
-}
-
-static bool is_equal(const uint8_t *first, const uint8_t *second, size_t size)
-{
-    while (size > 0 && first[size - 1] == second[size - 1])
-        size--;
-    return size == 0;
-}
-
-/* Whether a handle's device path has the node of the disk that the reader found. */
+/* Whether a handle is that of the disk that the reader found: its device path is one that the disk's node stands for. */
 static bool lies_on_disk(EFI_HANDLE handle, const struct reader *of)
 {
-    size_t size = 0, begin = 0, end = 0;
+    static uint8_t disk[MOST_TARGET];
+    const uint8_t *node = of->bytes + of->disk;
+    size_t size = 0, length = 0, data = of->disk_size - NODE_HEADER;
     const uint8_t *path = path_of(handle, &size);
-    while (path != NULL && next_node(path, size, &begin, &end))
-        if (end - begin == of->disk_size && is_equal(path + begin, of->bytes + of->disk, of->disk_size))
-            return true;
-    return false;
+    return path != NULL && nard_device_path_begin(disk, MOST_TARGET, &length) == NARD_OK &&
+           nard_device_path_push(disk, MOST_TARGET, node[0], node[1], node + NODE_HEADER, data, &length) == NARD_OK &&
+           nard_device_path_is_expansion(path, size, disk, length);
 }
 
 /* The handle of the file system of the disk that the reader found, and the menu's own where it found none. */
@@ -155,30 +137,17 @@ enum lines_found lines_look(const struct reader *of, const uint16_t *normal)
     return said;
 }
 
-/* Writes the device path of a file into `target`: that of its volume, a node with the path, and an end node. */
+/* Writes the device path of a file into `target`: that of its volume, and a node with the path. */
 static bool write_target(uint8_t *target, EFI_HANDLE volume, const uint16_t *normal, size_t length)
 {
     static uint16_t whole[MOST_TARGET / 2];
     static const uint16_t root[2] = {'\\', 0};
-    static const uint8_t end[NODE_HEADER] = {END, 0xff, NODE_HEADER, 0};
-    size_t size_of_path = 0, before = 0, after = 0, place = 0;
-    const uint8_t *path = path_of(volume, &size_of_path);
-    while (path != NULL && next_node(path, size_of_path, &before, &after))
-        ;
-    if (path == NULL || nard_path_join(root, 2, normal, length + 1, whole, MOST_TARGET / 2, &place) != NARD_OK)
-        return false;
-    size_t bytes = 2 * (place + 1), size = NODE_HEADER + bytes;
-    if (MOST_TARGET < before || MOST_TARGET - before < size + sizeof end)
-        return false;
-    services->CopyMem(target, (void *)path, before);
-    uint8_t *node = target + before;
-    node[0] = MEDIA;
-    node[1] = FILE_PATH;
-    node[2] = (uint8_t)size;
-    node[3] = (uint8_t)(size >> 8);
-    services->CopyMem(node + NODE_HEADER, whole, bytes);
-    services->CopyMem(node + size, (void *)end, sizeof end);
-    return true;
+    size_t size = 0, place = 0, end = 0;
+    const uint8_t *path = path_of(volume, &size);
+    return path != NULL && nard_path_join(root, 2, normal, length + 1, whole, MOST_TARGET / 2, &place) == NARD_OK &&
+           nard_device_path_begin(target, MOST_TARGET, &end) == NARD_OK &&
+           nard_device_path_append(target, MOST_TARGET, path, size, &end) == NARD_OK &&
+           nard_device_path_push(target, MOST_TARGET, MEDIA, FILE_PATH, (const uint8_t *)whole, 2 * (place + 1), &end) == NARD_OK;
 }
 
 /* Loads and starts a file, with what follows the entry's file paths as its options. */
@@ -231,25 +200,26 @@ static void start(uint16_t number)
 /* Shows each entry of BootOrder, whatever it holds, but those after many. */
 static void show_entries(void)
 {
-    static uint16_t order[READER_MOST_UNITS];
+    static uint8_t order[READER_MOST_BYTES];
+    uint16_t number = 0;
     size_t size = 0;
-    EFI_STATUS status = read_variable("BootOrder", order, sizeof order, &size);
+    EFI_STATUS status = read_variable(u"BootOrder", order, sizeof order, &size);
     if (status != EFI_SUCCESS) {
         lines_put("BootOrder cannot be read: ");
         put_status(status);
     }
     entry_count = 0;
-    for (size_t i = 0; i < size / 2 && i < MOST_ENTRIES; i++) {
+    for (size_t i = 0; i < MOST_ENTRIES && nard_boot_order_read(order, size, i, &number) == NARD_OK; i++) {
         size_t bytes = 0;
-        status = read_entry(order[i], &bytes);
+        status = read_entry(number, &bytes);
         if (status != EFI_SUCCESS) {
-            lines_put_name(order[i]);
+            lines_put_name(number);
             lines_put(" cannot be read: ");
             put_status(status);
             continue;
         }
-        bool can_start = lines_show(&reader, order[i], variable, bytes);
-        entries[entry_count++] = (struct entry){order[i], can_start};
+        bool can_start = lines_show(&reader, number, variable, bytes);
+        entries[entry_count++] = (struct entry){number, can_start};
     }
     if (MOST_ENTRIES < size / 2) {
         lines_put_number(size / 2 - MOST_ENTRIES);

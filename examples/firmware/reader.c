@@ -18,32 +18,6 @@ static const char *part_of(uint32_t reason)
     }
 }
 
-const char *reader_reason(uint32_t reason)
-{
-    switch ((enum nard_reason)reason) {
-    case NARD_NO_NUL:
-    case NARD_DESCRIPTION_WITHOUT_END: return "no NUL ends it";
-    case NARD_INVALID_CHAR: return "it holds a surrogate";
-    case NARD_INTERIOR_NUL: return "more follows its NUL";
-    case NARD_BUFFER_TOO_SMALL: return "it is too long";
-    case NARD_ODD_BYTES: return "it ends in half a unit";
-    case NARD_PATH_EMPTY: return "the path is empty";
-    case NARD_EMPTY_COMPONENT: return "a component is empty";
-    case NARD_ILLEGAL_CHAR: return "no file's name holds the character";
-    case NARD_CLIMBS_ABOVE_ROOT: return "it climbs above the root";
-    case NARD_OPTION_TOO_SHORT: return "it ends before its description";
-    case NARD_LIST_BEYOND_END: return "its length is more than the entry has left";
-    case NARD_EMPTY_LIST:
-    case NARD_NO_END_NODE: return "no end node ends it";
-    case NARD_TRUNCATED_HEADER: return "the file path list ends in its header";
-    case NARD_UNKNOWN_END: return "it ends neither a path nor an instance";
-    case NARD_LENGTH_BELOW_HEADER: return "its length is less than its header's";
-    case NARD_END_WITH_DATA: return "its length is not its header's";
-    case NARD_NODE_BEYOND_END: return "its length is more than the file path list has left";
-    default: return nard_reason_text(reason);
-    }
-}
-
 static bool refuse(struct reader *reader, size_t offset, const char *part, const char *reason)
 {
     reader->fault = (struct reader_fault){offset, part, reason};
@@ -58,7 +32,7 @@ static void read_description(struct reader *reader, size_t length)
     (void)nard_units_from_bytes(reader->bytes + HEAD, 2 * (length + 1), reader->description, READER_MOST_UNITS, &count);
     uint32_t reason = nard_string_with_nul(reader->description, count, &place);
     if (reason != NARD_OK)
-        reader->description_fault = (struct reader_fault){HEAD + 2 * place, "description", reader_reason(reason)};
+        reader->description_fault = (struct reader_fault){HEAD + 2 * place, "description", nard_reason_text(reason)};
     reader->description_length = length;
 }
 
@@ -76,15 +50,15 @@ bool reader_begin(struct reader *reader, const uint8_t *bytes, size_t size)
         return refuse(reader, READER_MOST_BYTES, "entry", "it is too long");
     uint32_t reason = nard_load_option_read(bytes, size, &option, &place);
     if (reason == NARD_OPTION_TOO_SHORT || reason == NARD_DESCRIPTION_WITHOUT_END)
-        return refuse(reader, place, part_of(reason), reader_reason(reason));
+        return refuse(reader, place, part_of(reason), nard_reason_text(reason));
     /* All else that is refused stands after the description, or says where the list after it ends. */
     (void)nard_packed_until_nul(bytes + HEAD, size - HEAD, &length);
     read_description(reader, length);
     reader->is_active = (bytes[0] & ACTIVE) != 0;
     if (reason == NARD_LIST_BEYOND_END)
-        return refuse(reader, place, part_of(reason), reader_reason(reason));
+        return refuse(reader, place, part_of(reason), nard_reason_text(reason));
     if (reason != NARD_OK)
-        reader->fault = (struct reader_fault){place, part_of(reason), reader_reason(reason)};
+        reader->fault = (struct reader_fault){place, part_of(reason), nard_reason_text(reason)};
     reader->at = HEAD + 2 * (length + 1);
     reader->end = reason == NARD_OK ? option.optional_start : place;
     return true;
@@ -96,15 +70,15 @@ static bool add_path(struct reader *reader, struct nard_device_node node)
     size_t text = node.start, count = 0, place = 0;
     uint32_t reason = nard_units_from_bytes(reader->bytes + text, node.length, reader->node, READER_MOST_UNITS, &count);
     if (reason != NARD_OK)
-        return refuse(reader, text + node.length - 1, "file path", reader_reason(reason));
+        return refuse(reader, text + node.length - 1, "file path", nard_reason_text(reason));
     reason = nard_string_with_nul(reader->node, count, &place);
     if (reason != NARD_OK)
-        return refuse(reader, text + 2 * place, "file path", reader_reason(reason));
+        return refuse(reader, text + 2 * place, "file path", nard_reason_text(reason));
     bool brings_separator = reader->node[0] == '\\' || reader->node[0] == '/';
     size_t start = reader->path_length > 0 && brings_separator;
     reason = nard_path_push(reader->path, READER_MOST_UNITS, reader->node + start, count - start, &place);
     if (reason != NARD_OK)
-        return refuse(reader, text, "file path", reader_reason(reason));
+        return refuse(reader, text, "file path", nard_reason_text(reason));
     reader->path_length = place;
     return true;
 }

@@ -46,7 +46,4 @@ bool reader_begin(struct reader *reader, const uint8_t *bytes, size_t size);
  */
 bool reader_next(struct reader *reader);
 
-/* Why the library refuses. */
-const char *reader_reason(uint32_t reason);
-
 #endif

@@ -12,7 +12,11 @@ import sys
 MOST_BYTES, MOST_NAME, ILLEGAL = 16384, 255, set('"*/:<>?|')
 SURROGATES = range(0xD800, 0xE000)
 FALLBACK = re.compile(r"EFI\\BOOT\\BOOT[^\\]*\.EFI", re.IGNORECASE | re.ASCII | re.DOTALL)
-TEXT_FAULTS = {"nul": "no NUL ends it", "surrogate": "it holds a surrogate", "inside": "more follows its NUL"}
+TEXT_FAULTS = {
+    "nul": "no NUL ends the string",
+    "surrogate": "the string holds a surrogate or a character above U+FFFF",
+    "inside": "something follows the NUL",
+}
 
 
 class Malformed(Exception):
@@ -42,18 +46,18 @@ def nodes_of(data, start, end):
     at, is_ended = start, False
     while not (is_ended and at == end):
         if at == end:
-            raise Malformed(end, "file path list", "no end node ends it")
+            raise Malformed(end, "file path list", "the file path list is empty" if start == end else "no end node ends the device path")
         if end - at < 4:
-            raise Malformed(at, "node", "the file path list ends in its header")
+            raise Malformed(at, "node", "the bytes end in the header of a node")
         kind, subtype, size = struct.unpack_from("<BBH", data, at)
         if kind == 0x7F and subtype not in (1, 0xFF):
-            raise Malformed(at + 1, "end node", "it ends neither a path nor an instance")
+            raise Malformed(at + 1, "end node", "an end node ends neither a path nor an instance")
         if size < 4:
-            raise Malformed(at + 2, "node", "its length is less than its header's")
+            raise Malformed(at + 2, "node", "the length of a node is less than that of its header")
         if kind == 0x7F and size != 4:
-            raise Malformed(at + 2, "end node", "its length is not its header's")
+            raise Malformed(at + 2, "end node", "an end node has data")
         if end - at < size:
-            raise Malformed(at + 2, "node", "its length is more than the file path list has left")
+            raise Malformed(at + 2, "node", "a node is longer than the bytes that are left")
         yield kind, subtype, at, data[at : at + size]
         at, is_ended = at + size, (kind, subtype) == (0x7F, 0xFF)
 
@@ -72,7 +76,7 @@ def files_of(data, start, end):
             disk = node
         elif (kind, subtype) == (4, 4):
             if len(node) % 2:
-                raise Malformed(at + len(node) - 1, "file path", "it ends in half a unit")
+                raise Malformed(at + len(node) - 1, "file path", "the number of bytes is odd")
             units = units_of(node[4:])
             if fault := fault_of(units):
                 raise Malformed(at + 4 + 2 * fault[0], "file path", TEXT_FAULTS[fault[1]])
@@ -100,11 +104,11 @@ def normal_of(units):
     for name in text.split("\\") if text else []:
         bad = [it for it in name if it in ILLEGAL]
         if not name:
-            return "a component is empty", False
+            return "a component of the path is empty", False
         if bad:
-            return f"no file's name holds the character {shown([ord(bad[0])])}", False
+            return f"a component holds a character that file names may not hold: {shown([ord(bad[0])])}", False
         if name == ".." and not kept:
-            return "it climbs above the root", False
+            return "the path climbs above the root", False
         if name == "..":
             kept.pop()
         elif name != ".":
@@ -126,7 +130,7 @@ def lines(number, data, look=lambda normal, disk: ""):
     """The lines of an entry; `look` says what is printed after the normal path of a file."""
     head, after, fault = f"Boot{number:04X}", [], None
     if len(data) < 6:
-        head, fault = f"{head}: ", (len(data), "entry", "it ends before its description")
+        head, fault = f"{head}: ", (len(data), "entry", "the load option ends in its header")
     elif MOST_BYTES < len(data):
         head, fault = f"{head}: ", (MOST_BYTES, "entry", "it is too long")
     else:
@@ -138,9 +142,9 @@ def lines(number, data, look=lambda normal, disk: ""):
         if is_ended and surrogate is not None:
             after.append(malformed(6 + 2 * surrogate, "description", TEXT_FAULTS["surrogate"]))
         if not is_ended:
-            fault = 6 + 2 * count, "description", TEXT_FAULTS["nul"]
+            fault = 6 + 2 * count, "description", "no NUL ends the description"
         elif not is_whole:
-            fault = 4, "file path list", "its length is more than the entry has left"
+            fault = 4, "file path list", "the file path list is longer than the bytes that are left"
         else:
             after += list_lines(data, start, start + size, look)
     return [head, *after, *([malformed(*fault)] if fault else [])]

@@ -75,6 +75,8 @@ reasons! {
     NodeOfEnd = NODE_OF_END, "an end node may not stand before the end of a device path";
     NodeTooLong = NODE_TOO_LONG, "the node is longer than its header can state";
     ListTooLong = LIST_TOO_LONG, "the file path list is longer than its header can state";
+    NotAName = NOT_A_NAME, "no load option has the name or the kind";
+    EndOfOrder = END_OF_ORDER, "the order ends here";
 }
 
 impl fmt::Display for Error {

@@ -35,7 +35,7 @@ impl CStr16 {
     /// Writes a text and a NUL to the start of a buffer, and returns the string.
     ///
     /// Fails if a character is NUL or above U+FFFF; the error's place counts the characters before it. Also fails if the buffer is
-    /// too small; then the place is one more than its length, which may still be too few.
+    /// too small; then the place is how many units it needs. If the call fails, the buffer is unchanged.
     pub fn from_str_with_buf<'a>(text: &str, buffer: &'a mut [u16]) -> Result<&'a Self, Error> {
         let mut place = 0;
         // SAFETY: both pointers and counts are those of slices, one of them not shared; `place` is a local.

@@ -30,6 +30,12 @@ pub const CHAR_REPLACED: u32 = 25;
 pub const NODE_OF_END: u32 = 26;
 pub const NODE_TOO_LONG: u32 = 27;
 pub const LIST_TOO_LONG: u32 = 28;
+pub const NOT_A_NAME: u32 = 29;
+pub const END_OF_ORDER: u32 = 30;
+pub const BOOT: u8 = 0;
+pub const DRIVER: u8 = 1;
+pub const SYS_PREP: u8 = 2;
+pub const PLATFORM_RECOVERY: u8 = 3;
 
 #[repr(C)]
 #[derive(Clone, Copy, Debug, Default)]
@@ -128,6 +134,13 @@ extern "C" {
         length: *mut usize,
     ) -> u32;
     pub fn nard_utf8_from_string(
+        units: *const u16,
+        count: usize,
+        bytes: *mut u8,
+        room: usize,
+        length: *mut usize,
+    ) -> u32;
+    pub fn nard_utf8_from_units_lossy(
         units: *const u16,
         count: usize,
         bytes: *mut u8,
@@ -330,6 +343,44 @@ extern "C" {
         byte_count: usize,
         form: *const u8,
         form_count: usize,
+    ) -> bool;
+    pub fn nard_boot_name_read(
+        units: *const u16,
+        count: usize,
+        kind: *mut u8,
+        number: *mut u16,
+    ) -> u32;
+    pub fn nard_boot_name_write(
+        kind: u8,
+        number: u16,
+        buffer: *mut u16,
+        room: usize,
+        length: *mut usize,
+    ) -> u32;
+    pub fn nard_boot_order_read(
+        bytes: *const u8,
+        byte_count: usize,
+        place: usize,
+        number: *mut u16,
+    ) -> u32;
+    pub fn nard_boot_order_insert(
+        order: *mut u16,
+        room: usize,
+        count: *mut usize,
+        place: usize,
+        number: u16,
+    ) -> u32;
+    pub fn nard_boot_order_remove(
+        order: *mut u16,
+        room: usize,
+        count: *mut usize,
+        number: u16,
+    ) -> bool;
+    pub fn nard_boot_order_move_to_front(
+        order: *mut u16,
+        room: usize,
+        count: *mut usize,
+        number: u16,
     ) -> bool;
     pub fn nard_version(
     ) -> u32;

@@ -46,13 +46,10 @@ fn texts_in_buffers() {
     let mut buffer = [9; 4];
     assert!(CStr16::from_str_with_buf("abc", &mut buffer).unwrap() == "abc");
     let error = CStr16::from_str_with_buf("abcd", &mut buffer).unwrap_err();
-    assert_eq!(error.reason, Reason::BufferTooSmall);
-    assert_eq!(
-        CStr16::from_str_with_buf("\u{1f600}", &mut buffer)
-            .unwrap_err()
-            .reason,
-        Reason::InvalidChar
-    );
+    assert_eq!((error.reason, error.place), (Reason::BufferTooSmall, 5));
+    let error = CStr16::from_str_with_buf("abcdef\u{1f600}", &mut buffer).unwrap_err();
+    assert_eq!((error.reason, error.place), (Reason::InvalidChar, 6));
+    assert_eq!(buffer, [97, 98, 99, 0]);
     let word = units("é");
     let string = string_of(&word);
     let mut bytes = [9; 3];

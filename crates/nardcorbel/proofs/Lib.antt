@@ -3,3 +3,5 @@ pub mod Tails
 pub mod Nodes
 pub mod Options
 pub mod Written
+mod Surrogates
+mod Judged

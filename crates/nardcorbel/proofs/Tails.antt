@@ -11,9 +11,10 @@ use Rattle.uefi_path.specs.Pushing.{needs_separator, pushed}
 use Rattle.uefi_path.specs.Separators.{is_separator, separator, slash, with_separators}
 use Rattle.uefi_path.specs.Components.{components_of}
 use Rattle.uefi_path.specs.Laws.{ValidWhereUnrefused}
-use Rattle.uefi_path.specs.NormalForms.{normal_of}
+use Rattle.uefi_path.specs.NormalForms.{normal_of, normal_text}
 use Rattle.uefi_path.specs.Verdicts.{IsValid, verdict}
-use Rattle.uefi_path.specs.Writing.{normal_path, normal_where, written_len, written_over}
+use Rattle.uefi_path.specs.Writing.{normal_path, normal_where, normal_written, written_len, written_over}
+use Rattle.uefi_path.specs.declared.written.NormalWriteError.TheVariants.{Invalid}
 use Rattle.uefi_path.specs.declared.validation.PathError.{PathError}
 use Rattle.nardcorbel.specs.Buffers.{tail_of}
 
@@ -163,29 +164,6 @@ ended_by_nul text buffer written room len before returned wrote =
     ∙ ap (λ n. with_prefix (nul_terminated (take n (text ++ drop (length text) buffer))) (text ++ drop (length text) buffer)) fits.0
     ∙ end_written text buffer (omega (arith, size, fits.1, before))
 
--- a text that has no room is not written
-unwritten : (text buffer : List ℕ) (len : ℕ) → Err len ≡ written_len (Some text) buffer
-    → (len ≡ length text) × (length buffer < length text)
-unwritten text buffer len is = elim (cases_lt (length buffer) (length text)) [
-  | inl less ↦
-      let short = lt-ltb (length buffer) (length text) less in
-      (grind (arith, common_steps, is, short), less)
-  | inr enough ↦
-      let fits = le-ltb (length buffer) (length text) (omega (arith, enough)) in
-      absurd (grind (arith, common_steps, is, fits))
-]
-
-pub unchanged_by_nul : (text buffer written : List ℕ) (room len : ℕ) → room ≡ length buffer - 1
-    → Err len ≡ written_len (Some text) (take room buffer) → written ≡ written_over (Some text) (take room buffer)
-    → written ++ drop room buffer ≡ with_prefix (nul_terminated text) buffer
-unchanged_by_nul text buffer written room len before returned wrote =
-    let short = (unwritten text (take room buffer) len returned).1 in
-    let all = length-append text (0 ∷ []) in
-    let same : written ≡ take room buffer = wrote ∙ rw (lt-ltb (length (take room buffer)) (length text) short) refl in
-    let none = lt-ltb (length buffer) (length (nul_terminated text))
-    (omega (arith, short, length-take room buffer, before, all)) in
-    ap (λ us. us ++ drop room buffer) same ∙ take-append-drop room buffer ∙ rw none refl
-
 -- a path that is not valid has no normal path, so none is written
 none_where : (refusal : Option PathError) (normal : List (List ℕ)) → refusal ≢ None
     → normal_where refusal normal ≡ None
@@ -206,6 +184,27 @@ pub none_is_written : (made : Option (List ℕ)) (buffer : List ℕ) (len : ℕ)
     → Ok (Some len) ≢ written_len made buffer
 none_is_written made buffer len none is = let e = is ∙ ap (λ m. written_len m buffer) none in cc
 
-pub none_is_short : (made : Option (List ℕ)) (buffer : List ℕ) (len : ℕ) → made ≡ None
-    → Err len ≢ written_len made buffer
-none_is_short made buffer len none is = let e = is ∙ ap (λ m. written_len m buffer) none in cc
+-- what a call returns that writes a normal path, as of any text
+pub as_written : (refusal : Option PathError) (normal : List (List ℕ)) (buffer : List ℕ) (len : ℕ)
+    → Ok len ≡ normal_written refusal (normal_text normal) buffer → Ok (Some len) ≡ written_len (normal_where refusal normal) buffer
+as_written (Some error) normal buffer len is = absurd (cc)
+as_written None normal buffer len is = elim (cases_lt (length buffer) (length (normal_text normal))) [
+  | inl less ↦
+      let short = lt-ltb (length buffer) (length (normal_text normal)) less in
+      absurd (grind (arith, common_steps, is, short))
+  | inr enough ↦
+      let fits = le-ltb (length buffer) (length (normal_text normal)) (omega (arith, enough)) in
+      grind (arith, common_steps, is, fits)
+]
+
+pub as_refused : (refusal : Option PathError) (normal buffer : List ℕ) (error : PathError)
+    → Err (Invalid error) ≡ normal_written refusal normal buffer → refusal ≡ Some error
+as_refused (Some other) normal buffer error is = grind (arith, common_steps, is)
+as_refused None normal buffer error is = elim (cases_lt (length buffer) (length normal)) [
+  | inl less ↦
+      let short = lt-ltb (length buffer) (length normal) less in
+      absurd (grind (arith, common_steps, is, short))
+  | inr enough ↦
+      let fits = le-ltb (length buffer) (length normal) (omega (arith, enough)) in
+      absurd (grind (arith, common_steps, is, fits))
+]

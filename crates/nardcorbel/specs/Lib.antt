@@ -5,3 +5,4 @@ pub mod PathPlaces
 pub mod Buffers
 pub mod DevicePaths
 pub mod Building
+pub mod BootVariables

@@ -1,13 +1,11 @@
 -- The numbers that a caller in C sees: reasons of refusals, and orders. The header names each.
-use Rattle.std.specs.Prelude.{ℕ, ℤ, pos, negsuc, Option, Some, None}
+use Rattle.std.specs.Prelude.{ℕ, ℤ, ◌==◌, if◌then◌else◌, pos, negsuc, Option, Some, None}
 use Rattle.std.specs.declared.cmp.Ordering.{Ordering}
 use Rattle.std.specs.declared.cmp.Ordering.TheVariants.{Less, Equal, Greater}
 use Rattle.uefi_text.specs.declared.errors.FromSliceUntilNulError.{FromSliceUntilNulError}
 use Rattle.uefi_text.specs.declared.errors.FromSliceUntilNulError.TheVariants as until_nul
 use Rattle.uefi_text.specs.declared.errors.FromSliceWithNulError.{FromSliceWithNulError}
 use Rattle.uefi_text.specs.declared.errors.FromSliceWithNulError.TheVariants as with_nul
-use Rattle.uefi_text.specs.declared.errors.FromStrWithBufError.{FromStrWithBufError}
-use Rattle.uefi_text.specs.declared.errors.FromStrWithBufError.TheVariants as with_buf
 use Rattle.uefi_fat.specs.declared.names.FatNameError.{FatNameError}
 use Rattle.uefi_fat.specs.declared.names.FatNameError.TheVariants as fat_name
 use Rattle.uefi_path.specs.declared.validation.PathError.{PathError}
@@ -18,7 +16,7 @@ use Rattle.uefi_device_path.specs.declared.errors.FilePathCause.{FilePathCause}
 use Rattle.uefi_device_path.specs.declared.errors.FilePathCause.TheVariants as file
 use Rattle.uefi_device_path.specs.declared.errors.LoadOptionCause.{LoadOptionCause}
 use Rattle.uefi_device_path.specs.declared.errors.LoadOptionCause.TheVariants as option
-use Rattle.nardcorbel.specs.declared.reasons.TheConstants.{OK, NO_NUL, INVALID_CHAR, INTERIOR_NUL, BUFFER_TOO_SMALL, ODD_BYTES, PATH_EMPTY, EMPTY_COMPONENT, ILLEGAL_CHAR, CLIMBS_ABOVE_ROOT, NO_END_NODE, TRUNCATED_HEADER, UNKNOWN_END, LENGTH_BELOW_HEADER, END_WITH_DATA, NODE_BEYOND_END, OPTION_TOO_SHORT, DESCRIPTION_WITHOUT_END, LIST_BEYOND_END, EMPTY_LIST, NAME_EMPTY, NAME_TOO_LONG}
+use Rattle.nardcorbel.specs.declared.reasons.TheConstants.{OK, NO_NUL, INVALID_CHAR, INTERIOR_NUL, ODD_BYTES, PATH_EMPTY, EMPTY_COMPONENT, ILLEGAL_CHAR, CLIMBS_ABOVE_ROOT, NO_END_NODE, TRUNCATED_HEADER, UNKNOWN_END, LENGTH_BELOW_HEADER, END_WITH_DATA, NODE_BEYOND_END, OPTION_TOO_SHORT, DESCRIPTION_WITHOUT_END, LIST_BEYOND_END, EMPTY_LIST, NAME_EMPTY, NAME_TOO_LONG}
 
 -- the reason why units begin with no string; memory is never the reason
 abbrev pub until_nul_reason : Option FromSliceUntilNulError → ℕ
@@ -36,12 +34,10 @@ with_nul_reason (Some with_nul.NotNulTerminated) = NO_NUL
 with_nul_reason (Some with_nul.NotAligned) = NO_NUL
 with_nul_reason (Some with_nul.OutOfMemory) = NO_NUL
 
--- the reason why a text does not become a string in a buffer
-abbrev pub with_buf_reason : Option FromStrWithBufError → ℕ
-with_buf_reason None = OK
-with_buf_reason (Some (with_buf.InvalidChar place)) = INVALID_CHAR
-with_buf_reason (Some (with_buf.InteriorNul place)) = INTERIOR_NUL
-with_buf_reason (Some with_buf.BufferTooSmall) = BUFFER_TOO_SMALL
+-- the reason why a text is no string, by its first character that none holds
+abbrev pub character_reason : Option ℕ → ℕ
+character_reason None = OK
+character_reason (Some character) = if character == 0 then INTERIOR_NUL else INVALID_CHAR
 
 -- the reason why a path is refused
 abbrev pub path_reason : Option PathError → ℕ

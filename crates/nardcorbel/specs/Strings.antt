@@ -4,13 +4,10 @@ use Rattle.std.specs.List.{before_first}
 use Rattle.uefi_text.specs.Units.{is_nul, without_nul}
 use Rattle.uefi_text.specs.FromSliceUntilNul.{until_nul_refusal}
 use Rattle.uefi_text.specs.FromSliceWithNul.{with_nul_refusal}
-use Rattle.uefi_text.specs.FromStrWithBuf.{from_str_with_buf_refusal}
 use Rattle.uefi_text.specs.declared.errors.FromSliceUntilNulError.{FromSliceUntilNulError}
 use Rattle.uefi_text.specs.declared.errors.FromSliceUntilNulError.TheVariants as until_nul
 use Rattle.uefi_text.specs.declared.errors.FromSliceWithNulError.{FromSliceWithNulError}
 use Rattle.uefi_text.specs.declared.errors.FromSliceWithNulError.TheVariants as with_nul
-use Rattle.uefi_text.specs.declared.errors.FromStrWithBufError.{FromStrWithBufError}
-use Rattle.uefi_text.specs.declared.errors.FromStrWithBufError.TheVariants as with_buf
 
 -- what stands before the first NUL of units, and all of them where there is none
 abbrev pub text_in : List ℕ → List ℕ
@@ -39,16 +36,3 @@ with_nul_place_at units (Some with_nul.OutOfMemory) = length units
 -- where reading units that all have to be one string ends: at its NUL, or where they are refused
 abbrev pub with_nul_place : List ℕ → ℕ
 with_nul_place units = with_nul_place_at units (with_nul_refusal units)
-
--- where writing characters as a string into a buffer of `room` places ends: at the NUL; after how many
--- characters one is refused; or at the end of the buffer
-abbrev pub with_buf_place_at : List ℕ → ℕ → Option FromStrWithBufError → ℕ
-with_buf_place_at characters room None = length characters
-with_buf_place_at characters room (Some (with_buf.InvalidChar place)) = place
-with_buf_place_at characters room (Some (with_buf.InteriorNul place)) = place
-with_buf_place_at characters room (Some with_buf.BufferTooSmall) = room
-
--- where writing characters as a string into a buffer of `room` places ends, by these alone
-abbrev pub with_buf_place : List ℕ → ℕ → ℕ
-with_buf_place characters room =
-    with_buf_place_at characters room (from_str_with_buf_refusal characters room)

@@ -12,11 +12,10 @@ ghost use Rattle.uefi_path.specs.Writing.{normal_path};
 ghost use Rattle.nardcorbel.specs.Reasons.{path_reason, refused_character, until_nul_reason};
 ghost use Rattle.nardcorbel.specs.Strings.{text_in, until_nul_place};
 
-use crate::paths::judge;
-use crate::reasons::{BUFFER_TOO_SMALL, NO_PARENT, OK, until_nul_reason};
+use crate::reasons::{BUFFER_TOO_SMALL, NO_PARENT, OK, path_reason, until_nul_reason};
 use crate::strings::until_nul_place;
 use uefi_path::slices::{with_separator, write_part, write_with_separators};
-use uefi_path::{Path, laws};
+use uefi_path::{NormalWriteError, Path, laws};
 use uefi_text::CStr16;
 
 /// The code unit of the separator.
@@ -225,14 +224,15 @@ pub extern "C" fn nard_path_parent(path: &[u16], buffer: &mut [u16], place: &mut
     }
 }
 
-/// Writes the normal path of a string's path, as `Path::normalize` makes it, into the first places of a
-/// buffer, and a NUL.
+/// Writes the normal path of a string's path, as `Path::write_normal` makes it, into the first places of a
+/// buffer, and a NUL: each slash is a separator.
 ///
 /// Units that begin with no string are refused as by `nard_string_until_nul`, and then a path that is not
-/// valid as by `nard_path_verdict`, with its `place` and its `character`. Else `place` becomes how many units
-/// the normal path has, and a buffer of no more places is `BUFFER_TOO_SMALL`. Refused, the buffer stays
-/// unchanged; what stands after the NUL stays. `character` becomes 0 but where a character is the
-/// reason. Two passes over the path after those of `nard_path_verdict`; takes no memory.
+/// valid as by `nard_path_verdict` of the path with its slashes replaced, with its `place` and its
+/// `character`. Else `place` becomes how many units the normal path has, and a buffer of no more places is
+/// `BUFFER_TOO_SMALL`. Refused, the buffer stays unchanged; what stands after the NUL stays. `character`
+/// becomes 0 but where a character is the reason. Two passes over the path after those that judge it;
+/// takes no memory.
 #[unsafe(no_mangle)]
 pub extern "C" fn nard_path_normalize(
     path: &[u16],
@@ -245,18 +245,20 @@ pub extern "C" fn nard_path_normalize(
         × (place.new ≡ until_nul_place path.now)
         × (character.new ≡ 0)
         × (buffer.new ≡ buffer.old) }
-    ensures refused { BeginsWithString path.now → ¬ IsValid (text_in path.now)
-        → (result ≡ path_reason (verdict (text_in path.now)))
+    ensures refused { BeginsWithString path.now → ¬ IsValid (with_separators (text_in path.now))
+        → (result ≡ path_reason (verdict (with_separators (text_in path.now))))
         × (place.new ≡ until_nul_place path.now)
         × (buffer.new ≡ buffer.old) }
     ensures character { BeginsWithString path.now
-        → character.new ≡ refused_character (verdict (text_in path.now)) }
+        → character.new ≡ refused_character (verdict (with_separators (text_in path.now))) }
     ensures reason { BeginsWithString path.now → (normal : List ℕ)
-        → normal_path (text_in path.now) ≡ Some normal → result ≡ room_reason normal buffer.old }
+        → normal_path (with_separators (text_in path.now)) ≡ Some normal
+        → result ≡ room_reason normal buffer.old }
     ensures place { BeginsWithString path.now → (normal : List ℕ)
-        → normal_path (text_in path.now) ≡ Some normal → place.new ≡ length normal }
+        → normal_path (with_separators (text_in path.now)) ≡ Some normal
+        → place.new ≡ length normal }
     ensures buffer { BeginsWithString path.now → (normal : List ℕ)
-        → normal_path (text_in path.now) ≡ Some normal
+        → normal_path (with_separators (text_in path.now)) ≡ Some normal
         → buffer.new ≡ with_prefix (nul_terminated normal) buffer.old }
 {
     // The law does nothing: it says that a path that is not valid is refused.
@@ -272,15 +274,17 @@ pub extern "C" fn nard_path_normalize(
     // The last place is left for the NUL.
     let most = buffer.len().saturating_sub(1);
     match Path::new(string).write_normal(&mut buffer[..most]) {
-        Ok(Some(len)) => {
+        Ok(len) => {
             *place = len;
             end_text(buffer, len)
         }
-        Ok(None) => {
+        Err(NormalWriteError::Invalid(error)) => {
             *place = string.num_chars();
-            judge(Path::new(string), character)
+            let (reason, refused) = path_reason(error);
+            *character = refused;
+            reason
         }
-        Err(len) => {
+        Err(NormalWriteError::BufferTooSmall(len)) => {
             *place = len;
             BUFFER_TOO_SMALL
         }

@@ -4,11 +4,13 @@
 //! pointer and a length, and a reason as a number of [`reasons`]. No call takes memory.
 #![tactic(auto)]
 
+pub mod boot_variables;
 pub mod buffers;
 pub mod building;
 pub mod device_paths;
 pub mod fat_names;
 pub mod load_options;
+pub mod lossy;
 pub mod packed;
 pub mod paths;
 pub mod reasons;

@@ -1,5 +1,5 @@
 //! Paths in units that C holds: the verdict on one, how two compare, and where its components stand.
-ghost use Rattle.std.specs.Prelude.{◌≡◌, ◌≢◌, ◌↔◌, ◌+◌, ◌-◌, ◌<◌, ◌≤◌, ◌⊎◌, ◌∷◌, [], pos, All, IsFalse, IfSome, IsTrue, MatchOption, None, Some, drop, length, slice_index, slice_range, take};
+ghost use Rattle.std.specs.Prelude.{◌≡◌, ◌≢◌, ◌↔◌, ◌+◌, ◌-◌, ◌<◌, ◌≤◌, ◌⊎◌, ◌∷◌, [], All, IsFalse, IfSome, IsTrue, MatchOption, None, Some, drop, length, slice_index, slice_range, take};
 ghost use Rattle.std.specs.Cmp.Lexicographic.{slice_cmp};
 ghost use Rattle.std.specs.List.{last_or, position, position_or_len, slice_split};
 ghost use Rattle.std.specs.Ordering.{nat_cmp};
@@ -96,7 +96,7 @@ pub extern "C" fn nard_path_order(first: &[u16], second: &[u16]) -> i32
     ensures order { BeginsWithString first.now → BeginsWithString second.now
         → result ≡ order_number (slice_cmp nat_cmp
         (canonical (text_in first.now)) (canonical (text_in second.now))) }
-    ensures none { (result ≡ pos 2) ↔ ¬ (BeginsWithString first.now × BeginsWithString second.now) }
+    ensures none { (result ≡ NO_ORDER) ↔ ¬ (BeginsWithString first.now × BeginsWithString second.now) }
 {
     let Ok(first) = CStr16::from_u16_until_nul(first) else {
         return NO_ORDER;

@@ -1,12 +1,12 @@
 //! Why a call refuses, as numbers: the header's `enum nard_reason` has the same.
-ghost use Rattle.std.specs.Prelude.{◌≡◌, Some, pos};
-ghost use Rattle.nardcorbel.specs.Reasons.{fat_name_reason, name_reason, node_reason, option_reason, order_number, path_reason, refused_character, refused_fat_character, until_nul_reason, with_buf_reason, with_nul_reason};
+ghost use Rattle.std.specs.Prelude.{◌≡◌, Some, negsuc};
+ghost use Rattle.nardcorbel.specs.Reasons.{fat_name_reason, name_reason, node_reason, option_reason, order_number, path_reason, refused_character, refused_fat_character, until_nul_reason, with_nul_reason};
 
 use std::cmp::Ordering;
 use uefi_device_path::{FilePathCause, LoadOptionCause, NodeError};
 use uefi_fat::FatNameError;
 use uefi_path::PathError;
-use uefi_text::{FromSliceUntilNulError, FromSliceWithNulError, FromStrWithBufError};
+use uefi_text::{FromSliceUntilNulError, FromSliceWithNulError};
 
 /// Nothing is refused.
 pub const OK: u32 = 0;
@@ -95,8 +95,15 @@ pub const NODE_TOO_LONG: u32 = 27;
 /// A file path list is longer than the header of a load option can state.
 pub const LIST_TOO_LONG: u32 = 28;
 
-/// The order of two strings of which one is none.
-pub const NO_ORDER: i32 = 2;
+/// No load option has the name, or the kind.
+pub const NOT_A_NAME: u32 = 29;
+
+/// The order has no number at the place, which is at its end or beyond it.
+pub const END_OF_ORDER: u32 = 30;
+
+/// The order of two strings of which one is none: the least number of its type, so that no test for
+/// "greater" holds.
+pub const NO_ORDER: i32 = i32::MIN;
 
 /// The version of the library: its three numbers, as a byte each, the first one highest.
 #[unsafe(no_mangle)]
@@ -138,7 +145,9 @@ pub fn numbers()
     ensures node_of_end { NODE_OF_END ≡ 26 }
     ensures node_too_long { NODE_TOO_LONG ≡ 27 }
     ensures list_too_long { LIST_TOO_LONG ≡ 28 }
-    ensures no_order { NO_ORDER ≡ pos 2 }
+    ensures not_a_name { NOT_A_NAME ≡ 29 }
+    ensures end_of_order { END_OF_ORDER ≡ 30 }
+    ensures no_order { NO_ORDER ≡ negsuc 2147483647 }
 {}
 
 /// The reason why units begin with no string.
@@ -161,17 +170,6 @@ pub(crate) fn with_nul_reason(error: FromSliceWithNulError) -> u32
         FromSliceWithNulError::NotNulTerminated
         | FromSliceWithNulError::NotAligned
         | FromSliceWithNulError::OutOfMemory => NO_NUL,
-    }
-}
-
-/// The reason why a text does not become a string in a buffer.
-pub(crate) fn with_buf_reason(error: FromStrWithBufError) -> u32
-    ensures { result ≡ with_buf_reason (Some error) }
-{
-    match error {
-        FromStrWithBufError::InvalidChar(_) => INVALID_CHAR,
-        FromStrWithBufError::InteriorNul(_) => INTERIOR_NUL,
-        FromStrWithBufError::BufferTooSmall => BUFFER_TOO_SMALL,
     }
 }
 

@@ -1,5 +1,5 @@
 //! Strings in units that C holds: which units are one, and how two compare.
-ghost use Rattle.std.specs.Prelude.{◌≡◌, ◌↔◌, ◌+◌, ◌<◌, pos, length, IfErr, IfOk, IsOk, IsTrue, Some};
+ghost use Rattle.std.specs.Prelude.{◌≡◌, ◌↔◌, ◌+◌, ◌<◌, length, IfErr, IfOk, IsOk, IsTrue, Some};
 ghost use Rattle.std.specs.Cmp.Lexicographic.{slice_cmp};
 ghost use Rattle.std.specs.Ordering.{nat_cmp};
 ghost use Rattle.std.specs.Str.{IsAscii};
@@ -103,7 +103,7 @@ pub extern "C" fn nard_string_equal(first: &[u16], second: &[u16]) -> bool
 pub extern "C" fn nard_string_order(first: &[u16], second: &[u16]) -> i32
     ensures order { BeginsWithString first.now → BeginsWithString second.now
         → result ≡ order_number (slice_cmp nat_cmp (text_in first.now) (text_in second.now)) }
-    ensures none { (result ≡ pos 2) ↔ ¬ (BeginsWithString first.now × BeginsWithString second.now) }
+    ensures none { (result ≡ NO_ORDER) ↔ ¬ (BeginsWithString first.now × BeginsWithString second.now) }
 {
     let Ok(first) = CStr16::from_u16_until_nul(first) else {
         return NO_ORDER;

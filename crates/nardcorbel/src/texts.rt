@@ -1,48 +1,64 @@
 //! Texts in UTF-8, as C programs hold them, and strings.
-ghost use Rattle.std.specs.Prelude.{◌≡◌, ◌≢◌, ◌↔◌, ◌+◌, ◌-◌, ◌<◌, ◌≤◌, ◌^◌, ◌++◌, drop, encode_utf8, if◌then◌else◌, length, min, nat_lt, take, IsTrue, List, Some, ℕ};
+ghost use Rattle.std.specs.Prelude.{◌≡◌, ◌≢◌, ◌↔◌, ◌+◌, ◌-◌, ◌<◌, ◌≤◌, ◌^◌, ◌++◌, drop, encode_utf8, if◌then◌else◌, length, min, nat_lt, take, IsTrue, List, None, Some, ℕ};
+ghost use Rattle.std.specs.List.{find, position_or_len};
 ghost use Rattle.std.specs.Str.{IsUtf8, chars, encode_utf8_all};
 ghost use Rattle.std.specs.Str.Lossy.{utf8_valid_len};
 ghost use Rattle.uefi_text.specs.EqStrUntilNul.{IsEqualUntilNul};
 ghost use Rattle.uefi_text.specs.FromSliceUntilNul.{until_nul_refusal};
+ghost use Rattle.uefi_text.specs.FromStr.{is_deciding_char};
 ghost use Rattle.uefi_text.specs.FromStrWithBuf.{from_str_with_buf_refusal, with_text};
 ghost use Rattle.uefi_text.specs.Latin1.{IsLatin1};
 ghost use Rattle.uefi_text.specs.UnalignedCStr16.{with_prefix};
-ghost use Rattle.uefi_text.specs.Units.{BeginsWithString, nul_terminated};
+ghost use Rattle.uefi_text.specs.Units.{BeginsWithString, IsText, nul_terminated};
 ghost use Rattle.uefi_text.specs.Views.{text_of};
-ghost use Rattle.nardcorbel.specs.Reasons.{until_nul_reason, with_buf_reason};
-ghost use Rattle.nardcorbel.specs.Strings.{text_in, until_nul_place, with_buf_place, with_buf_place_at};
+ghost use Rattle.nardcorbel.specs.Buffers.{room_reason};
+ghost use Rattle.nardcorbel.specs.Reasons.{character_reason, until_nul_reason};
+ghost use Rattle.nardcorbel.specs.Strings.{text_in, until_nul_place};
 
-use crate::reasons::{BUFFER_TOO_SMALL, NOT_UTF8, OK, until_nul_reason, with_buf_reason};
+use crate::reasons::{
+    BUFFER_TOO_SMALL, INTERIOR_NUL, INVALID_CHAR, NOT_UTF8, OK, until_nul_reason,
+};
 use crate::strings::until_nul_place;
-use uefi_text::{CStr16, EqStrUntilNul, FromStrWithBufError, is_latin1};
+use uefi_text::{CStr16, EqStrUntilNul, is_latin1};
 
-/// The place at which a text is refused.
-fn with_buf_place(error: FromStrWithBufError, room: usize) -> usize
-    ensures { (characters : List ℕ) → result ≡ with_buf_place_at characters room (Some error) }
+/// Why a text is no string, or `OK`; and how many characters are before the one that it cannot
+/// have, which are all of them where it has none.
+fn judge_text(text: &str) -> (u32, usize)
+    ensures reason { result.0 ≡ character_reason (find is_deciding_char (chars text.now)) }
+    ensures place { result.1 ≡ position_or_len is_deciding_char (chars text.now) }
 {
-    match error {
-        FromStrWithBufError::InvalidChar(index) => index,
-        FromStrWithBufError::InteriorNul(index) => index,
-        FromStrWithBufError::BufferTooSmall => room,
+    let mut len = 0;
+    for character in text.chars() {
+        match character {
+            '\0' => return (INTERIOR_NUL, len),
+            '\u{1_0000}'.. => return (INVALID_CHAR, len),
+            _ => len += 1,
+        }
     }
+    (OK, len)
 }
 
-/// Writes a text in UTF-8 as a string into the prefix of a buffer.
+/// Writes a text in UTF-8 as a string to the start of a buffer.
 ///
-/// Bytes that are not UTF-8 are `NOT_UTF8`: `place` becomes how many bytes before the fault are, and the
-/// buffer stays unchanged. Else the call does what `CStr16::write_str` says, with its refusals in their
-/// order, and `place` becomes the length of the text; the number of characters before the one that is
-/// refused; or the number of places that the buffer has, where these are too few. One pass over the bytes
-/// and one over the characters; takes no memory.
+/// Bytes that are not UTF-8 are `NOT_UTF8`, and `place` becomes how many bytes before the fault
+/// are. Then a text is refused for its first character that is NUL or above U+FFFF, as
+/// `INTERIOR_NUL` or `INVALID_CHAR`, and `place` becomes how many characters are before it. Else
+/// `place` becomes the length of the text, and a buffer of no more places is `BUFFER_TOO_SMALL`.
+/// Refused, the buffer stays unchanged; what is after the NUL stays. One pass over the bytes and
+/// two over the characters; takes no memory.
 #[unsafe(no_mangle)]
 pub extern "C" fn nard_string_from_utf8(bytes: &[u8], buffer: &mut [u16], place: &mut usize) -> u32
     ensures not_utf8 { (result ≡ NOT_UTF8) ↔ ¬ IsUtf8 bytes.now }
-    ensures reason { IsUtf8 bytes.now
-        → result ≡ with_buf_reason (from_str_with_buf_refusal (chars bytes.now) (length buffer.old)) }
-    ensures buffer { IsUtf8 bytes.now → buffer.new ≡ with_text (chars bytes.now) buffer.old }
-    ensures unchanged { ¬ IsUtf8 bytes.now → buffer.new ≡ buffer.old }
-    ensures place { IsUtf8 bytes.now → place.new ≡ with_buf_place (chars bytes.now) (length buffer.old) }
     ensures valid { ¬ IsUtf8 bytes.now → place.new ≡ utf8_valid_len bytes.now }
+    ensures place { IsUtf8 bytes.now
+        → place.new ≡ position_or_len is_deciding_char (chars bytes.now) }
+    ensures refused { IsUtf8 bytes.now → ¬ IsText (chars bytes.now)
+        → result ≡ character_reason (find is_deciding_char (chars bytes.now)) }
+    ensures reason { IsUtf8 bytes.now → IsText (chars bytes.now)
+        → result ≡ room_reason (chars bytes.now) buffer.old }
+    ensures buffer { IsUtf8 bytes.now → IsText (chars bytes.now)
+        → buffer.new ≡ with_prefix (nul_terminated (chars bytes.now)) buffer.old }
+    ensures unchanged { ¬ (IsUtf8 bytes.now × IsText (chars bytes.now)) → buffer.new ≡ buffer.old }
 {
     let text = match str::from_utf8(bytes) {
         Ok(text) => text,
@@ -51,22 +67,36 @@ pub extern "C" fn nard_string_from_utf8(bytes: &[u8], buffer: &mut [u16], place:
             return NOT_UTF8;
         }
     };
-    let room = buffer.len();
+    let (reason, len) = judge_text(text);
+    *place = len;
+    if reason != OK {
+        return reason;
+    }
+    if buffer.len() <= len {
+        return BUFFER_TOO_SMALL;
+    }
+    write_judged(text, buffer)
+}
+
+/// Writes a text that was judged into a buffer that has room for it.
+fn write_judged(text: &str, buffer: &mut [u16]) -> u32
+    requires text { find is_deciding_char (chars text.now) ≡ None }
+    requires room { length (chars text.now) < length buffer.old }
+    ensures reason { result ≡ OK }
+    ensures is_text { IsText (chars text.now) }
+    ensures buffer { buffer.new ≡ nul_terminated (chars text.now)
+        ++ drop (length (chars text.now) + 1) buffer.old }
+{
     match CStr16::write_str(text, buffer) {
-        Ok(len) => {
-            *place = len - 1;
-            OK
-        }
-        Err(error) => {
-            *place = with_buf_place(error, room);
-            with_buf_reason(error)
-        }
+        Ok(_) => OK,
+        Err(_) => BUFFER_TOO_SMALL,
     }
 }
 
-/// Whether the units begin with a string, the bytes are UTF-8, and the two count as equal up to the first
-/// NUL: the string's text, or what the bytes encode before their first NUL, is a prefix of the other of
-/// these. One pass over the bytes, and one that ends at the first difference; takes no memory.
+/// Whether the units begin with a string, the bytes are UTF-8, and the two count as equal up to the
+/// first NUL: the string's text, or what the bytes encode before their first NUL, is a prefix of
+/// the other of these. One pass over the bytes, and one that ends at the first difference; takes no
+/// memory.
 #[unsafe(no_mangle)]
 pub extern "C" fn nard_string_equal_until_nul(units: &[u16], bytes: &[u8]) -> bool
     ensures { IsTrue result ↔ (BeginsWithString units.now × IsUtf8 bytes.now
@@ -81,8 +111,8 @@ pub extern "C" fn nard_string_equal_until_nul(units: &[u16], bytes: &[u8]) -> bo
     }
 }
 
-/// Whether the bytes are UTF-8, and each character that they encode is one of Latin-1. One pass for each;
-/// takes no memory.
+/// Whether the bytes are UTF-8, and each character that they encode is one of Latin-1. One pass for
+/// each; takes no memory.
 #[unsafe(no_mangle)]
 pub extern "C" fn nard_utf8_is_latin1(bytes: &[u8]) -> bool
     ensures { IsTrue result ↔ (IsUtf8 bytes.now × IsLatin1 (chars bytes.now)) }
@@ -105,7 +135,7 @@ fn utf8_len(string: CStr16<'_>) -> usize
 }
 
 /// Writes a character in UTF-8 from a place on, and returns the place after it.
-fn write_char(character: char, bytes: &mut [u8], place: usize) -> usize
+pub(crate) fn write_char(character: char, bytes: &mut [u8], place: usize) -> usize
     requires { place + length (encode_utf8 character) ≤ length bytes.now }
     ensures end { result ≡ place + length (encode_utf8 character) }
     ensures bytes { bytes.new ≡ take place bytes.old ++ encode_utf8 character
@@ -135,8 +165,8 @@ fn write_utf8(string: CStr16<'_>, bytes: &mut [u8])
     }
 }
 
-/// Writes the text of a string in UTF-8, which has `len` bytes, and a NUL into the first places of `bytes`,
-/// where they have room.
+/// Writes the text of a string in UTF-8, which has `len` bytes, and a NUL into the first places of
+/// `bytes`, where they have room.
 fn write_with_nul(string: CStr16<'_>, bytes: &mut [u8], len: usize) -> u32
     requires { len ≡ min (length (encode_utf8_all (text_of string))) (2 ^ 64 - 1) }
     ensures reason { result ≡ (if nat_lt (length (encode_utf8_all (text_of string.entry))) (length bytes.old)
@@ -152,13 +182,13 @@ fn write_with_nul(string: CStr16<'_>, bytes: &mut [u8], len: usize) -> u32
     OK
 }
 
-/// Writes the text of the string that units begin with, in UTF-8 and with a NUL, into the first places of
-/// `bytes`.
+/// Writes the text of the string that units begin with, in UTF-8 and with a NUL, into the first
+/// places of `bytes`.
 ///
-/// Units that begin with no string are refused as by `nard_string_until_nul`, with its `place`. Else
-/// `place` becomes how many bytes the text has, or the greatest `usize` where it has more, and bytes
-/// with no more places than these are `BUFFER_TOO_SMALL`. Refused, the bytes stay unchanged; what stands
-/// after the NUL stays. Two passes over the text; takes no memory.
+/// Units that begin with no string are refused as by `nard_string_until_nul`, with its `place`.
+/// Else `place` becomes how many bytes the text has, or the greatest `usize` where it has more, and
+/// bytes with no more places than these are `BUFFER_TOO_SMALL`. Refused, the bytes stay unchanged;
+/// what stands after the NUL stays. Two passes over the text; takes no memory.
 #[unsafe(no_mangle)]
 pub extern "C" fn nard_utf8_from_string(units: &[u16], bytes: &mut [u8], place: &mut usize) -> u32
     ensures no_string { ¬ BeginsWithString units.now

@@ -1,6 +1,6 @@
 //! Strings and paths in units that C holds, compared without case and matched against patterns, as the
 //! firmware's Unicode collation does (UEFI Specification 2.10, section 21.1).
-ghost use Rattle.std.specs.Prelude.{◌≡◌, ◌↔◌, ◌++◌, drop, length, map, pos, IsTrue};
+ghost use Rattle.std.specs.Prelude.{◌≡◌, ◌↔◌, ◌++◌, drop, length, map, IsTrue};
 ghost use Rattle.uefi_text.specs.Case.{caseless_order, lowers, uppers};
 ghost use Rattle.uefi_text.specs.FromSliceUntilNul.{until_nul_refusal};
 ghost use Rattle.uefi_text.specs.Patterns.{Matches};
@@ -107,7 +107,7 @@ pub extern "C" fn nard_string_equal_ignore_case(first: &[u16], second: &[u16]) -
 pub extern "C" fn nard_string_order_ignore_case(first: &[u16], second: &[u16]) -> i32
     ensures order { BeginsWithString first.now → BeginsWithString second.now
         → result ≡ order_number (caseless_order (text_in first.now) (text_in second.now)) }
-    ensures none { (result ≡ pos 2) ↔ ¬ (BeginsWithString first.now × BeginsWithString second.now) }
+    ensures none { (result ≡ NO_ORDER) ↔ ¬ (BeginsWithString first.now × BeginsWithString second.now) }
 {
     let Ok(first) = CStr16::from_u16_until_nul(first) else {
         return NO_ORDER;

@@ -1,0 +1,18 @@
+-- A kind has a number of at most 3.
+use Rattle.std.proofs.Common.{◌≤◌, arith}
+use Rattle.uefi_boot_variables.specs.declared.names.LoadOptionKind.{LoadOptionKind}
+use Rattle.uefi_boot_variables.specs.declared.names.LoadOptionKind.TheVariants.{Boot, Driver, SysPrep, PlatformRecovery}
+use Rattle.nardcorbel.specs.BootVariables.{kind_number}
+use Rattle.nardcorbel.proofs.boot_variables.nard_boot_name_write.Goals as goal
+
+at_most : (kind : LoadOptionKind) → kind_number kind ≤ 3
+at_most Boot = omega arith
+at_most Driver = omega arith
+at_most SysPrep = omega arith
+at_most PlatformRecovery = omega arith
+
+pub returns-in-Ok-clause-unknown : goal.returns-in-Ok-clause-unknown
+returns-in-Ok-clause-unknown c = λ above. absurd (omega (arith, above, at_most c.in-Some.kind, (c.kind_of.ensures c.in-Some.kind).0 c.in-Some.is))
+
+pub returns-in-Err-clause-unknown : goal.returns-in-Err-clause-unknown
+returns-in-Err-clause-unknown c = λ above. absurd (omega (arith, above, at_most c.in-Some.kind, (c.kind_of.ensures c.in-Some.kind).0 c.in-Some.is))

@@ -1,0 +1,228 @@
+//! Names of load options and orders of them in units that C holds (UEFI Specification 2.10, section
+//! 3.3).
+ghost use Rattle.std.specs.Prelude.{◌≡◌, ◌≢◌, ◌↔◌, ◌%◌, ◌<◌, ◌≤◌, ◌^◌, false, length, slice_get, take, IsTrue, Some};
+ghost use Rattle.uefi_boot_variables.specs.declared.names.LoadOptionKind.{LoadOptionKind};
+ghost use Rattle.uefi_boot_variables.specs.declared.names.LoadOptionName.{LoadOptionName};
+ghost use Rattle.uefi_boot_variables.specs.Names.{name_text};
+ghost use Rattle.uefi_boot_variables.specs.Orders.{over, stands_in, with_at, with_front, without};
+ghost use Rattle.uefi_text.specs.FromSliceUntilNul.{until_nul_refusal};
+ghost use Rattle.uefi_text.specs.UnalignedCStr16.{with_prefix};
+ghost use Rattle.uefi_text.specs.UnitBytes.{units_of_bytes};
+ghost use Rattle.uefi_text.specs.Units.{BeginsWithString, nul_terminated};
+ghost use Rattle.nardcorbel.specs.BootVariables.{kind_number};
+ghost use Rattle.nardcorbel.specs.Buffers.{room_reason};
+ghost use Rattle.nardcorbel.specs.Reasons.{until_nul_reason};
+ghost use Rattle.nardcorbel.specs.Strings.{text_in};
+
+use crate::reasons::{BUFFER_TOO_SMALL, END_OF_ORDER, NOT_A_NAME, ODD_BYTES, OK, until_nul_reason};
+use uefi_boot_variables::order_edits::{contains, insert, move_to_front, remove};
+use uefi_boot_variables::{LoadOptionKind, LoadOptionName, LoadOrder};
+use uefi_text::CStr16;
+
+/// `Boot####`.
+pub const BOOT: u8 = 0;
+
+/// `Driver####`.
+pub const DRIVER: u8 = 1;
+
+/// `SysPrep####`.
+pub const SYS_PREP: u8 = 2;
+
+/// `PlatformRecovery####`.
+pub const PLATFORM_RECOVERY: u8 = 3;
+
+/// Does nothing: its clauses are the numbers that `include/nardcorbel.h` gives the kinds.
+#[doc(hidden)]
+pub fn kinds()
+    ensures boot { BOOT ≡ 0 }
+    ensures driver { DRIVER ≡ 1 }
+    ensures sys_prep { SYS_PREP ≡ 2 }
+    ensures platform_recovery { PLATFORM_RECOVERY ≡ 3 }
+{}
+
+/// The number of a kind.
+fn kind_number(kind: LoadOptionKind) -> u8
+    ensures { result ≡ kind_number kind }
+{
+    match kind {
+        LoadOptionKind::Boot => BOOT,
+        LoadOptionKind::Driver => DRIVER,
+        LoadOptionKind::SysPrep => SYS_PREP,
+        LoadOptionKind::PlatformRecovery => PLATFORM_RECOVERY,
+    }
+}
+
+/// The kind that has a number.
+fn kind_of(number: u8) -> Option<LoadOptionKind>
+    ensures { (kind : LoadOptionKind) → ((result ≡ Some kind) ↔ (number ≡ kind_number kind)) }
+{
+    match number {
+        BOOT => Some(LoadOptionKind::Boot),
+        DRIVER => Some(LoadOptionKind::Driver),
+        SYS_PREP => Some(LoadOptionKind::SysPrep),
+        PLATFORM_RECOVERY => Some(LoadOptionKind::PlatformRecovery),
+        _ => None,
+    }
+}
+
+/// Reads the string that units begin with as the name of a load option, such as `Boot001F`.
+///
+/// At `OK` `kind` becomes its kind and `number` its number. Units that begin with no string are
+/// refused as by `nard_string_until_nul`, and then a string that `LoadOptionName::from_cstr16` does
+/// not read as `NOT_A_NAME`. Refused, `kind` and `number` stay unchanged. Two passes; takes no
+/// memory.
+#[unsafe(no_mangle)]
+pub extern "C" fn nard_boot_name_read(units: &[u16], kind: &mut u8, number: &mut u16) -> u32
+    ensures no_string { ¬ BeginsWithString units.now
+        → result ≡ until_nul_reason (until_nul_refusal units.now) }
+    ensures name { BeginsWithString units.now → (name : LoadOptionName) → name.number < 2 ^ 16
+        → text_in units.now ≡ name_text name
+        → (result ≡ OK) × (kind.new ≡ kind_number name.kind) × (number.new ≡ name.number) }
+    ensures ok { result ≡ OK → BeginsWithString units.now × ((name : LoadOptionName)
+        × (name.number < 2 ^ 16) × (text_in units.now ≡ name_text name)) }
+    ensures refused { BeginsWithString units.now → result ≢ OK → result ≡ NOT_A_NAME }
+    ensures unchanged { result ≢ OK → (kind.new ≡ kind.old) × (number.new ≡ number.old) }
+{
+    let string = match CStr16::from_u16_until_nul(units) {
+        Ok(string) => string,
+        Err(error) => return until_nul_reason(error),
+    };
+    match LoadOptionName::from_cstr16(string) {
+        Some(name) => {
+            *kind = kind_number(name.kind);
+            *number = name.number;
+            OK
+        }
+        None => NOT_A_NAME,
+    }
+}
+
+/// Writes the name of the load option of a kind and a number as a string to the start of a buffer.
+///
+/// A kind above 3 is `NOT_A_NAME`, which leaves `place` unchanged. Else `place`
+/// becomes how many units the name has, and a buffer of no more places is `BUFFER_TOO_SMALL`.
+/// Refused, the buffer stays unchanged; what is after the NUL stays. Takes no memory.
+#[unsafe(no_mangle)]
+pub extern "C" fn nard_boot_name_write(
+    kind: u8,
+    number: u16,
+    buffer: &mut [u16],
+    place: &mut usize,
+) -> u32
+    ensures unknown { 3 < kind
+        → (result ≡ NOT_A_NAME) × (buffer.new ≡ buffer.old) × (place.new ≡ place.old) }
+    ensures reason { (name : LoadOptionName) → kind ≡ kind_number name.kind → number ≡ name.number
+        → result ≡ room_reason (name_text name) buffer.old }
+    ensures place { (name : LoadOptionName) → kind ≡ kind_number name.kind → number ≡ name.number
+        → place.new ≡ length (name_text name) }
+    ensures buffer { (name : LoadOptionName) → kind ≡ kind_number name.kind → number ≡ name.number
+        → buffer.new ≡ with_prefix (nul_terminated (name_text name)) buffer.old }
+{
+    let Some(kind) = kind_of(kind) else {
+        return NOT_A_NAME;
+    };
+    let name = LoadOptionName { kind, number };
+    match name.write_cstr16(buffer) {
+        Ok(len) => {
+            *place = len - 1;
+            OK
+        }
+        Err(error) => {
+            *place = error.0 - 1;
+            BUFFER_TOO_SMALL
+        }
+    }
+}
+
+/// Reads the number at a place of the order that bytes are, those of a variable such as
+/// `BootOrder`: `OK`, or `END_OF_ORDER` from the last place on.
+///
+/// Bytes that are odd in number are `ODD_BYTES`, whatever the place. At `OK` `number` becomes the
+/// number, and else it stays unchanged. Takes no memory.
+#[unsafe(no_mangle)]
+pub extern "C" fn nard_boot_order_read(bytes: &[u8], place: usize, number: &mut u16) -> u32
+    ensures odd { (result ≡ ODD_BYTES) ↔ (length bytes.now % 2 ≡ 1) }
+    ensures number { result ≡ OK
+        → slice_get (units_of_bytes bytes.now) place ≡ Some number.new }
+    ensures ok { length bytes.now % 2 ≡ 0 → place < length (units_of_bytes bytes.now)
+        → result ≡ OK }
+    ensures end { length bytes.now % 2 ≡ 0 → length (units_of_bytes bytes.now) ≤ place
+        → result ≡ END_OF_ORDER }
+    ensures unchanged { result ≢ OK → number.new ≡ number.old }
+{
+    let Ok(order) = LoadOrder::from_bytes(bytes) else {
+        return ODD_BYTES;
+    };
+    match order.get(place) {
+        Some(found) => {
+            *number = found;
+            OK
+        }
+        None => END_OF_ORDER,
+    }
+}
+
+/// Puts a number at a place among the others of an order, as `order_edits::insert` does: where it
+/// is in the order already, it moves. A place beyond the end is the end.
+///
+/// The order is the first `count` units of `order`, or all of them where these are fewer. `count`
+/// becomes how many numbers it then has, and the units after these stay. A number that is not in
+/// the order, for which there is no room, is `BUFFER_TOO_SMALL`, which leaves the order and `count`
+/// unchanged. Takes no memory.
+#[unsafe(no_mangle)]
+pub extern "C" fn nard_boot_order_insert(
+    order: &mut [u16],
+    count: &mut usize,
+    place: usize,
+    number: u16,
+) -> u32
+    ensures small { (result ≡ BUFFER_TOO_SMALL)
+        ↔ ((stands_in number (take count.old order.old) ≡ false) × (length order.old ≤ count.old)) }
+    ensures ok { result ≢ BUFFER_TOO_SMALL → result ≡ OK }
+    ensures order { result ≡ OK
+        → order.new ≡ over (with_at place number (take count.old order.old)) order.old }
+    ensures count { result ≡ OK
+        → count.new ≡ length (with_at place number (take count.old order.old)) }
+    ensures unchanged { result ≢ OK → (order.new ≡ order.old) × (count.new ≡ count.old) }
+{
+    match insert(order, *count, place, number) {
+        Ok(len) => {
+            *count = len;
+            OK
+        }
+        Err(_) => BUFFER_TOO_SMALL,
+    }
+}
+
+/// Takes a number out of an order, as `order_edits::remove` does, and says whether it was there.
+///
+/// The order and `count` are as in [`nard_boot_order_insert`]. Takes no memory.
+#[unsafe(no_mangle)]
+pub extern "C" fn nard_boot_order_remove(order: &mut [u16], count: &mut usize, number: u16) -> bool
+    ensures stood { result ≡ stands_in number (take count.old order.old) }
+    ensures order { order.new ≡ over (without number (take count.old order.old)) order.old }
+    ensures count { count.new ≡ length (without number (take count.old order.old)) }
+{
+    let stood = contains(order, *count, number);
+    *count = remove(order, *count, number);
+    stood
+}
+
+/// Moves a number of an order to the front, as `order_edits::move_to_front` does, and says whether
+/// it was there; where it was not, the order stays.
+///
+/// The order and `count` are as in [`nard_boot_order_insert`]. Takes no memory.
+#[unsafe(no_mangle)]
+pub extern "C" fn nard_boot_order_move_to_front(
+    order: &mut [u16],
+    count: &mut usize,
+    number: u16,
+) -> bool
+    ensures stood { result ≡ stands_in number (take count.old order.old) }
+    ensures order { order.new ≡ over (with_front number (take count.old order.old)) order.old }
+    ensures count { count.new ≡ length (with_front number (take count.old order.old)) }
+{
+    let stood = contains(order, *count, number);
+    *count = move_to_front(order, *count, number);
+    stood
+}

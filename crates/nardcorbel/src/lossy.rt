@@ -1,0 +1,116 @@
+//! Units that may be anything, in UTF-8: descriptions of load options and names of files are mostly
+//! strings, and a menu shows them where they are none.
+ghost use Rattle.std.specs.Prelude.{◌≡◌, ◌+◌, ◌<◌, ◌≤◌, ◌∷◌, drop, length};
+ghost use Rattle.std.specs.Char.Utf16.{utf16_chars, utf16_lossy_chars};
+ghost use Rattle.uefi_device_path.specs.LoadOptions.{lossy_utf8};
+ghost use Rattle.uefi_text.specs.UnalignedCStr16.{with_prefix};
+ghost use Rattle.uefi_text.specs.Units.{nul_terminated};
+ghost use Rattle.nardcorbel.specs.Buffers.{length_shown, room_reason};
+ghost use Rattle.nardcorbel.specs.Strings.{text_in};
+
+use crate::reasons::{BUFFER_TOO_SMALL, OK};
+use crate::texts::write_char;
+use uefi_text::scans::find_nul;
+
+/// The character that units begin with, unless it is a surrogate without a partner, and how many
+/// units it takes.
+fn first_char(units: &[u16]) -> (Option<char>, usize)
+    requires { 0 < length units.now }
+    ensures some { 0 < result.1 }
+    ensures within { result.1 ≤ length units.now }
+    ensures first { utf16_chars units.now ≡ result.0 ∷ utf16_chars (drop result.1 units.now) }
+{
+    let first = units[0] as u32;
+    if first < 0xd800 || 0xdfff < first {
+        return (char::from_u32(first), 1);
+    }
+    if 0xdc00 <= first || units.len() < 2 {
+        return (None, 1);
+    }
+    let second = units[1] as u32;
+    if second < 0xdc00 || 0xdfff < second {
+        return (None, 1);
+    }
+    let above = (first - 0xd800) * 0x400 + (second - 0xdc00);
+    (char::from_u32(0x1_0000 + above), 2)
+}
+
+/// The character that is shown of those that units begin with, and how many units it takes.
+fn first_shown(units: &[u16]) -> (char, usize)
+    requires { 0 < length units.now }
+    ensures some { 0 < result.1 }
+    ensures within { result.1 ≤ length units.now }
+    ensures first { utf16_lossy_chars units.now
+        ≡ result.0 ∷ utf16_lossy_chars (drop result.1 units.now) }
+{
+    let (first, count) = first_char(units);
+    (first.unwrap_or('\u{fffd}'), count)
+}
+
+/// How many bytes units have in UTF-8, and the greatest `usize` where they have more.
+fn lossy_len(units: &[u16]) -> usize
+    ensures { result ≡ length_shown (lossy_utf8 units.now) }
+{
+    let mut len = 0usize;
+    let mut place = 0;
+    while place < units.len() {
+        let (character, count) = first_shown(&units[place..]);
+        len = len.saturating_add(character.len_utf8());
+        place += count;
+    }
+    len
+}
+
+/// Writes units in UTF-8 into bytes that have just the room.
+fn write_lossy(units: &[u16], bytes: &mut [u8])
+    requires { length bytes.now ≡ length (lossy_utf8 units.now) }
+    ensures { bytes.new ≡ lossy_utf8 units.now }
+{
+    let mut end = 0;
+    let mut place = 0;
+    while place < units.len() {
+        let (character, count) = first_shown(&units[place..]);
+        end = write_char(character, bytes, end);
+        place += count;
+    }
+}
+
+/// The units before the first NUL, or all of them where there is none.
+fn part_shown(units: &[u16]) -> &[u16]
+    ensures { result.now ≡ text_in units.now }
+{
+    match find_nul(units) {
+        Some(end) => &units[..end],
+        None => units,
+    }
+}
+
+/// Writes the units before the first NUL, or all of them where there is none, in UTF-8 and with a
+/// NUL to the start of `bytes`.
+///
+/// Each pair of surrogates is one character, and each surrogate without a partner becomes U+FFFD
+/// (Unicode Standard, section 3.9), so no unit is refused. `place` becomes how many bytes the text
+/// has, or the greatest `usize` where it has more, and bytes with no more places than these are
+/// `BUFFER_TOO_SMALL`. Refused, the bytes stay unchanged; what is after the NUL stays. Two passes
+/// over the units; takes no memory.
+#[unsafe(no_mangle)]
+pub extern "C" fn nard_utf8_from_units_lossy(
+    units: &[u16],
+    bytes: &mut [u8],
+    place: &mut usize,
+) -> u32
+    ensures reason { result ≡ room_reason (lossy_utf8 (text_in units.now)) bytes.old }
+    ensures place { place.new ≡ length_shown (lossy_utf8 (text_in units.now)) }
+    ensures bytes { bytes.new
+        ≡ with_prefix (nul_terminated (lossy_utf8 (text_in units.now))) bytes.old }
+{
+    let part = part_shown(units);
+    let len = lossy_len(part);
+    *place = len;
+    if bytes.len() <= len {
+        return BUFFER_TOO_SMALL;
+    }
+    write_lossy(part, &mut bytes[..len]);
+    bytes[len] = 0;
+    OK
+}

@@ -1,0 +1,24 @@
+/*
+ * Says of pairs of device paths whether the second is a short form that stands for the first, and where the first goes on
+ * after the nodes of the second. Each pair is two lengths, of four bytes, and the bytes of both.
+ */
+#include <nardcorbel.h>
+#include <stdio.h>
+
+enum { MOST = 65536 };
+
+int main(void)
+{
+    static nard_byte full[MOST], other[MOST];
+    uint32_t sizes[2];
+    while (fread(sizes, sizeof sizes, 1, stdin) == 1) {
+        if (sizes[0] > MOST || sizes[1] > MOST || fread(full, 1, sizes[0], stdin) != sizes[0] ||
+            fread(other, 1, sizes[1], stdin) != sizes[1])
+            return 1;
+        nard_size offset = 0;
+        bool stands = nard_device_path_is_expansion(full, sizes[0], other, sizes[1]);
+        bool begins = nard_device_path_strip_prefix(full, sizes[0], other, sizes[1], &offset);
+        printf("%d %d %zu\n", stands, begins, offset);
+    }
+    return 0;
+}
