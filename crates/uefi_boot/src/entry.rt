@@ -1,6 +1,7 @@
-//! What is printed of an entry.
+//! What an entry says.
 use crate::words::{words_of, words_of_path};
-use std::alloc::Allocator;
+use serde::Serialize;
+use std::alloc::{AllocError, Global};
 use std::fmt::{self, Write};
 use uefi_device_path::media::FilePath;
 use uefi_device_path::{
@@ -19,6 +20,41 @@ pub(crate) const MOST_BYTES: usize = 65536;
 /// reserved.
 pub(crate) const VARIABLE_ATTRIBUTES: [u8; 4] = [7, 0, 0, 0];
 
+/// A file that an entry names.
+#[derive(Drop, Serialize)]
+pub(crate) struct File {
+    path: String,
+
+    /// Why the path is refused, if it is.
+    refused: Option<String>,
+
+    /// The last component of a path that is accepted.
+    file: Option<String>,
+}
+
+/// What is malformed in an entry, and at which offset.
+#[derive(Drop, Serialize)]
+pub(crate) struct Fault {
+    offset: usize,
+    part: &'static str,
+    reason: &'static str,
+}
+
+/// What is well in an entry, and what is malformed after that.
+#[derive(Drop, Serialize)]
+pub(crate) struct Shown {
+    active: Option<bool>,
+    description: Option<String>,
+    device_paths: Vec<String>,
+    files: Vec<File>,
+    malformed: Option<Fault>,
+}
+
+pub(crate) fn push<T: Drop>(items: &mut Vec<T>, item: T) -> Result<(), AllocError> {
+    items.push(item)?;
+    Ok(())
+}
+
 /// Writes a character, or `?` for one that texts of device paths escape.
 fn write_shown<W: Write>(out: &mut W, character: char) -> fmt::Result {
     out.write_char(if is_escaped(character) {
@@ -28,232 +64,271 @@ fn write_shown<W: Write>(out: &mut W, character: char) -> fmt::Result {
     })
 }
 
-fn write_text<W: Write>(out: &mut W, text: Char16Slice<'_>) -> fmt::Result {
+fn shown_text(alloc: Global, text: Char16Slice<'_>) -> Result<String, fmt::Error> {
+    let mut shown = String::new(alloc);
     for character in text.iter() {
-        write_shown(out, char::from(character))?;
+        write_shown(&mut shown, char::from(character))?;
     }
-    Ok(())
+    Ok(shown)
 }
 
-fn write_malformed<W: Write>(out: &mut W, offset: usize, part: &str, reason: &str) -> fmt::Result {
-    writeln!(out, "  malformed at offset {offset}: {part}: {reason}")
-}
-
-/// Writes attributes and description, whose surrogate pairs are characters, and a lone surrogate is
-/// U+FFFD.
-fn write_head<W: Write>(
-    out: &mut W,
-    is_active: bool,
+/// A description, whose surrogate pairs are characters, and a lone surrogate is U+FFFD.
+fn shown_description(
+    alloc: Global,
     description: UnalignedSlice<'_, u16>,
-) -> fmt::Result {
-    writeln!(out, "  active: {}", if is_active { "yes" } else { "no" })?;
-    write!(out, "  description: ")?;
+) -> Result<String, fmt::Error> {
+    let mut shown = String::new(alloc);
     for character in char::decode_utf16(description.iter().take_while(|unit| *unit != 0)) {
-        write_shown(out, character.unwrap_or(char::REPLACEMENT_CHARACTER))?;
+        write_shown(&mut shown, character.unwrap_or(char::REPLACEMENT_CHARACTER))?;
     }
-    writeln!(out)
+    Ok(shown)
 }
 
-/// Writes why a path is refused, with the number of the character that is at fault.
-fn write_refusal<W: Write>(out: &mut W, reason: &str, character: Option<u16>) -> fmt::Result {
-    match character {
-        Some(number) => writeln!(out, ": refused: {reason} 0x{number:04x}"),
-        None => writeln!(out, ": refused: {reason}"),
+/// The last component of a path, if it has one.
+fn shown_file_name(alloc: Global, path: Path<'_>) -> Result<Option<String>, fmt::Error> {
+    match path.file_name() {
+        Some(name) => Ok(Some(shown_text(alloc, name)?)),
+        None => Ok(None),
     }
 }
 
-/// Writes the last component of a path, if it has one.
-fn write_file_name<W: Write>(out: &mut W, path: Path<'_>) -> fmt::Result {
-    let Some(name) = path.file_name() else {
-        return Ok(());
-    };
-    write!(out, "  file: ")?;
-    write_text(out, name)?;
-    writeln!(out)
-}
-
-/// Writes a path with its verdict, and its last component where it is accepted.
-fn write_path<W: Write>(out: &mut W, string: CStr16<'_>) -> fmt::Result {
+/// A path with its verdict: the number of the character is in it that is at fault.
+fn shown_file(alloc: Global, string: CStr16<'_>) -> Result<File, fmt::Error> {
     let path = Path::new(string);
-    write!(out, "  path: ")?;
-    write_text(out, string.as_slice())?;
-    match validate_path(path) {
-        Ok(()) => {
-            writeln!(out, ": accepted")?;
-            write_file_name(out, path)
-        }
-        Err(error) => {
-            let (reason, character) = words_of_path(error);
-            write_refusal(out, reason, character)
-        }
-    }
-}
-
-/// Writes what a node says that names a file, whose data begin at an offset. False where it names
-/// none.
-fn write_file<W: Write, A: Allocator>(
-    out: &mut W,
-    alloc: A,
-    offset: usize,
-    name: UnalignedSlice<'_, u16>,
-) -> Result<bool, fmt::Error> {
-    let (place, reason) = match name.to_cstring16(alloc) {
-        Ok(string) => {
-            write_path(out, string.as_cstr16())?;
-            return Ok(true);
-        }
-        Err(FromSliceWithNulError::NotNulTerminated) => (name.len(), "no NUL ends it"),
-        Err(FromSliceWithNulError::InvalidChar(place)) => (place, "it holds a surrogate"),
-        Err(FromSliceWithNulError::InteriorNul(place)) => (place, "more follows its NUL"),
-        // The second comes of bytes that are borrowed as units, and never of units that are copied.
-        Err(FromSliceWithNulError::OutOfMemory | FromSliceWithNulError::NotAligned) => {
-            return Err(fmt::Error);
-        }
+    let shown = shown_text(alloc, string.as_slice())?;
+    let Err(error) = validate_path(path) else {
+        return Ok(File {
+            path: shown,
+            refused: None,
+            file: shown_file_name(alloc, path)?,
+        });
     };
-    // Both are below 65,536, the most that the header of a load option or a node can state.
-    let offset = offset.saturating_add(place.saturating_mul(2));
-    write_malformed(out, offset, "file path", reason)?;
-    Ok(false)
+    let refused = match words_of_path(error) {
+        (reason, Some(number)) => format!(in alloc; "{reason} 0x{number:04x}")?,
+        (reason, None) => format!(in alloc; "{reason}")?,
+    };
+    Ok(File {
+        path: shown,
+        refused: Some(refused),
+        file: None,
+    })
 }
 
-/// Writes what a node says, whose data begin at an offset, where it names a file. False where it
-/// should name one, and does not.
-fn write_node<W: Write, A: Allocator>(
-    out: &mut W,
-    alloc: A,
-    offset: usize,
-    node: DevicePathNode<'_>,
-) -> Result<bool, fmt::Error> {
-    match FilePath::from_node(node) {
-        Ok(file) => write_file(out, alloc, offset, file.path_name()),
-        Err(NodeConversionError::DifferentType | NodeConversionError::UnsupportedType) => Ok(true),
-        Err(NodeConversionError::InvalidLength) => {
-            let last = offset.saturating_add(node.data().len() - 1);
-            write_malformed(out, last, "file path", "it ends in half a unit")?;
-            Ok(false)
+impl Shown {
+    /// Of nothing.
+    fn new(alloc: Global) -> Shown {
+        Shown {
+            active: None,
+            description: None,
+            device_paths: Vec::new(alloc),
+            files: Vec::new(alloc),
+            malformed: None,
         }
     }
-}
 
-/// Writes the files that nodes name, of which the first begins at an offset, and returns the offset
-/// after them; `None` after a node that should name a file and does not.
-fn write_files<W: Write, A: Allocator + Copy>(
-    out: &mut W,
-    alloc: A,
-    start: usize,
-    nodes: DevicePathNodeIterator<'_>,
-) -> Result<Option<usize>, fmt::Error> {
-    let mut offset = start;
-    for node in nodes {
-        if !write_node(out, alloc, offset.saturating_add(4), node)? {
-            return Ok(None);
+    /// Whether nothing is malformed.
+    pub(crate) fn is_well(&self) -> bool {
+        self.malformed.is_none()
+    }
+
+    /// Notes what is malformed.
+    fn fail(&mut self, offset: usize, part: &'static str, reason: &'static str) {
+        self.malformed = Some(Fault {
+            offset,
+            part,
+            reason,
+        });
+    }
+
+    /// Adds attributes, a description and device paths.
+    fn begin(
+        &mut self,
+        alloc: Global,
+        is_active: bool,
+        description: UnalignedSlice<'_, u16>,
+        paths: DevicePaths<'_>,
+    ) -> fmt::Result {
+        self.active = Some(is_active);
+        self.description = Some(shown_description(alloc, description)?);
+        for path in paths {
+            push(&mut self.device_paths, format!(in alloc; "{path}")?)?;
         }
-        offset = offset.saturating_add(usize::from(node.length()));
+        Ok(())
     }
-    Ok(Some(offset))
-}
 
-/// The same of device paths, with the nodes that end them.
-fn write_files_of_paths<W: Write, A: Allocator + Copy>(
-    out: &mut W,
-    alloc: A,
-    start: usize,
-    paths: DevicePaths<'_>,
-) -> Result<Option<usize>, fmt::Error> {
-    let mut offset = start;
-    for path in paths {
-        match write_files(out, alloc, offset, path.node_iter())? {
-            Some(end) => offset = end.saturating_add(4),
-            None => return Ok(None),
+    /// Adds the file that a node names, whose data begin at an offset. False where it names none.
+    fn add_file(
+        &mut self,
+        alloc: Global,
+        offset: usize,
+        name: UnalignedSlice<'_, u16>,
+    ) -> Result<bool, fmt::Error> {
+        let (place, reason) = match name.to_cstring16(alloc) {
+            Ok(string) => {
+                push(&mut self.files, shown_file(alloc, string.as_cstr16())?)?;
+                return Ok(true);
+            }
+            Err(FromSliceWithNulError::NotNulTerminated) => (name.len(), "no NUL ends it"),
+            Err(FromSliceWithNulError::InvalidChar(place)) => (place, "it holds a surrogate"),
+            Err(FromSliceWithNulError::InteriorNul(place)) => (place, "more follows its NUL"),
+            // The second comes of bytes that are borrowed as units, and never of units that are copied.
+            Err(FromSliceWithNulError::OutOfMemory | FromSliceWithNulError::NotAligned) => {
+                return Err(fmt::Error);
+            }
+        };
+        // Both are below 65,536, the most that the header of a load option or a node can state.
+        let offset = offset.saturating_add(place.saturating_mul(2));
+        self.fail(offset, "file path", reason);
+        Ok(false)
+    }
+
+    /// Adds what a node names, whose data begin at an offset, where it names a file. False where it
+    /// should name one, and does not.
+    fn add_node(
+        &mut self,
+        alloc: Global,
+        offset: usize,
+        node: DevicePathNode<'_>,
+    ) -> Result<bool, fmt::Error> {
+        match FilePath::from_node(node) {
+            Ok(file) => self.add_file(alloc, offset, file.path_name()),
+            Err(NodeConversionError::DifferentType | NodeConversionError::UnsupportedType) => {
+                Ok(true)
+            }
+            Err(NodeConversionError::InvalidLength) => {
+                let last = offset.saturating_add(node.data().len() - 1);
+                self.fail(last, "file path", "it ends in half a unit");
+                Ok(false)
+            }
         }
     }
-    Ok(Some(offset))
+
+    /// Adds the files that nodes name, of which the first begins at an offset, and returns the offset
+    /// after them; `None` after a node that should name a file and does not.
+    fn add_nodes(
+        &mut self,
+        alloc: Global,
+        start: usize,
+        nodes: DevicePathNodeIterator<'_>,
+    ) -> Result<Option<usize>, fmt::Error> {
+        let mut offset = start;
+        for node in nodes {
+            if !self.add_node(alloc, offset.saturating_add(4), node)? {
+                return Ok(None);
+            }
+            offset = offset.saturating_add(usize::from(node.length()));
+        }
+        Ok(Some(offset))
+    }
+
+    /// The same of device paths, with the nodes that end them.
+    fn add_paths(
+        &mut self,
+        alloc: Global,
+        start: usize,
+        paths: DevicePaths<'_>,
+    ) -> Result<Option<usize>, fmt::Error> {
+        let mut offset = start;
+        for path in paths {
+            match self.add_nodes(alloc, offset, path.node_iter())? {
+                Some(end) => offset = end.saturating_add(4),
+                None => return Ok(None),
+            }
+        }
+        Ok(Some(offset))
+    }
+
+    /// Adds what is well in bytes that are no load option, and then what is malformed.
+    fn add_parts(&mut self, alloc: Global, parts: LoadOptionParts<'_>) -> fmt::Result {
+        if let (Some(attributes), Some(description)) =
+            (parts.attributes(), parts.description_units())
+        {
+            self.begin(alloc, attributes % 2 == 1, description, parts.device_paths())?;
+            let start = list_start(description);
+            let Some(offset) = self.add_paths(alloc, start, parts.device_paths())? else {
+                return Ok(());
+            };
+            if self.add_nodes(alloc, offset, parts.node_iter())?.is_none() {
+                return Ok(());
+            }
+        }
+        let error = parts.error();
+        let (part, reason) = words_of(error.cause);
+        self.fail(error.offset, part, reason);
+        Ok(())
+    }
+
+    /// Adds what an option says.
+    fn add_option(&mut self, alloc: Global, option: LoadOption<'_>) -> fmt::Result {
+        let description = option.description_units();
+        self.begin(alloc, option.is_active(), description, option.device_paths())?;
+        let start = list_start(description);
+        self.add_paths(alloc, start, option.device_paths())?;
+        Ok(())
+    }
+
+    /// What an entry says, up to the most bytes that a variable has; or an error where memory was
+    /// refused.
+    pub(crate) fn of_entry(alloc: Global, bytes: &[u8]) -> Result<Shown, fmt::Error> {
+        let mut shown = Shown::new(alloc);
+        if MOST_BYTES < bytes.len() {
+            shown.fail(MOST_BYTES, "entry", "it is longer than a variable");
+            return Ok(shown);
+        }
+        match LoadOption::read_parts(bytes) {
+            Ok(option) => shown.add_option(alloc, option)?,
+            Err(parts) => shown.add_parts(alloc, parts)?,
+        }
+        Ok(shown)
+    }
+
+    /// What the entry in a variable says, with or without the four bytes that Linux puts before it, as
+    /// [`Shown::of_entry`].
+    pub(crate) fn of_variable(alloc: Global, bytes: &[u8]) -> Result<Shown, fmt::Error> {
+        let entry = if bytes.len() <= MOST_BYTES {
+            bytes.strip_prefix(&VARIABLE_ATTRIBUTES).unwrap_or(bytes)
+        } else {
+            bytes
+        };
+        Shown::of_entry(alloc, entry)
+    }
+
+    /// Writes it line by line.
+    pub(crate) fn write<W: Write>(&self, out: &mut W) -> fmt::Result {
+        if let (Some(active), Some(description)) = (&self.active, &self.description) {
+            writeln!(out, "  active: {}", if *active { "yes" } else { "no" })?;
+            writeln!(out, "  description: {description}")?;
+        }
+        for path in &self.device_paths {
+            writeln!(out, "  device path: {path}")?;
+        }
+        for file in &self.files {
+            file.write(out)?;
+        }
+        if let Some(fault) = &self.malformed {
+            let (offset, part, reason) = (fault.offset, fault.part, fault.reason);
+            writeln!(out, "  malformed at offset {offset}: {part}: {reason}")?;
+        }
+        Ok(())
+    }
 }
 
-/// Writes each device path as people read it.
-fn write_device_paths<W: Write>(out: &mut W, paths: DevicePaths<'_>) -> fmt::Result {
-    for path in paths {
-        writeln!(out, "  device path: {path}")?;
+impl File {
+    /// Writes a path with its verdict, and its last component where it is accepted.
+    fn write<W: Write>(&self, out: &mut W) -> fmt::Result {
+        write!(out, "  path: {}", self.path)?;
+        match &self.refused {
+            Some(reason) => writeln!(out, ": refused: {reason}")?,
+            None => writeln!(out, ": accepted")?,
+        }
+        if let Some(name) = &self.file {
+            writeln!(out, "  file: {name}")?;
+        }
+        Ok(())
     }
-    Ok(())
 }
 
 /// Where the file path list begins after a description with its NUL.
 fn list_start(description: UnalignedSlice<'_, u16>) -> usize {
     description.len().saturating_mul(2).saturating_add(6)
-}
-
-/// Writes what is well in bytes that are no load option, and then what is malformed; or an error
-/// where memory was refused.
-fn write_parts<W: Write, A: Allocator + Copy>(
-    out: &mut W,
-    alloc: A,
-    parts: LoadOptionParts<'_>,
-) -> fmt::Result {
-    if let (Some(attributes), Some(description)) = (parts.attributes(), parts.description_units()) {
-        write_head(out, attributes % 2 == 1, description)?;
-        write_device_paths(out, parts.device_paths())?;
-        let start = list_start(description);
-        let Some(offset) = write_files_of_paths(out, alloc, start, parts.device_paths())? else {
-            return Ok(());
-        };
-        if write_files(out, alloc, offset, parts.node_iter())?.is_none() {
-            return Ok(());
-        }
-    }
-    let error = parts.error();
-    let (part, reason) = words_of(error.cause);
-    write_malformed(out, error.offset, part, reason)
-}
-
-/// Writes what an entry says, and then what is malformed in it, if anything is. Returns whether
-/// nothing is; or an error where memory was refused.
-fn write_entry<W: Write, A: Allocator + Copy>(
-    out: &mut W,
-    alloc: A,
-    bytes: &[u8],
-) -> Result<bool, fmt::Error> {
-    match LoadOption::read_parts(bytes) {
-        Ok(option) => {
-            let description = option.description_units();
-            write_head(out, option.is_active(), description)?;
-            write_device_paths(out, option.device_paths())?;
-            let start = list_start(description);
-            let files = write_files_of_paths(out, alloc, start, option.device_paths())?;
-            Ok(files.is_some())
-        }
-        Err(parts) => {
-            write_parts(out, alloc, parts)?;
-            Ok(false)
-        }
-    }
-}
-
-/// Writes what an entry says, up to the most bytes that a variable has. Returns whether nothing is
-/// malformed in it; or an error where memory was refused.
-pub(crate) fn write_limited<W: Write, A: Allocator + Copy>(
-    out: &mut W,
-    alloc: A,
-    bytes: &[u8],
-) -> Result<bool, fmt::Error> {
-    if MOST_BYTES < bytes.len() {
-        write_malformed(out, MOST_BYTES, "entry", "it is longer than a variable")?;
-        return Ok(false);
-    }
-    write_entry(out, alloc, bytes)
-}
-
-/// Writes what the entry in a variable says, with or without the four bytes that Linux puts before
-/// it, as [`write_limited`] does.
-pub(crate) fn write_variable<W: Write, A: Allocator + Copy>(
-    out: &mut W,
-    alloc: A,
-    bytes: &[u8],
-) -> Result<bool, fmt::Error> {
-    let entry = if bytes.len() <= MOST_BYTES {
-        bytes.strip_prefix(&VARIABLE_ATTRIBUTES).unwrap_or(bytes)
-    } else {
-        bytes
-    };
-    write_limited(out, alloc, entry)
 }

@@ -1,140 +1,205 @@
-//! What is printed of a machine's boot variables.
-use crate::entry::write_limited;
+//! What a machine's boot variables say.
+use crate::entry::{Shown, push};
 use crate::variables::Variables;
-use std::alloc::{AllocError, Allocator};
+use serde::Serialize;
+use std::alloc::{AllocError, Global};
 use std::fmt::{self, Write};
 use uefi_boot_variables::{LoadOptionKind, LoadOptionName, LoadOrder, read_number};
 
-fn push<T: Drop, A: Allocator>(items: &mut Vec<T, A>, item: T) -> Result<(), AllocError> {
-    items.push(item)?;
-    Ok(())
+/// A variable that is malformed, and why.
+#[derive(Drop, Serialize)]
+struct Malformed {
+    variable: &'static str,
+    reason: String,
+}
+
+/// An entry, and its name.
+#[derive(Drop, Serialize)]
+struct Named {
+    name: String,
+    #[serde(flatten)]
+    entry: Shown,
+}
+
+/// What variables say: each is nothing where it is not set or malformed. The entries are those of the order
+/// first, each where it stands first there, and then the others by number.
+#[derive(Drop, Serialize)]
+pub(crate) struct Listing {
+    boot_order: Option<Vec<String>>,
+    boot_current: Option<String>,
+    boot_next: Option<String>,
+    malformed: Vec<Malformed>,
+    entries: Vec<Named>,
 }
 
 /// The name of a boot entry.
-fn boot(number: u16) -> LoadOptionName {
-    LoadOptionName {
+fn boot(alloc: Global, number: u16) -> Result<String, AllocError> {
+    let name = LoadOptionName {
         kind: LoadOptionKind::Boot,
         number,
-    }
-}
-
-/// Writes the line of a variable that names one entry. False where it is malformed.
-fn write_one<W: Write>(
-    out: &mut W,
-    label: &str,
-    bytes: &Option<Vec<u8>>,
-) -> Result<bool, fmt::Error> {
-    let Some(bytes) = bytes else {
-        writeln!(out, "{label}: not set")?;
-        return Ok(true);
     };
-    match read_number(bytes) {
-        Ok(number) => {
-            let name = boot(number);
-            writeln!(out, "{label}: {name}")?;
-            Ok(true)
-        }
-        Err(error) => {
-            writeln!(out, "{label}: malformed: {error}")?;
-            Ok(false)
-        }
-    }
+    format!(in alloc; "{name}")
 }
 
-/// Writes the line of the order, and returns the order, if it is one. False where it is malformed.
-fn write_order<'a, W: Write>(
-    out: &mut W,
-    bytes: &'a [u8],
-) -> Result<(Option<LoadOrder<'a>>, bool), fmt::Error> {
-    write!(out, "BootOrder:")?;
-    match LoadOrder::from_bytes(bytes) {
-        Ok(order) => {
-            for number in order.iter() {
-                let name = boot(number);
-                write!(out, " {name}")?;
+impl Listing {
+    /// The entry that a variable names.
+    fn one(
+        &mut self,
+        alloc: Global,
+        variable: &'static str,
+        bytes: &Option<Vec<u8>>,
+    ) -> Result<Option<String>, fmt::Error> {
+        let Some(bytes) = bytes else {
+            return Ok(None);
+        };
+        match read_number(bytes) {
+            Ok(number) => Ok(Some(boot(alloc, number)?)),
+            Err(error) => {
+                let reason = format!(in alloc; "{error}")?;
+                push(&mut self.malformed, Malformed { variable, reason })?;
+                Ok(None)
             }
-            writeln!(out)?;
-            Ok((Some(order), true))
-        }
-        Err(error) => {
-            writeln!(out, " malformed: {error}")?;
-            Ok((None, false))
         }
     }
-}
 
-/// Writes an entry below its name. False where it is malformed.
-fn write_named<W: Write, A: Allocator + Copy>(
-    out: &mut W,
-    alloc: A,
-    number: u16,
-    bytes: &[u8],
-) -> Result<bool, fmt::Error> {
-    let name = boot(number);
-    writeln!(out, "{name}")?;
-    write_limited(out, alloc, bytes)
-}
-
-/// Writes the entries of an order whose variables are there, each where it stands first. False where one
-/// is malformed.
-fn write_ordered<W: Write, A: Allocator + Copy>(
-    out: &mut W,
-    alloc: A,
-    order: LoadOrder<'_>,
-    entries: &[(u16, &[u8])],
-    shown: &mut Vec<u16, A>,
-) -> Result<bool, fmt::Error> {
-    let mut is_well = true;
-    for (number, bytes) in order.present(entries) {
-        if !shown.contains(&number) {
-            is_well &= write_named(out, alloc, number, bytes)?;
-            push(shown, number)?;
+    /// Adds the names of an order, and returns it, if it is one.
+    fn add_order<'a>(
+        &mut self,
+        alloc: Global,
+        bytes: &'a [u8],
+    ) -> Result<Option<LoadOrder<'a>>, fmt::Error> {
+        match LoadOrder::from_bytes(bytes) {
+            Ok(order) => {
+                let mut names = Vec::new(alloc);
+                for number in order.iter() {
+                    push(&mut names, boot(alloc, number)?)?;
+                }
+                self.boot_order = Some(names);
+                Ok(Some(order))
+            }
+            Err(error) => {
+                let (variable, reason) = ("BootOrder", format!(in alloc; "{error}")?);
+                push(&mut self.malformed, Malformed { variable, reason })?;
+                Ok(None)
+            }
         }
     }
-    Ok(is_well)
-}
 
-/// Writes the entries that were not shown yet, by number. False where one is malformed.
-fn write_others<W: Write, A: Allocator + Copy>(
-    out: &mut W,
-    alloc: A,
-    entries: &[(u16, &[u8])],
-    shown: &[u16],
-) -> Result<bool, fmt::Error> {
-    let mut is_well = true;
-    for (number, bytes) in entries {
-        if !shown.contains(number) {
-            is_well &= write_named(out, alloc, *number, bytes)?;
+    /// Adds an entry.
+    fn add_entry(&mut self, alloc: Global, number: u16, bytes: &[u8]) -> fmt::Result {
+        let (name, entry) = (boot(alloc, number)?, Shown::of_entry(alloc, bytes)?);
+        push(&mut self.entries, Named { name, entry })?;
+        Ok(())
+    }
+
+    /// Adds the entries of an order whose variables are there, each where it stands first.
+    fn add_ordered(
+        &mut self,
+        alloc: Global,
+        order: LoadOrder<'_>,
+        entries: &[(u16, &[u8])],
+        shown: &mut Vec<u16>,
+    ) -> fmt::Result {
+        for (number, bytes) in order.present(entries) {
+            if !shown.contains(&number) {
+                self.add_entry(alloc, number, bytes)?;
+                push(shown, number)?;
+            }
+        }
+        Ok(())
+    }
+
+    /// Adds the entries that were not added yet, by number.
+    fn add_others(
+        &mut self,
+        alloc: Global,
+        entries: &[(u16, &[u8])],
+        shown: &[u16],
+    ) -> fmt::Result {
+        for (number, bytes) in entries {
+            if !shown.contains(number) {
+                self.add_entry(alloc, *number, bytes)?;
+            }
+        }
+        Ok(())
+    }
+
+    /// What variables say; or an error where memory was refused.
+    pub(crate) fn of(alloc: Global, variables: &Variables) -> Result<Listing, fmt::Error> {
+        let mut entries = Vec::new(alloc);
+        for entry in &variables.entries {
+            push(&mut entries, (entry.number, entry.bytes.as_slice()))?;
+        }
+        let mut listing = Listing {
+            boot_order: None,
+            boot_current: None,
+            boot_next: None,
+            malformed: Vec::new(alloc),
+            entries: Vec::new(alloc),
+        };
+        let order = match &variables.order {
+            Some(bytes) => listing.add_order(alloc, bytes)?,
+            None => None,
+        };
+        listing.boot_current = listing.one(alloc, "BootCurrent", &variables.current)?;
+        listing.boot_next = listing.one(alloc, "BootNext", &variables.next)?;
+        let mut shown = Vec::new(alloc);
+        if let Some(order) = order {
+            listing.add_ordered(alloc, order, &entries, &mut shown)?;
+        }
+        listing.add_others(alloc, &entries, &shown)?;
+        Ok(listing)
+    }
+
+    /// Whether nothing is malformed.
+    pub(crate) fn is_well(&self) -> bool {
+        self.malformed.is_empty() && self.entries.iter().all(|named| named.entry.is_well())
+    }
+
+    /// Writes why a variable says nothing: it is malformed, or not set.
+    fn write_without<W: Write>(&self, out: &mut W, variable: &str) -> fmt::Result {
+        for malformed in &self.malformed {
+            if malformed.variable == variable {
+                return writeln!(out, "{variable}: malformed: {}", malformed.reason);
+            }
+        }
+        writeln!(out, "{variable}: not set")
+    }
+
+    /// Writes the line of a variable that names one entry.
+    fn write_one<W: Write>(
+        &self,
+        out: &mut W,
+        variable: &str,
+        name: &Option<String>,
+    ) -> fmt::Result {
+        match name {
+            Some(name) => writeln!(out, "{variable}: {name}"),
+            None => self.write_without(out, variable),
         }
     }
-    Ok(is_well)
-}
 
-/// Writes what variables say. Returns whether nothing is malformed in them; or an error where memory was
-/// refused.
-pub(crate) fn write_listing<W: Write, A: Allocator + Copy>(
-    out: &mut W,
-    alloc: A,
-    variables: &Variables,
-) -> Result<bool, fmt::Error> {
-    let mut entries = Vec::new(alloc);
-    for entry in &variables.entries {
-        push(&mut entries, (entry.number, entry.bytes.as_slice()))?;
-    }
-    let mut shown = Vec::new(alloc);
-    let (order, is_order) = match &variables.order {
-        Some(bytes) => write_order(out, bytes)?,
-        None => {
-            writeln!(out, "BootOrder: not set")?;
-            (None, true)
+    /// Writes the line of the order.
+    fn write_order<W: Write>(&self, out: &mut W) -> fmt::Result {
+        let Some(names) = &self.boot_order else {
+            return self.write_without(out, "BootOrder");
+        };
+        write!(out, "BootOrder:")?;
+        for name in names {
+            write!(out, " {name}")?;
         }
-    };
-    let is_current = write_one(out, "BootCurrent", &variables.current)?;
-    let is_next = write_one(out, "BootNext", &variables.next)?;
-    let are_ordered = match order {
-        Some(order) => write_ordered(out, alloc, order, &entries, &mut shown)?,
-        None => true,
-    };
-    let are_others = write_others(out, alloc, &entries, &shown)?;
-    Ok(is_order && is_current && is_next && are_ordered && are_others)
+        writeln!(out)
+    }
+
+    /// Writes it line by line.
+    pub(crate) fn write<W: Write>(&self, out: &mut W) -> fmt::Result {
+        self.write_order(out)?;
+        self.write_one(out, "BootCurrent", &self.boot_current)?;
+        self.write_one(out, "BootNext", &self.boot_next)?;
+        for named in &self.entries {
+            writeln!(out, "{}", named.name)?;
+            named.entry.write(out)?;
+        }
+        Ok(())
+    }
 }

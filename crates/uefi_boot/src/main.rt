@@ -11,6 +11,8 @@
 //! `BootOrder`, `BootCurrent` and `BootNext`, and then each entry: those of the order first, in its order,
 //! and then the others by number. Files of other names are passed over.
 //!
+//! With `--json` it prints the same as JSON.
+//!
 //! Ends with 0 where all is well; with 1 where a variable is malformed, which is printed with the
 //! reason and the offset in the entry; with 2 where a read of standard input or a write failed;
 //! with 3, and `out of memory` on standard error, where memory was refused; with 4, and a message
@@ -24,9 +26,11 @@ mod listing;
 mod variables;
 mod words;
 
-use entry::{MOST_BYTES, write_variable};
-use listing::write_listing;
+use entry::{MOST_BYTES, Shown};
+use listing::Listing;
+use serde::Serialize;
 use std::env;
+use std::fmt;
 use std::io::{self, Read, Write};
 use std::process::ExitCode;
 use variables::{Failure, Variables, read_all};
@@ -34,6 +38,7 @@ use variables::{Failure, Variables, read_all};
 const HELP: &str = "usage: uefi_boot            prints the boot entry that standard input is
        uefi_boot FOLDER     prints the boot variables of a folder, such as /sys/firmware/efi/efivars
        uefi_boot FILE ..    prints those of files, named as Boot0000 or Boot0000-GUID
+       --json               prints it as JSON
 status: 0 well, 1 malformed, 2 a read or a write failed, 3 out of memory, 4 a file can't be read
 ";
 
@@ -66,24 +71,68 @@ fn end(rt: &HostRuntime, output: &str, is_well: bool) -> ExitCode {
     ExitCode::from(if is_well { 0 } else { 1 })
 }
 
+/// How what is read is printed.
+#[derive(Clone, Copy)]
+enum Form {
+    Lines,
+    Json,
+}
+
+/// The text of what is read, as JSON. No value here is one that JSON lacks, so it fails for memory alone.
+fn to_json<T: Serialize>(rt: &HostRuntime, value: &T) -> Result<String, fmt::Error> {
+    let Ok(mut text) = serde_json::to_string_pretty(rt.alloc(), value) else {
+        return Err(fmt::Error);
+    };
+    text.push('\n')?;
+    Ok(text)
+}
+
+/// What is printed of an entry.
+fn text_of_entry(rt: &HostRuntime, entry: &Shown, form: Form) -> Result<String, fmt::Error> {
+    match form {
+        Form::Json => to_json(rt, entry),
+        Form::Lines => {
+            let mut output = String::new(rt.alloc());
+            entry.write(&mut output)?;
+            Ok(output)
+        }
+    }
+}
+
+/// What is printed of all variables.
+fn text_of_listing(rt: &HostRuntime, listing: &Listing, form: Form) -> Result<String, fmt::Error> {
+    match form {
+        Form::Json => to_json(rt, listing),
+        Form::Lines => {
+            let mut output = String::new(rt.alloc());
+            listing.write(&mut output)?;
+            Ok(output)
+        }
+    }
+}
+
 /// Prints the entry that standard input is.
-fn print_entry(rt: &HostRuntime) -> ExitCode {
+fn print_entry(rt: &HostRuntime, form: Form) -> ExitCode {
     let mut buffer = [0; MOST_BYTES + 1];
     let Ok(count) = fill(&mut rt.reader(), &mut buffer) else {
         return ExitCode::from(2);
     };
-    let mut output = String::new(rt.alloc());
-    match write_variable(&mut output, rt.alloc(), &buffer[..count]) {
-        Ok(is_well) => end(rt, output.as_str(), is_well),
+    let Ok(entry) = Shown::of_variable(rt.alloc(), &buffer[..count]) else {
+        return is_out_of_memory(rt);
+    };
+    match text_of_entry(rt, &entry, form) {
+        Ok(output) => end(rt, output.as_str(), entry.is_well()),
         Err(_) => is_out_of_memory(rt),
     }
 }
 
 /// Prints what variables say.
-fn print_listing(rt: &HostRuntime, variables: &Variables) -> ExitCode {
-    let mut output = String::new(rt.alloc());
-    match write_listing(&mut output, rt.alloc(), variables) {
-        Ok(is_well) => end(rt, output.as_str(), is_well),
+fn print_listing(rt: &HostRuntime, variables: &Variables, form: Form) -> ExitCode {
+    let Ok(listing) = Listing::of(rt.alloc(), variables) else {
+        return is_out_of_memory(rt);
+    };
+    match text_of_listing(rt, &listing, form) {
+        Ok(output) => end(rt, output.as_str(), listing.is_well()),
         Err(_) => is_out_of_memory(rt),
     }
 }
@@ -93,19 +142,23 @@ fn main(rt: HostRuntime) -> ExitCode {
         return is_out_of_memory(&rt);
     };
     let mut names = Vec::new(rt.alloc());
+    let mut form = Form::Lines;
     for argument in arguments.skip(1) {
-        if names.push(argument).is_err() {
-            return is_out_of_memory(&rt);
+        match argument.as_str() {
+            "--help" => return end(&rt, HELP, true),
+            "--json" => form = Form::Json,
+            _ => {
+                if names.push(argument).is_err() {
+                    return is_out_of_memory(&rt);
+                }
+            }
         }
     }
     if names.is_empty() {
-        return print_entry(&rt);
-    }
-    if names.iter().any(|name| name.as_str() == "--help") {
-        return end(&rt, HELP, true);
+        return print_entry(&rt, form);
     }
     match read_all(&rt, &names) {
-        Ok(variables) => print_listing(&rt, &variables),
+        Ok(variables) => print_listing(&rt, &variables, form),
         Err(Failure::OutOfMemory) => is_out_of_memory(&rt),
         Err(Failure::Unreadable) => ExitCode::from(4),
     }
