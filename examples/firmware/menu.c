@@ -285,6 +285,7 @@ EFI_STATUS efi_main(EFI_HANDLE handle, EFI_SYSTEM_TABLE *system_table)
         own_volume = ((EFI_LOADED_IMAGE *)found)->DeviceHandle;
     if (services->LocateProtocol(&path_utilities, NULL, &found) == EFI_SUCCESS)
         utilities = found;
+    table->ConOut->ClearScreen(table->ConOut);
     lines_put("\nboot menu\n");
     show_entries();
     lines_put("up and down choose, Enter starts, q ends\n");
