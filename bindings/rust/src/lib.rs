@@ -18,6 +18,7 @@
 #![no_std]
 #![warn(missing_docs)]
 
+mod boot_variables;
 mod device_path;
 mod error;
 mod path;
@@ -25,9 +26,10 @@ mod strs;
 #[rustfmt::skip]
 mod sys;
 
+pub use boot_variables::{order_numbers, LoadOptionKind, LoadOptionName, OrderBuffer};
 pub use device_path::{
     DevicePath, DevicePathBuilder, DevicePathNode, DevicePathNodeIterator, LoadOption,
 };
 pub use error::{Error, Reason};
 pub use path::{Components, Path};
-pub use strs::CStr16;
+pub use strs::{str_from_units_lossy, CStr16};

@@ -155,11 +155,34 @@ impl CStr16 {
             )
         };
         check(reason, place)?;
-        core::str::from_utf8(&buffer[..place]).map_err(|error| Error {
-            reason: Reason::NotUtf8,
-            place: error.valid_up_to(),
-        })
+        text_of(&buffer[..place])
     }
+}
+
+/// Writes units that may hold surrogates as UTF-8 to the start of a buffer, up to the first NUL, and returns the text. A pair of
+/// surrogates is one character; U+FFFD stands for one without a partner. The buffer needs room for a NUL too.
+pub fn str_from_units_lossy<'a>(units: &[u16], buffer: &'a mut [u8]) -> Result<&'a str, Error> {
+    let mut place = 0;
+    // SAFETY: both pointers and counts are those of slices, one of them not shared; `place` is a local.
+    let reason = unsafe {
+        sys::nard_utf8_from_units_lossy(
+            units.as_ptr(),
+            units.len(),
+            buffer.as_mut_ptr(),
+            buffer.len(),
+            &mut place,
+        )
+    };
+    check(reason, place)?;
+    text_of(&buffer[..place])
+}
+
+/// The text that bytes are.
+fn text_of(bytes: &[u8]) -> Result<&str, Error> {
+    core::str::from_utf8(bytes).map_err(|error| Error {
+        reason: Reason::NotUtf8,
+        place: error.valid_up_to(),
+    })
 }
 
 impl PartialEq for CStr16 {

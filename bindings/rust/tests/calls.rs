@@ -1,6 +1,9 @@
 //! Each call once with an answer and once refused.
 
-use nardcorbel::{CStr16, DevicePath, DevicePathBuilder, LoadOption, Path, Reason};
+use nardcorbel::{
+    order_numbers, str_from_units_lossy, CStr16, DevicePath, DevicePathBuilder, LoadOption,
+    LoadOptionKind, LoadOptionName, OrderBuffer, Path, Reason,
+};
 use std::cmp::Ordering;
 
 /// The units of a text and its NUL.
@@ -206,4 +209,45 @@ fn names_of_files() {
     let (one, two, three) = (units(" Boot.efi. "), units("BOOT.EFI"), units("boot"));
     let [one, two, three] = [&one, &two, &three].map(|it| string_of(it));
     assert!(one.is_same_fat_file(two) && !one.is_same_fat_file(three));
+}
+
+#[test]
+fn boot_variables() {
+    let word = units("SysPrep0A1F");
+    let name = LoadOptionName::from_cstr16(string_of(&word)).unwrap();
+    assert_eq!((name.kind, name.number), (LoadOptionKind::SysPrep, 0xa1f));
+    let mut buffer = [9; 24];
+    assert!(name.to_cstr16_in_buf(&mut buffer).unwrap() == "SysPrep0A1F");
+    let error = name.to_cstr16_in_buf(&mut buffer[..11]).unwrap_err();
+    assert_eq!((error.reason, error.place), (Reason::BufferTooSmall, 12));
+    let order = units("BootOrder");
+    let error = LoadOptionName::from_cstr16(string_of(&order)).unwrap_err();
+    assert_eq!(error.reason, Reason::NotAName);
+
+    assert!(order_numbers(&[1, 0, 0, 2]).unwrap().eq([1, 0x200]));
+    assert_eq!(order_numbers(&[]).unwrap().count(), 0);
+    assert_eq!(order_numbers(&[1]).err().unwrap().reason, Reason::OddBytes);
+
+    let mut places = [0; 3];
+    let mut order = OrderBuffer::new(&mut places);
+    for (place, number) in [(0, 7), (9, 8), (1, 9)] {
+        order.insert(place, number).unwrap();
+    }
+    assert_eq!(order.as_slice(), [7, 9, 8]);
+    let error = order.insert(0, 5).unwrap_err();
+    assert_eq!((error.reason, error.place), (Reason::BufferTooSmall, 4));
+    assert!(order.move_to_front(8) && !order.move_to_front(5));
+    assert!(order.remove(9) && !order.remove(9));
+    assert_eq!(order.as_slice(), [8, 7]);
+}
+
+#[test]
+fn units_that_are_no_string() {
+    let mut bytes = [9; 8];
+    let text = str_from_units_lossy(&[0x61, 0xd800, 0xd83d, 0xde00, 0, 0x62], &mut [9; 16])
+        .unwrap()
+        == "a\u{fffd}\u{1f600}";
+    assert!(text);
+    let error = str_from_units_lossy(&[0x61, 0xd800, 0xd83d, 0xde00], &mut bytes).unwrap_err();
+    assert_eq!((error.reason, error.place), (Reason::BufferTooSmall, 9));
 }
