@@ -240,10 +240,16 @@ impl Shown {
 
     /// Adds what is well in bytes that are no load option, and then what is malformed.
     fn add_parts(&mut self, alloc: Global, parts: LoadOptionParts<'_>) -> fmt::Result {
-        if let (Some(attributes), Some(description)) =
-            (parts.attributes(), parts.description_units())
-        {
-            self.begin(alloc, attributes % 2 == 1, description, parts.device_paths())?;
+        if let (Some(attributes), Some(description)) = (
+            parts.attributes(),
+            parts.description_units(),
+        ) {
+            self.begin(
+                alloc,
+                attributes % 2 == 1,
+                description,
+                parts.device_paths(),
+            )?;
             let start = list_start(description);
             let Some(offset) = self.add_paths(alloc, start, parts.device_paths())? else {
                 return Ok(());
@@ -261,7 +267,12 @@ impl Shown {
     /// Adds what an option says.
     fn add_option(&mut self, alloc: Global, option: LoadOption<'_>) -> fmt::Result {
         let description = option.description_units();
-        self.begin(alloc, option.is_active(), description, option.device_paths())?;
+        self.begin(
+            alloc,
+            option.is_active(),
+            description,
+            option.device_paths(),
+        )?;
         let start = list_start(description);
         self.add_paths(alloc, start, option.device_paths())?;
         Ok(())

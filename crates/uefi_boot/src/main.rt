@@ -29,10 +29,9 @@ mod words;
 use entry::{MOST_BYTES, Shown};
 use listing::Listing;
 use serde::Serialize;
-use std::env;
-use std::fmt;
 use std::io::{self, Read, Write};
 use std::process::ExitCode;
+use std::{env, fmt};
 use variables::{Failure, Variables, read_all};
 
 const HELP: &str = "usage: uefi_boot            prints the boot entry that standard input is

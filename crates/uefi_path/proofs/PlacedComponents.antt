@@ -34,14 +34,13 @@ begin_at_places text place [] within begins = tt
 begin_at_places text place (piece ∷ pieces) within begins =
     let here : place ≤ length text = within (λ e. cc) in
     let rest : drop (place + length piece + 1) text ≡ joined pieces =
-        ap (λ n. drop n text) (omega arith)
-        ∙ sym (drop-drop (length piece + 1) place text) ∙ ap (drop (length piece + 1)) begins ∙ after_first piece pieces in
-    (
+    ap (λ n. drop n text) (omega arith)
+    ∙ sym (drop-drop (length piece + 1) place text) ∙ ap (drop (length piece + 1)) begins ∙ after_first piece pieces in (
       here,
       (
         begins ∙ ap (λ ps. joined (piece ∷ ps)) (sym (pieces_placed (place + length piece + 1) pieces)),
         begin_at_places text (place + length piece + 1) pieces
-        (λ more. omega (arith, here, ap length begins, length-drop place text, joined_longer piece pieces more))
-        rest,
+            (λ more. omega (arith, here, ap length begins, length-drop place text, joined_longer piece pieces more))
+            rest,
       ),
     )

@@ -47,7 +47,7 @@ around : (us : List ℕ) (place : ℕ) → place < length us → becomes_separat
     → with_separators us ≡ with_separators (take place us) ++ separator ∷ with_separators (drop (suc place) us)
 around us place less ends =
     let halves : us ≡ take place us ++ get_or us place 0 ∷ drop (suc place) us =
-        sym (take-append-drop place us) ∙ ap (λ vs. take place us ++ vs) (drop-cons us place 0 less) in
+    sym (take-append-drop place us) ∙ ap (λ vs. take place us ++ vs) (drop-cons us place 0 less) in
     ap with_separators halves
     ∙ map-append (replaced slash separator) (take place us) (get_or us place 0 ∷ drop (suc place) us)
     ∙ ap (λ u. with_separators (take place us) ++ u ∷ with_separators (drop (suc place) us))

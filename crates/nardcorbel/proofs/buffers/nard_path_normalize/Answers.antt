@@ -41,7 +41,7 @@ returns-in-Err-Invalid-clause-refused c = λ begins refused.
     let none = ap normal_path shown ∙ no_normal_path (with_separators (text_in c.args.path.now)) c.validity.ensures refused in
     let error : Invalid c.in-Err-Invalid.error ≡ c.in-Err-Invalid.field-0 = grind (arith, common_steps) in
     let is =
-        as_refused (verdict text) (normal_text (normal_of (components_of text))) _ c.in-Err-Invalid.error (ap Err error ∙ c.in-Err-Invalid.ensures.len) in (
+    as_refused (verdict text) (normal_text (normal_of (components_of text))) _ c.in-Err-Invalid.error (ap Err error ∙ c.in-Err-Invalid.ensures.len) in (
       c.path_reason-reason.ensures.reason ∙ ap path_reason (sym is ∙ ap verdict shown),
       search rules,
       nothing_written (normal_path text) c.args.buffer.now c.write_normal.new.buffer c.saturating_sub-most.result none c.in-Err-Invalid.ensures.buffer,
