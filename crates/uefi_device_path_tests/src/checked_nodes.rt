@@ -48,7 +48,11 @@ const ROWS: &[(&str, &str)] = &[
 fn told(alloc: Global, bytes: &[u8]) -> Result<String, Fail> {
     let mut text = String::new(alloc);
     let mut nodes = CheckedNodes::new(bytes);
-    while let Some(checked) = nodes.next() {
+    // No row has more.
+    for _ in 0..8 {
+        let Some(checked) = nodes.next() else {
+            break;
+        };
         match checked {
             Ok(node) => {
                 let shown = node.display(DisplayOnly(false), AllowShortcuts(false));
