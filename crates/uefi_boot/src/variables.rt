@@ -80,7 +80,7 @@ impl Variables {
             self.next = Some(Vec::from_slice(rt.alloc(), content)?);
         } else if let Some(name) = LoadOptionName::from_text(name) {
             if name.kind == LoadOptionKind::Boot {
-                let entry = if file.len() == 8 {
+                let entry = if file.len() == 8 && content.len() <= MOST_BYTES {
                     content
                         .strip_prefix(&VARIABLE_ATTRIBUTES)
                         .unwrap_or(content)
