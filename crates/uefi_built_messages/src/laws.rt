@@ -123,7 +123,9 @@ pub fn messaging_vendor(node: messaging::Vendor<'_>)
         ≡ node.entry.vendor_guid }
     ensures vendor_defined_data { drop 16 (messaging_vendor_node node.entry).content
         ≡ node.entry.vendor_defined_data.now }
-{}
+{
+    let _bytes = node.vendor_guid.to_bytes();
+}
 
 /// A view of such a node has its fields.
 pub fn nvme_namespace(node: messaging::NvmeNamespace)
@@ -157,7 +159,9 @@ pub fn emmc(node: messaging::Emmc)
 pub fn nvdimm_namespace(node: messaging::NvdimmNamespace)
     ensures of_kind { IsOfKind 3 32 16 (nvdimm_namespace_node node) }
     ensures uuid { slice_range (nvdimm_namespace_node node).content 0 16 ≡ node.uuid }
-{}
+{
+    let _bytes = node.uuid.to_bytes();
+}
 
 /// A view of such a node has its fields.
 pub fn mac_address(node: network::MacAddress)

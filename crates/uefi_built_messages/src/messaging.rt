@@ -7,7 +7,7 @@ pub use crate::network::{
     RestService, Uri, Vlan, Wifi,
 };
 use uefi_built_nodes::BuildNode;
-use uefi_device_nodes::{DeviceSubType, DeviceType};
+use uefi_device_nodes::{DeviceSubType, DeviceType, Guid};
 use uefi_text::scans::split;
 
 /// A drive on an ATA bus.
@@ -446,8 +446,8 @@ impl BuildNode for Uart {
 /// A node of a vendor's own, named by a GUID.
 #[derive(Clone, Copy)]
 pub struct Vendor<'a> {
-    /// The bytes of the GUID that names the vendor.
-    pub vendor_guid: [u8; 16],
+    /// The GUID that names the vendor.
+    pub vendor_guid: Guid,
     /// The data that the vendor defines.
     pub vendor_defined_data: &'a [u8],
 }
@@ -463,12 +463,13 @@ impl BuildNode for Vendor<'_> {
     }
 
     fn data_len(&self) -> usize {
-        16 + self.vendor_defined_data.len()
+        self.vendor_guid.to_bytes().len() + self.vendor_defined_data.len()
     }
 
     fn write_data(&self, bytes: &mut [u8]) {
-        let (vendor_guid, rest) = bytes.split_at_mut(16);
-        vendor_guid.copy_from_slice(&self.vendor_guid);
+        let guid = self.vendor_guid.to_bytes();
+        let (vendor_guid, rest) = bytes.split_at_mut(guid.len());
+        vendor_guid.copy_from_slice(&guid);
         rest.copy_from_slice(self.vendor_defined_data);
     }
 }
@@ -589,8 +590,8 @@ impl BuildNode for Emmc {
 /// A namespace of a persistent memory module.
 #[derive(Clone, Copy)]
 pub struct NvdimmNamespace {
-    /// The bytes of the UUID that labels the namespace.
-    pub uuid: [u8; 16],
+    /// The UUID that labels the namespace.
+    pub uuid: Guid,
 }
 
 /// The node of these fields.
@@ -607,10 +608,10 @@ impl BuildNode for NvdimmNamespace {
     }
 
     fn data_len(&self) -> usize {
-        16
+        self.uuid.to_bytes().len()
     }
 
     fn write_data(&self, bytes: &mut [u8]) {
-        bytes.copy_from_slice(&self.uuid);
+        bytes.copy_from_slice(&self.uuid.to_bytes());
     }
 }

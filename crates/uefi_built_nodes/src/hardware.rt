@@ -2,7 +2,7 @@
 #![tactic(auto)]
 
 use crate::build_node::BuildNode;
-use uefi_device_nodes::{DeviceSubType, DeviceType};
+use uefi_device_nodes::{DeviceSubType, DeviceType, Guid};
 
 /// A device on a PCI bus.
 #[derive(Clone, Copy)]
@@ -95,8 +95,8 @@ impl BuildNode for MemoryMapped {
 /// A node of a vendor's own, named by a GUID.
 #[derive(Clone, Copy)]
 pub struct Vendor<'a> {
-    /// The bytes of the GUID that names the vendor.
-    pub vendor_guid: [u8; 16],
+    /// The GUID that names the vendor.
+    pub vendor_guid: Guid,
     /// The data that the vendor defines.
     pub vendor_defined_data: &'a [u8],
 }
@@ -112,12 +112,13 @@ impl BuildNode for Vendor<'_> {
     }
 
     fn data_len(&self) -> usize {
-        16 + self.vendor_defined_data.len()
+        self.vendor_guid.to_bytes().len() + self.vendor_defined_data.len()
     }
 
     fn write_data(&self, bytes: &mut [u8]) {
-        let (vendor_guid, rest) = bytes.split_at_mut(16);
-        vendor_guid.copy_from_slice(&self.vendor_guid);
+        let guid = self.vendor_guid.to_bytes();
+        let (vendor_guid, rest) = bytes.split_at_mut(guid.len());
+        vendor_guid.copy_from_slice(&guid);
         rest.copy_from_slice(self.vendor_defined_data);
     }
 }

@@ -43,7 +43,9 @@ pub fn hardware_vendor(node: hardware::Vendor<'_>)
         ≡ node.entry.vendor_guid }
     ensures vendor_defined_data { drop 16 (hardware_vendor_node node.entry).content
         ≡ node.entry.vendor_defined_data.now }
-{}
+{
+    let _bytes = node.vendor_guid.to_bytes();
+}
 
 /// A view of such a node has its fields.
 pub fn controller(node: hardware::Controller)
@@ -112,7 +114,9 @@ pub fn media_vendor(node: media::Vendor<'_>)
     ensures vendor_guid { slice_range (media_vendor_node node.entry).content 0 16 ≡ node.entry.vendor_guid }
     ensures vendor_defined_data { drop 16 (media_vendor_node node.entry).content
         ≡ node.entry.vendor_defined_data.now }
-{}
+{
+    let _bytes = node.vendor_guid.to_bytes();
+}
 
 /// A view of such a node has its name.
 pub fn file_path(node: media::FilePath<'_>)
@@ -125,19 +129,25 @@ pub fn file_path(node: media::FilePath<'_>)
 pub fn protocol(node: media::Protocol)
     ensures of_kind { IsOfKind 4 5 16 (protocol_node node) }
     ensures protocol_guid { slice_range (protocol_node node).content 0 16 ≡ node.protocol_guid }
-{}
+{
+    let _bytes = node.protocol_guid.to_bytes();
+}
 
 /// A view of such a node has its fields.
 pub fn firmware_file(node: media::PiwgFirmwareFile)
     ensures of_kind { IsOfKind 4 6 16 (firmware_file_node node) }
     ensures file_name { slice_range (firmware_file_node node).content 0 16 ≡ node.file_name }
-{}
+{
+    let _bytes = node.file_name.to_bytes();
+}
 
 /// A view of such a node has its fields.
 pub fn firmware_volume(node: media::PiwgFirmwareVolume)
     ensures of_kind { IsOfKind 4 7 16 (firmware_volume_node node) }
     ensures volume_name { slice_range (firmware_volume_node node).content 0 16 ≡ node.volume_name }
-{}
+{
+    let _bytes = node.volume_name.to_bytes();
+}
 
 /// A view of such a node has its fields.
 pub fn relative_offset_range(node: media::RelativeOffsetRange)
@@ -153,7 +163,9 @@ pub fn ram_disk(node: media::RamDisk)
     ensures ending_address { number_at 8 8 (ram_disk_node node).content ≡ node.ending_address }
     ensures disk_type { slice_range (ram_disk_node node).content 16 32 ≡ node.disk_type }
     ensures disk_instance { number_at 32 2 (ram_disk_node node).content ≡ node.disk_instance }
-{}
+{
+    let _bytes = node.disk_type.to_bytes();
+}
 
 /// A view of such a node has its fields.
 pub fn boot_specification(node: bios_boot_spec::BootSpecification<'_>)

@@ -2,7 +2,7 @@
 #![tactic(auto)]
 
 use crate::build_node::BuildNode;
-use uefi_device_nodes::{DeviceSubType, DeviceType};
+use uefi_device_nodes::{DeviceSubType, DeviceType, Guid};
 use uefi_text::CStr16;
 use uefi_text::scans::split;
 
@@ -87,8 +87,8 @@ impl BuildNode for CdRom {
 /// A node of a vendor's own, named by a GUID.
 #[derive(Clone, Copy)]
 pub struct Vendor<'a> {
-    /// The bytes of the GUID that names the vendor.
-    pub vendor_guid: [u8; 16],
+    /// The GUID that names the vendor.
+    pub vendor_guid: Guid,
     /// The data that the vendor defines.
     pub vendor_defined_data: &'a [u8],
 }
@@ -104,12 +104,13 @@ impl BuildNode for Vendor<'_> {
     }
 
     fn data_len(&self) -> usize {
-        16 + self.vendor_defined_data.len()
+        self.vendor_guid.to_bytes().len() + self.vendor_defined_data.len()
     }
 
     fn write_data(&self, bytes: &mut [u8]) {
-        let (vendor_guid, rest) = bytes.split_at_mut(16);
-        vendor_guid.copy_from_slice(&self.vendor_guid);
+        let guid = self.vendor_guid.to_bytes();
+        let (vendor_guid, rest) = bytes.split_at_mut(guid.len());
+        vendor_guid.copy_from_slice(&guid);
         rest.copy_from_slice(self.vendor_defined_data);
     }
 }
@@ -143,8 +144,8 @@ impl BuildNode for FilePath<'_> {
 /// A protocol of the firmware.
 #[derive(Clone, Copy)]
 pub struct Protocol {
-    /// The bytes of the GUID that names the protocol.
-    pub protocol_guid: [u8; 16],
+    /// The GUID that names the protocol.
+    pub protocol_guid: Guid,
 }
 
 /// The node of these fields.
@@ -158,19 +159,19 @@ impl BuildNode for Protocol {
     }
 
     fn data_len(&self) -> usize {
-        16
+        self.protocol_guid.to_bytes().len()
     }
 
     fn write_data(&self, bytes: &mut [u8]) {
-        bytes.copy_from_slice(&self.protocol_guid);
+        bytes.copy_from_slice(&self.protocol_guid.to_bytes());
     }
 }
 
 /// A file of a firmware volume.
 #[derive(Clone, Copy)]
 pub struct PiwgFirmwareFile {
-    /// The bytes of the GUID that names the file.
-    pub file_name: [u8; 16],
+    /// The GUID that names the file.
+    pub file_name: Guid,
 }
 
 /// The node of these fields.
@@ -184,19 +185,19 @@ impl BuildNode for PiwgFirmwareFile {
     }
 
     fn data_len(&self) -> usize {
-        16
+        self.file_name.to_bytes().len()
     }
 
     fn write_data(&self, bytes: &mut [u8]) {
-        bytes.copy_from_slice(&self.file_name);
+        bytes.copy_from_slice(&self.file_name.to_bytes());
     }
 }
 
 /// A firmware volume.
 #[derive(Clone, Copy)]
 pub struct PiwgFirmwareVolume {
-    /// The bytes of the GUID that names the volume.
-    pub volume_name: [u8; 16],
+    /// The GUID that names the volume.
+    pub volume_name: Guid,
 }
 
 /// The node of these fields.
@@ -210,11 +211,11 @@ impl BuildNode for PiwgFirmwareVolume {
     }
 
     fn data_len(&self) -> usize {
-        16
+        self.volume_name.to_bytes().len()
     }
 
     fn write_data(&self, bytes: &mut [u8]) {
-        bytes.copy_from_slice(&self.volume_name);
+        bytes.copy_from_slice(&self.volume_name.to_bytes());
     }
 }
 
@@ -260,8 +261,8 @@ pub struct RamDisk {
     pub starting_address: u64,
     /// The address of its last byte.
     pub ending_address: u64,
-    /// The bytes of the GUID of its type.
-    pub disk_type: [u8; 16],
+    /// The GUID of its type.
+    pub disk_type: Guid,
     /// The number of the disk.
     pub disk_instance: u16,
 }
@@ -277,16 +278,17 @@ impl BuildNode for RamDisk {
     }
 
     fn data_len(&self) -> usize {
-        34
+        self.disk_type.to_bytes().len() + 18
     }
 
     fn write_data(&self, bytes: &mut [u8]) {
+        let guid = self.disk_type.to_bytes();
         let (starting_address, rest) = bytes.split_at_mut(8);
         starting_address.copy_from_slice(&self.starting_address.to_le_bytes());
         let (ending_address, rest) = rest.split_at_mut(8);
         ending_address.copy_from_slice(&self.ending_address.to_le_bytes());
-        let (disk_type, rest) = rest.split_at_mut(16);
-        disk_type.copy_from_slice(&self.disk_type);
+        let (disk_type, rest) = rest.split_at_mut(guid.len());
+        disk_type.copy_from_slice(&guid);
         rest.copy_from_slice(&self.disk_instance.to_le_bytes());
     }
 }

@@ -7,12 +7,12 @@ use Rattle.uefi_device_nodes.specs.declared.errors.NodeConversionError.TheVarian
 
 -- what is printed of the cause for which no node stands at a place
 abbrev pub node_error_text : NodeError → List ℕ
-node_error_text node.Missing = codes "no end node ends the path"
-node_error_text node.TruncatedHeader = codes "a node's header is cut"
+node_error_text node.Missing = codes "no end node ends the device path"
+node_error_text node.TruncatedHeader = codes "the bytes end in a node's header"
 node_error_text node.UnknownEnd = codes "an end node ends neither a path nor an instance"
-node_error_text node.LengthBelowHeader = codes "a node's length is less than its header's"
-node_error_text node.EndWithData = codes "an end node's length is more than its header's"
-node_error_text node.BeyondEnd = codes "a node's length is more than the bytes have left"
+node_error_text node.LengthBelowHeader = codes "a node is shorter than its header"
+node_error_text node.EndWithData = codes "an end node has data"
+node_error_text node.BeyondEnd = codes "a node is longer than the bytes that are left"
 
 -- what is printed where a node is not of a kind
 abbrev pub node_conversion_error_text : NodeConversionError → List ℕ

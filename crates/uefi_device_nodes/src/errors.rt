@@ -28,12 +28,12 @@ impl fmt::Display for NodeError {
 
     fn fmt<W: fmt::Write>(&self, f: &mut fmt::Formatter<W>) -> fmt::Result {
         match self {
-            Self::Missing => f.write_str("no end node ends the path"),
-            Self::TruncatedHeader => f.write_str("a node's header is cut"),
+            Self::Missing => f.write_str("no end node ends the device path"),
+            Self::TruncatedHeader => f.write_str("the bytes end in a node's header"),
             Self::UnknownEnd => f.write_str("an end node ends neither a path nor an instance"),
-            Self::LengthBelowHeader => f.write_str("a node's length is less than its header's"),
-            Self::EndWithData => f.write_str("an end node's length is more than its header's"),
-            Self::BeyondEnd => f.write_str("a node's length is more than the bytes have left"),
+            Self::LengthBelowHeader => f.write_str("a node is shorter than its header"),
+            Self::EndWithData => f.write_str("an end node has data"),
+            Self::BeyondEnd => f.write_str("a node is longer than the bytes that are left"),
         }
     }
 }

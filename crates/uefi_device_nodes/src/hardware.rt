@@ -5,6 +5,7 @@ ghost use Rattle.std.specs.Prelude.{◌≡◌, drop, slice_range};
 ghost use Rattle.uefi_device_nodes.specs.TypedNodes.{number_at};
 
 use crate::typed_node::TypedNode;
+use uefi_field_texts::guid::Guid;
 
 /// A device on a PCI bus.
 pub type Pci<'a> = TypedNode<'a, 1, 1, 2>;
@@ -78,11 +79,11 @@ pub type Vendor<'a> = HardwareVendor<'a>;
 impl<'a> HardwareVendor<'a> {
     ghost use Rattle.uefi_device_nodes.specs.NodeViews.{data_of};
 
-    /// The bytes of the GUID that names the vendor.
-    pub fn vendor_guid(&self) -> [u8; 16]
+    /// The GUID that names the vendor.
+    pub fn vendor_guid(&self) -> Guid
         ensures { result ≡ slice_range (data_of self.now) 0 16 }
     {
-        self.bytes(0)
+        self.guid_at(0)
     }
 
     /// The data that the vendor defines.

@@ -174,11 +174,11 @@ pub type Vendor<'a> = MediaVendor<'a>;
 impl<'a> MediaVendor<'a> {
     ghost use Rattle.uefi_device_nodes.specs.NodeViews.{data_of};
 
-    /// The bytes of the GUID that names the vendor.
-    pub fn vendor_guid(&self) -> [u8; 16]
+    /// The GUID that names the vendor.
+    pub fn vendor_guid(&self) -> Guid
         ensures { result ≡ slice_range (data_of self.now) 0 16 }
     {
-        self.bytes(0)
+        self.guid_at(0)
     }
 
     /// The data that the vendor defines.
@@ -195,11 +195,11 @@ pub type Protocol<'a> = TypedNode<'a, 4, 5, 16>;
 impl<'a> Protocol<'a> {
     ghost use Rattle.uefi_device_nodes.specs.NodeViews.{data_of};
 
-    /// The bytes of the GUID that names the protocol.
-    pub fn protocol_guid(&self) -> [u8; 16]
+    /// The GUID that names the protocol.
+    pub fn protocol_guid(&self) -> Guid
         ensures { result ≡ slice_range (data_of self.now) 0 16 }
     {
-        self.bytes(0)
+        self.guid_at(0)
     }
 }
 
@@ -212,11 +212,11 @@ pub type PiwgFirmwareFile<'a> = FirmwareFile<'a>;
 impl<'a> FirmwareFile<'a> {
     ghost use Rattle.uefi_device_nodes.specs.NodeViews.{data_of};
 
-    /// The bytes of the GUID that names the file.
-    pub fn file_name(&self) -> [u8; 16]
+    /// The GUID that names the file.
+    pub fn file_name(&self) -> Guid
         ensures { result ≡ slice_range (data_of self.now) 0 16 }
     {
-        self.bytes(0)
+        self.guid_at(0)
     }
 }
 
@@ -229,11 +229,11 @@ pub type PiwgFirmwareVolume<'a> = FirmwareVolume<'a>;
 impl<'a> FirmwareVolume<'a> {
     ghost use Rattle.uefi_device_nodes.specs.NodeViews.{data_of};
 
-    /// The bytes of the GUID that names the volume.
-    pub fn volume_name(&self) -> [u8; 16]
+    /// The GUID that names the volume.
+    pub fn volume_name(&self) -> Guid
         ensures { result ≡ slice_range (data_of self.now) 0 16 }
     {
-        self.bytes(0)
+        self.guid_at(0)
     }
 }
 
@@ -278,11 +278,11 @@ impl<'a> RamDisk<'a> {
         self.number(8)
     }
 
-    /// The bytes of the GUID of its type.
-    pub fn disk_type(&self) -> [u8; 16]
+    /// The GUID of its type.
+    pub fn disk_type(&self) -> Guid
         ensures { result ≡ slice_range (data_of self.now) 16 32 }
     {
-        self.bytes(16)
+        self.guid_at(16)
     }
 
     /// The number of the disk.

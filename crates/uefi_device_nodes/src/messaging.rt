@@ -11,6 +11,7 @@ pub use crate::network::{
     RestService, Uri, Vlan, Wifi,
 };
 use crate::typed_node::TypedNode;
+use uefi_field_texts::guid::Guid;
 use uefi_text::UnalignedSlice;
 
 /// A drive on an ATA bus.
@@ -354,11 +355,11 @@ pub type Vendor<'a> = MessagingVendor<'a>;
 impl<'a> MessagingVendor<'a> {
     ghost use Rattle.uefi_device_nodes.specs.NodeViews.{data_of};
 
-    /// The bytes of the GUID that names the vendor.
-    pub fn vendor_guid(&self) -> [u8; 16]
+    /// The GUID that names the vendor.
+    pub fn vendor_guid(&self) -> Guid
         ensures { result ≡ slice_range (data_of self.now) 0 16 }
     {
-        self.bytes(0)
+        self.guid_at(0)
     }
 
     /// The data that the vendor defines.
@@ -445,10 +446,10 @@ pub type NvdimmNamespace<'a> = TypedNode<'a, 3, 32, 16>;
 impl<'a> NvdimmNamespace<'a> {
     ghost use Rattle.uefi_device_nodes.specs.NodeViews.{data_of};
 
-    /// The bytes of the UUID that labels the namespace.
-    pub fn uuid(&self) -> [u8; 16]
+    /// The UUID that labels the namespace.
+    pub fn uuid(&self) -> Guid
         ensures { result ≡ slice_range (data_of self.now) 0 16 }
     {
-        self.bytes(0)
+        self.guid_at(0)
     }
 }

@@ -8,6 +8,7 @@ ghost use Rattle.uefi_device_nodes.specs.TypedNodes.{IsOfKind, kind_refusal, num
 
 use crate::errors::NodeConversionError;
 use crate::node::DevicePathNode;
+use uefi_field_texts::guid::Guid;
 use uefi_text::Packed;
 
 /// The data of a node of a kind, with a call for each field: a node of this type and this sub-type, which has
@@ -81,6 +82,14 @@ impl<'a, const DEVICE_TYPE: u8, const SUB_TYPE: u8, const LEAST: usize> TypedNod
         let mut bytes = [0; N];
         bytes.copy_from_slice(&self.data[place..place + N]);
         bytes
+    }
+
+    /// The GUID that begins at a place.
+    pub(crate) fn guid_at(&self, place: usize) -> Guid
+        requires { place + 16 ≤ LEAST }
+        ensures { result ≡ slice_range (data_of self.now) place (place + 16) }
+    {
+        Guid::from_bytes(self.bytes(place))
     }
 
     /// The bytes from a place on, or `None` where the data end before the last of them.
