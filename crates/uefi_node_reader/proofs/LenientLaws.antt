@@ -1,11 +1,12 @@
 -- What is read leniently is told, and what is read strictly is read so too.
-use Rattle.std.proofs.Common.{◌≡◌, ◌++◌, append_assoc, take, ℕ, suc, ◌+◌, Bool, true, false, cond, eqb, not, ◌==◌, ◌&&◌, ◌⊎◌, List, [], ◌∷◌, drop, refl, sym, ap, subst, ◌∙◌, inl, inr, arith}
+use Rattle.std.proofs.Common.{◌≡◌, ◌++◌, append_assoc, take, ℕ, suc, ◌+◌, Bool, true, false, cond, eqb, leb, not, ◌==◌, ◌&&◌, ◌⊎◌, List, [], ◌∷◌, length, drop, refl, sym, ap, subst, ◌∙◌, inl, inr, arith}
 use Rattle.std.specs.Prelude.{Option, Some, None, codes, nat_eq, position}
 use Rattle.std.specs.Cmp.Lexicographic.{pointwise, same_text}
 use Rattle.std.specs.Char.{to_ascii_uppercase}
 use Rattle.std.specs.List.{position_or_len}
 use Rattle.std.specs.Option.{option_map, option_or}
 use Rattle.std.specs.Str.{chars, is_utf8}
+use Rattle.std.proofs.lemmas.Bool.{leb-false}
 use Rattle.std.proofs.lemmas.List.{take-append-drop}
 use borrow.Author.Tests.{eqb-true}
 use Rattle.uefi_node_table.proofs.Lists.{both}
@@ -19,11 +20,12 @@ use Rattle.uefi_node_reader.specs.LenientNodes.{IsRestOf, LenientAgain, LenientE
 use Rattle.uefi_node_reader.specs.NamedFiles.{IsTold, ends_name, is_after_node, is_name, name_bytes, name_data, name_read, node_read}
 use Rattle.uefi_node_reader.specs.PlainNodes.{plain_read}
 use Rattle.uefi_node_reader.specs.TableReading.{is_empty, table_read}
+use Rattle.uefi_node_reader.specs.TextNodes.{fitting}
 use Rattle.uefi_node_reader.proofs.Digits.{some_pair}
 use Rattle.uefi_node_reader.proofs.Groups.{table_sound}
 use Rattle.uefi_node_reader.proofs.Literals.{bind_some}
 use Rattle.uefi_node_reader.proofs.NamedFiles.{name_takes}
-use Rattle.uefi_node_reader.proofs.NodeLaws.{node_starts, node_takes}
+use Rattle.uefi_node_reader.proofs.NodeLaws.{node_fits, node_starts, node_takes}
 use Rattle.uefi_node_reader.proofs.PlainNodes.{plain_takes}
 use Rattle.uefi_node_reader.proofs.TableLaws.{table_takes}
 
@@ -57,6 +59,27 @@ tells_told node e = by (table_read forms text) refl e
         let same : read.0 ≡ node =
         λ i. node_with (eqb-true _ _ kind.0 i) (eqb-true _ _ others.0 i) (content i) in
         subst IsTold same (inl (table_takes forms table_sound text read.0 read.1 p).0)
+
+-- a node that its own text tells has no more data than a node may have
+pub told_in-fitting : (form : Form) (o : Option (List ℕ × List ℕ)) → told_in form (fitting o) ≡ told_in form o
+told_in-fitting form None = refl
+told_in-fitting form (Some read) = by (leb (length read.0) 0xfffb) (tells own) refl refl
+  where
+    own : Node
+    own = node_with form.kind form.sub_kind read.0
+
+    no : (x : Bool) → None ≡ cond (x && false) (Some own) None
+    no true = refl
+    no false = refl
+
+    by : (t b : Bool) → leb (length read.0) 0xfffb ≡ t → tells own ≡ b
+        → told_in form (cond t (Some read) None) ≡ cond (is_empty read.1 && tells own) (Some own) None
+    by true b p q = refl
+    by false true p q =
+        let long = leb-false (length read.0) 0xfffb p in
+        let short = (node_fits own (tells_told own q)).1 in
+        absurd (omega (arith, long, short))
+    by false false p q = no (is_empty read.1) ∙ ap (λ (t : Bool). cond (is_empty read.1 && t) (Some own) None) (sym q)
 
 form_told : (form : Form) (o : Option (List ℕ × List ℕ)) (node : Node)
     → told_in form o ≡ Some node → IsTold node

@@ -7,6 +7,10 @@ pub mod DigitTexts
 pub mod Places
 pub mod PieceLaws
 pub mod ListLaws
+pub mod CountedBytes
+pub mod FixedParts
+pub mod Heads
+pub mod TextNodes
 pub mod ListReads
 pub mod ClearTexts
 pub mod TailLaws

@@ -1,11 +1,12 @@
 -- Names of files are read back.
-use Rattle.std.proofs.Common.{◌≡◌, ◌≢◌, ℕ, ◌+◌, ◌-◌, ◌*◌, ◌/◌, ◌%◌, ◌<◌, ◌≤◌, Bool, true, false, cond, eqb, leb, ltb, not, ◌&&◌, List, [], ◌∷◌, ◌++◌, length, take, drop, slice_index, refl, ap, sym, subst, ◌∙◌, append_assoc, arith, ◌⊎◌, true≢false}
+use Rattle.std.proofs.Common.{◌≡◌, ◌≢◌, ℕ, ◌+◌, ◌-◌, ◌*◌, ◌/◌, ◌%◌, ◌<◌, ◌≤◌, Bool, true, false, cond, eqb, leb, ltb, not, ◌&&◌, List, [], ◌∷◌, ◌++◌, length, take, drop, slice_index, refl, ap, sym, subst, ◌∙◌, arith, ◌⊎◌, true≢false}
 use Rattle.std.specs.Prelude.{Some, None}
 use Rattle.std.specs.Option.{unwrap_or}
 use Rattle.std.specs.Char.Escape.{encode_utf16}
 use Rattle.std.specs.Char.Utf16.{is_high_surrogate, is_low_surrogate, lone_unit_char, surrogate_pair_char, utf16_chars, utf16_lossy_chars}
 use Rattle.std.specs.List.{flat_map, list_all, position_or_len}
 use Rattle.std.specs.Str.{all_scalars, chars, is_utf8, IsUtf8}
+use Rattle.std.proofs.lemmas.Bool.{leb-true}
 use Rattle.std.proofs.lemmas.Bool.Decides.{nat_tests}
 use Rattle.std.proofs.lemmas.List.{drop_at, flat_map_more, take_at, take-append-drop}
 use Rattle.std.proofs.lemmas.List.Sums.{position_or_len_is}
@@ -18,7 +19,9 @@ use Rattle.uefi_text.specs.Units.{is_nul}
 use Rattle.uefi_field_texts.specs.FieldTexts.{is_escaped, shown_char, shown_units, until_nul, utf16_text}
 use Rattle.uefi_device_nodes.specs.Nodes.{Node, node_with}
 use Rattle.uefi_device_nodes.specs.NodeTexts.{irregular_text, node_text}
+use Rattle.uefi_node_reader.specs.Counted.{pushed}
 use Rattle.uefi_node_reader.specs.Fields.{read_if}
+use Rattle.uefi_node_reader.proofs.CountedBytes.{pushed-append}
 use Rattle.uefi_node_reader.proofs.Digits.{some_pair}
 use Rattle.uefi_node_reader.specs.NamedFiles.{begins_name, ends_name, is_after_node, is_name, is_name_char, IsNamed, name_bytes, name_data, name_read}
 
@@ -242,10 +245,12 @@ unit_bytes-append [] vs = refl
 unit_bytes-append (u ∷ us) vs = ap (λ (x : List ℕ). u % 256 ∷ u / 256 ∷ x) (unit_bytes-append us vs)
 
 -- a character more
-pub text_more : (front so_far : List ℕ) (c : ℕ) → (front ++ unit_bytes (flat_map encode_utf16 so_far)) ++ unit_bytes (encode_utf16 c)
-    ≡ front ++ unit_bytes (flat_map encode_utf16 (so_far ++ c ∷ []))
-text_more front so_far c = append_assoc front (unit_bytes (flat_map encode_utf16 so_far)) (unit_bytes (encode_utf16 c))
-    ∙ ap (λ (x : List ℕ). front ++ x) (sym (unit_bytes-append (flat_map encode_utf16 so_far) (encode_utf16 c))
+pub text_more : (state : List ℕ × ℕ) (so_far : List ℕ) (c : ℕ)
+    → pushed (pushed state (unit_bytes (flat_map encode_utf16 so_far))) (unit_bytes (encode_utf16 c))
+    ≡ pushed state (unit_bytes (flat_map encode_utf16 (so_far ++ c ∷ [])))
+text_more state so_far c =
+    sym (pushed-append state (unit_bytes (flat_map encode_utf16 so_far)) (unit_bytes (encode_utf16 c)))
+    ∙ ap (pushed state) (sym (unit_bytes-append (flat_map encode_utf16 so_far) (encode_utf16 c))
     ∙ ap unit_bytes (flat_map_more encode_utf16 [] so_far c))
 
 -- and the NUL after them
@@ -266,20 +271,6 @@ no_text text front same refused = by (is_utf8 (name_bytes text)) refl
     by false e = ap (λ (t : Bool). read_if (t && is_name (chars (name_bytes text))) made left) (sym e)
     by true e = absurd (refused (subst (λ (x : List ℕ). IsUtf8 x) (sym same) (IsUtf8-from_is_utf8 (name_bytes text) e)))
 
-and_false : (a b : Bool) → b ≡ false → a && b ≡ false
-and_false true b e = e
-and_false false b e = refl
-
--- a name that no node has room for
-pub too_long : (text front items : List ℕ) → front ≡ name_bytes text → items ≡ name_data (chars front) → 0xfffb < length items → None ≡ name_read text
-too_long text front items same held long =
-    let whole : items ≡ name_data (chars (name_bytes text)) = held ∙ ap (λ (x : List ℕ). name_data (chars x)) same in
-    let size = ap length whole in
-    let no : leb (length (name_data (chars (name_bytes text)))) 0xfffb ≡ false = grind (arith, nat_tests) in
-    let name = chars (name_bytes text) in
-    ap (λ (t : Bool). read_if t (node_with 4 4 (name_data (chars (name_bytes text)))) (drop (position_or_len ends_name text) text))
-    (sym (and_false (is_utf8 (name_bytes text)) _ (and_false (begins_name (chars (name_bytes text))) _ (and_false (list_all is_name_char (chars (name_bytes text))) _ no))))
-
 -- a name
 pub name_found : (text front items rest : List ℕ) → front ≡ name_bytes text → IsUtf8 front → begins_name (chars front) ≡ true
     → list_all is_name_char (chars front) ≡ true → items ≡ name_data (chars front) → length items ≤ 0xfffb
@@ -290,3 +281,12 @@ name_found text front items rest same utf8 begins all held fits left =
     let valid = is_utf8-from_IsUtf8 front utf8 in
     (λ i. read_if (sym valid i && (sym begins i && (sym all i && sym yes i))) (node_with 4 4 (held i)) (left i))
     ∙ ap (λ (x : List ℕ). read_if (is_utf8 x && is_name (chars x)) (node_with 4 4 (name_data (chars x))) (drop (position_or_len ends_name text) text)) same
+
+-- a node that was made of a name
+pub made_of : (bytes : List ℕ) (node made : Node) → Some node ≡ cond (leb (length bytes) 0xfffb) (Some made) None
+    → (node ≡ made) × (length bytes ≤ 0xfffb)
+made_of bytes node made e = by (leb (length bytes) 0xfffb) refl e
+  where
+    by : (t : Bool) → leb (length bytes) 0xfffb ≡ t → Some node ≡ cond t (Some made) None → (node ≡ made) × (length bytes ≤ 0xfffb)
+    by true h p = (cc, leb-true (length bytes) 0xfffb h)
+    by false h p = cc

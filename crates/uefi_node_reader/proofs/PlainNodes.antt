@@ -1,6 +1,7 @@
 -- Nodes of no kind are read back, and what is read is printed so.
-use Rattle.std.proofs.Common.{◌≡◌, ℕ, Bool, true, false, cond, eqb, leb, ◌&&◌, ◌||◌, List, [], ◌∷◌, ◌++◌, codes, length, refl, ap, sym, subst, ◌∙◌, append_assoc, arith}
-use Rattle.std.specs.Prelude.{Some, not}
+use Rattle.std.proofs.Common.{◌≡◌, ℕ, ◌≤◌, Bool, true, false, cond, eqb, leb, ◌&&◌, ◌||◌, List, [], ◌∷◌, ◌++◌, codes, length, take, refl, ap, sym, subst, ◌∙◌, append_assoc, arith}
+use Rattle.std.specs.Prelude.{None, Option, Some, not, option_and_then}
+use Rattle.std.proofs.lemmas.Bool.{le-leb}
 use Rattle.std.specs.Fmt.{decimal}
 use Rattle.uefi_field_texts.specs.FieldTexts.{comma_bytes}
 use Rattle.uefi_device_nodes.specs.Nodes.{Node, node_with}
@@ -8,7 +9,10 @@ use Rattle.uefi_node_table.specs.Table.{has_form, table_text}
 use Rattle.uefi_device_nodes.specs.NodeTexts.{irregular_text, is_irregular, node_text, unknown_text}
 use Rattle.uefi_node_reader.specs.Numerals.{has_digit, number_read}
 use Rattle.uefi_node_reader.specs.Fields.{comma_read, read_if}
+use Rattle.uefi_node_reader.specs.TableReading.{added}
+use Rattle.uefi_node_reader.specs.TextNodes.{fitting}
 use Rattle.uefi_node_reader.specs.Words.{after}
+use Rattle.uefi_node_reader.proofs.Heads.{form_shown}
 use Rattle.uefi_node_reader.specs.PlainNodes.{IsPlain, is_formed, is_plain, plain_read}
 use Rattle.uefi_node_reader.proofs.Digits.{decimal_base, number_again, number_takes, some_pair}
 use Rattle.uefi_node_reader.proofs.Literals.{after_takes, bind_some}
@@ -85,3 +89,57 @@ plain_takes text node rest e =
       subst (λ (x : Node). IsPlain x) same.1 is,
       whole ∙ ap (λ (x : List ℕ). x ++ r.0) (sym (plain_text made (plain_parts made same.0))) ∙ (λ i. node_text false false (same.1 i) ++ same.2 i),
     )
+
+-- whether a node is plain, by its first bytes
+pub plain_shown : (node : Node) (kind sub_kind : ℕ) → kind ≡ node.device_type → sub_kind ≡ node.sub_type
+    → (irregular formed : Bool) → irregular ≡ is_irregular false (node_with kind sub_kind node.content)
+    → formed ≡ has_form false kind sub_kind (take 64 node.content) → length node.content ≤ 0xfffb
+    → not (eqb kind 0x7f) && (not (irregular || formed) && true) ≡ is_plain node
+plain_shown node kind sub_kind k s irregular formed is has fits =
+    let a : irregular ≡ is_irregular false node = is ∙ (λ i. is_irregular false (node_with (k i) (s i) node.content)) in
+    let b : formed ≡ has_form false node.device_type node.sub_type node.content =
+    has ∙ form_shown kind sub_kind node.content ∙ (λ i. has_form false (k i) (s i) node.content) in
+    let yes : true ≡ leb (length node.content) 0xfffb = sym (le-leb (length node.content) 0xfffb fits) in
+    (λ i. not (eqb (k i) 0x7f) && (not (a i || b i) && yes i))
+
+module _ (kind sub_kind : ℕ) where
+  abbrev node_of : List ℕ → Node
+  node_of data_ = node_with kind sub_kind data_
+
+  -- the node with these data, if it is plain
+  abbrev if_plain : List ℕ → List ℕ → Option (Node × List ℕ)
+  if_plain data_ rest = read_if (is_plain (node_of data_)) (node_of data_) rest
+
+  abbrev from_data : Option (List ℕ × List ℕ) → Option (Node × List ℕ)
+  from_data o = option_and_then (λ (content : List ℕ × List ℕ). option_and_then (λ (rest : List ℕ). if_plain content.0 rest) (after (codes ")") content.1)) o
+
+  not_plain : (data_ rest : List ℕ) → leb (length data_) 0xfffb ≡ false → None ≡ if_plain data_ rest
+  not_plain data_ rest e = by (not (eqb kind 0x7f)) (not (is_formed (node_of data_))) (leb (length data_) 0xfffb) e
+    where
+      by : (a b c : Bool) → c ≡ false → None ≡ read_if (a && (b && c)) (node_of data_) rest
+      by true true c e = ap (λ (t : Bool). read_if t (node_of data_) rest) (sym e)
+      by true false c e = refl
+      by false b c e = refl
+
+  -- data that no node has room for
+  pub none_fits : (o : Option (List ℕ × List ℕ)) → None ≡ fitting (option_and_then (added []) o) → None ≡ from_data o
+  none_fits None e = refl
+  none_fits (Some read) e = by (after (codes ")") read.1) (leb (length read.0) 0xfffb) refl e
+    where
+      by : (o : Option (List ℕ)) (t : Bool) → leb (length read.0) 0xfffb ≡ t → None ≡ cond t (Some read) None
+          → None ≡ option_and_then (λ (rest : List ℕ). if_plain read.0 rest) o
+      by None t h p = refl
+      by (Some rest) true h p = cc
+      by (Some rest) false h p = not_plain read.0 rest h
+
+  -- data that are read
+  pub some_fits : (o : Option (List ℕ × List ℕ)) (data_ rest : List ℕ) → Some (data_, rest) ≡ fitting (option_and_then (added []) o)
+      → option_and_then (λ (left : List ℕ). if_plain data_ left) (after (codes ")") rest) ≡ from_data o
+  some_fits None data_ rest e = cc
+  some_fits (Some read) data_ rest e = by (leb (length read.0) 0xfffb) e
+    where
+      by : (t : Bool) → Some (data_, rest) ≡ cond t (Some read) None
+          → option_and_then (λ (left : List ℕ). if_plain data_ left) (after (codes ")") rest) ≡ from_data (Some read)
+      by true p = let same = some_pair (data_, rest) read p in
+          (λ i. option_and_then (λ (left : List ℕ). if_plain (same.0 i) left) (after (codes ")") (same.1 i)))
+      by false p = cc

@@ -7,3 +7,6 @@ pub mod NamedFiles
 pub mod Laws
 pub mod LenientFields
 pub mod LenientNodes
+pub mod Counted
+pub mod TextNodes
+pub mod TextNodeViews

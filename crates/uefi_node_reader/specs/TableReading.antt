@@ -268,9 +268,9 @@ abbrev pub is_sound_item : Item → Bool
 is_sound_item item = (list_all (is_within item.size) item.pieces && are_apart item.pieces)
     && (ends_pieces true item.pieces && (begins_apart item.start && nat_lt 0 item.size))
 
--- the test for a form whose fixed bytes lie in the fixed part
+-- the test for a form whose fixed part is small, and holds its fixed bytes
 abbrev pub is_filled : Form → Bool
-is_filled form = are_within form.least form.when && are_within form.least form.also
+is_filled form = nat_le form.least 64 && (are_within form.least form.when && are_within form.least form.also)
 
 -- the number of a list of words
 abbrev pub list_number : Words → ℕ

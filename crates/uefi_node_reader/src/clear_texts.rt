@@ -1,12 +1,13 @@
 //! Texts of printable ASCII, read up to a byte that stops them.
 #![tactic(auto)]
 
-ghost use Rattle.std.specs.Prelude.{◌≡◌, ◌++◌, IfOk};
+ghost use Rattle.std.specs.Prelude.{◌≡◌};
 ghost use Rattle.uefi_text.specs.UnitBytes.{unit_bytes};
+ghost use Rattle.uefi_node_reader.specs.Counted.{pushed};
 ghost use Rattle.uefi_node_reader.specs.Fields.{clear_run, is_clear};
 ghost use Rattle.uefi_node_reader.specs.TableReading.{first_of};
 
-use std::alloc::{AllocError, Allocator};
+use crate::counted::push;
 
 /// The first byte of a text, or 0.
 pub(crate) fn first_of(text: &[u8]) -> u8
@@ -25,44 +26,49 @@ fn is_clear(stop: u8, byte: u8) -> bool
     byte >= 0x20 && byte < 0x7f && byte != stop
 }
 
-/// Appends all bytes before one that stops them. Returns what stands after them.
-pub(crate) fn push_clear<'a, A: Allocator>(
-    content: &mut Vec<u8, A>,
+/// Puts all bytes before one that stops them after `len` others. Returns how many bytes these are, and what
+/// stands after them.
+pub(crate) fn push_clear<'a>(
+    places: &mut [u8],
+    len: usize,
     stop: u8,
     text: &'a [u8],
-) -> Result<&'a [u8], AllocError>
-    ensures items { IfOk result (λ _. content.new.items ≡ content.old.items ++ (clear_run stop text.now).0) }
-    ensures rest { IfOk result (λ rest. rest.now ≡ (clear_run stop text.now).1) }
+) -> (usize, &'a [u8])
+    ensures state { (places.new, result.0) ≡ pushed (places.old, len) (clear_run stop text.now).0 }
+    ensures rest { result.1.now ≡ (clear_run stop text.now).1 }
 {
+    let mut count = len;
     let mut rest = text;
     'bytes: while let [byte, after @ ..] = rest {
         if !is_clear(stop, *byte) {
-            return Ok(rest);
+            return (count, rest);
         }
-        content.push(*byte)?;
+        count = push(places, count, *byte);
         rest = after;
     }
-    Ok(rest)
+    (count, rest)
 }
 
-/// Appends the same as code units, the low byte of each first. Returns what stands after them.
-pub(crate) fn push_clear_units<'a, A: Allocator>(
-    content: &mut Vec<u8, A>,
+/// Puts the same as code units, the low byte of each first.
+pub(crate) fn push_clear_units<'a>(
+    places: &mut [u8],
+    len: usize,
     stop: u8,
     text: &'a [u8],
-) -> Result<&'a [u8], AllocError>
-    ensures items { IfOk result (λ _. content.new.items
-        ≡ content.old.items ++ unit_bytes (clear_run stop text.now).0) }
-    ensures rest { IfOk result (λ rest. rest.now ≡ (clear_run stop text.now).1) }
+) -> (usize, &'a [u8])
+    ensures state { (places.new, result.0)
+        ≡ pushed (places.old, len) (unit_bytes (clear_run stop text.now).0) }
+    ensures rest { result.1.now ≡ (clear_run stop text.now).1 }
 {
+    let mut count = len;
     let mut rest = text;
     'units: while let [byte, after @ ..] = rest {
         if !is_clear(stop, *byte) {
-            return Ok(rest);
+            return (count, rest);
         }
-        content.push(*byte)?;
-        content.push(0)?;
+        count = push(places, count, *byte);
+        count = push(places, count, 0);
         rest = after;
     }
-    Ok(rest)
+    (count, rest)
 }

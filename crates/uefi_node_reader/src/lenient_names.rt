@@ -10,6 +10,7 @@ ghost use Rattle.uefi_node_reader.specs.NamedFiles.{name_read};
 use crate::lenient_fields::after_literal;
 use crate::lenient_table::cut_call;
 use crate::names::{name, name_len};
+use crate::storing::store;
 use std::alloc::{AllocError, Allocator};
 
 /// Puts a name into a vector, with a backslash at its start.
@@ -37,7 +38,13 @@ fn whole_name<A: Allocator + Copy>(
 {
     let mut rooted = Vec::new(alloc);
     put_rooted(&mut rooted, text)?;
-    Ok(matches!(name(content, &rooted)?, Some([])))
+    match name(&rooted) {
+        Some((node, [])) => {
+            store(content, &node)?;
+            Ok(true)
+        }
+        _ => Ok(false),
+    }
 }
 
 /// Reads the name that stands in `File(..)`. Returns what stands after it.

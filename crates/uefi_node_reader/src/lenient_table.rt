@@ -7,13 +7,16 @@ ghost use Rattle.std.specs.Prelude.{◌≡◌, ◌<◌, ◌==◌, IfOk, IfSome, 
 ghost use Rattle.uefi_node_table.specs.Rows.{as_form};
 ghost use Rattle.uefi_node_table.specs.Table.{forms};
 ghost use Rattle.uefi_device_nodes.specs.Nodes.{node_with};
-ghost use Rattle.uefi_node_reader.specs.LenientNodes.{call_read, cut_call, form_set, forms_set, is_blank, is_textless, path_set, tells, tidied, tidied_byte};
+ghost use Rattle.uefi_node_reader.specs.LenientNodes.{call_read, cut_call, form_set, forms_set, is_blank, is_textless, path_set, tells, tidied, tidied_byte, told_in};
 ghost use Rattle.uefi_node_reader.specs.TableReading.{is_filled, is_sound};
+ghost use Rattle.uefi_node_reader.specs.TextNodes.{fitting};
+ghost use Rattle.uefi_node_reader.specs.TextNodeViews.{data_of};
 
-use crate::fields::after;
 use crate::lenient_fields::{after_literal, set_pieces};
 use crate::plain::plain;
-use crate::table_reader::{by_table, put_blank, read_tail};
+use crate::storing::store;
+use crate::table_reader::{by_table, finish_row, fixed_part};
+use crate::text_node::TextNode;
 use std::alloc::{AllocError, Allocator};
 use std::fmt;
 use uefi_field_texts::sink::{Printed, TextSink, print};
@@ -69,10 +72,11 @@ fn tells<A: Allocator + Copy>(
         content,
     }
     .to_string(alloc)?;
-    let mut again = Vec::new(alloc);
-    let Some((other_kind, other_sub_kind, _)) = by_table(&mut again, text.as_bytes())? else {
+    let Some((other, _)) = by_table(text.as_bytes()) else {
         return Ok(false);
     };
+    let mut again = Vec::new(alloc);
+    let (other_kind, other_sub_kind) = store(&mut again, &other)?;
     Ok(other_kind == kind && other_sub_kind == sub_kind && again.as_slice() == content)
 }
 
@@ -135,35 +139,56 @@ fn is_textless(tail: Tail) -> bool
     }
 }
 
-/// Reads a node of a form from its tidied text, its data into a vector, in place of what it held. Returns
-/// what stands after it.
-fn set_row<'a, A: Allocator>(
-    row: &Row,
-    content: &mut Vec<u8, A>,
-    text: &'a [u8],
-) -> Result<Option<&'a [u8]>, AllocError>
+/// Reads a node of a form from its tidied text. Returns what stands after it, too.
+fn set_row<'a>(row: &Row, text: &'a [u8]) -> Option<(TextNode<'a>, &'a [u8])>
     requires sound { IsTrue (is_sound (as_form row.now)) }
     requires filled { IsTrue (is_filled (as_form row.now)) }
-    ensures { IfOk result (λ read. option_map (λ rest. (content.new.items, rest.now)) read
-        ≡ form_set (as_form row.now) text.now) }
+    ensures types { IfSome result (λ x.
+        (x.0.device_type ≡ row.now.kind) × (x.0.sub_type ≡ row.now.sub_kind)) }
+    ensures data { option_map (λ x. (data_of x.0, x.1.now)) result
+        ≡ fitting (form_set (as_form row.now) text.now) }
 {
     let Mode::Read = row.mode else {
-        return Ok(None);
+        return None;
     };
     if !is_textless(row.tail) {
+        return None;
+    }
+    let rest = after_literal(row.start.as_bytes(), text)?;
+    let mut fixed = fixed_part(row);
+    let rest = set_pieces(
+        row.kind,
+        row.sub_kind,
+        row.pieces,
+        &mut fixed[..row.least],
+        rest,
+    )?;
+    finish_row(row, fixed, rest)
+}
+
+/// Reads a node of a form from all of its tidied text, if its own text tells it.
+fn set_told<A: Allocator + Copy>(
+    alloc: A,
+    row: &Row,
+    content: &mut Vec<u8, A>,
+    text: &[u8],
+) -> Result<Option<(u8, u8)>, AllocError>
+    requires sound { IsTrue (is_sound (as_form row.now)) }
+    requires filled { IsTrue (is_filled (as_form row.now)) }
+    ensures { IfOk result (λ read. option_map (λ x. node_with x.0 x.1 content.new.items) read
+        ≡ told_in (as_form row.now) (form_set (as_form row.now) text.now)) }
+{
+    let Some((node, rest)) = set_row(row, text) else {
+        return Ok(None);
+    };
+    if !rest.is_empty() {
         return Ok(None);
     }
-    let Some(rest) = after_literal(row.start.as_bytes(), text) else {
+    let (kind, sub_kind) = store(content, &node)?;
+    if !tells(alloc, kind, sub_kind, content)? {
         return Ok(None);
-    };
-    put_blank(content, row)?;
-    let Some(rest) = set_pieces(row.kind, row.sub_kind, row.pieces, content, rest) else {
-        return Ok(None);
-    };
-    let Some(rest) = read_tail(row.tail, row.close.as_bytes(), content, rest)? else {
-        return Ok(None);
-    };
-    Ok(after(row.close.as_bytes(), rest))
+    }
+    Ok(Some((kind, sub_kind)))
 }
 
 /// Reads the node of the first of these forms that a tidied text has, its data into a vector, in place of
@@ -180,10 +205,8 @@ fn set_group<A: Allocator + Copy>(
         ≡ forms_set (map as_form rows.now) text.now) }
 {
     for row in rows {
-        if let Some(rest) = set_row(row, content, text)? {
-            if rest.is_empty() && tells(alloc, row.kind, row.sub_kind, content)? {
-                return Ok(Some((row.kind, row.sub_kind)));
-            }
+        if let Some(read) = set_told(alloc, row, content, text)? {
+            return Ok(Some(read));
         }
     }
     Ok(None)
@@ -221,8 +244,8 @@ fn set_path<A: Allocator + Copy>(
     let mut printed = Vec::new(alloc);
     printed.extend_from_slice(b"Path(")?;
     printed.extend_from_slice(rest)?;
-    match plain(content, &printed)? {
-        Some((kind, sub_kind, [])) => Ok(Some((kind, sub_kind))),
+    match plain(&printed) {
+        Some((node, [])) => Ok(Some(store(content, &node)?)),
         _ => Ok(None),
     }
 }

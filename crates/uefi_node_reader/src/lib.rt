@@ -5,13 +5,20 @@
 #![tactic(auto)]
 
 mod clear_texts;
+mod coding;
+mod counted;
 mod fields;
 mod lenient_fields;
 mod lenient_names;
 mod lenient_table;
+mod name_data;
 mod names;
 #[doc(hidden)]
 pub mod nodes;
 mod numerals;
 mod plain;
+mod storing;
 mod table_reader;
+mod tails;
+#[doc(hidden)]
+pub mod text_node;

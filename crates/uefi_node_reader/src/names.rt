@@ -1,16 +1,14 @@
 //! Nodes that name files, read from the names.
 #![tactic(auto)]
 
-ghost use Rattle.std.specs.Prelude.{◌≡◌, ◌++◌, ◌≤◌, length, IfOk, OnOk};
-ghost use Rattle.std.specs.Char.Escape.{encode_utf16};
-ghost use Rattle.std.specs.List.{flat_map, list_all, position_or_len};
+ghost use Rattle.std.specs.Prelude.{◌≡◌, ◌≤◌, length};
+ghost use Rattle.std.specs.List.{list_all, position_or_len};
 ghost use Rattle.std.specs.Option.{option_map};
 ghost use Rattle.std.specs.Str.{chars};
-ghost use Rattle.uefi_text.specs.UnitBytes.{unit_bytes};
-ghost use Rattle.uefi_device_nodes.specs.Nodes.{node_with};
 ghost use Rattle.uefi_node_reader.specs.NamedFiles.{begins_name, ends_name, is_name_char, name_read};
+ghost use Rattle.uefi_node_reader.specs.TextNodeViews.{text_node};
 
-use std::alloc::{AllocError, Allocator};
+use crate::text_node::TextNode;
 use uefi_field_texts::texts::is_escaped;
 
 /// Whether a byte ends a name.
@@ -54,51 +52,17 @@ fn has_name_chars(text: &str) -> bool
     text.chars().all(|c| is_name_char(c))
 }
 
-/// Appends the bytes of a character in UTF-16, the low byte of each unit first.
-fn push_char<A: Allocator>(content: &mut Vec<u8, A>, c: char) -> Result<(), AllocError>
-    ensures { OnOk result (content.new.items ≡ content.old.items ++ unit_bytes (encode_utf16 c)) }
+/// Reads the node with the name that a text begins with. Returns what stands after it, too.
+pub(crate) fn name(text: &[u8]) -> Option<(TextNode<'_>, &[u8])>
+    ensures { option_map (λ x. (text_node x.0, x.1.now)) result ≡ name_read text.now }
 {
-    let mut pair = [0; 2];
-    let units = c.encode_utf16(&mut pair);
-    for place in 0..units.len() {
-        content.push((units[place] % 256) as u8)?;
-        content.push((units[place] / 256) as u8)?;
-    }
-    Ok(())
-}
-
-/// Appends the bytes of a text in UTF-16.
-fn push_text<A: Allocator>(content: &mut Vec<u8, A>, text: &str) -> Result<(), AllocError>
-    ensures { OnOk result (content.new.items
-        ≡ content.old.items ++ unit_bytes (flat_map encode_utf16 (chars text.now))) }
-{
-    for c in text.chars() {
-        push_char(content, c)?;
-    }
-    Ok(())
-}
-
-/// Reads a name into a vector, as the data of a node, in place of what it held. Returns what stands after
-/// it.
-pub(crate) fn name<'a, A: Allocator>(
-    content: &mut Vec<u8, A>,
-    text: &'a [u8],
-) -> Result<Option<&'a [u8]>, AllocError>
-    ensures { IfOk result (λ read. option_map
-        (λ rest. (node_with 4 4 content.new.items, rest.now)) read ≡ name_read text.now) }
-{
-    content.clear();
     let (front, rest) = text.split_at(name_len(text));
     let Ok(name) = str::from_utf8(front) else {
-        return Ok(None);
+        return None;
     };
     if !begins_name(name) || !has_name_chars(name) {
-        return Ok(None);
+        return None;
     }
-    push_text(content, name)?;
-    content.extend_from_slice(&[0, 0])?;
-    if 0xfffb < content.len() {
-        return Ok(None);
-    }
-    Ok(Some(rest))
+    let node = TextNode::with_name(name)?;
+    Some((node, rest))
 }

@@ -8,34 +8,29 @@ ghost use Rattle.uefi_node_reader.specs.Laws.{NodeAgain, NodeFits, NodeStarts, N
 ghost use Rattle.uefi_node_reader.specs.Fields.{either_read};
 ghost use Rattle.uefi_node_reader.specs.LenientNodes.{LenientAgain, LenientEnds, LenientTakes, call_read, ended, file_read, lenient_read};
 ghost use Rattle.uefi_node_reader.specs.NamedFiles.{is_after_node, node_read};
+ghost use Rattle.uefi_node_reader.specs.TextNodeViews.{text_node};
 
 use crate::lenient_names::{bare, begins_call, file};
 use crate::lenient_table::by_call;
 use crate::names::{ends_name, name};
 use crate::plain::plain;
+use crate::storing::store;
 use crate::table_reader::by_table;
+use crate::text_node::TextNode;
 use std::alloc::{AllocError, Allocator};
 
-/// Reads the node whose text bytes begin with, its data into a vector, in place of what it held. Returns
-/// its type, its sub-type and what stands after it; `None` exactly where no node that is told has such a
-/// text before a slash, a comma or the end. `AllocError` where the vector does not grow.
-pub fn read_node<'a, A: Allocator>(
-    content: &mut Vec<u8, A>,
-    text: &'a [u8],
-) -> Result<Option<(u8, u8, &'a [u8])>, AllocError>
-    ensures { IfOk result (λ read. option_map
-        (λ x. (node_with x.0 x.1 content.new.items, x.2.now)) read ≡ node_read text.now) }
+/// Reads the node whose text bytes begin with, and returns what stands after it, too; `None` exactly where no
+/// node that is told has such a text before a slash, a comma or the end. Takes no memory.
+pub fn read_node(text: &[u8]) -> Option<(TextNode<'_>, &[u8])>
+    ensures { option_map (λ x. (text_node x.0, x.1.now)) result ≡ node_read text.now }
 {
-    if let Some(read) = by_table(content, text)? {
-        return Ok(Some(read));
+    if let Some(read) = by_table(text) {
+        return Some(read);
     }
-    if let Some(read) = plain(content, text)? {
-        return Ok(Some(read));
+    if let Some(read) = plain(text) {
+        return Some(read);
     }
-    let Some(rest) = name(content, text)? else {
-        return Ok(None);
-    };
-    Ok(Some((4, 4, rest)))
+    name(text)
 }
 
 /// Whether a node may end before a text: before a slash, a comma or the end.
@@ -56,8 +51,11 @@ fn printed<'a, A: Allocator>(
     ensures { IfOk result (λ read. option_map
         (λ x. (node_with x.0 x.1 content.new.items, x.2.now)) read ≡ ended (node_read text.now)) }
 {
-    match read_node(content, text)? {
-        Some((kind, sub_kind, rest)) if is_after_node(rest) => Ok(Some((kind, sub_kind, rest))),
+    match read_node(text) {
+        Some((node, rest)) if is_after_node(rest) => {
+            let (kind, sub_kind) = store(content, &node)?;
+            Ok(Some((kind, sub_kind, rest)))
+        }
         _ => Ok(None),
     }
 }

@@ -1,78 +1,46 @@
 //! Nodes of no kind, read from their types and their data.
 #![tactic(auto)]
 
-ghost use Rattle.std.specs.Prelude.{◌≡◌, ◌++◌, IfOk, false};
+ghost use Rattle.std.specs.Prelude.{◌≡◌, ℕ, List, false, length};
 ghost use Rattle.std.specs.Option.{option_and_then, option_map};
 ghost use Rattle.uefi_device_nodes.specs.Nodes.{node_with};
 ghost use Rattle.uefi_device_nodes.specs.NodeTexts.{is_irregular};
-ghost use Rattle.uefi_node_reader.specs.Fields.{comma_read, run_read};
 ghost use Rattle.uefi_node_reader.specs.Numerals.{number_read};
 ghost use Rattle.uefi_node_reader.specs.PlainNodes.{is_plain, plain_read, plain_rest};
+ghost use Rattle.uefi_node_reader.specs.TextNodeViews.{text_node};
 
-use crate::fields::{after, byte};
+use crate::fields::after;
 use crate::numerals::number;
-use std::alloc::{AllocError, Allocator};
+use crate::text_node::TextNode;
 use uefi_node_table::printing::has_form;
+use uefi_node_table::rows::Tail;
 
-/// Whether a node is printed in a form of its own that no row of the table says.
-fn is_irregular(device_type: u8, sub_type: u8, content: &[u8]) -> bool
-    ensures { result ≡ is_irregular false (node_with device_type sub_type content.now) }
+/// Whether a node is printed in a form of its own that no row of the table says, by how many bytes of data
+/// it has.
+fn is_irregular(device_type: u8, sub_type: u8, len: usize) -> bool
+    ensures { (content : List ℕ) → len ≡ length content
+        → result ≡ is_irregular false (node_with device_type sub_type content) }
 {
     match (device_type, sub_type) {
-        (4, 4) => content.len() % 2 == 0,
-        (2, 2) => 15 <= content.len(),
-        (5, 1) => 5 <= content.len(),
+        (4, 4) => len % 2 == 0,
+        (2, 2) => 15 <= len,
+        (5, 1) => 5 <= len,
         _ => false,
     }
 }
 
 /// Whether a node has no form of its own, and may stand in a path without ending an instance.
-fn is_plain(device_type: u8, sub_type: u8, content: &[u8]) -> bool
-    ensures { result ≡ is_plain (node_with device_type sub_type content.now) }
+fn is_plain(node: &TextNode<'_>) -> bool
+    ensures { result ≡ is_plain (text_node node.now) }
 {
-    if is_irregular(device_type, sub_type, content) {
+    let (device_type, sub_type) = node.types();
+    if is_irregular(device_type, sub_type, node.data_len()) {
         return false;
     }
-    if has_form(false, device_type, sub_type, content) {
+    if has_form(false, device_type, sub_type, node.head()) {
         return false;
     }
-    device_type != 0x7f && content.len() <= 0xfffb
-}
-
-/// Appends all bytes that stand as two digits each. Returns what stands after them.
-pub(crate) fn push_run<'a, A: Allocator>(
-    content: &mut Vec<u8, A>,
-    text: &'a [u8],
-) -> Result<&'a [u8], AllocError>
-    ensures items { IfOk result (λ _. content.new.items ≡ content.old.items ++ (run_read text.now).0) }
-    ensures rest { IfOk result (λ rest. rest.now ≡ (run_read text.now).1) }
-{
-    let mut rest = text;
-    'bytes: while let Some((found, after_byte)) = byte(rest) {
-        content.push(found)?;
-        rest = after_byte;
-    }
-    Ok(rest)
-}
-
-/// Reads bytes after a comma, or none, into a vector, in place of what it held. Returns what stands after
-/// them.
-fn comma_bytes<'a, A: Allocator>(
-    content: &mut Vec<u8, A>,
-    text: &'a [u8],
-) -> Result<Option<&'a [u8]>, AllocError>
-    ensures { IfOk result (λ read. option_map (λ rest. (content.new.items, rest.now)) read
-        ≡ comma_read text.now) }
-{
-    content.clear();
-    let [b',', digits @ ..] = text else {
-        return Ok(Some(text));
-    };
-    let rest = push_run(content, digits)?;
-    if content.is_empty() {
-        return Ok(None);
-    }
-    Ok(Some(rest))
+    device_type != 0x7f
 }
 
 /// The byte whose number in decimal a text begins with, and what stands after it.
@@ -94,26 +62,30 @@ fn types(text: &[u8]) -> Option<(u8, u8, &[u8])>
     Some((device_type, sub_type, rest))
 }
 
-/// Reads a node of no kind, its data into a vector in place of what it held. Returns its type, its sub-type
-/// and what stands after it.
-pub(crate) fn plain<'a, A: Allocator>(
-    content: &mut Vec<u8, A>,
-    text: &'a [u8],
-) -> Result<Option<(u8, u8, &'a [u8])>, AllocError>
-    ensures { IfOk result (λ read. option_map
-        (λ x. (node_with x.0 x.1 content.new.items, x.2.now)) read ≡ plain_read text.now) }
+/// Reads the node of a type and a sub-type from its data on.
+fn plain_from<'a>(device_type: u8, sub_type: u8, text: &'a [u8]) -> Option<(TextNode<'a>, &'a [u8])>
+    ensures { option_map (λ x. (text_node x.0, x.1.now)) result ≡ plain_rest device_type sub_type text.now }
 {
-    let Some((device_type, sub_type, rest)) = types(text) else {
-        return Ok(None);
-    };
-    let Some(rest) = comma_bytes(content, rest)? else {
-        return Ok(None);
-    };
-    let Some(rest) = after(b")", rest) else {
-        return Ok(None);
-    };
-    if !is_plain(device_type, sub_type, content) {
-        return Ok(None);
+    let (node, rest) = TextNode::with_tail(
+        device_type,
+        sub_type,
+        [0; 64],
+        0,
+        Tail::Bytes,
+        "",
+        text,
+    )?;
+    let rest = after(b")", rest)?;
+    if !is_plain(&node) {
+        return None;
     }
-    Ok(Some((device_type, sub_type, rest)))
+    Some((node, rest))
+}
+
+/// Reads a node of no kind. Returns what stands after it, too.
+pub(crate) fn plain(text: &[u8]) -> Option<(TextNode<'_>, &[u8])>
+    ensures { option_map (λ x. (text_node x.0, x.1.now)) result ≡ plain_read text.now }
+{
+    let (device_type, sub_type, rest) = types(text)?;
+    plain_from(device_type, sub_type, rest)
 }

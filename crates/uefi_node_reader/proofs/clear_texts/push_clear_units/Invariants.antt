@@ -1,12 +1,14 @@
-use Rattle.std.proofs.Common.{◌≡◌, ◌++◌, length}
+use Rattle.std.proofs.Common.{◌≡◌, length}
 use Rattle.uefi_text.specs.UnitBytes.{unit_bytes}
+use Rattle.uefi_node_reader.specs.Counted.{pushed}
 use Rattle.uefi_node_reader.specs.Fields.{clear_run}
 use Rattle.uefi_node_reader.proofs.clear_texts.push_clear_units.Given as goal
 
 abbrev pub invariant-units : goal.invariant-units
-invariant-units g l =
-    (l.content.items ++ unit_bytes (clear_run l.stop l.rest).0
-    ≡ l.initial.content.items ++ unit_bytes (clear_run l.stop l.text).0) × ((clear_run l.stop l.rest).1 ≡ (clear_run l.stop l.text).1)
+invariant-units l =
+    (pushed (l.places, l.count) (unit_bytes (clear_run l.stop l.rest).0)
+    ≡ pushed (l.initial.places, l.len) (unit_bytes (clear_run l.stop l.text).0))
+    × ((clear_run l.stop l.rest).1 ≡ (clear_run l.stop l.text).1)
 
 abbrev pub decreases-units : goal.decreases-units
-decreases-units g l = length l.rest
+decreases-units l = length l.rest

@@ -1,4 +1,4 @@
-use Rattle.std.proofs.Common.{◌≡◌, ◌++◌, List, ℕ, sym, ap, ◌∙◌}
+use Rattle.std.proofs.Common.{◌≡◌, List, ℕ, sym, ap, ◌∙◌}
 use Rattle.std.proofs.lemmas.Iterator.{YieldsList-from_chars}
 use Rattle.std.proofs.lemmas.Iterator.Consumers.{YieldsList-end}
 use Rattle.std.proofs.lemmas.List.{map-id}
@@ -6,16 +6,18 @@ use Rattle.std.specs.Char.Escape.{encode_utf16}
 use Rattle.std.specs.List.{flat_map}
 use Rattle.std.specs.Str.{chars}
 use Rattle.uefi_text.specs.UnitBytes.{unit_bytes}
+use Rattle.uefi_node_reader.specs.Counted.{pushed}
 use Rattle.uefi_node_reader.proofs.NamedFiles.{text_more}
-use Rattle.uefi_node_reader.proofs.names.push_text.Goals as goal
+use Rattle.uefi_node_reader.proofs.name_data.push_text.Goals as goal
 
 pub loop-c-preserved : goal.loop-c-preserved
-loop-c-preserved g c =
-    let more = text_more c.args.content.now.items c.loop-c.yielded c.in-Some.c in
-    c.in_ok-push_char.ensures ∙ ap (λ (x : List ℕ). x ++ unit_bytes (encode_utf16 c.in-Some.c)) c.loop-c.invariant ∙ more
+loop-c-preserved c =
+    let start : List ℕ × ℕ = (c.args.places.now, c.args.len) in
+    c.push_char-count.ensures ∙ ap (λ (s : List ℕ × ℕ). pushed s (unit_bytes (encode_utf16 c.in-Some.c))) c.loop-c.invariant
+    ∙ text_more start c.loop-c.yielded c.in-Some.c
 
 pub returns : goal.returns
-returns g c =
+returns c =
     let t = YieldsList-end (YieldsList-from_chars c.args.text.now c.utf8.text cc) c.loop-c.yielded _ c.loop-c.yielded_by _ _ c.in-None.is c.next.ensures.steps in
     let all : c.loop-c.yielded ≡ chars c.args.text.now = sym (map-id c.loop-c.yielded) ∙ t.0 in
-    c.loop-c.invariant ∙ ap (λ (x : List ℕ). c.args.content.now.items ++ unit_bytes (flat_map encode_utf16 x)) all
+    c.loop-c.invariant ∙ ap (λ (x : List ℕ). pushed (c.args.places.now, c.args.len) (unit_bytes (flat_map encode_utf16 x))) all

@@ -2,10 +2,11 @@ use Rattle.std.proofs.Common.{◌≡◌, ℕ, suc, ◌+◌, ◌-◌, ◌<◌, Li
 use Rattle.std.specs.Prelude.{Option, Some, None, option_and_then}
 use Rattle.std.specs.Option.{option_map}
 use Rattle.uefi_node_table.specs.Rows.{Item, as_item}
+use Rattle.uefi_node_reader.specs.Counted.{put_on}
 use Rattle.uefi_node_reader.specs.Words.{after}
-use Rattle.uefi_node_reader.specs.TableReading.{added, items_read}
-use Rattle.uefi_node_reader.proofs.ListReads.{list_ends, next_item, no_item, none_left}
-use Rattle.uefi_node_reader.proofs.table_reader.push_items.Goals as goal
+use Rattle.uefi_node_reader.specs.TableReading.{items_read}
+use Rattle.uefi_node_reader.proofs.ListReads.{list_ends, next_item, no_item}
+use Rattle.uefi_node_reader.proofs.tails.push_items.Goals as goal
 
 -- what stands after the start of an item
 begun : (start literal rest : List ℕ) (found : Option (Bor (List ℕ))) (o : Option (Bor (List ℕ))) → literal ≡ start
@@ -16,38 +17,38 @@ begun start literal rest found o same e is =
 one_less : (n k : ℕ) → k < n → suc (n - (k + 1)) ≡ n - k
 one_less n k l = omega arith
 
+pub returns : goal.returns
+returns c =
+    let none : length c.args.text.now - c.items.counter ≡ 0 = omega (arith, c.items-test.false) in
+    ap (λ (n : ℕ). option_and_then (put_on (c.items.places, c.items.count)) (items_read n (as_item c.args.item.now) c.items.rest.now)) (sym none)
+    ∙ c.items.invariant
+
 pub returns-in_default : goal.returns-in_default
-returns-in_default g c =
+returns-in_default c =
     let item : Item = as_item c.args.item.now in
     let none : after item.start c.items.rest.now ≡ None =
     begun item.start c.as_bytes.result.now c.items.rest.now c.after.result None c.as_bytes.ensures.value c.after.ensures c.in_default.is in
-    sym (list_ends item (length c.args.text.now - c.items.counter) c.items.content.items c.items.rest.now none) ∙ c.items.invariant
+    sym (list_ends item (length c.args.text.now - c.items.counter) (c.items.places, c.items.count) c.items.rest.now none) ∙ c.items.invariant
 
-pub returns-in_default-2 : goal.returns-in_default-2
-returns-in_default-2 g c =
+pub returns-in_err-more : goal.returns-in_err-more
+returns-in_err-more c =
     let item : Item = as_item c.args.item.now in
     let most : ℕ = length c.args.text.now - (c.items.counter + 1) in
+    let state : List ℕ × ℕ = (c.items.places, c.items.count) in
     let some : after item.start c.items.rest.now ≡ Some c.in-Some.fields.now =
     begun item.start c.as_bytes.result.now c.items.rest.now c.after.result (Some c.in-Some.fields) c.as_bytes.ensures.value c.after.ensures c.in-Some.is in
-    sym (no_item item most c.items.content.items c.items.rest.now c.in-Some.fields.now some (rw c.in_default-2.is at c.in_ok-others.ensures))
-    ∙ ap (λ (n : ℕ). option_and_then (added c.items.content.items) (items_read n item c.items.rest.now)) (one_less (length c.args.text.now) c.items.counter c.items-test.true)
-    ∙ c.items.invariant
+    rw c.from_residual.ensures (sym (no_item item most state c.items.rest.now c.in-Some.fields.now some (rw c.in_err-more.was at c.push_item.ensures))
+    ∙ ap (λ (n : ℕ). option_and_then (put_on state) (items_read n item c.items.rest.now)) (one_less (length c.args.text.now) c.items.counter c.items-test.true)
+    ∙ c.items.invariant)
 
 pub items-preserved : goal.items-preserved
-items-preserved g c =
+items-preserved c =
     let item : Item = as_item c.args.item.now in
     let most : ℕ = length c.args.text.now - (c.items.counter + 1) in
+    let state : List ℕ × ℕ = (c.items.places, c.items.count) in
     let some : after item.start c.items.rest.now ≡ Some c.in-Some.fields.now =
     begun item.start c.as_bytes.result.now c.items.rest.now c.after.result (Some c.in-Some.fields) c.as_bytes.ensures.value c.after.ensures c.in-Some.is in
-    next_item item most c.items.content.items c.items.rest.now c.in-Some.fields.now some c.push_item.new.content.items c.in-Some-2.others.now
-    (rw c.in-Some-2.is at c.in_ok-others.ensures)
-    ∙ ap (λ (n : ℕ). option_and_then (added c.items.content.items) (items_read n item c.items.rest.now)) (one_less (length c.args.text.now) c.items.counter c.items-test.true)
-    ∙ c.items.invariant
-
-pub returns : goal.returns
-returns g c =
-    let item : Item = as_item c.args.item.now in
-    let none : length c.args.text.now - c.items.counter ≡ 0 = omega (arith, c.items-test.false) in
-    sym (none_left item c.items.content.items c.items.rest.now)
-    ∙ ap (λ (n : ℕ). option_and_then (added c.items.content.items) (items_read n item c.items.rest.now)) (sym none)
+    next_item item most state c.items.rest.now c.in-Some.fields.now some (c.push_item.new.places, c.in_ok-more.more) c.in_ok-more.others.now
+    (rw c.in_ok-more.was at c.push_item.ensures)
+    ∙ ap (λ (n : ℕ). option_and_then (put_on state) (items_read n item c.items.rest.now)) (one_less (length c.args.text.now) c.items.counter c.items-test.true)
     ∙ c.items.invariant

@@ -1,8 +1,0 @@
-use Rattle.std.proofs.Common.{◌≡◌, ◌++◌}
-use Rattle.std.specs.Char.Escape.{encode_utf16}
-use Rattle.std.specs.List.{flat_map}
-use Rattle.uefi_text.specs.UnitBytes.{unit_bytes}
-use Rattle.uefi_node_reader.proofs.names.push_text.Given as goal
-
-abbrev pub invariant-loop-c : goal.invariant-loop-c
-invariant-loop-c g l = l.content.items ≡ l.initial.content.items ++ unit_bytes (flat_map encode_utf16 l.yielded)

@@ -1,0 +1,18 @@
+use Rattle.std.proofs.Common.{List, ℕ, take, refl, ap, ◌∙◌}
+use Rattle.uefi_node_table.specs.Rows.{as_form}
+use Rattle.uefi_node_reader.specs.TableReading.{are_within, put_all}
+use Rattle.uefi_node_reader.proofs.FixedParts.{also_within, fixed_is, when_within}
+use Rattle.uefi_node_reader.proofs.table_reader.fixed_part.Goals as goal
+
+pub put_bytes-requires : goal.put_bytes-requires
+put_bytes-requires c = when_within (as_form c.args.row.now) c.requires
+
+pub put_bytes-requires-2 : goal.put_bytes-requires-2
+put_bytes-requires-2 c =
+    ap (λ (n : ℕ). are_within n c.args.row.now.also.now) c.put_bytes.auto.content ∙ also_within (as_form c.args.row.now) c.requires
+
+pub returns : goal.returns
+returns c =
+    let row = c.args.row.now in
+    ap (λ (l : List ℕ). take row.least l) (c.put_bytes-2.ensures ∙ ap (λ (l : List ℕ). put_all row.also.now l) c.put_bytes.ensures)
+    ∙ fixed_is (as_form row) c.requires _ refl

@@ -1,0 +1,13 @@
+-- What a node that was read shows. Other crates see these words alone, and no field.
+use Rattle.std.specs.Prelude.{ℕ, List}
+use Rattle.uefi_device_nodes.specs.Nodes.{Node, node_with}
+use Rattle.uefi_node_reader.specs.TextNodes.{all_data}
+use Rattle.uefi_node_reader.specs.declared.text_node.TextNode.{TextNode}
+
+-- the data of a node that was read
+abbrev pub data_of : TextNode → List ℕ
+data_of node = all_data node.head node.fixed node.coding node.close.now node.text.now
+
+-- the node that was read
+unfoldable pub text_node : TextNode → Node
+text_node node = node_with node.device_type node.sub_type (data_of node)

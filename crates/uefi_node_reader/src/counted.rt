@@ -1,0 +1,26 @@
+//! Bytes that are put into a buffer one after the other, and counted, whether it has room for them or not.
+#![tactic(auto)]
+
+ghost use Rattle.std.specs.Prelude.{◌≡◌};
+ghost use Rattle.uefi_node_reader.specs.Counted.{pushed, pushed_byte};
+
+/// Puts a byte after `len` others, where there is room. Returns how many bytes these are.
+pub(crate) fn push(places: &mut [u8], len: usize, byte: u8) -> usize
+    ensures { (places.new, result) ≡ pushed_byte (places.old, len) byte }
+{
+    if len < places.len() {
+        places[len] = byte;
+    }
+    len.saturating_add(1)
+}
+
+/// Puts bytes after `len` others. Returns how many bytes these are.
+pub(crate) fn push_all(places: &mut [u8], len: usize, bytes: &[u8]) -> usize
+    ensures { (places.new, result) ≡ pushed (places.old, len) bytes.now }
+{
+    let mut count = len;
+    for byte in bytes {
+        count = push(places, count, *byte);
+    }
+    count
+}

@@ -1,0 +1,48 @@
+//! The data of a node that names a file, put into a buffer and counted.
+#![tactic(auto)]
+
+ghost use Rattle.std.specs.Prelude.{◌≡◌};
+ghost use Rattle.std.specs.Char.Escape.{encode_utf16};
+ghost use Rattle.std.specs.List.{flat_map};
+ghost use Rattle.std.specs.Str.{chars};
+ghost use Rattle.uefi_text.specs.UnitBytes.{unit_bytes};
+ghost use Rattle.uefi_node_reader.specs.Counted.{pushed};
+ghost use Rattle.uefi_node_reader.specs.NamedFiles.{name_data};
+
+use crate::counted::push;
+
+/// Puts the bytes of a character in UTF-16 after `len` others, the low byte of each unit first. Returns how
+/// many bytes these are.
+fn push_char(places: &mut [u8], len: usize, c: char) -> usize
+    ensures { (places.new, result) ≡ pushed (places.old, len) (unit_bytes (encode_utf16 c)) }
+{
+    let mut pair = [0; 2];
+    let units = c.encode_utf16(&mut pair);
+    let mut count = len;
+    for place in 0..units.len() {
+        count = push(places, count, (units[place] % 256) as u8);
+        count = push(places, count, (units[place] / 256) as u8);
+    }
+    count
+}
+
+/// Puts the bytes of a text in UTF-16.
+fn push_text(places: &mut [u8], len: usize, text: &str) -> usize
+    ensures { (places.new, result)
+        ≡ pushed (places.old, len) (unit_bytes (flat_map encode_utf16 (chars text.now))) }
+{
+    let mut count = len;
+    for c in text.chars() {
+        count = push_char(places, count, c);
+    }
+    count
+}
+
+/// Puts the data of a node that has a name: the name in UTF-16, and a NUL.
+pub(crate) fn push_name(places: &mut [u8], len: usize, name: &str) -> usize
+    ensures { (places.new, result) ≡ pushed (places.old, len) (name_data (chars name.now)) }
+{
+    let count = push_text(places, len, name);
+    let count = push(places, count, 0);
+    push(places, count, 0)
+}

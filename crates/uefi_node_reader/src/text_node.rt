@@ -1,0 +1,138 @@
+//! Nodes whose texts were read. Their data are decoded where they go: reading takes no memory.
+#![tactic(auto, unfolding(crate::specs::TextNodeViews::text_node))]
+
+ghost use Rattle.std.specs.Option.{option_and_then, option_map};
+ghost use Rattle.std.specs.Prelude.{◌≡◌, ◌≤◌, IfSome, true, if◌then◌else◌, length, nat_le, take, None, Some};
+ghost use Rattle.std.specs.Str.{chars};
+ghost use Rattle.uefi_device_nodes.specs.Nodes.{node_with};
+ghost use Rattle.uefi_node_reader.specs.NamedFiles.{name_data};
+ghost use Rattle.uefi_node_reader.specs.TableReading.{added, tail_read};
+ghost use Rattle.uefi_node_reader.specs.TextNodes.{all_data, fitting, is_coded};
+
+use crate::coding::Coding;
+use crate::counted::push_all;
+use crate::name_data::push_name;
+use crate::tails::push_tail;
+use uefi_node_table::rows::Tail;
+
+/// A node whose text was read. A contract sees it as `text_node` of it.
+#[derive(Clone, Copy)]
+pub struct TextNode<'a> {
+    device_type: u8,
+    sub_type: u8,
+    head: [u8; 64],
+    fixed: usize,
+    coding: Coding,
+    close: &'static str,
+    text: &'a [u8],
+    len: usize,
+    pub ghost small: { fixed ≤ 64 },
+    pub ghost coded: { is_coded coding close.now text.now ≡ true },
+    pub ghost counted: { len ≡ length (all_data head fixed coding close.now text.now) },
+    pub ghost shown: { take len head ≡ take 64 (all_data head fixed coding close.now text.now) },
+    pub ghost fits: { len ≤ 0xfffb },
+}
+
+impl<'a> TextNode<'a> {
+    ghost use Rattle.uefi_node_reader.specs.TextNodeViews.{data_of, text_node};
+
+    /// The node with these fixed bytes, and the data that a text begins with before `close`, as a tail has
+    /// them; and what stands after these.
+    pub(crate) fn with_tail(
+        device_type: u8,
+        sub_type: u8,
+        fixed_bytes: [u8; 64],
+        fixed: usize,
+        tail: Tail,
+        close: &'static str,
+        text: &'a [u8],
+    ) -> Option<(Self, &'a [u8])>
+        requires { fixed ≤ 64 }
+        ensures types { IfSome result (λ x. (x.0.device_type ≡ device_type) × (x.0.sub_type ≡ sub_type)) }
+        ensures data { option_map (λ x. (data_of x.0, x.1.now)) result
+            ≡ fitting (option_and_then (added (take fixed fixed_bytes)) (tail_read tail close.now text.now)) }
+    {
+        let mut head = fixed_bytes;
+        let (len, rest) = push_tail(tail, close.as_bytes(), &mut head, fixed, text)?;
+        if 0xfffb < len {
+            return None;
+        }
+        let node = TextNode {
+            device_type,
+            sub_type,
+            head,
+            fixed,
+            coding: Coding::InTail(tail),
+            close,
+            text,
+            len,
+        };
+        Some((node, rest))
+    }
+
+    /// The node that a name tells, whole.
+    pub(crate) fn with_name(name: &'a str) -> Option<Self>
+        ensures { option_map text_node result ≡ (if nat_le (length (name_data (chars name.now))) 0xfffb
+            then Some (node_with 4 4 (name_data (chars name.now))) else None) }
+    {
+        let mut head = [0; 64];
+        let len = push_name(&mut head, 0, name);
+        if 0xfffb < len {
+            return None;
+        }
+        Some(TextNode {
+            device_type: 4,
+            sub_type: 4,
+            head,
+            fixed: 0,
+            coding: Coding::InName,
+            close: "",
+            text: name.as_bytes(),
+            len,
+        })
+    }
+
+    /// The type and the sub-type.
+    pub fn types(&self) -> (u8, u8)
+        ensures device_type { result.0 ≡ (text_node self.now).device_type }
+        ensures sub_type { result.1 ≡ (text_node self.now).sub_type }
+    {
+        (self.device_type, self.sub_type)
+    }
+
+    /// How many bytes of data the node has.
+    pub fn data_len(&self) -> usize
+        ensures count { result ≡ length (text_node self.now).content }
+        ensures fits { result ≤ 0xfffb }
+    {
+        self.len
+    }
+
+    /// The first bytes of the data, at most 64.
+    pub(crate) fn head(&self) -> &[u8]
+        ensures { result.now ≡ take 64 (text_node self.now).content }
+    {
+        if self.len < 64 {
+            return &self.head[..self.len];
+        }
+        &self.head
+    }
+
+    /// Writes the data to bytes, which are as many.
+    pub fn write_data(&self, bytes: &mut [u8])
+        requires { length bytes.old ≡ length (text_node self.now).content }
+        ensures { bytes.new ≡ (text_node self.now).content }
+    {
+        let len = push_all(bytes, 0, &self.head[..self.fixed]);
+        match self.coding {
+            Coding::InTail(tail) => {
+                let _ = push_tail(tail, self.close.as_bytes(), bytes, len, self.text);
+            }
+            Coding::InName => {
+                if let Ok(name) = str::from_utf8(self.text) {
+                    push_name(bytes, len, name);
+                }
+            }
+        }
+    }
+}
