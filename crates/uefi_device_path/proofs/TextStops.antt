@@ -219,10 +219,12 @@ if_only node_once starts fits text (Err (NoNode place)) read nodes told is =
     (subst (λ (x : List ℕ). StopsAt x place) (sym is) read.refusal))
 
 pub if_stops : NodeTextOnce → NodeStarts → NodeFits → (text : List ℕ) (r : Result (List Node) PathTextError)
-    → IsRead text r → (place : ℕ) → StopsAt text place → (r ≡ Err (NoNode place)) ⊎ (r ≡ Err OutOfMemory)
+    → IsRead text r → (place : ℕ) → StopsAt text place → r ≡ Err (NoNode place)
 if_stops node_once starts fits text (Ok path) read place stop =
     absurd (never_both node_once starts fits path place read.told
     (subst (λ (x : List ℕ). StopsAt x place) (sym read.ok) stop))
-if_stops node_once starts fits text (Err OutOfMemory) read place stop = inr refl
+if_stops node_once starts fits text (Err OutOfMemory) read place stop =
+    let (nodes, told, is) = read.refusal in
+    absurd (never_both node_once starts fits nodes place told (subst (λ (x : List ℕ). StopsAt x place) (sym is) stop))
 if_stops node_once starts fits text (Err (NoNode other)) read place stop =
-    inl (ap (λ (x : ℕ). Err (NoNode x)) (stops_once node_once starts fits text other place read.refusal stop))
+    ap (λ (x : ℕ). Err (NoNode x)) (stops_once node_once starts fits text other place read.refusal stop)

@@ -31,7 +31,8 @@ device_path_error_text error = node_error_text error.cause ++ codes " at offset 
 abbrev pub load_option_cause_text : LoadOptionCause → List ℕ
 load_option_cause_text option.TooShort = codes "the load option ends before its description"
 load_option_cause_text option.DescriptionWithoutEnd = codes "no NUL ends the description"
-load_option_cause_text option.ListBeyondEnd = codes "the file path list is longer than what is left"
+load_option_cause_text option.ListBeyondEnd =
+    codes "the file path list is longer than the bytes that are left"
 load_option_cause_text option.EmptyList = codes "the file path list is empty"
 load_option_cause_text (option.FilePathList cause) = node_error_text cause
 
@@ -42,7 +43,7 @@ load_option_error_text error =
 
 -- what is printed where a node is not added to a device path
 abbrev pub build_error_text : BuildError → List ℕ
-build_error_text build.EndNode = codes "the node ends no instance and may not stand before the end"
+build_error_text build.EndNode = codes "an end node may not stand before the end of a device path"
 build_error_text build.NodeTooLong = codes "the node is longer than its header can state"
 build_error_text (build.BufferTooSmall needed) =
     codes "buffer too small: the device path needs " ++ decimal needed ++ codes " bytes"
@@ -55,8 +56,8 @@ grow_error_text (grow.Build error) = build_error_text error
 
 -- what is printed where a node has no name
 abbrev pub file_path_cause_text : FilePathCause → List ℕ
-file_path_cause_text file.HalfUnit = codes "odd number of bytes"
-file_path_cause_text (file.Text error) = from_slice_with_nul_error_text error
+file_path_cause_text file.HalfUnit = codes "file path: odd number of bytes"
+file_path_cause_text (file.Text error) = codes "file path: " ++ from_slice_with_nul_error_text error
 file_path_cause_text file.OutOfMemory = codes "out of memory"
 
 -- what is printed where nodes have no file path
@@ -66,7 +67,7 @@ file_path_error_text error = file_path_cause_text error.cause ++ codes " at offs
 -- what is printed where a load option is not written
 abbrev pub option_build_error_text : OptionBuildError → List ℕ
 option_build_error_text (written.NulInDescription place) =
-    codes "NUL in the description, at " ++ decimal place
+    codes "description: interior null character at index " ++ decimal place
 option_build_error_text written.EmptyList = codes "the file path list is empty"
 option_build_error_text written.ListTooLong =
     codes "the file path list is longer than its header can state"

@@ -54,7 +54,11 @@ pub record Stops (text : List ℕ) (place : ℕ) (nodes : List Node) (rest : Lis
 abbrev pub StopsAt : List ℕ → ℕ → Type 0
 StopsAt text place = (nodes : List Node) × (rest : List ℕ) × Stops text place nodes rest
 
--- why a text is no path: memory was refused, or where it stops being the text of one
+-- a text is that of a path of which it tells all
+abbrev pub HasPath : List ℕ → Type 0
+HasPath text = (nodes : List Node) × AreTold nodes × (path_text false false nodes ≡ text)
+
+-- why no path was read: memory was refused for that of this text, or the text stops being that of one
 abbrev pub IsReadError : List ℕ → PathTextError → Type 0
-IsReadError text OutOfMemory = Unit {0}
+IsReadError text OutOfMemory = HasPath text
 IsReadError text (NoNode place) = StopsAt text place

@@ -107,6 +107,15 @@ impl<A: Allocator> DevicePathBuf<A> {
         })
     }
 
+    /// The same with room for this many bytes. One request for memory.
+    pub(crate) fn with_capacity(alloc: A, len: usize) -> Result<Self, AllocError>
+        ensures { IfOk result (λ path. path ≡ []) }
+    {
+        let mut bytes = Vec::with_capacity(alloc, len)?;
+        bytes.extend_from_slice(&[0x7f, 0xff, 4, 0])?;
+        Ok(DevicePathBuf { bytes })
+    }
+
     /// Adds a node before the end: one that was built, or that another path has. Refused as `EndNode` for a
     /// node of type End that does not end an instance, as `NodeTooLong` for more than 65,531 bytes of data,
     /// and then as `OutOfMemory`; the path is then unchanged. Takes memory where it has no room.

@@ -159,10 +159,12 @@ impl<'a> DevicePath<'a> {
         DevicePathNodeIterator::of(&self.bytes[..self.bytes.len() - 4])
     }
 
-    /// The names of all nodes that name files, of all instances, one after the other: one separator
-    /// stands between two, also where both bring one, and each slash is replaced (UEFI Specification
-    /// 2.10, section 10.3.5.4). Refused for the first of these nodes that has no name, or as
-    /// `OutOfMemory`. Takes memory for each name, and as [`PathBuf::push`] does.
+    /// Joins the names of all nodes that name files, of all instances: one separator stands between two
+    /// names, also where both bring one, and each slash is replaced (UEFI Specification 2.10, section
+    /// 10.3.5.4).
+    ///
+    /// All names are looked at first: the first node whose data is no string is refused. Then the call
+    /// allocates once for the text, and once for the places of its separators if it has any.
     pub fn file_path<A: Allocator + Copy>(&self, alloc: A) -> Result<PathBuf<A>, FilePathError>
         ensures ok { IfOk result (λ path. path ≡ file_path (nodes_of self.now)) }
         ensures accepted { IfOk result (λ _. All IsReadable (nodes_of self.now)) }

@@ -49,8 +49,8 @@ impl fmt::Display for FilePathCause {
 
     fn fmt<W: fmt::Write>(&self, f: &mut fmt::Formatter<W>) -> fmt::Result {
         match self {
-            Self::HalfUnit => f.write_str("odd number of bytes"),
-            Self::Text(error) => write!(f, "{error}"),
+            Self::HalfUnit => f.write_str("file path: odd number of bytes"),
+            Self::Text(error) => write!(f, "file path: {error}"),
             Self::OutOfMemory => f.write_str("out of memory"),
         }
     }
@@ -164,7 +164,10 @@ impl fmt::Display for LoadOptionCause {
         match self {
             Self::TooShort => f.write_str("the load option ends before its description"),
             Self::DescriptionWithoutEnd => f.write_str("no NUL ends the description"),
-            Self::ListBeyondEnd => f.write_str("the file path list is longer than what is left"),
+            Self::ListBeyondEnd => write!(
+                f,
+                "the file path list is longer than the bytes that are left"
+            ),
             Self::EmptyList => f.write_str("the file path list is empty"),
             Self::FilePathList(cause) => write!(f, "{cause}"),
         }
@@ -222,7 +225,7 @@ impl fmt::Display for BuildError {
         match self {
             Self::EndNode => write!(
                 f,
-                "the node ends no instance and may not stand before the end"
+                "an end node may not stand before the end of a device path"
             ),
             Self::NodeTooLong => f.write_str("the node is longer than its header can state"),
             Self::BufferTooSmall(needed) => write!(
@@ -288,7 +291,10 @@ impl fmt::Display for OptionBuildError {
 
     fn fmt<W: fmt::Write>(&self, f: &mut fmt::Formatter<W>) -> fmt::Result {
         match self {
-            Self::NulInDescription(place) => write!(f, "NUL in the description, at {place}"),
+            Self::NulInDescription(place) => write!(
+                f,
+                "description: interior null character at index {place}"
+            ),
             Self::EmptyList => f.write_str("the file path list is empty"),
             Self::ListTooLong => write!(
                 f,

@@ -79,10 +79,7 @@ impl<'a> DevicePathInstance<'a> {
         DevicePathNodeIterator::of(self.bytes)
     }
 
-    /// The names of all nodes that name files, one after the other: one separator stands between two, also
-    /// where both bring one, and each slash is replaced (UEFI Specification 2.10, section 10.3.5.4). Refused
-    /// for the first of these nodes that has no name, or as `OutOfMemory`. Takes memory for each name, and as
-    /// [`PathBuf::push`] does.
+    /// Joins the names of its nodes that name files, as [`DevicePath::file_path`](crate::DevicePath) does.
     pub fn file_path<A: Allocator + Copy>(&self, alloc: A) -> Result<PathBuf<A>, FilePathError>
         ensures ok { IfOk result (λ path. path ≡ file_path (instance_nodes self.now)) }
         ensures accepted { IfOk result (λ _. All IsReadable (instance_nodes self.now)) }

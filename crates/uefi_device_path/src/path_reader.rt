@@ -1,19 +1,23 @@
 //! Device paths read from their texts.
 #![tactic(auto)]
 
-ghost use Rattle.std.specs.Prelude.{◌≡◌, ℕ, ◌<◌, true, false, if◌then◌else◌, ◌⊎◌, ◌∷◌, ◌++◌, [], List, length, drop, IfOk, IfErr, MatchOption, OnOk, Err};
+ghost use Rattle.std.specs.Prelude.{◌≡◌, ℕ, ◌<◌, ◌-◌, ◌^◌, min, true, false, if◌then◌else◌, ◌∷◌, ◌++◌, [], List, length, drop, IfOk, IfErr, MatchOption, OnOk, Err};
 ghost use Rattle.uefi_device_nodes.specs.Nodes.{Node};
-ghost use Rattle.uefi_device_path.specs.PathReading.{AreTold, BeginsWithNode, IsReadError, NoneBegins, StopsAt, end_instance, is_after_instance};
+ghost use Rattle.uefi_device_path.specs.PathReading.{AreTold, BeginsWithNode, HasPath, IsReadError, NoneBegins, StopsAt, end_instance, is_after_instance};
+ghost use Rattle.uefi_device_path.specs.Paths.{path_bytes};
 ghost use Rattle.uefi_device_path.specs.PathTexts.{path_text};
 ghost use Rattle.uefi_node_reader.specs.NamedFiles.{is_after_node};
+ghost use Rattle.uefi_node_reader.specs.TextNodeViews.{text_node};
 
 use crate::build::DevicePathBuf;
 use crate::errors::BuildError;
 use std::alloc::Allocator;
 use std::error::Error;
 use std::fmt;
+use uefi_built_nodes::BuildNode;
 use uefi_device_nodes::{DeviceSubType, DeviceType};
 use uefi_node_reader::nodes::{node_text_once, nodes_are_read, read_node};
+use uefi_node_reader::text_node::TextNode;
 
 /// Why a text is not read as a device path.
 #[derive(Clone, Copy, Debug, PartialEq, Eq)]
@@ -60,32 +64,43 @@ fn is_after_node(bytes: &[u8]) -> bool
     }
 }
 
-/// Adds the node whose text bytes begin with before a slash, a comma or their end, and returns what stands
-/// after it; `None` where they begin with none. Refused for memory alone.
-fn push_node<'a, A: Allocator>(
-    path: &mut DevicePathBuf<A>,
-    content: &mut Vec<u8, A>,
-    text: &'a [u8],
-) -> Result<Option<&'a [u8]>, BuildError>
-    ensures ok { IfOk result (λ read. MatchOption read (NoneBegins text.now)
-        (λ rest. (node : Node) × BeginsWithNode text.now node rest.now
-        × (path.new ≡ path.old ++ node ∷ []))) }
-    ensures memory { IfErr result (λ error. error ≡ BuildError.OutOfMemory) }
+/// A node whose text was read, to be added to a path.
+#[derive(Clone, Copy)]
+pub(crate) struct ReadNode<'a> {
+    node: TextNode<'a>,
+}
+
+/// The node.
+impl BuildNode for ReadNode<'_> {
+    ghost use Rattle.uefi_node_reader.specs.TextNodeViews.{text_node};
+
+    ghost node = { λ n. text_node n.node };
+
+    fn full_type(&self) -> (DeviceType, DeviceSubType) {
+        let (device_type, sub_type) = self.node.types();
+        (DeviceType(device_type), DeviceSubType(sub_type))
+    }
+
+    fn data_len(&self) -> usize {
+        self.node.data_len()
+    }
+
+    fn write_data(&self, bytes: &mut [u8]) {
+        self.node.write_data(bytes);
+    }
+}
+
+/// The node whose text bytes begin with before a slash, a comma or their end, and what stands after it.
+pub(crate) fn first_node(text: &[u8]) -> Option<(ReadNode<'_>, &[u8])>
+    ensures { MatchOption result (NoneBegins text.now)
+        (λ x. BeginsWithNode text.now (text_node x.0.node) x.1.now) }
 {
     nodes_are_read();
-    let Ok(read) = read_node(content, text) else {
-        return Err(BuildError::OutOfMemory);
-    };
-    let Some((device_type, sub_type, rest)) = read else {
-        return Ok(None);
-    };
+    let (node, rest) = read_node(text)?;
     if !is_after_node(rest) {
-        return Ok(None);
+        return None;
     }
-    match path.push(DeviceType(device_type), DeviceSubType(sub_type), content) {
-        Ok(()) => Ok(Some(rest)),
-        Err(error) => Err(error),
-    }
+    Some((ReadNode { node }, rest))
 }
 
 /// What stands after a comma that a text begins with, or `None`.
@@ -107,59 +122,105 @@ pub(crate) fn node_start(at_start: bool, text: &[u8]) -> &[u8]
     if at_start { text } else { &text[1..] }
 }
 
-/// The path whose text bytes are.
-fn read_path<A: Allocator + Copy>(alloc: A, text: &[u8]) -> Result<DevicePathBuf<A>, PathTextError>
-    ensures told { IfOk result (λ path. AreTold path) }
-    ensures ok { IfOk result (λ path. path_text false false path ≡ text.now) }
-    ensures refusal { IfErr result (IsReadError text.now) }
+/// How many bytes the path has whose text bytes are, as far as a `usize` counts, or where they stop being
+/// the text of one.
+fn check_text(text: &[u8]) -> Result<usize, usize>
+    ensures path { IfOk result (λ _. HasPath text.now) }
+    ensures len { IfOk result (λ len. (nodes : List Node) → AreTold nodes
+        → path_text false false nodes ≡ text.now → len ≡ min (length (path_bytes nodes)) (2 ^ 64 - 1)) }
+    ensures refusal { IfErr result (StopsAt text.now) }
 {
     nodes_are_read();
-    let Ok(mut path) = DevicePathBuf::new(alloc) else {
-        return Err(PathTextError::OutOfMemory);
-    };
-    let mut content = Vec::new(alloc);
+    node_text_once();
+    let mut len = 4usize;
     let mut rest = text;
     let mut at_start = true;
     'nodes: while !rest.is_empty() {
         match after_comma(rest) {
             Some(after) => {
-                let Ok(()) = push_end(&mut path) else {
-                    return Err(PathTextError::OutOfMemory);
-                };
+                len = len.saturating_add(4);
                 rest = after;
                 at_start = true;
             }
             None => {
                 let place = node_start(at_start, rest);
-                let Ok(read) = push_node(&mut path, &mut content, place) else {
-                    return Err(PathTextError::OutOfMemory);
+                let Some((node, after)) = first_node(place) else {
+                    return Err(text.len() - place.len());
                 };
-                let Some(after) = read else {
-                    return Err(PathTextError::NoNode(text.len() - place.len()));
-                };
+                len = len.saturating_add(node.data_len()).saturating_add(4);
                 rest = after;
                 at_start = false;
             }
         }
     }
+    Ok(len)
+}
+
+/// Adds the nodes whose text bytes are, where they are the text of a path. Refused for memory alone.
+fn push_text<A: Allocator>(path: &mut DevicePathBuf<A>, text: &[u8]) -> Result<(), BuildError>
+    requires empty { path.old ≡ [] }
+    requires has_path { HasPath text.now }
+    ensures told { OnOk result (AreTold path.new) }
+    ensures ok { OnOk result (path_text false false path.new ≡ text.now) }
+{
+    nodes_are_read();
+    node_text_once();
+    let mut rest = text;
+    let mut at_start = true;
+    'nodes: while !rest.is_empty() {
+        match after_comma(rest) {
+            Some(after) => {
+                push_end(path)?;
+                rest = after;
+                at_start = true;
+            }
+            None => {
+                let Some((node, after)) = first_node(node_start(at_start, rest)) else {
+                    unreachable!()
+                };
+                path.push_node(&node)?;
+                rest = after;
+                at_start = false;
+            }
+        }
+    }
+    Ok(())
+}
+
+/// The path whose text bytes are, in memory that is asked for once they are known to be the text of one.
+fn read_path<A: Allocator + Copy>(alloc: A, text: &[u8]) -> Result<DevicePathBuf<A>, PathTextError>
+    ensures told { IfOk result (λ path. AreTold path) }
+    ensures ok { IfOk result (λ path. path_text false false path ≡ text.now) }
+    ensures refusal { IfErr result (IsReadError text.now) }
+{
+    let len = match check_text(text) {
+        Ok(len) => len,
+        Err(place) => return Err(PathTextError::NoNode(place)),
+    };
+    let Ok(mut path) = DevicePathBuf::with_capacity(alloc, len) else {
+        return Err(PathTextError::OutOfMemory);
+    };
+    let Ok(()) = push_text(&mut path, text) else {
+        return Err(PathTextError::OutOfMemory);
+    };
     Ok(path)
 }
 
 impl<A: Allocator + Copy> DevicePathBuf<A> {
     ghost use Rattle.uefi_device_path.specs.declared.path_reader.PathTextError.TheVariants.{NoNode, OutOfMemory};
 
-    /// The path whose text this is: the one that is printed of it in the form that is to be read back,
-    /// without shorter names (UEFI Specification 2.10, section 10.6.1). Refused as `OutOfMemory`, and as
-    /// `NoNode` exactly where it is no such text of nodes of which the text tells all, at the byte where it
-    /// stops being one. Takes memory.
+    /// Reads a path from its text, as it is printed to be read back, without shorter names (UEFI
+    /// Specification 2.10, section 10.6.1).
+    ///
+    /// The text is judged first: `NoNode` has the byte at which it stops being the text of a path. Then the
+    /// call allocates once, for the whole path, and fails with `OutOfMemory` only there.
     pub fn from_text(alloc: A, text: &str) -> Result<Self, PathTextError>
         ensures told { IfOk result (λ path. AreTold path) }
         ensures ok { IfOk result (λ path. path_text false false path ≡ text.now) }
         ensures only { (nodes : List Node) → AreTold nodes → path_text false false nodes ≡ text.now
             → IfOk result (λ path. path ≡ nodes) × IfErr result (λ error. error ≡ OutOfMemory) }
         ensures refusal { IfErr result (IsReadError text.now) }
-        ensures only_refusal { (place : ℕ) → StopsAt text.now place
-            → (result ≡ Err (NoNode place)) ⊎ (result ≡ Err OutOfMemory) }
+        ensures only_refusal { (place : ℕ) → StopsAt text.now place → result ≡ Err (NoNode place) }
     {
         nodes_are_read();
         node_text_once();

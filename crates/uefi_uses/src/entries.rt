@@ -21,7 +21,9 @@ pub fn starts_by_itself(bytes: &[u8]) -> Result<bool, LoadOptionError>
 }
 
 /// What a boot entry is called, and its device paths as people read them.
-pub fn line_of_entry(alloc: Global, bytes: &[u8]) -> anyhow::Result<String> {
+pub fn line_of_entry(alloc: Global, bytes: &[u8]) -> anyhow::Result<String>
+    ensures ok { IfOk result (λ _. (entry : Entry) × IsEntry entry × (bytes.now ≡ entry_bytes entry)) }
+{
     let entry = LoadOption::from_bytes(bytes)?;
     let mut line = entry.description_lossy(alloc)?;
     for path in entry.device_paths() {
