@@ -33,49 +33,19 @@ struct entry {
 static uint16_t units[MOST_UNITS], open_units[MOST_SHOWN], shown[MOST_SHOWN];
 static uint8_t utf8[MOST_UTF8];
 
-/* What is malformed, where the reason says it. */
-static const char *part_of(uint32_t reason)
+static bool refuse(size_t offset, const char *why)
 {
-    switch ((enum nard_reason)reason) {
-    case NARD_OPTION_TOO_SHORT: return "entry";
-    case NARD_DESCRIPTION_WITHOUT_END: return "description";
-    case NARD_LIST_BEYOND_END:
-    case NARD_EMPTY_LIST:
-    case NARD_NO_END_NODE: return "file path list";
-    case NARD_UNKNOWN_END:
-    case NARD_END_WITH_DATA: return "end node";
-    default: return "node";
-    }
+    printf("  malformed at offset %zu: %s\n", offset, why);
+    return false;
 }
 
-/* What is wrong with that part: shorter than nard_reason_text, which does not know which part is printed before it. */
-static const char *reason_text(uint32_t reason)
+/* Refuses the units of a file path node, for the unit at `place` where the reason is about one. */
+static bool refuse_units(size_t offset, uint32_t reason, size_t place)
 {
-    switch ((enum nard_reason)reason) {
-    case NARD_NO_NUL:
-    case NARD_DESCRIPTION_WITHOUT_END: return "no NUL ends it";
-    case NARD_INVALID_CHAR: return "it holds a surrogate";
-    case NARD_INTERIOR_NUL: return "more follows its NUL";
-    case NARD_BUFFER_TOO_SMALL: return "it is too long";
-    case NARD_ODD_BYTES: return "it ends in half a unit";
-    case NARD_EMPTY_COMPONENT: return "a component is empty";
-    case NARD_ILLEGAL_CHAR: return "no file's name holds the character";
-    case NARD_OPTION_TOO_SHORT: return "it ends before its description";
-    case NARD_LIST_BEYOND_END: return "its length is more than the entry has left";
-    case NARD_EMPTY_LIST:
-    case NARD_NO_END_NODE: return "no end node ends it";
-    case NARD_TRUNCATED_HEADER: return "the file path list ends in its header";
-    case NARD_UNKNOWN_END: return "it ends neither a path nor an instance";
-    case NARD_LENGTH_BELOW_HEADER: return "its length is less than its header's";
-    case NARD_END_WITH_DATA: return "its length is not its header's";
-    case NARD_NODE_BEYOND_END: return "its length is more than the file path list has left";
-    default: return nard_reason_text(reason);
-    }
-}
-
-static bool refuse(size_t offset, const char *what, const char *why)
-{
-    printf("  malformed at offset %zu: %s: %s\n", offset, what, why);
+    printf("  malformed at offset %zu: file path: %s", offset, nard_reason_text(reason));
+    if (reason == NARD_INVALID_CHAR || reason == NARD_INTERIOR_NUL)
+        printf(" at index %zu", place);
+    printf("\n");
     return false;
 }
 
@@ -103,18 +73,18 @@ static bool print_path(struct entry entry, size_t at, size_t size)
     uint16_t character = 0;
     uint32_t reason = nard_units_from_bytes(entry.bytes + at, size, units, MOST_UNITS, &count);
     if (reason != NARD_OK)
-        return refuse(at + size - 1, "file path", reason_text(reason));
+        return refuse_units(at + size - 1, reason, 0);
     reason = nard_string_with_nul(units, count, &place);
     if (reason != NARD_OK)
-        return refuse(at + 2 * place, "file path", reason_text(reason));
+        return refuse_units(at + 2 * place, reason, place);
 
     printf("  path: ");
     print_units(units, count);
     reason = nard_path_verdict(units, count, &place, &character);
     if (reason == NARD_ILLEGAL_CHAR)
-        printf(": refused: %s 0x%04x\n", reason_text(reason), (unsigned)character);
+        printf(": refused: %s (value %u)\n", nard_reason_text(reason), (unsigned)character);
     else if (reason != NARD_OK)
-        printf(": refused: %s\n", reason_text(reason));
+        printf(": refused: %s\n", nard_reason_text(reason));
     else
         printf(": accepted\n");
     if (reason == NARD_OK && nard_path_file_name(units, place, &start)) {
@@ -172,7 +142,7 @@ static bool print_entry(struct entry entry)
     size_t fault = 0, length = 0;
     uint32_t reason = nard_load_option_read(entry.bytes, entry.size, &option, &fault);
     if (reason == NARD_OPTION_TOO_SHORT || reason == NARD_DESCRIPTION_WITHOUT_END)
-        return refuse(fault, part_of(reason), reason_text(reason));
+        return refuse(fault, nard_reason_text(reason));
     /* All else that is refused stands after the description, or says where the list after it ends. */
     (void)nard_packed_until_nul(entry.bytes + HEAD, entry.size - HEAD, &length);
     size_t list = HEAD + 2 * (length + 1), end = reason == NARD_OK ? option.optional_start : fault;
@@ -180,7 +150,7 @@ static bool print_entry(struct entry entry)
     print_device_paths(entry, list, end);
     if (!print_nodes(entry, list, end))
         return false;
-    return reason == NARD_OK || refuse(fault, part_of(reason), reason_text(reason));
+    return reason == NARD_OK || refuse(fault, nard_reason_text(reason));
 }
 
 /* Whether the name of a file is Boot####, which a dash and more may follow; then its number. */
@@ -200,19 +170,19 @@ static bool print_file(const char *path)
     uint16_t number = 0;
     if (!read_name(path, &number)) {
         printf("%s\n", path);
-        return refuse(0, "name", "it is not Boot and four hexadecimal digits");
+        return refuse(0, "the name is not Boot and four hexadecimal digits");
     }
     printf("Boot%04X\n", (unsigned)number);
     FILE *file = fopen(path, "rb");
     if (file == NULL)
-        return refuse(0, "file", "it cannot be opened");
+        return refuse(0, "the file cannot be opened");
     size_t size = fread(bytes, 1, sizeof bytes, file);
     bool is_read = ferror(file) == 0;
     fclose(file);
     if (!is_read)
-        return refuse(size, "file", "it cannot be read");
+        return refuse(size, "the file cannot be read");
     if (size > MOST_BYTES)
-        return refuse(MOST_BYTES, "entry", "it is longer than a variable");
+        return refuse(MOST_BYTES, "the entry is longer than a variable");
 
     /* No load option begins with these: the third bit of its attributes is reserved. */
     static const uint8_t attributes[] = {VARIABLE_ATTRIBUTES, 0, 0, 0};

@@ -102,6 +102,7 @@ CALL(path_verdict, IN(0), place, JUDGED)
 CALL(path_next_component, IN(0), place, (nard_size *)buffer.at, (nard_size *)buffer.at + 1)
 CALL(path_join, IN(0), IN(1), OUT, place)
 CALL(path_normalize, IN(0), OUT, place, JUDGED)
+CALL(path_normalize_utf8, IN(0), OUT, place, JUDGED)
 CALL(fat_name_check, IN(0), place, JUDGED)
 CALL(device_path_text, IN(0), (number & 1) != 0, (number & 2) != 0, OUT, place)
 CALL(load_option_read, IN(0), buffer.at, place)
@@ -249,6 +250,9 @@ static const struct row rows[] = {
     FAULT(path_normalize, REFUSED, EMPTY_COMPONENT, 3, .in = {UNITS(u"a\\\\")}),
     FAULT(path_normalize, REFUSED, ILLEGAL_CHAR, 3, .in = {UNITS(u"a\\?")}, .character = '?'),
     BAD_UNITS(path_normalize, REFUSED),
+    FAULT(path_normalize_utf8, REFUSED, NOT_UTF8, 1, .in = {BYTES("?\xe2\x82")}),
+    FAULT(path_normalize_utf8, REFUSED, INVALID_CHAR, 1, .in = {BYTES("?\xf0\x9f\x98\x80")}),
+    FAULT(path_normalize_utf8, REFUSED, INTERIOR_NUL, 2, .in = {BYTES("..\0")}),
     ROW(fat_name_check, READ, .in = {UNITS(u" a. ")}, .place = 4),
     FAULT(fat_name_check, READ, NAME_EMPTY, 2, .in = {UNITS(u"..")}),
     FAULT(fat_name_check, READ, ILLEGAL_CHAR, 3, .in = {UNITS(u"a|*")}, .character = '|'), BAD_UNITS(fat_name_check, READ),
@@ -473,6 +477,45 @@ static void try_edit(const struct edit *it)
     }
 }
 
+/* A path in UTF-8 and as a string, its normal path or why it has none, and what the call says then: each in its half. */
+static const struct halves {
+    int line;
+    struct list bytes, string, normal;
+    nard_result reason;
+    nard_size place;
+    nard_unit character;
+} halves[] = {
+    {__LINE__, BYTES("/efi/boot\\../\xc3\xa9/."), UNITS(u"/efi/boot\\../\u00e9/."), UNITS(u"efi\\\u00e9"), NARD_OK, 5, 0},
+    {__LINE__, BYTES("/"), UNITS(u"/"), UNITS(u"\\"), NARD_OK, 1, 0},
+    {__LINE__, BYTES("/.."), UNITS(u"/.."), UNITS(u""), NARD_CLIMBS_ABOVE_ROOT, 3, 0},
+    {__LINE__, BYTES(""), UNITS(u""), UNITS(u""), NARD_PATH_EMPTY, 0, 0},
+    {__LINE__, BYTES("a/?*"), UNITS(u"a/?*"), UNITS(u""), NARD_ILLEGAL_CHAR, 4, '?'},
+};
+
+static void try_halves(const struct halves *it, size_t room)
+{
+    static nard_unit wanted[AREA / 2];
+    const size_t middle = room / 2;
+    bool has_string = it->string.count <= room - middle, is_valid = it->reason == NARD_OK;
+    bool has_normal = has_string && is_valid && it->normal.count <= middle;
+    nard_size wanted_place = has_string ? it->place : it->string.count - 1;
+    nard_result wanted_reason = has_normal || (has_string && !is_valid) ? it->reason : NARD_BUFFER_TOO_SMALL;
+    const nard_byte *bytes = put(0, it->bytes.at, it->bytes.count);
+    nard_unit *units = put(BUFFER, NULL, room * sizeof *units), *refused = put(CHARACTER, NULL, sizeof *refused);
+    nard_size *length = put(PLACE, NULL, sizeof *length);
+    memset(wanted, FILL, room * sizeof *wanted);
+    if (has_string)
+        memcpy(wanted + middle, it->string.at, it->string.count * sizeof *wanted);
+    if (has_normal)
+        memcpy(wanted, it->normal.at, it->normal.count * sizeof *wanted);
+    nard_result reason = nard_path_normalize_utf8(bytes, it->bytes.count, units, room, length, refused);
+    if (reason != wanted_reason || *length != wanted_place || *refused != (has_string ? it->character : 0) ||
+        (!is_uninitialized && room != 0 && memcmp(units, wanted, room * sizeof *wanted) != 0)) {
+        printf("path_normalize_utf8, line %d, room %zu: WRONG: %s at %zu\n", it->line, room, nard_reason_text(reason), *length);
+        failed = true;
+    }
+}
+
 /* A call is a macro, which evaluates an argument once. */
 static void try_macro(void)
 {
@@ -521,6 +564,9 @@ int main(int argc, char **argv)
             try_row(&rows[i]);
         for (size_t i = 0; i < sizeof edits / sizeof edits[0]; i++)
             try_edit(&edits[i]);
+        for (size_t i = 0; i < sizeof halves / sizeof halves[0]; i++)
+            for (size_t room = 0; room <= 2 * halves[i].string.count + 2; room++)
+                try_halves(&halves[i], room);
     }
     try_macro();
     for (int i = 0; i < AREAS && is_uninitialized; i++)

@@ -76,30 +76,30 @@ extern "C" {
 /* Why a call refuses its input: the name NARD_.., its number, and what nard_reason_text says. */
 #define NARD_REASONS(REASON) \
     REASON(OK, 0, "nothing is wrong") \
-    REASON(NO_NUL, 1, "no NUL ends the string") \
-    REASON(INVALID_CHAR, 2, "the string holds a surrogate or a character above U+FFFF") \
-    REASON(INTERIOR_NUL, 3, "something follows the NUL") \
-    REASON(BUFFER_TOO_SMALL, 4, "the buffer is too small") \
-    REASON(NOT_UTF8, 5, "the bytes are not UTF-8") \
-    REASON(ODD_BYTES, 6, "the number of bytes is odd") \
-    REASON(PATH_EMPTY, 7, "the path is empty") \
-    REASON(EMPTY_COMPONENT, 8, "a component of the path is empty") \
-    REASON(ILLEGAL_CHAR, 9, "a component holds a character that file names may not hold") \
-    REASON(CLIMBS_ABOVE_ROOT, 10, "the path climbs above the root") \
-    REASON(NO_PARENT, 11, "the path has no parent") \
+    REASON(NO_NUL, 1, "not null-terminated") \
+    REASON(INVALID_CHAR, 2, "invalid character") \
+    REASON(INTERIOR_NUL, 3, "interior null character") \
+    REASON(BUFFER_TOO_SMALL, 4, "buffer too small") \
+    REASON(NOT_UTF8, 5, "not UTF-8") \
+    REASON(ODD_BYTES, 6, "odd number of bytes") \
+    REASON(PATH_EMPTY, 7, "path is empty") \
+    REASON(EMPTY_COMPONENT, 8, "path contains an empty component") \
+    REASON(ILLEGAL_CHAR, 9, "path contains an illegal character") \
+    REASON(CLIMBS_ABOVE_ROOT, 10, "path climbs above the root") \
+    REASON(NO_PARENT, 11, "path has no parent") \
     REASON(NO_END_NODE, 12, "no end node ends the device path") \
-    REASON(TRUNCATED_HEADER, 13, "the bytes end in the header of a node") \
+    REASON(TRUNCATED_HEADER, 13, "the bytes end in a node's header") \
     REASON(UNKNOWN_END, 14, "an end node ends neither a path nor an instance") \
-    REASON(LENGTH_BELOW_HEADER, 15, "the length of a node is less than that of its header") \
+    REASON(LENGTH_BELOW_HEADER, 15, "a node is shorter than its header") \
     REASON(END_WITH_DATA, 16, "an end node has data") \
     REASON(NODE_BEYOND_END, 17, "a node is longer than the bytes that are left") \
-    REASON(OPTION_TOO_SHORT, 18, "the load option ends in its header") \
+    REASON(OPTION_TOO_SHORT, 18, "the load option ends before its description") \
     REASON(DESCRIPTION_WITHOUT_END, 19, "no NUL ends the description") \
     REASON(LIST_BEYOND_END, 20, "the file path list is longer than the bytes that are left") \
     REASON(EMPTY_LIST, 21, "the file path list is empty") \
     REASON(END_OF_PATH, 22, "the device path ends here") /* nothing is wrong */ \
-    REASON(NAME_EMPTY, 23, "the name has nothing but spaces and dots") \
-    REASON(NAME_TOO_LONG, 24, "the name has more than 255 characters") \
+    REASON(NAME_EMPTY, 23, "name is empty without spaces and dots") \
+    REASON(NAME_TOO_LONG, 24, "name has more than 255 characters") \
     REASON(CHAR_REPLACED, 25, "a character became '_'") /* nothing is wrong */ \
     REASON(NODE_OF_END, 26, "an end node may not stand before the end of a device path") \
     REASON(NODE_TOO_LONG, 27, "the node is longer than its header can state") \
@@ -362,6 +362,22 @@ nard_result NARD_CALL nard_path_parent(const nard_unit *path, nard_size count, n
  */
 nard_result NARD_CALL nard_path_normalize(const nard_unit *path, nard_size count, nard_unit *buffer, nard_size room,
                                           nard_size *length, nard_unit *character);
+
+/*
+ * Writes the normal path of a path in UTF-8 to a buffer: nard_string_from_utf8 writes the path as a string into the second half
+ * of the buffer, from buffer[room / 2] on, and nard_path_normalize the normal path of that into the first half. Each needs room
+ * in its half alone: 2 * byte_count + 2 units are enough for any path.
+ *
+ * Returns
+ *   NARD_OK                                                *character is 0
+ *   NARD_NOT_UTF8, NARD_INVALID_CHAR, NARD_INTERIOR_NUL    as nard_string_from_utf8
+ *   NARD_BUFFER_TOO_SMALL                                  as the first of the two calls for which its half is too small
+ *   another reason                                         as nard_path_normalize
+ *
+ * What is refused in the second half leaves the whole buffer unchanged; what is refused in the first leaves that half unchanged.
+ */
+nard_result NARD_CALL nard_path_normalize_utf8(const nard_byte *bytes, nard_size byte_count, nard_unit *buffer, nard_size room,
+                                               nard_size *length, nard_unit *character);
 
 /* ---- Names on FAT volumes (section 13.3) ---- */
 
@@ -743,6 +759,7 @@ static inline nard_byte *nard_given_byte_room(nard_byte *buffer)
 #define nard_path_join(...) NARD_AS_IS(NARD_GIVEN_UNUNV(nard_path_join, __VA_ARGS__))
 #define nard_path_parent(...) NARD_AS_IS(NARD_GIVEN_UNV(nard_path_parent, __VA_ARGS__))
 #define nard_path_normalize(...) NARD_AS_IS(NARD_GIVEN_UNV(nard_path_normalize, __VA_ARGS__))
+#define nard_path_normalize_utf8(...) NARD_AS_IS(NARD_GIVEN_BNV(nard_path_normalize_utf8, __VA_ARGS__))
 #define nard_fat_name_check(...) NARD_AS_IS(NARD_GIVEN_U(nard_fat_name_check, __VA_ARGS__))
 #define nard_fat_name_equal(...) NARD_AS_IS(NARD_GIVEN_UNU(nard_fat_name_equal, __VA_ARGS__))
 #define nard_fat_name_is_short(...) NARD_AS_IS(NARD_GIVEN_U(nard_fat_name_is_short, __VA_ARGS__))

@@ -8,8 +8,8 @@
  * FOLDER has variables as Linux shows them: each is a file, of its name, a dash and the GUID of its owner, with four bytes of
  * attributes before its value. Where no folder is given it is /sys/firmware/efi/efivars.
  *
- * The library reads each length in an entry. A malformed one is printed with the number of the reason in `enum nard_reason`,
- * and the offset of the fault. Ends with 1 where an entry is malformed or cannot be read.
+ * The library reads each length in an entry. Of a malformed one the reason is printed, and the offset of the fault. Ends with 1
+ * where an entry is malformed or cannot be read.
  */
 #define _POSIX_C_SOURCE 200809L
 #include <dirent.h>
@@ -47,34 +47,23 @@ static long read_variable(const char *folder, const char *name)
     return is_whole && ATTRIBUTES <= size ? (long)(size - ATTRIBUTES) : -1;
 }
 
-/* Prints a character in UTF-8, and `?` for one of control, and one that turns the direction of a text or ends its line. */
-static void print_character(uint32_t character)
+/* A control character, or one that turns the direction of a text or ends its line. */
+static bool is_hidden(uint16_t unit)
 {
-    if (character < 0x20 || (0x7f <= character && character < 0xa0) || character == 0x61c || character >> 1 == 0x200e >> 1
-        || (0x2028 <= character && character < 0x202f) || (0x2066 <= character && character < 0x206a))
-        character = '?';
-    if (character < 0x80) {
-        putchar((int)character);
-        return;
-    }
-    int shift = character < 0x800 ? 6 : character < 0x10000 ? 12 : 18;
-    putchar((int)((shift == 6 ? 0xc0 : shift == 12 ? 0xe0 : 0xf0) | character >> shift));
-    while ((shift -= 6) >= 0)
-        putchar((int)(0x80 | (character >> shift & 0x3f)));
+    return unit < 0x20 || (0x7f <= unit && unit < 0xa0) || unit == 0x61c || (unit & ~1) == 0x200e
+        || (0x2028 <= unit && unit < 0x202f) || (0x2066 <= unit && unit < 0x206a);
 }
 
-/* Prints units, of which two may be one character: U+FFFD stands for a surrogate without its partner. */
-static void print_units(const uint16_t *units, size_t length)
+/* Prints the first units of `shown`: `?` for each that is hidden, and U+FFFD for a surrogate without a partner. */
+static void print_shown(size_t length)
 {
-    for (size_t i = 0; i < length; i++) {
-        bool is_high = (units[i] & 0xfc00) == 0xd800;
-        if (is_high && i + 1 < length && (units[i + 1] & 0xfc00) == 0xdc00) {
-            print_character(0x10000 + ((uint32_t)(units[i] & 0x3ff) << 10 | (units[i + 1] & 0x3ff)));
-            i++;
-        } else {
-            print_character((units[i] & 0xf800) == 0xd800 ? 0xfffd : units[i]);
-        }
-    }
+    static uint8_t utf8[3 * MOST_SHOWN + 1];
+    size_t count = 0;
+    for (size_t i = 0; i < length; i++)
+        if (is_hidden(shown[i]))
+            shown[i] = '?';
+    if (nard_utf8_from_units_lossy(shown, length, utf8, sizeof utf8, &count) == NARD_OK)
+        fwrite(utf8, 1, count, stdout);
 }
 
 /* Prints a variable that is numbers of entries, where it is there. */
@@ -83,9 +72,10 @@ static void print_numbers(const char *folder, const char *name)
     long size = read_variable(folder, name);
     if (size < 2)
         return;
+    uint16_t number = 0;
     printf("%s:", name);
-    for (long i = 0; i + 1 < size; i += 2)
-        printf("%c%02X%02X", i == 0 ? ' ' : ',', bytes[ATTRIBUTES + i + 1], bytes[ATTRIBUTES + i]);
+    for (size_t i = 0; nard_boot_order_read(bytes + ATTRIBUTES, (size_t)size / 2 * 2, i, &number) == NARD_OK; i++)
+        printf("%c%04X", i == 0 ? ' ' : ',', (unsigned)number);
     printf("\n");
 }
 
@@ -102,24 +92,29 @@ static bool print_entry(const char *folder, const char *name)
     }
     uint32_t reason = nard_load_option_read(entry, (size_t)size, &option, &place);
     if (reason != NARD_OK) {
-        printf("%s  malformed at offset %zu: reason %u\n", name, place, (unsigned)reason);
+        printf("%s  malformed at offset %zu: %s\n", name, place, nard_reason_text(reason));
         return false;
     }
     printf("%s%c ", name, option.attributes & ACTIVE ? '*' : ' ');
     (void)nard_units_from_bytes(entry + option.description_start, 2 * option.description_length, shown, MOST_SHOWN, &length);
-    print_units(shown, length);
+    print_shown(length);
     printf("\t");
     reason = nard_device_path_text(entry + option.list_start, option.path_length, false, false, shown, MOST_SHOWN, &length);
     if (reason == NARD_OK)
-        print_units(shown, length);
+        print_shown(length);
     printf("\n");
     return reason == NARD_OK;
 }
 
-/* Whether a file is the variable of an entry: `Boot`, four hexadecimal digits in upper case, and the owner. */
+/* Whether a file is the variable of an entry: its name, Boot####, and the owner. */
 static bool is_entry(const char *file)
 {
-    return strncmp(file, "Boot", 4) == 0 && strspn(file + 4, "0123456789ABCDEF") == 4 && strcmp(file + NAME, "-" GLOBAL) == 0;
+    uint16_t name[NAME + 1], number = 0;
+    size_t dash = strcspn(file, "-"), length = 0;
+    uint8_t kind = 0;
+    return strcmp(file + dash, "-" GLOBAL) == 0
+        && nard_string_from_utf8((const uint8_t *)file, dash, name, NAME + 1, &length) == NARD_OK
+        && nard_boot_name_read(name, length + 1, &kind, &number) == NARD_OK && kind == NARD_BOOT;
 }
 
 static int by_name(const void *one, const void *other)

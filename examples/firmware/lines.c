@@ -50,7 +50,6 @@ static void put_fault(struct reader_fault fault)
     lines_put_number(fault.offset);
     lines_put(": ");
     lines_put(fault.part);
-    lines_put(": ");
     lines_put(fault.reason);
     lines_put("\n");
 }
@@ -92,8 +91,9 @@ static bool put_file(const struct reader *reader)
         lines_put(": refused: ");
         lines_put(reason);
         if (character != 0) {
-            lines_put(": ");
-            lines_put_units(&character, 1);
+            lines_put(" (value ");
+            lines_put_number(character);
+            lines_put(")");
         }
         lines_put("\n");
         return false;
@@ -121,15 +121,15 @@ bool lines_show(struct reader *reader, uint16_t number, const uint8_t *bytes, si
     lines_put(has_begun && !reader->is_active ? " not active: " : ": ");
     lines_put_units(reader->description, reader->description_length);
     lines_put("\n");
-    if (reader->description_fault.part != NULL)
+    if (reader->description_fault.reason != NULL)
         put_fault(reader->description_fault);
     while (has_begun && reader_next(reader)) {
         files++;
         is_there = put_file(reader) || is_there;
     }
-    if (reader->fault.part != NULL)
+    if (reader->fault.reason != NULL)
         put_fault(reader->fault);
     else if (files == 0)
         lines_put("    names no file\n");
-    return is_there && reader->fault.part == NULL;
+    return is_there && reader->fault.reason == NULL;
 }

@@ -182,7 +182,7 @@ static void start(uint16_t number)
     size_t size = 0, length = 0;
     uint16_t character = 0;
     const char *reason = "";
-    if (read_entry(number, &size) != EFI_SUCCESS || !reader_begin(&reader, variable, size) || reader.fault.part != NULL)
+    if (read_entry(number, &size) != EFI_SUCCESS || !reader_begin(&reader, variable, size) || reader.fault.reason != NULL)
         return;
     while (reader_next(&reader)) {
         if (!lines_normal(&reader, normal, &length, &reason, &character) || lines_look(&reader, normal) != LINES_THERE)

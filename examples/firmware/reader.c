@@ -3,21 +3,6 @@
 /* LOAD_OPTION_ACTIVE; how many bytes come before a description; and the types and subtypes of nodes. */
 enum { ACTIVE = 1, HEAD = 6, MEDIA = 4, HARD_DRIVE = 1, FILE_PATH = 4, END = 0x7f };
 
-/* What is malformed, where the reason says it. */
-static const char *part_of(uint32_t reason)
-{
-    switch ((enum nard_reason)reason) {
-    case NARD_OPTION_TOO_SHORT: return "entry";
-    case NARD_DESCRIPTION_WITHOUT_END: return "description";
-    case NARD_LIST_BEYOND_END:
-    case NARD_EMPTY_LIST:
-    case NARD_NO_END_NODE: return "file path list";
-    case NARD_UNKNOWN_END:
-    case NARD_END_WITH_DATA: return "end node";
-    default: return "node";
-    }
-}
-
 static bool refuse(struct reader *reader, size_t offset, const char *part, const char *reason)
 {
     reader->fault = (struct reader_fault){offset, part, reason};
@@ -32,7 +17,7 @@ static void read_description(struct reader *reader, size_t length)
     (void)nard_units_from_bytes(reader->bytes + HEAD, 2 * (length + 1), reader->description, READER_MOST_UNITS, &count);
     uint32_t reason = nard_string_with_nul(reader->description, count, &place);
     if (reason != NARD_OK)
-        reader->description_fault = (struct reader_fault){HEAD + 2 * place, "description", nard_reason_text(reason)};
+        reader->description_fault = (struct reader_fault){HEAD + 2 * place, "description: ", nard_reason_text(reason)};
     reader->description_length = length;
 }
 
@@ -47,18 +32,18 @@ bool reader_begin(struct reader *reader, const uint8_t *bytes, size_t size)
     struct nard_load_option option = {0, 0, 0, 0, 0, 0, 0, 0};
     size_t place = 0, length = 0;
     if (READER_MOST_BYTES < size)
-        return refuse(reader, READER_MOST_BYTES, "entry", "it is too long");
+        return refuse(reader, READER_MOST_BYTES, "", "the entry is too long");
     uint32_t reason = nard_load_option_read(bytes, size, &option, &place);
     if (reason == NARD_OPTION_TOO_SHORT || reason == NARD_DESCRIPTION_WITHOUT_END)
-        return refuse(reader, place, part_of(reason), nard_reason_text(reason));
+        return refuse(reader, place, "", nard_reason_text(reason));
     /* All else that is refused stands after the description, or says where the list after it ends. */
     (void)nard_packed_until_nul(bytes + HEAD, size - HEAD, &length);
     read_description(reader, length);
     reader->is_active = (bytes[0] & ACTIVE) != 0;
     if (reason == NARD_LIST_BEYOND_END)
-        return refuse(reader, place, part_of(reason), nard_reason_text(reason));
+        return refuse(reader, place, "", nard_reason_text(reason));
     if (reason != NARD_OK)
-        reader->fault = (struct reader_fault){place, part_of(reason), nard_reason_text(reason)};
+        reader->fault = (struct reader_fault){place, "", nard_reason_text(reason)};
     reader->at = HEAD + 2 * (length + 1);
     reader->end = reason == NARD_OK ? option.optional_start : place;
     return true;
@@ -70,15 +55,15 @@ static bool add_path(struct reader *reader, struct nard_device_node node)
     size_t text = node.start, count = 0, place = 0;
     uint32_t reason = nard_units_from_bytes(reader->bytes + text, node.length, reader->node, READER_MOST_UNITS, &count);
     if (reason != NARD_OK)
-        return refuse(reader, text + node.length - 1, "file path", nard_reason_text(reason));
+        return refuse(reader, text + node.length - 1, "file path: ", nard_reason_text(reason));
     reason = nard_string_with_nul(reader->node, count, &place);
     if (reason != NARD_OK)
-        return refuse(reader, text + 2 * place, "file path", nard_reason_text(reason));
+        return refuse(reader, text + 2 * place, "file path: ", nard_reason_text(reason));
     bool brings_separator = reader->node[0] == '\\' || reader->node[0] == '/';
     size_t start = reader->path_length > 0 && brings_separator;
     reason = nard_path_push(reader->path, READER_MOST_UNITS, reader->node + start, count - start, &place);
     if (reason != NARD_OK)
-        return refuse(reader, text, "file path", nard_reason_text(reason));
+        return refuse(reader, text, "file path: ", nard_reason_text(reason));
     reader->path_length = place;
     return true;
 }

@@ -10,7 +10,10 @@
 
 enum { READER_MOST_BYTES = 16384, READER_MOST_UNITS = READER_MOST_BYTES / 2 };
 
-/* What is malformed in an entry, and at which offset. `part` is NULL where nothing is. */
+/*
+ * What is malformed in an entry, and at which offset: the part, empty if the reason names it, and the reason, NULL if nothing is
+ * malformed.
+ */
 struct reader_fault {
     size_t offset;
     const char *part, *reason;

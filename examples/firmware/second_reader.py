@@ -13,14 +13,14 @@ MOST_BYTES, MOST_NAME, ILLEGAL = 16384, 255, set('"*/:<>?|')
 SURROGATES = range(0xD800, 0xE000)
 FALLBACK = re.compile(r"EFI\\BOOT\\BOOT[^\\]*\.EFI", re.IGNORECASE | re.ASCII | re.DOTALL)
 TEXT_FAULTS = {
-    "nul": "no NUL ends the string",
-    "surrogate": "the string holds a surrogate or a character above U+FFFF",
-    "inside": "something follows the NUL",
+    "nul": "not null-terminated",
+    "surrogate": "invalid character",
+    "inside": "interior null character",
 }
 
 
 class Malformed(Exception):
-    """The rest of an entry cannot be read: an offset, a part of it and a reason."""
+    """The rest of an entry cannot be read: an offset and a reason."""
 
 
 def shown(units):
@@ -46,18 +46,18 @@ def nodes_of(data, start, end):
     at, is_ended = start, False
     while not (is_ended and at == end):
         if at == end:
-            raise Malformed(end, "file path list", "the file path list is empty" if start == end else "no end node ends the device path")
+            raise Malformed(end, "the file path list is empty" if start == end else "no end node ends the device path")
         if end - at < 4:
-            raise Malformed(at, "node", "the bytes end in the header of a node")
+            raise Malformed(at, "the bytes end in a node's header")
         kind, subtype, size = struct.unpack_from("<BBH", data, at)
         if kind == 0x7F and subtype not in (1, 0xFF):
-            raise Malformed(at + 1, "end node", "an end node ends neither a path nor an instance")
+            raise Malformed(at + 1, "an end node ends neither a path nor an instance")
         if size < 4:
-            raise Malformed(at + 2, "node", "the length of a node is less than that of its header")
+            raise Malformed(at + 2, "a node is shorter than its header")
         if kind == 0x7F and size != 4:
-            raise Malformed(at + 2, "end node", "an end node has data")
+            raise Malformed(at + 2, "an end node has data")
         if end - at < size:
-            raise Malformed(at + 2, "node", "a node is longer than the bytes that are left")
+            raise Malformed(at + 2, "a node is longer than the bytes that are left")
         yield kind, subtype, at, data[at : at + size]
         at, is_ended = at + size, (kind, subtype) == (0x7F, 0xFF)
 
@@ -76,10 +76,10 @@ def files_of(data, start, end):
             disk = node
         elif (kind, subtype) == (4, 4):
             if len(node) % 2:
-                raise Malformed(at + len(node) - 1, "file path", "the number of bytes is odd")
+                raise Malformed(at + len(node) - 1, "file path: odd number of bytes")
             units = units_of(node[4:])
             if fault := fault_of(units):
-                raise Malformed(at + 4 + 2 * fault[0], "file path", TEXT_FAULTS[fault[1]])
+                raise Malformed(at + 4 + 2 * fault[0], f"file path: {TEXT_FAULTS[fault[1]]}")
             parts.append([0x5C if it == 0x2F else it for it in units[:-1]])
     # The others have to be device paths, whatever they name.
     for _ in nodes:
@@ -98,17 +98,17 @@ def joined(parts):
 def normal_of(units):
     """The normal path, or why there is none, as a text; and whether it is one."""
     if not units:
-        return "the path is empty", False
+        return "path is empty", False
     text, kept = "".join(map(chr, units)), []
     text = text[1:] if text[0] == "\\" else text
     for name in text.split("\\") if text else []:
         bad = [it for it in name if it in ILLEGAL]
         if not name:
-            return "a component of the path is empty", False
+            return "path contains an empty component", False
         if bad:
-            return f"a component holds a character that file names may not hold: {shown([ord(bad[0])])}", False
+            return f"path contains an illegal character (value {ord(bad[0])})", False
         if name == ".." and not kept:
-            return "the path climbs above the root", False
+            return "path climbs above the root", False
         if name == "..":
             kept.pop()
         elif name != ".":
@@ -130,9 +130,9 @@ def lines(number, data, look=lambda normal, disk: ""):
     """The lines of an entry; `look` says what is printed after the normal path of a file."""
     head, after, fault = f"Boot{number:04X}", [], None
     if len(data) < 6:
-        head, fault = f"{head}: ", (len(data), "entry", "the load option ends in its header")
+        head, fault = f"{head}: ", (len(data), "the load option ends before its description")
     elif MOST_BYTES < len(data):
-        head, fault = f"{head}: ", (MOST_BYTES, "entry", "it is too long")
+        head, fault = f"{head}: ", (MOST_BYTES, "the entry is too long")
     else:
         count, surrogate, is_ended = description_of(data)
         start, size = 6 + 2 * (count + 1), struct.unpack_from("<H", data, 4)[0]
@@ -140,11 +140,11 @@ def lines(number, data, look=lambda normal, disk: ""):
         head += " not active: " if is_whole and not data[0] & 1 else ": "
         head += shown(units_of(data[6:])[:count]) if is_ended else ""
         if is_ended and surrogate is not None:
-            after.append(malformed(6 + 2 * surrogate, "description", TEXT_FAULTS["surrogate"]))
+            after.append(malformed(6 + 2 * surrogate, f"description: {TEXT_FAULTS['surrogate']}"))
         if not is_ended:
-            fault = 6 + 2 * count, "description", "no NUL ends the description"
+            fault = 6 + 2 * count, "no NUL ends the description"
         elif not is_whole:
-            fault = 4, "file path list", "the file path list is longer than the bytes that are left"
+            fault = 4, "the file path list is longer than the bytes that are left"
         else:
             after += list_lines(data, start, start + size, look)
     return [head, *after, *([malformed(*fault)] if fault else [])]
@@ -165,8 +165,8 @@ def list_lines(data, start, end, look):
     return made or ["    names no file"]
 
 
-def malformed(offset, part, reason):
-    return f"    malformed at offset {offset}: {part}: {reason}"
+def malformed(offset, reason):
+    return f"    malformed at offset {offset}: {reason}"
 
 
 if __name__ == "__main__":

@@ -49,29 +49,29 @@ macro_rules! reasons {
 }
 
 reasons! {
-    NoNul = NO_NUL, "no NUL ends the string";
-    InvalidChar = INVALID_CHAR, "the string holds a surrogate or a character above U+FFFF";
-    InteriorNul = INTERIOR_NUL, "something follows the NUL";
-    BufferTooSmall = BUFFER_TOO_SMALL, "the buffer is too small";
-    NotUtf8 = NOT_UTF8, "the bytes are not UTF-8";
-    OddBytes = ODD_BYTES, "the number of bytes is odd";
-    PathEmpty = PATH_EMPTY, "the path is empty";
-    EmptyComponent = EMPTY_COMPONENT, "a component of the path is empty";
-    IllegalChar = ILLEGAL_CHAR, "a component holds a character that file names may not hold";
-    ClimbsAboveRoot = CLIMBS_ABOVE_ROOT, "the path climbs above the root";
-    NoParent = NO_PARENT, "the path has no parent";
+    NoNul = NO_NUL, "not null-terminated";
+    InvalidChar = INVALID_CHAR, "invalid character";
+    InteriorNul = INTERIOR_NUL, "interior null character";
+    BufferTooSmall = BUFFER_TOO_SMALL, "buffer too small";
+    NotUtf8 = NOT_UTF8, "not UTF-8";
+    OddBytes = ODD_BYTES, "odd number of bytes";
+    PathEmpty = PATH_EMPTY, "path is empty";
+    EmptyComponent = EMPTY_COMPONENT, "path contains an empty component";
+    IllegalChar = ILLEGAL_CHAR, "path contains an illegal character";
+    ClimbsAboveRoot = CLIMBS_ABOVE_ROOT, "path climbs above the root";
+    NoParent = NO_PARENT, "path has no parent";
     NoEndNode = NO_END_NODE, "no end node ends the device path";
-    TruncatedHeader = TRUNCATED_HEADER, "the bytes end in the header of a node";
+    TruncatedHeader = TRUNCATED_HEADER, "the bytes end in a node's header";
     UnknownEnd = UNKNOWN_END, "an end node ends neither a path nor an instance";
-    LengthBelowHeader = LENGTH_BELOW_HEADER, "the length of a node is less than that of its header";
+    LengthBelowHeader = LENGTH_BELOW_HEADER, "a node is shorter than its header";
     EndWithData = END_WITH_DATA, "an end node has data";
     NodeBeyondEnd = NODE_BEYOND_END, "a node is longer than the bytes that are left";
-    OptionTooShort = OPTION_TOO_SHORT, "the load option ends in its header";
+    OptionTooShort = OPTION_TOO_SHORT, "the load option ends before its description";
     DescriptionWithoutEnd = DESCRIPTION_WITHOUT_END, "no NUL ends the description";
     ListBeyondEnd = LIST_BEYOND_END, "the file path list is longer than the bytes that are left";
     EmptyList = EMPTY_LIST, "the file path list is empty";
-    NameEmpty = NAME_EMPTY, "the name has nothing but spaces and dots";
-    NameTooLong = NAME_TOO_LONG, "the name has more than 255 characters";
+    NameEmpty = NAME_EMPTY, "name is empty without spaces and dots";
+    NameTooLong = NAME_TOO_LONG, "name has more than 255 characters";
     NodeOfEnd = NODE_OF_END, "an end node may not stand before the end of a device path";
     NodeTooLong = NODE_TOO_LONG, "the node is longer than its header can state";
     ListTooLong = LIST_TOO_LONG, "the file path list is longer than its header can state";

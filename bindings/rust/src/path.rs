@@ -1,6 +1,6 @@
 //! Paths of firmware file systems.
 
-use crate::error::{check, Error};
+use crate::error::{check, Error, Reason};
 use crate::strs::CStr16;
 use crate::sys;
 use core::cmp::Ordering;
@@ -124,6 +124,34 @@ impl Path {
             )
         };
         written(reason, length, buffer)
+    }
+
+    /// Writes the path that a text is, without `.` and without each name that a `..` follows, to the start of a buffer and
+    /// returns it.
+    ///
+    /// Fails if the text has a NUL or a character above U+FFFF, then as [`validate`](Self::validate) does; or if the buffer is too
+    /// small. A string of the text is kept in its second half, so twice as many units as the text has bytes, and two more, are
+    /// enough.
+    pub fn normalize_str_in_buf<'a>(text: &str, buffer: &'a mut [u16]) -> Result<&'a Self, Error> {
+        let (mut length, mut character) = (0, 0);
+        // SAFETY: the pointers and the counts are those of slices, the second not shared; the others are locals.
+        let reason = unsafe {
+            sys::nard_path_normalize_utf8(
+                text.as_ptr(),
+                text.len(),
+                buffer.as_mut_ptr(),
+                buffer.len(),
+                &mut length,
+                &mut character,
+            )
+        };
+        match reason {
+            sys::BUFFER_TOO_SMALL => Err(Error {
+                reason: Reason::BufferTooSmall,
+                place: length.saturating_add(1).saturating_mul(2),
+            }),
+            _ => written(reason, length, buffer),
+        }
     }
 }
 

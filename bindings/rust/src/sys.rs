@@ -235,6 +235,14 @@ extern "C" {
         length: *mut usize,
         character: *mut u16,
     ) -> u32;
+    pub fn nard_path_normalize_utf8(
+        bytes: *const u8,
+        byte_count: usize,
+        buffer: *mut u16,
+        room: usize,
+        length: *mut usize,
+        character: *mut u16,
+    ) -> u32;
     pub fn nard_fat_name_check(
         units: *const u16,
         count: usize,

@@ -85,6 +85,12 @@ fn paths() {
     assert!(folder.join_in_buf(file, &mut buffer).unwrap().to_cstr16() == r"\a\b\c\d");
     let error = path.normalize_in_buf(&mut buffer[..3]).unwrap_err();
     assert_eq!((error.reason, error.place), (Reason::BufferTooSmall, 15));
+    let normal = Path::normalize_str_in_buf("/efi/é/../a", &mut buffer).unwrap();
+    assert!(normal.to_cstr16() == r"efi\a");
+    let error = Path::normalize_str_in_buf("abc", &mut buffer[..7]).unwrap_err();
+    assert_eq!((error.reason, error.place), (Reason::BufferTooSmall, 8));
+    let error = Path::normalize_str_in_buf("a/..\0", &mut buffer).unwrap_err();
+    assert_eq!((error.reason, error.place), (Reason::InteriorNul, 4));
     for (text, reason) in [
         ("", Reason::PathEmpty),
         (r"a\\b", Reason::EmptyComponent),

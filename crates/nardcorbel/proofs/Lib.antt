@@ -5,3 +5,4 @@ pub mod Options
 pub mod Written
 mod Surrogates
 mod Judged
+mod Halves

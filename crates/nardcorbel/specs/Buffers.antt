@@ -1,5 +1,7 @@
 -- What becomes of a text that is written into a caller's buffer, with a NUL after it.
-use Rattle.std.specs.Prelude.{ℕ, ◌-◌, ◌^◌, Bool, nat_lt, if◌then◌else◌, List, ◌∷◌, length, min}
+use Rattle.std.specs.Prelude.{ℕ, ◌-◌, ◌/◌, ◌^◌, ◌<◌, Bool, nat_lt, if◌then◌else◌, List, ◌∷◌, drop, length, min, take}
+use Rattle.std.specs.Str.{IsUtf8, chars}
+use Rattle.uefi_text.specs.Units.{IsText}
 use Rattle.uefi_path.specs.Separators.{separator, with_separators}
 use Rattle.nardcorbel.specs.declared.reasons.TheConstants.{OK, BUFFER_TOO_SMALL}
 
@@ -14,3 +16,16 @@ length_shown text = min (length text) (2 ^ 64 - 1)
 -- what a push of a path adds, by whether a separator is missing
 abbrev pub tail_of : Bool → List ℕ → List ℕ
 tail_of is_missing path = if is_missing then separator ∷ with_separators path else with_separators path
+
+-- the two halves of a buffer: the second has one place more where their number is odd
+abbrev pub first_half : List ℕ → List ℕ
+first_half buffer = take (length buffer / 2) buffer
+
+abbrev pub second_half : List ℕ → List ℕ
+second_half buffer = drop (length buffer / 2) buffer
+
+-- bytes are a text in UTF-8, and a buffer has room for it and a NUL
+pub record HasStringIn (bytes buffer : List ℕ) : Type 0 where
+  pub utf8 : IsUtf8 bytes
+  pub text : IsText (chars bytes)
+  pub room : length (chars bytes) < length buffer

@@ -1,19 +1,24 @@
 //! Paths that are made in a caller's buffer: whole, or not at all. No call takes memory.
 ghost use Rattle.std.specs.Prelude.{◌≡◌, ℕ, ◌+◌, ◌≤◌, ◌++◌, List, None, Some, length, take};
+ghost use Rattle.std.specs.List.{find, position_or_len};
+ghost use Rattle.std.specs.Str.{IsUtf8, chars};
+ghost use Rattle.std.specs.Str.Lossy.{utf8_valid_len};
 ghost use Rattle.uefi_text.specs.FromSliceUntilNul.{until_nul_refusal};
+ghost use Rattle.uefi_text.specs.FromStr.{is_deciding_char};
 ghost use Rattle.uefi_text.specs.UnalignedCStr16.{with_prefix};
-ghost use Rattle.uefi_text.specs.Units.{BeginsWithString, nul_terminated};
+ghost use Rattle.uefi_text.specs.Units.{BeginsWithString, IsText, nul_terminated};
 ghost use Rattle.uefi_path.specs.Parents.{parent_text};
 ghost use Rattle.uefi_path.specs.Pushing.{pushed};
 ghost use Rattle.uefi_path.specs.Separators.{with_separators};
-ghost use Rattle.nardcorbel.specs.Buffers.{length_shown, room_reason, tail_of};
+ghost use Rattle.nardcorbel.specs.Buffers.{HasStringIn, first_half, length_shown, room_reason, second_half, tail_of};
 ghost use Rattle.uefi_path.specs.Verdicts.{IsValid, verdict};
 ghost use Rattle.uefi_path.specs.Writing.{normal_path};
-ghost use Rattle.nardcorbel.specs.Reasons.{path_reason, refused_character, until_nul_reason};
+ghost use Rattle.nardcorbel.specs.Reasons.{character_reason, path_reason, refused_character, until_nul_reason};
 ghost use Rattle.nardcorbel.specs.Strings.{text_in, until_nul_place};
 
-use crate::reasons::{BUFFER_TOO_SMALL, NO_PARENT, OK, path_reason, until_nul_reason};
+use crate::reasons::{BUFFER_TOO_SMALL, NO_PARENT, NOT_UTF8, OK, path_reason, until_nul_reason};
 use crate::strings::until_nul_place;
+use crate::texts::nard_string_from_utf8;
 use uefi_path::slices::{with_separator, write_part, write_with_separators};
 use uefi_path::{NormalWriteError, Path, laws};
 use uefi_text::CStr16;
@@ -289,4 +294,62 @@ pub extern "C" fn nard_path_normalize(
             BUFFER_TOO_SMALL
         }
     }
+}
+
+/// Writes the normal path of a path in UTF-8 into the first places of a buffer, and a NUL, by two calls:
+/// `nard_string_from_utf8` writes the path as a string into the second half of the buffer, which has one
+/// place more if their number is odd, and [`nard_path_normalize`] makes of that the normal path in the
+/// first half.
+///
+/// Each refuses in its half as it does in a buffer: twice as many places as bytes, and two more, are enough
+/// for any path. `character` becomes 0 but where a character is the reason. As many passes as of the two
+/// calls; takes no memory.
+#[unsafe(no_mangle)]
+pub extern "C" fn nard_path_normalize_utf8(
+    bytes: &[u8],
+    buffer: &mut [u16],
+    place: &mut usize,
+    character: &mut u16,
+) -> u32
+    ensures not_utf8 { ¬ IsUtf8 bytes.now → (result ≡ NOT_UTF8)
+        × (place.new ≡ utf8_valid_len bytes.now)
+        × (character.new ≡ 0)
+        × (buffer.new ≡ buffer.old) }
+    ensures no_text { IsUtf8 bytes.now → ¬ IsText (chars bytes.now)
+        → (result ≡ character_reason (find is_deciding_char (chars bytes.now)))
+        × (place.new ≡ position_or_len is_deciding_char (chars bytes.now))
+        × (character.new ≡ 0)
+        × (buffer.new ≡ buffer.old) }
+    ensures no_room { IsUtf8 bytes.now → IsText (chars bytes.now)
+        → length (second_half buffer.old) ≤ length (chars bytes.now)
+        → (result ≡ BUFFER_TOO_SMALL)
+        × (place.new ≡ length (chars bytes.now))
+        × (character.new ≡ 0)
+        × (buffer.new ≡ buffer.old) }
+    ensures refused { HasStringIn bytes.now (second_half buffer.old)
+        → ¬ IsValid (with_separators (chars bytes.now))
+        → (result ≡ path_reason (verdict (with_separators (chars bytes.now))))
+        × (place.new ≡ length (chars bytes.now))
+        × (first_half buffer.new ≡ first_half buffer.old) }
+    ensures character { HasStringIn bytes.now (second_half buffer.old)
+        → character.new ≡ refused_character (verdict (with_separators (chars bytes.now))) }
+    ensures reason { HasStringIn bytes.now (second_half buffer.old) → (normal : List ℕ)
+        → normal_path (with_separators (chars bytes.now)) ≡ Some normal
+        → result ≡ room_reason normal (first_half buffer.old) }
+    ensures place { HasStringIn bytes.now (second_half buffer.old) → (normal : List ℕ)
+        → normal_path (with_separators (chars bytes.now)) ≡ Some normal
+        → place.new ≡ length normal }
+    ensures normal { HasStringIn bytes.now (second_half buffer.old) → (normal : List ℕ)
+        → normal_path (with_separators (chars bytes.now)) ≡ Some normal
+        → first_half buffer.new ≡ with_prefix (nul_terminated normal) (first_half buffer.old) }
+    ensures string { HasStringIn bytes.now (second_half buffer.old) → second_half buffer.new
+        ≡ with_prefix (nul_terminated (chars bytes.now)) (second_half buffer.old) }
+{
+    *character = 0;
+    let (first, second) = buffer.split_at_mut(buffer.len() / 2);
+    let reason = nard_string_from_utf8(bytes, second, place);
+    if reason != OK {
+        return reason;
+    }
+    nard_path_normalize(second, first, place, character)
 }

@@ -1,12 +1,11 @@
 //! What an entry says.
-use crate::words::{words_of, words_of_path};
 use serde::Serialize;
 use std::alloc::{AllocError, Global};
 use std::fmt::{self, Write};
 use uefi_device_path::media::FilePath;
 use uefi_device_path::{
-    DevicePathNode, DevicePathNodeIterator, DevicePaths, LoadOption, LoadOptionParts,
-    NodeConversionError, is_escaped,
+    DevicePathNode, DevicePathNodeIterator, DevicePaths, FilePathCause, LoadOption,
+    LoadOptionParts, NodeConversionError, is_escaped,
 };
 use uefi_path::{Path, validate_path};
 use uefi_text::strs::Char16Slice;
@@ -36,8 +35,7 @@ pub(crate) struct File {
 #[derive(Drop, Serialize)]
 pub(crate) struct Fault {
     offset: usize,
-    part: &'static str,
-    reason: &'static str,
+    reason: String,
 }
 
 /// What is well in an entry, and what is malformed after that.
@@ -92,7 +90,7 @@ fn shown_file_name(alloc: Global, path: Path<'_>) -> Result<Option<String>, fmt:
     }
 }
 
-/// A path with its verdict: the number of the character is in it that is at fault.
+/// A path with its verdict.
 fn shown_file(alloc: Global, string: CStr16<'_>) -> Result<File, fmt::Error> {
     let path = Path::new(string);
     let shown = shown_text(alloc, string.as_slice())?;
@@ -103,13 +101,9 @@ fn shown_file(alloc: Global, string: CStr16<'_>) -> Result<File, fmt::Error> {
             file: shown_file_name(alloc, path)?,
         });
     };
-    let refused = match words_of_path(error) {
-        (reason, Some(number)) => format!(in alloc; "{reason} 0x{number:04x}")?,
-        (reason, None) => format!(in alloc; "{reason}")?,
-    };
     Ok(File {
         path: shown,
-        refused: Some(refused),
+        refused: Some(format!(in alloc; "{error}")?),
         file: None,
     })
 }
@@ -132,12 +126,8 @@ impl Shown {
     }
 
     /// Notes what is malformed.
-    fn fail(&mut self, offset: usize, part: &'static str, reason: &'static str) {
-        self.malformed = Some(Fault {
-            offset,
-            part,
-            reason,
-        });
+    fn fail(&mut self, offset: usize, reason: String) {
+        self.malformed = Some(Fault { offset, reason });
     }
 
     /// Adds attributes, a description and device paths.
@@ -163,22 +153,26 @@ impl Shown {
         offset: usize,
         name: UnalignedSlice<'_, u16>,
     ) -> Result<bool, fmt::Error> {
-        let (place, reason) = match name.to_cstring16(alloc) {
+        let error = match name.to_cstring16(alloc) {
             Ok(string) => {
                 push(&mut self.files, shown_file(alloc, string.as_cstr16())?)?;
                 return Ok(true);
             }
-            Err(FromSliceWithNulError::NotNulTerminated) => (name.len(), "no NUL ends it"),
-            Err(FromSliceWithNulError::InvalidChar(place)) => (place, "it holds a surrogate"),
-            Err(FromSliceWithNulError::InteriorNul(place)) => (place, "more follows its NUL"),
+            Err(error) => error,
+        };
+        let place = match error {
+            FromSliceWithNulError::InvalidChar(place) | FromSliceWithNulError::InteriorNul(place) =>
+                place,
+            FromSliceWithNulError::NotNulTerminated => name.len(),
             // The second comes of bytes that are borrowed as units, and never of units that are copied.
-            Err(FromSliceWithNulError::OutOfMemory | FromSliceWithNulError::NotAligned) => {
+            FromSliceWithNulError::OutOfMemory | FromSliceWithNulError::NotAligned => {
                 return Err(fmt::Error);
             }
         };
         // Both are below 65,536, the most that the header of a load option or a node can state.
         let offset = offset.saturating_add(place.saturating_mul(2));
-        self.fail(offset, "file path", reason);
+        let cause = FilePathCause::Text(error);
+        self.fail(offset, format!(in alloc; "{cause}")?);
         Ok(false)
     }
 
@@ -197,7 +191,8 @@ impl Shown {
             }
             Err(NodeConversionError::InvalidLength) => {
                 let last = offset.saturating_add(node.data().len() - 1);
-                self.fail(last, "file path", "it ends in half a unit");
+                let cause = FilePathCause::HalfUnit;
+                self.fail(last, format!(in alloc; "{cause}")?);
                 Ok(false)
             }
         }
@@ -259,8 +254,8 @@ impl Shown {
             }
         }
         let error = parts.error();
-        let (part, reason) = words_of(error.cause);
-        self.fail(error.offset, part, reason);
+        let cause = error.cause;
+        self.fail(error.offset, format!(in alloc; "{cause}")?);
         Ok(())
     }
 
@@ -283,7 +278,8 @@ impl Shown {
     pub(crate) fn of_entry(alloc: Global, bytes: &[u8]) -> Result<Shown, fmt::Error> {
         let mut shown = Shown::new(alloc);
         if MOST_BYTES < bytes.len() {
-            shown.fail(MOST_BYTES, "entry", "it is longer than a variable");
+            let reason = format!(in alloc; "the entry is longer than a variable")?;
+            shown.fail(MOST_BYTES, reason);
             return Ok(shown);
         }
         match LoadOption::read_parts(bytes) {
@@ -317,8 +313,11 @@ impl Shown {
             file.write(out)?;
         }
         if let Some(fault) = &self.malformed {
-            let (offset, part, reason) = (fault.offset, fault.part, fault.reason);
-            writeln!(out, "  malformed at offset {offset}: {part}: {reason}")?;
+            writeln!(
+                out,
+                "  malformed at offset {}: {}",
+                fault.offset, fault.reason
+            )?;
         }
         Ok(())
     }

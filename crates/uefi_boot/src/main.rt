@@ -24,7 +24,6 @@ ghost use Rattle.std.specs.Prelude.{◌≤◌, IfOk, length};
 mod entry;
 mod listing;
 mod variables;
-mod words;
 
 use entry::{MOST_BYTES, Shown};
 use listing::Listing;
