@@ -1,5 +1,6 @@
 //! Paths that are built, in memory and in buffers: their bytes, and which nodes are refused.
 
+use crate::option_builder::END;
 use std::test::Fail;
 use uefi_device_path::{BuildError, DevicePathBuf, DevicePathBuilder, DeviceSubType, DeviceType};
 
@@ -48,9 +49,6 @@ const REFUSED: &[(u8, u8, usize, BuildError)] = &[
     (0x7f, 0x01, 65_532, BuildError::EndNode),
     (1, 1, 65_532, BuildError::NodeTooLong),
 ];
-
-/// The empty path.
-const END: &[u8] = &[0x7f, 0xff, 4, 0];
 
 /// Whether a node is refused for this cause, in memory and in a buffer that has no room for any, and
 /// leaves the path unchanged.

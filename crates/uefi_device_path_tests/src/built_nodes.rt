@@ -8,7 +8,7 @@
 use for_tests::bytes;
 use std::test::Fail;
 use uefi_device_path::build::{acpi, media, messaging};
-use uefi_device_path::{BuildNode, DevicePath, DevicePathBuf, DevicePathBuilder};
+use uefi_device_path::{BuildNode, DevicePath, DevicePathBuf, DevicePathBuilder, Guid};
 use uefi_path::Path;
 use uefi_text::CStr16;
 
@@ -33,13 +33,8 @@ fn reserved_fields(rt: HostRuntime) -> Result<(), Fail> {
         world_wide_name: 0xc0b_0a09_0807_0605,
         logical_unit_number: 0x1413_1211_100f_0e0d,
     };
-    assert!(rt;
-        is_built(
-            &rt,
-            &node,
-            "030318000000000005060708090a0b0c0d0e0f1011121314"
-        )?
-    );
+    let want = "030318000000000005060708090a0b0c0d0e0f1011121314";
+    assert!(rt; is_built(&rt, &node, want)?);
     let node = messaging::Ieee1394 {
         guid: [5, 6, 7, 8, 9, 10, 11, 12],
     };
@@ -48,13 +43,8 @@ fn reserved_fields(rt: HostRuntime) -> Result<(), Fail> {
         world_wide_name: [5, 6, 7, 8, 9, 10, 11, 12],
         logical_unit_number: [13, 14, 15, 16, 17, 18, 19, 20],
     };
-    assert!(rt;
-        is_built(
-            &rt,
-            &node,
-            "031518000000000005060708090a0b0c0d0e0f1011121314"
-        )?
-    );
+    let want = "031518000000000005060708090a0b0c0d0e0f1011121314";
+    assert!(rt; is_built(&rt, &node, want)?);
     let node = messaging::Uart {
         baud_rate: 0xc0b_0a09_0807_0605,
         data_bits: 0xd,
@@ -62,27 +52,22 @@ fn reserved_fields(rt: HostRuntime) -> Result<(), Fail> {
         stop_bits: 0xf,
     };
     assert!(rt; is_built(&rt, &node, "030e13000000000005060708090a0b0c0d0e0f")?);
-    Ok(())
-}
-
-#[test]
-fn reserved_field_of_a_range(rt: HostRuntime) -> Result<(), Fail> {
     let node = media::RelativeOffsetRange {
         starting_offset: 0xc0b_0a09_0807_0605,
         ending_offset: 0x1413_1211_100f_0e0d,
     };
-    assert!(rt;
-        is_built(
-            &rt,
-            &node,
-            "040818000000000005060708090a0b0c0d0e0f1011121314"
-        )?
-    );
+    let want = "040818000000000005060708090a0b0c0d0e0f1011121314";
+    assert!(rt; is_built(&rt, &node, want)?);
     Ok(())
 }
 
 #[test]
-fn kinds_of_no_struct(rt: HostRuntime) -> Result<(), Fail> {
+fn lists_and_kinds_of_no_struct(rt: HostRuntime) -> Result<(), Fail> {
+    // The outputs of a display adapter, two of them.
+    let node = acpi::Adr {
+        adr: &[0x8001_0400, 0x0403_0201],
+    };
+    assert!(rt; is_built(&rt, &node, "02030c000004018001020304")?);
     let node = acpi::Nvdimm {
         nfit_device_handle: 0x403_0201,
     };
@@ -98,25 +83,17 @@ fn kinds_of_no_struct(rt: HostRuntime) -> Result<(), Fail> {
         nid: [2, 3, 4, 5, 6, 7, 8, 9, 10, 11, 12, 13, 14, 15, 16, 17],
         subsystem_nqn: &[18, 19, 20],
     };
-    assert!(rt;
-        is_built(
-            &rt,
-            &node,
-            "032218000102030405060708090a0b0c0d0e0f1011121314"
-        )?
-    );
+    let want = "032218000102030405060708090a0b0c0d0e0f1011121314";
+    assert!(rt; is_built(&rt, &node, want)?);
     Ok(())
 }
 
 #[test]
 fn firmware_files(rt: HostRuntime) -> Result<(), Fail> {
-    let node = media::PiwgFirmwareFile {
-        file_name: [1, 2, 3, 4, 5, 6, 7, 8, 9, 10, 11, 12, 13, 14, 15, 16],
-    };
+    let guid = Guid::from_bytes([1, 2, 3, 4, 5, 6, 7, 8, 9, 10, 11, 12, 13, 14, 15, 16]);
+    let node = media::PiwgFirmwareFile { file_name: guid };
     assert!(rt; is_built(&rt, &node, "040614000102030405060708090a0b0c0d0e0f10")?);
-    let node = media::PiwgFirmwareVolume {
-        volume_name: [1, 2, 3, 4, 5, 6, 7, 8, 9, 10, 11, 12, 13, 14, 15, 16],
-    };
+    let node = media::PiwgFirmwareVolume { volume_name: guid };
     assert!(rt; is_built(&rt, &node, "040714000102030405060708090a0b0c0d0e0f10")?);
     Ok(())
 }
@@ -148,16 +125,6 @@ fn path_of_a_boot_entry(rt: HostRuntime) -> Result<(), Fail> {
     want.extend_from_slice(&[0x7f, 0xff, 4, 0])?;
     assert!(rt; path.as_device_path().as_bytes() == want.as_slice());
     assert!(rt; built.finalize().as_bytes() == want.as_slice());
-    Ok(())
-}
-
-/// The outputs of a display adapter, two of them.
-#[test]
-fn display_outputs(rt: HostRuntime) -> Result<(), Fail> {
-    let node = acpi::Adr {
-        adr: &[0x8001_0400, 0x0403_0201],
-    };
-    assert!(rt; is_built(&rt, &node, "02030c000004018001020304")?);
     Ok(())
 }
 

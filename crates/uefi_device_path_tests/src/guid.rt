@@ -2,59 +2,43 @@
 //! 3.3 and 5.3.3, of EDK II's headers, and of Linux's partition tables.
 
 use crate::entries;
-use for_tests::{bytes, shows};
+use for_tests::{bytes, shows, split_row};
 use std::test::Fail;
 use uefi_device_path::media::HardDrive;
 use uefi_device_path::{Guid, LoadOption};
 
-/// A GUID as it lies in memory, as EDK II prints it, and as `efivarfs` names files by it.
-type Row = ([u8; 16], &'static str, &'static str);
+/// GUIDs as they lie in memory, as EDK II prints them, and as `efivarfs` names files by them.
+const ROWS: &str = "\
+61dfe48bca93d211aa0d00e098032b8c 8BE4DF61-93CA-11D2-AA0D-00E098032B8C \
+    8be4df61-93ca-11d2-aa0d-00e098032b8c
+28732ac11ff8d211ba4b00a0c93ec93b C12A7328-F81F-11D2-BA4B-00A0C93EC93B \
+    c12a7328-f81f-11d2-ba4b-00a0c93ec93b
+af3dc60f838472478e793d69d8477de4 0FC63DAF-8483-4772-8E79-3D69D8477DE4 \
+    0fc63daf-8483-4772-8e79-3d69d8477de4
+00000000000000000000000000000000 00000000-0000-0000-0000-000000000000 \
+    00000000-0000-0000-0000-000000000000";
 
-const ROWS: &[Row] = &[
-    (
-        [
-            0x61, 0xdf, 0xe4, 0x8b, 0xca, 0x93, 0xd2, 0x11, 0xaa, 0x0d, 0x00, 0xe0, 0x98, 0x03,
-            0x2b, 0x8c,
-        ],
-        "8BE4DF61-93CA-11D2-AA0D-00E098032B8C",
-        "8be4df61-93ca-11d2-aa0d-00e098032b8c",
-    ),
-    (
-        [
-            0x28, 0x73, 0x2a, 0xc1, 0x1f, 0xf8, 0xd2, 0x11, 0xba, 0x4b, 0x00, 0xa0, 0xc9, 0x3e,
-            0xc9, 0x3b,
-        ],
-        "C12A7328-F81F-11D2-BA4B-00A0C93EC93B",
-        "c12a7328-f81f-11d2-ba4b-00a0c93ec93b",
-    ),
-    (
-        [
-            0xaf, 0x3d, 0xc6, 0x0f, 0x83, 0x84, 0x72, 0x47, 0x8e, 0x79, 0x3d, 0x69, 0xd8, 0x47,
-            0x7d, 0xe4,
-        ],
-        "0FC63DAF-8483-4772-8E79-3D69D8477DE4",
-        "0fc63daf-8483-4772-8e79-3d69d8477de4",
-    ),
-    (
-        [0; 16],
-        "00000000-0000-0000-0000-000000000000",
-        "00000000-0000-0000-0000-000000000000",
-    ),
-];
-
-/// Whether a GUID has the bytes and the texts of a row.
-fn says(rt: &HostRuntime, row: &Row) -> bool {
-    let guid = Guid::from_bytes(row.0);
-    guid.to_bytes() == row.0
-        && shows(rt.alloc(), &guid, row.1)
-        && Guid::try_parse(row.1) == Some(guid)
-        && Guid::try_parse(row.2) == Some(guid)
+/// Whether bytes are a GUID that has these two texts.
+fn says(rt: &HostRuntime, bytes: &[u8], upper: &str, lower: &str) -> bool {
+    let mut given = [0; 16];
+    if bytes.len() != given.len() {
+        return false;
+    }
+    given.copy_from_slice(bytes);
+    let guid = Guid::from_bytes(given);
+    guid.to_bytes() == given
+        && shows(rt.alloc(), &guid, upper)
+        && Guid::try_parse(upper) == Some(guid)
+        && Guid::try_parse(lower) == Some(guid)
 }
 
 #[test]
 fn texts(rt: HostRuntime) -> Result<(), Fail> {
-    for row in ROWS {
-        assert!(rt; says(&rt, row), "{}", row.1);
+    for line in ROWS.split('\n') {
+        let (digits, texts) = split_row(line);
+        let (upper, lower) = split_row(texts);
+        let is_right = says(&rt, &bytes(rt.alloc(), digits)?, upper, lower);
+        assert!(rt; is_right, "{line}");
     }
     Ok(())
 }

@@ -54,32 +54,17 @@ const NOTHING: Seen = Seen {
 /// sub-types of end nodes.
 const HOSTILE: &[u8] = &[0, 1, 3, 4, 0x7f, 0xff];
 
-/// What an entry gives with each byte replaced by each hostile one.
-fn see_replaced(alloc: Global, entry: &[u8]) -> Result<Seen, AllocError> {
-    let mut bytes = Vec::from_slice(alloc, entry)?;
-    let mut seen = NOTHING;
-    for place in 0..entry.len() {
-        for byte in HOSTILE {
-            if let Some(changed) = bytes.get_mut(place) {
-                *changed = *byte;
-            }
-            seen = see(seen, &bytes);
-        }
-        if let (Some(changed), Some(byte)) = (bytes.get_mut(place), entry.get(place)) {
-            *changed = *byte;
-        }
-    }
-    Ok(seen)
-}
-
-/// What an entry gives with each byte, so each length too, grown and cut by one.
-fn see_nudged(alloc: Global, entry: &[u8]) -> Result<Seen, AllocError> {
+/// What an entry gives with each byte, so each length too, grown and cut by one, or replaced by each hostile
+/// one.
+fn see_changed(alloc: Global, entry: &[u8], is_nudged: bool) -> Result<Seen, AllocError> {
     let mut bytes = Vec::from_slice(alloc, entry)?;
     let mut seen = NOTHING;
     for (place, byte) in entry.iter().enumerate() {
-        for nudged in [byte.wrapping_add(1), byte.wrapping_sub(1)] {
+        let nudged = [byte.wrapping_add(1), byte.wrapping_sub(1)];
+        let others: &[u8] = if is_nudged { &nudged } else { HOSTILE };
+        for other in others {
             if let Some(changed) = bytes.get_mut(place) {
-                *changed = nudged;
+                *changed = *other;
             }
             seen = see(seen, &bytes);
         }
@@ -102,7 +87,10 @@ fn see_prefixes(entry: &[u8]) -> Seen {
 /// Whether this many byte strings that come from an entry are load options, and the three sums over all
 /// others have this one.
 fn gives(alloc: Global, entry: &[u8], accepted: u64, sum: u64) -> Result<bool, AllocError> {
-    let (replaced, nudged) = (see_replaced(alloc, entry)?, see_nudged(alloc, entry)?);
+    let (replaced, nudged) = (
+        see_changed(alloc, entry, false)?,
+        see_changed(alloc, entry, true)?,
+    );
     let cut = see_prefixes(entry);
     let all = replaced.accepted.wrapping_add(nudged.accepted);
     let sums = replaced.sum.wrapping_mul(31).wrapping_add(nudged.sum);
@@ -114,7 +102,7 @@ fn gives(alloc: Global, entry: &[u8], accepted: u64, sum: u64) -> Result<bool, A
 
 /// Entries, how many load options their bytes give once replaced, nudged and cut, and the sum of the
 /// others.
-const ROWS: &[(&str, u64, u64)] = &[
+pub(crate) const ROWS: &[(&str, u64, u64)] = &[
     (entries::BOOT0001, 850, 0xe8a5_870b_a828_fbcc),
     (entries::BOOT0002, 951, 0xbe19_ef21_c7b3_9a32),
     (entries::BOOT0003, 292, 0xb488_3b7a_5f0f_4057),

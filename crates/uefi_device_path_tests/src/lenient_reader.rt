@@ -83,10 +83,8 @@ fn texts(rt: HostRuntime) -> Result<(), Fail> {
     for table in [BY_LIBEFIVAR, BY_PEOPLE] {
         for line in table.split('\n') {
             let (nodes, text) = split_row(line);
-            assert!(rt;
-                is_read(rt.alloc(), text, &bytes(rt.alloc(), nodes)?)?,
-                "{line}"
-            );
+            let is_right = is_read(rt.alloc(), text, &bytes(rt.alloc(), nodes)?)?;
+            assert!(rt; is_right, "{line}");
         }
     }
     Ok(())
@@ -112,11 +110,9 @@ const REFUSED: &[(&str, usize)] = &[
 #[test]
 fn refused(rt: HostRuntime) {
     for (text, place) in REFUSED {
+        let read = DevicePathBuf::from_lenient_text(rt.alloc(), text);
         assert!(rt;
-            matches!(
-                DevicePathBuf::from_lenient_text(rt.alloc(), text),
-                Err(PathTextError::NoNode(at)) if at == *place
-            ),
+            matches!(read, Err(PathTextError::NoNode(at)) if at == *place),
             "{text}"
         );
     }

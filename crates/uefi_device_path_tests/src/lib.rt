@@ -23,7 +23,9 @@ mod hostile_entries;
 mod lenient_reader;
 #[cfg(test)]
 mod load_option;
+#[cfg(test)]
 mod load_option_parts;
+#[cfg(test)]
 mod matching;
 #[cfg(test)]
 mod node_text;

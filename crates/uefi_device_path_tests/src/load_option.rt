@@ -52,15 +52,15 @@ const REFUSED: &str = "\
 0100000004 the load option ends before its description at offset 5
 010000000400 no NUL ends the description at offset 6
 010000000400610000 no NUL ends the description at offset 8
-01000000040000007fff04 the file path list is longer than what is left at offset 4
+01000000040000007fff04 the file path list is longer than the bytes that are left at offset 4
 01000000000000007fff0400 the file path list is empty at offset 8
-01000000020000007fff a node's header is cut at offset 8
-010000000400000001010400 no end node ends the path at offset 12
-010000000400000001010300 a node's length is less than its header's at offset 10
-010000000400000001010500 a node's length is more than the bytes have left at offset 10
+01000000020000007fff the bytes end in a node's header at offset 8
+010000000400000001010400 no end node ends the device path at offset 12
+010000000400000001010300 a node is shorter than its header at offset 10
+010000000400000001010500 a node is longer than the bytes that are left at offset 10
 01000000040000007f000400 an end node ends neither a path nor an instance at offset 9
-01000000050000007fff050000 an end node's length is more than its header's at offset 10
-01000000060000007fff04007fff a node's header is cut at offset 12";
+01000000050000007fff050000 an end node has data at offset 10
+01000000060000007fff04007fff the bytes end in a node's header at offset 12";
 
 /// Whether bytes are refused with this text.
 fn is_refused(rt: &HostRuntime, bytes: &[u8], want: &str) -> bool {
@@ -71,10 +71,8 @@ fn is_refused(rt: &HostRuntime, bytes: &[u8], want: &str) -> bool {
 fn refused(rt: HostRuntime) -> Result<(), Fail> {
     for line in REFUSED.split('\n') {
         let (option, want) = split_row(line);
-        assert!(rt;
-            is_refused(&rt, &bytes(rt.alloc(), option)?, want),
-            "{line}"
-        );
+        let is_right = is_refused(&rt, &bytes(rt.alloc(), option)?, want);
+        assert!(rt; is_right, "{line}");
     }
     let want = "the load option ends before its description at offset 0";
     assert!(rt; is_refused(&rt, &[], want));
@@ -98,8 +96,7 @@ fn descriptions(rt: HostRuntime) -> Result<(), Fail> {
     let refused = lone.description(rt.alloc()).err();
     assert!(rt; refused == Some(FromSliceWithNulError::InvalidChar(0)));
     assert!(rt; lone.is_active() && lone.is_hidden());
-    assert!(rt;
-        lone.optional_data() == [0x7f, 0xff].as_slice() && lone.device_paths().count() == 2
-    );
+    assert!(rt; lone.optional_data() == [0x7f, 0xff].as_slice());
+    assert!(rt; lone.device_paths().count() == 2);
     Ok(())
 }

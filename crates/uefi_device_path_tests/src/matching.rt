@@ -1,58 +1,28 @@
 //! Device paths beside others: short forms of the UEFI Specification, section 3.1.2, and what they stand for.
 
-use for_tests::bytes;
+use for_tests::{bytes, split_row};
 use std::alloc::Global;
 use std::test::Fail;
 use uefi_device_path::{DevicePath, DevicePathBuf, ShortForm};
 
-/// Two paths as texts, and whether the first is an expansion of the second.
-const EXPANSIONS: &[(&str, &str, bool)] = &[
-    (
-        "PciRoot(0x0)/Pci(0x1,0x0)/HD(1,MBR,0x12345678,0x800,0x100)/\\a.efi",
-        "HD(1,MBR,0x12345678,0x0,0x0)/\\a.efi",
-        true,
-    ),
-    (
-        "PciRoot(0x0)/HD(2,MBR,0x12345678,0x800,0x100)",
-        "HD(1,MBR,0x12345678,0x800,0x100)",
-        false,
-    ),
-    (
-        "PciRoot(0x0)/HD(1,MBR,0x12345679,0x800,0x100)",
-        "HD(1,MBR,0x12345678,0x800,0x100)",
-        false,
-    ),
-    (
-        "PciRoot(0x0)/HD(1,GPT,78563412-0000-0000-0000-000000000000,0x800,0x100)",
-        "HD(1,MBR,0x12345678,0x800,0x100)",
-        false,
-    ),
-    (
-        "PciRoot(0x0)/HD(1,MBR,0x12345678,0x0,0x0)/\\a.efi",
-        "HD(1,MBR,0x12345678,0x0,0x0)/\\b.efi",
-        false,
-    ),
-    (
-        "PciRoot(0x0)/HD(1,MBR,0x12345678,0x0,0x0)/\\a.efi",
-        "HD(1,MBR,0x12345678,0x0,0x0)",
-        false,
-    ),
-    ("PciRoot(0x0)/\\EFI\\a.efi", "\\EFI\\a.efi", true),
-    ("\\EFI\\a.efi", "\\EFI\\a.efi", true),
-    ("PciRoot(0x0)/\\EFI\\A.efi", "\\EFI\\a.efi", false),
-    (
-        "MAC(0013720AB0FF,0x1)/Uri(http://a/b)",
-        "Uri(http://a/b)",
-        true,
-    ),
-    (
-        "PciRoot(0x0)/UsbClass(0x1,0x2,0x5,0x4,0x5)",
-        "UsbClass(0x1,0x2,0x5,0x4,0x5)",
-        false,
-    ),
-    ("PciRoot(0x0)/Pci(0x1,0x0)", "Pci(0x1,0x0)", false),
-    ("PciRoot(0x0)", "", false),
-];
+/// Paths as texts, of which the first is an expansion of the second.
+const EXPANSIONS: &str = "\
+PciRoot(0x0)/Pci(0x1,0x0)/HD(1,MBR,0x12345678,0x800,0x100)/\\a.efi HD(1,MBR,0x12345678,0x0,0x0)/\\a.efi
+PciRoot(0x0)/\\EFI\\a.efi \\EFI\\a.efi
+\\EFI\\a.efi \\EFI\\a.efi
+MAC(0013720AB0FF,0x1)/Uri(http://a/b) Uri(http://a/b)";
+
+/// The same of a first that is none.
+const OTHERS: &str = "\
+PciRoot(0x0)/HD(2,MBR,0x12345678,0x800,0x100) HD(1,MBR,0x12345678,0x800,0x100)
+PciRoot(0x0)/HD(1,MBR,0x12345679,0x800,0x100) HD(1,MBR,0x12345678,0x800,0x100)
+PciRoot(0x0)/HD(1,GPT,78563412-0000-0000-0000-000000000000,0x800,0x100) HD(1,MBR,0x12345678,0x800,0x100)
+PciRoot(0x0)/HD(1,MBR,0x12345678,0x0,0x0)/\\a.efi HD(1,MBR,0x12345678,0x0,0x0)/\\b.efi
+PciRoot(0x0)/HD(1,MBR,0x12345678,0x0,0x0)/\\a.efi HD(1,MBR,0x12345678,0x0,0x0)
+PciRoot(0x0)/\\EFI\\A.efi \\EFI\\a.efi
+PciRoot(0x0)/UsbClass(0x1,0x2,0x5,0x4,0x5) UsbClass(0x1,0x2,0x5,0x4,0x5)
+PciRoot(0x0)/Pci(0x1,0x0) Pci(0x1,0x0)
+PciRoot(0x0)";
 
 /// A path as a text, and its short form.
 const SHORT_FORMS: &[(&str, Option<ShortForm>)] = &[
@@ -81,11 +51,11 @@ fn is_expansion(alloc: Global, path: &str, short: &str) -> Result<bool, Fail> {
 
 #[test]
 fn expansions(rt: HostRuntime) -> Result<(), Fail> {
-    for (path, short, want) in EXPANSIONS {
-        assert!(rt;
-            is_expansion(rt.alloc(), path, short)? == *want,
-            "{path}, {short}"
-        );
+    for (table, want) in [(EXPANSIONS, true), (OTHERS, false)] {
+        for line in table.split('\n') {
+            let (path, short) = split_row(line);
+            assert!(rt; is_expansion(rt.alloc(), path, short)? == want, "{line}");
+        }
     }
     Ok(())
 }
@@ -110,22 +80,13 @@ fn partitions_that_are_cut(rt: HostRuntime) -> Result<(), Fail> {
 }
 
 /// What is left of one path without another at its start, as texts; `-` where it does not begin with it.
-const PREFIXES: &[(&str, &str, &str)] = &[
-    (
-        "PciRoot(0x0)/Pci(0x1,0x0)/\\a",
-        "PciRoot(0x0)/Pci(0x1,0x0)",
-        "\\a",
-    ),
-    ("PciRoot(0x0)/Pci(0x1,0x0)", "PciRoot(0x0)/Pci(0x1,0x0)", ""),
-    ("PciRoot(0x0)/Pci(0x1,0x0)", "", "PciRoot(0x0)/Pci(0x1,0x0)"),
-    (
-        "PciRoot(0x0)/Pci(0x1,0x0)",
-        "PciRoot(0x0)/Pci(0x2,0x0)",
-        "-",
-    ),
-    ("PciRoot(0x0)", "PciRoot(0x0)/Pci(0x1,0x0)", "-"),
-    ("Path(1,9,0101),\\a", "Path(1,9,01)", "-"),
-];
+const PREFIXES: &str = "\
+PciRoot(0x0)/Pci(0x1,0x0)/\\a PciRoot(0x0)/Pci(0x1,0x0) \\a
+PciRoot(0x0)/Pci(0x1,0x0) PciRoot(0x0)/Pci(0x1,0x0)
+PciRoot(0x0)/Pci(0x1,0x0)  PciRoot(0x0)/Pci(0x1,0x0)
+PciRoot(0x0)/Pci(0x1,0x0) PciRoot(0x0)/Pci(0x2,0x0) -
+PciRoot(0x0) PciRoot(0x0)/Pci(0x1,0x0) -
+Path(1,9,0101),\\a Path(1,9,01) -";
 
 /// Whether what is left is this.
 fn leaves(alloc: Global, path: &str, prefix: &str, want: &str) -> Result<bool, Fail> {
@@ -143,8 +104,10 @@ fn leaves(alloc: Global, path: &str, prefix: &str, want: &str) -> Result<bool, F
 
 #[test]
 fn prefixes(rt: HostRuntime) -> Result<(), Fail> {
-    for (path, prefix, want) in PREFIXES {
-        assert!(rt; leaves(rt.alloc(), path, prefix, want)?, "{path}, {prefix}");
+    for line in PREFIXES.split('\n') {
+        let (path, others) = split_row(line);
+        let (prefix, want) = split_row(others);
+        assert!(rt; leaves(rt.alloc(), path, prefix, want)?, "{line}");
     }
     Ok(())
 }

@@ -1,8 +1,10 @@
 //! What is printed of nodes: the forms of the UEFI Specification, section 10.6.1, and of EDK II, and
 //! hostile texts. A line is a node in hexadecimal and what it prints.
 
+use crate::typed_fields::KINDS;
 use for_tests::{bytes, repeated, shows, split_row};
 use std::alloc::Global;
+use std::fmt::Write;
 use std::test::Fail;
 use uefi_device_path::{AllowShortcuts, DevicePath, DevicePathNode, DisplayOnly};
 
@@ -162,88 +164,50 @@ pub(crate) const REGULAR: &str = "\
 040926000000100000000000ffff1f000000000078563412bc9af0de123456789abcdef00a00 \
     RamDisk(0x100000,0x1FFFFF,10,12345678-9ABC-DEF0-1234-56789ABCDEF0)";
 
-/// SAS devices, which are read back: each topology that has words, and some that have none.
-pub(crate) const SAS: &str = "\
-030a2c00b4dd87d48b00d911afdc001083ffca4d000000007856341200c50050010000000000000000000200 \
-    SAS(0x5000C50012345678,0x1,0x2,NoTopology,0,0,0,0x0)
-030a2c00b4dd87d48b00d911afdc001083ffca4d000000007856341200c50050010000000000000001000200 \
-    SAS(0x5000C50012345678,0x1,0x2,SAS,Internal,Direct,0,0x0)
-030a2c00b4dd87d48b00d911afdc001083ffca4d070000007856341200c50050010000000000000011000200 \
-    SAS(0x5000C50012345678,0x1,0x2,SATA,Internal,Direct,0,0x7)
-030a2c00b4dd87d48b00d911afdc001083ffca4d000000007856341200c50050010000000000000021000200 \
-    SAS(0x5000C50012345678,0x1,0x2,SAS,External,Direct,0,0x0)
-030a2c00b4dd87d48b00d911afdc001083ffca4d000000007856341200c50050010000000000000031000200 \
-    SAS(0x5000C50012345678,0x1,0x2,SATA,External,Direct,0,0x0)
-030a2c00b4dd87d48b00d911afdc001083ffca4d000000007856341200c50050010000000000000041000200 \
-    SAS(0x5000C50012345678,0x1,0x2,SAS,Internal,Expanded,0,0x0)
-030a2c00b4dd87d48b00d911afdc001083ffca4d000000007856341200c50050010000000000000051000200 \
-    SAS(0x5000C50012345678,0x1,0x2,SATA,Internal,Expanded,0,0x0)
-030a2c00b4dd87d48b00d911afdc001083ffca4d000000007856341200c50050010000000000000061000200 \
-    SAS(0x5000C50012345678,0x1,0x2,SAS,External,Expanded,0,0x0)
-030a2c00b4dd87d48b00d911afdc001083ffca4d000000007856341200c50050010000000000000071000200 \
-    SAS(0x5000C50012345678,0x1,0x2,SATA,External,Expanded,0,0x0)
-030a2c00b4dd87d48b00d911afdc001083ffca4d000000007856341200c50050010000000000000002000200 \
-    SAS(0x5000C50012345678,0x1,0x2,SAS,Internal,Direct,0x1,0x0)
-030a2c00b4dd87d48b00d911afdc001083ffca4d000000007856341200c50050010000000000000012ff0200 \
-    SAS(0x5000C50012345678,0x1,0x2,SATA,Internal,Direct,0x100,0x0)
-030a2c00b4dd87d48b00d911afdc001083ffca4d000000007856341200c50050010000000000000022010200 \
-    SAS(0x5000C50012345678,0x1,0x2,SAS,External,Direct,0x2,0x0)
-030a2c00b4dd87d48b00d911afdc001083ffca4d000000007856341200c50050010000000000000032010200 \
-    SAS(0x5000C50012345678,0x1,0x2,SATA,External,Direct,0x2,0x0)
-030a2c00b4dd87d48b00d911afdc001083ffca4d000000007856341200c50050010000000000000042010200 \
-    SAS(0x5000C50012345678,0x1,0x2,SAS,Internal,Expanded,0x2,0x0)
-030a2c00b4dd87d48b00d911afdc001083ffca4d000000007856341200c50050010000000000000052010200 \
-    SAS(0x5000C50012345678,0x1,0x2,SATA,Internal,Expanded,0x2,0x0)
-030a2c00b4dd87d48b00d911afdc001083ffca4d000000007856341200c50050010000000000000062010200 \
-    SAS(0x5000C50012345678,0x1,0x2,SAS,External,Expanded,0x2,0x0)
-030a2c00b4dd87d48b00d911afdc001083ffca4d000000007856341200c50050010000000000000072090200 \
-    SAS(0x5000C50012345678,0x1,0x2,SATA,External,Expanded,0xA,0x0)
-030a2c00b4dd87d48b00d911afdc001083ffca4d000000007856341200c50050010000000000000083000200 \
-    SAS(0x5000C50012345678,0x1,0x2,0x83,0,0,0,0x0)
-030a2c00b4dd87d48b00d911afdc001083ffca4d000000007856341200c50050010000000000000021100200 \
-    SAS(0x5000C50012345678,0x1,0x2,0x1021,0,0,0,0x0)
-030a2c00b4dd87d48b00d911afdc001083ffca4d000000007856341200c50050010000000000000040000200 \
-    SAS(0x5000C50012345678,0x1,0x2,0x40,0,0,0,0x0)
-031618005000c50012345678000100000000000000001f00 \
-    SasEx(0x5000C50012345678,0x0001000000000000,0x1F,NoTopology,0,0,0)
-031618005000c50012345678000100000000000001001f00 \
-    SasEx(0x5000C50012345678,0x0001000000000000,0x1F,SAS,Internal,Direct,0)
-031618005000c50012345678000100000000000011001f00 \
-    SasEx(0x5000C50012345678,0x0001000000000000,0x1F,SATA,Internal,Direct,0)
-031618005000c50012345678000100000000000021001f00 \
-    SasEx(0x5000C50012345678,0x0001000000000000,0x1F,SAS,External,Direct,0)
-031618005000c50012345678000100000000000031001f00 \
-    SasEx(0x5000C50012345678,0x0001000000000000,0x1F,SATA,External,Direct,0)
-031618005000c50012345678000100000000000041001f00 \
-    SasEx(0x5000C50012345678,0x0001000000000000,0x1F,SAS,Internal,Expanded,0)
-031618005000c50012345678000100000000000051001f00 \
-    SasEx(0x5000C50012345678,0x0001000000000000,0x1F,SATA,Internal,Expanded,0)
-031618005000c50012345678000100000000000061001f00 \
-    SasEx(0x5000C50012345678,0x0001000000000000,0x1F,SAS,External,Expanded,0)
-031618005000c50012345678000100000000000071001f00 \
-    SasEx(0x5000C50012345678,0x0001000000000000,0x1F,SATA,External,Expanded,0)
-031618005000c50012345678000100000000000002001f00 \
-    SasEx(0x5000C50012345678,0x0001000000000000,0x1F,SAS,Internal,Direct,0x1)
-031618005000c50012345678000100000000000012ff1f00 \
-    SasEx(0x5000C50012345678,0x0001000000000000,0x1F,SATA,Internal,Direct,0x100)
-031618005000c50012345678000100000000000022011f00 \
-    SasEx(0x5000C50012345678,0x0001000000000000,0x1F,SAS,External,Direct,0x2)
-031618005000c50012345678000100000000000032011f00 \
-    SasEx(0x5000C50012345678,0x0001000000000000,0x1F,SATA,External,Direct,0x2)
-031618005000c50012345678000100000000000042011f00 \
-    SasEx(0x5000C50012345678,0x0001000000000000,0x1F,SAS,Internal,Expanded,0x2)
-031618005000c50012345678000100000000000052011f00 \
-    SasEx(0x5000C50012345678,0x0001000000000000,0x1F,SATA,Internal,Expanded,0x2)
-031618005000c50012345678000100000000000062011f00 \
-    SasEx(0x5000C50012345678,0x0001000000000000,0x1F,SAS,External,Expanded,0x2)
-031618005000c50012345678000100000000000072091f00 \
-    SasEx(0x5000C50012345678,0x0001000000000000,0x1F,SATA,External,Expanded,0xA)
-031618005000c50012345678000100000000000083001f00 \
-    SasEx(0x5000C50012345678,0x0001000000000000,0x1F,0x83,0,0,0)
-031618005000c50012345678000100000000000021101f00 \
-    SasEx(0x5000C50012345678,0x0001000000000000,0x1F,0x1021,0,0,0)
-031618005000c50012345678000100000000000040001f00 \
-    SasEx(0x5000C50012345678,0x0001000000000000,0x1F,0x40,0,0,0)";
+/// Topologies of SAS devices, two bytes, and what is printed of them: each that has words, and some that have
+/// none.
+const TOPOLOGIES: &str = "\
+0000 NoTopology,0,0,0
+0100 SAS,Internal,Direct,0
+1100 SATA,Internal,Direct,0
+2100 SAS,External,Direct,0
+3100 SATA,External,Direct,0
+4100 SAS,Internal,Expanded,0
+5100 SATA,Internal,Expanded,0
+6100 SAS,External,Expanded,0
+7100 SATA,External,Expanded,0
+0200 SAS,Internal,Direct,0x1
+12ff SATA,Internal,Direct,0x100
+2201 SAS,External,Direct,0x2
+3201 SATA,External,Direct,0x2
+4201 SAS,Internal,Expanded,0x2
+5201 SATA,Internal,Expanded,0x2
+6201 SAS,External,Expanded,0x2
+7209 SATA,External,Expanded,0xA
+8300 0x83,0,0,0
+2110 0x1021,0,0,0
+4000 0x40,0,0,0";
+
+/// The lines of SAS devices, which are read back: of both kinds, with each topology. The first kind has four
+/// reserved bytes, which are printed as its last number.
+pub(crate) fn sas_lines(alloc: Global) -> Result<String, Fail> {
+    let mut lines = String::from_str(
+        alloc,
+        "030a2c00b4dd87d48b00d911afdc001083ffca4d070000007856341200c50050010000000000000011000200 \
+        SAS(0x5000C50012345678,0x1,0x2,SATA,Internal,Direct,0,0x7)",
+    )?;
+    for line in TOPOLOGIES.split('\n') {
+        let (digits, words) = split_row(line);
+        write!(
+            lines,
+            "\n030a2c00b4dd87d48b00d911afdc001083ffca4d000000007856341200c500500100000000000000{digits}0200 \
+            SAS(0x5000C50012345678,0x1,0x2,{words},0x0)\
+            \n031618005000c500123456780001000000000000{digits}1f00 \
+            SasEx(0x5000C50012345678,0x0001000000000000,0x1F,{words})"
+        )?;
+    }
+    Ok(lines)
+}
 
 /// Names of files, and nodes of types Media and BIOS Boot Specification that are not read back.
 const MEDIA: &str = "\
@@ -302,55 +266,6 @@ const SHORTCUTS: &str = "\
 030a1400d2e8a4eb5838ec41a2812647ba9660d0 DebugPort()
 030a15005347c1e0bef9d2119a0c0090273fc14d00 VenMsg(E0C14753-F9BE-11D2-9A0C-0090273FC14D,00)";
 
-/// Type, sub-type and length of nodes with a byte less than their kind has.
-const CUT: &[(u8, u8, u8)] = &[
-    (1, 2, 4),
-    (1, 3, 23),
-    (1, 5, 7),
-    (1, 6, 12),
-    (3, 1, 7),
-    (3, 2, 7),
-    (3, 3, 23),
-    (3, 4, 15),
-    (3, 6, 7),
-    (3, 9, 47),
-    (3, 14, 18),
-    (3, 15, 10),
-    (2, 3, 7),
-    (3, 16, 9),
-    (3, 19, 17),
-    (3, 28, 35),
-    (3, 31, 20),
-    (3, 17, 4),
-    (3, 20, 5),
-    (3, 21, 23),
-    (3, 22, 23),
-    (3, 25, 5),
-    (3, 27, 9),
-    (3, 30, 10),
-    (4, 5, 19),
-    (4, 8, 23),
-    (1, 4, 19),
-    (2, 1, 11),
-    (2, 2, 18),
-    (3, 5, 5),
-    (3, 10, 19),
-    (3, 11, 36),
-    (3, 12, 18),
-    (3, 13, 42),
-    (3, 18, 9),
-    (3, 23, 15),
-    (3, 26, 4),
-    (3, 29, 4),
-    (4, 1, 41),
-    (4, 2, 23),
-    (4, 3, 19),
-    (4, 6, 19),
-    (4, 7, 19),
-    (4, 9, 37),
-    (5, 1, 8),
-];
-
 /// Whether a node prints this.
 fn prints_node(
     alloc: Global,
@@ -369,10 +284,10 @@ fn prints_node(
 /// The first line of a table whose node prints something else.
 fn find_wrong(
     alloc: Global,
-    table: &'static str,
+    table: &str,
     display_only: bool,
     shortcuts: bool,
-) -> Result<Option<&'static str>, Fail> {
+) -> Result<Option<&str>, Fail> {
     for line in table.split('\n') {
         let (node, want) = split_row(line);
         if !prints_node(alloc, &bytes(alloc, node)?, display_only, shortcuts, want) {
@@ -384,7 +299,8 @@ fn find_wrong(
 
 #[test]
 fn nodes_and_what_they_print(rt: HostRuntime) -> Result<(), Fail> {
-    for table in [STRINGS, MESSAGING, REGULAR, SAS, MEDIA, OTHERS] {
+    let sas = sas_lines(rt.alloc())?;
+    for table in [STRINGS, MESSAGING, REGULAR, sas.as_str(), MEDIA, OTHERS] {
         assert_eq!(rt; find_wrong(rt.alloc(), table, false, false)?, None);
     }
     assert_eq!(rt; find_wrong(rt.alloc(), DISPLAY_ONLY, true, false)?, None);
@@ -405,13 +321,19 @@ fn prints_bytes(alloc: Global, kind: u8, sub: u8, len: u8) -> Result<bool, Fail>
     )
 }
 
+/// Nodes with a byte less than their kind has: IPv6 is printed without what old nodes lack, and Dns needs an
+/// address.
 #[test]
 fn nodes_that_are_cut(rt: HostRuntime) -> Result<(), Fail> {
-    for (kind, sub, len) in CUT {
-        assert!(rt;
-            prints_bytes(rt.alloc(), *kind, *sub, *len)?,
-            "{kind}, {sub}"
-        );
+    for (_, kind, sub, _, least) in KINDS {
+        let least = match (*kind, *sub) {
+            (3, 13) => 39,
+            (3, 31) => 17,
+            _ => *least,
+        };
+        let is_right = least == 0
+            || prints_bytes(rt.alloc(), *kind, *sub, least.saturating_add(3))?;
+        assert!(rt; is_right, "{kind}, {sub}");
     }
     Ok(())
 }

@@ -1,13 +1,10 @@
 //! Load options that are written: the entries once more, each field that is refused, and descriptions as
 //! UTF-8.
 
-use crate::entries;
+use crate::hostile_entries::ROWS;
 use for_tests::{bytes, holds};
 use std::test::Fail;
-use uefi_device_path::{
-    DevicePath, DevicePathBuf, DeviceSubType, DeviceType, LoadOption, LoadOptionBuilder,
-    OptionBuildError,
-};
+use uefi_device_path::{DevicePath, LoadOption, LoadOptionBuilder, OptionBuildError};
 
 /// Whether fields are written as these bytes to each buffer that has room for them, and to no other.
 fn writes(fields: LoadOptionBuilder<'_>, bytes: &[u8]) -> bool {
@@ -39,26 +36,11 @@ fn is_written_again(rt: &HostRuntime, entry: &[u8]) -> Result<bool, Fail> {
     Ok(writes(fields, entry) && fields.to_vec(rt.alloc())?.as_slice() == entry)
 }
 
-const ENTRIES: &[&str] = &[
-    entries::BOOT0001,
-    entries::BOOT0002,
-    entries::BOOT0003,
-    entries::BOOT000A,
-    entries::BOOT0010,
-    entries::BOOT0011,
-    entries::BOOT0013,
-    entries::BOOT0014,
-    entries::BOOT0024,
-    entries::BOOT0031,
-];
-
 #[test]
 fn written_again(rt: HostRuntime) -> Result<(), Fail> {
-    for entry in ENTRIES {
-        assert!(rt;
-            is_written_again(&rt, &bytes(rt.alloc(), entry)?)?,
-            "{entry}"
-        );
+    for (digits, _, _) in ROWS {
+        let entry = bytes(rt.alloc(), digits)?;
+        assert!(rt; is_written_again(&rt, &entry)?, "{digits}");
     }
     Ok(())
 }
@@ -129,19 +111,5 @@ fn shown(rt: HostRuntime) -> Result<(), Fail> {
     for (units, want) in SHOWN {
         assert!(rt; is_shown(&rt, units, want)?, "{want}");
     }
-    Ok(())
-}
-
-/// The paths that lie in the buffer of a written option are read again.
-#[test]
-fn paths_that_were_built(rt: HostRuntime) -> Result<(), Fail> {
-    let mut path = DevicePathBuf::new(rt.alloc())?;
-    path.push(DeviceType::HARDWARE, DeviceSubType(1), &[0, 0x1f])?;
-    let paths = [path.as_device_path(), path.as_device_path()];
-    let mut room = [0; 64];
-    let len = LoadOptionBuilder::new(1, &[0x61], &paths, &[7]).write(&mut room)?;
-    let option = LoadOption::from_bytes(room.get(..len).unwrap_or(&[]))?;
-    assert!(rt; len == 31 && option.device_paths().count() == 2);
-    assert!(rt; option.optional_data() == [7].as_slice());
     Ok(())
 }

@@ -22,7 +22,8 @@ enum Call<'a> {
     /// The data of a node that names a file, and how many characters the name has.
     FilePath(&'a [u8], usize),
     /// A text.
-    FromText(&'a str),
+    FromText(&'a str, usize),
+    NoText(&'a str, usize),
     /// A description, of which a load option is made.
     ToVec(&'a [u16]),
     /// A load option, and how many characters its description has, and bytes in UTF-8.
@@ -68,20 +69,28 @@ fn has_name(heap: &Refusing<Global>, bytes: &[u8], len: usize) -> Result<bool, A
     }
 }
 
-/// Whether a text is that of the path which it gives, or memory ran out.
-fn is_read(heap: &Refusing<Global>, text: &str) -> Result<bool, AllocError> {
-    match DevicePathBuf::from_text(heap, text) {
-        Ok(path) => Ok(path.as_device_path().to_string(heap)?.as_str() == text),
+/// Whether a text, printed or as people write it, is read as this many nodes, or memory ran out.
+fn is_read(
+    heap: &Refusing<Global>,
+    text: &str,
+    is_printed: bool,
+    nodes: usize,
+) -> Result<bool, AllocError> {
+    let read = if is_printed {
+        DevicePathBuf::from_text(heap, text)
+    } else {
+        DevicePathBuf::from_lenient_text(heap, text)
+    };
+    match read {
+        Ok(path) => Ok(path.as_device_path().node_iter().count() == nodes),
         Err(error) => out_of_memory(error == PathTextError::OutOfMemory),
     }
 }
 
-/// Whether a text as people write it is read as this many nodes, or memory ran out.
-fn has_nodes(heap: &Refusing<Global>, text: &str, nodes: usize) -> Result<bool, AllocError> {
-    match DevicePathBuf::from_lenient_text(heap, text) {
-        Ok(path) => Ok(path.as_device_path().node_iter().count() == nodes),
-        Err(error) => out_of_memory(error == PathTextError::OutOfMemory),
-    }
+/// Whether a text is refused at a place.
+fn is_no_text(heap: &Refusing<Global>, text: &str, place: usize) -> Result<bool, AllocError> {
+    let read = DevicePathBuf::from_text(heap, text);
+    Ok(matches!(read, Err(PathTextError::NoNode(at)) if at == place))
 }
 
 /// Whether an option of a description is written in memory, or memory ran out.
@@ -121,7 +130,8 @@ fn answers(call: Call<'_>, heap: &Refusing<Global>) -> Result<bool, AllocError> 
         Call::Push(count, data) => builds(heap, count, data),
         Call::PushFile(count, name) => names(heap, count, name),
         Call::FilePath(bytes, len) => has_name(heap, bytes, len),
-        Call::FromText(text) => is_read(heap, text),
+        Call::FromText(text, nodes) => is_read(heap, text, true, nodes),
+        Call::NoText(text, place) => is_no_text(heap, text, place),
         Call::ToVec(description) => is_made(heap, description),
         Call::Description(bytes, len) => has_description(heap, bytes, len),
         Call::DescriptionLossy(bytes, len) => is_shown(heap, bytes, len),
@@ -142,8 +152,11 @@ const ROWS: &[(Call<'static>, u64, u64)] = &[
     (Call::PushFile(1, &[0x61, 0]), 2, 2),
     (Call::PushFile(1, &[0]), 2, 2),
     (Call::FilePath(NAMED, 1), 1, 1),
-    (Call::FromText("PciRoot(0x0)/Pci(0x1F,0x2)"), 3, 99),
-    (Call::FromText("USB(0x1,0x0),,\\a"), 3, 99),
+    (Call::FromText("", 0), 1, 1),
+    (Call::FromText("PciRoot(0x0)/Pci(0x1F,0x2)", 2), 1, 1),
+    (Call::FromText("USB(0x1,0x0),,\\a", 4), 1, 1),
+    (Call::NoText("PciRoot(0x0)/Pci(0x1F,0x2)/", 27), 0, 0),
+    (Call::NoText("\\a/Path(3,99,0F", 3), 0, 0),
     (Call::ToVec(&[0x61]), 1, 1),
     (Call::Description(OPTION, 1), 1, 1),
     // One for the units, and one for a text of as many bytes.
@@ -207,57 +220,49 @@ fn file_paths_of_each_size(rt: HostRuntime) -> Result<(), Fail> {
         let len = all.saturating_sub(u64::from(!*is_rooted)) as usize;
         let bytes = path.as_device_path().as_bytes();
         let count = requests(rt.alloc(), 0, |heap| has_name(heap, bytes, len))?;
-        assert!(rt;
-            count == *wanted,
-            "{nodes} {characters} {is_rooted}: {count}"
-        );
+        let is_right = count == *wanted;
+        assert!(rt; is_right, "{nodes} {characters} {is_rooted}: {count}");
     }
     Ok(())
 }
 
-/// Texts of nodes, one of them this many times in a row: nodes, bytes of a node, characters of a name.
-const TEXTS: &[(&str, &str, u64, &str)] = &[
-    ("Pci(0x0,0x0)", "/Pci(0x1F,0x7)", 400, ""),
-    ("Path(3,99,", "0F", 1, ")"),
-    ("Path(3,99,", "0F", 300, ")"),
-    ("Path(3,99,", "0F", 2000, ")"),
-    ("\\", "a", 300, ""),
-    ("\\", "é", 1000, ""),
-    ("\\", "中", 1, ""),
-    ("\\", "中", 300, ""),
-    ("\\", "😀", 200, ""),
-    ("USB(0x1,0x0)", ",USB(0x1,0x0)", 100, "/\\a"),
+/// Whether a text is a printed one, the text of nodes, one of them, or a byte of a node or a character of a
+/// name, this many times in a row, and how many nodes it is.
+const TEXTS: &[(bool, &str, &str, u64, &str, usize)] = &[
+    (true, "Pci(0x0,0x0)", "/Pci(0x1F,0x7)", 400, "", 401),
+    (true, "Path(3,99,", "0F", 1, ")", 1),
+    (true, "Path(3,99,", "0F", 300, ")", 1),
+    (true, "Path(3,99,", "0F", 2000, ")", 1),
+    (true, "Path(3,99,", "0F", 65_531, ")", 1),
+    (true, "\\", "a", 300, "", 1),
+    (true, "\\", "é", 1000, "", 1),
+    (true, "\\", "中", 1, "", 1),
+    (true, "\\", "中", 300, "", 1),
+    (true, "\\", "a", 32_763, "", 1),
+    (true, "\\", "😀", 200, "", 1),
+    (true, "USB(0x1,0x0)", ",USB(0x1,0x0)", 100, "/\\a", 202),
+    (true, "AcpiAdr(0x1", ",0xFFFFFFFF", 16_381, ")", 1),
+    (false, "pci(0,0)", "/pci(31,7)", 3, "", 4),
+    (false, "path(3,99,", "0f", 300, ")", 1),
+    (false, "file(", "é", 300, ")", 1),
+    (false, "", "中", 300, "", 1),
+    (false, "usb(1,0)", ",usb(1)", 2, "/a", 6),
 ];
 
+/// A printed text takes one request.
 #[test]
 fn texts_of_each_size(rt: HostRuntime) -> Result<(), Fail> {
-    for (front, piece, count, back) in TEXTS {
+    for (is_printed, front, piece, count, back, nodes) in TEXTS {
         let mut text = String::from_str(rt.alloc(), front)?;
         text.push_str(repeated(rt.alloc(), piece, *count)?.as_str())?;
         text.push_str(back)?;
-        let made = requests(rt.alloc(), 0, |heap| is_read(heap, text.as_str()))?;
-        assert!(rt; 2 < made, "{piece}: {made}");
-    }
-    Ok(())
-}
-
-/// The same of texts as people write them, and how many nodes they are.
-const LENIENT_TEXTS: &[(&str, &str, u64, &str, usize)] = &[
-    ("pci(0,0)", "/pci(31,7)", 3, "", 4),
-    ("path(3,99,", "0f", 300, ")", 1),
-    ("file(", "é", 300, ")", 1),
-    ("", "中", 300, "", 1),
-    ("usb(1,0)", ",usb(1)", 2, "/a", 6),
-];
-
-#[test]
-fn lenient_texts_of_each_size(rt: HostRuntime) -> Result<(), Fail> {
-    for (front, piece, count, back, nodes) in LENIENT_TEXTS {
-        let mut text = String::from_str(rt.alloc(), front)?;
-        text.push_str(repeated(rt.alloc(), piece, *count)?.as_str())?;
-        text.push_str(back)?;
-        let made = requests(rt.alloc(), 0, |heap| has_nodes(heap, text.as_str(), *nodes))?;
-        assert!(rt; 2 < made, "{piece}: {made}");
+        let made = requests(
+            rt.alloc(),
+            0,
+            |heap| is_read(heap, &text, *is_printed, *nodes),
+        )?;
+        let is_right = if *is_printed { made == 1 } else { 2 < made };
+        assert!(rt; is_right, "{piece}: {made}");
     }
     Ok(())
 }
@@ -290,10 +295,8 @@ fn descriptions_of_each_size(rt: HostRuntime) -> Result<(), Fail> {
         for character in CHARACTERS {
             let one = character.to_string(rt.alloc())?;
             let text = repeated(rt.alloc(), one.as_str(), *count)?;
-            assert!(rt;
-                describes(&rt, text.as_str(), &data)?,
-                "{count} {character}"
-            );
+            let is_right = describes(&rt, text.as_str(), &data)?;
+            assert!(rt; is_right, "{count} {character}");
         }
     }
     Ok(())
@@ -321,10 +324,8 @@ fn writes(rt: &HostRuntime, len: usize, paths: usize, optional: usize) -> Result
 #[test]
 fn options_of_each_size(rt: HostRuntime) -> Result<(), Fail> {
     for (len, paths, optional) in [(0, 1, 0), (1, 2, 136), (300, 400, 0), (1000, 5461, 5000)] {
-        assert!(rt;
-            writes(&rt, len, paths, optional)?,
-            "{len} {paths} {optional}"
-        );
+        let is_right = writes(&rt, len, paths, optional)?;
+        assert!(rt; is_right, "{len} {paths} {optional}");
     }
     Ok(())
 }

@@ -1,7 +1,7 @@
 //! Device paths read from their texts: the bytes of each, by the layouts of the UEFI Specification 2.10,
 //! section 10.3, and where a text is none.
 
-use crate::node_text::{REGULAR, SAS};
+use crate::node_text::{REGULAR, sas_lines};
 use for_tests::{bytes, split_row};
 use std::alloc::Global;
 use std::test::Fail;
@@ -35,20 +35,8 @@ fn is_read(alloc: Global, text: &str, nodes: &[u8]) -> Result<bool, Fail> {
     Ok(path.as_bytes().strip_prefix(nodes) == Some(end) && path.to_string(alloc)?.as_str() == text)
 }
 
-#[test]
-fn texts(rt: HostRuntime) -> Result<(), Fail> {
-    for line in TEXTS.split('\n') {
-        let (nodes, text) = split_row(line);
-        assert!(rt;
-            is_read(rt.alloc(), text, &bytes(rt.alloc(), nodes)?)?,
-            "{line}"
-        );
-    }
-    Ok(())
-}
-
 /// The first line of a table whose text is not read so.
-fn find_unread(alloc: Global, table: &'static str) -> Result<Option<&'static str>, Fail> {
+fn find_unread(alloc: Global, table: &str) -> Result<Option<&str>, Fail> {
     for line in table.split('\n') {
         let (nodes, text) = split_row(line);
         if !is_read(alloc, text, &bytes(alloc, nodes)?)? {
@@ -59,8 +47,9 @@ fn find_unread(alloc: Global, table: &'static str) -> Result<Option<&'static str
 }
 
 #[test]
-fn texts_of_each_kind(rt: HostRuntime) -> Result<(), Fail> {
-    for table in [REGULAR, SAS] {
+fn texts(rt: HostRuntime) -> Result<(), Fail> {
+    let sas = sas_lines(rt.alloc())?;
+    for table in [TEXTS, REGULAR, sas.as_str()] {
         assert_eq!(rt; find_unread(rt.alloc(), table)?, None);
     }
     Ok(())

@@ -4,7 +4,7 @@ use crate::fixtures::buffer;
 use for_tests::{has_text, string};
 use std::fmt::Write;
 use std::test::Fail;
-use uefi_path::{ComponentIndices, Components, Path};
+use uefi_path::{ComponentIndices, Path};
 use uefi_text::{CStr16, CString16};
 
 /// The components of a path, with a bar before each.
@@ -77,14 +77,10 @@ const COMPONENTS: &[(&str, &str, usize)] = &[
     ("", "", 0),
     ("/", "|/", 0),
     (r"\", "", 0),
-    (r"\\", "||", 2),
-    (r"a\", "|a|", 2),
     (r"foo\bar\hello", "|foo|bar|hello", 3),
     (r"\foo\bar\hello", "|foo|bar|hello", 3),
     (r"\hello\foo\bar", "|hello|foo|bar", 3),
-    (r"\\a", "||a", 2),
     (r"a/b\c", "|a/b|c", 3),
-    (r"a\\b", "|a||b", 3),
 ];
 
 #[test]
@@ -92,25 +88,6 @@ fn components_of_texts(rt: HostRuntime) -> Result<(), Fail> {
     for (text, want, owned) in COMPONENTS {
         assert!(rt; has_components(&rt, text, want, *owned)?, "{text}");
     }
-    Ok(())
-}
-
-/// Whether the components of `a\` are a name and an empty one, as many as the hint allows, and no more
-/// come, however often one asks.
-fn ends_for_good(mut components: Components<'_>) -> bool {
-    let (least, most) = components.size_hint();
-    least <= 2
-        && matches!(most, Some(most) if 2 <= most)
-        && matches!(components.next(), Some(name) if name.len() == 1)
-        && matches!(components.next(), Some(empty) if empty.len() == 0)
-        && components.size_hint() == (0, Some(0))
-        && components.next().is_none()
-        && components.next().is_none()
-}
-
-#[test]
-fn components_end_for_good(rt: HostRuntime) -> Result<(), Fail> {
-    assert!(rt; ends_for_good(buffer(&rt, r"a\")?.components()));
     Ok(())
 }
 

@@ -17,8 +17,6 @@ mod out_of_memory;
 #[cfg(test)]
 mod parents;
 #[cfg(test)]
-mod path;
-#[cfg(test)]
 mod pathbuf;
 #[cfg(test)]
 mod validation;

@@ -78,13 +78,8 @@ fn printed_refusals(rt: HostRuntime) -> Result<(), Fail> {
     let want = "path contains an illegal character (value 62)|Invalid(IllegalChar('>'))";
     assert!(rt; prints(rt.alloc(), &illegal, want));
     let climbs = NormalizeError::Invalid(PathError::ClimbsAboveRoot);
-    assert!(rt;
-        prints(
-            rt.alloc(),
-            &climbs,
-            "path climbs above the root|Invalid(ClimbsAboveRoot)"
-        )
-    );
+    let want = "path climbs above the root|Invalid(ClimbsAboveRoot)";
+    assert!(rt; prints(rt.alloc(), &climbs, want));
     assert!(rt; shows(rt.alloc(), &NormalizeError::OutOfMemory, "out of memory"));
     Ok(())
 }

@@ -1,4 +1,4 @@
-//! Path buffers as they are made, pushed to, joined, copied, cleared and printed.
+//! Path buffers as they are made, pushed to, joined, copied and cleared; and paths as they are printed.
 
 use crate::fixtures::{buffer, is_path};
 use for_tests::{prints, string};
@@ -20,25 +20,28 @@ fn replaced_slashes(rt: HostRuntime) -> Result<(), Fail> {
         let (string, taken) = (string(rt.alloc(), text)?, buffer(&rt, text)?);
         let copied = PathBuf::from(rt.alloc(), string.as_cstr16())?;
         let is_right = is_path(&copied, want) && is_path(&taken, want) && copied == taken;
-        assert!(rt;
-            is_right && copied.to_string(rt.alloc())?.as_str() == *want,
-            "{text}"
-        );
+        let is_right = is_right && copied.to_string(rt.alloc())?.as_str() == *want;
+        assert!(rt; is_right, "{text}");
     }
     Ok(())
 }
 
 #[test]
 fn printed_buffers(rt: HostRuntime) -> Result<(), Fail> {
-    assert!(rt;
-        prints(
-            rt.alloc(),
-            &PathBuf::new(rt.alloc())?,
-            "|PathBuf(CStr16([]))"
-        )
-    );
+    let empty = PathBuf::new(rt.alloc())?;
+    assert!(rt; prints(rt.alloc(), &empty, "|PathBuf(CStr16([]))"));
     let want = r"\a\é|PathBuf(CStr16(['\\', 'a', '\\', 'é']))";
     assert!(rt; prints(rt.alloc(), &buffer(&rt, r"/a\é")?, want));
+    Ok(())
+}
+
+#[test]
+fn printed_paths(rt: HostRuntime) -> Result<(), Fail> {
+    let (empty, text) = (string(rt.alloc(), "")?, string(rt.alloc(), r"/a\é")?);
+    let empty = Path::new(empty.as_cstr16());
+    assert!(rt; prints(rt.alloc(), &empty, "|Path(CStr16([]))"));
+    let want = r"/a\é|Path(CStr16(['/', 'a', '\\', 'é']))";
+    assert!(rt; prints(rt.alloc(), &Path::new(text.as_cstr16()), want));
     Ok(())
 }
 
@@ -150,10 +153,8 @@ const SEVERAL: &[(&[&str], &str, &str)] = &[
 fn several_pushes(rt: HostRuntime) -> Result<(), Fail> {
     for (parts, want, equal) in SEVERAL {
         let path = pushed_in_turn(&rt, parts)?;
-        assert!(rt;
-            is_path(&path, want) && path == buffer(&rt, equal)?,
-            "{want}"
-        );
+        let is_right = is_path(&path, want) && path == buffer(&rt, equal)?;
+        assert!(rt; is_right, "{want}");
     }
     Ok(())
 }

@@ -50,25 +50,17 @@ fn are_judged(
 /// Texts, and how their paths are judged, borrowed and in a buffer.
 const TEXTS: &[(&str, Verdict, Verdict)] = &[
     (r"\", Accepted, Accepted),
-    ("a", Accepted, Accepted),
     (".", Accepted, Accepted),
     (r"a\..", Accepted, Accepted),
-    (r"a\b\..\..", Accepted, Accepted),
     (r"é\ \~", Accepted, Accepted),
     (r"hello\foo\bar", Accepted, Accepted),
     ("", Empty, Empty),
-    (r"\\", EmptyComponent, EmptyComponent),
     (r"a\", EmptyComponent, EmptyComponent),
-    (r"\\a", EmptyComponent, EmptyComponent),
-    (r"a\\b>", EmptyComponent, EmptyComponent),
     (r"hello\\bar", EmptyComponent, EmptyComponent),
-    (r"a>b\\c", IllegalChar(62), IllegalChar(62)),
     (r"hello\f>oo\bar", IllegalChar(62), IllegalChar(62)),
-    ("a/b", IllegalChar(47), Accepted),
     ("..", ClimbsAboveRoot, ClimbsAboveRoot),
     (r"a\..\..\b>", ClimbsAboveRoot, ClimbsAboveRoot),
     ("..>", IllegalChar(62), IllegalChar(62)),
-    (r"b>\..\..", IllegalChar(62), IllegalChar(62)),
     (r"a\\..\..", EmptyComponent, EmptyComponent),
 ];
 

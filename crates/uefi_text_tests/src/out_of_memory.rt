@@ -7,6 +7,7 @@ use std::alloc::{AllocError, Global};
 use std::fmt::Write;
 use std::iter;
 use std::test::Fail;
+use uefi_text::FromSliceWithNulError::{InteriorNul, InvalidChar, NotNulTerminated};
 use uefi_text::{
     CStr16, CString16, Char16, FromSliceUntilNulError, FromSliceWithNulError, FromStrError, NUL_16,
     UnalignedSlice,
@@ -265,17 +266,13 @@ fn refuses_characters(heap: &Refusing<Global>, inputs: Inputs<'_>) -> bool {
     let open = inputs.list.get(..1).unwrap_or(&[]);
     let all = inputs.part.as_slice_with_nul();
     CStr16::from_char16_until_nul(heap, open).err() == Some(FromSliceUntilNulError::NoNul)
-        && CStr16::from_char16_with_nul(heap, open).err()
-            == Some(FromSliceWithNulError::NotNulTerminated)
+        && CStr16::from_char16_with_nul(heap, open).err() == Some(NotNulTerminated)
         && all.to_cstring16(heap).err() == Some(FromStrError::InteriorNul)
 }
 
 /// Whether bytes with a surrogate are refused for it, and those of packed units.
 fn refuses_bytes(heap: &Refusing<Global>) -> bool {
-    let (bytes, want) = (
-        &[0, 0xd8, 0, 0],
-        Some(FromSliceWithNulError::InvalidChar(0)),
-    );
+    let (bytes, want) = (&[0, 0xd8, 0, 0], Some(InvalidChar(0)));
     let Some(items) = UnalignedSlice::from_unit_bytes(bytes) else {
         return false;
     };
@@ -329,23 +326,18 @@ const ROWS: &[Row] = &[
     (Call::RefusedBytes, 0, 0, 0),
     (Call::TryFromVec(&[120, 0], None), 1, 0, 0),
     (
-        Call::TryFromVec(&[97, 0, 98, 0], Some(FromSliceWithNulError::InteriorNul(1))),
+        Call::TryFromVec(&[97, 0, 98, 0], Some(InteriorNul(1))),
         1,
         0,
         0,
     ),
     (
-        Call::TryFromVec(&[0xd800, 0], Some(FromSliceWithNulError::InvalidChar(0))),
+        Call::TryFromVec(&[0xd800, 0], Some(InvalidChar(0))),
         1,
         0,
         0,
     ),
-    (
-        Call::TryFromVec(&[], Some(FromSliceWithNulError::NotNulTerminated)),
-        1,
-        0,
-        0,
-    ),
+    (Call::TryFromVec(&[], Some(NotNulTerminated)), 1, 0, 0),
 ];
 
 /// The same of each call on a text, however long that is.

@@ -1,30 +1,10 @@
 //! Owned strings as they are made, grow, and are changed and printed.
 
-use for_tests::{Refusing, has_text, prints, string};
-use std::alloc::Global;
+use for_tests::{has_text, prints, string};
 use std::fmt::Write;
 use std::test::Fail;
 use uefi_text::owned_strs::have_no_nul;
-use uefi_text::{
-    CStr16, CString16, Char16, Char16Slice, FromSliceWithNulError, FromStrError, NUL_16,
-};
-
-/// Rust texts, and why they are no strings.
-const REFUSED: &[(&str, FromStrError)] = &[
-    ("x\0", FromStrError::InteriorNul),
-    ("😀\0", FromStrError::InvalidChar),
-    ("\0😀", FromStrError::InteriorNul),
-    ("é\u{10000}", FromStrError::InvalidChar),
-    ("😀", FromStrError::InvalidChar),
-];
-
-#[test]
-fn refused_texts(rt: HostRuntime) {
-    for (text, want) in REFUSED {
-        let answer = CString16::try_from_str(rt.alloc(), text);
-        assert!(rt; matches!(&answer, Err(error) if error == want), "{text:?}");
-    }
-}
+use uefi_text::{CStr16, CString16, Char16, FromSliceWithNulError, NUL_16};
 
 /// Whether a string is its NUL alone.
 fn is_empty(string: &CString16) -> bool {
@@ -89,18 +69,8 @@ fn pushed_and_extended(rt: HostRuntime) -> Result<(), Fail> {
     Ok(())
 }
 
-/// Whether `x` after a push of characters is this, or is refused where a NUL is among them: what a caller
+/// Whether `x`, extended by characters, is this, or is refused where a NUL is among them: what a caller
 /// tests is what the call asks for.
-fn takes_part(rt: &HostRuntime, part: Char16Slice<'_>, want: Option<&str>) -> Result<bool, Fail> {
-    let mut text = string(rt.alloc(), "x")?;
-    if !part.has_no_nul() {
-        return Ok(want.is_none());
-    }
-    text.push_part(part)?;
-    Ok(matches!(want, Some(want) if has_text(text.as_cstr16(), want)))
-}
-
-/// The same of a list by which it is extended.
 fn takes_list(rt: &HostRuntime, list: &[Char16], want: Option<&str>) -> Result<bool, Fail> {
     let mut text = string(rt.alloc(), "x")?;
     if !have_no_nul(list) {
@@ -111,10 +81,7 @@ fn takes_list(rt: &HostRuntime, list: &[Char16], want: Option<&str>) -> Result<b
 }
 
 #[test]
-fn pushed_parts_and_lists(rt: HostRuntime) -> Result<(), Fail> {
-    let more = CStr16::from_u16_with_nul(&[97, 0xe9, 0])?;
-    assert!(rt; takes_part(&rt, more.as_slice(), Some("xaé"))?);
-    assert!(rt; takes_part(&rt, more.as_slice_with_nul(), None)?);
+fn extended_by_lists(rt: HostRuntime) -> Result<(), Fail> {
     let e = Char16::try_from('é')?;
     assert!(rt; takes_list(&rt, &[e, e], Some("xéé"))?);
     assert!(rt; takes_list(&rt, &[e, NUL_16], None)?);
@@ -188,56 +155,5 @@ fn strings_and_their_vectors(rt: HostRuntime) -> Result<(), Fail> {
     assert!(rt; gives_vector(&rt, "aé", &[97, 0xe9, 0])?);
     let open = CString16::try_from(vec![in rt.alloc(); 65u16, 66]?);
     assert!(rt; open.err() == Some(FromSliceWithNulError::NotNulTerminated));
-    Ok(())
-}
-
-/// Pushes a character until a push is refused, at most 99 times, and returns how many it took.
-fn pushed_until_refused(text: &mut CString16<&Refusing<Global>>, c: Char16) -> u64 {
-    let mut pushed = 0u64;
-    for _ in 0..99 {
-        if c == NUL_16 || text.push(c).is_err() {
-            break;
-        }
-        pushed = pushed.saturating_add(1);
-    }
-    pushed
-}
-
-/// Whether a string has the code units of `ab` and `count` times that of `c`, and then its NUL.
-fn is_ab_and(text: &CString16<&Refusing<Global>>, count: u64) -> bool {
-    let units = text.as_cstr16().to_u16_slice_with_nul();
-    let mut left = count;
-    for unit in units.strip_prefix(&[97u16, 98]).unwrap_or(&[]) {
-        if *unit != (if left == 0 { 0 } else { 99 }) {
-            return false;
-        }
-        left = left.saturating_sub(1);
-    }
-    units.len() as u64 == count.saturating_add(3)
-}
-
-/// Whether the units of the pushes before one that is refused stand after `ab`, where this request is the
-/// refused one, and the next push gets its memory.
-fn keeps_what_was_pushed(rt: &HostRuntime, request: u64) -> Result<bool, Fail> {
-    let heap = Refusing::new(rt.alloc(), request);
-    let (ab, c) = (
-        CStr16::from_u16_with_nul(&[97, 98, 0])?,
-        CStr16::from_u16_with_nul(&[99, 0])?,
-    );
-    let mut text = CString16::from_cstr16(&heap, ab)?;
-    let pushed = pushed_until_refused(&mut text, Char16::try_from('c')?);
-    let is_kept = heap.has_refused() && is_ab_and(&text, pushed);
-    text.push_str(c)?;
-    Ok(is_kept && is_ab_and(&text, pushed.saturating_add(1)))
-}
-
-#[test]
-fn pushes_until_one_is_refused(rt: HostRuntime) -> Result<(), Fail> {
-    for request in 2..6u64 {
-        assert!(rt;
-            keeps_what_was_pushed(&rt, request)?,
-            "at request {request}"
-        );
-    }
     Ok(())
 }

@@ -68,10 +68,8 @@ fn matches(pattern: CStr16<'_>, text: CStr16<'_>, want: bool) -> bool {
 fn patterns_and_texts(rt: HostRuntime) -> Result<(), Fail> {
     for (pattern, text, want) in ROWS {
         let (a, b) = (string(rt.alloc(), pattern)?, string(rt.alloc(), text)?);
-        assert!(rt;
-            matches(a.as_cstr16(), b.as_cstr16(), *want),
-            "{pattern} and {text}"
-        );
+        let is_right = matches(a.as_cstr16(), b.as_cstr16(), *want);
+        assert!(rt; is_right, "{pattern} and {text}");
     }
     Ok(())
 }

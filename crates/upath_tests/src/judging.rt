@@ -76,10 +76,8 @@ fn bytes_that_end_too_soon(rt: HostRuntime) {
         } else {
             JudgeError::HalfUnit
         };
-        assert!(rt;
-            is_refused(&rt, bytes.get(..len).unwrap_or(&[]), want),
-            "{len}"
-        );
+        let is_right = is_refused(&rt, bytes.get(..len).unwrap_or(&[]), want);
+        assert!(rt; is_right, "{len}");
     }
     assert!(rt; accepts(&rt, bytes, r"\a"));
 }

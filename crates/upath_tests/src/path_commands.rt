@@ -80,16 +80,3 @@ fn components_and_successive_parents(rt: HostRuntime) -> Result<(), Fail> {
     }
     Ok(())
 }
-
-#[test]
-fn components_as_a_list(rt: HostRuntime) -> Result<(), Fail> {
-    let text = CStr16::from_u16_with_nul(&[97, 98, 92, 99, 0])?;
-    let list = pieces(rt.alloc(), Path::new(text))?;
-    let is_right = match list.as_slice() {
-        [first, second] => first.units() == [97u16, 98].as_slice()
-            && second.units() == [99u16].as_slice(),
-        _ => false,
-    };
-    assert!(rt; is_right);
-    Ok(())
-}

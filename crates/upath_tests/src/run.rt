@@ -44,14 +44,6 @@ const RUNS: &[Transcript] = &[
         ("pieces", &["pieces 2", "| a", "| b"]),
     ],
     &[
-        ("from \u{ffff}é", &["= \u{ffff}é"]),
-        ("pieces", &["pieces 1", "| \u{ffff}é"]),
-        (r"from \\\", &[r"= \\\"]),
-        ("pieces", &["pieces 3", "| ", "| ", "| "]),
-        ("up", &["parents 1", "| "]),
-        ("check", &["path contains an empty component"]),
-    ],
-    &[
         ("from a", &["= a"]),
         ("push ", &["= a"]),
         ("parent", &["none"]),
@@ -71,12 +63,6 @@ const RUNS: &[Transcript] = &[
         ("clear", &["= "]),
         ("norm", &["path is empty"]),
         ("norm ", &["? unknown command"]),
-    ],
-    &[
-        (r"from ..\a", &[r"= ..\a"]),
-        ("check", &["path climbs above the root"]),
-        ("norm", &["path climbs above the root"]),
-        ("parent", &["= .."]),
     ],
     &[
         ("from a/b", &[r"= a\b"]),
@@ -102,6 +88,9 @@ const RUNS: &[Transcript] = &[
         ("push a>b", &["= a>b"]),
         ("check", &["path contains an illegal character (value 62)"]),
         ("join c/d", &[r"= a>b\c\d"]),
+        (r"from ..\a", &[r"= ..\a"]),
+        ("check", &["path climbs above the root"]),
+        ("norm", &["path climbs above the root"]),
     ],
 ];
 
@@ -113,21 +102,12 @@ fn lines_and_what_they_print(rt: HostRuntime) -> Result<(), Fail> {
     Ok(())
 }
 
-#[test]
-fn lines_of_all_kinds(rt: HostRuntime) {
-    assert!(rt;
-        prints(
-            &rt,
-            b"from a\xf0\x9f\x98\x80\n\nfrom \npieces\neq \\\ncheck\n\xff\nfrom x\0\nclear \n",
-            "UCS-2 Conversion Error: Invalid character\n? unknown command\n= \npieces 0\n\
-             equal\npath is empty\n? not UTF-8\n\
-             UCS-2 Conversion Error: Interior null terminator\n? unknown command\n"
-        )
-    );
-}
+const NUL: &str = "UCS-2 Conversion Error: Interior null terminator\n";
 
-/// Lines, and what they print.
-const ENDS: &[(&str, &str)] = &[
+const NO_UCS2: &str = "UCS-2 Conversion Error: Invalid character\n";
+
+/// Ends of lines, and lines of each verb with a text that is no string, and what they print.
+const LINES: &[(&str, &str)] = &[
     ("", ""),
     ("\n", "? unknown command\n"),
     ("\n\n", "? unknown command\n? unknown command\n"),
@@ -139,64 +119,6 @@ const ENDS: &[(&str, &str)] = &[
         "from\tx\n from x\n",
         "? unknown command\n? unknown command\n",
     ),
-];
-
-#[test]
-fn ends_of_lines(rt: HostRuntime) {
-    for (input, want) in ENDS {
-        assert!(rt; prints(&rt, input.as_bytes(), want), "{input:?}");
-    }
-}
-
-/// Whether a line leaves the path unchanged.
-fn keeps_the_path(rt: &HostRuntime, line: &str) -> Result<bool, Fail> {
-    let input = format!(in rt.alloc(); "from a\\b\n{line}\neq \\a\\b\n")?;
-    let output = run_text(rt.alloc(), input.as_bytes())?;
-    Ok(output.as_slice().ends_with(b"\nequal\n"))
-}
-
-/// Lines of which none changes the path: they are refused, or only ask.
-const LINES_THAT_LEAVE_THE_PATH: &[&str] = &[
-    "",
-    "from",
-    "eq",
-    "FROM x",
-    "pieces ",
-    "wat x\0",
-    "from x\0",
-    "from 😀",
-    "eq x\0",
-    "eq a",
-    "push",
-    "push ",
-    "push x\0",
-    "join",
-    "join 😀",
-    "cmp",
-    "cmp x",
-    "clear ",
-    "parent ",
-    "check",
-    "check ",
-    "pieces",
-    "up",
-    "up ",
-];
-
-#[test]
-fn lines_that_leave_the_path(rt: HostRuntime) -> Result<(), Fail> {
-    for line in LINES_THAT_LEAVE_THE_PATH {
-        assert!(rt; keeps_the_path(&rt, line)?, "{line:?}");
-    }
-    Ok(())
-}
-
-const NUL: &str = "UCS-2 Conversion Error: Interior null terminator\n";
-
-const NO_UCS2: &str = "UCS-2 Conversion Error: Invalid character\n";
-
-/// Lines with a text that is no string, and what they print.
-const REFUSED: &[(&str, &str)] = &[
     ("eq x\0", NUL),
     ("eq 😀\0", NO_UCS2),
     ("from \0😀", NUL),
@@ -207,8 +129,8 @@ const REFUSED: &[(&str, &str)] = &[
 ];
 
 #[test]
-fn refused_texts_of_each_verb(rt: HostRuntime) {
-    for (input, want) in REFUSED {
+fn ends_of_lines_and_refused_texts(rt: HostRuntime) {
+    for (input, want) in LINES {
         assert!(rt; prints(&rt, input.as_bytes(), want), "{input:?}");
     }
     assert!(rt; writes(&rt, b"from /a/b\npieces", b"= \\a\\b\npieces 2\n| a\n| b\n"));
