@@ -3,6 +3,7 @@ use Rattle.std.proofs.Common.{◌≡◌, ℕ, zero, suc, sym, ◌+◌, ◌<◌, 
 use Rattle.std.proofs.lemmas.Bool.{false≢true}
 use Rattle.std.proofs.lemmas.Bool.Decides.{nat_tests}
 use Rattle.std.proofs.lemmas.Grind.{common_steps}
+use Rattle.std.proofs.lemmas.List.Sums.{count_by-le-length, length-filter}
 use Rattle.std.proofs.lemmas.List.Edits.{get_or-insert_at}
 use Rattle.std.proofs.lemmas.List.{append-nil, drop_all, length-append, length-take, drop_more, set_at, take_more}
 use Rattle.std.proofs.lemmas.Slice.{drop-append-drop}
@@ -11,13 +12,9 @@ use Rattle.uefi_boot_variables.proofs.OrderLists.{not_reached, without_absent}
 use Rattle.uefi_boot_variables.specs.Orders.{no_twice, over, stands_in, with_front, without}
 
 -- a list without a number is no longer than the list
-step_within : (b : Bool) (x m : ℕ) (ws : List ℕ) → length ws ≤ m → length (cond (not b) (x ∷ ws) ws) ≤ suc m
-step_within true x m ws e = omega (arith, e)
-step_within false x m ws e = omega (arith, e)
-
 pub within : (n : ℕ) (xs : List ℕ) → length (without n xs) ≤ length xs
-within n [] = omega arith
-within n (x ∷ xs) = step_within (eqb x n) x (length xs) (without n xs) (within n xs)
+within n xs =
+    let stays = λ (other : ℕ). not (eqb other n) in omega (arith, length-filter stays xs, count_by-le-length stays xs)
 
 -- and shorter where the number stands in it
 step_fewer : (b s : Bool) (x m : ℕ) (ws : List ℕ) → (b || s) ≡ true → length ws ≤ m → (s ≡ true → length ws < m)

@@ -1,5 +1,3 @@
 pub mod NameTexts
-pub mod NumberBytes
 pub mod OrderLists
-pub mod Runs
 mod Edits

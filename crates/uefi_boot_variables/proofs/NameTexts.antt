@@ -1,13 +1,13 @@
 -- Texts of names determine them.
-use Rattle.std.proofs.Common.{◌≡◌, ℕ, ◌+◌, ◌*◌, ◌/◌, ◌%◌, ◌-◌, ◌<◌, Bool, ◌&&◌, true, ◌↔◌, ◌∙◌, ap, sym, refl, List, [], ◌∷◌, ◌++◌, length, map, take, drop, get_or, Some, None, ltb, arith}
+use Rattle.std.proofs.Common.{◌≡◌, ℕ, ◌+◌, ◌*◌, ◌/◌, ◌%◌, ◌-◌, ◌<◌, Bool, ◌&&◌, true, ◌↔◌, ◌∙◌, ap, sym, refl, List, [], ◌∷◌, ◌++◌, length, map, take, drop, get_or, Some, ltb, arith}
 use Rattle.std.proofs.lemmas.Bool.Decides.{nat_tests}
 use Rattle.std.proofs.lemmas.List.{length-append, map-append, take-append-drop}
-use Rattle.std.proofs.Math.Seq.{take-append_seam}
+use Rattle.std.proofs.lemmas.List.FromFn.{fill_by_all}
 use Rattle.std.proofs.lemmas.List.Elements.{All-append, All-cons, All-nil}
 use Rattle.std.proofs.lemmas.Str.{encode_ascii}
 use Rattle.std.specs.List.{list_all}
 use Rattle.std.specs.Prelude.{encode_utf8}
-use Rattle.uefi_text.specs.Units.{IsString, IsText, IsTextUnit, nul_terminated, without_nul}
+use Rattle.uefi_text.specs.Units.{IsText, IsTextUnit}
 use Rattle.uefi_boot_variables.specs.Names.{digit_of, four_digits, name_text, word_of}
 use Rattle.uefi_boot_variables.specs.declared.names.LoadOptionKind.{LoadOptionKind}
 use Rattle.uefi_boot_variables.specs.declared.names.LoadOptionKind.TheVariants.{Boot, Driver, SysPrep, PlatformRecovery}
@@ -32,33 +32,13 @@ word_once PlatformRecovery Driver e = cc
 word_once PlatformRecovery SysPrep e = cc
 word_once PlatformRecovery PlatformRecovery e = refl
 
--- a word that was found is that of its kind alone
-pub word_found : (text : List ℕ) (found kind : LoadOptionKind) → text ≡ word_of found
-    → (Some found ≡ Some kind) ↔ (text ≡ word_of kind)
-word_found text found kind e =
-    (λ same. let k : found ≡ kind = cc in e ∙ ap word_of k, λ is. ap Some (word_once found kind (sym e ∙ is)))
-
--- a text that is no word is that of no kind
-pub no_word : (text : List ℕ) → (text ≡ word_of Boot → ⊥) → (text ≡ word_of Driver → ⊥)
-    → (text ≡ word_of SysPrep → ⊥) → (text ≡ word_of PlatformRecovery → ⊥)
-    → (kind : LoadOptionKind) → (None ≡ Some kind) ↔ (text ≡ word_of kind)
-no_word text boot driver prep recovery Boot = (λ e. cc, λ e. absurd (boot e))
-no_word text boot driver prep recovery Driver = (λ e. cc, λ e. absurd (driver e))
-no_word text boot driver prep recovery SysPrep = (λ e. cc, λ e. absurd (prep e))
-no_word text boot driver prep recovery PlatformRecovery = (λ e. cc, λ e. absurd (recovery e))
-
 -- digits of numbers below 16 determine them
 pub digit_once : (a b : ℕ) → a < 16 → b < 16 → digit_of a ≡ digit_of b → a ≡ b
 digit_once a b a_low b_low e = grind (arith, nat_tests)
 
 -- a list of four
 four_of : (xs : List ℕ) → length xs ≡ 4 → xs ≡ get_or xs 0 0 ∷ get_or xs 1 0 ∷ get_or xs 2 0 ∷ get_or xs 3 0 ∷ []
-four_of [] long = absurd (omega arith)
-four_of (a ∷ []) long = absurd (omega arith)
-four_of (a ∷ b ∷ []) long = absurd (omega arith)
-four_of (a ∷ b ∷ c ∷ []) long = absurd (omega arith)
-four_of (a ∷ b ∷ c ∷ d ∷ []) long = refl
-four_of (a ∷ b ∷ c ∷ d ∷ e ∷ es) long = absurd (omega arith)
+four_of xs long = fill_by_all (λ k. get_or xs k 0) xs 4 0 long (λ k less. refl)
 
 -- the digits of a number that is put together of four
 four_digits_of : (a b c d : ℕ) → a < 16 → b < 16 → c < 16 → d < 16
@@ -177,14 +157,6 @@ names_are_texts name small =
     (All-cons IsTextUnit b (c ∷ d ∷ []) (digit_text (n / 256 % 16) (omega arith))
     (All-cons IsTextUnit c (d ∷ []) (digit_text (n / 16 % 16) (omega arith))
     (All-cons IsTextUnit d [] (digit_text (n % 16) (omega arith)) (All-nil IsTextUnit)))))
-
--- a text and its NUL are a string
-pub string_of_text : (units text : List ℕ) → units ≡ nul_terminated text → IsText text → IsString units
-string_of_text units text is are =
-    let long : length units ≡ length text + 1 = omega (arith, ap length is, length-append text (0 ∷ [])) in
-    let end : length units - 1 ≡ length text = omega arith in
-    let front : without_nul units ≡ text = rw (end, is, take-append_seam text (0 ∷ [])) refl in
-    (rw front is, rw front are)
 
 -- the digits of a number as they are printed
 pub printed_digits : (n a b c d : ℕ) (digits : List ℕ) → n < 65536 → digits ≡ four_digits n

@@ -1,10 +1,11 @@
 -- Lists in which numbers stand at most once.
 use Rattle.std.proofs.Common.{◌≡◌, ◌≢◌, ℕ, zero, suc, ◌+◌, ◌<◌, ◌≤◌, ◌↔◌, ◌∙◌, ap, sym, refl, ⊎_elim, Bool, true, false, ◌&&◌, ◌||◌, not, cond, eqb, List, [], ◌∷◌, ◌++◌, length, set, take, drop, get_or, Option, Some, None, position, Contains, append_assoc, arith}
-use Rattle.std.proofs.lemmas.Bool.{cases_eq, false≢true}
+use Rattle.std.proofs.lemmas.Bool.{cases_eq, eq-eqb, eqb-false, eqb-true, false≢true, ne_eqb, or_from, or_left, or_parts, or_right}
 use Rattle.std.proofs.lemmas.Bool.Decides.{nat_tests}
 use Rattle.std.proofs.lemmas.List.{append-nil, drop_all, drop_more, get_or_default, length-append, length-take, set_at, take-append-drop, take_all, take_more}
 use Rattle.std.proofs.lemmas.List.Quantifiers.{position-Some}
 use Rattle.std.proofs.lemmas.List.Sums.{fails_before_first, position_or_len_is}
+use Rattle.std.proofs.lemmas.List.Elements.{filter-append, filter_more}
 use Rattle.std.proofs.lemmas.List.Edits.{get_or-insert_at}
 use Rattle.std.proofs.lemmas.List.Kept.{AllPairs-cons}
 use Rattle.std.proofs.lemmas.Grind.{common_steps}
@@ -12,35 +13,7 @@ use Rattle.std.specs.List.{AllPairs, position_or_len}
 use Rattle.std.specs.Option.{is_some}
 use Rattle.uefi_boot_variables.specs.Orders.{no_twice, once_each, over, stands_in, with_at, with_front, without}
 
--- a test of two numbers
-eq_true : (a b : ℕ) → a ≡ b → eqb a b ≡ true
-eq_true a b e = grind (arith, nat_tests)
-
-eq_false : (a b : ℕ) → (a ≡ b → ⊥) → eqb a b ≡ false
-eq_false a b ne = grind (arith, nat_tests)
-
-true_eq : (a b : ℕ) → eqb a b ≡ true → a ≡ b
-true_eq a b e = grind (arith, nat_tests)
-
-false_ne : (a b : ℕ) → eqb a b ≡ false → a ≡ b → ⊥
-false_ne a b e same = grind (arith, nat_tests)
-
-or_left : (b s : Bool) → b ≡ true → (b || s) ≡ true
-or_left true s e = refl
-or_left false s e = cc
-
-or_right : (b s : Bool) → s ≡ true → (b || s) ≡ true
-or_right true s e = refl
-or_right false s e = e
-
-or_false : (b s : Bool) → (b || s) ≡ false → (b ≡ false) × (s ≡ false)
-or_false true s e = cc
-or_false false s e = (refl, e)
-
-neither : (b s : Bool) → b ≡ false → s ≡ false → (b || s) ≡ false
-neither true s e f = cc
-neither false s e f = f
-
+-- the parts of a test
 and_parts : (b s : Bool) → (not b && s) ≡ true → (b ≡ false) × (s ≡ true)
 and_parts true s e = cc
 and_parts false s e = (refl, e)
@@ -61,7 +34,7 @@ without_absent n (x ∷ xs) e = step_absent (eqb x n) (stands_in n xs) x (withou
 -- a number that is found stands in the list
 pub stands_at : (n : ℕ) (xs : List ℕ) (p : ℕ) → p < length xs → get_or xs p 0 ≡ n → stands_in n xs ≡ true
 stands_at n [] p inside e = absurd (omega arith)
-stands_at n (x ∷ xs) zero inside e = or_left (eqb x n) (stands_in n xs) (eq_true x n e)
+stands_at n (x ∷ xs) zero inside e = or_left (eqb x n) (stands_in n xs) (eq-eqb x n e)
 stands_at n (x ∷ xs) (suc p) inside e = or_right (eqb x n) (stands_in n xs) (stands_at n xs p (omega arith) e)
 
 -- where a number stands at a place, the list without it is the list without that place
@@ -73,34 +46,21 @@ dropped : (b : Bool) (x : ℕ) (ws zs : List ℕ) → b ≡ true → ws ≡ zs �
 dropped true x ws zs e f = f
 dropped false x ws zs e f = cc
 
-pub without_at : (n : ℕ) (xs : List ℕ) (p : ℕ) → no_twice xs ≡ true → p < length xs → get_or xs p 0 ≡ n
-    → without n xs ≡ take p xs ++ drop (suc p) xs
-without_at n [] p once inside e = absurd (omega arith)
-without_at n (x ∷ xs) zero once inside e =
-    let parts = and_parts (stands_in x xs) (no_twice xs) once in
-    let absent : stands_in n xs ≡ false = ap (λ (m : ℕ). stands_in m xs) (sym e) ∙ parts.0 in
-    dropped (eqb x n) x (without n xs) xs (eq_true x n e) (without_absent n xs absent)
-without_at n (x ∷ xs) (suc p) once inside e =
-    let parts = and_parts (stands_in x xs) (no_twice xs) once in
-    let stands = stands_at n xs p (omega arith) e in
-    let ne : x ≡ n → ⊥ = λ same. let f : stands_in n xs ≡ false = ap (λ (m : ℕ). stands_in m xs) (sym same) ∙ parts.0 in false≢true (sym f ∙ stands) in
-    kept (eqb x n) x (without n xs) (take p xs ++ drop (suc p) xs) (eq_false x n ne) (without_at n xs p parts.1 (omega arith) e)
-
 -- a number that does not stand in a list does not stand in a part of it
 step_still : (m x : ℕ) (b : Bool) (ws : List ℕ) → eqb x m ≡ false → stands_in m ws ≡ false → stands_in m (cond (not b) (x ∷ ws) ws) ≡ false
 step_still m x true ws e f = f
-step_still m x false ws e f = neither (eqb x m) (stands_in m ws) e f
+step_still m x false ws e f = or_from (eqb x m) (stands_in m ws) e f
 
 pub absent-without : (m n : ℕ) (xs : List ℕ) → stands_in m xs ≡ false → stands_in m (without n xs) ≡ false
 absent-without m n [] e = refl
 absent-without m n (x ∷ xs) e =
-    let parts = or_false (eqb x m) (stands_in m xs) e in
+    let parts = or_parts (eqb x m) (stands_in m xs) e in
     step_still m x (eqb x n) (without n xs) parts.0 (absent-without m n xs parts.1)
 
 -- a number does not stand in a list without it
 step_gone : (n x : ℕ) (b : Bool) (ws : List ℕ) → eqb x n ≡ b → stands_in n ws ≡ false → stands_in n (cond (not b) (x ∷ ws) ws) ≡ false
 step_gone n x true ws e f = f
-step_gone n x false ws e f = neither (eqb x n) (stands_in n ws) e f
+step_gone n x false ws e f = or_from (eqb x n) (stands_in n ws) e f
 
 pub gone : (n : ℕ) (xs : List ℕ) → stands_in n (without n xs) ≡ false
 gone n [] = refl
@@ -119,12 +79,12 @@ no_twice-without n (x ∷ xs) once =
 
 -- a number that is put into a list
 absent-insert : (m n : ℕ) (xs : List ℕ) (p : ℕ) → stands_in m xs ≡ false → eqb n m ≡ false → stands_in m (take p xs ++ n ∷ drop p xs) ≡ false
-absent-insert m n [] zero e ne = neither (eqb n m) false ne refl
-absent-insert m n [] (suc p) e ne = neither (eqb n m) false ne refl
-absent-insert m n (x ∷ xs) zero e ne = neither (eqb n m) (stands_in m (x ∷ xs)) ne e
+absent-insert m n [] zero e ne = or_from (eqb n m) false ne refl
+absent-insert m n [] (suc p) e ne = or_from (eqb n m) false ne refl
+absent-insert m n (x ∷ xs) zero e ne = or_from (eqb n m) (stands_in m (x ∷ xs)) ne e
 absent-insert m n (x ∷ xs) (suc p) e ne =
-    let parts = or_false (eqb x m) (stands_in m xs) e in
-    neither (eqb x m) (stands_in m (take p xs ++ n ∷ drop p xs)) parts.0 (absent-insert m n xs p parts.1 ne)
+    let parts = or_parts (eqb x m) (stands_in m xs) e in
+    or_from (eqb x m) (stands_in m (take p xs ++ n ∷ drop p xs)) parts.0 (absent-insert m n xs p parts.1 ne)
 
 pub no_twice-insert : (n : ℕ) (xs : List ℕ) (p : ℕ) → no_twice xs ≡ true → stands_in n xs ≡ false → no_twice (take p xs ++ n ∷ drop p xs) ≡ true
 no_twice-insert n [] zero once absent = refl
@@ -132,8 +92,8 @@ no_twice-insert n [] (suc p) once absent = refl
 no_twice-insert n (x ∷ xs) zero once absent = and_both (stands_in n (x ∷ xs)) (no_twice (x ∷ xs)) absent once
 no_twice-insert n (x ∷ xs) (suc p) once absent =
     let parts = and_parts (stands_in x xs) (no_twice xs) once in
-    let apart = or_false (eqb x n) (stands_in n xs) absent in
-    let ne : eqb n x ≡ false = eq_false n x (λ same. false_ne x n apart.0 (sym same)) in
+    let apart = or_parts (eqb x n) (stands_in n xs) absent in
+    let ne : eqb n x ≡ false = ne_eqb n x (λ same. eqb-false x n apart.0 (sym same)) in
     and_both (stands_in x (take p xs ++ n ∷ drop p xs)) (no_twice (take p xs ++ n ∷ drop p xs))
     (absent-insert x n xs p parts.0 ne) (no_twice-insert n xs p parts.1 apart.1)
 
@@ -146,14 +106,14 @@ step_others m x false ws xs ne same = ap (λ (s : Bool). eqb x m || s) same
 pub others_stay : (m n : ℕ) (xs : List ℕ) → (n ≡ m → ⊥) → stands_in m (without n xs) ≡ stands_in m xs
 others_stay m n [] ne = refl
 others_stay m n (x ∷ xs) ne =
-    step_others m x (eqb x n) (without n xs) xs (λ e. eq_false x m (λ same. ne (sym (true_eq x n e) ∙ same))) (others_stay m n xs ne)
+    step_others m x (eqb x n) (without n xs) xs (λ e. ne_eqb x m (λ same. ne (sym (eqb-true x n e) ∙ same))) (others_stay m n xs ne)
 
 -- each number of a list stands once in the list with each once
 pub stands-once_each : (m : ℕ) (xs : List ℕ) → stands_in m (once_each xs) ≡ stands_in m xs
 stands-once_each m [] = refl
 stands-once_each m (x ∷ xs) =
     ⊎_elim
-    (λ same. let t = eq_true x m same in
+    (λ same. let t = eq-eqb x m same in
     or_left (eqb x m) (stands_in m (without x (once_each xs))) t ∙ sym (or_left (eqb x m) (stands_in m xs) t))
     (λ ne. ap (λ (s : Bool). eqb x m || s) (others_stay m x (once_each xs) ne ∙ stands-once_each m xs))
     (cases_eq x m)
@@ -173,24 +133,15 @@ once_each-same (x ∷ xs) once =
     ap (λ (l : List ℕ). x ∷ l) (ap (without x) rest ∙ without_absent x xs parts.0)
 
 -- a list without a number, and with another at its end
-step_push : (b : Bool) (x : ℕ) (ws ys : List ℕ) → cond (not b) (x ∷ (ws ++ ys)) (ws ++ ys) ≡ cond (not b) (x ∷ ws) ws ++ ys
-step_push true x ws ys = refl
-step_push false x ws ys = refl
-
-step_map : (b : Bool) (x : ℕ) (us ws : List ℕ) → us ≡ ws → cond (not b) (x ∷ us) us ≡ cond (not b) (x ∷ ws) ws
-step_map b x us ws e = ap (λ (l : List ℕ). cond (not b) (x ∷ l) l) e
-
 without-append : (n : ℕ) (xs ys : List ℕ) → without n (xs ++ ys) ≡ without n xs ++ without n ys
-without-append n [] ys = refl
-without-append n (x ∷ xs) ys =
-    step_map (eqb x n) x (without n (xs ++ ys)) (without n xs ++ without n ys) (without-append n xs ys) ∙ step_push (eqb x n) x (without n xs) (without n ys)
+without-append n = filter-append (λ other. not (eqb other n))
 
 -- one number more, which does not stand there
 pub once_each-new : (xs : List ℕ) (n : ℕ) → stands_in n xs ≡ false → once_each (xs ++ n ∷ []) ≡ once_each xs ++ n ∷ []
 once_each-new [] n absent = refl
 once_each-new (x ∷ xs) n absent =
-    let parts = or_false (eqb x n) (stands_in n xs) absent in
-    let ne : eqb n x ≡ false = eq_false n x (λ same. false_ne x n parts.0 (sym same)) in
+    let parts = or_parts (eqb x n) (stands_in n xs) absent in
+    let ne : eqb n x ≡ false = ne_eqb n x (λ same. eqb-false x n parts.0 (sym same)) in
     let last : without x (n ∷ []) ≡ n ∷ [] = kept (eqb n x) n [] [] ne refl in
     ap (λ (l : List ℕ). x ∷ without x l) (once_each-new xs n parts.1)
     ∙ ap (λ (l : List ℕ). x ∷ l) (without-append x (once_each xs) (n ∷ []) ∙ ap (λ (l : List ℕ). without x (once_each xs) ++ l) last)
@@ -203,8 +154,8 @@ again_first : (s : Bool) (x n : ℕ) (xs : List ℕ) → (eqb x n || stands_in n
     → (stands_in n xs ≡ true → once_each (xs ++ n ∷ []) ≡ once_each xs) → without x (once_each (xs ++ n ∷ [])) ≡ without x (once_each xs)
 again_first true x n xs stands e ih = ap (without x) (ih e)
 again_first false x n xs stands e ih =
-    let same : n ≡ x = sym (true_eq x n (must (eqb x n) (stands_in n xs) stands e)) in
-    let last : without x (n ∷ []) ≡ [] = dropped (eqb n x) n [] [] (eq_true n x same) refl in
+    let same : n ≡ x = sym (eqb-true x n (must (eqb x n) (stands_in n xs) stands e)) in
+    let last : without x (n ∷ []) ≡ [] = dropped (eqb n x) n [] [] (eq-eqb n x same) refl in
     ap (without x) (once_each-new xs n e) ∙ without-append x (once_each xs) (n ∷ []) ∙ ap (λ (l : List ℕ). without x (once_each xs) ++ l) last ∙ append-nil (without x (once_each xs))
 
 -- one number more, which stands there already
@@ -227,7 +178,7 @@ once_each-grows xs (y ∷ ys) =
 pub position_found : (xs : List ℕ) (n i : ℕ) → i < length xs → ((k : ℕ) → k < i → eqb (get_or xs k 0) n ≡ false) → get_or xs i 0 ≡ n
     → Some i ≡ position (λ other. eqb other n) xs
 position_found xs n i inside before here =
-    let place = position_or_len_is (λ other. eqb other n) xs i 0 (omega arith) before (λ _. eq_true (get_or xs i 0) n here) in
+    let place = position_or_len_is (λ other. eqb other n) xs i 0 (omega arith) before (λ _. eq-eqb (get_or xs i 0) n here) in
     grind (arith, nat_tests)
 
 pub position_none : (xs : List ℕ) (n i : ℕ) → length xs ≤ i → ((k : ℕ) → k < i → eqb (get_or xs k 0) n ≡ false)
@@ -240,14 +191,14 @@ position_none xs n i end before =
 some_found : (xs : List ℕ) (n i : ℕ) → position (λ other. eqb other n) xs ≡ Some i → Contains xs n
 some_found xs n i e =
     let found = position-Some (λ other. eqb other n) xs i n e in
-    (i, found.0, true_eq (get_or xs i n) n found.1)
+    (i, found.0, eqb-true (get_or xs i n) n found.1)
 
 none_left : (xs : List ℕ) (n k : ℕ) → k < length xs → get_or xs k n ≡ n → position (λ other. eqb other n) xs ≡ None → ⊥
 none_left xs n k inside here e =
     let p : ℕ → Bool = λ other. eqb other n in
     let last : length xs ≤ position_or_len p xs = grind (arith, nat_tests) in
     let fails = fails_before_first p xs k n (omega (arith, last)) in
-    false≢true (sym fails ∙ eq_true (get_or xs k n) n here)
+    false≢true (sym fails ∙ eq-eqb (get_or xs k n) n here)
 
 pub found_contains : (xs : List ℕ) (n : ℕ) (r : Option ℕ) → r ≡ position (λ other. eqb other n) xs
     → (is_some r ≡ true → Contains xs n) × (Contains xs n → is_some r ≡ true)
@@ -264,36 +215,6 @@ pushed_new xs ys n p once absent end e =
     let all : take p xs ≡ xs = take_all p xs (omega arith) in
     let none : drop p xs ≡ [] = drop_all p xs (omega arith) in
     e ∙ rw (all, none) (sym (once_each-new xs n absent ∙ ap (λ (l : List ℕ). l ++ n ∷ []) (once_each-same xs once)))
-
--- what a number put in leaves
-pub put_once : (xs ys : List ℕ) (n p : ℕ) → no_twice xs ≡ true → stands_in n xs ≡ false → ys ≡ take p xs ++ n ∷ drop p xs → no_twice ys ≡ true
-put_once xs ys n p once absent e = rw e (no_twice-insert n xs p once absent)
-
--- what a number taken out leaves
-pub taken_once : (xs ys : List ℕ) (n p : ℕ) → no_twice xs ≡ true → p < length xs → get_or xs p 0 ≡ n → ys ≡ take p xs ++ drop (suc p) xs
-    → (ys ≡ without n xs) × (no_twice ys ≡ true)
-taken_once xs ys n p once inside here e =
-    let same : ys ≡ without n xs = e ∙ sym (without_at n xs p once inside here) in
-    (same, rw same (no_twice-without n xs once))
-
--- a number that is found nowhere does not stand in the list
-absent_by_places : (n : ℕ) (xs : List ℕ) → ((k : ℕ) → k < length xs → eqb (get_or xs k 0) n ≡ false) → stands_in n xs ≡ false
-absent_by_places n [] h = refl
-absent_by_places n (x ∷ xs) h =
-    neither (eqb x n) (stands_in n xs) (h 0 (omega arith)) (absent_by_places n xs (λ k below. h (suc k) (omega arith)))
-
-last_of_none : (xs : List ℕ) (n : ℕ) → None ≡ position (λ other. eqb other n) xs → length xs ≤ position_or_len (λ other. eqb other n) xs
-last_of_none xs n e = grind (arith, nat_tests)
-
-pub not_found : (xs : List ℕ) (n : ℕ) → None ≡ position (λ other. eqb other n) xs → stands_in n xs ≡ false
-not_found xs n e =
-    let last = last_of_none xs n e in
-    absent_by_places n xs (λ k below. fails_before_first (λ other. eqb other n) xs k 0 (omega arith))
-
-pub found_at : (xs : List ℕ) (n i : ℕ) → Some i ≡ position (λ other. eqb other n) xs → (i < length xs) × (get_or xs i 0 ≡ n)
-found_at xs n i e =
-    let found = position-Some (λ other. eqb other n) xs i 0 (sym e) in
-    (found.0, true_eq (get_or xs i 0) n found.1)
 
 -- one number more of an order
 once_each-twice : (s : Bool) (xs : List ℕ) (n : ℕ) → stands_in n xs ≡ s → once_each (once_each xs ++ n ∷ []) ≡ once_each (xs ++ n ∷ [])
@@ -325,37 +246,14 @@ order_full all zs i n room inside here so_far absent full =
       ap (λ (l : List ℕ). length (once_each l)) (take-append-drop (i + 1) all),
     )
 
--- the room that is left once a number was taken out
-pub room_left : (r : Bool) (xs ys : List ℕ) (n room : ℕ) → r ≡ stands_in n xs → ys ≡ without n xs
-    → (r ≡ true → length ys + 1 ≡ length xs) → length xs ≤ room → (stands_in n xs ≡ false → length xs < room) → length ys < room
-room_left true xs ys n room stood e shorter within free = omega (arith, shorter refl)
-room_left false xs ys n room stood e shorter within free =
-    omega (arith, free (sym stood), ap length e, ap length (without_absent n xs (sym stood)))
-
 -- a beginning of a list is no longer than the list
 pub take_within : (n : ℕ) (xs : List ℕ) → length (take n xs) ≤ length xs
 take_within n xs = omega (arith, length-take n xs)
 
-pub take_short : (n : ℕ) (xs : List ℕ) → length (take n xs) ≤ n
-take_short n xs = omega (arith, length-take n xs)
-
--- the first of the numbers from a place on goes after them
-pub moved_out : (xs : List ℕ) (p : ℕ) → p < length xs
-    → take p xs ++ (drop 1 (drop p xs) ++ take 1 (drop p xs)) ≡ (take p xs ++ drop (suc p) xs) ++ get_or xs p 0 ∷ []
-moved_out [] p inside = absurd (omega arith)
-moved_out (x ∷ xs) zero inside = refl
-moved_out (x ∷ xs) (suc p) inside = ap (λ (l : List ℕ). x ∷ l) (moved_out xs p (omega arith))
-
--- what moving to the front makes of a list in which the number does not stand
-pub front_absent : (r : Bool) (xs ys : List ℕ) (n : ℕ) → r ≡ stands_in n xs → r ≡ false → ys ≡ without n xs → ys ≡ with_front n xs
-front_absent r xs ys n stood is e =
-    let absent : stands_in n xs ≡ false = sym stood ∙ is in
-    e ∙ without_absent n xs absent ∙ sym (ap (λ (b : Bool). cond b (n ∷ without n xs) xs) absent)
-
 -- a number stands in a list exactly where the list contains it
 contains_first : (b : Bool) (x n : ℕ) (xs : List ℕ) → eqb x n ≡ b → (b || stands_in n xs) ≡ true
     → (stands_in n xs ≡ true → Contains xs n) → Contains (x ∷ xs) n
-contains_first true x n xs e s ih = (0, omega arith, true_eq x n e)
+contains_first true x n xs e s ih = (0, omega arith, eqb-true x n e)
 contains_first false x n xs e s ih = let c = ih s in (suc c.0, omega (arith, c.1), c.2)
 
 stands_contains : (n : ℕ) (xs : List ℕ) → stands_in n xs ≡ true → Contains xs n
@@ -396,7 +294,7 @@ without-insert : (n : ℕ) (ys : List ℕ) (p : ℕ) → without n (take p ys ++
 without-insert n ys p =
     without-append n (take p ys) (n ∷ drop p ys)
     ∙ ap (λ (l : List ℕ). without n (take p ys) ++ l)
-    (dropped (eqb n n) n (without n (drop p ys)) (without n (drop p ys)) (eq_true n n refl) refl)
+    (dropped (eqb n n) n (without n (drop p ys)) (without n (drop p ys)) (eq-eqb n n refl) refl)
     ∙ sym (without-append n (take p ys) (drop p ys)) ∙ ap (without n) (take-append-drop p ys)
 
 pub others_keep_order : (place number : ℕ) (numbers : List ℕ) → without number (with_at place number numbers) ≡ without number numbers
@@ -409,22 +307,19 @@ pub put_where_asked : (place number : ℕ) (numbers : List ℕ) → place ≤ le
 put_where_asked place number numbers within = get_or-insert_at (without number numbers) place number 0 within
 
 -- a list without a number, by one more of its numbers
-one_more : (n : ℕ) (xs : List ℕ) (p : ℕ) → p < length xs → take (p + 1) xs ≡ take p xs ++ get_or xs p 0 ∷ []
-one_more n xs p inside = grind (arith, common_steps)
-
 without_kept : (n : ℕ) (xs : List ℕ) (p : ℕ) → p < length xs → (get_or xs p 0 ≡ n → ⊥)
     → without n (take (p + 1) xs) ≡ without n (take p xs) ++ get_or xs p 0 ∷ []
 without_kept n xs p inside other =
     let x = get_or xs p 0 in
-    ap (without n) (one_more n xs p inside) ∙ without-append n (take p xs) (x ∷ [])
-    ∙ ap (λ (l : List ℕ). without n (take p xs) ++ l) (kept (eqb x n) x [] [] (eq_false x n other) refl)
+    filter_more (λ other. not (eqb other n)) xs p 0 inside
+    ∙ ap (λ (b : Bool). without n (take p xs) ++ cond (not b) (x ∷ []) []) (ne_eqb x n other)
 
 without_dropped : (n : ℕ) (xs : List ℕ) (p : ℕ) → p < length xs → get_or xs p 0 ≡ n
     → without n (take (p + 1) xs) ≡ without n (take p xs)
 without_dropped n xs p inside same =
     let x = get_or xs p 0 in
-    ap (without n) (one_more n xs p inside) ∙ without-append n (take p xs) (x ∷ [])
-    ∙ ap (λ (l : List ℕ). without n (take p xs) ++ l) (dropped (eqb x n) x [] [] (eq_true x n same) refl)
+    filter_more (λ other. not (eqb other n)) xs p 0 inside
+    ∙ ap (λ (b : Bool). without n (take p xs) ++ cond (not b) (x ∷ []) []) (eq-eqb x n same)
     ∙ append-nil (without n (take p xs))
 
 -- the number at a place that the numbers that are kept don't reach
@@ -464,7 +359,7 @@ goes n xs places k p inside len within e same =
 shorter_first : (b : Bool) (x n : ℕ) (xs : List ℕ) → eqb x n ≡ b → (b || stands_in n xs) ≡ true → stands_in x xs ≡ false
     → (stands_in n xs ≡ true → length (without n xs) + 1 ≡ length xs) → length (cond (not b) (x ∷ without n xs) (without n xs)) + 1 ≡ suc (length xs)
 shorter_first true x n xs same stands absent rest =
-    let gone_there : stands_in n xs ≡ false = ap (λ (m : ℕ). stands_in m xs) (sym (true_eq x n same)) ∙ absent in
+    let gone_there : stands_in n xs ≡ false = ap (λ (m : ℕ). stands_in m xs) (sym (eqb-true x n same)) ∙ absent in
     omega (arith, ap length (without_absent n xs gone_there))
 shorter_first false x n xs other stands absent rest = omega (arith, rest stands)
 

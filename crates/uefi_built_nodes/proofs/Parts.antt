@@ -1,12 +1,9 @@
--- Parts of data that were put one after the other, and the units of names.
-use Rattle.std.proofs.Common.{◌≡◌, ◌∙◌, ap, sym, refl, ℕ, ◌+◌, ◌-◌, ◌*◌, ◌/◌, ◌%◌, List, [], ◌∷◌, ◌++◌, length, take, drop, arith}
+-- Parts of data that were put one after the other.
+use Rattle.std.proofs.Common.{◌≡◌, ◌∙◌, ap, sym, refl, ℕ, ◌+◌, ◌-◌, ◌*◌, List, [], ◌∷◌, ◌++◌, length, take, drop, arith}
 use Rattle.std.specs.Prelude.{slice_range}
 use Rattle.std.specs.Int.{to_le_bytes, w32}
 use Rattle.std.specs.List.{flat_map}
 use Rattle.std.proofs.lemmas.List.{drop-drop, drop_at}
-use Rattle.uefi_text.specs.Packed.{packed_items}
-use Rattle.uefi_text.specs.UnitBytes.{unit_bytes, units_of_bytes}
-use Rattle.uefi_text.proofs.UnitBytes.{length-unit_bytes}
 
 -- all from a place on after the first part
 pub drop_after : (part rest : List ℕ) (size place : ℕ) → length part ≡ size → drop (size + place) (part ++ rest) ≡ drop place rest
@@ -19,18 +16,6 @@ pub slice_after : (part rest : List ℕ) (size start end : ℕ) → length part 
 slice_after part rest size start end e =
     let count : (size + end) - (size + start) ≡ end - start = omega arith in
     ap (λ n. take n (drop (size + start) (part ++ rest))) count ∙ ap (λ xs. take (end - start) xs) (drop_after part rest size start e)
-
-items_again : (us : List ℕ) → packed_items 2 (length us) (unit_bytes us) ≡ us
-items_again [] = refl
-items_again (u ∷ us) =
-    let first : u % 256 + 256 * (u / 256 + 256 * 0) ≡ u = omega arith in
-    (λ i. first i ∷ items_again us i)
-
--- the units of the bytes of units are these
-pub units_again : (us : List ℕ) → units_of_bytes (unit_bytes us) ≡ us
-units_again us =
-    let count : length (unit_bytes us) / 2 ≡ length us = omega (arith, length-unit_bytes us) in
-    ap (λ n. packed_items 2 n (unit_bytes us)) count ∙ items_again us
 
 -- the bytes of numbers, four each
 pub length-words : (ws : List ℕ) → length (flat_map (to_le_bytes w32) ws) ≡ 4 * length ws

@@ -3,8 +3,11 @@ use Rattle.std.proofs.Common.{◌≡◌, ◌∙◌, ap, sym, refl, subst, inl, i
 use Rattle.std.proofs.lemmas.Bool.{cases_Bool, cases_lt, le-ltb, lt-ltb}
 use Rattle.std.proofs.lemmas.Grind.{common_steps}
 use Rattle.std.proofs.lemmas.List.{append-nil, drop-append-le, drop_all, map-append, take_all, take_more}
-use Rattle.std.proofs.lemmas.List.Elements.{All-append, All-cons, All-head, All-nil, All-tail}
+use Rattle.std.proofs.lemmas.List.Elements.{All-append, All-cons, All-nil}
 use Rattle.uefi_text.specs.Units.{IsText, IsTextUnit, replaced}
+use Rattle.uefi_path.proofs.Pushing.{with_separators-plain}
+use Rattle.uefi_path.proofs.Splitting.{IsPlain-with_separators}
+use Rattle.uefi_path.proofs.TailUnits.{IsText-with_separators, IsTextUnit-separator}
 use Rattle.uefi_path.specs.Pushing.{needs_separator}
 use Rattle.uefi_path.specs.Separators.{becomes_separator, separator, slash, with_separators}
 use Rattle.uefi_device_nodes.specs.FileNodes.{is_file}
@@ -84,17 +87,6 @@ name_after_parts (u ∷ us) (v ∷ w ∷ name) = elim (cases_Bool (becomes_separ
   ])
 ]
 
--- a text stays one with its slashes replaced
-text_replaced : (units : List ℕ) → IsText units → IsText (with_separators units)
-text_replaced [] is_text = All-nil IsTextUnit
-text_replaced (u ∷ units) is_text =
-    let unit = All-head IsTextUnit u units is_text in
-    let first : IsTextUnit (replaced slash separator u) = elim (cases_Bool (u == slash)) [
-      | inl is ↦ rw is (omega arith, (omega arith, λ k. omega (arith, k.0)))
-      | inr other ↦ rw other unit
-    ] in
-    All-cons IsTextUnit (replaced slash separator u) (with_separators units) first (text_replaced units (All-tail IsTextUnit u units is_text))
-
 text_part : (count : ℕ) (units : List ℕ) → IsText units → IsText (drop count units)
 text_part count units is_text = grind (arith, common_steps)
 
@@ -105,20 +97,16 @@ text_after path name path_is name_is =
     let some = nat_lt start (length name) in
     let before : IsText (before_name path some) = elim (cases_Bool (needs_separator path && some)) [
       | inl is ↦ rw is (All-append IsTextUnit path (separator ∷ []) path_is
-          (All-cons IsTextUnit separator [] (omega arith, (omega arith, λ k. omega (arith, k.0))) (All-nil IsTextUnit)))
+          (All-cons IsTextUnit separator [] IsTextUnit-separator (All-nil IsTextUnit)))
       | inr other ↦ rw other path_is
     ] in
     subst IsText (sym (name_after_parts path name))
     (All-append IsTextUnit (before_name path some) (with_separators (drop start name)) before
-    (text_replaced (drop start name) (text_part start name name_is)))
+    (IsText-with_separators (drop start name) (text_part start name name_is)))
 
 -- slashes that were replaced are none
-pub replaced_twice : (units : List ℕ) → with_separators (with_separators units) ≡ with_separators units
-replaced_twice [] = refl
-replaced_twice (u ∷ units) = elim (cases_Bool (u == slash)) [
-  | inl is ↦ rw is (ap (λ us. separator ∷ us) (replaced_twice units))
-  | inr other ↦ rw (other, other) (ap (λ us. u ∷ us) (replaced_twice units))
-]
+replaced_twice : (units : List ℕ) → with_separators (with_separators units) ≡ with_separators units
+replaced_twice units = with_separators-plain (with_separators units) (IsPlain-with_separators units)
 
 -- a path without slashes has none with a name after it
 plain_after : (path name : List ℕ) → with_separators path ≡ path → with_separators (name_after path name) ≡ name_after path name

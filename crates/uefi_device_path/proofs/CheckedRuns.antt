@@ -169,15 +169,6 @@ comes_node bytes rest after node within split inner =
     ∙ ap (λ n. Ok node ∷ checked_within (length rest) n after) place
     ∙ ap (λ k. Ok node ∷ k) (enough (length rest) (suc (length after)) (length bytes - length after) after (omega (arith, long)) (omega arith))
 
--- at the end nothing comes
-pub comes_end : (rest after : List ℕ) (offset : ℕ) → rest ≡ node_bytes end_entire ++ after → checked_within (suc (length rest)) offset rest ≡ []
-comes_end rest after offset split = ap (checked_within (suc (length rest)) offset) split ∙ checked_end (length rest) offset after
-
--- at a fault it comes alone
-pub comes_fault : (rest : List ℕ) (offset : ℕ) (cause : NodeError) → node_fault rest ≡ Some cause
-    → checked_within (suc (length rest)) offset rest ≡ Err (record { cause = cause; offset = offset + fault_place cause }) ∷ []
-comes_fault rest offset cause fault = checked_fault (length rest) offset rest cause fault
-
 -- which nodes stand before the rest
 pub nodes_passed : (bytes : List ℕ) (nodes : List Node) (rest : List ℕ) → BeginWith bytes nodes rest → nodes_before bytes rest ≡ nodes
 nodes_passed bytes nodes rest begins =

@@ -2,7 +2,8 @@
 use Rattle.std.proofs.Common.{◌≡◌, ◌≢◌, ◌∙◌, ap, sym, refl, subst, ℕ, ◌+◌, ◌-◌, ◌*◌, ◌/◌, ◌%◌, ◌<◌, ◌≤◌, List, [], ◌∷◌, ◌++◌, All, length, take, drop, slice_index, Option, None, Some, length-append, arith}
 use Rattle.std.specs.Prelude.{IsSome}
 use Rattle.std.proofs.lemmas.List.{take_at}
-use Rattle.std.proofs.lemmas.List.Elements.{All-head, All-tail}
+use Rattle.uefi_text.proofs.PackedStrings.{bytes_once}
+use Rattle.uefi_text.proofs.Texts.{without_nul-nul_terminated}
 use Rattle.uefi_text.specs.PackedStrings.{SplitsUntilNul}
 use Rattle.uefi_text.specs.UnitBytes.{unit_bytes}
 use Rattle.uefi_text.specs.Units.{nul_terminated, without_nul}
@@ -17,31 +18,6 @@ use Rattle.uefi_device_path.specs.declared.errors.LoadOptionError.{LoadOptionErr
 use Rattle.uefi_device_path.proofs.Splits.{front_same}
 use Rattle.uefi_device_path.proofs.Lists.{list_refused_no_paths, list_refused_once, no_path_bytes, paths_in-list_bytes}
 
--- no description's bytes begin another's
-described_once : (t s x y : List ℕ) → All (λ u. u ≢ 0) t → All (λ u. u ≢ 0) s
-    → unit_bytes (nul_terminated t) ++ x ≡ unit_bytes (nul_terminated s) ++ y → (t ≡ s) × (x ≡ y)
-described_once [] [] x y t_is s_is e = (refl, cc)
-described_once [] (u ∷ s) x y t_is s_is e =
-    let low : 0 ≡ u % 256 = cc in
-    let high : 0 ≡ u / 256 = cc in
-    absurd (All-head (λ u. u ≢ 0) u s s_is (omega arith))
-described_once (u ∷ t) [] x y t_is s_is e =
-    let low : u % 256 ≡ 0 = cc in
-    let high : u / 256 ≡ 0 = cc in
-    absurd (All-head (λ u. u ≢ 0) u t t_is (omega arith))
-described_once (u ∷ t) (v ∷ s) x y t_is s_is e =
-    let low : u % 256 ≡ v % 256 = cc in
-    let high : u / 256 ≡ v / 256 = cc in
-    let first : u ≡ v = omega arith in
-    let tails : unit_bytes (nul_terminated t) ++ x ≡ unit_bytes (nul_terminated s) ++ y = cc in
-    let others = described_once t s x y (All-tail (λ u. u ≢ 0) u t t_is) (All-tail (λ u. u ≢ 0) v s s_is) tails in
-    let rest = others.0 in
-    let same : (u ∷ t) ≡ (v ∷ s) = cc in
-    (same, others.1)
-
-without_nul-nul_terminated : (text : List ℕ) → without_nul (nul_terminated text) ≡ text
-without_nul-nul_terminated text = take_at text (0 ∷ []) (length (text ++ 0 ∷ []) - 1) (omega (arith, length-append text (0 ∷ [])))
-
 -- units up to a NUL are a description, and a description is units up to a NUL
 pub describes_split : (bytes units rest : List ℕ) → 6 ≤ length bytes → SplitsUntilNul (drop 6 bytes) units rest
     → Describes bytes (without_nul units) rest
@@ -55,7 +31,8 @@ split_described bytes description rest describes =
     let P : List ℕ → Type 0 = All (λ u. u ≢ 0) in
     record { ends = (ap nul_terminated (sym same), subst P (sym same) describes.no_nul); join = describes.join }
 
-same_entry : (a b : ℕ) (d e : List ℕ) (p q : List (List Node)) (o r : List ℕ) → a ≡ b → d ≡ e → p ≡ q → o ≡ r
+-- load options of the same parts are the same
+pub same_entry : (a b : ℕ) (d e : List ℕ) (p q : List (List Node)) (o r : List ℕ) → a ≡ b → d ≡ e → p ≡ q → o ≡ r
     → (let x : Entry = record { attributes = a; description = d; paths = p; optional = o } in x)
     ≡ (let y : Entry = record { attributes = b; description = e; paths = q; optional = r } in y)
 same_entry a b d e p q o r attributes descriptions paths optionals = cc
@@ -73,7 +50,7 @@ entry_once e f e_is f_is same =
     let long : length (list_bytes e.paths) ≡ length (list_bytes f.paths) = omega arith in
     let tails : unit_bytes (nul_terminated e.description) ++ (list_bytes e.paths ++ e.optional)
     ≡ unit_bytes (nul_terminated f.description) ++ (list_bytes f.paths ++ f.optional) = cc in
-    let texts = described_once e.description f.description _ _ e_is.no_nul f_is.no_nul tails in
+    let texts = bytes_once e.description f.description _ _ e_is.no_nul f_is.no_nul tails in
     let lists = front_same (list_bytes e.paths) (list_bytes f.paths) e.optional f.optional long texts.1 in
     let paths : e.paths ≡ f.paths = sym (paths_in-list_bytes e.paths e_is.are_paths) ∙ ap paths_in lists.0 ∙ paths_in-list_bytes f.paths f_is.are_paths in
     same_entry e.attributes f.attributes e.description f.description e.paths f.paths e.optional f.optional attributes texts.0 paths lists.1
@@ -82,7 +59,7 @@ entry_once e f e_is f_is same =
 described : (bytes description rest : List ℕ) (entry : Entry) → Describes bytes description rest → IsEntry entry → bytes ≡ entry_bytes entry
     → rest ≡ list_bytes entry.paths ++ entry.optional
 described bytes description rest entry describes is_entry e =
-    (described_once description entry.description rest (list_bytes entry.paths ++ entry.optional) describes.no_nul is_entry.no_nul
+    (bytes_once description entry.description rest (list_bytes entry.paths ++ entry.optional) describes.no_nul is_entry.no_nul
     (sym describes.join ∙ ap (drop 6) e)).1
 
 stated_right : (bytes : List ℕ) (entry : Entry) → bytes ≡ entry_bytes entry → stated_list_length bytes ≡ length (list_bytes entry.paths)
@@ -126,7 +103,7 @@ entry_refused bytes error wrong = wrong_no_entry bytes error.cause error.offset 
 
 -- bytes have one description at most
 rest_once : (bytes d r f s : List ℕ) → Describes bytes d r → Describes bytes f s → r ≡ s
-rest_once bytes d r f s one other = (described_once d f r s one.no_nul other.no_nul (sym one.join ∙ other.join)).1
+rest_once bytes d r f s one other = (bytes_once d f r s one.no_nul other.no_nul (sym one.join ∙ other.join)).1
 
 same_offset : (c d : NodeError) (m n : ℕ) → c ≡ d → m ≡ n → (FilePathList c ≡ FilePathList d) × (m ≡ n)
 same_offset c d m n causes offsets = (cc, offsets)

@@ -1,18 +1,19 @@
 -- A path is read from a text as people write it: nodes that are told, in the order of the text, and those that are
 -- printed where it is the text of such nodes.
-use Rattle.std.proofs.Common.{◌≡◌, ℕ, ◌<◌, ◌≤◌, ◌-◌, Bool, true, false, cond, List, [], ◌∷◌, ◌++◌, codes, length, drop, inl, inr, refl, ap, sym, subst, ◌∙◌, append_assoc, length-drop, slice_index, arith, true≢false}
+use Rattle.std.proofs.Common.{◌≡◌, ℕ, ◌<◌, ◌≤◌, ◌-◌, Bool, true, false, cond, List, [], ◌∷◌, ◌++◌, length, drop, inl, inr, refl, ap, sym, subst, ◌∙◌, append_assoc, arith, true≢false}
 use Rattle.std.specs.Prelude.{Some, None}
 use Rattle.std.proofs.lemmas.List.{append-nil, length-append}
 use Rattle.std.proofs.lemmas.List.Elements.{All-head, All-nil, All-push, All-tail}
-use Rattle.uefi_device_nodes.specs.Nodes.{Node, is_end_instance}
+use Rattle.uefi_device_nodes.specs.Nodes.{Node}
 use Rattle.uefi_device_path.specs.LenientReading.{ReadingStops, ReadsTo}
 use Rattle.uefi_device_path.specs.LenientReading.ReadsTo.{Begins, Comma, OneMore}
 use Rattle.uefi_device_path.specs.PathReading.{AreTold, end_instance, is_after_instance}
 use Rattle.uefi_device_path.specs.PathTexts.{path_text}
-use Rattle.uefi_device_path.proofs.PathReading.{IsToldOrEnd, no_end, path_text_is, place_is, printed, rest_text, separator}
+use Rattle.uefi_device_path.proofs.PathReading.{IsToldOrEnd, path_text_is, place_fits, place_is, printed, rest_text, separator}
+use Rattle.uefi_device_path.proofs.TextStops.{comma_is_no_node, told_first, whole_after}
 use Rattle.uefi_node_reader.specs.Laws.{NodeAgain, NodeFits, NodeStarts}
 use Rattle.uefi_node_reader.specs.LenientNodes.{IsRestOf, LenientAgain, LenientEnds, LenientTakes, lenient_read}
-use Rattle.uefi_node_reader.specs.NamedFiles.{is_after_node, IsTold}
+use Rattle.uefi_node_reader.specs.NamedFiles.{is_after_node}
 
 -- nodes whose text this is have those that were read before the others, and the rest is the text of the others
 abbrev pub Passes : List ℕ → List Node → Bool → List ℕ → Type 0
@@ -38,30 +39,6 @@ going_first text = record {
 comma_first : (rest : List ℕ) → is_after_instance rest ≡ false → (after : List ℕ) → rest ≡ 44 ∷ after → ⊥
 comma_first rest other after e = true≢false (sym (ap is_after_instance e) ∙ other)
 
--- what stands after a node may stand there
-after_rest : (nodes : List Node) → is_after_node (rest_text false nodes) ≡ true
-after_rest [] = refl
-after_rest (n ∷ ns) = by (is_end_instance n)
-  where
-    by : (t : Bool) → is_after_node (cond t (codes "," ++ rest_text true ns) (codes "/" ++ (printed n ++ rest_text false ns))) ≡ true
-    by true = refl
-    by false = refl
-
--- the text of a node that is told and others
-node_text_first : NodeFits → (s : Bool) (n : Node) (ns : List Node) → IsTold n
-    → rest_text s (n ∷ ns) ≡ separator s ++ (printed n ++ rest_text false ns)
-node_text_first fits s n ns told =
-    ap (λ (t : Bool). cond t (codes "," ++ rest_text true ns) (separator s ++ (printed n ++ rest_text false ns))) (no_end fits n told)
-
--- it begins with no comma
-no_comma : NodeFits → NodeStarts → (s : Bool) (n : Node) (ns : List Node) → IsTold n → (after : List ℕ)
-    → 44 ∷ after ≡ rest_text s (n ∷ ns) → ⊥
-no_comma fits starts s n ns told after e = by s (e ∙ node_text_first fits s n ns told)
-  where
-    by : (t : Bool) → 44 ∷ after ≡ separator t ++ (printed n ++ rest_text false ns) → ⊥
-    by true e = true≢false (ap is_after_node e ∙ starts n told (rest_text false ns))
-    by false e = absurd (omega (arith, ap (λ (x : List ℕ). slice_index x 0) e))
-
 -- over a comma
 pub over_comma : NodeFits → NodeStarts → (text : List ℕ) (nodes new : List Node) (at_start : Bool) (rest after : List ℕ)
     → Going text nodes at_start rest → rest ≡ 44 ∷ after → new ≡ nodes ++ end_instance ∷ []
@@ -80,7 +57,7 @@ over_comma fits starts text nodes new at_start rest after on is more = (
         by (n ∷ ns) t a r = one (All-head IsToldOrEnd n ns t)
           where
             one : IsToldOrEnd n → (left : List Node) × (AreTold left × ((all ≡ (nodes ++ end_instance ∷ []) ++ left) × (after ≡ rest_text true left)))
-            one (inl told) = absurd (no_comma fits starts at_start n ns told after r)
+            one (inl told) = absurd (comma_is_no_node starts at_start n (rest_text false ns) after told (r ∙ told_first fits at_start n ns None told))
             one (inr same) = (
               ns,
               (
@@ -112,8 +89,8 @@ first_read fits again lenient nodes all at_start rest place other is (n ∷ ns) 
     one (inr same) = absurd (comma_first rest other (rest_text true ns) (r ∙ ap (λ (x : Node). rest_text at_start (x ∷ ns)) same))
     one (inl told) =
         let text : List ℕ = printed n ++ rest_text false ns in
-        let whole = by at_start (sym is ∙ r ∙ node_text_first fits at_start n ns told) in
-        let read = lenient text n (rest_text false ns) (again n told (rest_text false ns) (after_rest ns)) (after_rest ns) in
+        let whole = by at_start (sym is ∙ r ∙ told_first fits at_start n ns None told) in
+        let read = lenient text n (rest_text false ns) (again n told (rest_text false ns) (whole_after ns None)) (whole_after ns None) in
         (n, (ns, (refl, (All-tail IsToldOrEnd n ns t, ap lenient_read whole ∙ read))))
       where
         by : (s : Bool) → separator s ++ place ≡ separator s ++ (printed n ++ rest_text false ns) → place ≡ printed n ++ rest_text false ns
@@ -128,11 +105,7 @@ place_whole at_start rest place other ends is = place_is at_start rest other end
 
 pub place_within : (text : List ℕ) (at_start : Bool) (rest place : List ℕ) → length rest ≤ length text
     → place ≡ cond at_start rest (drop 1 rest) → length place ≤ length text
-place_within text at_start rest place within is = omega (arith, within, by at_start is)
-  where
-    by : (t : Bool) → place ≡ cond t rest (drop 1 rest) → length place ≤ length rest
-    by true e = omega (arith, ap length e)
-    by false e = omega (arith, ap length e, length-drop 1 rest)
+place_within text at_start rest place within is = omega (arith, within, place_fits at_start rest place is)
 
 -- over a node
 pub over_node : NodeFits → NodeAgain → LenientTakes → LenientEnds → LenientAgain → (text : List ℕ) (nodes new : List Node) (at_start : Bool)
@@ -196,7 +169,7 @@ read_all fits starts text nodes at_start [] on none all told e =
     by (n ∷ ns) t a r = one (All-head IsToldOrEnd n ns t)
       where
         one : IsToldOrEnd n → nodes ≡ all
-        one (inl told) = absurd (empty at_start (r ∙ node_text_first fits at_start n ns told))
+        one (inl told) = absurd (empty at_start (r ∙ told_first fits at_start n ns None told))
           where
             empty : (s : Bool) → [] ≡ separator s ++ (printed n ++ rest_text false ns) → ⊥
             empty true e = true≢false (ap is_after_node e ∙ starts n told (rest_text false ns))

@@ -1,6 +1,5 @@
 pub mod Splits
 pub mod ShortForms
-pub mod Runs
 pub mod CheckedRuns
 pub mod Names
 pub mod Lists

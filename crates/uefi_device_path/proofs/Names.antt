@@ -1,5 +1,5 @@
 -- The names of the nodes that were passed are the path so far.
-use Rattle.std.proofs.Common.{◌≡◌, ◌≢◌, ◌∙◌, ap, sym, refl, subst, ℕ, ◌+◌, List, [], ◌∷◌, ◌++◌, All, Option, None, Some, unwrap_or, fold, length, append_assoc, length-append, arith}
+use Rattle.std.proofs.Common.{◌≡◌, ◌∙◌, ap, sym, refl, subst, ℕ, ◌+◌, List, [], ◌∷◌, ◌++◌, All, fold, length, append_assoc, length-append, arith}
 use Rattle.std.proofs.lemmas.Grind.{common_steps}
 use Rattle.std.proofs.lemmas.List.{append-nil}
 use Rattle.std.proofs.lemmas.List.Elements.{All-append, All-cons, All-head, All-nil, All-tail}
@@ -7,8 +7,6 @@ use Rattle.uefi_device_nodes.specs.Nodes.{Node, node_bytes}
 use Rattle.uefi_device_path.specs.Paths.{AreNodes, joined, nodes_in}
 use Rattle.uefi_device_path.specs.FilePaths.{FileRefusedFor, IsReadable, file_path, with_node}
 use Rattle.uefi_device_path.specs.declared.errors.FilePathError.{FilePathError}
-use Rattle.uefi_device_path.specs.declared.errors.FilePathCause.{FilePathCause}
-use Rattle.uefi_device_path.specs.declared.errors.FilePathCause.TheVariants.{OutOfMemory}
 use Rattle.uefi_device_path.proofs.Splits.{after_first, nodes_in-nil}
 
 -- these nodes of the bytes were passed, and their names are the path
@@ -48,12 +46,6 @@ pub named_all : (bytes : List ℕ) (ns : List Node) (rest path : List ℕ) → N
     → nodes_in bytes ≡ ns
 named_all bytes ns rest path named none =
     named.shown ∙ ap (λ ms. ns ++ ms) (nodes_in-nil rest none) ∙ append-nil ns
-
--- a refusal that is not for memory is that of the name
-pub is_fault : (fault : Option FilePathCause) (cause : FilePathCause) → cause ≡ unwrap_or fault OutOfMemory → cause ≢ OutOfMemory
-    → fault ≡ Some cause
-is_fault None cause e other = absurd (other e)
-is_fault (Some fault) cause e other = ap (λ c. Some c) (sym e)
 
 readable_at : (before : List Node) (node : Node) (after : List Node) → All IsReadable (before ++ node ∷ after) → IsReadable node
 readable_at [] node after all = All-head IsReadable node after all

@@ -1,24 +1,21 @@
 -- Names of nodes one after the other are pushed.
-use Rattle.std.proofs.Common.{◌≡◌, ◌≢◌, ◌∙◌, ap, sym, refl, subst, inl, inr, ℕ, ◌==◌, true, false, if◌then◌else◌, List, [], ◌∷◌, ◌++◌, All, filter, fold, map, append_assoc, arith}
+use Rattle.std.proofs.Common.{◌≡◌, ◌≢◌, ◌∙◌, ap, sym, refl, subst, inl, inr, ℕ, true, false, List, [], ◌∷◌, ◌++◌, All, filter, fold, map, append_assoc}
 use Rattle.std.specs.List.{flat_map}
-use Rattle.std.proofs.lemmas.Bool.{cases_Bool, eq-eqb, true≢false}
+use Rattle.std.proofs.lemmas.Bool.{cases_Bool}
 use Rattle.std.proofs.lemmas.List.{append-nil}
-use Rattle.std.proofs.lemmas.List.Elements.{All-append, All-cons, All-head, All-nil, All-tail}
+use Rattle.std.proofs.lemmas.List.Elements.{All-append, All-head, All-tail}
+use Rattle.uefi_path.proofs.Joining.{pushed-with_separators}
+use Rattle.uefi_path.proofs.Parents.{All-canonical}
+use Rattle.uefi_path.proofs.Splitting.{IsPlain-with_separators}
 use Rattle.uefi_path.specs.Components.{components_of, pieces_between}
 use Rattle.uefi_path.specs.Laws.{ComponentsAreJoined, FullTextsTakeMore, IsRelative}
-use Rattle.uefi_path.specs.Pushing.{appended, pushed}
-use Rattle.uefi_path.specs.Separators.{IsPlain, becomes_separator, canonical, is_separator, separator, slash, with_separators}
-use Rattle.uefi_text.specs.Units.{replaced}
+use Rattle.uefi_path.specs.Pushing.{pushed}
+use Rattle.uefi_path.specs.Separators.{becomes_separator, canonical, slash, with_separators}
 use Rattle.uefi_device_nodes.specs.FileNodes.{is_file}
 use Rattle.uefi_device_nodes.specs.Nodes.{Node}
 use Rattle.uefi_device_path.specs.FilePaths.{file_names, file_path, name_after, name_in, unrooted, with_node}
-use Rattle.uefi_device_path.proofs.BufferPaths.{replaced_twice}
 
--- a push of a name does not depend on whether its slashes are replaced first
-pushed_plain : (text part : List ℕ) → pushed text (with_separators part) ≡ pushed text part
-pushed_plain text [] = refl
-pushed_plain text (u ∷ us) = ap (appended text) (replaced_twice (u ∷ us))
-
+-- a name without its first separator is its canonical text
 unrooted_canonical : (name : List ℕ) → with_separators (unrooted name) ≡ canonical (with_separators name)
 unrooted_canonical [] = refl
 unrooted_canonical (u ∷ us) = elim (cases_Bool (becomes_separator u)) [
@@ -32,7 +29,7 @@ alone [] = refl
 alone (u ∷ us) = refl
 
 after_path : (u : ℕ) (us name : List ℕ) → name_after (u ∷ us) name ≡ pushed (u ∷ us) (canonical (with_separators name))
-after_path u us name = sym (pushed_plain (u ∷ us) (unrooted name)) ∙ ap (pushed (u ∷ us)) (unrooted_canonical name)
+after_path u us name = sym (pushed-with_separators (u ∷ us) (unrooted name)) ∙ ap (pushed (u ∷ us)) (unrooted_canonical name)
 
 -- the first node, where it names a file and where it does not
 module _ (n : Node) (nodes : List Node) where
@@ -66,7 +63,7 @@ only_files (n ∷ nodes) path = elim (cases_Bool (is_file n)) [
 ]
 
 pushed_name : (path name : List ℕ) → IsRelative (with_separators name) → name_after path name ≡ pushed path (with_separators name)
-pushed_name [] name relative = sym (pushed_plain [] name)
+pushed_name [] name relative = sym (pushed-with_separators [] name)
 pushed_name (u ∷ us) name relative = after_path u us name ∙ ap (pushed (u ∷ us)) relative
 
 pub relative_pushed : (nodes : List Node) (path : List ℕ) → All IsRelative (file_names nodes)
@@ -86,23 +83,6 @@ relative_pushed (n ∷ nodes) path relative = elim (cases_Bool (is_file n)) [
       ∙ ap (fold pushed path) (sym (unnamed n nodes other))
 ]
 
--- a name has no slash then
-plain_name : (name : List ℕ) → IsPlain (with_separators name)
-plain_name [] = All-nil (λ unit. unit ≢ slash)
-plain_name (u ∷ us) =
-    let first : replaced slash separator u ≢ slash = elim (cases_Bool (u == slash)) [
-      | inl is ↦ rw is (λ e. omega (arith, e))
-      | inr other ↦ rw other (λ e. true≢false (sym (eq-eqb u slash e) ∙ other))
-    ] in
-    All-cons (λ unit. unit ≢ slash) (replaced slash separator u) (with_separators us) first (plain_name us)
-
-plain_rest : (name : List ℕ) → IsPlain name → IsPlain (canonical name)
-plain_rest [] plain = plain
-plain_rest (u ∷ us) plain = elim (cases_Bool (is_separator u)) [
-  | inl cut ↦ subst IsPlain (ap (λ b. if b then us else u ∷ us) (sym cut)) (All-tail (λ unit. unit ≢ slash) u us plain)
-  | inr other ↦ subst IsPlain (ap (λ b. if b then us else u ∷ us) (sym other)) plain
-]
-
 -- components of which none is empty
 abbrev pub AreFull : List ℕ → Type 0
 AreFull text = All (λ component. component ≢ []) (components_of text)
@@ -115,7 +95,7 @@ module _ (join : ComponentsAreJoined) (takes : FullTextsTakeMore) where
       let text = with_separators name in
       let relative = (takes text full_name).1 in
       ap components_of (after_path u us name)
-      ∙ join (u ∷ us) (canonical text) (takes (u ∷ us) full).0 (plain_rest text (plain_name name)) relative
+      ∙ join (u ∷ us) (canonical text) (takes (u ∷ us) full).0 (All-canonical (λ unit. unit ≢ slash) text (IsPlain-with_separators name)) relative
       ∙ ap (λ rest. components_of (u ∷ us) ++ pieces_between rest) relative
 
   pub in_a_row : (nodes : List Node) (path : List ℕ) → AreFull path → All AreFull (file_names nodes)

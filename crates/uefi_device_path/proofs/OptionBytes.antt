@@ -1,33 +1,27 @@
 -- The bytes of device paths, one after the other, and of a whole load option.
-use Rattle.std.proofs.Common.{◌≡◌, ◌≢◌, ◌∙◌, ap, sym, refl, inl, inr, ℕ, ◌+◌, ◌*◌, ◌/◌, ◌%◌, ◌<◌, ◌≤◌, List, [], ◌∷◌, ◌++◌, All, None, length, map, take, drop, get_or, length-append, arith}
+use Rattle.std.proofs.Common.{◌≡◌, ◌≢◌, ◌∙◌, ap, sym, refl, ℕ, ◌+◌, ◌*◌, ◌<◌, ◌≤◌, List, [], ◌∷◌, ◌++◌, All, None, length, map, take, drop, get_or, length-append, arith}
 use Rattle.std.specs.Prelude.{position}
-use Rattle.std.proofs.lemmas.Bool.{cases_Bool}
+use Rattle.std.proofs.lemmas.Bool.{true≢false}
 use Rattle.std.proofs.lemmas.Grind.{common_steps}
 use Rattle.std.proofs.lemmas.List.{drop_at, take-append-drop, take_all, take_more}
-use Rattle.std.proofs.lemmas.List.Elements.{All-cons, All-nil}
+use Rattle.std.proofs.lemmas.List.Elements.{All-cons, All-from_get_or, All-nil}
+use Rattle.uefi_text.proofs.Finding.{position-None}
+use Rattle.uefi_text.proofs.UnitBytes.{length-unit_bytes}
 use Rattle.uefi_text.specs.UnitBytes.{unit_bytes}
 use Rattle.uefi_text.specs.Units.{is_nul, nul_terminated}
 use Rattle.uefi_device_nodes.specs.Nodes.{IsInner}
 use Rattle.uefi_device_path.specs.LoadOptions.{Entry, entry_bytes, four_bytes, two_bytes}
-use Rattle.uefi_device_path.specs.OptionEdits.{with_attributes, with_description}
+use Rattle.uefi_device_path.specs.OptionEdits.{with_description}
 use Rattle.uefi_device_path.specs.PathLists.{ArePaths, list_bytes}
 use Rattle.uefi_device_path.specs.Paths.{path_bytes}
 use Rattle.uefi_device_path.specs.Views.{nodes_of}
 use Rattle.uefi_device_path.specs.declared.device_path.DevicePath.{DevicePath}
 
-pub long-unit_bytes : (us : List ℕ) → length (unit_bytes us) ≡ 2 * length us
-long-unit_bytes [] = refl
-long-unit_bytes (u ∷ us) = let others = long-unit_bytes us in omega (arith, others)
-
-pub unit_bytes-append : (us vs : List ℕ) → unit_bytes (us ++ vs) ≡ unit_bytes us ++ unit_bytes vs
-unit_bytes-append [] vs = refl
-unit_bytes-append (u ∷ us) vs = ap (λ bytes. u % 256 ∷ u / 256 ∷ bytes) (unit_bytes-append us vs)
-
 -- how many bytes a load option has
 pub long-entry_bytes : (entry : Entry) → length (entry_bytes entry)
     ≡ 8 + 2 * length entry.description + length (list_bytes entry.paths) + length entry.optional
 long-entry_bytes entry =
-    let text = long-unit_bytes (nul_terminated entry.description) in
+    let text = length-unit_bytes (nul_terminated entry.description) in
     let units = length-append entry.description (0 ∷ []) in
     let tail = length-append (list_bytes entry.paths) entry.optional in
     let rest = length-append (unit_bytes (nul_terminated entry.description)) (list_bytes entry.paths ++ entry.optional) in
@@ -70,11 +64,8 @@ front_within paths count =
 
 -- where no NUL was found there is none
 pub no_nul : (units : List ℕ) → position is_nul units ≡ None → All (λ unit. unit ≢ 0) units
-no_nul [] none = All-nil (λ unit. unit ≢ 0)
-no_nul (u ∷ units) none = elim (cases_Bool (is_nul u)) [
-  | inl nul ↦ absurd (grind (arith, common_steps))
-  | inr other ↦ All-cons (λ unit. unit ≢ 0) u units (λ e. grind (arith, common_steps)) (no_nul units (grind (arith, common_steps)))
-]
+no_nul units none =
+    All-from_get_or (λ unit. unit ≢ 0) units 0 (λ k h e. true≢false (sym (ap is_nul e) ∙ position-None is_nul units none k h))
 
 -- the nodes of device paths may stand before an end
 pub paths_are : (paths : List DevicePath) → ArePaths (map nodes_of paths)
@@ -91,7 +82,7 @@ pub after_entry : (entry : Entry) → drop (8 + 2 * length entry.description) (e
 after_entry entry =
     let units = unit_bytes (nul_terminated entry.description) in
     let front = four_bytes entry.attributes ++ (two_bytes (length (list_bytes entry.paths)) ++ units) in
-    let text = long-unit_bytes (nul_terminated entry.description) in
+    let text = length-unit_bytes (nul_terminated entry.description) in
     let terminated = length-append entry.description (0 ∷ []) in
     drop_at front (list_bytes entry.paths ++ entry.optional) (8 + 2 * length entry.description) (omega (arith, text, terminated))
 
@@ -109,8 +100,3 @@ pub described_bytes : (entry : Entry) (text : List ℕ)
     ≡ entry_bytes (with_description text entry)
 described_bytes entry text =
     ap (λ k. take 6 (entry_bytes entry) ++ (unit_bytes (nul_terminated text) ++ k)) (after_entry entry)
-
--- other attributes before what stands after the old ones
-pub attributed_bytes : (bytes : List ℕ) (entry : Entry) (attributes : ℕ) → bytes ≡ entry_bytes entry
-    → four_bytes attributes ++ drop 4 bytes ≡ entry_bytes (with_attributes attributes entry)
-attributed_bytes bytes entry attributes e = ap (λ k. four_bytes attributes ++ drop 4 k) e

@@ -24,11 +24,15 @@ printed node = node_text false false node
 abbrev pub separator : Bool → List ℕ
 separator at_start = cond at_start [] (codes "/")
 
--- the text of nodes from the start of an instance on, or after a node
+-- the text of nodes from the start of an instance on, or after a node, and what stands after them
+abbrev pub text_onto : Bool → List Node → (Bool → List ℕ) → List ℕ
+text_onto at_start [] tail = tail at_start
+text_onto at_start (node ∷ nodes) tail = cond (is_end_instance node) (codes "," ++ text_onto true nodes tail)
+    (separator at_start ++ (printed node ++ text_onto false nodes tail))
+
+-- the same without anything after them
 abbrev pub rest_text : Bool → List Node → List ℕ
-rest_text at_start [] = []
-rest_text at_start (node ∷ nodes) = cond (is_end_instance node) (codes "," ++ rest_text true nodes)
-    (separator at_start ++ (printed node ++ rest_text false nodes))
+rest_text at_start nodes = text_onto at_start nodes (λ _. [])
 
 -- the texts of nodes, each after a slash, and of instances, each after a comma
 abbrev slashed : List Node → List ℕ
@@ -117,29 +121,40 @@ text_before_is nodes =
     ap (λ (x : List ℕ). x ++ separator (starts_instance (last_or None nodes))) (path_text_is nodes)
     ∙ ap (λ (t : Bool). rest_text true nodes ++ separator t) (starts_after_is None nodes)
 
--- one more node
-rest_text-push : (s : Bool) (nodes : List Node) (node : Node)
-    → rest_text s (nodes ++ node ∷ []) ≡ rest_text s nodes ++ rest_text (starts_after s nodes) (node ∷ [])
-rest_text-push s [] node = refl
-rest_text-push s (n ∷ ns) node = by (is_end_instance n) (λ t. rest_text-push t ns node)
+-- what stands after nodes is after their text
+pub onto_is : (s : Bool) (nodes : List Node) (tail : Bool → List ℕ)
+    → rest_text s nodes ++ tail (starts_after s nodes) ≡ text_onto s nodes tail
+onto_is s [] tail = refl
+onto_is s (n ∷ ns) tail = by (is_end_instance n) (λ t. onto_is t ns tail)
   where
-    all : Bool → List ℕ
-    all t = rest_text t (ns ++ node ∷ [])
-
     old : Bool → List ℕ
     old t = rest_text t ns
 
     more : Bool → List ℕ
-    more t = rest_text (starts_after t ns) (node ∷ [])
+    more t = tail (starts_after t ns)
 
-    by : (t : Bool) → ((u : Bool) → all u ≡ old u ++ more u)
-        → cond t (codes "," ++ all true) (separator s ++ (printed n ++ all false))
-        ≡ cond t (codes "," ++ old true) (separator s ++ (printed n ++ old false)) ++ more t
-    by true h = ap (λ (x : List ℕ). codes "," ++ x) (h true)
+    all : Bool → List ℕ
+    all t = text_onto t ns tail
+
+    by : (t : Bool) → ((u : Bool) → old u ++ more u ≡ all u)
+        → cond t (codes "," ++ old true) (separator s ++ (printed n ++ old false)) ++ more t
+        ≡ cond t (codes "," ++ all true) (separator s ++ (printed n ++ all false))
+    by true h = ap (λ (x : List ℕ). 44 ∷ x) (h true)
     by false h =
-        ap (λ (x : List ℕ). separator s ++ (printed n ++ x)) (h false)
-        ∙ ap (λ (x : List ℕ). separator s ++ x) (sym (append_assoc (printed n) (old false) (more false)))
-        ∙ sym (append_assoc (separator s) (printed n ++ old false) (more false))
+        append_assoc (separator s) (printed n ++ old false) (more false)
+        ∙ ap (λ (x : List ℕ). separator s ++ x) (append_assoc (printed n) (old false) (more false))
+        ∙ ap (λ (x : List ℕ). separator s ++ (printed n ++ x)) (h false)
+
+-- one more node
+onto-push : (s : Bool) (nodes : List Node) (node : Node)
+    → text_onto s nodes (λ t. rest_text t (node ∷ [])) ≡ rest_text s (nodes ++ node ∷ [])
+onto-push s [] node = refl
+onto-push s (n ∷ ns) node = λ i. cond (is_end_instance n) (44 ∷ onto-push true ns node i)
+    (separator s ++ (printed n ++ onto-push false ns node i))
+
+rest_text-push : (s : Bool) (nodes : List Node) (node : Node)
+    → rest_text s (nodes ++ node ∷ []) ≡ rest_text s nodes ++ rest_text (starts_after s nodes) (node ∷ [])
+rest_text-push s nodes node = sym (onto_is s nodes (λ t. rest_text t (node ∷ [])) ∙ onto-push s nodes node)
 
 starts_after-push : (s : Bool) (nodes : List Node) (node : Node)
     → starts_after s (nodes ++ node ∷ []) ≡ is_end_instance node
@@ -196,16 +211,14 @@ place_is false (c ∷ cs) other ends = by (eqb c 47) (eqb c 44) refl other (ends
     by false false p q e = absurd (true≢false (sym e))
 
 -- it lies within the text
+pub place_fits : (at_start : Bool) (rest place : List ℕ) → place ≡ cond at_start rest (drop 1 rest) → length place ≤ length rest
+place_fits true rest place e = omega (arith, ap length e)
+place_fits false rest place e = omega (arith, ap length e, length-drop 1 rest)
+
 pub place_within : (text : List ℕ) (nodes : List Node) (at_start : Bool) (rest place : List ℕ)
     → Going text nodes at_start rest → place ≡ cond at_start rest (drop 1 rest) → length place ≤ length text
-place_within text nodes at_start rest place on is = omega (arith, within, by at_start is)
-  where
-    within : length rest ≤ length text
-    within = omega (arith, ap length on.splits, length-append (rest_text true nodes) rest)
-
-    by : (t : Bool) → place ≡ cond t rest (drop 1 rest) → length place ≤ length rest
-    by true e = omega (arith, ap length e)
-    by false e = omega (arith, ap length e, length-drop 1 rest)
+place_within text nodes at_start rest place on is =
+    omega (arith, ap length on.splits, length-append (rest_text true nodes) rest, place_fits at_start rest place is)
 
 -- over a node
 pub over_node : NodeFits → NodeStarts → (text : List ℕ) (nodes new : List Node) (at_start : Bool)

@@ -1,14 +1,7 @@
 -- A list of texts that is printed piece by piece.
-use Rattle.std.proofs.Common.{◌≡◌, ◌∙◌, ap, sym, refl, ℕ, List, [], ◌∷◌, ◌++◌, length, append_assoc, arith}
+use Rattle.std.proofs.Common.{◌≡◌, ◌∙◌, ap, sym, ℕ, List, [], ◌∷◌, ◌++◌, append_assoc}
 use Rattle.std.proofs.lemmas.List.{append-nil}
 use Rattle.std.specs.List.{flat_map, join_by}
-use Rattle.uefi_device_path.specs.Paths.{nodes_in}
-
--- no bytes are no nodes
-pub no_nodes : (bytes : List ℕ) → length bytes ≡ 0 → nodes_in bytes ≡ []
-unfolding nodes_in
-no_nodes [] none = refl
-no_nodes (byte ∷ bytes) none = absurd (omega arith)
 
 -- the first piece
 pub first_piece : {X : Type 0} (text : X → List ℕ) (sep : List ℕ) (all xs : List X) (x : X)

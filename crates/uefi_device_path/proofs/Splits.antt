@@ -233,7 +233,7 @@ path_no_fault rest (m ∷ ms) begins =
 
 -- and where it does not end the path, the others begin after it
 pub path_step : (rest after : List ℕ) (node : Node) (ms : List Node) → BeginWithPath rest ms → rest ≡ node_bytes node ++ after
-    → node ≢ end_entire → IsInner node × ((ks : List Node) × BeginWithPath after ks)
+    → node ≢ end_entire → IsInner node × ((ks : List Node) × (ms ≡ node ∷ ks) × BeginWithPath after ks)
 path_step rest after node [] begins e other =
     absurd (other (prefix_free node end_entire after begins.0 (sym e ∙ begins.1.join)).0)
 path_step rest after node (m ∷ ms) begins e other =
@@ -241,5 +241,5 @@ path_step rest after node (m ∷ ms) begins e other =
     let both = prefix_free node m after more
     (sym e ∙ begins.1.join ∙ append_assoc (node_bytes m) (joined ms) (node_bytes end_entire ++ begins.0)) in (
       subst IsInner (sym both.0) (All-head IsInner m ms begins.1.inner),
-      (ms, (begins.0, record { inner = All-tail IsInner m ms begins.1.inner; join = both.1 })),
+      (ms, ap (λ n. n ∷ ms) (sym both.0), (begins.0, record { inner = All-tail IsInner m ms begins.1.inner; join = both.1 })),
     )

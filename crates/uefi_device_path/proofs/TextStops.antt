@@ -1,7 +1,7 @@
 -- A text is that of one list of nodes, or stops being such a text at one place.
-use Rattle.std.proofs.Common.{◌≡◌, ℕ, Bool, true, false, cond, List, [], ◌∷◌, ◌++◌, codes, length, ◌⊎◌, inl, inr, refl, ap, sym, subst, ◌∙◌, append_assoc, true≢false}
+use Rattle.std.proofs.Common.{◌≡◌, ℕ, Bool, true, false, cond, List, [], ◌∷◌, ◌++◌, codes, length, inl, inr, refl, ap, sym, subst, ◌∙◌, append_assoc, true≢false}
 use Rattle.std.specs.Prelude.{IfOk, IfErr, Option, Some, None, Result, Ok, Err}
-use Rattle.std.proofs.lemmas.List.{append-nil, append_cancel_left}
+use Rattle.std.proofs.lemmas.List.{append_cancel_left}
 use Rattle.std.proofs.lemmas.List.Elements.{All-head, All-tail}
 use Rattle.uefi_device_nodes.specs.Nodes.{Node, is_end_instance}
 use Rattle.uefi_device_path.specs.Laws.{StopsOnce, TextsNeverBoth, TextsOnce}
@@ -9,12 +9,12 @@ use Rattle.uefi_device_path.specs.PathReading.{AreTold, IsReadError, NoneBegins,
 use Rattle.uefi_device_path.specs.PathTexts.{path_text}
 use Rattle.uefi_device_path.specs.declared.path_reader.PathTextError.{PathTextError}
 use Rattle.uefi_device_path.specs.declared.path_reader.PathTextError.TheVariants.{NoNode, OutOfMemory}
-use Rattle.uefi_device_path.proofs.PathReading.{IsToldOrEnd, no_end, path_text_is, printed, rest_text, separator, starts_after, starts_after_is, text_before_is}
+use Rattle.uefi_device_path.proofs.PathReading.{IsToldOrEnd, no_end, onto_is, path_text_is, printed, rest_text, separator, starts_after, starts_after_is, text_before_is, text_onto}
 use Rattle.uefi_node_reader.specs.Laws.{NodeFits, NodeStarts, NodeTextOnce}
 use Rattle.uefi_node_reader.specs.NamedFiles.{is_after_node, IsTold}
 
 -- what stands after nodes: nothing, or bytes with which no node begins, where one has to begin
-abbrev tail_text : Bool → Option (List ℕ) → List ℕ
+abbrev pub tail_text : Bool → Option (List ℕ) → List ℕ
 tail_text s None = []
 tail_text s (Some rest) = separator s ++ rest
 
@@ -23,35 +23,10 @@ IsTail s None = Unit {0}
 IsTail s (Some rest) = NoneBegins rest × (s ≡ true → is_after_instance rest ≡ false)
 
 -- the text of nodes, and what stands after them
-abbrev whole_text : Bool → List Node → Option (List ℕ) → List ℕ
-whole_text s [] tail = tail_text s tail
-whole_text s (n ∷ ns) tail = cond (is_end_instance n) (44 ∷ whole_text true ns tail)
-    (separator s ++ (printed n ++ whole_text false ns tail))
+abbrev pub whole_text : Bool → List Node → Option (List ℕ) → List ℕ
+whole_text s nodes tail = text_onto s nodes (λ t. tail_text t tail)
 
-whole_text_is : (s : Bool) (nodes : List Node) (tail : Option (List ℕ))
-    → rest_text s nodes ++ tail_text (starts_after s nodes) tail ≡ whole_text s nodes tail
-whole_text_is s [] tail = refl
-whole_text_is s (n ∷ ns) tail = by (is_end_instance n) (λ t. whole_text_is t ns tail)
-  where
-    old : Bool → List ℕ
-    old t = rest_text t ns
-
-    more : Bool → List ℕ
-    more t = tail_text (starts_after t ns) tail
-
-    all : Bool → List ℕ
-    all t = whole_text t ns tail
-
-    by : (t : Bool) → ((u : Bool) → old u ++ more u ≡ all u)
-        → cond t (codes "," ++ old true) (separator s ++ (printed n ++ old false)) ++ more t
-        ≡ cond t (44 ∷ all true) (separator s ++ (printed n ++ all false))
-    by true h = ap (λ (x : List ℕ). 44 ∷ x) (h true)
-    by false h =
-        append_assoc (separator s) (printed n ++ old false) (more false)
-        ∙ ap (λ (x : List ℕ). separator s ++ x) (append_assoc (printed n) (old false) (more false))
-        ∙ ap (λ (x : List ℕ). separator s ++ (printed n ++ x)) (h false)
-
-whole_after : (nodes : List Node) (tail : Option (List ℕ))
+pub whole_after : (nodes : List Node) (tail : Option (List ℕ))
     → is_after_node (whole_text false nodes tail) ≡ true
 whole_after [] None = refl
 whole_after [] (Some rest) = refl
@@ -63,7 +38,7 @@ whole_after (n ∷ ns) tail = by (is_end_instance n)
     by false = refl
 
 -- a text that goes on with a node that is told, or with a comma
-told_first : NodeFits → (s : Bool) (node : Node) (nodes : List Node) (tail : Option (List ℕ)) → IsTold node
+pub told_first : NodeFits → (s : Bool) (node : Node) (nodes : List Node) (tail : Option (List ℕ)) → IsTold node
     → whole_text s (node ∷ nodes) tail ≡ separator s ++ (printed node ++ whole_text false nodes tail)
 told_first fits s node nodes tail told = ap (λ (t : Bool). cond t (44 ∷ whole_text true nodes tail)
     (separator s ++ (printed node ++ whole_text false nodes tail))) (no_end fits node told)
@@ -76,7 +51,7 @@ nothing_is_no_byte : (byte : ℕ) (bytes : List ℕ) → [] ≡ byte ∷ bytes �
 nothing_is_no_byte byte bytes e = cc
 
 -- the two are not the same
-comma_is_no_node : NodeStarts → (s : Bool) (node : Node) (rest others : List ℕ) → IsTold node
+pub comma_is_no_node : NodeStarts → (s : Bool) (node : Node) (rest others : List ℕ) → IsTold node
     → 44 ∷ others ≡ separator s ++ (printed node ++ rest) → ⊥
 comma_is_no_node starts true node rest others told e = true≢false (ap is_after_node e ∙ starts node told rest)
 comma_is_no_node starts false node rest others told e = true≢false (ap is_after_instance e)
@@ -166,15 +141,14 @@ wholes_once node_once starts fits (n ∷ ns) (m ∷ ms) s tail other told all is
 
 -- texts of nodes, and texts that stop, as such wholes
 path_whole : (nodes : List Node) → path_text false false nodes ≡ whole_text true nodes None
-path_whole nodes =
-    path_text_is nodes ∙ sym (append-nil (rest_text true nodes)) ∙ whole_text_is true nodes None
+path_whole nodes = path_text_is nodes
 
 stop_whole : (text : List ℕ) (place : ℕ) (nodes : List Node) (rest : List ℕ) → Stops text place nodes rest
     → text ≡ whole_text true nodes (Some rest)
 stop_whole text place nodes rest stop =
     stop.begins ∙ ap (λ (x : List ℕ). x ++ rest) (text_before_is nodes)
     ∙ append_assoc (rest_text true nodes) (separator (starts_after true nodes)) rest
-    ∙ whole_text_is true nodes (Some rest)
+    ∙ onto_is true nodes (λ t. tail_text t (Some rest))
 
 stop_tail : (text : List ℕ) (place : ℕ) (nodes : List Node) (rest : List ℕ) → Stops text place nodes rest
     → IsTail (starts_after true nodes) (Some rest)

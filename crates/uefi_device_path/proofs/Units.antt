@@ -2,7 +2,7 @@
 use Rattle.std.proofs.Common.{◌≡◌, ℕ, ◌+◌, ◌-◌, ◌/◌, ◌%◌, ◌<◌, ◌≤◌, set, take, drop, get_or, List, [], ◌∷◌, ◌++◌, length, append_assoc, length-append, add-one, ap, sym, refl, subst, ◌∙◌, arith}
 use Rattle.std.proofs.lemmas.Grind.{common_steps, flat_map-append}
 use Rattle.std.proofs.Math.Seq.{drop-cons, set-append_seam}
-use Rattle.std.proofs.lemmas.List.{append-nil, nil_from_length, take_all}
+use Rattle.std.proofs.lemmas.List.{append-nil, take_all}
 use Rattle.std.proofs.lemmas.Str.{chars-append, chars-nil, chars_past_char, IsUtf8-encode}
 use Rattle.std.specs.Char.{IsScalar}
 use Rattle.std.specs.Char.Escape.{encode_utf16}
@@ -11,18 +11,6 @@ use Rattle.std.specs.Prelude.{encode_utf8}
 use Rattle.std.specs.Str.{chars, IsUtf8}
 use Rattle.uefi_text.specs.Units.{nul_terminated}
 use Rattle.uefi_device_path.specs.PathUnits.{AreSunk, utf16_units}
-
--- one character more
-pub chars_read : (read rest new_rest : List ℕ) (c : ℕ) (all : List ℕ) → IsUtf8 rest → rest ≡ encode_utf8 c ++ new_rest
-    → read ++ chars rest ≡ all → (read ++ c ∷ []) ++ chars new_rest ≡ all
-chars_read read rest new_rest c all utf8 e so_far =
-    let f = chars_past_char rest new_rest c utf8 e in grind (arith, common_steps)
-
--- and all of them
-pub chars_seen : (read rest all : List ℕ) → length rest ≡ 0 → read ++ chars rest ≡ all → read ≡ all
-chars_seen read rest all none so_far =
-    let end : chars rest ≡ [] = ap chars (nil_from_length rest none) ∙ chars-nil in
-    grind (arith, common_steps)
 
 -- a character of two units
 pub two_units : (units : List ℕ) (c : ℕ) → 0x1_0000 ≤ c

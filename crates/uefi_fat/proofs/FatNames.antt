@@ -1,5 +1,5 @@
 -- A name is one of a file exactly where it is not refused.
-use Rattle.std.proofs.Common.{◌≡◌, ◌≢◌, ◌≤◌, ◌↔◌, ℕ, inl, inr, Bool, false, if◌then◌else◌, List, [], ◌∷◌, All, None, Some, Option, Result, Ok, Err, IsOk, arith, length, ap, sym, refl, subst, ◌∙◌}
+use Rattle.std.proofs.Common.{◌≡◌, ◌≢◌, ◌≤◌, ◌↔◌, ℕ, inl, inr, false, if◌then◌else◌, List, [], ◌∷◌, All, None, Some, Option, Result, Ok, Err, IsOk, arith, length, ap, sym, refl, subst, ◌∙◌}
 use Rattle.std.specs.Prelude.{nat_lt}
 use Rattle.std.specs.List.{find}
 use Rattle.std.specs.Option.{option_map}
@@ -8,33 +8,12 @@ use Rattle.std.proofs.lemmas.Bool.{cases_Bool, cond-false, cond-true, false≢tr
 use Rattle.std.proofs.lemmas.Bool.Decides.{nat_tests}
 use Rattle.std.proofs.lemmas.List.{length-map}
 use Rattle.std.proofs.lemmas.List.Elements.{All-cons, All-head, All-map, All-nil, All-tail, All-weaker}
+use Rattle.uefi_text.proofs.Finding.{All-found_none, found_none, unmapped}
 use Rattle.uefi_text.specs.Case.{upper, uppers}
 use Rattle.uefi_fat.specs.LongNames.{IsFatName, is_illegal, name_refusal, trimmed_refusal}
 use Rattle.uefi_fat.specs.Trimming.{trimmed}
 use Rattle.uefi_fat.specs.declared.names.FatNameError.{FatNameError}
 use Rattle.uefi_fat.specs.declared.names.FatNameError.TheVariants.{IllegalChar, TooLong}
-
--- nothing is found exactly where all fail
-All-found_none : (p : ℕ → Bool) (us : List ℕ) → find p us ≡ None → All (λ u. p u ≡ false) us
-All-found_none p [] e = All-nil (λ u. p u ≡ false)
-All-found_none p (u ∷ us) e =
-    elim (cases_Bool (p u)) [
-      | inl passes ↦ let found : find p (u ∷ us) ≡ Some u =
-          cond-true (p u) (Some u) (find p us) passes in absurd (cc)
-      | inr fails ↦
-          All-cons (λ v. p v ≡ false) u us fails
-          (All-found_none p us (sym (cond-false (p u) (Some u) (find p us) fails) ∙ e))
-    ]
-
-found_none : (test : ℕ → Bool) (us : List ℕ) → All (λ u. test u ≡ false) us → find test us ≡ None
-found_none test [] all = refl
-found_none test (u ∷ us) all =
-    cond-false (test u) (Some u) (find test us) (All-head (λ u. test u ≡ false) u us all)
-    ∙ found_none test us (All-tail (λ u. test u ≡ false) u us all)
-
-unmapped : (found : Option ℕ) → option_map IllegalChar found ≡ None → found ≡ None
-unmapped None e = refl
-unmapped (Some unit) e = absurd (cc)
 
 -- the test of the length comes first
 no_test : (n : ℕ) (others : Option FatNameError) → (if nat_lt 255 n then Some TooLong else others) ≡ None
@@ -57,7 +36,7 @@ unrefused : (part : List ℕ) → trimmed_refusal part ≡ None
 unrefused [] e = absurd (cc)
 unrefused (u ∷ us) e =
     let tests = no_test (length (u ∷ us)) (option_map IllegalChar (find is_illegal (u ∷ us))) e in
-    (λ same. cc, tests.0, All-found_none is_illegal (u ∷ us) (unmapped (find is_illegal (u ∷ us)) tests.1))
+    (λ same. cc, tests.0, All-found_none is_illegal (u ∷ us) (unmapped IllegalChar (find is_illegal (u ∷ us)) tests.1))
 
 accepted : (part : List ℕ) → part ≢ [] → length part ≤ 255 → All (λ u. is_illegal u ≡ false) part
     → trimmed_refusal part ≡ None

@@ -1,7 +1,7 @@
 -- The step of the loop that writes a name in the characters of short names, and its end.
 use Rattle.std.proofs.Common.{◌≡◌, ◌+◌, ◌<◌, ◌≤◌, ℕ, zero, suc, Bool, true, false, not, ◌||◌, List, [], ◌∷◌, ◌++◌, map, min, take, drop, length, inl, inr, arith, ap, set, sym, refl, ◌∙◌, add-one, length-drop}
 use Rattle.std.specs.List.{list_any}
-use Rattle.std.proofs.lemmas.Bool.{cases_lt, cond-false, cond-true}
+use Rattle.std.proofs.lemmas.Bool.{cases_lt, cond-true}
 use Rattle.std.proofs.lemmas.Grind.{common_steps}
 use Rattle.std.proofs.lemmas.List.{drop_all, length-map, map-append, take-append-drop, take-map, take_all, take_more_set}
 use Rattle.std.proofs.lemmas.List.Folds.{list_any-append}
@@ -58,13 +58,6 @@ pub next_unit : (units left rest : List ℕ) (n u : ℕ) → drop n units ≡ ke
 next_unit units left rest n u before steps kept =
     before ∙ ap kept_units steps
     ∙ cond-true (not (is_space_or_dot u)) (u ∷ kept_units rest) (kept_units rest) (ap not kept)
-
--- and one that is left out changes nothing
-pub no_unit : (units left rest : List ℕ) (n u : ℕ) → drop n units ≡ kept_units left → left ≡ u ∷ rest
-    → is_space_or_dot u ≡ true → drop n units ≡ kept_units rest
-no_unit units left rest n u before steps left_out =
-    before ∙ ap kept_units steps
-    ∙ cond-false (not (is_space_or_dot u)) (u ∷ kept_units rest) (kept_units rest) (ap not left_out)
 
 -- the byte of one more unit
 pub written_more : (units rest buffer : List ℕ) (n u byte : ℕ) → n < length buffer → byte ≡ fat_byte u

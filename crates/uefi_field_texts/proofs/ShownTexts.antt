@@ -1,5 +1,6 @@
 -- No text of a field holds a character that texts escape.
 use Rattle.std.proofs.Common.{◌≡◌, ℕ, zero, suc, ◌+◌, ◌/◌, ◌%◌, ◌<◌, ◌==◌, ◌&&◌, Bool, true, false, if◌then◌else◌, List, [], ◌∷◌, ◌++◌, codes, length, take, drop, map, reverse, refl, ap, sym, ◌∙◌, arith}
+use Rattle.std.proofs.lemmas.Bool.{and_parts}
 use Rattle.std.specs.Prelude.{All, encode_utf8, nat_le, nat_lt, slice_range, Some}
 use Rattle.std.specs.Char.{IsScalar}
 use Rattle.std.specs.Char.Utf16.{is_high_surrogate, is_low_surrogate, lone_unit_char, surrogate_pair_char, utf16_chars, utf16_lossy_chars}
@@ -23,10 +24,6 @@ use Rattle.uefi_field_texts.specs.ShownTexts.{IsShown, IsShownChar, is_printable
 abbrev pub ascii : List ℕ → Type 0
 ascii text = list_all is_printable text ≡ true
 
-both : (a b : Bool) → a && b ≡ true → (a ≡ true) × (b ≡ true)
-both true b e = (refl, e)
-both false b e = cc
-
 joined : (front back : List ℕ) → ascii front → ascii back → ascii (front ++ back)
 joined front back e f = list_all-append is_printable front back ∙ (λ i. e i && f i)
 
@@ -37,21 +34,21 @@ flat f each (x ∷ xs) = joined (f x) (flat_map f xs) (each x) (flat f each xs)
 -- such texts hold nothing that is escaped
 printable_char : (c : ℕ) → is_printable c ≡ true → IsShownChar c
 printable_char c e =
-    let p = both (nat_le 0x20 c) (nat_lt c 0x7f) e in
+    let p = and_parts (nat_le 0x20 c) (nat_lt c 0x7f) e in
     let scalar : IsScalar c = grind (arith, nat_tests, p.0, p.1) in
     let shown : is_escaped c ≡ false = grind (arith, nat_tests, p.0, p.1) in
     (scalar, shown)
 
 printable_code : (c : ℕ) → is_printable c ≡ true → encode_utf8 c ≡ c ∷ []
 printable_code c e =
-    let p = both (nat_le 0x20 c) (nat_lt c 0x7f) e in
+    let p = and_parts (nat_le 0x20 c) (nat_lt c 0x7f) e in
     let small : c < 128 = grind (arith, nat_tests, p.0, p.1) in
     encode_ascii c small
 
 pub ascii_shown : (text : List ℕ) → ascii text → IsShown text
 ascii_shown [] e = ([], (All-nil IsShownChar, refl))
 ascii_shown (c ∷ cs) e =
-    let p = both (is_printable c) (list_all is_printable cs) e in
+    let p = and_parts (is_printable c) (list_all is_printable cs) e in
     let others = ascii_shown cs p.1 in (
       c ∷ others.0,
       (
@@ -197,7 +194,7 @@ lone_scalar u h = grind (arith, nat_tests, h)
 
 pair_scalar : (u v : ℕ) → is_high_surrogate u && is_low_surrogate v ≡ true → IsScalar (surrogate_pair_char u v)
 pair_scalar u v e =
-    let p = both (is_high_surrogate u) (is_low_surrogate v) e in
+    let p = and_parts (is_high_surrogate u) (is_low_surrogate v) e in
     grind (arith, nat_tests, p.0, p.1)
 
 lossy_scalars : (us : List ℕ) → All IsUnit us → All IsScalar (utf16_lossy_chars us)

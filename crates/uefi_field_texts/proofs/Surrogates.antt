@@ -11,13 +11,13 @@ use Rattle.uefi_field_texts.specs.FieldTexts.{shown_char, shown_units}
 cut : (us : List ℕ) (i : ℕ) → i < length us → drop i us ≡ slice_index us i ∷ drop (i + 1) us
 cut us i within = drop-cons us i 0 within ∙ ap (λ (k : ℕ). slice_index us i ∷ drop k us) (sym (add-one i))
 
-lone_first : (u : ℕ) (us : List ℕ) → (is_high_surrogate u && is_low_surrogate (slice_index us 0)) ≡ false
+pub lone_first : (u : ℕ) (us : List ℕ) → (is_high_surrogate u && is_low_surrogate (slice_index us 0)) ≡ false
     → utf16_lossy_chars (u ∷ us) ≡ unwrap_or (lone_unit_char u) 0xFFFD ∷ utf16_lossy_chars us
 unfolding utf16_chars
 lone_first u [] h = refl
 lone_first u (v ∷ us) h = rw h refl
 
-pair_first : (u v : ℕ) (us : List ℕ) → (is_high_surrogate u && is_low_surrogate v) ≡ true
+pub pair_first : (u v : ℕ) (us : List ℕ) → (is_high_surrogate u && is_low_surrogate v) ≡ true
     → utf16_lossy_chars (u ∷ v ∷ us) ≡ surrogate_pair_char u v ∷ utf16_lossy_chars us
 unfolding utf16_chars
 pair_first u v us h = rw h refl

@@ -1,5 +1,6 @@
 -- Texts of printable ASCII are printed as they lie, and are read up to the byte that stops them.
 use Rattle.std.proofs.Common.{◌≡◌, ℕ, ◌/◌, ◌%◌, ◌<◌, ◌≤◌, Bool, true, false, cond, leb, ltb, not, ◌&&◌, List, [], ◌∷◌, ◌++◌, length, take, refl, ap, sym, subst, ◌∙◌, arith}
+use Rattle.std.proofs.lemmas.Bool.{and_from, and_parts}
 use Rattle.std.specs.Prelude.{All}
 use Rattle.std.specs.Char.Escape.{encode_utf16}
 use Rattle.std.specs.Char.Utf16.{utf16_lossy_chars}
@@ -11,13 +12,13 @@ use Rattle.std.proofs.lemmas.List.Elements.{All-nil, All-cons}
 use Rattle.std.proofs.lemmas.Str.{encode_ascii}
 use borrow.Author.Tests.{eq-eqb, leb-true, lt-ltb, ltb-true}
 use lib.Utf8.{low_scalar}
+use Rattle.uefi_text.proofs.UnitBytes.{units_of_bytes-unit_bytes}
 use Rattle.uefi_text.specs.Packed.{IsByte}
 use Rattle.uefi_text.specs.UnitBytes.{unit_bytes}
 use Rattle.uefi_text.specs.Units.{is_nul}
 use Rattle.uefi_field_texts.specs.FieldTexts.{is_escaped, shown_byte, shown_bytes, shown_char, shown_units, until_nul, utf16_text}
-use Rattle.uefi_node_table.proofs.Lists.{and_true, both}
 use Rattle.uefi_node_reader.specs.Fields.{clear_run, is_clear}
-use Rattle.uefi_node_reader.proofs.NamedFiles.{lossy_back, no_nul, place_of, units_back}
+use Rattle.uefi_node_reader.proofs.NamedFiles.{lossy_back, no_nul, place_of}
 
 -- what is known of such a byte
 record Clear (c : ℕ) : Type 0 where
@@ -28,8 +29,8 @@ record Clear (c : ℕ) : Type 0 where
 
 clear : (stop c : ℕ) → is_clear stop c ≡ true → Clear c
 clear stop c e =
-    let parts = both (leb 0x20 c && ltb c 0x7f) _ e in
-    let ends = both (leb 0x20 c) (ltb c 0x7f) parts.0 in
+    let parts = and_parts (leb 0x20 c && ltb c 0x7f) _ e in
+    let ends = and_parts (leb 0x20 c) (ltb c 0x7f) parts.0 in
     record { low = ends.0; high = ends.1; least = leb-true _ _ ends.0; most = ltb-true _ _ ends.1 }
 
 and_false : (a : Bool) → a && false ≡ false
@@ -47,7 +48,7 @@ clear_again stop [] rest e =
     let left : List ℕ × List ℕ = ([], stop ∷ rest) in
     ap (λ (t : Bool). cond t found left) (stops stop)
 clear_again stop (b ∷ bs) rest e =
-    let parts = both (is_clear stop b) (list_all (is_clear stop) bs) e in
+    let parts = and_parts (is_clear stop b) (list_all (is_clear stop) bs) e in
     let others = clear_again stop bs rest parts.1 in
     let run : List ℕ × List ℕ = clear_run stop (bs ++ stop ∷ rest) in
     let found : List ℕ × List ℕ = (b ∷ run.0, run.1) in
@@ -66,7 +67,7 @@ clear_takes stop (c ∷ cs) = by (is_clear stop c) refl (clear_takes stop cs)
     Is r = (c ∷ cs ≡ r.0 ++ r.1) × (list_all (is_clear stop) r.0 ≡ true)
 
     at : (t : Bool) → is_clear stop c ≡ t → (cs ≡ run.0 ++ run.1) × (list_all (is_clear stop) run.0 ≡ true) → Is (cond t (c ∷ run.0, run.1) ([], c ∷ cs))
-    at true p h = (ap (λ (x : List ℕ). c ∷ x) h.0, and_true _ _ p h.1)
+    at true p h = (ap (λ (x : List ℕ). c ∷ x) h.0, and_from _ _ p h.1)
     at false p h = (refl, refl)
 
     by : (t : Bool) → is_clear stop c ≡ t → (cs ≡ run.0 ++ run.1) × (list_all (is_clear stop) run.0 ≡ true)
@@ -82,20 +83,20 @@ pub shown_clear : (stop : ℕ) (bytes : List ℕ) → list_all (is_clear stop) b
 unfolding shown_bytes
 shown_clear stop [] e = refl
 shown_clear stop (b ∷ bs) e =
-    let parts = both (is_clear stop b) (list_all (is_clear stop) bs) e in
+    let parts = and_parts (is_clear stop b) (list_all (is_clear stop) bs) e in
     (λ i. byte_clear stop b parts.0 i ++ shown_clear stop bs parts.1 i)
 
 pub clear_bytes : (stop : ℕ) (bytes : List ℕ) → list_all (is_clear stop) bytes ≡ true → All IsByte bytes
 clear_bytes stop [] e = All-nil IsByte
 clear_bytes stop (b ∷ bs) e =
-    let parts = both (is_clear stop b) (list_all (is_clear stop) bs) e in
+    let parts = and_parts (is_clear stop b) (list_all (is_clear stop) bs) e in
     All-cons IsByte b bs (omega (arith, (clear stop b parts.0).most)) (clear_bytes stop bs parts.1)
 
 -- and two bytes each
 pub clear_units : (stop : ℕ) (text : List ℕ) → list_all (is_clear stop) text ≡ true → All IsByte (unit_bytes text)
 clear_units stop [] e = All-nil IsByte
 clear_units stop (c ∷ cs) e =
-    let parts = both (is_clear stop c) (list_all (is_clear stop) cs) e in
+    let parts = and_parts (is_clear stop c) (list_all (is_clear stop) cs) e in
     let small : c / 256 < 256 = omega (arith, (clear stop c parts.0).most) in
     All-cons IsByte (c % 256) (c / 256 ∷ unit_bytes cs) (omega arith) (All-cons IsByte (c / 256) (unit_bytes cs) small (clear_units stop cs parts.1))
 
@@ -122,12 +123,12 @@ no_zero stop c e = let is = clear stop c e in grind (arith, nat_tests, is.least)
 clear_text : (stop : ℕ) (text : List ℕ) → list_all (is_clear stop) text ≡ true → ClearUnits text
 clear_text stop [] e = record { no_nul = refl; scalars = refl; units = refl; shown = refl }
 clear_text stop (c ∷ cs) e =
-    let parts = both (is_clear stop c) (list_all (is_clear stop) cs) e in
+    let parts = and_parts (is_clear stop c) (list_all (is_clear stop) cs) e in
     let others = clear_text stop cs parts.1 in
     let is = clear stop c parts.0 in
     record {
-      no_nul = and_true _ _ (no_zero stop c parts.0) others.no_nul;
-      scalars = and_true _ _ (low_scalar c (omega (arith, is.most))) others.scalars;
+      no_nul = and_from _ _ (no_zero stop c parts.0) others.no_nul;
+      scalars = and_from _ _ (low_scalar c (omega (arith, is.most))) others.scalars;
       units = λ i. unit_clear stop c parts.0 i ++ others.units i;
       shown = λ i. char_clear stop c parts.0 i ++ others.shown i;
     }
@@ -142,6 +143,6 @@ pub utf16_clear : (stop : ℕ) (text : List ℕ) → list_all (is_clear stop) te
 unfolding utf16_text shown_units
 utf16_clear stop text e =
     let is = clear_text stop text e in
-    ap (λ (x : List ℕ). flat_map shown_char (utf16_lossy_chars (until_nul x))) (units_back text)
+    ap (λ (x : List ℕ). flat_map shown_char (utf16_lossy_chars (until_nul x))) (units_of_bytes-unit_bytes text)
     ∙ ap (λ (x : List ℕ). flat_map shown_char (utf16_lossy_chars x)) (whole text is.no_nul ∙ sym is.units)
     ∙ ap (λ (x : List ℕ). flat_map shown_char x) (lossy_back text is.scalars) ∙ is.shown

@@ -1,5 +1,6 @@
 -- Fields of digits alone, which part from others where they end.
 use Rattle.std.proofs.Common.{◌≡◌, ◌≢◌, ℕ, zero, suc, ◌/◌, ◌%◌, ◌^◌, ◌<◌, ◌≤◌, Bool, true, false, true≢false, eqb, ltb, not, ◌&&◌, List, [], ◌∷◌, ◌++◌, reverse, refl, sym, ap, ◌∙◌, arith}
+use Rattle.std.proofs.lemmas.Bool.{and_from, and_parts}
 use Rattle.std.specs.Prelude.{All, Option, Some, None, option_and_then}
 use Rattle.std.specs.Fmt.{digits, digit_glyph}
 use Rattle.std.specs.List.{list_all}
@@ -11,7 +12,6 @@ use Rattle.uefi_text.specs.Packed.{IsByte, little_endian}
 use Rattle.uefi_field_texts.specs.FieldTexts.{hex_back, hex_bytes, hex_two}
 use Rattle.uefi_node_table.specs.Fields.{field_text, fits_shape}
 use Rattle.uefi_node_table.specs.Rows.{Piece}
-use Rattle.uefi_node_table.proofs.Lists.{and_true, both}
 use Rattle.uefi_node_table.specs.declared.rows.Shape.{Shape}
 use Rattle.uefi_node_table.specs.declared.rows.Shape.TheVariants.{Hexadecimal, Decimal, OrDefault, Back, Forth, Dashed, Next, Padded, Word}
 use Rattle.uefi_node_reader.specs.Fields.{IsValue, field_read}
@@ -19,7 +19,8 @@ use Rattle.uefi_node_reader.specs.Numerals.{digit_of}
 use Rattle.uefi_node_reader.specs.TableReading.{are_parted, ends_apart, is_digits, piece_put, put_at}
 use Rattle.uefi_node_reader.specs.Words.{after}
 use Rattle.uefi_node_reader.proofs.Digits.{IsBase, decimal_base, digits_one, digits_step, hexadecimal}
-use Rattle.uefi_node_reader.proofs.FieldLaws.{field_takes, limits, number_bounds, reversed_is, two_digits, value_bound}
+use Rattle.uefi_node_reader.proofs.FieldLaws.{field_takes, limits, number_bounds, reversed_is, value_bound}
+use Rattle.uefi_field_texts.proofs.GuidTexts.{two_digits}
 use Rattle.uefi_node_reader.proofs.Literals.{after_takes}
 
 -- the test for texts of digits alone
@@ -33,25 +34,25 @@ one_digit : (base : ℕ) (upper : Bool) → IsBase base upper → base ≤ 16 �
 one_digit base upper is small d low = lt-ltb (digit_of (digit_glyph upper d)) 16 (omega (arith, is.reads d low))
 
 joined : (xs ys : List ℕ) → are_digits xs ≡ true → are_digits ys ≡ true → are_digits (xs ++ ys) ≡ true
-joined xs ys e f = list_all-append is_digit xs ys ∙ and_true _ _ e f
+joined xs ys e f = list_all-append is_digit xs ys ∙ and_from _ _ e f
 
 -- a number
 number_digits : (base : ℕ) (upper : Bool) → IsBase base upper → base ≤ 16 → (k n : ℕ) → n < 2 ^ k → n < 2 ^ 64 → are_digits (digits base upper n) ≡ true
 number_digits base upper is small zero n l fits =
     let low : n < base = omega (arith, pow-zero 2, is.some) in
-    ap are_digits (digits_one base upper is n low) ∙ and_true _ true (one_digit base upper is small n low) refl
+    ap are_digits (digits_one base upper is n low) ∙ and_from _ true (one_digit base upper is small n low) refl
 number_digits base upper is small (suc k) n l fits =
     by (eqb (n / base) 0) refl (number_digits base upper is small k (n / base) (omega (arith, is.halves n, pow-suc 2 k)) (omega (arith, is.halves n)))
   where
     by : (b : Bool) → eqb (n / base) 0 ≡ b → are_digits (digits base upper (n / base)) ≡ true → are_digits (digits base upper n) ≡ true
     by true p h =
         let low = is.small n (eqb-true _ 0 p) in
-        ap are_digits (digits_one base upper is n low) ∙ and_true _ true (one_digit base upper is small n low) refl
+        ap are_digits (digits_one base upper is n low) ∙ and_from _ true (one_digit base upper is small n low) refl
     by false p h =
         let other : n / base ≢ 0 = λ z. true≢false (sym (eq-eqb _ 0 z) ∙ p) in
         ap are_digits (digits_step base upper is n fits (omega arith))
         ∙ joined (digits base upper (n / base)) (digit_glyph upper (n % base) ∷ []) h
-        (and_true _ true (one_digit base upper is small (n % base) (is.remainder n)) refl)
+        (and_from _ true (one_digit base upper is small (n % base) (is.remainder n)) refl)
 
 -- bytes
 bytes_digits : (bytes : List ℕ) → All IsByte bytes → are_digits (hex_bytes bytes) ≡ true
@@ -60,8 +61,8 @@ bytes_digits [] all = refl
 bytes_digits (b ∷ bs) all =
     let small = All-head IsByte b bs all in
     let two : are_digits (hex_two b) ≡ true = ap are_digits (two_digits b small)
-    ∙ and_true _ _ (one_digit 16 true hexadecimal (omega arith) (b / 16) (omega arith))
-    (and_true _ true (one_digit 16 true hexadecimal (omega arith) (b % 16) (omega arith)) refl) in
+    ∙ and_from _ _ (one_digit 16 true hexadecimal (omega arith) (b / 16) (omega arith))
+    (and_from _ true (one_digit 16 true hexadecimal (omega arith) (b % 16) (omega arith)) refl) in
     joined (hex_two b) (hex_bytes bs) two (bytes_digits bs (All-tail IsByte b bs all))
 
 back_digits : (width : ℕ) (bytes : List ℕ) → IsValue width bytes → are_digits (hex_back bytes) ≡ true
@@ -97,21 +98,21 @@ parts : (c d : ℕ) (xs ys r s : List ℕ) → are_digits xs ≡ true → are_di
 parts c d [] [] r s e f g h is = cc
 parts c d [] (y ∷ ys) r s e f g h is =
     let same : c ≡ y = cc in
-    no_digit (is_digit c) g (ap is_digit same ∙ (both (is_digit y) (are_digits ys) f).0) _
+    no_digit (is_digit c) g (ap is_digit same ∙ (and_parts (is_digit y) (are_digits ys) f).0) _
 parts c d (x ∷ xs) [] r s e f g h is =
     let same : d ≡ x = cc in
-    no_digit (is_digit d) h (ap is_digit same ∙ (both (is_digit x) (are_digits xs) e).0) _
+    no_digit (is_digit d) h (ap is_digit same ∙ (and_parts (is_digit x) (are_digits xs) e).0) _
 parts c d (x ∷ xs) (y ∷ ys) r s e f g h is =
     let left : xs ++ c ∷ r ≡ ys ++ d ∷ s = cc in
-    parts c d xs ys r s (both (is_digit x) (are_digits xs) e).1 (both (is_digit y) (are_digits ys) f).1 g h left
+    parts c d xs ys r s (and_parts (is_digit x) (are_digits xs) e).1 (and_parts (is_digit y) (are_digits ys) f).1 g h left
 
 unlike : (one other xs ys r s : List ℕ) → ends_apart one other ≡ true → are_digits xs ≡ true → are_digits ys ≡ true
     → xs ++ (one ++ r) ≡ ys ++ (other ++ s) → (Z : Type 0) → Z
 unlike [] other xs ys r s a e f is Z = cc
 unlike (c ∷ cs) [] xs ys r s a e f is Z = cc
 unlike (c ∷ cs) (d ∷ ds) xs ys r s a e f is Z =
-    let tests = both (not (eqb c d)) _ a in
-    let digits = both (not (is_digit c)) (not (is_digit d)) tests.1 in
+    let tests = and_parts (not (eqb c d)) _ a in
+    let digits = and_parts (not (is_digit c)) (not (is_digit d)) tests.1 in
     no_digit (eqb c d) tests.0 (eq-eqb c d (parts c d xs ys (cs ++ r) (ds ++ s) e f digits.0 digits.1 is)) Z
 
 -- a field is not read where one stands that it parts from
@@ -131,9 +132,9 @@ parted_none p q a fits content value tail is = first (field_read p.shape p.width
     none : (v : List ℕ × List ℕ) → field_read p.shape p.width text ≡ Some v → (o : Option (List ℕ)) → after p.ending v.1 ≡ o → option_and_then (put v.0) o ≡ None
     none v e None i = refl
     none v e (Some rest) i =
-        let tests = both (is_digits p.shape && is_digits q.shape) _ a in
-        let kinds = both (is_digits p.shape) (is_digits q.shape) tests.0 in
-        let more = both (fits_shape p.shape p.width) (ends_apart p.ending q.ending) tests.1 in
+        let tests = and_parts (is_digits p.shape && is_digits q.shape) _ a in
+        let kinds = and_parts (is_digits p.shape) (is_digits q.shape) tests.0 in
+        let more = and_parts (fits_shape p.shape p.width) (ends_apart p.ending q.ending) tests.1 in
         let read = field_takes p.shape p.width more.0 text v.0 v.1 e in
         let same : field_text p.shape v.0 ++ (p.ending ++ rest) ≡ text =
         ap (λ (x : List ℕ). field_text p.shape v.0 ++ x) (sym (after_takes p.ending v.1 rest i)) ∙ sym read.0 in

@@ -1,10 +1,12 @@
 -- Digits of a number are read back, and what is read has these digits.
-use Rattle.std.proofs.Common.{◌≡◌, ℕ, zero, suc, ◌+◌, ◌*◌, ◌/◌, ◌%◌, ◌^◌, ◌<◌, ◌≤◌, Bool, true, false, cond, eqb, ltb, List, [], ◌∷◌, ◌++◌, refl, ap, sym, subst, ◌∙◌, ◌≢◌, true≢false, append_assoc, arith}
+use Rattle.std.proofs.Common.{◌≡◌, ℕ, zero, suc, ◌+◌, ◌*◌, ◌/◌, ◌%◌, ◌^◌, ◌<◌, ◌≤◌, Bool, true, false, cond, eqb, ltb, List, [], ◌∷◌, ◌++◌, refl, ap, sym, subst, ◌∙◌, ◌≢◌, true≢false, append_assoc, inl, inr, arith}
 use native.Mathlib.Nat.{pow-suc, pow-zero}
 use borrow.Author.Tests.{eq-eqb, eqb-true, lt-ltb, ltb-true, ne_eqb}
 use Rattle.std.specs.Prelude.{Some, None, ◌==◌}
-use Rattle.std.specs.Fmt.{digits, digits_onto, digit_glyph}
+use Rattle.std.specs.Fmt.{digits, digit_glyph}
+use Rattle.std.proofs.lemmas.Bool.{cases_lt}
 use Rattle.std.proofs.lemmas.Bool.Decides.{nat_tests}
+use Rattle.uefi_field_texts.proofs.Numerals.{digits_last, digits_more}
 use Rattle.uefi_node_reader.specs.Numerals.{digit_of, digits_after, has_digit, number_read}
 
 -- the parts of a pair that is returned
@@ -22,6 +24,7 @@ pub record IsBase (base : ℕ) (upper : Bool) : Type 0 where
   pub pushed : (n d : ℕ) → d < base → ((n * base + d) / base ≡ n) × ((n * base + d) % base ≡ d)
   pub small : (n : ℕ) → n / base ≡ 0 → n < base
   pub some : 0 < base
+  pub two : 2 ≤ base
   pub grows : (n d : ℕ) → 0 < n → 0 < n * base + d
 
 reads_upper : (d : ℕ) → d < 16 → digit_of (digit_glyph true d) ≡ d
@@ -47,6 +50,7 @@ hexadecimal = record {
   pushed = λ n d h. (omega arith, omega arith);
   small = λ n h. omega arith;
   some = omega arith;
+  two = omega arith;
   grows = λ n d h. omega arith;
 }
 
@@ -61,59 +65,20 @@ decimal_base = record {
   pushed = λ n d h. (omega arith, omega arith);
   small = λ n h. omega arith;
   some = omega arith;
+  two = omega arith;
   grows = λ n d h. omega arith;
 }
 
 -- Digits end at their last, before which those of the quotient stand.
 module _ (base : ℕ) (upper : Bool) (is : IsBase base upper) where
-  onto_append : (k n : ℕ) (more : List ℕ) → digits_onto k base upper n more ≡ digits_onto k base upper n [] ++ more
-  onto_append zero n more = refl
-  onto_append (suc k) n more = by (eqb (n / base) 0) (onto_append k (n / base) (digit_glyph upper (n % base) ∷ more))
-      (onto_append k (n / base) (digit_glyph upper (n % base) ∷ []))
-    where
-      g : ℕ
-      g = digit_glyph upper (n % base)
-
-      before : List ℕ → List ℕ
-      before = digits_onto k base upper (n / base)
-
-      by : (t : Bool) → before (g ∷ more) ≡ before [] ++ g ∷ more → before (g ∷ []) ≡ before [] ++ g ∷ []
-          → cond t (g ∷ more) (before (g ∷ more)) ≡ cond t (g ∷ []) (before (g ∷ [])) ++ more
-      by true p q = refl
-      by false p q = p ∙ sym (append_assoc (before []) (g ∷ []) more) ∙ ap (λ (x : List ℕ). x ++ more) (sym q)
-
-  onto_small : (k n : ℕ) (more : List ℕ) → n / base ≡ 0 → digits_onto (suc k) base upper n more ≡ digit_glyph upper (n % base) ∷ more
-  onto_small k n more e = ap (λ (t : Bool). cond t (digit_glyph upper (n % base) ∷ more) (digits_onto k base upper (n / base) (digit_glyph upper (n % base) ∷ more))) (eq-eqb (n / base) 0 e)
-
-  enough : (j k n : ℕ) (more : List ℕ) → n < 2 ^ suc j → n < 2 ^ suc k
-      → digits_onto (suc j) base upper n more ≡ digits_onto (suc k) base upper n more
-  enough zero k n more p q = onto_small zero n more (omega (arith, is.halves n)) ∙ sym (onto_small k n more (omega (arith, is.halves n)))
-  enough (suc j) zero n more p q =
-      onto_small (suc j) n more (omega (arith, is.halves n)) ∙ sym (onto_small zero n more (omega (arith, is.halves n)))
-  enough (suc j) (suc k) n more p q = by (eqb (n / base) 0) (enough j k (n / base) (digit_glyph upper (n % base) ∷ more)
-      (omega (arith, is.halves n, pow-suc 2 (suc j))) (omega (arith, is.halves n, pow-suc 2 (suc k))))
-    where
-      g : ℕ
-      g = digit_glyph upper (n % base)
-
-      by : (t : Bool) → digits_onto (suc j) base upper (n / base) (g ∷ more) ≡ digits_onto (suc k) base upper (n / base) (g ∷ more)
-          → cond t (g ∷ more) (digits_onto (suc j) base upper (n / base) (g ∷ more))
-          ≡ cond t (g ∷ more) (digits_onto (suc k) base upper (n / base) (g ∷ more))
-      by true e = refl
-      by false e = e
-
   pub digits_one : (n : ℕ) → n < base → digits base upper n ≡ digit_glyph upper n ∷ []
-  unfolding digits
-  digits_one n h = onto_small 63 n [] (is.one n h).0 ∙ ap (λ (d : ℕ). digit_glyph upper d ∷ []) (is.one n h).1
+  digits_one = digits_last base upper is.two
 
   pub digits_step : (n : ℕ) → n < 2 ^ 64 → 0 < n / base
       → digits base upper n ≡ digits base upper (n / base) ++ digit_glyph upper (n % base) ∷ []
-  unfolding digits
   digits_step n small more =
-      let g : ℕ = digit_glyph upper (n % base) in
-      ap (λ (t : Bool). cond t (g ∷ []) (digits_onto 63 base upper (n / base) (g ∷ []))) (ne_eqb (n / base) 0 (λ e. omega arith))
-      ∙ enough 62 63 (n / base) (g ∷ []) (omega (arith, is.halves n)) (omega (arith, is.halves n))
-      ∙ onto_append 64 (n / base) (g ∷ [])
+      let many : base ≤ n = elim (cases_lt n base) [ inl less ↦ absurd (omega (arith, more, (is.one n less).0)) | inr some ↦ some ] in
+      sym (digits_more base upper is.two n many small)
 
   -- one digit more
   pub digits_push : (n d : ℕ) → 0 < n → d < base → n * base + d < 2 ^ 64

@@ -1,5 +1,6 @@
 -- The texts of fields are read back, and what is read is printed so.
 use Rattle.std.proofs.Common.{◌≡◌, true≢false, ℕ, zero, suc, ◌+◌, ◌-◌, ◌*◌, ◌/◌, ◌%◌, ◌^◌, ◌<◌, ◌≤◌, Bool, true, false, cond, eqb, leb, ltb, ◌&&◌, List, [], ◌∷◌, ◌++◌, codes, length, reverse, refl, ap, sym, subst, ◌∙◌, append_assoc, arith}
+use Rattle.std.proofs.lemmas.Bool.{not-true}
 use Rattle.std.specs.Prelude.{All, Option, Some, None}
 use Rattle.std.specs.Fmt.{digits, digit_glyph}
 use Rattle.std.specs.List.{flat_map, join_by}
@@ -21,14 +22,10 @@ use Rattle.uefi_node_table.specs.declared.words.Words.TheVariants.{Parity, StopB
 use Rattle.std.specs.Prelude.{nat_le, not, ◌≢◌}
 use Rattle.std.proofs.lemmas.List.{get_or-reverse, length-reverse, reverse-reverse}
 use Rattle.std.proofs.Math.Nat.{pow-le-pow_right}
+use Rattle.uefi_field_texts.proofs.GuidTexts.{two_digits}
 use Rattle.uefi_node_reader.proofs.Literals.{after_again, after_some, after_takes, bind_some}
 use Rattle.uefi_node_reader.proofs.WordLaws.{word_again, word_takes}
-use Rattle.uefi_node_reader.proofs.Digits.{IsBase, decimal_base, digits_one, hexadecimal, number_again, number_takes, some_pair}
-
--- a byte as its two digits
-pub two_digits : (byte : ℕ) → byte < 256 → hex_two byte ≡ digit_glyph true (byte / 16) ∷ digit_glyph true (byte % 16) ∷ []
-unfolding hex_two
-two_digits byte h = (λ i. digits_one 16 true hexadecimal (byte / 16) (omega arith) i ++ digits_one 16 true hexadecimal (byte % 16) (omega arith) i)
+use Rattle.uefi_node_reader.proofs.Digits.{IsBase, decimal_base, hexadecimal, number_again, number_takes, some_pair}
 
 byte_again : (byte : ℕ) (rest : List ℕ) → byte < 256 → byte_read (hex_two byte ++ rest) ≡ Some (byte, rest)
 byte_again byte rest h =
@@ -162,12 +159,8 @@ goes_first Next c cs = refl
 goes_first Padded c cs = refl
 goes_first (Word list) c cs = refl
 
-no_test : (b : Bool) → not b ≡ true → b ≡ false
-no_test false e = refl
-no_test true e = cc
-
 pub ends_is : (shape : Shape) (ending rest : List ℕ) → ends_field shape ending ≡ true → goes_on shape (ending ++ rest) ≡ false
-ends_is shape (c ∷ cs) rest e = goes_first shape c (cs ++ rest) ∙ no_test (goes_on shape (c ∷ [])) e
+ends_is shape (c ∷ cs) rest e = goes_first shape c (cs ++ rest) ∙ not-true (goes_on shape (c ∷ [])) e
 ends_is Hexadecimal [] rest e = cc
 ends_is Decimal [] rest e = cc
 ends_is OrDefault [] rest e = cc

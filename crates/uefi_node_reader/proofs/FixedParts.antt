@@ -1,26 +1,22 @@
 -- The fixed part of a form's data, at the start of a buffer of 64 bytes.
-use Rattle.std.proofs.Common.{◌≡◌, ℕ, zero, suc, ◌≤◌, take, Bool, true, false, leb, ltb, ◌&&◌, List, [], ◌∷◌, refl, ap, ◌∙◌, arith, slice_set}
+use Rattle.std.proofs.Common.{◌≡◌, ℕ, zero, suc, ◌≤◌, take, true, leb, ltb, ◌&&◌, List, [], ◌∷◌, refl, ap, ◌∙◌, arith, slice_set}
 use Rattle.std.proofs.Math.ListN.{replicate}
 use Rattle.std.proofs.Math.Seq.{take-set-lt}
-use Rattle.std.proofs.lemmas.Bool.{leb-true, lt-ltb, ltb-true}
+use Rattle.std.proofs.lemmas.Bool.{and_parts, leb-true, lt-ltb, ltb-true}
 use Rattle.uefi_node_table.specs.Rows.{Form}
 use Rattle.uefi_node_reader.specs.TableReading.{are_within, blank, is_filled, put_all}
-
-both : (a b : Bool) → a && b ≡ true → (a ≡ true) × (b ≡ true)
-both true b e = (refl, e)
-both false b e = cc
 
 within_more : (n m : ℕ) (bytes : List (ℕ × ℕ)) → n ≤ m → are_within n bytes ≡ true → are_within m bytes ≡ true
 within_more n m [] l e = refl
 within_more n m (b ∷ bs) l e =
-    let p = both (ltb b.0 n) (are_within n bs) e in
+    let p = and_parts (ltb b.0 n) (are_within n bs) e in
     (λ i. lt-ltb b.0 m (let h = ltb-true b.0 n p.0 in omega (arith, h, l)) i && within_more n m bs l p.1 i)
 
 take_put : (n : ℕ) (bytes : List (ℕ × ℕ)) (content : List ℕ) → are_within n bytes ≡ true
     → take n (put_all bytes content) ≡ put_all bytes (take n content)
 take_put n [] content e = refl
 take_put n (b ∷ bs) content e =
-    let p = both (ltb b.0 n) (are_within n bs) e in
+    let p = and_parts (ltb b.0 n) (are_within n bs) e in
     take_put n bs (slice_set content b.0 b.1) p.1
     ∙ ap (λ (l : List ℕ). put_all bs l) (take-set-lt n content b.0 b.1 (ltb-true b.0 n p.0))
 
@@ -31,11 +27,11 @@ zeros (suc n) (suc m) l = ap (λ (x : List ℕ). 0 ∷ x) (zeros n m (omega (ari
 
 module _ (form : Form) (filled : is_filled form ≡ true) where
   small : leb form.least 64 ≡ true
-  small = (both (leb form.least 64) (are_within form.least form.when && are_within form.least form.also) filled).0
+  small = (and_parts (leb form.least 64) (are_within form.least form.when && are_within form.least form.also) filled).0
 
   bytes : (are_within form.least form.when ≡ true) × (are_within form.least form.also ≡ true)
-  bytes = both (are_within form.least form.when) (are_within form.least form.also)
-      (both (leb form.least 64) (are_within form.least form.when && are_within form.least form.also) filled).1
+  bytes = and_parts (are_within form.least form.when) (are_within form.least form.also)
+      (and_parts (leb form.least 64) (are_within form.least form.when && are_within form.least form.also) filled).1
 
   pub least_small : form.least ≤ 64
   least_small = leb-true form.least 64 small

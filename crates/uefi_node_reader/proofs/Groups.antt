@@ -1,7 +1,8 @@
 -- Forms that stand one group after the other, and what is computed of the whole table.
 use Rattle.std.proofs.Common.{◌≡◌, ℕ, zero, suc, ◌+◌, ◌-◌, ◌<◌, ◌≤◌, Bool, true, false, cond, List, [], ◌∷◌, ◌++◌, length, refl, sym, ap, ◌∙◌, arith}
-use Rattle.std.specs.Prelude.{Option, Some, None}
+use Rattle.std.specs.Prelude.{Option, Some, None, ◌&&◌}
 use Rattle.std.specs.List.{list_all}
+use Rattle.std.proofs.lemmas.Bool.{and_parts}
 use Rattle.uefi_node_table.specs.Rows.{Form, item_of}
 use Rattle.uefi_node_table.specs.Table.{forms, forms_from, group_forms}
 use Rattle.uefi_node_table.proofs.Groups.{next_group}
@@ -17,36 +18,27 @@ pub table_differs : all_differ forms ≡ true
 unfolding group_forms
 table_differs = refl
 
--- the same of each group
-pub group_sound : (index : ℕ) → index < 11 → list_all is_sound (group_forms index) ≡ true
+-- the same of each group, and that its forms are filled
+group_holds : (index : ℕ) → index < 11 → (list_all is_sound (group_forms index) && list_all is_filled (group_forms index)) ≡ true
 unfolding group_forms item_of
-group_sound zero l = refl
-group_sound (suc zero) l = refl
-group_sound (suc (suc zero)) l = refl
-group_sound (suc (suc (suc zero))) l = refl
-group_sound (suc (suc (suc (suc zero)))) l = refl
-group_sound (suc (suc (suc (suc (suc zero))))) l = refl
-group_sound (suc (suc (suc (suc (suc (suc zero)))))) l = refl
-group_sound (suc (suc (suc (suc (suc (suc (suc zero))))))) l = refl
-group_sound (suc (suc (suc (suc (suc (suc (suc (suc zero)))))))) l = refl
-group_sound (suc (suc (suc (suc (suc (suc (suc (suc (suc zero))))))))) l = refl
-group_sound (suc (suc (suc (suc (suc (suc (suc (suc (suc (suc zero)))))))))) l = refl
-group_sound (suc (suc (suc (suc (suc (suc (suc (suc (suc (suc (suc n))))))))))) l = absurd (omega arith)
+group_holds zero l = refl
+group_holds (suc zero) l = refl
+group_holds (suc (suc zero)) l = refl
+group_holds (suc (suc (suc zero))) l = refl
+group_holds (suc (suc (suc (suc zero)))) l = refl
+group_holds (suc (suc (suc (suc (suc zero))))) l = refl
+group_holds (suc (suc (suc (suc (suc (suc zero)))))) l = refl
+group_holds (suc (suc (suc (suc (suc (suc (suc zero))))))) l = refl
+group_holds (suc (suc (suc (suc (suc (suc (suc (suc zero)))))))) l = refl
+group_holds (suc (suc (suc (suc (suc (suc (suc (suc (suc zero))))))))) l = refl
+group_holds (suc (suc (suc (suc (suc (suc (suc (suc (suc (suc zero)))))))))) l = refl
+group_holds (suc (suc (suc (suc (suc (suc (suc (suc (suc (suc (suc n))))))))))) l = absurd (omega arith)
+
+pub group_sound : (index : ℕ) → index < 11 → list_all is_sound (group_forms index) ≡ true
+group_sound index l = (and_parts _ _ (group_holds index l)).0
 
 pub group_filled : (index : ℕ) → index < 11 → list_all is_filled (group_forms index) ≡ true
-unfolding group_forms
-group_filled zero l = refl
-group_filled (suc zero) l = refl
-group_filled (suc (suc zero)) l = refl
-group_filled (suc (suc (suc zero))) l = refl
-group_filled (suc (suc (suc (suc zero)))) l = refl
-group_filled (suc (suc (suc (suc (suc zero))))) l = refl
-group_filled (suc (suc (suc (suc (suc (suc zero)))))) l = refl
-group_filled (suc (suc (suc (suc (suc (suc (suc zero))))))) l = refl
-group_filled (suc (suc (suc (suc (suc (suc (suc (suc zero)))))))) l = refl
-group_filled (suc (suc (suc (suc (suc (suc (suc (suc (suc zero))))))))) l = refl
-group_filled (suc (suc (suc (suc (suc (suc (suc (suc (suc (suc zero)))))))))) l = refl
-group_filled (suc (suc (suc (suc (suc (suc (suc (suc (suc (suc (suc n))))))))))) l = absurd (omega arith)
+group_filled index l = (and_parts _ _ (group_holds index l)).1
 
 module _ (test : Form → Bool) where
   place_within : (xs bs : List Form) → form_place test xs < length xs → form_place test (xs ++ bs) ≡ form_place test xs

@@ -2,7 +2,7 @@
 use Rattle.std.proofs.Common.{◌≡◌, ℕ, ◌+◌, ◌≤◌, min, take, Bool, true, false, cond, eqb, leb, ltb, ◌&&◌, List, [], ◌∷◌, length, refl, ap, arith}
 use Rattle.std.specs.Prelude.{Some}
 use Rattle.std.specs.List.{list_all}
-use Rattle.std.proofs.lemmas.Bool.{le-leb, leb-false, leb-true, lt-leb, ltb-true}
+use Rattle.std.proofs.lemmas.Bool.{and_parts, le-leb, leb-false, leb-true, lt-leb, ltb-true}
 use Rattle.std.proofs.lemmas.List.{get_or-take, length-take}
 use Rattle.uefi_node_table.specs.Rows.{Form, find_form, has_bytes, is_used, matches}
 use Rattle.uefi_node_table.specs.Table.{forms, group_forms, has_form, is_found}
@@ -17,15 +17,11 @@ table_short : list_all is_short forms ≡ true
 unfolding group_forms
 table_short = refl
 
-both : (a b : Bool) → a && b ≡ true → (a ≡ true) × (b ≡ true)
-both true b e = (refl, e)
-both false b e = cc
-
 module _ (content : List ℕ) where
   bytes_same : (bytes : List (ℕ × ℕ)) → are_within 64 bytes ≡ true → has_bytes bytes (take 64 content) ≡ has_bytes bytes content
   bytes_same [] e = refl
   bytes_same (b ∷ bs) e =
-      let p = both (ltb b.0 64) (are_within 64 bs) e in
+      let p = and_parts (ltb b.0 64) (are_within 64 bs) e in
       let first = get_or-take 64 content b.0 0 (ltb-true b.0 64 p.0) in
       (λ i. eqb (first i) b.1 && bytes_same bs p.1 i)
 
@@ -42,7 +38,7 @@ module _ (content : List ℕ) where
   module _ (kind sub_kind : ℕ) where
     same : (form : Form) → is_short form ≡ true → matches false kind sub_kind (take 64 content) form ≡ matches false kind sub_kind content form
     same form e =
-        let p = both (leb form.least 64) (are_within 64 form.when) e in
+        let p = and_parts (leb form.least 64) (are_within 64 form.when) e in
         (λ i. (eqb form.kind kind && (eqb form.sub_kind sub_kind && is_used false form.mode))
         && (least_same form.least (leb-true form.least 64 p.0) i && bytes_same form.when p.1 i))
 
@@ -50,14 +46,14 @@ module _ (content : List ℕ) where
         → form_place (matches false kind sub_kind (take 64 content)) all ≡ form_place (matches false kind sub_kind content) all
     places [] e = refl
     places (form ∷ all) e =
-        let p = both (is_short form) (list_all is_short all) e in
+        let p = and_parts (is_short form) (list_all is_short all) e in
         (λ i. cond (same form p.0 i) 0 (places all p.1 i + 1))
 
     finds : (all : List Form) → list_all is_short all ≡ true
         → find_form (matches false kind sub_kind (take 64 content)) all ≡ find_form (matches false kind sub_kind content) all
     finds [] e = refl
     finds (form ∷ all) e =
-        let p = both (is_short form) (list_all is_short all) e in
+        let p = and_parts (is_short form) (list_all is_short all) e in
         (λ i. cond (same form p.0 i) (Some form) (finds all p.1 i))
 
 -- where the form stands in the table

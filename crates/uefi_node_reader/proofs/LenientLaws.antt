@@ -6,10 +6,9 @@ use Rattle.std.specs.Char.{to_ascii_uppercase}
 use Rattle.std.specs.List.{position_or_len}
 use Rattle.std.specs.Option.{option_map, option_or}
 use Rattle.std.specs.Str.{chars, is_utf8}
-use Rattle.std.proofs.lemmas.Bool.{leb-false}
+use Rattle.std.proofs.lemmas.Bool.{and_parts, leb-false}
 use Rattle.std.proofs.lemmas.List.{take-append-drop}
 use borrow.Author.Tests.{eqb-true}
-use Rattle.uefi_node_table.proofs.Lists.{both}
 use Rattle.uefi_node_table.specs.Rows.{Form}
 use Rattle.uefi_node_table.specs.Table.{forms, table_text}
 use Rattle.uefi_device_nodes.specs.Nodes.{Node, node_with}
@@ -52,9 +51,9 @@ tells_told node e = by (table_read forms text) refl e
     by : (o : Option (Node × List ℕ)) → table_read forms text ≡ o → is_node node o ≡ true → IsTold node
     by None p q = cc
     by (Some read) p q =
-        let kind = both (eqb read.0.device_type node.device_type) _ q in
+        let kind = and_parts (eqb read.0.device_type node.device_type) _ q in
         let others =
-        both (eqb read.0.sub_type node.sub_type) (pointwise nat_eq read.0.content node.content) kind.1 in
+        and_parts (eqb read.0.sub_type node.sub_type) (pointwise nat_eq read.0.content node.content) kind.1 in
         let content = same_text read.0.content node.content (sym others.1) in
         let same : read.0 ≡ node =
         λ i. node_with (eqb-true _ _ kind.0 i) (eqb-true _ _ others.0 i) (content i) in

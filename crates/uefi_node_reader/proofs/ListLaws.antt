@@ -1,5 +1,6 @@
 -- Items of a list are read back, and what is read is printed so.
 use Rattle.std.proofs.Common.{◌≡◌, ℕ, zero, suc, ◌+◌, ◌*◌, ◌/◌, ◌<◌, ◌≤◌, Bool, true, false, ltb, not, ◌&&◌, List, [], ◌∷◌, ◌++◌, length, take, drop, refl, sym, ap, subst, ◌∙◌, append_assoc, length-append, arith}
+use Rattle.std.proofs.lemmas.Bool.{and_parts}
 use Rattle.std.specs.Prelude.{All, Option, Some, None}
 use Rattle.std.specs.List.{concat, flat_map, list_all}
 use Rattle.std.specs.Simd.{first_chunks}
@@ -12,7 +13,6 @@ use Rattle.uefi_text.specs.Packed.{IsByte}
 use Rattle.uefi_node_table.specs.Rows.{Item, is_within, item_of, item_text, items_of, list_text, pieces_text}
 use Rattle.uefi_node_table.specs.declared.rows.Items.{Items}
 use Rattle.uefi_node_table.specs.declared.rows.Items.TheVariants.{Numbers, Ipv4, Ipv6}
-use Rattle.uefi_node_table.proofs.Lists.{both}
 use Rattle.uefi_node_reader.specs.Fields.{◌>>=◌}
 use Rattle.uefi_node_reader.specs.Numerals.{digit_of, has_digit}
 use Rattle.uefi_node_reader.specs.Words.{after}
@@ -46,10 +46,10 @@ record Sound (item : Item) : Type 0 where
 
 sound : (item : Item) → is_sound_item item ≡ true → Sound item
 sound item e =
-    let parts = both (list_all (is_within item.size) item.pieces && are_apart item.pieces) _ e in
-    let low = both (list_all (is_within item.size) item.pieces) (are_apart item.pieces) parts.0 in
-    let high = both (ends_pieces true item.pieces) _ parts.1 in
-    let last = both (begins_apart item.start) (ltb 0 item.size) high.1 in
+    let parts = and_parts (list_all (is_within item.size) item.pieces && are_apart item.pieces) _ e in
+    let low = and_parts (list_all (is_within item.size) item.pieces) (are_apart item.pieces) parts.0 in
+    let high = and_parts (ends_pieces true item.pieces) _ parts.1 in
+    let last = and_parts (begins_apart item.start) (ltb 0 item.size) high.1 in
     record { within = low.0; apart = low.1; ends = high.0; starts = last.0; some = ltb-true _ _ last.1 }
 
 zeros : (n : ℕ) → All IsByte (replicate n 0)

@@ -1,9 +1,9 @@
 -- Literals that a text begins with, and texts that differ.
 use Rattle.std.proofs.Common.{◌≡◌, ◌≢◌, ℕ, Bool, true, false, cond, eqb, List, [], ◌∷◌, ◌++◌, Bor, refl, sym, ap, ◌∙◌}
+use Rattle.std.proofs.lemmas.Bool.{and_parts}
 use Rattle.std.specs.Prelude.{MatchOption, Option, Some, None, option_and_then}
 use Rattle.std.specs.Option.{option_map}
 use borrow.Author.Tests.{eq-eqb, eqb-true}
-use Rattle.uefi_node_table.proofs.Lists.{both}
 use Rattle.uefi_node_reader.specs.Fields.{◌>>=◌}
 use Rattle.uefi_node_reader.specs.Words.{after, clash, same_text}
 
@@ -47,7 +47,7 @@ same_is [] [] e = refl
 same_is [] (d ∷ ds) e = cc
 same_is (c ∷ cs) [] e = cc
 same_is (c ∷ cs) (d ∷ ds) e =
-    let parts = both (eqb c d) (same_text cs ds) e in λ i. eqb-true c d parts.0 i ∷ same_is cs ds parts.1 i
+    let parts = and_parts (eqb c d) (same_text cs ds) e in λ i. eqb-true c d parts.0 i ∷ same_is cs ds parts.1 i
 
 -- what is left of a text after a literal, as `strip_prefix` says it
 pub stripped : (literal text : List ℕ) (r : Option (Bor (List ℕ)))

@@ -1,21 +1,22 @@
 -- Names of files are read back.
-use Rattle.std.proofs.Common.{◌≡◌, ◌≢◌, ℕ, ◌+◌, ◌-◌, ◌*◌, ◌/◌, ◌%◌, ◌<◌, ◌≤◌, Bool, true, false, cond, eqb, leb, ltb, not, ◌&&◌, List, [], ◌∷◌, ◌++◌, length, take, drop, slice_index, refl, ap, sym, subst, ◌∙◌, arith, ◌⊎◌, true≢false}
+use Rattle.std.proofs.Common.{◌≡◌, ◌≢◌, ℕ, ◌+◌, ◌-◌, ◌/◌, ◌%◌, ◌<◌, ◌≤◌, Bool, true, false, cond, eqb, leb, ltb, not, ◌&&◌, List, [], ◌∷◌, ◌++◌, length, take, drop, slice_index, refl, ap, sym, subst, ◌∙◌, arith, ◌⊎◌, true≢false}
 use Rattle.std.specs.Prelude.{Some, None}
 use Rattle.std.specs.Option.{unwrap_or}
 use Rattle.std.specs.Char.Escape.{encode_utf16}
 use Rattle.std.specs.Char.Utf16.{is_high_surrogate, is_low_surrogate, lone_unit_char, surrogate_pair_char, utf16_chars, utf16_lossy_chars}
 use Rattle.std.specs.List.{flat_map, list_all, position_or_len}
 use Rattle.std.specs.Str.{all_scalars, chars, is_utf8, IsUtf8}
-use Rattle.std.proofs.lemmas.Bool.{leb-true}
+use Rattle.std.proofs.lemmas.Bool.{and_from, and_left, and_parts, leb-true, not-true}
 use Rattle.std.proofs.lemmas.Bool.Decides.{nat_tests}
 use Rattle.std.proofs.lemmas.List.{drop_at, flat_map_more, take_at, take-append-drop}
-use Rattle.std.proofs.lemmas.List.Sums.{position_or_len_is}
+use Rattle.std.proofs.lemmas.List.Folds.{list_all-append}
 use Rattle.std.proofs.lemmas.Str.{chars-encodes, IsUtf8-from_is_utf8, is_utf8-from_IsUtf8}
 use borrow.Author.Tests.{eq-eqb, ltb-false}
 use lib.Utf8.{encode, encodes, scalar, scalar_cases}
-use Rattle.uefi_text.specs.Packed.{packed_items}
+use Rattle.uefi_text.proofs.UnitBytes.{length-unit_bytes, unit_bytes-append, units_of_bytes-unit_bytes}
 use Rattle.uefi_text.specs.UnitBytes.{unit_bytes, units_of_bytes}
 use Rattle.uefi_text.specs.Units.{is_nul}
+use Rattle.uefi_field_texts.proofs.Surrogates.{lone_first, pair_first}
 use Rattle.uefi_field_texts.specs.FieldTexts.{is_escaped, shown_char, shown_units, until_nul, utf16_text}
 use Rattle.uefi_device_nodes.specs.Nodes.{Node, node_with}
 use Rattle.uefi_device_nodes.specs.NodeTexts.{irregular_text, node_text}
@@ -24,29 +25,6 @@ use Rattle.uefi_node_reader.specs.Fields.{read_if}
 use Rattle.uefi_node_reader.proofs.CountedBytes.{pushed-append}
 use Rattle.uefi_node_reader.proofs.Digits.{some_pair}
 use Rattle.uefi_node_reader.specs.NamedFiles.{begins_name, ends_name, is_after_node, is_name, is_name_char, IsNamed, name_bytes, name_data, name_read}
-
-both_true : (a b : Bool) → a && b ≡ true → (a ≡ true) × (b ≡ true)
-both_true true b e = (refl, e)
-both_true false b e = cc
-
-not_true : (b : Bool) → not b ≡ true → b ≡ false
-not_true false e = refl
-not_true true e = cc
-
-pub even : (us : List ℕ) → length (unit_bytes us) ≡ 2 * length us
-even [] = refl
-even (u ∷ us) = let others = even us in omega arith
-
-items_back : (us : List ℕ) → packed_items 2 (length us) (unit_bytes us) ≡ us
-items_back [] = refl
-items_back (u ∷ us) =
-    let first : u % 256 + 256 * (u / 256 + 256 * 0) ≡ u = omega arith in
-    (λ i. first i ∷ items_back us i)
-
-pub units_back : (us : List ℕ) → units_of_bytes (unit_bytes us) ≡ us
-units_back us =
-    let count : length (unit_bytes us) / 2 ≡ length us = omega (arith, even us) in
-    ap (λ (n : ℕ). packed_items 2 n (unit_bytes us)) count ∙ items_back us
 
 -- the test for units among which no NUL is
 abbrev pub no_nul : List ℕ → Bool
@@ -57,7 +35,7 @@ pub place_of : (p : ℕ → Bool) (xs rest : List ℕ) → list_all (λ x. not (
     → position_or_len p (xs ++ rest) ≡ length xs
 place_of p [] rest e h = h
 place_of p (x ∷ xs) rest e h =
-    let q = both_true (not (p x)) (list_all (λ y. not (p y)) xs) e in
+    let q = and_parts (not (p x)) (list_all (λ y. not (p y)) xs) e in
     let others = place_of p xs rest q.1 h in
     ap (λ (t : Bool). cond t (1 + position_or_len p (xs ++ rest)) 0) q.0 ∙ omega arith
 
@@ -67,22 +45,8 @@ nul_place us e = place_of is_nul us (0 ∷ []) e refl
 until_back : (us : List ℕ) → no_nul us ≡ true → until_nul (us ++ 0 ∷ []) ≡ us
 until_back us e = ap (λ (n : ℕ). take n (us ++ 0 ∷ [])) (nul_place us e) ∙ take_at us (0 ∷ []) (length us) refl
 
-no_nul-append : (us vs : List ℕ) → no_nul us ≡ true → no_nul vs ≡ true → no_nul (us ++ vs) ≡ true
-no_nul-append [] vs p q = q
-no_nul-append (u ∷ us) vs p q =
-    let r = both_true (not (is_nul u)) (no_nul us) p in
-    (λ i. r.0 i && no_nul-append us vs r.1 q i)
-
-lone_first : (u : ℕ) (us : List ℕ) → is_high_surrogate u ≡ false
-    → utf16_lossy_chars (u ∷ us) ≡ unwrap_or (lone_unit_char u) 0xFFFD ∷ utf16_lossy_chars us
-unfolding utf16_chars
-lone_first u [] h = refl
-lone_first u (v ∷ us) h = rw h refl
-
-pair_first : (u v : ℕ) (us : List ℕ) → is_high_surrogate u ≡ true → is_low_surrogate v ≡ true
-    → utf16_lossy_chars (u ∷ v ∷ us) ≡ surrogate_pair_char u v ∷ utf16_lossy_chars us
-unfolding utf16_chars
-pair_first u v us h l = rw h (rw l refl)
+all-append : (p : ℕ → Bool) (us vs : List ℕ) → list_all p us ≡ true → list_all p vs ≡ true → list_all p (us ++ vs) ≡ true
+all-append p us vs e f = list_all-append p us vs ∙ and_from _ _ e f
 
 lossy_first : (c : ℕ) (us : List ℕ) → scalar c ≡ true → utf16_lossy_chars (encode_utf16 c ++ us) ≡ c ∷ utf16_lossy_chars us
 lossy_first c us s = by (ltb c 0x1_0000) refl (scalar_cases c s)
@@ -98,20 +62,20 @@ lossy_first c us s = by (ltb c 0x1_0000) refl (scalar_cases c s)
     by true e r =
         let is_lone : is_high_surrogate c ≡ false = grind (arith, nat_tests) in
         let same : unwrap_or (lone_unit_char c) 0xFFFD ≡ c = grind (arith, nat_tests) in
-        lone_first c us is_lone ∙ ap (λ (x : ℕ). x ∷ utf16_lossy_chars us) same
+        lone_first c us (and_left _ (is_low_surrogate (slice_index us 0)) is_lone) ∙ ap (λ (x : ℕ). x ∷ utf16_lossy_chars us) same
     by false e r =
         let large = ltb-false c 0x1_0000 e in
         let top : c < 1114112 = omega arith in
         let h : is_high_surrogate high ≡ true = grind (arith, nat_tests) in
         let l : is_low_surrogate low ≡ true = grind (arith, nat_tests) in
         let same : surrogate_pair_char high low ≡ c = omega arith in
-        pair_first high low us h l ∙ ap (λ (x : ℕ). x ∷ utf16_lossy_chars us) same
+        pair_first high low us (and_from _ _ h l) ∙ ap (λ (x : ℕ). x ∷ utf16_lossy_chars us) same
 
 pub lossy_back : (cs : List ℕ) → all_scalars cs ≡ true → utf16_lossy_chars (flat_map encode_utf16 cs) ≡ cs
 unfolding utf16_chars
 lossy_back [] s = refl
 lossy_back (c ∷ cs) s =
-    let p = both_true (scalar c) (all_scalars cs) s in
+    let p = and_parts (scalar c) (all_scalars cs) s in
     lossy_first c (flat_map encode_utf16 cs) p.0 ∙ ap (λ (x : List ℕ). c ∷ x) (lossy_back cs p.1)
 
 unit_no_nul : (c : ℕ) → is_escaped c ≡ false → no_nul (encode_utf16 c) ≡ true
@@ -122,17 +86,17 @@ unit_no_nul c e =
 units_no_nul : (cs : List ℕ) → list_all is_name_char cs ≡ true → no_nul (flat_map encode_utf16 cs) ≡ true
 units_no_nul [] e = refl
 units_no_nul (c ∷ cs) e =
-    let p = both_true (is_name_char c) (list_all is_name_char cs) e in
-    let q = both_true (not (is_escaped c)) (not (ends_name c)) p.0 in
-    no_nul-append (encode_utf16 c) (flat_map encode_utf16 cs) (unit_no_nul c (not_true (is_escaped c) q.0)) (units_no_nul cs p.1)
+    let p = and_parts (is_name_char c) (list_all is_name_char cs) e in
+    let q = and_parts (not (is_escaped c)) (not (ends_name c)) p.0 in
+    all-append (λ u. not (is_nul u)) (encode_utf16 c) (flat_map encode_utf16 cs) (unit_no_nul c (not-true (is_escaped c) q.0)) (units_no_nul cs p.1)
 
 shown_back : (cs : List ℕ) → list_all is_name_char cs ≡ true → flat_map shown_char cs ≡ encodes cs
 unfolding shown_char
 shown_back [] e = refl
 shown_back (c ∷ cs) e =
-    let p = both_true (is_name_char c) (list_all is_name_char cs) e in
-    let q = both_true (not (is_escaped c)) (not (ends_name c)) p.0 in
-    rw (not_true (is_escaped c) q.0) (ap (λ (x : List ℕ). encode c ++ x) (shown_back cs p.1))
+    let p = and_parts (is_name_char c) (list_all is_name_char cs) e in
+    let q = and_parts (not (is_escaped c)) (not (ends_name c)) p.0 in
+    rw (not-true (is_escaped c) q.0) (ap (λ (x : List ℕ). encode c ++ x) (shown_back cs p.1))
 
 -- the text of a node that holds a name is the name
 pub named_text : (cs : List ℕ) → all_scalars cs ≡ true → list_all is_name_char cs ≡ true
@@ -140,18 +104,12 @@ pub named_text : (cs : List ℕ) → all_scalars cs ≡ true → list_all is_nam
 unfolding node_text irregular_text utf16_text shown_units
 named_text cs s e =
     let us : List ℕ = flat_map encode_utf16 cs in
-    let whole : eqb (length (unit_bytes (us ++ 0 ∷ [])) % 2) 0 ≡ true = eq-eqb _ 0 (omega (arith, even (us ++ 0 ∷ []))) in
+    let whole : eqb (length (unit_bytes (us ++ 0 ∷ [])) % 2) 0 ≡ true = eq-eqb _ 0 (omega (arith, length-unit_bytes (us ++ 0 ∷ []))) in
     let shown : flat_map shown_char (utf16_lossy_chars (until_nul (units_of_bytes (unit_bytes (us ++ 0 ∷ []))))) ≡ encodes cs =
-    ap (λ (x : List ℕ). flat_map shown_char (utf16_lossy_chars (until_nul x))) (units_back (us ++ 0 ∷ []))
+    ap (λ (x : List ℕ). flat_map shown_char (utf16_lossy_chars (until_nul x))) (units_of_bytes-unit_bytes (us ++ 0 ∷ []))
     ∙ ap (λ (x : List ℕ). flat_map shown_char (utf16_lossy_chars x)) (until_back us (units_no_nul cs e))
     ∙ ap (λ (x : List ℕ). flat_map shown_char x) (lossy_back cs s) ∙ shown_back cs e in
     rw whole shown
-
-all-append : (p : ℕ → Bool) (us vs : List ℕ) → list_all p us ≡ true → list_all p vs ≡ true → list_all p (us ++ vs) ≡ true
-all-append p [] vs e f = f
-all-append p (u ∷ us) vs e f =
-    let r = both_true (p u) (list_all p us) e in
-    (λ i. r.0 i && all-append p us vs r.1 f i)
 
 -- the test for a byte that ends no name
 abbrev goes_on : ℕ → Bool
@@ -175,8 +133,8 @@ encode_goes_on c e = by (ltb c 128) (ltb c 2048) (ltb c 65536)
 name_goes_on : (cs : List ℕ) → list_all is_name_char cs ≡ true → list_all goes_on (encodes cs) ≡ true
 name_goes_on [] e = refl
 name_goes_on (c ∷ cs) e =
-    let p = both_true (is_name_char c) (list_all is_name_char cs) e in
-    let q = both_true (not (is_escaped c)) (not (ends_name c)) p.0 in
+    let p = and_parts (is_name_char c) (list_all is_name_char cs) e in
+    let q = and_parts (not (is_escaped c)) (not (ends_name c)) p.0 in
     all-append goes_on (encode c) (encodes cs) (encode_goes_on c q.1) (name_goes_on cs p.1)
 
 ends_at : (rest : List ℕ) → is_after_node rest ≡ true → position_or_len ends_name rest ≡ 0
@@ -186,7 +144,7 @@ ends_at (b ∷ bs) e = ap (λ (t : Bool). cond (not t) (1 + position_or_len ends
 -- what the name of a node is
 pub name_parts : (name : List ℕ) → is_name name ≡ true → (begins_name name ≡ true) × (list_all is_name_char name ≡ true)
 name_parts name e =
-    let p = both_true (begins_name name) _ e in (p.0, (both_true (list_all is_name_char name) _ p.1).0)
+    let p = and_parts (begins_name name) _ e in (p.0, (and_parts (list_all is_name_char name) _ p.1).0)
 
 pub name_printed : (node : Node) (is : IsNamed node) → node_text false false node ≡ encodes is.name
 name_printed node is = ap (λ (x : Node). node_text false false x) is.is ∙ named_text is.name is.scalars (name_parts is.name is.is_name).1
@@ -217,7 +175,7 @@ name_takes text node rest e =
     let name : List ℕ = name_bytes text in
     let made : Node = node_with 4 4 (name_data (chars name)) in
     let p = taken (is_utf8 name && is_name (chars name)) made node (drop place text) rest e in
-    let q = both_true (is_utf8 name) (is_name (chars name)) p.0 in
+    let q = and_parts (is_utf8 name) (is_name (chars name)) p.0 in
     let u = IsUtf8-from_is_utf8 name q.0 in
     let same : chars name ≡ u.0 = ap chars (sym u.1.1) ∙ chars-encodes u.0 u.1.0 in
     let s : all_scalars (chars name) ≡ true = ap all_scalars same ∙ u.1.0 in
@@ -227,22 +185,6 @@ name_takes text node rest e =
       sym (take-append-drop place text) ∙ (λ i. sym bytes i ++ p.2 i)
           ∙ ap (λ (x : List ℕ). x ++ rest) (sym (name_printed made is)) ∙ ap (λ (x : Node). node_text false false x ++ rest) p.1,
     )
-
--- the first byte that ends a name
-pub found_end : (xs : List ℕ) (place : ℕ) → ((k : ℕ) → k < place → ends_name (slice_index xs k) ≡ false)
-    → place < length xs → ends_name (slice_index xs place) ≡ true → place ≡ position_or_len ends_name xs
-found_end xs place none within is =
-    let e = position_or_len_is ends_name xs place 0 (omega arith) none (λ _. is) in grind arith
-
--- none
-pub no_end : (xs : List ℕ) (n : ℕ) → n ≡ length xs → ((k : ℕ) → k < n → ends_name (slice_index xs k) ≡ false)
-    → length xs ≡ position_or_len ends_name xs
-no_end xs n same none =
-    let e = position_or_len_is ends_name xs n 0 (omega arith) none (λ h. absurd (omega arith)) in grind arith
-
-unit_bytes-append : (us vs : List ℕ) → unit_bytes (us ++ vs) ≡ unit_bytes us ++ unit_bytes vs
-unit_bytes-append [] vs = refl
-unit_bytes-append (u ∷ us) vs = ap (λ (x : List ℕ). u % 256 ∷ u / 256 ∷ x) (unit_bytes-append us vs)
 
 -- a character more
 pub text_more : (state : List ℕ × ℕ) (so_far : List ℕ) (c : ℕ)

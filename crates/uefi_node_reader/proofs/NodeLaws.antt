@@ -1,5 +1,6 @@
 -- A node is read from its text, and what is read is printed so.
 use Rattle.std.specs.List.{list_all}
+use Rattle.std.proofs.lemmas.Bool.{and_parts, not-true}
 use Rattle.std.specs.Prelude.{not, Option, Some, None, codes}
 use Rattle.std.proofs.Common.{◌%◌, eqb, leb, ◌&&◌, ◌||◌, cond, ◌≤◌, ◌≡◌, ℕ, true, false, List, [], ◌∷◌, ◌++◌, refl, ap, sym, ◌∙◌, append_assoc, inl, inr, length, Bool, arith}
 use borrow.Author.Tests.{eqb-true, leb-true}
@@ -7,7 +8,6 @@ use lib.Utf8.{encode, encodes}
 use Rattle.uefi_node_table.specs.Rows.{Form, is_used}
 use Rattle.uefi_node_table.specs.Table.{forms, group_forms, has_form, is_found, table_text, text_in}
 use Rattle.uefi_node_table.proofs.Forms.{found}
-use Rattle.uefi_node_table.proofs.Lists.{both}
 use Rattle.uefi_device_nodes.specs.Nodes.{Node}
 use Rattle.uefi_device_nodes.specs.NodeTexts.{irregular_text, is_irregular, node_text, unknown_text}
 use Rattle.uefi_node_reader.specs.Fields.{either_read}
@@ -47,17 +47,13 @@ table_begins : list_all begins forms ≡ true
 unfolding group_forms begins
 table_begins = refl
 
-not_true : (b : Bool) → not b ≡ true → b ≡ false
-not_true false e = refl
-not_true true e = cc
-
 no_kind : (a b c : Bool) → not (a && b) ≡ true → a && (b && c) ≡ false
 no_kind false b c e = refl
 no_kind true false c e = refl
 no_kind true true c e = cc
 
 no_file : (a b c : Bool) → not (a && b) ≡ true → (a && b) && c ≡ false
-no_file a b c e = ap (λ (x : Bool). x && c) (not_true (a && b) e)
+no_file a b c e = ap (λ (x : Bool). x && c) (not-true (a && b) e)
 
 -- what a node that is told by the table is not
 record Regular (node : Node) : Type 0 where
@@ -69,18 +65,18 @@ unfolding is_regular
 regular node told =
     let form : Form = told.form in
     let is = found (prints node) is_regular forms form told.found table_regular in
-    let kinds = both (eqb form.kind node.device_type) _ (both (eqb form.kind node.device_type && (eqb form.sub_kind node.sub_type && is_used false form.mode)) _ is.1).0 in
+    let kinds = and_parts (eqb form.kind node.device_type) _ (and_parts (eqb form.kind node.device_type && (eqb form.sub_kind node.sub_type && is_used false form.mode)) _ is.1).0 in
     let kind = eqb-true form.kind node.device_type kinds.0 in
-    let sub_kind = eqb-true form.sub_kind node.sub_type (both (eqb form.sub_kind node.sub_type) (is_used false form.mode) kinds.1).0 in
+    let sub_kind = eqb-true form.sub_kind node.sub_type (and_parts (eqb form.sub_kind node.sub_type) (is_used false form.mode) kinds.1).0 in
     let same : is_regular form ≡ ((not (eqb node.device_type 0x7f) && not (eqb node.device_type 4 && eqb node.sub_type 4))
     && (not (eqb node.device_type 2 && eqb node.sub_type 2) && not (eqb node.device_type 5 && eqb node.sub_type 1))) =
     λ i. (not (eqb (kind i) 0x7f) && not (eqb (kind i) 4 && eqb (sub_kind i) 4))
     && (not (eqb (kind i) 2 && eqb (sub_kind i) 2) && not (eqb (kind i) 5 && eqb (sub_kind i) 1)) in
-    let parts = both (not (eqb node.device_type 0x7f) && not (eqb node.device_type 4 && eqb node.sub_type 4)) _ (sym same ∙ is.0) in
-    let low = both (not (eqb node.device_type 0x7f)) (not (eqb node.device_type 4 && eqb node.sub_type 4)) parts.0 in
-    let high = both (not (eqb node.device_type 2 && eqb node.sub_type 2)) (not (eqb node.device_type 5 && eqb node.sub_type 1)) parts.1 in
+    let parts = and_parts (not (eqb node.device_type 0x7f) && not (eqb node.device_type 4 && eqb node.sub_type 4)) _ (sym same ∙ is.0) in
+    let low = and_parts (not (eqb node.device_type 0x7f)) (not (eqb node.device_type 4 && eqb node.sub_type 4)) parts.0 in
+    let high = and_parts (not (eqb node.device_type 2 && eqb node.sub_type 2)) (not (eqb node.device_type 5 && eqb node.sub_type 1)) parts.1 in
     record {
-      no_end = not_true _ low.0;
+      no_end = not-true _ low.0;
       regular = λ i. no_file (eqb node.device_type 4) (eqb node.sub_type 4) (eqb (length node.content % 2) 0) low.1 i
           || (no_kind (eqb node.device_type 2) (eqb node.sub_type 2) (leb 15 (length node.content)) high.0 i
           || (no_kind (eqb node.device_type 5) (eqb node.sub_type 1) (leb 5 (length node.content)) high.1 i || false));
@@ -170,7 +166,7 @@ unfolding begins
 node_starts node (inl told) rest =
     let form : Form = told.form in
     ap (λ (x : List ℕ). is_after_node (x ++ rest)) (tabled_text node told ∙ ap (λ (o : Option Form). text_in o node.content) told.found)
-    ∙ start_first form.start _ rest (not_true _ (found (prints node) begins forms form told.found table_begins).0)
+    ∙ start_first form.start _ rest (not-true _ (found (prints node) begins forms form told.found table_begins).0)
 node_starts node (inr (inl plain)) rest =
     ap (λ (x : List ℕ). is_after_node (x ++ rest)) (plain_text node (plain_parts node plain.plain)) ∙ plain_starts node rest
 node_starts node (inr (inr named)) rest =

@@ -2,7 +2,7 @@
 use Rattle.std.proofs.Common.{◌≡◌, ℕ, ◌+◌, ◌≤◌, Bool, true, false, eqb, List, [], ◌∷◌, ◌&&◌, ◌||◌, ◌++◌, length, refl, sym, ap, subst, ◌∙◌, append_assoc, arith}
 use Rattle.std.specs.Prelude.{All, not, Option, Some, None, option_and_then}
 use Rattle.std.specs.List.{list_all}
-use Rattle.std.proofs.lemmas.Bool.{leb-true}
+use Rattle.std.proofs.lemmas.Bool.{and_parts, leb-true}
 use borrow.Author.Tests.{eqb-true}
 use Rattle.uefi_text.specs.Packed.{IsByte}
 use Rattle.uefi_node_reader.specs.Fields.{field_kept, field_read, IsValue}
@@ -21,12 +21,11 @@ use Rattle.uefi_node_reader.proofs.Digits.{some_pair}
 use Rattle.uefi_node_reader.proofs.DigitTexts.{parted_none}
 use Rattle.uefi_node_reader.proofs.Literals.{after_again, after_some, after_takes, bind_some, clash_none, same_is}
 use Rattle.uefi_node_reader.proofs.FieldLaws.{ends_is, field_again, field_takes, open_is}
-use Rattle.uefi_node_table.proofs.Lists.{both}
 use Rattle.uefi_node_reader.proofs.Places.{length-put, put_bytes, put_get, put_other, value_is}
 
 -- what is known of a field that lies within data
 pub within_parts : (n : ℕ) (p : Piece) → is_within n p ≡ true → (p.place + p.width ≤ n) × (fits_shape p.shape p.width ≡ true)
-within_parts n p e = let parts = both _ _ e in (leb-true _ _ parts.0, parts.1)
+within_parts n p e = let parts = and_parts _ _ e in (leb-true _ _ parts.0, parts.1)
 
 -- the text of a field, with what follows
 text_parts : (p : Piece) (content others rest : List ℕ)
@@ -47,8 +46,8 @@ pieces_takes n [] content text found rest w a l c e =
     let same = some_pair (content, text) (found, rest) e in
     record { text_is = same.1; overlaid = same.0; size = sym (ap length same.0); bytes = subst (λ (x : List ℕ). All IsByte x) same.0 c; others = λ q h. ap (value_at q) (sym same.0) }
 pieces_takes n (p ∷ ps) content text found rest w a l c e =
-    let ws = both (is_within n p) (list_all (is_within n) ps) w in
-    let sides = both (list_all (is_apart p) ps) (are_apart ps) a in
+    let ws = and_parts (is_within n p) (list_all (is_within n) ps) w in
+    let sides = and_parts (list_all (is_apart p) ps) (are_apart ps) a in
     let here = within_parts n p ws.0 in
     let long : p.place + p.width ≤ length content = omega (arith, here.0) in
     let x = bind_some (piece_put p content text) _ (found, rest) e in
@@ -69,7 +68,7 @@ pieces_takes n (p ∷ ps) content text found rest w a l c e =
       overlaid = ap (λ (y : List ℕ). overlay ps found (put_at p y content)) (ap (field_kept p.shape) value ∙ first.2) ∙ others.overlaid;
       size = others.size ∙ length-put p v.0.0 content wide long;
       bytes = others.bytes;
-      others = λ q h. let hs = both (is_apart q p) (list_all (is_apart q) ps) h in others.others q hs.1 ∙ put_other q p v.0.0 content hs.0 wide long;
+      others = λ q h. let hs = and_parts (is_apart q p) (list_all (is_apart q) ps) h in others.others q hs.1 ∙ put_other q p v.0.0 content hs.0 wide long;
     }
 
 -- a text that ends a field before others: its own ending, or where it has none and no other follows, what begins with no digit
@@ -90,8 +89,8 @@ piece_ends free p others source rest e h = by (ends_field p.shape p.ending) refl
         → goes_on p.shape (p.ending ++ (pieces_text others source ++ rest)) ≡ false
     by true f others g = ends_is p.shape p.ending (pieces_text others source ++ rest) f
     by false f [] g =
-        let parts = both free (is_empty p.ending && not (goes_on p.shape [])) g in
-        let last = both (is_empty p.ending) (not (goes_on p.shape [])) parts.1 in
+        let parts = and_parts free (is_empty p.ending && not (goes_on p.shape [])) g in
+        let last = and_parts (is_empty p.ending) (not (goes_on p.shape [])) parts.1 in
         bare p.ending rest last.0 last.1 (h parts.0)
     by false f (q ∷ qs) g = and_false free g _
 
@@ -106,8 +105,8 @@ pub pieces_again : (n : ℕ) (pieces : List Piece) (content source rest : List �
     → pieces_put pieces content (pieces_text pieces source ++ rest) ≡ Some (overlay pieces source content, rest)
 pieces_again n [] content source rest w free e h l s = refl
 pieces_again n (p ∷ ps) content source rest w free e h l s =
-    let ws = both (is_within n p) (list_all (is_within n) ps) w in
-    let es = both (ends_field p.shape p.ending || (free && (is_empty ps && (is_empty p.ending && not (goes_on p.shape []))))) (ends_pieces free ps) e in
+    let ws = and_parts (is_within n p) (list_all (is_within n) ps) w in
+    let es = and_parts (ends_field p.shape p.ending || (free && (is_empty ps && (is_empty p.ending && not (goes_on p.shape []))))) (ends_pieces free ps) e in
     let here = within_parts n p ws.0 in
     let value : List ℕ = value_at p source in
     let tail : List ℕ = pieces_text ps source ++ rest in
@@ -143,14 +142,14 @@ pub differ_none : (n : ℕ) (ps qs : List Piece) (content source rest : List ℕ
 differ_none n [] qs content source rest d w free e h l s = cc
 differ_none n (p ∷ ps) [] content source rest d w free e h l s = cc
 differ_none n (p ∷ ps) (q ∷ qs) content source rest d w free e h l s =
-    let ws = both (is_within n q) (list_all (is_within n) qs) w in
+    let ws = and_parts (is_within n q) (list_all (is_within n) qs) w in
     let here = within_parts n q ws.0 in
     let whole = text_parts q source (pieces_text qs source) rest in
     let is = value_is q source (omega (arith, here.0)) s in
     ap (λ (x : List ℕ). pieces_put (p ∷ ps) content x) whole ∙ either (are_parted p q) refl d here.1 is (λ d.
-    let ds = both (same_shape p.shape q.shape && eqb p.width q.width) (clash p.ending q.ending || (same_text p.ending q.ending && pieces_differ ps qs)) d in
-    let alike = both (same_shape p.shape q.shape) (eqb p.width q.width) ds.0 in
-    let es = both (ends_field q.shape q.ending || (free && (is_empty qs && (is_empty q.ending && not (goes_on q.shape []))))) (ends_pieces free qs) e in
+    let ds = and_parts (same_shape p.shape q.shape && eqb p.width q.width) (clash p.ending q.ending || (same_text p.ending q.ending && pieces_differ ps qs)) d in
+    let alike = and_parts (same_shape p.shape q.shape) (eqb p.width q.width) ds.0 in
+    let es = and_parts (ends_field q.shape q.ending || (free && (is_empty qs && (is_empty q.ending && not (goes_on q.shape []))))) (ends_pieces free qs) e in
     let shape = shape_is p.shape q.shape alike.0 in
     let width = eqb-true p.width q.width alike.1 in
     let read : field_read p.shape p.width (field_text q.shape value ++ (q.ending ++ tail)) ≡ Some (kept, q.ending ++ tail) =
@@ -191,7 +190,7 @@ differ_none n (p ∷ ps) (q ∷ qs) content source rest d w free e h l s =
         → go (option_and_then (put kept) (after p.ending (q.ending ++ tail))) ≡ None
     by true h i others = ap (λ (o : Option (List ℕ)). go (option_and_then (put kept) o)) (clash_none p.ending q.ending tail h)
     by false h i others =
-        let parts = both (same_text p.ending q.ending) (pieces_differ ps qs) i in
+        let parts = and_parts (same_text p.ending q.ending) (pieces_differ ps qs) i in
         ap (λ (o : Option (List ℕ)). go (option_and_then (put kept) o))
         (ap (λ (y : List ℕ). after y (q.ending ++ tail)) (same_is p.ending q.ending parts.0) ∙ after_again q.ending tail)
         ∙ others parts.1

@@ -1,5 +1,6 @@
 -- The texts of nodes in the forms of a table are read back, and what is read is printed so.
 use Rattle.std.proofs.Common.{◌≡◌, ℕ, suc, ◌+◌, ◌≤◌, Bool, true, false, cond, eqb, leb, ltb, List, [], ◌∷◌, ◌&&◌, ◌||◌, ◌++◌, length, drop, refl, sym, ap, subst, ◌∙◌, append_assoc, length-append, arith}
+use Rattle.std.proofs.lemmas.Bool.{and_from, and_parts}
 use Rattle.std.specs.Prelude.{All, Option, Some, None, not, option_and_then}
 use Rattle.std.specs.List.{list_all}
 use Rattle.std.proofs.Math.Seq.{drop-append_seam}
@@ -19,13 +20,12 @@ use Rattle.uefi_node_reader.specs.Words.{clash, same_text}
 use Rattle.uefi_node_reader.proofs.Digits.{some_pair}
 use Rattle.uefi_node_reader.proofs.Literals.{after_again, after_some, after_takes, bind_some, clash_none, same_is}
 use Rattle.uefi_node_table.proofs.Forms.{found, long_enough}
-use Rattle.uefi_node_table.proofs.Lists.{and_true, both}
 use Rattle.uefi_node_reader.proofs.PieceLaws.{differ_none, pieces_again, pieces_takes, within_parts}
 use Rattle.uefi_node_reader.proofs.TailLaws.{no_lead, tail_again, tail_starts, tail_takes}
 
 are_bytes : (bytes : List ℕ) → list_all (λ b. ltb b 256) bytes ≡ true → All IsByte bytes
 are_bytes [] e = All-nil IsByte
-are_bytes (b ∷ bs) e = let parts = both (ltb b 256) (list_all (λ c. ltb c 256) bs) e in All-cons IsByte b bs (ltb-true b 256 parts.0) (are_bytes bs parts.1)
+are_bytes (b ∷ bs) e = let parts = and_parts (ltb b 256) (list_all (λ c. ltb c 256) bs) e in All-cons IsByte b bs (ltb-true b 256 parts.0) (are_bytes bs parts.1)
 
 -- what is asked only where a test holds
 asked : (a b : Bool) → a ≡ true → not a || b ≡ true → b ≡ true
@@ -43,11 +43,11 @@ record Sound (form : Form) : Type 0 where
 
 sound : (form : Form) → is_read form.mode ≡ true → is_sound form ≡ true → Sound form
 sound form r e =
-    let parts = both (list_all (is_within (length (blank form))) form.pieces && are_apart form.pieces) _ (asked (is_read form.mode) _ r e) in
-    let low = both (list_all (is_within (length (blank form))) form.pieces) (are_apart form.pieces) parts.0 in
-    let high = both (ends_pieces (is_open form.tail) form.pieces) _ parts.1 in
-    let last = both (ends_tail form.tail form.close) _ high.1 in
-    let fixed = both (list_all (λ b. ltb b 256) (blank form)) _ last.1 in
+    let parts = and_parts (list_all (is_within (length (blank form))) form.pieces && are_apart form.pieces) _ (asked (is_read form.mode) _ r e) in
+    let low = and_parts (list_all (is_within (length (blank form))) form.pieces) (are_apart form.pieces) parts.0 in
+    let high = and_parts (ends_pieces (is_open form.tail) form.pieces) _ parts.1 in
+    let last = and_parts (ends_tail form.tail form.close) _ high.1 in
+    let fixed = and_parts (list_all (λ b. ltb b 256) (blank form)) _ last.1 in
     record { within = low.0; apart = low.1; ends = high.0; tail_ends = last.0; bytes = are_bytes (blank form) fixed.0; size = eqb-true _ _ fixed.1 }
 
 -- what a form reads, where it is read
@@ -108,7 +108,7 @@ values_same : (n : ℕ) (head extra : List ℕ) → length head ≡ n → (piece
     → (pieces_text pieces (head ++ extra) ≡ pieces_text pieces head) × ((content : List ℕ) → overlay pieces (head ++ extra) content ≡ overlay pieces head content)
 values_same n head extra l [] w = (refl, λ content. refl)
 values_same n head extra l (p ∷ ps) w =
-    let ws = both (is_within n p) (list_all (is_within n) ps) w in
+    let ws = and_parts (is_within n p) (list_all (is_within n) ps) w in
     let here = within_parts n p ws.0 in
     let others = values_same n head extra l ps ws.1 in
     let to : ℕ = p.place + p.width in
@@ -172,7 +172,7 @@ some_takes : (all before forms : List Form) → all ≡ before ++ forms → list
     → forms_read all (length before) forms text ≡ Some (node, rest) → IsTabled all node × (text ≡ printed_by all node ++ rest)
 some_takes all before [] a s text node rest e = cc
 some_takes all before (f ∷ fs) a s text node rest e =
-    let parts = both (is_sound f) (list_all is_sound fs) s in
+    let parts = and_parts (is_sound f) (list_all is_sound fs) s in
     by (form_read f text) refl (form_takes f parts.0 text) e (some_takes all (before ++ f ∷ []) fs (a ∙ sym (append_assoc before (f ∷ []) fs)) parts.1 text node rest)
   where
     Told : Type 0
@@ -188,7 +188,7 @@ some_takes all before (f ∷ fs) a s text node rest e =
     here content left r true p q h =
         let made : Node = node_with f.kind f.sub_kind content in
         let same = some_pair (made, left) (node, rest) q in
-        let tests = both (eqb (form_place (prints made) all) (length before)) (leb (length content) 0xfffb) p in
+        let tests = and_parts (eqb (form_place (prints made) all) (length before)) (leb (length content) 0xfffb) p in
         let is_here : form_place (prints made) (before ++ f ∷ fs) ≡ length before = ap (λ (l : List Form). form_place (prints made) l) (sym a) ∙ eqb-true _ _ tests.0 in
         let chosen : find_form (prints made) all ≡ Some f = ap (λ (l : List Form). find_form (prints made) l) a ∙ placed (prints made) before f fs is_here in
         let told : IsTabled all made = record { form = f; found = chosen; read = r.read; whole = r.whole; bytes = r.bytes; fits = tests.1 } in
@@ -253,7 +253,7 @@ not_read one other d r s content rest l all = first (is_read one.mode) refl
         → go (after one.start (other.start ++ others)) ≡ None
     by true p q = ap go (clash_none one.start other.start others p)
     by false p q =
-        let parts = both (same_text one.start other.start) (pieces_differ one.pieces other.pieces) q in
+        let parts = and_parts (same_text one.start other.start) (pieces_differ one.pieces other.pieces) q in
         ap go (ap (λ (y : List ℕ). after y (other.start ++ others)) (same_is one.start other.start parts.0) ∙ after_again other.start others)
         ∙ ap (λ (o : Option (List ℕ × List ℕ)). option_and_then (rest_read one) o)
         (differ_none (length (blank other)) one.pieces other.pieces (blank one) content tail parts.1 is.within (is_open other.tail) is.ends
@@ -266,15 +266,15 @@ not_read one other d r s content rest l all = first (is_read one.mode) refl
         ∙ by (clash one.start other.start) refl (asked (is_read other.mode) _ r (asked (is_read one.mode) _ p d))
 
 one_of : (one form : Form) (before others : List Form) → list_all (differ one) (before ++ form ∷ others) ≡ true → differ one form ≡ true
-one_of one form [] others e = (both (differ one form) (list_all (differ one) others) e).0
-one_of one form (b ∷ bs) others e = one_of one form bs others (both (differ one b) (list_all (differ one) (bs ++ form ∷ others)) e).1
+one_of one form [] others e = (and_parts (differ one form) (list_all (differ one) others) e).0
+one_of one form (b ∷ bs) others e = one_of one form bs others (and_parts (differ one b) (list_all (differ one) (bs ++ form ∷ others)) e).1
 
 skips : (all : List Form) (before : List Form) (form : Form) (others : List Form) (place : ℕ) → all_differ (before ++ form ∷ others) ≡ true
     → is_read form.mode ≡ true → is_sound form ≡ true → (content rest : List ℕ) → form.least ≤ length content → All IsByte content
     → forms_read all place (before ++ form ∷ others) (form_text form content ++ rest) ≡ forms_read all (place + length before) (form ∷ others) (form_text form content ++ rest)
 skips all [] form others place d r s content rest l bytes = ap (λ (n : ℕ). forms_read all n (form ∷ others) (form_text form content ++ rest)) {x = place} {y = place + 0} (omega arith)
 skips all (b ∷ bs) form others place d r s content rest l bytes =
-    let parts = both (list_all (differ b) (bs ++ form ∷ others)) (all_differ (bs ++ form ∷ others)) d in
+    let parts = and_parts (list_all (differ b) (bs ++ form ∷ others)) (all_differ (bs ++ form ∷ others)) d in
     let text : List ℕ = form_text form content ++ rest in
     ap (λ (o : Option (List ℕ × List ℕ)). either_read (kept all place b o) (forms_read all (place + 1) (bs ++ form ∷ others) text))
     (not_read b form (one_of b form bs others parts.0) r s content rest l bytes)
@@ -289,14 +289,14 @@ table_again forms s d node told rest =
     let st = stands (prints node) forms form told.found in
     let is = found (prints node) is_sound forms form told.found s in
     let long = long_enough false node.device_type node.sub_type node.content form is.1 in
-    let kinds = both (eqb form.kind node.device_type) _ (both (eqb form.kind node.device_type && (eqb form.sub_kind node.sub_type && is_used false form.mode)) _ is.1).0 in
+    let kinds = and_parts (eqb form.kind node.device_type) _ (and_parts (eqb form.kind node.device_type && (eqb form.sub_kind node.sub_type && is_used false form.mode)) _ is.1).0 in
     let kind = eqb-true form.kind node.device_type kinds.0 in
-    let sub_kind = eqb-true form.sub_kind node.sub_type (both (eqb form.sub_kind node.sub_type) (is_used false form.mode) kinds.1).0 in
+    let sub_kind = eqb-true form.sub_kind node.sub_type (and_parts (eqb form.sub_kind node.sub_type) (is_used false form.mode) kinds.1).0 in
     let text : List ℕ = form_text form node.content ++ rest in
     let place : ℕ = 0 + length st.before in
     let made : node_with form.kind form.sub_kind node.content ≡ node = λ i. node_with (kind i) (sub_kind i) node.content in
     let here : form_place (prints node) forms ≡ place = st.place ∙ omega arith in
-    let is_here : is_kept forms place node ≡ true = and_true _ _ (eq-eqb _ place here) told.fits in
+    let is_here : is_kept forms place node ≡ true = and_from _ _ (eq-eqb _ place here) told.fits in
     ap (λ (o : Option Form). table_read forms (text_in o node.content ++ rest)) told.found
     ∙ ap (λ (l : List Form). forms_read forms 0 l text) st.all
     ∙ skips forms st.before form st.others 0 (subst (λ (l : List Form). all_differ l ≡ true) st.all d) told.read is.0 node.content rest long told.bytes
@@ -310,7 +310,7 @@ pub unread : (all : List Form) (place : ℕ) (forms : List Form) (start others :
     → forms_read all place forms (start ++ others) ≡ None
 unread all place [] start others e = refl
 unread all place (f ∷ fs) start others e =
-    let parts = both (clash f.start start) (list_all (λ g. clash g.start start) fs) e in
+    let parts = and_parts (clash f.start start) (list_all (λ g. clash g.start start) fs) e in
     let none : body f (start ++ others) ≡ None = ap (λ (o : Option (List ℕ)). option_and_then (λ (t : List ℕ). pieces_put f.pieces (blank f) t >>= rest_read f) o)
     (clash_none f.start start others parts.0) in
     ap (λ (o : Option (List ℕ × List ℕ)). either_read (kept all place f o) (forms_read all (place + 1) fs (start ++ others))) (by (is_read f.mode) none)

@@ -1,5 +1,6 @@
 -- Data after the fields are read back, and what is read is printed so.
 use Rattle.std.proofs.Common.{◌≡◌, ℕ, ◌+◌, ◌*◌, ◌/◌, ◌%◌, ◌<◌, Bool, true, false, cond, eqb, ltb, ◌&&◌, List, [], ◌∷◌, ◌++◌, refl, ap, sym, subst, ◌∙◌, append_assoc, arith}
+use Rattle.std.proofs.lemmas.Bool.{and_parts, not-true}
 use Rattle.std.specs.Prelude.{All, Some, not}
 use Rattle.std.specs.Fmt.{digit_glyph}
 use Rattle.std.specs.List.{flat_map, list_all}
@@ -20,12 +21,7 @@ use Rattle.uefi_node_table.specs.declared.rows.Tail.{Tail}
 use Rattle.uefi_node_table.specs.declared.rows.Tail.TheVariants.{Nothing, Bytes, Text, Utf16, Name, Repeated}
 use Rattle.uefi_node_reader.proofs.Digits.{hexadecimal, some_pair}
 use Rattle.uefi_node_reader.proofs.ClearTexts.{clear_again, clear_bytes, clear_takes, clear_units, shown_clear, utf16_clear}
-use Rattle.uefi_node_reader.proofs.FieldLaws.{two_digits}
-use Rattle.uefi_node_table.proofs.Lists.{both}
-
-no_test : (b : Bool) → not b ≡ true → b ≡ false
-no_test false e = refl
-no_test true e = cc
+use Rattle.uefi_field_texts.proofs.GuidTexts.{two_digits}
 
 run_end : (c : ℕ) (cs rest : List ℕ) → ltb (digit_of c) 16 ≡ false → run_read ((c ∷ cs) ++ rest) ≡ ([], (c ∷ cs) ++ rest)
 run_end c cs rest e = by (cs ++ rest)
@@ -136,7 +132,7 @@ tail_starts Text close bytes rest e o = cc
 tail_starts Utf16 close bytes rest e o = cc
 tail_starts Name close bytes rest e o = cc
 tail_starts (Repeated items) close bytes rest e o =
-    let parts = both (clash (item_of items).start close) (begins_apart close) e in
+    let parts = and_parts (clash (item_of items).start close) (begins_apart close) e in
     list_starts (item_of items) (sound_items items) bytes (close ++ rest) (apart close rest parts.1)
 
 pub tail_again : (tail : Tail) (close bytes rest : List ℕ) → ends_tail tail close ≡ true → All IsByte bytes → IsTailTold tail close bytes
@@ -152,13 +148,13 @@ tail_again Utf16 (c ∷ cs) bytes rest e all told =
     ∙ ap as_units (clear_again c told.0 (cs ++ rest) told.1.1) ∙ (λ i. Some (sym told.1.0 i, (c ∷ cs) ++ rest))
 tail_again Name close bytes rest e all told = cc
 tail_again (Repeated items) close bytes rest e all told =
-    let parts = both (clash (item_of items).start close) (begins_apart close) e in
+    let parts = and_parts (clash (item_of items).start close) (begins_apart close) e in
     list_again (item_of items) (sound_items items) bytes told all (close ++ rest)
     (clash_none (item_of items).start close rest parts.0) (apart close rest parts.1)
 tail_again Bytes [] bytes rest e all told = cc
 tail_again Bytes (c ∷ cs) bytes rest e all told =
-    let parts = both (not (ltb (digit_of c) 16)) (not (eqb c 44)) e in
-    comma_again bytes all c cs rest (no_test _ parts.0) (no_test _ parts.1)
+    let parts = and_parts (not (ltb (digit_of c) 16)) (not (eqb c 44)) e in
+    comma_again bytes all c cs rest (not-true _ parts.0) (not-true _ parts.1)
 
 pub tail_takes : (tail : Tail) (close text bytes rest : List ℕ) → tail_read tail close text ≡ Some (bytes, rest)
     → (text ≡ tail_text tail bytes ++ rest) × (All IsByte bytes) × (IsTailTold tail close bytes)

@@ -8,9 +8,8 @@ use Rattle.uefi_node_table.specs.Rows.{Form}
 use Rattle.uefi_device_nodes.specs.Nodes.{Node, node_with}
 use Rattle.uefi_node_reader.specs.Counted.{pushed, put_on}
 use Rattle.uefi_node_reader.specs.Fields.{read_if}
-use Rattle.uefi_node_reader.specs.TableReading.{added, closed, form_place, kept, prints}
+use Rattle.uefi_node_reader.specs.TableReading.{added, form_place, kept, prints}
 use Rattle.uefi_node_reader.specs.TextNodes.{bytes_of, fitting}
-use Rattle.uefi_node_reader.specs.Words.{after}
 use Rattle.uefi_node_reader.proofs.CountedBytes.{counted, first_shown, front_kept, whole_written}
 use Rattle.uefi_node_reader.proofs.Digits.{some_pair}
 
@@ -20,27 +19,7 @@ fits_not read l = ap (λ (t : Bool). cond t (Some read) None) (lt-leb (length re
 fits : (read : List ℕ × List ℕ) → length read.0 ≤ 0xfffb → fitting (Some read) ≡ Some read
 fits read l = ap (λ (t : Bool). cond t (Some read) None) (le-leb (length read.0) 0xfffb l)
 
--- what an end after the data leaves of them
-pub fitting-closed : (close : List ℕ) (read : Option (List ℕ × List ℕ))
-    → fitting (option_and_then (closed close) read) ≡ option_and_then (closed close) (fitting read)
-fitting-closed close None = refl
-fitting-closed close (Some read) = by (leb (length read.0) 0xfffb) (after close read.1) refl refl
-  where
-    by : (t : Bool) (o : Option (List ℕ)) → o ≡ after close read.1 → leb (length read.0) 0xfffb ≡ t
-        → fitting (option_and_then (λ (rest : List ℕ). Some (read.0, rest)) o) ≡ option_and_then (closed close) (cond t (Some read) None)
-    by true None e h = ap (λ (x : Option (List ℕ)). option_and_then (λ (rest : List ℕ). Some (read.0, rest)) x) e
-    by true (Some rest) e h = ap (λ (x : Bool). cond x (Some (read.0, rest)) None) h
-        ∙ ap (λ (x : Option (List ℕ)). option_and_then (λ (rest : List ℕ). Some (read.0, rest)) x) e
-    by false None e h = refl
-    by false (Some rest) e h = ap (λ (x : Bool). cond x (Some (read.0, rest)) None) h
-
 module _ (start : List ℕ) (fixed : ℕ) (small : fixed ≤ 64) (room : length start ≡ 64) where
-  -- nothing is read
-  pub tail_none : (o : Option (List ℕ × List ℕ)) → None ≡ option_and_then (put_on (start, fixed)) o
-      → None ≡ fitting (option_and_then (added (take fixed start)) o)
-  tail_none None e = refl
-  tail_none (Some read) e = cc
-
   front_size : length (take fixed start) ≡ fixed
   front_size = length-take-le fixed start (omega (arith, small, room))
 

@@ -1,5 +1,6 @@
 -- No text of the table holds a character that texts escape.
 use Rattle.std.proofs.Common.{◌≡◌, ℕ, ◌+◌, ◌==◌, ◌&&◌, Bool, true, false, if◌then◌else◌, List, [], ◌∷◌, ◌++◌, codes, drop, refl}
+use Rattle.std.proofs.lemmas.Bool.{and_parts}
 use Rattle.std.specs.Prelude.{All, Option, Some, None}
 use Rattle.std.specs.Fmt.{decimal}
 use Rattle.std.specs.List.{flat_map, list_all}
@@ -21,7 +22,6 @@ use Rattle.uefi_node_table.specs.declared.rows.Tail.TheVariants.{Bytes, Name, No
 use Rattle.uefi_node_table.specs.declared.words.Words.{Words}
 use Rattle.uefi_node_table.specs.declared.words.Words.TheVariants.{Digests, Login, Parity, Protocol, StopBits}
 use Rattle.uefi_node_table.proofs.Forms.{found}
-use Rattle.uefi_node_table.proofs.Lists.{both}
 
 -- the tests for literals of printable ASCII alone
 ends_clean : Piece → Bool
@@ -66,7 +66,7 @@ module _ (joined : JoinedShown) (ascii : AsciiShown) (numbers : NumbersShown) (b
   unfolding clean_word
   word_shown [] e n = none
   word_shown (w ∷ ws) e n =
-      let p = both (list_all is_printable w.text) (list_all clean_word ws) e in
+      let p = and_parts (list_all is_printable w.text) (list_all clean_word ws) e in
       by (suits n w) (ascii w.text p.0) (word_shown ws p.1 n)
     where
       by : (t : Bool) → IsShown w.text → IsShown (word_text ws n) → IsShown (if t then w.text else word_text ws n)
@@ -92,7 +92,7 @@ module _ (joined : JoinedShown) (ascii : AsciiShown) (numbers : NumbersShown) (b
   unfolding ends_clean
   pieces_shown [] e content = none
   pieces_shown (piece ∷ pieces) e content =
-      let p = both (list_all is_printable piece.ending) (list_all ends_clean pieces) e in
+      let p = and_parts (list_all is_printable piece.ending) (list_all ends_clean pieces) e in
       let field = field_text piece.shape (value_at piece content) in
       joined (field ++ piece.ending) (pieces_text pieces content)
       (joined field piece.ending (field_shown piece.shape (value_at piece content)) (ascii piece.ending p.0))
@@ -125,8 +125,8 @@ module _ (joined : JoinedShown) (ascii : AsciiShown) (numbers : NumbersShown) (b
   form_shown : (form : Form) → is_clean form ≡ true → (content : List ℕ) → All IsByte content → IsShown (form_text form content)
   unfolding is_clean
   form_shown form e content h =
-      let p = both (list_all is_printable form.start) (list_all ends_clean form.pieces && list_all is_printable form.close) e in
-      let q = both (list_all ends_clean form.pieces) (list_all is_printable form.close) p.1 in
+      let p = and_parts (list_all is_printable form.start) (list_all ends_clean form.pieces && list_all is_printable form.close) e in
+      let q = and_parts (list_all ends_clean form.pieces) (list_all is_printable form.close) p.1 in
       let after = drop form.least content in
       joined form.start (lead_text form.tail after ++ (pieces_text form.pieces content ++ (tail_text form.tail after ++ form.close))) (ascii form.start p.0)
       (joined (lead_text form.tail after) (pieces_text form.pieces content ++ (tail_text form.tail after ++ form.close)) (lead_shown form.tail after)

@@ -1,9 +1,9 @@
 -- Components that the verdict accepts: they are good, and none climbs. So are a part of them and others
 -- in a row, and their normal form holds names alone.
-use Rattle.std.proofs.Common.{◌≡◌, ℕ, zero, suc, ◌+◌, ◌<◌, ◌≤◌, ◌&&◌, Bool, true, false, nat_lt, IsTrue, List, [], ◌∷◌, ◌++◌, All, length, Option, None, Some, take, ap, sym, refl, subst, ◌∙◌, arith}
+use Rattle.std.proofs.Common.{◌≡◌, ℕ, zero, suc, ◌+◌, ◌<◌, ◌≤◌, ◌&&◌, Bool, nat_lt, IsTrue, List, [], ◌∷◌, ◌++◌, All, length, Option, None, Some, take, ap, sym, refl, subst, ◌∙◌, arith}
 use Rattle.std.specs.List.{slice_get}
 use Rattle.std.specs.Option.{option_or}
-use Rattle.std.proofs.lemmas.Bool.{ltb-true}
+use Rattle.std.proofs.lemmas.Bool.{and_parts, ltb-true}
 use Rattle.std.proofs.lemmas.List.Elements.{All-cons, All-head, All-nil, All-tail}
 use Rattle.std.proofs.lemmas.Option.{same_Some}
 use Rattle.uefi_path.specs.Climbing.{NoneClimbs, counted_dot_dot, counted_name, depth_after, dot_dots, names}
@@ -206,10 +206,6 @@ after_one DotDot (suc depth) left e =
     let same = same_Some depth left e in (omega (arith, same), λ more. absurd (omega (arith, same, more)))
 after_one Name depth left e = (omega (arith, same_Some (depth + 1) left e), λ more. refl)
 
-both : (a b : Bool) → IsTrue (a && b) → IsTrue a × IsTrue b
-both false b e = cc
-both true b e = (refl, e)
-
 -- where the components that are left have the fault, so has the next of them, or what is after it, or
 -- there is none
 module _ (found : Option PathError) (left : List (List ℕ)) (depth : ℕ) (same : first_fault left depth ≡ found) where
@@ -233,7 +229,7 @@ module _ (found : Option PathError) (left : List (List ℕ)) (depth : ℕ) (same
   pub names_here : (all : List (List ℕ)) (are : Bool) (c : List ℕ) (cs : List (List ℕ)) (after : ℕ) → (IsTrue are → All IsName left → All IsName all)
       → left ≡ c ∷ cs → depth_after (kind c) depth ≡ Some after → IsTrue (are && nat_lt depth after) → All IsName cs → All IsName all
   names_here all are c cs after so_far e is more others =
-      let each = both are (nat_lt depth after) more in
+      let each = and_parts are (nat_lt depth after) more in
       let is_name = kind-Name c ((after_one (kind c) depth after is).1 (ltb-true depth after each.1)) in
       so_far each.0 (subst (All IsName) (sym e) (All-cons IsName c cs is_name others))
 

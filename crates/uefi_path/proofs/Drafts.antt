@@ -17,7 +17,7 @@ use Rattle.uefi_path.proofs.Parents.{after_separator, needs_separator-append, cl
 use Rattle.uefi_path.proofs.ParentForm.{All-rejoined}
 use Rattle.uefi_path.proofs.Pushing.{with_separators-plain}
 use Rattle.uefi_path.proofs.Splitting.{IsPlain-with_separators}
-use Rattle.uefi_path.proofs.TailUnits.{IsText-with_separators}
+use Rattle.uefi_path.proofs.TailUnits.{IsText-with_separators, IsTextUnit-separator}
 use Rattle.std.proofs.lemmas.Option.{same_Some}
 use Rattle.uefi_path.proofs.IntoBuffers.{changed}
 use Rattle.uefi_path.proofs.ParentSizes.{parent_of_components-shorter}
@@ -221,7 +221,7 @@ is_made (p ∷ q ∷ ps) len texts are known =
       shorter = omega (arith, long, parent_of_components-shorter (p ∷ q ∷ ps) text are refl);
       is_text =
           IsText-with_separators kept
-          (All-rejoined IsTextUnit (all_but_last (p ∷ q ∷ ps)) (omega arith, (omega arith, λ high. omega (arith, high.0)))
+          (All-rejoined IsTextUnit (all_but_last (p ∷ q ∷ ps)) IsTextUnit-separator
           (All-all_but_last IsText (p ∷ q ∷ ps) texts));
       plain = with_separators-plain text (IsPlain-with_separators kept);
     }

@@ -48,7 +48,7 @@ appended-appended text u us part =
     ++ part) (needs_separator-appended text u us)
     ∙ sym (appended_cases text (u ∷ us) part (needs_separator (u ∷ us)))
 
-pushed-with_separators : (text part : List ℕ) → pushed text (with_separators part) ≡ pushed text part
+pub pushed-with_separators : (text part : List ℕ) → pushed text (with_separators part) ≡ pushed text part
 pushed-with_separators text [] = refl
 pushed-with_separators text (v ∷ vs) =
     ap (appended text) (with_separators-plain (with_separators (v ∷ vs)) (IsPlain-with_separators (v ∷ vs)))

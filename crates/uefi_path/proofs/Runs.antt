@@ -1,33 +1,19 @@
--- An iterator that takes the first item of what it shows gives all of it in order.
-use Rattle.std.proofs.Common.{◌≡◌, ◌≢◌, ℕ, List, [], ◌∷◌, ◌++◌, All, Option, Some, length, get_or, inl, inr, ap, sym, refl, subst, ◌∙◌, arith}
+-- What holds of each component holds of each that an iterator gives.
+use Rattle.std.proofs.Common.{◌≡◌, ◌≢◌, ℕ, List, [], ◌∷◌, ◌++◌, All, Option, Some, length, get_or, inl, inr, sym, refl, subst, ◌∙◌, arith}
 use Rattle.std.specs.List.{HoldsAt, last_or}
 use Rattle.std.specs.Option.{IfSome}
 use Rattle.std.specs.Iterator.{YieldsFirstBy}
-use Rattle.std.specs.Iterator.Runs.{AllItems, EachRunFrom, ItemsMapTo}
+use Rattle.std.specs.Iterator.Runs.{AllItems, EachRunFrom}
 use Rattle.std.proofs.iter.runs.Lists.{at_some}
-use Rattle.std.proofs.iter.runs.Made.{took}
-use Rattle.std.proofs.iter.runs.Sources.{from_front}
 use Rattle.std.proofs.lemmas.Bool.{cases_lt}
 use Rattle.std.proofs.lemmas.Grind.{common_steps}
-use Rattle.std.proofs.lemmas.Iterator.Consumers.{YieldsList-from_first, YieldsList-so_far}
 use Rattle.std.proofs.lemmas.List.Elements.{All-nil, All-weaker}
-use Rattle.uefi_text.specs.Runs.{GivesEach}
+use Rattle.uefi_text.proofs.Runs.{gives_each}
 use Rattle.uefi_text.specs.Units.{IsText, IsTextUnit}
 use Rattle.uefi_text.specs.Views.{units_of}
 use Rattle.uefi_path.specs.Runs.{GivesNoNulIn}
 use Rattle.uefi_path.specs.Views.{components_left}
 use Rattle.uefi_path.specs.declared.components.Components.{Components}
-
-pub gives_each : {S A B : Type 0} (view : A → B) (left : S → List B) (here : S) → GivesEach view left here
-gives_each view left here run seen from =
-    let drained = took run in
-    let in_order =
-    subst (λ s. ItemsMapTo run view (left s)) from
-    (from_front (YieldsFirstBy view left) view left (λ s t ended. ap length ended.0) (λ s x t took. took) run seen) in
-    let front =
-    YieldsList-so_far (YieldsList-from_first view left (left here) (ap left from)) run.items drained.0
-    drained.1 in
-    (in_order, rw run.long front)
 
 -- no unit of a text is NUL
 pub no_nul : (text : List ℕ) → IsText text → All (λ unit. unit ≢ 0) text

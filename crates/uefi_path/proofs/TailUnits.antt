@@ -1,9 +1,9 @@
 -- What a push adds: one unit more of it is made.
-use Rattle.std.proofs.Common.{◌≡◌, ◌≢◌, ◌==◌, ℕ, ◌+◌, ◌<◌, Bool, List, [], ◌∷◌, ◌++◌, length, get_or, take, drop, set, ap, sym, zero-add, ◌∙◌, arith, true, false, if◌then◌else◌, inl, inr}
-use Rattle.std.proofs.lemmas.Bool.{cases_Bool}
+use Rattle.std.proofs.Common.{◌≡◌, ◌≢◌, ℕ, ◌+◌, ◌<◌, Bool, List, [], ◌∷◌, ◌++◌, length, get_or, take, drop, set, ap, sym, zero-add, ◌∙◌, arith, true, false, if◌then◌else◌}
 use Rattle.std.proofs.lemmas.List.{drop_at, map-append, take_more, take_more_set}
-use Rattle.std.proofs.lemmas.List.Elements.{All-append, All-cons, All-head, All-nil, All-tail}
+use Rattle.std.proofs.lemmas.List.Elements.{All-append, All-cons}
 use Rattle.std.specs.List.{count_by}
+use Rattle.uefi_text.proofs.Texts.{IsText-replaced}
 use Rattle.uefi_text.specs.Units.{IsText, IsTextUnit, replaced}
 use Rattle.uefi_path.proofs.Pushing.{separator_is_plain, with_separators-plain}
 use Rattle.uefi_path.proofs.Splitting.{IsPlain-with_separators}
@@ -20,26 +20,18 @@ text_more tail us i room inside so_far =
     ∙ ap (λ vs. vs ++ u ∷ []) so_far
     ∙ sym (ap with_separators (take_more us i 0 inside) ∙ map-append (replaced slash separator) (take i us) (get_or us i 0 ∷ []))
 
--- a separator in place of a slash is a unit of a text
-IsTextUnit-replaced : (u : ℕ) → IsTextUnit u → IsTextUnit (replaced slash separator u)
-IsTextUnit-replaced u is_unit =
-    elim (cases_Bool (u == slash)) [
-      | inl cut ↦ rw cut (omega arith, (omega arith, λ high. omega (arith, high.0)))
-      | inr other ↦ rw other is_unit
-    ]
+-- a text stays one with its slashes replaced
+pub IsTextUnit-separator : IsTextUnit separator
+IsTextUnit-separator = (omega arith, (omega arith, λ high. omega (arith, high.0)))
 
 pub IsText-with_separators : (us : List ℕ) → IsText us → IsText (with_separators us)
-IsText-with_separators [] is_text = All-nil IsTextUnit
-IsText-with_separators (u ∷ us) is_text =
-    All-cons IsTextUnit _ (with_separators us) (IsTextUnit-replaced u (All-head IsTextUnit u us is_text))
-    (IsText-with_separators us (All-tail IsTextUnit u us is_text))
+IsText-with_separators us is_text = IsText-replaced slash separator us is_text IsTextUnit-separator
 
 -- and so is all that is added
 pub IsText-tail : (us : List ℕ) (is_missing : Bool) → IsText us
     → IsText (if is_missing then separator ∷ with_separators us else with_separators us)
 IsText-tail us true is_text =
-    All-cons IsTextUnit separator (with_separators us) (omega arith, (omega arith, λ high. omega (arith, high.0)))
-    (IsText-with_separators us is_text)
+    All-cons IsTextUnit separator (with_separators us) IsTextUnit-separator (IsText-with_separators us is_text)
 IsText-tail us false is_text = IsText-with_separators us is_text
 
 pub IsPlain-tail : (us : List ℕ) (is_missing : Bool)

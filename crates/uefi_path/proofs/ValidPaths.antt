@@ -1,11 +1,12 @@
 -- A path is valid exactly where it is not refused.
-use Rattle.std.proofs.Common.{◌≡◌, ◌≢◌, ℕ, ◌↔◌, ◌==◌, List, [], ◌∷◌, All, Bool, true, false, None, Some, Result, Ok, Err, IsOk, ap, sym, refl, subst, ◌∙◌}
-use Rattle.std.specs.List.{Contains, find}
+use Rattle.std.proofs.Common.{◌≡◌, ◌≢◌, ℕ, ◌↔◌, ◌==◌, List, [], ◌∷◌, true, false, None, Result, Ok, Err, IsOk, ap, sym, refl, subst, ◌∙◌}
+use Rattle.std.specs.List.{Contains}
 use Rattle.std.specs.Option.{option_map}
 use Rattle.std.specs.Result.{result_err}
-use Rattle.std.proofs.lemmas.Bool.{cond-false, eq-eqb, eqb-true, false_from_ne_true, false≢true, true≢false}
-use Rattle.std.proofs.lemmas.List.Elements.{All-head, All-tail, All-weaker}
+use Rattle.std.proofs.lemmas.Bool.{eq-eqb, eqb-true, false_from_ne_true, false≢true, true≢false}
+use Rattle.std.proofs.lemmas.List.Elements.{All-weaker}
 use Rattle.std.proofs.lemmas.List.Folds.{Any-from_list_any, list_any-from_Any}
+use Rattle.uefi_text.proofs.Finding.{found_none}
 use Rattle.uefi_path.specs.Components.{components_of}
 use Rattle.uefi_path.specs.Verdicts.{IsFileName, IsGood, IsValid, denied, is_denied, verdict}
 use Rattle.uefi_path.specs.declared.validation.PathError.{PathError}
@@ -28,12 +29,6 @@ denied_unit unit tested =
 
 not_denied : (unit : ℕ) → ¬ Contains denied unit → is_denied unit ≡ false
 not_denied unit none = false_from_ne_true (is_denied unit) (λ tested. none (denied_unit unit tested))
-
-found_none : (test : ℕ → Bool) (us : List ℕ) → All (λ u. test u ≡ false) us → find test us ≡ None
-found_none test [] all = refl
-found_none test (u ∷ us) all =
-    cond-false (test u) (Some u) (find test us) (All-head (λ u. test u ≡ false) u us all)
-    ∙ found_none test us (All-tail (λ u. test u ≡ false) u us all)
 
 -- a component without a fault is a name, and the other way round
 good_name : (c : List ℕ) → IsFileName c → IsGood c

@@ -1,10 +1,10 @@
 -- Texts that name files: each of their components is good, which is that it has no fault.
 use Rattle.uefi_text.specs.Units.{replaced}
-use Rattle.std.proofs.Common.{◌≡◌, ◌≢◌, ℕ, List, [], ◌∷◌, ◌++◌, if◌then◌else◌, All, Bool, true, false, Option, None, Some, inl, inr, ap, sym, refl, subst, ◌∙◌, ◌⊎◌, arith, length, length-append}
+use Rattle.std.proofs.Common.{◌≡◌, ◌≢◌, ℕ, List, [], ◌∷◌, ◌++◌, if◌then◌else◌, All, true, false, None, inl, inr, ap, sym, refl, subst, ◌∙◌, ◌⊎◌, arith, length, length-append}
 use Rattle.std.specs.List.{find}
-use Rattle.std.specs.Option.{option_map}
-use Rattle.std.proofs.lemmas.Bool.{cases_Bool, cond-false, cond-true, eqb-true, false≢true, ne_eqb, true≢false}
+use Rattle.std.proofs.lemmas.Bool.{cases_Bool, eqb-true, false≢true, ne_eqb, true≢false}
 use Rattle.std.proofs.lemmas.List.Elements.{All-append, All-cons, All-head, All-nil, All-tail, All-weaker}
+use Rattle.uefi_text.proofs.Finding.{All-found_none, unmapped}
 use Rattle.uefi_path.specs.Components.{IsPiece, components_of, joined}
 use Rattle.uefi_path.specs.Parents.{is_non_empty}
 use Rattle.uefi_path.specs.Pushing.{appended, needs_separator, pushed}
@@ -16,18 +16,6 @@ use Rattle.uefi_path.proofs.Joining.{canonical-no, canonical-yes, components_of-
 use Rattle.uefi_path.proofs.Parents.{IsFull, after_separator, open_joined}
 use Rattle.uefi_path.proofs.Pushing.{separator_is_plain}
 use Rattle.uefi_path.proofs.Splitting.{AreComponents-components_of}
-
--- nothing is found where all fail
-All-found_none : (p : ℕ → Bool) (us : List ℕ) → find p us ≡ None → All (λ u. p u ≡ false) us
-All-found_none p [] e = All-nil (λ u. p u ≡ false)
-All-found_none p (u ∷ us) e =
-    elim (cases_Bool (p u)) [
-      | inl passes ↦ let found : find p (u ∷ us) ≡ Some u =
-          cond-true (p u) (Some u) (find p us) passes in absurd (cc)
-      | inr fails ↦
-          All-cons (λ v. p v ≡ false) u us fails
-          (All-found_none p us (sym (cond-false (p u) (Some u) (find p us) fails) ∙ e))
-    ]
 
 -- the verdict on a text that is not empty is that on its components
 pub verdict_from : (text : List ℕ) → text ≢ [] → verdict text ≡ first_fault (components_of text) 0
@@ -54,15 +42,11 @@ pub good-non_empty : (c : List ℕ) → IsGood c → is_non_empty c ≡ true
 good-non_empty [] good = absurd (cc)
 good-non_empty (u ∷ us) good = refl
 
-unmapped : (o : Option ℕ) → option_map IllegalChar o ≡ None → o ≡ None
-unmapped None e = refl
-unmapped (Some u) e = absurd (cc)
-
 -- and none of its units is denied
 pub good-units : (c : List ℕ) → IsGood c → All (λ u. is_denied u ≡ false) c
 good-units [] good = All-nil (λ u. is_denied u ≡ false)
 good-units (u ∷ us) good =
-    All-found_none is_denied (u ∷ us) (unmapped (find is_denied (u ∷ us)) good)
+    All-found_none is_denied (u ∷ us) (unmapped IllegalChar (find is_denied (u ∷ us)) good)
 
 not_slash : (u : ℕ) → is_denied u ≡ false → u ≢ slash
 not_slash u allowed e = true≢false (sym (ap is_denied e) ∙ allowed)

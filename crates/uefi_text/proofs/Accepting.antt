@@ -2,7 +2,7 @@
 use Rattle.std.specs.List.{find, list_any}
 use Rattle.std.specs.Option.{unwrap_or}
 use Rattle.std.specs.Result.{IsOk, result_err}
-use Rattle.std.proofs.Common.{◌≡◌, ◌↔◌, ℕ, zero, suc, ◌+◌, ◌<◌, ◌==◌, ◌^◌, ◌∙◌, if◌then◌else◌, Bool, ap, sym, refl, true, false, All, List, [], ◌∷◌, ◌++◌, append_assoc, length, get_or, take, drop, None, Option, Some, Ok, Err, Result, position, Contains, inl, inr, arith}
+use Rattle.std.proofs.Common.{◌≡◌, ◌↔◌, ℕ, ◌+◌, ◌<◌, ◌==◌, ◌^◌, ◌∙◌, if◌then◌else◌, ap, sym, refl, true, false, All, List, [], ◌∷◌, ◌++◌, append_assoc, length, get_or, take, drop, None, Option, Some, Ok, Err, Result, position, Contains, inl, inr, arith}
 use Rattle.std.proofs.lemmas.Bool.{cases_Bool, false≢true, lt-ltb}
 use Rattle.std.proofs.lemmas.List.{get_or_append_left, length-append, take-append-drop, take_more}
 use Rattle.std.proofs.lemmas.List.Elements.{All-head, All-tail}
@@ -24,6 +24,7 @@ use Rattle.uefi_text.specs.declared.errors.FromSliceWithNulError.TheVariants as 
 use Rattle.uefi_text.specs.declared.errors.FromStrError.{FromStrError}
 use Rattle.uefi_text.specs.declared.errors.FromStrError.TheVariants as from_str
 use Rattle.uefi_text.proofs.Deciding.{IsLatin1String-nul_last, IsText-before, first_nul_refusal-IsLatin1String, with_nul_refusal-IsString, with_nul_refusal-memory}
+use Rattle.uefi_text.proofs.Finding.{position-None}
 use Rattle.uefi_text.proofs.Scanning.{position-at, position-nowhere}
 use Rattle.uefi_text.proofs.Texts.{IsText-chars, undecided-IsText}
 use Rattle.uefi_text.proofs.UnitBytes.{accepted_encodes, encoded_accepted}
@@ -78,17 +79,6 @@ begins-deciding_nul units i small place is_zero =
     let whole : units ≡ nul_terminated (take i units) ++ drop (i + 1) units =
     sym (take-append-drop (i + 1) units) ∙ ap (λ front. front ++ drop (i + 1) units) ended in
     (take i units, drop (i + 1) units, IsText-before units i small place, whole)
-
--- where no place is found, no element passes
-position-None : (p : ℕ → Bool) (xs : List ℕ) → position p xs ≡ None → (k : ℕ) → k < length xs → p (get_or xs k 0) ≡ false
-position-None p [] none k inside = absurd (omega (arith, inside))
-position-None p (x ∷ xs) none zero inside =
-    elim (cases_Bool (p x)) [ inl passes ↦ absurd (grind (arith, common_steps)) | inr other ↦ other ]
-position-None p (x ∷ xs) none (suc k) inside =
-    elim (cases_Bool (p x)) [
-      | inl passes ↦ absurd (grind (arith, common_steps))
-      | inr other ↦ let rest : position p xs ≡ None = grind (arith, common_steps) in position-None p xs rest k (omega (arith, inside))
-    ]
 
 -- characters are out of memory exactly where a NUL is among them
 pub missing_nul-memory : (characters : List ℕ) (error : FromSliceUntilNulError)

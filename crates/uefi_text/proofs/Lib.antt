@@ -1,6 +1,7 @@
 pub mod Scanning
 pub mod Utf8Bytes
 pub mod Deciding
+pub mod Finding
 pub mod Texts
 pub mod Utf16
 pub mod Printed

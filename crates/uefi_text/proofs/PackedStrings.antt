@@ -1,5 +1,5 @@
 -- Bytes are split at one NUL alone.
-use Rattle.std.proofs.Common.{◌≡◌, ◌≢◌, ◌∙◌, ap, sym, refl, subst, ℕ, zero, suc, ◌+◌, ◌*◌, ◌/◌, ◌%◌, ◌<◌, ◌≤◌, List, [], ◌∷◌, ◌++◌, All, None, Some, get_or, length, take, arith, inl, inr}
+use Rattle.std.proofs.Common.{◌≡◌, ◌≢◌, ◌∙◌, ap, sym, refl, subst, ℕ, zero, suc, ◌+◌, ◌*◌, ◌/◌, ◌<◌, ◌≤◌, List, [], ◌∷◌, ◌++◌, All, None, Some, get_or, length, take, arith, inl, inr}
 use Rattle.std.specs.List.{position, position_or_len}
 use Rattle.std.proofs.lemmas.Bool.{cases_Bool}
 use Rattle.std.proofs.lemmas.Grind.{common_steps}
@@ -8,23 +8,24 @@ use Rattle.std.proofs.lemmas.List.Elements.{All-from_get_or, All-head, All-tail}
 use Rattle.std.proofs.lemmas.List.Quantifiers.{position-Some}
 use Rattle.uefi_text.proofs.Packing.{length-packed_items}
 use Rattle.uefi_text.proofs.Texts.{without_nul-nul_terminated}
+use Rattle.uefi_text.proofs.UnitBytes.{units_front}
 use Rattle.uefi_text.specs.Packed.{little_endian, packed_items}
 use Rattle.uefi_text.specs.UnitBytes.{unit_bytes, units_of_bytes}
 use Rattle.uefi_text.specs.Units.{IsNulTerminated, is_nul, nul_terminated, without_nul}
 use Rattle.uefi_text.specs.PackedStrings.{SplitsUntilNul}
 
 -- no units' bytes begin others', where exactly their last is a NUL
-once : (t s x y : List ℕ) → All (λ u. u ≢ 0) t → All (λ u. u ≢ 0) s
+pub bytes_once : (t s x y : List ℕ) → All (λ u. u ≢ 0) t → All (λ u. u ≢ 0) s
     → unit_bytes (nul_terminated t) ++ x ≡ unit_bytes (nul_terminated s) ++ y → (t ≡ s) × (x ≡ y)
-once [] [] x y t_is s_is e = (refl, cc)
-once [] (u ∷ s) x y t_is s_is e =
+bytes_once [] [] x y t_is s_is e = (refl, cc)
+bytes_once [] (u ∷ s) x y t_is s_is e =
     absurd (All-head (λ u. u ≢ 0) u s s_is (omega (arith, ap (λ bs. get_or bs 0 0) e, ap (λ bs. get_or bs 1 0) e)))
-once (u ∷ t) [] x y t_is s_is e =
+bytes_once (u ∷ t) [] x y t_is s_is e =
     absurd (All-head (λ u. u ≢ 0) u t t_is (omega (arith, ap (λ bs. get_or bs 0 0) e, ap (λ bs. get_or bs 1 0) e)))
-once (u ∷ t) (v ∷ s) x y t_is s_is e =
+bytes_once (u ∷ t) (v ∷ s) x y t_is s_is e =
     let first : u ≡ v = omega (arith, ap (λ bs. get_or bs 0 0) e, ap (λ bs. get_or bs 1 0) e) in
     let tails : unit_bytes (nul_terminated t) ++ x ≡ unit_bytes (nul_terminated s) ++ y = cc in
-    let others = once t s x y (All-tail (λ u. u ≢ 0) u t t_is) (All-tail (λ u. u ≢ 0) v s s_is) tails in
+    let others = bytes_once t s x y (All-tail (λ u. u ≢ 0) u t t_is) (All-tail (λ u. u ≢ 0) v s s_is) tails in
     let rest = others.0 in
     let same : (u ∷ t) ≡ (v ∷ s) = cc in
     (same, others.1)
@@ -36,17 +37,8 @@ split_once bytes units rest others more one other =
     let s = without_nul units in
     let left : bytes ≡ unit_bytes (nul_terminated t) ++ more = other.join ∙ ap (λ us. unit_bytes us ++ more) other.ends.0 in
     let right : bytes ≡ unit_bytes (nul_terminated s) ++ rest = one.join ∙ ap (λ us. unit_bytes us ++ rest) one.ends.0 in
-    let both = once t s more rest other.ends.1 one.ends.1 (sym left ∙ right) in
+    let both = bytes_once t s more rest other.ends.1 one.ends.1 (sym left ∙ right) in
     (other.ends.0 ∙ ap nul_terminated both.0 ∙ sym one.ends.0, both.1)
-
--- units that lie at the front of bytes
-units_front : (us x : List ℕ) → units_of_bytes (unit_bytes us ++ x) ≡ us ++ units_of_bytes x
-units_front [] x = refl
-units_front (u ∷ us) x =
-    let count : length (unit_bytes (u ∷ us) ++ x) / 2 ≡ suc (length (unit_bytes us ++ x) / 2) = omega arith in
-    let first : u % 256 + 256 * (u / 256 + 256 * 0) ≡ u = omega arith in
-    ap (λ n. packed_items 2 n (unit_bytes (u ∷ us) ++ x)) count
-    ∙ ap (λ v. v ∷ units_of_bytes (unit_bytes us ++ x)) first ∙ ap (λ vs. u ∷ vs) (units_front us x)
 
 nul_within : (text x : List ℕ) → position_or_len is_nul (nul_terminated text ++ x) < length (nul_terminated text ++ x)
 nul_within [] x = omega arith

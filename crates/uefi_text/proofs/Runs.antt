@@ -1,8 +1,8 @@
 -- An iterator that takes the first item of what it shows gives all of it in order.
-use Rattle.std.proofs.Common.{◌≡◌, ◌≢◌, Bor, Iter, None, Option, Some, ℕ, suc, List, [], ◌∷◌, All, length, map, take, get_or, inl, inr, ap, sym, refl, subst, ◌∙◌, arith}
+use Rattle.std.proofs.Common.{◌≡◌, ◌≢◌, Bor, Iter, None, Option, Some, ℕ, List, ◌∷◌, All, length, get_or, inl, inr, ap, subst, arith}
 use Rattle.std.specs.List.{HoldsAt}
 use Rattle.std.specs.Option.{IfSome, option_copied}
-use Rattle.std.specs.Iterator.{Yields, YieldsFirst, YieldsFirstBy}
+use Rattle.std.specs.Iterator.{YieldsFirst, YieldsFirstBy}
 use Rattle.std.specs.Iterator.Adapters.{copied_source, copied_steps}
 use Rattle.std.specs.Slice.Iter.{iter_rest, iter_steps}
 use Rattle.std.specs.Iterator.Runs.{AllItems, ItemsMapTo, Run}
@@ -12,13 +12,8 @@ use Rattle.std.proofs.iter.runs.Made.{took}
 use Rattle.std.proofs.iter.runs.Sources.{from_front}
 use Rattle.std.proofs.lemmas.Bool.{cases_lt}
 use Rattle.std.proofs.lemmas.Grind.{common_steps}
+use Rattle.std.proofs.lemmas.Iterator.Consumers.{YieldsList-from_first, YieldsList-so_far}
 use Rattle.uefi_text.specs.Runs.{CopiesNoNul, GivesEach, GivesNoNul}
-
--- what calls gave is the prefix of what was left
-given_prefix : {S A B : Type 0} (view : A → B) (left : S → List B) (s : S) (xs : List A) (t : S)
-    → Yields (YieldsFirstBy view left) s xs t → map view xs ≡ take (length xs) (left s)
-given_prefix view left s [] t y = refl
-given_prefix view left s (x ∷ xs) t y = ap (λ us. view x ∷ us) (given_prefix view left y.0 xs t y.2) ∙ ap (take (suc (length xs))) (sym y.1)
 
 pub gives_each : {S A B : Type 0} (view : A → B) (left : S → List B) (here : S) → GivesEach view left here
 gives_each view left here run seen from =
@@ -26,7 +21,9 @@ gives_each view left here run seen from =
     let in_order =
     subst (λ s. ItemsMapTo run view (left s)) from
     (from_front (YieldsFirstBy view left) view left (λ s t ended. ap length ended.0) (λ s x t took. took) run seen) in
-    let front = subst (λ s. map view run.items ≡ take (length run.items) (left s)) from (given_prefix view left run.from run.items drained.0 drained.1) in
+    let front =
+    YieldsList-so_far (YieldsList-from_first view left (left here) (ap left from)) run.items drained.0
+    drained.1 in
     (in_order, rw run.long front)
 
 -- an item of a run that gives a list without NUL is none

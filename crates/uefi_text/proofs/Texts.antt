@@ -68,11 +68,11 @@ IsString-pushed old units end unit string is_unit grown at_end =
     (All-append IsTextUnit text (unit ∷ []) string.1 (All-cons IsTextUnit unit [] is_unit (All-nil IsTextUnit)))
 
 -- a unit of a text stays one where another takes its place
-IsTextUnit-replaced : (search replace u : ℕ) → IsTextUnit u → IsTextUnit replace → IsTextUnit (replaced search replace u)
+pub IsTextUnit-replaced : (search replace u : ℕ) → IsTextUnit u → IsTextUnit replace → IsTextUnit (replaced search replace u)
 IsTextUnit-replaced search replace u old new = elim (u == search) as (λ b. IsTextUnit (if b then replace else u)) [ true ↦ new | false ↦ old ]
 
 -- a text in which a character takes the place of another is a text
-IsText-replaced : (search replace : ℕ) (text : List ℕ) → IsText text → IsTextUnit replace → IsText (map (replaced search replace) text)
+pub IsText-replaced : (search replace : ℕ) (text : List ℕ) → IsText text → IsTextUnit replace → IsText (map (replaced search replace) text)
 IsText-replaced search replace text is_text unit =
     All-map IsTextUnit (replaced search replace) text
     (All-weaker IsTextUnit (λ u. IsTextUnit (replaced search replace u)) (λ u h. IsTextUnit-replaced search replace u h unit) text is_text)

@@ -1,8 +1,8 @@
 -- Code units as bytes, two for each, and back.
 use Rattle.std.proofs.Common.{◌≡◌, ℕ, zero, suc, ◌+◌, ◌-◌, ◌*◌, ◌/◌, ◌%◌, ◌<◌, ◌^◌, ◌∙◌, ap, subst, sym, refl, true, All, List, [], ◌∷◌, ◌++◌, length, take, drop, get_or, set, append_assoc, None, inl, inr, arith}
 use Rattle.std.proofs.lemmas.Bool.{cases_Bool}
-use Rattle.std.proofs.lemmas.List.{drop-drop, length-append, length-drop, length-take-le, take_more}
-use Rattle.std.proofs.lemmas.List.Elements.{All-append, All-cons, All-head, All-nil, All-tail, All-weaker}
+use Rattle.std.proofs.lemmas.List.{append-nil, drop-drop, length-append, length-drop, length-take-le, take_more}
+use Rattle.std.proofs.lemmas.List.Elements.{All-head, All-nil, All-tail}
 use Rattle.std.proofs.Math.Seq.{drop-append_seam}
 use Rattle.std.proofs.lemmas.Grind.{common_steps}
 use Rattle.uefi_text.proofs.Deciding.{IsString-accepted, with_nul_refusal-IsString}
@@ -10,19 +10,15 @@ use Rattle.uefi_text.proofs.Texts.{IsString-nul_terminated, without_nul-nul_term
 use Rattle.uefi_text.specs.FromSliceWithNul.{with_nul_refusal}
 use Rattle.uefi_text.specs.Packed.{IsByte, packed_items}
 use Rattle.uefi_text.specs.UnitBytes.{BytesEncode, ends_in_nul, unit_bytes, unit_bytes_refusal, units_of_bytes}
-use Rattle.uefi_text.specs.Units.{IsText, IsTextUnit, nul_terminated, without_nul}
-
--- a code unit
-abbrev IsUnit : ℕ → Type 0
-IsUnit unit = unit < 65536
+use Rattle.uefi_text.specs.Units.{IsText, nul_terminated, without_nul}
 
 pub length-unit_bytes : (us : List ℕ) → length (unit_bytes us) ≡ 2 * length us
 length-unit_bytes [] = refl
 length-unit_bytes (u ∷ us) = omega (arith, length-unit_bytes us)
 
-unit_bytes-push : (us : List ℕ) (u : ℕ) → unit_bytes (us ++ u ∷ []) ≡ unit_bytes us ++ u % 256 ∷ u / 256 ∷ []
-unit_bytes-push [] u = refl
-unit_bytes-push (v ∷ us) u = ap (λ (bs : List ℕ). v % 256 ∷ v / 256 ∷ bs) (unit_bytes-push us u)
+pub unit_bytes-append : (us vs : List ℕ) → unit_bytes (us ++ vs) ≡ unit_bytes us ++ unit_bytes vs
+unit_bytes-append [] vs = refl
+unit_bytes-append (u ∷ us) vs = ap (λ (bs : List ℕ). u % 256 ∷ u / 256 ∷ bs) (unit_bytes-append us vs)
 
 -- two places written one after the other
 pub set_two : (bs : List ℕ) (n a b : ℕ) → n + 1 < length bs → set (set bs n a) (suc n) b ≡ take n bs ++ a ∷ b ∷ drop (suc (suc n)) bs
@@ -48,7 +44,7 @@ split_more us old bytes i inside long so_far =
     let rest : drop (2 * i) bytes ≡ drop (2 * i) old = grind (arith, common_steps) in
     let behind : drop (suc (suc (2 * i))) bytes ≡ drop (2 * (i + 1)) old =
     after_two bytes old (2 * i) (suc (suc (2 * i))) (2 * (i + 1)) (omega arith) (omega arith) rest in
-    let more = ap unit_bytes (take_more us i 0 inside) ∙ unit_bytes-push (take i us) (get_or us i 0) in
+    let more = ap unit_bytes (take_more us i 0 inside) ∙ unit_bytes-append (take i us) (get_or us i 0 ∷ []) in
     rw next (set_two bytes (2 * i) _ _ (omega arith) ∙ rw (front, behind, more, append_assoc) refl)
 
 -- bytes, even in number, are those of their units
@@ -69,28 +65,20 @@ unit_bytes-items (suc count) (b ∷ c ∷ bs) long are_bytes =
 pub unit_bytes-units_of_bytes : (bs : List ℕ) → length bs % 2 ≡ 0 → All IsByte bs → unit_bytes (units_of_bytes bs) ≡ bs
 unit_bytes-units_of_bytes bs even = unit_bytes-items (length bs / 2) bs (omega (arith, even))
 
--- the units of the bytes of units
-packed_items-unit_bytes : (us : List ℕ) → All IsUnit us → packed_items 2 (length us) (unit_bytes us) ≡ us
-packed_items-unit_bytes [] are_units = refl
-packed_items-unit_bytes (u ∷ us) are_units =
-    let small : u < 65536 = All-head IsUnit u us are_units in
+-- units that lie at the front of bytes, and those of the bytes of units
+pub units_front : (us x : List ℕ) → units_of_bytes (unit_bytes us ++ x) ≡ us ++ units_of_bytes x
+units_front [] x = refl
+units_front (u ∷ us) x =
+    let count : length (unit_bytes (u ∷ us) ++ x) / 2 ≡ suc (length (unit_bytes us ++ x) / 2) = omega arith in
     let first : u % 256 + 256 * (u / 256 + 256 * 0) ≡ u = omega arith in
-    let rest = packed_items-unit_bytes us (All-tail IsUnit u us are_units) in
-    rw (first, rest) refl
+    ap (λ n. packed_items 2 n (unit_bytes (u ∷ us) ++ x)) count
+    ∙ ap (λ v. v ∷ units_of_bytes (unit_bytes us ++ x)) first ∙ ap (λ vs. u ∷ vs) (units_front us x)
 
-units_of_bytes-unit_bytes : (us : List ℕ) → All IsUnit us → units_of_bytes (unit_bytes us) ≡ us
-units_of_bytes-unit_bytes us are_units =
-    let half : length (unit_bytes us) / 2 ≡ length us = omega (arith, length-unit_bytes us) in
-    rw half (packed_items-unit_bytes us are_units)
-
-IsUnit-nul_terminated : (text : List ℕ) → IsText text → All IsUnit (nul_terminated text)
-IsUnit-nul_terminated text is_text =
-    let units : All IsUnit text = All-weaker IsTextUnit IsUnit (λ u unit. omega (arith, unit.1.0)) text is_text in
-    All-append IsUnit text (0 ∷ []) units (All-cons IsUnit 0 [] (omega arith) (All-nil IsUnit))
+pub units_of_bytes-unit_bytes : (us : List ℕ) → units_of_bytes (unit_bytes us) ≡ us
+units_of_bytes-unit_bytes us = ap units_of_bytes (sym (append-nil (unit_bytes us))) ∙ units_front us [] ∙ append-nil us
 
 units_of_bytes-encoded : (bytes text : List ℕ) → BytesEncode bytes text → units_of_bytes bytes ≡ nul_terminated text
-units_of_bytes-encoded bytes text spells =
-    ap units_of_bytes spells.1 ∙ units_of_bytes-unit_bytes (nul_terminated text) (IsUnit-nul_terminated text spells.0)
+units_of_bytes-encoded bytes text spells = ap units_of_bytes spells.1 ∙ units_of_bytes-unit_bytes (nul_terminated text)
 
 -- no bytes encode two texts
 pub encoded_apart : (bytes first second : List ℕ) → BytesEncode bytes first → BytesEncode bytes second → first ≡ second
@@ -102,7 +90,7 @@ encoded_apart bytes first second spells_first spells_second =
 ends_in_nul-encoded : (text : List ℕ) → ends_in_nul (unit_bytes (nul_terminated text)) ≡ true
 ends_in_nul-encoded text =
     let front = unit_bytes text in
-    let ended : unit_bytes (nul_terminated text) ≡ front ++ 0 ∷ 0 ∷ [] = unit_bytes-push text 0 in
+    let ended : unit_bytes (nul_terminated text) ≡ front ++ 0 ∷ 0 ∷ [] = unit_bytes-append text (0 ∷ []) in
     let even : length (front ++ 0 ∷ 0 ∷ []) % 2 ≡ 0 = omega (arith, length-append front (0 ∷ 0 ∷ []), length-unit_bytes text) in
     let start : length (front ++ 0 ∷ 0 ∷ []) - 2 ≡ length front = omega (arith, length-append front (0 ∷ 0 ∷ [])) in
     rw (ended, even, start, drop-append_seam front (0 ∷ 0 ∷ [])) refl

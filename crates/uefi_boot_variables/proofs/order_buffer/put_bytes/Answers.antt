@@ -1,5 +1,5 @@
 use Rattle.std.proofs.Common.{arith}
-use Rattle.uefi_boot_variables.proofs.NumberBytes.{split_more}
+use Rattle.uefi_text.proofs.UnitBytes.{split_more}
 use Rattle.uefi_boot_variables.proofs.order_buffer.put_bytes.Goals as goal
 
 pub loop-place-preserved : goal.loop-place-preserved

@@ -1,6 +1,6 @@
-use Rattle.std.proofs.Common.{◌∙◌, ap, sym, ◌∷◌, [], ◌++◌}
+use Rattle.std.proofs.Common.{◌∙◌, ap, sym, [], ◌∷◌, ◌++◌}
 use Rattle.uefi_text.specs.UnitBytes.{unit_bytes}
-use Rattle.uefi_device_path.proofs.OptionBytes.{unit_bytes-append}
+use Rattle.uefi_text.proofs.UnitBytes.{unit_bytes-append}
 use Rattle.uefi_device_path.proofs.option_builder.put_description.Goals as goal
 
 pub returns : goal.returns

@@ -6,7 +6,8 @@ use Rattle.uefi_device_nodes.specs.NodeViews.{node_of}
 use Rattle.uefi_device_path.specs.Paths.{nodes_in}
 use Rattle.uefi_device_path.specs.PathTexts.{instance_text}
 use Rattle.uefi_field_texts.proofs.Puts.{puts_as, puts_three}
-use Rattle.uefi_device_path.proofs.PathTexts.{after_more, after_none, first_piece, no_nodes}
+use Rattle.uefi_device_path.proofs.PathTexts.{after_more, after_none, first_piece}
+use Rattle.uefi_device_path.proofs.Splits.{nodes_in-nil}
 use Rattle.uefi_device_path.proofs.path_text.put_instance.Goals as goal
 
 pub nodes-init : goal.nodes-init
@@ -38,4 +39,4 @@ returns g c =
     let so_far = c.nodes.invariant in
     let none : length c.nodes.rest.now ≡ 0 = grind (arith, common_steps) in
     puts_as _ _ _ _ _ so_far.put
-    (after_none (node_text c.args.display_only.0 c.args.allow_shortcuts.0) (codes "/") so_far.so_far _ (nodes_in c.nodes.rest.now) so_far.rest (no_nodes c.nodes.rest.now none))
+    (after_none (node_text c.args.display_only.0 c.args.allow_shortcuts.0) (codes "/") so_far.so_far _ (nodes_in c.nodes.rest.now) so_far.rest (nodes_in-nil c.nodes.rest.now none))

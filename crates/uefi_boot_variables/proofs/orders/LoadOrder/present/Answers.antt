@@ -1,4 +1,4 @@
-use Rattle.uefi_boot_variables.proofs.Runs.{gives_each}
+use Rattle.uefi_text.proofs.Runs.{gives_each}
 use Rattle.uefi_boot_variables.specs.Present.{shown}
 use Rattle.uefi_boot_variables.specs.Views.{options_left}
 use Rattle.uefi_boot_variables.proofs.orders.LoadOrder.present.Goals as goal

@@ -3,7 +3,7 @@ use Rattle.std.proofs.Common.{◌≡◌, ◌∙◌, ◌-◌, suc, ap, length, ar
 use Rattle.uefi_device_path.specs.CheckedNodes.{checked_within}
 use Rattle.uefi_device_path.specs.Views.{checked_left, checked_node}
 use Rattle.uefi_device_path.proofs.CheckedRuns.{begins_none, checked_path, checked_refused, few_checked}
-use Rattle.uefi_device_path.proofs.Runs.{gives_each}
+use Rattle.uefi_text.proofs.Runs.{gives_each}
 use Rattle.uefi_device_path.proofs.checked_nodes.CheckedNodes.new.Goals as goal
 
 pub invariant_of-result : goal.invariant_of-result

@@ -1,6 +1,6 @@
 use Rattle.std.proofs.Common.{arith}
 use Rattle.std.proofs.lemmas.Grind.{common_steps}
-use Rattle.uefi_device_path.proofs.Runs.{gives_each}
+use Rattle.uefi_text.proofs.Runs.{gives_each}
 use Rattle.uefi_device_nodes.specs.NodeViews.{node_of}
 use Rattle.uefi_device_path.specs.Views.{nodes_left}
 use Rattle.uefi_device_path.proofs.Splits.{few-AreNodes}

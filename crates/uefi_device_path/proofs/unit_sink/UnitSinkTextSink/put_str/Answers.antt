@@ -6,7 +6,7 @@ use Rattle.std.proofs.lemmas.Str.{IsUtf8-past_char}
 use Rattle.std.specs.Char.Escape.{encode_utf16}
 use Rattle.std.specs.List.{flat_map}
 use Rattle.uefi_device_path.specs.PathUnits.{AreSunk, utf16_units}
-use Rattle.uefi_device_path.proofs.Units.{chars_read, chars_seen}
+use Rattle.uefi_text.proofs.Texts.{chars_end, chars_step}
 use Rattle.uefi_device_path.proofs.unit_sink.UnitSinkTextSink.put_str.Goals as goal
 
 pub loop-character-preserved : goal.loop-character-preserved
@@ -16,7 +16,7 @@ loop-character-preserved c =
     let character = c.in-Some.character in
     record {
       utf8 = IsUtf8-past_char _ _ _ so_far.utf8 c.in-Some.ensures.steps.0;
-      to_come = chars_read yielded _ _ _ _ so_far.utf8 c.in-Some.ensures.steps.0 so_far.to_come;
+      to_come = chars_step yielded _ _ _ _ so_far.utf8 c.in-Some.ensures.steps.0 so_far.to_come;
       sunk = λ units start h. subst (λ (us : List ℕ). AreSunk us start c.add_char.new.self.buffer.now c.add_char.new.self.len)
           (flat_map_more encode_utf16 units yielded character)
           (c.add_char.ensures.sunk (units ++ flat_map encode_utf16 yielded) start (so_far.sunk units start h));
@@ -27,7 +27,7 @@ pub returns : goal.returns
 unfolding utf16_units
 returns c =
     let so_far = c.loop-character.invariant in
-    let all = chars_seen c.loop-character.yielded _ _ c.in-None.ensures.steps.0.0 so_far.to_come in
+    let all = chars_end c.loop-character.yielded _ _ c.in-None.ensures.steps.0.0 so_far.to_come in
     writes_in_calls_single _ _ _ _ (
       so_far.same_reference,
       (

@@ -4,7 +4,7 @@ use Rattle.uefi_path.specs.Components.{joined}
 use Rattle.uefi_path.specs.Views.{components_left, path_text}
 use Rattle.uefi_text.specs.Units.{IsText}
 use Rattle.uefi_path.proofs.PlacedComponents.{begin_at_places, count_placed, pieces_placed}
-use Rattle.uefi_path.proofs.Runs.{gives_each}
+use Rattle.uefi_text.proofs.Runs.{gives_each}
 use Rattle.uefi_path.proofs.Splitting.{AreComponents-components_of}
 use Rattle.uefi_path.proofs.component_indices.ComponentIndices.of.Goals as goal
 

@@ -1,5 +1,5 @@
 -- The pieces between the separators of a canonical text are the components, and there are no others.
-use Rattle.std.proofs.Common.{◌≡◌, [], ap, arith, length, subst, sym, ◌∙◌}
+use Rattle.std.proofs.Common.{[], ◌≡◌, ap, arith, length, subst, sym, ◌∙◌}
 use Rattle.std.proofs.lemmas.Grind.{common_steps}
 use Rattle.std.proofs.lemmas.List.Elements.{All-nil}
 use Rattle.uefi_text.specs.Units.{IsText, IsTextUnit}
@@ -8,7 +8,8 @@ use Rattle.uefi_path.specs.Views.{components_left, units_left}
 use Rattle.uefi_path.proofs.Splitting.{AreComponents-components_of, components_of-only, slice_split-canonical, length-slice_split-le}
 use Rattle.uefi_path.proofs.ParentSizes.{units-canonical}
 use Rattle.uefi_path.proofs.Parents.{All-canonical, All-slice_split}
-use Rattle.uefi_path.proofs.Runs.{gives_each, gives_no_nul}
+use Rattle.uefi_text.proofs.Runs.{gives_each}
+use Rattle.uefi_path.proofs.Runs.{gives_no_nul}
 use Rattle.uefi_path.proofs.components.Components.of_canonical.Goals as goal
 
 pub returns-then-is_empty-clause-only : goal.returns-then-is_empty-clause-only

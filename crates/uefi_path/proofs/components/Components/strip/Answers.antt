@@ -7,7 +7,8 @@ use Rattle.std.specs.Prelude.{nat_eq}
 use Rattle.uefi_text.specs.Units.{IsText}
 use Rattle.uefi_text.specs.Views.{units_of}
 use Rattle.uefi_path.specs.Views.{components_left}
-use Rattle.uefi_path.proofs.Runs.{gives_each, gives_no_nul}
+use Rattle.uefi_text.proofs.Runs.{gives_each}
+use Rattle.uefi_path.proofs.Runs.{gives_no_nul}
 use Rattle.uefi_path.proofs.components.Components.strip.Goals as goal
 
 pub loop-component-preserved : goal.loop-component-preserved

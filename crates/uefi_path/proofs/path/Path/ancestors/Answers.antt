@@ -1,6 +1,6 @@
 use Rattle.uefi_text.specs.Views.{units_of}
 use Rattle.uefi_path.specs.Ancestors.{ancestors_left}
-use Rattle.uefi_path.proofs.Runs.{gives_each}
+use Rattle.uefi_text.proofs.Runs.{gives_each}
 use Rattle.uefi_path.proofs.path.Path.ancestors.Goals as goal
 
 pub returns-then-is_empty-clause-runs : goal.returns-then-is_empty-clause-runs
