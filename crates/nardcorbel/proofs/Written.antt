@@ -1,10 +1,14 @@
 -- The reason that is reported is that of what was not written.
-use Rattle.std.proofs.Common.{◌≡◌, ap, refl, ℕ, List, [], ◌∷◌, Option, None, Some}
+use Rattle.std.proofs.Common.{◌≡◌, ap, refl, ℕ, List, [], ◌∷◌, Option, None, Some, Result, Ok, Err, IsOk}
+use Rattle.std.specs.Prelude.{OnErr, OnOk}
+use Rattle.std.proofs.lemmas.Bool.{false≢true}
 use Rattle.uefi_device_nodes.specs.Nodes.{Node}
+use Rattle.uefi_device_path.proofs.Entries.{same_entry}
 use Rattle.uefi_device_path.specs.Building.{grow_refusal}
 use Rattle.uefi_device_path.specs.LoadOptions.{Entry}
 use Rattle.uefi_device_path.specs.declared.errors.BuildError.{BuildError}
-use Rattle.uefi_device_path.specs.declared.errors.GrowError.TheVariants.{Build}
+use Rattle.uefi_device_path.specs.declared.errors.DevicePathError.{DevicePathError}
+use Rattle.uefi_device_path.specs.declared.errors.GrowError.TheVariants.{Build, Path}
 use Rattle.nardcorbel.specs.Building.{build_place, build_reason, entry_of_path}
 use Rattle.nardcorbel.specs.declared.reasons.TheConstants.{OK}
 
@@ -19,6 +23,24 @@ pub grown_err : (refusal : Option BuildError) (error : BuildError) → Some (Bui
 grown_err None error e = absurd (cc)
 grown_err (Some other) error e = let same : error ≡ other = cc in ap (λ k. build_reason (Some k)) same
 
+-- nor is one whose path is at fault
+pub grown_path : (refusal : Option BuildError) (error : DevicePathError) → Some (Path error) ≡ grow_refusal refusal → ⊥
+grown_path None error e = absurd (cc)
+grown_path (Some other) error e = absurd (cc)
+
+-- an error tells which path is at fault
+pub same_path : (error other : DevicePathError) → Some (Path error) ≡ Some (Path other) → error ≡ other
+same_path error other e = cc
+
+-- what a call leaves where it does what it says, and where it does not
+pub at_ok : {T E P : Type 0} (r : Result T E) → IsOk r → OnOk r P → P
+at_ok (Ok value) ok p = p
+at_ok (Err error) ok p = absurd (false≢true ok)
+
+pub at_err : {T E P : Type 0} (r : Result T E) → (IsOk r → ⊥) → OnErr r P → P
+at_err (Ok value) none p = absurd (none refl)
+at_err (Err error) none p = p
+
 -- and the place that is reported is that of the refusal
 pub place_ok : (refusal : Option BuildError) (len place : ℕ) → None ≡ grow_refusal refusal → len ≡ build_place refusal len place
 place_ok None len place e = refl
@@ -28,12 +50,6 @@ pub place_err : (refusal : Option BuildError) (error : BuildError) (len place : 
     → build_place (Some error) len place ≡ build_place refusal len place
 place_err None error len place e = absurd (cc)
 place_err (Some other) error len place e = let same : error ≡ other = cc in ap (λ k. build_place (Some k) len place) same
-
--- load options of the same parts are the same
-same_entry : (a b : ℕ) (d e : List ℕ) (p q : List (List Node)) (o r : List ℕ) → a ≡ b → d ≡ e → p ≡ q → o ≡ r
-    → (let x : Entry = record { attributes = a; description = d; paths = p; optional = o } in x)
-    ≡ (let y : Entry = record { attributes = b; description = e; paths = q; optional = r } in y)
-same_entry a b d e p q o r attributes descriptions paths optionals = cc
 
 -- the load option of these fields
 pub fields_are : (entry : Entry) (attributes : ℕ) (description : List ℕ) (nodes : List Node) (optional : List ℕ)

@@ -1,15 +1,17 @@
 //! Device paths and load options that C writes into its own buffers, and device paths beside others.
-ghost use Rattle.std.specs.Prelude.{◌≡◌, ◌≢◌, ◌↔◌, ℕ, ◌+◌, ◌%◌, ◌^◌, ◌<◌, ◌≤◌, ◌++◌, ◌∷◌, [], IsTrue, List, Some, length};
+ghost use Rattle.std.specs.Prelude.{◌≡◌, ◌≢◌, ◌↔◌, ℕ, ◌+◌, ◌%◌, ◌^◌, ◌<◌, ◌≤◌, ◌++◌, ◌∷◌, [], Err, IfOk, IsOk, IsTrue, List, Option, Some, length};
+ghost use Rattle.std.specs.Result.{result_err};
 ghost use Rattle.uefi_text.specs.FromSliceUntilNul.{until_nul_refusal};
 ghost use Rattle.uefi_text.specs.UnalignedCStr16.{with_prefix};
 ghost use Rattle.uefi_text.specs.Units.{BeginsWithString};
 ghost use Rattle.uefi_device_nodes.specs.Nodes.{Node, end_entire, node_bytes, node_with};
-ghost use Rattle.uefi_device_path.specs.Building.{append_refusal, push_refusal};
+ghost use Rattle.uefi_device_path.specs.Building.{append_refusal, grow_refusal, push_refusal};
 ghost use Rattle.uefi_device_path.specs.Faults.{RefusedFor};
 ghost use Rattle.uefi_device_path.specs.LoadOptions.{entry_bytes};
 ghost use Rattle.uefi_device_path.specs.Matching.{IsExpansion};
 ghost use Rattle.uefi_device_path.specs.OptionBuilding.{option_over, write_fault};
 ghost use Rattle.uefi_device_path.specs.Paths.{BeginWithPath, path_bytes};
+ghost use Rattle.uefi_device_path.specs.declared.errors.BuildError.{BuildError};
 ghost use Rattle.uefi_device_path.specs.declared.errors.DevicePathError.{DevicePathError};
 ghost use Rattle.nardcorbel.specs.Building.{build_place, build_reason, entry_of_path, option_build_place, option_build_reason};
 ghost use Rattle.nardcorbel.specs.Reasons.{node_reason, until_nul_reason};
@@ -45,6 +47,32 @@ fn build_place(error: BuildError, place: usize) -> usize
     match error {
         BuildError::BufferTooSmall(needed) => needed,
         BuildError::EndNode | BuildError::NodeTooLong | BuildError::OutOfMemory => place,
+    }
+}
+
+/// Reports how many bytes a device path has that grew, or why it did not grow.
+fn report_grown(grown: Result<usize, GrowError>, place: &mut usize) -> u32
+    ensures no_path { (error : DevicePathError) → grown ≡ Err (GrowError.Path error)
+        → (result ≡ node_reason error.cause) × (place.new ≡ error.offset) }
+    ensures reason { (refusal : Option BuildError) → result_err grown ≡ grow_refusal refusal
+        → result ≡ build_reason refusal }
+    ensures place { (refusal : Option BuildError) → (len : ℕ) → result_err grown ≡ grow_refusal refusal
+        → IfOk grown (λ end. end ≡ len) → place.new ≡ build_place refusal len place.old }
+    ensures ok { (result ≡ OK) ↔ IsOk grown }
+{
+    match grown {
+        Ok(len) => {
+            *place = len;
+            OK
+        }
+        Err(GrowError::Path(error)) => {
+            *place = error.offset;
+            node_reason(error.cause)
+        }
+        Err(GrowError::Build(error)) => {
+            *place = build_place(error, *place);
+            build_reason(error)
+        }
     }
 }
 
@@ -101,20 +129,7 @@ pub extern "C" fn nard_device_path_push(
         sub_type: DeviceSubType(sub_type),
         content,
     };
-    match push_in_buf(buffer, &node) {
-        Ok(len) => {
-            *place = len;
-            OK
-        }
-        Err(GrowError::Path(error)) => {
-            *place = error.offset;
-            node_reason(error.cause)
-        }
-        Err(GrowError::Build(error)) => {
-            *place = build_place(error, *place);
-            build_reason(error)
-        }
-    }
+    report_grown(push_in_buf(buffer, &node), place)
 }
 
 /// Adds the nodes of the device path that bytes begin with to the one that a buffer begins with, as
@@ -155,20 +170,7 @@ pub extern "C" fn nard_device_path_append(buffer: &mut [u8], bytes: &[u8], place
             return node_reason(error.cause);
         }
     };
-    match append_in_buf(buffer, path) {
-        Ok(len) => {
-            *place = len;
-            OK
-        }
-        Err(GrowError::Path(error)) => {
-            *place = error.offset;
-            node_reason(error.cause)
-        }
-        Err(GrowError::Build(error)) => {
-            *place = build_place(error, *place);
-            build_reason(error)
-        }
-    }
+    report_grown(append_in_buf(buffer, path), place)
 }
 
 /// Whether both begin with a device path, and the second is a short form that stands for the first, as
@@ -240,6 +242,24 @@ fn option_build_place(error: OptionBuildError, place: usize) -> usize
     }
 }
 
+/// Reports how many bytes a load option has that was written, or why it was not written.
+fn report_option(written: Result<usize, OptionBuildError>, place: &mut usize) -> u32
+    ensures reason { result ≡ option_build_reason (result_err written) }
+    ensures place { (len : ℕ) → IfOk written (λ end. end ≡ len)
+        → place.new ≡ option_build_place (result_err written) len place.old }
+{
+    match written {
+        Ok(len) => {
+            *place = len;
+            OK
+        }
+        Err(error) => {
+            *place = option_build_place(error, *place);
+            option_build_reason(error)
+        }
+    }
+}
+
 /// Writes a load option of one device path to the start of a buffer, as [`LoadOptionBuilder::write`] does.
 ///
 /// Of `attributes` the lowest 32 bits count. Units of the description that begin with no string are
@@ -294,14 +314,8 @@ pub extern "C" fn nard_load_option_write(
     };
     let paths = [path];
     let lowest = (attributes % 0x1_0000_0000) as u32;
-    match LoadOptionBuilder::new(lowest, text, &paths, optional).write(buffer) {
-        Ok(len) => {
-            *place = len;
-            OK
-        }
-        Err(error) => {
-            *place = option_build_place(error, *place);
-            option_build_reason(error)
-        }
-    }
+    report_option(
+        LoadOptionBuilder::new(lowest, text, &paths, optional).write(buffer),
+        place,
+    )
 }

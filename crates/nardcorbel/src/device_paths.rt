@@ -100,8 +100,6 @@ pub extern "C" fn nard_device_path_next_node(
         → (result ≡ node_reason cause) × (place.new ≡ place.old + fault_place cause) }
     ensures unchanged { result ≢ OK → node.new ≡ node.old }
 {
-    // The law does nothing: it says that no path is refused.
-    laws::accepted_paths();
     let Some(rest) = bytes.get(*place..) else {
         return NO_END_NODE;
     };

@@ -7,7 +7,8 @@ use Rattle.uefi_device_nodes.specs.NodeViews.{node_of}
 use Rattle.uefi_device_nodes.specs.Nodes.{IsInner, end_entire, node_bytes}
 use Rattle.uefi_device_nodes.specs.declared.errors.NodeError.TheVariants.{Missing}
 use Rattle.nardcorbel.specs.DevicePaths.{node_in}
-use Rattle.nardcorbel.proofs.Nodes.{left_from, never_faulty, node_stands, none_before_end, others_after}
+use Rattle.uefi_device_path.proofs.Splits.{path_step}
+use Rattle.nardcorbel.proofs.Nodes.{left_from, never_faulty, node_stands, none_before_end}
 use Rattle.nardcorbel.proofs.device_paths.nard_device_path_next_node.Goals as goal
 
 pub returns-in_default-clause-path : goal.returns-in_default-clause-path
@@ -16,7 +17,7 @@ returns-in_default-clause-path c = λ nodes begins _.
     let place = c.args.place.now in
     let beyond : length bytes < place = grind (arith, common_steps) in
     let none = nil_from_length (drop place bytes) (omega (arith, length-drop place bytes)) in
-    absurd (never_faulty c.accepted_paths.ensures.never_both (drop place bytes) nodes Missing begins (ap node_fault none))
+    absurd (never_faulty (drop place bytes) nodes Missing begins (ap node_fault none))
 
 pub returns-in-Err-clause-path : goal.returns-in-Err-clause-path
 returns-in-Err-clause-path c = λ nodes begins _.
@@ -24,7 +25,7 @@ returns-in-Err-clause-path c = λ nodes begins _.
     let place = c.args.place.now in
     let is = left_from bytes c.in-Some.rest.now place c.in-Some.ensures.lookup.0.2 in
     let fault : node_fault (drop place bytes) ≡ Some c.in-Err.cause = ap node_fault (sym is) ∙ sym c.in-Err.ensures.refusal in
-    absurd (never_faulty c.accepted_paths.ensures.never_both (drop place bytes) nodes c.in-Err.cause begins fault)
+    absurd (never_faulty (drop place bytes) nodes c.in-Err.cause begins fault)
 
 pub returns-then-is_end_entire-clause-last : goal.returns-then-is_end_entire-clause-last
 returns-then-is_end_entire-clause-last c = λ _ nodes begins.
@@ -61,4 +62,4 @@ returns-else-is_end_entire-clause-next c = λ _ nodes begins.
     c.device_type.result.0 c.sub_type.result.0 (length c.data-length.result.now)
     is c.in-Ok.ensures.ok c.device_type.ensures c.sub_type.ensures (ap length c.data-length.ensures) in
     let inner : IsInner shown = search rules in
-    others_after (drop place bytes) left shown nodes inner stands begins
+    (path_step (drop place bytes) left shown nodes begins stands inner.not_end).1
