@@ -1,4 +1,3 @@
-pub mod Places
 pub mod Tails
 pub mod Nodes
 pub mod Options

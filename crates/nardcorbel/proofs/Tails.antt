@@ -1,14 +1,14 @@
--- What a push adds after a text, and how long that is.
-use Rattle.std.proofs.Common.{◌≡◌, ◌≢◌, ℕ, suc, ◌+◌, ◌-◌, ◌<◌, ◌≤◌, ◌==◌, not, Bool, true, false, if◌then◌else◌, List, [], ◌∷◌, ◌++◌, length, take, drop, get_or, Option, Err, None, Ok, Some, inl, inr, append_assoc, refl, sym, ◌∙◌, ap, arith, length-append, length-drop}
+-- Texts that calls write into a buffer, and the NUL after them.
+use Rattle.std.proofs.Common.{◌≡◌, ◌≢◌, ℕ, ◌+◌, ◌-◌, ◌<◌, ◌≤◌, Bool, true, false, if◌then◌else◌, List, [], ◌∷◌, ◌++◌, length, take, drop, Option, Err, None, Ok, Some, inl, inr, append_assoc, refl, sym, ◌∙◌, ap, arith, length-append, length-drop}
 use borrow.Rule.Slice.PartMut.{put_mid}
 use Rattle.std.proofs.Math.Seq.{drop-append-add}
-use Rattle.std.proofs.lemmas.List.{append-nil, drop-append-le, drop-drop, length-take, take-append-drop, get_or-map, length-map, take_at}
+use Rattle.std.proofs.lemmas.List.{append-nil, drop-append-le, drop-drop, length-take, take-append-drop, length-map, take_at}
 use Rattle.std.proofs.lemmas.Bool.{cases_lt, le-ltb, lt-ltb}
 use Rattle.std.proofs.lemmas.Grind.{common_steps}
 use Rattle.uefi_text.specs.Units.{nul_terminated, replaced}
 use Rattle.uefi_text.specs.UnalignedCStr16.{with_prefix}
-use Rattle.uefi_path.specs.Pushing.{needs_separator, pushed}
-use Rattle.uefi_path.specs.Separators.{is_separator, separator, slash, with_separators}
+use Rattle.uefi_path.specs.Pushing.{tail_of}
+use Rattle.uefi_path.specs.Separators.{separator, slash, with_separators}
 use Rattle.uefi_path.specs.Components.{components_of}
 use Rattle.uefi_path.specs.Laws.{ValidWhereUnrefused}
 use Rattle.uefi_path.specs.NormalForms.{normal_of, normal_text}
@@ -16,42 +16,6 @@ use Rattle.uefi_path.specs.Verdicts.{IsValid, verdict}
 use Rattle.uefi_path.specs.Writing.{normal_path, normal_where, normal_written, written_len, written_over}
 use Rattle.uefi_path.specs.declared.written.NormalWriteError.TheVariants.{Invalid}
 use Rattle.uefi_path.specs.declared.validation.PathError.{PathError}
-use Rattle.nardcorbel.specs.Buffers.{tail_of}
-
--- the last unit decides whether a separator is missing after a text that is not empty
-needs_by_last : (text : List ℕ) → text ≢ []
-    → needs_separator text ≡ not (is_separator (get_or text (length text - 1) 0))
-needs_by_last [] some = absurd (some refl)
-needs_by_last (u ∷ us) some =
-    let last : length us ≡ suc (length us) - 1 = omega arith in
-    ap (λ n. not (is_separator (get_or (u ∷ us) n 0))) last
-
-appended_tail : (text part : List ℕ) (b : Bool)
-    → (if b then text ++ separator ∷ part else text ++ part) ≡ text ++ (if b then separator ∷ part else part)
-appended_tail text part true = refl
-appended_tail text part false = refl
-
--- it does by the last unit of the text, where neither is empty
-pub tail_by_last : (text path : List ℕ) → text ≢ [] → path ≢ []
-    → pushed text path ≡ text ++ tail_of (not (is_separator (get_or text (length text - 1) 0))) path
-tail_by_last text [] some more = absurd (more refl)
-tail_by_last text (u ∷ us) some more =
-    rw (sym (needs_by_last text some)) (appended_tail text (with_separators (u ∷ us)) (needs_separator text))
-
--- the same after a text whose slashes are replaced
-pub tail_by_last_replaced : (text path : List ℕ) → text ≢ [] → path ≢ []
-    → pushed (with_separators text) path ≡ with_separators text
-    ++ tail_of (not (is_separator (replaced slash separator (get_or text (length text - 1) 0)))) path
-tail_by_last_replaced [] path some more = absurd (some refl)
-tail_by_last_replaced (t ∷ ts) path some more =
-    let text = t ∷ ts in
-    let long = length-map text (replaced slash separator) in
-    let last = get_or-map (replaced slash separator) text (length text - 1) 0 0 (omega arith) in
-    let at : get_or (with_separators text) (length (with_separators text) - 1) 0
-    ≡ replaced slash separator (get_or text (length text - 1) 0) =
-    ap (λ n. get_or (with_separators text) (n - 1) 0) long ∙ last in
-    tail_by_last (with_separators text) path (λ e. cc) more
-    ∙ ap (λ u. with_separators text ++ tail_of (not (is_separator u)) path) at
 
 -- units that have room in a buffer become its prefix
 prefix_in : (units buffer : List ℕ) → length units ≤ length buffer
@@ -85,11 +49,6 @@ with_prefix_after text added buffer end same room =
     ∙ prefix_in all (text ++ drop end buffer) (omega (arith, long, count, sum, room))
     ∙ ap (λ us. all ++ us) (ap (λ n. drop n (text ++ drop end buffer)) count ∙ back ∙ ap (λ n. drop n buffer) (sym count))
     ∙ sym (prefix_in all buffer (omega (arith, count, sum, room)))
-
--- a test for an empty list says that it is none
-pub not_empty : (us : List ℕ) (b : Bool) → b ≡ (length us == 0) → b ≡ false → us ≢ []
-not_empty [] b is fails e = cc
-not_empty (u ∷ us) b is fails e = cc
 
 -- replacing slashes changes no length
 pub length-replaced : (text : List ℕ) → length (with_separators text) ≡ length text

@@ -1,21 +1,12 @@
 -- What becomes of a text that is written into a caller's buffer, with a NUL after it.
-use Rattle.std.specs.Prelude.{ℕ, ◌-◌, ◌/◌, ◌^◌, ◌<◌, Bool, nat_lt, if◌then◌else◌, List, ◌∷◌, drop, length, min, take}
+use Rattle.std.specs.Prelude.{ℕ, ◌/◌, ◌<◌, nat_lt, if◌then◌else◌, List, drop, length, take}
 use Rattle.std.specs.Str.{IsUtf8, chars}
 use Rattle.uefi_text.specs.Units.{IsText}
-use Rattle.uefi_path.specs.Separators.{separator, with_separators}
 use Rattle.nardcorbel.specs.declared.reasons.TheConstants.{OK, BUFFER_TOO_SMALL}
 
 -- it is written where the buffer has more places than it has elements
 abbrev pub room_reason : List ℕ → List ℕ → ℕ
 room_reason text buffer = if nat_lt (length text) (length buffer) then OK else BUFFER_TOO_SMALL
-
--- its length as a number of 64 bits: the greatest of these where it is longer
-abbrev pub length_shown : List ℕ → ℕ
-length_shown text = min (length text) (2 ^ 64 - 1)
-
--- what a push of a path adds, by whether a separator is missing
-abbrev pub tail_of : Bool → List ℕ → List ℕ
-tail_of is_missing path = if is_missing then separator ∷ with_separators path else with_separators path
 
 -- the two halves of a buffer: the second has one place more where their number is odd
 abbrev pub first_half : List ℕ → List ℕ

@@ -1,7 +1,6 @@
 pub mod Reasons
 pub mod Strings
 pub mod Cases
-pub mod PathPlaces
 pub mod Buffers
 pub mod DevicePaths
 pub mod Building

@@ -8,54 +8,23 @@ ghost use Rattle.uefi_text.specs.FromStr.{is_deciding_char};
 ghost use Rattle.uefi_text.specs.UnalignedCStr16.{with_prefix};
 ghost use Rattle.uefi_text.specs.Units.{BeginsWithString, IsText, nul_terminated};
 ghost use Rattle.uefi_path.specs.Parents.{parent_text};
-ghost use Rattle.uefi_path.specs.Pushing.{pushed};
+ghost use Rattle.uefi_path.specs.Pushing.{pushed, tail_of};
 ghost use Rattle.uefi_path.specs.Separators.{with_separators};
-ghost use Rattle.nardcorbel.specs.Buffers.{HasStringIn, first_half, length_shown, room_reason, second_half, tail_of};
+ghost use Rattle.nardcorbel.specs.Buffers.{HasStringIn, first_half, room_reason, second_half};
 ghost use Rattle.uefi_path.specs.Verdicts.{IsValid, verdict};
-ghost use Rattle.uefi_path.specs.Writing.{normal_path};
+ghost use Rattle.uefi_path.specs.Writing.{length_shown, normal_path};
 ghost use Rattle.nardcorbel.specs.Reasons.{character_reason, path_reason, refused_character, until_nul_reason};
 ghost use Rattle.nardcorbel.specs.Strings.{text_in, until_nul_place};
 
 use crate::reasons::{BUFFER_TOO_SMALL, NO_PARENT, NOT_UTF8, OK, path_reason, until_nul_reason};
 use crate::strings::until_nul_place;
 use crate::texts::nard_string_from_utf8;
-use uefi_path::slices::{with_separator, write_part, write_with_separators};
+use uefi_path::slices::{
+    is_separator_missing, is_separator_missing_replaced, pushed_len, write_part,
+    write_with_separators,
+};
 use uefi_path::{NormalWriteError, Path, laws};
 use uefi_text::CStr16;
-
-/// The code unit of the separator.
-const SEPARATOR: u16 = 92;
-
-/// Whether a push of a path after a text adds a separator.
-fn is_separator_missing(text: &[u16], path: &[u16]) -> bool
-    ensures { pushed text.now path.now ≡ text.now ++ tail_of result path.now }
-{
-    !path.is_empty() && !text.is_empty() && text[text.len() - 1] != SEPARATOR
-}
-
-/// The same after a text whose slashes are replaced.
-fn is_separator_missing_replaced(text: &[u16], path: &[u16]) -> bool
-    ensures { pushed (with_separators text.now) path.now
-        ≡ with_separators text.now ++ tail_of result path.now }
-{
-    if path.is_empty() {
-        return false;
-    }
-    if text.is_empty() {
-        return false;
-    }
-    with_separator(text[text.len() - 1]) != SEPARATOR
-}
-
-/// How long a text becomes, when a path is pushed after it, or the greatest `usize` where it becomes longer.
-fn pushed_len(text: &[u16], is_missing: bool, path: &[u16]) -> usize
-    ensures len { result ≡ length_shown (text.now ++ tail_of is_missing path.now) }
-    ensures replaced { result ≡ length_shown (with_separators text.now ++ tail_of is_missing path.now) }
-{
-    text.len()
-        .saturating_add(usize::from(is_missing))
-        .saturating_add(path.len())
-}
 
 /// Writes a NUL after the first `len` units of a buffer, where it has room.
 fn end_text(buffer: &mut [u16], len: usize) -> u32

@@ -5,7 +5,8 @@ ghost use Rattle.std.specs.Char.Utf16.{utf16_chars, utf16_lossy_chars};
 ghost use Rattle.uefi_device_path.specs.LoadOptions.{lossy_utf8};
 ghost use Rattle.uefi_text.specs.UnalignedCStr16.{with_prefix};
 ghost use Rattle.uefi_text.specs.Units.{nul_terminated};
-ghost use Rattle.nardcorbel.specs.Buffers.{length_shown, room_reason};
+ghost use Rattle.uefi_path.specs.Writing.{length_shown};
+ghost use Rattle.nardcorbel.specs.Buffers.{room_reason};
 ghost use Rattle.nardcorbel.specs.Strings.{text_in};
 
 use crate::reasons::{BUFFER_TOO_SMALL, OK};

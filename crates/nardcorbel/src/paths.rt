@@ -10,18 +10,15 @@ ghost use Rattle.uefi_path.specs.Parents.{all_but_last, parent_text};
 ghost use Rattle.uefi_path.specs.Separators.{canonical, is_separator, separator};
 ghost use Rattle.uefi_path.specs.Verdicts.{IsValid, verdict};
 ghost use Rattle.uefi_path.specs.Views.{path_text};
-ghost use Rattle.nardcorbel.specs.PathPlaces.{component_place, components_from};
+ghost use Rattle.uefi_path.specs.ComponentPlaces.{component_place, components_from};
 ghost use Rattle.nardcorbel.specs.Reasons.{order_number, path_reason, refused_character, until_nul_reason};
 ghost use Rattle.nardcorbel.specs.Strings.{text_in, until_nul_place};
 
 use crate::reasons::{NO_ORDER, OK, order_number, path_reason, until_nul_reason};
 use crate::strings::until_nul_place;
-use uefi_path::slices::{last_component, others_end};
+use uefi_path::slices::{last_component, next_component, others_end};
 use uefi_path::{Path, validate_path};
 use uefi_text::CStr16;
-
-/// The code unit of the separator.
-const SEPARATOR: u16 = 92;
 
 /// Whether a path names a file: `OK`, or why not, and the character that is refused.
 pub(crate) fn judge(path: Path<'_>, character: &mut u16) -> u32
@@ -107,42 +104,6 @@ pub extern "C" fn nard_path_order(first: &[u16], second: &[u16]) -> i32
     order_number(Path::new(first).cmp(&Path::new(second)))
 }
 
-/// Where the next component begins, if there is one.
-fn component_start(text: &[u16], place: usize) -> Option<usize>
-    ensures left { MatchOption result
-        (components_from text.now place ≡ []) (λ start. (start ≤ length text.now)
-        × (components_from text.now place ≡ slice_split is_separator (drop start text.now))) }
-    ensures place { IfSome result (λ start. start ≡ component_place text.now place) }
-{
-    if 0 < place {
-        return if place <= text.len() {
-            Some(place)
-        } else {
-            None
-        };
-    }
-    match text {
-        [] | [SEPARATOR] => None,
-        [SEPARATOR, ..] => Some(1),
-        _ => Some(0),
-    }
-}
-
-/// The place of the first separator.
-fn find_separator(units: &[u16]) -> Option<usize>
-    ensures { result ≡ position is_separator units.now }
-{
-    units.iter().position(|unit| *unit == SEPARATOR)
-}
-
-/// How many units stand before the first separator.
-fn piece_len(units: &[u16]) -> usize
-    ensures len { result ≡ position_or_len is_separator units.now }
-    ensures within { result ≤ length units.now }
-{
-    find_separator(units).unwrap_or(units.len())
-}
-
 /// The next component of a path, from a place in its text on: whether there is one.
 ///
 /// `text` are the units of the path without its NUL, any units. `place` is 0 at first. Where there is a
@@ -166,10 +127,9 @@ pub extern "C" fn nard_path_next_component(
         × (place.new ≡ place.old) × (start.new ≡ start.old)
         × (component_length.new ≡ component_length.old) }
 {
-    let Some(first) = component_start(text, *place) else {
+    let Some((first, count)) = next_component(text, *place) else {
         return false;
     };
-    let count = piece_len(&text[first..]);
     *start = first;
     *component_length = count;
     *place = first + count + 1;

@@ -4,6 +4,7 @@ pub mod Pushing
 pub mod Parents
 pub mod Drafts
 mod IntoBuffers
+mod MissingSeparators
 pub mod CutParents
 pub mod Joining
 pub mod Validity
@@ -30,6 +31,7 @@ pub mod Beginnings
 pub mod PathsWithoutCase
 mod LastPlaces
 pub mod PlacedComponents
+pub mod ComponentPlaces
 mod Slashes
 pub mod FaultPlaces
 mod Renamed

@@ -19,5 +19,6 @@ pub mod FileNames
 pub mod Ancestors
 pub mod Popping
 pub mod ComponentIndices
+pub mod ComponentPlaces
 pub mod FaultPlaces
 pub mod Renaming

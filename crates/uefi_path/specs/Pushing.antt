@@ -18,6 +18,10 @@ abbrev pub pushed : List ℕ → List ℕ → List ℕ
 pushed text [] = text
 pushed text (unit ∷ units) = appended text (with_separators (unit ∷ units))
 
+-- what a push of a path adds, by whether a separator is missing
+abbrev pub tail_of : Bool → List ℕ → List ℕ
+tail_of is_missing path = if is_missing then separator ∷ with_separators path else with_separators path
+
 -- a push of counted units: what the text becomes, and that each unit was read once, or at most once where the
 -- push was refused
 pub record IsPush {E : Type 0} (old new : List ℕ) (before after : CountedUnits)

@@ -1,6 +1,6 @@
 -- What a call reports that writes a text into a caller's buffer, where there is such a text, and what the
 -- buffer becomes.
-use Rattle.std.specs.Prelude.{ℕ, nat_lt, if◌then◌else◌, List, length, Option, Some, None, Result, Ok, Err}
+use Rattle.std.specs.Prelude.{ℕ, ◌-◌, ◌^◌, min, nat_lt, if◌then◌else◌, List, length, Option, Some, None, Result, Ok, Err}
 use Rattle.uefi_text.specs.UnalignedCStr16.{with_prefix}
 use Rattle.uefi_path.specs.Components.{components_of}
 use Rattle.uefi_path.specs.NormalForms.{normal_of, normal_text}
@@ -30,6 +30,10 @@ abbrev pub written_len : Option (List ℕ) → List ℕ → Result (Option ℕ) 
 written_len None buffer = Ok None
 written_len (Some text) buffer =
     if nat_lt (length buffer) (length text) then Err (length text) else Ok (Some (length text))
+
+-- the length of a text as a number of 64 bits: the greatest of these where it is longer
+abbrev pub length_shown : List ℕ → ℕ
+length_shown text = min (length text) (2 ^ 64 - 1)
 
 -- the buffer begins with the text; it is unchanged where there is no text or no room
 abbrev pub written_over : Option (List ℕ) → List ℕ → List ℕ

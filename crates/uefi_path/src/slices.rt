@@ -1,11 +1,14 @@
 //! Calls on slices of code units, which paths and the library for C have in common. Contracts speak of the
 //! units as lists. Hidden: nothing promises that they stay.
-ghost use Rattle.std.specs.Prelude.{◌≡◌, ◌≢◌, ◌↔◌, ◌+◌, ◌<◌, ◌≤◌, [], ◌∷◌, if◌then◌else◌, IfSome, IsNone, IsSome, None, Some, drop, length, option_map, slice_index, take};
-ghost use Rattle.std.specs.List.{last_or};
+ghost use Rattle.std.specs.Prelude.{◌≡◌, ◌≢◌, ◌↔◌, ◌+◌, ◌<◌, ◌≤◌, [], ◌∷◌, ◌++◌, if◌then◌else◌, IfSome, IsNone, IsSome, MatchOption, None, Some, drop, length, option_map, slice_index, slice_range, take};
+ghost use Rattle.std.specs.List.{last_or, position, position_or_len, slice_split};
+ghost use Rattle.uefi_path.specs.ComponentPlaces.{component_place, components_from};
 ghost use Rattle.uefi_path.specs.Components.{IsPiece, components_of, joined};
 ghost use Rattle.uefi_path.specs.Parents.{all_but_last, parent_text};
-ghost use Rattle.uefi_path.specs.Separators.{canonical, separator, slash, with_separators};
+ghost use Rattle.uefi_path.specs.Pushing.{pushed, tail_of};
+ghost use Rattle.uefi_path.specs.Separators.{canonical, is_separator, separator, slash, with_separators};
 ghost use Rattle.uefi_path.specs.Verdicts.{IsValid};
+ghost use Rattle.uefi_path.specs.Writing.{length_shown};
 ghost use Rattle.uefi_text.specs.Units.{replaced};
 
 use crate::separators::last_start;
@@ -46,6 +49,37 @@ pub fn write_part(places: &mut [u16], is_missing: bool, part: &[u16])
     }
 }
 
+/// Whether a push of a path after a text adds a separator.
+pub fn is_separator_missing(text: &[u16], path: &[u16]) -> bool
+    ensures { pushed text.now path.now ≡ text.now ++ tail_of result path.now }
+{
+    !path.is_empty() && !text.is_empty() && text[text.len() - 1] != u16::from(SEPARATOR)
+}
+
+/// The same after a text whose slashes are replaced.
+pub fn is_separator_missing_replaced(text: &[u16], path: &[u16]) -> bool
+    ensures { pushed (with_separators text.now) path.now
+        ≡ with_separators text.now ++ tail_of result path.now }
+{
+    if path.is_empty() {
+        return false;
+    }
+    if text.is_empty() {
+        return false;
+    }
+    with_separator(text[text.len() - 1]) != u16::from(SEPARATOR)
+}
+
+/// How long a text becomes, when a path is pushed after it, or the greatest `usize` where it becomes longer.
+pub fn pushed_len(text: &[u16], is_missing: bool, path: &[u16]) -> usize
+    ensures len { result ≡ length_shown (text.now ++ tail_of is_missing path.now) }
+    ensures replaced { result ≡ length_shown (with_separators text.now ++ tail_of is_missing path.now) }
+{
+    text.len()
+        .saturating_add(usize::from(is_missing))
+        .saturating_add(path.len())
+}
+
 /// Where the last component begins, if there is one: it ends with the units. Looks at it alone.
 #[inline(always)]
 pub fn last_component(units: &[u16]) -> Option<usize>
@@ -79,4 +113,57 @@ pub fn others_end(units: &[u16]) -> Option<usize>
         return None;
     }
     Some(start - 1)
+}
+
+/// Where the next component begins, if there is one.
+fn component_start(text: &[u16], place: usize) -> Option<usize>
+    ensures left { MatchOption result
+        (components_from text.now place ≡ []) (λ start. (start ≤ length text.now)
+        × (components_from text.now place ≡ slice_split is_separator (drop start text.now))) }
+    ensures place { IfSome result (λ start. start ≡ component_place text.now place) }
+{
+    if 0 < place {
+        return if place <= text.len() {
+            Some(place)
+        } else {
+            None
+        };
+    }
+    match text {
+        [] | [92] => None,
+        [92, ..] => Some(1),
+        _ => Some(0),
+    }
+}
+
+/// The place of the first separator.
+fn find_separator(units: &[u16]) -> Option<usize>
+    ensures { result ≡ position is_separator units.now }
+{
+    units.iter().position(|unit| *unit == u16::from(SEPARATOR))
+}
+
+/// How many units stand before the first separator.
+fn piece_len(units: &[u16]) -> usize
+    ensures len { result ≡ position_or_len is_separator units.now }
+    ensures within { result ≤ length units.now }
+{
+    find_separator(units).unwrap_or(units.len())
+}
+
+/// The next component of a path from a place in its units on, if there is one: where it begins, and how many
+/// units it has. The place is 0 at first, and then the one after the separator that ends a component.
+pub fn next_component(units: &[u16], place: usize) -> Option<(usize, usize)>
+    ensures next { IfSome result (λ found. components_from units.now place
+        ≡ slice_range units.now found.0 (found.0 + found.1)
+        ∷ components_from units.now (found.0 + found.1 + 1)) }
+    ensures start { IfSome result (λ found. found.0 ≡ component_place units.now place) }
+    ensures within { IfSome result (λ found. found.0 + found.1 ≤ length units.now) }
+    ensures none { IsNone result → components_from units.now place ≡ [] }
+{
+    let Some(start) = component_start(units, place) else {
+        return None;
+    };
+    let count = piece_len(&units[start..]);
+    Some((start, count))
 }

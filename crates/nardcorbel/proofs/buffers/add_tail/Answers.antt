@@ -3,7 +3,7 @@ use Rattle.std.proofs.Common.{◌≡◌, ◌++◌, ◌-◌, ap, arith, length, t
 use borrow.Rule.Slice.PartMut.{put_mid}
 use Rattle.uefi_text.specs.UnalignedCStr16.{with_prefix}
 use Rattle.uefi_text.specs.Units.{nul_terminated}
-use Rattle.nardcorbel.specs.Buffers.{tail_of}
+use Rattle.uefi_path.specs.Pushing.{tail_of}
 use Rattle.nardcorbel.proofs.Tails.{ended_tail, tail_written}
 use Rattle.nardcorbel.proofs.buffers.add_tail.Goals as goal
 

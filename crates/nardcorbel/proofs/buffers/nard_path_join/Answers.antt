@@ -2,9 +2,8 @@
 use Rattle.std.proofs.Common.{◌≡◌, ◌<◌, ◌++◌, List, ℕ, ap, arith, length, sym, ◌∙◌}
 use Rattle.uefi_text.specs.UnalignedCStr16.{with_prefix}
 use Rattle.uefi_text.specs.Units.{nul_terminated}
-use Rattle.uefi_path.specs.Pushing.{pushed}
+use Rattle.uefi_path.specs.Pushing.{pushed, tail_of}
 use Rattle.uefi_path.specs.Separators.{with_separators}
-use Rattle.nardcorbel.specs.Buffers.{tail_of}
 use Rattle.nardcorbel.specs.Strings.{text_in}
 use Rattle.nardcorbel.proofs.Tails.{length-replaced, with_prefix_after}
 use Rattle.nardcorbel.proofs.buffers.nard_path_join.Goals as goal

@@ -8,7 +8,7 @@ use Rattle.std.proofs.lemmas.List.Splits.{slice_split_none, slice_split_first}
 use Rattle.std.proofs.lemmas.List.Sums.{fails_before_first, prefix_len-le-length}
 use Rattle.std.proofs.Math.Seq.{take-length}
 use Rattle.uefi_path.specs.Separators.{is_separator}
-use Rattle.nardcorbel.specs.PathPlaces.{components_from}
+use Rattle.uefi_path.specs.ComponentPlaces.{components_from}
 
 -- a place that is not found stands after all units
 found : (n m : ℕ) (b : Bool) → nat_lt n m ≡ b → n ≤ m → unwrap_or (cond b (Some n) None) m ≡ n

@@ -1,8 +1,8 @@
 -- Where no place of a separator is found all units stand before the first one.
 use Rattle.std.proofs.Common.{ap, length, ◌∙◌}
 use Rattle.std.specs.Option.{unwrap_or}
-use Rattle.nardcorbel.proofs.Places.{found_or_after}
-use Rattle.nardcorbel.proofs.paths.piece_len.Goals as goal
+use Rattle.uefi_path.proofs.ComponentPlaces.{found_or_after}
+use Rattle.uefi_path.proofs.slices.piece_len.Goals as goal
 
 pub returns-clause-len : goal.returns-clause-len
 returns-clause-len c =

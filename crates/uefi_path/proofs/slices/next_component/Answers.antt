@@ -3,13 +3,13 @@ use Rattle.std.proofs.Common.{◌≡◌, ◌+◌, ◌-◌, arith, length, length
 use Rattle.std.proofs.lemmas.List.{take_all}
 use Rattle.std.specs.List.{position_or_len}
 use Rattle.uefi_path.specs.Separators.{is_separator}
-use Rattle.nardcorbel.proofs.Places.{first_piece}
-use Rattle.nardcorbel.proofs.paths.nard_path_next_component.Goals as goal
+use Rattle.uefi_path.proofs.ComponentPlaces.{first_piece}
+use Rattle.uefi_path.proofs.slices.next_component.Goals as goal
 
 pub returns-clause-next : goal.returns-clause-next
-returns-clause-next c = λ _.
-    let text = c.args.text.now in
-    let start = c.in-Some.first in
+returns-clause-next c =
+    let text = c.args.units.now in
+    let start = c.in-Some.start in
     let rest : take (length text - start) (drop start text) ≡ drop start text =
     take_all (length text - start) (drop start text) (omega (arith, length-drop start text)) in
     let count : c.piece_len-count.result ≡ position_or_len is_separator (drop start text) =
