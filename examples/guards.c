@@ -95,7 +95,7 @@ COMPARES(fat_name_equal) COMPARES(string_equal_until_nul) COMPARES(device_path_i
 FINDS(string_with_nul) FINDS(string_until_nul) FINDS(packed_until_nul) FINDS(path_file_name) FINDS(path_parent_length)
 FINDS(device_path_check)
 CHANGES(string_make_uppercase) CHANGES(string_make_lowercase) CHANGES(device_path_begin)
-ADDS(path_push) ADDS(device_path_append)
+ADDS(path_push) ADDS(device_path_append) ADDS(device_path_push_text)
 WRITES(units_from_bytes) WRITES(string_from_utf8) WRITES(utf8_from_string) WRITES(path_parent) WRITES(fat_from_string)
 WRITES(string_from_fat) WRITES(device_path_file_path) WRITES(utf8_from_units_lossy)
 CALL(path_verdict, IN(0), place, JUDGED)
@@ -301,6 +301,13 @@ static const struct row rows[] = {
     ROW(device_path_append, WHOLE, .before = BYTES(PCI END), .in = {BYTES(END)}, .out = BYTES(PCI END)),
     FAULT(device_path_append, REFUSED, UNKNOWN_END, 1, .before = BYTES(UNKNOWN), .in = {BYTES(BEYOND)}),
     BAD_PATHS(device_path_append, REFUSED, .before = BYTES(END)),
+    ROW(device_path_push_text, WHOLE, .before = BYTES(PCI END "x"), .in = {BYTES("Pci(0x1F,0x0)/\\a")},
+        .out = BYTES(PCI PCI FILE_A END)),
+    ROW(device_path_push_text, WHOLE, .before = BYTES(END), .in = {BYTES(",\\a")}, .out = BYTES("\x7f\1\4\0" FILE_A END)),
+    ROW(device_path_push_text, WHOLE, .before = BYTES(PCI END), .in = {BYTES("")}, .out = BYTES(PCI END)),
+    FAULT(device_path_push_text, REFUSED, NO_NODE, 3, .before = BYTES(PCI END), .in = {BYTES("\\a/Pci(0x1f,0x0)")}),
+    FAULT(device_path_push_text, REFUSED, NOT_UTF8, 1, .before = BYTES(END), .in = {BYTES("x\xc3")}),
+    FAULT(device_path_push_text, REFUSED, UNKNOWN_END, 1, .before = BYTES(UNKNOWN), .in = {BYTES("\xc3")}),
     ROW(load_option_write, WHOLE, .in = {UNITS(u"b\0c"), BYTES(PCI FILE_A END FILE_A), BYTES("x")}, .number = 0xf00000001,
         .out = BYTES(OPTION)),
     ROW(load_option_write, WHOLE, .in = {UNITS(u"b"), {full_list, 65535, 1}, BYTES("")}, .out = {full_option, 65545, 1}),

@@ -105,7 +105,8 @@ extern "C" {
     REASON(NODE_TOO_LONG, 27, "the node is longer than its header can state") \
     REASON(LIST_TOO_LONG, 28, "the file path list is longer than its header can state") \
     REASON(NOT_A_NAME, 29, "no load option has the name or the kind") \
-    REASON(END_OF_ORDER, 30, "the order ends here") /* nothing is wrong */
+    REASON(END_OF_ORDER, 30, "the order ends here") /* nothing is wrong */ \
+    REASON(NO_NODE, 31, "no node")
 
 enum nard_reason {
 #define NARD_AS_CONSTANT(name, number, text) NARD_##name = number,
@@ -559,6 +560,22 @@ nard_result NARD_CALL nard_device_path_append(nard_byte *buffer, nard_size room,
                                               nard_size *length);
 
 /*
+ * Adds the nodes of a text in UTF-8, for example
+ *     PciRoot(0x0)/Pci(0x1F,0x2)/Sata(0x0,0xFFFF,0x0)
+ * to the device path that a buffer begins with, before its end. The text is as nard_device_path_text writes it without
+ * display_only and allow_shortcuts; AcpiEx, BBS, iSCSI and Wi-Fi are not read. A comma ends an instance.
+ *
+ * Returns NARD_OK, or the first of these that holds
+ *   as nard_device_path_check of the buffer, *length too
+ *   NARD_NOT_UTF8           *length is how many bytes before the fault are UTF-8
+ *   NARD_NO_NODE            at byte *length of the text a node has to begin, and none does
+ *   NARD_BUFFER_TOO_SMALL   room < *length, how many bytes the path would have, or SIZE_MAX if these are more
+ * If it is NARD_OK, *length is how many bytes the path then has, and those after it are unchanged. Otherwise the buffer is.
+ */
+nard_result NARD_CALL nard_device_path_push_text(nard_byte *buffer, nard_size room, const nard_byte *bytes, nard_size byte_count,
+                                                 nard_size *length);
+
+/*
  * Writes a load option of one device path: what a variable Boot#### holds.
  *
  *   attributes    32 bits; those above are ignored
@@ -773,6 +790,7 @@ static inline nard_byte *nard_given_byte_room(nard_byte *buffer)
 #define nard_device_path_begin(...) NARD_AS_IS(NARD_GIVEN_C(nard_device_path_begin, __VA_ARGS__))
 #define nard_device_path_push(...) NARD_AS_IS(NARD_GIVEN_CNNNB(nard_device_path_push, __VA_ARGS__))
 #define nard_device_path_append(...) NARD_AS_IS(NARD_GIVEN_CNB(nard_device_path_append, __VA_ARGS__))
+#define nard_device_path_push_text(...) NARD_AS_IS(NARD_GIVEN_CNB(nard_device_path_push_text, __VA_ARGS__))
 #define nard_load_option_write(...) NARD_AS_IS(NARD_GIVEN_NUNBNBNC(nard_load_option_write, __VA_ARGS__))
 #define nard_device_path_strip_prefix(...) NARD_AS_IS(NARD_GIVEN_BNB(nard_device_path_strip_prefix, __VA_ARGS__))
 #define nard_device_path_is_expansion(...) NARD_AS_IS(NARD_GIVEN_BNB(nard_device_path_is_expansion, __VA_ARGS__))

@@ -11,32 +11,17 @@ use nardcorbel::{CStr16, DevicePathBuilder, LoadOption, Path};
 use std::error::Error;
 use std::io::{self, Write};
 
-/// The types and sub-types of the nodes for a partition and for a file.
-const PARTITION: (u8, u8) = (4, 1);
+/// The type and sub-type of the node for a file.
 const FILE: (u8, u8) = (4, 4);
-
-/// The ends of the data of a partition: its disk has a GPT, and its signature is a GUID.
-const GPT: [u8; 2] = [2, 2];
-
-/// The bytes of a GUID: three numbers with the low byte first, and eight bytes.
-fn guid(text: &str) -> Result<[u8; 16], Box<dyn Error>> {
-    let mut bytes = u128::from_str_radix(&text.replace('-', ""), 16)?.to_be_bytes();
-    bytes[0..4].reverse();
-    bytes[4..6].reverse();
-    bytes[6..8].reverse();
-    Ok(bytes)
-}
 
 fn main() -> Result<(), Box<dyn Error>> {
     let words: Vec<String> = std::env::args().collect();
     let [_, number, start, size, signature, file, description] = &words[..] else {
         return Err("usage: make_entry NUMBER START SIZE GUID FILE DESCRIPTION > ENTRY".into());
     };
-    let mut partition = number.parse::<u32>()?.to_le_bytes().to_vec();
-    partition.extend(start.parse::<u64>()?.to_le_bytes());
-    partition.extend(size.parse::<u64>()?.to_le_bytes());
-    partition.extend(guid(signature)?);
-    partition.extend(GPT);
+    let (number, guid) = (number.parse::<u32>()?, signature.to_uppercase());
+    let (start, size) = (start.parse::<u64>()?, size.parse::<u64>()?);
+    let partition = format!("HD({number},GPT,{guid},{start:#X},{size:#X})");
 
     // A file's name in an entry begins with a separator, which the normal form leaves out.
     let (mut normal, mut root) = (vec![0; 2 * file.len() + 2], [0; 2]);
@@ -48,7 +33,7 @@ fn main() -> Result<(), Box<dyn Error>> {
 
     let (mut nodes, mut entry) = ([0; 0x10000], [0; 0x10000]);
     let mut path = DevicePathBuilder::with_buf(&mut nodes)?;
-    path.push(PARTITION.0, PARTITION.1, &partition)?;
+    path.push_text(&partition)?;
     path.push(FILE.0, FILE.1, &name)?;
     let mut units = vec![0; description.len() + 1];
     let description = CStr16::from_str_with_buf(description, &mut units)?;

@@ -170,6 +170,27 @@ impl<'a> DevicePathBuilder<'a> {
         Ok(())
     }
 
+    /// Adds the nodes of a text, such as `PciRoot(0x0)/Pci(0x1F,0x2)`, before the end. A comma ends an instance.
+    ///
+    /// Fails with [`Reason::NoNode`](crate::Reason) at the byte where a node has to begin and none does, or if the buffer is too
+    /// small. Then the path is unchanged.
+    pub fn push_text(&mut self, text: &str) -> Result<(), Error> {
+        let mut length = 0;
+        // SAFETY: the pointers and the counts are those of slices, the first not shared; `length` is a local.
+        let reason = unsafe {
+            sys::nard_device_path_push_text(
+                self.buffer.as_mut_ptr(),
+                self.buffer.len(),
+                text.as_ptr(),
+                text.len(),
+                &mut length,
+            )
+        };
+        check_bytes(reason, length)?;
+        self.length = length;
+        Ok(())
+    }
+
     /// Returns the path, borrowed from the buffer.
     pub fn finalize(self) -> DevicePath<'a> {
         DevicePath(&self.buffer[..self.length])

@@ -77,6 +77,7 @@ reasons! {
     ListTooLong = LIST_TOO_LONG, "the file path list is longer than its header can state";
     NotAName = NOT_A_NAME, "no load option has the name or the kind";
     EndOfOrder = END_OF_ORDER, "the order ends here";
+    NoNode = NO_NODE, "no node";
 }
 
 impl fmt::Display for Error {

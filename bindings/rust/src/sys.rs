@@ -32,6 +32,7 @@ pub const NODE_TOO_LONG: u32 = 27;
 pub const LIST_TOO_LONG: u32 = 28;
 pub const NOT_A_NAME: u32 = 29;
 pub const END_OF_ORDER: u32 = 30;
+pub const NO_NODE: u32 = 31;
 pub const BOOT: u8 = 0;
 pub const DRIVER: u8 = 1;
 pub const SYS_PREP: u8 = 2;
@@ -321,6 +322,13 @@ extern "C" {
         length: *mut usize,
     ) -> u32;
     pub fn nard_device_path_append(
+        buffer: *mut u8,
+        room: usize,
+        bytes: *const u8,
+        byte_count: usize,
+        length: *mut usize,
+    ) -> u32;
+    pub fn nard_device_path_push_text(
         buffer: *mut u8,
         room: usize,
         bytes: *const u8,

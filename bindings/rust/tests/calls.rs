@@ -194,6 +194,16 @@ fn written() {
     let error = DevicePathBuilder::with_buf(&mut [0; 3]).unwrap_err();
     assert_eq!((error.reason, error.place), (Reason::BufferTooSmall, 4));
 
+    let mut buffer = [9; 20];
+    let mut read = DevicePathBuilder::with_buf(&mut buffer).unwrap();
+    read.push_text("Pci(0x1F,0x2)").unwrap();
+    let error = read.push_text("\\a/Pci(0x1f,0x2)").unwrap_err();
+    assert_eq!(error.to_string(), "no node, at 3");
+    let error = read.push_text(r"\bc").unwrap_err();
+    assert_eq!((error.reason, error.place), (Reason::BufferTooSmall, 22));
+    read.push_text(r"\a").unwrap();
+    assert_eq!(read.finalize(), path);
+
     let name = units("d");
     let mut entry = [9; 64];
     let length = LoadOption::write(9, string_of(&name), path, b"root", &mut entry).unwrap();

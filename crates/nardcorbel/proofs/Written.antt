@@ -1,16 +1,22 @@
 -- The reason that is reported is that of what was not written.
-use Rattle.std.proofs.Common.{◌≡◌, ap, refl, ℕ, List, [], ◌∷◌, Option, None, Some, Result, Ok, Err, IsOk}
+use Rattle.std.proofs.Common.{◌≡◌, ◌≤◌, ap, refl, ℕ, List, [], ◌∷◌, Option, None, Some, arith, Result, Ok, Err, IsOk}
+use Rattle.uefi_device_nodes.specs.Nodes.{Node}
+use Rattle.uefi_device_nodes.specs.declared.errors.NodeError.{NodeError}
+use Rattle.uefi_device_nodes.specs.declared.errors.NodeError.TheVariants as node
 use Rattle.std.specs.Prelude.{OnErr, OnOk}
 use Rattle.std.proofs.lemmas.Bool.{false≢true}
-use Rattle.uefi_device_nodes.specs.Nodes.{Node}
 use Rattle.uefi_device_path.proofs.Entries.{same_entry}
 use Rattle.uefi_device_path.specs.Building.{grow_refusal}
 use Rattle.uefi_device_path.specs.LoadOptions.{Entry}
+use Rattle.uefi_device_path.specs.PathReading.{HasPath, IsPushTextError, StopsAt}
 use Rattle.uefi_device_path.specs.declared.errors.BuildError.{BuildError}
-use Rattle.uefi_device_path.specs.declared.errors.DevicePathError.{DevicePathError}
 use Rattle.uefi_device_path.specs.declared.errors.GrowError.TheVariants.{Build, Path}
-use Rattle.nardcorbel.specs.Building.{build_place, build_reason, entry_of_path}
-use Rattle.nardcorbel.specs.declared.reasons.TheConstants.{OK}
+use Rattle.uefi_device_path.specs.declared.errors.PushTextError.{PushTextError}
+use Rattle.uefi_device_path.specs.declared.errors.PushTextError.TheVariants as text
+use Rattle.nardcorbel.specs.Building.{build_place, build_reason, entry_of_path, text_place, text_reason}
+use Rattle.nardcorbel.specs.Reasons.{node_reason}
+use Rattle.nardcorbel.specs.declared.reasons.TheConstants.{OK, BUFFER_TOO_SMALL, NO_NODE}
+use Rattle.uefi_device_path.specs.declared.errors.DevicePathError.{DevicePathError}
 
 -- a path that grew is not refused
 pub grown_ok : (refusal : Option BuildError) → None ≡ grow_refusal refusal → OK ≡ build_reason refusal
@@ -57,3 +63,38 @@ pub fields_are : (entry : Entry) (attributes : ℕ) (description : List ℕ) (no
     → entry ≡ entry_of_path attributes description nodes optional
 fields_are entry attributes description nodes optional a d p o =
     same_entry entry.attributes attributes entry.description description entry.paths (nodes ∷ []) entry.optional optional a d p o
+
+-- the reasons why no node stands at a place are numbers of their own
+pub node_reason_above : (cause : NodeError) → 12 ≤ node_reason cause
+node_reason_above node.Missing = omega arith
+node_reason_above node.TruncatedHeader = omega arith
+node_reason_above node.UnknownEnd = omega arith
+node_reason_above node.LengthBelowHeader = omega arith
+node_reason_above node.EndWithData = omega arith
+node_reason_above node.BeyondEnd = omega arith
+
+pub node_reason_below : (cause : NodeError) → node_reason cause ≤ 17
+node_reason_below node.Missing = omega arith
+node_reason_below node.TruncatedHeader = omega arith
+node_reason_below node.UnknownEnd = omega arith
+node_reason_below node.LengthBelowHeader = omega arith
+node_reason_below node.EndWithData = omega arith
+node_reason_below node.BeyondEnd = omega arith
+
+-- so what is reported where the nodes of a text are not added says which of its causes holds
+pub never_added : (error : PushTextError) → text_reason (Some error) ≡ OK → ⊥
+never_added (text.Path error) is = omega (arith, is, node_reason_above error.cause)
+never_added (text.NoNode place) is = omega (arith, is)
+never_added (text.BufferTooSmall needed) is = omega (arith, is)
+
+pub stops_there : (buffer bytes : List ℕ) (error : PushTextError) → IsPushTextError buffer bytes error
+    → text_reason (Some error) ≡ NO_NODE → StopsAt bytes (text_place (Some error) 0)
+stops_there buffer bytes (text.Path error) cause is = absurd (omega (arith, is, node_reason_below error.cause))
+stops_there buffer bytes (text.NoNode place) cause is = cause
+stops_there buffer bytes (text.BufferTooSmall needed) cause is = absurd (omega (arith, is))
+
+pub has_no_room : (buffer bytes : List ℕ) (error : PushTextError) → IsPushTextError buffer bytes error
+    → text_reason (Some error) ≡ BUFFER_TOO_SMALL → HasPath bytes
+has_no_room buffer bytes (text.Path error) cause is = absurd (omega (arith, is, node_reason_above error.cause))
+has_no_room buffer bytes (text.NoNode place) cause is = absurd (omega (arith, is))
+has_no_room buffer bytes (text.BufferTooSmall needed) cause is = cause

@@ -6,7 +6,10 @@ use Rattle.uefi_device_path.specs.declared.errors.BuildError.{BuildError}
 use Rattle.uefi_device_path.specs.declared.errors.BuildError.TheVariants as build
 use Rattle.uefi_device_path.specs.declared.errors.OptionBuildError.{OptionBuildError}
 use Rattle.uefi_device_path.specs.declared.errors.OptionBuildError.TheVariants as option
-use Rattle.nardcorbel.specs.declared.reasons.TheConstants.{OK, INTERIOR_NUL, BUFFER_TOO_SMALL, EMPTY_LIST, NODE_OF_END, NODE_TOO_LONG, LIST_TOO_LONG}
+use Rattle.uefi_device_path.specs.declared.errors.PushTextError.{PushTextError}
+use Rattle.uefi_device_path.specs.declared.errors.PushTextError.TheVariants as text
+use Rattle.nardcorbel.specs.Reasons.{node_reason}
+use Rattle.nardcorbel.specs.declared.reasons.TheConstants.{OK, INTERIOR_NUL, BUFFER_TOO_SMALL, EMPTY_LIST, NODE_OF_END, NODE_TOO_LONG, LIST_TOO_LONG, NO_NODE}
 
 -- the reason why nodes are not added; memory is never the reason
 abbrev pub build_reason : Option BuildError → ℕ
@@ -15,6 +18,13 @@ build_reason (Some build.EndNode) = NODE_OF_END
 build_reason (Some build.NodeTooLong) = NODE_TOO_LONG
 build_reason (Some (build.BufferTooSmall needed)) = BUFFER_TOO_SMALL
 build_reason (Some build.OutOfMemory) = BUFFER_TOO_SMALL
+
+-- the reason why the nodes of a text are not added
+abbrev pub text_reason : Option PushTextError → ℕ
+text_reason None = OK
+text_reason (Some (text.Path error)) = node_reason error.cause
+text_reason (Some (text.NoNode place)) = NO_NODE
+text_reason (Some (text.BufferTooSmall needed)) = BUFFER_TOO_SMALL
 
 -- the load option of one device path
 abbrev pub entry_of_path : ℕ → List ℕ → List Node → List ℕ → Entry
@@ -42,6 +52,13 @@ build_place (Some build.EndNode) len place = place
 build_place (Some build.NodeTooLong) len place = place
 build_place (Some (build.BufferTooSmall needed)) len place = needed
 build_place (Some build.OutOfMemory) len place = place
+
+-- the same where the nodes of a text are added: also where the path in the buffer or the text is at fault
+abbrev pub text_place : Option PushTextError → ℕ → ℕ
+text_place None len = len
+text_place (Some (text.Path error)) len = error.offset
+text_place (Some (text.NoNode place)) len = place
+text_place (Some (text.BufferTooSmall needed)) len = needed
 
 -- the same of a load option
 abbrev pub option_build_place : Option OptionBuildError → ℕ → ℕ → ℕ

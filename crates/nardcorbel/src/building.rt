@@ -1,31 +1,36 @@
 //! Device paths and load options that C writes into its own buffers, and device paths beside others.
-ghost use Rattle.std.specs.Prelude.{◌≡◌, ◌≢◌, ◌↔◌, ℕ, ◌+◌, ◌%◌, ◌^◌, ◌<◌, ◌≤◌, ◌++◌, ◌∷◌, [], Err, IfOk, IsOk, IsTrue, List, Option, Some, length};
+ghost use Rattle.std.specs.Prelude.{◌≡◌, ◌≢◌, ◌↔◌, ℕ, ◌+◌, ◌%◌, ◌^◌, ◌<◌, ◌≤◌, ◌++◌, ◌∷◌, [], IsTrue, List, Some, false, length, Err, IfOk, IsOk, Option};
+ghost use Rattle.std.specs.Str.{IsUtf8};
+ghost use Rattle.std.specs.Str.Lossy.{utf8_valid_len};
 ghost use Rattle.std.specs.Result.{result_err};
 ghost use Rattle.uefi_text.specs.FromSliceUntilNul.{until_nul_refusal};
 ghost use Rattle.uefi_text.specs.UnalignedCStr16.{with_prefix};
 ghost use Rattle.uefi_text.specs.Units.{BeginsWithString};
 ghost use Rattle.uefi_device_nodes.specs.Nodes.{Node, end_entire, node_bytes, node_with};
-ghost use Rattle.uefi_device_path.specs.Building.{append_refusal, grow_refusal, push_refusal};
+ghost use Rattle.uefi_device_path.specs.Building.{append_refusal, push_refusal, text_refusal, grow_refusal};
 ghost use Rattle.uefi_device_path.specs.Faults.{RefusedFor};
 ghost use Rattle.uefi_device_path.specs.LoadOptions.{entry_bytes};
 ghost use Rattle.uefi_device_path.specs.Matching.{IsExpansion};
 ghost use Rattle.uefi_device_path.specs.OptionBuilding.{option_over, write_fault};
+ghost use Rattle.uefi_device_path.specs.PathReading.{AreTold, HasPath, StopsAt};
 ghost use Rattle.uefi_device_path.specs.Paths.{BeginWithPath, path_bytes};
+ghost use Rattle.uefi_device_path.specs.PathTexts.{path_text};
 ghost use Rattle.uefi_device_path.specs.declared.errors.BuildError.{BuildError};
 ghost use Rattle.uefi_device_path.specs.declared.errors.DevicePathError.{DevicePathError};
-ghost use Rattle.nardcorbel.specs.Building.{build_place, build_reason, entry_of_path, option_build_place, option_build_reason};
+ghost use Rattle.nardcorbel.specs.Building.{build_place, build_reason, entry_of_path, option_build_place, option_build_reason, text_place, text_reason};
 ghost use Rattle.nardcorbel.specs.Reasons.{node_reason, until_nul_reason};
 ghost use Rattle.nardcorbel.specs.Strings.{text_in, until_nul_place};
 
+use crate::device_paths::nard_device_path_check;
 use crate::reasons::{
-    BUFFER_TOO_SMALL, EMPTY_LIST, INTERIOR_NUL, LIST_TOO_LONG, NODE_OF_END, NODE_TOO_LONG, OK,
-    node_reason, until_nul_reason,
+    BUFFER_TOO_SMALL, EMPTY_LIST, INTERIOR_NUL, LIST_TOO_LONG, NO_NODE, NODE_OF_END, NODE_TOO_LONG,
+    NOT_UTF8, OK, node_reason, until_nul_reason,
 };
 use crate::strings::until_nul_place;
 use uefi_device_path::build::RawNode;
 use uefi_device_path::{
     BuildError, DevicePath, DeviceSubType, DeviceType, GrowError, LoadOptionBuilder,
-    OptionBuildError, append_in_buf, laws, push_in_buf,
+    OptionBuildError, PushTextError, append_in_buf, laws, push_in_buf, push_text_in_buf,
 };
 use uefi_text::CStr16;
 
@@ -171,6 +176,81 @@ pub extern "C" fn nard_device_path_append(buffer: &mut [u8], bytes: &[u8], place
         }
     };
     report_grown(append_in_buf(buffer, path), place)
+}
+
+/// The reason why the nodes of a text are not added, and the place that is reported.
+fn text_reason(error: PushTextError) -> (u32, usize)
+    ensures reason { result.0 ≡ text_reason (Some error) }
+    ensures place { (len : ℕ) → result.1 ≡ text_place (Some error) len }
+{
+    match error {
+        PushTextError::Path(error) => (node_reason(error.cause), error.offset),
+        PushTextError::NoNode(place) => (NO_NODE, place),
+        PushTextError::BufferTooSmall(needed) => (BUFFER_TOO_SMALL, needed),
+    }
+}
+
+/// Adds the nodes of a text in UTF-8 to the device path that a buffer begins with, before its end, as
+/// [`push_text_in_buf`] does.
+///
+/// A buffer that begins with no device path is refused as by [`nard_device_path_check`], with its
+/// `place`; then bytes that are not UTF-8 as `NOT_UTF8`, and `place` becomes how many bytes before
+/// the fault are; then a text that is not that of a path as `NO_NODE`, and `place` becomes the byte
+/// at which a node has to begin and none does; and then a buffer that is too small as
+/// `BUFFER_TOO_SMALL`. Else `place` becomes how many bytes the path then has, or needs, and the
+/// greatest `usize` where these are more. Refused, the buffer stays unchanged; what stands after the
+/// path stays. Takes no memory (UEFI Specification 2.10, section 10.6.1).
+#[unsafe(no_mangle)]
+pub extern "C" fn nard_device_path_push_text(
+    buffer: &mut [u8],
+    bytes: &[u8],
+    place: &mut usize,
+) -> u32
+    ensures no_path { (error : DevicePathError) → RefusedFor buffer.old error
+        → (result ≡ node_reason error.cause) × (place.new ≡ error.offset) }
+    ensures not_utf8 { (nodes : List Node) → BeginWithPath buffer.old nodes → ¬ IsUtf8 bytes.now
+        → (result ≡ NOT_UTF8) × (place.new ≡ utf8_valid_len bytes.now) }
+    ensures no_node { (nodes : List Node) → BeginWithPath buffer.old nodes → IsUtf8 bytes.now
+        → (at : ℕ) → StopsAt bytes.now at → (result ≡ NO_NODE) × (place.new ≡ at) }
+    ensures reason { (nodes told : List Node) → BeginWithPath buffer.old nodes → IsUtf8 bytes.now
+        → AreTold told → path_text false false told ≡ bytes.now
+        → result ≡ text_reason (text_refusal nodes told (length buffer.old)) }
+    ensures place { (nodes told : List Node) → BeginWithPath buffer.old nodes → IsUtf8 bytes.now
+        → AreTold told → path_text false false told ≡ bytes.now
+        → place.new ≡ text_place (text_refusal nodes told (length buffer.old))
+        (length (path_bytes (nodes ++ told))) }
+    ensures buffer { (nodes told : List Node) → BeginWithPath buffer.old nodes → AreTold told
+        → path_text false false told ≡ bytes.now → result ≡ OK
+        → buffer.new ≡ with_prefix (path_bytes (nodes ++ told)) buffer.old }
+    ensures stops { result ≡ NO_NODE → StopsAt bytes.now place.new }
+    ensures read { result ≡ OK → HasPath bytes.now }
+    ensures small { result ≡ BUFFER_TOO_SMALL → HasPath bytes.now }
+    ensures unchanged { result ≢ OK → buffer.new ≡ buffer.old }
+{
+    // The law does nothing: it says that no path is refused.
+    laws::accepted_paths();
+    let reason = nard_device_path_check(buffer, place);
+    if reason != OK {
+        return reason;
+    }
+    let text = match str::from_utf8(bytes) {
+        Ok(text) => text,
+        Err(error) => {
+            *place = error.valid_up_to();
+            return NOT_UTF8;
+        }
+    };
+    match push_text_in_buf(buffer, text) {
+        Ok(len) => {
+            *place = len;
+            OK
+        }
+        Err(error) => {
+            let (reason, at) = text_reason(error);
+            *place = at;
+            reason
+        }
+    }
 }
 
 /// Whether both begin with a device path, and the second is a short form that stands for the first, as

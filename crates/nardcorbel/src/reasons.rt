@@ -101,6 +101,9 @@ pub const NOT_A_NAME: u32 = 29;
 /// The order has no number at the place, which is at its end or beyond it.
 pub const END_OF_ORDER: u32 = 30;
 
+/// A node of a device path has to begin at the place in a text, and none does.
+pub const NO_NODE: u32 = 31;
+
 /// The order of two strings of which one is none: the least number of its type, so that no test for
 /// "greater" holds.
 pub const NO_ORDER: i32 = i32::MIN;
@@ -147,6 +150,7 @@ pub fn numbers()
     ensures list_too_long { LIST_TOO_LONG ≡ 28 }
     ensures not_a_name { NOT_A_NAME ≡ 29 }
     ensures end_of_order { END_OF_ORDER ≡ 30 }
+    ensures no_node { NO_NODE ≡ 31 }
     ensures no_order { NO_ORDER ≡ negsuc 2147483647 }
 {}
 

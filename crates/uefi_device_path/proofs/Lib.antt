@@ -15,6 +15,7 @@ pub mod Units
 pub mod PathReading
 pub mod TextStops
 pub mod TextLengths
+pub mod PushedTexts
 pub mod NamesInARow
 pub mod ShownPaths
 pub mod LenientReading

@@ -98,7 +98,7 @@ pub no_end : NodeFits → (node : Node) → IsTold node → is_end_instance node
 no_end fits node told = ap (λ (t : Bool). t && (node.sub_type == 0x01)) (fits node told).0
 
 -- the text of a node is not empty
-some_text : NodeStarts → (node : Node) → IsTold node → 0 < length (printed node)
+pub some_text : NodeStarts → (node : Node) → IsTold node → 0 < length (printed node)
 some_text starts node told = by (printed node) (starts node told [])
   where
     by : (text : List ℕ) → is_after_node (text ++ []) ≡ false → 0 < length text

@@ -11,7 +11,7 @@ use Rattle.uefi_node_reader.specs.Laws.{NodeFits, NodeStarts}
 use Rattle.uefi_device_path.proofs.PathReading.{done, Going, going_first, over_comma, over_node, place_within, stopped}
 
 -- one node more
-bytes_more : (nodes : List Node) (node : Node) → length (path_bytes (nodes ++ node ∷ [])) ≡ length (path_bytes nodes) + (length node.content + 4)
+pub bytes_more : (nodes : List Node) (node : Node) → length (path_bytes (nodes ++ node ∷ [])) ≡ length (path_bytes nodes) + (length node.content + 4)
 bytes_more nodes node =
     let both : joined (nodes ++ node ∷ []) ≡ joined nodes ++ (node_bytes node ++ []) = flat_map-append node_bytes nodes (node ∷ []) in
     let one = length-append (node_bytes node) [] in

@@ -43,11 +43,11 @@ pub told_first : NodeFits → (s : Bool) (node : Node) (nodes : List Node) (tail
 told_first fits s node nodes tail told = ap (λ (t : Bool). cond t (44 ∷ whole_text true nodes tail)
     (separator s ++ (printed node ++ whole_text false nodes tail))) (no_end fits node told)
 
-end_first : (s : Bool) (node : Node) (nodes : List Node) (tail : Option (List ℕ)) → node ≡ end_instance
+pub end_first : (s : Bool) (node : Node) (nodes : List Node) (tail : Option (List ℕ)) → node ≡ end_instance
     → whole_text s (node ∷ nodes) tail ≡ 44 ∷ whole_text true nodes tail
 end_first s node nodes tail e = ap (λ (x : Node). whole_text s (x ∷ nodes) tail) e
 
-nothing_is_no_byte : (byte : ℕ) (bytes : List ℕ) → [] ≡ byte ∷ bytes → ⊥
+pub nothing_is_no_byte : (byte : ℕ) (bytes : List ℕ) → [] ≡ byte ∷ bytes → ⊥
 nothing_is_no_byte byte bytes e = cc
 
 -- the two are not the same
@@ -140,7 +140,7 @@ wholes_once node_once starts fits (n ∷ ns) (m ∷ ms) s tail other told all is
         (cc, same.1)
 
 -- texts of nodes, and texts that stop, as such wholes
-path_whole : (nodes : List Node) → path_text false false nodes ≡ whole_text true nodes None
+pub path_whole : (nodes : List Node) → path_text false false nodes ≡ whole_text true nodes None
 path_whole nodes = path_text_is nodes
 
 stop_whole : (text : List ℕ) (place : ℕ) (nodes : List Node) (rest : List ℕ) → Stops text place nodes rest

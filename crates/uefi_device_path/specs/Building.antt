@@ -1,5 +1,5 @@
 -- Which nodes are refused by a device path that grows.
-use Rattle.std.specs.Prelude.{ℕ, ◌+◌, List, ◌++◌, nat_lt, ◌==◌, ◌&&◌, not, if◌then◌else◌, length, Option, Some, None}
+use Rattle.std.specs.Prelude.{ℕ, ◌+◌, ◌-◌, ◌^◌, min, List, ◌++◌, nat_lt, ◌==◌, ◌&&◌, not, if◌then◌else◌, length, Option, Some, None}
 use Rattle.uefi_device_nodes.specs.Nodes.{is_end_instance}
 use Rattle.uefi_device_nodes.specs.Nodes.{Node, node_length, node_with}
 use Rattle.uefi_text.specs.UnitBytes.{unit_bytes}
@@ -9,6 +9,8 @@ use Rattle.uefi_device_path.specs.declared.errors.BuildError.{BuildError}
 use Rattle.uefi_device_path.specs.declared.errors.GrowError.{GrowError}
 use Rattle.uefi_device_path.specs.declared.errors.GrowError.TheVariants.{Build}
 use Rattle.uefi_device_path.specs.declared.errors.BuildError.TheVariants.{BufferTooSmall, EndNode, NodeTooLong}
+use Rattle.uefi_device_path.specs.declared.errors.PushTextError.{PushTextError}
+use Rattle.uefi_device_path.specs.declared.errors.PushTextError.TheVariants as text
 
 -- the node that names a file: its name and a NUL
 abbrev pub node_of_name : List ℕ → Node
@@ -41,3 +43,14 @@ append_refusal nodes others room = room_refusal (length (path_bytes (nodes ++ ot
 abbrev pub grow_refusal : Option BuildError → Option GrowError
 grow_refusal None = None
 grow_refusal (Some error) = Some (Build error)
+
+-- how many bytes the path of these nodes has, as far as a `usize` counts
+abbrev pub path_length : List Node → ℕ
+path_length nodes = min (length (path_bytes nodes)) (2 ^ 64 - 1)
+
+-- why the nodes that a text has are not added to a path of these nodes in a buffer of `room` bytes, or none
+abbrev pub text_refusal : List Node → List Node → ℕ → Option PushTextError
+text_refusal nodes told room =
+    if nat_lt room (path_length (nodes ++ told))
+    then Some (text.BufferTooSmall (path_length (nodes ++ told)))
+    else None

@@ -15,6 +15,8 @@ use Rattle.uefi_device_path.specs.declared.errors.LoadOptionError.{LoadOptionErr
 use Rattle.uefi_device_path.specs.declared.errors.BuildError.{BuildError}
 use Rattle.uefi_device_path.specs.declared.errors.GrowError.{GrowError}
 use Rattle.uefi_device_path.specs.declared.errors.GrowError.TheVariants as grow
+use Rattle.uefi_device_path.specs.declared.errors.PushTextError.{PushTextError}
+use Rattle.uefi_device_path.specs.declared.errors.PushTextError.TheVariants as push_text
 use Rattle.uefi_device_path.specs.declared.errors.BuildError.TheVariants as build
 use Rattle.uefi_device_path.specs.declared.errors.OptionBuildError.{OptionBuildError}
 use Rattle.uefi_device_path.specs.declared.errors.OptionBuildError.TheVariants as written
@@ -91,3 +93,9 @@ text_write_error_text (text.BufferTooSmall needed) =
 abbrev pub path_text_error_text : PathTextError → List ℕ
 path_text_error_text (read.NoNode place) = codes "no node at offset " ++ decimal place
 path_text_error_text read.OutOfMemory = codes "out of memory"
+
+-- what is printed where the nodes of a text are not added to the path that a buffer begins with
+abbrev pub push_text_error_text : PushTextError → List ℕ
+push_text_error_text (push_text.Path error) = device_path_error_text error
+push_text_error_text (push_text.NoNode place) = path_text_error_text (read.NoNode place)
+push_text_error_text (push_text.BufferTooSmall needed) = build_error_text (build.BufferTooSmall needed)

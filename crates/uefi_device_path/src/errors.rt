@@ -265,6 +265,40 @@ impl fmt::Display for GrowError {
 
 impl Error for GrowError {}
 
+/// Why the nodes of a text are not added to the device path that a buffer begins with.
+#[derive(Clone, Copy, Debug, PartialEq, Eq)]
+pub enum PushTextError {
+    /// The buffer begins with no device path.
+    Path(DevicePathError),
+    /// A node has to begin at this byte of the text, and none does, as in
+    /// [`PathTextError::NoNode`](crate::PathTextError).
+    NoNode(usize),
+    /// The buffer has fewer bytes than the path with the nodes, which has this many, or `usize::MAX` where
+    /// they are more.
+    BufferTooSmall(usize),
+}
+
+/// Prints what is wrong, in words.
+impl fmt::Display for PushTextError {
+    ghost use Rattle.std.specs.Prelude.{Some};
+    ghost use Rattle.uefi_device_path.specs.ErrorTexts.{push_text_error_text};
+
+    ghost output = { λ error. Some (push_text_error_text error) };
+
+    fn fmt<W: fmt::Write>(&self, f: &mut fmt::Formatter<W>) -> fmt::Result {
+        match self {
+            Self::Path(error) => write!(f, "{error}"),
+            Self::NoNode(offset) => write!(f, "no node at offset {offset}"),
+            Self::BufferTooSmall(needed) => write!(
+                f,
+                "buffer too small: the device path needs {needed} bytes"
+            ),
+        }
+    }
+}
+
+impl Error for PushTextError {}
+
 /// Why a load option is not written.
 #[derive(Clone, Copy, Debug, PartialEq, Eq)]
 pub enum OptionBuildError {

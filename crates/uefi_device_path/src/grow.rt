@@ -1,11 +1,11 @@
 //! Device paths that grow in the buffer in which they lie.
 #![tactic(auto)]
 
-ghost use Rattle.std.specs.Prelude.{◌≡◌, ℕ, ◌+◌, ◌-◌, ◌≤◌, ◌∷◌, ◌++◌, [], List, drop, length, take, Err, IfOk, IsOk, OnErr, OnOk};
+ghost use Rattle.std.specs.Prelude.{◌≡◌, ℕ, ◌+◌, ◌-◌, ◌≤◌, ◌∷◌, ◌++◌, [], List, drop, length, take, Err, IfErr, IfOk, IsOk, None, OnErr, OnOk};
 ghost use Rattle.std.specs.Result.{result_err};
 ghost use Rattle.uefi_text.specs.UnalignedCStr16.{with_prefix};
-ghost use Rattle.uefi_device_nodes.specs.Nodes.{Node, end_entire, node_bytes};
-ghost use Rattle.uefi_device_path.specs.Building.{append_refusal, grow_refusal, push_refusal};
+ghost use Rattle.uefi_device_nodes.specs.Nodes.{Node, end_entire, node_bytes, node_length};
+ghost use Rattle.uefi_device_path.specs.Building.{append_refusal, build_refusal, grow_refusal, push_refusal};
 ghost use Rattle.uefi_device_path.specs.Faults.{RefusedFor};
 ghost use Rattle.uefi_device_path.specs.Paths.{BeginWithPath, IsPath, nodes_in, path_bytes, without_end};
 ghost use Rattle.uefi_device_path.specs.Views.{nodes_of};
@@ -13,7 +13,7 @@ ghost use Rattle.uefi_device_path.specs.declared.errors.DevicePathError.{DeviceP
 
 use crate::build::{check_node, node_header};
 use crate::device_path::DevicePath;
-use crate::errors::{BuildError, GrowError};
+use crate::errors::{BuildError, DevicePathError, GrowError};
 use uefi_built_nodes::build_node::{BuildNode, copy_bytes};
 
 /// Writes a node, and the node that ends a path after it.
@@ -26,6 +26,25 @@ fn put_node<N: BuildNode>(places: &mut [u8], header: [u8; 4], node: &N)
     let (middle, end) = rest.split_at_mut(node.data_len());
     node.write_data(middle);
     end.copy_from_slice(&[0x7f, 0xff, 4, 0]);
+}
+
+/// Adds a node that may stand before the end of the path that the first `len` bytes of a buffer are, and for
+/// which there is room, and returns how many bytes the path then has.
+pub(crate) fn put_at<N: BuildNode>(buffer: &mut [u8], len: usize, node: &N) -> usize
+    requires within { len ≤ length buffer.now }
+    requires is_path { IsPath (take len buffer.now) }
+    requires unrefused { build_refusal (N.node node.now) ≡ None }
+    requires room { len + node_length (N.node node.now) ≤ length buffer.now }
+    ensures end { result ≡ len + node_length (N.node node.now) }
+    ensures grown { IsPath (take result buffer.new) }
+    ensures nodes { nodes_in (without_end (take result buffer.new))
+        ≡ nodes_in (without_end (take len buffer.old)) ++ N.node node.now ∷ [] }
+    ensures rest { drop result buffer.new ≡ drop result buffer.old }
+{
+    let header = node_header(node);
+    let end = len + node.data_len() + 4;
+    put_node(&mut buffer[len - 4..end], header, node);
+    end
 }
 
 /// Adds a node before the end of the path that the first `len` bytes of a buffer are, and returns how many
@@ -53,9 +72,7 @@ pub(crate) fn push_at<N: BuildNode>(
     if buffer.len() < end {
         return Err(BuildError::BufferTooSmall(end));
     }
-    let header = node_header(node);
-    put_node(&mut buffer[len - 4..end], header, node);
-    Ok(end)
+    Ok(put_at(buffer, len, node))
 }
 
 /// Adds the nodes of another path before the end of the path that the first `len` bytes of a buffer are, and
@@ -87,19 +104,19 @@ pub(crate) fn append_at(
 }
 
 /// How many bytes the path has that a buffer begins with.
-fn path_len(buffer: &[u8]) -> Result<usize, GrowError>
+pub(crate) fn path_len(buffer: &[u8]) -> Result<usize, DevicePathError>
     ensures within { IfOk result (λ len. len ≤ length buffer.now) }
     ensures is_path { IfOk result (λ len. IsPath (take len buffer.now)) }
     ensures begins { IfOk result (λ len.
         BeginWithPath buffer.now (nodes_in (without_end (take len buffer.now)))) }
     ensures accepts { (nodes : List Node) → BeginWithPath buffer.now nodes
         → IfOk result (λ len. nodes ≡ nodes_in (without_end (take len buffer.now))) × IsOk result }
-    ensures refusal { (error : DevicePathError) → RefusedFor buffer.now error
-        → result ≡ Err (GrowError.Path error) }
+    ensures err { IfErr result (λ error. RefusedFor buffer.now error) }
+    ensures refusal { (error : DevicePathError) → RefusedFor buffer.now error → result ≡ Err error }
 {
     match DevicePath::from_bytes(buffer) {
         Ok(path) => Ok(path.as_bytes().len()),
-        Err(error) => Err(GrowError::Path(error)),
+        Err(error) => Err(error),
     }
 }
 
@@ -122,7 +139,7 @@ pub fn push_in_buf<N: BuildNode>(buffer: &mut [u8], node: &N) -> Result<usize, G
 {
     let len = match path_len(buffer) {
         Ok(len) => len,
-        Err(error) => return Err(error),
+        Err(error) => return Err(GrowError::Path(error)),
     };
     match push_at(buffer, len, node) {
         Ok(len) => Ok(len),
@@ -145,7 +162,7 @@ pub fn append_in_buf(buffer: &mut [u8], path: DevicePath<'_>) -> Result<usize, G
 {
     let len = match path_len(buffer) {
         Ok(len) => len,
-        Err(error) => return Err(error),
+        Err(error) => return Err(GrowError::Path(error)),
     };
     match append_at(buffer, len, path) {
         Ok(len) => Ok(len),

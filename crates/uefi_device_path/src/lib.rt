@@ -32,6 +32,7 @@ mod device_path;
 mod errors;
 mod file_path;
 mod grow;
+mod grow_text;
 mod instance;
 mod instance_text;
 pub mod laws;
@@ -54,9 +55,10 @@ pub use device_path::DevicePath;
 pub use errors::{
     BuildError, DevicePathError, FilePathCause, FilePathError, FilePathWriteError, GrowError,
     LoadOptionCause, LoadOptionError, NodeConversionError, NodeError, OptionBuildError,
-    TextWriteError,
+    PushTextError, TextWriteError,
 };
 pub use grow::{append_in_buf, push_in_buf};
+pub use grow_text::push_text_in_buf;
 pub use instance::{DevicePathInstance, DevicePathInstanceIterator};
 pub use load_option::LoadOption;
 pub use load_option_parts::LoadOptionParts;

@@ -124,7 +124,7 @@ pub(crate) fn node_start(at_start: bool, text: &[u8]) -> &[u8]
 
 /// How many bytes the path has whose text bytes are, as far as a `usize` counts, or where they stop being
 /// the text of one.
-fn check_text(text: &[u8]) -> Result<usize, usize>
+pub(crate) fn check_text(text: &[u8]) -> Result<usize, usize>
     ensures path { IfOk result (λ _. HasPath text.now) }
     ensures len { IfOk result (λ len. (nodes : List Node) → AreTold nodes
         → path_text false false nodes ≡ text.now → len ≡ min (length (path_bytes nodes)) (2 ^ 64 - 1)) }

@@ -10,7 +10,7 @@ use uefi_device_path::{DevicePathBuf, PathTextError};
 /// The bytes of nodes without the one that ends the path, and their text: devices as firmware prints
 /// them before a partition, partitions, names of files, and instances. The first line is the empty
 /// path.
-const TEXTS: &str = "
+pub(crate) const TEXTS: &str = "
 02010c00d041030a0000000001010600021f PciRoot(0x0)/Pci(0x1F,0x2)
 02010c00d041080a78563412 PcieRoot(0x12345678)
 02010c00d041020c0a000000 Acpi(PNP0C02,0xA)
@@ -56,7 +56,7 @@ fn texts(rt: HostRuntime) -> Result<(), Fail> {
 }
 
 /// Texts of no path, and where the first node begins that can't be read.
-const REFUSED: &[(&str, usize)] = &[
+pub(crate) const REFUSED: &[(&str, usize)] = &[
     ("PciRoot(0x0)/", 13),
     ("PciRoot(0x0)/,", 13),
     ("PciRoot(0x0)//Pci(0x0,0x0)", 13),

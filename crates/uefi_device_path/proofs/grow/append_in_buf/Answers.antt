@@ -8,6 +8,9 @@ use Rattle.uefi_device_path.specs.Views.{nodes_of}
 use Rattle.uefi_device_path.proofs.Building.{grown_buffer, len_of_path}
 use Rattle.uefi_device_path.proofs.grow.append_in_buf.Goals as goal
 
+pub returns-in-Err-clause-no_path : goal.returns-in-Err-clause-no_path
+returns-in-Err-clause-no_path c = λ error refused. let same = c.in-Err.ensures.refusal error refused in cc
+
 pub returns-in-Err-clause-refusal : goal.returns-in-Err-clause-refusal
 returns-in-Err-clause-refusal c = λ nodes begins. absurd (cc (c.in-Err.ensures.accepts nodes begins).1)
 
