@@ -89,6 +89,15 @@ pub(crate) fn put_low(found: &mut [u8], number: u64)
     }
 }
 
+/// Fills a buffer of one byte with the low byte of a number. A loop over more bytes, which are zero, would
+/// be a call of `memset`, which firmware lacks.
+fn put_byte(found: &mut [u8], number: u64)
+    requires { length found.old ≡ 1 }
+    ensures { found.new ≡ low_bytes (length found.old) number }
+{
+    found[0] = (number % 256) as u8;
+}
+
 /// Fills a buffer with the bytes of a number in a base. Returns what stands after it.
 fn number_into<'a>(base: u64, found: &mut [u8], text: &'a [u8]) -> Option<&'a [u8]>
     requires some { 1 ≤ length found.old }
@@ -127,6 +136,7 @@ fn default_into<'a>(found: &mut [u8], text: &'a [u8]) -> Option<&'a [u8]>
 
 /// Fills a buffer of one byte with that whose next number a text begins with. Returns what stands after it.
 fn next_into<'a>(found: &mut [u8], text: &'a [u8]) -> Option<&'a [u8]>
+    requires { length found.old ≡ 1 }
     ensures { option_map (λ x. (found.new, x.now)) result
         ≡ option_and_then (as_bytes (length found.old)) (next_read text.now) }
 {
@@ -134,7 +144,7 @@ fn next_into<'a>(found: &mut [u8], text: &'a [u8]) -> Option<&'a [u8]>
     if value == 0 {
         return None;
     }
-    put_low(found, value - 1);
+    put_byte(found, value - 1);
     Some(rest)
 }
 
