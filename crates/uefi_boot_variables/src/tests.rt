@@ -1,7 +1,7 @@
 //! Rows whose values come from the UEFI Specification 2.10, sections 3.1.1, 3.1.3 and 3.3.
 use crate::{
-    LoadOptionKind, LoadOptionName, LoadOrder, NotTwoBytes, OddLength, OrderBuffer, OrderFull,
-    order_edits, read_number,
+    LoadOptionKind, LoadOptionName, LoadOrder, NameBufferTooSmall, NotTwoBytes, OddLength,
+    OrderBuffer, OrderFull, order_edits, read_number,
 };
 use std::process::Abort;
 use std::test::Fail;
@@ -70,6 +70,13 @@ fn names_are_written(rt: HostRuntime) -> Result<(), Fail> {
             let printed = name.to_string(rt.alloc())?;
             assert_eq!(rt; printed.as_str(), *text);
             let mut units = [0xffff; 32];
+            for room in 0..text.len() + 1 {
+                let short = name
+                    .to_cstr16(units.get_mut(..room).unwrap_or_default())
+                    .err();
+                assert_eq!(rt; short, Some(NameBufferTooSmall(text.len() + 1)));
+                assert!(rt; units == [0xffff; 32]);
+            }
             let string = name.to_cstr16(&mut units)?;
             assert_eq!(rt; LoadOptionName::from_cstr16(string), Some(name));
         }

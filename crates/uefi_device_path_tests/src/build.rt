@@ -1,11 +1,15 @@
 //! Paths that are built, in memory and in buffers: their bytes, and which nodes are refused.
 
 use crate::option_builder::END;
+use for_tests::holds;
 use std::test::Fail;
 use uefi_device_path::{BuildError, DevicePathBuf, DevicePathBuilder, DeviceSubType, DeviceType};
 
 /// The bytes of a path of two nodes, of 6 and of 4 bytes.
 const BUILT: &[u8] = &[1, 1, 6, 0, 0, 0x1f, 0x7f, 1, 4, 0, 0x7f, 0xff, 4, 0];
+
+/// The same of the first alone.
+const FIRST: &[u8] = &[1, 1, 6, 0, 0, 0x1f, 0x7f, 0xff, 4, 0];
 
 #[test]
 fn built_in_memory(rt: HostRuntime) -> Result<(), Fail> {
@@ -25,19 +29,20 @@ fn build<'a>(buffer: &'a mut [u8]) -> Result<&'a [u8], BuildError> {
 }
 
 /// A path is built in a buffer of 14 bytes or more, and a shorter one is refused with the count that it
-/// lacks first.
+/// lacks first, and holds the path so far.
 #[test]
 fn built_in_buffers(rt: HostRuntime) {
     for len in 0..16 {
         let mut room = [9; 16];
         let built = build(room.get_mut(..len).unwrap_or_default());
-        let needed = match len {
-            0..4 => Err(BuildError::BufferTooSmall(4)),
-            4..10 => Err(BuildError::BufferTooSmall(10)),
-            10..14 => Err(BuildError::BufferTooSmall(14)),
-            _ => Ok(BUILT),
+        let (needed, left) = match len {
+            0..4 => (Err(BuildError::BufferTooSmall(4)), &[] as &[u8]),
+            4..10 => (Err(BuildError::BufferTooSmall(10)), END),
+            10..14 => (Err(BuildError::BufferTooSmall(14)), FIRST),
+            _ => (Ok(BUILT), BUILT),
         };
         assert!(rt; built == needed, "{len}");
+        assert!(rt; holds(&room, left, &9), "{len}");
     }
 }
 

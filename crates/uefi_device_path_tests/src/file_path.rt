@@ -6,6 +6,7 @@ use uefi_device_path::{
     DevicePath, DevicePathBuf, DevicePathInstance, DeviceSubType, DeviceType, FilePathCause,
     FilePathError, FilePathWriteError,
 };
+use uefi_text::CStr16;
 use uefi_text::FromSliceWithNulError::{InteriorNul, InvalidChar, NotNulTerminated};
 
 /// A path of one node that names no file, and of nodes with these data.
@@ -34,15 +35,30 @@ fn has_written(
     said && holds(room, units.get(..count).unwrap_or(&[]), &9)
 }
 
+/// How many units a call borrows from a buffer, with the NUL.
+fn counted(borrowed: Result<CStr16<'_>, FilePathWriteError>) -> Result<usize, FilePathWriteError> {
+    match borrowed {
+        Ok(string) => Ok(string.to_u16_slice_with_nul().len()),
+        Err(error) => Err(error),
+    }
+}
+
 /// Whether a path and an instance of it write these units to each buffer that has room for them, and to no
-/// other.
+/// other, and borrow them from there.
 fn write(path: DevicePath<'_>, instance: DevicePathInstance<'_>, units: &[u16]) -> bool {
     for len in 0..units.len() + 2 {
-        let (mut room, mut other) = ([9; 64], [9; 64]);
-        let written = path.write_file_path(room.get_mut(..len).unwrap_or_default());
-        let same = instance.write_file_path(other.get_mut(..len).unwrap_or_default());
-        if !has_written(written, &room, units, len) || !has_written(same, &other, units, len) {
-            return false;
+        let mut rooms = [[9; 64]; 4];
+        let [a, b, c, d] = &mut rooms;
+        let said = [
+            path.write_file_path(a.get_mut(..len).unwrap_or_default()),
+            instance.write_file_path(b.get_mut(..len).unwrap_or_default()),
+            counted(path.file_path_in_buf(c.get_mut(..len).unwrap_or_default())),
+            counted(instance.file_path_in_buf(d.get_mut(..len).unwrap_or_default())),
+        ];
+        for (said, room) in said.iter().zip(&rooms) {
+            if !has_written(*said, room, units, len) {
+                return false;
+            }
         }
     }
     true
@@ -88,21 +104,6 @@ fn joined(rt: HostRuntime) -> Result<(), Fail> {
     Ok(())
 }
 
-/// A file path is borrowed from the buffer that it was written to.
-#[test]
-fn borrowed(rt: HostRuntime) -> Result<(), Fail> {
-    let path = named(&rt, &[b"/\0E\0F\0I\0/\0\0\0"])?;
-    let path = path.as_device_path();
-    let instance = path.instance_iter().next().ok_or("an instance")?;
-    let mut room = [9; 7];
-    assert!(rt; path.file_path_in_buf(&mut room)?.num_chars() == 5);
-    assert!(rt; instance.file_path_in_buf(&mut room)?.num_chars() == 5);
-    assert!(rt; room == [0x5c, 0x45, 0x46, 0x49, 0x5c, 0, 9]);
-    let short = path.file_path_in_buf(&mut room[..5]).err();
-    assert!(rt; short == Some(FilePathWriteError::BufferTooSmall(6)));
-    Ok(())
-}
-
 /// Data of a node, which begin at offset 18, and why they are no name.
 const REFUSED: &[(&str, FilePathCause)] = &[
     ("61", FilePathCause::HalfUnit),
@@ -112,16 +113,25 @@ const REFUSED: &[(&str, FilePathCause)] = &[
     ("610000d80000", FilePathCause::Text(InvalidChar(1))),
 ];
 
-/// Whether a path and its only instance have no file path for this reason, in memory and in a buffer
-/// without a place.
+/// Whether a path and its only instance have no file path for this reason, in memory and in a buffer of
+/// each room, which is unchanged.
 fn are_refused(rt: &HostRuntime, path: DevicePath<'_>, want: FilePathError) -> Result<bool, Fail> {
     let instance = path.instance_iter().next().ok_or("an instance")?;
     let written = Some(FilePathWriteError::Name(want));
+    for len in 0..8 {
+        let mut room = [9; 8];
+        let buffer = room.get_mut(..len).unwrap_or_default();
+        let is_refused = path.write_file_path(buffer).err() == written
+            && instance.write_file_path(buffer).err() == written
+            && path.file_path_in_buf(buffer).err() == written
+            && instance.file_path_in_buf(buffer).err() == written;
+        if !is_refused || room != [9; 8] {
+            return Ok(false);
+        }
+    }
     Ok(
         path.file_path(rt.alloc()).err() == Some(want)
-            && instance.file_path(rt.alloc()).err() == Some(want)
-            && path.write_file_path(&mut []).err() == written
-            && instance.write_file_path(&mut []).err() == written,
+            && instance.file_path(rt.alloc()).err() == Some(want),
     )
 }
 

@@ -12,7 +12,7 @@ PciRoot(0x0)/\\EFI\\a.efi \\EFI\\a.efi
 \\EFI\\a.efi \\EFI\\a.efi
 MAC(0013720AB0FF,0x1)/Uri(http://a/b) Uri(http://a/b)";
 
-/// The same of a first that is none.
+/// The same, where the first path is no expansion of the second.
 const OTHERS: &str = "\
 PciRoot(0x0)/HD(2,MBR,0x12345678,0x800,0x100) HD(1,MBR,0x12345678,0x800,0x100)
 PciRoot(0x0)/HD(1,MBR,0x12345679,0x800,0x100) HD(1,MBR,0x12345678,0x800,0x100)

@@ -119,16 +119,21 @@ fn is_told_from_latin1(hostile: &HostileText) -> bool {
         && has_no_nul(text) != hostile.units.contains(&0)
 }
 
-/// Whether that is so of buffers that end before, in and after the text, and of one with more places than a
-/// block has after it.
+/// Whether that is so of buffers of each room where the text is short, else of those that end before, in and
+/// after it; and of one with more places than a block has after it.
 fn is_buffered_in_each(rt: &HostRuntime, hostile: &HostileText) -> Result<bool, Fail> {
     let (place, len) = (hostile.place, hostile.units.len());
-    for more in [0, 1, 2, 70] {
-        if !is_buffered_in(rt, hostile, len.saturating_add(more))? {
+    let least = if len < 12 { 0 } else { len };
+    for room in least..len.saturating_add(3) {
+        if !is_buffered_in(rt, hostile, room)? {
             return Ok(false);
         }
     }
-    Ok(is_buffered_in(rt, hostile, place)? && is_buffered_in(rt, hostile, place.saturating_add(1))?)
+    Ok(
+        is_buffered_in(rt, hostile, place)?
+            && is_buffered_in(rt, hostile, place.saturating_add(1))?
+            && is_buffered_in(rt, hostile, len.saturating_add(70))?,
+    )
 }
 
 /// Whether each conversion of a row's text is right, its characters at this place among this many others.

@@ -149,24 +149,21 @@ fn are_buffered(
     leaves(rt, items, &after, hostile.refusal_in(room))
 }
 
-/// Whether that is so of buffers that have room, just room, less, or more places than a block has.
+/// Whether that is so of buffers of each room where the units are few, else of just the room and of a place
+/// more or less; and of one with more places than a block has after it.
 fn are_buffered_in_each(
     rt: &HostRuntime,
     items: &UnalignedSlice<'_, u16>,
     hostile: &HostileUnits,
 ) -> Result<bool, Fail> {
     let len = hostile.units.len();
-    for room in [
-        len.saturating_sub(1),
-        len,
-        len.saturating_add(1),
-        len.saturating_add(300),
-    ] {
+    let least = if len < 12 { 0 } else { len - 1 };
+    for room in least..len.saturating_add(2) {
         if !are_buffered(rt, items, hostile, room)? {
             return Ok(false);
         }
     }
-    Ok(true)
+    are_buffered(rt, items, hostile, len.saturating_add(300))
 }
 
 /// Whether packed units are a string, or refused, in memory of their own and in buffers.
