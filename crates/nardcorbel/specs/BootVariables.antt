@@ -1,7 +1,7 @@
 -- The numbers by which a caller in C names the kinds of load options.
 use Rattle.std.specs.Prelude.{ℕ}
-use Rattle.uefi_boot_variables.specs.declared.names.LoadOptionKind.{LoadOptionKind}
-use Rattle.uefi_boot_variables.specs.declared.names.LoadOptionKind.TheVariants.{Boot, Driver, SysPrep, PlatformRecovery}
+use Rattle.uefi_boot_variables.specs.declared.variable_names.LoadOptionKind.{LoadOptionKind}
+use Rattle.uefi_boot_variables.specs.declared.variable_names.LoadOptionKind.TheVariants.{Boot, Driver, SysPrep, PlatformRecovery}
 
 -- the number of a kind
 abbrev pub kind_number : LoadOptionKind → ℕ

@@ -6,8 +6,8 @@ use Rattle.uefi_text.specs.declared.errors.FromSliceUntilNulError.{FromSliceUnti
 use Rattle.uefi_text.specs.declared.errors.FromSliceUntilNulError.TheVariants as until_nul
 use Rattle.uefi_text.specs.declared.errors.FromSliceWithNulError.{FromSliceWithNulError}
 use Rattle.uefi_text.specs.declared.errors.FromSliceWithNulError.TheVariants as with_nul
-use Rattle.uefi_fat.specs.declared.names.FatNameError.{FatNameError}
-use Rattle.uefi_fat.specs.declared.names.FatNameError.TheVariants as fat_name
+use Rattle.uefi_fat.specs.declared.long_names.FatNameError.{FatNameError}
+use Rattle.uefi_fat.specs.declared.long_names.FatNameError.TheVariants as fat_name
 use Rattle.uefi_path.specs.declared.validation.PathError.{PathError}
 use Rattle.uefi_path.specs.declared.validation.PathError.TheVariants.{Empty, EmptyComponent, IllegalChar, ClimbsAboveRoot}
 use Rattle.uefi_device_nodes.specs.declared.errors.NodeError.{NodeError}

@@ -9,9 +9,9 @@ use Rattle.std.specs.List.{list_all}
 use Rattle.std.specs.Prelude.{encode_utf8}
 use Rattle.uefi_text.specs.Units.{IsText, IsTextUnit}
 use Rattle.uefi_boot_variables.specs.Names.{digit_of, four_digits, name_text, word_of}
-use Rattle.uefi_boot_variables.specs.declared.names.LoadOptionKind.{LoadOptionKind}
-use Rattle.uefi_boot_variables.specs.declared.names.LoadOptionKind.TheVariants.{Boot, Driver, SysPrep, PlatformRecovery}
-use Rattle.uefi_boot_variables.specs.declared.names.LoadOptionName.{LoadOptionName}
+use Rattle.uefi_boot_variables.specs.declared.variable_names.LoadOptionKind.{LoadOptionKind}
+use Rattle.uefi_boot_variables.specs.declared.variable_names.LoadOptionKind.TheVariants.{Boot, Driver, SysPrep, PlatformRecovery}
+use Rattle.uefi_boot_variables.specs.declared.variable_names.LoadOptionName.{LoadOptionName}
 
 -- each kind has a word of its own
 pub word_once : (a b : LoadOptionKind) → word_of a ≡ word_of b → a ≡ b

@@ -1,7 +1,7 @@
 -- What is printed of an error.
 use Rattle.std.specs.Fmt.{decimal}
 use Rattle.std.specs.Prelude.{ℕ, codes, List, ◌++◌}
-use Rattle.uefi_boot_variables.specs.declared.names.NameBufferTooSmall.{NameBufferTooSmall}
+use Rattle.uefi_boot_variables.specs.declared.variable_names.NameBufferTooSmall.{NameBufferTooSmall}
 use Rattle.uefi_boot_variables.specs.declared.orders.NotTwoBytes.{NotTwoBytes}
 
 -- that of a buffer that is too small for a name

@@ -3,7 +3,7 @@ use Rattle.std.specs.Prelude.{◌≡◌, ◌≢◌, ◌↔◌, ℕ, ◌<◌, ◌
 use Rattle.uefi_text.specs.Units.{IsText}
 use Rattle.uefi_boot_variables.specs.Names.{name_text}
 use Rattle.uefi_boot_variables.specs.Orders.{no_twice, once_each, stands_in, with_at, without}
-use Rattle.uefi_boot_variables.specs.declared.names.LoadOptionName.{LoadOptionName}
+use Rattle.uefi_boot_variables.specs.declared.variable_names.LoadOptionName.{LoadOptionName}
 
 -- names with one text are the same
 abbrev pub NamesOnce : Type 0

@@ -1,8 +1,8 @@
 -- The names of the variables that hold load options (UEFI Specification 2.10, section 3.3).
 use Rattle.std.specs.Prelude.{ℕ, ◌+◌, ◌/◌, ◌%◌, nat_lt, codes, if◌then◌else◌, List, [], ◌∷◌, ◌++◌}
-use Rattle.uefi_boot_variables.specs.declared.names.LoadOptionKind.{LoadOptionKind}
-use Rattle.uefi_boot_variables.specs.declared.names.LoadOptionKind.TheVariants.{Boot, Driver, SysPrep, PlatformRecovery}
-use Rattle.uefi_boot_variables.specs.declared.names.LoadOptionName.{LoadOptionName}
+use Rattle.uefi_boot_variables.specs.declared.variable_names.LoadOptionKind.{LoadOptionKind}
+use Rattle.uefi_boot_variables.specs.declared.variable_names.LoadOptionKind.TheVariants.{Boot, Driver, SysPrep, PlatformRecovery}
+use Rattle.uefi_boot_variables.specs.declared.variable_names.LoadOptionName.{LoadOptionName}
 
 -- the word that the names of a kind begin with
 abbrev pub word_of : LoadOptionKind → List ℕ

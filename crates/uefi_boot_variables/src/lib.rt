@@ -6,17 +6,17 @@
 #![tactic(auto)]
 
 pub mod laws;
-pub mod names;
 pub mod order_buffer;
 pub mod order_edits;
 pub mod orders;
 pub mod present;
+pub mod variable_names;
 
-pub use names::{LoadOptionKind, LoadOptionName, NameBufferTooSmall};
 pub use order_buffer::OrderBuffer;
 pub use order_edits::OrderFull;
 pub use orders::{LoadOrder, NotTwoBytes, OddLength, read_number};
 pub use present::PresentOptions;
+pub use variable_names::{LoadOptionKind, LoadOptionName, NameBufferTooSmall};
 
 #[cfg(test)]
 mod tests;

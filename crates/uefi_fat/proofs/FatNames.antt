@@ -12,8 +12,8 @@ use Rattle.uefi_text.proofs.Finding.{All-found_none, found_none, unmapped}
 use Rattle.uefi_text.specs.Case.{upper, uppers}
 use Rattle.uefi_fat.specs.LongNames.{IsFatName, is_illegal, name_refusal, trimmed_refusal}
 use Rattle.uefi_fat.specs.Trimming.{trimmed}
-use Rattle.uefi_fat.specs.declared.names.FatNameError.{FatNameError}
-use Rattle.uefi_fat.specs.declared.names.FatNameError.TheVariants.{IllegalChar, TooLong}
+use Rattle.uefi_fat.specs.declared.long_names.FatNameError.{FatNameError}
+use Rattle.uefi_fat.specs.declared.long_names.FatNameError.TheVariants.{IllegalChar, TooLong}
 
 -- the test of the length comes first
 no_test : (n : ℕ) (others : Option FatNameError) → (if nat_lt 255 n then Some TooLong else others) ≡ None

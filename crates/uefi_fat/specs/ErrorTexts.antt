@@ -1,8 +1,8 @@
 -- What is printed of the refusals of a name. The value of a character is in decimal.
 use Rattle.std.specs.Prelude.{ℕ, List, ◌++◌, codes}
 use Rattle.std.specs.Fmt.{decimal}
-use Rattle.uefi_fat.specs.declared.names.FatNameError.{FatNameError}
-use Rattle.uefi_fat.specs.declared.names.FatNameError.TheVariants.{Empty, IllegalChar, TooLong}
+use Rattle.uefi_fat.specs.declared.long_names.FatNameError.{FatNameError}
+use Rattle.uefi_fat.specs.declared.long_names.FatNameError.TheVariants.{Empty, IllegalChar, TooLong}
 
 -- what is printed of the refusal of a name
 abbrev pub fat_name_error_text : FatNameError → List ℕ

@@ -3,8 +3,8 @@ use Rattle.std.specs.Prelude.{◌≡◌, ◌≢◌, ◌≤◌, ℕ, Bool, false,
 use Rattle.std.specs.List.{list_any}
 use Rattle.uefi_text.specs.Units.{denied_characters}
 use Rattle.uefi_fat.specs.Trimming.{trimmed}
-use Rattle.uefi_fat.specs.declared.names.FatNameError.{FatNameError}
-use Rattle.uefi_fat.specs.declared.names.FatNameError.TheVariants.{Empty, IllegalChar, TooLong}
+use Rattle.uefi_fat.specs.declared.long_names.FatNameError.{FatNameError}
+use Rattle.uefi_fat.specs.declared.long_names.FatNameError.TheVariants.{Empty, IllegalChar, TooLong}
 
 -- the test for a character that no name on a FAT volume holds: one below U+0020, or one that no
 -- file's name holds

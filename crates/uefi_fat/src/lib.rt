@@ -26,12 +26,12 @@
 #![tactic(auto)]
 
 pub mod laws;
-mod names;
+mod long_names;
 mod oem;
 mod short_names;
 #[cfg(test)]
 mod tests;
 
-pub use names::{FatNameError, check_fat_name, is_fat_name, same_fat_file, trimmed};
+pub use long_names::{FatNameError, check_fat_name, is_fat_name, same_fat_file, trimmed};
 pub use oem::{FatBytes, fat_to_str, str_to_fat};
 pub use short_names::is_short_name;

@@ -3,8 +3,8 @@ use Rattle.std.proofs.Common.{◌≡◌, ℕ, zero, suc, ◌+◌, ◌-◌, ◌<�
 use Rattle.std.specs.Prelude.{Option, Some, None, option_and_then}
 use Rattle.std.proofs.lemmas.List.{append-nil}
 use borrow.Author.Tests.{ne_eqb}
-use Rattle.uefi_node_reader.specs.Fields.{byte_read, more_read, bytes_read}
-use Rattle.uefi_node_reader.specs.Words.{after}
+use Rattle.uefi_node_reader.specs.FieldReading.{byte_read, more_read, bytes_read}
+use Rattle.uefi_node_reader.specs.WordReading.{after}
 
 -- a byte before others
 abbrev as_next : ℕ → List ℕ × List ℕ → Option (List ℕ × List ℕ)

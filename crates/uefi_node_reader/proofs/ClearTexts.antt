@@ -17,7 +17,7 @@ use Rattle.uefi_text.specs.Packed.{IsByte}
 use Rattle.uefi_text.specs.UnitBytes.{unit_bytes}
 use Rattle.uefi_text.specs.Units.{is_nul}
 use Rattle.uefi_field_texts.specs.FieldTexts.{is_escaped, shown_byte, shown_bytes, shown_char, shown_units, until_nul, utf16_text}
-use Rattle.uefi_node_reader.specs.Fields.{clear_run, is_clear}
+use Rattle.uefi_node_reader.specs.FieldReading.{clear_run, is_clear}
 use Rattle.uefi_node_reader.proofs.NamedFiles.{lossy_back, no_nul, place_of}
 
 -- what is known of such a byte

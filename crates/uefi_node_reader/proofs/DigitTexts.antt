@@ -14,10 +14,10 @@ use Rattle.uefi_node_table.specs.Fields.{field_text, fits_shape}
 use Rattle.uefi_node_table.specs.Rows.{Piece}
 use Rattle.uefi_node_table.specs.declared.rows.Shape.{Shape}
 use Rattle.uefi_node_table.specs.declared.rows.Shape.TheVariants.{Hexadecimal, Decimal, OrDefault, Back, Forth, Dashed, Next, Padded, Word}
-use Rattle.uefi_node_reader.specs.Fields.{IsValue, field_read}
+use Rattle.uefi_node_reader.specs.FieldReading.{IsValue, field_read}
 use Rattle.uefi_node_reader.specs.Numerals.{digit_of}
 use Rattle.uefi_node_reader.specs.TableReading.{are_parted, ends_apart, is_digits, piece_put, put_at}
-use Rattle.uefi_node_reader.specs.Words.{after}
+use Rattle.uefi_node_reader.specs.WordReading.{after}
 use Rattle.uefi_node_reader.proofs.Digits.{IsBase, decimal_base, digits_one, digits_step, hexadecimal}
 use Rattle.uefi_node_reader.proofs.FieldLaws.{field_takes, limits, number_bounds, reversed_is, value_bound}
 use Rattle.uefi_field_texts.proofs.GuidTexts.{two_digits}

@@ -11,8 +11,8 @@ use Rattle.uefi_text.specs.Packed.{IsByte, little_endian}
 use Rattle.uefi_field_texts.specs.FieldTexts.{dashed_back, hex_back, hex_bytes, hex_two}
 use Rattle.uefi_node_reader.specs.Numerals.{digit_of, has_digit, number_read}
 use Rattle.uefi_node_reader.specs.TableReading.{ends_field, goes_on}
-use Rattle.uefi_node_reader.specs.Fields.{◌>>=◌, byte_read, more_read, bytes_read, default_read, less_one, low_bytes, as_bytes, next_read, or_default, turned, field_kept, field_read, IsValue}
-use Rattle.uefi_node_reader.specs.Words.{after, are_sound, word_number, word_read}
+use Rattle.uefi_node_reader.specs.FieldReading.{◌>>=◌, byte_read, more_read, bytes_read, default_read, less_one, low_bytes, as_bytes, next_read, or_default, turned, field_kept, field_read, IsValue}
+use Rattle.uefi_node_reader.specs.WordReading.{after, are_sound, word_number, word_read}
 use Rattle.uefi_node_table.specs.Fields.{default_text, field_text, fits_shape}
 use Rattle.uefi_node_table.specs.Words.{word_text, words_of}
 use Rattle.uefi_node_table.specs.declared.rows.Shape.{Shape}

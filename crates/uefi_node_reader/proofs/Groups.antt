@@ -7,7 +7,7 @@ use Rattle.uefi_node_table.specs.Rows.{Form, item_of}
 use Rattle.uefi_node_table.specs.Table.{forms, forms_from, group_forms}
 use Rattle.uefi_node_table.proofs.Groups.{next_group}
 use Rattle.uefi_device_nodes.specs.Nodes.{Node}
-use Rattle.uefi_node_reader.specs.Fields.{either_read}
+use Rattle.uefi_node_reader.specs.FieldReading.{either_read}
 use Rattle.uefi_node_reader.specs.TableReading.{all_differ, form_place, form_read, forms_read, is_filled, is_sound, kept}
 
 pub table_sound : list_all is_sound forms ≡ true

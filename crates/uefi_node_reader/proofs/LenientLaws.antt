@@ -12,7 +12,7 @@ use borrow.Author.Tests.{eqb-true}
 use Rattle.uefi_node_table.specs.Rows.{Form}
 use Rattle.uefi_node_table.specs.Table.{forms, table_text}
 use Rattle.uefi_device_nodes.specs.Nodes.{Node, node_with}
-use Rattle.uefi_node_reader.specs.Fields.{◌>>=◌, either_read, read_if}
+use Rattle.uefi_node_reader.specs.FieldReading.{◌>>=◌, either_read, read_if}
 use Rattle.uefi_device_nodes.specs.NodeTexts.{node_text}
 use Rattle.uefi_node_reader.specs.LenientFields.{after_letter, after_literal, begins_base, literal_left, past_base}
 use Rattle.uefi_node_reader.specs.LenientNodes.{IsRestOf, LenientAgain, LenientEnds, LenientTakes, bare_read, begins_call, call_read, cut_call, ended, file_read, form_set, forms_set, is_node, lenient_read, rooted, tells, path_set, tidied, told_in, whole}

@@ -8,7 +8,7 @@ use Rattle.uefi_node_table.specs.Rows.{Form, Piece}
 use Rattle.uefi_node_table.specs.Table.{form_of, forms_from, group_forms, has_form, is_found, table_text, text_in}
 use Rattle.uefi_node_table.proofs.Groups.{next_group}
 use Rattle.uefi_device_nodes.specs.Nodes.{Node}
-use Rattle.uefi_node_reader.specs.Fields.{◌>>=◌}
+use Rattle.uefi_node_reader.specs.FieldReading.{◌>>=◌}
 use Rattle.uefi_node_reader.specs.LenientFields.{after_ending, left_out, piece_set, value_or_spare}
 use Rattle.uefi_node_reader.specs.LenientNodes.{form_set, forms_set, told_in}
 use Rattle.uefi_node_reader.specs.TableReading.{put_at}

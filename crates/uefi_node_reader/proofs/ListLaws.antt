@@ -13,9 +13,9 @@ use Rattle.uefi_text.specs.Packed.{IsByte}
 use Rattle.uefi_node_table.specs.Rows.{Item, is_within, item_of, item_text, items_of, list_text, pieces_text}
 use Rattle.uefi_node_table.specs.declared.rows.Items.{Items}
 use Rattle.uefi_node_table.specs.declared.rows.Items.TheVariants.{Numbers, Ipv4, Ipv6}
-use Rattle.uefi_node_reader.specs.Fields.{◌>>=◌}
+use Rattle.uefi_node_reader.specs.FieldReading.{◌>>=◌}
 use Rattle.uefi_node_reader.specs.Numerals.{digit_of, has_digit}
-use Rattle.uefi_node_reader.specs.Words.{after}
+use Rattle.uefi_node_reader.specs.WordReading.{after}
 use Rattle.uefi_node_reader.specs.TableReading.{AreItems, IsItem, are_apart, begins_apart, ends_pieces, is_sound_item, items_read, list_read, more_items, overlay, pieces_put}
 use Rattle.uefi_node_reader.proofs.Digits.{some_pair}
 use Rattle.uefi_node_reader.proofs.Literals.{after_again, after_takes, bind_some}

@@ -4,10 +4,10 @@ use Rattle.std.specs.Prelude.{Option, Some, None, option_and_then}
 use Rattle.std.proofs.Math.ListN.{replicate}
 use Rattle.uefi_node_table.specs.Rows.{Item}
 use Rattle.uefi_node_reader.specs.Counted.{pushed, put_on}
-use Rattle.uefi_node_reader.specs.Fields.{◌>>=◌}
+use Rattle.uefi_node_reader.specs.FieldReading.{◌>>=◌}
 use Rattle.uefi_node_reader.proofs.CountedBytes.{pushed-append}
 use Rattle.uefi_node_reader.proofs.Digits.{some_pair}
-use Rattle.uefi_node_reader.specs.Words.{after}
+use Rattle.uefi_node_reader.specs.WordReading.{after}
 use Rattle.uefi_node_reader.specs.TableReading.{items_read, more_items, pieces_put}
 
 -- the list ends where no item begins

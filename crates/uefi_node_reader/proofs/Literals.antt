@@ -4,8 +4,8 @@ use Rattle.std.proofs.lemmas.Bool.{and_parts}
 use Rattle.std.specs.Prelude.{MatchOption, Option, Some, None, option_and_then}
 use Rattle.std.specs.Option.{option_map}
 use borrow.Author.Tests.{eq-eqb, eqb-true}
-use Rattle.uefi_node_reader.specs.Fields.{◌>>=◌}
-use Rattle.uefi_node_reader.specs.Words.{after, clash, same_text}
+use Rattle.uefi_node_reader.specs.FieldReading.{◌>>=◌}
+use Rattle.uefi_node_reader.specs.WordReading.{after, clash, same_text}
 
 -- what a first step read, where a second read something after it
 pub bind_some : {A B : Type 0} (r : Option A) (f : A → Option B) (y : B) → (r >>= f) ≡ Some y → (x : A) × (r ≡ Some x) × (f x ≡ Some y)

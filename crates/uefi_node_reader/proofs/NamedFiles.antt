@@ -21,7 +21,7 @@ use Rattle.uefi_field_texts.specs.FieldTexts.{is_escaped, shown_char, shown_unit
 use Rattle.uefi_device_nodes.specs.Nodes.{Node, node_with}
 use Rattle.uefi_device_nodes.specs.NodeTexts.{irregular_text, node_text}
 use Rattle.uefi_node_reader.specs.Counted.{pushed}
-use Rattle.uefi_node_reader.specs.Fields.{read_if}
+use Rattle.uefi_node_reader.specs.FieldReading.{read_if}
 use Rattle.uefi_node_reader.proofs.CountedBytes.{pushed-append}
 use Rattle.uefi_node_reader.proofs.Digits.{some_pair}
 use Rattle.uefi_node_reader.specs.NamedFiles.{begins_name, ends_name, is_after_node, is_name, is_name_char, IsNamed, name_bytes, name_data, name_read}

@@ -10,9 +10,9 @@ use Rattle.uefi_node_table.specs.Table.{forms, group_forms, has_form, is_found, 
 use Rattle.uefi_node_table.proofs.Forms.{found}
 use Rattle.uefi_device_nodes.specs.Nodes.{Node}
 use Rattle.uefi_device_nodes.specs.NodeTexts.{irregular_text, is_irregular, node_text, unknown_text}
-use Rattle.uefi_node_reader.specs.Fields.{either_read}
+use Rattle.uefi_node_reader.specs.FieldReading.{either_read}
 use Rattle.uefi_node_reader.specs.TableReading.{IsTabled, printed_by, prints, table_read}
-use Rattle.uefi_node_reader.specs.Words.{clash}
+use Rattle.uefi_node_reader.specs.WordReading.{clash}
 use Rattle.uefi_node_reader.specs.PlainNodes.{is_formed, is_plain, plain_read}
 use Rattle.uefi_node_reader.specs.NamedFiles.{name_data, is_name_char, begins_name, is_after_node, IsTold, name_read, node_read, is_name}
 use Rattle.uefi_node_reader.specs.Laws.{NodeTextOnce}

@@ -5,14 +5,14 @@ use Rattle.std.specs.List.{list_all}
 use Rattle.std.proofs.lemmas.Bool.{and_parts, leb-true}
 use borrow.Author.Tests.{eqb-true}
 use Rattle.uefi_text.specs.Packed.{IsByte}
-use Rattle.uefi_node_reader.specs.Fields.{field_kept, field_read, IsValue}
-use Rattle.uefi_node_reader.specs.Words.{after}
+use Rattle.uefi_node_reader.specs.FieldReading.{field_kept, field_read, IsValue}
+use Rattle.uefi_node_reader.specs.WordReading.{after}
 use Rattle.uefi_node_table.specs.Fields.{field_text, fits_shape}
 use Rattle.uefi_node_reader.specs.Numerals.{has_digit}
 use Rattle.uefi_node_table.specs.Rows.{Piece, is_within, piece_text, pieces_text, value_at}
 use Rattle.uefi_node_reader.specs.TableReading.{are_apart, ends_field, ends_pieces, goes_on, is_apart, is_empty, put_at}
 use Rattle.uefi_node_reader.specs.TableReading.{are_parted, list_number, overlay, piece_put, pieces_differ, pieces_put, same_shape}
-use Rattle.uefi_node_reader.specs.Words.{clash, same_text}
+use Rattle.uefi_node_reader.specs.WordReading.{clash, same_text}
 use Rattle.uefi_node_table.specs.declared.rows.Shape.{Shape}
 use Rattle.uefi_node_table.specs.declared.rows.Shape.TheVariants.{Hexadecimal, Decimal, OrDefault, Back, Forth, Dashed, Next, Padded, Word}
 use Rattle.uefi_node_table.specs.declared.words.Words.{Words}

@@ -4,8 +4,8 @@ use Rattle.std.specs.Prelude.{Option, Some, None, option_and_then, slice_range}
 use Rattle.std.specs.Option.{option_map}
 use Rattle.std.proofs.lemmas.List.Edits.{length-between}
 use borrow.Rule.Slice.PartMut.{put_mid}
-use Rattle.uefi_node_reader.specs.Fields.{field_read}
-use Rattle.uefi_node_reader.specs.Words.{after}
+use Rattle.uefi_node_reader.specs.FieldReading.{field_read}
+use Rattle.uefi_node_reader.specs.WordReading.{after}
 use Rattle.uefi_node_table.specs.Rows.{Piece}
 use Rattle.uefi_node_reader.specs.TableReading.{put_at}
 use Rattle.uefi_node_reader.specs.TableReading.{piece_put}

@@ -8,10 +8,10 @@ use Rattle.uefi_device_nodes.specs.Nodes.{Node, node_with}
 use Rattle.uefi_node_table.specs.Table.{has_form, table_text}
 use Rattle.uefi_device_nodes.specs.NodeTexts.{irregular_text, is_irregular, node_text, unknown_text}
 use Rattle.uefi_node_reader.specs.Numerals.{has_digit, number_read}
-use Rattle.uefi_node_reader.specs.Fields.{comma_read, read_if}
+use Rattle.uefi_node_reader.specs.FieldReading.{comma_read, read_if}
 use Rattle.uefi_node_reader.specs.TableReading.{added}
 use Rattle.uefi_node_reader.specs.TextNodes.{fitting}
-use Rattle.uefi_node_reader.specs.Words.{after}
+use Rattle.uefi_node_reader.specs.WordReading.{after}
 use Rattle.uefi_node_reader.proofs.Heads.{form_shown}
 use Rattle.uefi_node_reader.specs.PlainNodes.{IsPlain, is_formed, is_plain, plain_read}
 use Rattle.uefi_node_reader.proofs.Digits.{decimal_base, number_again, number_takes, some_pair}

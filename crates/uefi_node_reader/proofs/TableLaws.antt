@@ -13,10 +13,10 @@ use Rattle.uefi_node_table.specs.Fields.{field_text}
 use Rattle.uefi_node_table.specs.Rows.{Form, Piece, find_form, form_text, is_used, is_within, lead_text, pieces_text, tail_text, value_at}
 use Rattle.uefi_node_table.specs.Table.{text_in}
 use Rattle.uefi_device_nodes.specs.Nodes.{Node, node_with}
-use Rattle.uefi_node_reader.specs.Fields.{◌>>=◌, either_read, field_kept, read_if}
-use Rattle.uefi_node_reader.specs.Words.{after}
+use Rattle.uefi_node_reader.specs.FieldReading.{◌>>=◌, either_read, field_kept, read_if}
+use Rattle.uefi_node_reader.specs.WordReading.{after}
 use Rattle.uefi_node_reader.specs.TableReading.{IsTabled, IsTailTold, IsWhole, added, all_differ, are_apart, blank, closed, differ, ends_pieces, ends_tail, form_place, form_read, forms_read, is_kept, is_open, is_read, is_sound, kept, overlay, pieces_differ, pieces_put, printed_by, prints, put_at, rest_read, table_read, tail_read}
-use Rattle.uefi_node_reader.specs.Words.{clash, same_text}
+use Rattle.uefi_node_reader.specs.WordReading.{clash, same_text}
 use Rattle.uefi_node_reader.proofs.Digits.{some_pair}
 use Rattle.uefi_node_reader.proofs.Literals.{after_again, after_some, after_takes, bind_some, clash_none, same_is}
 use Rattle.uefi_node_table.proofs.Forms.{found, long_enough}

@@ -10,12 +10,12 @@ use Rattle.uefi_text.specs.Packed.{IsByte}
 use Rattle.uefi_text.specs.UnitBytes.{unit_bytes}
 use Rattle.uefi_field_texts.specs.FieldTexts.{comma_bytes, hex_bytes, hex_two, utf16_text}
 use Rattle.uefi_node_reader.specs.Numerals.{digit_of, has_digit}
-use Rattle.uefi_node_reader.specs.Words.{clash}
+use Rattle.uefi_node_reader.specs.WordReading.{clash}
 use Rattle.uefi_node_reader.proofs.Literals.{clash_none}
 use Rattle.uefi_node_reader.proofs.ListLaws.{apart, list_again, list_starts, list_takes, sound_items}
 use Rattle.uefi_node_reader.specs.TableReading.{begins_apart, ends_tail, is_open}
 use Rattle.uefi_node_table.specs.Rows.{item_of, lead_text, tail_text}
-use Rattle.uefi_node_reader.specs.Fields.{clear_run, comma_read, is_clear, run_read, some_run}
+use Rattle.uefi_node_reader.specs.FieldReading.{clear_run, comma_read, is_clear, run_read, some_run}
 use Rattle.uefi_node_reader.specs.TableReading.{IsTailTold, as_units, first_of, tail_read}
 use Rattle.uefi_node_table.specs.declared.rows.Tail.{Tail}
 use Rattle.uefi_node_table.specs.declared.rows.Tail.TheVariants.{Nothing, Bytes, Text, Utf16, Name, Repeated}

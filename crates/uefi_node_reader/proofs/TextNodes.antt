@@ -7,7 +7,7 @@ use Rattle.std.proofs.lemmas.List.{length-take-le}
 use Rattle.uefi_node_table.specs.Rows.{Form}
 use Rattle.uefi_device_nodes.specs.Nodes.{Node, node_with}
 use Rattle.uefi_node_reader.specs.Counted.{pushed, put_on}
-use Rattle.uefi_node_reader.specs.Fields.{read_if}
+use Rattle.uefi_node_reader.specs.FieldReading.{read_if}
 use Rattle.uefi_node_reader.specs.TableReading.{added, form_place, kept, prints}
 use Rattle.uefi_node_reader.specs.TextNodes.{bytes_of, fitting}
 use Rattle.uefi_node_reader.proofs.CountedBytes.{counted, first_shown, front_kept, whole_written}

@@ -7,10 +7,10 @@ use Rattle.uefi_node_table.specs.declared.rows.Shape.{Shape}
 use Rattle.uefi_node_table.specs.declared.rows.Shape.TheVariants.{Hexadecimal, Decimal, OrDefault, Next, Word}
 use Rattle.uefi_node_table.specs.Words as words
 use Rattle.uefi_node_table.specs.Words.{words_of}
-use Rattle.uefi_node_reader.specs.Fields.{◌>>=◌, as_bytes, field_read, less_one}
+use Rattle.uefi_node_reader.specs.FieldReading.{◌>>=◌, as_bytes, field_read, less_one}
 use Rattle.uefi_node_reader.specs.Numerals.{digits_after, has_digit}
 use Rattle.uefi_node_reader.specs.TableReading.{first_of, is_empty, put_at}
-use Rattle.uefi_node_reader.specs.Words.{after, or_word}
+use Rattle.uefi_node_reader.specs.WordReading.{after, or_word}
 
 -- the test for bytes that begin with `0x`
 abbrev pub begins_base : List ℕ → Bool

@@ -9,7 +9,7 @@ use Rattle.uefi_node_table.specs.Table.{forms, table_text}
 use Rattle.uefi_node_table.specs.declared.rows.Tail.{Tail}
 use Rattle.uefi_node_table.specs.declared.rows.Tail.TheVariants.{Nothing, Bytes, Repeated}
 use Rattle.uefi_device_nodes.specs.Nodes.{Node, node_with}
-use Rattle.uefi_node_reader.specs.Fields.{◌>>=◌, either_read, read_if}
+use Rattle.uefi_node_reader.specs.FieldReading.{◌>>=◌, either_read, read_if}
 use Rattle.uefi_node_reader.specs.LenientFields.{after_literal, pieces_set}
 use Rattle.uefi_node_reader.specs.NamedFiles.{ends_name, is_after_node, IsTold, name_bytes, name_read, node_read}
 use Rattle.uefi_node_reader.specs.PlainNodes.{plain_read}

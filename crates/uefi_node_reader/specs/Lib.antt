@@ -1,7 +1,7 @@
 pub mod Numerals
-pub mod Fields
+pub mod FieldReading
 pub mod TableReading
-pub mod Words
+pub mod WordReading
 pub mod PlainNodes
 pub mod NamedFiles
 pub mod Laws

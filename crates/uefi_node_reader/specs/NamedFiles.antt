@@ -8,7 +8,7 @@ use Rattle.uefi_text.specs.Units.{nul_terminated}
 use Rattle.uefi_field_texts.specs.FieldTexts.{is_escaped}
 use Rattle.uefi_device_nodes.specs.Nodes.{Node, node_with}
 use Rattle.uefi_node_table.specs.Table.{forms}
-use Rattle.uefi_node_reader.specs.Fields.{either_read, read_if}
+use Rattle.uefi_node_reader.specs.FieldReading.{either_read, read_if}
 use Rattle.uefi_node_reader.specs.TableReading.{IsTabled, table_read}
 use Rattle.uefi_node_reader.specs.PlainNodes.{IsPlain, plain_read}
 

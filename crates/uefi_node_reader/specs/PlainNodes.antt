@@ -4,8 +4,8 @@ use Rattle.uefi_text.specs.Packed.{IsByte}
 use Rattle.uefi_node_table.specs.Table.{has_form}
 use Rattle.uefi_device_nodes.specs.NodeTexts.{is_irregular}
 use Rattle.uefi_device_nodes.specs.Nodes.{Node, node_with}
-use Rattle.uefi_node_reader.specs.Fields.{◌>>=◌, comma_read, read_if}
-use Rattle.uefi_node_reader.specs.Words.{after}
+use Rattle.uefi_node_reader.specs.FieldReading.{◌>>=◌, comma_read, read_if}
+use Rattle.uefi_node_reader.specs.WordReading.{after}
 use Rattle.uefi_node_reader.specs.Numerals.{number_read}
 
 -- the test for a node that is printed in a form of its own

@@ -16,9 +16,9 @@ use Rattle.uefi_node_table.specs.declared.rows.Tail.TheVariants.{Nothing, Bytes,
 use Rattle.uefi_device_nodes.specs.Nodes.{Node, node_with}
 use Rattle.uefi_node_table.specs.declared.words.Words.{Words}
 use Rattle.uefi_node_table.specs.declared.words.Words.TheVariants.{Parity, StopBits, Digests, Login, Protocol}
-use Rattle.uefi_node_reader.specs.Fields.{◌>>=◌, clear_run, comma_read, either_read, field_kept, field_read, is_clear, read_if}
+use Rattle.uefi_node_reader.specs.FieldReading.{◌>>=◌, clear_run, comma_read, either_read, field_kept, field_read, is_clear, read_if}
 use Rattle.uefi_node_reader.specs.Numerals.{digit_of, has_digit}
-use Rattle.uefi_node_reader.specs.Words.{after, clash, same_text}
+use Rattle.uefi_node_reader.specs.WordReading.{after, clash, same_text}
 
 -- data with these bytes at their places
 abbrev pub put_all : List (ℕ × ℕ) → List ℕ → List ℕ

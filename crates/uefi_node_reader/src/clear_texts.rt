@@ -4,10 +4,10 @@
 ghost use Rattle.std.specs.Prelude.{◌≡◌};
 ghost use Rattle.uefi_text.specs.UnitBytes.{unit_bytes};
 ghost use Rattle.uefi_node_reader.specs.Counted.{pushed};
-ghost use Rattle.uefi_node_reader.specs.Fields.{clear_run, is_clear};
+ghost use Rattle.uefi_node_reader.specs.FieldReading.{clear_run, is_clear};
 ghost use Rattle.uefi_node_reader.specs.TableReading.{first_of};
 
-use crate::counted::push;
+use crate::counted_bytes::push;
 
 /// The first byte of a text, or 0.
 pub(crate) fn first_of(text: &[u8]) -> u8

@@ -3,8 +3,8 @@
 
 ghost use Rattle.std.specs.Prelude.{◌≡◌, ◌+◌, ◌^◌, ◌≤◌, IsTrue, length, map, if◌then◌else◌};
 ghost use Rattle.std.specs.Option.{option_and_then, option_map};
-ghost use Rattle.uefi_node_reader.specs.Fields.{as_bytes, byte_read, bytes_read, default_read, field_read, low_bytes, next_read, turned};
-ghost use Rattle.uefi_node_reader.specs.Words.{after, word_read};
+ghost use Rattle.uefi_node_reader.specs.FieldReading.{as_bytes, byte_read, bytes_read, default_read, field_read, low_bytes, next_read, turned};
+ghost use Rattle.uefi_node_reader.specs.WordReading.{after, word_read};
 ghost use Rattle.uefi_node_table.specs.Words.{as_word, words_of};
 ghost use Rattle.uefi_node_table.specs.Fields.{fits_shape};
 ghost use Rattle.uefi_node_reader.specs.Numerals.{number_read};

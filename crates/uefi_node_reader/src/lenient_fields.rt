@@ -7,7 +7,7 @@ ghost use Rattle.std.specs.Option.{option_and_then, option_map};
 ghost use Rattle.uefi_node_table.specs.Fields.{fits_shape};
 ghost use Rattle.uefi_node_table.specs.Rows.{as_piece, is_within};
 ghost use Rattle.uefi_node_table.specs.Words.{as_word, words_of};
-ghost use Rattle.uefi_node_reader.specs.Fields.{as_bytes, less_one};
+ghost use Rattle.uefi_node_reader.specs.FieldReading.{as_bytes, less_one};
 ghost use Rattle.uefi_node_reader.specs.LenientFields.{after_ending, after_letter, after_literal, any_field, any_number, any_word, begins_base, is_number, left_out, number_or_word, past_base, piece_set, pieces_set, some_digits, value_or_spare};
 
 use crate::clear_texts::first_of;

@@ -9,7 +9,7 @@ ghost use Rattle.uefi_node_reader.specs.NamedFiles.{name_read};
 
 use crate::lenient_fields::after_literal;
 use crate::lenient_table::cut_call;
-use crate::names::{name, name_len};
+use crate::named_files::{name, name_len};
 use crate::storing::store;
 use std::alloc::{AllocError, Allocator};
 

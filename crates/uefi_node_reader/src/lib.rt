@@ -6,19 +6,19 @@
 
 mod clear_texts;
 mod coding;
-mod counted;
+mod counted_bytes;
 mod fields;
 mod lenient_fields;
 mod lenient_names;
 mod lenient_table;
 mod name_data;
-mod names;
+mod named_files;
+mod node_tails;
 #[doc(hidden)]
 pub mod nodes;
 mod numerals;
 mod plain;
 mod storing;
 mod table_reader;
-mod tails;
 #[doc(hidden)]
 pub mod text_node;

@@ -9,7 +9,7 @@ ghost use Rattle.uefi_text.specs.UnitBytes.{unit_bytes};
 ghost use Rattle.uefi_node_reader.specs.Counted.{pushed};
 ghost use Rattle.uefi_node_reader.specs.NamedFiles.{name_data};
 
-use crate::counted::push;
+use crate::counted_bytes::push;
 
 /// Puts the bytes of a character in UTF-16 after `len` others, the low byte of each unit first. Returns how
 /// many bytes these are.

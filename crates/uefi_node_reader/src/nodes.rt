@@ -5,14 +5,14 @@ ghost use Rattle.std.specs.Prelude.{◌≡◌, IfOk};
 ghost use Rattle.std.specs.Option.{option_map};
 ghost use Rattle.uefi_device_nodes.specs.Nodes.{node_with};
 ghost use Rattle.uefi_node_reader.specs.Laws.{NodeAgain, NodeFits, NodeStarts, NodeTakes, NodeTextOnce};
-ghost use Rattle.uefi_node_reader.specs.Fields.{either_read};
+ghost use Rattle.uefi_node_reader.specs.FieldReading.{either_read};
 ghost use Rattle.uefi_node_reader.specs.LenientNodes.{LenientAgain, LenientEnds, LenientTakes, call_read, ended, file_read, lenient_read};
 ghost use Rattle.uefi_node_reader.specs.NamedFiles.{is_after_node, node_read};
 ghost use Rattle.uefi_node_reader.specs.TextNodeViews.{text_node};
 
 use crate::lenient_names::{bare, begins_call, file};
 use crate::lenient_table::by_call;
-use crate::names::{ends_name, name};
+use crate::named_files::{ends_name, name};
 use crate::plain::plain;
 use crate::storing::store;
 use crate::table_reader::by_table;

@@ -12,7 +12,7 @@ ghost use Rattle.uefi_node_reader.specs.TextNodes.{fitting};
 ghost use Rattle.uefi_node_reader.specs.TextNodeViews.{data_of, text_node};
 
 use crate::fields::after;
-use crate::tails::read_pieces;
+use crate::node_tails::read_pieces;
 use crate::text_node::TextNode;
 use uefi_node_table::printing::matches;
 use uefi_node_table::rows::{Mode, Row};

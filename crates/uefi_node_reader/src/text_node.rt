@@ -10,9 +10,9 @@ ghost use Rattle.uefi_node_reader.specs.TableReading.{added, tail_read};
 ghost use Rattle.uefi_node_reader.specs.TextNodes.{all_data, fitting, is_coded};
 
 use crate::coding::Coding;
-use crate::counted::push_all;
+use crate::counted_bytes::push_all;
 use crate::name_data::push_name;
-use crate::tails::push_tail;
+use crate::node_tails::push_tail;
 use uefi_node_table::rows::Tail;
 
 /// A node whose text was read. A contract sees it as `text_node` of it.

@@ -1,7 +1,7 @@
 -- A kind has a number of at most 3.
 use Rattle.std.proofs.Common.{◌≤◌, arith}
-use Rattle.uefi_boot_variables.specs.declared.names.LoadOptionKind.{LoadOptionKind}
-use Rattle.uefi_boot_variables.specs.declared.names.LoadOptionKind.TheVariants.{Boot, Driver, SysPrep, PlatformRecovery}
+use Rattle.uefi_boot_variables.specs.declared.variable_names.LoadOptionKind.{LoadOptionKind}
+use Rattle.uefi_boot_variables.specs.declared.variable_names.LoadOptionKind.TheVariants.{Boot, Driver, SysPrep, PlatformRecovery}
 use Rattle.nardcorbel.specs.BootVariables.{kind_number}
 use Rattle.nardcorbel.proofs.boot_variables.nard_boot_name_write.Goals as goal
 

@@ -1,6 +1,6 @@
 use Rattle.std.proofs.Common.{◌≡◌, length}
 use Rattle.uefi_node_reader.specs.Counted.{pushed}
-use Rattle.uefi_node_reader.specs.Fields.{clear_run}
+use Rattle.uefi_node_reader.specs.FieldReading.{clear_run}
 use Rattle.uefi_node_reader.proofs.clear_texts.push_clear.Given as goal
 
 abbrev pub invariant-bytes : goal.invariant-bytes

@@ -1,7 +1,7 @@
 use Rattle.std.proofs.Common.{◌≡◌, length}
 use Rattle.uefi_text.specs.UnitBytes.{unit_bytes}
 use Rattle.uefi_node_reader.specs.Counted.{pushed}
-use Rattle.uefi_node_reader.specs.Fields.{clear_run}
+use Rattle.uefi_node_reader.specs.FieldReading.{clear_run}
 use Rattle.uefi_node_reader.proofs.clear_texts.push_clear_units.Given as goal
 
 abbrev pub invariant-units : goal.invariant-units

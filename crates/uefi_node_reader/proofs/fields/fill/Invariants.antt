@@ -1,5 +1,5 @@
 use Rattle.std.proofs.Common.{◌≡◌, ◌-◌, length, take}
-use Rattle.uefi_node_reader.specs.Fields.{bytes_read}
+use Rattle.uefi_node_reader.specs.FieldReading.{bytes_read}
 use Rattle.uefi_node_reader.proofs.ByteRuns.{go_on, read_from}
 use Rattle.uefi_node_reader.proofs.fields.fill.Given as goal
 

@@ -1,6 +1,6 @@
 use Rattle.std.proofs.Common.{◌≡◌, ◌+◌, ◌-◌, ◌/◌, ◌%◌, ◌∷◌, [], ◌++◌, ℕ, List, suc, take, length, sym, ap, ◌∙◌, append_assoc, arith}
 use Rattle.std.proofs.lemmas.List.{take_more_set}
-use Rattle.uefi_node_reader.specs.Fields.{low_bytes}
+use Rattle.uefi_node_reader.specs.FieldReading.{low_bytes}
 use Rattle.uefi_node_reader.proofs.fields.put_low.Goals as goal
 
 pub loop-place-preserved : goal.loop-place-preserved

@@ -1,5 +1,5 @@
 use Rattle.std.proofs.Common.{◌≡◌, ◌++◌, ◌-◌, length, take}
-use Rattle.uefi_node_reader.specs.Fields.{low_bytes}
+use Rattle.uefi_node_reader.specs.FieldReading.{low_bytes}
 use Rattle.uefi_node_reader.proofs.fields.put_low.Given as goal
 
 abbrev pub invariant-loop-place : goal.invariant-loop-place

@@ -1,6 +1,6 @@
 use Rattle.std.proofs.Common.{◌≡◌, drop, map}
 use Rattle.uefi_node_table.specs.Words.{as_word}
-use Rattle.uefi_node_reader.specs.Words.{word_read}
+use Rattle.uefi_node_reader.specs.WordReading.{word_read}
 use Rattle.uefi_node_reader.proofs.fields.word.Given as goal
 
 abbrev pub invariant-loop-word : goal.invariant-loop-word

@@ -1,7 +1,7 @@
 use Rattle.std.proofs.Common.{◌≡◌, Bool, List, ℕ, sym, ap, ◌∙◌}
 use Rattle.std.specs.Prelude.{Option, Some, option_and_then}
 use Rattle.uefi_device_nodes.specs.Nodes.{Node, node_with}
-use Rattle.uefi_node_reader.specs.Fields.{comma_read, read_if}
+use Rattle.uefi_node_reader.specs.FieldReading.{comma_read, read_if}
 use Rattle.uefi_node_reader.specs.PlainNodes.{is_plain}
 use Rattle.uefi_node_reader.specs.TextNodeViews.{data_of, text_node}
 use Rattle.uefi_node_reader.proofs.PlainNodes.{none_fits, some_fits}

@@ -5,7 +5,7 @@ use Rattle.std.proofs.lemmas.Bool.Decides.{nat_tests}
 use Rattle.uefi_node_table.specs.Rows.{Form, as_form}
 use Rattle.uefi_node_table.specs.Table.{forms}
 use Rattle.uefi_device_nodes.specs.Nodes.{Node, node_with}
-use Rattle.uefi_node_reader.specs.Fields.{read_if}
+use Rattle.uefi_node_reader.specs.FieldReading.{read_if}
 use Rattle.uefi_node_reader.specs.TableReading.{form_place, form_read, kept, prints}
 use Rattle.uefi_node_reader.specs.TextNodeViews.{data_of, text_node}
 use Rattle.uefi_node_reader.proofs.Heads.{place_shown}

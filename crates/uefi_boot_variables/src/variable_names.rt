@@ -1,0 +1,284 @@
+//! Names of the variables that hold load options (UEFI Specification 2.10, sections 3.1.3 and 3.3).
+ghost use Rattle.std.specs.Prelude.{◌≡◌, ℕ, ◌+◌, ◌*◌, ◌^◌, ◌<◌, ◌≤◌, ◌↔◌, ◌∷◌, ◌++◌, [], drop, length, map, slice_index, IfErr, IfOk, IfSome, IsErr, IsTrue, OnErr, OnOk, Some};
+ghost use Rattle.uefi_boot_variables.specs.declared.variable_names.LoadOptionKind.{LoadOptionKind};
+ghost use Rattle.uefi_boot_variables.specs.declared.variable_names.LoadOptionName.{LoadOptionName};
+ghost use Rattle.uefi_boot_variables.specs.Names.{digit_of, four_digits, name_text, word_of};
+ghost use Rattle.uefi_text.specs.Units.{nul_terminated};
+ghost use Rattle.uefi_text.specs.Views.{text_of};
+
+use std::error::Error;
+use std::fmt;
+use uefi_text::CStr16;
+
+/// What firmware does with a load option.
+#[derive(Clone, Copy, Debug, PartialEq, Eq)]
+pub enum LoadOptionKind {
+    /// `Boot####`: a system or an application that is started.
+    Boot,
+
+    /// `Driver####`: a driver that is loaded before anything is booted.
+    Driver,
+
+    /// `SysPrep####`: an application that prepares the system, and runs before anything is booted.
+    SysPrep,
+
+    /// `PlatformRecovery####`: what the platform starts where nothing else boots.
+    PlatformRecovery,
+}
+
+/// The name of a variable that holds a load option: the word of its kind, and its number in four
+/// hexadecimal digits, in upper case. A contract sees its text as `name_text` of it.
+#[derive(Clone, Copy, Debug, PartialEq, Eq)]
+pub struct LoadOptionName {
+    /// The kind, which the name's word stands for.
+    pub kind: LoadOptionKind,
+
+    /// The number, by which an order names the option.
+    pub number: u16,
+}
+
+/// Why a name is not written: the buffer has fewer places than the name has characters and a NUL,
+/// which are this many.
+#[derive(Clone, Copy, Debug, PartialEq, Eq)]
+pub struct NameBufferTooSmall(pub usize);
+
+/// Writes the reason, with the number of places in decimal.
+impl fmt::Display for NameBufferTooSmall {
+    ghost use Rattle.uefi_boot_variables.specs.ErrorTexts.{name_buffer_too_small_text};
+
+    ghost output = { λ error. Some (name_buffer_too_small_text error) };
+
+    fn fmt<W: fmt::Write>(&self, f: &mut fmt::Formatter<W>) -> fmt::Result {
+        let places = self.0;
+        write!(f, "buffer too small: the name needs {places} units")
+    }
+}
+
+impl Error for NameBufferTooSmall {}
+
+/// A unit of a text: a byte of UTF-8 or a unit of UCS-2.
+trait Unit: Copy {
+    /// The number of a unit.
+    ghost number: { Self → ℕ };
+
+    fn number(self) -> u16
+        ensures { result ≡ number self };
+}
+
+impl Unit for u8 {
+    ghost number = { λ unit. unit };
+
+    fn number(self) -> u16 {
+        u16::from(self)
+    }
+}
+
+impl Unit for u16 {
+    ghost number = { λ unit. unit };
+
+    fn number(self) -> u16 {
+        self
+    }
+}
+
+/// The number of the unit at a place.
+fn unit_at<U: Unit>(units: &[U], place: usize) -> u16
+    requires { place < length units.now }
+    ensures { result ≡ slice_index (map U.number units.now) place }
+{
+    units[place].number()
+}
+
+/// The upper-case hexadecimal digit of a number below 16.
+fn digit(number: u16) -> u8
+    requires { number < 16 }
+    ensures { result ≡ digit_of number }
+{
+    if number < 10 {
+        b'0' + number as u8
+    } else {
+        b'A' - 10 + number as u8
+    }
+}
+
+/// The digits of a number.
+fn digits(number: u16) -> [u8; 4]
+    ensures { result ≡ four_digits number }
+{
+    [
+        digit(number / 4096),
+        digit(number / 256 % 16),
+        digit(number / 16 % 16),
+        digit(number % 16),
+    ]
+}
+
+/// The number whose digit a unit is.
+fn read_digit(unit: u16) -> Option<u16>
+    ensures below { IfSome result (λ number. number < 16) }
+    ensures exact { (number : ℕ) → number < 16 → ((result ≡ Some number) ↔ (unit ≡ digit_of number)) }
+{
+    match unit {
+        0x30..=0x39 => Some(unit - 0x30),
+        0x41..=0x46 => Some(unit - 0x37),
+        _ => None,
+    }
+}
+
+/// The number whose four digits units are.
+fn read_digits<U: Unit>(units: &[U]) -> Option<u16>
+    ensures exact { (number : ℕ) → number < 2 ^ 16
+        → ((result ≡ Some number) ↔ (map U.number units.now ≡ four_digits number)) }
+{
+    if units.len() != 4 {
+        return None;
+    }
+    let a = read_digit(unit_at(units, 0))?;
+    let b = read_digit(unit_at(units, 1))?;
+    let c = read_digit(unit_at(units, 2))?;
+    let d = read_digit(unit_at(units, 3))?;
+    Some(((a * 16 + b) * 16 + c) * 16 + d)
+}
+
+/// Whether units are those of a text of ASCII.
+fn are_these<U: Unit>(units: &[U], text: &str) -> bool
+    ensures { IsTrue result ↔ (map U.number units.now ≡ text.now) }
+{
+    let bytes = text.as_bytes();
+    if units.len() != bytes.len() {
+        return false;
+    }
+    for place in 0..bytes.len() {
+        if unit_at(units, place) != u16::from(bytes[place]) {
+            return false;
+        }
+    }
+    true
+}
+
+/// The kind whose word units are.
+fn read_word<U: Unit>(units: &[U]) -> Option<LoadOptionKind>
+    ensures exact { (kind : LoadOptionKind)
+        → ((result ≡ Some kind) ↔ (map U.number units.now ≡ word_of kind)) }
+{
+    if are_these(units, LoadOptionKind::Boot.word()) {
+        return Some(LoadOptionKind::Boot);
+    }
+    if are_these(units, LoadOptionKind::Driver.word()) {
+        return Some(LoadOptionKind::Driver);
+    }
+    if are_these(units, LoadOptionKind::SysPrep.word()) {
+        return Some(LoadOptionKind::SysPrep);
+    }
+    if are_these(units, LoadOptionKind::PlatformRecovery.word()) {
+        return Some(LoadOptionKind::PlatformRecovery);
+    }
+    None
+}
+
+/// The name whose text units are.
+fn read_name<U: Unit>(units: &[U]) -> Option<LoadOptionName>
+    ensures ok { IfSome result (λ name. map U.number units.now ≡ name_text name) }
+    ensures exact { (name : LoadOptionName) → name.number < 2 ^ 16
+        → ((result ≡ Some name) ↔ (map U.number units.now ≡ name_text name)) }
+{
+    if units.len() < 4 {
+        return None;
+    }
+    let (word, digits) = units.split_at(units.len() - 4);
+    let kind = read_word(word)?;
+    let number = read_digits(digits)?;
+    Some(LoadOptionName { kind, number })
+}
+
+/// Writes the name of a kind's word and a number, and a NUL.
+fn put_name(word: &str, number: u16, places: &mut [u16])
+    requires { length places.old ≡ length word.now + 5 }
+    ensures { places.new ≡ nul_terminated (word.now ++ four_digits number) }
+{
+    let bytes = word.as_bytes();
+    let (front, back) = places.split_at_mut(bytes.len());
+    for place in 0..bytes.len() {
+        front[place] = u16::from(bytes[place]);
+    }
+    let [a, b, c, d] = digits(number);
+    back.copy_from_slice(&[u16::from(a), u16::from(b), u16::from(c), u16::from(d), 0]);
+}
+
+impl LoadOptionKind {
+    /// The word that the names of its options begin with.
+    pub fn word(self) -> &'static str
+        ensures { result.now ≡ word_of self }
+    {
+        match self {
+            LoadOptionKind::Boot => "Boot",
+            LoadOptionKind::Driver => "Driver",
+            LoadOptionKind::SysPrep => "SysPrep",
+            LoadOptionKind::PlatformRecovery => "PlatformRecovery",
+        }
+    }
+}
+
+impl LoadOptionName {
+    /// The name that a Rust text is, from its first character to its last. `None` exactly where it is no
+    /// name: digits in lower case, fewer or more than four, and other words in another case are none.
+    /// Takes no memory.
+    pub fn from_text(text: &str) -> Option<Self>
+        ensures ok { IfSome result (λ name. text.now ≡ name_text name) }
+        ensures exact { (name : LoadOptionName) → name.number < 2 ^ 16
+            → ((result ≡ Some name) ↔ (text.now ≡ name_text name)) }
+    {
+        read_name(text.as_bytes())
+    }
+
+    /// The name that a string is, as [`LoadOptionName::from_text`] reads one. Takes no memory.
+    pub fn from_cstr16(string: CStr16<'_>) -> Option<Self>
+        ensures ok { IfSome result (λ name. text_of string.entry ≡ name_text name) }
+        ensures exact { (name : LoadOptionName) → name.number < 2 ^ 16
+            → ((result ≡ Some name) ↔ (text_of string.entry ≡ name_text name)) }
+    {
+        read_name(string.to_u16_slice())
+    }
+
+    /// Writes the name as a string at the start of a buffer, and returns the number of its units, the
+    /// NUL counted. Refused exactly where the buffer has fewer places; the buffer is then unchanged.
+    /// What follows the NUL is unchanged. Takes no memory.
+    pub fn write_cstr16(self, buffer: &mut [u16]) -> Result<usize, NameBufferTooSmall>
+        ensures ok { IfOk result (λ len. len ≡ length (name_text self) + 1) }
+        ensures buffer { OnOk result (buffer.new
+            ≡ nul_terminated (name_text self) ++ drop (length (name_text self) + 1) buffer.old) }
+        ensures err { OnErr result (buffer.new ≡ buffer.old) }
+        ensures refused { IsErr result ↔ (length buffer.old ≤ length (name_text self)) }
+        ensures needs { IfErr result (λ error. error.0 ≡ length (name_text self) + 1) }
+    {
+        let word = self.kind.word();
+        let len = word.len() + 5;
+        if buffer.len() < len {
+            return Err(NameBufferTooSmall(len));
+        }
+        put_name(word, self.number, &mut buffer[..len]);
+        Ok(len)
+    }
+
+    /// Writes the name as [`LoadOptionName::write_cstr16`] does, and borrows it from the buffer.
+    pub fn to_cstr16(self, buffer: &mut [u16]) -> Result<CStr16<'_>, NameBufferTooSmall>
+        ensures ok { IfOk result (λ string. text_of string ≡ name_text self) }
+        ensures refused { IsErr result ↔ (length buffer.old ≤ length (name_text self)) }
+        ensures needs { IfErr result (λ error. error.0 ≡ length (name_text self) + 1) }
+    {
+        let len = self.write_cstr16(buffer)?;
+        Ok(CStr16::from_string(&buffer[..len]))
+    }
+}
+
+/// Writes the name.
+impl fmt::Display for LoadOptionName {
+    ghost output = { λ name. Some (name_text name) };
+
+    fn fmt<W: fmt::Write>(&self, f: &mut fmt::Formatter<W>) -> fmt::Result {
+        let word = self.kind.word();
+        let [a, b, c, d] = digits(self.number);
+        let (a, b, c, d) = (char::from(a), char::from(b), char::from(c), char::from(d));
+        write!(f, "{word}{a}{b}{c}{d}")
+    }
+}

@@ -1,0 +1,7 @@
+use Rattle.std.proofs.Common.{◌≡◌, drop, map}
+use Rattle.uefi_node_table.specs.Rows.{as_piece}
+use Rattle.uefi_node_reader.specs.TableReading.{pieces_put}
+use Rattle.uefi_node_reader.proofs.node_tails.read_pieces.Given as goal
+
+abbrev pub invariant-loop-piece : goal.invariant-loop-piece
+invariant-loop-piece l = pieces_put (map as_piece (drop l.piece-index l.pieces)) l.content l.rest ≡ pieces_put (map as_piece l.pieces) l.initial.content l.text

@@ -1,0 +1,139 @@
+//! Fields of nodes at their places in the data, and the data after the fixed part, put into a buffer and
+//! counted.
+#![tactic(auto)]
+
+ghost use Rattle.std.specs.List.{list_all};
+ghost use Rattle.std.specs.Option.{option_and_then, option_map};
+ghost use Rattle.std.specs.Prelude.{◌≡◌, ◌≤◌, IsTrue, length, map};
+ghost use Rattle.std.proofs.Math.ListN.{replicate};
+ghost use Rattle.uefi_node_table.specs.Rows.{as_item, as_piece, is_within};
+ghost use Rattle.uefi_node_reader.specs.Counted.{pushed, put_on};
+ghost use Rattle.uefi_node_reader.specs.FieldReading.{comma_read, run_read};
+ghost use Rattle.uefi_node_reader.specs.TableReading.{list_read, piece_put, pieces_put, tail_read};
+
+use crate::clear_texts::{first_of, push_clear, push_clear_units};
+use crate::counted_bytes::{push, push_all};
+use crate::fields::{after, byte, read_value};
+use uefi_node_table::rows::{Item, Piece, Tail};
+use uefi_node_table::table::item_of;
+
+/// Puts the field that a text begins with into data. Returns what stands after its ending.
+fn read_piece<'a>(piece: &Piece, content: &mut [u8], text: &'a [u8]) -> Option<&'a [u8]>
+    requires { IsTrue (is_within (length content.old) (as_piece piece.now)) }
+    ensures { option_map (λ rest. (content.new, rest.now)) result
+        ≡ piece_put (as_piece piece.now) content.old text.now }
+{
+    let (from, to) = (piece.place, piece.place + piece.width);
+    let rest = read_value(piece.shape, &mut content[from..to], text)?;
+    after(piece.ending.as_bytes(), rest)
+}
+
+/// The same of fields.
+pub(crate) fn read_pieces<'a>(
+    pieces: &[Piece],
+    content: &mut [u8],
+    text: &'a [u8],
+) -> Option<&'a [u8]>
+    requires { IsTrue (list_all (is_within (length content.old)) (map as_piece pieces.now)) }
+    ensures { option_map (λ rest. (content.new, rest.now)) result
+        ≡ pieces_put (map as_piece pieces.now) content.old text.now }
+{
+    let mut rest = text;
+    for piece in pieces {
+        rest = read_piece(piece, content, rest)?;
+    }
+    Some(rest)
+}
+
+/// Puts all bytes that stand as two digits each after `len` others. Returns how many bytes these are, and
+/// what stands after them.
+pub(crate) fn push_run<'a>(places: &mut [u8], len: usize, text: &'a [u8]) -> (usize, &'a [u8])
+    ensures state { (places.new, result.0) ≡ pushed (places.old, len) (run_read text.now).0 }
+    ensures rest { result.1.now ≡ (run_read text.now).1 }
+{
+    let mut count = len;
+    let mut rest = text;
+    'bytes: while let Some((found, after_byte)) = byte(rest) {
+        count = push(places, count, found);
+        rest = after_byte;
+    }
+    (count, rest)
+}
+
+/// Puts bytes that stand after a comma, or none.
+fn push_comma_bytes<'a>(places: &mut [u8], len: usize, text: &'a [u8]) -> Option<(usize, &'a [u8])>
+    ensures { option_map (λ x. ((places.new, x.0), x.1.now)) result
+        ≡ option_and_then (put_on (places.old, len)) (comma_read text.now) }
+{
+    let [b',', digits @ ..] = text else {
+        return Some((len, text));
+    };
+    byte(digits)?;
+    Some(push_run(places, len, digits))
+}
+
+/// Puts an item of a list, whose fields a text begins with.
+fn push_item<'a>(
+    places: &mut [u8],
+    len: usize,
+    item: &Item,
+    text: &'a [u8],
+) -> Option<(usize, &'a [u8])>
+    requires few { item.now.size ≤ 16 }
+    requires laid_out { IsTrue (list_all (is_within item.now.size) (map as_piece item.now.pieces.now)) }
+    ensures { option_map (λ x. ((places.new, x.0), x.1.now)) result
+        ≡ option_and_then (put_on (places.old, len))
+        (pieces_put (map as_piece item.now.pieces.now) (replicate item.now.size 0) text.now) }
+{
+    let mut buffer = [0; 16];
+    let bytes = &mut buffer[..item.size];
+    let rest = read_pieces(item.pieces, bytes, text)?;
+    Some((push_all(places, len, bytes), rest))
+}
+
+/// Puts all items of a list that a text begins with.
+fn push_items<'a>(
+    places: &mut [u8],
+    len: usize,
+    item: &Item,
+    text: &'a [u8],
+) -> Option<(usize, &'a [u8])>
+    requires few { item.now.size ≤ 16 }
+    requires laid_out { IsTrue (list_all (is_within item.now.size) (map as_piece item.now.pieces.now)) }
+    ensures { option_map (λ x. ((places.new, x.0), x.1.now)) result
+        ≡ option_and_then (put_on (places.old, len)) (list_read (as_item item.now) text.now) }
+{
+    let mut count = len;
+    let mut rest = text;
+    'items: for _ in 0..text.len() {
+        let Some(fields) = after(item.start.as_bytes(), rest) else {
+            return Some((count, rest));
+        };
+        let (more, others) = push_item(places, count, item, fields)?;
+        count = more;
+        rest = others;
+    }
+    Some((count, rest))
+}
+
+/// Puts the data after the fixed part, which a text begins with before `close`, after `len` other bytes, as
+/// many as there is room for. Returns how many bytes these are, and what stands after the data.
+pub(crate) fn push_tail<'a>(
+    tail: Tail,
+    close: &[u8],
+    places: &mut [u8],
+    len: usize,
+    text: &'a [u8],
+) -> Option<(usize, &'a [u8])>
+    ensures { option_map (λ x. ((places.new, x.0), x.1.now)) result
+        ≡ option_and_then (put_on (places.old, len)) (tail_read tail close.now text.now) }
+{
+    match tail {
+        Tail::Nothing => Some((len, text)),
+        Tail::Bytes => push_comma_bytes(places, len, text),
+        Tail::Text => Some(push_clear(places, len, first_of(close), text)),
+        Tail::Utf16 => Some(push_clear_units(places, len, first_of(close), text)),
+        Tail::Name => None,
+        Tail::Repeated(items) => push_items(places, len, &item_of(items), text),
+    }
+}
