@@ -1,5 +1,5 @@
 -- Nodes of type Messaging that name networks, and are built (UEFI Specification 2.10, section 10.3.4).
-use Rattle.std.specs.Prelude.{◌∷◌, [], ◌++◌}
+use Rattle.std.specs.Prelude.{◌∷◌, [], ◌++◌, unwrap_or}
 use Rattle.std.specs.Int.{to_le_bytes, w16, w32, w64}
 use Rattle.uefi_device_nodes.specs.Nodes.{Node, node_with}
 use Rattle.uefi_built_messages.specs.declared.network.Bluetooth.{Bluetooth}
@@ -67,9 +67,10 @@ wifi_node n = node_with 3 28 n.ssid
 abbrev pub dns_node : Dns → Node
 dns_node n = node_with 3 31 ((n.address_type ∷ []) ++ n.addresses.now)
 
--- a REST service
+-- a REST service, of a vendor where it has a GUID
 abbrev pub rest_service_node : RestService → Node
-rest_service_node n = node_with 3 33 ((n.service_type ∷ n.access_mode ∷ []) ++ n.vendor_guid_and_data.now)
+rest_service_node n = node_with 3 33 ((n.service_type ∷ n.access_mode ∷ [])
+    ++ (unwrap_or n.vendor_guid [] ++ n.vendor_defined_data.now))
 
 -- a namespace of NVM Express over a network
 abbrev pub nvme_of_namespace_node : NvmeOfNamespace → Node

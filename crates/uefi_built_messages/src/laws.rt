@@ -1,7 +1,7 @@
 //! Laws of nodes that are built: a view of one has the fields that were given.
 #![tactic(auto)]
 
-ghost use Rattle.std.specs.Prelude.{◌≡◌, drop, length, slice_range};
+ghost use Rattle.std.specs.Prelude.{◌≡◌, IfSome, None, drop, length, slice_range};
 ghost use Rattle.uefi_device_nodes.specs.TypedNodes.{IsOfKind, number_at};
 ghost use Rattle.uefi_text.specs.UnitBytes.{units_of_bytes};
 ghost use Rattle.uefi_built_messages.specs.MessagingNodes.{atapi_node, device_logical_unit_node, emmc_node, fibre_channel_ex_node, fibre_channel_node, i2o_node, ieee1394_node, messaging_vendor_node, nvdimm_namespace_node, nvme_namespace_node, sas_ex_node, sata_node, scsi_node, sd_node, uart_node, ufs_node, usb_class_node, usb_node, usb_wwid_node};
@@ -262,9 +262,17 @@ pub fn rest_service(node: network::RestService<'_>)
     ensures of_kind { IsOfKind 3 33 2 (rest_service_node node.entry) }
     ensures service_type { number_at 0 1 (rest_service_node node.entry).content ≡ node.entry.service_type }
     ensures access_mode { number_at 1 1 (rest_service_node node.entry).content ≡ node.entry.access_mode }
-    ensures vendor_guid_and_data { drop 2 (rest_service_node node.entry).content
-        ≡ node.entry.vendor_guid_and_data.now }
-{}
+    ensures vendor_guid { IfSome node.entry.vendor_guid (λ guid.
+        slice_range (rest_service_node node.entry).content 2 18 ≡ guid) }
+    ensures vendor_defined_data { IfSome node.entry.vendor_guid (λ _.
+        drop 18 (rest_service_node node.entry).content ≡ node.entry.vendor_defined_data.now) }
+    ensures no_vendor { node.entry.vendor_guid ≡ None
+        → drop 2 (rest_service_node node.entry).content ≡ node.entry.vendor_defined_data.now }
+{
+    if let Some(guid) = node.vendor_guid {
+        let _bytes = guid.to_bytes();
+    }
+}
 
 /// A view of such a node has its fields.
 pub fn nvme_of_namespace(node: network::NvmeOfNamespace<'_>)

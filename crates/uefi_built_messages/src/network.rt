@@ -2,7 +2,7 @@
 #![tactic(auto)]
 
 use uefi_built_nodes::BuildNode;
-use uefi_device_nodes::{DeviceSubType, DeviceType};
+use uefi_device_nodes::{DeviceSubType, DeviceType, Guid};
 
 /// A network interface.
 #[derive(Clone, Copy)]
@@ -396,8 +396,10 @@ pub struct RestService<'a> {
     pub service_type: u8,
     /// How it is reached: 1 in band, 2 out of band.
     pub access_mode: u8,
-    /// The bytes after these: of a vendor's service its GUID and its data.
-    pub vendor_guid_and_data: &'a [u8],
+    /// The GUID of a vendor's service, whose type is 0xff.
+    pub vendor_guid: Option<Guid>,
+    /// The bytes after it: those that the vendor defines.
+    pub vendor_defined_data: &'a [u8],
 }
 
 /// The node of these fields.
@@ -411,13 +413,24 @@ impl BuildNode for RestService<'_> {
     }
 
     fn data_len(&self) -> usize {
-        2 + self.vendor_guid_and_data.len()
+        match self.vendor_guid {
+            Some(guid) => 2 + guid.to_bytes().len() + self.vendor_defined_data.len(),
+            None => 2 + self.vendor_defined_data.len(),
+        }
     }
 
     fn write_data(&self, bytes: &mut [u8]) {
         let (numbers, rest) = bytes.split_at_mut(2);
         numbers.copy_from_slice(&[self.service_type, self.access_mode]);
-        rest.copy_from_slice(self.vendor_guid_and_data);
+        match self.vendor_guid {
+            Some(guid) => {
+                let guid = guid.to_bytes();
+                let (vendor_guid, rest) = rest.split_at_mut(guid.len());
+                vendor_guid.copy_from_slice(&guid);
+                rest.copy_from_slice(self.vendor_defined_data);
+            }
+            None => rest.copy_from_slice(self.vendor_defined_data),
+        }
     }
 }
 

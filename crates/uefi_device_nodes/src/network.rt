@@ -6,6 +6,7 @@ ghost use Rattle.std.specs.Prelude.{◌≡◌, ◌+◌, ◌*◌, ◌/◌, ◌<�
 ghost use Rattle.uefi_device_nodes.specs.TypedNodes.{number_at};
 
 use crate::typed_node::TypedNode;
+use uefi_field_texts::guid::Guid;
 
 /// A network interface.
 pub type MacAddress<'a> = TypedNode<'a, 3, 11, 33>;
@@ -377,11 +378,19 @@ impl<'a> RestService<'a> {
         self.number(1)
     }
 
-    /// The bytes after these: of a vendor's service its GUID and its data.
-    pub fn vendor_guid_and_data(&self) -> &'a [u8]
-        ensures { result.now ≡ drop 2 (data_of self.now) }
+    /// The GUID of a vendor's service, whose type is 0xff, and the vendor's data after it; `None` of
+    /// another service, and where the GUID is not whole.
+    pub fn vendor_guid_and_data(&self) -> Option<(Guid, &'a [u8])>
+        ensures some { IsSome result
+            ↔ ((number_at 0 1 (data_of self.now) ≡ 255) × (18 ≤ length (data_of self.now))) }
+        ensures guid { IfSome result (λ vendor. vendor.0 ≡ slice_range (data_of self.now) 2 18) }
+        ensures after_guid { IfSome result (λ vendor. vendor.1.now ≡ drop 18 (data_of self.now)) }
     {
-        self.tail(2)
+        if self.service_type() != 0xff {
+            return None;
+        }
+        let (guid, after_guid) = self.tail(2).split_first_chunk::<16>()?;
+        Some((Guid::from_bytes(*guid), after_guid))
     }
 }
 

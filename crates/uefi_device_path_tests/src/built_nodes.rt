@@ -75,9 +75,19 @@ fn lists_and_kinds_of_no_struct(rt: HostRuntime) -> Result<(), Fail> {
     let node = messaging::RestService {
         service_type: 0x1,
         access_mode: 0x2,
-        vendor_guid_and_data: &[3, 4, 5],
+        vendor_guid: None,
+        vendor_defined_data: &[3, 4, 5],
     };
     assert!(rt; is_built(&rt, &node, "032109000102030405")?);
+    let guid = [1, 2, 3, 4, 5, 6, 7, 8, 9, 10, 11, 12, 13, 14, 15, 16];
+    let node = messaging::RestService {
+        service_type: 0xff,
+        access_mode: 0x2,
+        vendor_guid: Some(Guid::from_bytes(guid)),
+        vendor_defined_data: &[17, 18],
+    };
+    let want = "03211800ff020102030405060708090a0b0c0d0e0f101112";
+    assert!(rt; is_built(&rt, &node, want)?);
     let node = messaging::NvmeOfNamespace {
         nidt: 0x1,
         nid: [2, 3, 4, 5, 6, 7, 8, 9, 10, 11, 12, 13, 14, 15, 16, 17],

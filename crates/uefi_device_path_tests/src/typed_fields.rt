@@ -3,7 +3,7 @@
 use std::test::Fail;
 use uefi_device_path::{
     DevicePathNode, DevicePathNodeEnum as Kind, DeviceSubType as Sub, DeviceType,
-    NodeConversionError,
+    NodeConversionError, messaging,
 };
 
 /// The bytes of a node with this much data, no two of which are the same: 1, 2, 3 and on.
@@ -194,7 +194,7 @@ fn is_messaging_from_31(node: DevicePathNode<'_>) -> bool {
         Ok(Kind::MessagingNvdimmNamespace(view)) => are_data(&view.uuid().to_bytes(), 1),
         Ok(Kind::MessagingRestService(view)) => view.service_type() == 0x01
             && view.access_mode() == 0x02
-            && view.vendor_guid_and_data() == [3, 4, 5].as_slice(),
+            && view.vendor_guid_and_data().is_none(),
         Ok(Kind::MessagingNvmeOfNamespace(view)) => view.nidt() == 0x01
             && are_data(&view.nid(), 2)
             && view.subsystem_nqn() == [18, 19, 20].as_slice(),
@@ -328,6 +328,25 @@ fn fields(rt: HostRuntime) -> Result<(), Fail> {
         let (node, _) = DevicePathNode::split_first(&bytes)?;
         let is_right = name.0 == *sub_type && is_read(node);
         assert!(rt; is_right, "{device_type}, {sub_type}");
+    }
+    Ok(())
+}
+
+/// A REST service of a vendor has a GUID where there are bytes for it, and data after that.
+#[test]
+fn rest_services_of_vendors(rt: HostRuntime) -> Result<(), Fail> {
+    for len in 2..21 {
+        let mut bytes = node_bytes(3, 33, len);
+        bytes[4] = 0xff;
+        let (node, _) = DevicePathNode::split_first(&bytes)?;
+        let vendor = messaging::RestService::from_node(node)?.vendor_guid_and_data();
+        let is_right = match vendor {
+            Some((guid, data)) => are_data(&guid.to_bytes(), 3)
+                && are_data(data, 19)
+                && data.len() + 18 == usize::from(len),
+            None => len < 18,
+        };
+        assert!(rt; is_right, "{len}");
     }
     Ok(())
 }
