@@ -16,9 +16,10 @@ use std::fmt;
 use uefi_field_texts::forms::{AllowShortcuts, DisplayOnly};
 use uefi_field_texts::hexadecimal::{put_comma_bytes, put_decimal, put_hex};
 use uefi_field_texts::ids::{has_uid_alone, id_strings, put_eisa_id};
-use uefi_field_texts::names::{put_boot_type, vendor_name};
 use uefi_field_texts::sink::{Printed, TextSink, print};
 use uefi_field_texts::texts::{put_byte_text, put_utf16_text, until_nul};
+use uefi_field_texts::unit_sink::{TextWriteError, write_units};
+use uefi_field_texts::vendor_names::{put_boot_type, vendor_name};
 use uefi_node_table::printing::put_form;
 use uefi_text::Packed;
 
@@ -146,7 +147,10 @@ pub struct NodeText<'a> {
 }
 
 impl<'a> DevicePathNode<'a> {
+    ghost use Rattle.std.specs.Prelude.{◌+◌, ◌≤◌, ◌++◌, IfErr, IfOk, OnErr, OnOk, drop, length, take};
     ghost use Rattle.uefi_device_nodes.specs.NodeViews.{printed_node};
+    ghost use Rattle.uefi_field_texts.specs.UnitTexts.{TextRefusedFor, utf16_units};
+    ghost use Rattle.uefi_text.specs.Units.{nul_terminated};
 
     /// What is printed of the node, for a `{}` of a format (UEFI Specification 2.10, section 10.6.1):
     /// the form of its kind, or `Path(TYPE,SUBTYPE,BYTES)` where it is of none, or too short for its
@@ -164,6 +168,32 @@ impl<'a> DevicePathNode<'a> {
             display_only: display_only.0,
             allow_shortcuts: allow_shortcuts.0,
         }
+    }
+
+    /// Writes what is printed of the node, which [`DevicePathNode::display`] gives, to the start of a buffer
+    /// as UTF-16, with a NUL after it, and returns how many units these are. What follows them is
+    /// unchanged. Refused as `BufferTooSmall`, with the count that it needs; the buffer then holds as many
+    /// of the first units as it has places. Takes no memory; one pass.
+    pub fn write_text(
+        &self,
+        buffer: &mut [u16],
+        display_only: DisplayOnly,
+        allow_shortcuts: AllowShortcuts,
+    ) -> Result<usize, TextWriteError>
+        ensures len { IfOk result (λ len. len ≡ length (utf16_units
+            (node_text display_only.0 allow_shortcuts.0 (node_of self.now))) + 1) }
+        ensures room { IfOk result (λ len. len ≤ length buffer.old) }
+        ensures ok { OnOk result (buffer.new ≡ nul_terminated (utf16_units
+            (node_text display_only.0 allow_shortcuts.0 (node_of self.now)))
+            ++ drop (length (utf16_units
+            (node_text display_only.0 allow_shortcuts.0 (node_of self.now))) + 1) buffer.old) }
+        ensures small { OnErr result (buffer.new ≡ take (length buffer.old) (utf16_units
+            (node_text display_only.0 allow_shortcuts.0 (node_of self.now)))) }
+        ensures refusal { IfErr result (λ error. TextRefusedFor
+            (utf16_units (node_text display_only.0 allow_shortcuts.0 (node_of self.now)))
+            (length buffer.old) error) }
+    {
+        write_units(buffer, &self.display(display_only, allow_shortcuts))
     }
 }
 

@@ -11,7 +11,6 @@ pub mod Headers
 pub mod OptionBytes
 pub mod BufferPaths
 pub mod PathTexts
-pub mod Units
 pub mod PathReading
 pub mod TextStops
 pub mod TextLengths

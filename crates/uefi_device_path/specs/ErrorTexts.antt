@@ -22,8 +22,6 @@ use Rattle.uefi_device_path.specs.declared.errors.OptionBuildError.{OptionBuildE
 use Rattle.uefi_device_path.specs.declared.errors.OptionBuildError.TheVariants as written
 use Rattle.uefi_device_path.specs.declared.path_reader.PathTextError.{PathTextError}
 use Rattle.uefi_device_path.specs.declared.path_reader.PathTextError.TheVariants as read
-use Rattle.uefi_device_path.specs.declared.errors.TextWriteError.{TextWriteError}
-use Rattle.uefi_device_path.specs.declared.errors.TextWriteError.TheVariants as text
 
 -- what is printed of the refusal of a device path
 abbrev pub device_path_error_text : DevicePathError → List ℕ
@@ -83,11 +81,6 @@ abbrev pub file_path_write_error_text : FilePathWriteError → List ℕ
 file_path_write_error_text (in_buffer.Name error) = file_path_error_text error
 file_path_write_error_text (in_buffer.BufferTooSmall needed) =
     codes "buffer too small: the file path needs " ++ decimal needed ++ codes " units"
-
--- what is printed where a text is not written
-abbrev pub text_write_error_text : TextWriteError → List ℕ
-text_write_error_text (text.BufferTooSmall needed) =
-    codes "buffer too small: the text needs " ++ decimal needed ++ codes " units"
 
 -- the text of the reason why a text is no path
 abbrev pub path_text_error_text : PathTextError → List ℕ

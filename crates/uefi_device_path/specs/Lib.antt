@@ -36,6 +36,5 @@ pub mod Instances
 pub mod PathTexts
 pub mod PathReading
 pub mod LenientReading
-pub mod PathUnits
 pub mod Matching
 pub mod Laws

@@ -10,20 +10,18 @@ ghost use Rattle.uefi_device_path.specs.FilePaths.{FilePathRefusedFor, IsReadabl
 ghost use Rattle.uefi_device_nodes.specs.Nodes.{IsInner, Node, end_entire, node_bytes, node_length};
 ghost use Rattle.uefi_device_path.specs.Paths.{AreNodes, BeginWith, BeginWithPath, IsPath, joined, nodes_in, path_bytes, without_end};
 
-use crate::errors::{
-    DevicePathError, FilePathCause, FilePathError, FilePathWriteError, TextWriteError,
-};
+use crate::errors::{DevicePathError, FilePathCause, FilePathError, FilePathWriteError};
 use crate::file_path::{file_path_in, write_file_path_in};
 use crate::instance::DevicePathInstanceIterator;
 use crate::node_iterator::DevicePathNodeIterator;
 use crate::path_text::PathText;
-use crate::unit_sink::write_units;
 use std::alloc::Allocator;
 use std::fmt;
 use std::hash::{Hash, Hasher};
 use uefi_device_nodes::node::{DevicePathNode, fault_place};
 use uefi_device_nodes::{AllowShortcuts, DisplayOnly};
 use uefi_field_texts::sink::print;
+use uefi_field_texts::unit_sink::{TextWriteError, write_units};
 use uefi_path::PathBuf;
 use uefi_text::CStr16;
 
@@ -41,7 +39,7 @@ impl<'a> DevicePath<'a> {
     ghost use Rattle.uefi_device_path.specs.Instances.{instances};
     ghost use Rattle.uefi_device_nodes.specs.NodeViews.{node_of};
     ghost use Rattle.uefi_device_path.specs.PathTexts.{path_text};
-    ghost use Rattle.uefi_device_path.specs.PathUnits.{TextRefusedFor, utf16_units};
+    ghost use Rattle.uefi_field_texts.specs.UnitTexts.{TextRefusedFor, utf16_units};
     ghost use Rattle.uefi_device_path.specs.Views.{instance_nodes, instances_left, nodes_left, nodes_of, printed_path};
     ghost use Rattle.uefi_text.specs.Runs.{GivesEach};
     ghost use Rattle.uefi_device_path.specs.declared.errors.DevicePathError.{DevicePathError};
@@ -247,7 +245,7 @@ impl<'a> DevicePath<'a> {
             (utf16_units (path_text display_only.0 allow_shortcuts.0 (nodes_of self.now)))
             (length buffer.old) error) }
     {
-        write_units(buffer, self.display(display_only, allow_shortcuts))
+        write_units(buffer, &self.display(display_only, allow_shortcuts))
     }
 
     /// The same text, written to the start of a buffer and borrowed from there with its NUL.

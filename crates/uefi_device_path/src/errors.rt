@@ -111,33 +111,6 @@ impl fmt::Display for FilePathWriteError {
 
 impl Error for FilePathWriteError {}
 
-/// Why what is printed of a path is not written into a buffer.
-#[derive(Clone, Copy, Debug, PartialEq, Eq)]
-pub enum TextWriteError {
-    /// The buffer has fewer places than the text has units with its NUL, which are this many, or `usize::MAX`
-    /// where they are more.
-    BufferTooSmall(usize),
-}
-
-/// Prints what is wrong, in words.
-impl fmt::Display for TextWriteError {
-    ghost use Rattle.std.specs.Prelude.{Some};
-    ghost use Rattle.uefi_device_path.specs.ErrorTexts.{text_write_error_text};
-
-    ghost output = { λ error. Some (text_write_error_text error) };
-
-    fn fmt<W: fmt::Write>(&self, f: &mut fmt::Formatter<W>) -> fmt::Result {
-        match self {
-            Self::BufferTooSmall(needed) => write!(
-                f,
-                "buffer too small: the text needs {needed} units"
-            ),
-        }
-    }
-}
-
-impl Error for TextWriteError {}
-
 /// What is wrong with bytes that are no load option.
 #[derive(Clone, Copy, Debug, PartialEq, Eq)]
 pub enum LoadOptionCause {

@@ -3,16 +3,15 @@
 
 ghost use Rattle.std.specs.Prelude.{◌≡◌, ◌+◌, ◌≤◌, ◌<◌, ◌++◌, IfErr, IfOk, OnErr, OnOk, drop, length, take};
 ghost use Rattle.uefi_device_path.specs.PathTexts.{path_text};
-ghost use Rattle.uefi_device_path.specs.PathUnits.{TextRefusedFor, utf16_units};
+ghost use Rattle.uefi_field_texts.specs.UnitTexts.{TextRefusedFor, utf16_units};
 ghost use Rattle.uefi_text.specs.Units.{nul_terminated};
 
-use crate::errors::TextWriteError;
 use crate::instance::DevicePathInstance;
 use crate::path_text::PathText;
-use crate::unit_sink::write_units;
 use std::fmt;
 use uefi_device_nodes::{AllowShortcuts, DisplayOnly};
 use uefi_field_texts::sink::print;
+use uefi_field_texts::unit_sink::{TextWriteError, write_units};
 
 impl<'a> DevicePathInstance<'a> {
     ghost use Rattle.uefi_device_path.specs.Views.{instance_nodes, printed_path};
@@ -52,7 +51,7 @@ impl<'a> DevicePathInstance<'a> {
             (utf16_units (path_text display_only.0 allow_shortcuts.0 (instance_nodes self.now)))
             (length buffer.old) error) }
     {
-        write_units(buffer, self.display(display_only, allow_shortcuts))
+        write_units(buffer, &self.display(display_only, allow_shortcuts))
     }
 
     /// The same text, written to the start of a buffer and borrowed from there with its NUL.

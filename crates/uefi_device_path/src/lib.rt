@@ -46,7 +46,6 @@ mod option_edits;
 mod path_list;
 mod path_reader;
 mod path_text;
-mod unit_sink;
 
 pub use build::{BuildNode, DevicePathBuf};
 pub use builder::DevicePathBuilder;
@@ -55,7 +54,7 @@ pub use device_path::DevicePath;
 pub use errors::{
     BuildError, DevicePathError, FilePathCause, FilePathError, FilePathWriteError, GrowError,
     LoadOptionCause, LoadOptionError, NodeConversionError, NodeError, OptionBuildError,
-    PushTextError, TextWriteError,
+    PushTextError,
 };
 pub use grow::{append_in_buf, push_in_buf};
 pub use grow_text::push_text_in_buf;
@@ -77,3 +76,4 @@ pub use uefi_device_nodes::{acpi, bios_boot_spec, hardware, media, messaging};
 pub use uefi_field_texts::forms::{AllowShortcuts, DisplayOnly};
 pub use uefi_field_texts::guid::Guid;
 pub use uefi_field_texts::texts::is_escaped;
+pub use uefi_field_texts::unit_sink::TextWriteError;

@@ -4,7 +4,7 @@
 use for_tests::{bytes, shows, split_row};
 use std::test::Fail;
 use uefi_device_path::{
-    AllowShortcuts, DevicePath, DevicePathInstance, DisplayOnly, TextWriteError,
+    AllowShortcuts, DevicePath, DevicePathInstance, DevicePathNode, DisplayOnly, TextWriteError,
 };
 
 /// Paths in the form that can be read back.
@@ -33,36 +33,50 @@ const SHORTCUTS: &str = "\
 02010c00d041010500000000030a14005347c1e0bef9d2119a0c0090273fc14d7f0104000305060001007fff0400 \
     Serial(0x0)/VenPcAnsi(),USB(0x1,0x0)";
 
-/// Whether units are those of a text, and then a NUL.
-fn are_text(units: &[u16], want: &str) -> bool {
-    let Some((last, units)) = units.split_last() else {
-        return false;
-    };
-    *last == 0 && units.iter().copied().eq(want.encode_utf16())
+/// What a call says that writes a text and its NUL into this many of 256 places, and what these hold then:
+/// as many of the first units as have a place.
+fn written(want: &str, room: usize) -> (Result<usize, TextWriteError>, [u16; 256]) {
+    let mut places = [0xffff; 256];
+    let mut needed = 1usize;
+    for (unit, place) in want.encode_utf16().zip(&mut places) {
+        needed = needed.saturating_add(1);
+        if needed <= room.saturating_add(1) {
+            *place = unit;
+        }
+    }
+    if room < needed {
+        return (Err(TextWriteError::BufferTooSmall(needed)), places);
+    }
+    if let Some(place) = places.get_mut(needed - 1) {
+        *place = 0;
+    }
+    (Ok(needed), places)
 }
 
-/// Whether a buffer of just the places that a text and its NUL need is filled with them, and one with a
-/// place less is refused, and holds the first units.
-fn fills_buffer(
+/// How many units a call borrows from a buffer.
+fn counted(borrowed: Result<&[u16], TextWriteError>) -> Result<usize, TextWriteError> {
+    match borrowed {
+        Ok(units) => Ok(units.len()),
+        Err(error) => Err(error),
+    }
+}
+
+/// Whether a path fills a buffer of each room with its text.
+fn fills_buffers(
     path: DevicePath<'_>,
     display_only: DisplayOnly,
     shortcuts: AllowShortcuts,
     want: &str,
 ) -> bool {
-    let mut room = [0xffff; 256];
-    let len = want.encode_utf16().count();
-    if 256 <= len {
-        return false;
+    for room in 0..want.len().saturating_add(3) {
+        let mut places = [0xffff; 256];
+        let buffer = places.get_mut(..room).unwrap_or_default();
+        let said = counted(path.text_in_buf(buffer, display_only, shortcuts));
+        if (said, places) != written(want, room) {
+            return false;
+        }
     }
-    let refused = path
-        .text_in_buf(&mut room[..len], display_only, shortcuts)
-        .err();
-    let is_cut = room[..len].iter().copied().eq(want.encode_utf16());
-    let is_refused = refused == Some(TextWriteError::BufferTooSmall(len + 1));
-    match path.text_in_buf(&mut room[..len + 1], display_only, shortcuts) {
-        Ok(units) => is_cut && is_refused && are_text(units, want),
-        Err(_) => false,
-    }
+    true
 }
 
 /// Whether the path of each line prints what follows it, in memory and in buffers.
@@ -78,7 +92,7 @@ fn are_printed(
         let bytes = bytes(rt.alloc(), digits)?;
         let path = DevicePath::from_bytes(&bytes)?;
         if !shows(rt.alloc(), &path.display(display_only, shortcuts), want)
-            || !fills_buffer(path, display_only, shortcuts, want)
+            || !fills_buffers(path, display_only, shortcuts, want)
         {
             return Ok(false);
         }
@@ -94,25 +108,21 @@ fn paths(rt: HostRuntime) -> Result<(), Fail> {
     Ok(())
 }
 
-/// Whether an instance prints a text, and fills a buffer of just the room with it, and one place less.
+/// Whether an instance prints a text, and fills a buffer of each room with it.
 fn instance_prints(rt: &HostRuntime, instance: DevicePathInstance<'_>, want: &str) -> bool {
     let (display_only, shortcuts) = (DisplayOnly(true), AllowShortcuts(true));
-    let mut room = [9; 64];
-    let len = want.encode_utf16().count();
-    if 64 <= len {
-        return false;
+    for room in 0..want.len().saturating_add(3) {
+        let (mut places, mut others) = ([0xffff; 256], [0xffff; 256]);
+        let buffer = places.get_mut(..room).unwrap_or_default();
+        let said = instance.write_text(buffer, display_only, shortcuts);
+        let other = others.get_mut(..room).unwrap_or_default();
+        let also = counted(instance.text_in_buf(other, display_only, shortcuts));
+        let (wanted, left) = written(want, room);
+        if said != wanted || also != wanted || places != left || others != left {
+            return false;
+        }
     }
-    let is_refused = instance.write_text(&mut room[..len], display_only, shortcuts)
-        == Err(TextWriteError::BufferTooSmall(len + 1));
-    let is_cut = room[..len].iter().copied().eq(want.encode_utf16()) && room[len] == 9;
-    match instance.text_in_buf(&mut room[..len + 1], display_only, shortcuts) {
-        Ok(units) if is_refused && is_cut && are_text(units, want) => shows(
-            rt.alloc(),
-            &instance.display(display_only, shortcuts),
-            want,
-        ),
-        _ => false,
-    }
+    shows(rt.alloc(), &instance.display(display_only, shortcuts), want)
 }
 
 /// Whether the instances of a path have these texts.
@@ -135,5 +145,19 @@ fn instances(rt: HostRuntime) -> Result<(), Fail> {
     assert!(rt; instances_print(&rt, DevicePath::from_bytes(&terminals)?, want));
     let empty = DevicePath::from_bytes(&[0x7f, 1, 4, 0, 0x7f, 0xff, 4, 0])?;
     assert!(rt; instances_print(&rt, empty, ["", ""]));
+    Ok(())
+}
+
+#[test]
+fn nodes(rt: HostRuntime) -> Result<(), Fail> {
+    let (node, _) = DevicePathNode::split_first(&[
+        4, 4, 14, 0, 97, 0, 0x3d, 0xd8, 0, 0xde, 0x3d, 0xd8, 0, 0,
+    ])?;
+    for room in 0..8 {
+        let mut places = [0xffff; 256];
+        let buffer = places.get_mut(..room).unwrap_or_default();
+        let said = node.write_text(buffer, DisplayOnly(false), AllowShortcuts(false));
+        assert!(rt; (said, places) == written("a😀\u{fffd}", room), "{room}");
+    }
     Ok(())
 }

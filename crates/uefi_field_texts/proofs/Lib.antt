@@ -5,3 +5,4 @@ pub mod Puts
 pub mod Surrogates
 pub mod ShownTexts
 pub mod GuidTexts
+pub mod Units

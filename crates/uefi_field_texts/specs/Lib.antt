@@ -1,3 +1,4 @@
 pub mod FieldTexts
 pub mod ShownTexts
 pub mod Guids
+pub mod UnitTexts

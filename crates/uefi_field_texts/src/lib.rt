@@ -15,8 +15,10 @@ pub mod ids;
 #[doc(hidden)]
 pub mod laws;
 #[doc(hidden)]
-pub mod names;
-#[doc(hidden)]
 pub mod sink;
 #[doc(hidden)]
 pub mod texts;
+#[doc(hidden)]
+pub mod unit_sink;
+#[doc(hidden)]
+pub mod vendor_names;

@@ -1,8 +1,8 @@
 -- A character above U+FFFF is two units.
 use Rattle.std.proofs.Common.{ℕ, List, [], ◌∷◌, ◌++◌, ◌+◌, ◌-◌, ◌/◌, subst, arith}
-use Rattle.uefi_device_path.specs.PathUnits.{AreSunk}
-use Rattle.uefi_device_path.proofs.Units.{two_units}
-use Rattle.uefi_device_path.proofs.unit_sink.UnitSink.add_char.Goals as goal
+use Rattle.uefi_field_texts.specs.UnitTexts.{AreSunk}
+use Rattle.uefi_field_texts.proofs.Units.{two_units}
+use Rattle.uefi_field_texts.proofs.unit_sink.UnitSink.add_char.Goals as goal
 
 pub returns-clause-sunk : goal.returns-clause-sunk
 returns-clause-sunk c = λ units old h.

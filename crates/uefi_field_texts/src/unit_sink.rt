@@ -1,26 +1,52 @@
-//! A caller's buffer that takes a text as UTF-16.
+//! Texts that are written into a caller's buffer as UTF-16.
 #![tactic(auto)]
 
 ghost use Rattle.std.specs.Prelude.{◌≡◌, ℕ, ◌+◌, ◌≤◌, ◌++◌, ◌∷◌, [], List, IfErr, IfOk, OnErr, OnOk, drop, length, take};
 ghost use Rattle.std.specs.Char.Escape.{encode_utf16};
-ghost use Rattle.uefi_device_path.specs.PathUnits.{AreSunk, TextRefusedFor, utf16_units};
-ghost use Rattle.uefi_device_path.specs.Views.{printed_path};
+ghost use Rattle.uefi_field_texts.specs.UnitTexts.{AreSunk, TextRefusedFor, utf16_units};
 ghost use Rattle.uefi_text.specs.Units.{nul_terminated};
 
-use crate::errors::TextWriteError;
-use crate::path_text::PathText;
-use uefi_field_texts::sink::{Printed, TextSink};
+use crate::sink::{Printed, TextSink};
+use std::error::Error;
+use std::fmt;
+
+/// Why a text is not written into a buffer.
+#[derive(Clone, Copy, Debug, PartialEq, Eq)]
+pub enum TextWriteError {
+    /// The buffer has fewer places than the text has units with its NUL, which are this many, or `usize::MAX`
+    /// where they are more.
+    BufferTooSmall(usize),
+}
+
+/// Prints what is wrong, in words.
+impl fmt::Display for TextWriteError {
+    ghost use Rattle.std.specs.Prelude.{Some};
+    ghost use Rattle.uefi_field_texts.specs.UnitTexts.{text_write_error_text};
+
+    ghost output = { λ error. Some (text_write_error_text error) };
+
+    fn fmt<W: fmt::Write>(&self, f: &mut fmt::Formatter<W>) -> fmt::Result {
+        match self {
+            Self::BufferTooSmall(needed) => write!(
+                f,
+                "buffer too small: the text needs {needed} units"
+            ),
+        }
+    }
+}
+
+impl Error for TextWriteError {}
 
 /// A buffer, and how many units were written to it, whether it has room for them or not.
 #[derive(Drop)]
-pub(crate) struct UnitSink<'b> {
+struct UnitSink<'b> {
     buffer: &'b mut [u16],
     len: usize,
 }
 
 impl<'b> UnitSink<'b> {
     /// The buffer before any unit.
-    pub(crate) fn of(buffer: &'b mut [u16]) -> Self
+    fn of(buffer: &'b mut [u16]) -> Self
         ensures same_reference { result.buffer.ghost_name ≡ buffer.entry.ghost_name }
         ensures none { AreSunk [] buffer.old result.buffer.now result.len }
     {
@@ -74,36 +100,39 @@ impl<'b> TextSink for UnitSink<'b> {
     }
 }
 
-/// Adds the units of a text.
-fn put_text(sink: &mut UnitSink<'_>, text: PathText<'_>)
+/// Adds the units of the text of a value.
+fn put_text<P: Printed>(sink: &mut UnitSink<'_>, value: &P)
     ensures same_reference { sink.new.buffer.ghost_name ≡ sink.old.buffer.ghost_name }
     ensures sunk { (start : List ℕ) → AreSunk [] start sink.old.buffer.now sink.old.len →
-        AreSunk (utf16_units (printed_path text.entry)) start sink.new.buffer.now sink.new.len }
+        AreSunk (utf16_units (P.printed value.now)) start sink.new.buffer.now sink.new.len }
 {
-    text.put(sink);
+    value.put(sink);
 }
 
-/// Writes the units of a text to a buffer, as many as it has places for, and counts all of them.
-fn fill_units(buffer: &mut [u16], text: PathText<'_>) -> usize
-    ensures { AreSunk (utf16_units (printed_path text.entry)) buffer.old buffer.new result }
+/// Writes the units of the text of a value to a buffer, as many as it has places for, and counts all of
+/// them.
+fn fill_units<P: Printed>(buffer: &mut [u16], value: &P) -> usize
+    ensures { AreSunk (utf16_units (P.printed value.now)) buffer.old buffer.new result }
 {
     let mut sink = UnitSink::of(buffer);
-    put_text(&mut sink, text);
+    put_text(&mut sink, value);
     sink.len
 }
 
-/// Writes a text and a NUL to the start of a buffer, and returns how many units these are.
-pub(crate) fn write_units(buffer: &mut [u16], text: PathText<'_>) -> Result<usize, TextWriteError>
-    ensures len { IfOk result (λ len. len ≡ length (utf16_units (printed_path text.entry)) + 1) }
+/// Writes the text of a value and a NUL to the start of a buffer, and returns how many units these are. What
+/// follows them is unchanged. Refused as `BufferTooSmall`, with the count that it needs; the buffer then
+/// holds as many of the first units as it has places. Takes no memory; one pass.
+pub fn write_units<P: Printed>(buffer: &mut [u16], value: &P) -> Result<usize, TextWriteError>
+    ensures len { IfOk result (λ len. len ≡ length (utf16_units (P.printed value.now)) + 1) }
     ensures room { IfOk result (λ len. len ≤ length buffer.old) }
-    ensures ok { OnOk result (buffer.new ≡ nul_terminated (utf16_units (printed_path text.entry))
-        ++ drop (length (utf16_units (printed_path text.entry)) + 1) buffer.old) }
+    ensures ok { OnOk result (buffer.new ≡ nul_terminated (utf16_units (P.printed value.now))
+        ++ drop (length (utf16_units (P.printed value.now)) + 1) buffer.old) }
     ensures small { OnErr result (buffer.new
-        ≡ take (length buffer.old) (utf16_units (printed_path text.entry))) }
+        ≡ take (length buffer.old) (utf16_units (P.printed value.now))) }
     ensures refusal { IfErr result (λ error.
-        TextRefusedFor (utf16_units (printed_path text.entry)) (length buffer.old) error) }
+        TextRefusedFor (utf16_units (P.printed value.now)) (length buffer.old) error) }
 {
-    let len = fill_units(buffer, text);
+    let len = fill_units(buffer, value);
     if buffer.len() <= len {
         return Err(TextWriteError::BufferTooSmall(len.saturating_add(1)));
     }

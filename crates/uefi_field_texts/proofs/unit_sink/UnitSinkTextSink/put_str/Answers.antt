@@ -5,9 +5,9 @@ use Rattle.std.proofs.lemmas.List.{flat_map_more}
 use Rattle.std.proofs.lemmas.Str.{IsUtf8-past_char}
 use Rattle.std.specs.Char.Escape.{encode_utf16}
 use Rattle.std.specs.List.{flat_map}
-use Rattle.uefi_device_path.specs.PathUnits.{AreSunk, utf16_units}
+use Rattle.uefi_field_texts.specs.UnitTexts.{AreSunk, utf16_units}
 use Rattle.uefi_text.proofs.Texts.{chars_end, chars_step}
-use Rattle.uefi_device_path.proofs.unit_sink.UnitSinkTextSink.put_str.Goals as goal
+use Rattle.uefi_field_texts.proofs.unit_sink.UnitSinkTextSink.put_str.Goals as goal
 
 pub loop-character-preserved : goal.loop-character-preserved
 loop-character-preserved c =

@@ -1,13 +1,13 @@
 -- What holds of each part that the buffer took holds of the whole.
 use Rattle.std.proofs.Common.{refl, ◌∙◌, [], ◌++◌}
 use Rattle.std.proofs.lemmas.Str.{IsUtf8-append, IsUtf8-nil}
-use Rattle.uefi_device_path.specs.PathUnits.{utf16_units}
+use Rattle.uefi_field_texts.specs.UnitTexts.{utf16_units}
 use Rattle.uefi_field_texts.proofs.Puts.{taken_whole}
-use Rattle.uefi_device_path.proofs.Units.{sunk_both, sunk_none}
-use Rattle.uefi_device_path.proofs.unit_sink.put_text.Goals as goal
+use Rattle.uefi_field_texts.proofs.Units.{sunk_both, sunk_none}
+use Rattle.uefi_field_texts.proofs.unit_sink.put_text.Goals as goal
 
 pub returns : goal.returns
-returns c =
+returns g c =
     let whole = taken_whole _ (λ f. (refl, (IsUtf8-nil, λ units start h. sunk_none units start _ _ h)))
     (λ f g h a b one two. (
       two.0 ∙ one.0,

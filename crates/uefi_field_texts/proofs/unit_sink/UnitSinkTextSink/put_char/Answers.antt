@@ -2,9 +2,9 @@
 use Rattle.std.proofs.Common.{ap, subst, sym, List, ◌++◌, ℕ}
 use Rattle.std.proofs.Output.{writes_in_calls_single}
 use Rattle.std.proofs.lemmas.Str.{IsUtf8-encode}
-use Rattle.uefi_device_path.specs.PathUnits.{AreSunk}
-use Rattle.uefi_device_path.proofs.Units.{units_one}
-use Rattle.uefi_device_path.proofs.unit_sink.UnitSinkTextSink.put_char.Goals as goal
+use Rattle.uefi_field_texts.specs.UnitTexts.{AreSunk}
+use Rattle.uefi_field_texts.proofs.Units.{units_one}
+use Rattle.uefi_field_texts.proofs.unit_sink.UnitSinkTextSink.put_char.Goals as goal
 
 pub returns : goal.returns
 returns c =

@@ -1,5 +1,5 @@
 -- The units of a text that is read character by character, and written part by part.
-use Rattle.std.proofs.Common.{◌≡◌, ℕ, ◌+◌, ◌-◌, ◌/◌, ◌%◌, ◌<◌, ◌≤◌, set, take, drop, get_or, List, [], ◌∷◌, ◌++◌, length, append_assoc, length-append, add-one, ap, sym, refl, subst, ◌∙◌, arith}
+use Rattle.std.proofs.Common.{◌≡◌, ℕ, ◌+◌, ◌-◌, ◌/◌, ◌%◌, ◌<◌, ◌≤◌, ◌^◌, set, take, drop, get_or, List, [], ◌∷◌, ◌++◌, length, append_assoc, length-append, add-one, ap, sym, refl, subst, ◌∙◌, arith}
 use Rattle.std.proofs.lemmas.Grind.{common_steps, flat_map-append}
 use Rattle.std.proofs.Math.Seq.{drop-cons, set-append_seam}
 use Rattle.std.proofs.lemmas.List.{append-nil, take_all}
@@ -10,7 +10,7 @@ use Rattle.std.specs.List.{flat_map}
 use Rattle.std.specs.Prelude.{encode_utf8}
 use Rattle.std.specs.Str.{chars, IsUtf8}
 use Rattle.uefi_text.specs.Units.{nul_terminated}
-use Rattle.uefi_device_path.specs.PathUnits.{AreSunk, utf16_units}
+use Rattle.uefi_field_texts.specs.UnitTexts.{AreSunk, utf16_units}
 
 -- a character of two units
 pub two_units : (units : List ℕ) (c : ℕ) → 0x1_0000 ≤ c
@@ -62,11 +62,13 @@ unit_more units old buffer unit room written =
     ∙ ap (λ i. take (length old) (units ++ unit ∷ []) ++ drop i old) (sym more)
 
 -- a NUL after units that were written
-pub nul_after : (units old new : List ℕ) → length units < length old
-    → new ≡ take (length old) units ++ drop (length units) old
-    → set new (length units) 0 ≡ nul_terminated units ++ drop (length units + 1) old
-nul_after units old new room written =
+pub sunk_and_ended : (units old new : List ℕ) (len : ℕ) → AreSunk units old new len → len < length old → length old < 2 ^ 64
+    → set new len 0 ≡ nul_terminated units ++ drop (length units + 1) old
+sunk_and_ended units old new len sunk room bound =
+    let all : len ≡ length units = grind (arith, common_steps) in
     let more : length (units ++ 0 ∷ []) ≡ length units + 1 = length-append units (0 ∷ []) in
-    unit_more units old new 0 room written
-    ∙ ap (λ us. us ++ drop (length (units ++ 0 ∷ [])) old) (take_all (length old) (units ++ 0 ∷ []) (omega (arith, more, room)))
+    let within : length units < length old = omega (arith, all, room) in
+    ap (λ i. set new i 0) all
+    ∙ unit_more units old new 0 within sunk.written
+    ∙ ap (λ us. us ++ drop (length (units ++ 0 ∷ [])) old) (take_all (length old) (units ++ 0 ∷ []) (omega (arith, more, within)))
     ∙ ap (λ i. nul_terminated units ++ drop i old) more

@@ -3,8 +3,8 @@ use Rattle.std.specs.Char.Escape.{encode_utf16}
 use Rattle.std.specs.List.{flat_map}
 use Rattle.std.specs.Str.{chars, IsUtf8}
 use Rattle.std.specs.Str.Iter.{chars_rest}
-use Rattle.uefi_device_path.specs.PathUnits.{AreSunk}
-use Rattle.uefi_device_path.proofs.unit_sink.UnitSinkTextSink.put_str.Given as goal
+use Rattle.uefi_field_texts.specs.UnitTexts.{AreSunk}
+use Rattle.uefi_field_texts.proofs.unit_sink.UnitSinkTextSink.put_str.Given as goal
 
 -- the units of the characters so far were written, and with those to come they are the text's
 abbrev pub invariant-loop-character : goal.invariant-loop-character
