@@ -1,0 +1,51 @@
+//! A first program for firmware in Rust: prints a path in its normal form. docs/FIRMWARE.md has the commands that build it.
+#![no_std]
+#![no_main]
+
+use core::ffi::c_void;
+use nardcorbel::{CStr16, Error, Path};
+
+/// What the firmware's table has before the console for output, and that (UEFI Specification 2.10, section 4.3).
+#[repr(C)]
+pub struct SystemTable {
+    others: [*const c_void; 8],
+    console: *mut Console,
+}
+
+/// The first two calls of a console (UEFI Specification 2.10, section 12.4).
+#[repr(C)]
+pub struct Console {
+    reset: *const c_void,
+    output_string: unsafe extern "efiapi" fn(*mut Console, *const u16) -> usize,
+}
+
+/// Makes a path normal, and prints it.
+fn print_normal(console: *mut Console) -> Result<(), Error> {
+    let (mut string, mut normal) = ([0; 48], [0; 48]);
+    let file = CStr16::from_str_with_buf(r"\EFI\debian\..\BOOT\.\BOOTX64.EFI", &mut string)?;
+    let path = Path::new(file).normalize_in_buf(&mut normal)?;
+    for units in [path.to_cstr16().to_u16_slice_with_nul(), &[0x0d, 0x0a, 0]] {
+        // SAFETY: the firmware gave its console, and the units end in a NUL.
+        unsafe { ((*console).output_string)(console, units.as_ptr()) };
+    }
+    Ok(())
+}
+
+/// What the firmware starts, where Rust's target is `x86_64-unknown-uefi`.
+#[cfg(target_os = "uefi")]
+#[no_mangle]
+pub extern "efiapi" fn efi_main(_image: *const c_void, table: &SystemTable) -> usize {
+    usize::from(print_normal(table.console).is_err())
+}
+
+/// What gnu-efi's start calls.
+#[cfg(not(target_os = "uefi"))]
+#[no_mangle]
+pub extern "C" fn efi_main(_image: *const c_void, table: &SystemTable) -> usize {
+    usize::from(print_normal(table.console).is_err())
+}
+
+#[panic_handler]
+fn panic(_: &core::panic::PanicInfo<'_>) -> ! {
+    loop {}
+}
