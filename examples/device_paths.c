@@ -8,6 +8,7 @@
 #include <uchar.h>
 
 #include "nardcorbel.h"
+#include "nardcorbel_nodes.h"
 
 /* A PCI function, a file \a, and the node that ends the path; and a load option "b" of that path and one byte more. */
 #define PATH 1, 1, 6, 0, 0, 0x1f, 4, 4, 10, 0, '\\', 0, 'a', 0, 0, 0, 0x7f, 0xff, 4, 0
@@ -78,6 +79,19 @@ static void walk_nodes(void)
     size_t far = (size_t)-1;
     uint32_t reason = nard_device_path_next_node(path, sizeof path, &far, &node);
     expect(reason == NARD_NO_END_NODE && far == (size_t)-1 && node.start == 10, "nard_device_path_next_node", rows_count);
+}
+
+static void read_fields(void)
+{
+    struct nard_device_node node = {0, 0, 0, 0};
+    size_t place = 0;
+    nard_number number = 99;
+    nard_device_path_next_node(path, sizeof path, &place, &node);
+    const uint8_t *data = path + node.start;
+    expect(NARD_IS(node, NARD_PCI) && !NARD_IS(node, NARD_ACPI), "NARD_IS", 0);
+    expect(nard_node_number(data, node.length, NARD_ACPI_UID, &number) == NARD_NO_FIELD && number == 99, "nard_node_number", 0);
+    expect(nard_node_number(data, node.length, NARD_PCI_DEVICE, &number) == NARD_OK && number == 0x1f, "nard_node_number", 1);
+    expect(NARD_PLACE(NARD_PCI_DEVICE) == 1 && NARD_WIDTH(NARD_PCI_DEVICE) == 1, "NARD_PLACE", 0);
 }
 
 static void write_file_paths(void)
@@ -313,6 +327,7 @@ int main(void)
 {
     check_paths();
     walk_nodes();
+    read_fields();
     write_file_paths();
     write_texts();
     read_options();

@@ -106,6 +106,7 @@ CALL(path_normalize_utf8, IN(0), OUT, place, JUDGED)
 CALL(fat_name_check, IN(0), place, JUDGED)
 CALL(device_path_text, IN(0), (number & 1) != 0, (number & 2) != 0, OUT, place)
 CALL(load_option_read, IN(0), buffer.at, place)
+CALL(node_number, IN(0), number >> 8, number & 0xff, buffer.at)
 CALL(device_path_push, OUT, (nard_byte)(number >> 8), (nard_byte)number, IN(0), place)
 CALL(load_option_write, number, IN(0), IN(1), IN(2), OUT, place)
 CALL(device_path_strip_prefix, IN(0), IN(1), place)
@@ -280,6 +281,11 @@ static const struct row rows[] = {
     ROW(device_path_text, PREFIX, .in = {BYTES("\2\1\14\0\xd0\x41\3\12\1\0\0\0" END)}, .number = 3,
         .out = UNITS(u"PciRoot(0x1)")),
     ROW(device_path_text, PREFIX, .in = {BYTES(END)}, .out = UNITS(u"")), BAD_PATHS(device_path_text, REFUSED),
+    ROW(node_number, READ, .in = {BYTES("\1\2\3")}, .place = UNCHANGED, .number = 0x102, .out = SIZES(0x302)),
+    ROW(node_number, READ, .in = {BYTES("\1\2\3\4\5\6\7\x88")}, .place = UNCHANGED, .number = 8, .out = SIZES(0x8807060504030201)),
+    FAULT(node_number, READ, NO_FIELD, UNCHANGED, .in = {BYTES("\1\2\3")}, .number = 0x202, .out = NO_SIZES(1)),
+    FAULT(node_number, READ, NO_FIELD, UNCHANGED, .in = {BYTES("\1\2\3")}, .number = 3, .out = NO_SIZES(1)),
+    FAULT(node_number, READ, NO_FIELD, UNCHANGED, .in = {NO_BYTES}, .number = 1, .out = NO_SIZES(1)),
     ROW(load_option_read, READ, .in = {BYTES(OPTION)}, .place = 31, .out = SIZES(1, 6, 1, 10, 20, 20, 30, 1)),
     FAULT(load_option_read, READ, OPTION_TOO_SHORT, 5, .in = {BYTES("\1\0\0\0\24")}, .out = NO_SIZES(8)),
     FAULT(load_option_read, READ, DESCRIPTION_WITHOUT_END, 8, .in = {BYTES("\1\0\0\0\4\0b\0\0")}, .out = NO_SIZES(8)),

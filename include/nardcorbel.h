@@ -52,6 +52,7 @@ typedef bool nard_bool;
 typedef uint32_t nard_result; /* a reason */
 typedef int32_t nard_order;   /* -1, 0 or 1 for less, equal or greater, or NARD_NO_ORDER */
 #endif
+typedef unsigned long long nard_number; /* of 64 bits */
 
 #ifndef NARD_CALL
 /* The calling convention: System V's in ELF for x86-64, otherwise the usual one, whatever the compiler is told to use. */
@@ -106,7 +107,8 @@ extern "C" {
     REASON(LIST_TOO_LONG, 28, "the file path list is longer than its header can state") \
     REASON(NOT_A_NAME, 29, "no load option has the name or the kind") \
     REASON(END_OF_ORDER, 30, "the order ends here") /* nothing is wrong */ \
-    REASON(NO_NODE, 31, "no node")
+    REASON(NO_NODE, 31, "no node") \
+    REASON(NO_FIELD, 32, "no such field")
 
 enum nard_reason {
 #define NARD_AS_CONSTANT(name, number, text) NARD_##name = number,
@@ -468,6 +470,14 @@ nard_result NARD_CALL nard_device_path_next_node(const nard_byte *bytes, nard_si
                                                  nard_size *offset, struct nard_device_node *node);
 
 /*
+ * Reads a number of the data of a node, the low byte first: `width` bytes, 1, 2, 4 or 8, from a place on. The macros of
+ * nardcorbel_nodes.h are the place and the width of each field.
+ * Returns NARD_OK, or NARD_NO_FIELD if the data end before or the width is another, and then leaves *number unchanged.
+ */
+nard_result NARD_CALL nard_node_number(const nard_byte *content, nard_size byte_count, nard_size place, nard_size width,
+                                       nard_number *number);
+
+/*
  * Writes the file path of a device path to a buffer: the names of all nodes that name files, slashes replaced, one separator
  * between two. The device path is checked first, then the names, then the room.
  *
@@ -784,6 +794,7 @@ static inline nard_byte *nard_given_byte_room(nard_byte *buffer)
 #define nard_string_from_fat(...) NARD_AS_IS(NARD_GIVEN_BNV(nard_string_from_fat, __VA_ARGS__))
 #define nard_device_path_check(...) NARD_AS_IS(NARD_GIVEN_B(nard_device_path_check, __VA_ARGS__))
 #define nard_device_path_next_node(...) NARD_AS_IS(NARD_GIVEN_B(nard_device_path_next_node, __VA_ARGS__))
+#define nard_node_number(...) NARD_AS_IS(NARD_GIVEN_B(nard_node_number, __VA_ARGS__))
 #define nard_device_path_file_path(...) NARD_AS_IS(NARD_GIVEN_BNV(nard_device_path_file_path, __VA_ARGS__))
 #define nard_device_path_text(...) NARD_AS_IS(NARD_GIVEN_BNNNV(nard_device_path_text, __VA_ARGS__))
 #define nard_load_option_read(...) NARD_AS_IS(NARD_GIVEN_B(nard_load_option_read, __VA_ARGS__))

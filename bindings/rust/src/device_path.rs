@@ -210,6 +210,39 @@ pub struct DevicePathNode<'a> {
     pub data: &'a [u8],
 }
 
+impl<'a> DevicePathNode<'a> {
+    /// Returns whether the node is of a kind of [`fields`](crate::fields), such as `HARD_DRIVE`.
+    pub fn is(&self, kind: (u8, u8)) -> bool {
+        (self.device_type, self.sub_type) == kind
+    }
+
+    /// Returns the number that a field of [`fields`](crate::fields) has, such as `HARD_DRIVE_PARTITION_START`, or `None` if the data
+    /// end before, or the field is no number.
+    pub fn number(&self, field: (usize, usize)) -> Option<u64> {
+        let mut number = 0;
+        // SAFETY: the pointer and the count are those of a slice; `number` is a local.
+        let reason = unsafe {
+            sys::nard_node_number(
+                self.data.as_ptr(),
+                self.data.len(),
+                field.0,
+                field.1,
+                &mut number,
+            )
+        };
+        (reason == sys::OK).then_some(number)
+    }
+
+    /// Returns the bytes of a field, such as `HARD_DRIVE_PARTITION_SIGNATURE`, or `None` if the data end before.
+    pub fn bytes(&self, field: (usize, usize)) -> Option<&'a [u8]> {
+        let rest = self.data.get(field.0..)?;
+        if field.1 == 0 {
+            return Some(rest);
+        }
+        rest.get(..field.1)
+    }
+}
+
 /// Iterates over the nodes of a device path, first to last.
 #[derive(Clone, Debug)]
 pub struct DevicePathNodeIterator<'a> {

@@ -78,6 +78,7 @@ reasons! {
     NotAName = NOT_A_NAME, "no load option has the name or the kind";
     EndOfOrder = END_OF_ORDER, "the order ends here";
     NoNode = NO_NODE, "no node";
+    NoField = NO_FIELD, "no such field";
 }
 
 impl fmt::Display for Error {

@@ -21,6 +21,9 @@
 mod boot_variables;
 mod device_path;
 mod error;
+#[allow(missing_docs)]
+#[rustfmt::skip]
+pub mod fields;
 mod path;
 mod strs;
 #[rustfmt::skip]

@@ -33,6 +33,7 @@ pub const LIST_TOO_LONG: u32 = 28;
 pub const NOT_A_NAME: u32 = 29;
 pub const END_OF_ORDER: u32 = 30;
 pub const NO_NODE: u32 = 31;
+pub const NO_FIELD: u32 = 32;
 pub const BOOT: u8 = 0;
 pub const DRIVER: u8 = 1;
 pub const SYS_PREP: u8 = 2;
@@ -284,6 +285,13 @@ extern "C" {
         byte_count: usize,
         offset: *mut usize,
         node: *mut DeviceNode,
+    ) -> u32;
+    pub fn nard_node_number(
+        content: *const u8,
+        byte_count: usize,
+        place: usize,
+        width: usize,
+        number: *mut u64,
     ) -> u32;
     pub fn nard_device_path_file_path(
         bytes: *const u8,

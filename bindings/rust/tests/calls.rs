@@ -1,7 +1,7 @@
 //! Each call once with an answer and once refused.
 
 use nardcorbel::{
-    order_numbers, str_from_units_lossy, CStr16, DevicePath, DevicePathBuilder, LoadOption,
+    fields, order_numbers, str_from_units_lossy, CStr16, DevicePath, DevicePathBuilder, LoadOption,
     LoadOptionKind, LoadOptionName, OrderBuffer, Path, Reason,
 };
 use std::cmp::Ordering;
@@ -129,6 +129,12 @@ fn device_paths() {
         .map(|it| (it.device_type, it.sub_type, it.data.len()))
         .collect();
     assert_eq!(kinds, [(1, 1, 2), (4, 4, 6)]);
+    let node = path.node_iter().next().unwrap();
+    assert!(node.is(fields::PCI) && !node.is(fields::ACPI));
+    assert_eq!(node.number(fields::PCI_DEVICE), Some(0x1f));
+    assert_eq!(node.number(fields::ACPI_UID), None);
+    assert_eq!(node.bytes(fields::PCI_DEVICE), Some(&[0x1f][..]));
+    assert_eq!(node.bytes(fields::ACPI_UID), None);
     let mut buffer = [9; 32];
     assert_eq!(
         String::from_utf16_lossy(path.text_in_buf(false, false, &mut buffer).unwrap()),

@@ -5,3 +5,4 @@ pub mod Buffers
 pub mod DevicePaths
 pub mod Building
 pub mod BootVariables
+pub mod NodeNumbers

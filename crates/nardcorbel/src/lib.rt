@@ -11,6 +11,7 @@ pub mod device_paths;
 pub mod fat_names;
 pub mod load_options;
 pub mod lossy;
+pub mod node_numbers;
 pub mod packed;
 pub mod paths;
 pub mod reasons;

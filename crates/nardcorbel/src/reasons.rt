@@ -104,6 +104,9 @@ pub const END_OF_ORDER: u32 = 30;
 /// A node of a device path has to begin at the place in a text, and none does.
 pub const NO_NODE: u32 = 31;
 
+/// The data of a node have no number of this width at this place.
+pub const NO_FIELD: u32 = 32;
+
 /// The order of two strings of which one is none: the least number of its type, so that no test for
 /// "greater" holds.
 pub const NO_ORDER: i32 = i32::MIN;
@@ -151,6 +154,7 @@ pub fn numbers()
     ensures not_a_name { NOT_A_NAME ≡ 29 }
     ensures end_of_order { END_OF_ORDER ≡ 30 }
     ensures no_node { NO_NODE ≡ 31 }
+    ensures no_field { NO_FIELD ≡ 32 }
     ensures no_order { NO_ORDER ≡ negsuc 2147483647 }
 {}
 

@@ -1,0 +1,37 @@
+//! Numbers in the data of nodes that C holds.
+ghost use Rattle.std.specs.Prelude.{◌≡◌, ◌≢◌, ◌↔◌, length};
+ghost use Rattle.uefi_device_nodes.specs.TypedNodes.{number_at};
+ghost use Rattle.nardcorbel.specs.NodeNumbers.{IsNumberIn};
+
+use crate::reasons::{NO_FIELD, OK};
+use uefi_text::Packed;
+
+/// Reads a number of the data of a node, the low byte first: `width` bytes from `place` on, 1, 2, 4 or 8.
+///
+/// Returns `OK`, or `NO_FIELD` where the data end before or the width is another; `number` is then unchanged.
+/// Takes no memory (UEFI Specification 2.10, section 10.3.1).
+#[unsafe(no_mangle)]
+pub extern "C" fn nard_node_number(
+    content: &[u8],
+    place: usize,
+    width: usize,
+    number: &mut u64,
+) -> u32
+    ensures reason { (result ≡ OK) ↔ IsNumberIn (length content.now) place width }
+    ensures refusal { result ≢ OK → result ≡ NO_FIELD }
+    ensures number { result ≡ OK → number.new ≡ number_at place width content.now }
+    ensures unchanged { result ≢ OK → number.new ≡ number.old }
+{
+    if content.len() < width || content.len() - width < place {
+        return NO_FIELD;
+    }
+    let bytes = &content[place..place + width];
+    *number = match width {
+        1 => u64::from(u8::read_le(bytes)),
+        2 => u64::from(u16::read_le(bytes)),
+        4 => u64::from(u32::read_le(bytes)),
+        8 => u64::read_le(bytes),
+        _ => return NO_FIELD,
+    };
+    OK
+}
