@@ -29,6 +29,14 @@ pub struct LoadOptionName {
 
 impl LoadOptionName {
     /// Reads a name. Fails if the string is none: after the word stand four digits of hexadecimal, in upper case.
+    ///
+    /// ```
+    /// # use nardcorbel::{CStr16, LoadOptionKind, LoadOptionName};
+    /// let mut buffer = [0; 16];
+    /// let name = LoadOptionName::from_cstr16(CStr16::from_str_with_buf("Boot001F", &mut buffer)?)?;
+    /// assert_eq!((name.kind, name.number), (LoadOptionKind::Boot, 0x1f));
+    /// # Ok::<(), nardcorbel::Error>(())
+    /// ```
     pub fn from_cstr16(string: &CStr16) -> Result<Self, Error> {
         let (units, mut kind, mut number) = (string.to_u16_slice_with_nul(), 0, 0);
         // SAFETY: the pointer and the count are those of a slice; `kind` and `number` are locals.
@@ -46,6 +54,14 @@ impl LoadOptionName {
     }
 
     /// Writes the name and a NUL to the start of a buffer, and returns the string. It has at most 20 characters.
+    ///
+    /// ```
+    /// # use nardcorbel::{LoadOptionKind, LoadOptionName};
+    /// let mut buffer = [0; 16];
+    /// let name = LoadOptionName { kind: LoadOptionKind::Driver, number: 10 };
+    /// assert_eq!(name.to_cstr16_in_buf(&mut buffer)?, "Driver000A");
+    /// # Ok::<(), nardcorbel::Error>(())
+    /// ```
     pub fn to_cstr16_in_buf(self, buffer: &mut [u16]) -> Result<&CStr16, Error> {
         let kind = match self.kind {
             LoadOptionKind::Boot => sys::BOOT,
@@ -72,6 +88,12 @@ impl LoadOptionName {
 /// Iterates over the numbers of an order, the bytes of a variable such as `BootOrder`.
 ///
 /// Fails if their number is odd.
+///
+/// ```
+/// # use nardcorbel::order_numbers;
+/// assert!(order_numbers(&[3, 0, 0x1f, 0])?.eq([3, 0x1f]));
+/// # Ok::<(), nardcorbel::Error>(())
+/// ```
 pub fn order_numbers(bytes: &[u8]) -> Result<impl Iterator<Item = u16> + '_, Error> {
     let read = |place| {
         let mut number = 0;
@@ -95,11 +117,26 @@ pub struct OrderBuffer<'a> {
 
 impl<'a> OrderBuffer<'a> {
     /// Creates an empty order in a buffer.
+    ///
+    /// ```
+    /// # use nardcorbel::OrderBuffer;
+    /// let mut places = [0; 4];
+    /// assert!(OrderBuffer::new(&mut places).as_slice().is_empty());
+    /// ```
     pub fn new(places: &'a mut [u16]) -> Self {
         Self { places, count: 0 }
     }
 
     /// Returns the numbers in order.
+    ///
+    /// ```
+    /// # use nardcorbel::OrderBuffer;
+    /// let mut places = [0; 4];
+    /// let mut order = OrderBuffer::new(&mut places);
+    /// order.insert(0, 7)?;
+    /// assert_eq!(order.as_slice(), [7]);
+    /// # Ok::<(), nardcorbel::Error>(())
+    /// ```
     pub fn as_slice(&self) -> &[u16] {
         &self.places[..self.count]
     }
@@ -107,6 +144,16 @@ impl<'a> OrderBuffer<'a> {
     /// Puts a number at a place among the others, or at the end if the place is beyond it. A number that is in the order moves.
     ///
     /// Fails if the number is new and the buffer has no room. The order is then unchanged.
+    ///
+    /// ```
+    /// # use nardcorbel::OrderBuffer;
+    /// let mut places = [0; 4];
+    /// let mut order = OrderBuffer::new(&mut places);
+    /// order.insert(0, 7)?;
+    /// order.insert(0, 9)?;
+    /// assert_eq!(order.as_slice(), [9, 7]);
+    /// # Ok::<(), nardcorbel::Error>(())
+    /// ```
     pub fn insert(&mut self, place: usize, number: u16) -> Result<(), Error> {
         // SAFETY: the pointer and the count are those of a slice that is not shared; `count` is a field of its own.
         let reason = unsafe {
@@ -123,6 +170,15 @@ impl<'a> OrderBuffer<'a> {
     }
 
     /// Removes a number, and returns whether it was in the order.
+    ///
+    /// ```
+    /// # use nardcorbel::OrderBuffer;
+    /// let mut places = [0; 4];
+    /// let mut order = OrderBuffer::new(&mut places);
+    /// order.insert(0, 7)?;
+    /// assert!(order.remove(7) && !order.remove(7));
+    /// # Ok::<(), nardcorbel::Error>(())
+    /// ```
     pub fn remove(&mut self, number: u16) -> bool {
         // SAFETY: the pointer and the count are those of a slice that is not shared; `count` is a field of its own.
         unsafe {
@@ -136,6 +192,17 @@ impl<'a> OrderBuffer<'a> {
     }
 
     /// Moves a number to the front, and returns whether it was in the order.
+    ///
+    /// ```
+    /// # use nardcorbel::OrderBuffer;
+    /// let mut places = [0; 4];
+    /// let mut order = OrderBuffer::new(&mut places);
+    /// order.insert(0, 7)?;
+    /// order.insert(1, 9)?;
+    /// assert!(order.move_to_front(9));
+    /// assert_eq!(order.as_slice(), [9, 7]);
+    /// # Ok::<(), nardcorbel::Error>(())
+    /// ```
     pub fn move_to_front(&mut self, number: u16) -> bool {
         // SAFETY: the pointer and the count are those of a slice that is not shared; `count` is a field of its own.
         unsafe {

@@ -13,6 +13,12 @@ impl<'a> DevicePath<'a> {
     /// Reads the device path that bytes begin with, and ignores what follows it.
     ///
     /// Fails for the first malformed node. The error's place is the offset of the bytes at fault.
+    ///
+    /// ```
+    /// # use nardcorbel::DevicePath;
+    /// assert!(DevicePath::from_bytes(&[1, 1, 6, 0, 2, 0x1f, 0x7f, 0xff, 4, 0]).is_ok());
+    /// assert_eq!(DevicePath::from_bytes(&[1, 1, 3, 0]).unwrap_err().place, 2);
+    /// ```
     pub fn from_bytes(bytes: &'a [u8]) -> Result<Self, Error> {
         let mut length = 0;
         // SAFETY: the pointer and the count are those of a slice; `length` is a local.
@@ -23,11 +29,25 @@ impl<'a> DevicePath<'a> {
     }
 
     /// Returns all bytes of the path, its end node included.
+    ///
+    /// ```
+    /// # use nardcorbel::DevicePath;
+    /// let path = DevicePath::from_bytes(&[1, 1, 6, 0, 2, 0x1f, 0x7f, 0xff, 4, 0])?;
+    /// assert_eq!(path.as_bytes().len(), 10);
+    /// # Ok::<(), nardcorbel::Error>(())
+    /// ```
     pub fn as_bytes(&self) -> &'a [u8] {
         self.0
     }
 
     /// Iterates over the nodes, without the one that ends the path.
+    ///
+    /// ```
+    /// # use nardcorbel::DevicePath;
+    /// let path = DevicePath::from_bytes(&[1, 1, 6, 0, 2, 0x1f, 0x7f, 0xff, 4, 0])?;
+    /// assert!(path.node_iter().map(|node| node.data.len()).eq([2]));
+    /// # Ok::<(), nardcorbel::Error>(())
+    /// ```
     pub fn node_iter(&self) -> DevicePathNodeIterator<'a> {
         DevicePathNodeIterator {
             bytes: self.0,
@@ -38,6 +58,15 @@ impl<'a> DevicePath<'a> {
     /// Writes the names of all nodes that name files to the start of a buffer, as one path, and returns it.
     ///
     /// Fails if such a name is not a string, or if the buffer is too small.
+    ///
+    /// ```
+    /// # use nardcorbel::DevicePathBuilder;
+    /// let (mut bytes, mut buffer) = ([0; 32], [0; 8]);
+    /// let mut path = DevicePathBuilder::with_buf(&mut bytes)?;
+    /// path.push_text(r"Pci(0x1F,0x2)/\a")?;
+    /// assert_eq!(path.finalize().file_path_in_buf(&mut buffer)?.to_cstr16(), r"\a");
+    /// # Ok::<(), nardcorbel::Error>(())
+    /// ```
     pub fn file_path_in_buf<'b>(&self, buffer: &'b mut [u16]) -> Result<&'b Path, Error> {
         let mut length = 0;
         // SAFETY: the pointers and the counts are those of slices, the second not shared; `length` is a local.
@@ -57,6 +86,15 @@ impl<'a> DevicePath<'a> {
     /// Formats the path as text, such as `PciRoot(0x0)/Pci(0x1F,0x2)`, into a buffer, and returns its UTF-16 without the NUL.
     ///
     /// `display_only` asks for shorter forms that cannot be read back, `allow_shortcuts` for names such as `VenPcAnsi()`.
+    ///
+    /// ```
+    /// # use nardcorbel::DevicePath;
+    /// let mut buffer = [0; 32];
+    /// let path = DevicePath::from_bytes(&[1, 1, 6, 0, 2, 0x1f, 0x7f, 0xff, 4, 0])?;
+    /// let text = path.text_in_buf(false, false, &mut buffer)?;
+    /// assert!("Pci(0x1F,0x2)".encode_utf16().eq(text.iter().copied()));
+    /// # Ok::<(), nardcorbel::Error>(())
+    /// ```
     pub fn text_in_buf<'b>(
         &self,
         display_only: bool,
@@ -83,6 +121,14 @@ impl<'a> DevicePath<'a> {
 
 impl<'a> DevicePath<'a> {
     /// Returns the path without the nodes of another one at its start, or `None` if it does not begin with them.
+    ///
+    /// ```
+    /// # use nardcorbel::DevicePath;
+    /// let path = DevicePath::from_bytes(&[1, 1, 6, 0, 2, 0x1f, 0x7f, 0xff, 4, 0])?;
+    /// let rest = path.strip_prefix(path).map(|rest| rest.as_bytes());
+    /// assert_eq!(rest, Some(&[0x7f, 0xff, 4, 0][..]));
+    /// # Ok::<(), nardcorbel::Error>(())
+    /// ```
     pub fn strip_prefix(&self, prefix: DevicePath<'_>) -> Option<DevicePath<'a>> {
         let mut offset = 0;
         // SAFETY: the pointers and the counts are those of slices; `offset` is a local.
@@ -99,6 +145,17 @@ impl<'a> DevicePath<'a> {
     }
 
     /// Returns whether a short form, such as `HD(..)/\file`, stands for this full path.
+    ///
+    /// ```
+    /// # use nardcorbel::DevicePathBuilder;
+    /// let (mut one, mut two) = ([0; 64], [0; 64]);
+    /// let mut full = DevicePathBuilder::with_buf(&mut one)?;
+    /// full.push_text(r"Pci(0x1F,0x2)/\a")?;
+    /// let mut short = DevicePathBuilder::with_buf(&mut two)?;
+    /// short.push_text(r"\a")?;
+    /// assert!(full.finalize().is_expansion_of(short.finalize()));
+    /// # Ok::<(), nardcorbel::Error>(())
+    /// ```
     pub fn is_expansion_of(&self, short: DevicePath<'_>) -> bool {
         // SAFETY: the pointers and the counts are those of slices.
         unsafe {
@@ -121,6 +178,13 @@ pub struct DevicePathBuilder<'a> {
 
 impl<'a> DevicePathBuilder<'a> {
     /// Starts with a path without nodes. Fails if the buffer has fewer than 4 bytes.
+    ///
+    /// ```
+    /// # use nardcorbel::DevicePathBuilder;
+    /// let mut buffer = [0; 4];
+    /// assert_eq!(DevicePathBuilder::with_buf(&mut buffer)?.finalize().as_bytes().len(), 4);
+    /// # Ok::<(), nardcorbel::Error>(())
+    /// ```
     pub fn with_buf(buffer: &'a mut [u8]) -> Result<Self, Error> {
         let mut length = 0;
         // SAFETY: the pointer and the count are those of a slice that is not shared; `length` is a local.
@@ -133,6 +197,15 @@ impl<'a> DevicePathBuilder<'a> {
     /// Adds a node before the end.
     ///
     /// Fails if an end node would stand before the end, or if the data or the path is too long. Then the path is unchanged.
+    ///
+    /// ```
+    /// # use nardcorbel::DevicePathBuilder;
+    /// let mut buffer = [0; 16];
+    /// let mut path = DevicePathBuilder::with_buf(&mut buffer)?;
+    /// path.push(1, 1, &[2, 0x1f])?;
+    /// assert_eq!(path.finalize().as_bytes().len(), 10);
+    /// # Ok::<(), nardcorbel::Error>(())
+    /// ```
     pub fn push(&mut self, device_type: u8, sub_type: u8, data: &[u8]) -> Result<(), Error> {
         let mut length = 0;
         // SAFETY: the pointers and the counts are those of slices, the first not shared; `length` is a local.
@@ -153,6 +226,15 @@ impl<'a> DevicePathBuilder<'a> {
     }
 
     /// Adds all nodes of another path before the end. Fails if the buffer is too small; then the path is unchanged.
+    ///
+    /// ```
+    /// # use nardcorbel::{DevicePath, DevicePathBuilder};
+    /// let mut buffer = [0; 16];
+    /// let mut path = DevicePathBuilder::with_buf(&mut buffer)?;
+    /// path.append(DevicePath::from_bytes(&[1, 1, 6, 0, 2, 0x1f, 0x7f, 0xff, 4, 0])?)?;
+    /// assert_eq!(path.finalize().as_bytes().len(), 10);
+    /// # Ok::<(), nardcorbel::Error>(())
+    /// ```
     pub fn append(&mut self, path: DevicePath<'_>) -> Result<(), Error> {
         let mut length = 0;
         // SAFETY: the pointers and the counts are those of slices, the first not shared; `length` is a local.
@@ -174,6 +256,15 @@ impl<'a> DevicePathBuilder<'a> {
     ///
     /// Fails with [`Reason::NoNode`](crate::Reason) at the byte where a node has to begin and none does, or if the buffer is too
     /// small. Then the path is unchanged.
+    ///
+    /// ```
+    /// # use nardcorbel::{DevicePathBuilder, Reason};
+    /// let mut buffer = [0; 16];
+    /// let mut path = DevicePathBuilder::with_buf(&mut buffer)?;
+    /// path.push_text("Pci(0x1F,0x2)")?;
+    /// assert_eq!(path.push_text("Pci(x)").unwrap_err().reason, Reason::NoNode);
+    /// # Ok::<(), nardcorbel::Error>(())
+    /// ```
     pub fn push_text(&mut self, text: &str) -> Result<(), Error> {
         let mut length = 0;
         // SAFETY: the pointers and the counts are those of slices, the first not shared; `length` is a local.
@@ -192,6 +283,13 @@ impl<'a> DevicePathBuilder<'a> {
     }
 
     /// Returns the path, borrowed from the buffer.
+    ///
+    /// ```
+    /// # use nardcorbel::DevicePathBuilder;
+    /// let mut buffer = [0; 4];
+    /// assert_eq!(DevicePathBuilder::with_buf(&mut buffer)?.finalize().node_iter().count(), 0);
+    /// # Ok::<(), nardcorbel::Error>(())
+    /// ```
     pub fn finalize(self) -> DevicePath<'a> {
         DevicePath(&self.buffer[..self.length])
     }
@@ -212,12 +310,27 @@ pub struct DevicePathNode<'a> {
 
 impl<'a> DevicePathNode<'a> {
     /// Returns whether the node is of a kind of [`fields`](crate::fields), such as `HARD_DRIVE`.
+    ///
+    /// ```
+    /// # use nardcorbel::{fields, DevicePath};
+    /// let path = DevicePath::from_bytes(&[1, 1, 6, 0, 2, 0x1f, 0x7f, 0xff, 4, 0])?;
+    /// assert!(path.node_iter().all(|node| node.is(fields::PCI)));
+    /// # Ok::<(), nardcorbel::Error>(())
+    /// ```
     pub fn is(&self, kind: (u8, u8)) -> bool {
         (self.device_type, self.sub_type) == kind
     }
 
     /// Returns the number that a field of [`fields`](crate::fields) has, such as `HARD_DRIVE_PARTITION_START`, or `None` if the data
     /// end before, or the field is no number.
+    ///
+    /// ```
+    /// # use nardcorbel::{fields, DevicePath};
+    /// let path = DevicePath::from_bytes(&[1, 1, 6, 0, 2, 0x1f, 0x7f, 0xff, 4, 0])?;
+    /// let numbers = path.node_iter().map(|node| node.number(fields::PCI_DEVICE));
+    /// assert!(numbers.eq([Some(0x1f)]));
+    /// # Ok::<(), nardcorbel::Error>(())
+    /// ```
     pub fn number(&self, field: (usize, usize)) -> Option<u64> {
         let mut number = 0;
         // SAFETY: the pointer and the count are those of a slice; `number` is a local.
@@ -234,6 +347,14 @@ impl<'a> DevicePathNode<'a> {
     }
 
     /// Returns the bytes of a field, such as `HARD_DRIVE_PARTITION_SIGNATURE`, or `None` if the data end before.
+    ///
+    /// ```
+    /// # use nardcorbel::{fields, DevicePath};
+    /// let path = DevicePath::from_bytes(&[1, 1, 6, 0, 2, 0x1f, 0x7f, 0xff, 4, 0])?;
+    /// let bytes = path.node_iter().map(|node| node.bytes(fields::PCI_DEVICE));
+    /// assert!(bytes.eq([Some(&[0x1f][..])]));
+    /// # Ok::<(), nardcorbel::Error>(())
+    /// ```
     pub fn bytes(&self, field: (usize, usize)) -> Option<&'a [u8]> {
         let rest = self.data.get(field.0..)?;
         if field.1 == 0 {
@@ -285,6 +406,12 @@ pub struct LoadOption<'a> {
 
 impl<'a> LoadOption<'a> {
     /// Reads a load option. Fails for the first fault; the error's place is its offset.
+    ///
+    /// ```
+    /// # use nardcorbel::{LoadOption, Reason};
+    /// assert!(LoadOption::from_bytes(&[1, 0, 0, 0, 4, 0, 0x62, 0, 0, 0, 0x7f, 0xff, 4, 0, 9]).is_ok());
+    /// assert_eq!(LoadOption::from_bytes(&[1]).unwrap_err().reason, Reason::OptionTooShort);
+    /// ```
     pub fn from_bytes(bytes: &'a [u8]) -> Result<Self, Error> {
         let (mut parts, mut offset) = (sys::LoadOption::default(), 0);
         // SAFETY: the pointer and the count are those of a slice; the others are locals.
@@ -296,17 +423,35 @@ impl<'a> LoadOption<'a> {
     }
 
     /// Returns the attributes.
+    ///
+    /// ```
+    /// # use nardcorbel::LoadOption;
+    /// assert_eq!(LoadOption::from_bytes(&[1, 0, 0, 0, 4, 0, 0x62, 0, 0, 0, 0x7f, 0xff, 4, 0, 9])?.attributes(), 1);
+    /// # Ok::<(), nardcorbel::Error>(())
+    /// ```
     pub fn attributes(&self) -> u32 {
         // The library says that these are 32 bits.
         self.parts.attributes as u32
     }
 
     /// Returns whether firmware tries the option by itself: the first bit of the attributes.
+    ///
+    /// ```
+    /// # use nardcorbel::LoadOption;
+    /// assert!(LoadOption::from_bytes(&[1, 0, 0, 0, 4, 0, 0x62, 0, 0, 0, 0x7f, 0xff, 4, 0, 9])?.is_active());
+    /// # Ok::<(), nardcorbel::Error>(())
+    /// ```
     pub fn is_active(&self) -> bool {
         self.attributes() % 2 == 1
     }
 
     /// Iterates over the code units of the description, without its NUL. They may be surrogates.
+    ///
+    /// ```
+    /// # use nardcorbel::LoadOption;
+    /// assert!(LoadOption::from_bytes(&[1, 0, 0, 0, 4, 0, 0x62, 0, 0, 0, 0x7f, 0xff, 4, 0, 9])?.description_units().eq([0x62]));
+    /// # Ok::<(), nardcorbel::Error>(())
+    /// ```
     pub fn description_units(&self) -> impl Iterator<Item = u16> + 'a {
         let (start, length) = (self.parts.description_start, self.parts.description_length);
         self.bytes[start..start + 2 * length]
@@ -315,12 +460,24 @@ impl<'a> LoadOption<'a> {
     }
 
     /// Iterates over the characters of the description. U+FFFD stands for each unpaired surrogate.
+    ///
+    /// ```
+    /// # use nardcorbel::LoadOption;
+    /// assert!(LoadOption::from_bytes(&[1, 0, 0, 0, 4, 0, 0x62, 0, 0, 0, 0x7f, 0xff, 4, 0, 9])?.description_chars().eq(['b']));
+    /// # Ok::<(), nardcorbel::Error>(())
+    /// ```
     pub fn description_chars(&self) -> impl Iterator<Item = char> + 'a {
         char::decode_utf16(self.description_units())
             .map(|it| it.unwrap_or(char::REPLACEMENT_CHARACTER))
     }
 
     /// Iterates over the device paths of the file path list. There is at least one.
+    ///
+    /// ```
+    /// # use nardcorbel::LoadOption;
+    /// assert_eq!(LoadOption::from_bytes(&[1, 0, 0, 0, 4, 0, 0x62, 0, 0, 0, 0x7f, 0xff, 4, 0, 9])?.device_paths().count(), 1);
+    /// # Ok::<(), nardcorbel::Error>(())
+    /// ```
     pub fn device_paths(&self) -> impl Iterator<Item = DevicePath<'a>> {
         let (start, length) = (self.parts.list_start, self.parts.list_length);
         let mut rest = &self.bytes[start..start + length];
@@ -332,6 +489,12 @@ impl<'a> LoadOption<'a> {
     }
 
     /// Returns the bytes after the file path list.
+    ///
+    /// ```
+    /// # use nardcorbel::LoadOption;
+    /// assert_eq!(LoadOption::from_bytes(&[1, 0, 0, 0, 4, 0, 0x62, 0, 0, 0, 0x7f, 0xff, 4, 0, 9])?.optional_data(), [9]);
+    /// # Ok::<(), nardcorbel::Error>(())
+    /// ```
     pub fn optional_data(&self) -> &'a [u8] {
         let (start, length) = (self.parts.optional_start, self.parts.optional_length);
         &self.bytes[start..start + length]
@@ -340,6 +503,15 @@ impl<'a> LoadOption<'a> {
     /// Writes a load option of one device path to the start of a buffer, and returns how many bytes it has.
     ///
     /// Fails if the device path has more than 65,535 bytes, or if the buffer is too small. Then the buffer is unchanged.
+    ///
+    /// ```
+    /// # use nardcorbel::{CStr16, DevicePath, LoadOption};
+    /// let mut buffer = [0; 32];
+    /// let name = CStr16::from_u16_with_nul(&[0x62, 0])?;
+    /// let path = DevicePath::from_bytes(&[0x7f, 0xff, 4, 0])?;
+    /// assert_eq!(LoadOption::write(1, name, path, &[9], &mut buffer)?, 15);
+    /// # Ok::<(), nardcorbel::Error>(())
+    /// ```
     pub fn write(
         attributes: u32,
         description: &CStr16,

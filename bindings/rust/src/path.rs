@@ -12,12 +12,27 @@ pub struct Path(CStr16);
 
 impl Path {
     /// Wraps a string as a path.
+    ///
+    /// ```
+    /// # use nardcorbel::{CStr16, Path};
+    /// let mut buffer = [0; 8];
+    /// let path = Path::new(CStr16::from_str_with_buf(r"a\b", &mut buffer)?);
+    /// assert_eq!(path.components().count(), 2);
+    /// # Ok::<(), nardcorbel::Error>(())
+    /// ```
     pub fn new(string: &CStr16) -> &Self {
         // SAFETY: `Path` is a transparent wrapper of `CStr16`.
         unsafe { &*(core::ptr::from_ref(string) as *const Self) }
     }
 
     /// Returns the string of the path.
+    ///
+    /// ```
+    /// # use nardcorbel::{CStr16, Path};
+    /// let string = CStr16::from_u16_with_nul(&[0x61, 0])?;
+    /// assert_eq!(Path::new(string).to_cstr16(), "a");
+    /// # Ok::<(), nardcorbel::Error>(())
+    /// ```
     pub fn to_cstr16(&self) -> &CStr16 {
         &self.0
     }
@@ -27,6 +42,14 @@ impl Path {
     }
 
     /// Iterates over the components, first to last.
+    ///
+    /// ```
+    /// # use nardcorbel::{CStr16, Path};
+    /// let mut buffer = [0; 8];
+    /// let path = Path::new(CStr16::from_str_with_buf(r"\a\bc", &mut buffer)?);
+    /// assert!(path.components().map(<[u16]>::len).eq([1, 2]));
+    /// # Ok::<(), nardcorbel::Error>(())
+    /// ```
     pub fn components(&self) -> Components<'_> {
         Components {
             text: self.0.to_u16_slice(),
@@ -35,6 +58,14 @@ impl Path {
     }
 
     /// Returns the units of the last component, which may be empty, or `None` if there is none.
+    ///
+    /// ```
+    /// # use nardcorbel::{CStr16, Path};
+    /// let mut buffer = [0; 8];
+    /// let path = Path::new(CStr16::from_str_with_buf(r"a\b", &mut buffer)?);
+    /// assert_eq!(path.file_name(), Some(&[0x62][..]));
+    /// # Ok::<(), nardcorbel::Error>(())
+    /// ```
     pub fn file_name(&self) -> Option<&[u16]> {
         let (text, mut start) = (self.0.to_u16_slice(), 0);
         // SAFETY: the pointer and the count are those of a slice; `start` is a local.
@@ -46,6 +77,14 @@ impl Path {
     ///
     /// Fails if the path or a component is empty, if a component holds a character that file names may not hold, or if a `..`
     /// climbs above the root.
+    ///
+    /// ```
+    /// # use nardcorbel::{CStr16, Path, Reason};
+    /// let mut buffer = [0; 8];
+    /// let path = Path::new(CStr16::from_str_with_buf("a:b", &mut buffer)?);
+    /// assert_eq!(path.validate().unwrap_err().reason, Reason::IllegalChar);
+    /// # Ok::<(), nardcorbel::Error>(())
+    /// ```
     pub fn validate(&self) -> Result<(), Error> {
         let (units, mut place, mut character) = (self.units(), 0, 0);
         // SAFETY: the pointer and the count are those of a slice; the others are locals.
@@ -56,6 +95,14 @@ impl Path {
     }
 
     /// Returns whether both paths are equal without case, as the firmware's file systems compare them.
+    ///
+    /// ```
+    /// # use nardcorbel::{CStr16, Path};
+    /// let (mut one, mut two) = ([0; 8], [0; 8]);
+    /// let path = Path::new(CStr16::from_str_with_buf(r"\EFI", &mut one)?);
+    /// assert!(path.eq_ignore_case(Path::new(CStr16::from_str_with_buf("efi", &mut two)?)));
+    /// # Ok::<(), nardcorbel::Error>(())
+    /// ```
     pub fn eq_ignore_case(&self, other: &Self) -> bool {
         let (one, two) = (self.units(), other.units());
         // SAFETY: the pointers and the counts are those of slices.
@@ -65,6 +112,14 @@ impl Path {
     }
 
     /// Returns whether each component of a pattern matches the component at its place, and both have as many: `*` stops at `\`.
+    ///
+    /// ```
+    /// # use nardcorbel::{CStr16, Path};
+    /// let (mut one, mut two) = ([0; 8], [0; 8]);
+    /// let path = Path::new(CStr16::from_str_with_buf(r"\EFI", &mut one)?);
+    /// assert!(path.matches(Path::new(CStr16::from_str_with_buf("e*", &mut two)?)));
+    /// # Ok::<(), nardcorbel::Error>(())
+    /// ```
     pub fn matches(&self, pattern: &Self) -> bool {
         let (one, two) = (self.units(), pattern.units());
         // SAFETY: the pointers and the counts are those of slices.
@@ -72,6 +127,15 @@ impl Path {
     }
 
     /// Joins two paths at the start of a buffer, replacing each `/` with `\`, and returns the result.
+    ///
+    /// ```
+    /// # use nardcorbel::{CStr16, Path};
+    /// let (mut one, mut two, mut buffer) = ([0; 8], [0; 8], [0; 8]);
+    /// let folder = Path::new(CStr16::from_str_with_buf("a", &mut one)?);
+    /// let file = Path::new(CStr16::from_str_with_buf("b", &mut two)?);
+    /// assert_eq!(folder.join_in_buf(file, &mut buffer)?.to_cstr16(), r"a\b");
+    /// # Ok::<(), nardcorbel::Error>(())
+    /// ```
     pub fn join_in_buf<'a>(&self, other: &Self, buffer: &'a mut [u16]) -> Result<&'a Self, Error> {
         let (one, two, mut length) = (self.units(), other.units(), 0);
         // SAFETY: the pointers and the counts are those of slices, the last one not shared; `length` is a local.
@@ -92,6 +156,14 @@ impl Path {
     /// Writes the parent, all components but the last, to the start of a buffer and returns it.
     ///
     /// Fails if the path has at most one component, or if the buffer is too small.
+    ///
+    /// ```
+    /// # use nardcorbel::{CStr16, Path};
+    /// let (mut one, mut buffer) = ([0; 8], [0; 8]);
+    /// let path = Path::new(CStr16::from_str_with_buf(r"a\b", &mut one)?);
+    /// assert_eq!(path.parent_in_buf(&mut buffer)?.to_cstr16(), "a");
+    /// # Ok::<(), nardcorbel::Error>(())
+    /// ```
     pub fn parent_in_buf<'a>(&self, buffer: &'a mut [u16]) -> Result<&'a Self, Error> {
         let (units, mut length) = (self.units(), 0);
         // SAFETY: the pointers and the counts are those of slices, the second not shared; `length` is a local.
@@ -110,6 +182,14 @@ impl Path {
     /// Writes the path without `.`, and without each name that a `..` follows, to the start of a buffer and returns it.
     ///
     /// Fails as [`validate`](Self::validate) does, or if the buffer is too small.
+    ///
+    /// ```
+    /// # use nardcorbel::{CStr16, Path};
+    /// let (mut one, mut buffer) = ([0; 8], [0; 8]);
+    /// let path = Path::new(CStr16::from_str_with_buf("a/../b", &mut one)?);
+    /// assert_eq!(path.normalize_in_buf(&mut buffer)?.to_cstr16(), "b");
+    /// # Ok::<(), nardcorbel::Error>(())
+    /// ```
     pub fn normalize_in_buf<'a>(&self, buffer: &'a mut [u16]) -> Result<&'a Self, Error> {
         let (units, mut length, mut character) = (self.units(), 0, 0);
         // SAFETY: the pointers and the counts are those of slices, the second not shared; the others are locals.
@@ -132,6 +212,13 @@ impl Path {
     /// Fails if the text has a NUL or a character above U+FFFF, then as [`validate`](Self::validate) does; or if the buffer is too
     /// small. A string of the text is kept in its second half, so twice as many units as the text has bytes, and two more, are
     /// enough.
+    ///
+    /// ```
+    /// # use nardcorbel::Path;
+    /// let mut buffer = [0; 16];
+    /// assert_eq!(Path::normalize_str_in_buf("a/./b", &mut buffer)?.to_cstr16(), r"a\b");
+    /// # Ok::<(), nardcorbel::Error>(())
+    /// ```
     pub fn normalize_str_in_buf<'a>(text: &str, buffer: &'a mut [u16]) -> Result<&'a Self, Error> {
         let (mut length, mut character) = (0, 0);
         // SAFETY: the pointers and the counts are those of slices, the second not shared; the others are locals.
