@@ -1,0 +1,44 @@
+/*
+ * Reads texts of device paths, each four bytes of length and then its own, and prints for each what
+ * nard_device_path_push_text says of it after a path without nodes: the reason, the place, whether the path's text is the text
+ * again (1, or 0 where nothing is read), and the bytes of the path that is then in the buffer.
+ */
+#include <nardcorbel.h>
+#include <stdio.h>
+#include <string.h>
+
+enum { MOST = 1 << 18, ROOM = 8 * MOST + 4 };
+
+static nard_byte text[MOST], path[ROOM], back[3 * MOST + 1];
+static nard_unit units[MOST + 1];
+
+/* Whether the text that the library writes of a path is this one. */
+static bool is_text_of(nard_size path_length, nard_size size)
+{
+    nard_size length = 0;
+    if (nard_device_path_text(path, path_length, false, false, units, MOST + 1, &length) != NARD_OK ||
+        nard_utf8_from_units_lossy(units, length, back, sizeof back, &length) != NARD_OK)
+        return false;
+    return length == size && memcmp(back, text, size) == 0;
+}
+
+int main(void)
+{
+    uint32_t size;
+    while (fread(&size, sizeof size, 1, stdin) == 1) {
+        nard_size place = 0, end = 0;
+        if (size > MOST || fread(text, 1, size, stdin) != size)
+            return 1;
+        nard_device_path_begin(path, ROOM, &end);
+        /* Without room for any node, and then with exactly as much as the call asks for. */
+        nard_result reason = nard_device_path_push_text(path, end, text, size, &place);
+        if (reason == NARD_BUFFER_TOO_SMALL && place <= ROOM)
+            reason = nard_device_path_push_text(path, place, text, size, &place);
+        nard_device_path_check(path, ROOM, &end);
+        printf("%u %zu %d ", (unsigned)reason, place, reason == NARD_OK && is_text_of(end, size));
+        for (nard_size i = 0; i < end; i++)
+            printf("%02x", path[i]);
+        printf("\n");
+    }
+    return 0;
+}

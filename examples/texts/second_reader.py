@@ -1,0 +1,200 @@
+"""A second reader of the texts of device paths, by docs/SPECIFICATION.md and the rows of crates/uefi_node_table/src/table.rt. It reads a node
+with less care than it should, prints what it read, and takes it if that is the text.
+"""
+import collections
+import pathlib
+import re
+import uuid
+
+TABLE = pathlib.Path(__file__).resolve().parent.parent.parent / "crates/uefi_node_table/src/table.rt"
+END, END_INSTANCE = b"\x7f\xff\x04\x00", b"\x7f\x01\x04\x00"
+OK, NOT_UTF8, NO_NODE = 0, 5, 31
+MOST_DATA = 0xFFFF - 4
+VENDORS = {"Sas": "D487DDB4-008B-11D9-AFDC-001083FFCA4D", "Uart": "37499A9D-542F-4C89-A026-35DA142094E4"}
+# Kinds whose texts no row says, and that are not read back, by the least length of their data: AcpiEx and BBS.
+UNTOLD = {(2, 2): 15, (5, 1): 5}
+
+Row = collections.namedtuple("Row", "kind mode least when also start pieces tail close")
+# A value in a text: an expression that its text matches, the number or the bytes that the text means, and the text of its bytes.
+Shape = collections.namedtuple("Shape", "look read show")
+
+
+def number(data):
+    return int.from_bytes(data, "little")
+
+
+def digits(data):
+    return data.hex().upper()
+
+
+def shown(data):
+    """A text of bytes."""
+    return "".join(chr(it) if 0x20 <= it < 0x7F else f"\\x{it:02X}" for it in data)
+
+
+def shown_units(data):
+    """A text of units, up to a NUL."""
+    text = data[: len(data) // 2 * 2].decode("utf-16-le", "surrogatepass").split("\0")[0]
+    escaped = "[\0-\x1f\x7f-\x9f\u061c\u200e\u200f\u2028-\u202e\u2066-\u2069]"
+    return re.sub(escaped, lambda it: f"\\u{{{ord(it[0]):X}}}", re.sub("[\ud800-\udfff]", "\ufffd", text))
+
+
+def words(listed, end):
+    """A byte as a word of a list, `x` where it has none, and what ends it."""
+    return Shape("[^,)]+" + re.escape(end), lambda text: 255 if text == "x" + end else listed.index(text[:-1]),
+                 lambda data: (listed[data[0]] if data[0] < len(listed) else "x") + end)
+
+
+HEX, BYTES = "[0-9a-fA-F]+", "[-:0-9a-fA-F]+"
+SHAPES = {
+    "hexadecimal": Shape(HEX, lambda text: int(text, 16), lambda data: f"{number(data):X}"),
+    "decimal": Shape("[0-9]+", int, lambda data: str(number(data))),
+    "ordefault": Shape("[0-9]+|DEFAULT", lambda text: 0 if text == "DEFAULT" else int(text), lambda data: str(number(data) or "DEFAULT")),
+    "next": Shape(HEX, lambda text: int(text, 16) - 1, lambda data: f"{number(data) + 1:X}"),
+    "back": Shape(HEX, lambda text: bytes.fromhex(text)[::-1], lambda data: digits(data[::-1])),
+    "forth": Shape(HEX, bytes.fromhex, digits),
+    "dashed": Shape(BYTES, lambda text: bytes.fromhex(text.replace("-", ""))[::-1], lambda data: "-".join(f"{it:02X}" for it in data[::-1])),
+    "guid": Shape(BYTES, lambda text: uuid.UUID(text).bytes_le, lambda data: str(uuid.UUID(bytes_le=bytes(data))).upper()),
+    "ipv4": Shape("[0-9.]+", lambda text: bytes(map(int, text.split("."))), lambda data: ".".join(map(str, data[:4]))),
+    "ipv6": Shape(BYTES, lambda text: bytes.fromhex(text.replace(":", "")), lambda data: re.sub("(....)(?=.)", r"\1:", digits(data))),
+    "parity": words(["D", "N", "E", "O", "M", "S"], ","),
+    "stopbits": words(["D", "1", "1.5", "2"], ")"),
+}
+WIDTHS = {"Guid": 16, "Ipv4": 4, "Ipv6": 16}
+
+
+def value_of(shape, text, width):
+    """The bytes of a field that has this text."""
+    value = shape.read(text)
+    value = value.to_bytes(width, "little") if isinstance(value, int) else value
+    if len(value) != width:
+        raise ValueError(text)
+    return value
+
+
+def items(start, shape, width, size):
+    """A list of items of this size, of which each is a field in its first bytes."""
+    return Shape(f"(?:{start}{shape.look})*", lambda text: b"".join(value_of(shape, it, width).ljust(size, b"\0") for it in text.split(start)[1:]),
+                 lambda data: "".join(start + shape.show(data[at : at + size]) for at in range(0, len(data) // size * size, size)))
+
+
+TAILS = {
+    "Nothing": Shape("", str.encode, lambda data: ""),
+    "Bytes": Shape(f"(?:,{HEX})?", lambda text: bytes.fromhex(text[1:]), lambda data: "," * bool(data) + digits(data)),
+    "Text": Shape("[ -(*-~]*", str.encode, shown),
+    "Utf16": Shape("[ !#-~]*", lambda text: text.encode("utf-16-le"), shown_units),
+    "Numbers": items(",0x", SHAPES["hexadecimal"], 4, 4),
+    "Ipv4": items(",", SHAPES["ipv4"], 4, 16),
+    "Ipv6": items(",", SHAPES["ipv6"], 16, 16),
+}
+
+
+def places(text):
+    """Bytes of a form, each with its place."""
+    named = [each for name in VENDORS if name in text for each in enumerate(uuid.UUID(VENDORS[name]).bytes_le)]
+    return named + [(int(place), int(byte, 16)) for place, byte in re.findall(r"(\d+) = 0x(\w+)", text)]
+
+
+def rows():
+    """The rows of the table, in order."""
+    # A quote within a text stands as an apostrophe, which no text of the table has.
+    table = TABLE.read_text().replace('\\"', "'")
+    usb_class = re.search(r"macro_rules! usb_class .*?row!\((.*?)\)\n", table, re.S)[1]
+    for row, value, start in re.findall(r'^    (?:row!\(([^$]*?)|usb_class!\((\w+) ("[^"]*"))\),$', table, re.M):
+        row = " ".join((row or usb_class.replace("$class", value).replace("$start", start)).split())
+        kind, sub_kind, mode, least, when, also, start, fields, tail, close = re.fullmatch(
+            r'(\d+) (\d+) (\w+) (\d+) \[(.*?)\] \[(.*?)\] "(.*?)"((?: \[[^]]*\])*) (?:Repeated )?(\w+) "(.*?)"', row).groups()
+        pieces = []
+        for shape, place, width, ending in re.findall(r'\[(?:Word )?(\w+) (\d+)(?: (\d+))?(?: "(.*?)")?\]', fields):
+            pieces.append((SHAPES.get(shape.lower()), int(place), int(width or WIDTHS[shape]), ending.replace("'", '"')))
+        yield Row((int(kind), int(sub_kind)), mode, int(least), places(when), places(also), start, pieces, TAILS.get(tail), close.replace("'", '"'))
+
+
+def row_text(row, data):
+    """The text of data in a form that is read or for display."""
+    pieces = "".join(shape.show(data[place : place + width]) + ending for shape, place, width, ending in row.pieces)
+    return row.start + pieces + row.tail.show(data[row.least :]) + row.close
+
+
+ROWS = list(rows())
+# By the name before the bracket, what the text of a form matches, a group for each field and for what follows them, and the row's number.
+READERS = collections.defaultdict(list)
+for _number, _row in enumerate(ROWS):
+    if _row.mode == "Read":
+        _fields = "".join(f"({shape.look}){re.escape(ending)}" for shape, _, _, ending in _row.pieces)
+        _pattern = re.compile(f"{re.escape(_row.start)}{_fields}({_row.tail.look}){re.escape(_row.close)}")
+        READERS[_row.start.split("(")[0]].append((_pattern, _number))
+# The numbers of rows of which a node was read.
+TAKEN = set()
+
+
+def node_text(kind, data):
+    """The text of a node, or None where no text tells all of its kind."""
+    if kind == (4, 4) and len(data) % 2 == 0:
+        return shown_units(data)
+    if len(data) >= UNTOLD.get(kind, 0xFFFF):
+        return None
+    for row in ROWS:
+        if row.kind == kind and row.mode != "Display" and row.least <= len(data) and all(data[place] == byte for place, byte in row.when):
+            return row_text(row, data) if row.mode == "Read" else None
+    return f"Path({kind[0]},{kind[1]}{TAILS['Bytes'].show(data)})"
+
+
+def data_in(row, texts):
+    """The data of which a form has these texts."""
+    data = bytearray(row.least)
+    for place, byte in row.when + row.also:
+        data[place] = byte
+    for (shape, place, width, _), text in zip(row.pieces, texts):
+        data[place : place + width] = value_of(shape, text, width)
+    return bytes(data) + row.tail.read(texts[-1])
+
+
+def candidates(text, at):
+    """Nodes whose texts may begin at a place: where each ends, its kind, how to read its data, and its row."""
+    if text[at : at + 1] == "\\":
+        found = re.compile("[^/,]*").match(text, at)
+        yield found.end(), (4, 4), lambda: found[0].encode("utf-16-le") + b"\0\0", None
+    found = re.compile(r"Path\(([0-9]{1,3}),([0-9]{1,3})((?:,[0-9A-F]+)?)\)").match(text, at)
+    if found and found[1] != "127":
+        yield found.end(), (int(found[1]), int(found[2])), lambda: TAILS["Bytes"].read(found[3]), None
+    for pattern, row in READERS.get(re.compile("[^(]*").match(text, at)[0], ()):
+        found = pattern.match(text, at)
+        if found:
+            yield found.end(), ROWS[row].kind, lambda: data_in(ROWS[row], found.groups()), row
+
+
+def node_at(text, at):
+    """The node whose text begins at a place, and where that ends, or None where none does."""
+    for end, kind, read_data, row in candidates(text, at):
+        try:
+            data = read_data()
+            if text[end : end + 1] in ("", "/", ",") and len(data) <= MOST_DATA and node_text(kind, data) == text[at:end]:
+                head = bytes(kind) + (4 + len(data)).to_bytes(2, "little")
+                TAKEN.add(row)
+                return head + data, end
+        except (ValueError, OverflowError):
+            pass
+    return None
+
+
+def read(given):
+    """What the text in these bytes is read as: the reason, the place, and the bytes of the path."""
+    try:
+        text = given.decode()
+    except UnicodeDecodeError as fault:
+        return NOT_UTF8, fault.start, END
+    path, at, begins = [], 0, True
+    while True:
+        if not begins or text[at : at + 1] not in ("", ","):
+            found = node_at(text, at)
+            if found is None:
+                return NO_NODE, len(text[:at].encode()), END
+            path.append(found[0])
+            at = found[1]
+        if at == len(text):
+            whole = b"".join(path) + END
+            return OK, len(whole), whole
+        begins = text[at] == ","
+        path += [END_INSTANCE] * begins
+        at += 1
