@@ -44,21 +44,27 @@ fn counted(borrowed: Result<CStr16<'_>, FilePathWriteError>) -> Result<usize, Fi
 }
 
 /// Whether a path and an instance of it write these units to each buffer that has room for them, and to no
-/// other, and borrow them from there.
+/// other.
 fn write(path: DevicePath<'_>, instance: DevicePathInstance<'_>, units: &[u16]) -> bool {
     for len in 0..units.len() + 2 {
-        let mut rooms = [[9; 64]; 4];
-        let [a, b, c, d] = &mut rooms;
-        let said = [
-            path.write_file_path(a.get_mut(..len).unwrap_or_default()),
-            instance.write_file_path(b.get_mut(..len).unwrap_or_default()),
-            counted(path.file_path_in_buf(c.get_mut(..len).unwrap_or_default())),
-            counted(instance.file_path_in_buf(d.get_mut(..len).unwrap_or_default())),
-        ];
-        for (said, room) in said.iter().zip(&rooms) {
-            if !has_written(*said, room, units, len) {
-                return false;
-            }
+        let (mut room, mut other) = ([9; 64], [9; 64]);
+        let written = path.write_file_path(room.get_mut(..len).unwrap_or_default());
+        let same = instance.write_file_path(other.get_mut(..len).unwrap_or_default());
+        if !has_written(written, &room, units, len) || !has_written(same, &other, units, len) {
+            return false;
+        }
+    }
+    true
+}
+
+/// The same, where they borrow them from there.
+fn borrow(path: DevicePath<'_>, instance: DevicePathInstance<'_>, units: &[u16]) -> bool {
+    for len in 0..units.len() + 2 {
+        let (mut room, mut other) = ([9; 64], [9; 64]);
+        let borrowed = counted(path.file_path_in_buf(room.get_mut(..len).unwrap_or_default()));
+        let same = counted(instance.file_path_in_buf(other.get_mut(..len).unwrap_or_default()));
+        if !has_written(borrowed, &room, units, len) || !has_written(same, &other, units, len) {
+            return false;
         }
     }
     true
@@ -68,14 +74,12 @@ fn write(path: DevicePath<'_>, instance: DevicePathInstance<'_>, units: &[u16]) 
 fn joins(rt: &HostRuntime, path: DevicePath<'_>, want: &str) -> Result<bool, Fail> {
     let instance = path.instance_iter().next().ok_or("an instance")?;
     let want_string = string(rt.alloc(), want)?;
+    let units = want_string.as_cstr16().to_u16_slice_with_nul();
     Ok(
         has_text(path.file_path(rt.alloc())?.to_cstr16(), want)
             && has_text(instance.file_path(rt.alloc())?.to_cstr16(), want)
-            && write(
-                path,
-                instance,
-                want_string.as_cstr16().to_u16_slice_with_nul(),
-            ),
+            && write(path, instance, units)
+            && borrow(path, instance, units),
     )
 }
 

@@ -47,7 +47,7 @@ fn written(want: &str, room: usize) -> (Result<usize, TextWriteError>, [u16; 256
     if room < needed {
         return (Err(TextWriteError::BufferTooSmall(needed)), places);
     }
-    if let Some(place) = places.get_mut(needed - 1) {
+    if let Some(place) = places.get_mut(needed.saturating_sub(1)) {
         *place = 0;
     }
     (Ok(needed), places)
