@@ -10,7 +10,8 @@
  *         ...
  *     guid = bytes + node.start + NARD_PLACE(NARD_HARD_DRIVE_PARTITION_SIGNATURE);
  *
- * A node may have fewer bytes than its kind: nard_node_number looks; before bytes are read at a place, compare node.length.
+ * A node may have fewer bytes than its kind needs. nard_node_number checks that; before you read bytes at a place yourself,
+ * compare it with node.length.
  */
 #ifndef NARDCORBEL_NODES_H
 #define NARDCORBEL_NODES_H
