@@ -13,5 +13,5 @@ pub use hostile::hostile_places;
 pub use refusals::{Refusals, out_of_memory, refused_in_turn, requests};
 pub use refusing::Refusing;
 pub use texts::{
-    are_all, are_ordered, bytes, has_text, holds, prints, repeated, shows, split_row, string,
+    are_all, are_ordered, bytes, has_text, holds, prints, repeated, says, shows, split_row, string,
 };

@@ -5,7 +5,7 @@ use std::alloc::{Allocator, Global};
 use std::cmp::Ordering;
 use std::fmt::{Debug, Display};
 use std::test::Fail;
-use uefi_text::{CStr16, CString16};
+use uefi_text::{CStr16, CString16, Printed, write_units};
 
 /// The string of a Rust text.
 pub fn string<A: Allocator>(alloc: A, text: &str) -> Result<CString16<A>, Fail> {
@@ -32,6 +32,16 @@ pub fn has_text(string: CStr16<'_>, want: &str) -> bool {
 /// Whether a value prints this for users.
 pub fn shows<T: Display>(alloc: Global, value: &T, want: &str) -> bool {
     matches!(format!(in alloc; "{value}"), Ok(printed) if printed.as_str() == want)
+}
+
+/// Whether an error says this: printed, and written as units.
+pub fn says<T: Display + Printed>(alloc: Global, error: &T, want: &str) -> bool {
+    let mut buffer = [0xffff; 128];
+    let Ok(len) = write_units(&mut buffer, error) else {
+        return false;
+    };
+    matches!(CStr16::from_u16_with_nul(&buffer[..len]), Ok(string) if has_text(string, want))
+        && shows(alloc, error, want)
 }
 
 /// Whether a value prints this: what it prints for users, a bar, and what it prints for programmers.

@@ -5,9 +5,9 @@ use Rattle.uefi_device_path.specs.LoadOptions.{Entry}
 use Rattle.uefi_device_path.specs.PathLists.{list_bytes}
 use Rattle.uefi_device_path.specs.Paths.{path_bytes}
 use Rattle.uefi_device_path.specs.PathTexts.{path_text}
-use Rattle.uefi_field_texts.specs.UnitTexts.{utf16_units}
-use Rattle.uefi_field_texts.specs.declared.unit_sink.TextWriteError.{TextWriteError}
-use Rattle.uefi_field_texts.specs.declared.unit_sink.TextWriteError.TheVariants.{BufferTooSmall}
+use Rattle.uefi_text.specs.UnitTexts.{utf16_units}
+use Rattle.uefi_text.specs.declared.unit_sink.TextWriteError.{TextWriteError}
+use Rattle.uefi_text.specs.declared.unit_sink.TextWriteError.TheVariants.{BufferTooSmall}
 use Rattle.nardcorbel.specs.declared.device_paths.DeviceNode.{DeviceNode}
 use Rattle.nardcorbel.specs.declared.load_options.LoadOptionParts.{LoadOptionParts}
 

@@ -10,20 +10,32 @@ ghost use Rattle.uefi_boot_variables.specs.Orders.{over, stands_in, with_at, wit
 
 use std::error::Error;
 use std::fmt;
+use uefi_text::text_sink::{Printed, TextSink, print};
 
 /// Why an order takes no further number, or is not written: there is no room for it.
 #[derive(Clone, Copy, Debug, PartialEq, Eq)]
 pub struct OrderFull;
 
-/// Writes the reason.
+/// Puts the reason.
+impl Printed for OrderFull {
+    ghost use Rattle.uefi_boot_variables.specs.ErrorTexts.{order_full_text};
+
+    ghost printed = { λ _. order_full_text };
+
+    fn put<S: TextSink>(&self, sink: &mut S) {
+        sink.put_str("there is no room for another number");
+    }
+}
+
+/// Prints the same.
 impl fmt::Display for OrderFull {
     ghost use Rattle.std.specs.Prelude.{Some};
     ghost use Rattle.uefi_boot_variables.specs.ErrorTexts.{order_full_text};
 
-    ghost output = { λ error. Some order_full_text };
+    ghost output = { λ _. Some order_full_text };
 
     fn fmt<W: fmt::Write>(&self, f: &mut fmt::Formatter<W>) -> fmt::Result {
-        f.write_str("there is no room for another number")
+        print(f, self)
     }
 }
 

@@ -8,20 +8,33 @@ ghost use Rattle.uefi_text.specs.UnitBytes.{unit_bytes, units_of_bytes};
 use std::error::Error;
 use std::fmt;
 use uefi_text::UnalignedSlice;
+use uefi_text::number_texts::put_decimal;
+use uefi_text::text_sink::{Printed, TextSink, print};
 use uefi_text::unaligned_slice::UnalignedSliceIter;
 
 /// Why bytes are no order: they are odd in number.
 #[derive(Clone, Copy, Debug, PartialEq, Eq)]
 pub struct OddLength;
 
-/// Writes the reason.
+/// Puts the reason.
+impl Printed for OddLength {
+    ghost use Rattle.uefi_boot_variables.specs.ErrorTexts.{odd_length_text};
+
+    ghost printed = { λ _. odd_length_text };
+
+    fn put<S: TextSink>(&self, sink: &mut S) {
+        sink.put_str("an order has two bytes for each number");
+    }
+}
+
+/// Prints the same.
 impl fmt::Display for OddLength {
     ghost use Rattle.uefi_boot_variables.specs.ErrorTexts.{odd_length_text};
 
-    ghost output = { λ error. Some odd_length_text };
+    ghost output = { λ _. Some odd_length_text };
 
     fn fmt<W: fmt::Write>(&self, f: &mut fmt::Formatter<W>) -> fmt::Result {
-        f.write_str("an order has two bytes for each number")
+        print(f, self)
     }
 }
 
@@ -31,15 +44,25 @@ impl Error for OddLength {}
 #[derive(Clone, Copy, Debug, PartialEq, Eq)]
 pub struct NotTwoBytes(pub usize);
 
-/// Writes the reason, with the count of bytes in decimal.
+/// Puts the reason, with the count of bytes in decimal.
+impl Printed for NotTwoBytes {
+    ghost use Rattle.uefi_boot_variables.specs.ErrorTexts.{not_two_bytes_text};
+
+    ghost printed = { not_two_bytes_text };
+
+    fn put<S: TextSink>(&self, sink: &mut S) {
+        put_decimal(sink, "a number has two bytes, and not ", self.0 as u64);
+    }
+}
+
+/// Prints the same.
 impl fmt::Display for NotTwoBytes {
     ghost use Rattle.uefi_boot_variables.specs.ErrorTexts.{not_two_bytes_text};
 
     ghost output = { λ error. Some (not_two_bytes_text error) };
 
     fn fmt<W: fmt::Write>(&self, f: &mut fmt::Formatter<W>) -> fmt::Result {
-        let count = self.0;
-        write!(f, "a number has two bytes, and not {count}")
+        print(f, self)
     }
 }
 

@@ -9,6 +9,8 @@ ghost use Rattle.uefi_text.specs.Views.{text_of};
 use std::error::Error;
 use std::fmt;
 use uefi_text::CStr16;
+use uefi_text::number_texts::put_decimal;
+use uefi_text::text_sink::{Printed, TextSink, print};
 
 /// What firmware does with a load option.
 #[derive(Clone, Copy, Debug, PartialEq, Eq)]
@@ -42,15 +44,27 @@ pub struct LoadOptionName {
 #[derive(Clone, Copy, Debug, PartialEq, Eq)]
 pub struct NameBufferTooSmall(pub usize);
 
-/// Writes the reason, with the number of places in decimal.
+/// Puts the reason, with the number of places in decimal.
+impl Printed for NameBufferTooSmall {
+    ghost use Rattle.uefi_boot_variables.specs.ErrorTexts.{name_buffer_too_small_text};
+
+    ghost printed = { name_buffer_too_small_text };
+
+    #[tactic(auto, using(uefi_text::proofs::Puts::puts))]
+    fn put<S: TextSink>(&self, sink: &mut S) {
+        put_decimal(sink, "buffer too small: the name needs ", self.0 as u64);
+        sink.put_str(" units");
+    }
+}
+
+/// Prints the same.
 impl fmt::Display for NameBufferTooSmall {
     ghost use Rattle.uefi_boot_variables.specs.ErrorTexts.{name_buffer_too_small_text};
 
     ghost output = { λ error. Some (name_buffer_too_small_text error) };
 
     fn fmt<W: fmt::Write>(&self, f: &mut fmt::Formatter<W>) -> fmt::Result {
-        let places = self.0;
-        write!(f, "buffer too small: the name needs {places} units")
+        print(f, self)
     }
 }
 

@@ -1,6 +1,7 @@
 //! Why no node stands at a place, and why a node is not of a kind.
 use std::error::Error;
 use std::fmt;
+use uefi_text::text_sink::{Printed, TextSink, print};
 
 /// Why no node of a device path stands at a place.
 #[derive(Clone, Copy, Debug, PartialEq, Eq)]
@@ -19,7 +20,25 @@ pub enum NodeError {
     BeyondEnd,
 }
 
-/// Prints what is wrong, in words.
+/// Puts what is wrong, in words.
+impl Printed for NodeError {
+    ghost use Rattle.uefi_device_nodes.specs.NodeErrorTexts.{node_error_text};
+
+    ghost printed = { node_error_text };
+
+    fn put<S: TextSink>(&self, sink: &mut S) {
+        match self {
+            Self::Missing => sink.put_str("no end node ends the device path"),
+            Self::TruncatedHeader => sink.put_str("the bytes end in a node's header"),
+            Self::UnknownEnd => sink.put_str("an end node ends neither a path nor an instance"),
+            Self::LengthBelowHeader => sink.put_str("a node is shorter than its header"),
+            Self::EndWithData => sink.put_str("an end node has data"),
+            Self::BeyondEnd => sink.put_str("a node is longer than the bytes that are left"),
+        }
+    }
+}
+
+/// Prints the same.
 impl fmt::Display for NodeError {
     ghost use Rattle.std.specs.Prelude.{Some};
     ghost use Rattle.uefi_device_nodes.specs.NodeErrorTexts.{node_error_text};
@@ -27,14 +46,7 @@ impl fmt::Display for NodeError {
     ghost output = { λ error. Some (node_error_text error) };
 
     fn fmt<W: fmt::Write>(&self, f: &mut fmt::Formatter<W>) -> fmt::Result {
-        match self {
-            Self::Missing => f.write_str("no end node ends the device path"),
-            Self::TruncatedHeader => f.write_str("the bytes end in a node's header"),
-            Self::UnknownEnd => f.write_str("an end node ends neither a path nor an instance"),
-            Self::LengthBelowHeader => f.write_str("a node is shorter than its header"),
-            Self::EndWithData => f.write_str("an end node has data"),
-            Self::BeyondEnd => f.write_str("a node is longer than the bytes that are left"),
-        }
+        print(f, self)
     }
 }
 
@@ -51,7 +63,22 @@ pub enum NodeConversionError {
     UnsupportedType,
 }
 
-/// Prints what is wrong, in words.
+/// Puts what is wrong, in words.
+impl Printed for NodeConversionError {
+    ghost use Rattle.uefi_device_nodes.specs.NodeErrorTexts.{node_conversion_error_text};
+
+    ghost printed = { node_conversion_error_text };
+
+    fn put<S: TextSink>(&self, sink: &mut S) {
+        match self {
+            Self::DifferentType => sink.put_str("the node is of another type or sub-type"),
+            Self::InvalidLength => sink.put_str("no node of this kind has this length"),
+            Self::UnsupportedType => sink.put_str("no kind has this type and sub-type"),
+        }
+    }
+}
+
+/// Prints the same.
 impl fmt::Display for NodeConversionError {
     ghost use Rattle.std.specs.Prelude.{Some};
     ghost use Rattle.uefi_device_nodes.specs.NodeErrorTexts.{node_conversion_error_text};
@@ -59,11 +86,7 @@ impl fmt::Display for NodeConversionError {
     ghost output = { λ error. Some (node_conversion_error_text error) };
 
     fn fmt<W: fmt::Write>(&self, f: &mut fmt::Formatter<W>) -> fmt::Result {
-        match self {
-            Self::DifferentType => f.write_str("the node is of another type or sub-type"),
-            Self::InvalidLength => f.write_str("no node of this kind has this length"),
-            Self::UnsupportedType => f.write_str("no kind has this type and sub-type"),
-        }
+        print(f, self)
     }
 }
 

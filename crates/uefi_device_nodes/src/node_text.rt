@@ -1,5 +1,5 @@
 //! Nodes as people read them: by the table, and those whose text no row of it can say.
-#![tactic(auto, using(uefi_field_texts::proofs::Puts::puts), unfolding(crate::specs::NodeTexts::unknown_text, crate::specs::NodeTexts::irregular_text, crate::specs::NodeTexts::node_text, crate::specs::NodeViews::printed_node))]
+#![tactic(auto, using(uefi_text::proofs::Puts::puts), unfolding(crate::specs::NodeTexts::unknown_text, crate::specs::NodeTexts::irregular_text, crate::specs::NodeTexts::node_text, crate::specs::NodeViews::printed_node))]
 
 ghost use Rattle.std.specs.Fmt.{WritesInCalls};
 ghost use Rattle.std.specs.Prelude.{◌≡◌, [], if◌then◌else◌};
@@ -14,14 +14,15 @@ use crate::node::DevicePathNode;
 use crate::typed_node::TypedNode;
 use std::fmt;
 use uefi_field_texts::forms::{AllowShortcuts, DisplayOnly};
-use uefi_field_texts::hexadecimal::{put_comma_bytes, put_decimal, put_hex};
+use uefi_field_texts::hexadecimal::{put_comma_bytes, put_hex};
 use uefi_field_texts::ids::{has_uid_alone, id_strings, put_eisa_id};
-use uefi_field_texts::sink::{Printed, TextSink, print};
 use uefi_field_texts::texts::{put_byte_text, put_utf16_text, until_nul};
-use uefi_field_texts::unit_sink::{TextWriteError, write_units};
 use uefi_field_texts::vendor_names::{put_boot_type, vendor_name};
 use uefi_node_table::printing::put_form;
 use uefi_text::Packed;
+use uefi_text::number_texts::put_decimal;
+use uefi_text::text_sink::{Printed, TextSink, print};
+use uefi_text::unit_sink::{TextWriteError, write_units};
 
 /// A node that is printed: its type, its sub-type and its data, and the form that is wanted.
 #[derive(Clone, Copy)]
@@ -149,7 +150,7 @@ pub struct NodeText<'a> {
 impl<'a> DevicePathNode<'a> {
     ghost use Rattle.std.specs.Prelude.{◌+◌, ◌≤◌, ◌++◌, IfErr, IfOk, OnErr, OnOk, drop, length, take};
     ghost use Rattle.uefi_device_nodes.specs.NodeViews.{printed_node};
-    ghost use Rattle.uefi_field_texts.specs.UnitTexts.{TextRefusedFor, utf16_units};
+    ghost use Rattle.uefi_text.specs.UnitTexts.{TextRefusedFor, utf16_units};
     ghost use Rattle.uefi_text.specs.Units.{nul_terminated};
 
     /// What is printed of the node, for a `{}` of a format (UEFI Specification 2.10, section 10.6.1):

@@ -20,10 +20,10 @@ use std::fmt;
 use std::hash::{Hash, Hasher};
 use uefi_device_nodes::node::{DevicePathNode, fault_place};
 use uefi_device_nodes::{AllowShortcuts, DisplayOnly};
-use uefi_field_texts::sink::print;
-use uefi_field_texts::unit_sink::{TextWriteError, write_units};
 use uefi_path::PathBuf;
 use uefi_text::CStr16;
+use uefi_text::text_sink::print;
+use uefi_text::unit_sink::{TextWriteError, write_units};
 
 /// A device path that lies in borrowed bytes: nodes one after the other, and the one that ends it. A
 /// contract sees it as `nodes_of` it: the list of its nodes, without the one that ends it.
@@ -39,7 +39,7 @@ impl<'a> DevicePath<'a> {
     ghost use Rattle.uefi_device_path.specs.Instances.{instances};
     ghost use Rattle.uefi_device_nodes.specs.NodeViews.{node_of};
     ghost use Rattle.uefi_device_path.specs.PathTexts.{path_text};
-    ghost use Rattle.uefi_field_texts.specs.UnitTexts.{TextRefusedFor, utf16_units};
+    ghost use Rattle.uefi_text.specs.UnitTexts.{TextRefusedFor, utf16_units};
     ghost use Rattle.uefi_device_path.specs.Views.{instance_nodes, instances_left, nodes_left, nodes_of, printed_path};
     ghost use Rattle.uefi_text.specs.Runs.{GivesEach};
     ghost use Rattle.uefi_device_path.specs.declared.errors.DevicePathError.{DevicePathError};

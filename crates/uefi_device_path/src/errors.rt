@@ -1,8 +1,12 @@
 //! Why bytes are no device path and no load option, and why a node is not added.
+#![tactic(auto, using(uefi_text::proofs::Puts::puts))]
+
 use std::error::Error;
 use std::fmt;
 pub use uefi_device_nodes::errors::{NodeConversionError, NodeError};
 use uefi_text::FromSliceWithNulError;
+use uefi_text::number_texts::put_decimal;
+use uefi_text::text_sink::{Printed, TextSink, print};
 
 /// Why bytes do not begin with a device path.
 #[derive(Clone, Copy, Debug, PartialEq, Eq)]
@@ -15,7 +19,19 @@ pub struct DevicePathError {
     pub offset: usize,
 }
 
-/// Prints what is wrong, in words.
+/// Puts what is wrong, in words.
+impl Printed for DevicePathError {
+    ghost use Rattle.uefi_device_path.specs.ErrorTexts.{device_path_error_text};
+
+    ghost printed = { device_path_error_text };
+
+    fn put<S: TextSink>(&self, sink: &mut S) {
+        self.cause.put(sink);
+        put_decimal(sink, " at offset ", self.offset as u64);
+    }
+}
+
+/// Prints the same.
 impl fmt::Display for DevicePathError {
     ghost use Rattle.std.specs.Prelude.{Some};
     ghost use Rattle.uefi_device_path.specs.ErrorTexts.{device_path_error_text};
@@ -23,7 +39,7 @@ impl fmt::Display for DevicePathError {
     ghost output = { λ error. Some (device_path_error_text error) };
 
     fn fmt<W: fmt::Write>(&self, f: &mut fmt::Formatter<W>) -> fmt::Result {
-        write!(f, "{} at offset {}", self.cause, self.offset)
+        print(f, self)
     }
 }
 
@@ -40,7 +56,25 @@ pub enum FilePathCause {
     OutOfMemory,
 }
 
-/// Prints what is wrong, in words.
+/// Puts what is wrong, in words.
+impl Printed for FilePathCause {
+    ghost use Rattle.uefi_device_path.specs.ErrorTexts.{file_path_cause_text};
+
+    ghost printed = { file_path_cause_text };
+
+    fn put<S: TextSink>(&self, sink: &mut S) {
+        match self {
+            Self::HalfUnit => sink.put_str("file path: odd number of bytes"),
+            Self::Text(error) => {
+                sink.put_str("file path: ");
+                error.put(sink);
+            }
+            Self::OutOfMemory => sink.put_str("out of memory"),
+        }
+    }
+}
+
+/// Prints the same.
 impl fmt::Display for FilePathCause {
     ghost use Rattle.std.specs.Prelude.{Some};
     ghost use Rattle.uefi_device_path.specs.ErrorTexts.{file_path_cause_text};
@@ -48,11 +82,7 @@ impl fmt::Display for FilePathCause {
     ghost output = { λ cause. Some (file_path_cause_text cause) };
 
     fn fmt<W: fmt::Write>(&self, f: &mut fmt::Formatter<W>) -> fmt::Result {
-        match self {
-            Self::HalfUnit => f.write_str("file path: odd number of bytes"),
-            Self::Text(error) => write!(f, "file path: {error}"),
-            Self::OutOfMemory => f.write_str("out of memory"),
-        }
+        print(f, self)
     }
 }
 
@@ -68,7 +98,19 @@ pub struct FilePathError {
     pub offset: usize,
 }
 
-/// Prints what is wrong, in words.
+/// Puts what is wrong, in words.
+impl Printed for FilePathError {
+    ghost use Rattle.uefi_device_path.specs.ErrorTexts.{file_path_error_text};
+
+    ghost printed = { file_path_error_text };
+
+    fn put<S: TextSink>(&self, sink: &mut S) {
+        self.cause.put(sink);
+        put_decimal(sink, " at offset ", self.offset as u64);
+    }
+}
+
+/// Prints the same.
 impl fmt::Display for FilePathError {
     ghost use Rattle.std.specs.Prelude.{Some};
     ghost use Rattle.uefi_device_path.specs.ErrorTexts.{file_path_error_text};
@@ -76,7 +118,7 @@ impl fmt::Display for FilePathError {
     ghost output = { λ error. Some (file_path_error_text error) };
 
     fn fmt<W: fmt::Write>(&self, f: &mut fmt::Formatter<W>) -> fmt::Result {
-        write!(f, "{} at offset {}", self.cause, self.offset)
+        print(f, self)
     }
 }
 
@@ -91,7 +133,28 @@ pub enum FilePathWriteError {
     BufferTooSmall(usize),
 }
 
-/// Prints what is wrong, in words.
+/// Puts what is wrong, in words.
+impl Printed for FilePathWriteError {
+    ghost use Rattle.uefi_device_path.specs.ErrorTexts.{file_path_write_error_text};
+
+    ghost printed = { file_path_write_error_text };
+
+    fn put<S: TextSink>(&self, sink: &mut S) {
+        match self {
+            Self::Name(error) => error.put(sink),
+            Self::BufferTooSmall(needed) => {
+                put_decimal(
+                    sink,
+                    "buffer too small: the file path needs ",
+                    *needed as u64,
+                );
+                sink.put_str(" units");
+            }
+        }
+    }
+}
+
+/// Prints the same.
 impl fmt::Display for FilePathWriteError {
     ghost use Rattle.std.specs.Prelude.{Some};
     ghost use Rattle.uefi_device_path.specs.ErrorTexts.{file_path_write_error_text};
@@ -99,13 +162,7 @@ impl fmt::Display for FilePathWriteError {
     ghost output = { λ error. Some (file_path_write_error_text error) };
 
     fn fmt<W: fmt::Write>(&self, f: &mut fmt::Formatter<W>) -> fmt::Result {
-        match self {
-            Self::Name(error) => write!(f, "{error}"),
-            Self::BufferTooSmall(needed) => write!(
-                f,
-                "buffer too small: the file path needs {needed} units"
-            ),
-        }
+        print(f, self)
     }
 }
 
@@ -126,7 +183,26 @@ pub enum LoadOptionCause {
     FilePathList(NodeError),
 }
 
-/// Prints what is wrong, in words.
+/// Puts what is wrong, in words.
+impl Printed for LoadOptionCause {
+    ghost use Rattle.uefi_device_path.specs.ErrorTexts.{load_option_cause_text};
+
+    ghost printed = { load_option_cause_text };
+
+    fn put<S: TextSink>(&self, sink: &mut S) {
+        match self {
+            Self::TooShort => sink.put_str("the load option ends before its description"),
+            Self::DescriptionWithoutEnd => sink.put_str("no NUL ends the description"),
+            Self::ListBeyondEnd => sink.put_str(
+                "the file path list is longer than the bytes that are left",
+            ),
+            Self::EmptyList => sink.put_str("the file path list is empty"),
+            Self::FilePathList(cause) => cause.put(sink),
+        }
+    }
+}
+
+/// Prints the same.
 impl fmt::Display for LoadOptionCause {
     ghost use Rattle.std.specs.Prelude.{Some};
     ghost use Rattle.uefi_device_path.specs.ErrorTexts.{load_option_cause_text};
@@ -134,16 +210,7 @@ impl fmt::Display for LoadOptionCause {
     ghost output = { λ cause. Some (load_option_cause_text cause) };
 
     fn fmt<W: fmt::Write>(&self, f: &mut fmt::Formatter<W>) -> fmt::Result {
-        match self {
-            Self::TooShort => f.write_str("the load option ends before its description"),
-            Self::DescriptionWithoutEnd => f.write_str("no NUL ends the description"),
-            Self::ListBeyondEnd => write!(
-                f,
-                "the file path list is longer than the bytes that are left"
-            ),
-            Self::EmptyList => f.write_str("the file path list is empty"),
-            Self::FilePathList(cause) => write!(f, "{cause}"),
-        }
+        print(f, self)
     }
 }
 
@@ -158,7 +225,19 @@ pub struct LoadOptionError {
     pub offset: usize,
 }
 
-/// Prints what is wrong, in words.
+/// Puts what is wrong, in words.
+impl Printed for LoadOptionError {
+    ghost use Rattle.uefi_device_path.specs.ErrorTexts.{load_option_error_text};
+
+    ghost printed = { load_option_error_text };
+
+    fn put<S: TextSink>(&self, sink: &mut S) {
+        self.cause.put(sink);
+        put_decimal(sink, " at offset ", self.offset as u64);
+    }
+}
+
+/// Prints the same.
 impl fmt::Display for LoadOptionError {
     ghost use Rattle.std.specs.Prelude.{Some};
     ghost use Rattle.uefi_device_path.specs.ErrorTexts.{load_option_error_text};
@@ -166,7 +245,7 @@ impl fmt::Display for LoadOptionError {
     ghost output = { λ error. Some (load_option_error_text error) };
 
     fn fmt<W: fmt::Write>(&self, f: &mut fmt::Formatter<W>) -> fmt::Result {
-        write!(f, "{} at offset {}", self.cause, self.offset)
+        print(f, self)
     }
 }
 
@@ -187,7 +266,32 @@ pub enum BuildError {
     OutOfMemory,
 }
 
-/// Prints what is wrong, in words.
+/// Puts what is wrong, in words.
+impl Printed for BuildError {
+    ghost use Rattle.uefi_device_path.specs.ErrorTexts.{build_error_text};
+
+    ghost printed = { build_error_text };
+
+    fn put<S: TextSink>(&self, sink: &mut S) {
+        match self {
+            Self::EndNode => sink.put_str(
+                "an end node may not stand before the end of a device path",
+            ),
+            Self::NodeTooLong => sink.put_str("the node is longer than its header can state"),
+            Self::BufferTooSmall(needed) => {
+                put_decimal(
+                    sink,
+                    "buffer too small: the device path needs ",
+                    *needed as u64,
+                );
+                sink.put_str(" bytes");
+            }
+            Self::OutOfMemory => sink.put_str("out of memory"),
+        }
+    }
+}
+
+/// Prints the same.
 impl fmt::Display for BuildError {
     ghost use Rattle.std.specs.Prelude.{Some};
     ghost use Rattle.uefi_device_path.specs.ErrorTexts.{build_error_text};
@@ -195,18 +299,7 @@ impl fmt::Display for BuildError {
     ghost output = { λ error. Some (build_error_text error) };
 
     fn fmt<W: fmt::Write>(&self, f: &mut fmt::Formatter<W>) -> fmt::Result {
-        match self {
-            Self::EndNode => write!(
-                f,
-                "an end node may not stand before the end of a device path"
-            ),
-            Self::NodeTooLong => f.write_str("the node is longer than its header can state"),
-            Self::BufferTooSmall(needed) => write!(
-                f,
-                "buffer too small: the device path needs {needed} bytes"
-            ),
-            Self::OutOfMemory => f.write_str("out of memory"),
-        }
+        print(f, self)
     }
 }
 
@@ -221,7 +314,21 @@ pub enum GrowError {
     Build(BuildError),
 }
 
-/// Prints what is wrong, in words.
+/// Puts what is wrong, in words.
+impl Printed for GrowError {
+    ghost use Rattle.uefi_device_path.specs.ErrorTexts.{grow_error_text};
+
+    ghost printed = { grow_error_text };
+
+    fn put<S: TextSink>(&self, sink: &mut S) {
+        match self {
+            Self::Path(error) => error.put(sink),
+            Self::Build(error) => error.put(sink),
+        }
+    }
+}
+
+/// Prints the same.
 impl fmt::Display for GrowError {
     ghost use Rattle.std.specs.Prelude.{Some};
     ghost use Rattle.uefi_device_path.specs.ErrorTexts.{grow_error_text};
@@ -229,10 +336,7 @@ impl fmt::Display for GrowError {
     ghost output = { λ error. Some (grow_error_text error) };
 
     fn fmt<W: fmt::Write>(&self, f: &mut fmt::Formatter<W>) -> fmt::Result {
-        match self {
-            Self::Path(error) => write!(f, "{error}"),
-            Self::Build(error) => write!(f, "{error}"),
-        }
+        print(f, self)
     }
 }
 
@@ -251,7 +355,29 @@ pub enum PushTextError {
     BufferTooSmall(usize),
 }
 
-/// Prints what is wrong, in words.
+/// Puts what is wrong, in words.
+impl Printed for PushTextError {
+    ghost use Rattle.uefi_device_path.specs.ErrorTexts.{push_text_error_text};
+
+    ghost printed = { push_text_error_text };
+
+    fn put<S: TextSink>(&self, sink: &mut S) {
+        match self {
+            Self::Path(error) => error.put(sink),
+            Self::NoNode(offset) => put_decimal(sink, "no node at offset ", *offset as u64),
+            Self::BufferTooSmall(needed) => {
+                put_decimal(
+                    sink,
+                    "buffer too small: the device path needs ",
+                    *needed as u64,
+                );
+                sink.put_str(" bytes");
+            }
+        }
+    }
+}
+
+/// Prints the same.
 impl fmt::Display for PushTextError {
     ghost use Rattle.std.specs.Prelude.{Some};
     ghost use Rattle.uefi_device_path.specs.ErrorTexts.{push_text_error_text};
@@ -259,14 +385,7 @@ impl fmt::Display for PushTextError {
     ghost output = { λ error. Some (push_text_error_text error) };
 
     fn fmt<W: fmt::Write>(&self, f: &mut fmt::Formatter<W>) -> fmt::Result {
-        match self {
-            Self::Path(error) => write!(f, "{error}"),
-            Self::NoNode(offset) => write!(f, "no node at offset {offset}"),
-            Self::BufferTooSmall(needed) => write!(
-                f,
-                "buffer too small: the device path needs {needed} bytes"
-            ),
-        }
+        print(f, self)
     }
 }
 
@@ -289,7 +408,38 @@ pub enum OptionBuildError {
     OutOfMemory,
 }
 
-/// Prints what is wrong, in words.
+/// Puts what is wrong, in words.
+impl Printed for OptionBuildError {
+    ghost use Rattle.uefi_device_path.specs.ErrorTexts.{option_build_error_text};
+
+    ghost printed = { option_build_error_text };
+
+    fn put<S: TextSink>(&self, sink: &mut S) {
+        match self {
+            Self::NulInDescription(place) => put_decimal(
+                sink,
+                "description: interior null character at index ",
+                *place as u64,
+            ),
+            Self::EmptyList => sink.put_str("the file path list is empty"),
+            Self::ListTooLong => sink.put_str(
+                "the file path list is longer than its header can state",
+            ),
+            Self::TooLong => sink.put_str("the load option is longer than memory"),
+            Self::BufferTooSmall(needed) => {
+                put_decimal(
+                    sink,
+                    "buffer too small: the load option needs ",
+                    *needed as u64,
+                );
+                sink.put_str(" bytes");
+            }
+            Self::OutOfMemory => sink.put_str("out of memory"),
+        }
+    }
+}
+
+/// Prints the same.
 impl fmt::Display for OptionBuildError {
     ghost use Rattle.std.specs.Prelude.{Some};
     ghost use Rattle.uefi_device_path.specs.ErrorTexts.{option_build_error_text};
@@ -297,23 +447,7 @@ impl fmt::Display for OptionBuildError {
     ghost output = { λ error. Some (option_build_error_text error) };
 
     fn fmt<W: fmt::Write>(&self, f: &mut fmt::Formatter<W>) -> fmt::Result {
-        match self {
-            Self::NulInDescription(place) => write!(
-                f,
-                "description: interior null character at index {place}"
-            ),
-            Self::EmptyList => f.write_str("the file path list is empty"),
-            Self::ListTooLong => write!(
-                f,
-                "the file path list is longer than its header can state"
-            ),
-            Self::TooLong => f.write_str("the load option is longer than memory"),
-            Self::BufferTooSmall(needed) => write!(
-                f,
-                "buffer too small: the load option needs {needed} bytes"
-            ),
-            Self::OutOfMemory => f.write_str("out of memory"),
-        }
+        print(f, self)
     }
 }
 

@@ -3,15 +3,15 @@
 
 ghost use Rattle.std.specs.Prelude.{◌≡◌, ◌+◌, ◌≤◌, ◌<◌, ◌++◌, IfErr, IfOk, OnErr, OnOk, drop, length, take};
 ghost use Rattle.uefi_device_path.specs.PathTexts.{path_text};
-ghost use Rattle.uefi_field_texts.specs.UnitTexts.{TextRefusedFor, utf16_units};
+ghost use Rattle.uefi_text.specs.UnitTexts.{TextRefusedFor, utf16_units};
 ghost use Rattle.uefi_text.specs.Units.{nul_terminated};
 
 use crate::instance::DevicePathInstance;
 use crate::path_text::PathText;
 use std::fmt;
 use uefi_device_nodes::{AllowShortcuts, DisplayOnly};
-use uefi_field_texts::sink::print;
-use uefi_field_texts::unit_sink::{TextWriteError, write_units};
+use uefi_text::text_sink::print;
+use uefi_text::unit_sink::{TextWriteError, write_units};
 
 impl<'a> DevicePathInstance<'a> {
     ghost use Rattle.uefi_device_path.specs.Views.{instance_nodes, printed_path};

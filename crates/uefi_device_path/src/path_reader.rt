@@ -18,6 +18,8 @@ use uefi_built_nodes::BuildNode;
 use uefi_device_nodes::{DeviceSubType, DeviceType};
 use uefi_node_reader::nodes::{node_text_once, nodes_are_read, read_node};
 use uefi_node_reader::text_node::TextNode;
+use uefi_text::number_texts::put_decimal;
+use uefi_text::text_sink::{Printed, TextSink, print};
 
 /// Why a text is not read as a device path.
 #[derive(Clone, Copy, Debug, PartialEq, Eq)]
@@ -29,7 +31,21 @@ pub enum PathTextError {
     OutOfMemory,
 }
 
-/// Prints what is wrong, in words.
+/// Puts what is wrong, in words.
+impl Printed for PathTextError {
+    ghost use Rattle.uefi_device_path.specs.ErrorTexts.{path_text_error_text};
+
+    ghost printed = { path_text_error_text };
+
+    fn put<S: TextSink>(&self, sink: &mut S) {
+        match self {
+            Self::NoNode(offset) => put_decimal(sink, "no node at offset ", *offset as u64),
+            Self::OutOfMemory => sink.put_str("out of memory"),
+        }
+    }
+}
+
+/// Prints the same.
 impl fmt::Display for PathTextError {
     ghost use Rattle.std.specs.Prelude.{Some};
     ghost use Rattle.uefi_device_path.specs.ErrorTexts.{path_text_error_text};
@@ -37,10 +53,7 @@ impl fmt::Display for PathTextError {
     ghost output = { λ error. Some (path_text_error_text error) };
 
     fn fmt<W: fmt::Write>(&self, f: &mut fmt::Formatter<W>) -> fmt::Result {
-        match self {
-            Self::NoNode(offset) => write!(f, "no node at offset {offset}"),
-            Self::OutOfMemory => f.write_str("out of memory"),
-        }
+        print(f, self)
     }
 }
 

@@ -1,5 +1,5 @@
 //! Device paths as people read them.
-#![tactic(auto, using(uefi_field_texts::proofs::Puts::puts), unfolding(crate::specs::PathTexts::instance_text, crate::specs::Views::printed_path, crate::specs::Views::nodes_of))]
+#![tactic(auto, using(uefi_text::proofs::Puts::puts), unfolding(crate::specs::PathTexts::instance_text, crate::specs::Views::printed_path, crate::specs::Views::nodes_of))]
 
 ghost use Rattle.std.specs.Fmt.{WritesInCalls};
 ghost use Rattle.std.specs.Prelude.{◌≡◌, ◌≢◌, ◌<◌, ◌∷◌, length};
@@ -10,7 +10,7 @@ ghost use Rattle.uefi_device_path.specs.PathTexts.{instance_text, path_text};
 use crate::instance::cut_instance;
 use std::fmt;
 use uefi_device_nodes::{AllowShortcuts, DevicePathNode, DisplayOnly};
-use uefi_field_texts::sink::{Printed, TextSink, print};
+use uefi_text::text_sink::{Printed, TextSink, print};
 
 /// The first of the nodes that bytes are, and the bytes of the others.
 fn cut_node(bytes: &[u8]) -> (DevicePathNode<'_>, &[u8])

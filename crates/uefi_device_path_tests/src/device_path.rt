@@ -1,6 +1,6 @@
 //! Device paths: their nodes, their instances and their file names, and why bytes are none.
 
-use for_tests::{bytes, shows, split_row};
+use for_tests::{bytes, says, split_row};
 use std::test::Fail;
 use uefi_device_path::media::FilePath;
 use uefi_device_path::{
@@ -107,7 +107,7 @@ const REFUSED: &str = "\
 
 /// Whether bytes are refused with this text.
 fn is_refused(rt: &HostRuntime, bytes: &[u8], want: &str) -> bool {
-    matches!(DevicePath::from_bytes(bytes), Err(error) if shows(rt.alloc(), &error, want))
+    matches!(DevicePath::from_bytes(bytes), Err(error) if says(rt.alloc(), &error, want))
 }
 
 #[test]

@@ -1,7 +1,7 @@
 //! Load options: the fields of those that are accepted, and why others are refused, and where.
 
 use crate::entries;
-use for_tests::{bytes, has_text, shows, split_row};
+use for_tests::{bytes, has_text, says, split_row};
 use std::test::Fail;
 use uefi_device_path::LoadOption;
 use uefi_text::FromSliceWithNulError;
@@ -64,7 +64,7 @@ const REFUSED: &str = "\
 
 /// Whether bytes are refused with this text.
 fn is_refused(rt: &HostRuntime, bytes: &[u8], want: &str) -> bool {
-    matches!(LoadOption::from_bytes(bytes), Err(error) if shows(rt.alloc(), &error, want))
+    matches!(LoadOption::from_bytes(bytes), Err(error) if says(rt.alloc(), &error, want))
 }
 
 #[test]

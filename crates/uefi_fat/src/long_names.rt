@@ -10,7 +10,9 @@ ghost use Rattle.uefi_text.specs.Views.{units_of};
 use std::error::Error;
 use std::fmt;
 use uefi_text::chars::Char16;
+use uefi_text::number_texts::put_decimal;
 use uefi_text::strs::Char16Slice;
+use uefi_text::text_sink::{Printed, TextSink, print};
 
 /// The most characters of a name.
 const MOST: usize = 255;
@@ -28,7 +30,27 @@ pub enum FatNameError {
     IllegalChar(Char16),
 }
 
-/// Writes the reason, with the number of an illegal character in decimal.
+/// Puts the reason, with the number of an illegal character in decimal.
+impl Printed for FatNameError {
+    ghost use Rattle.uefi_fat.specs.ErrorTexts.{fat_name_error_text};
+
+    ghost printed = { fat_name_error_text };
+
+    #[tactic(auto, using(uefi_text::proofs::Puts::puts))]
+    fn put<S: TextSink>(&self, sink: &mut S) {
+        match self {
+            FatNameError::Empty => sink.put_str("name is empty without spaces and dots"),
+            FatNameError::TooLong => sink.put_str("name has more than 255 characters"),
+            FatNameError::IllegalChar(character) => {
+                let value = u64::from(u16::from(*character));
+                put_decimal(sink, "name contains an illegal character (value ", value);
+                sink.put_str(")");
+            }
+        }
+    }
+}
+
+/// Prints the same.
 impl fmt::Display for FatNameError {
     ghost use Rattle.std.specs.Prelude.{Some};
     ghost use Rattle.uefi_fat.specs.ErrorTexts.{fat_name_error_text};
@@ -36,14 +58,7 @@ impl fmt::Display for FatNameError {
     ghost output = { λ error. Some (fat_name_error_text error) };
 
     fn fmt<W: fmt::Write>(&self, f: &mut fmt::Formatter<W>) -> fmt::Result {
-        match self {
-            FatNameError::Empty => f.write_str("name is empty without spaces and dots"),
-            FatNameError::TooLong => f.write_str("name has more than 255 characters"),
-            FatNameError::IllegalChar(character) => {
-                let value = u16::from(*character);
-                write!(f, "name contains an illegal character (value {value})")
-            }
-        }
+        print(f, self)
     }
 }
 

@@ -11,7 +11,7 @@ use Rattle.std.specs.List.{range_with_len}
 use Rattle.uefi_text.specs.Packed.{IsByte}
 use Rattle.uefi_field_texts.specs.FieldTexts.{hex_back, hex_bytes, hex_two}
 use Rattle.uefi_field_texts.specs.Guids.{HasBytes, IsDashed, IsGuid, IsGuidText, StandsAt, digit_places, guid_text}
-use Rattle.uefi_field_texts.proofs.Numerals.{digits_last}
+use Rattle.uefi_text.proofs.Numerals.{digits_last}
 
 -- the two digits of a byte
 pub two_digits : (byte : ℕ) → byte < 256 → hex_two byte ≡ digit_glyph true (byte / 16) ∷ digit_glyph true (byte % 16) ∷ []
@@ -32,10 +32,10 @@ same_byte byte other small small_too high low =
     omega (arith, highs, lows)
 
 -- the numbers that a function gives, and those of a list
-abbrev listed : (ℕ → ℕ) → ℕ → List ℕ
+abbrev pub listed : (ℕ → ℕ) → ℕ → List ℕ
 listed f n = map f (range_with_len 0 n)
 
-listed_as : (xs : List ℕ) (n : ℕ) → length xs ≡ n → xs ≡ listed (λ k. slice_index xs k) n
+pub listed_as : (xs : List ℕ) (n : ℕ) → length xs ≡ n → xs ≡ listed (λ k. slice_index xs k) n
 listed_as xs n long = fill_by_all (λ k. slice_index xs k) xs n 0 long (λ k less. refl)
 
 same_at : (f g : ℕ → ℕ) (n k : ℕ) → listed f n ≡ listed g n → k < n → f k ≡ g k

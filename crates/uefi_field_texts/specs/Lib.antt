@@ -1,4 +1,3 @@
 pub mod FieldTexts
 pub mod ShownTexts
 pub mod Guids
-pub mod UnitTexts

@@ -1,5 +1,5 @@
 //! GUIDs: what names vendors, partitions, protocols and the owners of variables.
-#![tactic(auto, using(crate::proofs::Puts::puts), unfolding(crate::specs::Guids::guid_text))]
+#![tactic(auto, using(uefi_text::proofs::Puts::puts), unfolding(crate::specs::Guids::guid_text))]
 
 ghost use Rattle.std.specs.Char.{to_ascii_uppercase};
 ghost use Rattle.std.specs.Fmt.{WritesInCalls, digit_glyph};
@@ -8,9 +8,9 @@ ghost use Rattle.uefi_field_texts.specs.Guids.{HasBytes, IsDashed, IsGuid, IsGui
 ghost use Rattle.uefi_text.specs.Packed.{IsByte};
 
 use crate::hexadecimal::{put_back, put_bytes};
-use crate::sink::{Printed, TextSink, print};
 use std::fmt;
 use std::marker::Model;
+use uefi_text::text_sink::{Printed, TextSink, print};
 
 /// How many bytes the text of a GUID has.
 const TEXT_LEN: usize = 36;

@@ -1,46 +1,12 @@
-//! Numbers, and bytes in hexadecimal, in upper case.
-#![tactic(auto, using(crate::proofs::Puts::puts), unfolding(crate::specs::FieldTexts::hex_two, crate::specs::FieldTexts::hex_four, crate::specs::FieldTexts::hex_bytes, crate::specs::FieldTexts::hex_back, crate::specs::FieldTexts::dashed_back, crate::specs::FieldTexts::comma_bytes))]
+//! Numbers and bytes in hexadecimal, in upper case.
+#![tactic(auto, using(uefi_text::proofs::Puts::puts), unfolding(crate::specs::FieldTexts::hex_two, crate::specs::FieldTexts::hex_four, crate::specs::FieldTexts::hex_bytes, crate::specs::FieldTexts::hex_back, crate::specs::FieldTexts::dashed_back, crate::specs::FieldTexts::comma_bytes))]
 
-ghost use Rattle.std.specs.Fmt.{WritesInCalls, decimal, digit_glyph, digits};
-ghost use Rattle.std.specs.Prelude.{◌≡◌, ◌≤◌, ◌<◌, ◌++◌, codes, if◌then◌else◌, nat_lt};
+ghost use Rattle.std.specs.Fmt.{WritesInCalls};
+ghost use Rattle.std.specs.Prelude.{◌++◌, codes, if◌then◌else◌};
 ghost use Rattle.uefi_field_texts.specs.FieldTexts.{comma_bytes, dashed_back, hex, hex_back, hex_bytes, hex_four, hex_two};
 
-use crate::sink::TextSink;
-
-/// The digit of a number below a base.
-fn digit(n: u64, base: u64) -> char
-    requires below { n < base }
-    requires small { base ≤ 16 }
-    ensures { result ≡ digit_glyph (nat_lt 10 base) n }
-{
-    if n < 10 {
-        char::from(b'0' + n as u8)
-    } else {
-        char::from(b'A' - 10 + n as u8)
-    }
-}
-
-/// Puts a number in a base, without zeros at its start.
-fn put_digits<S: TextSink>(sink: &mut S, n: u64, base: u64)
-    requires some { 2 ≤ base }
-    requires small { base ≤ 16 }
-    ensures { WritesInCalls S.puts sink.old (digits base (nat_lt 10 base) n) sink.new }
-{
-    if n < base {
-        sink.put_char(digit(n, base));
-        return;
-    }
-    put_digits(sink, n / base, base);
-    sink.put_char(digit(n % base, base));
-}
-
-/// Puts a text, and a number in decimal.
-pub fn put_decimal<S: TextSink>(sink: &mut S, text: &str, n: u64)
-    ensures { WritesInCalls S.puts sink.old (text.now ++ decimal n) sink.new }
-{
-    sink.put_str(text);
-    put_digits(sink, n, 10);
-}
+use uefi_text::number_texts::put_digits;
+use uefi_text::text_sink::TextSink;
 
 /// Puts a text, and a number in hexadecimal.
 pub fn put_hex<S: TextSink>(sink: &mut S, text: &str, n: u64)

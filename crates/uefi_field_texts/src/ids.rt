@@ -1,13 +1,13 @@
 //! IDs of devices that ACPI names: those of EISA, packed in four bytes, and strings.
-#![tactic(auto, using(crate::proofs::Puts::puts), unfolding(crate::specs::FieldTexts::eisa_text, crate::specs::FieldTexts::eisa_letter, crate::specs::FieldTexts::has_uid_alone))]
+#![tactic(auto, using(uefi_text::proofs::Puts::puts), unfolding(crate::specs::FieldTexts::eisa_text, crate::specs::FieldTexts::eisa_letter, crate::specs::FieldTexts::has_uid_alone))]
 
 ghost use Rattle.std.specs.Fmt.{WritesInCalls};
 ghost use Rattle.std.specs.Prelude.{◌≡◌, ◌++◌};
 ghost use Rattle.uefi_field_texts.specs.FieldTexts.{cid_string, eisa_letter, eisa_text, has_uid_alone, hid_string, uid_string};
 
 use crate::hexadecimal::put_word;
-use crate::sink::TextSink;
 use crate::texts::{after_nul, until_nul};
+use uefi_text::text_sink::TextSink;
 
 /// Puts the letter of the five low bits of a number.
 fn put_letter<S: TextSink>(sink: &mut S, number: u32)

@@ -2,7 +2,7 @@
 //!
 //! Numbers and bytes in hexadecimal, GUIDs, IDs of EISA, addresses of IP, and texts, as the UEFI
 //! Specification 2.10, section 10.6.1, and EDK II print them. Each call here puts one of them into a
-//! [`sink::TextSink`], and its contract says in UTF-8 what that takes. No call takes memory.
+//! [`TextSink`](uefi_text::TextSink), and its contract says in UTF-8 what that takes. No call takes memory.
 //! Callers use `uefi_device_path`, which prints nodes and paths.
 #![tactic(auto)]
 
@@ -15,10 +15,6 @@ pub mod ids;
 #[doc(hidden)]
 pub mod laws;
 #[doc(hidden)]
-pub mod sink;
-#[doc(hidden)]
 pub mod texts;
-#[doc(hidden)]
-pub mod unit_sink;
 #[doc(hidden)]
 pub mod vendor_names;

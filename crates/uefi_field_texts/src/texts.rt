@@ -1,5 +1,5 @@
 //! Texts of nodes as they are printed: nothing in them that a terminal obeys.
-#![tactic(auto, using(crate::proofs::Puts::puts), unfolding(crate::specs::FieldTexts::shown_byte, crate::specs::FieldTexts::shown_bytes, crate::specs::FieldTexts::shown_char, crate::specs::FieldTexts::shown_units, crate::specs::FieldTexts::utf16_text))]
+#![tactic(auto, using(uefi_text::proofs::Puts::puts), unfolding(crate::specs::FieldTexts::shown_byte, crate::specs::FieldTexts::shown_bytes, crate::specs::FieldTexts::shown_char, crate::specs::FieldTexts::shown_units, crate::specs::FieldTexts::utf16_text))]
 
 ghost use Rattle.std.specs.Fmt.{WritesInCalls};
 ghost use Rattle.std.specs.List.{position_or_len};
@@ -12,8 +12,8 @@ ghost use Rattle.uefi_text.specs.Units.{is_nul};
 ghost use Rattle.uefi_text.specs.Views.{items_of};
 
 use crate::hexadecimal::{put_hex, put_two};
-use crate::sink::TextSink;
 use uefi_text::UnalignedSlice;
+use uefi_text::text_sink::TextSink;
 
 /// The place of the first zero among bytes, or their number where none is zero.
 fn nul_place(bytes: &[u8]) -> usize

@@ -1,12 +1,12 @@
 //! What has a name of its own in the text of a node, by its number or its GUID.
-#![tactic(auto, using(crate::proofs::Puts::puts), unfolding(crate::specs::FieldTexts::vendor_name, crate::specs::FieldTexts::boot_type_text))]
+#![tactic(auto, using(uefi_text::proofs::Puts::puts), unfolding(crate::specs::FieldTexts::vendor_name, crate::specs::FieldTexts::boot_type_text))]
 
 ghost use Rattle.std.specs.Fmt.{WritesInCalls};
 ghost use Rattle.std.specs.Prelude.{◌≡◌, ◌++◌};
 ghost use Rattle.uefi_field_texts.specs.FieldTexts.{boot_type_text, vendor_name};
 
 use crate::hexadecimal::put_hex;
-use crate::sink::TextSink;
+use uefi_text::text_sink::TextSink;
 
 /// Puts a text, and the type of a device that a legacy BIOS can boot (BIOS Boot Specification): `Floppy` and
 /// its like, or the number of another.

@@ -6,7 +6,7 @@ use Rattle.std.specs.Prelude.{Some, None, ◌==◌}
 use Rattle.std.specs.Fmt.{digits, digit_glyph}
 use Rattle.std.proofs.lemmas.Bool.{cases_lt}
 use Rattle.std.proofs.lemmas.Bool.Decides.{nat_tests}
-use Rattle.uefi_field_texts.proofs.Numerals.{digits_last, digits_more}
+use Rattle.uefi_text.proofs.Numerals.{digits_last, digits_more}
 use Rattle.uefi_node_reader.specs.Numerals.{digit_of, digits_after, has_digit, number_read}
 
 -- the parts of a pair that is returned

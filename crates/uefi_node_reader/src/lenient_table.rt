@@ -19,10 +19,10 @@ use crate::table_reader::{by_table, finish_row, fixed_part};
 use crate::text_node::TextNode;
 use std::alloc::{AllocError, Allocator};
 use std::fmt;
-use uefi_field_texts::sink::{Printed, TextSink, print};
 use uefi_node_table::printing::put_form;
 use uefi_node_table::rows::{Mode, Row, Tail};
 use uefi_node_table::table::{GROUPS, group};
+use uefi_text::text_sink::{Printed, TextSink, print};
 
 /// The text of a node in its form of the table, or nothing.
 #[derive(Clone, Copy)]

@@ -1,5 +1,5 @@
 //! Nodes printed by the table.
-#![tactic(auto, using(uefi_field_texts::proofs::Puts::puts), unfolding(crate::specs::Table::has_form, crate::specs::Table::table_text))]
+#![tactic(auto, using(uefi_text::proofs::Puts::puts), unfolding(crate::specs::Table::has_form, crate::specs::Table::table_text))]
 
 ghost use Rattle.std.specs.Fmt.{WritesInCalls};
 ghost use Rattle.std.specs.List.{list_all};
@@ -15,10 +15,11 @@ use crate::rows::{Item, Mode, Piece, Row, Shape, Tail};
 use crate::table::{GROUPS, group, item_of};
 use crate::words::{word_for, words_of};
 use uefi_field_texts::hexadecimal::{
-    put_back, put_bytes, put_comma_bytes, put_dashed_back, put_decimal, put_hex,
+    put_back, put_bytes, put_comma_bytes, put_dashed_back, put_hex,
 };
-use uefi_field_texts::sink::TextSink;
 use uefi_field_texts::texts::{put_byte_text, put_utf16_text, until_nul};
+use uefi_text::number_texts::put_decimal;
+use uefi_text::text_sink::TextSink;
 
 /// The number that bytes encode, the low byte first.
 fn number_of(bytes: &[u8]) -> u64

@@ -1,7 +1,6 @@
 -- The names of a normal path, found from the last piece on: what each piece changes.
-use Rattle.std.proofs.Common.{◌≡◌, ◌≤◌, length, ℕ, zero, suc, List, [], ◌∷◌, ◌++◌, All, inl, inr, append_assoc, refl, sym, ap, ◌∙◌, subst, arith, replicate, None}
+use Rattle.std.proofs.Common.{◌≡◌, ◌≤◌, length, ℕ, suc, List, [], ◌∷◌, ◌++◌, All, inl, inr, append_assoc, refl, sym, ap, ◌∙◌, subst, arith, replicate, None}
 use Rattle.std.proofs.lemmas.List.{append-nil}
-use Rattle.std.proofs.lemmas.List.Elements.{All-head}
 use Rattle.uefi_path.specs.Components.{components_of, joined}
 use Rattle.uefi_path.specs.NamesLeft.{names_before}
 use Rattle.uefi_path.specs.NormalForms.{IsName, before_normal, before_piece, dot, dot_dot, kind, normal_of}
@@ -72,11 +71,6 @@ pub last_name_before : (ps : List (List ℕ)) (name : List ℕ) → IsName name
 last_name_before ps name is =
     ap normal_of (append-nil (ps ++ name ∷ [])) ∙ normal_of-push ps name is
     ∙ ap (λ qs. normal_of qs ++ name ∷ []) (sym (append-nil ps))
-
--- where no piece is left, no name is
-pub none_before : (climbs : ℕ) → All IsName (names_before [] climbs) → names_before [] climbs ≡ []
-none_before zero are = refl
-none_before (suc climbs) are = absurd ((All-head IsName dot_dot (normal_of (replicate climbs dot_dot)) are).1 refl)
 
 -- all of them, before the first one is taken
 pub from_start : (text : List ℕ) (pieces : List (List ℕ)) → pieces ≡ components_of text

@@ -17,6 +17,7 @@ use std::error::Error;
 use std::fmt;
 use uefi_text::chars::SEPARATOR;
 use uefi_text::owned_strs::CString16;
+use uefi_text::text_sink::{Printed, TextSink, print};
 
 /// Why a path has no normal path.
 #[derive(Clone, Copy, Debug, PartialEq, Eq)]
@@ -28,7 +29,21 @@ pub enum NormalizeError {
     OutOfMemory,
 }
 
-/// Writes the reason.
+/// Puts the reason.
+impl Printed for NormalizeError {
+    ghost use Rattle.uefi_path.specs.PathErrors.{normalize_error_text};
+
+    ghost printed = { normalize_error_text };
+
+    fn put<S: TextSink>(&self, sink: &mut S) {
+        match self {
+            NormalizeError::Invalid(error) => error.put(sink),
+            NormalizeError::OutOfMemory => sink.put_str("out of memory"),
+        }
+    }
+}
+
+/// Prints the same.
 impl fmt::Display for NormalizeError {
     ghost use Rattle.std.specs.Prelude.{Some};
     ghost use Rattle.uefi_path.specs.PathErrors.{normalize_error_text};
@@ -36,10 +51,7 @@ impl fmt::Display for NormalizeError {
     ghost output = { λ error. Some (normalize_error_text error) };
 
     fn fmt<W: fmt::Write>(&self, f: &mut fmt::Formatter<W>) -> fmt::Result {
-        match self {
-            NormalizeError::Invalid(error) => fmt::Display::fmt(error, f),
-            NormalizeError::OutOfMemory => f.write_str("out of memory"),
-        }
+        print(f, self)
     }
 }
 

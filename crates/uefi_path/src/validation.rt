@@ -13,7 +13,9 @@ use crate::path::Path;
 use std::error::Error;
 use std::fmt;
 use uefi_text::chars::Char16;
+use uefi_text::number_texts::put_decimal;
 use uefi_text::strs::Char16Slice;
+use uefi_text::text_sink::{Printed, TextSink, print};
 
 /// Why a path is refused.
 #[derive(Clone, Copy, Debug, PartialEq, Eq)]
@@ -32,7 +34,28 @@ pub enum PathError {
     ClimbsAboveRoot,
 }
 
-/// Writes the reason, with the number of an illegal character in decimal.
+/// Puts the reason, with the number of an illegal character in decimal.
+impl Printed for PathError {
+    ghost use Rattle.uefi_path.specs.PathErrors.{path_error_text};
+
+    ghost printed = { path_error_text };
+
+    #[tactic(auto, using(uefi_text::proofs::Puts::puts))]
+    fn put<S: TextSink>(&self, sink: &mut S) {
+        match self {
+            PathError::Empty => sink.put_str("path is empty"),
+            PathError::EmptyComponent => sink.put_str("path contains an empty component"),
+            PathError::IllegalChar(character) => {
+                let value = u64::from(u16::from(*character));
+                put_decimal(sink, "path contains an illegal character (value ", value);
+                sink.put_str(")");
+            }
+            PathError::ClimbsAboveRoot => sink.put_str("path climbs above the root"),
+        }
+    }
+}
+
+/// Prints the same.
 impl fmt::Display for PathError {
     ghost use Rattle.std.specs.Prelude.{Some};
     ghost use Rattle.uefi_path.specs.PathErrors.{path_error_text};
@@ -40,15 +63,7 @@ impl fmt::Display for PathError {
     ghost output = { λ error. Some (path_error_text error) };
 
     fn fmt<W: fmt::Write>(&self, f: &mut fmt::Formatter<W>) -> fmt::Result {
-        match self {
-            PathError::Empty => f.write_str("path is empty"),
-            PathError::EmptyComponent => f.write_str("path contains an empty component"),
-            PathError::IllegalChar(character) => {
-                let value = u16::from(*character);
-                write!(f, "path contains an illegal character (value {value})")
-            }
-            PathError::ClimbsAboveRoot => f.write_str("path climbs above the root"),
-        }
+        print(f, self)
     }
 }
 

@@ -18,6 +18,8 @@ use crate::validation::PathError;
 use std::error::Error;
 use std::fmt;
 use uefi_text::chars::SEPARATOR;
+use uefi_text::number_texts::put_decimal;
+use uefi_text::text_sink::{Printed, TextSink, print};
 
 /// Writes a part of a path at its place in a buffer, each slash replaced, and a separator before it
 /// where one is missing; or nothing, where the buffer has no room. Returns where the part ends.
@@ -123,7 +125,29 @@ pub enum NormalWriteError {
     BufferTooSmall(usize),
 }
 
-/// Writes the reason.
+/// Puts the reason.
+impl Printed for NormalWriteError {
+    ghost use Rattle.uefi_path.specs.PathErrors.{normal_write_error_text};
+
+    ghost printed = { normal_write_error_text };
+
+    #[tactic(auto, using(uefi_text::proofs::Puts::puts))]
+    fn put<S: TextSink>(&self, sink: &mut S) {
+        match self {
+            NormalWriteError::Invalid(error) => error.put(sink),
+            NormalWriteError::BufferTooSmall(needed) => {
+                put_decimal(
+                    sink,
+                    "buffer too small: the normal path needs ",
+                    *needed as u64,
+                );
+                sink.put_str(" units");
+            }
+        }
+    }
+}
+
+/// Prints the same.
 impl fmt::Display for NormalWriteError {
     ghost use Rattle.std.specs.Prelude.{Some};
     ghost use Rattle.uefi_path.specs.PathErrors.{normal_write_error_text};
@@ -131,12 +155,7 @@ impl fmt::Display for NormalWriteError {
     ghost output = { λ error. Some (normal_write_error_text error) };
 
     fn fmt<W: fmt::Write>(&self, f: &mut fmt::Formatter<W>) -> fmt::Result {
-        match self {
-            NormalWriteError::Invalid(error) => fmt::Display::fmt(error, f),
-            NormalWriteError::BufferTooSmall(needed) => {
-                write!(f, "buffer too small: the normal path needs {needed} units")
-            }
-        }
+        print(f, self)
     }
 }
 

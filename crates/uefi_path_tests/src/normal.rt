@@ -1,7 +1,7 @@
 //! Normal paths: what is left of a path's components, and why a path has none.
 
 use crate::fixtures::is_path;
-use for_tests::{prints, repeated, shows, string};
+use for_tests::{prints, repeated, says, string};
 use std::test::Fail;
 use uefi_path::{NormalizeError, Path, PathError};
 use uefi_text::Char16;
@@ -80,6 +80,6 @@ fn printed_refusals(rt: HostRuntime) -> Result<(), Fail> {
     let climbs = NormalizeError::Invalid(PathError::ClimbsAboveRoot);
     let want = "path climbs above the root|Invalid(ClimbsAboveRoot)";
     assert!(rt; prints(rt.alloc(), &climbs, want));
-    assert!(rt; shows(rt.alloc(), &NormalizeError::OutOfMemory, "out of memory"));
+    assert!(rt; says(rt.alloc(), &NormalizeError::OutOfMemory, "out of memory"));
     Ok(())
 }

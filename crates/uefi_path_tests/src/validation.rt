@@ -3,7 +3,7 @@
 
 use crate::fixtures::buffer;
 use crate::validation::Verdict::{Accepted, ClimbsAboveRoot, Empty, EmptyComponent, IllegalChar};
-use for_tests::{hostile_places, repeated, shows, string};
+use for_tests::{hostile_places, repeated, says, string};
 use std::test::Fail;
 use uefi_path::{CHARACTER_DENY_LIST, Path, PathError, separator_str, validate_path};
 use uefi_text::Char16;
@@ -166,7 +166,7 @@ fn printed_errors(rt: HostRuntime) -> Result<(), Fail> {
         ),
         (PathError::ClimbsAboveRoot, "path climbs above the root"),
     ] {
-        assert!(rt; shows(rt.alloc(), &error, want), "{want}");
+        assert!(rt; says(rt.alloc(), &error, want), "{want}");
     }
     Ok(())
 }

@@ -2,7 +2,7 @@
 
 use crate::normal::NORMAL;
 use crate::parents::PARENTS;
-use for_tests::{holds, shows, string};
+use for_tests::{holds, says, string};
 use std::test::Fail;
 use uefi_path::{NormalWriteError, Path};
 
@@ -107,13 +107,13 @@ fn written_normal_paths(rt: HostRuntime) -> Result<(), Fail> {
         assert!(rt; are_written(&rt, text, true, None)?, "{text}");
         let path = string(rt.alloc(), text)?;
         if let Err(error) = Path::new(path.as_cstr16()).write_normal(&mut []) {
-            assert!(rt; shows(rt.alloc(), &error, why), "{text}");
+            assert!(rt; says(rt.alloc(), &error, why), "{text}");
         }
     }
     let path = string(rt.alloc(), "a/b")?;
     if let Err(error) = Path::new(path.as_cstr16()).write_normal(&mut [0; 2]) {
         let why = "buffer too small: the normal path needs 3 units";
-        assert!(rt; shows(rt.alloc(), &error, why));
+        assert!(rt; says(rt.alloc(), &error, why));
     }
     Ok(())
 }

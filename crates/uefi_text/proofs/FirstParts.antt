@@ -7,7 +7,7 @@ use Rattle.std.proofs.lemmas.List.{drop-drop}
 use Rattle.uefi_text.specs.Case.{upper}
 use Rattle.uefi_text.specs.Patterns.{HasNoEnd, IsInSet, Matches, Nothing, Any, One, OneOf, Itself}
 use Rattle.uefi_text.specs.PatternParts.{Refuses, TakesOne, OneThen, is_right_bracket}
-use Rattle.uefi_text.proofs.PatternCuts.{CutOne, apart, one_cut, one_of_cut, only_nothing, open_set, same_cut}
+use Rattle.uefi_text.proofs.PatternCuts.{CutOne, apart, one_cut, one_of_cut, open_set, same_cut}
 
 record Found (units : List ℕ) (end : ℕ) : Type 0 where
   inside : end < length units
@@ -61,10 +61,6 @@ refuses_by takes pattern rest unit cut never text m =
     let at = cut (unit ∷ text) m in
     let is : at.first ≡ unit = cc in
     never (subst takes is at.taken)
-
-pub nothing_left : (pattern : List ℕ) (unit : ℕ) → length pattern ≡ 0 → Refuses pattern unit
-nothing_left [] unit empty text m = let e : unit ∷ text ≡ [] = only_nothing (unit ∷ text) m in absurd (cc)
-nothing_left (c ∷ cs) unit empty text m = absurd (omega (arith, empty))
 
 -- a pattern, its first unit and the others, of which that unit and they take just one unit
 on_pattern : (pattern : List ℕ) (c : ℕ) (rest : List ℕ) (n unit : ℕ) → pattern ≡ c ∷ rest → TakesOne (c ∷ rest) (drop n (c ∷ rest)) unit

@@ -4,7 +4,7 @@ pub mod Deciding
 pub mod Finding
 pub mod Texts
 pub mod Utf16
-pub mod Printed
+pub mod PrintedTexts
 pub mod Packing
 pub mod UnitBytes
 pub mod Prefixes
@@ -24,3 +24,6 @@ pub mod SearchSteps
 pub mod SearchCosts
 pub mod SetPlaces
 pub mod PatternsWithoutCase
+pub mod Puts
+pub mod SunkUnits
+pub mod Numerals

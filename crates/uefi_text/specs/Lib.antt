@@ -20,3 +20,4 @@ pub mod PatternLaws
 pub mod PackedStrings
 pub mod Runs
 pub mod Views
+pub mod UnitTexts

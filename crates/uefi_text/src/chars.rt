@@ -8,6 +8,7 @@ ghost use Rattle.std.specs.Prelude.{◌≡◌, ◌<◌, ◌≤◌, ◌^◌, ◌�
 ghost use Rattle.std.specs.Result.{OkIff};
 ghost use Rattle.uefi_text.specs.Units.{IsChar16, denied_characters, is_surrogate};
 
+use crate::text_sink::{Printed, TextSink, print};
 use std::error::Error;
 use std::fmt;
 use std::marker::Model;
@@ -16,14 +17,25 @@ use std::marker::Model;
 #[derive(Clone, Copy, Debug, PartialEq, Eq)]
 pub struct CharConversionError;
 
-/// Writes `CharConversionError`.
+/// Puts `CharConversionError`.
+impl Printed for CharConversionError {
+    ghost use Rattle.std.specs.Prelude.{Some, codes};
+
+    ghost printed = { λ _. codes "CharConversionError" };
+
+    fn put<S: TextSink>(&self, sink: &mut S) {
+        sink.put_str("CharConversionError");
+    }
+}
+
+/// Prints the same.
 impl fmt::Display for CharConversionError {
     ghost use Rattle.std.specs.Prelude.{Some, codes};
 
     ghost output = { λ _. Some (codes "CharConversionError") };
 
     fn fmt<W: fmt::Write>(&self, f: &mut fmt::Formatter<W>) -> fmt::Result {
-        f.write_str("CharConversionError")
+        print(f, self)
     }
 }
 

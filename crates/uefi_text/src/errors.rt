@@ -1,5 +1,7 @@
 //! Why bytes, code units and texts are refused as a string. The modules [`strs`](crate::strs) and
 //! [`owned_strs`](crate::owned_strs) re-export these, under whose names callers know them.
+use crate::number_texts::put_decimal;
+use crate::text_sink::{Printed, TextSink, print};
 use std::error::Error;
 use std::fmt;
 
@@ -17,7 +19,26 @@ pub enum FromSliceUntilNulError {
     OutOfMemory,
 }
 
-/// Writes the reason, with its number in decimal.
+/// Puts the reason, with its number in decimal.
+impl Printed for FromSliceUntilNulError {
+    ghost use Rattle.uefi_text.specs.ErrorTexts.{from_slice_until_nul_error_text};
+
+    ghost printed = { from_slice_until_nul_error_text };
+
+    fn put<S: TextSink>(&self, sink: &mut S) {
+        match self {
+            Self::InvalidChar(place) => put_decimal(
+                sink,
+                "invalid character at index ",
+                *place as u64,
+            ),
+            Self::NoNul => sink.put_str("no nul character"),
+            Self::OutOfMemory => sink.put_str("out of memory"),
+        }
+    }
+}
+
+/// Prints the same.
 impl fmt::Display for FromSliceUntilNulError {
     ghost use Rattle.std.specs.Prelude.{Some};
     ghost use Rattle.uefi_text.specs.ErrorTexts.{from_slice_until_nul_error_text};
@@ -25,11 +46,7 @@ impl fmt::Display for FromSliceUntilNulError {
     ghost output = { λ error. Some (from_slice_until_nul_error_text error) };
 
     fn fmt<W: fmt::Write>(&self, f: &mut fmt::Formatter<W>) -> fmt::Result {
-        match self {
-            Self::InvalidChar(place) => write!(f, "invalid character at index {place}"),
-            Self::NoNul => f.write_str("no nul character"),
-            Self::OutOfMemory => f.write_str("out of memory"),
-        }
+        print(f, self)
     }
 }
 
@@ -56,7 +73,32 @@ pub enum FromSliceWithNulError {
     OutOfMemory,
 }
 
-/// Writes the reason, with its number in decimal.
+/// Puts the reason, with its number in decimal.
+impl Printed for FromSliceWithNulError {
+    ghost use Rattle.uefi_text.specs.ErrorTexts.{from_slice_with_nul_error_text};
+
+    ghost printed = { from_slice_with_nul_error_text };
+
+    fn put<S: TextSink>(&self, sink: &mut S) {
+        match self {
+            Self::InvalidChar(place) => put_decimal(
+                sink,
+                "invalid character at index ",
+                *place as u64,
+            ),
+            Self::InteriorNul(place) => put_decimal(
+                sink,
+                "interior null character at index ",
+                *place as u64,
+            ),
+            Self::NotNulTerminated => sink.put_str("not null-terminated"),
+            Self::NotAligned => sink.put_str("slice is not aligned to a 16-bit boundary"),
+            Self::OutOfMemory => sink.put_str("out of memory"),
+        }
+    }
+}
+
+/// Prints the same.
 impl fmt::Display for FromSliceWithNulError {
     ghost use Rattle.std.specs.Prelude.{Some};
     ghost use Rattle.uefi_text.specs.ErrorTexts.{from_slice_with_nul_error_text};
@@ -64,13 +106,7 @@ impl fmt::Display for FromSliceWithNulError {
     ghost output = { λ error. Some (from_slice_with_nul_error_text error) };
 
     fn fmt<W: fmt::Write>(&self, f: &mut fmt::Formatter<W>) -> fmt::Result {
-        match self {
-            Self::InvalidChar(place) => write!(f, "invalid character at index {place}"),
-            Self::InteriorNul(place) => write!(f, "interior null character at index {place}"),
-            Self::NotNulTerminated => f.write_str("not null-terminated"),
-            Self::NotAligned => f.write_str("slice is not aligned to a 16-bit boundary"),
-            Self::OutOfMemory => f.write_str("out of memory"),
-        }
+        print(f, self)
     }
 }
 
@@ -92,7 +128,31 @@ pub enum UnalignedCStr16Error {
     BufferTooSmall,
 }
 
-/// Writes the reason, with its number in decimal.
+/// Puts the reason, with its number in decimal.
+impl Printed for UnalignedCStr16Error {
+    ghost use Rattle.uefi_text.specs.ErrorTexts.{unaligned_cstr16_error_text};
+
+    ghost printed = { unaligned_cstr16_error_text };
+
+    fn put<S: TextSink>(&self, sink: &mut S) {
+        match self {
+            Self::InvalidChar(place) => put_decimal(
+                sink,
+                "invalid character at index ",
+                *place as u64,
+            ),
+            Self::InteriorNul(place) => put_decimal(
+                sink,
+                "interior null character at index ",
+                *place as u64,
+            ),
+            Self::NotNulTerminated => sink.put_str("not null-terminated"),
+            Self::BufferTooSmall => sink.put_str("buffer too small"),
+        }
+    }
+}
+
+/// Prints the same.
 impl fmt::Display for UnalignedCStr16Error {
     ghost use Rattle.std.specs.Prelude.{Some};
     ghost use Rattle.uefi_text.specs.ErrorTexts.{unaligned_cstr16_error_text};
@@ -100,12 +160,7 @@ impl fmt::Display for UnalignedCStr16Error {
     ghost output = { λ error. Some (unaligned_cstr16_error_text error) };
 
     fn fmt<W: fmt::Write>(&self, f: &mut fmt::Formatter<W>) -> fmt::Result {
-        match self {
-            Self::InvalidChar(place) => write!(f, "invalid character at index {place}"),
-            Self::InteriorNul(place) => write!(f, "interior null character at index {place}"),
-            Self::NotNulTerminated => f.write_str("not null-terminated"),
-            Self::BufferTooSmall => f.write_str("buffer too small"),
-        }
+        print(f, self)
     }
 }
 
@@ -125,7 +180,30 @@ pub enum FromStrWithBufError {
     BufferTooSmall,
 }
 
-/// Writes the reason, with its number in decimal.
+/// Puts the reason, with its number in decimal.
+impl Printed for FromStrWithBufError {
+    ghost use Rattle.uefi_text.specs.ErrorTexts.{from_str_with_buf_error_text};
+
+    ghost printed = { from_str_with_buf_error_text };
+
+    fn put<S: TextSink>(&self, sink: &mut S) {
+        match self {
+            Self::InvalidChar(place) => put_decimal(
+                sink,
+                "invalid character at index ",
+                *place as u64,
+            ),
+            Self::InteriorNul(place) => put_decimal(
+                sink,
+                "interior null character at index ",
+                *place as u64,
+            ),
+            Self::BufferTooSmall => sink.put_str("buffer too small"),
+        }
+    }
+}
+
+/// Prints the same.
 impl fmt::Display for FromStrWithBufError {
     ghost use Rattle.std.specs.Prelude.{Some};
     ghost use Rattle.uefi_text.specs.ErrorTexts.{from_str_with_buf_error_text};
@@ -133,11 +211,7 @@ impl fmt::Display for FromStrWithBufError {
     ghost output = { λ error. Some (from_str_with_buf_error_text error) };
 
     fn fmt<W: fmt::Write>(&self, f: &mut fmt::Formatter<W>) -> fmt::Result {
-        match self {
-            Self::InvalidChar(place) => write!(f, "invalid character at index {place}"),
-            Self::InteriorNul(place) => write!(f, "interior null character at index {place}"),
-            Self::BufferTooSmall => f.write_str("buffer too small"),
-        }
+        print(f, self)
     }
 }
 
@@ -156,7 +230,22 @@ pub enum FromStrError {
     OutOfMemory,
 }
 
-/// Writes the reason.
+/// Puts the reason.
+impl Printed for FromStrError {
+    ghost use Rattle.uefi_text.specs.ErrorTexts.{from_str_error_text};
+
+    ghost printed = { from_str_error_text };
+
+    fn put<S: TextSink>(&self, sink: &mut S) {
+        sink.put_str(match *self {
+            FromStrError::InvalidChar => "UCS-2 Conversion Error: Invalid character",
+            FromStrError::InteriorNul => "UCS-2 Conversion Error: Interior null terminator",
+            FromStrError::OutOfMemory => "UCS-2 Conversion Error: Out of memory",
+        });
+    }
+}
+
+/// Prints the same.
 impl fmt::Display for FromStrError {
     ghost use Rattle.std.specs.Prelude.{Some};
     ghost use Rattle.uefi_text.specs.ErrorTexts.{from_str_error_text};
@@ -164,11 +253,7 @@ impl fmt::Display for FromStrError {
     ghost output = { λ error. Some (from_str_error_text error) };
 
     fn fmt<W: fmt::Write>(&self, f: &mut fmt::Formatter<W>) -> fmt::Result {
-        f.write_str(match *self {
-            FromStrError::InvalidChar => "UCS-2 Conversion Error: Invalid character",
-            FromStrError::InteriorNul => "UCS-2 Conversion Error: Interior null terminator",
-            FromStrError::OutOfMemory => "UCS-2 Conversion Error: Out of memory",
-        })
+        print(f, self)
     }
 }
 

@@ -35,6 +35,8 @@ pub mod eq_str_until_nul;
 mod errors;
 mod latin1;
 pub mod laws;
+#[doc(hidden)]
+pub mod number_texts;
 pub mod owned_strs;
 mod packed;
 mod packed_strings;
@@ -43,7 +45,10 @@ pub mod patterns;
 pub mod scans;
 pub mod steps;
 pub mod strs;
+#[doc(hidden)]
+pub mod text_sink;
 pub mod unaligned_slice;
+pub mod unit_sink;
 mod utf8;
 
 pub use char_sink::CharSink;
@@ -55,4 +60,6 @@ pub use strs::{
     FromStrWithBufError, UnalignedCStr16Error, has_no_nul, is_latin1, str_num_latin1_chars,
     str_to_latin1,
 };
+pub use text_sink::{Printed, TextSink};
 pub use unaligned_slice::{Packed, UnalignedSlice, UnalignedSliceIntoIter, UnalignedSliceIter};
+pub use unit_sink::{TextWriteError, write_units};

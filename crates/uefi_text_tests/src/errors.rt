@@ -1,6 +1,6 @@
 //! What errors print for users and for programmers.
 
-use for_tests::shows;
+use for_tests::says;
 use std::test::Fail;
 use uefi_text::{
     CharConversionError, FromSliceUntilNulError as UntilNul, FromSliceWithNulError as WithNul,
@@ -61,21 +61,21 @@ const FROM_STR: &[(FromStrError, &str)] = &[
 #[test]
 fn printed_for_users(rt: HostRuntime) {
     for (error, want) in WITH_NUL {
-        assert!(rt; shows(rt.alloc(), error, want), "{want}");
+        assert!(rt; says(rt.alloc(), error, want), "{want}");
     }
     for (error, want) in UNTIL_NUL {
-        assert!(rt; shows(rt.alloc(), error, want), "{want}");
+        assert!(rt; says(rt.alloc(), error, want), "{want}");
     }
     for (error, want) in PACKED {
-        assert!(rt; shows(rt.alloc(), error, want), "{want}");
+        assert!(rt; says(rt.alloc(), error, want), "{want}");
     }
     for (error, want) in WITH_BUFFER {
-        assert!(rt; shows(rt.alloc(), error, want), "{want}");
+        assert!(rt; says(rt.alloc(), error, want), "{want}");
     }
     for (error, want) in FROM_STR {
-        assert!(rt; shows(rt.alloc(), error, want), "{want}");
+        assert!(rt; says(rt.alloc(), error, want), "{want}");
     }
-    assert!(rt; shows(rt.alloc(), &CharConversionError, "CharConversionError"));
+    assert!(rt; says(rt.alloc(), &CharConversionError, "CharConversionError"));
 }
 
 #[test]

@@ -7,6 +7,7 @@ use std::alloc::Allocator;
 use std::error::Error;
 use std::fmt;
 use uefi_path::{PathBuf, PathError, validate_path};
+use uefi_text::text_sink::{Printed, TextSink, print};
 use uefi_text::{CString16, FromSliceWithNulError, UnalignedSlice};
 
 /// Why bytes are no path.
@@ -26,7 +27,23 @@ pub enum JudgeError {
     OutOfMemory,
 }
 
-/// Writes the reason; of `Text` and `Invalid`, the one within.
+/// Puts the reason; of `Text` and `Invalid`, the one within.
+impl Printed for JudgeError {
+    ghost use Rattle.upath.specs.ErrorTexts.{judge_error_text};
+
+    ghost printed = { judge_error_text };
+
+    fn put<S: TextSink>(&self, sink: &mut S) {
+        match self {
+            JudgeError::HalfUnit => sink.put_str("odd number of bytes"),
+            JudgeError::Text(error) => error.put(sink),
+            JudgeError::Invalid(error) => error.put(sink),
+            JudgeError::OutOfMemory => sink.put_str("out of memory"),
+        }
+    }
+}
+
+/// Prints the same.
 impl fmt::Display for JudgeError {
     ghost use Rattle.std.specs.Prelude.{Some};
     ghost use Rattle.upath.specs.ErrorTexts.{judge_error_text};
@@ -34,12 +51,7 @@ impl fmt::Display for JudgeError {
     ghost output = { λ error. Some (judge_error_text error) };
 
     fn fmt<W: fmt::Write>(&self, f: &mut fmt::Formatter<W>) -> fmt::Result {
-        match self {
-            JudgeError::HalfUnit => f.write_str("odd number of bytes"),
-            JudgeError::Text(error) => fmt::Display::fmt(error, f),
-            JudgeError::Invalid(error) => fmt::Display::fmt(error, f),
-            JudgeError::OutOfMemory => f.write_str("out of memory"),
-        }
+        print(f, self)
     }
 }
 

@@ -11,6 +11,8 @@ use std::alloc::{AllocError, Allocator};
 use std::error::Error;
 use std::fmt;
 use uefi_path::{Path, PathBuf, laws};
+use uefi_text::number_texts::put_decimal;
+use uefi_text::text_sink::{Printed, TextSink, print};
 use uefi_text::{CStr16, Char16Slice};
 
 /// An edit of a path buffer.
@@ -39,7 +41,20 @@ pub struct RunFault {
     pub done: usize,
 }
 
-/// Writes `out of memory after N commands`, N in decimal.
+/// Puts `out of memory after N commands`, N in decimal.
+impl Printed for RunFault {
+    ghost use Rattle.upath.specs.ErrorTexts.{run_fault_text};
+
+    ghost printed = { λ fault. run_fault_text fault.done };
+
+    #[tactic(auto, using(uefi_text::proofs::Puts::puts))]
+    fn put<S: TextSink>(&self, sink: &mut S) {
+        put_decimal(sink, "out of memory after ", self.done as u64);
+        sink.put_str(" commands");
+    }
+}
+
+/// Prints the same.
 impl fmt::Display for RunFault {
     ghost use Rattle.std.specs.Prelude.{Some};
     ghost use Rattle.upath.specs.ErrorTexts.{run_fault_text};
@@ -47,8 +62,7 @@ impl fmt::Display for RunFault {
     ghost output = { λ fault. Some (run_fault_text fault.done) };
 
     fn fmt<W: fmt::Write>(&self, f: &mut fmt::Formatter<W>) -> fmt::Result {
-        let done = self.done;
-        write!(f, "out of memory after {done} commands")
+        print(f, self)
     }
 }
 

@@ -11,6 +11,7 @@ use std::alloc::Allocator;
 use std::error::Error;
 use std::fmt;
 use std::io::{Read, Write};
+use uefi_text::text_sink::{Printed, TextSink, print};
 
 /// Why a run from a reader to a writer ended early.
 #[derive(Clone, Copy, Debug, PartialEq, Eq)]
@@ -25,7 +26,22 @@ pub enum StreamFault {
     OutOfMemory,
 }
 
-/// Writes what failed.
+/// Puts what failed.
+impl Printed for StreamFault {
+    ghost use Rattle.upath.specs.ErrorTexts.{stream_fault_text};
+
+    ghost printed = { stream_fault_text };
+
+    fn put<S: TextSink>(&self, sink: &mut S) {
+        match self {
+            StreamFault::Read => sink.put_str("a read failed"),
+            StreamFault::Write => sink.put_str("a write failed"),
+            StreamFault::OutOfMemory => sink.put_str("out of memory"),
+        }
+    }
+}
+
+/// Prints the same.
 impl fmt::Display for StreamFault {
     ghost use Rattle.std.specs.Prelude.{Some};
     ghost use Rattle.upath.specs.ErrorTexts.{stream_fault_text};
@@ -33,11 +49,7 @@ impl fmt::Display for StreamFault {
     ghost output = { λ fault. Some (stream_fault_text fault) };
 
     fn fmt<W: fmt::Write>(&self, f: &mut fmt::Formatter<W>) -> fmt::Result {
-        match self {
-            StreamFault::Read => f.write_str("a read failed"),
-            StreamFault::Write => f.write_str("a write failed"),
-            StreamFault::OutOfMemory => f.write_str("out of memory"),
-        }
+        print(f, self)
     }
 }
 

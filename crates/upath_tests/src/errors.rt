@@ -1,6 +1,6 @@
 //! What errors and commands print.
 
-use for_tests::{prints, shows};
+use for_tests::{prints, says};
 use std::test::Fail;
 use uefi_path::{Path, PathError};
 use uefi_text::{CStr16, FromSliceWithNulError};
@@ -24,7 +24,7 @@ fn printed_errors(rt: HostRuntime) {
         (JudgeError::Invalid(PathError::Empty), "path is empty"),
         (JudgeError::OutOfMemory, "out of memory"),
     ] {
-        assert!(rt; shows(rt.alloc(), &error, want), "{want}");
+        assert!(rt; says(rt.alloc(), &error, want), "{want}");
     }
     for (fault, want) in STREAM_FAULTS {
         assert!(rt; prints(rt.alloc(), fault, want), "{want}");

@@ -1,6 +1,5 @@
 -- What is refused is the path in the buffer, then the text, and then the room.
 use Rattle.std.proofs.Common.{◌≡◌, ◌∙◌, ◌++◌, ap, sym, subst, ℕ, List, Option, Some, length, arith}
-use Rattle.uefi_device_path.specs.Building.{text_refusal}
 use Rattle.uefi_device_path.specs.PathReading.{HasPath, StopsAt}
 use Rattle.uefi_device_path.specs.Paths.{path_bytes}
 use Rattle.uefi_device_path.specs.declared.errors.PushTextError.{PushTextError}

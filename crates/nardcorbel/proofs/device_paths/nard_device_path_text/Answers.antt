@@ -3,10 +3,10 @@ use Rattle.std.proofs.Common.{◌≡◌, ◌+◌, ◌-◌, ◌^◌, ℕ, ◌<◌
 use Rattle.uefi_text.specs.UnalignedCStr16.{with_prefix}
 use Rattle.uefi_text.specs.Units.{nul_terminated}
 use Rattle.uefi_device_nodes.specs.Nodes.{Node}
-use Rattle.uefi_field_texts.specs.UnitTexts.{TextRefusedFor}
+use Rattle.uefi_text.specs.UnitTexts.{TextRefusedFor}
 use Rattle.uefi_device_path.specs.Views.{nodes_of}
-use Rattle.uefi_field_texts.specs.declared.unit_sink.TextWriteError.{TextWriteError}
-use Rattle.uefi_field_texts.specs.declared.unit_sink.TextWriteError.TheVariants.{BufferTooSmall}
+use Rattle.uefi_text.specs.declared.unit_sink.TextWriteError.{TextWriteError}
+use Rattle.uefi_text.specs.declared.unit_sink.TextWriteError.TheVariants.{BufferTooSmall}
 use Rattle.nardcorbel.specs.DevicePaths.{needed_units, text_units}
 use Rattle.nardcorbel.specs.Reasons.{node_reason}
 use Rattle.nardcorbel.proofs.Tails.{written_with_nul}

@@ -1,4 +1,4 @@
-use Rattle.std.proofs.Common.{◌≡◌, ◌-◌, true, List, ℕ, length, sym, subst, arith}
+use Rattle.std.proofs.Common.{◌-◌, true, List, ℕ, length, sym, subst, arith}
 use Rattle.std.proofs.lemmas.Bool.Decides.{nat_tests}
 use Rattle.uefi_device_nodes.specs.Nodes.{Node}
 use Rattle.uefi_node_reader.specs.TextNodeViews.{text_node}

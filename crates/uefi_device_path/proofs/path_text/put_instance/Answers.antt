@@ -5,7 +5,7 @@ use Rattle.uefi_device_nodes.specs.NodeTexts.{node_text}
 use Rattle.uefi_device_nodes.specs.NodeViews.{node_of}
 use Rattle.uefi_device_path.specs.Paths.{nodes_in}
 use Rattle.uefi_device_path.specs.PathTexts.{instance_text}
-use Rattle.uefi_field_texts.proofs.Puts.{puts_as, puts_three}
+use Rattle.uefi_text.proofs.Puts.{puts_as, puts_three}
 use Rattle.uefi_device_path.proofs.PathTexts.{after_more, after_none, first_piece}
 use Rattle.uefi_device_path.proofs.Splits.{nodes_in-nil}
 use Rattle.uefi_device_path.proofs.path_text.put_instance.Goals as goal

@@ -1,7 +1,7 @@
 -- One instance more is put.
 use Rattle.std.proofs.Common.{◌≡◌, [], ◌∷◌, ◌++◌, codes, ap, refl, ◌∙◌, arith}
 use Rattle.std.proofs.lemmas.Grind.{common_steps}
-use Rattle.uefi_field_texts.proofs.Puts.{puts_as, puts_three}
+use Rattle.uefi_text.proofs.Puts.{puts_as, puts_three}
 use Rattle.uefi_device_path.specs.Instances.{instances, instances_in}
 use Rattle.uefi_device_path.specs.Paths.{nodes_in}
 use Rattle.uefi_device_path.specs.PathTexts.{instance_text, path_text}

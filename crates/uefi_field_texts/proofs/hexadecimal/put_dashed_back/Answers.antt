@@ -1,7 +1,7 @@
 -- One byte more is put.
 use Rattle.std.proofs.Common.{arith}
 use Rattle.uefi_field_texts.proofs.HexBack.{dashed_more}
-use Rattle.uefi_field_texts.proofs.Puts.{puts_two}
+use Rattle.uefi_text.proofs.Puts.{puts_two}
 use Rattle.uefi_field_texts.proofs.hexadecimal.put_dashed_back.Goals as goal
 
 pub loop-place-preserved : goal.loop-place-preserved

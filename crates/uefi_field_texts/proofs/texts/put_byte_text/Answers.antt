@@ -1,7 +1,7 @@
 -- One byte more is put.
 use Rattle.uefi_field_texts.specs.FieldTexts.{shown_byte, shown_bytes}
 use Rattle.uefi_field_texts.proofs.HexBack.{byte_more}
-use Rattle.uefi_field_texts.proofs.Puts.{puts_two}
+use Rattle.uefi_text.proofs.Puts.{puts_two}
 use Rattle.uefi_field_texts.proofs.texts.put_byte_text.Goals as goal
 
 pub loop-byte-preserved : goal.loop-byte-preserved

@@ -1,6 +1,6 @@
 use Rattle.std.proofs.Common.{◌∙◌}
 use Rattle.uefi_node_table.specs.Rows.{as_item}
-use Rattle.uefi_field_texts.proofs.Puts.{puts_two}
+use Rattle.uefi_text.proofs.Puts.{puts_two}
 use Rattle.uefi_node_table.proofs.Items.{item_left, items_more, rest_more}
 use Rattle.uefi_node_table.proofs.printing.put_list.Goals as goal
 

@@ -1,7 +1,7 @@
 use Rattle.std.proofs.Common.{length}
 use Rattle.uefi_node_table.specs.Rows.{as_piece, is_within, piece_text}
 use Rattle.uefi_node_table.proofs.Lists.{all_at, text_more}
-use Rattle.uefi_field_texts.proofs.Puts.{puts_two}
+use Rattle.uefi_text.proofs.Puts.{puts_two}
 use Rattle.uefi_node_table.proofs.printing.put_pieces.Goals as goal
 
 pub put_piece-requires : goal.put_piece-requires

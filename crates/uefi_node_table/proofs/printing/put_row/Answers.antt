@@ -1,7 +1,7 @@
 use Rattle.std.proofs.Common.{length}
 use Rattle.uefi_node_table.specs.Rows.{as_form}
 use Rattle.uefi_node_table.proofs.Forms.{parts_text, wider}
-use Rattle.uefi_field_texts.proofs.Puts.{puts_five}
+use Rattle.uefi_text.proofs.Puts.{puts_five}
 use Rattle.uefi_node_table.proofs.printing.put_row.Goals as goal
 
 pub put_pieces-requires : goal.put_pieces-requires

@@ -2,7 +2,7 @@
 use Rattle.std.proofs.Common.{◌+◌, ◌++◌, ◌∙◌, ap, append_assoc, get_or, length, take, arith}
 use Rattle.std.specs.Prelude.{encode_utf8, encode_utf8_all}
 use Rattle.std.proofs.lemmas.List.{length-append}
-use Rattle.uefi_text.proofs.Printed.{encode_utf8_all-take_more}
+use Rattle.uefi_text.proofs.PrintedTexts.{encode_utf8_all-take_more}
 use Rattle.uefi_text.proofs.Utf8Bytes.{length-encode_utf8_all-take}
 use Rattle.uefi_text.proofs.utf8.write_each.Goals as goal
 

@@ -1,4 +1,4 @@
-use Rattle.uefi_field_texts.proofs.Puts.{puts_as}
+use Rattle.uefi_text.proofs.Puts.{puts_as}
 use Rattle.uefi_node_reader.proofs.LenientReads.{text_or_none}
 use Rattle.uefi_node_reader.proofs.lenient_table.TableTextPrinted.put.Goals as goal
 

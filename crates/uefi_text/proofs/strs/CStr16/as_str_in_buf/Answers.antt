@@ -2,7 +2,7 @@
 use Rattle.std.proofs.Common.{◌≡◌, ◌<◌, ◌+◌, ◌-◌, ◌++◌, ◌∙◌, ℕ, List, append_assoc, ap, get_or, length, take, drop, subst, arith}
 use Rattle.std.specs.Prelude.{encode_utf8_all, slice_range}
 use Rattle.std.proofs.lemmas.List.{get_or-drop, get_or-take, length-drop, length-take, take-take}
-use Rattle.uefi_text.proofs.Printed.{encode_utf8_all-block}
+use Rattle.uefi_text.proofs.PrintedTexts.{encode_utf8_all-block}
 use Rattle.uefi_text.specs.Views.{text_of, units_of}
 use Rattle.uefi_text.proofs.Values.{on_err}
 use Rattle.uefi_text.proofs.strs.CStr16.as_str_in_buf.Goals as goal

@@ -1,7 +1,7 @@
 -- Each character follows those before it.
 use Rattle.std.proofs.Common.{arith}
 use Rattle.std.proofs.lemmas.Grind.{common_steps}
-use Rattle.uefi_text.proofs.Printed.{encode_utf8_all-push}
+use Rattle.uefi_text.proofs.PrintedTexts.{encode_utf8_all-push}
 use Rattle.uefi_text.proofs.strs.Char16Slice.write_each_to.Goals as goal
 
 pub loop-c-preserved : goal.loop-c-preserved

@@ -1,7 +1,7 @@
 -- The UTF-8 of characters is a Rust text.
 use Rattle.std.proofs.Common.{refl, subst, sym}
 use Rattle.std.specs.Str.{IsUtf8}
-use Rattle.uefi_text.proofs.Printed.{scalars-characters}
+use Rattle.uefi_text.proofs.PrintedTexts.{scalars-characters}
 use Rattle.uefi_text.proofs.Texts.{scalars-All}
 use Rattle.uefi_text.proofs.strs.Char16Slice.write_whole_to.Goals as goal
 

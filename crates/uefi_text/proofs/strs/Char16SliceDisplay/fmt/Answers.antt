@@ -1,7 +1,7 @@
 -- Each block follows those before it.
 use Rattle.std.proofs.Common.{rules, ◌∙◌, arith}
 use Rattle.std.proofs.lemmas.Grind.{put_two}
-use Rattle.uefi_text.proofs.Printed.{IsUtf8-block, block_written, scalars-characters}
+use Rattle.uefi_text.proofs.PrintedTexts.{IsUtf8-block, block_written, scalars-characters}
 use Rattle.uefi_text.proofs.strs.Char16SliceDisplay.fmt.Goals as goal
 
 pub from_utf8_unchecked-requires : goal.from_utf8_unchecked-requires

@@ -1,0 +1,161 @@
+//! Texts that are written into a caller's buffer as UTF-16.
+#![tactic(auto, using(crate::proofs::Puts::puts))]
+
+ghost use Rattle.std.specs.Prelude.{◌≡◌, ℕ, ◌+◌, ◌≤◌, ◌++◌, ◌∷◌, [], List, IfErr, IfOk, OnErr, OnOk, drop, length, take};
+ghost use Rattle.std.specs.Char.Escape.{encode_utf16};
+ghost use Rattle.uefi_text.specs.UnitTexts.{AreSunk, TextRefusedFor, utf16_units};
+ghost use Rattle.uefi_text.specs.Units.{nul_terminated};
+
+use crate::number_texts::put_decimal;
+use crate::text_sink::{Printed, TextSink, print};
+use std::error::Error;
+use std::fmt;
+
+/// Why a text is not written into a buffer.
+#[derive(Clone, Copy, Debug, PartialEq, Eq)]
+pub enum TextWriteError {
+    /// The buffer has fewer places than the text has units with its NUL, which are this many, or `usize::MAX`
+    /// where they are more.
+    BufferTooSmall(usize),
+}
+
+/// Puts what is wrong, in words.
+impl Printed for TextWriteError {
+    ghost use Rattle.uefi_text.specs.UnitTexts.{text_write_error_text};
+
+    ghost printed = { text_write_error_text };
+
+    fn put<S: TextSink>(&self, sink: &mut S) {
+        match self {
+            Self::BufferTooSmall(needed) => {
+                put_decimal(sink, "buffer too small: the text needs ", *needed as u64);
+                sink.put_str(" units");
+            }
+        }
+    }
+}
+
+/// Prints the same.
+impl fmt::Display for TextWriteError {
+    ghost use Rattle.std.specs.Prelude.{Some};
+    ghost use Rattle.uefi_text.specs.UnitTexts.{text_write_error_text};
+
+    ghost output = { λ error. Some (text_write_error_text error) };
+
+    fn fmt<W: fmt::Write>(&self, f: &mut fmt::Formatter<W>) -> fmt::Result {
+        print(f, self)
+    }
+}
+
+impl Error for TextWriteError {}
+
+/// A buffer, and how many units were written to it, whether it has room for them or not.
+#[derive(Drop)]
+struct UnitSink<'b> {
+    buffer: &'b mut [u16],
+    len: usize,
+}
+
+impl<'b> UnitSink<'b> {
+    /// The buffer before any unit.
+    fn of(buffer: &'b mut [u16]) -> Self
+        ensures same_reference { result.buffer.ghost_name ≡ buffer.entry.ghost_name }
+        ensures none { AreSunk [] buffer.old result.buffer.now result.len }
+    {
+        UnitSink { buffer, len: 0 }
+    }
+
+    /// Adds a unit, where the buffer has a place for it.
+    fn add_unit(&mut self, unit: u16)
+        ensures same_reference { self.new.buffer.ghost_name ≡ self.old.buffer.ghost_name }
+        ensures sunk { (units old : List ℕ) → AreSunk units old self.old.buffer.now self.old.len →
+            AreSunk (units ++ unit ∷ []) old self.new.buffer.now self.new.len }
+    {
+        if self.len < self.buffer.len() {
+            self.buffer[self.len] = unit;
+        }
+        self.len = self.len.saturating_add(1);
+    }
+
+    /// Adds the one or two units of a character.
+    fn add_char(&mut self, character: char)
+        ensures same_reference { self.new.buffer.ghost_name ≡ self.old.buffer.ghost_name }
+        ensures sunk { (units old : List ℕ) → AreSunk units old self.old.buffer.now self.old.len →
+            AreSunk (units ++ encode_utf16 character) old self.new.buffer.now self.new.len }
+    {
+        let code = character as u32;
+        if code < 0x10000 {
+            self.add_unit(code as u16);
+            return;
+        }
+        self.add_unit((0xd800 + (code - 0x10000) / 0x400) as u16);
+        self.add_unit((0xdc00 + (code - 0x10000) % 0x400) as u16);
+    }
+}
+
+/// Adds the units of each character.
+impl<'b> TextSink for UnitSink<'b> {
+    ghost use Rattle.std.specs.Str.{IsUtf8};
+
+    ghost puts = { λ old text new. (new.buffer.ghost_name ≡ old.buffer.ghost_name)
+        × (IsUtf8 text × ((units start : List ℕ) → AreSunk units start old.buffer.now old.len →
+        AreSunk (units ++ utf16_units text) start new.buffer.now new.len)) };
+
+    fn put_str(&mut self, text: &str) {
+        for character in text.chars() {
+            self.add_char(character);
+        }
+    }
+
+    fn put_char(&mut self, character: char) {
+        self.add_char(character);
+    }
+}
+
+/// Adds the units of the text of a value.
+fn put_text<P: Printed>(sink: &mut UnitSink<'_>, value: &P)
+    ensures same_reference { sink.new.buffer.ghost_name ≡ sink.old.buffer.ghost_name }
+    ensures sunk { (start : List ℕ) → AreSunk [] start sink.old.buffer.now sink.old.len →
+        AreSunk (utf16_units (P.printed value.now)) start sink.new.buffer.now sink.new.len }
+{
+    value.put(sink);
+}
+
+/// Writes the units of the text of a value to a buffer, as many as it has places for, and counts all of
+/// them.
+fn fill_units<P: Printed>(buffer: &mut [u16], value: &P) -> usize
+    ensures { AreSunk (utf16_units (P.printed value.now)) buffer.old buffer.new result }
+{
+    let mut sink = UnitSink::of(buffer);
+    put_text(&mut sink, value);
+    sink.len
+}
+
+/// Writes the text of a value and a NUL to the start of a buffer, and returns how many units these are. What
+/// follows them is unchanged. Refused as `BufferTooSmall`, with the count that it needs; the buffer then
+/// holds as many of the first units as it has places. Takes no memory; one pass.
+///
+/// ```rust
+/// let mut buffer = [0xffff; 20];
+/// assert_eq!(rt; write_units(&mut buffer, &FromSliceUntilNulError::NoNul), Ok(17));
+/// assert!(rt; CStr16::from_u16_with_nul(&buffer[..17])?.eq_str_until_nul("no nul character"));
+/// let refused = write_units(&mut buffer[..16], &FromSliceUntilNulError::NoNul);
+/// assert_eq!(rt; refused, Err(TextWriteError::BufferTooSmall(17)));
+/// ```
+pub fn write_units<P: Printed>(buffer: &mut [u16], value: &P) -> Result<usize, TextWriteError>
+    ensures len { IfOk result (λ len. len ≡ length (utf16_units (P.printed value.now)) + 1) }
+    ensures room { IfOk result (λ len. len ≤ length buffer.old) }
+    ensures ok { OnOk result (buffer.new ≡ nul_terminated (utf16_units (P.printed value.now))
+        ++ drop (length (utf16_units (P.printed value.now)) + 1) buffer.old) }
+    ensures small { OnErr result (buffer.new
+        ≡ take (length buffer.old) (utf16_units (P.printed value.now))) }
+    ensures refusal { IfErr result (λ error.
+        TextRefusedFor (utf16_units (P.printed value.now)) (length buffer.old) error) }
+{
+    let len = fill_units(buffer, value);
+    if buffer.len() <= len {
+        return Err(TextWriteError::BufferTooSmall(len.saturating_add(1)));
+    }
+    buffer[len] = 0;
+    Ok(len + 1)
+}
