@@ -1,5 +1,6 @@
 -- Bytes that are printed one by one, from the first or from the last.
-use Rattle.std.proofs.Common.{◌≡◌, ℕ, zero, suc, ◌+◌, ◌-◌, ◌<◌, ◌==◌, false, if◌then◌else◌, List, [], ◌∷◌, ◌++◌, codes, length, take, reverse, get_or, ap, sym, ◌∙◌, arith}
+use Rattle.std.proofs.Common.{◌≡◌, ℕ, zero, suc, ◌+◌, ◌-◌, ◌<◌, ◌==◌, false, if◌then◌else◌, List, [], ◌∷◌, ◌++◌, codes, append_assoc, length, take, reverse, get_or, ap, sym, ◌∙◌, arith}
+use Rattle.std.proofs.lemmas.Grind.{flat_map-append}
 use Rattle.std.proofs.lemmas.List.{append-nil, flat_map_more, get_or-reverse, length-reverse, length-take, take_more}
 use Rattle.std.specs.List.{flat_map, join_by}
 use Rattle.uefi_field_texts.specs.FieldTexts.{hex_bytes, hex_two}
@@ -9,6 +10,13 @@ pub byte_more : (shown : ℕ → List ℕ) (text bytes : List ℕ) (i : ℕ) →
     → (text ++ flat_map shown (take i bytes)) ++ shown (get_or bytes i 0) ≡ text ++ flat_map shown (take (i + 1) bytes)
 byte_more shown text bytes i h =
     flat_map_more shown text (take i bytes) (get_or bytes i 0) ∙ ap (λ (xs : List ℕ). text ++ flat_map shown xs) (sym (take_more bytes i 0 h))
+
+-- more bytes after a text and bytes
+pub bytes_more : (text before more : List ℕ) → (text ++ hex_bytes before) ++ hex_bytes more ≡ text ++ hex_bytes (before ++ more)
+unfolding hex_bytes
+bytes_more text before more =
+    append_assoc text (flat_map hex_two before) (flat_map hex_two more)
+    ∙ ap (λ (xs : List ℕ). text ++ xs) (sym (flat_map-append hex_two before more))
 
 -- the same from the last byte to the first
 pub hex_back_more : (text bytes : List ℕ) (i : ℕ) → i < length bytes

@@ -1,8 +1,8 @@
 //! Numbers and bytes in hexadecimal, in upper case.
 #![tactic(auto, using(uefi_text::proofs::Puts::puts), unfolding(crate::specs::FieldTexts::hex_two, crate::specs::FieldTexts::hex_four, crate::specs::FieldTexts::hex_bytes, crate::specs::FieldTexts::hex_back, crate::specs::FieldTexts::dashed_back, crate::specs::FieldTexts::comma_bytes))]
 
-ghost use Rattle.std.specs.Fmt.{WritesInCalls};
-ghost use Rattle.std.specs.Prelude.{◌++◌, codes, if◌then◌else◌};
+ghost use Rattle.std.specs.Fmt.{WritesInCalls, digit_glyph};
+ghost use Rattle.std.specs.Prelude.{◌≡◌, ◌<◌, ◌++◌, codes, if◌then◌else◌, true};
 ghost use Rattle.uefi_field_texts.specs.FieldTexts.{comma_bytes, dashed_back, hex, hex_back, hex_bytes, hex_four, hex_two};
 
 use uefi_text::number_texts::put_digits;
@@ -32,12 +32,54 @@ pub fn put_word<S: TextSink>(sink: &mut S, word: u16)
     put_two(sink, (word % 256) as u8);
 }
 
+/// The digit of a number below 16, as a byte of a text.
+fn digit(n: u8) -> u8
+    requires { n < 16 }
+    ensures { result ≡ digit_glyph true n }
+{
+    if n < 10 { b'0' + n } else { b'A' - 10 + n }
+}
+
+/// Puts eight bytes as one text.
+fn put_eight<S: TextSink>(sink: &mut S, bytes: [u8; 8])
+    ensures { WritesInCalls S.puts sink.old (hex_bytes bytes) sink.new }
+{
+    let [a, b, c, d, e, f, g, h] = bytes;
+    let digits = [
+        digit(a / 16),
+        digit(a % 16),
+        digit(b / 16),
+        digit(b % 16),
+        digit(c / 16),
+        digit(c % 16),
+        digit(d / 16),
+        digit(d % 16),
+        digit(e / 16),
+        digit(e % 16),
+        digit(f / 16),
+        digit(f % 16),
+        digit(g / 16),
+        digit(g % 16),
+        digit(h / 16),
+        digit(h % 16),
+    ];
+    let Ok(text) = str::from_utf8(&digits) else {
+        unreachable!()
+    };
+    sink.put_str(text);
+}
+
 /// Puts a text, and bytes in order, two digits each.
 pub fn put_bytes<S: TextSink>(sink: &mut S, text: &str, bytes: &[u8])
     ensures { WritesInCalls S.puts sink.old (text.now ++ hex_bytes bytes.now) sink.new }
 {
     sink.put_str(text);
-    for byte in bytes {
+    let mut rest = bytes;
+    'eights: while let [a, b, c, d, e, f, g, h, after @ ..] = rest {
+        put_eight(sink, [*a, *b, *c, *d, *e, *f, *g, *h]);
+        rest = after;
+    }
+    for byte in rest {
         put_two(sink, *byte);
     }
 }
