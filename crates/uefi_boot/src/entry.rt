@@ -1,11 +1,12 @@
 //! What an entry says.
+use crate::texts::text_of;
 use serde::Serialize;
 use std::alloc::{AllocError, Global};
 use std::fmt::{self, Write};
 use uefi_device_path::media::FilePath;
 use uefi_device_path::{
-    DevicePathNode, DevicePathNodeIterator, DevicePaths, FilePathCause, LoadOption,
-    LoadOptionParts, NodeConversionError, is_escaped,
+    AllowShortcuts, DevicePathNode, DevicePathNodeIterator, DevicePaths, DisplayOnly,
+    FilePathCause, LoadOption, LoadOptionParts, NodeConversionError, is_escaped,
 };
 use uefi_path::{Path, validate_path};
 use uefi_text::strs::Char16Slice;
@@ -141,7 +142,8 @@ impl Shown {
         self.active = Some(is_active);
         self.description = Some(shown_description(alloc, description)?);
         for path in paths {
-            push(&mut self.device_paths, format!(in alloc; "{path}")?)?;
+            let text = path.display(DisplayOnly(false), AllowShortcuts(false));
+            push(&mut self.device_paths, text_of(alloc, &text)?)?;
         }
         Ok(())
     }

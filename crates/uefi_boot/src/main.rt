@@ -23,6 +23,7 @@ ghost use Rattle.std.specs.Prelude.{◌≤◌, IfOk, length};
 
 mod entry;
 mod listing;
+mod texts;
 mod variables;
 
 use entry::{MOST_BYTES, Shown};

@@ -1,0 +1,42 @@
+//! Texts of the library in memory of their own. They grow here without a formatter, which would be asked
+//! for each part of each node.
+use std::alloc::{AllocError, Global};
+use uefi_text::{Printed, TextSink};
+
+/// A text, and whether memory was refused for a part of it.
+#[derive(Drop)]
+struct Growing {
+    text: String,
+    is_refused: bool,
+}
+
+impl TextSink for Growing {
+    ghost use Rattle.std.specs.Prelude.{⊤};
+
+    ghost puts = { λ _ _ _. ⊤ };
+
+    fn put_str(&mut self, text: &str) {
+        if !self.is_refused {
+            self.is_refused = self.text.push_str(text).is_err();
+        }
+    }
+
+    fn put_char(&mut self, character: char) {
+        if !self.is_refused {
+            self.is_refused = self.text.push(character).is_err();
+        }
+    }
+}
+
+/// The text of a value.
+pub(crate) fn text_of<P: Printed>(alloc: Global, value: &P) -> Result<String, AllocError> {
+    let mut sink = Growing {
+        text: String::new(alloc),
+        is_refused: false,
+    };
+    value.put(&mut sink);
+    if sink.is_refused {
+        return Err(AllocError);
+    }
+    Ok(sink.text)
+}
