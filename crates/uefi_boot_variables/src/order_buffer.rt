@@ -15,6 +15,15 @@ use crate::orders::LoadOrder;
 /// An order that is edited in memory of the caller, in which no number stands twice. A contract sees it
 /// as `numbers_in` it, the list of its numbers, and `room_of` it, how many the memory has places for. No
 /// call takes memory.
+///
+/// ```rust
+/// let mut places = [0; 4];
+/// let mut order = OrderBuffer::new(&mut places);
+/// order.push(3)?;
+/// order.push(0)?;
+/// assert_eq!(rt; order.as_slice(), [3, 0].as_slice());
+/// assert!(rt; order.len() == 2 && !order.is_empty() && order.contains(3));
+/// ```
 #[derive(Drop)]
 pub struct OrderBuffer<'a> {
     places: &'a mut [u16],
@@ -36,6 +45,14 @@ impl<'a> OrderBuffer<'a> {
 
     /// The numbers of an order, each where it stands first. Refused exactly where these are more than
     /// the places. Compares each number with those before it.
+    ///
+    /// ```rust
+    /// let order = LoadOrder::from_bytes(&[3, 0, 1, 0, 3, 0])?;
+    /// let mut places = [0; 2];
+    /// let buffer = OrderBuffer::from_order(&mut places, &order)?;
+    /// assert_eq!(rt; buffer.as_slice(), [3, 1].as_slice());
+    /// assert_eq!(rt; OrderBuffer::from_order(&mut [0; 1], &order).err(), Some(OrderFull));
+    /// ```
     pub fn from_order(places: &'a mut [u16], order: &LoadOrder<'_>) -> Result<Self, OrderFull>
         ensures ok { IfOk result (λ buffer. numbers_in buffer ≡ once_each (numbers_of order.now)) }
         ensures room { IfOk result (λ buffer. room_of buffer ≡ length places.old) }
@@ -91,6 +108,14 @@ impl<'a> OrderBuffer<'a> {
 
     /// Puts a number at the end, unless it stands in the order already. Refused exactly where it does
     /// not, and there is no room; the order is then unchanged.
+    ///
+    /// ```rust
+    /// let mut places = [0; 1];
+    /// let mut order = OrderBuffer::new(&mut places);
+    /// assert_eq!(rt; order.push(7), Ok(()));
+    /// assert_eq!(rt; order.push(7), Ok(()));
+    /// assert_eq!(rt; order.push(8), Err(OrderFull));
+    /// ```
     pub fn push(&mut self, number: u16) -> Result<(), OrderFull>
         ensures ok { OnOk result (numbers_in self.new ≡ once_each (numbers_in self.old ++ number ∷ [])) }
         ensures err { OnErr result (numbers_in self.new ≡ numbers_in self.old) }
@@ -109,6 +134,13 @@ impl<'a> OrderBuffer<'a> {
     }
 
     /// Takes a number out, and says whether it stood in the order. The others keep their order.
+    ///
+    /// ```rust
+    /// let mut places = [0; 4];
+    /// let mut order = OrderBuffer::new(&mut places);
+    /// order.push(7)?;
+    /// assert!(rt; order.remove(7) && !order.remove(7));
+    /// ```
     pub fn remove(&mut self, number: u16) -> bool
         ensures numbers { numbers_in self.new ≡ without number (numbers_in self.old) }
         ensures stood { result ≡ stands_in number (numbers_in self.old) }
@@ -124,6 +156,15 @@ impl<'a> OrderBuffer<'a> {
     /// Puts a number at a place among the others, which keep their order: where it stands in the order
     /// already, it moves. A place beyond the end is the end. Refused exactly where the number does not
     /// stand in the order, and there is no room; the order is then unchanged.
+    ///
+    /// ```rust
+    /// let mut places = [0; 3];
+    /// let order = LoadOrder::from_bytes(&[1, 0, 2, 0, 3, 0])?;
+    /// let mut buffer = OrderBuffer::from_order(&mut places, &order)?;
+    /// buffer.insert(0, 3)?;
+    /// assert_eq!(rt; buffer.as_slice(), [3, 1, 2].as_slice());
+    /// assert_eq!(rt; buffer.insert(0, 4), Err(OrderFull));
+    /// ```
     pub fn insert(&mut self, place: usize, number: u16) -> Result<(), OrderFull>
         ensures ok { OnOk result (numbers_in self.new ≡ with_at place number (numbers_in self.old)) }
         ensures err { OnErr result (numbers_in self.new ≡ numbers_in self.old) }
@@ -137,6 +178,14 @@ impl<'a> OrderBuffer<'a> {
 
     /// Moves a number to the front, and says whether it stood in the order; where it did not, nothing
     /// changes. The others keep their order.
+    ///
+    /// ```rust
+    /// let mut places = [0; 3];
+    /// let order = LoadOrder::from_bytes(&[1, 0, 2, 0, 3, 0])?;
+    /// let mut buffer = OrderBuffer::from_order(&mut places, &order)?;
+    /// assert!(rt; buffer.move_to_front(2) && !buffer.move_to_front(4));
+    /// assert_eq!(rt; buffer.as_slice(), [2, 1, 3].as_slice());
+    /// ```
     pub fn move_to_front(&mut self, number: u16) -> bool
         ensures numbers { numbers_in self.new ≡ with_front number (numbers_in self.old) }
         ensures stood { result ≡ stands_in number (numbers_in self.old) }
@@ -150,6 +199,15 @@ impl<'a> OrderBuffer<'a> {
     /// Writes the bytes of the variable, two for each number and the low one first, at the start of a
     /// buffer, and returns their count. Refused exactly where the buffer has fewer places; it is then
     /// unchanged. What follows the bytes is unchanged.
+    ///
+    /// ```rust
+    /// let mut places = [0; 4];
+    /// let mut order = OrderBuffer::new(&mut places);
+    /// order.push(0x1234)?;
+    /// let mut bytes = [0xff; 3];
+    /// assert_eq!(rt; order.write_bytes(&mut bytes), Ok(2));
+    /// assert_eq!(rt; bytes, [0x34, 0x12, 0xff]);
+    /// ```
     pub fn write_bytes(&self, dest: &mut [u8]) -> Result<usize, OrderFull>
         ensures ok { IfOk result (λ count. count ≡ 2 * length (numbers_in self.now)) }
         ensures bytes { OnOk result (dest.new ≡ unit_bytes (numbers_in self.now)

@@ -42,6 +42,11 @@ impl fmt::Display for OrderFull {
 impl Error for OrderFull {}
 
 /// Whether a number stands in an order.
+///
+/// ```rust
+/// assert!(rt; order_edits::contains(&[3, 0, 9], 2, 0));
+/// assert!(rt; !order_edits::contains(&[3, 0, 9], 2, 9));
+/// ```
 pub fn contains(places: &[u16], len: usize, number: u16) -> bool
     ensures { result ≡ stands_in number (take len places.now) }
 {
@@ -50,6 +55,12 @@ pub fn contains(places: &[u16], len: usize, number: u16) -> bool
 
 /// Takes a number out of an order, wherever it stands, and returns how many numbers are left. The
 /// others keep their order.
+///
+/// ```rust
+/// let mut places = [3, 0, 1, 9];
+/// assert_eq!(rt; order_edits::remove(&mut places, 3, 0), 2);
+/// assert_eq!(rt; &places[..2], [3, 1].as_slice());
+/// ```
 pub fn remove(places: &mut [u16], len: usize, number: u16) -> usize
     ensures len { result ≡ length (without number (take len places.old)) }
     ensures places { places.new ≡ over (without number (take len places.old)) places.old }
@@ -91,6 +102,13 @@ pub(crate) fn put(places: &mut [u16], len: usize, place: usize, number: u16)
 /// there are then: where it stands in the order already, it moves. A place beyond the end is the
 /// end. Refused exactly where the number does not stand in the order, and there is no room; the
 /// places are then unchanged.
+///
+/// ```rust
+/// let mut places = [3, 0, 1, 9];
+/// assert_eq!(rt; order_edits::insert(&mut places, 3, 1, 7), Ok(4));
+/// assert_eq!(rt; places, [3, 7, 0, 1]);
+/// assert_eq!(rt; order_edits::insert(&mut places, 4, 0, 8), Err(OrderFull));
+/// ```
 pub fn insert(places: &mut [u16], len: usize, place: usize, number: u16) -> Result<usize, OrderFull>
     ensures ok { IfOk result (λ new_len.
         new_len ≡ length (with_at place number (take len places.old))) }
@@ -110,6 +128,12 @@ pub fn insert(places: &mut [u16], len: usize, place: usize, number: u16) -> Resu
 
 /// Moves a number of an order to the front, and returns how many numbers there are then; where it
 /// does not stand in the order, nothing changes. The others keep their order.
+///
+/// ```rust
+/// let mut places = [3, 0, 1, 9];
+/// assert_eq!(rt; order_edits::move_to_front(&mut places, 3, 1), 3);
+/// assert_eq!(rt; places, [1, 3, 0, 9]);
+/// ```
 pub fn move_to_front(places: &mut [u16], len: usize, number: u16) -> usize
     ensures len { result ≡ length (with_front number (take len places.old)) }
     ensures places { places.new ≡ over (with_front number (take len places.old)) places.old }

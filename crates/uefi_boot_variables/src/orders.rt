@@ -70,6 +70,11 @@ impl Error for NotTwoBytes {}
 
 /// The number that the two bytes of `BootNext` or `BootCurrent` are, the low one first. Refused exactly
 /// where there are fewer or more than two. Takes no memory.
+///
+/// ```rust
+/// assert_eq!(rt; read_number(&[0x1f, 0x02]), Ok(0x21f));
+/// assert_eq!(rt; read_number(&[0x1f]), Err(NotTwoBytes(1)));
+/// ```
 pub fn read_number(bytes: &[u8]) -> Result<u16, NotTwoBytes>
     ensures ok { IfOk result (λ number. bytes.now ≡ unit_bytes (number ∷ [])) }
     ensures refused { IsErr result ↔ ((length bytes.now ≡ 2) → ⊥) }
@@ -83,6 +88,14 @@ pub fn read_number(bytes: &[u8]) -> Result<u16, NotTwoBytes>
 
 /// An order: numbers of load options that lie in the bytes of a variable, wherever these begin. A
 /// contract sees it as `numbers_of` it. No call takes memory.
+///
+/// ```rust
+/// let order = LoadOrder::from_bytes(&[3, 0, 0, 0, 0x1f, 0])?;
+/// assert!(rt; order.len() == 3 && !order.is_empty() && order.contains(3));
+/// assert_eq!(rt; order.get(2), Some(0x1f));
+/// assert_eq!(rt; order.position(0), Some(1));
+/// assert!(rt; order.iter().eq([3, 0, 0x1f]));
+/// ```
 #[derive(Clone, Copy)]
 pub struct LoadOrder<'a> {
     numbers: UnalignedSlice<'a, u16>,
@@ -95,6 +108,11 @@ impl<'a> LoadOrder<'a> {
 
     /// The order that the bytes of a variable are, two for each number and the low one first. Refused
     /// exactly where the bytes are odd in number.
+    ///
+    /// ```rust
+    /// assert_eq!(rt; LoadOrder::from_bytes(&[3, 0, 1, 0])?.get(1), Some(1));
+    /// assert_eq!(rt; LoadOrder::from_bytes(&[3, 0, 1]).err(), Some(OddLength));
+    /// ```
     pub fn from_bytes(bytes: &'a [u8]) -> Result<Self, OddLength>
         ensures numbers { IfOk result (λ order. numbers_of order ≡ units_of_bytes bytes.now) }
         ensures bytes { IfOk result (λ order. unit_bytes (numbers_of order) ≡ bytes.now) }

@@ -37,6 +37,15 @@ impl<'a> LoadOrder<'a> {
     /// The options whose variables are among those that are given as number and bytes: for each number of
     /// the order, in order, the first variable with this number, and nothing where there is none. A number
     /// that stands twice in the order comes twice. Each step looks through the variables.
+    ///
+    /// ```rust
+    /// let order = LoadOrder::from_bytes(&[2, 0, 7, 0, 1, 0])?;
+    /// let variables = [(1, b"one".as_slice()), (2, b"two".as_slice())];
+    /// let mut options = order.present(&variables);
+    /// assert_eq!(rt; options.next(), Some((2, b"two".as_slice())));
+    /// assert_eq!(rt; options.next(), Some((1, b"one".as_slice())));
+    /// assert_eq!(rt; options.next(), None);
+    /// ```
     pub fn present(&self, variables: &'a [(u16, &'a [u8])]) -> PresentOptions<'a>
         ensures same { options_left result ≡ present_options variables.now (numbers_of self.now) }
         ensures runs { GivesEach shown options_left result }

@@ -221,6 +221,11 @@ fn put_name(word: &str, number: u16, places: &mut [u16])
 
 impl LoadOptionKind {
     /// The word that the names of its options begin with.
+    ///
+    /// ```rust
+    /// assert_eq!(rt; LoadOptionKind::Driver.word(), "Driver");
+    /// assert_eq!(rt; LoadOptionKind::PlatformRecovery.word(), "PlatformRecovery");
+    /// ```
     pub fn word(self) -> &'static str
         ensures { result.now ≡ word_of self }
     {
@@ -237,6 +242,12 @@ impl LoadOptionName {
     /// The name that a Rust text is, from its first character to its last. `None` exactly where it is no
     /// name: digits in lower case, fewer or more than four, and other words in another case are none.
     /// Takes no memory.
+    ///
+    /// ```rust
+    /// let name = LoadOptionName { kind: LoadOptionKind::Boot, number: 0x1f };
+    /// assert_eq!(rt; LoadOptionName::from_text("Boot001F"), Some(name));
+    /// assert_eq!(rt; LoadOptionName::from_text("Boot001f"), None);
+    /// ```
     pub fn from_text(text: &str) -> Option<Self>
         ensures ok { IfSome result (λ name. text.now ≡ name_text name) }
         ensures exact { (name : LoadOptionName) → name.number < 2 ^ 16
@@ -246,6 +257,13 @@ impl LoadOptionName {
     }
 
     /// The name that a string is, as [`LoadOptionName::from_text`] reads one. Takes no memory.
+    ///
+    /// ```rust
+    /// let text = CString16::try_from_str(rt.alloc(), "SysPrep000A")?;
+    /// let name = LoadOptionName::from_cstr16(text.as_cstr16());
+    /// assert_eq!(rt; name.map(|it| it.kind), Some(LoadOptionKind::SysPrep));
+    /// assert_eq!(rt; name.map(|it| it.number), Some(10));
+    /// ```
     pub fn from_cstr16(string: CStr16<'_>) -> Option<Self>
         ensures ok { IfSome result (λ name. text_of string.entry ≡ name_text name) }
         ensures exact { (name : LoadOptionName) → name.number < 2 ^ 16
@@ -257,6 +275,14 @@ impl LoadOptionName {
     /// Writes the name as a string at the start of a buffer, and returns the number of its units, the
     /// NUL counted. Refused exactly where the buffer has fewer places; the buffer is then unchanged.
     /// What follows the NUL is unchanged. Takes no memory.
+    ///
+    /// ```rust
+    /// let name = LoadOptionName { kind: LoadOptionKind::Boot, number: 0x1f };
+    /// let mut buffer = [0xffff; 9];
+    /// assert_eq!(rt; name.write_cstr16(&mut buffer), Ok(9));
+    /// assert_eq!(rt; buffer, [0x42, 0x6f, 0x6f, 0x74, 0x30, 0x30, 0x31, 0x46, 0]);
+    /// assert_eq!(rt; name.write_cstr16(&mut [0; 8]), Err(NameBufferTooSmall(9)));
+    /// ```
     pub fn write_cstr16(self, buffer: &mut [u16]) -> Result<usize, NameBufferTooSmall>
         ensures ok { IfOk result (λ len. len ≡ length (name_text self) + 1) }
         ensures buffer { OnOk result (buffer.new
@@ -275,6 +301,13 @@ impl LoadOptionName {
     }
 
     /// Writes the name as [`LoadOptionName::write_cstr16`] does, and borrows it from the buffer.
+    ///
+    /// ```rust
+    /// let name = LoadOptionName { kind: LoadOptionKind::Driver, number: 7 };
+    /// let mut buffer = [0; 16];
+    /// let string = name.to_cstr16(&mut buffer)?;
+    /// assert_eq!(rt; format!(in rt.alloc(); "{string}")?.as_str(), "Driver0007");
+    /// ```
     pub fn to_cstr16(self, buffer: &mut [u16]) -> Result<CStr16<'_>, NameBufferTooSmall>
         ensures ok { IfOk result (λ string. text_of string ≡ name_text self) }
         ensures refused { IsErr result ↔ (length buffer.old ≤ length (name_text self)) }

@@ -11,6 +11,15 @@ use uefi_device_nodes::{DeviceSubType, DeviceType, Guid};
 use uefi_text::scans::split;
 
 /// A drive on an ATA bus.
+///
+/// ```rust
+/// let mut path = DevicePathBuf::new(rt.alloc())?;
+/// path.push_node(&messaging::Atapi {
+///     primary_secondary: 0, master_slave: 1, logical_unit_number: 2,
+/// })?;
+/// let text = format!(in rt.alloc(); "{}", path.as_device_path())?;
+/// assert_eq!(rt; text.as_str(), "Ata(Primary,Slave,0x2)");
+/// ```
 #[derive(Clone, Copy)]
 pub struct Atapi {
     /// The bus: 0 is the primary one, 1 the secondary one.
@@ -43,6 +52,13 @@ impl BuildNode for Atapi {
 }
 
 /// A device on a SCSI bus.
+///
+/// ```rust
+/// let mut path = DevicePathBuf::new(rt.alloc())?;
+/// path.push_node(&messaging::Scsi { target_id: 3, logical_unit_number: 1 })?;
+/// let text = format!(in rt.alloc(); "{}", path.as_device_path())?;
+/// assert_eq!(rt; text.as_str(), "Scsi(0x3,0x1)");
+/// ```
 #[derive(Clone, Copy)]
 pub struct Scsi {
     /// The number of the target on its bus.
@@ -73,6 +89,15 @@ impl BuildNode for Scsi {
 }
 
 /// A device on Fibre Channel.
+///
+/// ```rust
+/// let mut path = DevicePathBuf::new(rt.alloc())?;
+/// path.push_node(&messaging::FibreChannel {
+///     world_wide_name: 0x2100_0024_ff00_0001, logical_unit_number: 1,
+/// })?;
+/// let text = format!(in rt.alloc(); "{}", path.as_device_path())?;
+/// assert_eq!(rt; text.as_str(), "Fibre(0x21000024FF000001,0x1)");
+/// ```
 #[derive(Clone, Copy)]
 pub struct FibreChannel {
     /// The world wide name.
@@ -108,6 +133,15 @@ impl BuildNode for FibreChannel {
 }
 
 /// A device on Fibre Channel, by bytes in the order of the bus.
+///
+/// ```rust
+/// let mut path = DevicePathBuf::new(rt.alloc())?;
+/// path.push_node(&messaging::FibreChannelEx {
+///     world_wide_name: *b"worldwid", logical_unit_number: [0, 1, 0, 0, 0, 0, 0, 0],
+/// })?;
+/// let text = format!(in rt.alloc(); "{}", path.as_device_path())?;
+/// assert_eq!(rt; text.as_str(), "FibreEx(0x776F726C64776964,0x0001000000000000)");
+/// ```
 #[derive(Clone, Copy)]
 pub struct FibreChannelEx {
     /// The bytes of the world wide name.
@@ -143,6 +177,13 @@ impl BuildNode for FibreChannelEx {
 }
 
 /// A FireWire device.
+///
+/// ```rust
+/// let mut path = DevicePathBuf::new(rt.alloc())?;
+/// path.push_node(&messaging::Ieee1394 { guid: *b"firewire" })?;
+/// let text = format!(in rt.alloc(); "{}", path.as_device_path())?;
+/// assert_eq!(rt; text.as_str(), "I1394(6572697765726966)");
+/// ```
 #[derive(Clone, Copy)]
 pub struct Ieee1394 {
     /// The bytes of its GUID, of eight bytes.
@@ -171,6 +212,13 @@ impl BuildNode for Ieee1394 {
 }
 
 /// A device on a USB bus.
+///
+/// ```rust
+/// let mut path = DevicePathBuf::new(rt.alloc())?;
+/// path.push_node(&messaging::Usb { parent_port_number: 3, interface: 1 })?;
+/// let text = format!(in rt.alloc(); "{}", path.as_device_path())?;
+/// assert_eq!(rt; text.as_str(), "USB(0x3,0x1)");
+/// ```
 #[derive(Clone, Copy)]
 pub struct Usb {
     /// The number of the port of its hub.
@@ -199,6 +247,15 @@ impl BuildNode for Usb {
 }
 
 /// A USB device by its serial number.
+///
+/// ```rust
+/// let mut path = DevicePathBuf::new(rt.alloc())?;
+/// path.push_node(&messaging::UsbWwid {
+///     interface_number: 1, device_vendor_id: 0x46d, device_product_id: 0x825,
+///     serial_number: &[0x41, 0x37] })?;
+/// let text = format!(in rt.alloc(); "{}", path.as_device_path())?;
+/// assert_eq!(rt; text.as_str(), "UsbWwid(0x46D,0x825,0x1,\"A7\")");
+/// ```
 #[derive(Clone, Copy)]
 pub struct UsbWwid<'a> {
     /// The number of its interface.
@@ -237,6 +294,15 @@ impl BuildNode for UsbWwid<'_> {
 }
 
 /// Each USB device of a class.
+///
+/// ```rust
+/// let mut path = DevicePathBuf::new(rt.alloc())?;
+/// path.push_node(&messaging::UsbClass {
+///     vendor_id: 0xffff, product_id: 0x825, device_class: 3, device_subclass: 1,
+///     device_protocol: 2 })?;
+/// let text = format!(in rt.alloc(); "{}", path.as_device_path())?;
+/// assert_eq!(rt; text.as_str(), "UsbHID(0xFFFF,0x825,0x1,0x2)");
+/// ```
 #[derive(Clone, Copy)]
 pub struct UsbClass {
     /// The ID of the vendor; 0xffff is any.
@@ -279,6 +345,13 @@ impl BuildNode for UsbClass {
 }
 
 /// A logical unit of the device before it.
+///
+/// ```rust
+/// let mut path = DevicePathBuf::new(rt.alloc())?;
+/// path.push_node(&messaging::DeviceLogicalUnit { logical_unit_number: 2 })?;
+/// let text = format!(in rt.alloc(); "{}", path.as_device_path())?;
+/// assert_eq!(rt; text.as_str(), "Unit(0x2)");
+/// ```
 #[derive(Clone, Copy)]
 pub struct DeviceLogicalUnit {
     /// The logical unit number.
@@ -308,6 +381,13 @@ impl BuildNode for DeviceLogicalUnit {
 }
 
 /// A device on an I2O bus.
+///
+/// ```rust
+/// let mut path = DevicePathBuf::new(rt.alloc())?;
+/// path.push_node(&messaging::I2o { target_id: 9 })?;
+/// let text = format!(in rt.alloc(); "{}", path.as_device_path())?;
+/// assert_eq!(rt; text.as_str(), "I2O(0x9)");
+/// ```
 #[derive(Clone, Copy)]
 pub struct I2o {
     /// The number of the target on its bus.
@@ -334,6 +414,15 @@ impl BuildNode for I2o {
 }
 
 /// A device on a SATA port.
+///
+/// ```rust
+/// let mut path = DevicePathBuf::new(rt.alloc())?;
+/// path.push_node(&messaging::Sata {
+///     hba_port_number: 1, port_multiplier_port_number: 0xffff, logical_unit_number: 0,
+/// })?;
+/// let text = format!(in rt.alloc(); "{}", path.as_device_path())?;
+/// assert_eq!(rt; text.as_str(), "Sata(0x1,0xFFFF,0x0)");
+/// ```
 #[derive(Clone, Copy)]
 pub struct Sata {
     /// The number of the port of the host bus adapter.
@@ -370,6 +459,15 @@ impl BuildNode for Sata {
 }
 
 /// A device on SAS.
+///
+/// ```rust
+/// let mut path = DevicePathBuf::new(rt.alloc())?;
+/// path.push_node(&messaging::SasEx {
+///     sas_address: *b"address!", logical_unit_number: [0; 8], info: 0,
+///     relative_target_port: 2 })?;
+/// let text = format!(in rt.alloc(); "{}", path.as_device_path())?;
+/// assert_eq!(rt; text.as_str(), "SasEx(0x6164647265737321,0x0000000000000000,0x2,NoTopology,0,0,0)");
+/// ```
 #[derive(Clone, Copy)]
 pub struct SasEx {
     /// The bytes of the SAS address.
@@ -408,6 +506,13 @@ impl BuildNode for SasEx {
 }
 
 /// A serial port.
+///
+/// ```rust
+/// let mut path = DevicePathBuf::new(rt.alloc())?;
+/// path.push_node(&messaging::Uart { baud_rate: 115_200, data_bits: 8, parity: 2, stop_bits: 1 })?;
+/// let text = format!(in rt.alloc(); "{}", path.as_device_path())?;
+/// assert_eq!(rt; text.as_str(), "Uart(115200,8,E,1)");
+/// ```
 #[derive(Clone, Copy)]
 pub struct Uart {
     /// The baud rate; 0 is the default of the device.
@@ -444,6 +549,15 @@ impl BuildNode for Uart {
 }
 
 /// A node of a vendor's own, named by a GUID.
+///
+/// ```rust
+/// let mut path = DevicePathBuf::new(rt.alloc())?;
+/// path.push_node(&messaging::Vendor {
+///     vendor_guid: Guid::from_bytes(*b"abcdefghijklmnop"), vendor_defined_data: &[1],
+/// })?;
+/// let text = format!(in rt.alloc(); "{}", path.as_device_path())?;
+/// assert_eq!(rt; text.as_str(), "VenMsg(64636261-6665-6867-696A-6B6C6D6E6F70,01)");
+/// ```
 #[derive(Clone, Copy)]
 pub struct Vendor<'a> {
     /// The GUID that names the vendor.
@@ -475,6 +589,15 @@ impl BuildNode for Vendor<'_> {
 }
 
 /// A namespace of NVM Express.
+///
+/// ```rust
+/// let mut path = DevicePathBuf::new(rt.alloc())?;
+/// path.push_node(&messaging::NvmeNamespace {
+///     namespace_identifier: 1, ieee_extended_unique_identifier: 0x0025_38b1_0000_0007,
+/// })?;
+/// let text = format!(in rt.alloc(); "{}", path.as_device_path())?;
+/// assert_eq!(rt; text.as_str(), "NVMe(0x1,00-25-38-B1-00-00-00-07)");
+/// ```
 #[derive(Clone, Copy)]
 pub struct NvmeNamespace {
     /// The number of the namespace.
@@ -508,6 +631,13 @@ impl BuildNode for NvmeNamespace {
 }
 
 /// A device on UFS.
+///
+/// ```rust
+/// let mut path = DevicePathBuf::new(rt.alloc())?;
+/// path.push_node(&messaging::Ufs { target_id: 0, logical_unit_number: 1 })?;
+/// let text = format!(in rt.alloc(); "{}", path.as_device_path())?;
+/// assert_eq!(rt; text.as_str(), "UFS(0x0,0x1)");
+/// ```
 #[derive(Clone, Copy)]
 pub struct Ufs {
     /// The number of the target on its bus.
@@ -536,6 +666,13 @@ impl BuildNode for Ufs {
 }
 
 /// An SD card.
+///
+/// ```rust
+/// let mut path = DevicePathBuf::new(rt.alloc())?;
+/// path.push_node(&messaging::Sd { slot_number: 1 })?;
+/// let text = format!(in rt.alloc(); "{}", path.as_device_path())?;
+/// assert_eq!(rt; text.as_str(), "SD(0x1)");
+/// ```
 #[derive(Clone, Copy)]
 pub struct Sd {
     /// The number of the slot.
@@ -562,6 +699,13 @@ impl BuildNode for Sd {
 }
 
 /// An eMMC card.
+///
+/// ```rust
+/// let mut path = DevicePathBuf::new(rt.alloc())?;
+/// path.push_node(&messaging::Emmc { slot_number: 2 })?;
+/// let text = format!(in rt.alloc(); "{}", path.as_device_path())?;
+/// assert_eq!(rt; text.as_str(), "eMMC(0x2)");
+/// ```
 #[derive(Clone, Copy)]
 pub struct Emmc {
     /// The number of the slot.
@@ -588,6 +732,13 @@ impl BuildNode for Emmc {
 }
 
 /// A namespace of a persistent memory module.
+///
+/// ```rust
+/// let mut path = DevicePathBuf::new(rt.alloc())?;
+/// path.push_node(&messaging::NvdimmNamespace { uuid: Guid::from_bytes(*b"abcdefghijklmnop") })?;
+/// let text = format!(in rt.alloc(); "{}", path.as_device_path())?;
+/// assert_eq!(rt; text.as_str(), "Path(3,32,6162636465666768696A6B6C6D6E6F70)");
+/// ```
 #[derive(Clone, Copy)]
 pub struct NvdimmNamespace {
     /// The UUID that labels the namespace.

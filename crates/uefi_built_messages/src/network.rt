@@ -5,6 +5,15 @@ use uefi_built_nodes::BuildNode;
 use uefi_device_nodes::{DeviceSubType, DeviceType, Guid};
 
 /// A network interface.
+///
+/// ```rust
+/// let mut address = [0; 32];
+/// address[..6].copy_from_slice(&[0x52, 0x54, 0, 0x12, 0x34, 0x56]);
+/// let mut path = DevicePathBuf::new(rt.alloc())?;
+/// path.push_node(&messaging::MacAddress { mac_address: address, interface_type: 1 })?;
+/// let text = format!(in rt.alloc(); "{}", path.as_device_path())?;
+/// assert_eq!(rt; text.as_str(), "MAC(525400123456,0x1)");
+/// ```
 #[derive(Clone, Copy)]
 pub struct MacAddress {
     /// The address, filled up with zeros.
@@ -35,6 +44,15 @@ impl BuildNode for MacAddress {
 }
 
 /// An endpoint of a connection over IP version 4.
+///
+/// ```rust
+/// let mut path = DevicePathBuf::new(rt.alloc())?;
+/// path.push_node(&messaging::Ipv4 {
+///     local_ip_address: [10, 0, 0, 7], remote_ip_address: [10, 0, 0, 1], local_port: 0, remote_port: 80,
+///     protocol: 6, ip_address_origin: 1, gateway_ip_address: [10, 0, 0, 2], subnet_mask: [255, 0, 0, 0] })?;
+/// let text = format!(in rt.alloc(); "{}", path.as_device_path())?;
+/// assert_eq!(rt; text.as_str(), "IPv4(10.0.0.1,TCP,Static,10.0.0.7,10.0.0.2,255.0.0.0)");
+/// ```
 #[derive(Clone, Copy)]
 pub struct Ipv4 {
     /// The local address.
@@ -89,6 +107,15 @@ impl BuildNode for Ipv4 {
 }
 
 /// An endpoint of a connection over IP version 6.
+///
+/// ```rust
+/// let mut path = DevicePathBuf::new(rt.alloc())?;
+/// path.push_node(&messaging::Ipv6 {
+///     local_ip_address: [b'a'; 16], remote_ip_address: [b'b'; 16], local_port: 0, remote_port: 80,
+///     protocol: 6, ip_address_origin: 2, prefix_length: 64, gateway_ip_address: [0; 16] })?;
+/// let text = format!(in rt.alloc(); "{}", path.as_device_path())?;
+/// assert!(rt; text.starts_with("IPv6(6262:6262:6262:6262:6262:6262:6262:6262,TCP,StatefulAutoConfigure,"));
+/// ```
 #[derive(Clone, Copy)]
 pub struct Ipv6 {
     /// The local address.
@@ -141,6 +168,13 @@ impl BuildNode for Ipv6 {
 }
 
 /// A virtual network.
+///
+/// ```rust
+/// let mut path = DevicePathBuf::new(rt.alloc())?;
+/// path.push_node(&messaging::Vlan { vlan_id: 7 })?;
+/// let text = format!(in rt.alloc(); "{}", path.as_device_path())?;
+/// assert_eq!(rt; text.as_str(), "Vlan(7)");
+/// ```
 #[derive(Clone, Copy)]
 pub struct Vlan {
     /// The number of the network, from 0 to 4094.
@@ -167,6 +201,15 @@ impl BuildNode for Vlan {
 }
 
 /// A device on InfiniBand.
+///
+/// ```rust
+/// let mut path = DevicePathBuf::new(rt.alloc())?;
+/// path.push_node(&messaging::Infiniband {
+///     resource_flags: 8, port_gid: *b"abcdefghijklmnop", ioc_guid_or_service_id: 1,
+///     target_port_id: 2, device_id: 3 })?;
+/// let text = format!(in rt.alloc(); "{}", path.as_device_path())?;
+/// assert_eq!(rt; text.as_str(), "Infiniband(0x8,64636261-6665-6867-696A-6B6C6D6E6F70,0x1,0x2,0x3)");
+/// ```
 #[derive(Clone, Copy)]
 pub struct Infiniband {
     /// What the node names, in bits: 0 an I/O controller or a service, 1 an extension of the boot
@@ -210,6 +253,15 @@ impl BuildNode for Infiniband {
 }
 
 /// An iSCSI target.
+///
+/// ```rust
+/// let mut path = DevicePathBuf::new(rt.alloc())?;
+/// path.push_node(&messaging::Iscsi {
+///     protocol: 0, options: 2, logical_unit_number: [0, 1, 0, 0, 0, 0, 0, 0],
+///     target_portal_group_tag: 1, iscsi_target_name: b"iqn.org:disk" })?;
+/// let text = format!(in rt.alloc(); "{}", path.as_device_path())?;
+/// assert_eq!(rt; text.as_str(), "iSCSI(iqn.org:disk,0x1,0x0001000000000000,CRC32C,None,CHAP_BI,TCP)");
+/// ```
 #[derive(Clone, Copy)]
 pub struct Iscsi<'a> {
     /// The protocol: 0 is TCP.
@@ -252,6 +304,13 @@ impl BuildNode for Iscsi<'_> {
 }
 
 /// What a URI names.
+///
+/// ```rust
+/// let mut path = DevicePathBuf::new(rt.alloc())?;
+/// path.push_node(&messaging::Uri { value: b"http://a/b.efi" })?;
+/// let text = format!(in rt.alloc(); "{}", path.as_device_path())?;
+/// assert_eq!(rt; text.as_str(), "Uri(http://a/b.efi)");
+/// ```
 #[derive(Clone, Copy)]
 pub struct Uri<'a> {
     /// The bytes of the URI.
@@ -278,6 +337,13 @@ impl BuildNode for Uri<'_> {
 }
 
 /// A Bluetooth device.
+///
+/// ```rust
+/// let mut path = DevicePathBuf::new(rt.alloc())?;
+/// path.push_node(&messaging::Bluetooth { device_address: [0x01, 0x23, 0x45, 0x67, 0x89, 0xab] })?;
+/// let text = format!(in rt.alloc(); "{}", path.as_device_path())?;
+/// assert_eq!(rt; text.as_str(), "Bluetooth(0123456789AB)");
+/// ```
 #[derive(Clone, Copy)]
 pub struct Bluetooth {
     /// The bytes of its address.
@@ -304,6 +370,15 @@ impl BuildNode for Bluetooth {
 }
 
 /// A Bluetooth Low Energy device.
+///
+/// ```rust
+/// let mut path = DevicePathBuf::new(rt.alloc())?;
+/// path.push_node(&messaging::BluetoothLe {
+///     device_address: [0x01, 0x23, 0x45, 0x67, 0x89, 0xab], address_type: 1,
+/// })?;
+/// let text = format!(in rt.alloc(); "{}", path.as_device_path())?;
+/// assert_eq!(rt; text.as_str(), "BluetoothLE(0123456789AB,0x01)");
+/// ```
 #[derive(Clone, Copy)]
 pub struct BluetoothLe {
     /// The bytes of its address.
@@ -334,6 +409,15 @@ impl BuildNode for BluetoothLe {
 }
 
 /// A wireless network.
+///
+/// ```rust
+/// let mut ssid = [0; 32];
+/// ssid[..4].copy_from_slice(b"home");
+/// let mut path = DevicePathBuf::new(rt.alloc())?;
+/// path.push_node(&messaging::Wifi { ssid })?;
+/// let text = format!(in rt.alloc(); "{}", path.as_device_path())?;
+/// assert_eq!(rt; text.as_str(), "Wi-Fi(home)");
+/// ```
 #[derive(Clone, Copy)]
 pub struct Wifi {
     /// The name of the network, its SSID, filled up with zeros.
@@ -360,6 +444,15 @@ impl BuildNode for Wifi {
 }
 
 /// Name servers.
+///
+/// ```rust
+/// let mut path = DevicePathBuf::new(rt.alloc())?;
+/// path.push_node(&messaging::Dns {
+///     address_type: 0, addresses: &[9, 9, 9, 9, 0, 0, 0, 0, 0, 0, 0, 0, 0, 0, 0, 0],
+/// })?;
+/// let text = format!(in rt.alloc(); "{}", path.as_device_path())?;
+/// assert_eq!(rt; text.as_str(), "Dns(9.9.9.9)");
+/// ```
 #[derive(Clone, Copy)]
 pub struct Dns<'a> {
     /// The type of the addresses: 0 is IP version 4, 1 is version 6.
@@ -390,6 +483,15 @@ impl BuildNode for Dns<'_> {
 }
 
 /// A REST service.
+///
+/// ```rust
+/// let mut path = DevicePathBuf::new(rt.alloc())?;
+/// path.push_node(&messaging::RestService {
+///     service_type: 0xff, access_mode: 2,
+///     vendor_guid: Some(Guid::from_bytes(*b"abcdefghijklmnop")), vendor_defined_data: b"data" })?;
+/// let text = format!(in rt.alloc(); "{}", path.as_device_path())?;
+/// assert_eq!(rt; text.as_str(), "Path(3,33,FF026162636465666768696A6B6C6D6E6F7064617461)");
+/// ```
 #[derive(Clone, Copy)]
 pub struct RestService<'a> {
     /// The service: 1 Redfish, 2 OData, 0xff that of a vendor.
@@ -435,6 +537,15 @@ impl BuildNode for RestService<'_> {
 }
 
 /// A namespace of NVM Express over a network.
+///
+/// ```rust
+/// let mut path = DevicePathBuf::new(rt.alloc())?;
+/// path.push_node(&messaging::NvmeOfNamespace {
+///     nidt: 3, nid: *b"abcdefghijklmnop", subsystem_nqn: b"nqn.org:disk\0",
+/// })?;
+/// let text = format!(in rt.alloc(); "{}", path.as_device_path())?;
+/// assert_eq!(rt; text.as_str(), "Path(3,34,036162636465666768696A6B6C6D6E6F706E716E2E6F72673A6469736B00)");
+/// ```
 #[derive(Clone, Copy)]
 pub struct NvmeOfNamespace<'a> {
     /// The type of the identifier: 1 EUI-64, 2 NGUID, 3 UUID.

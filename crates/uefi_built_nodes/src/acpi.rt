@@ -9,6 +9,13 @@ use crate::build_node::BuildNode;
 use uefi_device_nodes::{DeviceSubType, DeviceType};
 
 /// A device that ACPI names by two numbers.
+///
+/// ```rust
+/// let mut path = DevicePathBuf::new(rt.alloc())?;
+/// path.push_node(&acpi::Acpi { hid: 0x0a03_41d0, uid: 1 })?;
+/// let text = format!(in rt.alloc(); "{}", path.as_device_path())?;
+/// assert_eq!(rt; text.as_str(), "PciRoot(0x1)");
+/// ```
 #[derive(Clone, Copy)]
 pub struct Acpi {
     /// The number of its hardware ID, `_HID`.
@@ -39,6 +46,15 @@ impl BuildNode for Acpi {
 }
 
 /// A device that ACPI names by numbers or by strings.
+///
+/// ```rust
+/// let mut path = DevicePathBuf::new(rt.alloc())?;
+/// path.push_node(&acpi::Expanded {
+///     hid: 0x0a08_41d0, uid: 0, cid: 0x0a03_41d0, id_strings: b"\0u\0dev\0",
+/// })?;
+/// let text = format!(in rt.alloc(); "{}", path.as_device_path())?;
+/// assert_eq!(rt; text.as_str(), "AcpiEx(PNP0A08,PNP0A03,0x0,,dev,u)");
+/// ```
 #[derive(Clone, Copy)]
 pub struct Expanded<'a> {
     /// The number of its hardware ID, `_HID`.
@@ -87,6 +103,13 @@ fn put_words(bytes: &mut [u8], words: &[u32])
 }
 
 /// The outputs of a display adapter.
+///
+/// ```rust
+/// let mut path = DevicePathBuf::new(rt.alloc())?;
+/// path.push_node(&acpi::Adr { adr: &[0x8001_0400, 0x8001_0300] })?;
+/// let text = format!(in rt.alloc(); "{}", path.as_device_path())?;
+/// assert_eq!(rt; text.as_str(), "AcpiAdr(0x80010400,0x80010300)");
+/// ```
 #[derive(Clone, Copy)]
 pub struct Adr<'a> {
     /// The `_ADR` values of the outputs, one or more.
@@ -113,6 +136,13 @@ impl BuildNode for Adr<'_> {
 }
 
 /// A persistent memory module.
+///
+/// ```rust
+/// let mut path = DevicePathBuf::new(rt.alloc())?;
+/// path.push_node(&acpi::Nvdimm { nfit_device_handle: 0x21 })?;
+/// let text = format!(in rt.alloc(); "{}", path.as_device_path())?;
+/// assert_eq!(rt; text.as_str(), "Path(2,4,21000000)");
+/// ```
 #[derive(Clone, Copy)]
 pub struct Nvdimm {
     /// The handle of the module in the table NFIT.

@@ -5,6 +5,15 @@ use crate::build_node::BuildNode;
 use uefi_device_nodes::{DeviceSubType, DeviceType};
 
 /// A device that a legacy BIOS can boot.
+///
+/// ```rust
+/// let mut path = DevicePathBuf::new(rt.alloc())?;
+/// path.push_node(&bios_boot_spec::BootSpecification {
+///     device_type: 2, status_flag: 0x1f, description_string: b"SATA\0",
+/// })?;
+/// let text = format!(in rt.alloc(); "{}", path.as_device_path())?;
+/// assert_eq!(rt; text.as_str(), "BBS(HD,SATA,0x1F)");
+/// ```
 #[derive(Clone, Copy)]
 pub struct BootSpecification<'a> {
     /// The type of the device, by the BIOS Boot Specification.

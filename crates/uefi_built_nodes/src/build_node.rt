@@ -8,6 +8,15 @@ use uefi_device_nodes::{DevicePathNode, DeviceSubType, DeviceType};
 
 /// A node that can be added to a device path. A contract sees it as `node` of it: its type, its sub-type
 /// and its data.
+///
+/// ```rust
+/// let node = hardware::Pci { function: 2, device: 0x1f };
+/// assert_eq!(rt; node.full_type(), (DeviceType::HARDWARE, DeviceSubType::HARDWARE_PCI));
+/// assert_eq!(rt; node.data_len(), 2);
+/// let mut data = [0; 2];
+/// node.write_data(&mut data);
+/// assert_eq!(rt; data, [2, 0x1f]);
+/// ```
 pub trait BuildNode {
     /// The node, as contracts see it.
     ghost node: { Self → Node };
@@ -59,6 +68,14 @@ impl BuildNode for DevicePathNode<'_> {
 }
 
 /// A node of any type, by its data.
+///
+/// ```rust
+/// let mut path = DevicePathBuf::new(rt.alloc())?;
+/// let (device_type, sub_type) = (DeviceType(9), DeviceSubType(250));
+/// path.push_node(&RawNode { device_type, sub_type, content: &[1, 2] })?;
+/// let text = format!(in rt.alloc(); "{}", path.as_device_path())?;
+/// assert_eq!(rt; text.as_str(), "Path(9,250,0102)");
+/// ```
 #[derive(Clone, Copy)]
 pub struct RawNode<'a> {
     /// Its type.

@@ -5,6 +5,13 @@ use crate::build_node::BuildNode;
 use uefi_device_nodes::{DeviceSubType, DeviceType, Guid};
 
 /// A device on a PCI bus.
+///
+/// ```rust
+/// let mut path = DevicePathBuf::new(rt.alloc())?;
+/// path.push_node(&hardware::Pci { function: 2, device: 0x1f })?;
+/// let text = format!(in rt.alloc(); "{}", path.as_device_path())?;
+/// assert_eq!(rt; text.as_str(), "Pci(0x1F,0x2)");
+/// ```
 #[derive(Clone, Copy)]
 pub struct Pci {
     /// The number of the function.
@@ -33,6 +40,13 @@ impl BuildNode for Pci {
 }
 
 /// A PC card.
+///
+/// ```rust
+/// let mut path = DevicePathBuf::new(rt.alloc())?;
+/// path.push_node(&hardware::Pccard { function: 1 })?;
+/// let text = format!(in rt.alloc(); "{}", path.as_device_path())?;
+/// assert_eq!(rt; text.as_str(), "PcCard(0x1)");
+/// ```
 #[derive(Clone, Copy)]
 pub struct Pccard {
     /// The number of the function, from 0 on.
@@ -59,6 +73,15 @@ impl BuildNode for Pccard {
 }
 
 /// A range of memory.
+///
+/// ```rust
+/// let mut path = DevicePathBuf::new(rt.alloc())?;
+/// path.push_node(&hardware::MemoryMapped {
+///     memory_type: 11, starting_address: 0x8000_0000, ending_address: 0x8000_ffff,
+/// })?;
+/// let text = format!(in rt.alloc(); "{}", path.as_device_path())?;
+/// assert_eq!(rt; text.as_str(), "MemoryMapped(0xB,0x80000000,0x8000FFFF)");
+/// ```
 #[derive(Clone, Copy)]
 pub struct MemoryMapped {
     /// The type of the memory, as in the memory map of the firmware.
@@ -93,6 +116,15 @@ impl BuildNode for MemoryMapped {
 }
 
 /// A node of a vendor's own, named by a GUID.
+///
+/// ```rust
+/// let mut path = DevicePathBuf::new(rt.alloc())?;
+/// path.push_node(&hardware::Vendor {
+///     vendor_guid: Guid::from_bytes(*b"abcdefghijklmnop"), vendor_defined_data: &[1, 2],
+/// })?;
+/// let text = format!(in rt.alloc(); "{}", path.as_device_path())?;
+/// assert_eq!(rt; text.as_str(), "VenHw(64636261-6665-6867-696A-6B6C6D6E6F70,0102)");
+/// ```
 #[derive(Clone, Copy)]
 pub struct Vendor<'a> {
     /// The GUID that names the vendor.
@@ -124,6 +156,13 @@ impl BuildNode for Vendor<'_> {
 }
 
 /// A controller.
+///
+/// ```rust
+/// let mut path = DevicePathBuf::new(rt.alloc())?;
+/// path.push_node(&hardware::Controller { controller_number: 0x12a })?;
+/// let text = format!(in rt.alloc(); "{}", path.as_device_path())?;
+/// assert_eq!(rt; text.as_str(), "Ctrl(0x12A)");
+/// ```
 #[derive(Clone, Copy)]
 pub struct Controller {
     /// The number of the controller.
@@ -150,6 +189,13 @@ impl BuildNode for Controller {
 }
 
 /// The host interface of a management controller.
+///
+/// ```rust
+/// let mut path = DevicePathBuf::new(rt.alloc())?;
+/// path.push_node(&hardware::Bmc { interface_type: 1, base_address: 0xca3 })?;
+/// let text = format!(in rt.alloc(); "{}", path.as_device_path())?;
+/// assert_eq!(rt; text.as_str(), "BMC(0x1,0xCA3)");
+/// ```
 #[derive(Clone, Copy)]
 pub struct Bmc {
     /// The type of the interface: 0 unknown, 1 KCS, 2 SMIC, 3 BT.

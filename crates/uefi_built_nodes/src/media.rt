@@ -7,6 +7,15 @@ use uefi_text::CStr16;
 use uefi_text::scans::split;
 
 /// A partition of a hard drive.
+///
+/// ```rust
+/// let mut path = DevicePathBuf::new(rt.alloc())?;
+/// path.push_node(&media::HardDrive {
+///     partition_number: 1, partition_start: 2048, partition_size: 4096,
+///     partition_signature: *b"abcdefghijklmnop", partition_format: 2, signature_type: 2 })?;
+/// let text = format!(in rt.alloc(); "{}", path.as_device_path())?;
+/// assert_eq!(rt; text.as_str(), "HD(1,GPT,64636261-6665-6867-696A-6B6C6D6E6F70,0x800,0x1000)");
+/// ```
 #[derive(Clone, Copy)]
 pub struct HardDrive {
     /// The number of the partition, from 1 on; 0 is the whole drive.
@@ -51,6 +60,13 @@ impl BuildNode for HardDrive {
 }
 
 /// A boot entry of a CD-ROM.
+///
+/// ```rust
+/// let mut path = DevicePathBuf::new(rt.alloc())?;
+/// path.push_node(&media::CdRom { boot_entry: 1, partition_start: 0x2d, partition_size: 0x800 })?;
+/// let text = format!(in rt.alloc(); "{}", path.as_device_path())?;
+/// assert_eq!(rt; text.as_str(), "CDROM(0x1,0x2D,0x800)");
+/// ```
 #[derive(Clone, Copy)]
 pub struct CdRom {
     /// The number of the entry in the boot catalog.
@@ -85,6 +101,15 @@ impl BuildNode for CdRom {
 }
 
 /// A node of a vendor's own, named by a GUID.
+///
+/// ```rust
+/// let mut path = DevicePathBuf::new(rt.alloc())?;
+/// path.push_node(&media::Vendor {
+///     vendor_guid: Guid::from_bytes(*b"abcdefghijklmnop"), vendor_defined_data: &[1, 2],
+/// })?;
+/// let text = format!(in rt.alloc(); "{}", path.as_device_path())?;
+/// assert_eq!(rt; text.as_str(), "VenMedia(64636261-6665-6867-696A-6B6C6D6E6F70,0102)");
+/// ```
 #[derive(Clone, Copy)]
 pub struct Vendor<'a> {
     /// The GUID that names the vendor.
@@ -116,6 +141,14 @@ impl BuildNode for Vendor<'_> {
 }
 
 /// A file.
+///
+/// ```rust
+/// let name = CString16::try_from_str(rt.alloc(), r"\efi\a.efi")?;
+/// let mut path = DevicePathBuf::new(rt.alloc())?;
+/// path.push_node(&media::FilePath { path_name: name.as_cstr16() })?;
+/// let text = format!(in rt.alloc(); "{}", path.as_device_path())?;
+/// assert_eq!(rt; text.as_str(), r"\efi\a.efi");
+/// ```
 #[derive(Clone, Copy)]
 pub struct FilePath<'a> {
     /// Its name, which the node has with its NUL.
@@ -142,6 +175,13 @@ impl BuildNode for FilePath<'_> {
 }
 
 /// A protocol of the firmware.
+///
+/// ```rust
+/// let mut path = DevicePathBuf::new(rt.alloc())?;
+/// path.push_node(&media::Protocol { protocol_guid: Guid::from_bytes(*b"abcdefghijklmnop") })?;
+/// let text = format!(in rt.alloc(); "{}", path.as_device_path())?;
+/// assert_eq!(rt; text.as_str(), "Media(64636261-6665-6867-696A-6B6C6D6E6F70)");
+/// ```
 #[derive(Clone, Copy)]
 pub struct Protocol {
     /// The GUID that names the protocol.
@@ -168,6 +208,13 @@ impl BuildNode for Protocol {
 }
 
 /// A file of a firmware volume.
+///
+/// ```rust
+/// let mut path = DevicePathBuf::new(rt.alloc())?;
+/// path.push_node(&media::PiwgFirmwareFile { file_name: Guid::from_bytes(*b"abcdefghijklmnop") })?;
+/// let text = format!(in rt.alloc(); "{}", path.as_device_path())?;
+/// assert_eq!(rt; text.as_str(), "FvFile(64636261-6665-6867-696A-6B6C6D6E6F70)");
+/// ```
 #[derive(Clone, Copy)]
 pub struct PiwgFirmwareFile {
     /// The GUID that names the file.
@@ -194,6 +241,13 @@ impl BuildNode for PiwgFirmwareFile {
 }
 
 /// A firmware volume.
+///
+/// ```rust
+/// let mut path = DevicePathBuf::new(rt.alloc())?;
+/// path.push_node(&media::PiwgFirmwareVolume { volume_name: Guid::from_bytes(*b"abcdefghijklmnop") })?;
+/// let text = format!(in rt.alloc(); "{}", path.as_device_path())?;
+/// assert_eq!(rt; text.as_str(), "Fv(64636261-6665-6867-696A-6B6C6D6E6F70)");
+/// ```
 #[derive(Clone, Copy)]
 pub struct PiwgFirmwareVolume {
     /// The GUID that names the volume.
@@ -220,6 +274,13 @@ impl BuildNode for PiwgFirmwareVolume {
 }
 
 /// A range of bytes of the medium before it.
+///
+/// ```rust
+/// let mut path = DevicePathBuf::new(rt.alloc())?;
+/// path.push_node(&media::RelativeOffsetRange { starting_offset: 0x200, ending_offset: 0x3ff })?;
+/// let text = format!(in rt.alloc(); "{}", path.as_device_path())?;
+/// assert_eq!(rt; text.as_str(), "Offset(0x200,0x3FF)");
+/// ```
 #[derive(Clone, Copy)]
 pub struct RelativeOffsetRange {
     /// Where its first byte lies.
@@ -255,6 +316,15 @@ impl BuildNode for RelativeOffsetRange {
 }
 
 /// A RAM disk.
+///
+/// ```rust
+/// let mut path = DevicePathBuf::new(rt.alloc())?;
+/// path.push_node(&media::RamDisk {
+///     starting_address: 0x10_0000, ending_address: 0x1f_ffff,
+///     disk_type: Guid::from_bytes(*b"abcdefghijklmnop"), disk_instance: 1 })?;
+/// let text = format!(in rt.alloc(); "{}", path.as_device_path())?;
+/// assert_eq!(rt; text.as_str(), "RamDisk(0x100000,0x1FFFFF,1,64636261-6665-6867-696A-6B6C6D6E6F70)");
+/// ```
 #[derive(Clone, Copy)]
 pub struct RamDisk {
     /// The address of its first byte.

@@ -12,6 +12,12 @@ use uefi_field_texts::ids::id_strings;
 use uefi_text::UnalignedSlice;
 
 /// A device that ACPI names by two numbers.
+///
+/// ```rust
+/// let (node, _) = DevicePathNode::split_first(&[2, 1, 0xc, 0, 0xd0, 0x41, 3, 0xa, 1, 0, 0, 0])?;
+/// let root = acpi::Acpi::from_node(node)?;
+/// assert_eq!(rt; (root.hid(), root.uid()), (0x0a03_41d0, 1));
+/// ```
 pub type Acpi<'a> = TypedNode<'a, 2, 1, 8>;
 
 impl<'a> Acpi<'a> {
@@ -33,6 +39,15 @@ impl<'a> Acpi<'a> {
 }
 
 /// A device that ACPI names by numbers or by strings.
+///
+/// ```rust
+/// let bytes = b"\x02\x02\x17\0\xd0A\x08\x0a\0\0\0\0\xd0A\x03\x0a\0u\0dev\0";
+/// let (node, _) = DevicePathNode::split_first(bytes)?;
+/// let device = acpi::Expanded::from_node(node)?;
+/// assert_eq!(rt; (device.hid(), device.uid(), device.cid()), (0x0a08_41d0, 0, 0x0a03_41d0));
+/// assert_eq!(rt; (device.uid_str(), device.cid_str()), (b"u".as_slice(), b"dev".as_slice()));
+/// assert!(rt; device.hid_str().is_empty() && device.id_strings().len() == 7);
+/// ```
 pub type Expanded<'a> = TypedNode<'a, 2, 2, 15>;
 
 impl<'a> Expanded<'a> {
@@ -89,6 +104,13 @@ impl<'a> Expanded<'a> {
 }
 
 /// The outputs of a display adapter.
+///
+/// ```rust
+/// let (node, _) = DevicePathNode::split_first(&[2, 3, 0xc, 0, 0, 4, 1, 0x80, 0, 3, 1, 0x80])?;
+/// let outputs = acpi::Adr::from_node(node)?;
+/// assert_eq!(rt; outputs.adr().len(), 2);
+/// assert_eq!(rt; outputs.adr().get(1), Some(0x8001_0300));
+/// ```
 pub type Adr<'a> = TypedNode<'a, 2, 3, 4>;
 
 impl<'a> Adr<'a> {
@@ -104,6 +126,12 @@ impl<'a> Adr<'a> {
 }
 
 /// A persistent memory module.
+///
+/// ```rust
+/// let (node, _) = DevicePathNode::split_first(&[2, 4, 8, 0, 0x21, 0, 0, 0])?;
+/// let module = acpi::Nvdimm::from_node(node)?;
+/// assert_eq!(rt; module.nfit_device_handle(), 0x21);
+/// ```
 pub type Nvdimm<'a> = TypedNode<'a, 2, 4, 4>;
 
 impl<'a> Nvdimm<'a> {

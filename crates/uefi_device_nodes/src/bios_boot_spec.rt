@@ -7,6 +7,13 @@ ghost use Rattle.uefi_device_nodes.specs.TypedNodes.{number_at};
 use crate::typed_node::TypedNode;
 
 /// A device that a legacy BIOS can boot.
+///
+/// ```rust
+/// let (node, _) = DevicePathNode::split_first(b"\x05\x01\x0d\0\x02\0\x1f\0SATA\0")?;
+/// let device = bios_boot_spec::BootSpecification::from_node(node)?;
+/// assert_eq!(rt; (device.device_type(), device.status_flag()), (2, 0x1f));
+/// assert_eq!(rt; device.description_string(), b"SATA\0".as_slice());
+/// ```
 pub type BootSpecification<'a> = TypedNode<'a, 5, 1, 5>;
 
 impl<'a> BootSpecification<'a> {

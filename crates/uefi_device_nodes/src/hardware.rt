@@ -8,6 +8,12 @@ use crate::typed_node::TypedNode;
 use uefi_field_texts::guid::Guid;
 
 /// A device on a PCI bus.
+///
+/// ```rust
+/// let (node, _) = DevicePathNode::split_first(&[1, 1, 6, 0, 2, 0x1f])?;
+/// let pci = hardware::Pci::from_node(node)?;
+/// assert_eq!(rt; (pci.device(), pci.function()), (0x1f, 2));
+/// ```
 pub type Pci<'a> = TypedNode<'a, 1, 1, 2>;
 
 impl<'a> Pci<'a> {
@@ -29,6 +35,12 @@ impl<'a> Pci<'a> {
 }
 
 /// A PC card.
+///
+/// ```rust
+/// let (node, _) = DevicePathNode::split_first(&[1, 2, 5, 0, 1])?;
+/// let card = hardware::Pccard::from_node(node)?;
+/// assert_eq!(rt; card.function(), 1);
+/// ```
 pub type Pccard<'a> = TypedNode<'a, 1, 2, 1>;
 
 impl<'a> Pccard<'a> {
@@ -43,6 +55,15 @@ impl<'a> Pccard<'a> {
 }
 
 /// A range of memory.
+///
+/// ```rust
+/// let bytes = b"\x01\x03\x18\0\x0b\0\0\0\0\0\0\x80\0\0\0\0\xff\xff\0\x80\0\0\0\0";
+/// let (node, _) = DevicePathNode::split_first(bytes)?;
+/// let memory = hardware::MemoryMapped::from_node(node)?;
+/// assert_eq!(rt; memory.memory_type(), 11);
+/// assert_eq!(rt; memory.starting_address(), 0x8000_0000);
+/// assert_eq!(rt; memory.ending_address(), 0x8000_ffff);
+/// ```
 pub type MemoryMapped<'a> = TypedNode<'a, 1, 3, 20>;
 
 impl<'a> MemoryMapped<'a> {
@@ -71,6 +92,13 @@ impl<'a> MemoryMapped<'a> {
 }
 
 /// A node of a vendor's own, named by a GUID.
+///
+/// ```rust
+/// let (node, _) = DevicePathNode::split_first(b"\x01\x04\x16\0abcdefghijklmnop\x01\x02")?;
+/// let vendor = hardware::HardwareVendor::from_node(node)?;
+/// assert_eq!(rt; vendor.vendor_guid(), Guid::from_bytes(*b"abcdefghijklmnop"));
+/// assert_eq!(rt; vendor.vendor_defined_data(), [1, 2].as_slice());
+/// ```
 pub type HardwareVendor<'a> = TypedNode<'a, 1, 4, 16>;
 
 /// The same, as the Rust crate `uefi` names it.
@@ -95,6 +123,12 @@ impl<'a> HardwareVendor<'a> {
 }
 
 /// A controller.
+///
+/// ```rust
+/// let (node, _) = DevicePathNode::split_first(&[1, 5, 8, 0, 0x2a, 1, 0, 0])?;
+/// let controller = hardware::Controller::from_node(node)?;
+/// assert_eq!(rt; controller.controller_number(), 0x12a);
+/// ```
 pub type Controller<'a> = TypedNode<'a, 1, 5, 4>;
 
 impl<'a> Controller<'a> {
@@ -109,6 +143,12 @@ impl<'a> Controller<'a> {
 }
 
 /// The host interface of a management controller.
+///
+/// ```rust
+/// let (node, _) = DevicePathNode::split_first(&[1, 6, 0xd, 0, 1, 0xa3, 0xc, 0, 0, 0, 0, 0, 0])?;
+/// let bmc = hardware::Bmc::from_node(node)?;
+/// assert_eq!(rt; (bmc.interface_type(), bmc.base_address()), (1, 0xca3));
+/// ```
 pub type Bmc<'a> = TypedNode<'a, 1, 6, 9>;
 
 impl<'a> Bmc<'a> {

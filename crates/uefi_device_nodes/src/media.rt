@@ -28,6 +28,14 @@ impl<'a> FilePath<'a> {
 
     /// The node as one that names a file. Refused as `DifferentType` where its type or its sub-type is
     /// another, and then as `InvalidLength` where its data are odd in number.
+    ///
+    /// ```rust
+    /// let (node, _) = DevicePathNode::split_first(b"\x04\x04\x0a\0\\\0a\0\0\0")?;
+    /// let file = media::FilePath::from_node(node)?;
+    /// assert_eq!(rt; file.path_name().to_cstring16(rt.alloc())?.num_chars(), 2);
+    /// let (odd, _) = DevicePathNode::split_first(&[4, 4, 5, 0, 0x61])?;
+    /// assert_eq!(rt; media::FilePath::from_node(odd).err(), Some(NodeConversionError::InvalidLength));
+    /// ```
     pub fn from_node(node: DevicePathNode<'a>) -> Result<Self, NodeConversionError>
         ensures ok { IfOk result (λ path. file_node path ≡ node_of node.entry) }
         ensures accepts { IsOk result ↔ IsFilePath (node_of node.entry) }
@@ -52,6 +60,8 @@ impl<'a> FilePath<'a> {
     }
 
     /// The code units of the name, wherever they lie. They may be no string: its calls say so.
+    ///
+    /// See [`FilePath::from_node`].
     pub fn path_name(&self) -> UnalignedSlice<'a, u16>
         ensures units { items_of result ≡ units_of_bytes (file_node self.now).content }
         ensures bytes { unit_bytes (items_of result) ≡ (file_node self.now).content }
@@ -76,6 +86,15 @@ impl<'a> TryFrom<DevicePathNode<'a>> for FilePath<'a> {
 }
 
 /// A partition of a hard drive.
+///
+/// ```rust
+/// let bytes = b"\x04\x01\x2a\0\x01\0\0\0\0\x08\0\0\0\0\0\0\0\x10\0\0\0\0\0\0abcdefghijklmnop\x02\x02";
+/// let (node, _) = DevicePathNode::split_first(bytes)?;
+/// let disk = media::HardDrive::from_node(node)?;
+/// assert_eq!(rt; (disk.partition_number(), disk.partition_start()), (1, 2048));
+/// assert_eq!(rt; (disk.partition_size(), disk.partition_format(), disk.signature_type()), (4096, 2, 2));
+/// assert_eq!(rt; disk.partition_signature(), *b"abcdefghijklmnop");
+/// ```
 pub type HardDrive<'a> = TypedNode<'a, 4, 1, 38>;
 
 impl<'a> HardDrive<'a> {
@@ -125,6 +144,15 @@ impl<'a> HardDrive<'a> {
 
     /// Returns the GUID that names the partition, which is its signature if
     /// [`HardDrive::signature_type`] is 2, and `None` otherwise.
+    ///
+    /// ```rust
+    /// let mut bytes = [7; 42];
+    /// bytes[..4].copy_from_slice(&[4, 1, 42, 0]);
+    /// bytes[41] = 2;
+    /// let (node, _) = DevicePathNode::split_first(&bytes)?;
+    /// let guid = media::HardDrive::from_node(node)?.partition_guid();
+    /// assert_eq!(rt; guid, Some(Guid::from_bytes([7; 16])));
+    /// ```
     pub fn partition_guid(&self) -> Option<Guid>
         ensures { result ≡ (if number_at 37 1 (data_of self.now) == 2
             then Some (slice_range (data_of self.now) 20 36) else None) }
@@ -138,6 +166,14 @@ impl<'a> HardDrive<'a> {
 }
 
 /// A boot entry of a CD-ROM.
+///
+/// ```rust
+/// let bytes = b"\x04\x02\x18\0\x01\0\0\0-\0\0\0\0\0\0\0\0\x08\0\0\0\0\0\0";
+/// let (node, _) = DevicePathNode::split_first(bytes)?;
+/// let disc = media::CdRom::from_node(node)?;
+/// assert_eq!(rt; disc.boot_entry(), 1);
+/// assert_eq!(rt; (disc.partition_start(), disc.partition_size()), (0x2d, 0x800));
+/// ```
 pub type CdRom<'a> = TypedNode<'a, 4, 2, 20>;
 
 impl<'a> CdRom<'a> {
@@ -166,6 +202,13 @@ impl<'a> CdRom<'a> {
 }
 
 /// A node of a vendor's own, named by a GUID.
+///
+/// ```rust
+/// let (node, _) = DevicePathNode::split_first(b"\x04\x03\x16\0abcdefghijklmnop\x01\x02")?;
+/// let vendor = media::MediaVendor::from_node(node)?;
+/// assert_eq!(rt; vendor.vendor_guid(), Guid::from_bytes(*b"abcdefghijklmnop"));
+/// assert_eq!(rt; vendor.vendor_defined_data(), [1, 2].as_slice());
+/// ```
 pub type MediaVendor<'a> = TypedNode<'a, 4, 3, 16>;
 
 /// The same, as the Rust crate `uefi` names it.
@@ -190,6 +233,12 @@ impl<'a> MediaVendor<'a> {
 }
 
 /// A protocol of the firmware.
+///
+/// ```rust
+/// let (node, _) = DevicePathNode::split_first(b"\x04\x05\x14\0abcdefghijklmnop")?;
+/// let protocol = media::Protocol::from_node(node)?;
+/// assert_eq!(rt; protocol.protocol_guid(), Guid::from_bytes(*b"abcdefghijklmnop"));
+/// ```
 pub type Protocol<'a> = TypedNode<'a, 4, 5, 16>;
 
 impl<'a> Protocol<'a> {
@@ -204,6 +253,12 @@ impl<'a> Protocol<'a> {
 }
 
 /// A file of a firmware volume.
+///
+/// ```rust
+/// let (node, _) = DevicePathNode::split_first(b"\x04\x06\x14\0abcdefghijklmnop")?;
+/// let file = media::FirmwareFile::from_node(node)?;
+/// assert_eq!(rt; file.file_name(), Guid::from_bytes(*b"abcdefghijklmnop"));
+/// ```
 pub type FirmwareFile<'a> = TypedNode<'a, 4, 6, 16>;
 
 /// The same, as the Rust crate `uefi` names it.
@@ -221,6 +276,12 @@ impl<'a> FirmwareFile<'a> {
 }
 
 /// A firmware volume.
+///
+/// ```rust
+/// let (node, _) = DevicePathNode::split_first(b"\x04\x07\x14\0abcdefghijklmnop")?;
+/// let volume = media::FirmwareVolume::from_node(node)?;
+/// assert_eq!(rt; volume.volume_name(), Guid::from_bytes(*b"abcdefghijklmnop"));
+/// ```
 pub type FirmwareVolume<'a> = TypedNode<'a, 4, 7, 16>;
 
 /// The same, as the Rust crate `uefi` names it.
@@ -238,6 +299,13 @@ impl<'a> FirmwareVolume<'a> {
 }
 
 /// A range of bytes of the medium before it.
+///
+/// ```rust
+/// let bytes = b"\x04\x08\x18\0\0\0\0\0\0\x02\0\0\0\0\0\0\xff\x03\0\0\0\0\0\0";
+/// let (node, _) = DevicePathNode::split_first(bytes)?;
+/// let range = media::RelativeOffsetRange::from_node(node)?;
+/// assert_eq!(rt; (range.starting_offset(), range.ending_offset()), (0x200, 0x3ff));
+/// ```
 pub type RelativeOffsetRange<'a> = TypedNode<'a, 4, 8, 20>;
 
 impl<'a> RelativeOffsetRange<'a> {
@@ -259,6 +327,14 @@ impl<'a> RelativeOffsetRange<'a> {
 }
 
 /// A RAM disk.
+///
+/// ```rust
+/// let bytes = b"\x04\x09\x26\0\0\0\x10\0\0\0\0\0\xff\xff\x1f\0\0\0\0\0abcdefghijklmnop\x01\0";
+/// let (node, _) = DevicePathNode::split_first(bytes)?;
+/// let disk = media::RamDisk::from_node(node)?;
+/// assert_eq!(rt; (disk.starting_address(), disk.ending_address()), (0x10_0000, 0x1f_ffff));
+/// assert_eq!(rt; (disk.disk_type(), disk.disk_instance()), (Guid::from_bytes(*b"abcdefghijklmnop"), 1));
+/// ```
 pub type RamDisk<'a> = TypedNode<'a, 4, 9, 34>;
 
 impl<'a> RamDisk<'a> {

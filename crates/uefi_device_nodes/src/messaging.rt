@@ -15,6 +15,13 @@ use uefi_field_texts::guid::Guid;
 use uefi_text::UnalignedSlice;
 
 /// A drive on an ATA bus.
+///
+/// ```rust
+/// let (node, _) = DevicePathNode::split_first(&[3, 1, 8, 0, 0, 1, 2, 0])?;
+/// let drive = messaging::Atapi::from_node(node)?;
+/// assert_eq!(rt; (drive.primary_secondary(), drive.master_slave()), (0, 1));
+/// assert_eq!(rt; drive.logical_unit_number(), 2);
+/// ```
 pub type Atapi<'a> = TypedNode<'a, 3, 1, 4>;
 
 impl<'a> Atapi<'a> {
@@ -43,6 +50,12 @@ impl<'a> Atapi<'a> {
 }
 
 /// A device on a SCSI bus.
+///
+/// ```rust
+/// let (node, _) = DevicePathNode::split_first(&[3, 2, 8, 0, 3, 0, 1, 0])?;
+/// let disk = messaging::Scsi::from_node(node)?;
+/// assert_eq!(rt; (disk.target_id(), disk.logical_unit_number()), (3, 1));
+/// ```
 pub type Scsi<'a> = TypedNode<'a, 3, 2, 4>;
 
 impl<'a> Scsi<'a> {
@@ -64,6 +77,14 @@ impl<'a> Scsi<'a> {
 }
 
 /// A device on Fibre Channel.
+///
+/// ```rust
+/// let bytes = b"\x03\x03\x18\0\0\0\0\0\x01\0\0\xff\x24\0\0\x21\x01\0\0\0\0\0\0\0";
+/// let (node, _) = DevicePathNode::split_first(bytes)?;
+/// let disk = messaging::FibreChannel::from_node(node)?;
+/// assert_eq!(rt; disk.world_wide_name(), 0x2100_0024_ff00_0001);
+/// assert_eq!(rt; disk.logical_unit_number(), 1);
+/// ```
 pub type FibreChannel<'a> = TypedNode<'a, 3, 3, 20>;
 
 impl<'a> FibreChannel<'a> {
@@ -85,6 +106,13 @@ impl<'a> FibreChannel<'a> {
 }
 
 /// A device on Fibre Channel, by bytes in the order of the bus.
+///
+/// ```rust
+/// let (node, _) = DevicePathNode::split_first(b"\x03\x15\x18\0\0\0\0\0worldwid\0\x01\0\0\0\0\0\0")?;
+/// let disk = messaging::FibreChannelEx::from_node(node)?;
+/// assert_eq!(rt; disk.world_wide_name(), *b"worldwid");
+/// assert_eq!(rt; disk.logical_unit_number(), [0, 1, 0, 0, 0, 0, 0, 0]);
+/// ```
 pub type FibreChannelEx<'a> = TypedNode<'a, 3, 21, 20>;
 
 impl<'a> FibreChannelEx<'a> {
@@ -106,6 +134,12 @@ impl<'a> FibreChannelEx<'a> {
 }
 
 /// A FireWire device.
+///
+/// ```rust
+/// let (node, _) = DevicePathNode::split_first(b"\x03\x04\x10\0\0\0\0\0firewire")?;
+/// let device = messaging::Ieee1394::from_node(node)?;
+/// assert_eq!(rt; device.guid(), *b"firewire");
+/// ```
 pub type Ieee1394<'a> = TypedNode<'a, 3, 4, 12>;
 
 impl<'a> Ieee1394<'a> {
@@ -120,6 +154,12 @@ impl<'a> Ieee1394<'a> {
 }
 
 /// A device on a USB bus.
+///
+/// ```rust
+/// let (node, _) = DevicePathNode::split_first(&[3, 5, 6, 0, 3, 1])?;
+/// let device = messaging::Usb::from_node(node)?;
+/// assert_eq!(rt; (device.parent_port_number(), device.interface()), (3, 1));
+/// ```
 pub type Usb<'a> = TypedNode<'a, 3, 5, 2>;
 
 impl<'a> Usb<'a> {
@@ -141,6 +181,14 @@ impl<'a> Usb<'a> {
 }
 
 /// A USB device by its serial number.
+///
+/// ```rust
+/// let (node, _) = DevicePathNode::split_first(b"\x03\x10\x0e\0\x01\0m\x04\x25\x08A\0\x37\0")?;
+/// let device = messaging::UsbWwid::from_node(node)?;
+/// assert_eq!(rt; device.interface_number(), 1);
+/// assert_eq!(rt; (device.device_vendor_id(), device.device_product_id()), (0x46d, 0x825));
+/// assert_eq!(rt; device.serial_number().map(|it| it.len()), Some(2));
+/// ```
 pub type UsbWwid<'a> = TypedNode<'a, 3, 16, 6>;
 
 impl<'a> UsbWwid<'a> {
@@ -179,6 +227,14 @@ impl<'a> UsbWwid<'a> {
 }
 
 /// Each USB device of a class.
+///
+/// ```rust
+/// let (node, _) = DevicePathNode::split_first(&[3, 0xf, 0xb, 0, 0xff, 0xff, 0x25, 8, 3, 1, 2])?;
+/// let class = messaging::UsbClass::from_node(node)?;
+/// assert_eq!(rt; (class.vendor_id(), class.product_id()), (0xffff, 0x825));
+/// assert_eq!(rt; (class.device_class(), class.device_subclass()), (3, 1));
+/// assert_eq!(rt; class.device_protocol(), 2);
+/// ```
 pub type UsbClass<'a> = TypedNode<'a, 3, 15, 7>;
 
 impl<'a> UsbClass<'a> {
@@ -221,6 +277,12 @@ impl<'a> UsbClass<'a> {
 }
 
 /// A logical unit of the device before it.
+///
+/// ```rust
+/// let (node, _) = DevicePathNode::split_first(&[3, 0x11, 5, 0, 2])?;
+/// let unit = messaging::DeviceLogicalUnit::from_node(node)?;
+/// assert_eq!(rt; unit.logical_unit_number(), 2);
+/// ```
 pub type DeviceLogicalUnit<'a> = TypedNode<'a, 3, 17, 1>;
 
 impl<'a> DeviceLogicalUnit<'a> {
@@ -235,6 +297,12 @@ impl<'a> DeviceLogicalUnit<'a> {
 }
 
 /// A device on an I2O bus.
+///
+/// ```rust
+/// let (node, _) = DevicePathNode::split_first(&[3, 6, 8, 0, 9, 0, 0, 0])?;
+/// let device = messaging::I2o::from_node(node)?;
+/// assert_eq!(rt; device.target_id(), 9);
+/// ```
 pub type I2o<'a> = TypedNode<'a, 3, 6, 4>;
 
 impl<'a> I2o<'a> {
@@ -249,6 +317,14 @@ impl<'a> I2o<'a> {
 }
 
 /// A device on a SATA port.
+///
+/// ```rust
+/// let (node, _) = DevicePathNode::split_first(&[3, 0x12, 0xa, 0, 1, 0, 0xff, 0xff, 0, 0])?;
+/// let disk = messaging::Sata::from_node(node)?;
+/// assert_eq!(rt; disk.hba_port_number(), 1);
+/// assert_eq!(rt; disk.port_multiplier_port_number(), 0xffff);
+/// assert_eq!(rt; disk.logical_unit_number(), 0);
+/// ```
 pub type Sata<'a> = TypedNode<'a, 3, 18, 6>;
 
 impl<'a> Sata<'a> {
@@ -277,6 +353,14 @@ impl<'a> Sata<'a> {
 }
 
 /// A device on SAS.
+///
+/// ```rust
+/// let bytes = b"\x03\x16\x18\0address\x21\0\0\0\0\0\0\0\0\0\0\x02\0";
+/// let (node, _) = DevicePathNode::split_first(bytes)?;
+/// let disk = messaging::SasEx::from_node(node)?;
+/// assert_eq!(rt; (disk.sas_address(), disk.logical_unit_number()), (*b"address!", [0; 8]));
+/// assert_eq!(rt; (disk.info(), disk.relative_target_port()), (0, 2));
+/// ```
 pub type SasEx<'a> = TypedNode<'a, 3, 22, 20>;
 
 impl<'a> SasEx<'a> {
@@ -312,6 +396,14 @@ impl<'a> SasEx<'a> {
 }
 
 /// A serial port.
+///
+/// ```rust
+/// let bytes = b"\x03\x0e\x13\0\0\0\0\0\0\xc2\x01\0\0\0\0\0\x08\x02\x01";
+/// let (node, _) = DevicePathNode::split_first(bytes)?;
+/// let port = messaging::Uart::from_node(node)?;
+/// assert_eq!(rt; port.baud_rate(), 115_200);
+/// assert_eq!(rt; (port.data_bits(), port.parity(), port.stop_bits()), (8, 2, 1));
+/// ```
 pub type Uart<'a> = TypedNode<'a, 3, 14, 15>;
 
 impl<'a> Uart<'a> {
@@ -347,6 +439,13 @@ impl<'a> Uart<'a> {
 }
 
 /// A node of a vendor's own, named by a GUID.
+///
+/// ```rust
+/// let (node, _) = DevicePathNode::split_first(b"\x03\x0a\x15\0abcdefghijklmnop\x01")?;
+/// let vendor = messaging::MessagingVendor::from_node(node)?;
+/// assert_eq!(rt; vendor.vendor_guid(), Guid::from_bytes(*b"abcdefghijklmnop"));
+/// assert_eq!(rt; vendor.vendor_defined_data(), [1].as_slice());
+/// ```
 pub type MessagingVendor<'a> = TypedNode<'a, 3, 10, 16>;
 
 /// The same, as the Rust crate `uefi` names it.
@@ -371,6 +470,13 @@ impl<'a> MessagingVendor<'a> {
 }
 
 /// A namespace of NVM Express.
+///
+/// ```rust
+/// let (node, _) = DevicePathNode::split_first(b"\x03\x17\x10\0\x01\0\0\0\x07\0\0\0\xb1\x38\x25\0")?;
+/// let disk = messaging::NvmeNamespace::from_node(node)?;
+/// assert_eq!(rt; disk.namespace_identifier(), 1);
+/// assert_eq!(rt; disk.ieee_extended_unique_identifier(), 0x0025_38b1_0000_0007);
+/// ```
 pub type NvmeNamespace<'a> = TypedNode<'a, 3, 23, 12>;
 
 impl<'a> NvmeNamespace<'a> {
@@ -392,6 +498,12 @@ impl<'a> NvmeNamespace<'a> {
 }
 
 /// A device on UFS.
+///
+/// ```rust
+/// let (node, _) = DevicePathNode::split_first(&[3, 0x19, 6, 0, 0, 1])?;
+/// let disk = messaging::Ufs::from_node(node)?;
+/// assert_eq!(rt; (disk.target_id(), disk.logical_unit_number()), (0, 1));
+/// ```
 pub type Ufs<'a> = TypedNode<'a, 3, 25, 2>;
 
 impl<'a> Ufs<'a> {
@@ -413,6 +525,12 @@ impl<'a> Ufs<'a> {
 }
 
 /// An SD card.
+///
+/// ```rust
+/// let (node, _) = DevicePathNode::split_first(&[3, 0x1a, 5, 0, 1])?;
+/// let card = messaging::Sd::from_node(node)?;
+/// assert_eq!(rt; card.slot_number(), 1);
+/// ```
 pub type Sd<'a> = TypedNode<'a, 3, 26, 1>;
 
 impl<'a> Sd<'a> {
@@ -427,6 +545,12 @@ impl<'a> Sd<'a> {
 }
 
 /// An eMMC card.
+///
+/// ```rust
+/// let (node, _) = DevicePathNode::split_first(&[3, 0x1d, 5, 0, 2])?;
+/// let card = messaging::Emmc::from_node(node)?;
+/// assert_eq!(rt; card.slot_number(), 2);
+/// ```
 pub type Emmc<'a> = TypedNode<'a, 3, 29, 1>;
 
 impl<'a> Emmc<'a> {
@@ -441,6 +565,12 @@ impl<'a> Emmc<'a> {
 }
 
 /// A namespace of a persistent memory module.
+///
+/// ```rust
+/// let (node, _) = DevicePathNode::split_first(b"\x03\x20\x14\0abcdefghijklmnop")?;
+/// let disk = messaging::NvdimmNamespace::from_node(node)?;
+/// assert_eq!(rt; disk.uuid(), Guid::from_bytes(*b"abcdefghijklmnop"));
+/// ```
 pub type NvdimmNamespace<'a> = TypedNode<'a, 3, 32, 16>;
 
 impl<'a> NvdimmNamespace<'a> {

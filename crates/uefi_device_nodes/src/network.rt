@@ -9,6 +9,14 @@ use crate::typed_node::TypedNode;
 use uefi_field_texts::guid::Guid;
 
 /// A network interface.
+///
+/// ```rust
+/// let bytes = b"\x03\x0b\x25\0RT\0\x12\x34V\0\0\0\0\0\0\0\0\0\0\0\0\0\0\0\0\0\0\0\0\0\0\0\0\0\0\x01";
+/// let (node, _) = DevicePathNode::split_first(bytes)?;
+/// let card = messaging::MacAddress::from_node(node)?;
+/// assert_eq!(rt; (card.mac_address()[0], card.mac_address()[5]), (0x52, 0x56));
+/// assert_eq!(rt; card.interface_type(), 1);
+/// ```
 pub type MacAddress<'a> = TypedNode<'a, 3, 11, 33>;
 
 impl<'a> MacAddress<'a> {
@@ -30,6 +38,15 @@ impl<'a> MacAddress<'a> {
 }
 
 /// An endpoint of a connection over IP version 4.
+///
+/// ```rust
+/// let bytes = b"\x03\x0c\x1b\0\x0a\0\0\x07\x0a\0\0\x01\0\0P\0\x06\0\x01\x0a\0\0\x02\xff\0\0\0";
+/// let (node, _) = DevicePathNode::split_first(bytes)?;
+/// let ip = messaging::Ipv4::from_node(node)?;
+/// assert_eq!(rt; (ip.local_ip_address(), ip.remote_ip_address()), ([10, 0, 0, 7], [10, 0, 0, 1]));
+/// assert_eq!(rt; (ip.local_port(), ip.remote_port(), ip.protocol(), ip.ip_address_origin()), (0, 80, 6, 1));
+/// assert_eq!(rt; (ip.gateway_ip_address(), ip.subnet_mask()), (Some([10, 0, 0, 2]), Some([255, 0, 0, 0])));
+/// ```
 pub type Ipv4<'a> = TypedNode<'a, 3, 12, 15>;
 
 impl<'a> Ipv4<'a> {
@@ -97,6 +114,15 @@ impl<'a> Ipv4<'a> {
 }
 
 /// An endpoint of a connection over IP version 6.
+///
+/// ```rust
+/// let bytes = b"\x03\x0d\x3c\0aaaaaaaaaaaaaaaabbbbbbbbbbbbbbbb\0\0P\0\x06\0\x02\x40\0\0\0\0\0\0\0\
+///     \0\0\0\0\0\0\0\0\0";
+/// let ip = messaging::Ipv6::from_node(DevicePathNode::split_first(bytes)?.0)?;
+/// assert_eq!(rt; (ip.local_ip_address(), ip.remote_ip_address()), ([b'a'; 16], [b'b'; 16]));
+/// assert_eq!(rt; (ip.local_port(), ip.remote_port(), ip.protocol(), ip.ip_address_origin()), (0, 80, 6, 2));
+/// assert_eq!(rt; (ip.prefix_length(), ip.gateway_ip_address()), (64, [0; 16]));
+/// ```
 pub type Ipv6<'a> = TypedNode<'a, 3, 13, 56>;
 
 impl<'a> Ipv6<'a> {
@@ -160,6 +186,12 @@ impl<'a> Ipv6<'a> {
 }
 
 /// A virtual network.
+///
+/// ```rust
+/// let (node, _) = DevicePathNode::split_first(&[3, 0x14, 6, 0, 7, 0])?;
+/// let network = messaging::Vlan::from_node(node)?;
+/// assert_eq!(rt; network.vlan_id(), 7);
+/// ```
 pub type Vlan<'a> = TypedNode<'a, 3, 20, 2>;
 
 impl<'a> Vlan<'a> {
@@ -174,6 +206,15 @@ impl<'a> Vlan<'a> {
 }
 
 /// A device on InfiniBand.
+///
+/// ```rust
+/// let bytes = b"\x03\x09\x30\0\x08\0\0\0abcdefghijklmnop\x01\0\0\0\0\0\0\0\x02\0\0\0\0\0\0\0\x03\
+///     \0\0\0\0\0\0\0";
+/// let device = messaging::Infiniband::from_node(DevicePathNode::split_first(bytes)?.0)?;
+/// assert_eq!(rt; (device.resource_flags(), device.port_gid()), (8, *b"abcdefghijklmnop"));
+/// assert_eq!(rt; (device.ioc_guid_or_service_id(), device.target_port_id()), (1, 2));
+/// assert_eq!(rt; device.device_id(), 3);
+/// ```
 pub type Infiniband<'a> = TypedNode<'a, 3, 9, 44>;
 
 impl<'a> Infiniband<'a> {
@@ -217,6 +258,15 @@ impl<'a> Infiniband<'a> {
 }
 
 /// An iSCSI target.
+///
+/// ```rust
+/// let bytes = b"\x03\x13\x1e\0\0\0\x02\0\0\x01\0\0\0\0\0\0\x01\0iqn.org:disk";
+/// let (node, _) = DevicePathNode::split_first(bytes)?;
+/// let disk = messaging::Iscsi::from_node(node)?;
+/// assert_eq!(rt; (disk.protocol(), disk.options(), disk.target_portal_group_tag()), (0, 2, 1));
+/// assert_eq!(rt; disk.logical_unit_number(), [0, 1, 0, 0, 0, 0, 0, 0]);
+/// assert_eq!(rt; disk.iscsi_target_name(), b"iqn.org:disk".as_slice());
+/// ```
 pub type Iscsi<'a> = TypedNode<'a, 3, 19, 14>;
 
 impl<'a> Iscsi<'a> {
@@ -259,6 +309,12 @@ impl<'a> Iscsi<'a> {
 }
 
 /// What a URI names.
+///
+/// ```rust
+/// let (node, _) = DevicePathNode::split_first(b"\x03\x18\x12\0http://a/b.efi")?;
+/// let uri = messaging::Uri::from_node(node)?;
+/// assert_eq!(rt; uri.value(), b"http://a/b.efi".as_slice());
+/// ```
 pub type Uri<'a> = TypedNode<'a, 3, 24, 0>;
 
 impl<'a> Uri<'a> {
@@ -273,6 +329,12 @@ impl<'a> Uri<'a> {
 }
 
 /// A Bluetooth device.
+///
+/// ```rust
+/// let (node, _) = DevicePathNode::split_first(&[3, 0x1b, 0xa, 0, 1, 0x23, 0x45, 0x67, 0x89, 0xab])?;
+/// let device = messaging::Bluetooth::from_node(node)?;
+/// assert_eq!(rt; device.device_address(), [0x01, 0x23, 0x45, 0x67, 0x89, 0xab]);
+/// ```
 pub type Bluetooth<'a> = TypedNode<'a, 3, 27, 6>;
 
 impl<'a> Bluetooth<'a> {
@@ -287,6 +349,13 @@ impl<'a> Bluetooth<'a> {
 }
 
 /// A Bluetooth Low Energy device.
+///
+/// ```rust
+/// let (node, _) = DevicePathNode::split_first(&[3, 0x1e, 0xb, 0, 1, 0x23, 0x45, 0x67, 0x89, 0xab, 1])?;
+/// let device = messaging::BluetoothLe::from_node(node)?;
+/// assert_eq!(rt; device.device_address(), [0x01, 0x23, 0x45, 0x67, 0x89, 0xab]);
+/// assert_eq!(rt; device.address_type(), 1);
+/// ```
 pub type BluetoothLe<'a> = TypedNode<'a, 3, 30, 7>;
 
 impl<'a> BluetoothLe<'a> {
@@ -308,6 +377,13 @@ impl<'a> BluetoothLe<'a> {
 }
 
 /// A wireless network.
+///
+/// ```rust
+/// let bytes = b"\x03\x1c\x24\0home\0\0\0\0\0\0\0\0\0\0\0\0\0\0\0\0\0\0\0\0\0\0\0\0\0\0\0\0";
+/// let (node, _) = DevicePathNode::split_first(bytes)?;
+/// let network = messaging::Wifi::from_node(node)?;
+/// assert!(rt; network.ssid().starts_with(b"home\0"));
+/// ```
 pub type Wifi<'a> = TypedNode<'a, 3, 28, 32>;
 
 impl<'a> Wifi<'a> {
@@ -322,6 +398,15 @@ impl<'a> Wifi<'a> {
 }
 
 /// Name servers.
+///
+/// ```rust
+/// let bytes = b"\x03\x1f\x15\0\0\x09\x09\x09\x09\0\0\0\0\0\0\0\0\0\0\0\0";
+/// let (node, _) = DevicePathNode::split_first(bytes)?;
+/// let servers = messaging::Dns::from_node(node)?;
+/// assert_eq!(rt; (servers.address_type(), servers.address_count()), (0, 1));
+/// assert_eq!(rt; servers.address(0).map(|it| it[0]), Some(9));
+/// assert_eq!(rt; servers.address(1), None);
+/// ```
 pub type Dns<'a> = TypedNode<'a, 3, 31, 1>;
 
 impl<'a> Dns<'a> {
@@ -359,6 +444,13 @@ impl<'a> Dns<'a> {
 }
 
 /// A REST service.
+///
+/// ```rust
+/// let (node, _) = DevicePathNode::split_first(b"\x03\x21\x1a\0\xff\x02abcdefghijklmnopdata")?;
+/// let service = messaging::RestService::from_node(node)?;
+/// assert_eq!(rt; (service.service_type(), service.access_mode()), (0xff, 2));
+/// assert_eq!(rt; service.vendor_guid_and_data().map(|it| it.1), Some(b"data".as_slice()));
+/// ```
 pub type RestService<'a> = TypedNode<'a, 3, 33, 2>;
 
 impl<'a> RestService<'a> {
@@ -395,6 +487,13 @@ impl<'a> RestService<'a> {
 }
 
 /// A namespace of NVM Express over a network.
+///
+/// ```rust
+/// let (node, _) = DevicePathNode::split_first(b"\x03\x22\x22\0\x03abcdefghijklmnopnqn.org:disk\0")?;
+/// let disk = messaging::NvmeOfNamespace::from_node(node)?;
+/// assert_eq!(rt; (disk.nidt(), disk.nid()), (3, *b"abcdefghijklmnop"));
+/// assert_eq!(rt; disk.subsystem_nqn(), b"nqn.org:disk\0".as_slice());
+/// ```
 pub type NvmeOfNamespace<'a> = TypedNode<'a, 3, 34, 17>;
 
 impl<'a> NvmeOfNamespace<'a> {

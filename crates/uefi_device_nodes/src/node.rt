@@ -223,6 +223,15 @@ pub fn fault_place(cause: NodeError) -> usize
 
 /// A node that lies in borrowed bytes. A contract sees it as `node_of` it: its type, its sub-type and
 /// its data.
+///
+/// ```rust
+/// let (node, _) = DevicePathNode::split_first(&[1, 1, 6, 0, 2, 0x1f])?;
+/// assert_eq!(rt; (node.device_type(), node.sub_type()), node.full_type());
+/// assert_eq!(rt; node.full_type(), (DeviceType::HARDWARE, DeviceSubType::HARDWARE_PCI));
+/// assert_eq!(rt; (node.length(), node.data()), (6, [2, 0x1f].as_slice()));
+/// assert_eq!(rt; node.as_bytes(), [1, 1, 6, 0, 2, 0x1f].as_slice());
+/// assert!(rt; !node.is_end_entire() && !node.is_end_instance());
+/// ```
 #[derive(Clone, Copy)]
 pub struct DevicePathNode<'a> {
     bytes: &'a [u8],
@@ -264,6 +273,14 @@ impl<'a> DevicePathNode<'a> {
     /// Splits bytes into the node that they begin with and the bytes after it. The node may be one
     /// that ends an instance or the path. Fails with the first cause that holds, in the order in
     /// which [`NodeError`] lists them.
+    ///
+    /// ```rust
+    /// let (node, rest) = DevicePathNode::split_first(&[1, 1, 6, 0, 2, 0x1f, 0x7f, 0xff, 4, 0])?;
+    /// assert_eq!(rt; node.data(), [2, 0x1f].as_slice());
+    /// assert_eq!(rt; rest, [0x7f, 0xff, 4, 0].as_slice());
+    /// let refused = DevicePathNode::split_first(&[1, 1, 6, 0, 2]);
+    /// assert_eq!(rt; refused.err(), Some(NodeError::BeyondEnd));
+    /// ```
     #[inline(always)]
     pub fn split_first(bytes: &'a [u8]) -> Result<(Self, &'a [u8]), NodeError>
         ensures ok { IfOk result (λ split. bytes.now ≡ node_bytes (node_of split.0) ++ split.1.now) }

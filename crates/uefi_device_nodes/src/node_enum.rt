@@ -274,6 +274,14 @@ impl<'a> DevicePathNode<'a> {
     /// The node as the view of its kind. Refused as `UnsupportedType` where its type and its sub-type are
     /// those of no kind that has a view, and then as `InvalidLength` where its data have a length that none
     /// of its kind has.
+    ///
+    /// ```rust
+    /// let (node, _) = DevicePathNode::split_first(&[1, 1, 6, 0, 2, 0x1f])?;
+    /// let view = node.as_enum();
+    /// assert!(rt; matches!(view, Ok(DevicePathNodeEnum::HardwarePci(pci)) if pci.device() == 0x1f));
+    /// let (short, _) = DevicePathNode::split_first(&[1, 1, 5, 0, 2])?;
+    /// assert_eq!(rt; short.as_enum().err(), Some(NodeConversionError::InvalidLength));
+    /// ```
     pub fn as_enum(&self) -> Result<DevicePathNodeEnum<'a>, NodeConversionError>
         ensures ok { IfOk result (λ view. IsNodeOf view (node_of self.now)) }
         ensures refusal { result_err result ≡ enum_refusal (node_of self.now) }

@@ -157,6 +157,15 @@ impl<'a> DevicePathNode<'a> {
     /// the form of its kind, or `Path(TYPE,SUBTYPE,BYTES)` where it is of none, or too short for its
     /// kind. No control character stands in it, and none that turns its direction or ends its line.
     /// Takes no memory.
+    ///
+    /// ```rust
+    /// let (node, _) = DevicePathNode::split_first(&[3, 1, 8, 0, 0, 1, 2, 0])?;
+    /// let shortcuts = AllowShortcuts(true);
+    /// let text = node.display(DisplayOnly(false), shortcuts);
+    /// assert_eq!(rt; format!(in rt.alloc(); "{text}")?.as_str(), "Ata(Primary,Slave,0x2)");
+    /// let text = node.display(DisplayOnly(true), shortcuts);
+    /// assert_eq!(rt; format!(in rt.alloc(); "{text}")?.as_str(), "Ata(0x2)");
+    /// ```
     pub fn display(
         &self,
         display_only: DisplayOnly,
@@ -175,6 +184,15 @@ impl<'a> DevicePathNode<'a> {
     /// as UTF-16, with a NUL after it, and returns how many units these are. What follows them is
     /// unchanged. Refused as `BufferTooSmall`, with the count that it needs; the buffer then holds as many
     /// of the first units as it has places. Takes no memory; one pass.
+    ///
+    /// ```rust
+    /// let (node, _) = DevicePathNode::split_first(&[3, 0x1a, 5, 0, 1])?;
+    /// let (shortcuts, form) = (AllowShortcuts(true), DisplayOnly(false));
+    /// let mut buffer = [0; 8];
+    /// assert_eq!(rt; node.write_text(&mut buffer, form, shortcuts), Ok(8));
+    /// assert_eq!(rt; buffer, [0x53, 0x44, 0x28, 0x30, 0x78, 0x31, 0x29, 0]);
+    /// assert_eq!(rt; node.write_text(&mut [0; 7], form, shortcuts), Err(TextWriteError::BufferTooSmall(8)));
+    /// ```
     pub fn write_text(
         &self,
         buffer: &mut [u16],

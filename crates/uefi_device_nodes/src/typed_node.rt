@@ -29,6 +29,12 @@ impl<'a, const DEVICE_TYPE: u8, const SUB_TYPE: u8, const LEAST: usize> TypedNod
 
     /// The node as one of this kind. Refused as `DifferentType` where its type or its sub-type is
     /// another, and then as `InvalidLength` where it has fewer bytes of data than each of the kind.
+    ///
+    /// ```rust
+    /// let (node, _) = DevicePathNode::split_first(&[1, 1, 6, 0, 2, 0x1f])?;
+    /// assert_eq!(rt; hardware::Pci::from_node(node)?.device(), 0x1f);
+    /// assert_eq!(rt; acpi::Acpi::from_node(node).err(), Some(NodeConversionError::DifferentType));
+    /// ```
     pub fn from_node(node: DevicePathNode<'a>) -> Result<Self, NodeConversionError>
         ensures ok { IfOk result (λ typed. data_of typed ≡ (node_of node.entry).content) }
         ensures accepts { IsOk result ↔ IsOfKind DEVICE_TYPE SUB_TYPE LEAST (node_of node.entry) }
@@ -60,6 +66,11 @@ impl<'a, const DEVICE_TYPE: u8, const SUB_TYPE: u8, const LEAST: usize> TypedNod
     }
 
     /// All data of the node.
+    ///
+    /// ```rust
+    /// let (node, _) = DevicePathNode::split_first(&[1, 1, 6, 0, 2, 0x1f])?;
+    /// assert_eq!(rt; hardware::Pci::from_node(node)?.data(), [2, 0x1f].as_slice());
+    /// ```
     pub fn data(&self) -> &'a [u8]
         ensures { result.now ≡ data_of self.now }
     {

@@ -99,6 +99,11 @@ impl<A: Allocator> DevicePathBuf<A> {
     ghost use Rattle.uefi_device_path.specs.Views.{nodes_of};
 
     /// The device path without nodes, or `AllocError`. One request for memory.
+    ///
+    /// ```rust
+    /// let path = DevicePathBuf::new(rt.alloc())?;
+    /// assert_eq!(rt; path.as_device_path().as_bytes(), [0x7f, 0xff, 4, 0].as_slice());
+    /// ```
     pub fn new(alloc: A) -> Result<Self, AllocError>
         ensures { IfOk result (λ path. path ≡ []) }
     {
@@ -119,6 +124,13 @@ impl<A: Allocator> DevicePathBuf<A> {
     /// Adds a node before the end: one that was built, or that another path has. Refused as `EndNode` for a
     /// node of type End that does not end an instance, as `NodeTooLong` for more than 65,531 bytes of data,
     /// and then as `OutOfMemory`; the path is then unchanged. Takes memory where it has no room.
+    ///
+    /// ```rust
+    /// let mut path = DevicePathBuf::new(rt.alloc())?;
+    /// path.push_node(&build::hardware::Pci { function: 2, device: 0x1f })?;
+    /// let bytes = [1, 1, 6, 0, 2, 0x1f, 0x7f, 0xff, 4, 0];
+    /// assert_eq!(rt; path.as_device_path().as_bytes(), bytes.as_slice());
+    /// ```
     pub fn push_node<N: BuildNode>(&mut self, node: &N) -> Result<(), BuildError>
         ensures ok { OnOk result (self.new ≡ self.old ++ N.node node.now ∷ []) }
         ensures accepted { OnOk result (build_refusal (N.node node.now) ≡ None) }
@@ -138,6 +150,15 @@ impl<A: Allocator> DevicePathBuf<A> {
     }
 
     /// Adds a node of a type, a sub-type and data, as [`DevicePathBuf::push_node`] does.
+    ///
+    /// ```rust
+    /// let mut path = DevicePathBuf::new(rt.alloc())?;
+    /// path.push(DeviceType::HARDWARE, DeviceSubType::HARDWARE_PCI, &[2, 0x1f])?;
+    /// let text = format!(in rt.alloc(); "{}", path.as_device_path())?;
+    /// assert_eq!(rt; text.as_str(), "Pci(0x1F,0x2)");
+    /// let refused = path.push(DeviceType::END, DeviceSubType::END_ENTIRE, &[]);
+    /// assert_eq!(rt; refused, Err(BuildError::EndNode));
+    /// ```
     pub fn push(
         &mut self,
         device_type: DeviceType,
@@ -160,6 +181,14 @@ impl<A: Allocator> DevicePathBuf<A> {
     }
 
     /// Adds a node that names a file: the text of a path and a NUL, as [`DevicePathBuf::push_node`] adds it.
+    ///
+    /// ```rust
+    /// let name = CString16::try_from_str(rt.alloc(), r"\efi\a.efi")?;
+    /// let mut path = DevicePathBuf::new(rt.alloc())?;
+    /// path.push_file(Path::new(name.as_cstr16()))?;
+    /// let text = format!(in rt.alloc(); "{}", path.as_device_path())?;
+    /// assert_eq!(rt; text.as_str(), r"\efi\a.efi");
+    /// ```
     pub fn push_file(&mut self, path: Path<'_>) -> Result<(), BuildError>
         ensures ok { OnOk result (self.new ≡ self.old ++ node_of_name (path_text path.entry) ∷ []) }
         ensures err { OnErr result (self.new ≡ self.old) }
@@ -173,6 +202,14 @@ impl<A: Allocator> DevicePathBuf<A> {
 
     /// Adds all nodes of another path before the end, as EDK II's `AppendDevicePath` does. Fails with
     /// `OutOfMemory` alone; the path is then unchanged. Allocates where it has no room, once.
+    ///
+    /// ```rust
+    /// let mut path = DevicePathBuf::from_text(rt.alloc(), "PciRoot(0x0)")?;
+    /// let others = DevicePathBuf::from_text(rt.alloc(), "Pci(0x1F,0x2)/Sata(0x0,0xFFFF,0x0)")?;
+    /// path.append(others.as_device_path())?;
+    /// let text = format!(in rt.alloc(); "{}", path.as_device_path())?;
+    /// assert_eq!(rt; text.as_str(), "PciRoot(0x0)/Pci(0x1F,0x2)/Sata(0x0,0xFFFF,0x0)");
+    /// ```
     pub fn append(&mut self, path: DevicePath<'_>) -> Result<(), BuildError>
         ensures ok { OnOk result (self.new ≡ self.old ++ nodes_of path.entry) }
         ensures err { OnErr result (self.new ≡ self.old) }
@@ -187,6 +224,8 @@ impl<A: Allocator> DevicePathBuf<A> {
     }
 
     /// The path, borrowed.
+    ///
+    /// See [`DevicePathBuf::new`].
     pub fn as_device_path(&self) -> DevicePath<'_>
         ensures { nodes_of result ≡ self.now }
     {

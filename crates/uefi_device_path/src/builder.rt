@@ -30,6 +30,14 @@ impl<'a> DevicePathBuilder<'a> {
 
     /// The device path without nodes, at the start of a buffer. Refused as `BufferTooSmall` where the
     /// buffer has no four bytes for its end; the buffer is then unchanged. Takes no memory.
+    ///
+    /// ```rust
+    /// let mut buffer = [0; 4];
+    /// let path = DevicePathBuilder::with_buf(&mut buffer)?;
+    /// assert_eq!(rt; path.as_device_path().as_bytes(), [0x7f, 0xff, 4, 0].as_slice());
+    /// let refused = DevicePathBuilder::with_buf(&mut buffer[..3]);
+    /// assert_eq!(rt; refused.err(), Some(BuildError::BufferTooSmall(4)));
+    /// ```
     pub fn with_buf(buf: &'a mut [u8]) -> Result<Self, BuildError>
         ensures ok { IfOk result (λ path. builder_nodes path ≡ []) }
         ensures room { IfOk result (λ path. builder_room path ≡ length buf.old) }
@@ -50,6 +58,15 @@ impl<'a> DevicePathBuilder<'a> {
     /// node of type End that does not end an instance, as `NodeTooLong` for more than 65,531 bytes of data,
     /// and then as `BufferTooSmall`, with the count of bytes that the path then needs; the path is then
     /// unchanged. Takes no memory.
+    ///
+    /// ```rust
+    /// let mut buffer = [0; 10];
+    /// let mut path = DevicePathBuilder::with_buf(&mut buffer)?;
+    /// let node = build::hardware::Pci { function: 2, device: 0x1f };
+    /// path.push_node(&node)?;
+    /// assert_eq!(rt; path.push_node(&node), Err(BuildError::BufferTooSmall(16)));
+    /// assert_eq!(rt; path.finalize().as_bytes(), [1, 1, 6, 0, 2, 0x1f, 0x7f, 0xff, 4, 0].as_slice());
+    /// ```
     pub fn push_node<N: BuildNode>(&mut self, node: &N) -> Result<(), BuildError>
         ensures ok { OnOk result (builder_nodes self.new ≡ builder_nodes self.old ++ N.node node.now ∷ []) }
         ensures err { OnErr result (builder_nodes self.new ≡ builder_nodes self.old) }
@@ -67,6 +84,14 @@ impl<'a> DevicePathBuilder<'a> {
     }
 
     /// Adds a node of a type, a sub-type and data, as [`DevicePathBuilder::push_node`] does.
+    ///
+    /// ```rust
+    /// let mut buffer = [0; 64];
+    /// let mut path = DevicePathBuilder::with_buf(&mut buffer)?;
+    /// path.push(DeviceType::HARDWARE, DeviceSubType::HARDWARE_PCI, &[2, 0x1f])?;
+    /// let text = format!(in rt.alloc(); "{}", path.finalize())?;
+    /// assert_eq!(rt; text.as_str(), "Pci(0x1F,0x2)");
+    /// ```
     pub fn push(
         &mut self,
         device_type: DeviceType,
@@ -89,6 +114,15 @@ impl<'a> DevicePathBuilder<'a> {
 
     /// Adds a node that names a file: the text of a path and a NUL, as [`DevicePathBuilder::push_node`]
     /// adds it.
+    ///
+    /// ```rust
+    /// let name = CString16::try_from_str(rt.alloc(), r"\efi\a.efi")?;
+    /// let mut buffer = [0; 64];
+    /// let mut path = DevicePathBuilder::with_buf(&mut buffer)?;
+    /// path.push_file(Path::new(name.as_cstr16()))?;
+    /// let text = format!(in rt.alloc(); "{}", path.finalize())?;
+    /// assert_eq!(rt; text.as_str(), r"\efi\a.efi");
+    /// ```
     pub fn push_file(&mut self, path: Path<'_>) -> Result<(), BuildError>
         ensures ok { let node = node_of_name (path_text path.entry) in
             OnOk result (builder_nodes self.new ≡ builder_nodes self.old ++ node ∷ []) }
@@ -104,6 +138,15 @@ impl<'a> DevicePathBuilder<'a> {
 
     /// Adds all nodes of another path before the end. Fails with `BufferTooSmall` and the count of bytes that
     /// the path then needs, if the buffer has fewer; the path is then unchanged. Allocates nothing.
+    ///
+    /// ```rust
+    /// let card = DevicePathBuf::from_text(rt.alloc(), "SD(0x1)")?;
+    /// let mut buffer = [0; 64];
+    /// let mut path = DevicePathBuilder::with_buf(&mut buffer)?;
+    /// path.append(card.as_device_path())?;
+    /// path.append(card.as_device_path())?;
+    /// assert_eq!(rt; path.as_device_path().node_iter().count(), 2);
+    /// ```
     pub fn append(&mut self, path: DevicePath<'_>) -> Result<(), BuildError>
         ensures ok { OnOk result (builder_nodes self.new ≡ builder_nodes self.old ++ nodes_of path.entry) }
         ensures err { OnErr result (builder_nodes self.new ≡ builder_nodes self.old) }
@@ -121,6 +164,8 @@ impl<'a> DevicePathBuilder<'a> {
     }
 
     /// The path, borrowed from the builder.
+    ///
+    /// See [`DevicePathBuilder::with_buf`].
     pub fn as_device_path(&self) -> DevicePath<'_>
         ensures { nodes_of result ≡ builder_nodes self.now }
     {
@@ -128,6 +173,8 @@ impl<'a> DevicePathBuilder<'a> {
     }
 
     /// The path, borrowed from the buffer.
+    ///
+    /// See [`DevicePathBuilder::push_node`].
     pub fn finalize(self) -> DevicePath<'a>
         ensures { nodes_of result ≡ builder_nodes self.entry }
     {

@@ -44,6 +44,14 @@ impl<'a> CheckedNodes<'a> {
     ghost use Rattle.uefi_text.specs.Runs.{GivesEach};
 
     /// Creates an iterator over the nodes of the device path that bytes begin with. Reads none.
+    ///
+    /// ```rust
+    /// let mut nodes = CheckedNodes::new(&[1, 1, 6, 0, 2, 0x1f]);
+    /// assert!(rt; matches!(nodes.next(), Some(Ok(node)) if node.length() == 6));
+    /// let error = DevicePathError { cause: NodeError::Missing, offset: 6 };
+    /// assert!(rt; matches!(nodes.next(), Some(Err(it)) if it == error));
+    /// assert!(rt; nodes.next().is_none());
+    /// ```
     pub fn new(bytes: &'a [u8]) -> Self
         ensures accepted { (nodes : List Node) → BeginWithPath bytes.now nodes
             → checked_left result ≡ map Ok nodes }
@@ -93,6 +101,13 @@ impl<'a> CheckedNodes<'a> {
 
     /// Returns the bytes after the path once the iterator has given all nodes and then `None`.
     /// Returns `None` before that, and after a fault.
+    ///
+    /// ```rust
+    /// let mut nodes = CheckedNodes::new(&[1, 1, 6, 0, 2, 0x1f, 0x7f, 0xff, 4, 0, 9]);
+    /// assert!(rt; nodes.next().is_some() && nodes.rest().is_none());
+    /// assert!(rt; nodes.next().is_none());
+    /// assert_eq!(rt; nodes.rest(), Some([9].as_slice()));
+    /// ```
     pub fn rest(&self) -> Option<&'a [u8]>
         ensures same { option_map (λ rest. rest.now) result ≡ rest_of self.now }
         ensures after { IfSome result (λ rest. (nodes : List Node)

@@ -105,6 +105,15 @@ impl<'a> DevicePath<'a> {
     /// The device path that bytes begin with, and the bytes after it. Refused for the first node that
     /// is none: for what is wrong with it first in the order of its bytes, at the offset of those bytes.
     /// Takes no memory; one pass.
+    ///
+    /// ```rust
+    /// let bytes = [1, 1, 6, 0, 2, 0x1f, 0x7f, 0xff, 4, 0, 9];
+    /// let (path, rest) = DevicePath::split_first(&bytes)?;
+    /// assert_eq!(rt; format!(in rt.alloc(); "{path}")?.as_str(), "Pci(0x1F,0x2)");
+    /// assert_eq!(rt; rest, [9].as_slice());
+    /// let error = DevicePathError { cause: NodeError::BeyondEnd, offset: 2 };
+    /// assert_eq!(rt; DevicePath::split_first(&bytes[..5]).err(), Some(error));
+    /// ```
     pub fn split_first(bytes: &'a [u8]) -> Result<(Self, &'a [u8]), DevicePathError>
         ensures ok { IfOk result (λ split.
             BeginWith bytes.now (nodes_of split.0) (node_bytes end_entire ++ split.1.now)) }
@@ -124,6 +133,14 @@ impl<'a> DevicePath<'a> {
 
     /// The device path that bytes begin with, whatever follows it. Refused as
     /// [`DevicePath::split_first`] refuses them.
+    ///
+    /// ```rust
+    /// let bytes = [1, 1, 6, 0, 2, 0x1f, 0x7f, 0xff, 4, 0];
+    /// let path = DevicePath::from_bytes(&bytes)?;
+    /// assert_eq!(rt; format!(in rt.alloc(); "{path}")?.as_str(), "Pci(0x1F,0x2)");
+    /// let error = DevicePathError { cause: NodeError::Missing, offset: 6 };
+    /// assert_eq!(rt; DevicePath::from_bytes(&bytes[..6]).err(), Some(error));
+    /// ```
     pub fn from_bytes(bytes: &'a [u8]) -> Result<Self, DevicePathError>
         ensures ok { IfOk result (λ path. BeginWithPath bytes.now (nodes_of path)) }
         ensures only { IfOk result (λ path. (nodes : List Node) →
@@ -140,6 +157,11 @@ impl<'a> DevicePath<'a> {
     }
 
     /// All bytes of the path, those of the node that ends it among them.
+    ///
+    /// ```rust
+    /// let path = DevicePath::from_bytes(&[0x7f, 0xff, 4, 0, 9, 9])?;
+    /// assert_eq!(rt; path.as_bytes(), [0x7f, 0xff, 4, 0].as_slice());
+    /// ```
     pub fn as_bytes(&self) -> &'a [u8]
         ensures bytes { result.now ≡ path_bytes (nodes_of self.now) }
         ensures inner { All IsInner (nodes_of self.now) }
@@ -148,6 +170,14 @@ impl<'a> DevicePath<'a> {
     }
 
     /// The nodes of the path in order, without the one that ends it.
+    ///
+    /// ```rust
+    /// let path = DevicePathBuf::from_text(rt.alloc(), "PciRoot(0x0)/Pci(0x1F,0x2)")?;
+    /// let mut nodes = path.as_device_path().node_iter();
+    /// assert_eq!(rt; nodes.next().map(|it| it.device_type()), Some(DeviceType::ACPI));
+    /// assert_eq!(rt; nodes.next().map(|it| it.device_type()), Some(DeviceType::HARDWARE));
+    /// assert!(rt; nodes.next().is_none());
+    /// ```
     pub fn node_iter(&self) -> DevicePathNodeIterator<'a>
         ensures same { nodes_left result ≡ nodes_of self.now }
         ensures inner { All IsInner (nodes_left result) }
@@ -163,6 +193,15 @@ impl<'a> DevicePath<'a> {
     ///
     /// All names are looked at first: the first node whose data is no string is refused. Then the call
     /// allocates once for the text, and once for the places of its separators if it has any.
+    ///
+    /// ```rust
+    /// let path = DevicePathBuf::from_text(rt.alloc(), r"SD(0x1)/\efi\boot/\a.efi")?;
+    /// let file = path.as_device_path().file_path(rt.alloc())?;
+    /// assert_eq!(rt; format!(in rt.alloc(); "{file}")?.as_str(), r"\efi\boot\a.efi");
+    /// let odd = DevicePath::from_bytes(&[4, 4, 5, 0, 0x61, 0x7f, 0xff, 4, 0])?;
+    /// let error = FilePathError { cause: FilePathCause::HalfUnit, offset: 4 };
+    /// assert_eq!(rt; odd.file_path(rt.alloc()).err(), Some(error));
+    /// ```
     pub fn file_path<A: Allocator + Copy>(&self, alloc: A) -> Result<PathBuf<A>, FilePathError>
         ensures ok { IfOk result (λ path. path ≡ file_path (nodes_of self.now)) }
         ensures accepted { IfOk result (λ _. All IsReadable (nodes_of self.now)) }
@@ -176,6 +215,15 @@ impl<'a> DevicePath<'a> {
     /// as `Name` where that call refuses a name, for the same node, and then as `BufferTooSmall`, with the
     /// count that it needs; the buffer is then unchanged. Takes no memory; one pass over the nodes
     /// measures, and one writes.
+    ///
+    /// ```rust
+    /// let path = DevicePathBuf::from_text(rt.alloc(), r"SD(0x1)/\a\b")?;
+    /// let mut buffer = [0xffff; 5];
+    /// assert_eq!(rt; path.as_device_path().write_file_path(&mut buffer), Ok(5));
+    /// assert_eq!(rt; buffer, [0x5c, 0x61, 0x5c, 0x62, 0]);
+    /// let refused = path.as_device_path().write_file_path(&mut buffer[..4]);
+    /// assert_eq!(rt; refused, Err(FilePathWriteError::BufferTooSmall(5)));
+    /// ```
     pub fn write_file_path(&self, buffer: &mut [u16]) -> Result<usize, FilePathWriteError>
         ensures len { IfOk result (λ len. len ≡ length (file_path (nodes_of self.now)) + 1) }
         ensures text { OnOk result (IsText (file_path (nodes_of self.now))) }
@@ -192,6 +240,13 @@ impl<'a> DevicePath<'a> {
 
     /// The file path, written to the start of a buffer and borrowed from there as a string.
     /// [`DevicePath::write_file_path`] says when it is refused and what the buffer then holds.
+    ///
+    /// ```rust
+    /// let path = DevicePathBuf::from_text(rt.alloc(), r"SD(0x1)/\efi\a.efi")?;
+    /// let mut buffer = [0; 16];
+    /// let file = path.as_device_path().file_path_in_buf(&mut buffer)?;
+    /// assert_eq!(rt; format!(in rt.alloc(); "{file}")?.as_str(), r"\efi\a.efi");
+    /// ```
     pub fn file_path_in_buf<'b>(&self, buf: &'b mut [u16]) -> Result<CStr16<'b>, FilePathWriteError>
         ensures ok { IfOk result (λ string. text_of string ≡ file_path (nodes_of self.now)) }
         ensures accepted { OnOk result (All IsReadable (nodes_of self.now)) }
@@ -208,6 +263,14 @@ impl<'a> DevicePath<'a> {
     /// What is printed of the path, for a `{}` of a format (UEFI Specification 2.10, section 10.6.1):
     /// the texts of its nodes, which [`DevicePathNode::display`] gives, with a slash between each two
     /// of an instance, and a comma between each two instances. Takes no memory.
+    ///
+    /// ```rust
+    /// let path = DevicePathBuf::from_text(rt.alloc(), "CDROM(0x1,0x2D,0x800)")?;
+    /// let text = path.as_device_path().display(DisplayOnly(true), AllowShortcuts(true));
+    /// assert_eq!(rt; format!(in rt.alloc(); "{text}")?.as_str(), "CDROM(0x1)");
+    /// let text = format!(in rt.alloc(); "{}", path.as_device_path())?;
+    /// assert_eq!(rt; text.as_str(), "CDROM(0x1,0x2D,0x800)");
+    /// ```
     pub fn display(
         &self,
         display_only: DisplayOnly,
@@ -226,6 +289,15 @@ impl<'a> DevicePath<'a> {
     /// as UTF-16, with a NUL after it, and returns how many units these are. What follows them is
     /// unchanged. Refused as `BufferTooSmall`, with the count that it needs; the buffer then holds as many
     /// of the first units as it has places. Takes no memory; one pass.
+    ///
+    /// ```rust
+    /// let path = DevicePathBuf::from_text(rt.alloc(), "SD(0x1)")?;
+    /// let (form, shortcuts) = (DisplayOnly(true), AllowShortcuts(true));
+    /// let mut buffer = [0; 8];
+    /// assert_eq!(rt; path.as_device_path().write_text(&mut buffer, form, shortcuts), Ok(8));
+    /// let refused = path.as_device_path().write_text(&mut buffer[..7], form, shortcuts);
+    /// assert_eq!(rt; refused, Err(TextWriteError::BufferTooSmall(8)));
+    /// ```
     pub fn write_text(
         &self,
         buffer: &mut [u16],
@@ -250,6 +322,14 @@ impl<'a> DevicePath<'a> {
 
     /// The same text, written to the start of a buffer and borrowed from there with its NUL.
     /// [`DevicePath::write_text`] says when it is refused and what the buffer then holds.
+    ///
+    /// ```rust
+    /// let path = DevicePathBuf::from_text(rt.alloc(), "SD(0x1)")?;
+    /// let (form, shortcuts) = (DisplayOnly(true), AllowShortcuts(true));
+    /// let mut buffer = [0; 64];
+    /// let text = path.as_device_path().text_in_buf(&mut buffer, form, shortcuts)?;
+    /// assert_eq!(rt; text, [0x53, 0x44, 0x28, 0x30, 0x78, 0x31, 0x29, 0].as_slice());
+    /// ```
     pub fn text_in_buf<'b>(
         &self,
         buf: &'b mut [u16],
@@ -271,6 +351,12 @@ impl<'a> DevicePath<'a> {
     }
 
     /// The instances of the path, in order: what stands between the nodes that end one.
+    ///
+    /// ```rust
+    /// let path = DevicePathBuf::from_text(rt.alloc(), "Uart(9600,8,N,1),SD(0x1)/Unit(0x2)")?;
+    /// let nodes = path.as_device_path().instance_iter().map(|it| it.node_iter().count());
+    /// assert!(rt; nodes.eq([1, 2]));
+    /// ```
     pub fn instance_iter(&self) -> DevicePathInstanceIterator<'a>
         ensures same { instances_left result ≡ instances (nodes_of self.now) }
         ensures runs { GivesEach instance_nodes instances_left result }

@@ -126,6 +126,15 @@ pub(crate) fn path_len(buffer: &[u8]) -> Result<usize, DevicePathError>
 /// Fails with `Path` if the buffer begins with no device path, and then as
 /// [`DevicePathBuilder::push_node`](crate::DevicePathBuilder::push_node) does; the buffer is then
 /// unchanged. Allocates nothing; one pass over the path.
+///
+/// ```rust
+/// let mut buffer = [0x7f, 0xff, 4, 0, 0, 0, 0, 0, 0, 0];
+/// let node = build::hardware::Pci { function: 2, device: 0x1f };
+/// assert_eq!(rt; push_in_buf(&mut buffer, &node), Ok(10));
+/// assert_eq!(rt; buffer, [1, 1, 6, 0, 2, 0x1f, 0x7f, 0xff, 4, 0]);
+/// let refused = push_in_buf(&mut buffer, &node);
+/// assert_eq!(rt; refused, Err(GrowError::Build(BuildError::BufferTooSmall(16))));
+/// ```
 pub fn push_in_buf<N: BuildNode>(buffer: &mut [u8], node: &N) -> Result<usize, GrowError>
     ensures no_path { (error : DevicePathError) → RefusedFor buffer.old error
         → result ≡ Err (GrowError.Path error) }
@@ -149,6 +158,13 @@ pub fn push_in_buf<N: BuildNode>(buffer: &mut [u8], node: &N) -> Result<usize, G
 
 /// Adds the nodes of another path before the end of the device path that a buffer begins with, and returns
 /// how many bytes the path then has, as [`push_in_buf`] does.
+///
+/// ```rust
+/// let card = DevicePathBuf::from_text(rt.alloc(), "SD(0x1)")?;
+/// let mut buffer = [0x7f, 0xff, 4, 0, 0, 0, 0, 0, 0];
+/// assert_eq!(rt; append_in_buf(&mut buffer, card.as_device_path()), Ok(9));
+/// assert_eq!(rt; buffer, [3, 0x1a, 5, 0, 1, 0x7f, 0xff, 4, 0]);
+/// ```
 pub fn append_in_buf(buffer: &mut [u8], path: DevicePath<'_>) -> Result<usize, GrowError>
     ensures no_path { (error : DevicePathError) → RefusedFor buffer.old error
         → result ≡ Err (GrowError.Path error) }

@@ -80,6 +80,14 @@ fn put_text_at(buffer: &mut [u8], len: usize, text: &[u8]) -> usize
 /// which the text stops being that of a path, and then with `BufferTooSmall` and the count of bytes that
 /// the path then needs; the buffer is then unchanged. Allocates nothing; one pass over the path, and two
 /// over the text.
+///
+/// ```rust
+/// let mut buffer = [0x7f, 0xff, 4, 0, 0, 0, 0, 0, 0];
+/// assert_eq!(rt; push_text_in_buf(&mut buffer, "SD(0x1)"), Ok(9));
+/// assert_eq!(rt; buffer, [3, 0x1a, 5, 0, 1, 0x7f, 0xff, 4, 0]);
+/// let refused = push_text_in_buf(&mut buffer, "SD(0x1)/SD(1)");
+/// assert_eq!(rt; refused, Err(PushTextError::NoNode(8)));
+/// ```
 pub fn push_text_in_buf(buffer: &mut [u8], text: &str) -> Result<usize, PushTextError>
     ensures no_path { (error : DevicePathError) → RefusedFor buffer.old error
         → result ≡ Err (PushTextError.Path error) }

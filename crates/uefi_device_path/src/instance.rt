@@ -24,6 +24,13 @@ use uefi_text::CStr16;
 
 /// An instance of a device path: the nodes between two that end one, without these. A contract sees it as
 /// `instance_nodes` of it.
+///
+/// ```rust
+/// let path = DevicePathBuf::from_text(rt.alloc(), "SD(0x1),SD(0x2)")?;
+/// let instance = path.as_device_path().instance_iter().next().ok_or("no instance")?;
+/// assert_eq!(rt; instance.as_bytes(), [3, 0x1a, 5, 0, 1].as_slice());
+/// assert_eq!(rt; instance.node_iter().count(), 1);
+/// ```
 #[derive(Clone, Copy)]
 pub struct DevicePathInstance<'a> {
     pub(crate) bytes: &'a [u8],
@@ -80,6 +87,13 @@ impl<'a> DevicePathInstance<'a> {
     }
 
     /// Joins the names of its nodes that name files, as [`DevicePath::file_path`](crate::DevicePath) does.
+    ///
+    /// ```rust
+    /// let path = DevicePathBuf::from_text(rt.alloc(), r"\efi\a.efi,SD(0x1)")?;
+    /// let instance = path.as_device_path().instance_iter().next().ok_or("no instance")?;
+    /// let file = instance.file_path(rt.alloc())?;
+    /// assert_eq!(rt; format!(in rt.alloc(); "{file}")?.as_str(), r"\efi\a.efi");
+    /// ```
     pub fn file_path<A: Allocator + Copy>(&self, alloc: A) -> Result<PathBuf<A>, FilePathError>
         ensures ok { IfOk result (λ path. path ≡ file_path (instance_nodes self.now)) }
         ensures accepted { IfOk result (λ _. All IsReadable (instance_nodes self.now)) }
@@ -93,6 +107,14 @@ impl<'a> DevicePathInstance<'a> {
     /// as `Name` where that call refuses a name, for the same node, and then as `BufferTooSmall`, with the
     /// count that it needs; the buffer is then unchanged. Takes no memory; one pass over the nodes
     /// measures, and one writes.
+    ///
+    /// ```rust
+    /// let path = DevicePathBuf::from_text(rt.alloc(), r"\a\b,SD(0x1)")?;
+    /// let instance = path.as_device_path().instance_iter().next().ok_or("no instance")?;
+    /// let mut buffer = [0xffff; 5];
+    /// assert_eq!(rt; instance.write_file_path(&mut buffer), Ok(5));
+    /// assert_eq!(rt; buffer, [0x5c, 0x61, 0x5c, 0x62, 0]);
+    /// ```
     pub fn write_file_path(&self, buffer: &mut [u16]) -> Result<usize, FilePathWriteError>
         ensures len { IfOk result (λ len. len ≡ length (file_path (instance_nodes self.now)) + 1) }
         ensures text { OnOk result (IsText (file_path (instance_nodes self.now))) }
@@ -109,6 +131,13 @@ impl<'a> DevicePathInstance<'a> {
 
     /// The file path, written to the start of a buffer and borrowed from there as a string.
     /// [`DevicePathInstance::write_file_path`] says when it is refused and what the buffer then holds.
+    ///
+    /// ```rust
+    /// let path = DevicePathBuf::from_text(rt.alloc(), r"\a\b,SD(0x1)")?;
+    /// let instance = path.as_device_path().instance_iter().next().ok_or("no instance")?;
+    /// let mut buffer = [0; 16];
+    /// assert_eq!(rt; instance.file_path_in_buf(&mut buffer)?.num_chars(), 4);
+    /// ```
     pub fn file_path_in_buf<'b>(&self, buf: &'b mut [u16]) -> Result<CStr16<'b>, FilePathWriteError>
         ensures ok { IfOk result (λ string. text_of string ≡ file_path (instance_nodes self.now)) }
         ensures accepted { OnOk result (All IsReadable (instance_nodes self.now)) }

@@ -19,6 +19,13 @@ impl<'a> DevicePathInstance<'a> {
     /// What is printed of the instance, for a `{}` of a format (UEFI Specification 2.10, section 10.6.1):
     /// the texts of its nodes, which [`DevicePathNode::display`] gives, with a slash between each two. Takes
     /// no memory.
+    ///
+    /// ```rust
+    /// let path = DevicePathBuf::from_text(rt.alloc(), "CDROM(0x1,0x2D,0x800),SD(0x1)")?;
+    /// let instance = path.as_device_path().instance_iter().next().ok_or("no instance")?;
+    /// let text = instance.display(DisplayOnly(true), AllowShortcuts(true));
+    /// assert_eq!(rt; format!(in rt.alloc(); "{text}")?.as_str(), "CDROM(0x1)");
+    /// ```
     pub fn display(
         &self,
         display_only: DisplayOnly,
@@ -32,6 +39,15 @@ impl<'a> DevicePathInstance<'a> {
 
     /// Writes this text to the start of a buffer as UTF-16, with a NUL after it, and returns how many units
     /// these are, as [`DevicePath::write_text`](crate::DevicePath) does.
+    ///
+    /// ```rust
+    /// let path = DevicePathBuf::from_text(rt.alloc(), "SD(0x1),SD(0x2)")?;
+    /// let instance = path.as_device_path().instance_iter().next().ok_or("no instance")?;
+    /// let (form, shortcuts) = (DisplayOnly(true), AllowShortcuts(true));
+    /// let mut buffer = [0; 8];
+    /// assert_eq!(rt; instance.write_text(&mut buffer, form, shortcuts), Ok(8));
+    /// assert_eq!(rt; buffer, [0x53, 0x44, 0x28, 0x30, 0x78, 0x31, 0x29, 0]);
+    /// ```
     pub fn write_text(
         &self,
         buffer: &mut [u16],
@@ -55,6 +71,14 @@ impl<'a> DevicePathInstance<'a> {
     }
 
     /// The same text, written to the start of a buffer and borrowed from there with its NUL.
+    ///
+    /// ```rust
+    /// let path = DevicePathBuf::from_text(rt.alloc(), "SD(0x1),SD(0x2)")?;
+    /// let instance = path.as_device_path().instance_iter().next().ok_or("no instance")?;
+    /// let mut buffer = [0; 64];
+    /// let text = instance.text_in_buf(&mut buffer, DisplayOnly(true), AllowShortcuts(true))?;
+    /// assert_eq!(rt; text, [0x53, 0x44, 0x28, 0x30, 0x78, 0x31, 0x29, 0].as_slice());
+    /// ```
     pub fn text_in_buf<'b>(
         &self,
         buf: &'b mut [u16],

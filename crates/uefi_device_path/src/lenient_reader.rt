@@ -94,6 +94,14 @@ impl<A: Allocator + Copy> DevicePathBuf<A> {
     /// as a text that `from_text` reads as that path. Allocates for the path, and for copies of calls and
     /// names. Refused as `OutOfMemory`, and as `NoNode` at the byte where the first node begins that can't
     /// be read.
+    ///
+    /// ```rust
+    /// let path = DevicePathBuf::from_lenient_text(rt.alloc(), "pciroot(0)/pci(31, 2)")?;
+    /// let text = format!(in rt.alloc(); "{}", path.as_device_path())?;
+    /// assert_eq!(rt; text.as_str(), "PciRoot(0x0)/Pci(0x1F,0x2)");
+    /// let refused = DevicePathBuf::from_lenient_text(rt.alloc(), "pciroot(0)/pci(x)");
+    /// assert_eq!(rt; refused.err(), Some(PathTextError::NoNode(11)));
+    /// ```
     pub fn from_lenient_text(alloc: A, text: &str) -> Result<Self, PathTextError>
         ensures told { IfOk result (λ path. AreTold path) }
         ensures ok { IfOk result (λ path. IsReadAs text.now path) }

@@ -12,7 +12,7 @@
 //! let path = DevicePath::from_bytes(&[1, 1, 6, 0, 0, 0x1f, 0x7f, 0xff, 4, 0])?;
 //! for node in path.node_iter() {
 //!     assert_eq!(rt; node.device_type(), DeviceType::HARDWARE);
-//!     assert_eq!(rt; node.data(), [0, 0x1f]);
+//!     assert_eq!(rt; node.data(), [0, 0x1f].as_slice());
 //! }
 //! ```
 //!

@@ -19,6 +19,15 @@ use std::hash::{Hash, Hasher};
 use uefi_text::{CString16, FromSliceWithNulError, UnalignedSlice};
 
 /// A boot load option that lies in borrowed bytes. A contract sees it as `entry_of` it.
+///
+/// ```rust
+/// let option = LoadOption::from_bytes(b"\x01\0\0\0\x04\0a\0\0\0\x7f\xff\x04\0x\0")?;
+/// assert!(rt; option.is_active() && !option.is_force_reconnect() && !option.is_hidden());
+/// assert_eq!(rt; (option.attributes(), option.category()), (1, 0));
+/// assert_eq!(rt; option.file_path_list(), [0x7f, 0xff, 4, 0].as_slice());
+/// assert_eq!(rt; option.optional_data(), b"x\0".as_slice());
+/// assert_eq!(rt; option.as_bytes().len(), 16);
+/// ```
 #[derive(Clone, Copy)]
 pub struct LoadOption<'a> {
     bytes: &'a [u8],
@@ -41,6 +50,13 @@ impl<'a> LoadOption<'a> {
     /// The load option that the bytes are. Refused for the first of these that is wrong: fewer than
     /// six bytes, a description without NUL, a file path list beyond the end or of no bytes, and a
     /// node of the list. Takes no memory; one pass.
+    ///
+    /// ```rust
+    /// let option = LoadOption::from_bytes(b"\x01\0\0\0\x04\0a\0\0\0\x7f\xff\x04\0")?;
+    /// assert!(rt; option.is_active());
+    /// let error = LoadOptionError { cause: LoadOptionCause::DescriptionWithoutEnd, offset: 8 };
+    /// assert_eq!(rt; LoadOption::from_bytes(b"\x01\0\0\0\x04\0a\0").err(), Some(error));
+    /// ```
     pub fn from_bytes(bytes: &'a [u8]) -> Result<Self, LoadOptionError>
         ensures entry { IfOk result (λ option. IsEntry (entry_of option)) }
         ensures ok { IfOk result (λ option. bytes.now ≡ entry_bytes (entry_of option)) }
@@ -63,6 +79,14 @@ impl<'a> LoadOption<'a> {
     ///
     /// Firmware such as EDK II boots an entry whose first path is whole, whatever follows that path in the
     /// list: of such an entry the first of [`LoadOptionParts::device_paths`] is that path.
+    ///
+    /// ```rust
+    /// let bytes = b"\x01\0\0\0\x09\0a\0\0\0\x7f\xff\x04\0\x03\x1a\x05\0\x01";
+    /// let parts = LoadOption::read_parts(bytes).err().ok_or("no fault")?;
+    /// assert_eq!(rt; parts.device_paths().count(), 1);
+    /// let cause = LoadOptionCause::FilePathList(NodeError::Missing);
+    /// assert_eq!(rt; parts.error(), LoadOptionError { cause, offset: 19 });
+    /// ```
     pub fn read_parts(bytes: &'a [u8]) -> Result<Self, LoadOptionParts<'a>>
         ensures entry { IfOk result (λ option. IsEntry (entry_of option)) }
         ensures ok { IfOk result (λ option. bytes.now ≡ entry_bytes (entry_of option)) }
@@ -166,6 +190,14 @@ impl<'a> LoadOption<'a> {
 
     /// The description as a string in memory of its own. Refused as [`UnalignedSlice::to_cstring16`]
     /// refuses its units: where it holds a surrogate, and then as `OutOfMemory`. One request for memory.
+    ///
+    /// ```rust
+    /// let option = LoadOption::from_bytes(b"\x01\0\0\0\x04\0a\0\0\0\x7f\xff\x04\0")?;
+    /// assert_eq!(rt; option.description(rt.alloc())?.num_chars(), 1);
+    /// let option = LoadOption::from_bytes(b"\x01\0\0\0\x04\0a\0\0\xd8\0\0\x7f\xff\x04\0")?;
+    /// let refused = option.description(rt.alloc());
+    /// assert_eq!(rt; refused.err(), Some(FromSliceWithNulError::InvalidChar(1)));
+    /// ```
     pub fn description<A: Allocator>(&self, alloc: A) -> Result<CString16<A>, FromSliceWithNulError>
         ensures ok { IfOk result (λ string. string ≡ (entry_of self.now).description) }
         ensures memory { IfErr result (λ error. (error ≡ FromSliceWithNulError.OutOfMemory)
@@ -180,6 +212,11 @@ impl<'a> LoadOption<'a> {
     /// The description in UTF-8: each pair of surrogates is one character, and U+FFFD stands for each
     /// surrogate that has no partner (Unicode Standard, section 3.9), so that nothing is refused but
     /// memory. Takes memory for the units, and for the text as it grows.
+    ///
+    /// ```rust
+    /// let option = LoadOption::from_bytes(b"\x01\0\0\0\x04\0a\0\0\xd8\0\0\x7f\xff\x04\0")?;
+    /// assert_eq!(rt; option.description_lossy(rt.alloc())?.as_str(), "a\u{fffd}");
+    /// ```
     pub fn description_lossy<A: Allocator + Copy>(&self, alloc: A) -> Result<String<A>, AllocError>
         ensures { IfOk result (λ text. string_bytes text ≡ lossy_utf8 (entry_of self.now).description) }
     {
@@ -189,6 +226,11 @@ impl<'a> LoadOption<'a> {
 
     /// The code units of the description, its NUL included, wherever they lie. They may hold
     /// surrogates: [`UnalignedSlice::to_cstr16`] and its neighbours say whether they are a string.
+    ///
+    /// ```rust
+    /// let option = LoadOption::from_bytes(b"\x01\0\0\0\x04\0a\0\0\0\x7f\xff\x04\0")?;
+    /// assert!(rt; option.description_units().iter().eq([0x61, 0]));
+    /// ```
     pub fn description_units(&self) -> UnalignedSlice<'a, u16>
         ensures units { items_of result ≡ nul_terminated (entry_of self.now).description }
         ensures ends { IsNulTerminated (items_of result) }
@@ -204,6 +246,12 @@ impl<'a> LoadOption<'a> {
     }
 
     /// The device paths of the file path list, in order.
+    ///
+    /// ```rust
+    /// let option = LoadOption::from_bytes(b"\x01\0\0\0\x09\0a\0\0\0\x03\x1a\x05\0\x01\x7f\xff\x04\0")?;
+    /// let path = option.device_paths().next().ok_or("no path")?;
+    /// assert_eq!(rt; format!(in rt.alloc(); "{path}")?.as_str(), "SD(0x1)");
+    /// ```
     pub fn device_paths(&self) -> DevicePaths<'a>
         ensures same { paths_left result ≡ (entry_of self.now).paths }
         ensures bound { length (paths_left result) < 2 ^ 64 }
@@ -222,6 +270,13 @@ impl<'a> LoadOption<'a> {
     /// The code units that the bytes after the file path list encode, two bytes for each, the low one
     /// first: a command line, where the loader takes one. `None` exactly where the bytes are odd in number.
     /// The units may hold NULs and surrogates.
+    ///
+    /// ```rust
+    /// let option = LoadOption::from_bytes(b"\x01\0\0\0\x04\0a\0\0\0\x7f\xff\x04\0q\0\0\0")?;
+    /// assert_eq!(rt; option.optional_units().and_then(|it| it.get(0)), Some(0x71));
+    /// let option = LoadOption::from_bytes(b"\x01\0\0\0\x04\0a\0\0\0\x7f\xff\x04\0q")?;
+    /// assert!(rt; option.optional_units().is_none());
+    /// ```
     pub fn optional_units(&self) -> Option<UnalignedSlice<'a, u16>>
         ensures even { IsSome result ↔ (length (entry_of self.now).optional % 2 ≡ 0) }
         ensures units { IfSome result (λ units. items_of units

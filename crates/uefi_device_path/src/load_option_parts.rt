@@ -20,6 +20,14 @@ use uefi_text::UnalignedSlice;
 
 /// What is well in bytes that are not a load option, up to the first fault, and that fault. A contract sees
 /// it as `parts_of` it.
+///
+/// ```rust
+/// let bytes = b"\x01\0\0\0\x09\0a\0\0\0\x7f\xff\x04\0\x03\x1a\x05\0\x01";
+/// let parts = LoadOption::read_parts(bytes).err().ok_or("no fault")?;
+/// assert_eq!(rt; (parts.attributes(), parts.error().offset), (Some(1), 19));
+/// assert_eq!(rt; parts.description_units().map(|it| it.len()), Some(2));
+/// assert_eq!(rt; (parts.device_paths().count(), parts.node_iter().count()), (1, 1));
+/// ```
 #[derive(Clone, Copy)]
 pub struct LoadOptionParts<'a> {
     attributes: Option<u32>,
@@ -163,6 +171,13 @@ impl<'a> LoadOptionParts<'a> {
     }
 
     /// What is printed of these nodes, as [`DevicePath::display`](crate::DevicePath::display) prints a path.
+    ///
+    /// ```rust
+    /// let bytes = b"\x01\0\0\0\x05\0a\0\0\0\x03\x1a\x05\0\x01";
+    /// let parts = LoadOption::read_parts(bytes).err().ok_or("no fault")?;
+    /// let text = parts.display_nodes(DisplayOnly(true), AllowShortcuts(true));
+    /// assert_eq!(rt; format!(in rt.alloc(); "{text}")?.as_str(), "SD(0x1)");
+    /// ```
     pub fn display_nodes(
         &self,
         display_only: DisplayOnly,

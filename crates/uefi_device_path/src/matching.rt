@@ -80,6 +80,13 @@ fn is_named(first: DevicePathNode<'_>, node: DevicePathNode<'_>) -> bool
 
 impl<'a> DevicePath<'a> {
     /// The first node and the path of the others, or `None` for a path without nodes.
+    ///
+    /// ```rust
+    /// let path = DevicePathBuf::from_text(rt.alloc(), "PciRoot(0x0)/Pci(0x1F,0x2)")?;
+    /// let (first, others) = path.as_device_path().split_first_node().ok_or("no node")?;
+    /// assert_eq!(rt; first.device_type(), DeviceType::ACPI);
+    /// assert_eq!(rt; format!(in rt.alloc(); "{others}")?.as_str(), "Pci(0x1F,0x2)");
+    /// ```
     pub fn split_first_node(&self) -> Option<(DevicePathNode<'a>, DevicePath<'a>)>
         ensures { MatchOption result (nodes_of self.now ≡ [])
             (λ split. nodes_of self.now ≡ node_of split.0 ∷ nodes_of split.1) }
@@ -92,6 +99,14 @@ impl<'a> DevicePath<'a> {
     }
 
     /// The path without the nodes of another at its start, or `None` if it does not begin with them.
+    ///
+    /// ```rust
+    /// let path = DevicePathBuf::from_text(rt.alloc(), "PciRoot(0x0)/Pci(0x1F,0x2)")?;
+    /// let root = DevicePathBuf::from_text(rt.alloc(), "PciRoot(0x0)")?;
+    /// let others = path.as_device_path().strip_prefix(root.as_device_path()).ok_or("another root")?;
+    /// assert_eq!(rt; format!(in rt.alloc(); "{others}")?.as_str(), "Pci(0x1F,0x2)");
+    /// assert_eq!(rt; root.as_device_path().strip_prefix(path.as_device_path()), None);
+    /// ```
     pub fn strip_prefix(&self, prefix: DevicePath<'_>) -> Option<DevicePath<'a>>
         ensures { MatchOption result
             ((rest : List Node) → nodes_of self.now ≡ nodes_of prefix.entry ++ rest → ⊥)
@@ -105,6 +120,13 @@ impl<'a> DevicePath<'a> {
     }
 
     /// Whether the path begins with the nodes of another.
+    ///
+    /// ```rust
+    /// let path = DevicePathBuf::from_text(rt.alloc(), "PciRoot(0x0)/Pci(0x1F,0x2)")?;
+    /// let root = DevicePathBuf::from_text(rt.alloc(), "PciRoot(0x0)")?;
+    /// assert!(rt; path.as_device_path().starts_with(root.as_device_path()));
+    /// assert!(rt; !root.as_device_path().starts_with(path.as_device_path()));
+    /// ```
     pub fn starts_with(&self, prefix: DevicePath<'_>) -> bool
         ensures { IsTrue result ↔ ((rest : List Node) × (nodes_of self.now ≡ nodes_of prefix.entry ++ rest)) }
     {
@@ -112,6 +134,13 @@ impl<'a> DevicePath<'a> {
     }
 
     /// The short form that the path has, by its first node, or `None` for any other path.
+    ///
+    /// ```rust
+    /// let path = DevicePathBuf::from_text(rt.alloc(), r"\efi\a.efi")?;
+    /// assert_eq!(rt; path.as_device_path().short_form(), Some(ShortForm::File));
+    /// let path = DevicePathBuf::from_text(rt.alloc(), r"SD(0x1)/\efi\a.efi")?;
+    /// assert_eq!(rt; path.as_device_path().short_form(), None);
+    /// ```
     pub fn short_form(&self) -> Option<ShortForm>
         ensures { result ≡ short_form (nodes_of self.now) }
     {
@@ -125,6 +154,14 @@ impl<'a> DevicePath<'a> {
     /// A partition is named by its number, the type of its signature and its signature; a file and a URI by
     /// an equal node. No path is the expansion of a short form of a USB device: its nodes don't say which
     /// class or serial number the device has.
+    ///
+    /// ```rust
+    /// let short = DevicePathBuf::from_text(rt.alloc(), r"HD(1,MBR,0x76543210,0x3F,0x1000)/\a.efi")?;
+    /// let mut full = DevicePathBuf::from_text(rt.alloc(), "PciRoot(0x0)/Pci(0x1F,0x2)")?;
+    /// full.append(short.as_device_path())?;
+    /// assert!(rt; full.as_device_path().is_expansion_of(short.as_device_path()));
+    /// assert!(rt; !short.as_device_path().is_expansion_of(full.as_device_path()));
+    /// ```
     pub fn is_expansion_of(&self, short: DevicePath<'_>) -> bool
         ensures { IsTrue result ↔ IsExpansion (nodes_of self.now) (nodes_of short.entry) }
     {

@@ -99,6 +99,11 @@ impl<'a> LoadOptionBuilder<'a> {
     /// These fields: the attributes; the code units of the description, without NUL, as
     /// [`CStr16::to_u16_slice`](uefi_text::CStr16::to_u16_slice) has them; the device paths of the file path
     /// list, in order; and the bytes after it. Nothing is tested before the load option is written.
+    ///
+    /// ```rust
+    /// let option = LoadOptionBuilder::new(1, &[0x61], &[], &[]);
+    /// assert_eq!(rt; option.write(&mut [0; 64]), Err(OptionBuildError::EmptyList));
+    /// ```
     pub fn new(
         attributes: u32,
         description: &'a [u16],
@@ -166,6 +171,15 @@ impl<'a> LoadOptionBuilder<'a> {
     /// Refused for the first of these: a NUL in the description, no device path, a file path list of more
     /// than 65,535 bytes, a length that is no `usize`, and a buffer of fewer bytes, with the length that it
     /// needs. The buffer is then unchanged. Takes no memory; two passes over the device paths.
+    ///
+    /// ```rust
+    /// let path = DevicePathBuf::new(rt.alloc())?;
+    /// let paths = [path.as_device_path()];
+    /// let option = LoadOptionBuilder::new(1, &[0x61], &paths, &[]);
+    /// let mut buffer = [0; 64];
+    /// assert_eq!(rt; option.write(&mut buffer), Ok(14));
+    /// assert_eq!(rt; option.write(&mut buffer[..13]), Err(OptionBuildError::BufferTooSmall(14)));
+    /// ```
     pub fn write(&self, buffer: &mut [u8]) -> Result<usize, OptionBuildError>
         ensures ok { IfOk result (λ len. len ≡ length (entry_bytes (fields_of self.now))) }
         ensures entry { IfOk result (λ _. IsEntry (fields_of self.now)) }
@@ -186,6 +200,14 @@ impl<'a> LoadOptionBuilder<'a> {
     /// The bytes of the load option, in memory of their own. Refused as [`LoadOptionBuilder::write`]
     /// refuses the fields, and then as `OutOfMemory`. One request for memory, of the size of the load
     /// option.
+    ///
+    /// ```rust
+    /// let path = DevicePathBuf::from_text(rt.alloc(), "SD(0x1)")?;
+    /// let paths = [path.as_device_path()];
+    /// let bytes = LoadOptionBuilder::new(1, &[0x61], &paths, b"x").to_vec(rt.alloc())?;
+    /// let wanted = b"\x01\0\0\0\x09\0a\0\0\0\x03\x1a\x05\0\x01\x7f\xff\x04\0x";
+    /// assert_eq!(rt; bytes.as_slice(), wanted.as_slice());
+    /// ```
     pub fn to_vec<A: Allocator>(&self, alloc: A) -> Result<Vec<u8, A>, OptionBuildError>
         ensures ok { IfOk result (λ bytes. bytes.items ≡ entry_bytes (fields_of self.now)) }
         ensures entry { IfOk result (λ _. IsEntry (fields_of self.now)) }

@@ -50,6 +50,13 @@ fn put_attributes(bytes: &mut [u8], attributes: u32)
 /// Replaces the attributes of the load option that the bytes are. All other bytes are unchanged.
 ///
 /// Fails as [`LoadOption::from_bytes`] does; the bytes are then unchanged. Allocates nothing.
+///
+/// ```rust
+/// let mut bytes = *b"\x01\0\0\0\x04\0a\0\0\0\x7f\xff\x04\0";
+/// set_attributes(&mut bytes, 0x108)?;
+/// let option = LoadOption::from_bytes(&bytes)?;
+/// assert!(rt; option.is_hidden() && !option.is_active() && option.category() == 1);
+/// ```
 pub fn set_attributes(bytes: &mut [u8], attributes: u32) -> Result<(), LoadOptionError>
     ensures ok { OnOk result ((entry : Entry) → IsEntry entry → bytes.old ≡ entry_bytes entry
         → bytes.new ≡ entry_bytes (with_attributes attributes entry)) }
@@ -118,6 +125,14 @@ impl<'a> LoadOption<'a> {
     ///
     /// Fails only with `BufferTooSmall`, which holds that length, if the buffer has fewer bytes;
     /// the buffer is then unchanged. Allocates nothing; one pass.
+    ///
+    /// ```rust
+    /// let option = LoadOption::from_bytes(b"\x01\0\0\0\x04\0a\0\0\0\x7f\xff\x04\0")?;
+    /// let name = CStr16::from_u16_with_nul(&[0x48, 0x69, 0])?;
+    /// let mut buffer = [0; 16];
+    /// assert_eq!(rt; option.write_with_description(name, &mut buffer), Ok(16));
+    /// assert_eq!(rt; LoadOption::from_bytes(&buffer)?.description(rt.alloc())?.num_chars(), 2);
+    /// ```
     pub fn write_with_description(
         &self,
         description: CStr16<'_>,

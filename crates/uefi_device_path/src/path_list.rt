@@ -58,6 +58,12 @@ pub(crate) fn find_fault(bytes: &[u8]) -> Result<(), ListFault<'_>>
 ///
 /// Fails at the first path that is malformed with the error of [`DevicePath::split_first`], whose
 /// offset counts from the first byte of all. One pass; allocates nothing.
+///
+/// ```rust
+/// assert_eq!(rt; check_paths(&[0x7f, 0xff, 4, 0, 0x7f, 0xff, 4, 0]), Ok(()));
+/// let error = DevicePathError { cause: NodeError::TruncatedHeader, offset: 4 };
+/// assert_eq!(rt; check_paths(&[0x7f, 0xff, 4, 0, 0x7f]), Err(error));
+/// ```
 pub fn check_paths(bytes: &[u8]) -> Result<(), DevicePathError>
     ensures ok { OnOk result (IsPathList bytes.now) }
     ensures accepts { IsOk result ↔ IsPathList bytes.now }

@@ -227,6 +227,13 @@ impl<A: Allocator + Copy> DevicePathBuf<A> {
     ///
     /// The text is judged first: `NoNode` has the byte at which it stops being the text of a path. Then the
     /// call allocates once, for the whole path, and fails with `OutOfMemory` only there.
+    ///
+    /// ```rust
+    /// let path = DevicePathBuf::from_text(rt.alloc(), "PciRoot(0x0)/Pci(0x1F,0x2)")?;
+    /// assert_eq!(rt; path.as_device_path().node_iter().count(), 2);
+    /// let refused = DevicePathBuf::from_text(rt.alloc(), "PciRoot(0x0)/Pci(31,2)");
+    /// assert_eq!(rt; refused.err(), Some(PathTextError::NoNode(13)));
+    /// ```
     pub fn from_text(alloc: A, text: &str) -> Result<Self, PathTextError>
         ensures told { IfOk result (λ path. AreTold path) }
         ensures ok { IfOk result (λ path. path_text false false path ≡ text.now) }

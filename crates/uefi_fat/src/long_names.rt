@@ -98,6 +98,12 @@ fn without_ends_after<'a>(name: Char16Slice<'a>) -> Char16Slice<'a>
 
 /// The part of a name that a FAT volume keeps: without the spaces at its start, and without the
 /// spaces and dots at its end. Looks at these, and at one character more at each end.
+///
+/// ```rust
+/// let name = CString16::try_from_str(rt.alloc(), " boot.efi. ")?;
+/// let name = name.as_cstr16().as_slice();
+/// assert_eq!(rt; trimmed(name), name.part(1, 9));
+/// ```
 pub fn trimmed<'a>(name: Char16Slice<'a>) -> Char16Slice<'a>
     ensures { units_of result ≡ trimmed (units_of name.entry) }
 {
@@ -146,6 +152,14 @@ fn judge(name: Char16Slice<'_>) -> Option<FatNameError>
 /// `..` are refused: these name folders, and the file system looks for them before it trims a name.
 /// It is refused as `TooLong` where it has more than 255 characters, and as `IllegalChar` of the
 /// first character that is below U+0020 or one of `" * / : < > ? \ |`. One pass.
+///
+/// ```rust
+/// let name = CString16::try_from_str(rt.alloc(), "why?.txt")?;
+/// let refused = check_fat_name(name.as_cstr16().as_slice());
+/// assert_eq!(rt; refused, Err(FatNameError::IllegalChar(Char16::try_from_char('?')?)));
+/// let name = CString16::try_from_str(rt.alloc(), "..")?;
+/// assert_eq!(rt; check_fat_name(name.as_cstr16().as_slice()), Err(FatNameError::Empty));
+/// ```
 pub fn check_fat_name(name: Char16Slice<'_>) -> Result<(), FatNameError>
     ensures refusal { result_err result ≡ name_refusal (units_of name.entry) }
     ensures valid { IsOk result ↔ IsFatName (units_of name.entry) }
@@ -157,6 +171,13 @@ pub fn check_fat_name(name: Char16Slice<'_>) -> Result<(), FatNameError>
 }
 
 /// Whether a file on a FAT volume can have a name, as [`check_fat_name`] says.
+///
+/// ```rust
+/// let name = CString16::try_from_str(rt.alloc(), "[1] my file.txt")?;
+/// assert!(rt; is_fat_name(name.as_cstr16().as_slice()));
+/// let name = CString16::try_from_str(rt.alloc(), "12:30.txt")?;
+/// assert!(rt; !is_fat_name(name.as_cstr16().as_slice()));
+/// ```
 pub fn is_fat_name(name: Char16Slice<'_>) -> bool
     ensures { IsTrue result ↔ IsFatName (units_of name.entry) }
 {
@@ -168,6 +189,12 @@ pub fn is_fat_name(name: Char16Slice<'_>) -> bool
 ///
 /// A file may also have a short name that somebody made up for it, such as `LONGNA~1.TXT`. No name
 /// says which.
+///
+/// ```rust
+/// let name = CString16::try_from_str(rt.alloc(), "shimx64.efi")?;
+/// let other = CString16::try_from_str(rt.alloc(), " SHIMX64.EFI.")?;
+/// assert!(rt; same_fat_file(name.as_cstr16().as_slice(), other.as_cstr16().as_slice()));
+/// ```
 pub fn same_fat_file(first: Char16Slice<'_>, second: Char16Slice<'_>) -> bool
     ensures { IsTrue result
         ↔ (uppers (trimmed (units_of first.entry)) ≡ uppers (trimmed (units_of second.entry))) }

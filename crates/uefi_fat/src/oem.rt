@@ -53,6 +53,14 @@ fn fat_byte(character: Char16) -> u8
 ///
 /// Ends with the buffer or the name, whichever is first; what is after the bytes is unchanged, and
 /// no NUL is written. [`is_short_name`](crate::is_short_name) has the characters. One pass.
+///
+/// ```rust
+/// let name = CString16::try_from_str(rt.alloc(), "a+b c.efi")?;
+/// let mut buffer = [0; 8];
+/// let written = str_to_fat(name.as_cstr16().as_slice(), &mut buffer);
+/// assert_eq!(rt; written, FatBytes { len: 7, is_replaced: true });
+/// assert_eq!(rt; buffer, *b"A_BCEFI\0");
+/// ```
 pub fn str_to_fat(name: Char16Slice<'_>, buffer: &mut [u8]) -> FatBytes
     ensures buffer { buffer.new ≡ with_units (fat_bytes (units_of name.entry)) buffer.old }
     ensures len { result.len ≡ min (length (fat_bytes (units_of name.entry))) (length buffer.old) }
@@ -98,6 +106,13 @@ fn text_len(bytes: &[u8]) -> usize
 ///
 /// `Err` with that number where the buffer has no more places than that: it is then unchanged. What
 /// is after the NUL is unchanged. Two passes.
+///
+/// ```rust
+/// let mut buffer = [0xffff; 4];
+/// assert_eq!(rt; fat_to_str(b"A~1", &mut buffer), Ok(3));
+/// assert_eq!(rt; buffer, [0x41, 0x7e, 0x31, 0]);
+/// assert_eq!(rt; fat_to_str(b"A~10", &mut buffer), Err(4));
+/// ```
 pub fn fat_to_str(bytes: &[u8], buffer: &mut [u16]) -> Result<usize, usize>
     ensures len { result ≡ written_len (fat_text bytes.now) (length buffer.old) }
     ensures buffer { buffer.new ≡ with_prefix (nul_terminated (fat_text bytes.now)) buffer.old }

@@ -88,6 +88,13 @@ fn first_dot(units: &[u16]) -> Option<usize>
 ///
 /// The characters are capital letters, digits and the marks ``! # $ % & ' ( ) - @ ^ _ ` { } ~``.
 /// The letters are those that have a case: `A` to `Z`, and U+00C0 to U+00DE but U+00D7. One pass.
+///
+/// ```rust
+/// let name = CString16::try_from_str(rt.alloc(), "LONGNA~1.TXT")?;
+/// assert!(rt; is_short_name(name.as_cstr16().as_slice()));
+/// let name = CString16::try_from_str(rt.alloc(), "longname.txt")?;
+/// assert!(rt; !is_short_name(name.as_cstr16().as_slice()));
+/// ```
 pub fn is_short_name(name: Char16Slice<'_>) -> bool
     ensures { IsTrue result ↔ IsShortName (units_of name.entry) }
 {

@@ -100,6 +100,13 @@ const fn are_bytes(bytes: &[u8])
 
 impl Guid {
     /// Creates a GUID from its bytes, as they lie in nodes and variables.
+    ///
+    /// ```rust
+    /// let guid = Guid::from_bytes(*b"abcdefghijklmnop");
+    /// assert_eq!(rt; guid.to_bytes(), *b"abcdefghijklmnop");
+    /// let text = format!(in rt.alloc(); "{guid}")?;
+    /// assert_eq!(rt; text.as_str(), "64636261-6665-6867-696A-6B6C6D6E6F70");
+    /// ```
     pub const fn from_bytes(bytes: [u8; 16]) -> Self
         ensures { result ≡ bytes }
     {
@@ -108,6 +115,8 @@ impl Guid {
     }
 
     /// Returns the bytes, as they lie in nodes and variables.
+    ///
+    /// See [`Guid::from_bytes`].
     pub const fn to_bytes(self) -> [u8; 16]
         ensures same { result ≡ self }
         ensures is_guid { IsGuid result }
@@ -118,6 +127,12 @@ impl Guid {
     /// Reads a GUID from its text, such as `8be4df61-93ca-11d2-aa0d-00e098032b8c`, in either case.
     /// Returns `None` exactly for every other text: one in braces, without dashes, or with blanks.
     /// Allocates nothing.
+    ///
+    /// ```rust
+    /// let guid = Guid::try_parse("8be4df61-93ca-11d2-aa0d-00e098032b8c");
+    /// assert_eq!(rt; guid.map(|it| it.to_bytes()[0]), Some(0x61));
+    /// assert_eq!(rt; Guid::try_parse("{8be4df61-93ca-11d2-aa0d-00e098032b8c}"), None);
+    /// ```
     pub fn try_parse(text: &str) -> Option<Self>
         ensures text { IfSome result (λ guid. IsGuidText text.now guid) }
         ensures only { IfSome result (λ guid. (bytes : List ℕ) → IsGuid bytes

@@ -72,6 +72,11 @@ pub fn put_byte_text<S: TextSink>(sink: &mut S, text: &str, bytes: &[u8])
 /// Whether texts escape a character: a control character, or one that turns the direction of a text
 /// or ends its line, so that a person reads something else than what stands there (U+061C, U+200E,
 /// U+200F, U+2028 to U+202E and U+2066 to U+2069).
+///
+/// ```rust
+/// assert!(rt; is_escaped('\n') && is_escaped('\u{202e}'));
+/// assert!(rt; !is_escaped('é') && !is_escaped('\\'));
+/// ```
 pub fn is_escaped(character: char) -> bool
     ensures { result ≡ is_escaped character }
 {

@@ -24,6 +24,15 @@ impl<'a> Path<'a> {
     /// The canonical text of the path, then the same without its last component, and so on down to
     /// the first component alone. A path without components has none. Those after the first are the
     /// successive parents of a valid path. All of them together cost one pass over the text.
+    ///
+    /// ```rust
+    /// let text = CString16::try_from_str(rt.alloc(), r"\efi\boot\a.efi")?;
+    /// let mut ancestors = Path::new(text.as_cstr16()).ancestors();
+    /// assert_eq!(rt; ancestors.next(), Some(text.as_cstr16().as_slice().part(1, 15)));
+    /// assert_eq!(rt; ancestors.next(), Some(text.as_cstr16().as_slice().part(1, 9)));
+    /// assert_eq!(rt; ancestors.next(), Some(text.as_cstr16().as_slice().part(1, 4)));
+    /// assert_eq!(rt; ancestors.next(), None);
+    /// ```
     pub fn ancestors(&self) -> Ancestors<'a>
         ensures same { ancestors_left result ≡ beginnings (components_of (path_text self.now)) }
         ensures runs { GivesEach units_of ancestors_left result }

@@ -19,6 +19,13 @@ impl<'a> Path<'a> {
     ghost use Rattle.uefi_path.specs.Views.{components_left};
 
     /// Whether both paths are equal without case: their canonical texts are.
+    ///
+    /// ```rust
+    /// let text = CString16::try_from_str(rt.alloc(), r"\EFI\Boot")?;
+    /// let other = CString16::try_from_str(rt.alloc(), r"efi\BOOT")?;
+    /// let (path, other) = (Path::new(text.as_cstr16()), Path::new(other.as_cstr16()));
+    /// assert!(rt; path.eq_ignore_case(other) && path != other);
+    /// ```
     pub fn eq_ignore_case(&self, other: Path<'_>) -> bool
         ensures { IsTrue result
             ↔ (uppers (canonical (path_text self.now)) ≡ uppers (canonical (path_text other.entry))) }
@@ -28,6 +35,14 @@ impl<'a> Path<'a> {
 
     /// How both paths compare without case: as their canonical texts do. `Equal` exactly where
     /// [`Path::eq_ignore_case`] holds.
+    ///
+    /// ```rust
+    /// let text = CString16::try_from_str(rt.alloc(), r"\efi\a")?;
+    /// let other = CString16::try_from_str(rt.alloc(), r"\EFI\B")?;
+    /// let (path, other) = (Path::new(text.as_cstr16()), Path::new(other.as_cstr16()));
+    /// assert!(rt; path.cmp_ignore_case(other).is_lt());
+    /// assert!(rt; path.cmp(&other).is_gt());
+    /// ```
     pub fn cmp_ignore_case(&self, other: Path<'_>) -> Ordering
         ensures { result
             ≡ caseless_order (canonical (path_text self.now)) (canonical (path_text other.entry)) }
@@ -38,6 +53,14 @@ impl<'a> Path<'a> {
     /// Whether the components of this path begin with those of the base, without case, as
     /// [`Path::starts_with`] does with case. At most one pass over each, which ends at the first
     /// components that differ.
+    ///
+    /// ```rust
+    /// let text = CString16::try_from_str(rt.alloc(), r"\EFI\Boot")?;
+    /// let base = CString16::try_from_str(rt.alloc(), r"\efi")?;
+    /// let (path, base) = (Path::new(text.as_cstr16()), Path::new(base.as_cstr16()));
+    /// assert!(rt; path.starts_with_ignore_case(base));
+    /// assert!(rt; !path.starts_with(base));
+    /// ```
     pub fn starts_with_ignore_case(&self, base: Path<'_>) -> bool
         ensures { IsTrue result ↔ StartsWithoutCase (path_text self.now) (path_text base.entry) }
     {
@@ -47,6 +70,13 @@ impl<'a> Path<'a> {
     /// The components of this path after as many as the base has, where it starts with the base
     /// without case; else `None`. At most one pass over each, which ends at the first components that
     /// differ.
+    ///
+    /// ```rust
+    /// let text = CString16::try_from_str(rt.alloc(), r"\EFI\Boot\a.efi")?;
+    /// let base = CString16::try_from_str(rt.alloc(), r"\efi\BOOT")?;
+    /// let (path, base) = (Path::new(text.as_cstr16()), Path::new(base.as_cstr16()));
+    /// assert_eq!(rt; path.strip_prefix_ignore_case(base).map(|it| it.count()), Some(1));
+    /// ```
     pub fn strip_prefix_ignore_case(&self, base: Path<'_>) -> Option<Components<'a>>
         ensures starts { IsSome result ↔ StartsWithoutCase (path_text self.now) (path_text base.entry) }
         ensures rest { IfSome result (λ rest. components_left rest
@@ -63,6 +93,15 @@ impl<'a> Path<'a> {
     /// `CStr16::matches` does, and both have as many. So neither `*` nor `?` takes a separator, and
     /// one that stands between `[` and `]` ends a component too. At most one pass over each path, and
     /// the time that its components take.
+    ///
+    /// ```rust
+    /// let pattern = CString16::try_from_str(rt.alloc(), r"\efi\*\shim*.efi")?;
+    /// let text = CString16::try_from_str(rt.alloc(), r"\EFI\debian\shimx64.efi")?;
+    /// let deep = CString16::try_from_str(rt.alloc(), r"\EFI\a\b\shimx64.efi")?;
+    /// let pattern = Path::new(pattern.as_cstr16());
+    /// assert!(rt; Path::new(text.as_cstr16()).matches(pattern));
+    /// assert!(rt; !Path::new(deep.as_cstr16()).matches(pattern));
+    /// ```
     pub fn matches(&self, pattern: Path<'_>) -> bool
         ensures { IsTrue result ↔ MatchesPath (path_text pattern.entry) (path_text self.now) }
     {

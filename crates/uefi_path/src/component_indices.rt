@@ -53,6 +53,14 @@ impl<'a> Path<'a> {
     /// Returns the components, as [`Path::components`], each with the place where it begins: how many
     /// characters of the text stand before it, a leading separator among them. Takes no memory; all of
     /// them together cost one pass over the text.
+    ///
+    /// ```rust
+    /// let text = CString16::try_from_str(rt.alloc(), r"\efi\boot")?;
+    /// let mut components = Path::new(text.as_cstr16()).component_indices();
+    /// assert_eq!(rt; components.next(), Some((1, text.as_cstr16().as_slice().part(1, 4))));
+    /// assert_eq!(rt; components.next(), Some((5, text.as_cstr16().as_slice().part(5, 9))));
+    /// assert_eq!(rt; components.next(), None);
+    /// ```
     pub fn component_indices(&self) -> ComponentIndices<'a>
         ensures components { map (λ item. item.1) (indices_left result)
             ≡ components_of (path_text self.now) }
@@ -70,6 +78,13 @@ impl<A: Allocator + Copy> PathBuf<A> {
 
     /// Returns the components with their places, as [`Path::component_indices`]. All of them together
     /// cost time linear in their number: no character after the first is read.
+    ///
+    /// ```rust
+    /// let text = CString16::try_from_str(rt.alloc(), "efi/boot")?;
+    /// let path = PathBuf::from(rt.alloc(), text.as_cstr16())?;
+    /// let places = path.component_indices().map(|(place, _)| place);
+    /// assert!(rt; places.eq([0, 4]));
+    /// ```
     pub fn component_indices(&self) -> ComponentIndices<'_>
         ensures components { map (λ item. item.1) (indices_left result) ≡ components_of self.now }
         ensures places { BeginAtPlaces self.now (indices_left result) }

@@ -41,6 +41,12 @@ impl ReadCount {
 /// [`crate::PathBuf::push_counted`] can promise to read each unit of what it pushes once. The count
 /// stands in contracts alone: no running program has it. A contract sees the text as `counted_text`
 /// of it, and the number of reads as `reads_of` it.
+///
+/// ```rust
+/// let mut units = CountedUnits::new(CStr16::from_u16_with_nul(&[0x48, 0x69, 0])?);
+/// assert_eq!(rt; units.len(), 2);
+/// assert_eq!(rt; units.get(1), 0x69);
+/// ```
 #[derive(Drop)]
 pub struct CountedUnits<'a> {
     units: &'a [u16],

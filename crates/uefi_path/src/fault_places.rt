@@ -44,6 +44,13 @@ fn find_path_fault(path: Path<'_>) -> Option<PathFault>
 /// Whether a path is accepted, as [`validate_path`](crate::validate_path) says; or why not, and where
 /// its first component at fault begins. At most two passes over each component, which stop at the
 /// fault. Takes no memory.
+///
+/// ```rust
+/// let text = CString16::try_from_str(rt.alloc(), r"\efi\b?ot")?;
+/// let error = PathError::IllegalChar(Char16::try_from_char('?')?);
+/// let refused = validate_path_at(Path::new(text.as_cstr16()));
+/// assert_eq!(rt; refused, Err(PathFault { error, place: 5 }));
+/// ```
 pub fn validate_path_at(path: Path<'_>) -> Result<(), PathFault>
     ensures valid { IsOk result ↔ IsValid (path_text path.entry) }
     ensures refusal { IfErr result (λ fault. IsRefusedAt (path_text path.entry) fault) }

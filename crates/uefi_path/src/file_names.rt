@@ -53,6 +53,13 @@ impl<'a> Path<'a> {
     /// The last component up to its extension: what stands before its last dot. It is the whole
     /// component where no dot stands after its first character, and for `..`. `None` where there is
     /// no component. Reads that component alone.
+    ///
+    /// ```rust
+    /// let text = CString16::try_from_str(rt.alloc(), r"\efi\boot.tar.gz")?;
+    /// let path = Path::new(text.as_cstr16());
+    /// assert_eq!(rt; path.file_stem(), Some(text.as_cstr16().as_slice().part(5, 13)));
+    /// assert_eq!(rt; path.extension(), Some(text.as_cstr16().as_slice().part(14, 16)));
+    /// ```
     pub fn file_stem(&self) -> Option<Char16Slice<'a>>
         ensures { IsStem (last_or None (components_of (path_text self.now))) (option_map units_of result) }
     {
@@ -63,6 +70,13 @@ impl<'a> Path<'a> {
     /// What stands after the last dot of the last component; it may be empty. `None` where that
     /// component has no dot after its first character, where it is `..`, and where there is no
     /// component. Reads that component alone.
+    ///
+    /// ```rust
+    /// let text = CString16::try_from_str(rt.alloc(), r"\efi\.efi")?;
+    /// let path = Path::new(text.as_cstr16());
+    /// assert_eq!(rt; path.extension(), None);
+    /// assert_eq!(rt; path.file_stem(), path.file_name());
+    /// ```
     pub fn extension(&self) -> Option<Char16Slice<'a>>
         ensures { IsExtension (last_or None (components_of (path_text self.now)))
             (option_map units_of result) }

@@ -120,6 +120,15 @@ impl<'a> Path<'a> {
     /// passes that judge the path see whether all components are names: then the text is copied,
     /// and else two more passes make the path. Takes memory as [`PathBuf::from`] does: once for the
     /// text, and once for the places of its separators, if it has any.
+    ///
+    /// ```rust
+    /// let text = CString16::try_from_str(rt.alloc(), r"\efi\.\boot\..\debian")?;
+    /// let normal = Path::new(text.as_cstr16()).normalize(rt.alloc())?;
+    /// assert_eq!(rt; format!(in rt.alloc(); "{normal}")?.as_str(), r"efi\debian");
+    /// let text = CString16::try_from_str(rt.alloc(), r"efi\..\..")?;
+    /// let refused = Path::new(text.as_cstr16()).normalize(rt.alloc());
+    /// assert_eq!(rt; refused.err(), Some(NormalizeError::Invalid(PathError::ClimbsAboveRoot)));
+    /// ```
     pub fn normalize<A: Allocator + Copy>(&self, alloc: A) -> Result<PathBuf<A>, NormalizeError>
         ensures valid { IfOk result (λ path. verdict (path_text self.now) ≡ None) }
         ensures ok { IfOk result (λ path.

@@ -29,6 +29,12 @@ impl<'a> Path<'a> {
     ghost use Rattle.uefi_path.specs.Views.{path_text, components_left};
 
     /// The path of a string. No slash is replaced. Takes no memory.
+    ///
+    /// ```rust
+    /// let text = CString16::try_from_str(rt.alloc(), r"\efi\boot")?;
+    /// let path = Path::new(text.as_cstr16());
+    /// assert!(rt; path.to_cstr16() == text.as_cstr16());
+    /// ```
     pub fn new(string: CStr16<'a>) -> Path<'a>
         ensures { path_text result ≡ text_of string.entry }
     {
@@ -36,6 +42,8 @@ impl<'a> Path<'a> {
     }
 
     /// The string of the path. Takes no memory.
+    ///
+    /// See [`Path::new`].
     pub fn to_cstr16(&self) -> CStr16<'a>
         ensures same { text_of result ≡ path_text self.now }
         ensures is_text { IsText (text_of result) }
@@ -49,6 +57,15 @@ impl<'a> Path<'a> {
     /// none of the empty text. They are the only list of pieces without separators that joins to
     /// that text, where a list of one empty piece does not count. Takes no memory; all of them
     /// together cost one pass over the text.
+    ///
+    /// ```rust
+    /// let text = CString16::try_from_str(rt.alloc(), r"\efi\boot\")?;
+    /// let mut components = Path::new(text.as_cstr16()).components();
+    /// assert_eq!(rt; components.next(), Some(text.as_cstr16().as_slice().part(1, 4)));
+    /// assert_eq!(rt; components.next(), Some(text.as_cstr16().as_slice().part(5, 9)));
+    /// assert_eq!(rt; components.next().map(|it| it.is_empty()), Some(true));
+    /// assert_eq!(rt; components.next(), None);
+    /// ```
     pub fn components(&self) -> Components<'a>
         ensures same { components_left result ≡ components_of (path_text self.now) }
         ensures components { AreComponents (path_text self.now) (components_left result) }
@@ -65,6 +82,13 @@ impl<'a> Path<'a> {
 
     /// The last component, or `None` where there is none. It may be empty. Takes no memory, and
     /// reads that component alone.
+    ///
+    /// ```rust
+    /// let text = CString16::try_from_str(rt.alloc(), r"\efi\shimx64.efi")?;
+    /// let name = Path::new(text.as_cstr16()).file_name();
+    /// assert_eq!(rt; name, Some(text.as_cstr16().as_slice().part(5, 16)));
+    /// assert_eq!(rt; Path::new(separator_str()).file_name(), None);
+    /// ```
     pub fn file_name(&self) -> Option<Char16Slice<'a>>
         ensures same { option_map units_of result ≡ last_or None (components_of (path_text self.now)) }
         ensures is_text { IfSome result (λ name. IsText (units_of name)) }
@@ -77,6 +101,15 @@ impl<'a> Path<'a> {
     /// Whether the components of this path begin with those of the base. So `\a\bc` starts with `a`
     /// and with `\a\bc`, and not with `\a\b`; and every path starts with the empty one. Takes no
     /// memory; at most one pass over each, which ends at the first components that differ.
+    ///
+    /// ```rust
+    /// let text = CString16::try_from_str(rt.alloc(), r"\efi\boot")?;
+    /// let base = CString16::try_from_str(rt.alloc(), "efi")?;
+    /// let part = CString16::try_from_str(rt.alloc(), r"\efi\bo")?;
+    /// let path = Path::new(text.as_cstr16());
+    /// assert!(rt; path.starts_with(Path::new(base.as_cstr16())));
+    /// assert!(rt; !path.starts_with(Path::new(part.as_cstr16())));
+    /// ```
     pub fn starts_with(&self, base: Path<'_>) -> bool
         ensures { IsTrue result ↔ StartsWith (path_text self.now) (path_text base.entry) }
     {
@@ -86,6 +119,14 @@ impl<'a> Path<'a> {
     /// The components of this path after those of the base, where it starts with the base, as
     /// [`Path::starts_with`] says; else `None`. Takes no memory; at most one pass over each, which
     /// ends at the first components that differ.
+    ///
+    /// ```rust
+    /// let text = CString16::try_from_str(rt.alloc(), r"\efi\boot\bootx64.efi")?;
+    /// let base = CString16::try_from_str(rt.alloc(), r"\efi")?;
+    /// let (path, base) = (Path::new(text.as_cstr16()), Path::new(base.as_cstr16()));
+    /// assert_eq!(rt; path.strip_prefix(base).map(|it| it.count()), Some(2));
+    /// assert!(rt; base.strip_prefix(path).is_none());
+    /// ```
     pub fn strip_prefix(&self, base: Path<'_>) -> Option<Components<'a>>
         ensures starts { IsSome result ↔ StartsWith (path_text self.now) (path_text base.entry) }
         ensures rest { IfSome result (λ rest. components_of (path_text self.now)
@@ -101,6 +142,15 @@ impl<'a> Path<'a> {
     /// Whether the components of this path end with those of another. So `\a\bc` ends with `bc` and
     /// with `a\bc`, and not with `c`; and every path ends with the empty one. Takes no memory; at
     /// most one pass over each, from the end, which stops at the first components that differ.
+    ///
+    /// ```rust
+    /// let text = CString16::try_from_str(rt.alloc(), r"\efi\boot")?;
+    /// let child = CString16::try_from_str(rt.alloc(), "boot")?;
+    /// let part = CString16::try_from_str(rt.alloc(), "ot")?;
+    /// let path = Path::new(text.as_cstr16());
+    /// assert!(rt; path.ends_with(Path::new(child.as_cstr16())));
+    /// assert!(rt; !path.ends_with(Path::new(part.as_cstr16())));
+    /// ```
     pub fn ends_with(&self, child: Path<'_>) -> bool
         ensures { IsTrue result ↔ EndsWith (path_text self.now) (path_text child.entry) }
     {
@@ -108,6 +158,13 @@ impl<'a> Path<'a> {
     }
 
     /// Whether the text is empty. A lone separator is not, though it equals the empty path.
+    ///
+    /// ```rust
+    /// let empty = CString16::new(rt.alloc())?;
+    /// assert!(rt; Path::new(empty.as_cstr16()).is_empty());
+    /// assert!(rt; !Path::new(separator_str()).is_empty());
+    /// assert!(rt; Path::new(empty.as_cstr16()) == Path::new(separator_str()));
+    /// ```
     pub fn is_empty(&self) -> bool
         ensures { IsTrue result ↔ (path_text self.now ≡ []) }
     {
@@ -234,6 +291,11 @@ impl<'a> fmt::Debug for Path<'a> {
 }
 
 /// The string of one separator. Takes no memory.
+///
+/// ```rust
+/// assert_eq!(rt; separator_str().num_chars(), 1);
+/// assert_eq!(rt; separator_str().iter().next(), Some(SEPARATOR));
+/// ```
 pub fn separator_str() -> CStr16<'static>
     ensures { text_of result ≡ separator ∷ [] }
 {

@@ -32,6 +32,15 @@ use uefi_text::strs::{CStr16, Char16Slice};
 
 /// An owned path. Each `/` that it takes over becomes a separator, so its text never holds one. A
 /// contract sees it as its text.
+///
+/// ```rust
+/// let text = CString16::try_from_str(rt.alloc(), "/efi/boot")?;
+/// let path = PathBuf::from(rt.alloc(), text.as_cstr16())?;
+/// assert_eq!(rt; path.components().count(), 2);
+/// assert_eq!(rt; path.file_name(), path.as_path().file_name());
+/// assert!(rt; !path.is_empty() && path.starts_with(Path::new(separator_str())));
+/// assert_eq!(rt; path.strip_prefix(path.as_path()).map(|it| it.count()), Some(0));
+/// ```
 #[derive(Drop)]
 pub struct PathBuf<A: Allocator = Global> {
     string: CString16<A>,
@@ -171,6 +180,12 @@ impl<'a> Path<'a> {
 
     /// Copies the path, each slash replaced; or returns `AllocError`. Takes memory as
     /// [`PathBuf::from`] does.
+    ///
+    /// ```rust
+    /// let text = CString16::try_from_str(rt.alloc(), "efi/boot")?;
+    /// let path = Path::new(text.as_cstr16()).to_path_buf(rt.alloc())?;
+    /// assert_eq!(rt; format!(in rt.alloc(); "{path}")?.as_str(), r"efi\boot");
+    /// ```
     pub fn to_path_buf<A: Allocator + Copy>(&self, alloc: A) -> Result<PathBuf<A>, AllocError>
         ensures { IfOk result (λ path. path ≡ with_separators (path_text self.now)) }
     {
@@ -180,6 +195,13 @@ impl<'a> Path<'a> {
     /// The path with another pushed after it, as [`PathBuf::push`] does, in memory that it owns; or
     /// `AllocError`. The slashes of both are replaced. Takes memory of the size needed for the text of
     /// both, and for the places of their separators; linear in what both have.
+    ///
+    /// ```rust
+    /// let base = CString16::try_from_str(rt.alloc(), r"\efi")?;
+    /// let name = CString16::try_from_str(rt.alloc(), "boot/a.efi")?;
+    /// let path = Path::new(base.as_cstr16()).join(rt.alloc(), Path::new(name.as_cstr16()))?;
+    /// assert_eq!(rt; format!(in rt.alloc(); "{path}")?.as_str(), r"\efi\boot\a.efi");
+    /// ```
     pub fn join<A: Allocator + Copy>(
         &self,
         alloc: A,
@@ -200,6 +222,13 @@ impl<'a> Path<'a> {
     /// parent. So the parent of `a\\b` is `a\`. A parent is shorter than the path, so climbing from
     /// parent to parent ends. Linear in the text; takes memory once for the text, and once for the
     /// places of its separators, if it has any.
+    ///
+    /// ```rust
+    /// let text = CString16::try_from_str(rt.alloc(), r"\efi\boot")?;
+    /// let parent = Path::new(text.as_cstr16()).parent(rt.alloc())?;
+    /// let wanted = CString16::try_from_str(rt.alloc(), "efi")?;
+    /// assert_eq!(rt; parent.map(|it| it.into_cstring16()), Some(wanted));
+    /// ```
     pub fn parent<A: Allocator + Copy>(&self, alloc: A) -> Result<Option<PathBuf<A>>, AllocError>
         ensures ok { IfOk result (λ parent. parent ≡ parent_text (path_text self.now)) }
         ensures none { parent_text (path_text self.now) ≡ None → IsOk result }
@@ -225,6 +254,11 @@ impl<A: Allocator + Copy> PathBuf<A> {
     ghost use Rattle.uefi_path.specs.Views.{components_left, counted_text, path_text, reads_of, units_left};
 
     /// The empty path, or `AllocError`: its NUL takes memory.
+    ///
+    /// ```rust
+    /// let path = PathBuf::new(rt.alloc())?;
+    /// assert!(rt; path.is_empty());
+    /// ```
     pub fn new(alloc: A) -> Result<Self, AllocError>
         ensures { IfOk result (λ path. path ≡ []) }
     {
@@ -251,6 +285,12 @@ impl<A: Allocator + Copy> PathBuf<A> {
 
     /// Copies a string into a path, each slash replaced; or returns `AllocError`. Takes memory once
     /// for the text, and once for the places of its separators, if it has any.
+    ///
+    /// ```rust
+    /// let text = CString16::try_from_str(rt.alloc(), r"/efi\boot")?;
+    /// let path = PathBuf::from(rt.alloc(), text.as_cstr16())?;
+    /// assert_eq!(rt; format!(in rt.alloc(); "{path}")?.as_str(), r"\efi\boot");
+    /// ```
     pub fn from(alloc: A, string: CStr16<'_>) -> Result<Self, AllocError>
         ensures { IfOk result (λ path. path ≡ with_separators (text_of string.entry)) }
     {
@@ -261,6 +301,12 @@ impl<A: Allocator + Copy> PathBuf<A> {
     /// places of its separators is refused, the result is an `Err` with the unchanged string.
     ///
     /// Takes memory once, and none for a text without separators and slashes. Linear in the text.
+    ///
+    /// ```rust
+    /// let text = CString16::try_from_str(rt.alloc(), "efi/boot")?;
+    /// let path = PathBuf::new_from_cstring16(rt.alloc(), text);
+    /// assert_eq!(rt; path.map(|it| it.components().count()), Ok(2));
+    /// ```
     pub fn new_from_cstring16(alloc: A, mut string: CString16<A>) -> Result<Self, CString16<A>>
         ensures ok { IfOk result (λ path. path ≡ with_separators string) }
         ensures err { IfErr result (λ kept. kept ≡ string) }
@@ -281,6 +327,14 @@ impl<A: Allocator + Copy> PathBuf<A> {
     /// The empty path changes nothing, takes no memory and is never refused. Any other takes memory
     /// where text or places have no room, and a long one for what it adds. A push costs what it
     /// adds, on average: of what stands already it reads the last character alone.
+    ///
+    /// ```rust
+    /// let text = CString16::try_from_str(rt.alloc(), "efi/boot")?;
+    /// let mut path = PathBuf::new(rt.alloc())?;
+    /// path.push(Path::new(text.as_cstr16()))?;
+    /// path.push(Path::new(text.as_cstr16()))?;
+    /// assert_eq!(rt; format!(in rt.alloc(); "{path}")?.as_str(), r"efi\boot\efi\boot");
+    /// ```
     pub fn push(&mut self, path: Path<'_>) -> Result<(), AllocError>
         ensures ok { OnOk result (self.new ≡ pushed self.old (path_text path.entry)) }
         ensures err { OnErr result (self.new ≡ self.old) }
@@ -295,6 +349,13 @@ impl<A: Allocator + Copy> PathBuf<A> {
     /// Where memory is refused the count rises by at most that. The last character of this path is
     /// read too, which is not counted. One pass makes what is added; where that holds separators,
     /// their places are found in it.
+    ///
+    /// ```rust
+    /// let text = CString16::try_from_str(rt.alloc(), "efi/boot")?;
+    /// let mut path = PathBuf::new(rt.alloc())?;
+    /// path.push_counted(&mut CountedUnits::new(text.as_cstr16()))?;
+    /// assert_eq!(rt; path.components().count(), 2);
+    /// ```
     pub fn push_counted(&mut self, units: &mut CountedUnits<'_>) -> Result<(), AllocError>
         ensures ok { OnOk result (self.new ≡ pushed self.old (counted_text units.old)) }
         ensures err { OnErr result (self.new ≡ self.old) }
@@ -377,6 +438,13 @@ impl<A: Allocator + Copy> PathBuf<A> {
     }
 
     /// The path with another pushed after it, as [`Path::join`], in memory of the same allocator.
+    ///
+    /// ```rust
+    /// let text = CString16::try_from_str(rt.alloc(), r"\efi")?;
+    /// let path = PathBuf::from(rt.alloc(), text.as_cstr16())?;
+    /// let twice = path.join(path.as_path())?;
+    /// assert_eq!(rt; format!(in rt.alloc(); "{twice}")?.as_str(), r"\efi\\efi");
+    /// ```
     pub fn join(&self, path: Path<'_>) -> Result<Self, AllocError>
         ensures { IfOk result (λ joined. joined ≡ pushed self.now (path_text path.entry)) }
     {
@@ -386,6 +454,13 @@ impl<A: Allocator + Copy> PathBuf<A> {
     /// The path without its last component, as [`Path::parent`], in memory of the same allocator. The
     /// components are cut by the places of the separators. A parent of n components has n - 1 successive
     /// parents, or none where n is 0.
+    ///
+    /// ```rust
+    /// let text = CString16::try_from_str(rt.alloc(), r"\efi\boot")?;
+    /// let parent = PathBuf::from(rt.alloc(), text.as_cstr16())?.parent()?;
+    /// let wanted = CString16::try_from_str(rt.alloc(), "efi")?;
+    /// assert_eq!(rt; parent.map(|it| it.into_cstring16()), Some(wanted));
+    /// ```
     pub fn parent(&self) -> Result<Option<Self>, AllocError>
         ensures ok { IfOk result (λ parent. parent ≡ parent_text self.now) }
         ensures none { parent_text self.now ≡ None → IsOk result }
@@ -403,6 +478,13 @@ impl<A: Allocator + Copy> PathBuf<A> {
     /// Removes the last component and the separator before it, and says whether it did. A path of at
     /// most one component stays as it is, as it has no parent. Takes no memory and gives none back;
     /// reads the component that goes alone.
+    ///
+    /// ```rust
+    /// let text = CString16::try_from_str(rt.alloc(), r"\efi\boot")?;
+    /// let mut path = PathBuf::from(rt.alloc(), text.as_cstr16())?;
+    /// assert!(rt; path.pop() && !path.pop());
+    /// assert_eq!(rt; format!(in rt.alloc(); "{path}")?.as_str(), r"\efi");
+    /// ```
     pub fn pop(&mut self) -> bool
         ensures removed { IsTrue result → IsPopped self.old self.new }
         ensures others { IsTrue result → canonical self.new
@@ -434,6 +516,13 @@ impl<A: Allocator + Copy> PathBuf<A> {
     /// Replaces the last component by a name, each slash of it replaced; a path without components
     /// gets the name. Or returns `AllocError`, and the path is unchanged. Takes memory as
     /// [`PathBuf::from`] does.
+    ///
+    /// ```rust
+    /// let text = CString16::try_from_str(rt.alloc(), r"\efi\boot")?;
+    /// let mut path = PathBuf::from(rt.alloc(), text.as_cstr16())?;
+    /// path.set_file_name(CString16::try_from_str(rt.alloc(), "grub")?.as_cstr16())?;
+    /// assert_eq!(rt; format!(in rt.alloc(); "{path}")?.as_str(), r"\efi\grub");
+    /// ```
     pub fn set_file_name(&mut self, name: CStr16<'_>) -> Result<(), AllocError>
         ensures ok { OnOk result (IsRenamed self.old self.new (text_of name.entry)) }
         ensures err { OnErr result (self.new ≡ self.old) }
@@ -466,6 +555,13 @@ impl<A: Allocator + Copy> PathBuf<A> {
     /// replaced; the empty one takes the extension away. Returns whether there is a component; or
     /// `AllocError`, and the path is unchanged. Takes memory as [`PathBuf::from`] does, and once for
     /// the extension, where it is not empty.
+    ///
+    /// ```rust
+    /// let text = CString16::try_from_str(rt.alloc(), r"\efi\boot.bak")?;
+    /// let mut path = PathBuf::from(rt.alloc(), text.as_cstr16())?;
+    /// assert!(rt; path.set_extension(CString16::try_from_str(rt.alloc(), "efi")?.as_cstr16())?);
+    /// assert_eq!(rt; format!(in rt.alloc(); "{path}")?.as_str(), r"\efi\boot.efi");
+    /// ```
     pub fn set_extension(&mut self, extension: CStr16<'_>) -> Result<bool, AllocError>
         ensures ok { IfOk result (λ is_set.
             is_set ≡ true → IsExtended self.old self.new (text_of extension.entry)) }
@@ -483,6 +579,12 @@ impl<A: Allocator + Copy> PathBuf<A> {
     }
 
     /// Makes the path empty. Takes no memory and gives none back.
+    ///
+    /// ```rust
+    /// let mut path = PathBuf::from(rt.alloc(), separator_str())?;
+    /// path.clear();
+    /// assert!(rt; path.is_empty());
+    /// ```
     pub fn clear(&mut self)
         ensures { self.new ≡ [] }
     {
@@ -507,6 +609,12 @@ impl<A: Allocator + Copy> PathBuf<A> {
     }
 
     /// Gives back the string that the path owns. Takes no memory.
+    ///
+    /// ```rust
+    /// let path = PathBuf::from(rt.alloc(), separator_str())?;
+    /// assert!(rt; path.to_cstr16() == separator_str());
+    /// assert!(rt; path.into_cstring16().as_cstr16() == separator_str());
+    /// ```
     pub fn into_cstring16(self) -> CString16<A>
         ensures { result ≡ self }
     {

@@ -160,6 +160,13 @@ pub(crate) fn judge(path: Path<'_>) -> Result<bool, PathError>
 /// where the components before it hold at least as many `..` as names. A `.` is no name.
 ///
 /// At most two passes over each component, which stop at the fault. Takes no memory.
+///
+/// ```rust
+/// let text = CString16::try_from_str(rt.alloc(), r"\efi\..\boot")?;
+/// assert_eq!(rt; validate_path(Path::new(text.as_cstr16())), Ok(()));
+/// let text = CString16::try_from_str(rt.alloc(), r"\efi\\boot")?;
+/// assert_eq!(rt; validate_path(Path::new(text.as_cstr16())), Err(PathError::EmptyComponent));
+/// ```
 pub fn validate_path(path: Path<'_>) -> Result<(), PathError>
     ensures refusal { result_err result ≡ verdict (path_text path.entry) }
     ensures valid { IsOk result ↔ IsValid (path_text path.entry) }

@@ -169,6 +169,15 @@ impl<'a> Path<'a> {
     /// `Ok(None)` where the path has at most one component, and `Err` with the length of the parent
     /// where the buffer has fewer places: the buffer is then unchanged. Two passes over the
     /// components.
+    ///
+    /// ```rust
+    /// let text = CString16::try_from_str(rt.alloc(), r"\efi\boot")?;
+    /// let path = Path::new(text.as_cstr16());
+    /// let mut buffer = [0; 4];
+    /// assert_eq!(rt; path.write_parent(&mut buffer), Ok(Some(3)));
+    /// assert_eq!(rt; buffer, [0x65, 0x66, 0x69, 0]);
+    /// assert_eq!(rt; path.write_parent(&mut buffer[..2]), Err(3));
+    /// ```
     pub fn write_parent(&self, buffer: &mut [u16]) -> Result<Option<usize>, usize>
         ensures len { result ≡ written_len (parent_text (path_text self.now)) buffer.old }
         ensures buffer { buffer.new ≡ written_over (parent_text (path_text self.now)) buffer.old }
@@ -193,6 +202,15 @@ impl<'a> Path<'a> {
     /// Refused as `Invalid`, with the reason of [`validate_path`](crate::validate_path) for that path,
     /// and then as `BufferTooSmall`, with the length of the normal path, if the buffer has fewer places.
     /// Refused, the buffer is unchanged. Two passes over the components after those that judge the path.
+    ///
+    /// ```rust
+    /// let text = CString16::try_from_str(rt.alloc(), "a/../b")?;
+    /// let path = Path::new(text.as_cstr16());
+    /// let mut buffer = [0xffff; 2];
+    /// assert_eq!(rt; path.write_normal(&mut buffer), Ok(1));
+    /// assert_eq!(rt; buffer, [0x62, 0xffff]);
+    /// assert_eq!(rt; path.write_normal(&mut []), Err(NormalWriteError::BufferTooSmall(1)));
+    /// ```
     pub fn write_normal(&self, buffer: &mut [u16]) -> Result<usize, NormalWriteError>
         ensures len { result ≡ normal_written (verdict (with_separators (path_text self.now)))
             (normal_text (normal_of (components_of (with_separators (path_text self.now)))))

@@ -90,6 +90,12 @@ fn are_same(units: &[u16], others: &[u16]) -> bool
 
 impl Char16 {
     /// The character in upper case.
+    ///
+    /// ```rust
+    /// let e = Char16::try_from_char('é')?;
+    /// assert_eq!(rt; char::from(e.to_uppercase()), 'É');
+    /// assert_eq!(rt; e.to_uppercase().to_lowercase(), e);
+    /// ```
     pub fn to_uppercase(&self) -> Char16
         ensures { result ≡ upper self.now }
     {
@@ -97,6 +103,12 @@ impl Char16 {
     }
 
     /// The character in lower case.
+    ///
+    /// ```rust
+    /// let sharp = Char16::try_from_char('ẞ')?;
+    /// assert_eq!(rt; char::from(Char16::try_from_char('Q')?.to_lowercase()), 'q');
+    /// assert_eq!(rt; sharp.to_lowercase(), sharp);
+    /// ```
     pub fn to_lowercase(&self) -> Char16
         ensures { result ≡ lower self.now }
     {
@@ -107,6 +119,12 @@ impl Char16 {
 impl<'a> CStr16<'a> {
     /// Whether both strings are the same without case: their texts in upper case are. One pass, which ends at
     /// the first characters that differ, or at once where the lengths do.
+    ///
+    /// ```rust
+    /// let shim = CString16::try_from_str(rt.alloc(), "Shimx64.efi")?;
+    /// let other = CString16::try_from_str(rt.alloc(), "SHIMX64.EFI")?;
+    /// assert!(rt; shim.as_cstr16().eq_ignore_case(other.as_cstr16()));
+    /// ```
     pub fn eq_ignore_case(&self, other: CStr16<'_>) -> bool
         ensures { IsTrue result ↔ (uppers (text_of self.now) ≡ uppers (text_of other.entry)) }
     {
@@ -116,6 +134,13 @@ impl<'a> CStr16<'a> {
     /// How both strings compare without case, as `StriColl` compares them: by the first characters
     /// that differ in upper case, and where one text is a prefix of the other, the shorter is less.
     /// One pass, which ends there.
+    ///
+    /// ```rust
+    /// let (one, two) = (&[0x61, 0x42, 0], &[0x41, 0x63, 0]);
+    /// let (one, two) = (CStr16::from_u16_with_nul(one)?, CStr16::from_u16_with_nul(two)?);
+    /// assert!(rt; one.cmp_ignore_case(two).is_lt());
+    /// assert!(rt; one.cmp(&two).is_gt());
+    /// ```
     pub fn cmp_ignore_case(&self, other: CStr16<'_>) -> Ordering
         ensures { result ≡ caseless_order (text_of self.now) (text_of other.entry) }
     {
@@ -125,6 +150,13 @@ impl<'a> CStr16<'a> {
 
 impl<'a> Char16Slice<'a> {
     /// Whether both slices are the same without case, as [`CStr16::eq_ignore_case`].
+    ///
+    /// ```rust
+    /// let name = CString16::try_from_str(rt.alloc(), "boot.EFI")?;
+    /// let extension = CString16::try_from_str(rt.alloc(), "efi")?;
+    /// let end = name.as_cstr16().as_slice().part(5, 8);
+    /// assert!(rt; end.eq_ignore_case(extension.as_cstr16().as_slice()));
+    /// ```
     pub fn eq_ignore_case(&self, other: Char16Slice<'_>) -> bool
         ensures { IsTrue result ↔ (uppers (units_of self.now) ≡ uppers (units_of other.entry)) }
     {
@@ -132,6 +164,13 @@ impl<'a> Char16Slice<'a> {
     }
 
     /// How both slices compare without case, as [`CStr16::cmp_ignore_case`].
+    ///
+    /// ```rust
+    /// let name = CString16::try_from_str(rt.alloc(), "Bootx")?;
+    /// let name = name.as_cstr16().as_slice();
+    /// assert!(rt; name.part(0, 4).cmp_ignore_case(name).is_lt());
+    /// assert!(rt; name.part(1, 2).cmp_ignore_case(name.part(2, 3)).is_eq());
+    /// ```
     pub fn cmp_ignore_case(&self, other: Char16Slice<'_>) -> Ordering
         ensures { result ≡ caseless_order (units_of self.now) (units_of other.entry) }
     {

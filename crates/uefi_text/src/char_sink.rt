@@ -8,6 +8,15 @@ use std::fmt;
 
 /// What characters can be written to. A contract sees a sink as `text` of it: the UTF-8 of what it
 /// holds.
+///
+/// ```rust
+/// use arrayvec::ArrayString;
+///
+/// let mut label = ArrayString::<3>::new();
+/// assert!(rt; label.write_whole("ab") && label.write_char('c').is_ok());
+/// assert!(rt; label.write_char('d').is_err() && !label.write_whole("d"));
+/// assert_eq!(rt; label.as_str(), "abc");
+/// ```
 pub trait CharSink {
     /// The UTF-8 of what it holds.
     ghost text: { Self → List ℕ };

@@ -62,6 +62,11 @@ impl Model for Char8 {
 
 impl Char8 {
     /// Whether this character and a Rust character have the same number.
+    ///
+    /// ```rust
+    /// assert!(rt; Char8::from(0xe9).eq_char('é'));
+    /// assert!(rt; !Char8::from(0xe9).eq_char('e'));
+    /// ```
     pub fn eq_char(&self, other: char) -> bool
         ensures { IsTrue result ↔ (self.now ≡ other) }
     {
@@ -182,6 +187,11 @@ impl Char16 {
 
     /// The UCS-2 character with the number of a Rust character: `Ok` exactly up to U+FFFF, else
     /// `CharConversionError`.
+    ///
+    /// ```rust
+    /// assert_eq!(rt; Char16::try_from_char('€').map(u16::from), Ok(0x20ac));
+    /// assert_eq!(rt; Char16::try_from_char('\u{1f600}'), Err(CharConversionError));
+    /// ```
     pub fn try_from_char(value: char) -> Result<Self, CharConversionError>
         ensures { OkIff result (value < 2 ^ 16) value }
     {
@@ -196,6 +206,11 @@ impl Char16 {
     }
 
     /// Whether the character is ASCII: its number is at most 127.
+    ///
+    /// ```rust
+    /// assert!(rt; Char16::try_from_char('~')?.is_ascii());
+    /// assert!(rt; !Char16::try_from_char('é')?.is_ascii());
+    /// ```
     pub fn is_ascii(&self) -> bool
         ensures { IsTrue result ↔ (self.now < 2 ^ 7) }
     {
@@ -203,6 +218,11 @@ impl Char16 {
     }
 
     /// Whether this character and a Rust character have the same number.
+    ///
+    /// ```rust
+    /// assert!(rt; Char16::try_from(0x20acu16)?.eq_char('€'));
+    /// assert!(rt; !NUL_16.eq_char('0'));
+    /// ```
     pub fn eq_char(&self, other: char) -> bool
         ensures { IsTrue result ↔ (self.now ≡ other) }
     {

@@ -15,11 +15,24 @@ pub trait EqStrUntilNul {
     /// Whether this string and what `other` holds before its first NUL agree as far as the shorter
     /// of the two goes: one of them is a prefix of the other. So `te` agrees with `test`, and the
     /// empty text with every string. One pass, which ends at the first difference; takes no memory.
+    ///
+    /// ```rust
+    /// let name = CString16::try_from_str(rt.alloc(), "test")?;
+    /// assert!(rt; name.eq_str_until_nul("test\0 and more"));
+    /// assert!(rt; name.eq_str_until_nul("te"));
+    /// assert!(rt; !name.eq_str_until_nul("tent"));
+    /// ```
     fn eq_str_until_nul(&self, other: &str) -> bool
         ensures { IsTrue result ↔ IsEqualUntilNul (characters self.now) (chars other.now) };
 }
 
 /// [`EqStrUntilNul::eq_str_until_nul`] with its sides exchanged.
+///
+/// ```rust
+/// let name = CStr8::from_bytes_with_nul(b"Boot\0")?;
+/// assert!(rt; str_eq_until_nul("Boot", &name));
+/// assert!(rt; !str_eq_until_nul("boot", &name));
+/// ```
 pub fn str_eq_until_nul<S: EqStrUntilNul>(s: &str, other: &S) -> bool
     ensures { IsTrue result ↔ IsEqualUntilNul (S.characters other.now) (chars s.now) }
 {

@@ -33,6 +33,13 @@ impl<'a> CStr8<'a> {
     /// The first zero decides. At the last place it ends the string. Before the last place it is
     /// refused as `InteriorNul` with its index, even where the bytes don't end in zero. Where there
     /// is none the result is `NotNulTerminated`. One pass, which ends soon after the first zero.
+    ///
+    /// ```rust
+    /// let name = CStr8::from_bytes_with_nul(b"Boot\0")?;
+    /// assert_eq!(rt; name.as_bytes(), b"Boot\0".as_slice());
+    /// let refused = CStr8::from_bytes_with_nul(b"Bo\0t\0");
+    /// assert_eq!(rt; refused.err(), Some(FromSliceWithNulError::InteriorNul(2)));
+    /// ```
     pub fn from_bytes_with_nul(chars: &'a [u8]) -> Result<CStr8<'a>, FromSliceWithNulError>
         ensures ok { IfOk result (λ string. bytes_of string ≡ chars.now) }
         ensures accepts { IsOk result ↔ IsLatin1String chars.now }
@@ -48,6 +55,8 @@ impl<'a> CStr8<'a> {
     }
 
     /// The bytes of the string, the zero included.
+    ///
+    /// See [`CStr8::from_bytes_with_nul`].
     pub fn as_bytes(&self) -> &'a [u8]
         ensures { result.now ≡ bytes_of self.now }
     {
@@ -199,6 +208,11 @@ impl<'a> EqStrUntilNul for CStr8<'a> {
 
 /// Whether every character of a Rust text is one of Latin-1: at most U+00FF. One pass over the
 /// bytes, which ends soon after the first that decides; takes no memory.
+///
+/// ```rust
+/// assert!(rt; is_latin1("café"));
+/// assert!(rt; !is_latin1("5 €"));
+/// ```
 #[tactic(auto, using(crate::proofs::Utf8Bytes::latin1_bytes))]
 pub fn is_latin1(s: &str) -> bool
     ensures { IsTrue result ↔ IsLatin1 (chars s.now) }
@@ -208,6 +222,11 @@ pub fn is_latin1(s: &str) -> bool
 
 /// Whether no character of a Rust text is NUL. One pass over the bytes, which ends soon after the
 /// first NUL; takes no memory.
+///
+/// ```rust
+/// assert!(rt; has_no_nul("Boot"));
+/// assert!(rt; !has_no_nul("Boot\0"));
+/// ```
 #[tactic(auto, using(crate::proofs::Utf8Bytes::no_zero_bytes))]
 pub fn has_no_nul(s: &str) -> bool
     ensures { IsTrue result ↔ All (λ c. c ≢ 0) (chars s.now) }
@@ -217,6 +236,11 @@ pub fn has_no_nul(s: &str) -> bool
 
 /// The number of characters of a Rust text of Latin-1, each NUL counted, which is the number of
 /// bytes that it takes in Latin-1. [`is_latin1`] tests the condition. One pass; takes no memory.
+///
+/// ```rust
+/// assert_eq!(rt; str_num_latin1_chars("café"), 4);
+/// assert_eq!(rt; str_num_latin1_chars("a\0"), 2);
+/// ```
 #[tactic(auto, using(std::proofs::lemmas::Str::chars_from_encodes))]
 pub fn str_num_latin1_chars(s: &str) -> usize
     requires { IsLatin1 (chars s.now) }
@@ -231,6 +255,11 @@ pub fn str_num_latin1_chars(s: &str) -> usize
 /// them. `N` has to be one more than the number of characters. One pass; takes no memory.
 ///
 /// [`is_latin1`], [`has_no_nul`] and [`str_num_latin1_chars`] test the conditions.
+///
+/// ```rust
+/// let bytes: [u8; 5] = str_to_latin1("café");
+/// assert_eq!(rt; bytes, [0x63, 0x61, 0x66, 0xe9, 0]);
+/// ```
 pub fn str_to_latin1<const N: usize>(s: &str) -> [u8; N]
     requires latin1 { IsLatin1 (chars s.now) }
     requires no_nul { All (λ c. c ≢ 0) (chars s.now) }

@@ -52,6 +52,12 @@ impl Class<Char16> for Nul {
 
 /// Whether none of the characters is NUL, which [`CString16::extend`] requires of what it adds. One
 /// pass, which ends soon after the first NUL; takes no memory.
+///
+/// ```rust
+/// let e = Char16::try_from_char('e')?;
+/// assert!(rt; have_no_nul(&[e, e]));
+/// assert!(rt; !have_no_nul(&[e, NUL_16]));
+/// ```
 pub fn have_no_nul(characters: &[Char16]) -> bool
     ensures all { IsTrue result ↔ All (λ c. c ≢ 0) characters.now }
     ensures copied { IsTrue result → CopiesNoNul characters.now }
@@ -106,6 +112,14 @@ impl<'a> CStr16<'a> {
     /// Where there is no NUL the result is `NoNul`, and where memory is refused `OutOfMemory`. What
     /// follows the NUL does not matter. `InvalidChar` is never returned: no character is a surrogate.
     /// The NUL is found before memory is asked for, in one request.
+    ///
+    /// ```rust
+    /// let e = Char16::try_from_char('e')?;
+    /// let string = CStr16::from_char16_until_nul(rt.alloc(), &[e, NUL_16, e])?;
+    /// assert_eq!(rt; string.num_chars(), 1);
+    /// let refused = CStr16::from_char16_until_nul(rt.alloc(), &[e, e]);
+    /// assert_eq!(rt; refused.err(), Some(FromSliceUntilNulError::NoNul));
+    /// ```
     pub fn from_char16_until_nul<A: Allocator>(
         alloc: A,
         characters: &[Char16],
@@ -133,6 +147,14 @@ impl<'a> CStr16<'a> {
     /// and where there is none the result is `NotNulTerminated`; `OutOfMemory` comes last.
     /// `InvalidChar` is never returned: no character is a surrogate. The NUL is found before memory
     /// is asked for, in one request.
+    ///
+    /// ```rust
+    /// let e = Char16::try_from_char('e')?;
+    /// let string = CStr16::from_char16_with_nul(rt.alloc(), &[e, e, NUL_16])?;
+    /// assert_eq!(rt; string.num_chars(), 2);
+    /// let refused = CStr16::from_char16_with_nul(rt.alloc(), &[e, NUL_16, e, NUL_16]);
+    /// assert_eq!(rt; refused.err(), Some(FromSliceWithNulError::InteriorNul(1)));
+    /// ```
     pub fn from_char16_with_nul<A: Allocator>(
         alloc: A,
         characters: &[Char16],
@@ -158,6 +180,13 @@ impl<'a> CStr16<'a> {
     }
 
     /// Copies the string, or returns `AllocError`. One allocation.
+    ///
+    /// ```rust
+    /// let borrowed = CStr16::from_u16_with_nul(&[0x48, 0x69, 0])?;
+    /// let mut owned = borrowed.to_owned(rt.alloc())?;
+    /// owned.make_uppercase();
+    /// assert!(rt; owned.as_cstr16() != borrowed);
+    /// ```
     pub fn to_owned<A: Allocator>(&self, alloc: A) -> Result<CString16<A>, AllocError>
         ensures { IfOk result (λ string. string ≡ text_of self.now) }
     {
@@ -177,6 +206,14 @@ impl<'a> Char16Slice<'a> {
     /// Where a NUL is among them the result is `InteriorNul`, and where memory is refused
     /// `OutOfMemory`. `InvalidChar` is never returned: no character is a surrogate. All are tested
     /// before memory is asked for, in one request.
+    ///
+    /// ```rust
+    /// let name = CStr16::from_u16_with_nul(&[0x48, 0x69, 0])?;
+    /// let owned = name.as_slice().part(0, 1).to_cstring16(rt.alloc())?;
+    /// assert!(rt; owned.as_cstr16() == CStr16::from_u16_with_nul(&[0x48, 0])?);
+    /// let refused = name.as_slice_with_nul().to_cstring16(rt.alloc());
+    /// assert_eq!(rt; refused.err(), Some(FromStrError::InteriorNul));
+    /// ```
     pub fn to_cstring16<A: Allocator>(&self, alloc: A) -> Result<CString16<A>, FromStrError>
         ensures ok { IfOk result (λ string. string ≡ units_of self.now) }
         ensures accepted { IfOk result (λ _. from_str_refusal (units_of self.now) ≡ None) }
@@ -214,6 +251,12 @@ impl<A: Allocator> CString16<A> {
     }
 
     /// The empty string, or `AllocError`: its NUL takes memory.
+    ///
+    /// ```rust
+    /// let empty = CString16::new(rt.alloc())?;
+    /// assert!(rt; empty.is_empty());
+    /// assert_eq!(rt; empty.as_cstr16().to_u16_slice_with_nul(), [0].as_slice());
+    /// ```
     pub fn new(alloc: A) -> Result<Self, AllocError>
         ensures { IfOk result (λ string. string ≡ []) }
     {
@@ -224,6 +267,13 @@ impl<A: Allocator> CString16<A> {
 
     /// The empty string, with room for this many characters and the NUL; or `AllocError`. One
     /// allocation.
+    ///
+    /// ```rust
+    /// let mut name = CString16::with_capacity(rt.alloc(), 8)?;
+    /// assert!(rt; name.is_empty());
+    /// name.push(Char16::try_from_char('a')?)?;
+    /// assert_eq!(rt; name.num_chars(), 1);
+    /// ```
     pub fn with_capacity(alloc: A, characters: usize) -> Result<Self, AllocError>
         ensures { IfOk result (λ string. string ≡ []) }
     {
@@ -240,6 +290,13 @@ impl<A: Allocator> CString16<A> {
     /// The first character that is NUL or above U+FFFF decides: the text is refused as
     /// `InteriorNul` or as `InvalidChar`. Where there is none the text can only be refused as
     /// `OutOfMemory`. The whole text is tested before memory is asked for, in one request.
+    ///
+    /// ```rust
+    /// let name = CString16::try_from_str(rt.alloc(), "5 €")?;
+    /// assert_eq!(rt; name.as_cstr16().to_u16_slice(), [0x35, 0x20, 0x20ac].as_slice());
+    /// let refused = CString16::try_from_str(rt.alloc(), "a\u{1f600}");
+    /// assert_eq!(rt; refused.err(), Some(FromStrError::InvalidChar));
+    /// ```
     pub fn try_from_str(alloc: A, text: &str) -> Result<Self, FromStrError>
         ensures ok { IfOk result (λ string. string ≡ chars text.now) }
         ensures accepted { IfOk result (λ _. from_str_refusal (chars text.now) ≡ None) }
@@ -257,6 +314,14 @@ impl<A: Allocator> CString16<A> {
     ///
     /// Refused exactly as [`CStr16::from_u16_with_nul`] refuses the units; a refused vector is
     /// dropped. One pass, which ends soon after the first NUL or surrogate; takes no memory.
+    ///
+    /// ```rust
+    /// let mut vector = Vec::new(rt.alloc());
+    /// vector.extend_from_slice(&[0x48, 0x69, 0])?;
+    /// let name = CString16::try_from_vec(vector)?;
+    /// assert_eq!(rt; name.num_chars(), 2);
+    /// assert_eq!(rt; name.into_vec_with_nul().as_slice(), [0x48, 0x69, 0].as_slice());
+    /// ```
     pub fn try_from_vec(units: Vec<u16, A>) -> Result<Self, FromSliceWithNulError>
         ensures ok { IfOk result (λ string. nul_terminated string ≡ units.items) }
         ensures accepts { IsOk result ↔ IsString units.items }
@@ -269,6 +334,8 @@ impl<A: Allocator> CString16<A> {
     }
 
     /// Gives back the vector: the units of the text and its NUL. Takes no memory.
+    ///
+    /// See [`CString16::try_from_vec`].
     pub fn into_vec_with_nul(self) -> Vec<u16, A>
         ensures { result.items ≡ nul_terminated self }
     {
@@ -276,6 +343,12 @@ impl<A: Allocator> CString16<A> {
     }
 
     /// Copies a borrowed string, or returns `AllocError`. One allocation.
+    ///
+    /// ```rust
+    /// let borrowed = CStr16::from_u16_with_nul(&[0x48, 0x69, 0])?;
+    /// let owned = CString16::from_cstr16(rt.alloc(), borrowed)?;
+    /// assert!(rt; owned.eq_cstr16(borrowed));
+    /// ```
     pub fn from_cstr16(alloc: A, string: CStr16<'_>) -> Result<Self, AllocError>
         ensures { IfOk result (λ copy. copy ≡ text_of string.entry) }
     {
@@ -283,6 +356,12 @@ impl<A: Allocator> CString16<A> {
     }
 
     /// Makes the string empty. Takes no memory and gives none back.
+    ///
+    /// ```rust
+    /// let mut name = CString16::try_from_str(rt.alloc(), "Boot")?;
+    /// name.clear();
+    /// assert!(rt; name.is_empty());
+    /// ```
     pub fn clear(&mut self)
         ensures { self.new ≡ [] }
     {
@@ -293,6 +372,12 @@ impl<A: Allocator> CString16<A> {
     /// Appends a character other than NUL; or returns `AllocError`, and the string is unchanged.
     ///
     /// Takes memory where the vector is full. Many pushes take a constant time each, on average.
+    ///
+    /// ```rust
+    /// let mut name = CString16::try_from_str(rt.alloc(), "Boo")?;
+    /// name.push(Char16::try_from_char('t')?)?;
+    /// assert!(rt; name == CString16::try_from_str(rt.alloc(), "Boot")?);
+    /// ```
     pub fn push(&mut self, c: Char16) -> Result<(), AllocError>
         requires { c ≢ 0 }
         ensures ok { OnOk result (self.new ≡ self.old ++ c ∷ []) }
@@ -325,6 +410,12 @@ impl<A: Allocator> CString16<A> {
     /// Appends the text of a string; or returns `AllocError`, and the string is unchanged.
     ///
     /// Takes memory at most once. The empty text takes none and is never refused.
+    ///
+    /// ```rust
+    /// let mut name = CString16::try_from_str(rt.alloc(), "Boot")?;
+    /// name.push_str(CStr16::from_u16_with_nul(&[0x30, 0x31, 0])?)?;
+    /// assert!(rt; name == CString16::try_from_str(rt.alloc(), "Boot01")?);
+    /// ```
     pub fn push_str(&mut self, string: CStr16<'_>) -> Result<(), AllocError>
         ensures ok { OnOk result (self.new ≡ self.old ++ text_of string.entry) }
         ensures err { OnErr result (self.new ≡ self.old) }
@@ -344,6 +435,13 @@ impl<A: Allocator> CString16<A> {
     ///
     /// Takes memory at most once. Where there are no characters it takes none and is never refused.
     /// Many calls take time linear in what they add, on average.
+    ///
+    /// ```rust
+    /// let entry = CString16::try_from_str(rt.alloc(), "Boot0001")?;
+    /// let mut name = CString16::try_from_str(rt.alloc(), "Driver")?;
+    /// name.push_part(entry.as_cstr16().as_slice().part(4, 8))?;
+    /// assert!(rt; name == CString16::try_from_str(rt.alloc(), "Driver0001")?);
+    /// ```
     #[inline(always)]
     pub fn push_part(&mut self, part: Char16Slice<'_>) -> Result<(), AllocError>
         requires { All (λ unit. unit ≢ 0) (units_of part) }
@@ -360,6 +458,12 @@ impl<A: Allocator> CString16<A> {
 
     /// Keeps the first `len` characters, or all where there are no more. Takes no memory and gives
     /// none back.
+    ///
+    /// ```rust
+    /// let mut name = CString16::try_from_str(rt.alloc(), "Boot0001")?;
+    /// name.truncate(4);
+    /// assert!(rt; name == CString16::try_from_str(rt.alloc(), "Boot")?);
+    /// ```
     pub fn truncate(&mut self, len: usize)
         ensures { self.new ≡ take len self.old }
     {
@@ -374,6 +478,13 @@ impl<A: Allocator> CString16<A> {
     ///
     /// Takes memory as [`CString16::push`] does for each. Where memory is refused the result is
     /// `AllocError`, and the string keeps the characters that were appended before.
+    ///
+    /// ```rust
+    /// let mut name = CString16::try_from_str(rt.alloc(), "Boot")?;
+    /// let digits = [Char16::try_from_char('0')?, Char16::try_from_char('7')?];
+    /// name.extend(digits.iter().copied())?;
+    /// assert!(rt; name == CString16::try_from_str(rt.alloc(), "Boot07")?);
+    /// ```
     pub fn extend<I: Iterator<Item = Char16> + Drop>(
         &mut self,
         characters: I,
@@ -393,6 +504,12 @@ impl<A: Allocator> CString16<A> {
     }
 
     /// Replaces each `search` by `replace`; neither may be NUL. One pass; takes no memory.
+    ///
+    /// ```rust
+    /// let mut name = CString16::try_from_str(rt.alloc(), "efi/boot/")?;
+    /// name.replace_char(Char16::try_from_char('/')?, Char16::try_from_char('\\')?);
+    /// assert!(rt; name == CString16::try_from_str(rt.alloc(), "efi\\boot\\")?);
+    /// ```
     pub fn replace_char(&mut self, search: Char16, replace: Char16)
         requires search_no_nul { search ≢ 0 }
         requires replace_no_nul { replace ≢ 0 }
@@ -403,6 +520,12 @@ impl<A: Allocator> CString16<A> {
 
     /// Replaces each `search` by `replace` from index `start` on; neither may be NUL. One pass over
     /// what stands there; takes no memory.
+    ///
+    /// ```rust
+    /// let mut name = CString16::try_from_str(rt.alloc(), "a-b-c")?;
+    /// name.replace_char_from(2, Char16::try_from_char('-')?, Char16::try_from_char('+')?);
+    /// assert!(rt; name == CString16::try_from_str(rt.alloc(), "a-b+c")?);
+    /// ```
     pub fn replace_char_from(&mut self, start: usize, search: Char16, replace: Char16)
         requires search_no_nul { search ≢ 0 }
         requires replace_no_nul { replace ≢ 0 }
@@ -421,6 +544,12 @@ impl<A: Allocator> CString16<A> {
     /// Puts the text in upper case, character by character, as `StrUpr` does (UEFI Specification
     /// 2.10, section
     /// 21.1). One pass; takes no memory.
+    ///
+    /// ```rust
+    /// let mut name = CString16::try_from_str(rt.alloc(), "café.txt")?;
+    /// name.make_uppercase();
+    /// assert!(rt; name == CString16::try_from_str(rt.alloc(), "CAFÉ.TXT")?);
+    /// ```
     pub fn make_uppercase(&mut self)
         ensures { self.new ≡ uppers self.old }
     {
@@ -428,6 +557,12 @@ impl<A: Allocator> CString16<A> {
     }
 
     /// Puts the text in lower case, character by character, as `StrLwr` does. One pass; takes no memory.
+    ///
+    /// ```rust
+    /// let mut name = CString16::try_from_str(rt.alloc(), "BOOTX64.EFI")?;
+    /// name.make_lowercase();
+    /// assert!(rt; name == CString16::try_from_str(rt.alloc(), "bootx64.efi")?);
+    /// ```
     pub fn make_lowercase(&mut self)
         ensures { self.new ≡ lowers self.old }
     {
@@ -442,6 +577,12 @@ impl<A: Allocator> CString16<A> {
     }
 
     /// The number of characters of the text, the NUL not counted.
+    ///
+    /// ```rust
+    /// let name = CString16::try_from_str(rt.alloc(), "café")?;
+    /// assert_eq!(rt; name.num_chars(), 4);
+    /// assert!(rt; !name.is_empty());
+    /// ```
     pub fn num_chars(&self) -> usize
         ensures { result ≡ length self.now }
     {
@@ -449,6 +590,8 @@ impl<A: Allocator> CString16<A> {
     }
 
     /// Whether the text is empty.
+    ///
+    /// See [`CString16::num_chars`].
     pub fn is_empty(&self) -> bool
         ensures { IsTrue result ↔ (self.now ≡ []) }
     {
@@ -456,6 +599,11 @@ impl<A: Allocator> CString16<A> {
     }
 
     /// Borrows the string. Its text holds no NUL and no surrogate. Takes no memory.
+    ///
+    /// ```rust
+    /// let name = CString16::try_from_str(rt.alloc(), "Hi")?;
+    /// assert_eq!(rt; name.as_cstr16().to_u16_slice_with_nul(), [0x48, 0x69, 0].as_slice());
+    /// ```
     pub fn as_cstr16(&self) -> CStr16<'_>
         ensures same { text_of result ≡ self.now }
         ensures is_text { IsText self.now }
@@ -464,6 +612,12 @@ impl<A: Allocator> CString16<A> {
     }
 
     /// Whether the borrowed string has the same text. Takes no memory.
+    ///
+    /// ```rust
+    /// let name = CString16::try_from_str(rt.alloc(), "Hi")?;
+    /// assert!(rt; name.eq_cstr16(CStr16::from_u16_with_nul(&[0x48, 0x69, 0])?));
+    /// assert!(rt; !name.eq_cstr16(CStr16::from_u16_with_nul(&[0x48, 0])?));
+    /// ```
     pub fn eq_cstr16(&self, other: CStr16<'_>) -> bool
         ensures { IsTrue result ↔ (self.now ≡ text_of other.entry) }
     {

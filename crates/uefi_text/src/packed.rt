@@ -20,6 +20,11 @@ pub trait Packed: Copy {
 
     /// Decodes exactly `SIZE` bytes, the low byte first on every machine: the sum of each byte
     /// times 256 to the power of its index. Takes no memory.
+    ///
+    /// ```rust
+    /// assert_eq!(rt; u16::read_le(&[0x34, 0x12]), 0x1234);
+    /// assert_eq!(rt; u32::read_le(&[0x78, 0x56, 0x34, 0x12]), 0x12345678);
+    /// ```
     fn read_le(bytes: &[u8]) -> Self
         requires { length bytes.now ≡ SIZE }
         ensures { number result ≡ little_endian bytes.now };

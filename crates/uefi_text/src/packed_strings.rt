@@ -13,6 +13,13 @@ impl<'a> UnalignedSlice<'a, u16> {
     /// Whether the items are a string. Refused as
     /// [`CStr16::from_u16_with_nul`](crate::CStr16::from_u16_with_nul) refuses the same units. Needs no
     /// buffer of the caller; takes no memory.
+    ///
+    /// ```rust
+    /// let name: UnalignedSlice<u16> = UnalignedSlice::new(&[0x48, 0, 0, 0], 2);
+    /// assert_eq!(rt; name.check_cstr16(), Ok(()));
+    /// let broken: UnalignedSlice<u16> = UnalignedSlice::new(&[0x48, 0, 0, 0, 0x69, 0, 0, 0], 4);
+    /// assert_eq!(rt; broken.check_cstr16(), Err(FromSliceWithNulError::InteriorNul(1)));
+    /// ```
     pub fn check_cstr16(&self) -> Result<(), FromSliceWithNulError>
         ensures refusal { result_err result ≡ with_nul_refusal (items_of self.now) }
         ensures accepted { OnOk result (IsString (items_of self.now)) }

@@ -182,6 +182,13 @@ fn matches_uncounted<L: Ledger>(pattern: &[u16], text: &[u16], blank: Blank) -> 
 impl<'a> CStr16<'a> {
     /// Whether a pattern matches the whole string, without case. [`Char16Slice::matches_counted`]
     /// says how long that takes at most.
+    ///
+    /// ```rust
+    /// let pattern = CString16::try_from_str(rt.alloc(), "shim*.[ef]?i")?;
+    /// let name = CString16::try_from_str(rt.alloc(), "SHIMX64.EFI")?;
+    /// assert!(rt; name.as_cstr16().matches(pattern.as_cstr16()));
+    /// assert!(rt; !pattern.as_cstr16().matches(name.as_cstr16()));
+    /// ```
     pub fn matches(&self, pattern: CStr16<'_>) -> bool
         ensures { IsTrue result ↔ Matches (text_of pattern.entry) (text_of self.now) }
     {
@@ -191,6 +198,14 @@ impl<'a> CStr16<'a> {
 
 impl<'a> Char16Slice<'a> {
     /// Whether a pattern matches all of the characters, as [`CStr16::matches`].
+    ///
+    /// ```rust
+    /// let pattern = CString16::try_from_str(rt.alloc(), "*.efi")?;
+    /// let name = CString16::try_from_str(rt.alloc(), "a.efi.bak")?;
+    /// let (pattern, name) = (pattern.as_cstr16().as_slice(), name.as_cstr16().as_slice());
+    /// assert!(rt; name.part(0, 5).matches(pattern));
+    /// assert!(rt; !name.matches(pattern));
+    /// ```
     pub fn matches(&self, pattern: Char16Slice<'_>) -> bool
         ensures { IsTrue result ↔ Matches (units_of pattern.entry) (units_of self.now) }
     {
@@ -199,6 +214,15 @@ impl<'a> Char16Slice<'a> {
 
     /// What [`Char16Slice::matches`] does, in counted steps: each looks at two characters of the
     /// pattern at most, and at one of these.
+    ///
+    /// ```rust
+    /// use std::marker::Brand;
+    /// use std::sync::ledger::Blank;
+    ///
+    /// let name = CStr16::from_u16_with_nul(&[0x48, 0x69, 0])?.as_slice();
+    /// let mut steps = steps::Steps::<Brand>::start(Blank::new(1));
+    /// assert!(rt; name.matches_counted(name, &mut steps));
+    /// ```
     pub fn matches_counted<L: Ledger>(&self, pattern: Char16Slice<'_>, steps: &mut Steps<L>) -> bool
         ensures matches { IsTrue result ↔ Matches (units_of pattern.entry) (units_of self.now) }
         ensures cost { steps.new

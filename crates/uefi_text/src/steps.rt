@@ -22,6 +22,13 @@ impl<L: Ledger> Model for Steps<L> {
 
 impl<L: Ledger> Steps<L> {
     /// No steps so far.
+    ///
+    /// ```rust
+    /// let name = CStr16::from_u16_with_nul(&[0x48, 0x69, 0])?.as_slice();
+    /// let mut steps = steps::Steps::<std::marker::Brand>::start(std::sync::ledger::Blank::new(1));
+    /// steps.tick();
+    /// assert!(rt; name.matches_counted(name, &mut steps));
+    /// ```
     pub fn start(blank: Blank) -> Self
         requires name { blank.name ≡ L.name }
         requires parts { blank.parts ≡ L.parts }
@@ -33,6 +40,8 @@ impl<L: Ledger> Steps<L> {
     }
 
     /// One step.
+    ///
+    /// See [`Steps::start`].
     pub fn tick(&mut self)
         ensures { self.new ≡ self.old + 1 }
     {

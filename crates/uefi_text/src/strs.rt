@@ -35,6 +35,15 @@ use std::hash::{Hash, Hasher};
 ///
 /// A call that takes an allocator takes memory, and [`CStr16::as_str_in_buf`] what its sink takes.
 /// No other call does.
+///
+/// ```rust
+/// let name = CStr16::from_u16_with_nul(&[0x48, 0x69, 0])?;
+/// assert!(rt; name.num_chars() == 2 && name.num_bytes() == 6 && !name.is_empty() && name.is_ascii());
+/// assert_eq!(rt; name.to_u16_slice(), [0x48, 0x69].as_slice());
+/// assert_eq!(rt; name.to_u16_slice_with_nul(), [0x48, 0x69, 0].as_slice());
+/// assert!(rt; name.as_slice().has_no_nul() && !name.as_slice_with_nul().has_no_nul());
+/// assert!(rt; name.eq_cstr16(CStr16::from_u16_until_nul(&[0x48, 0x69, 0, 0x21])?));
+/// ```
 #[derive(Clone, Copy)]
 pub struct CStr16<'a> {
     units: &'a [u16],
@@ -79,6 +88,15 @@ pub struct CStr16Iter<'a> {
 /// Characters that lie side by side, such as a text, a string with its NUL or a component of a
 /// path. A contract sees it as `units_of` it: their code units. A call that takes an allocator
 /// takes memory, and [`Char16Slice::add_utf8_to`] may. No other call does.
+///
+/// ```rust
+/// let name = CStr16::from_u16_with_nul(&[0x42, 0x6f, 0x6f, 0x74, 0])?;
+/// let part = name.as_slice().part(1, 3);
+/// assert_eq!(rt; part.units(), [0x6f, 0x6f].as_slice());
+/// assert!(rt; part.len() == 2 && !part.is_empty() && part.has_no_nul());
+/// assert_eq!(rt; part.get(0).map(char::from), Some('o'));
+/// assert_eq!(rt; part.iter().count(), 2);
+/// ```
 #[derive(Clone, Copy)]
 pub struct Char16Slice<'a> {
     units: &'a [u16],
@@ -101,6 +119,13 @@ impl<'a> CStr16<'a> {
     /// The first NUL or surrogate decides. A NUL ends the string, and what follows it does not matter.
     /// A surrogate is refused as `InvalidChar` with its index. Where there is neither the result is
     /// `NoNul`. One pass, which ends soon after that unit; takes no memory.
+    ///
+    /// ```rust
+    /// let name = CStr16::from_u16_until_nul(&[0x42, 0x6f, 0x6f, 0x74, 0, 0xffff])?;
+    /// assert_eq!(rt; name.num_chars(), 4);
+    /// let refused = CStr16::from_u16_until_nul(&[0x42, 0xd83d, 0]);
+    /// assert_eq!(rt; refused.err(), Some(FromSliceUntilNulError::InvalidChar(1)));
+    /// ```
     pub fn from_u16_until_nul(units: &'a [u16]) -> Result<CStr16<'a>, FromSliceUntilNulError>
         ensures ok { IfOk result (λ string. text_of string ≡ before_first is_nul units.now) }
         ensures accepts { IsOk result ↔ BeginsWithString units.now }
@@ -123,6 +148,13 @@ impl<'a> CStr16<'a> {
     /// is refused as `InteriorNul`, and a surrogate as `InvalidChar`, each with its index. Where
     /// there is neither the result is `NotNulTerminated`. One pass, which ends at that unit; takes
     /// no memory.
+    ///
+    /// ```rust
+    /// let name = CStr16::from_u16_with_nul(&[0x48, 0x69, 0])?;
+    /// assert_eq!(rt; name.num_chars(), 2);
+    /// let refused = CStr16::from_u16_with_nul(&[0x48, 0, 0x69, 0]);
+    /// assert_eq!(rt; refused.err(), Some(FromSliceWithNulError::InteriorNul(1)));
+    /// ```
     pub fn from_u16_with_nul(units: &'a [u16]) -> Result<CStr16<'a>, FromSliceWithNulError>
         ensures ok { IfOk result (λ string. nul_terminated (text_of string) ≡ units.now) }
         ensures accepts { IsOk result ↔ IsString units.now }
@@ -156,6 +188,13 @@ impl<'a> CStr16<'a> {
     /// whatever is returned. The first character that is NUL or above U+FFFF then decides:
     /// `InteriorNul` or `InvalidChar`, with the number of characters before it. Linear in the text,
     /// and stops where the buffer is full; takes no memory.
+    ///
+    /// ```rust
+    /// let mut buffer = [0xffff; 4];
+    /// assert_eq!(rt; CStr16::write_str("Hi", &mut buffer), Ok(3));
+    /// assert_eq!(rt; buffer, [0x48, 0x69, 0, 0xffff]);
+    /// assert_eq!(rt; CStr16::write_str("Boot", &mut buffer), Err(FromStrWithBufError::BufferTooSmall));
+    /// ```
     pub fn write_str(input: &str, buffer: &mut [u16]) -> Result<usize, FromStrWithBufError>
         ensures ok { IfOk result (λ len. len ≡ length (chars input.now) + 1) }
         ensures accepts { IsOk result
@@ -170,6 +209,14 @@ impl<'a> CStr16<'a> {
     /// Encodes a Rust text at the start of a buffer, and borrows it from there as a string.
     /// [`CStr16::write_str`] says when it is refused and what the buffer then holds. Linear in the
     /// text; takes no memory.
+    ///
+    /// ```rust
+    /// let mut buffer = [0; 8];
+    /// let name = CStr16::from_str_with_buf("Hi", &mut buffer)?;
+    /// assert_eq!(rt; name.to_u16_slice(), [0x48, 0x69].as_slice());
+    /// let refused = CStr16::from_str_with_buf("a\u{1f600}", &mut buffer);
+    /// assert_eq!(rt; refused.err(), Some(FromStrWithBufError::InvalidChar(1)));
+    /// ```
     pub fn from_str_with_buf(
         input: &str,
         buf: &'a mut [u16],
@@ -219,6 +266,13 @@ impl<'a> CStr16<'a> {
     }
 
     /// The characters of the text in order, without the NUL.
+    ///
+    /// ```rust
+    /// let mut characters = CStr16::from_u16_with_nul(&[0x48, 0x69, 0])?.iter();
+    /// assert_eq!(rt; characters.next().map(char::from), Some('H'));
+    /// assert_eq!(rt; characters.next_back().map(char::from), Some('i'));
+    /// assert_eq!(rt; characters.next(), None);
+    /// ```
     pub fn iter(&self) -> CStr16Iter<'a>
         ensures same { units_left result ≡ text_of self.now }
         ensures no_nul { GivesNoNul (YieldsFirst units_left) result }
@@ -260,6 +314,12 @@ impl<'a> CStr16<'a> {
 
     /// The string as bytes, the low byte first on every machine: two for each character and two for
     /// the NUL; or `AllocError`. One pass, into one allocation of that size.
+    ///
+    /// ```rust
+    /// let price = CStr16::from_u16_with_nul(&[0x35, 0x20ac, 0])?;
+    /// let bytes = price.as_bytes(rt.alloc())?;
+    /// assert_eq!(rt; bytes.as_slice(), [0x35, 0, 0xac, 0x20, 0, 0].as_slice());
+    /// ```
     pub fn as_bytes<A: Allocator>(&self, alloc: A) -> Result<Vec<u8, A>, AllocError>
         ensures { IfOk result (λ bytes. bytes.items ≡ unit_bytes (nul_terminated (text_of self.now))) }
     {
@@ -274,6 +334,11 @@ impl<'a> CStr16<'a> {
 
     /// The text as a Rust `String`, or `AllocError`. One allocation at most: the bytes in UTF-8 are
     /// counted first.
+    ///
+    /// ```rust
+    /// let price = CStr16::from_u16_with_nul(&[0x35, 0x20ac, 0])?;
+    /// assert_eq!(rt; price.to_rust_string(rt.alloc())?.as_str(), "5€");
+    /// ```
     pub fn to_rust_string<A: Allocator>(&self, alloc: A) -> Result<String<A>, AllocError>
         ensures bytes { IfOk result (λ text. string_bytes text ≡ encode_utf8_all (text_of self.now)) }
         ensures characters { IfOk result (λ text. chars (string_bytes text) ≡ text_of self.now) }
@@ -289,6 +354,13 @@ impl<'a> CStr16<'a> {
     ///
     /// The sink is offered 64 characters at a time, by [`CharSink::write_whole`]. Those that it
     /// does not take so are written one by one. Takes no memory but the sink's.
+    ///
+    /// ```rust
+    /// let name = CStr16::from_u16_with_nul(&[0x48, 0x69, 0])?;
+    /// let mut text = String::new(rt.alloc());
+    /// name.as_str_in_buf(&mut text)?;
+    /// assert_eq!(rt; text.as_str(), "Hi");
+    /// ```
     pub fn as_str_in_buf<W: CharSink>(&self, buf: &mut W) -> fmt::Result
         ensures ok { OnOk result (W.text buf.new ≡ W.text buf.old ++ encode_utf8_all (text_of self.now)) }
         ensures err { OnErr result ((k : ℕ) × (k < length (text_of self.now))
@@ -540,6 +612,13 @@ impl<'a> Char16Slice<'a> {
 
     /// Appends the characters in UTF-8 to bytes; or `AllocError`, and the bytes are unchanged. One
     /// request for memory at most, and none where the bytes have room.
+    ///
+    /// ```rust
+    /// let price = CStr16::from_u16_with_nul(&[0x35, 0x20ac, 0])?;
+    /// let mut bytes = Vec::new(rt.alloc());
+    /// price.as_slice().add_utf8_to(&mut bytes)?;
+    /// assert_eq!(rt; bytes.as_slice(), [0x35, 0xe2, 0x82, 0xac].as_slice());
+    /// ```
     pub fn add_utf8_to<A: Allocator>(&self, bytes: &mut Vec<u8, A>) -> Result<(), AllocError>
         ensures ok { OnOk result (bytes.new.items ≡ bytes.old.items ++ encode_utf8_all (units_of self.now)) }
         ensures err { OnErr result (bytes.new.items ≡ bytes.old.items) }

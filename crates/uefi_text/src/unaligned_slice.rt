@@ -181,6 +181,12 @@ impl<'a, T: Packed> UnalignedSlice<'a, T> {
 
     /// Whether the bytes have room for `len` items: whether `len` times `SIZE`, as a whole number
     /// that never wraps, is at most the number of bytes.
+    ///
+    /// ```rust
+    /// assert!(rt; UnalignedSlice::<u32>::fits(&[0; 9], 2));
+    /// assert!(rt; !UnalignedSlice::<u32>::fits(&[0; 9], 3));
+    /// assert!(rt; !UnalignedSlice::<u32>::fits(&[0; 9], usize::MAX));
+    /// ```
     pub fn fits(bytes: &[u8], len: usize) -> bool
         ensures { IsTrue result ↔ (len * T.SIZE ≤ length bytes.now) }
     {
@@ -193,6 +199,12 @@ impl<'a, T: Packed> UnalignedSlice<'a, T> {
     /// A view of the first `len` items of the bytes, which lie one after the other from their
     /// start. The bytes after them are never read. The bytes have to have room for the items, which
     /// [`UnalignedSlice::fits`] tests.
+    ///
+    /// ```rust
+    /// let items: UnalignedSlice<u16> = UnalignedSlice::new(&[0x34, 0x12, 0x78, 0x56, 0xff], 2);
+    /// assert_eq!(rt; items.get(1), Some(0x5678));
+    /// assert_eq!(rt; items.len(), 2);
+    /// ```
     pub fn new(bytes: &'a [u8], len: usize) -> Self
         requires { len * T.SIZE ≤ length bytes.now }
         ensures items { items_of result ≡ packed_items T.SIZE len bytes.now }
@@ -209,6 +221,12 @@ impl<'a, T: Packed> UnalignedSlice<'a, T> {
 
     /// The view of [`UnalignedSlice::new`], or `None` exactly where the bytes have no room for the
     /// items.
+    ///
+    /// ```rust
+    /// let bytes = [0x34, 0x12, 0xff];
+    /// assert!(rt; UnalignedSlice::<u16>::try_new(&bytes, 1).is_some());
+    /// assert!(rt; UnalignedSlice::<u16>::try_new(&bytes, 2).is_none());
+    /// ```
     pub fn try_new(bytes: &'a [u8], len: usize) -> Option<Self>
         ensures fits { IsSome result ↔ (len * T.SIZE ≤ length bytes.now) }
         ensures items { IfSome result (λ slice. items_of slice ≡ packed_items T.SIZE len bytes.now) }
@@ -224,6 +242,12 @@ impl<'a, T: Packed> UnalignedSlice<'a, T> {
     }
 
     /// The number of items.
+    ///
+    /// ```rust
+    /// let items: UnalignedSlice<u16> = UnalignedSlice::new(&[1, 0, 2, 0, 3, 0], 3);
+    /// assert_eq!(rt; items.len(), 3);
+    /// assert!(rt; !items.is_empty());
+    /// ```
     pub fn len(&self) -> usize
         ensures { result ≡ length (items_of self.now) }
     {
@@ -231,6 +255,8 @@ impl<'a, T: Packed> UnalignedSlice<'a, T> {
     }
 
     /// Whether there are no items.
+    ///
+    /// See [`UnalignedSlice::len`].
     pub fn is_empty(&self) -> bool
         ensures { IsTrue result ↔ (items_of self.now ≡ []) }
     {
@@ -259,6 +285,12 @@ impl<'a, T: Packed> UnalignedSlice<'a, T> {
     }
 
     /// The item at an index, or `None` from the length on.
+    ///
+    /// ```rust
+    /// let items: UnalignedSlice<u16> = UnalignedSlice::new(&[0x34, 0x12, 0x78, 0x56], 2);
+    /// assert_eq!(rt; items.get(0), Some(0x1234));
+    /// assert_eq!(rt; items.get(2), None);
+    /// ```
     pub fn get(&self, index: usize) -> Option<T>
         ensures { option_map T.number result ≡ slice_get (items_of self.now) index }
     {
@@ -284,6 +316,12 @@ impl<'a, T: Packed> UnalignedSlice<'a, T> {
 
     /// The items in order, each once, and then `None` for ever. The iterator borrows the bytes, so
     /// it may outlive this view.
+    ///
+    /// ```rust
+    /// let items: UnalignedSlice<u16> = UnalignedSlice::new(&[1, 0, 2, 0, 3, 0], 3);
+    /// assert_eq!(rt; items.iter().max(), Some(3));
+    /// assert_eq!(rt; items.iter().count(), 3);
+    /// ```
     pub fn iter(&self) -> UnalignedSliceIter<'a, T>
         ensures same { items_left result ≡ items_of self.now }
         ensures bound { length (items_left result) < 2 ^ 64 }
@@ -304,6 +342,13 @@ impl<'a, T: Packed> UnalignedSlice<'a, T> {
     }
 
     /// Writes the items to `dest`, which has to have as many places as there are items. One pass.
+    ///
+    /// ```rust
+    /// let items: UnalignedSlice<u16> = UnalignedSlice::new(&[0x34, 0x12, 0x78, 0x56], 2);
+    /// let mut numbers = [0; 2];
+    /// items.copy_to(&mut numbers);
+    /// assert_eq!(rt; numbers, [0x1234, 0x5678]);
+    /// ```
     pub fn copy_to(&self, dest: &mut [T])
         requires { length dest.old ≡ length (items_of self.now) }
         ensures { map T.number dest.new ≡ items_of self.now }
@@ -317,6 +362,12 @@ impl<'a, T: Packed> UnalignedSlice<'a, T> {
 
     /// The items as a vector, or `AllocError`. One request for memory, of exactly the size of the
     /// items, and none where there are no items. Linear in the items.
+    ///
+    /// ```rust
+    /// let items: UnalignedSlice<u16> = UnalignedSlice::new(&[0x34, 0x12, 0x78, 0x56], 2);
+    /// let numbers = items.to_vec(rt.alloc())?;
+    /// assert_eq!(rt; numbers.as_slice(), [0x1234, 0x5678].as_slice());
+    /// ```
     pub fn to_vec<A: Allocator>(&self, alloc: A) -> Result<Vec<T, A>, AllocError>
         ensures ok { IfOk result (λ items. map T.number items.items ≡ items_of self.now) }
         ensures empty { items_of self.now ≡ [] → IsOk result }
@@ -467,6 +518,11 @@ impl<'a> UnalignedSlice<'a, u16> {
 
     /// The code units that all of the bytes encode, two bytes for each, the low one first; or
     /// `None` exactly where the bytes are odd in number.
+    ///
+    /// ```rust
+    /// assert_eq!(rt; UnalignedSlice::from_unit_bytes(&[0x48, 0, 0x69, 0]).map(|it| it.len()), Some(2));
+    /// assert!(rt; UnalignedSlice::from_unit_bytes(&[0x48, 0, 0x69]).is_none());
+    /// ```
     pub fn from_unit_bytes(bytes: &'a [u8]) -> Option<Self>
         ensures even { IsSome result ↔ (length bytes.now % 2 ≡ 0) }
         ensures items { IfSome result (λ slice. items_of slice ≡ units_of_bytes bytes.now) }
@@ -514,6 +570,14 @@ impl<'a> UnalignedSlice<'a, u16> {
     /// The units that bytes begin with, up to and with their first NUL, and the bytes after it; or
     /// `None` exactly where no NUL is among the units. Units before the NUL may be surrogates. Linear
     /// in the bytes up to the NUL.
+    ///
+    /// ```rust
+    /// let field = [0x48, 0, 0x69, 0, 0, 0, 7, 8];
+    /// let split = UnalignedSlice::split_until_nul(&field);
+    /// assert_eq!(rt; split.map(|(name, _)| name.len()), Some(3));
+    /// assert_eq!(rt; split.map(|(_, rest)| rest == [7, 8].as_slice()), Some(true));
+    /// assert!(rt; UnalignedSlice::split_until_nul(&field[..4]).is_none());
+    /// ```
     pub fn split_until_nul(bytes: &'a [u8]) -> Option<(Self, &'a [u8])>
         ensures ok { IfSome result (λ split. SplitsUntilNul bytes.now (items_of split.0) split.1.now) }
         ensures only { IfSome result (λ split. (units : List ℕ) → (rest : List ℕ) →
@@ -543,6 +607,14 @@ impl<'a> UnalignedSlice<'a, u16> {
     /// Copies the items into an owned string. Refused as [`CStr16::from_u16_with_nul`] refuses the
     /// same units; `OutOfMemory` comes last. All items are tested before memory is asked for, in
     /// one request.
+    ///
+    /// ```rust
+    /// let units: UnalignedSlice<u16> = UnalignedSlice::new(&[0x48, 0, 0x69, 0, 0, 0], 3);
+    /// assert_eq!(rt; units.to_cstring16(rt.alloc())?.num_chars(), 2);
+    /// let units: UnalignedSlice<u16> = UnalignedSlice::new(&[0x48, 0, 0, 0xd8, 0, 0], 3);
+    /// let refused = units.to_cstring16(rt.alloc());
+    /// assert_eq!(rt; refused.err(), Some(FromSliceWithNulError::InvalidChar(1)));
+    /// ```
     pub fn to_cstring16<A: Allocator>(
         &self,
         alloc: A,
@@ -579,6 +651,15 @@ impl<'a> UnalignedSlice<'a, u16> {
     /// A buffer of fewer places than there are items is refused as `BufferTooSmall` and is
     /// unchanged. Else the buffer begins with the items, what follows them is unchanged, and the
     /// first NUL or surrogate decides, as in [`CStr16::from_u16_with_nul`].
+    ///
+    /// ```rust
+    /// let units: UnalignedSlice<u16> = UnalignedSlice::new(&[0x48, 0, 0, 0], 2);
+    /// let mut buffer = [0xffff; 3];
+    /// assert_eq!(rt; units.write_cstr16(&mut buffer), Ok(()));
+    /// assert_eq!(rt; buffer, [0x48, 0, 0xffff]);
+    /// let refused = units.write_cstr16(&mut buffer[..1]);
+    /// assert_eq!(rt; refused, Err(UnalignedCStr16Error::BufferTooSmall));
+    /// ```
     #[tactic(auto)]
     pub fn write_cstr16(&self, buffer: &mut [u16]) -> Result<(), UnalignedCStr16Error>
         ensures buffer { buffer.new ≡ with_prefix (items_of self.now) buffer.old }
@@ -599,6 +680,13 @@ impl<'a> UnalignedSlice<'a, u16> {
 
     /// Copies the items to the start of a buffer, and borrows them from there as a string.
     /// [`UnalignedSlice::write_cstr16`] says when they are refused and what the buffer then holds.
+    ///
+    /// ```rust
+    /// let units: UnalignedSlice<u16> = UnalignedSlice::new(&[0x48, 0, 0x69, 0, 0, 0], 3);
+    /// let mut buffer = [0; 8];
+    /// let name = units.to_cstr16(&mut buffer)?;
+    /// assert_eq!(rt; name.to_u16_slice(), [0x48, 0x69].as_slice());
+    /// ```
     pub fn to_cstr16<'b>(&self, buffer: &'b mut [u16]) -> Result<CStr16<'b>, UnalignedCStr16Error>
         ensures ok { IfOk result (λ string. nul_terminated (text_of string) ≡ items_of self.now) }
         ensures accepts { IsOk result
@@ -632,6 +720,13 @@ impl<'a> CStr16<'a> {
     /// whatever units stand before. Else the units decide as in [`CStr16::from_u16_with_nul`], and
     /// `OutOfMemory` comes last. `NotAligned` is never returned. All bytes are tested before memory
     /// is asked for, in one request.
+    ///
+    /// ```rust
+    /// let name = CStr16::from_bytes_with_nul(rt.alloc(), &[0x48, 0, 0x69, 0, 0, 0])?;
+    /// assert_eq!(rt; name.num_chars(), 2);
+    /// let refused = CStr16::from_bytes_with_nul(rt.alloc(), &[0x48, 0, 0x69, 0, 0]);
+    /// assert_eq!(rt; refused.err(), Some(FromSliceWithNulError::NotNulTerminated));
+    /// ```
     pub fn from_bytes_with_nul<A: Allocator>(
         alloc: A,
         bytes: &[u8],
@@ -651,6 +746,13 @@ impl<'a> CStr16<'a> {
     }
 
     /// [`UnalignedSlice::to_cstr16`] of the slice. Takes no memory.
+    ///
+    /// ```rust
+    /// let units: UnalignedSlice<u16> = UnalignedSlice::new(&[0x48, 0, 0x69, 0, 0, 0], 3);
+    /// let mut buffer = [0; 3];
+    /// let name = CStr16::from_unaligned_slice(&units, &mut buffer)?;
+    /// assert_eq!(rt; name.num_chars(), 2);
+    /// ```
     pub fn from_unaligned_slice(
         source: &UnalignedSlice<'_, u16>,
         buffer: &'a mut [u16],
@@ -671,6 +773,12 @@ impl<A: Allocator> CString16<A> {
     ghost use Rattle.uefi_text.specs.Views.{items_of};
 
     /// [`UnalignedSlice::to_cstring16`] of the slice, with one request for memory.
+    ///
+    /// ```rust
+    /// let units: UnalignedSlice<u16> = UnalignedSlice::new(&[0x48, 0, 0x69, 0, 0, 0], 3);
+    /// let name = CString16::try_from_unaligned(rt.alloc(), &units)?;
+    /// assert!(rt; name == CString16::try_from_str(rt.alloc(), "Hi")?);
+    /// ```
     pub fn try_from_unaligned(
         alloc: A,
         source: &UnalignedSlice<'_, u16>,

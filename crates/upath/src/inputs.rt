@@ -95,6 +95,12 @@ impl<A: Allocator + Copy> PartialRun<A> {
 /// is no text of UCS-2 print a line that says so and leave the path unchanged. The only error is out
 /// of memory, and then nothing of the output is returned. Memory is linear in the input and the
 /// output; a line costs what it says, what it prints, and at most two passes over the path.
+///
+/// ```rust
+/// let output = run_text(rt.alloc(), b"from /efi\npush boot\nparent\nparent\n")?;
+/// let wanted = b"= \\efi\n= \\efi\\boot\n= efi\nnone\n";
+/// assert_eq!(rt; output.as_slice(), wanted.as_slice());
+/// ```
 pub fn run_text<A: Allocator + Copy>(alloc: A, input: &[u8]) -> Result<Vec<u8, A>, AllocError>
     ensures { IfOk result (λ output. output.items ≡ output_of input.now) }
 {

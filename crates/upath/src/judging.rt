@@ -79,6 +79,14 @@ fn read_string<A: Allocator>(alloc: A, bytes: &[u8]) -> Result<CString16<A>, Jud
 /// are `Text` of what [`uefi_text::CStr16::from_u16_with_nul`] says of them. Refused memory is
 /// `OutOfMemory`. A path that is not accepted is `Invalid` of the reason. The bytes are tested
 /// before memory is asked for.
+///
+/// ```rust
+/// let path = judge(rt.alloc(), b"a\0/\0b\0\0\0")?;
+/// assert_eq!(rt; format!(in rt.alloc(); "{path}")?.as_str(), r"a\b");
+/// assert_eq!(rt; judge(rt.alloc(), b"a\0\0").err(), Some(JudgeError::HalfUnit));
+/// let refused = judge(rt.alloc(), b"a\0/\0/\0b\0\0\0");
+/// assert_eq!(rt; refused.err(), Some(JudgeError::Invalid(PathError::EmptyComponent)));
+/// ```
 pub fn judge<A: Allocator + Copy>(alloc: A, bytes: &[u8]) -> Result<PathBuf<A>, JudgeError>
     ensures ok { IfOk result (λ path. IsPathOf bytes.now path) }
     ensures refusal { IfErr result (λ error. IsRefusalOf bytes.now error) }

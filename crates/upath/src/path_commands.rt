@@ -104,6 +104,14 @@ pub(crate) fn run_command<A: Allocator + Copy>(
 /// Where memory is refused the error says how many commands were done, fewer than all, and the path
 /// is what these made of it. `Clear`, `Push` of an empty path and `Parent` of a path that has none
 /// take no memory. Costs what the commands cost.
+///
+/// ```rust
+/// let name = CStr16::from_u16_with_nul(&[0x65, 0x66, 0x69, 0])?;
+/// let mut path = PathBuf::new(rt.alloc())?;
+/// let commands = [PathCommand::From(name), PathCommand::Push(Path::new(name))];
+/// run_commands(rt.alloc(), &mut path, &commands)?;
+/// assert_eq!(rt; format!(in rt.alloc(); "{path}")?.as_str(), r"efi\efi");
+/// ```
 pub fn run_commands<A: Allocator + Copy>(
     alloc: A,
     path: &mut PathBuf<A>,
@@ -126,6 +134,13 @@ pub fn run_commands<A: Allocator + Copy>(
 /// The components of a path as a list, or `AllocError`. They are the only list of pieces without
 /// separators that joins to the path's canonical text, where a list of one empty piece does not
 /// count. Takes memory for the list.
+///
+/// ```rust
+/// let text = CString16::try_from_str(rt.alloc(), r"\efi\boot")?;
+/// let pieces = pieces(rt.alloc(), Path::new(text.as_cstr16()))?;
+/// assert_eq!(rt; pieces.len(), 2);
+/// assert_eq!(rt; pieces.last().copied(), Some(text.as_cstr16().as_slice().part(5, 9)));
+/// ```
 pub fn pieces<'a, A: Allocator>(
     alloc: A,
     path: Path<'a>,
@@ -142,6 +157,14 @@ pub fn pieces<'a, A: Allocator>(
 /// The parent of a path, the parent of that, and so on until there is none; or `AllocError`. Of a
 /// valid path these are its shorter prefixes, the longest first. Takes memory as [`PathBuf::parent`] does
 /// for each, and for the list; costs what the parents are long.
+///
+/// ```rust
+/// let text = CString16::try_from_str(rt.alloc(), r"\a\b\c")?;
+/// let path = PathBuf::from(rt.alloc(), text.as_cstr16())?;
+/// let parents = all_parents(rt.alloc(), &path)?;
+/// let printed = format!(in rt.alloc(); "{} {}", parents[0], parents[1])?;
+/// assert_eq!(rt; (parents.len(), printed.as_str()), (2, r"a\b a"));
+/// ```
 pub fn all_parents<A: Allocator + Copy>(
     alloc: A,
     path: &PathBuf<A>,

@@ -21,6 +21,12 @@ impl ProgramEnd {
     /// The end of a program after this result of [`crate::run_streams`]: status 0 and no message
     /// where all was written; 2 and no message where a read, a write or the flush failed; 3 and the
     /// line `out of memory` where a request for memory was refused.
+    ///
+    /// ```rust
+    /// assert_eq!(rt; ProgramEnd::after(Ok(())).message, "");
+    /// let end = ProgramEnd::after(Err(StreamFault::OutOfMemory));
+    /// assert_eq!(rt; end.message, "out of memory\n");
+    /// ```
     pub fn after(outcome: Result<(), StreamFault>) -> ProgramEnd
         ensures status { exit_status result.status ≡ status_after (result_err outcome) }
         ensures message { result.message.now ≡ message_after (result_err outcome) }

@@ -124,6 +124,14 @@ fn write_output<W: Write>(writer: &mut Watched<W>, output: &[u8]) -> Result<(), 
 /// only where the writer's is: what was written is a prefix of the output. After any other result
 /// neither mark is set. Nothing was written where a read failed or memory was refused. No failed
 /// call is made again, not even an interrupted one, and no call comes after it.
+///
+/// ```rust
+/// let mut reader = Watched::new(b"from \\efi\npush boot\n".as_slice());
+/// let mut writer = Watched::new(Vec::new(rt.alloc()));
+/// run_streams(rt.alloc(), &mut reader, &mut writer)?;
+/// let output = writer.into_inner();
+/// assert_eq!(rt; output.as_slice(), b"= \\efi\n= \\efi\\boot\n".as_slice());
+/// ```
 pub fn run_streams<A: Allocator + Copy, R: Read, W: Write>(
     alloc: A,
     reader: &mut Watched<R>,

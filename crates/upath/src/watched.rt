@@ -10,6 +10,14 @@ use std::io::{self, ErrorKind, Read, Write};
 /// which then stays set.
 ///
 /// Each call returns an `Err` exactly where it sets the mark. None is made again.
+///
+/// ```rust
+/// let mut reader = Watched::new(b"abc".as_slice());
+/// let mut bytes = [0; 2];
+/// assert!(rt; matches!(reader.read(&mut bytes), Ok(2)) && bytes == *b"ab");
+/// assert!(rt; !reader.has_failed());
+/// assert_eq!(rt; reader.into_inner(), b"c".as_slice());
+/// ```
 #[derive(Drop)]
 pub struct Watched<T> {
     stream: T,
@@ -62,6 +70,13 @@ impl<R: Read> Watched<R> {
 impl<W: Write> Watched<W> {
     /// One write of the writer. Where it fails, an interrupted one too, the mark is set. A write of
     /// at least one byte that takes none has failed, with [`ErrorKind::WriteZero`].
+    ///
+    /// ```rust
+    /// let mut bytes = [0; 2];
+    /// let mut writer = Watched::new(bytes.as_mut_slice());
+    /// assert!(rt; matches!(writer.write(b"abc"), Ok(2)) && !writer.has_failed());
+    /// assert!(rt; writer.write(b"c").is_err() && writer.has_failed());
+    /// ```
     pub fn write(&mut self, buf: &[u8]) -> io::Result<usize>
         ensures bound { WritesAtMost result buf.now }
         ensures bytes { WriteAppends
@@ -79,6 +94,11 @@ impl<W: Write> Watched<W> {
     }
 
     /// One flush of the writer. Where it fails the mark is set.
+    ///
+    /// ```rust
+    /// let mut writer = Watched::new(Vec::<u8>::new(rt.alloc()));
+    /// assert!(rt; writer.flush().is_ok() && !writer.has_failed());
+    /// ```
     pub fn flush(&mut self) -> io::Result<()>
         ensures bytes { Keeps (W.contents (stream_of self.old)) (W.contents (stream_of self.new)) }
         ensures ok { OnOk result (is_marked self.new ≡ is_marked self.old) }
