@@ -22,7 +22,7 @@
 #include "nardcorbel.h"
 
 enum { PAGE = 65536, AREA = 2 * PAGE, FILL = 0xa5, UNCHANGED = 99 };
-enum area { BUFFER = 3, PLACE, CHARACTER, NODE, AREAS }; /* after the areas of three inputs */
+enum area { BUFFER = 3, PLACE, CHARACTER, NODE, SCRATCH, AREAS }; /* after the areas of three inputs */
 
 /* What becomes of a buffer, and what `reason` and `place` of a row say. */
 enum rule {
@@ -121,6 +121,13 @@ static nard_result call_device_path_next_node(void)
     nard_size fields[] = {node->device_type, node->sub_type, node->start, node->length};
     memcpy(buffer.at, reason == NARD_OK ? (const void *)fields : node, reason == NARD_OK ? sizeof fields : sizeof *node);
     return reason;
+}
+
+/* The second buffer has `number` bytes. */
+static nard_result call_device_path_push_lenient_text(void)
+{
+    nard_byte *scratch = put(SCRATCH, NULL, number);
+    return nard_device_path_push_lenient_text(OUT, IN(0), scratch, number, place);
 }
 
 /* The number of a name or of an order is the character then. */
@@ -314,6 +321,15 @@ static const struct row rows[] = {
     FAULT(device_path_push_text, REFUSED, NO_NODE, 3, .before = BYTES(PCI END), .in = {BYTES("\\a/Pci(0x1f,0x0)")}),
     FAULT(device_path_push_text, REFUSED, NOT_UTF8, 1, .before = BYTES(END), .in = {BYTES("x\xc3")}),
     FAULT(device_path_push_text, REFUSED, UNKNOWN_END, 1, .before = BYTES(UNKNOWN), .in = {BYTES("\xc3")}),
+    ROW(device_path_push_lenient_text, WHOLE, .before = BYTES(PCI END "x"), .in = {BYTES("pci( 31, 0 )/File(a)")}, .number = 21,
+        .out = BYTES(PCI PCI FILE_A END)),
+    ROW(device_path_push_lenient_text, WHOLE, .before = BYTES(END), .in = {BYTES(",a")}, .number = 3,
+        .out = BYTES("\x7f\1\4\0" FILE_A END)),
+    ROW(device_path_push_lenient_text, WHOLE, .before = BYTES(PCI END), .in = {BYTES("")}, .number = 1, .out = BYTES(PCI END)),
+    FAULT(device_path_push_lenient_text, REFUSED, SCRATCH_TOO_SMALL, 3, .before = BYTES(PCI END), .in = {BYTES("(a")}, .number = 2),
+    FAULT(device_path_push_lenient_text, REFUSED, NO_NODE, 2, .before = BYTES(PCI END), .in = {BYTES("a/Pci(0x100)")}, .number = 13),
+    FAULT(device_path_push_lenient_text, REFUSED, NOT_UTF8, 1, .before = BYTES(END), .in = {BYTES("x\xc3")}),
+    FAULT(device_path_push_lenient_text, REFUSED, UNKNOWN_END, 1, .before = BYTES(UNKNOWN), .in = {BYTES("\xc3")}),
     ROW(load_option_write, WHOLE, .in = {UNITS(u"b\0c"), BYTES(PCI FILE_A END FILE_A), BYTES("x")}, .number = 0xf00000001,
         .out = BYTES(OPTION)),
     ROW(load_option_write, WHOLE, .in = {UNITS(u"b"), {full_list, 65535, 1}, BYTES("")}, .out = {full_option, 65545, 1}),

@@ -108,7 +108,8 @@ extern "C" {
     REASON(NOT_A_NAME, 29, "no load option has the name or the kind") \
     REASON(END_OF_ORDER, 30, "the order ends here") /* nothing is wrong */ \
     REASON(NO_NODE, 31, "no node") \
-    REASON(NO_FIELD, 32, "no such field")
+    REASON(NO_FIELD, 32, "no such field") \
+    REASON(SCRATCH_TOO_SMALL, 33, "scratch too small")
 
 enum nard_reason {
 #define NARD_AS_CONSTANT(name, number, text) NARD_##name = number,
@@ -586,6 +587,28 @@ nard_result NARD_CALL nard_device_path_push_text(nard_byte *buffer, nard_size ro
                                                  nard_size *length);
 
 /*
+ * Adds the nodes of a text in UTF-8 to the device path that a buffer begins with, before its end, as people write it and as
+ * efibootmgr -v prints it, for example
+ *     pciroot(0)/pci(31, 2)/HD(1,GPT,12345678-9abc-def0-1234-56789abcdef0,0x800,0x100000)/File(\EFI\boot\bootx64.efi)
+ * Names and digits stand in either case, numbers in decimal or after 0x, with zeros before them; blanks may stand in a call, and
+ * numbers at its end may be left out; the name of a file may stand in File(..), or without its first backslash. What
+ * nard_device_path_push_text reads is read as the same. A comma ends an instance.
+ *
+ *   scratch, scratch_room   for copies of calls and names: one byte more than the text; it then holds anything
+ *
+ * Returns NARD_OK, or the first of these that holds
+ *   as nard_device_path_check of the buffer, *length too
+ *   NARD_NOT_UTF8           *length is how many bytes before the fault are UTF-8
+ *   NARD_SCRATCH_TOO_SMALL  scratch_room < *length, one more than byte_count
+ *   NARD_NO_NODE            at byte *length of the text the first node begins that can't be read
+ *   NARD_BUFFER_TOO_SMALL   room < *length, how many bytes the path would have, or SIZE_MAX if these are more
+ * If it is NARD_OK, *length is how many bytes the path then has, and those after it are unchanged. Otherwise the buffer is.
+ */
+nard_result NARD_CALL nard_device_path_push_lenient_text(nard_byte *buffer, nard_size room, const nard_byte *bytes,
+                                                         nard_size byte_count, nard_byte *scratch, nard_size scratch_room,
+                                                         nard_size *length);
+
+/*
  * Writes a load option of one device path: what a variable Boot#### holds.
  *
  *   attributes    32 bits; those above are ignored
@@ -734,6 +757,8 @@ static inline nard_byte *nard_given_byte_room(nard_byte *buffer)
     (call)(nard_given_byte_room(a), __VA_ARGS__)
 #define NARD_GIVEN_CNB(call, a, b, c, ...) \
     (call)(nard_given_byte_room(a), b, nard_given_bytes(c), __VA_ARGS__)
+#define NARD_GIVEN_CNBNC(call, a, b, c, d, e, ...) \
+    (call)(nard_given_byte_room(a), b, nard_given_bytes(c), d, nard_given_byte_room(e), __VA_ARGS__)
 #define NARD_GIVEN_CNNNB(call, a, b, c, d, e, ...) \
     (call)(nard_given_byte_room(a), b, c, d, nard_given_bytes(e), __VA_ARGS__)
 #define NARD_GIVEN_NNV(call, a, b, c, ...) \
@@ -802,6 +827,7 @@ static inline nard_byte *nard_given_byte_room(nard_byte *buffer)
 #define nard_device_path_push(...) NARD_AS_IS(NARD_GIVEN_CNNNB(nard_device_path_push, __VA_ARGS__))
 #define nard_device_path_append(...) NARD_AS_IS(NARD_GIVEN_CNB(nard_device_path_append, __VA_ARGS__))
 #define nard_device_path_push_text(...) NARD_AS_IS(NARD_GIVEN_CNB(nard_device_path_push_text, __VA_ARGS__))
+#define nard_device_path_push_lenient_text(...) NARD_AS_IS(NARD_GIVEN_CNBNC(nard_device_path_push_lenient_text, __VA_ARGS__))
 #define nard_load_option_write(...) NARD_AS_IS(NARD_GIVEN_NUNBNBNC(nard_load_option_write, __VA_ARGS__))
 #define nard_device_path_strip_prefix(...) NARD_AS_IS(NARD_GIVEN_BNB(nard_device_path_strip_prefix, __VA_ARGS__))
 #define nard_device_path_is_expansion(...) NARD_AS_IS(NARD_GIVEN_BNB(nard_device_path_is_expansion, __VA_ARGS__))

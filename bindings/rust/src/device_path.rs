@@ -282,6 +282,45 @@ impl<'a> DevicePathBuilder<'a> {
         Ok(())
     }
 
+    /// Adds the nodes of a text as people write it, such as `pciroot(0)/pci(31,2)/File(a)`, before the end: names and digits in
+    /// either case, numbers in decimal or after `0x`, numbers left out at the end of a call, and a file's name in `File(..)` or
+    /// without its first backslash. A comma ends an instance.
+    ///
+    /// `scratch` takes copies and then holds anything. Fails with [`Reason::ScratchTooSmall`](crate::Reason) if it is not longer
+    /// than the text, with [`Reason::NoNode`](crate::Reason) at the byte where the first node begins that can't be read, or if the
+    /// buffer is too small. Then the path is unchanged.
+    ///
+    /// ```
+    /// # use nardcorbel::{DevicePathBuilder, Reason};
+    /// let (mut one, mut two, mut scratch) = ([0; 32], [0; 32], [0; 32]);
+    /// let mut path = DevicePathBuilder::with_buf(&mut one)?;
+    /// path.push_lenient_text("pci(31, 2)/File(a)", &mut scratch)?;
+    /// assert_eq!(path.push_lenient_text("pci(x)", &mut scratch).unwrap_err().reason, Reason::NoNode);
+    /// assert_eq!(path.push_lenient_text("pci(1)", &mut []).unwrap_err().reason, Reason::ScratchTooSmall);
+    /// let mut same = DevicePathBuilder::with_buf(&mut two)?;
+    /// same.push_text(r"Pci(0x1F,0x2)/\a")?;
+    /// assert_eq!(path.finalize(), same.finalize());
+    /// # Ok::<(), nardcorbel::Error>(())
+    /// ```
+    pub fn push_lenient_text(&mut self, text: &str, scratch: &mut [u8]) -> Result<(), Error> {
+        let mut length = 0;
+        // SAFETY: the pointers and the counts are those of slices, the first and the third not shared; `length` is a local.
+        let reason = unsafe {
+            sys::nard_device_path_push_lenient_text(
+                self.buffer.as_mut_ptr(),
+                self.buffer.len(),
+                text.as_ptr(),
+                text.len(),
+                scratch.as_mut_ptr(),
+                scratch.len(),
+                &mut length,
+            )
+        };
+        check_bytes(reason, length)?;
+        self.length = length;
+        Ok(())
+    }
+
     /// Returns the path, borrowed from the buffer.
     ///
     /// ```

@@ -79,12 +79,13 @@ reasons! {
     EndOfOrder = END_OF_ORDER, "the order ends here";
     NoNode = NO_NODE, "no node";
     NoField = NO_FIELD, "no such field";
+    ScratchTooSmall = SCRATCH_TOO_SMALL, "scratch too small";
 }
 
 impl fmt::Display for Error {
     fn fmt(&self, f: &mut fmt::Formatter<'_>) -> fmt::Result {
         match self.reason {
-            Reason::BufferTooSmall => {
+            Reason::BufferTooSmall | Reason::ScratchTooSmall => {
                 write!(f, "{}: it needs room for {}", self.reason, self.place)
             }
             Reason::PathEmpty

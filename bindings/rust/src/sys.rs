@@ -34,6 +34,7 @@ pub const NOT_A_NAME: u32 = 29;
 pub const END_OF_ORDER: u32 = 30;
 pub const NO_NODE: u32 = 31;
 pub const NO_FIELD: u32 = 32;
+pub const SCRATCH_TOO_SMALL: u32 = 33;
 pub const BOOT: u8 = 0;
 pub const DRIVER: u8 = 1;
 pub const SYS_PREP: u8 = 2;
@@ -341,6 +342,15 @@ extern "C" {
         room: usize,
         bytes: *const u8,
         byte_count: usize,
+        length: *mut usize,
+    ) -> u32;
+    pub fn nard_device_path_push_lenient_text(
+        buffer: *mut u8,
+        room: usize,
+        bytes: *const u8,
+        byte_count: usize,
+        scratch: *mut u8,
+        scratch_room: usize,
         length: *mut usize,
     ) -> u32;
     pub fn nard_load_option_write(

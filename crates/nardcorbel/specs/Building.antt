@@ -9,7 +9,7 @@ use Rattle.uefi_device_path.specs.declared.errors.OptionBuildError.TheVariants a
 use Rattle.uefi_device_path.specs.declared.errors.PushTextError.{PushTextError}
 use Rattle.uefi_device_path.specs.declared.errors.PushTextError.TheVariants as text
 use Rattle.nardcorbel.specs.Reasons.{node_reason}
-use Rattle.nardcorbel.specs.declared.reasons.TheConstants.{OK, INTERIOR_NUL, BUFFER_TOO_SMALL, EMPTY_LIST, NODE_OF_END, NODE_TOO_LONG, LIST_TOO_LONG, NO_NODE}
+use Rattle.nardcorbel.specs.declared.reasons.TheConstants.{OK, INTERIOR_NUL, BUFFER_TOO_SMALL, EMPTY_LIST, NODE_OF_END, NODE_TOO_LONG, LIST_TOO_LONG, NO_NODE, SCRATCH_TOO_SMALL}
 
 -- the reason why nodes are not added; memory is never the reason
 abbrev pub build_reason : Option BuildError → ℕ
@@ -23,6 +23,7 @@ build_reason (Some build.OutOfMemory) = BUFFER_TOO_SMALL
 abbrev pub text_reason : Option PushTextError → ℕ
 text_reason None = OK
 text_reason (Some (text.Path error)) = node_reason error.cause
+text_reason (Some (text.ScratchTooSmall needed)) = SCRATCH_TOO_SMALL
 text_reason (Some (text.NoNode place)) = NO_NODE
 text_reason (Some (text.BufferTooSmall needed)) = BUFFER_TOO_SMALL
 
@@ -57,6 +58,7 @@ build_place (Some build.OutOfMemory) len place = place
 abbrev pub text_place : Option PushTextError → ℕ → ℕ
 text_place None len = len
 text_place (Some (text.Path error)) len = error.offset
+text_place (Some (text.ScratchTooSmall needed)) len = needed
 text_place (Some (text.NoNode place)) len = place
 text_place (Some (text.BufferTooSmall needed)) len = needed
 

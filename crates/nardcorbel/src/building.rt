@@ -9,6 +9,7 @@ ghost use Rattle.uefi_text.specs.Units.{BeginsWithString};
 ghost use Rattle.uefi_device_nodes.specs.Nodes.{Node, end_entire, node_bytes, node_with};
 ghost use Rattle.uefi_device_path.specs.Building.{append_refusal, push_refusal, text_refusal, grow_refusal};
 ghost use Rattle.uefi_device_path.specs.Faults.{RefusedFor};
+ghost use Rattle.uefi_device_path.specs.LenientReading.{IsReadAs, IsReadable, ReadingStopsAt};
 ghost use Rattle.uefi_device_path.specs.LoadOptions.{entry_bytes};
 ghost use Rattle.uefi_device_path.specs.Matching.{IsExpansion};
 ghost use Rattle.uefi_device_path.specs.OptionBuilding.{option_over, write_fault};
@@ -24,13 +25,14 @@ ghost use Rattle.nardcorbel.specs.Strings.{text_in, until_nul_place};
 use crate::device_paths::nard_device_path_check;
 use crate::reasons::{
     BUFFER_TOO_SMALL, EMPTY_LIST, INTERIOR_NUL, LIST_TOO_LONG, NO_NODE, NODE_OF_END, NODE_TOO_LONG,
-    NOT_UTF8, OK, node_reason, until_nul_reason,
+    NOT_UTF8, OK, SCRATCH_TOO_SMALL, node_reason, until_nul_reason,
 };
 use crate::strings::until_nul_place;
 use uefi_device_path::build::RawNode;
 use uefi_device_path::{
     BuildError, DevicePath, DeviceSubType, DeviceType, GrowError, LoadOptionBuilder,
-    OptionBuildError, PushTextError, append_in_buf, laws, push_in_buf, push_text_in_buf,
+    OptionBuildError, PushTextError, append_in_buf, laws, push_in_buf, push_lenient_text_in_buf,
+    push_text_in_buf,
 };
 use uefi_text::CStr16;
 
@@ -185,6 +187,7 @@ fn text_reason(error: PushTextError) -> (u32, usize)
 {
     match error {
         PushTextError::Path(error) => (node_reason(error.cause), error.offset),
+        PushTextError::ScratchTooSmall(needed) => (SCRATCH_TOO_SMALL, needed),
         PushTextError::NoNode(place) => (NO_NODE, place),
         PushTextError::BufferTooSmall(needed) => (BUFFER_TOO_SMALL, needed),
     }
@@ -241,6 +244,74 @@ pub extern "C" fn nard_device_path_push_text(
         }
     };
     match push_text_in_buf(buffer, text) {
+        Ok(len) => {
+            *place = len;
+            OK
+        }
+        Err(error) => {
+            let (reason, at) = text_reason(error);
+            *place = at;
+            reason
+        }
+    }
+}
+
+/// Adds the nodes of a text in UTF-8, as people write it, to the device path that a buffer begins with, before
+/// its end, as [`push_lenient_text_in_buf`] does.
+///
+/// A buffer that begins with no device path is refused as by [`nard_device_path_check`], with its
+/// `place`; then bytes that are not UTF-8 as `NOT_UTF8`, and `place` becomes how many bytes before
+/// the fault are; then a `scratch` that is not longer than these bytes as `SCRATCH_TOO_SMALL`, and `place`
+/// becomes how many bytes it needs; then a text that is not read as a path as `NO_NODE`, and `place` becomes
+/// the byte where the first node begins that can't be read; and then a buffer that is too small as
+/// `BUFFER_TOO_SMALL`. Else `place` becomes how many bytes the path then has, or needs, and the
+/// greatest `usize` where these are more. Refused, the buffer stays unchanged; what stands after the
+/// path stays; `scratch` then holds anything. Takes no memory (UEFI Specification 2.10, section 10.6.1).
+#[unsafe(no_mangle)]
+pub extern "C" fn nard_device_path_push_lenient_text(
+    buffer: &mut [u8],
+    bytes: &[u8],
+    scratch: &mut [u8],
+    place: &mut usize,
+) -> u32
+    ensures no_path { (error : DevicePathError) → RefusedFor buffer.old error
+        → (result ≡ node_reason error.cause) × (place.new ≡ error.offset) }
+    ensures not_utf8 { (nodes : List Node) → BeginWithPath buffer.old nodes → ¬ IsUtf8 bytes.now
+        → (result ≡ NOT_UTF8) × (place.new ≡ utf8_valid_len bytes.now) }
+    ensures no_scratch { (nodes : List Node) → BeginWithPath buffer.old nodes → IsUtf8 bytes.now
+        → length scratch.old ≤ length bytes.now
+        → (result ≡ SCRATCH_TOO_SMALL) × (place.new ≡ length bytes.now + 1) }
+    ensures no_node { (nodes : List Node) → BeginWithPath buffer.old nodes → IsUtf8 bytes.now
+        → length bytes.now < length scratch.old
+        → (at : ℕ) → ReadingStopsAt bytes.now at → (result ≡ NO_NODE) × (place.new ≡ at) }
+    ensures reason { (nodes read : List Node) → BeginWithPath buffer.old nodes → IsUtf8 bytes.now
+        → length bytes.now < length scratch.old → IsReadAs bytes.now read
+        → result ≡ text_reason (text_refusal nodes read (length buffer.old)) }
+    ensures place { (nodes read : List Node) → BeginWithPath buffer.old nodes → IsUtf8 bytes.now
+        → length bytes.now < length scratch.old → IsReadAs bytes.now read
+        → place.new ≡ text_place (text_refusal nodes read (length buffer.old))
+        (length (path_bytes (nodes ++ read))) }
+    ensures buffer { (nodes read : List Node) → BeginWithPath buffer.old nodes → IsReadAs bytes.now read
+        → result ≡ OK → buffer.new ≡ with_prefix (path_bytes (nodes ++ read)) buffer.old }
+    ensures stops { result ≡ NO_NODE → ReadingStopsAt bytes.now place.new }
+    ensures read { result ≡ OK → IsReadable bytes.now }
+    ensures small { result ≡ BUFFER_TOO_SMALL → IsReadable bytes.now }
+    ensures unchanged { result ≢ OK → buffer.new ≡ buffer.old }
+{
+    // The law does nothing: it says that no path is refused.
+    laws::accepted_paths();
+    let reason = nard_device_path_check(buffer, place);
+    if reason != OK {
+        return reason;
+    }
+    let text = match str::from_utf8(bytes) {
+        Ok(text) => text,
+        Err(error) => {
+            *place = error.valid_up_to();
+            return NOT_UTF8;
+        }
+    };
+    match push_lenient_text_in_buf(buffer, text, scratch) {
         Ok(len) => {
             *place = len;
             OK

@@ -107,6 +107,9 @@ pub const NO_NODE: u32 = 31;
 /// The data of a node have no number of this width at this place.
 pub const NO_FIELD: u32 = 32;
 
+/// The second buffer is not longer than the text.
+pub const SCRATCH_TOO_SMALL: u32 = 33;
+
 /// The order of two strings of which one is none: the least number of its type, so that no test for
 /// "greater" holds.
 pub const NO_ORDER: i32 = i32::MIN;

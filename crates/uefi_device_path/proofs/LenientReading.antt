@@ -1,201 +1,364 @@
--- A path is read from a text as people write it: nodes that are told, in the order of the text, and those that are
--- printed where it is the text of such nodes.
-use Rattle.std.proofs.Common.{◌≡◌, ℕ, ◌<◌, ◌≤◌, ◌-◌, Bool, true, false, cond, List, [], ◌∷◌, ◌++◌, length, drop, inl, inr, refl, ap, sym, subst, ◌∙◌, append_assoc, arith, true≢false}
-use Rattle.std.specs.Prelude.{Some, None}
-use Rattle.std.proofs.lemmas.List.{append-nil, length-append}
+-- A text is read as people write it in one way: as nodes that are told, or up to one place.
+use Rattle.std.proofs.Common.{◌≡◌, ℕ, ◌+◌, ◌-◌, ◌^◌, ◌<◌, ◌≤◌, min, Bool, true, false, cond, List, [], ◌∷◌, ◌++◌, codes, ◌⊎◌, length, drop, inl, inr, refl, ap, sym, subst, ◌∙◌, append_assoc, arith, true≢false}
+use Rattle.std.specs.Prelude.{IfOk, IfErr, Option, Some, None, Result, Ok, Err, ◌==◌, ◌||◌}
+use Rattle.std.proofs.lemmas.List.{append-nil, append_cancel_left, length-append, length-drop}
 use Rattle.std.proofs.lemmas.List.Elements.{All-head, All-nil, All-push, All-tail}
-use Rattle.uefi_device_nodes.specs.Nodes.{Node}
-use Rattle.uefi_device_path.specs.LenientReading.{ReadingStops, ReadsTo}
+use Rattle.uefi_device_nodes.specs.Nodes.{Node, end_entire, node_bytes, node_length}
+use Rattle.uefi_device_path.specs.Laws.{LenientOnce, LenientPrinted, LenientStopsOnce, LenientTold, ReadNeverStops}
+use Rattle.uefi_device_path.specs.LenientReading.{IsLenientError, IsReadable, IsReadAs, ReadingStops, ReadingStopsAt, ReadsTo}
 use Rattle.uefi_device_path.specs.LenientReading.ReadsTo.{Begins, Comma, OneMore}
 use Rattle.uefi_device_path.specs.PathReading.{AreTold, end_instance, is_after_instance}
+use Rattle.uefi_device_path.specs.Paths.{path_bytes}
 use Rattle.uefi_device_path.specs.PathTexts.{path_text}
+use Rattle.uefi_device_path.specs.declared.path_reader.PathTextError.{PathTextError}
+use Rattle.uefi_device_path.specs.declared.path_reader.PathTextError.TheVariants.{NoNode, OutOfMemory}
 use Rattle.uefi_device_path.proofs.PathReading.{IsToldOrEnd, path_text_is, place_fits, place_is, printed, rest_text, separator}
-use Rattle.uefi_device_path.proofs.TextStops.{comma_is_no_node, told_first, whole_after}
-use Rattle.uefi_node_reader.specs.Laws.{NodeAgain, NodeFits, NodeStarts}
-use Rattle.uefi_node_reader.specs.LenientNodes.{IsRestOf, LenientAgain, LenientEnds, LenientTakes, lenient_read}
-use Rattle.uefi_node_reader.specs.NamedFiles.{is_after_node}
+use Rattle.uefi_device_path.proofs.TextLengths.{bytes_more}
+use Rattle.uefi_device_path.proofs.TextStops.{end_first, nothing_is_no_byte, told_first, whole_after}
+use Rattle.uefi_node_reader.specs.Laws.{NodeAgain, NodeFits}
+use Rattle.uefi_node_reader.specs.LenientNodes.{LenientAgain, LenientEnds, LenientStarts, LenientTakes, lenient_read}
+use Rattle.uefi_node_reader.specs.NamedFiles.{ends_name, is_after_node, IsTold}
+use Rattle.uefi_node_reader.specs.TableReading.{first_of}
 
--- nodes whose text this is have those that were read before the others, and the rest is the text of the others
-abbrev pub Passes : List ℕ → List Node → Bool → List ℕ → Type 0
-Passes text nodes at_start rest = (all : List Node) → AreTold all → rest_text true all ≡ text
-    → (others : List Node) × (AreTold others × ((all ≡ nodes ++ others) × (rest ≡ rest_text at_start others)))
+-- where a node has to begin, one may not stand that ends an instance
+abbrev Starts : Bool → List ℕ → Type 0
+Starts s place = s ≡ true → is_after_instance place ≡ false
 
--- how far a text was read
-pub record Going (text : List ℕ) (nodes : List Node) (at_start : Bool) (rest : List ℕ) : Type 0 where
-  pub told : AreTold nodes
-  pub reads : ReadsTo text nodes at_start rest
-  pub passes : Passes text nodes at_start rest
-  pub ends : at_start ≡ false → is_after_node rest ≡ true
+-- the nodes that are read of what is left of a text, and the place after them where none is read, if there is
+-- one
+abbrev pub Rests : Bool → List ℕ → List Node → Option (List ℕ) → Type 0
+Rests s rest [] None = rest ≡ []
+Rests s rest [] (Some place) = (rest ≡ separator s ++ place) × (Starts s place × (lenient_read place ≡ None))
+Rests s rest (n ∷ ns) tail =
+    ((after : List ℕ) × ((rest ≡ 44 ∷ after) × ((n ≡ end_instance) × Rests true after ns tail)))
+    ⊎ ((place : List ℕ) × ((after : List ℕ) × ((rest ≡ separator s ++ place)
+    × ((lenient_read place ≡ Some (n, after)) × Rests false after ns tail))))
 
-pub going_first : (text : List ℕ) → Going text [] true text
-going_first text = record {
-  told = All-nil IsToldOrEnd;
-  reads = Begins;
-  passes = λ all told e. (all, (told, (refl, sym e)));
-  ends = λ e. absurd (true≢false e);
-}
+-- the two are not the same
+no_comma : (s : Bool) (place after : List ℕ) → Starts s place → separator s ++ place ≡ 44 ∷ after → ⊥
+no_comma true place after other e = true≢false (sym (ap is_after_instance e) ∙ other refl)
+no_comma false place after other e = absurd (omega (arith, ap first_of e))
 
--- bytes that begin with a comma
-comma_first : (rest : List ℕ) → is_after_instance rest ≡ false → (after : List ℕ) → rest ≡ 44 ∷ after → ⊥
-comma_first rest other after e = true≢false (sym (ap is_after_instance e) ∙ other)
+no_nothing : (s : Bool) (place : List ℕ) → Starts s place → [] ≡ separator s ++ place → ⊥
+no_nothing true place other e = true≢false (ap is_after_instance e ∙ other refl)
+no_nothing false place other e = nothing_is_no_byte 47 place e
 
--- over a comma
-pub over_comma : NodeFits → NodeStarts → (text : List ℕ) (nodes new : List Node) (at_start : Bool) (rest after : List ℕ)
-    → Going text nodes at_start rest → rest ≡ 44 ∷ after → new ≡ nodes ++ end_instance ∷ []
-    → Going text new true after × (length after < length rest)
-over_comma fits starts text nodes new at_start rest after on is more = (
-  subst (λ (x : List Node). Going text x true after) (sym more) going,
-  omega (arith, ap length is),
-)
+-- what is read begins with no comma, and is not empty
+begins : LenientStarts → (s : Bool) (place : List ℕ) (node : Node) (after : List ℕ)
+    → lenient_read place ≡ Some (node, after) → Starts s place
+begins starts s place node after read _ = by place (starts place node after read)
   where
-    passes : Passes text (nodes ++ end_instance ∷ []) true after
-    passes all told e = let p = on.passes all told e in by p.0 p.1.0 p.1.1.0 (sym is ∙ p.1.1.1)
+    by : (text : List ℕ) → is_after_node text ≡ false → is_after_instance text ≡ false
+    by [] e = e
+    by (c ∷ cs) e = or (c == 47) (c == 44) e
       where
-        by : (others : List Node) → AreTold others → all ≡ nodes ++ others → 44 ∷ after ≡ rest_text at_start others
-            → (left : List Node) × (AreTold left × ((all ≡ (nodes ++ end_instance ∷ []) ++ left) × (after ≡ rest_text true left)))
-        by [] t a r = cc
-        by (n ∷ ns) t a r = one (All-head IsToldOrEnd n ns t)
-          where
-            one : IsToldOrEnd n → (left : List Node) × (AreTold left × ((all ≡ (nodes ++ end_instance ∷ []) ++ left) × (after ≡ rest_text true left)))
-            one (inl told) = absurd (comma_is_no_node starts at_start n (rest_text false ns) after told (r ∙ told_first fits at_start n ns None told))
-            one (inr same) = (
-              ns,
-              (
-                All-tail IsToldOrEnd n ns t,
-                (
-                  a ∙ ap (λ (x : Node). nodes ++ x ∷ ns) same ∙ sym (append_assoc nodes (end_instance ∷ []) ns),
-                  ap (drop 1) (r ∙ ap (λ (x : Node). rest_text at_start (x ∷ ns)) same),
-                ),
-              ),
-            )
+        or : (a b : Bool) → a || b ≡ false → b ≡ false
+        or true b e = cc
+        or false b e = e
 
-    going : Going text (nodes ++ end_instance ∷ []) true after
-    going = record {
-      told = All-push IsToldOrEnd nodes end_instance on.told (inr refl);
-      reads = Comma nodes at_start after (subst (λ (x : List ℕ). ReadsTo text nodes at_start x) is on.reads);
-      passes = passes;
-      ends = λ e. absurd (true≢false e);
-    }
+one_place : (s : Bool) (rest place other : List ℕ) → rest ≡ separator s ++ place → rest ≡ separator s ++ other → place ≡ other
+one_place s rest place other e f = append_cancel_left (separator s) place other (sym e ∙ f)
 
--- where the others begin, the first of them is read
-first_read : NodeFits → NodeAgain → LenientAgain → (nodes all : List Node) (at_start : Bool) (rest place : List ℕ)
-    → is_after_instance rest ≡ false → rest ≡ separator at_start ++ place
-    → (others : List Node) → AreTold others → rest ≡ rest_text at_start others
-    → (n : Node) × ((ns : List Node) × ((others ≡ n ∷ ns) × (AreTold ns × (lenient_read place ≡ Some (n, rest_text false ns)))))
-first_read fits again lenient nodes all at_start rest place other is [] t r = absurd (true≢false (sym (ap is_after_instance r) ∙ other))
-first_read fits again lenient nodes all at_start rest place other is (n ∷ ns) t r = one (All-head IsToldOrEnd n ns t)
+-- one read of a place
+one_read : (place other : List ℕ) (n m : Node) (after left : List ℕ) → place ≡ other
+    → lenient_read place ≡ Some (n, after) → lenient_read other ≡ Some (m, left) → (n ≡ m) × (after ≡ left)
+one_read place other n m after left e p q =
+    parts (n, after) (m, left) (sym p ∙ ap lenient_read e ∙ q)
   where
-    one : IsToldOrEnd n → (m : Node) × ((ms : List Node) × ((n ∷ ns ≡ m ∷ ms) × (AreTold ms × (lenient_read place ≡ Some (m, rest_text false ms)))))
-    one (inr same) = absurd (comma_first rest other (rest_text true ns) (r ∙ ap (λ (x : Node). rest_text at_start (x ∷ ns)) same))
-    one (inl told) =
-        let text : List ℕ = printed n ++ rest_text false ns in
-        let whole = by at_start (sym is ∙ r ∙ told_first fits at_start n ns None told) in
-        let read = lenient text n (rest_text false ns) (again n told (rest_text false ns) (whole_after ns None)) (whole_after ns None) in
-        (n, (ns, (refl, (All-tail IsToldOrEnd n ns t, ap lenient_read whole ∙ read))))
-      where
-        by : (s : Bool) → separator s ++ place ≡ separator s ++ (printed n ++ rest_text false ns) → place ≡ printed n ++ rest_text false ns
-        by true e = e
-        by false e = ap (drop 1) e
-
--- where a node has to begin
-place_whole : (at_start : Bool) (rest place : List ℕ) → is_after_instance rest ≡ false
-    → (at_start ≡ false → is_after_node rest ≡ true) → place ≡ cond at_start rest (drop 1 rest)
-    → rest ≡ separator at_start ++ place
-place_whole at_start rest place other ends is = place_is at_start rest other ends ∙ ap (λ (x : List ℕ). separator at_start ++ x) (sym is)
-
-pub place_within : (text : List ℕ) (at_start : Bool) (rest place : List ℕ) → length rest ≤ length text
-    → place ≡ cond at_start rest (drop 1 rest) → length place ≤ length text
-place_within text at_start rest place within is = omega (arith, within, place_fits at_start rest place is)
-
--- over a node
-pub over_node : NodeFits → NodeAgain → LenientTakes → LenientEnds → LenientAgain → (text : List ℕ) (nodes new : List Node) (at_start : Bool)
-    (rest place after : List ℕ) (node : Node) → Going text nodes at_start rest
-    → is_after_instance rest ≡ false → place ≡ cond at_start rest (drop 1 rest)
-    → lenient_read place ≡ Some (node, after) → new ≡ nodes ++ node ∷ []
-    → Going text new false after × (length after < length rest)
-over_node fits again takes ends lenient text nodes new at_start rest place after node on other is read more = (
-  subst (λ (x : List Node). Going text x false after) (sym more) going,
-  omega (arith, ap length whole, length-append (separator at_start) place, shorter),
-)
-  where
-    whole : rest ≡ separator at_start ++ place
-    whole = place_whole at_start rest place other on.ends is
-
-    end : IsRestOf place after
-    end = (ends place node after read).0
-
-    shorter : length after < length place
-    shorter = omega (arith, ap length end.2, length-append end.1 after)
-
-    parts : (one other : Node × List ℕ) → Some one ≡ Some other → (one.0 ≡ other.0) × (one.1 ≡ other.1)
-    parts one other e =
-        let same : one ≡ other = cc e in
+    parts : (one two : Node × List ℕ) → Some one ≡ Some two → (one.0 ≡ two.0) × (one.1 ≡ two.1)
+    parts one two h =
+        let same : one ≡ two = cc h in
         (ap (λ (x : Node × List ℕ). x.0) same, ap (λ (x : Node × List ℕ). x.1) same)
 
-    passes : Passes text (nodes ++ node ∷ []) false after
-    passes all told e =
-        let p = on.passes all told e in
-        let f = first_read fits again lenient nodes all at_start rest place other whole p.0 p.1.0 p.1.1.1 in
-        let pair : (node ≡ f.0) × (after ≡ rest_text false f.1.0) = parts (node, after) (f.0, rest_text false f.1.0) (sym read ∙ f.1.1.1.1) in
-        let one = pair.0 in
-        let left = pair.1 in (
-          f.1.0,
+never_read : (place other : List ℕ) (n : Node) (after : List ℕ) → place ≡ other → lenient_read place ≡ None
+    → lenient_read other ≡ Some (n, after) → ⊥
+never_read place other n after e p q = no (n, after) (sym p ∙ ap lenient_read e ∙ q)
+  where
+    no : (x : Node × List ℕ) → None ≡ Some x → ⊥
+    no x h = cc
+
+-- nothing is left
+nothing_rests : LenientStarts → (s : Bool) (rest : List ℕ) → rest ≡ [] → (all : List Node) (tail : Option (List ℕ))
+    → Rests s rest all tail → (all ≡ []) × (tail ≡ None)
+nothing_rests starts s rest is [] None r = (refl, refl)
+nothing_rests starts s rest is [] (Some place) r = absurd (no_nothing s place r.1.0 (sym is ∙ r.0))
+nothing_rests starts s rest is (n ∷ ns) tail (inl r) = absurd (nothing_is_no_byte 44 r.0 (sym is ∙ r.1.0))
+nothing_rests starts s rest is (n ∷ ns) tail (inr r) =
+    absurd (no_nothing s r.0 (begins starts s r.0 n r.1.0 r.1.1.1.0) (sym is ∙ r.1.1.0))
+
+-- a comma
+comma_rests : LenientStarts → (s : Bool) (rest after : List ℕ) → rest ≡ 44 ∷ after → (all : List Node) (tail : Option (List ℕ))
+    → Rests s rest all tail → (ns : List Node) × ((all ≡ end_instance ∷ ns) × Rests true after ns tail)
+comma_rests starts s rest after is [] None r = absurd (nothing_is_no_byte 44 after (sym r ∙ is))
+comma_rests starts s rest after is [] (Some place) r = absurd (no_comma s place after r.1.0 (sym r.0 ∙ is))
+comma_rests starts s rest after is (n ∷ ns) tail (inl r) =
+    let same : r.0 ≡ after = ap (drop 1) (sym r.1.0 ∙ is) in
+    (ns, ((λ i. r.1.1.0 i ∷ ns), subst (λ (x : List ℕ). Rests true x ns tail) same r.1.1.1))
+comma_rests starts s rest after is (n ∷ ns) tail (inr r) =
+    absurd (no_comma s r.0 after (begins starts s r.0 n r.1.0 r.1.1.1.0) (sym r.1.1.0 ∙ is))
+
+-- a node
+node_rests : LenientStarts → (s : Bool) (rest place : List ℕ) → rest ≡ separator s ++ place → (node : Node) (left : List ℕ)
+    → lenient_read place ≡ Some (node, left) → (all : List Node) (tail : Option (List ℕ)) → Rests s rest all tail
+    → (ns : List Node) × ((all ≡ node ∷ ns) × Rests false left ns tail)
+node_rests starts s rest place is node left read [] None r =
+    absurd (no_nothing s place (begins starts s place node left read) (sym r ∙ is))
+node_rests starts s rest place is node left read [] (Some other) r =
+    absurd (never_read other place node left (one_place s rest other place r.0 is) r.1.1 read)
+node_rests starts s rest place is node left read (n ∷ ns) tail (inl r) =
+    absurd (no_comma s place r.0 (begins starts s place node left read) (sym is ∙ r.1.0))
+node_rests starts s rest place is node left read (n ∷ ns) tail (inr r) =
+    let same = one_read r.0 place n node r.1.0 left (one_place s rest r.0 place r.1.1.0 is) r.1.1.1.0 read in
+    (ns, ((λ i. same.0 i ∷ ns), subst (λ (x : List ℕ). Rests false x ns tail) same.1 r.1.1.1.1))
+
+-- a place where no node is read
+stop_rests : LenientStarts → (s : Bool) (rest place : List ℕ) → rest ≡ separator s ++ place → Starts s place
+    → lenient_read place ≡ None → (all : List Node) (tail : Option (List ℕ)) → Rests s rest all tail
+    → (all ≡ []) × (tail ≡ Some place)
+stop_rests starts s rest place is other none [] None r = absurd (no_nothing s place other (sym r ∙ is))
+stop_rests starts s rest place is other none [] (Some end) r =
+    (refl, ap (λ (x : List ℕ). Some x) (one_place s rest end place r.0 is))
+stop_rests starts s rest place is other none (n ∷ ns) tail (inl r) = absurd (no_comma s place r.0 other (sym is ∙ r.1.0))
+stop_rests starts s rest place is other none (n ∷ ns) tail (inr r) =
+    absurd (never_read place r.0 n r.1.0 (one_place s rest place r.0 is r.1.1.0) none r.1.1.1.0)
+
+-- what is left is read in one way
+rests_once : LenientStarts → (s : Bool) (rest : List ℕ) (nodes others : List Node) (tail end : Option (List ℕ))
+    → Rests s rest nodes tail → Rests s rest others end → (nodes ≡ others) × (tail ≡ end)
+rests_once starts s rest [] others None end r q =
+    let same = nothing_rests starts s rest r others end q in (sym same.0, sym same.1)
+rests_once starts s rest [] others (Some place) end r q =
+    let same = stop_rests starts s rest place r.0 r.1.0 r.1.1 others end q in (sym same.0, sym same.1)
+rests_once starts s rest (n ∷ ns) others tail end (inl r) q =
+    let x = comma_rests starts s rest r.0 r.1.0 others end q in
+    let same = rests_once starts true r.0 ns x.0 tail end r.1.1.1 x.1.1 in
+    ((λ i. r.1.1.0 i ∷ same.0 i) ∙ sym x.1.0, same.1)
+rests_once starts s rest (n ∷ ns) others tail end (inr r) q =
+    let x = node_rests starts s rest r.0 r.1.1.0 n r.1.0 r.1.1.1.0 others end q in
+    let same = rests_once starts false r.1.0 ns x.0 tail end r.1.1.1.1 x.1.1 in
+    (ap (λ (l : List Node). n ∷ l) same.0 ∙ sym x.1.0, same.1)
+
+-- the nodes that were read, and those that are left, are all
+push_more : (nodes : List Node) (node : Node) (more : List Node) → (nodes ++ node ∷ []) ++ more ≡ nodes ++ node ∷ more
+push_more nodes node more = append_assoc nodes (node ∷ []) more
+
+rests_on : (text : List ℕ) {nodes : List Node} {s : Bool} {rest : List ℕ} → ReadsTo text nodes s rest
+    → (more : List Node) (tail : Option (List ℕ)) → Rests s rest more tail → Rests true text (nodes ++ more) tail
+rests_on text Begins more tail r = r
+rests_on text (Comma nodes s rest on) more tail r =
+    subst (λ (x : List Node). Rests true text x tail) (sym (push_more nodes end_instance more))
+    (rests_on text on (end_instance ∷ more) tail (inl (rest, (refl, (refl, r)))))
+rests_on text (OneMore nodes s node place rest on read) more tail r =
+    subst (λ (x : List Node). Rests true text x tail) (sym (push_more nodes node more))
+    (rests_on text on (node ∷ more) tail (inr (place, (rest, (refl, (read, r))))))
+
+pub reads_rest : (text : List ℕ) (nodes : List Node) → IsReadAs text nodes → Rests true text nodes None
+reads_rest text nodes (s, on) =
+    subst (λ (x : List Node). Rests true text x None) (append-nil nodes) (rests_on text on [] None refl)
+
+stops_rest : (text : List ℕ) (place : ℕ) (nodes : List Node) (s : Bool) (rest : List ℕ) → ReadingStops text place nodes s rest
+    → Rests true text nodes (Some rest)
+stops_rest text place nodes s rest stop =
+    subst (λ (x : List Node). Rests true text x (Some rest)) (append-nil nodes)
+    (rests_on text stop.reads [] (Some rest) (refl, (stop.not_empty, stop.none)))
+
+-- and back
+rests_read : (text : List ℕ) (more done : List Node) (s : Bool) (rest : List ℕ) → ReadsTo text done s rest
+    → Rests s rest more None → IsReadAs text (done ++ more)
+rests_read text [] done s rest on r = (
+  s,
+  subst (λ (x : List ℕ). ReadsTo text (done ++ []) s x) r
+      (subst (λ (x : List Node). ReadsTo text x s rest) (sym (append-nil done)) on),
+)
+rests_read text (n ∷ ns) done s rest on (inl r) =
+    let next = Comma done s r.0 (subst (λ (x : List ℕ). ReadsTo text done s x) r.1.0 on) in
+    let all = rests_read text ns (done ++ end_instance ∷ []) true r.0 next r.1.1.1 in
+    subst (λ (x : List Node). IsReadAs text x)
+    (push_more done end_instance ns ∙ ap (λ (x : Node). done ++ x ∷ ns) (sym r.1.1.0)) all
+rests_read text (n ∷ ns) done s rest on (inr r) =
+    let next = OneMore done s n r.0 r.1.0 (subst (λ (x : List ℕ). ReadsTo text done s x) r.1.1.0 on) r.1.1.1.0 in
+    subst (λ (x : List Node). IsReadAs text x) (push_more done n ns)
+    (rests_read text ns (done ++ n ∷ []) false r.1.0 next r.1.1.1.1)
+
+-- the nodes that were read are the first of all
+pub first_of_all : LenientStarts → (text : List ℕ) (all : List Node) → Rests true text all None
+    → {done : List Node} {s : Bool} {rest : List ℕ} → ReadsTo text done s rest
+    → (others : List Node) × ((all ≡ done ++ others) × Rests s rest others None)
+first_of_all starts text all r Begins = (all, (refl, r))
+first_of_all starts text all r (Comma nodes s rest on) =
+    let x = first_of_all starts text all r on in
+    let y = comma_rests starts s (44 ∷ rest) rest refl x.0 None x.1.1 in
+    (y.0, (x.1.0 ∙ ap (λ (l : List Node). nodes ++ l) y.1.0 ∙ sym (push_more nodes end_instance y.0), y.1.1))
+first_of_all starts text all r (OneMore nodes s node place rest on read) =
+    let x = first_of_all starts text all r on in
+    let y = node_rests starts s (separator s ++ place) place refl node rest read x.0 None x.1.1 in
+    (y.0, (x.1.0 ∙ ap (λ (l : List Node). nodes ++ l) y.1.0 ∙ sym (push_more nodes node y.0), y.1.1))
+
+-- the laws
+pub lenient_once : LenientStarts → LenientOnce
+lenient_once starts text nodes others one two =
+    (rests_once starts true text nodes others None None (reads_rest text nodes one) (reads_rest text others two)).0
+
+pub lenient_stops_once : LenientStarts → LenientStopsOnce
+lenient_stops_once starts text place other (nodes, s, rest, one) (others, t, left, two) =
+    let same = (rests_once starts true text nodes others (Some rest) (Some left)
+    (stops_rest text place nodes s rest one) (stops_rest text other others t left two)).1 in
+    one.offset ∙ ap (λ (x : List ℕ). length text - length x) (some_same same) ∙ sym two.offset
+  where
+    some_same : {a b : List ℕ} → Some a ≡ Some b → a ≡ b
+    some_same e = cc
+
+pub read_never_stops : LenientStarts → ReadNeverStops
+read_never_stops starts text nodes place one (others, s, rest, two) =
+    no (rests_once starts true text nodes others None (Some rest) (reads_rest text nodes one) (stops_rest text place others s rest two)).1
+  where
+    no : None ≡ Some rest → ⊥
+    no e = cc
+
+told_on : LenientTakes → (text : List ℕ) {nodes : List Node} {s : Bool} {rest : List ℕ} → ReadsTo text nodes s rest → AreTold nodes
+told_on takes text Begins = All-nil IsToldOrEnd
+told_on takes text (Comma nodes s rest on) = All-push IsToldOrEnd nodes end_instance (told_on takes text on) (inr refl)
+told_on takes text (OneMore nodes s node place rest on read) =
+    All-push IsToldOrEnd nodes node (told_on takes text on) (inl (takes place node rest read))
+
+pub lenient_told : LenientTakes → LenientTold
+lenient_told takes text nodes (s, on) = told_on takes text on
+
+printed_rests : NodeFits → NodeAgain → LenientAgain → (s : Bool) (nodes : List Node) → AreTold nodes
+    → Rests s (rest_text s nodes) nodes None
+printed_rests fits again lenient s [] told = refl
+printed_rests fits again lenient s (n ∷ ns) told =
+    one (All-head IsToldOrEnd n ns told) (printed_rests fits again lenient true ns (All-tail IsToldOrEnd n ns told))
+    (printed_rests fits again lenient false ns (All-tail IsToldOrEnd n ns told))
+  where
+    one : IsToldOrEnd n → Rests true (rest_text true ns) ns None → Rests false (rest_text false ns) ns None
+        → Rests s (rest_text s (n ∷ ns)) (n ∷ ns) None
+    one (inl told) r q =
+        let after = rest_text false ns in
+        inr (
+          printed n ++ after,
           (
-            f.1.1.1.0,
+            after,
             (
-              p.1.1.0 ∙ ap (λ (x : List Node). nodes ++ x) (f.1.1.0 ∙ ap (λ (x : Node). x ∷ f.1.0) (sym one)) ∙ sym (append_assoc nodes (node ∷ []) f.1.0),
-              left,
+              told_first fits s n ns None told,
+              (lenient (printed n ++ after) n after (again n told after (whole_after ns None)) (whole_after ns None), q),
             ),
           ),
         )
+    one (inr same) r q = inl (rest_text true ns, (end_first s n ns None same, (same, r)))
 
-    going : Going text (nodes ++ node ∷ []) false after
-    going = record {
-      told = All-push IsToldOrEnd nodes node on.told (inl (takes place node after read));
-      reads = OneMore nodes at_start node place after (subst (λ (x : List ℕ). ReadsTo text nodes at_start x) whole on.reads) read;
-      passes = passes;
-      ends = λ e. (ends place node after read).1;
-    }
+pub lenient_printed : NodeFits → NodeAgain → LenientAgain → LenientPrinted
+lenient_printed fits again lenient text nodes told is =
+    subst (λ (x : List ℕ). IsReadAs x nodes) (sym (path_text_is nodes) ∙ is)
+    (rests_read (rest_text true nodes) nodes [] true (rest_text true nodes) Begins (printed_rests fits again lenient true nodes told))
 
--- at the end
-pub read_all : NodeFits → NodeStarts → (text : List ℕ) (nodes : List Node) (at_start : Bool) (rest : List ℕ) → Going text nodes at_start rest
-    → length rest ≡ 0 → (all : List Node) → AreTold all → path_text false false all ≡ text → nodes ≡ all
-read_all fits starts text nodes at_start (c ∷ cs) on none all told e = absurd (omega arith)
-read_all fits starts text nodes at_start [] on none all told e =
-    let p = on.passes all told (sym (path_text_is all) ∙ e) in by p.0 p.1.0 p.1.1.0 p.1.1.1
-  where
-    by : (others : List Node) → AreTold others → all ≡ nodes ++ others → [] ≡ rest_text at_start others → nodes ≡ all
-    by [] t a r = sym (a ∙ append-nil nodes)
-    by (n ∷ ns) t a r = one (All-head IsToldOrEnd n ns t)
-      where
-        one : IsToldOrEnd n → nodes ≡ all
-        one (inl told) = absurd (empty at_start (r ∙ told_first fits at_start n ns None told))
-          where
-            empty : (s : Bool) → [] ≡ separator s ++ (printed n ++ rest_text false ns) → ⊥
-            empty true e = true≢false (ap is_after_node e ∙ starts n told (rest_text false ns))
-            empty false e = absurd (omega (arith, ap length e))
-        one (inr same) = absurd (cc (r ∙ ap (λ (x : Node). rest_text at_start (x ∷ ns)) same))
+-- what stands after a node that was read
+reads_end : LenientEnds → (text : List ℕ) {nodes : List Node} {s : Bool} {rest : List ℕ} → ReadsTo text nodes s rest
+    → s ≡ false → is_after_node rest ≡ true
+reads_end ends text Begins e = absurd (true≢false e)
+reads_end ends text (Comma nodes s rest on) e = absurd (true≢false e)
+reads_end ends text (OneMore nodes s node place rest on read) e = (ends place node rest read).1
 
-pub reads_all : (text : List ℕ) (nodes : List Node) (at_start : Bool) (rest : List ℕ) → Going text nodes at_start rest
-    → length rest ≡ 0 → ReadsTo text nodes at_start []
-reads_all text nodes at_start (c ∷ cs) on none = absurd (omega arith)
-reads_all text nodes at_start [] on none = on.reads
+-- it lies within the text
+reads_within : LenientEnds → (text : List ℕ) {nodes : List Node} {s : Bool} {rest : List ℕ} → ReadsTo text nodes s rest
+    → length rest ≤ length text
+reads_within ends text Begins = omega arith
+reads_within ends text (Comma nodes s rest on) = let l = reads_within ends text on in omega (arith, l)
+reads_within ends text (OneMore nodes s node place rest on read) =
+    let l = reads_within ends text on in
+    let end = (ends place node rest read).0 in
+    omega (arith, l, length-append (separator s) place, ap length end.2, length-append end.1 rest)
+
+-- where a node has to begin
+place_whole : LenientEnds → (text : List ℕ) (nodes : List Node) (s : Bool) (rest place : List ℕ) → ReadsTo text nodes s rest
+    → is_after_instance rest ≡ false → place ≡ cond s rest (drop 1 rest) → rest ≡ separator s ++ place
+place_whole ends text nodes s rest place on other is =
+    place_is s rest other (reads_end ends text on) ∙ ap (λ (x : List ℕ). separator s ++ x) (sym is)
+
+pub place_within : LenientEnds → (text : List ℕ) (nodes : List Node) (s : Bool) (rest place : List ℕ) → ReadsTo text nodes s rest
+    → place ≡ cond s rest (drop 1 rest) → length place ≤ length text
+place_within ends text nodes s rest place on is = omega (arith, reads_within ends text on, place_fits s rest place is)
+
+-- over a comma, and over a node
+pub over_comma : (text : List ℕ) (nodes : List Node) (s : Bool) (rest after : List ℕ) → ReadsTo text nodes s rest
+    → rest ≡ 44 ∷ after → ReadsTo text (nodes ++ end_instance ∷ []) true after × (length after < length rest)
+over_comma text nodes s rest after on is =
+    (Comma nodes s after (subst (λ (x : List ℕ). ReadsTo text nodes s x) is on), omega (arith, ap length is))
+
+pub over_node : LenientEnds → (text : List ℕ) (nodes : List Node) (s : Bool) (rest place after : List ℕ) (node : Node)
+    → ReadsTo text nodes s rest → is_after_instance rest ≡ false → place ≡ cond s rest (drop 1 rest)
+    → lenient_read place ≡ Some (node, after)
+    → ReadsTo text (nodes ++ node ∷ []) false after × (length after < length rest)
+over_node ends text nodes s rest place after node on other is read =
+    let whole = place_whole ends text nodes s rest place on other is in
+    let end = (ends place node after read).0 in (
+      OneMore nodes s node place after (subst (λ (x : List ℕ). ReadsTo text nodes s x) whole on) read,
+      omega (arith, ap length whole, length-append (separator s) place, ap length end.2, length-append end.1 after),
+    )
 
 -- where no node is read
-pub stopped : (text : List ℕ) (nodes : List Node) (at_start : Bool) (rest place : List ℕ) → Going text nodes at_start rest
-    → is_after_instance rest ≡ false → place ≡ cond at_start rest (drop 1 rest) → lenient_read place ≡ None
-    → ReadingStops text (length text - length place) nodes at_start place
-stopped text nodes at_start rest place on other is none = record {
-  reads = subst (λ (x : List ℕ). ReadsTo text nodes at_start x) (place_whole at_start rest place other on.ends is) on.reads;
-  not_empty = λ e. ap is_after_instance (is ∙ ap (λ (t : Bool). cond t rest (drop 1 rest)) e) ∙ other;
-  none = none;
-  offset = refl;
-}
+pub stopped : LenientEnds → (text : List ℕ) (nodes : List Node) (s : Bool) (rest place : List ℕ) → ReadsTo text nodes s rest
+    → is_after_instance rest ≡ false → place ≡ cond s rest (drop 1 rest) → lenient_read place ≡ None
+    → ReadingStopsAt text (length text - length place)
+stopped ends text nodes s rest place on other is none = (
+  nodes,
+  s,
+  place,
+  record {
+    reads = subst (λ (x : List ℕ). ReadsTo text nodes s x) (place_whole ends text nodes s rest place on other is) on;
+    not_empty = λ e. ap is_after_instance (is ∙ ap (λ (t : Bool). cond t rest (drop 1 rest)) e) ∙ other;
+    none = none;
+    offset = refl;
+  },
+)
 
-pub never_printed : NodeFits → NodeAgain → LenientAgain → (text : List ℕ) (nodes : List Node) (at_start : Bool) (rest place : List ℕ)
-    → Going text nodes at_start rest → is_after_instance rest ≡ false → place ≡ cond at_start rest (drop 1 rest) → lenient_read place ≡ None
-    → (all : List Node) → AreTold all → path_text false false all ≡ text → ⊥
-never_printed fits again lenient text nodes at_start rest place on other is none all told e =
-    let p = on.passes all told (sym (path_text_is all) ∙ e) in
-    let f = first_read fits again lenient nodes all at_start rest place other (place_whole at_start rest place other on.ends is) p.0 p.1.0 p.1.1.1 in
-    cc (none, f.1.1.1.1)
+pub all_read : (text : List ℕ) (nodes : List Node) (s : Bool) (rest : List ℕ) → ReadsTo text nodes s rest → length rest ≡ 0
+    → IsReadAs text nodes
+all_read text nodes s [] on none = (s, on)
+all_read text nodes s (c ∷ cs) on none = absurd (omega (arith, none))
+
+-- the nodes that were read, and how many bytes their path has
+pub record Counts (text : List ℕ) (s : Bool) (rest : List ℕ) (len : ℕ) : Type 0 where
+  pub nodes : List Node
+  pub on : ReadsTo text nodes s rest
+  pub count : len ≡ min (length (path_bytes nodes)) (2 ^ 64 - 1)
+
+pub counts_first : (text : List ℕ) → Counts text true text 4
+counts_first text = record { nodes = []; on = Begins; count = omega arith }
+
+pub counts_comma : (text : List ℕ) (s : Bool) (rest after : List ℕ) (len : ℕ) → Counts text s rest len → rest ≡ 44 ∷ after
+    → Counts text true after (min (len + 4) (2 ^ 64 - 1)) × (length after < length rest)
+counts_comma text s rest after len c is =
+    let over = over_comma text c.nodes s rest after c.on is in (
+      record { nodes = c.nodes ++ end_instance ∷ []; on = over.0; count = omega (arith, c.count, bytes_more c.nodes end_instance) },
+      over.1,
+    )
+
+pub counts_node : LenientEnds → (text : List ℕ) (s : Bool) (rest place after : List ℕ) (node : Node) (len : ℕ)
+    → Counts text s rest len → is_after_instance rest ≡ false → place ≡ cond s rest (drop 1 rest)
+    → lenient_read place ≡ Some (node, after)
+    → Counts text false after (min (min (len + length node.content) (2 ^ 64 - 1) + 4) (2 ^ 64 - 1)) × (length after < length rest)
+counts_node ends text s rest place after node len c other is read =
+    let over = over_node ends text c.nodes s rest place after node c.on other is read in (
+      record { nodes = c.nodes ++ node ∷ []; on = over.0; count = omega (arith, c.count, bytes_more c.nodes node) },
+      over.1,
+    )
+
+pub counts_all : LenientStarts → (text : List ℕ) (s : Bool) (rest : List ℕ) (len : ℕ) → Counts text s rest len → length rest ≡ 0
+    → (nodes : List Node) → IsReadAs text nodes → len ≡ min (length (path_bytes nodes)) (2 ^ 64 - 1)
+counts_all starts text s rest len c none nodes read =
+    c.count ∙ ap (λ (ns : List Node). min (length (path_bytes ns)) (2 ^ 64 - 1))
+    (lenient_once starts text c.nodes nodes (all_read text c.nodes s rest c.on none) read)
+
+-- the nodes that a text is read as are the only result but for memory
+pub only_read : LenientOnce → ReadNeverStops → (text : List ℕ) (r : Result (List Node) PathTextError)
+    → IfOk r (λ path. IsReadAs text path) → IfErr r (IsLenientError text) → (nodes : List Node) → IsReadAs text nodes
+    → IfOk r (λ path. path ≡ nodes) × IfErr r (λ error. error ≡ OutOfMemory)
+only_read once never text (Ok path) ok refusal nodes read = (once text path nodes ok read, tt)
+only_read once never text (Err OutOfMemory) ok refusal nodes read = (tt, refl)
+only_read once never text (Err (NoNode place)) ok refusal nodes read = absurd (never text nodes place read refusal)
+
+pub told_result : LenientTold → (text : List ℕ) (r : Result (List Node) PathTextError)
+    → IfOk r (λ path. IsReadAs text path) → IfOk r (λ path. AreTold path)
+told_result told text (Ok path) ok = told text path ok
+told_result told text (Err error) ok = tt

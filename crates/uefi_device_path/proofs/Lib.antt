@@ -18,3 +18,4 @@ pub mod PushedTexts
 pub mod NamesInARow
 pub mod ShownPaths
 pub mod LenientReading
+pub mod LenientPushes

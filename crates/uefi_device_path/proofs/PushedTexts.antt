@@ -179,7 +179,7 @@ pub record Holds (old : List ℕ) (nodes : List Node) (new : List ℕ) (end : �
   pub rest : drop end new ≡ drop end old
 
 -- it begins with one node more
-holds_next : (old new newer : List ℕ) (nodes : List Node) (node : Node) (end more : ℕ)
+pub holds_next : (old new newer : List ℕ) (nodes : List Node) (node : Node) (end more : ℕ)
     → Holds old nodes new end → end + node_length node ≤ length new → more ≡ end + node_length node
     → length newer ≡ length new → IsPath (take more newer)
     → nodes_in (without_end (take more newer)) ≡ nodes_in (without_end (take end new)) ++ node ∷ []
@@ -210,25 +210,33 @@ abbrev pub HasRoom : List ℕ → List ℕ → List Node → Type 0
 HasRoom old text before = (told : List Node) → AreTold told → path_text false false told ≡ text
     → length (path_bytes (before ++ told)) ≤ length old
 
--- there is room for one node more, where there is room for all of the text
+-- there is room for one node more, where there is room for all
+pub room_for_more : (old new : List ℕ) (before done others : List Node) (node : Node) (end : ℕ)
+    → Holds old (before ++ done) new end
+    → length (path_bytes (before ++ ((done ++ node ∷ []) ++ others))) ≤ length old
+    → end + node_length node ≤ length new
+room_for_more old new before done others node end on room = omega (
+  arith,
+  len_of_path new (before ++ done) end on.path on.shown on.within,
+  bytes_more (before ++ done) node,
+  first_bytes ((before ++ done) ++ node ∷ []) others,
+  ap (λ (ns : List Node). length (path_bytes ns)) whole,
+  room,
+  on.same,
+)
+  where
+    whole : ((before ++ done) ++ node ∷ []) ++ others
+        ≡ before ++ ((done ++ node ∷ []) ++ others)
+    whole = ap (λ (ns : List Node). ns ++ others) (append_assoc before done (node ∷ []))
+        ∙ append_assoc before (done ++ node ∷ []) others
+
 pub room_for_next : (old new text : List ℕ) (before done : List Node) (node : Node) (end : ℕ)
     (at_start : Bool)
     (rest : List ℕ) → Holds old (before ++ done) new end → Leaves text (done ++ node ∷ []) at_start rest
     → HasRoom old text before → end + node_length node ≤ length new
-room_for_next old new text before done node end at_start rest on leaves room = omega (
-  arith,
-  len_of_path new (before ++ done) end on.path on.shown on.within,
-  bytes_more (before ++ done) node,
-  first_bytes ((before ++ done) ++ node ∷ []) leaves.others,
-  ap (λ (ns : List Node). length (path_bytes ns)) whole,
-  room ((done ++ node ∷ []) ++ leaves.others) leaves.all leaves.whole,
-  on.same,
-)
-  where
-    whole : ((before ++ done) ++ node ∷ []) ++ leaves.others
-        ≡ before ++ ((done ++ node ∷ []) ++ leaves.others)
-    whole = ap (λ (ns : List Node). ns ++ leaves.others) (append_assoc before done (node ∷ []))
-        ∙ append_assoc before (done ++ node ∷ []) leaves.others
+room_for_next old new text before done node end at_start rest on leaves room =
+    room_for_more old new before done leaves.others node end on
+    (room ((done ++ node ∷ []) ++ leaves.others) leaves.all leaves.whole)
 
 -- the nodes of a text that were added so far, and what is left of both
 pub record Puts (old text : List ℕ) (before : List Node) (new : List ℕ) (end : ℕ) (at_start : Bool)

@@ -10,6 +10,7 @@ use Rattle.uefi_device_nodes.specs.Nodes.{Node, IsInner}
 use Rattle.uefi_device_nodes.specs.NodeFaults.{fault_place}
 use Rattle.uefi_device_nodes.specs.declared.errors.NodeError.{NodeError}
 use Rattle.uefi_device_nodes.specs.declared.errors.NodeError.TheVariants.{Missing, TruncatedHeader, UnknownEnd, LengthBelowHeader, EndWithData, BeyondEnd}
+use Rattle.uefi_device_path.specs.LenientReading.{IsReadAs, ReadingStopsAt}
 use Rattle.uefi_device_path.specs.PathReading.{AreTold, StopsAt}
 use Rattle.uefi_text.specs.Packed.{IsByte}
 use Rattle.uefi_field_texts.specs.ShownTexts.{IsShown}
@@ -75,6 +76,30 @@ OptionsOnce = (entry other : Entry) → IsEntry entry → IsEntry other
 abbrev pub OptionsNeverBoth : Type 0
 OptionsNeverBoth = (entry : Entry) (error : LoadOptionError) → IsEntry entry
     → EntryRefusedFor (entry_bytes entry) error → ⊥
+
+-- a text is read as one list of nodes at most, as people write it
+abbrev pub LenientOnce : Type 0
+LenientOnce = (text : List ℕ) (nodes others : List Node) → IsReadAs text nodes → IsReadAs text others
+    → nodes ≡ others
+
+-- it is not read at one place at most
+abbrev pub LenientStopsOnce : Type 0
+LenientStopsOnce = (text : List ℕ) (place other : ℕ) → ReadingStopsAt text place → ReadingStopsAt text other
+    → place ≡ other
+
+-- a text that is read is so at each place
+abbrev pub ReadNeverStops : Type 0
+ReadNeverStops = (text : List ℕ) (nodes : List Node) (place : ℕ) → IsReadAs text nodes
+    → ReadingStopsAt text place → ⊥
+
+-- what is read is told
+abbrev pub LenientTold : Type 0
+LenientTold = (text : List ℕ) (nodes : List Node) → IsReadAs text nodes → AreTold nodes
+
+-- the text of nodes of which it tells all is read as these
+abbrev pub LenientPrinted : Type 0
+LenientPrinted = (text : List ℕ) (nodes : List Node) → AreTold nodes → path_text false false nodes ≡ text
+    → IsReadAs text nodes
 
 -- no two lists of nodes of which the text tells all have the same text
 abbrev pub TextsOnce : Type 0

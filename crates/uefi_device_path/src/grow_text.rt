@@ -21,7 +21,7 @@ use uefi_device_nodes::{DeviceSubType, DeviceType};
 use uefi_node_reader::nodes::{node_text_once, nodes_are_read};
 
 /// The node that ends an instance.
-fn instance_end() -> RawNode<'static>
+pub(crate) fn instance_end() -> RawNode<'static>
     ensures { raw_node result ≡ end_instance }
 {
     RawNode {

@@ -1,7 +1,7 @@
 //! The laws by which users of device paths and load options reason. They speak of the definitions that
 //! the contracts of the working calls cite. Each law is a function that does nothing: its contract is the
 //! law.
-ghost use Rattle.uefi_device_path.specs.Laws.{AcceptedWithMore, BuiltIsRead, BytesOnce, InstancesShown, NamesInARow, NeverBoth, OneName, OnlyFilesCount, OptionsNeverBoth, OptionsOnce, PathsOnce, PathsShown, RefusedByHeader, RelativeNamesArePushed, StopsOnce, TextsNeverBoth, TextsOnce};
+ghost use Rattle.uefi_device_path.specs.Laws.{AcceptedWithMore, BuiltIsRead, BytesOnce, InstancesShown, LenientOnce, LenientPrinted, LenientStopsOnce, LenientTold, NamesInARow, NeverBoth, OneName, OnlyFilesCount, OptionsNeverBoth, OptionsOnce, PathsOnce, PathsShown, ReadNeverStops, RefusedByHeader, RelativeNamesArePushed, StopsOnce, TextsNeverBoth, TextsOnce};
 
 pub use uefi_built_messages::laws as built_messages;
 pub use uefi_built_nodes::laws as built_nodes;
@@ -9,7 +9,7 @@ use uefi_device_nodes::laws::nodes_are_shown;
 pub use uefi_device_nodes::layouts;
 use uefi_field_texts::laws::fields_are_shown;
 pub use uefi_field_texts::laws::guid_texts;
-use uefi_node_reader::nodes::{node_text_once, nodes_are_read};
+use uefi_node_reader::nodes::{node_text_once, nodes_are_read, nodes_are_read_leniently};
 use uefi_path::laws::join_components;
 
 /// Bytes and nodes determine one another: bytes begin with one path at most, no two paths have the same
@@ -57,6 +57,19 @@ pub fn stopped_texts()
 {
     nodes_are_read();
     node_text_once();
+}
+
+/// A text is read as people write it in one way, or not at one place: as nodes whose text tells all of them,
+/// and as those whose text it is, if it is that of such nodes.
+pub fn lenient_texts()
+    ensures once { LenientOnce }
+    ensures stops { LenientStopsOnce }
+    ensures never_both { ReadNeverStops }
+    ensures told { LenientTold }
+    ensures printed { LenientPrinted }
+{
+    nodes_are_read();
+    nodes_are_read_leniently();
 }
 
 /// A file path is made of the names of the nodes that name files, and of nothing else: one name is

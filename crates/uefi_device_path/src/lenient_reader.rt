@@ -1,85 +1,125 @@
 //! Device paths read from texts as people write them.
 #![tactic(auto)]
 
-ghost use Rattle.std.specs.Prelude.{◌≡◌, ℕ, false, ◌∷◌, ◌++◌, [], List, IfOk, IfErr, MatchOption, Some, None};
+ghost use Rattle.std.specs.Prelude.{◌≡◌, ℕ, ◌<◌, ◌-◌, ◌^◌, min, false, [], List, IfOk, IfErr, MatchOption, OnOk, Some, None, length};
 ghost use Rattle.uefi_device_nodes.specs.Nodes.{Node};
-ghost use Rattle.uefi_device_path.specs.LenientReading.{IsLenientError, IsReadAs};
+ghost use Rattle.uefi_device_path.specs.LenientReading.{IsLenientError, IsReadAs, IsReadable, ReadingStopsAt};
 ghost use Rattle.uefi_device_path.specs.PathReading.{AreTold};
+ghost use Rattle.uefi_device_path.specs.Paths.{path_bytes};
 ghost use Rattle.uefi_device_path.specs.PathTexts.{path_text};
 ghost use Rattle.uefi_node_reader.specs.LenientNodes.{lenient_read};
+ghost use Rattle.uefi_node_reader.specs.TextNodeViews.{text_node};
 
 use crate::build::DevicePathBuf;
 use crate::errors::BuildError;
-use crate::path_reader::{PathTextError, after_comma, node_start, push_end};
+use crate::laws::lenient_texts;
+use crate::path_reader::{PathTextError, ReadNode, after_comma, node_start, push_end};
 use std::alloc::Allocator;
-use uefi_device_nodes::{DeviceSubType, DeviceType};
-use uefi_node_reader::nodes::{nodes_are_read, nodes_are_read_leniently, read_lenient_node};
+use uefi_node_reader::nodes::{nodes_are_read_leniently, read_lenient_node};
 
-/// Adds the node that a text begins with, as people write it, and returns what stands after it; `None`
-/// where there is none. Refused for memory alone.
-fn push_node<'a, A: Allocator + Copy>(
-    alloc: A,
-    path: &mut DevicePathBuf<A>,
-    content: &mut Vec<u8, A>,
-    text: &'a [u8],
-) -> Result<Option<&'a [u8]>, BuildError>
-    ensures ok { IfOk result (λ read. MatchOption read (lenient_read text.now ≡ None)
-        (λ rest. (node : Node) × (lenient_read text.now ≡ Some (node, rest.now))
-        × (path.new ≡ path.old ++ node ∷ []))) }
-    ensures memory { IfErr result (λ error. error ≡ BuildError.OutOfMemory) }
+/// The node that a text begins with, as people write it, and what stands after it. The buffer then holds
+/// anything.
+pub(crate) fn first_lenient_node<'s, 't: 's>(
+    scratch: &'s mut [u8],
+    text: &'t [u8],
+) -> Option<(ReadNode<'s>, &'t [u8])>
+    requires { length text.now < length scratch.old }
+    ensures { MatchOption result (lenient_read text.now ≡ None)
+        (λ x. lenient_read text.now ≡ Some (text_node x.0.node, x.1.now)) }
 {
-    nodes_are_read();
-    nodes_are_read_leniently();
-    let Ok(read) = read_lenient_node(alloc, content, text) else {
-        return Err(BuildError::OutOfMemory);
-    };
-    let Some((device_type, sub_type, rest)) = read else {
-        return Ok(None);
-    };
-    match path.push(DeviceType(device_type), DeviceSubType(sub_type), content) {
-        Ok(()) => Ok(Some(rest)),
-        Err(error) => Err(error),
-    }
+    let (node, rest) = read_lenient_node(scratch, text)?;
+    Some((ReadNode { node }, rest))
 }
 
-/// The path that a text is read as.
-fn read_path<A: Allocator + Copy>(alloc: A, text: &[u8]) -> Result<DevicePathBuf<A>, PathTextError>
-    ensures told { IfOk result (λ path. AreTold path) }
-    ensures ok { IfOk result (λ path. IsReadAs text.now path) }
-    ensures printed { (nodes : List Node) → AreTold nodes → path_text false false nodes ≡ text.now
-        → IfOk result (λ path. path ≡ nodes) × IfErr result (λ error. error ≡ PathTextError.OutOfMemory) }
-    ensures refusal { IfErr result (IsLenientError text.now) }
+/// How many bytes the path has that a text is read as, as far as a `usize` counts, or where no node is read.
+/// The buffer then holds anything.
+pub(crate) fn check_lenient_text(scratch: &mut [u8], text: &[u8]) -> Result<usize, usize>
+    requires { length text.now < length scratch.old }
+    ensures path { IfOk result (λ _. IsReadable text.now) }
+    ensures len { IfOk result (λ len. (nodes : List Node) → IsReadAs text.now nodes
+        → len ≡ min (length (path_bytes nodes)) (2 ^ 64 - 1)) }
+    ensures refusal { IfErr result (ReadingStopsAt text.now) }
 {
-    nodes_are_read();
     nodes_are_read_leniently();
-    let Ok(mut path) = DevicePathBuf::new(alloc) else {
-        return Err(PathTextError::OutOfMemory);
-    };
-    let mut content = Vec::new(alloc);
+    let mut len = 4usize;
     let mut rest = text;
     let mut at_start = true;
     'nodes: while !rest.is_empty() {
         match after_comma(rest) {
             Some(after) => {
-                let Ok(()) = push_end(&mut path) else {
-                    return Err(PathTextError::OutOfMemory);
-                };
+                len = len.saturating_add(4);
                 rest = after;
                 at_start = true;
             }
             None => {
                 let place = node_start(at_start, rest);
-                let Ok(read) = push_node(alloc, &mut path, &mut content, place) else {
-                    return Err(PathTextError::OutOfMemory);
+                let Some((node, after)) = first_lenient_node(scratch, place) else {
+                    return Err(text.len() - place.len());
                 };
-                let Some(after) = read else {
-                    return Err(PathTextError::NoNode(text.len() - place.len()));
-                };
+                len = len.saturating_add(node.node.data_len()).saturating_add(4);
                 rest = after;
                 at_start = false;
             }
         }
     }
+    Ok(len)
+}
+
+/// Adds the nodes that a text is read as to an empty path. Refused for memory alone.
+fn push_lenient_text<A: Allocator>(
+    path: &mut DevicePathBuf<A>,
+    scratch: &mut [u8],
+    text: &[u8],
+) -> Result<(), BuildError>
+    requires room { length text.now < length scratch.old }
+    requires empty { path.old ≡ [] }
+    requires readable { IsReadable text.now }
+    ensures { OnOk result (IsReadAs text.now path.new) }
+{
+    nodes_are_read_leniently();
+    let mut rest = text;
+    let mut at_start = true;
+    'nodes: while !rest.is_empty() {
+        match after_comma(rest) {
+            Some(after) => {
+                push_end(path)?;
+                rest = after;
+                at_start = true;
+            }
+            None => {
+                let place = node_start(at_start, rest);
+                let Some((node, after)) = first_lenient_node(scratch, place) else {
+                    unreachable!()
+                };
+                path.push_node(&node)?;
+                rest = after;
+                at_start = false;
+            }
+        }
+    }
+    Ok(())
+}
+
+/// The path that a text is read as, in memory that is asked for once the text is known to be read.
+fn read_path<A: Allocator + Copy>(
+    alloc: A,
+    scratch: &mut [u8],
+    text: &[u8],
+) -> Result<DevicePathBuf<A>, PathTextError>
+    requires { length text.now < length scratch.old }
+    ensures ok { IfOk result (λ path. IsReadAs text.now path) }
+    ensures refusal { IfErr result (IsLenientError text.now) }
+{
+    let len = match check_lenient_text(scratch, text) {
+        Ok(len) => len,
+        Err(place) => return Err(PathTextError::NoNode(place)),
+    };
+    let Ok(mut path) = DevicePathBuf::with_capacity(alloc, len) else {
+        return Err(PathTextError::OutOfMemory);
+    };
+    let Ok(()) = push_lenient_text(&mut path, scratch, text) else {
+        return Err(PathTextError::OutOfMemory);
+    };
     Ok(path)
 }
 
@@ -91,9 +131,11 @@ impl<A: Allocator + Copy> DevicePathBuf<A> {
     /// out at its end, `File(..)`, and a file's name without its first backslash.
     ///
     /// A text that [`DevicePathBuf::from_text`] reads is read as the same path. The path that is read prints
-    /// as a text that `from_text` reads as that path. Allocates for the path, and for copies of calls and
-    /// names. Refused as `OutOfMemory`, and as `NoNode` at the byte where the first node begins that can't
-    /// be read.
+    /// as a text that `from_text` reads as that path.
+    ///
+    /// Allocates one byte more than the text has, for copies of its calls and names, which it frees; then the
+    /// text is judged, and `NoNode` has the byte where the first node begins that can't be read; then it
+    /// allocates once, for the whole path. `OutOfMemory` if one of the two requests is refused.
     ///
     /// ```rust
     /// let path = DevicePathBuf::from_lenient_text(rt.alloc(), "pciroot(0)/pci(31, 2)")?;
@@ -105,10 +147,17 @@ impl<A: Allocator + Copy> DevicePathBuf<A> {
     pub fn from_lenient_text(alloc: A, text: &str) -> Result<Self, PathTextError>
         ensures told { IfOk result (λ path. AreTold path) }
         ensures ok { IfOk result (λ path. IsReadAs text.now path) }
+        ensures only { (nodes : List Node) → IsReadAs text.now nodes
+            → IfOk result (λ path. path ≡ nodes) × IfErr result (λ error. error ≡ OutOfMemory) }
         ensures printed { (nodes : List Node) → AreTold nodes → path_text false false nodes ≡ text.now
             → IfOk result (λ path. path ≡ nodes) × IfErr result (λ error. error ≡ OutOfMemory) }
         ensures refusal { IfErr result (IsLenientError text.now) }
     {
-        read_path(alloc, text.as_bytes())
+        lenient_texts();
+        let mut scratch = Vec::new(alloc);
+        if scratch.resize(text.len() + 1, 0).is_err() {
+            return Err(PathTextError::OutOfMemory);
+        }
+        read_path(alloc, &mut scratch, text.as_bytes())
     }
 }

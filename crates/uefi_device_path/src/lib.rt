@@ -32,6 +32,7 @@ mod device_path;
 mod errors;
 mod file_path;
 mod grow;
+mod grow_lenient_text;
 mod grow_text;
 mod instance;
 mod instance_text;
@@ -57,6 +58,7 @@ pub use errors::{
     PushTextError,
 };
 pub use grow::{append_in_buf, push_in_buf};
+pub use grow_lenient_text::push_lenient_text_in_buf;
 pub use grow_text::push_text_in_buf;
 pub use instance::{DevicePathInstance, DevicePathInstanceIterator};
 pub use load_option::LoadOption;

@@ -80,7 +80,7 @@ fn is_after_node(bytes: &[u8]) -> bool
 /// A node whose text was read, to be added to a path.
 #[derive(Clone, Copy)]
 pub(crate) struct ReadNode<'a> {
-    node: TextNode<'a>,
+    pub(crate) node: TextNode<'a>,
 }
 
 /// The node.

@@ -7,7 +7,7 @@ use std::test::Fail;
 use uefi_device_path::{DevicePathBuf, PathTextError};
 
 /// Paths that libefivar makes, without the node that ends them, and the texts that it prints of them.
-const BY_LIBEFIVAR: &str = "\
+pub(crate) const BY_LIBEFIVAR: &str = "\
 02010c00d041030a0000000001010600021f03120a000000ffff000004012a000100000000080000000000000040\
     0600000000001032547698badcfe01020304050607080202040430005c004500460049005c0042004f004f005400\
     5c0042004f004f0054005800360034002e004500460049000000 \
@@ -36,7 +36,7 @@ const BY_LIBEFIVAR: &str = "\
 0403150078563412bc9af0de341256789abcdef052 VenMedia(12345678-9abc-def0-3412-56789abcdef0,52)";
 
 /// Texts that people write, and what they mean.
-const BY_PEOPLE: &str = "\
+pub(crate) const BY_PEOPLE: &str = "\
 04012a00020000003f000000000000000000000010000000103254760000000000000000000000000101 \
     HD(2,MBR,0x76543210,0x3f,0x1000000000)
 02010c00d041030a00000000 PciRoot(0)
@@ -91,7 +91,7 @@ fn texts(rt: HostRuntime) -> Result<(), Fail> {
 }
 
 /// Texts that no path is read of, and where the first node begins that none is.
-const REFUSED: &[(&str, usize)] = &[
+pub(crate) const REFUSED: &[(&str, usize)] = &[
     ("PciRoot(0)/", 11),
     ("PciRoot(0)/,", 11),
     ("PciRoot(0)x", 0),

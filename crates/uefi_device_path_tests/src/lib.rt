@@ -40,6 +40,8 @@ mod path_reader;
 #[cfg(test)]
 mod path_text;
 #[cfg(test)]
+mod push_lenient_text;
+#[cfg(test)]
 mod push_text;
 #[cfg(test)]
 mod typed_fields;

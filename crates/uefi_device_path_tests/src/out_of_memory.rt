@@ -24,6 +24,9 @@ enum Call<'a> {
     /// A text.
     FromText(&'a str, usize),
     NoText(&'a str, usize),
+    /// The same of texts as people write them.
+    FromLenientText(&'a str, usize),
+    NoLenientText(&'a str, usize),
     /// A description, of which a load option is made.
     ToVec(&'a [u16]),
     /// A load option, and how many characters its description has, and bytes in UTF-8.
@@ -93,6 +96,18 @@ fn is_no_text(heap: &Refusing<Global>, text: &str, place: usize) -> Result<bool,
     Ok(matches!(read, Err(PathTextError::NoNode(at)) if at == place))
 }
 
+/// Whether a text as people write it is refused at a place, or memory ran out.
+fn is_no_lenient_text(
+    heap: &Refusing<Global>,
+    text: &str,
+    place: usize,
+) -> Result<bool, AllocError> {
+    match DevicePathBuf::from_lenient_text(heap, text) {
+        Err(PathTextError::NoNode(at)) => Ok(at == place),
+        read => out_of_memory(matches!(read, Err(PathTextError::OutOfMemory))),
+    }
+}
+
 /// Whether an option of a description is written in memory, or memory ran out.
 fn is_made(heap: &Refusing<Global>, description: &[u16]) -> Result<bool, AllocError> {
     let Ok(path) = DevicePath::from_bytes(END) else {
@@ -132,6 +147,8 @@ fn answers(call: Call<'_>, heap: &Refusing<Global>) -> Result<bool, AllocError> 
         Call::FilePath(bytes, len) => has_name(heap, bytes, len),
         Call::FromText(text, nodes) => is_read(heap, text, true, nodes),
         Call::NoText(text, place) => is_no_text(heap, text, place),
+        Call::FromLenientText(text, nodes) => is_read(heap, text, false, nodes),
+        Call::NoLenientText(text, place) => is_no_lenient_text(heap, text, place),
         Call::ToVec(description) => is_made(heap, description),
         Call::Description(bytes, len) => has_description(heap, bytes, len),
         Call::DescriptionLossy(bytes, len) => is_shown(heap, bytes, len),
@@ -157,6 +174,15 @@ const ROWS: &[(Call<'static>, u64, u64)] = &[
     (Call::FromText("USB(0x1,0x0),,\\a", 4), 1, 1),
     (Call::NoText("PciRoot(0x0)/Pci(0x1F,0x2)/", 27), 0, 0),
     (Call::NoText("\\a/Path(3,99,0F", 3), 0, 0),
+    (Call::FromLenientText("", 0), 2, 2),
+    (
+        Call::FromLenientText("pciroot(0)/pci(31,2)/File(a)", 3),
+        2,
+        2,
+    ),
+    // The copy alone: no path is asked for.
+    (Call::NoLenientText("pciroot(0)/pci(31,2)/", 21), 1, 1),
+    (Call::NoLenientText("file(a)/Uri(\u{e9})", 8), 1, 1),
     (Call::ToVec(&[0x61]), 1, 1),
     (Call::Description(OPTION, 1), 1, 1),
     // One for the units, and one for a text of as many bytes.
@@ -249,7 +275,7 @@ const TEXTS: &[(bool, &str, &str, u64, &str, usize)] = &[
     (false, "usb(1,0)", ",usb(1)", 2, "/a", 6),
 ];
 
-/// A printed text takes one request.
+/// A printed text takes one request, and one as people write it two: for a copy and for the path.
 #[test]
 fn texts_of_each_size(rt: HostRuntime) -> Result<(), Fail> {
     for (is_printed, front, piece, count, back, nodes) in TEXTS {
@@ -261,8 +287,7 @@ fn texts_of_each_size(rt: HostRuntime) -> Result<(), Fail> {
             0,
             |heap| is_read(heap, &text, *is_printed, *nodes),
         )?;
-        let is_right = if *is_printed { made == 1 } else { 2 < made };
-        assert!(rt; is_right, "{piece}: {made}");
+        assert!(rt; made == if *is_printed { 1 } else { 2 }, "{piece}: {made}");
     }
     Ok(())
 }

@@ -10,7 +10,7 @@ use std::test::Fail;
 use uefi_device_path::{PushTextError, push_text_in_buf};
 
 /// The path of a PCI device and of the nodes that have these bytes.
-fn path_of(alloc: Global, nodes: &[u8]) -> Result<Vec<u8>, Fail> {
+pub(crate) fn path_of(alloc: Global, nodes: &[u8]) -> Result<Vec<u8>, Fail> {
     let mut path = Vec::from_slice(alloc, &[1, 1, 6, 0, 0, 0x1f])?;
     path.extend_from_slice(nodes)?;
     path.extend_from_slice(END)?;

@@ -106,3 +106,14 @@ counted (b ∷ bs) p n l =
     let next : ℕ = min (n + 1) (2 ^ 64 - 1) in
     let small : next ≤ 2 ^ 64 - 1 = omega arith in
     counted bs (set p n b) next small ∙ omega (arith, l)
+
+-- bytes that were put at the start of a longer buffer
+pub copied : (old new bytes : List ℕ) (len : ℕ) → (new, len) ≡ pushed (old, 0) bytes → length bytes ≤ length old
+    → length bytes ≤ 2 ^ 64 - 1 → (len ≤ length old) × (take len new ≡ bytes)
+copied old new bytes len e l few =
+    let count : len ≡ min (0 + length bytes) (2 ^ 64 - 1) = ap (λ (s : List ℕ × ℕ). s.1) e ∙ counted bytes old 0 (omega arith) in
+    let exact : len ≡ 0 + length bytes = omega (arith, few, count) in (
+      omega (arith, exact, l),
+      (λ i. take (exact i) (e i).0) ∙ first_shown bytes old 0 (omega arith) (omega (arith, few))
+          ∙ take_all (length old) bytes l,
+    )

@@ -14,6 +14,10 @@ pub table_sound : list_all is_sound forms ≡ true
 unfolding group_forms item_of
 table_sound = refl
 
+pub table_filled : list_all is_filled forms ≡ true
+unfolding group_forms
+table_filled = refl
+
 pub table_differs : all_differ forms ≡ true
 unfolding group_forms
 table_differs = refl

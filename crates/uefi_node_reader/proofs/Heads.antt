@@ -61,6 +61,11 @@ pub place_shown : (kind sub_kind : ℕ) (content : List ℕ)
     → form_place (prints (node_with kind sub_kind (take 64 content))) forms ≡ form_place (prints (node_with kind sub_kind content)) forms
 place_shown kind sub_kind content = places content kind sub_kind forms table_short
 
+-- which form it is
+pub form_same : (kind sub_kind : ℕ) (content : List ℕ)
+    → find_form (prints (node_with kind sub_kind (take 64 content))) forms ≡ find_form (prints (node_with kind sub_kind content)) forms
+form_same kind sub_kind content = finds content kind sub_kind forms table_short
+
 -- whether there is one
 pub form_shown : (kind sub_kind : ℕ) (content : List ℕ)
     → has_form false kind sub_kind (take 64 content) ≡ has_form false kind sub_kind content

@@ -1,32 +1,33 @@
 -- What is read leniently is told, and what is read strictly is read so too.
-use Rattle.std.proofs.Common.{◌≡◌, ◌++◌, append_assoc, take, ℕ, suc, ◌+◌, Bool, true, false, cond, eqb, leb, not, ◌==◌, ◌&&◌, ◌⊎◌, List, [], ◌∷◌, length, drop, refl, sym, ap, subst, ◌∙◌, inl, inr, arith}
-use Rattle.std.specs.Prelude.{Option, Some, None, codes, nat_eq, position}
-use Rattle.std.specs.Cmp.Lexicographic.{pointwise, same_text}
+use Rattle.std.proofs.Common.{◌≡◌, ◌++◌, append_assoc, take, ℕ, suc, ◌+◌, Bool, true, false, cond, eqb, leb, not, ◌==◌, ◌&&◌, ◌⊎◌, List, [], ◌∷◌, length, drop, refl, sym, ap, subst, ◌∙◌, inl, inr, arith, true≢false}
+use Rattle.std.specs.Prelude.{Option, Some, None, codes, position}
 use Rattle.std.specs.Char.{to_ascii_uppercase}
-use Rattle.std.specs.List.{position_or_len}
+use Rattle.std.specs.List.{list_all, list_any, position_or_len}
 use Rattle.std.specs.Option.{option_map, option_or}
 use Rattle.std.specs.Str.{chars, is_utf8}
-use Rattle.std.proofs.lemmas.Bool.{and_parts, leb-false}
+use Rattle.std.proofs.lemmas.Bool.{and_parts}
 use Rattle.std.proofs.lemmas.List.{take-append-drop}
-use borrow.Author.Tests.{eqb-true}
-use Rattle.uefi_node_table.specs.Rows.{Form}
-use Rattle.uefi_node_table.specs.Table.{forms, table_text}
+use Rattle.uefi_node_table.specs.Rows.{Form, find_form}
+use Rattle.uefi_node_table.specs.Table.{forms}
 use Rattle.uefi_device_nodes.specs.Nodes.{Node, node_with}
 use Rattle.uefi_node_reader.specs.FieldReading.{◌>>=◌, either_read, read_if}
 use Rattle.uefi_device_nodes.specs.NodeTexts.{node_text}
 use Rattle.uefi_node_reader.specs.LenientFields.{after_letter, after_literal, begins_base, literal_left, past_base}
-use Rattle.uefi_node_reader.specs.LenientNodes.{IsRestOf, LenientAgain, LenientEnds, LenientTakes, bare_read, begins_call, call_read, cut_call, ended, file_read, form_set, forms_set, is_node, lenient_read, rooted, tells, path_set, tidied, told_in, whole}
+use Rattle.uefi_node_reader.specs.LenientNodes.{IsRestOf, LenientAgain, LenientEnds, LenientStarts, LenientTakes, bare_read, begins_call, call_read, cut_call, ended, file_or_call, file_read, form_set, forms_set, lenient_read, rooted, path_set, tidied, told_in, whole}
 use Rattle.uefi_node_reader.specs.NamedFiles.{IsTold, ends_name, is_after_node, is_name, name_bytes, name_data, name_read, node_read}
-use Rattle.uefi_node_reader.specs.PlainNodes.{plain_read}
-use Rattle.uefi_node_reader.specs.TableReading.{is_empty, table_read}
+use Rattle.uefi_node_reader.specs.PlainNodes.{plain_read, types_read}
+use Rattle.uefi_node_reader.specs.TableReading.{is_empty, is_sound, prints}
+use Rattle.uefi_node_reader.specs.Telling.{tells, tells_data}
 use Rattle.uefi_node_reader.specs.TextNodes.{fitting}
 use Rattle.uefi_node_reader.proofs.Digits.{some_pair}
 use Rattle.uefi_node_reader.proofs.Groups.{table_sound}
-use Rattle.uefi_node_reader.proofs.Literals.{bind_some}
+use Rattle.uefi_node_reader.specs.WordReading.{after}
+use Rattle.uefi_node_reader.proofs.LenientFields.{form_set_in}
+use Rattle.uefi_node_reader.proofs.Literals.{after_again, after_some, bind_some}
 use Rattle.uefi_node_reader.proofs.NamedFiles.{name_takes}
 use Rattle.uefi_node_reader.proofs.NodeLaws.{node_fits, node_starts, node_takes}
 use Rattle.uefi_node_reader.proofs.PlainNodes.{plain_takes}
-use Rattle.uefi_node_reader.proofs.TableLaws.{table_takes}
+use Rattle.uefi_node_reader.proofs.ToldNodes.{tells_told}
 
 -- what was read, if a test holds
 if_read : (b : Bool) (x node : Node) (r rest : List ℕ) → read_if b x r ≡ Some (node, rest)
@@ -40,70 +41,55 @@ one_read : (a b : Option (Node × List ℕ)) (x : Node × List ℕ) → either_r
 one_read None b x e = inr e
 one_read (Some y) b x e = inl e
 
--- a node that its own text tells
-tells_told : (node : Node) → tells node ≡ true → IsTold node
-unfolding tells
-tells_told node e = by (table_read forms text) refl e
-  where
-    text : List ℕ
-    text = table_text false node.device_type node.sub_type node.content
+-- the node of a form with these data
+abbrev of_form : Form → List ℕ → Node
+of_form form content = node_with form.kind form.sub_kind content
 
-    by : (o : Option (Node × List ℕ)) → table_read forms text ≡ o → is_node node o ≡ true → IsTold node
-    by None p q = cc
-    by (Some read) p q =
-        let kind = and_parts (eqb read.0.device_type node.device_type) _ q in
-        let others =
-        and_parts (eqb read.0.sub_type node.sub_type) (pointwise nat_eq read.0.content node.content) kind.1 in
-        let content = same_text read.0.content node.content (sym others.1) in
-        let same : read.0 ≡ node =
-        λ i. node_with (eqb-true _ _ kind.0 i) (eqb-true _ _ others.0 i) (content i) in
-        subst IsTold same (inl (table_takes forms table_sound text read.0 read.1 p).0)
-
--- a node that its own text tells has no more data than a node may have
+-- a node that its text tells has no more data than a node may have
 pub told_in-fitting : (form : Form) (o : Option (List ℕ × List ℕ)) → told_in form (fitting o) ≡ told_in form o
+unfolding tells
 told_in-fitting form None = refl
-told_in-fitting form (Some read) = by (leb (length read.0) 0xfffb) (tells own) refl refl
+told_in-fitting form (Some read) = by (leb (length read.0) 0xfffb) refl
+  where
+    no : (x y : Bool) → None ≡ cond (x && (false && y)) (Some (of_form form read.0)) None
+    no true y = refl
+    no false y = refl
+
+    by : (t : Bool) → leb (length read.0) 0xfffb ≡ t
+        → told_in form (cond t (Some read) None)
+        ≡ cond (is_empty read.1 && (leb (length read.0) 0xfffb && tells_data form read.0 (find_form (prints (of_form form read.0)) forms))) (Some (of_form form read.0)) None
+    by true p = refl
+    by false p = no (is_empty read.1) (tells_data form read.0 (find_form (prints (of_form form read.0)) forms))
+        ∙ ap (λ (t : Bool). cond (is_empty read.1 && (t && tells_data form read.0 (find_form (prints (of_form form read.0)) forms))) (Some (of_form form read.0)) None) (sym p)
+
+form_told : (form : Form) → is_sound form ≡ true → (text : List ℕ) (o : Option (List ℕ × List ℕ)) → form_set form text ≡ o
+    → (node : Node) → told_in form o ≡ Some node → IsTold node
+form_told form sound text None f node e = cc
+form_told form sound text (Some read) f node e = by (is_empty read.1) (tells form own) refl e
   where
     own : Node
     own = node_with form.kind form.sub_kind read.0
 
-    no : (x : Bool) → None ≡ cond (x && false) (Some own) None
-    no true = refl
-    no false = refl
-
-    by : (t b : Bool) → leb (length read.0) 0xfffb ≡ t → tells own ≡ b
-        → told_in form (cond t (Some read) None) ≡ cond (is_empty read.1 && tells own) (Some own) None
-    by true b p q = refl
-    by false true p q =
-        let long = leb-false (length read.0) 0xfffb p in
-        let short = (node_fits own (tells_told own q)).1 in
-        absurd (omega (arith, long, short))
-    by false false p q = no (is_empty read.1) ∙ ap (λ (t : Bool). cond (is_empty read.1 && t) (Some own) None) (sym q)
-
-form_told : (form : Form) (o : Option (List ℕ × List ℕ)) (node : Node)
-    → told_in form o ≡ Some node → IsTold node
-form_told form None node e = cc
-form_told form (Some read) node e = by (is_empty read.1) (tells own) refl e
-  where
-    own : Node
-    own = node_with form.kind form.sub_kind read.0
-
-    by : (a b : Bool) → tells own ≡ b → cond (a && b) (Some own) None ≡ Some node → IsTold node
+    by : (a b : Bool) → tells form own ≡ b → cond (a && b) (Some own) None ≡ Some node → IsTold node
     by false b p q = cc
     by true false p q = cc
-    by true true p q = let same : own ≡ node = cc in subst IsTold same (tells_told own p)
+    by true true p q =
+        let same : own ≡ node = cc in
+        subst IsTold same (inl (tells_told form own (form_set_in form sound text read.0 read.1 f) p))
 
 -- one of two that were read
 one_node : (a b : Option Node) (x : Node) → option_or a b ≡ Some x → (a ≡ Some x) ⊎ (b ≡ Some x)
 one_node None b x e = inr e
 one_node (Some y) b x e = inl e
 
-forms_told : (all : List Form) (text : List ℕ) (node : Node) → forms_set all text ≡ Some node → IsTold node
-forms_told [] text node e = cc
-forms_told (form ∷ others) text node e =
+forms_told : (all : List Form) → list_all is_sound all ≡ true → (text : List ℕ) (node : Node)
+    → forms_set all text ≡ Some node → IsTold node
+forms_told [] sound text node e = cc
+forms_told (form ∷ others) sound text node e =
+    let sounds = and_parts (is_sound form) (list_all is_sound others) sound in
     elim (one_node (told_in form (form_set form text)) (forms_set others text) node e) [
-      | inl p ↦ form_told form (form_set form text) node p
-      | inr p ↦ forms_told others text node p
+      | inl p ↦ form_told form sounds.0 text (form_set form text) refl node p
+      | inr p ↦ forms_told others sounds.1 text node p
     ]
 
 -- a node after which nothing stands
@@ -120,8 +106,11 @@ whole_read (Some read) node e = by (is_empty read.1) e
 path_told : (text : List ℕ) (node : Node) → path_set text ≡ Some node → IsTold node
 path_told text node e =
     let begun = bind_some (after_literal (codes "Path(") text) _ node e in
-    let read = whole_read (plain_read (codes "Path(" ++ begun.0)) node begun.2 in
-    inr (inl (plain_takes (codes "Path(" ++ begun.0) node read.0 read.1).0)
+    let read = whole_read (types_read begun.0) node begun.2 in
+    let printed : plain_read (codes "Path(" ++ begun.0) ≡ Some (node, read.0) =
+    after_some (after (codes "Path(") (codes "Path(" ++ begun.0)) types_read begun.0 (after_again (codes "Path(") begun.0)
+    ∙ read.1 in
+    inr (inl (plain_takes (codes "Path(" ++ begun.0) node read.0 printed).0)
 
 name_told : (text : List ℕ) (node : Node) → whole (name_read text) ≡ Some node → IsTold node
 name_told text node e =
@@ -146,16 +135,16 @@ call_told : (text : List ℕ) (node : Node) (rest : List ℕ) → call_read text
 call_told text node rest e =
     let call = called text node rest e in
     elim (one_node (forms_set forms (tidied call.0.0)) (path_set (tidied call.0.0)) node call.2.0) [
-      | inl p ↦ forms_told forms (tidied call.0.0) node p
+      | inl p ↦ forms_told forms table_sound (tidied call.0.0) node p
       | inr p ↦ path_told (tidied call.0.0) node p
     ]
 
 -- what a name in `File(..)` was read of
 filed : (text : List ℕ) (node : Node) (rest : List ℕ) → file_read text ≡ Some (node, rest)
-    → (call : List ℕ × List ℕ) × (after_literal (codes "File(") text >>= cut_call ≡ Some call)
+    → (call : List ℕ × List ℕ) × (cut_call text ≡ Some call)
     × ((whole (name_read (rooted call.0)) ≡ Some node) × (call.1 ≡ rest))
 filed text node rest e =
-    let call = bind_some (after_literal (codes "File(") text >>= cut_call) _ (node, rest) e in
+    let call = bind_some (cut_call text) _ (node, rest) e in
     (call.0, call.1, with_rest _ call.0.1 node rest call.2)
 
 file_told : (text : List ℕ) (node : Node) (rest : List ℕ) → file_read text ≡ Some (node, rest) → IsTold node
@@ -172,34 +161,32 @@ ends (Some read) node rest e =
 -- one of the four that are tried
 module _ (text : List ℕ) (node : Node) (rest : List ℕ) (Goal : Type 0)
     (strict : node_read text ≡ Some (node, rest) → is_after_node rest ≡ true → Goal)
-    (file : file_read text ≡ Some (node, rest) → is_after_node rest ≡ true → Goal)
-    (call : call_read text ≡ Some (node, rest) → is_after_node rest ≡ true → Goal)
+    (file : begins_call text ≡ true → (name : List ℕ) → after_literal (codes "File(") text ≡ Some name
+    → file_read name ≡ Some (node, rest) → is_after_node rest ≡ true → Goal)
+    (call : begins_call text ≡ true → call_read text ≡ Some (node, rest) → is_after_node rest ≡ true → Goal)
     (bare : bare_read text ≡ Some (node, rest) → Goal) where
-  either_call : ended (either_read (file_read text) (call_read text)) ≡ Some (node, rest) → Goal
-  either_call e =
-      let q = ends (either_read (file_read text) (call_read text)) node rest e in
-      elim (one_read (file_read text) (call_read text) (node, rest) q.0) [
-        | inl f ↦ file f q.1
-        | inr c ↦ call c q.1
-      ]
+  either_call : begins_call text ≡ true → (o : Option (List ℕ)) → after_literal (codes "File(") text ≡ o
+      → ended (file_or_call o text) ≡ Some (node, rest) → Goal
+  either_call b None f e = let q = ends (call_read text) node rest e in call b q.0 q.1
+  either_call b (Some name) f e = let q = ends (file_read name) node rest e in file b name f q.0 q.1
 
-  call_or_name : (b : Bool)
-      → cond b (ended (either_read (file_read text) (call_read text))) (bare_read text) ≡ Some (node, rest)
+  call_or_name : (b : Bool) → begins_call text ≡ b
+      → cond b (ended (file_or_call (after_literal (codes "File(") text) text)) (bare_read text) ≡ Some (node, rest)
       → Goal
-  call_or_name true e = either_call e
-  call_or_name false e = bare e
+  call_or_name true b e = either_call b (after_literal (codes "File(") text) refl e
+  call_or_name false b e = bare e
 
   one_of_four : lenient_read text ≡ Some (node, rest) → Goal
   unfolding lenient_read
   one_of_four e = elim (one_read (ended (node_read text)) _ (node, rest) e) [
     | inl p ↦ let q = ends (node_read text) node rest p in strict q.0 q.1
-    | inr p ↦ call_or_name (begins_call text) p
+    | inr p ↦ call_or_name (begins_call text) refl p
   ]
 
 pub lenient_takes : LenientTakes
 lenient_takes text node rest e = one_of_four text node rest (IsTold node)
     (λ p _. (node_takes text node rest p).0)
-    (λ p _. file_told text node rest p) (λ p _. call_told text node rest p)
+    (λ _ name _ p _. file_told name node rest p) (λ _ p _. call_told text node rest p)
     (λ p. name_told (rooted (name_bytes text)) node (with_rest _ _ node rest p).0) e
 
 pub lenient_again : LenientAgain
@@ -208,7 +195,7 @@ lenient_again text node rest e after =
     let strict : ended (node_read text) ≡ Some (node, rest) =
     ap ended e ∙ ap (λ (b : Bool). read_if b node rest) after in
     ap (λ (o : Option (Node × List ℕ)). either_read o
-    (cond (begins_call text) (ended (either_read (file_read text) (call_read text))) (bare_read text))) strict
+    (cond (begins_call text) (ended (file_or_call (after_literal (codes "File(") text) text)) (bare_read text))) strict
 
 -- the end of a text
 abbrev IsEnd : List ℕ → List ℕ → Type 0
@@ -295,14 +282,13 @@ call_end : (text : List ℕ) (node : Node) (rest : List ℕ)
 call_end text node rest e = let call = called text node rest e in
     subst (λ (x : List ℕ). IsRestOf text x) call.2.1 (cut_end text call.0 call.1)
 
-file_end : (text : List ℕ) (node : Node) (rest : List ℕ)
-    → file_read text ≡ Some (node, rest) → IsRestOf text rest
-file_end text node rest e =
-    let call = filed text node rest e in
-    let begun = bind_some (after_literal (codes "File(") text) cut_call call.0 call.1 in
-    let after = literal_end (codes "File(") false text begun.0 begun.1 in
+file_end : (text name : List ℕ) (node : Node) (rest : List ℕ) → after_literal (codes "File(") text ≡ Some name
+    → file_read name ≡ Some (node, rest) → IsRestOf text rest
+file_end text name node rest begun e =
+    let call = filed name node rest e in
+    let after = literal_end (codes "File(") false text name begun in
     subst (λ (x : List ℕ). IsRestOf text x) call.2.1
-    (then_rest text begun.0 call.0.1 after (cut_end begun.0 call.0 begun.2))
+    (then_rest text name call.0.1 after (cut_end name call.0 call.1))
 
 strict_end : (text : List ℕ) (node : Node) (rest : List ℕ) → node_read text ≡ Some (node, rest)
     → is_after_node rest ≡ true → IsRestOf text rest
@@ -359,5 +345,33 @@ bare_end text node rest e =
 
 pub lenient_ends : LenientEnds
 lenient_ends text node rest e = one_of_four text node rest (IsRestOf text rest × (is_after_node rest ≡ true))
-    (λ p after. (strict_end text node rest p after, after)) (λ p after. (file_end text node rest p, after))
-    (λ p after. (call_end text node rest p, after)) (bare_end text node rest) e
+    (λ p after. (strict_end text node rest p after, after)) (λ _ name begun p after. (file_end text name node rest begun p, after))
+    (λ _ p after. (call_end text node rest p, after)) (bare_end text node rest) e
+
+-- nothing is read where a slash or a comma stands first, or nothing
+no_bytes : (text : List ℕ) → is_after_node text ≡ true → name_bytes text ≡ []
+no_bytes [] e = refl
+no_bytes (c ∷ cs) e = ap (λ (t : Bool). take (name_place cs t) (c ∷ cs)) e
+
+pub lenient_starts : LenientStarts
+lenient_starts text node rest e = by (is_after_node text) refl
+  where
+    no_call : is_after_node text ≡ true → begins_call text ≡ true → is_after_node text ≡ false
+    no_call first call =
+        let none : begins_call text ≡ false = ap (λ (x : List ℕ). list_any (λ c. c == 40) x) (no_bytes text first) in
+        absurd (true≢false (sym call ∙ none))
+
+    strict : node_read text ≡ Some (node, rest) → is_after_node text ≡ false
+    strict p = let read = node_takes text node rest p in ap is_after_node read.1 ∙ node_starts node read.0 rest
+
+    bare : is_after_node text ≡ true → bare_read text ≡ Some (node, rest) → is_after_node text ≡ false
+    bare first p =
+        let name = (with_rest (whole (name_read (rooted (name_bytes text)))) _ node rest p).0 in
+        let none : whole (name_read (rooted (name_bytes text))) ≡ None =
+        ap (λ (x : List ℕ). whole (name_read (rooted x))) (no_bytes text first) ∙ no_name in
+        cc (name, none)
+
+    by : (b : Bool) → is_after_node text ≡ b → is_after_node text ≡ false
+    by false p = p
+    by true p = one_of_four text node rest (is_after_node text ≡ false) (λ q _. strict q)
+        (λ b _ _ _ _. no_call p b) (λ b _ _. no_call p b) (bare p) e

@@ -1,16 +1,20 @@
 -- Nodes as people write them: a field in its place, and forms of the table one group after the other.
-use Rattle.std.proofs.Common.{◌≡◌, ℕ, ◌+◌, ◌-◌, ◌<◌, ◌≤◌, Bool, false, cond, List, [], ◌∷◌, ◌++◌, length, Bor, refl, sym, ap, ◌∙◌, arith}
-use Rattle.std.specs.Prelude.{Option, Some, None, slice_range}
+use Rattle.std.proofs.Common.{◌≡◌, ℕ, ◌+◌, ◌-◌, ◌<◌, ◌≤◌, Bool, true, false, cond, eqb, not, List, [], ◌∷◌, ◌++◌, length, get_or, Bor, refl, sym, ap, ◌∙◌, arith}
+use Rattle.std.specs.Prelude.{Option, Some, None, codes, filter, map, slice_range}
 use Rattle.std.specs.Option.{option_map, option_or}
+use Rattle.std.proofs.lemmas.Bool.{ne_eqb}
+use Rattle.std.proofs.lemmas.List.{length-append, length-map}
+use Rattle.std.proofs.lemmas.List.Sums.{count_by-le-length, length-filter}
 use Rattle.std.proofs.lemmas.List.Edits.{length-between}
+use borrow.Author.Tests.{eq-eqb}
 use borrow.Rule.Slice.PartMut.{put_mid}
 use Rattle.uefi_node_table.specs.Rows.{Form, Piece}
-use Rattle.uefi_node_table.specs.Table.{form_of, forms_from, group_forms, has_form, is_found, table_text, text_in}
+use Rattle.uefi_node_table.specs.Table.{forms_from, group_forms}
 use Rattle.uefi_node_table.proofs.Groups.{next_group}
 use Rattle.uefi_device_nodes.specs.Nodes.{Node}
 use Rattle.uefi_node_reader.specs.FieldReading.{◌>>=◌}
 use Rattle.uefi_node_reader.specs.LenientFields.{after_ending, left_out, piece_set, value_or_spare}
-use Rattle.uefi_node_reader.specs.LenientNodes.{form_set, forms_set, told_in}
+use Rattle.uefi_node_reader.specs.LenientNodes.{form_set, forms_set, is_blank, rooted, tidied, tidied_byte, told_in}
 use Rattle.uefi_node_reader.specs.TableReading.{put_at}
 use Rattle.uefi_node_reader.proofs.Literals.{after_some}
 
@@ -61,18 +65,33 @@ module _ (kind sub_kind : ℕ) (p : Piece) (content text found : List ℕ) (spar
       by None = refl
       by (Some x) = refl
 
--- what is put of a node: its text in the table
-pub text_or_none : (b : Bool) (kind sub_kind : ℕ) (content : List ℕ)
-    → b ≡ has_form false kind sub_kind content
-    → cond b (table_text false kind sub_kind content) [] ≡ table_text false kind sub_kind content
-unfolding has_form table_text
-text_or_none b kind sub_kind content e =
-    let form : Option Form = form_of false kind sub_kind content in
-    ap (λ (t : Bool). cond t (text_in form content) []) e ∙ by form
+-- a name without a backslash at its start, and one with it
+pub rooted_bare : (name : List ℕ) → 1 ≤ length name → (get_or name 0 0 ≡ 92 → ⊥) → rooted name ≡ 92 ∷ name
+rooted_bare [] some other = absurd (omega (arith, some))
+rooted_bare (c ∷ cs) some other = ap (λ (t : Bool). cond t (c ∷ cs) (92 ∷ c ∷ cs)) (ne_eqb c 92 other)
+
+pub rooted_same : (name : List ℕ) → get_or name 0 0 ≡ 92 → rooted name ≡ name
+rooted_same [] e = refl
+rooted_same (c ∷ cs) e = ap (λ (t : Bool). cond t (c ∷ cs) (92 ∷ c ∷ cs)) (eq-eqb c 92 e)
+
+-- a name is no more than one byte longer with its backslash
+pub rooted_long : (name : List ℕ) → length (rooted name) ≤ length name + 1
+rooted_long [] = omega arith
+rooted_long (c ∷ cs) = by (eqb c 92)
   where
-    by : (o : Option Form) → cond (is_found o) (text_in o content) [] ≡ text_in o content
-    by None = refl
-    by (Some form) = refl
+    by : (b : Bool) → length (cond b (c ∷ cs) (92 ∷ c ∷ cs)) ≤ length (c ∷ cs) + 1
+    by true = omega arith
+    by false = omega arith
+
+-- a call is no more than one byte longer, its end, when it is tidied
+pub tidied_long : (text : List ℕ) → length (tidied text) ≤ length text + 1
+tidied_long text = omega (
+  arith,
+  length-append (map tidied_byte (filter (λ c. not (is_blank c)) text)) (codes ")"),
+  length-map (filter (λ c. not (is_blank c)) text) tidied_byte,
+  length-filter (λ c. not (is_blank c)) text,
+  count_by-le-length (λ c. not (is_blank c)) text,
+)
 
 or_assoc : (x y z : Option Node) → option_or x (option_or y z) ≡ option_or (option_or x y) z
 or_assoc None y z = refl

@@ -20,5 +20,8 @@ pub mod Groups
 pub mod PlainNodes
 pub mod NamedFiles
 pub mod NodeLaws
+pub mod Spares
+pub mod LenientFields
+pub mod ToldNodes
 pub mod LenientReads
 pub mod LenientLaws

@@ -33,7 +33,7 @@ asked true b p e = e
 asked false b p e = cc
 
 -- what the test of a form that is read says
-record Sound (form : Form) : Type 0 where
+pub record Sound (form : Form) : Type 0 where
   pub within : list_all (is_within (length (blank form))) form.pieces ≡ true
   pub apart : are_apart form.pieces ≡ true
   pub ends : ends_pieces (is_open form.tail) form.pieces ≡ true
@@ -41,7 +41,7 @@ record Sound (form : Form) : Type 0 where
   pub bytes : All IsByte (blank form)
   pub size : length (blank form) ≡ form.least
 
-sound : (form : Form) → is_read form.mode ≡ true → is_sound form ≡ true → Sound form
+pub sound : (form : Form) → is_read form.mode ≡ true → is_sound form ≡ true → Sound form
 sound form r e =
     let parts = and_parts (list_all (is_within (length (blank form))) form.pieces && are_apart form.pieces) _ (asked (is_read form.mode) _ r e) in
     let low = and_parts (list_all (is_within (length (blank form))) form.pieces) (are_apart form.pieces) parts.0 in
@@ -104,7 +104,7 @@ record Taken (form : Form) (text content rest : List ℕ) : Type 0 where
   pub bytes : All IsByte content
 
 -- fields lie within the head of data
-values_same : (n : ℕ) (head extra : List ℕ) → length head ≡ n → (pieces : List Piece) → list_all (is_within n) pieces ≡ true
+pub values_same : (n : ℕ) (head extra : List ℕ) → length head ≡ n → (pieces : List Piece) → list_all (is_within n) pieces ≡ true
     → (pieces_text pieces (head ++ extra) ≡ pieces_text pieces head) × ((content : List ℕ) → overlay pieces (head ++ extra) content ≡ overlay pieces head content)
 values_same n head extra l [] w = (refl, λ content. refl)
 values_same n head extra l (p ∷ ps) w =

@@ -1,19 +1,19 @@
 -- Nodes as people write them. Each is one that is told.
-use Rattle.std.specs.Prelude.{◌≡◌, ℕ, ◌+◌, Bool, true, false, not, nat_eq, ◌==◌, ◌&&◌, ◌||◌, if◌then◌else◌, List, [], ◌∷◌, ◌++◌, codes, filter, map, take, drop, position, Option, Some, None}
+use Rattle.std.specs.Prelude.{◌≡◌, ℕ, ◌+◌, Bool, true, false, not, ◌==◌, ◌&&◌, ◌||◌, if◌then◌else◌, List, [], ◌∷◌, ◌++◌, codes, filter, map, take, drop, position, Option, Some, None}
 use Rattle.std.specs.Char.{to_ascii_uppercase}
 use Rattle.std.specs.List.{list_any, position_or_len}
 use Rattle.std.specs.Option.{option_map, option_or}
-use Rattle.std.specs.Cmp.Lexicographic.{pointwise}
 use Rattle.uefi_node_table.specs.Rows.{Form}
-use Rattle.uefi_node_table.specs.Table.{forms, table_text}
+use Rattle.uefi_node_table.specs.Table.{forms}
 use Rattle.uefi_node_table.specs.declared.rows.Tail.{Tail}
 use Rattle.uefi_node_table.specs.declared.rows.Tail.TheVariants.{Nothing, Bytes, Repeated}
 use Rattle.uefi_device_nodes.specs.Nodes.{Node, node_with}
 use Rattle.uefi_node_reader.specs.FieldReading.{◌>>=◌, either_read, read_if}
 use Rattle.uefi_node_reader.specs.LenientFields.{after_literal, pieces_set}
 use Rattle.uefi_node_reader.specs.NamedFiles.{ends_name, is_after_node, IsTold, name_bytes, name_read, node_read}
-use Rattle.uefi_node_reader.specs.PlainNodes.{plain_read}
-use Rattle.uefi_node_reader.specs.TableReading.{blank, is_empty, is_read, rest_read, table_read}
+use Rattle.uefi_node_reader.specs.PlainNodes.{types_read}
+use Rattle.uefi_node_reader.specs.TableReading.{blank, is_empty, is_read, rest_read}
+use Rattle.uefi_node_reader.specs.Telling.{tells}
 
 -- the test for a blank: a space or a tab
 abbrev pub is_blank : ℕ → Bool
@@ -44,20 +44,10 @@ form_set form text = if is_read form.mode && is_textless form.tail
     then (after_literal form.start text >>= λ t.
     pieces_set form.kind form.sub_kind form.pieces (blank form) t >>= rest_read form) else None
 
--- the test for a node that was read, if it is this one
-abbrev pub is_node : Node → Option (Node × List ℕ) → Bool
-is_node node None = false
-is_node node (Some read) = (read.0.device_type == node.device_type)
-    && ((read.0.sub_type == node.sub_type) && pointwise nat_eq read.0.content node.content)
-
--- the test for a node whose text in the table is that of this very node
-unfoldable pub tells : Node → Bool
-tells node = is_node node (table_read forms (table_text false node.device_type node.sub_type node.content))
-
 -- the node of a form with data that were read, where nothing stands after them, and its text tells it
 abbrev pub told_in : Form → Option (List ℕ × List ℕ) → Option Node
 told_in form None = None
-told_in form (Some read) = if is_empty read.1 && tells (node_with form.kind form.sub_kind read.0)
+told_in form (Some read) = if is_empty read.1 && tells form (node_with form.kind form.sub_kind read.0)
     then Some (node_with form.kind form.sub_kind read.0) else None
 
 -- the node in the first of these forms that a tidied text has
@@ -72,7 +62,7 @@ whole (Some read) = if is_empty read.1 then Some read.0 else None
 
 -- the node of no kind that a tidied text has
 abbrev pub path_set : List ℕ → Option Node
-path_set text = after_literal (codes "Path(") text >>= λ rest. whole (plain_read (codes "Path(" ++ rest))
+path_set text = after_literal (codes "Path(") text >>= λ rest. whole (types_read rest)
 
 -- the node whose call a text begins with, and what stands after it
 abbrev pub call_read : List ℕ → Option (Node × List ℕ)
@@ -84,10 +74,15 @@ abbrev pub rooted : List ℕ → List ℕ
 rooted [] = []
 rooted (c ∷ cs) = if c == 92 then c ∷ cs else 92 ∷ c ∷ cs
 
--- the node with the name that stands in `File(..)`, as it stands there
+-- the node with the name that a text begins with up to its first `)`, as it stands there
 abbrev pub file_read : List ℕ → Option (Node × List ℕ)
-file_read text = after_literal (codes "File(") text >>= cut_call >>= λ call.
+file_read text = cut_call text >>= λ call.
     option_map (λ node. (node, call.1)) (whole (name_read (rooted call.0)))
+
+-- the node that a text tells from the name on that stands in `File(..)`, or else as another call
+abbrev pub file_or_call : Option (List ℕ) → List ℕ → Option (Node × List ℕ)
+file_or_call None text = call_read text
+file_or_call (Some name) text = file_read name
 
 -- the node with the name that a text begins with, without its first backslash
 abbrev pub bare_read : List ℕ → Option (Node × List ℕ)
@@ -111,7 +106,7 @@ IsRestOf text rest = (first : ℕ) × (front : List ℕ) × (text ≡ first ∷ 
 -- `File(..)`, as another call, or as a bare name
 unfoldable pub lenient_read : List ℕ → Option (Node × List ℕ)
 lenient_read text = either_read (ended (node_read text))
-    (if begins_call text then ended (either_read (file_read text) (call_read text)) else bare_read text)
+    (if begins_call text then ended (file_or_call (after_literal (codes "File(") text) text) else bare_read text)
 
 -- what is read leniently is told
 abbrev pub LenientTakes : Type 0
@@ -122,6 +117,11 @@ LenientTakes = (text : List ℕ) (node : Node) (rest : List ℕ)
 abbrev pub LenientEnds : Type 0
 LenientEnds = (text : List ℕ) (node : Node) (rest : List ℕ) → lenient_read text ≡ Some (node, rest)
     → IsRestOf text rest × (is_after_node rest ≡ true)
+
+-- it begins with no byte that may stand after a node
+abbrev pub LenientStarts : Type 0
+LenientStarts = (text : List ℕ) (node : Node) (rest : List ℕ) → lenient_read text ≡ Some (node, rest)
+    → is_after_node text ≡ false
 
 -- what is read where a node may end is read leniently as the same
 abbrev pub LenientAgain : Type 0

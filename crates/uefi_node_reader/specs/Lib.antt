@@ -6,6 +6,7 @@ pub mod PlainNodes
 pub mod NamedFiles
 pub mod Laws
 pub mod LenientFields
+pub mod Telling
 pub mod LenientNodes
 pub mod Counted
 pub mod TextNodes

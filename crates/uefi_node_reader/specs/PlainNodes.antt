@@ -29,8 +29,12 @@ abbrev pub plain_rest : ℕ → ℕ → List ℕ → Option (Node × List ℕ)
 plain_rest kind sub_kind text = comma_read text >>= λ content. after (codes ")") content.1 >>= λ rest.
     read_if (is_plain (node_with kind sub_kind content.0)) (node_with kind sub_kind content.0) rest
 
--- the node of no kind whose text bytes begin with, and what stands after it
-abbrev pub plain_read : List ℕ → Option (Node × List ℕ)
-plain_read text = after (codes "Path(") text >>= λ t. number_read 10 256 t >>= λ kind.
+-- the node of no kind, and what stands after it, from its type on
+abbrev pub types_read : List ℕ → Option (Node × List ℕ)
+types_read text = number_read 10 256 text >>= λ kind.
     after (codes ",") kind.1 >>= λ u. number_read 10 256 u >>= λ sub_kind.
     plain_rest kind.0 sub_kind.0 sub_kind.1
+
+-- the node of no kind whose text bytes begin with, and what stands after it
+abbrev pub plain_read : List ℕ → Option (Node × List ℕ)
+plain_read text = after (codes "Path(") text >>= types_read

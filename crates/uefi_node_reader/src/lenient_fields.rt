@@ -4,6 +4,7 @@
 ghost use Rattle.std.specs.Prelude.{◌≡◌, ◌+◌, ◌^◌, ◌≤◌, IsTrue, if◌then◌else◌, is_some, length, map};
 ghost use Rattle.std.specs.List.{list_all};
 ghost use Rattle.std.specs.Option.{option_and_then, option_map};
+ghost use Rattle.std.proofs.Math.ListN.{replicate};
 ghost use Rattle.uefi_node_table.specs.Fields.{fits_shape};
 ghost use Rattle.uefi_node_table.specs.Rows.{as_piece, is_within};
 ghost use Rattle.uefi_node_table.specs.Words.{as_word, words_of};
@@ -177,6 +178,14 @@ fn is_number(shape: Shape) -> bool
     matches!(shape, Shape::Hexadecimal | Shape::Decimal)
 }
 
+/// Fills a buffer with a byte. A loop that puts the same byte would be a call of `memset`, which firmware lacks.
+fn put_spare(found: &mut [u8], spare: u8)
+    requires { length found.old ≤ 8 }
+    ensures { found.new ≡ replicate (length found.old) spare }
+{
+    put_low(found, u64::from(spare) * 0x0101_0101_0101_0101);
+}
+
 /// Fills a buffer with the bytes of a field, or with `spare` where a number is left out. Returns what stands
 /// after it.
 fn value_or_spare<'a>(shape: Shape, spare: u8, found: &mut [u8], text: &'a [u8]) -> Option<&'a [u8]>
@@ -185,7 +194,7 @@ fn value_or_spare<'a>(shape: Shape, spare: u8, found: &mut [u8], text: &'a [u8])
         ≡ value_or_spare shape spare (length found.old) text.now }
 {
     if is_number(shape) && first_of(text) == b')' {
-        found.fill(spare);
+        put_spare(found, spare);
         return Some(text);
     }
     read_field(shape, found, text)

@@ -18,7 +18,7 @@ mod node_tails;
 pub mod nodes;
 mod numerals;
 mod plain;
-mod storing;
 mod table_reader;
+mod telling;
 #[doc(hidden)]
 pub mod text_node;

@@ -6,7 +6,7 @@ ghost use Rattle.std.specs.Option.{option_and_then, option_map};
 ghost use Rattle.uefi_device_nodes.specs.Nodes.{node_with};
 ghost use Rattle.uefi_device_nodes.specs.NodeTexts.{is_irregular};
 ghost use Rattle.uefi_node_reader.specs.Numerals.{number_read};
-ghost use Rattle.uefi_node_reader.specs.PlainNodes.{is_plain, plain_read, plain_rest};
+ghost use Rattle.uefi_node_reader.specs.PlainNodes.{is_plain, plain_read, plain_rest, types_read};
 ghost use Rattle.uefi_node_reader.specs.TextNodeViews.{text_node};
 
 use crate::fields::after;
@@ -53,10 +53,9 @@ fn byte_number(text: &[u8]) -> Option<(u8, &[u8])>
 
 /// The type and the sub-type that a text begins with, and what stands after them.
 fn types(text: &[u8]) -> Option<(u8, u8, &[u8])>
-    ensures { option_and_then (λ x. plain_rest x.0 x.1 x.2.now) result ≡ plain_read text.now }
+    ensures { option_and_then (λ x. plain_rest x.0 x.1 x.2.now) result ≡ types_read text.now }
 {
-    let rest = after(b"Path(", text)?;
-    let (device_type, rest) = byte_number(rest)?;
+    let (device_type, rest) = byte_number(text)?;
     let rest = after(b",", rest)?;
     let (sub_type, rest) = byte_number(rest)?;
     Some((device_type, sub_type, rest))
@@ -82,10 +81,17 @@ fn plain_from<'a>(device_type: u8, sub_type: u8, text: &'a [u8]) -> Option<(Text
     Some((node, rest))
 }
 
+/// Reads a node of no kind from its type on. Returns what stands after it, too.
+pub(crate) fn plain_types(text: &[u8]) -> Option<(TextNode<'_>, &[u8])>
+    ensures { option_map (λ x. (text_node x.0, x.1.now)) result ≡ types_read text.now }
+{
+    let (device_type, sub_type, rest) = types(text)?;
+    plain_from(device_type, sub_type, rest)
+}
+
 /// Reads a node of no kind. Returns what stands after it, too.
 pub(crate) fn plain(text: &[u8]) -> Option<(TextNode<'_>, &[u8])>
     ensures { option_map (λ x. (text_node x.0, x.1.now)) result ≡ plain_read text.now }
 {
-    let (device_type, sub_type, rest) = types(text)?;
-    plain_from(device_type, sub_type, rest)
+    plain_types(after(b"Path(", text)?)
 }

@@ -15,17 +15,18 @@ use crate::name_data::push_name;
 use crate::node_tails::push_tail;
 use uefi_node_table::rows::Tail;
 
-/// A node whose text was read. A contract sees it as `text_node` of it.
+/// A node whose text was read. A contract sees it as `text_node` of it. Its numbers are small, so that it is moved
+/// without a call of `memcpy`, which firmware lacks.
 #[derive(Clone, Copy)]
 pub struct TextNode<'a> {
     device_type: u8,
     sub_type: u8,
     head: [u8; 64],
-    fixed: usize,
+    fixed: u8,
     coding: Coding,
     close: &'static str,
     text: &'a [u8],
-    len: usize,
+    len: u16,
     pub ghost small: { fixed ≤ 64 },
     pub ghost coded: { is_coded coding close.now text.now ≡ true },
     pub ghost counted: { len ≡ length (all_data head fixed coding close.now text.now) },
@@ -61,11 +62,11 @@ impl<'a> TextNode<'a> {
             device_type,
             sub_type,
             head,
-            fixed,
+            fixed: fixed as u8,
             coding: Coding::InTail(tail),
             close,
             text,
-            len,
+            len: len as u16,
         };
         Some((node, rest))
     }
@@ -88,7 +89,7 @@ impl<'a> TextNode<'a> {
             coding: Coding::InName,
             close: "",
             text: name.as_bytes(),
-            len,
+            len: len as u16,
         })
     }
 
@@ -105,7 +106,7 @@ impl<'a> TextNode<'a> {
         ensures count { result ≡ length (text_node self.now).content }
         ensures fits { result ≤ 0xfffb }
     {
-        self.len
+        usize::from(self.len)
     }
 
     /// The first bytes of the data, at most 64.
@@ -113,7 +114,7 @@ impl<'a> TextNode<'a> {
         ensures { result.now ≡ take 64 (text_node self.now).content }
     {
         if self.len < 64 {
-            return &self.head[..self.len];
+            return &self.head[..usize::from(self.len)];
         }
         &self.head
     }
@@ -123,7 +124,7 @@ impl<'a> TextNode<'a> {
         requires { length bytes.old ≡ length (text_node self.now).content }
         ensures { bytes.new ≡ (text_node self.now).content }
     {
-        let len = push_all(bytes, 0, &self.head[..self.fixed]);
+        let len = push_all(bytes, 0, &self.head[..usize::from(self.fixed)]);
         match self.coding {
             Coding::InTail(tail) => {
                 let _ = push_tail(tail, self.close.as_bytes(), bytes, len, self.text);

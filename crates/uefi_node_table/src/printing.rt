@@ -22,7 +22,7 @@ use uefi_text::number_texts::put_decimal;
 use uefi_text::text_sink::TextSink;
 
 /// The number that bytes encode, the low byte first.
-fn number_of(bytes: &[u8]) -> u64
+pub fn number_of(bytes: &[u8]) -> u64
     requires { length bytes.now ≤ 8 }
     ensures number { result ≡ little_endian bytes.now }
     ensures small { result < 256 ^ length bytes.now }
@@ -209,7 +209,7 @@ fn find_row<'a>(
 }
 
 /// The form of the table that a node is printed in.
-fn form_of(display_only: bool, kind: u8, sub_kind: u8, content: &[u8]) -> Option<&'static Row>
+pub fn form_of(display_only: bool, kind: u8, sub_kind: u8, content: &[u8]) -> Option<&'static Row>
     ensures { option_map (λ row. as_form row.now) result
         ≡ find_form (matches display_only kind sub_kind content.now) forms }
 {

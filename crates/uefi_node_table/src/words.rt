@@ -128,7 +128,7 @@ pub fn words_of(words: Words) -> &'static [Word]
 }
 
 /// Whether a word stands for a number.
-fn suits(word: &Word, number: u64) -> bool
+pub fn suits(word: &Word, number: u64) -> bool
     ensures { result ≡ suits number (as_word word.now) }
 {
     word.mask == 0 || number & word.mask == word.number

@@ -1,0 +1,58 @@
+-- The nodes that a text is read as are added, one after the other, to the path that a buffer begins with.
+use Rattle.std.proofs.Common.{◌≡◌, ℕ, ◌+◌, ◌<◌, ◌≤◌, Bool, true, List, [], ◌∷◌, ◌++◌, length, take, drop, refl, ap, sym, subst, ◌∙◌, append_assoc}
+use Rattle.std.proofs.lemmas.List.{append-nil}
+use Rattle.uefi_device_nodes.specs.Nodes.{Node, node_length}
+use Rattle.uefi_device_path.specs.LenientReading.{IsReadable, IsReadAs, ReadsTo}
+use Rattle.uefi_device_path.specs.LenientReading.ReadsTo.{Begins}
+use Rattle.uefi_device_path.specs.Paths.{IsPath, nodes_in, path_bytes, without_end}
+use Rattle.uefi_node_reader.specs.LenientNodes.{LenientStarts}
+use Rattle.uefi_device_path.proofs.LenientReading.{first_of_all, reads_rest}
+use Rattle.uefi_device_path.proofs.PushedTexts.{Holds, holds_next, room_for_more}
+
+-- a buffer has room for the path of these nodes and of those that a text is read as
+abbrev pub HasRoom : List ℕ → List ℕ → List Node → Type 0
+HasRoom old text before = (read : List Node) → IsReadAs text read → length (path_bytes (before ++ read)) ≤ length old
+
+-- the nodes that were read and added so far
+pub record Puts (old text : List ℕ) (before : List Node) (new : List ℕ) (end : ℕ) (at_start : Bool)
+    (rest : List ℕ) : Type 0 where
+  pub done : List Node
+  pub on : ReadsTo text done at_start rest
+  pub holds : Holds old (before ++ done) new end
+
+pub puts_none : (old text : List ℕ) (len : ℕ) → len ≤ length old → IsPath (take len old)
+    → Puts old text (nodes_in (without_end (take len old))) old len true text
+puts_none old text len within path = record {
+  done = [];
+  on = Begins;
+  holds = record {
+    within = within;
+    path = path;
+    shown = sym (append-nil (nodes_in (without_end (take len old))));
+    same = refl;
+    rest = refl;
+  };
+}
+
+-- there is room for one node more
+pub room_for_next : LenientStarts → (old new text : List ℕ) (before done : List Node) (node : Node) (end : ℕ) (s : Bool) (rest : List ℕ)
+    → Holds old (before ++ done) new end → ReadsTo text (done ++ node ∷ []) s rest → IsReadable text → HasRoom old text before
+    → end + node_length node ≤ length new
+room_for_next starts old new text before done node end s rest on more (all, read) room =
+    let x = first_of_all starts text all (reads_rest text all read) more in
+    room_for_more old new before done x.0 node end on
+    (subst (λ (l : List Node). length (path_bytes (before ++ l)) ≤ length old) x.1.0 (room all read))
+
+pub puts_next : LenientStarts → (old text : List ℕ) (before done : List Node) (node : Node) (new newer : List ℕ) (end more : ℕ)
+    (s : Bool) (rest : List ℕ) → Holds old (before ++ done) new end → ReadsTo text (done ++ node ∷ []) s rest
+    → IsReadable text → HasRoom old text before
+    → more ≡ end + node_length node → length newer ≡ length new → IsPath (take more newer)
+    → nodes_in (without_end (take more newer)) ≡ nodes_in (without_end (take end new)) ++ node ∷ []
+    → drop more newer ≡ drop more new → Puts old text before newer more s rest
+puts_next starts old text before done node new newer end more s rest on reads readable room is long path shown after = record {
+  done = done ++ node ∷ [];
+  on = reads;
+  holds = subst (λ (ns : List Node). Holds old ns newer more) (append_assoc before done (node ∷ []))
+      (holds_next old new newer (before ++ done) node end more on
+      (room_for_next starts old new text before done node end s rest on reads readable room) is long path shown after);
+}

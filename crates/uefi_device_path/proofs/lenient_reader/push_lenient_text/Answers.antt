@@ -1,0 +1,50 @@
+use Rattle.std.proofs.Common.{true, false, List, sym, subst, arith}
+use Rattle.std.proofs.lemmas.Bool.Decides.{nat_tests}
+use Rattle.uefi_device_nodes.specs.Nodes.{Node}
+use Rattle.uefi_node_reader.specs.TextNodeViews.{text_node}
+use Rattle.uefi_device_path.specs.LenientReading.{ReadsTo}
+use Rattle.uefi_device_path.specs.LenientReading.ReadsTo.{Begins}
+use Rattle.uefi_device_path.proofs.LenientReading.{all_read, over_comma, over_node, place_within, read_never_stops, stopped}
+use Rattle.uefi_device_path.proofs.lenient_reader.push_lenient_text.Goals as goal
+
+pub nodes-init : goal.nodes-init
+nodes-init g c =
+    let text = c.args.text.now in
+    subst (λ (x : List Node). ReadsTo text x true text) (sym c.requires.empty) Begins
+
+pub nodes-preserved-in-Some : goal.nodes-preserved-in-Some
+nodes-preserved-in-Some g c =
+    subst (λ (x : List Node). ReadsTo c.args.text.now x true c.in-Some.after.now) (sym c.in_ok-push_end-in-Some.ensures.ok)
+    (over_comma c.args.text.now c.nodes.path c.nodes.at_start c.nodes.rest.now c.in-Some.after.now c.nodes.invariant c.in-Some.ensures).0
+
+pub first_lenient_node-requires : goal.first_lenient_node-requires
+first_lenient_node-requires g c =
+    let within = place_within c.nodes_are_read_leniently.ensures.ends c.args.text.now c.nodes.path c.nodes.at_start c.nodes.rest.now
+    c.node_start-place.result.now c.nodes.invariant c.node_start-place.ensures in
+    omega (arith, within, c.requires.room, c.nodes.auto.scratch)
+
+pub unreachable-requires : goal.unreachable-requires
+unreachable-requires g c =
+    let laws = c.nodes_are_read_leniently.ensures in
+    let (nodes, read) = c.requires.readable in
+    read_never_stops laws.starts c.args.text.now nodes _ read
+    (stopped laws.ends c.args.text.now c.nodes.path c.nodes.at_start c.nodes.rest.now c.node_start-place.result.now
+    c.nodes.invariant c.in-None.ensures c.node_start-place.ensures c.in_default.ensures)
+
+pub nodes-preserved : goal.nodes-preserved
+nodes-preserved g c =
+    subst (λ (x : List Node). ReadsTo c.args.text.now x false c.in-Some-first_lenient_node.after.now)
+    (sym c.in_ok-push_node-in-None.ensures.ok)
+    (over_node c.nodes_are_read_leniently.ensures.ends c.args.text.now c.nodes.path c.nodes.at_start c.nodes.rest.now
+    c.node_start-place.result.now c.in-Some-first_lenient_node.after.now (text_node c.in-Some-first_lenient_node.node.node)
+    c.nodes.invariant c.in-None.ensures c.node_start-place.ensures c.in-Some-first_lenient_node.ensures).0
+
+pub nodes-smaller : goal.nodes-smaller
+nodes-smaller g c =
+    (over_node c.nodes_are_read_leniently.ensures.ends c.args.text.now c.nodes.path c.nodes.at_start c.nodes.rest.now
+    c.node_start-place.result.now c.in-Some-first_lenient_node.after.now (text_node c.in-Some-first_lenient_node.node.node)
+    c.nodes.invariant c.in-None.ensures c.node_start-place.ensures c.in-Some-first_lenient_node.ensures).1
+
+pub returns : goal.returns
+returns g c =
+    all_read c.args.text.now c.nodes.path c.nodes.at_start c.nodes.rest.now c.nodes.invariant (grind (arith, nat_tests))

@@ -1,0 +1,128 @@
+-- What is read leniently of fields are bytes, as many as the data had.
+use Rattle.std.proofs.Common.{◌≡◌, ℕ, zero, suc, ◌+◌, ◌^◌, ◌<◌, ◌≤◌, Bool, true, false, cond, eqb, ◌&&◌, ◌||◌, List, [], ◌∷◌, ◌++◌, length, drop, refl, sym, ap, subst, ◌∙◌, arith}
+use Rattle.std.specs.Prelude.{All, Option, Some, None}
+use Rattle.std.specs.List.{list_all}
+use Rattle.std.proofs.Math.ListN.{replicate}
+use Rattle.std.proofs.Math.Seq.{drop-append_seam}
+use Rattle.std.proofs.lemmas.Bool.{and_parts}
+use Rattle.std.proofs.lemmas.List.Elements.{All-append, All-cons, All-nil}
+use Rattle.uefi_text.specs.Packed.{IsByte}
+use Rattle.uefi_node_table.specs.Fields.{fits_shape}
+use Rattle.uefi_node_table.specs.Rows.{Form, Piece, is_within}
+use Rattle.uefi_node_table.specs.Words.{Word}
+use Rattle.uefi_node_table.specs.declared.rows.Shape.{Shape}
+use Rattle.uefi_node_table.specs.declared.rows.Shape.TheVariants.{Hexadecimal, Decimal, OrDefault, Back, Forth, Dashed, Next, Padded, Word as WordShape}
+use Rattle.uefi_node_reader.specs.FieldReading.{◌>>=◌, IsValue, as_bytes, field_read, less_one, low_bytes}
+use Rattle.uefi_node_reader.specs.LenientFields.{after_ending, after_literal, any_field, any_number, any_word, is_number, left_out, number_or_word, past_base, piece_set, pieces_set, value_or_spare}
+use Rattle.uefi_node_reader.specs.LenientNodes.{form_set, is_textless}
+use Rattle.uefi_node_reader.specs.TableReading.{IsTailTold, added, blank, closed, first_of, is_read, is_sound, put_at, rest_read, tail_read}
+use Rattle.uefi_node_table.specs.Words.{words_of}
+use Rattle.uefi_node_reader.specs.WordReading.{after}
+use Rattle.uefi_node_reader.proofs.Digits.{some_pair}
+use Rattle.uefi_node_reader.proofs.FieldLaws.{field_takes, low_is}
+use Rattle.uefi_node_reader.proofs.Literals.{bind_some}
+use Rattle.uefi_node_reader.proofs.PieceLaws.{within_parts}
+use Rattle.uefi_node_reader.proofs.Places.{length-put, put_bytes}
+use Rattle.uefi_node_reader.proofs.TableLaws.{Sound, sound}
+use Rattle.uefi_node_reader.proofs.TailLaws.{tail_takes}
+
+-- the bytes of a number
+low_value_is : (width : ℕ) (o : Option (ℕ × List ℕ)) (value rest : List ℕ)
+    → (o >>= as_bytes width) ≡ Some (value, rest) → IsValue width value
+low_value_is width None value rest e = cc
+low_value_is width (Some n) value rest e =
+    let same = some_pair (low_bytes width n.0, n.1) (value, rest) e in
+    subst (λ (x : List ℕ). IsValue width x) same.0 (low_is width n.0)
+
+-- the bytes of a field
+any_value : (shape : Shape) (width : ℕ) → fits_shape shape width ≡ true → (text value rest : List ℕ)
+    → any_field shape width text ≡ Some (value, rest) → IsValue width value
+any_value Hexadecimal width f text value rest e = low_value_is width (any_number (256 ^ width) text) value rest e
+any_value Decimal width f text value rest e = low_value_is width (any_number (256 ^ width) text) value rest e
+any_value OrDefault width f text value rest e = low_value_is width (number_or_word (256 ^ width) text) value rest e
+any_value Next width f text value rest e = low_value_is width (any_number 257 text >>= less_one) value rest e
+any_value (WordShape list) width f text value rest e = low_value_is width (any_word (words_of list) text) value rest e
+any_value Back width f text value rest e = (field_takes Back width f (past_base text) value rest e).1
+any_value Forth width f text value rest e = (field_takes Forth width f (past_base text) value rest e).1
+any_value Dashed width f text value rest e = (field_takes Dashed width f (past_base text) value rest e).1
+any_value Padded width f text value rest e = (field_takes Padded width f (past_base text) value rest e).1
+
+-- bytes that are left out
+spares : (width spare : ℕ) → spare < 256 → IsValue width (replicate width spare)
+spares zero spare l = (refl, All-nil IsByte)
+spares (suc width) spare l =
+    let others = spares width spare l in
+    (ap suc others.0, All-cons IsByte spare (replicate width spare) l others.1)
+
+left_small : (kind sub_kind place : ℕ) → left_out kind sub_kind place < 256
+left_small kind sub_kind place = by (eqb kind 3 && (eqb sub_kind 15 || (eqb sub_kind 18 && eqb place 2)))
+  where
+    by : (b : Bool) → cond b 0xff 0 < 256
+    by true = omega arith
+    by false = omega arith
+
+spare_value : (shape : Shape) (spare width : ℕ) → spare < 256 → fits_shape shape width ≡ true → (text value rest : List ℕ)
+    → value_or_spare shape spare width text ≡ Some (value, rest) → IsValue width value
+spare_value shape spare width l f text value rest e = by (is_number shape && eqb (first_of text) 41) e
+  where
+    by : (b : Bool) → cond b (Some (replicate width spare, text)) (any_field shape width text) ≡ Some (value, rest)
+        → IsValue width value
+    by true p = let same = some_pair (replicate width spare, text) (value, rest) p in
+        subst (λ (x : List ℕ). IsValue width x) same.0 (spares width spare l)
+    by false p = any_value shape width f text value rest p
+
+-- fields in their places
+pub pieces_set_bytes : (kind sub_kind n : ℕ) (pieces : List Piece) (content text found rest : List ℕ)
+    → list_all (is_within n) pieces ≡ true → length content ≡ n → All IsByte content
+    → pieces_set kind sub_kind pieces content text ≡ Some (found, rest)
+    → (length found ≡ n) × All IsByte found
+pieces_set_bytes kind sub_kind n [] content text found rest w l c e =
+    let same = some_pair (content, text) (found, rest) e in
+    (sym (ap length same.0) ∙ l, subst (λ (x : List ℕ). All IsByte x) same.0 c)
+pieces_set_bytes kind sub_kind n (p ∷ ps) content text found rest w l c e =
+    let ws = and_parts (is_within n p) (list_all (is_within n) ps) w in
+    let here = within_parts n p ws.0 in
+    let x = bind_some (piece_set kind sub_kind p content text) _ (found, rest) e in
+    let v = bind_some (value_or_spare p.shape (left_out kind sub_kind p.place) p.width text) _ x.0 x.1 in
+    let t = bind_some (after_ending p.ending v.0.1) _ x.0 v.2 in
+    let same = some_pair (put_at p v.0.0 content, t.0) x.0 t.2 in
+    let value = spare_value p.shape (left_out kind sub_kind p.place) p.width (left_small kind sub_kind p.place) here.1 text v.0.0 v.0.1 v.1 in
+    let long : p.place + p.width ≤ length content = omega (arith, here.0, l) in
+    pieces_set_bytes kind sub_kind n ps (put_at p v.0.0 content) t.0 found rest ws.1
+    (length-put p v.0.0 content value.0 long ∙ l) (put_bytes p v.0.0 content value.1 c)
+    ((λ i. pieces_set kind sub_kind ps (same.0 i) (same.1 i)) ∙ x.2)
+
+-- what is known of data that were read in a form
+pub record SetIn (form : Form) (content : List ℕ) : Type 0 where
+  pub bytes : All IsByte content
+  pub tail : IsTailTold form.tail form.close (drop form.least content)
+
+-- what is read of its text
+abbrev set_body : Form → List ℕ → Option (List ℕ × List ℕ)
+set_body form text = after_literal form.start text >>= λ t.
+    pieces_set form.kind form.sub_kind form.pieces (blank form) t >>= rest_read form
+
+pub form_set_in : (form : Form) → is_sound form ≡ true → (text content rest : List ℕ)
+    → form_set form text ≡ Some (content, rest) → SetIn form content
+form_set_in form s text content rest e = by (is_read form.mode) (is_textless form.tail) refl e
+  where
+    by : (a b : Bool) → is_read form.mode ≡ a → cond (a && b) (set_body form text) None ≡ Some (content, rest) → SetIn form content
+    by false b p q = cc
+    by true false p q = cc
+    by true true p q =
+        let is = sound form p s in
+        let t = bind_some (after_literal form.start text) _ (content, rest) q in
+        let h = bind_some (pieces_set form.kind form.sub_kind form.pieces (blank form) t.0) (rest_read form) (content, rest) t.2 in
+        let a = bind_some (tail_read form.tail form.close h.0.1 >>= added h.0.0) (closed form.close) (content, rest) h.2 in
+        let x = bind_some (tail_read form.tail form.close h.0.1) (added h.0.0) a.0 a.1 in
+        let c = bind_some (after form.close a.0.1) _ (content, rest) a.2 in
+        let same = some_pair (h.0.0 ++ x.0.0, x.0.1) a.0 x.2 in
+        let same_end = some_pair (a.0.0, c.0) (content, rest) c.2 in
+        let fields = pieces_set_bytes form.kind form.sub_kind (length (blank form)) form.pieces (blank form) t.0 h.0.0 h.0.1 is.within refl is.bytes h.1 in
+        let tail = tail_takes form.tail form.close h.0.1 x.0.0 x.0.1 x.1 in
+        let left : drop form.least (h.0.0 ++ x.0.0) ≡ x.0.0 =
+        ap (λ (k : ℕ). drop k (h.0.0 ++ x.0.0)) (sym is.size ∙ sym fields.0) ∙ drop-append_seam h.0.0 x.0.0 in
+        subst (λ (y : List ℕ). SetIn form y) (same.0 ∙ same_end.0) (record {
+          bytes = All-append IsByte h.0.0 x.0.0 fields.1 tail.1;
+          tail = subst (λ (y : List ℕ). IsTailTold form.tail form.close y) (sym left) tail.2;
+        })

@@ -1,0 +1,182 @@
+-- A node whose text holds all of it, by what was read, is told by the table.
+use Rattle.std.proofs.Common.{◌≡◌, ℕ, ◌+◌, ◌-◌, ◌^◌, ◌≤◌, min, Bool, true, false, eqb, leb, ◌&&◌, List, [], ◌++◌, length, take, drop, refl, sym, ap, subst, ◌∙◌, arith}
+use Rattle.std.specs.Prelude.{All, Option, Some, None, nat_eq}
+use Rattle.std.specs.Cmp.Lexicographic.{pointwise, same_text}
+use Rattle.std.proofs.lemmas.Bool.{and_parts, le-leb}
+use Rattle.std.proofs.lemmas.List.{drop-drop, drop_all, length-take, length-take-le, take-append-drop, take-take, take_all}
+use Rattle.std.specs.List.{list_all}
+use borrow.Author.Tests.{eqb-true}
+use Rattle.uefi_text.specs.Packed.{IsByte}
+use Rattle.uefi_node_table.specs.Rows.{Form, Piece, find_form, is_within, item_of}
+use Rattle.uefi_node_table.specs.Table.{forms}
+use Rattle.uefi_node_table.specs.declared.rows.Items.{Items}
+use Rattle.uefi_node_table.specs.declared.rows.Items.TheVariants.{Numbers, Ipv4, Ipv6}
+use Rattle.uefi_node_table.specs.declared.rows.Mode.{Mode}
+use Rattle.uefi_node_table.specs.declared.rows.Mode.TheVariants.{Read, Printed, Display}
+use Rattle.uefi_node_table.specs.declared.rows.Shape.{Shape}
+use Rattle.uefi_node_table.specs.declared.rows.Shape.TheVariants.{Hexadecimal, Decimal, OrDefault, Back, Forth, Dashed, Next, Padded, Word}
+use Rattle.uefi_node_table.specs.declared.words.Words.{Words}
+use Rattle.uefi_node_table.specs.declared.rows.Tail.{Tail}
+use Rattle.uefi_node_table.specs.declared.rows.Tail.TheVariants.{Nothing, Bytes, Text, Utf16, Name, Repeated}
+use Rattle.uefi_node_table.proofs.Forms.{found, long_enough}
+use Rattle.uefi_device_nodes.specs.Nodes.{Node, node_with}
+use Rattle.uefi_node_reader.specs.Counted.{pushed}
+use Rattle.uefi_node_reader.specs.FieldReading.{field_kept}
+use Rattle.uefi_node_reader.specs.TableReading.{AreItems, IsTabled, IsTailTold, blank, is_filled, is_read, is_sound, overlay, prints, put_at}
+use Rattle.uefi_node_reader.specs.Telling.{are_items, tells, tells_data, tells_fixed, tells_tail}
+use Rattle.uefi_node_reader.proofs.CountedBytes.{pushed_is}
+use Rattle.uefi_node_reader.proofs.Groups.{table_filled, table_sound}
+use Rattle.uefi_node_reader.proofs.Heads.{form_same}
+use Rattle.uefi_node_reader.proofs.LenientFields.{SetIn}
+use Rattle.uefi_node_reader.proofs.TableLaws.{Sound, sound, values_same}
+
+-- the same items
+same_items : (items : Items) (tail : Tail) (close bytes : List ℕ) → are_items items tail ≡ true
+    → IsTailTold tail close bytes → AreItems (item_of items) bytes
+same_items Numbers (Repeated Numbers) close bytes e told = told
+same_items Ipv4 (Repeated Ipv4) close bytes e told = told
+same_items Ipv6 (Repeated Ipv6) close bytes e told = told
+same_items items tail close bytes e told = cc
+
+tail_told : (read : Form) (content : List ℕ) → SetIn read content → (least : ℕ) (tail : Tail) (close : List ℕ)
+    → tells_tail read least tail (length content) ≡ true → IsTailTold tail close (drop least content)
+tail_told read content is least Nothing close e =
+    drop_all least content (omega (arith, eqb-true (length content) least e))
+tail_told read content is least Bytes close e = tt
+tail_told read content is least (Repeated items) close e =
+    let parts = and_parts (are_items items read.tail) (eqb read.least least) e in
+    same_items items read.tail read.close (drop least content) parts.0
+    (subst (λ (n : ℕ). IsTailTold read.tail read.close (drop n content)) (eqb-true read.least least parts.1) is.tail)
+tail_told read content is least Text close e = cc
+tail_told read content is least Utf16 close e = cc
+tail_told read content is least Name close e = cc
+
+-- what passes the test is told
+pub tells_told : (read : Form) (node : Node) → SetIn read node.content → tells read node ≡ true → IsTabled forms node
+unfolding tells
+tells_told read node is e =
+    let parts = and_parts (leb (length node.content) 0xfffb) (tells_data read node.content (find_form (prints node) forms)) e in
+    by (find_form (prints node) forms) refl parts.0 parts.1
+  where
+    content : List ℕ
+    content = node.content
+
+    by : (o : Option Form) → find_form (prints node) forms ≡ o → leb (length node.content) 0xfffb ≡ true
+        → tells_data read node.content o ≡ true → IsTabled forms node
+    by None f l t = cc
+    by (Some form) f l t =
+        let first = and_parts (is_read form.mode) (tells_fixed form (take form.least node.content) && tells_tail read form.least form.tail (length node.content)) t in
+        let second = and_parts (tells_fixed form (take form.least node.content)) (tells_tail read form.least form.tail (length node.content)) first.1 in
+        let test = found (prints node) is_sound forms form f table_sound in
+        let s = sound form first.0 test.0 in
+        let long = long_enough false node.device_type node.sub_type node.content form test.1 in
+        let head : List ℕ = take form.least node.content in
+        let extra : List ℕ = drop form.least node.content in
+        let whole : head ++ extra ≡ node.content = take-append-drop form.least node.content in
+        let within : list_all (is_within form.least) form.pieces ≡ true = ap (λ (n : ℕ). list_all (is_within n) form.pieces) (sym s.size) ∙ s.within in
+        let values = values_same form.least head extra (length-take-le form.least node.content long) form.pieces within in
+        let fixed = same_text (overlay form.pieces head (blank form)) head (sym second.0) in
+        record {
+          form = form;
+          found = f;
+          read = first.0;
+          whole = (
+            ap (λ (x : List ℕ). overlay form.pieces x (blank form) ++ extra) (sym whole)
+                ∙ ap (λ (x : List ℕ). x ++ extra) (values.1 (blank form) ∙ fixed) ∙ whole,
+            tail_told read node.content is form.least form.tail form.close second.1,
+          );
+          bytes = is.bytes;
+          fits = l;
+        }
+
+-- the form in which a node is printed, found by its first bytes
+pub record ShownIn (node : Node) (form : Form) : Type 0 where
+  pub chosen : find_form (prints node) forms ≡ Some form
+  pub sounds : is_sound form ≡ true
+  pub fills : is_filled form ≡ true
+  pub within : form.least ≤ length (take 64 node.content)
+  pub head : take form.least (take 64 node.content) ≡ take form.least node.content
+
+pub shown_in : (node : Node) (form : Form)
+    → Some form ≡ find_form (prints (node_with node.device_type node.sub_type (take 64 node.content))) forms → ShownIn node form
+shown_in node form e =
+    let short : Node = node_with node.device_type node.sub_type (take 64 node.content) in
+    let test = found (prints short) is_sound forms form (sym e) table_sound in
+    let long : form.least ≤ length (take 64 node.content) = long_enough false node.device_type node.sub_type (take 64 node.content) form test.1 in
+    let size = length-take 64 node.content in
+    record {
+      chosen = sym (form_same node.device_type node.sub_type node.content) ∙ sym e;
+      sounds = test.0;
+      fills = (found (prints short) is_filled forms form (sym e) table_filled).0;
+      within = long;
+      head = take-take form.least 64 node.content (omega (arith, long, size));
+    }
+
+-- no form
+pub shown_not : (node : Node)
+    → None ≡ find_form (prints (node_with node.device_type node.sub_type (take 64 node.content))) forms
+    → find_form (prints node) forms ≡ None
+shown_not node e = sym (form_same node.device_type node.sub_type node.content) ∙ sym e
+
+-- the same form by the parts of the node
+pub by_parts : (node : Node) (kind sub_kind : ℕ) (head : List ℕ) (o : Option Form) → kind ≡ node.device_type
+    → sub_kind ≡ node.sub_type → head ≡ take 64 node.content → o ≡ find_form (prints (node_with kind sub_kind head)) forms
+    → o ≡ find_form (prints (node_with node.device_type node.sub_type (take 64 node.content))) forms
+by_parts node kind sub_kind head o k s h e = e ∙ (λ i. find_form (prints (node_with (k i) (s i) (h i))) forms)
+
+-- a node in no form, or in one that is not read
+no : (x : Bool) → false ≡ x && false
+no true = refl
+no false = refl
+
+pub tells_none : (read : Form) (node : Node) → find_form (prints node) forms ≡ None → false ≡ tells read node
+unfolding tells
+tells_none read node e = no (leb (length node.content) 0xfffb)
+    ∙ ap (λ (o : Option Form). leb (length node.content) 0xfffb && tells_data read node.content o) (sym e)
+
+not_read : (mode : Mode) → (mode ≡ Read → ⊥) → is_read mode ≡ false
+not_read Read other = absurd (other refl)
+not_read Printed other = refl
+not_read Display other = refl
+
+pub tells_other : (read : Form) (node : Node) (form : Form) → find_form (prints node) forms ≡ Some form
+    → (form.mode ≡ Read → ⊥) → false ≡ tells read node
+unfolding tells
+tells_other read node form e other =
+    let rest : Bool = tells_fixed form (take form.least node.content) && tells_tail read form.least form.tail (length node.content) in
+    no (leb (length node.content) 0xfffb)
+    ∙ ap (λ (t : Bool). leb (length node.content) 0xfffb && (t && rest)) (sym (not_read form.mode other))
+    ∙ ap (λ (o : Option Form). leb (length node.content) 0xfffb && tells_data read node.content o) (sym e)
+
+-- a node in one that is
+pub tells_is : (read : Form) (node : Node) (form : Form) → ShownIn node form → form.mode ≡ Read
+    → length node.content ≤ 0xfffb → (fixed tail : Bool)
+    → fixed ≡ tells_fixed form (take form.least (take 64 node.content))
+    → tail ≡ tells_tail read form.least form.tail (length node.content) → fixed && tail ≡ tells read node
+unfolding tells
+tells_is read node form shown is fits fixed tail f t =
+    (λ i. sym (le-leb (length node.content) 0xfffb fits) i && (sym (ap is_read is) i
+    && ((f ∙ ap (tells_fixed form) shown.head) i && t i)))
+    ∙ ap (λ (o : Option Form). leb (length node.content) 0xfffb && tells_data read node.content o) (sym shown.chosen)
+
+-- a field that was put in its place byte by byte
+pub put_is : (p : Piece) (value content new : List ℕ) (count : ℕ) → length value ≡ p.width → p.place + p.width ≤ length content
+    → p.place + p.width ≤ 2 ^ 64 - 1 → (new, count) ≡ pushed (content, p.place) value → new ≡ put_at p value content
+put_is p value content new count w l few e =
+    ap (λ (s : List ℕ × ℕ). s.0) (e ∙ pushed_is value content p.place (omega (arith, l)) (omega (arith, w, few)))
+    ∙ ap (λ (x : List ℕ). take p.place content ++ (x ++ drop (p.place + length value) content))
+    (take_all (length content - p.place) value (omega (arith, w, l)))
+    ∙ ap (λ (n : ℕ). take p.place content ++ (value ++ drop (p.place + n) content)) w
+    ∙ ap (λ (x : List ℕ). take p.place content ++ (value ++ x)) (sym (drop-drop p.width p.place content))
+
+-- all of a field is read of its text, but for words
+pub kept_whole : (shape : Shape) → ((list : Words) → shape ≡ Word list → ⊥) → (bytes : List ℕ) → bytes ≡ field_kept shape bytes
+kept_whole Hexadecimal other bytes = refl
+kept_whole Decimal other bytes = refl
+kept_whole OrDefault other bytes = refl
+kept_whole Back other bytes = refl
+kept_whole Forth other bytes = refl
+kept_whole Dashed other bytes = refl
+kept_whole Next other bytes = refl
+kept_whole Padded other bytes = refl
+kept_whole (Word list) other bytes = absurd (other list refl)
