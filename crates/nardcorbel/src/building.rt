@@ -256,8 +256,8 @@ pub extern "C" fn nard_device_path_push_text(
     }
 }
 
-/// Adds the nodes of a text in UTF-8, as people write it, to the device path that a buffer begins with, before
-/// its end, as [`push_lenient_text_in_buf`] does.
+/// Adds the nodes of a text in UTF-8, as people write it, to the device path that a buffer begins with,
+/// before its end, as [`push_lenient_text_in_buf`] does.
 ///
 /// A buffer that begins with no device path is refused as by [`nard_device_path_check`], with its
 /// `place`; then bytes that are not UTF-8 as `NOT_UTF8`, and `place` becomes how many bytes before

@@ -1,5 +1,5 @@
 -- The nodes that a text is read as are added, one after the other, to the path that a buffer begins with.
-use Rattle.std.proofs.Common.{◌≡◌, ℕ, ◌+◌, ◌<◌, ◌≤◌, Bool, true, List, [], ◌∷◌, ◌++◌, length, take, drop, refl, ap, sym, subst, ◌∙◌, append_assoc}
+use Rattle.std.proofs.Common.{◌≡◌, ℕ, ◌+◌, ◌≤◌, Bool, true, List, [], ◌∷◌, ◌++◌, length, take, drop, refl, sym, subst, append_assoc}
 use Rattle.std.proofs.lemmas.List.{append-nil}
 use Rattle.uefi_device_nodes.specs.Nodes.{Node, node_length}
 use Rattle.uefi_device_path.specs.LenientReading.{IsReadable, IsReadAs, ReadsTo}

@@ -1,15 +1,14 @@
 -- A text is read as people write it in one way: as nodes that are told, or up to one place.
-use Rattle.std.proofs.Common.{◌≡◌, ℕ, ◌+◌, ◌-◌, ◌^◌, ◌<◌, ◌≤◌, min, Bool, true, false, cond, List, [], ◌∷◌, ◌++◌, codes, ◌⊎◌, length, drop, inl, inr, refl, ap, sym, subst, ◌∙◌, append_assoc, arith, true≢false}
+use Rattle.std.proofs.Common.{◌≡◌, ℕ, ◌+◌, ◌-◌, ◌^◌, ◌<◌, ◌≤◌, min, Bool, true, false, cond, List, [], ◌∷◌, ◌++◌, ◌⊎◌, length, drop, inl, inr, refl, ap, sym, subst, ◌∙◌, append_assoc, arith, true≢false}
 use Rattle.std.specs.Prelude.{IfOk, IfErr, Option, Some, None, Result, Ok, Err, ◌==◌, ◌||◌}
-use Rattle.std.proofs.lemmas.List.{append-nil, append_cancel_left, length-append, length-drop}
+use Rattle.std.proofs.lemmas.List.{append-nil, append_cancel_left, length-append}
 use Rattle.std.proofs.lemmas.List.Elements.{All-head, All-nil, All-push, All-tail}
-use Rattle.uefi_device_nodes.specs.Nodes.{Node, end_entire, node_bytes, node_length}
+use Rattle.uefi_device_nodes.specs.Nodes.{Node}
 use Rattle.uefi_device_path.specs.Laws.{LenientOnce, LenientPrinted, LenientStopsOnce, LenientTold, ReadNeverStops}
-use Rattle.uefi_device_path.specs.LenientReading.{IsLenientError, IsReadable, IsReadAs, ReadingStops, ReadingStopsAt, ReadsTo}
+use Rattle.uefi_device_path.specs.LenientReading.{IsLenientError, IsReadAs, ReadingStops, ReadingStopsAt, ReadsTo}
 use Rattle.uefi_device_path.specs.LenientReading.ReadsTo.{Begins, Comma, OneMore}
 use Rattle.uefi_device_path.specs.PathReading.{AreTold, end_instance, is_after_instance}
 use Rattle.uefi_device_path.specs.Paths.{path_bytes}
-use Rattle.uefi_device_path.specs.PathTexts.{path_text}
 use Rattle.uefi_device_path.specs.declared.path_reader.PathTextError.{PathTextError}
 use Rattle.uefi_device_path.specs.declared.path_reader.PathTextError.TheVariants.{NoNode, OutOfMemory}
 use Rattle.uefi_device_path.proofs.PathReading.{IsToldOrEnd, path_text_is, place_fits, place_is, printed, rest_text, separator}
@@ -17,7 +16,7 @@ use Rattle.uefi_device_path.proofs.TextLengths.{bytes_more}
 use Rattle.uefi_device_path.proofs.TextStops.{end_first, nothing_is_no_byte, told_first, whole_after}
 use Rattle.uefi_node_reader.specs.Laws.{NodeAgain, NodeFits}
 use Rattle.uefi_node_reader.specs.LenientNodes.{LenientAgain, LenientEnds, LenientStarts, LenientTakes, lenient_read}
-use Rattle.uefi_node_reader.specs.NamedFiles.{ends_name, is_after_node, IsTold}
+use Rattle.uefi_node_reader.specs.NamedFiles.{is_after_node}
 use Rattle.uefi_node_reader.specs.TableReading.{first_of}
 
 -- where a node has to begin, one may not stand that ends an instance

@@ -347,8 +347,8 @@ impl Error for GrowError {}
 pub enum PushTextError {
     /// The buffer begins with no device path.
     Path(DevicePathError),
-    /// The second buffer, which [`push_lenient_text_in_buf`](crate::push_lenient_text_in_buf) alone takes, has
-    /// fewer bytes than this: one more than the text.
+    /// The second buffer, which only [`push_lenient_text_in_buf`](crate::push_lenient_text_in_buf) takes,
+    /// has fewer bytes than this: one more than the text.
     ScratchTooSmall(usize),
     /// A node has to begin at this byte of the text, and none does, as in
     /// [`PathTextError::NoNode`](crate::PathTextError).

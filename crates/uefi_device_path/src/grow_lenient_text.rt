@@ -66,9 +66,9 @@ fn put_lenient_text_at(buffer: &mut [u8], len: usize, text: &[u8], scratch: &mut
 /// Adds the nodes of a text, as people write it, to the device path that a buffer begins with, before its
 /// end, and returns how many bytes the path then has. What follows it is unchanged.
 ///
-/// The text is read as [`DevicePathBuf::from_lenient_text`](crate::DevicePathBuf) reads it; a comma in it ends
-/// an instance. Copies of its calls and names go into `scratch`, which has to be longer than the text, and
-/// then holds anything. Fails with `Path` if the buffer begins with no device path, then with
+/// The text is read as [`DevicePathBuf::from_lenient_text`](crate::DevicePathBuf) reads it; a comma in it
+/// ends an instance. Copies of its calls and names go into `scratch`, which has to be longer than the text,
+/// and then holds anything. Fails with `Path` if the buffer begins with no device path, then with
 /// `ScratchTooSmall` and the count of bytes that it needs, then with `NoNode` and the byte where the first
 /// node begins that can't be read, and then with `BufferTooSmall` and the count of bytes that the path then
 /// needs; the buffer is then unchanged. Allocates nothing; one pass over the path, and two over the text.

@@ -86,8 +86,7 @@ fn refused(rt: HostRuntime) -> Result<(), Fail> {
     Ok(())
 }
 
-/// A node has at most 65,531 bytes of data, its name 32,764 units with the backslash before it, and a path any
-/// number of nodes.
+/// A node has at most 65,531 bytes of data, and its name 32,764 units with the backslash before it.
 #[test]
 fn long_texts(rt: HostRuntime) -> Result<(), Fail> {
     let alloc = rt.alloc();

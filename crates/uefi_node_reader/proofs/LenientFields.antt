@@ -9,10 +9,9 @@ use Rattle.std.proofs.lemmas.List.Elements.{All-append, All-cons, All-nil}
 use Rattle.uefi_text.specs.Packed.{IsByte}
 use Rattle.uefi_node_table.specs.Fields.{fits_shape}
 use Rattle.uefi_node_table.specs.Rows.{Form, Piece, is_within}
-use Rattle.uefi_node_table.specs.Words.{Word}
 use Rattle.uefi_node_table.specs.declared.rows.Shape.{Shape}
 use Rattle.uefi_node_table.specs.declared.rows.Shape.TheVariants.{Hexadecimal, Decimal, OrDefault, Back, Forth, Dashed, Next, Padded, Word as WordShape}
-use Rattle.uefi_node_reader.specs.FieldReading.{◌>>=◌, IsValue, as_bytes, field_read, less_one, low_bytes}
+use Rattle.uefi_node_reader.specs.FieldReading.{◌>>=◌, IsValue, as_bytes, less_one, low_bytes}
 use Rattle.uefi_node_reader.specs.LenientFields.{after_ending, after_literal, any_field, any_number, any_word, is_number, left_out, number_or_word, past_base, piece_set, pieces_set, value_or_spare}
 use Rattle.uefi_node_reader.specs.LenientNodes.{form_set, is_textless}
 use Rattle.uefi_node_reader.specs.TableReading.{IsTailTold, added, blank, closed, first_of, is_read, is_sound, put_at, rest_read, tail_read}
@@ -23,7 +22,7 @@ use Rattle.uefi_node_reader.proofs.FieldLaws.{field_takes, low_is}
 use Rattle.uefi_node_reader.proofs.Literals.{bind_some}
 use Rattle.uefi_node_reader.proofs.PieceLaws.{within_parts}
 use Rattle.uefi_node_reader.proofs.Places.{length-put, put_bytes}
-use Rattle.uefi_node_reader.proofs.TableLaws.{Sound, sound}
+use Rattle.uefi_node_reader.proofs.TableLaws.{sound}
 use Rattle.uefi_node_reader.proofs.TailLaws.{tail_takes}
 
 -- the bytes of a number

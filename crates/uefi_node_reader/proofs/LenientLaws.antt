@@ -25,7 +25,7 @@ use Rattle.uefi_node_reader.specs.WordReading.{after}
 use Rattle.uefi_node_reader.proofs.LenientFields.{form_set_in}
 use Rattle.uefi_node_reader.proofs.Literals.{after_again, after_some, bind_some}
 use Rattle.uefi_node_reader.proofs.NamedFiles.{name_takes}
-use Rattle.uefi_node_reader.proofs.NodeLaws.{node_fits, node_starts, node_takes}
+use Rattle.uefi_node_reader.proofs.NodeLaws.{node_starts, node_takes}
 use Rattle.uefi_node_reader.proofs.PlainNodes.{plain_takes}
 use Rattle.uefi_node_reader.proofs.ToldNodes.{tells_told}
 

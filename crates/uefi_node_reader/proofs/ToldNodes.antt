@@ -1,12 +1,11 @@
 -- A node whose text holds all of it, by what was read, is told by the table.
-use Rattle.std.proofs.Common.{◌≡◌, ℕ, ◌+◌, ◌-◌, ◌^◌, ◌≤◌, min, Bool, true, false, eqb, leb, ◌&&◌, List, [], ◌++◌, length, take, drop, refl, sym, ap, subst, ◌∙◌, arith}
-use Rattle.std.specs.Prelude.{All, Option, Some, None, nat_eq}
-use Rattle.std.specs.Cmp.Lexicographic.{pointwise, same_text}
+use Rattle.std.proofs.Common.{◌≡◌, ℕ, ◌+◌, ◌-◌, ◌^◌, ◌≤◌, Bool, true, false, eqb, leb, ◌&&◌, List, ◌++◌, length, take, drop, refl, sym, ap, subst, ◌∙◌, arith}
+use Rattle.std.specs.Prelude.{Option, Some, None}
+use Rattle.std.specs.Cmp.Lexicographic.{same_text}
 use Rattle.std.proofs.lemmas.Bool.{and_parts, le-leb}
 use Rattle.std.proofs.lemmas.List.{drop-drop, drop_all, length-take, length-take-le, take-append-drop, take-take, take_all}
 use Rattle.std.specs.List.{list_all}
 use borrow.Author.Tests.{eqb-true}
-use Rattle.uefi_text.specs.Packed.{IsByte}
 use Rattle.uefi_node_table.specs.Rows.{Form, Piece, find_form, is_within, item_of}
 use Rattle.uefi_node_table.specs.Table.{forms}
 use Rattle.uefi_node_table.specs.declared.rows.Items.{Items}
@@ -28,7 +27,7 @@ use Rattle.uefi_node_reader.proofs.CountedBytes.{pushed_is}
 use Rattle.uefi_node_reader.proofs.Groups.{table_filled, table_sound}
 use Rattle.uefi_node_reader.proofs.Heads.{form_same}
 use Rattle.uefi_node_reader.proofs.LenientFields.{SetIn}
-use Rattle.uefi_node_reader.proofs.TableLaws.{Sound, sound, values_same}
+use Rattle.uefi_node_reader.proofs.TableLaws.{sound, values_same}
 
 -- the same items
 same_items : (items : Items) (tail : Tail) (close bytes : List ℕ) → are_items items tail ≡ true

@@ -106,7 +106,8 @@ IsRestOf text rest = (first : ℕ) × (front : List ℕ) × (text ≡ first ∷ 
 -- `File(..)`, as another call, or as a bare name
 unfoldable pub lenient_read : List ℕ → Option (Node × List ℕ)
 lenient_read text = either_read (ended (node_read text))
-    (if begins_call text then ended (file_or_call (after_literal (codes "File(") text) text) else bare_read text)
+    (if begins_call text then ended (file_or_call (after_literal (codes "File(") text) text)
+    else bare_read text)
 
 -- what is read leniently is told
 abbrev pub LenientTakes : Type 0

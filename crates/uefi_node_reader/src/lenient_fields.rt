@@ -178,7 +178,8 @@ fn is_number(shape: Shape) -> bool
     matches!(shape, Shape::Hexadecimal | Shape::Decimal)
 }
 
-/// Fills a buffer with a byte. A loop that puts the same byte would be a call of `memset`, which firmware lacks.
+/// Fills a buffer with a byte. A loop that puts the same byte would be a call of `memset`, which firmware
+/// lacks.
 fn put_spare(found: &mut [u8], spare: u8)
     requires { length found.old ≤ 8 }
     ensures { found.new ≡ replicate (length found.old) spare }

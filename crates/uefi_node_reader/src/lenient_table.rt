@@ -172,8 +172,8 @@ fn set_call(text: &[u8]) -> Option<TextNode<'_>>
     set_path(text)
 }
 
-/// Reads the node whose call a text begins with, from a tidied copy of the call. Returns what stands after it,
-/// too.
+/// Reads the node whose call a text begins with, from a tidied copy of the call. Returns what stands after
+/// it, too.
 pub(crate) fn by_call<'s, 't>(
     scratch: &'s mut [u8],
     text: &'t [u8],

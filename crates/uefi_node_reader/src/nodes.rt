@@ -65,8 +65,8 @@ fn called<'s, 't>(scratch: &'s mut [u8], text: &'t [u8]) -> Option<(TextNode<'s>
     }
 }
 
-/// Reads the node that a text begins with, as people write it, and returns what stands after it, too: nothing,
-/// or a slash or a comma first. The buffer then holds anything.
+/// Reads the node that a text begins with, as people write it, and returns what stands after it, too:
+/// nothing, or a slash or a comma first. The buffer then holds anything.
 ///
 /// A node that [`read_node`] reads there is read as the same. Else a call is read, up to its first `)`, in
 /// either case and without its blanks. A number stands in hexadecimal after `0x`, else in decimal, and may

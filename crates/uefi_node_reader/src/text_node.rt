@@ -15,8 +15,8 @@ use crate::name_data::push_name;
 use crate::node_tails::push_tail;
 use uefi_node_table::rows::Tail;
 
-/// A node whose text was read. A contract sees it as `text_node` of it. Its numbers are small, so that it is moved
-/// without a call of `memcpy`, which firmware lacks.
+/// A node whose text was read. A contract sees it as `text_node` of it. Its numbers are small, so that it is
+/// moved without a call of `memcpy`, which firmware lacks.
 #[derive(Clone, Copy)]
 pub struct TextNode<'a> {
     device_type: u8,

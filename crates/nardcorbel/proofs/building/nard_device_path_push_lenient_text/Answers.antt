@@ -1,6 +1,5 @@
 -- What is refused is the path in the buffer, then the second buffer, then the text, and then the room.
 use Rattle.std.proofs.Common.{◌≡◌, ◌∙◌, ◌+◌, ◌++◌, ap, sym, subst, ℕ, List, Option, Some, length, arith}
-use Rattle.uefi_device_path.specs.Building.{text_refusal}
 use Rattle.uefi_device_path.specs.LenientReading.{IsReadAs, IsReadable, ReadingStopsAt}
 use Rattle.uefi_device_path.specs.Paths.{path_bytes}
 use Rattle.uefi_device_path.specs.declared.errors.PushTextError.{PushTextError}
@@ -65,7 +64,9 @@ returns-in-Ok-push_lenient_text_in_buf-clause-no_node c = λ nodes begins utf8 l
 pub returns-in-Ok-push_lenient_text_in_buf-clause-reason : goal.returns-in-Ok-push_lenient_text_in_buf-clause-reason
 returns-in-Ok-push_lenient_text_in_buf-clause-reason c = λ nodes read begins utf8 long is.
     let same = c.in-Ok.ensures.cases.0 in
-    ap text_reason (c.in-Ok-push_lenient_text_in_buf.ensures.refusal nodes read begins (omega (arith, long, ap length c.in-Ok.ensures.cases.0)) (subst (λ (x : List ℕ). IsReadAs x read) (sym c.in-Ok.ensures.cases.0) is))
+    ap text_reason (c.in-Ok-push_lenient_text_in_buf.ensures.refusal nodes read begins
+    (omega (arith, long, ap length c.in-Ok.ensures.cases.0))
+    (subst (λ (x : List ℕ). IsReadAs x read) (sym c.in-Ok.ensures.cases.0) is))
 
 pub returns-in-Ok-push_lenient_text_in_buf-clause-place : goal.returns-in-Ok-push_lenient_text_in_buf-clause-place
 returns-in-Ok-push_lenient_text_in_buf-clause-place c = λ nodes read begins utf8 long is.
@@ -73,7 +74,9 @@ returns-in-Ok-push_lenient_text_in_buf-clause-place c = λ nodes read begins utf
     let len = length (path_bytes (nodes ++ read)) in
     c.in-Ok-push_lenient_text_in_buf.ensures.len nodes read begins (subst (λ (x : List ℕ). IsReadAs x read) (sym c.in-Ok.ensures.cases.0) is)
     ∙ ap (λ (r : Option PushTextError). text_place r len) (c.in-Ok-push_lenient_text_in_buf.ensures.refusal
-    nodes read begins (omega (arith, long, ap length c.in-Ok.ensures.cases.0)) (subst (λ (x : List ℕ). IsReadAs x read) (sym c.in-Ok.ensures.cases.0) is))
+    nodes read begins
+    (omega (arith, long, ap length c.in-Ok.ensures.cases.0))
+    (subst (λ (x : List ℕ). IsReadAs x read) (sym c.in-Ok.ensures.cases.0) is))
 
 pub returns-in-Ok-push_lenient_text_in_buf-clause-buffer : goal.returns-in-Ok-push_lenient_text_in_buf-clause-buffer
 returns-in-Ok-push_lenient_text_in_buf-clause-buffer c = λ nodes read begins is ok.
@@ -103,14 +106,17 @@ returns-in-Err-push_lenient_text_in_buf-clause-no_node c = λ nodes begins utf8 
 pub returns-in-Err-push_lenient_text_in_buf-clause-reason : goal.returns-in-Err-push_lenient_text_in_buf-clause-reason
 returns-in-Err-push_lenient_text_in_buf-clause-reason c = λ nodes read begins utf8 long is.
     c.text_reason-reason.ensures.reason
-    ∙ ap text_reason (c.in-Err-push_lenient_text_in_buf.ensures.refusal nodes read begins (omega (arith, long, ap length c.in-Ok.ensures.cases.0))
+    ∙ ap text_reason (c.in-Err-push_lenient_text_in_buf.ensures.refusal nodes read begins
+    (omega (arith, long, ap length c.in-Ok.ensures.cases.0))
     (subst (λ (x : List ℕ). IsReadAs x read) (sym c.in-Ok.ensures.cases.0) is))
 
 pub returns-in-Err-push_lenient_text_in_buf-clause-place : goal.returns-in-Err-push_lenient_text_in_buf-clause-place
 returns-in-Err-push_lenient_text_in_buf-clause-place c = λ nodes read begins utf8 long is.
     let len = length (path_bytes (nodes ++ read)) in
     c.text_reason-reason.ensures.place len ∙ ap (λ (r : Option PushTextError). text_place r len)
-    (c.in-Err-push_lenient_text_in_buf.ensures.refusal nodes read begins (omega (arith, long, ap length c.in-Ok.ensures.cases.0)) (subst (λ (x : List ℕ). IsReadAs x read) (sym c.in-Ok.ensures.cases.0) is))
+    (c.in-Err-push_lenient_text_in_buf.ensures.refusal nodes read begins
+    (omega (arith, long, ap length c.in-Ok.ensures.cases.0))
+    (subst (λ (x : List ℕ). IsReadAs x read) (sym c.in-Ok.ensures.cases.0) is))
 
 pub returns-in-Err-push_lenient_text_in_buf-clause-buffer : goal.returns-in-Err-push_lenient_text_in_buf-clause-buffer
 returns-in-Err-push_lenient_text_in_buf-clause-buffer c = λ nodes read begins is ok.

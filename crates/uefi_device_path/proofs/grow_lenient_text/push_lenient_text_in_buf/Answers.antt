@@ -5,7 +5,7 @@ use Rattle.std.proofs.lemmas.Grind.{common_steps}
 use Rattle.uefi_device_nodes.specs.Nodes.{Node}
 use Rattle.uefi_device_path.specs.LenientReading.{IsReadAs, ReadingStopsAt}
 use Rattle.uefi_device_path.specs.Paths.{nodes_in, without_end}
-use Rattle.uefi_device_path.specs.declared.errors.PushTextError.TheVariants.{NoNode, ScratchTooSmall}
+use Rattle.uefi_device_path.specs.declared.errors.PushTextError.TheVariants.{NoNode}
 use Rattle.uefi_device_path.proofs.Building.{grown_buffer, len_of_path}
 use Rattle.uefi_device_path.proofs.PushedTexts.{needed_is, with_room, without_room}
 use Rattle.uefi_device_path.proofs.grow_lenient_text.push_lenient_text_in_buf.Goals as goal

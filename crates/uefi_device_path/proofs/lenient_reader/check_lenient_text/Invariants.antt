@@ -1,4 +1,4 @@
-use Rattle.std.proofs.Common.{length, ◌≡◌}
+use Rattle.std.proofs.Common.{length}
 use Rattle.uefi_device_path.proofs.LenientReading.{Counts}
 use Rattle.uefi_device_path.proofs.lenient_reader.check_lenient_text.Given as goal
 

@@ -1,4 +1,4 @@
-use Rattle.std.proofs.Common.{◌≡◌, ◌≤◌, ◌∷◌, List, ℕ, length, take, ap, ◌∙◌, sym, arith}
+use Rattle.std.proofs.Common.{List, ℕ, ap, ◌∙◌, sym, arith}
 use Rattle.uefi_node_reader.specs.Counted.{pushed}
 use Rattle.uefi_node_reader.specs.LenientNodes.{rooted}
 use Rattle.uefi_node_reader.proofs.CountedBytes.{copied}

@@ -1,4 +1,4 @@
-use Rattle.std.proofs.Common.{◌≡◌, ◌∷◌, [], List, ℕ, length, drop, filter, map, not, ap, ◌∙◌, sym, arith}
+use Rattle.std.proofs.Common.{◌∷◌, [], List, ℕ, filter, map, not, ap, ◌∙◌, sym, arith}
 use Rattle.std.proofs.lemmas.List.{drop_all}
 use Rattle.uefi_node_reader.specs.Counted.{pushed, pushed_byte}
 use Rattle.uefi_node_reader.specs.LenientNodes.{is_blank, tidied, tidied_byte}

@@ -1,4 +1,4 @@
-use Rattle.std.proofs.Common.{◌≡◌, ◌++◌, drop, map, not, filter}
+use Rattle.std.proofs.Common.{◌≡◌, drop, map, not, filter}
 use Rattle.uefi_node_reader.specs.Counted.{pushed}
 use Rattle.uefi_node_reader.specs.LenientNodes.{is_blank, tidied_byte}
 use Rattle.uefi_node_reader.proofs.lenient_table.tidy.Given as goal

@@ -1,4 +1,4 @@
-use Rattle.std.proofs.Common.{◌≡◌, Bool, true, false, ◌&&◌, List, ℕ, length, take, refl, sym, ap, ◌∙◌, arith}
+use Rattle.std.proofs.Common.{true, false, List, ℕ, length, take, refl, sym, ap, ◌∙◌, arith}
 use Rattle.std.specs.Prelude.{Some, None}
 use Rattle.std.proofs.lemmas.List.{length-take-le}
 use Rattle.uefi_node_table.specs.Rows.{Form, as_form}
@@ -79,6 +79,8 @@ returns-else-tells_fixed c =
     let shown : ShownIn node form = shown_in node form (by_parts node c.types-kind.result.0 c.types-kind.result.1
     c.head-head.result.now (Some form) c.types-kind.ensures.device_type c.types-kind.ensures.sub_type c.head-head.ensures
     (rw c.in-Some.is at c.form_of.ensures)) in
-    c.if-tells_fixed.false ∙ tells_is read node form shown c.in-Read.is (omega (arith, c.data_len-len.ensures.count, c.data_len-len.ensures.fits)) false (tells_tail read form.least form.tail (length node.content))
+    c.if-tells_fixed.false ∙ tells_is read node form shown c.in-Read.is
+    (omega (arith, c.data_len-len.ensures.count, c.data_len-len.ensures.fits)) false
+    (tells_tail read form.least form.tail (length node.content))
     (sym c.if-tells_fixed.false ∙ c.tells_fixed.ensures
     ∙ ap (λ (l : List ℕ). tells_fixed form (take form.least l)) c.head-head.ensures) refl

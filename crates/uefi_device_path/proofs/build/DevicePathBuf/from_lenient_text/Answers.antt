@@ -1,6 +1,5 @@
-use Rattle.std.proofs.Common.{◌≡◌, List, ℕ, ap, sym, subst}
-use Rattle.std.specs.Prelude.{IfOk, IfErr}
-use Rattle.uefi_device_path.specs.LenientReading.{IsLenientError, IsReadAs}
+use Rattle.std.proofs.Common.{List, ℕ, sym, subst}
+use Rattle.uefi_device_path.specs.LenientReading.{IsReadAs}
 use Rattle.uefi_device_path.proofs.LenientReading.{only_read, told_result}
 use Rattle.uefi_device_path.proofs.build.DevicePathBuf.from_lenient_text.Goals as goal
 

@@ -34,7 +34,9 @@ returns-in-Ok c =
     let front : List ℕ = take node.fixed node.head in
     let name : List ℕ = name_data (chars node.text.now) in
     let all : (text_node node).content ≡ front ++ name = ap (λ (k : Coding). front ++ decoded k node.close.now node.text.now) c.in-InName.is in
-    ap (λ (s : List ℕ × ℕ). s.0) (c.push_name.ensures ∙ (λ i. pushed ((c.push_all-len.ensures ∙ ap (λ (n : ℕ). pushed (c.args.bytes.now, 0) (take n node.head)) c.from.ensures) i) (name_data (chars (c.in-Ok.ensures.cases.0 i)))))
+    let first = c.push_all-len.ensures ∙ ap (λ (n : ℕ). pushed (c.args.bytes.now, 0) (take n node.head)) c.from.ensures in
+    ap (λ (s : List ℕ × ℕ). s.0)
+    (c.push_name.ensures ∙ (λ i. pushed (first i) (name_data (chars (c.in-Ok.ensures.cases.0 i)))))
     ∙ whole_written front name c.args.bytes.now (c.requires ∙ ap length all) (omega (arith, c.requires, node.counted, node.fits))
     ∙ sym all
 
