@@ -1,14 +1,50 @@
 -- Forms that stand one group after the other.
-use Rattle.std.proofs.Common.{◌≡◌, ℕ, suc, ◌+◌, ◌-◌, ◌<◌, Bool, true, false, cond, List, [], ◌∷◌, ◌++◌, refl, sym, ap, ◌∙◌, arith}
+use Rattle.std.proofs.Common.{◌≡◌, ℕ, suc, ◌+◌, ◌-◌, ◌<◌, ◌==◌, ◌&&◌, nat_le, length, map, Bool, true, false, cond, get_or, List, [], ◌∷◌, ◌++◌, refl, sym, ap, ◌∙◌, arith}
 use Rattle.std.specs.Prelude.{Option, Some, None}
-use Rattle.std.specs.List.{list_all}
-use Rattle.uefi_node_table.specs.Rows.{Form, find_form, is_laid_out}
+use Rattle.std.proofs.lemmas.List.FromFn.{get_or-map-range_with_len}
+use Rattle.std.specs.List.{list_all, range_with_len}
+use Rattle.std.proofs.lemmas.Bool.{and_parts, eqb-true}
+use Rattle.uefi_node_table.specs.Rows.{Form, begin_with_kind, find_form, has_bytes, have_one_kind, is_laid_out, is_used, matches}
 use Rattle.uefi_node_table.specs.Table.{forms, forms_from, group_forms}
 
 -- the fields of each form lie in its fixed part: computed
 pub table_laid_out : list_all is_laid_out forms ≡ true
 unfolding group_forms
 table_laid_out = refl
+
+-- the forms of each group are for nodes of one type: computed
+groups_of_one_kind : map (λ (k : ℕ). have_one_kind (group_forms k)) (range_with_len 0 11) ≡ map (λ (k : ℕ). true) (range_with_len 0 11)
+unfolding group_forms
+groups_of_one_kind = refl
+
+pub one_kind : (index : ℕ) → index < 11 → have_one_kind (group_forms index) ≡ true
+one_kind index more =
+    sym (get_or-map-range_with_len (λ (k : ℕ). have_one_kind (group_forms k)) 0 11 index index false more (omega arith))
+    ∙ ap (λ (bs : List Bool). get_or bs index false) groups_of_one_kind
+    ∙ get_or-map-range_with_len (λ (k : ℕ). true) 0 11 index index false more (omega arith)
+
+module _ (display_only : Bool) (kind sub_kind : ℕ) (content : List ℕ) where
+  no_match : (form : Form) → (form.kind == kind) ≡ false → matches display_only kind sub_kind content form ≡ false
+  no_match form e = ap (λ (b : Bool). (b && ((form.sub_kind == sub_kind) && is_used display_only form.mode))
+      && (nat_le (form.least) (length content) && has_bytes form.when content)) e
+
+  none_of : (first : ℕ) → (first == kind) ≡ false → (forms : List Form) → list_all (λ (other : Form). other.kind == first) forms ≡ true
+      → find_form (matches display_only kind sub_kind content) forms ≡ None
+  none_of first other [] all = refl
+  none_of first other (form ∷ forms) all =
+      let parts = and_parts (form.kind == first) (list_all (λ (f : Form). f.kind == first) forms) all in
+      let same : form.kind ≡ first = eqb-true form.kind first parts.0 in
+      let own : matches display_only kind sub_kind content form ≡ false = no_match form (ap (λ (k : ℕ). k == kind) same ∙ other) in
+      ap (λ (b : Bool). cond b (Some form) (find_form (matches display_only kind sub_kind content) forms)) own
+      ∙ none_of first other forms parts.1
+
+  -- no form of a group of another type is for a node
+  pub other_kind : (forms : List Form) → have_one_kind forms ≡ true → begin_with_kind kind forms ≡ false
+      → find_form (matches display_only kind sub_kind content) forms ≡ None
+  other_kind [] one not = refl
+  other_kind (form ∷ forms) one not =
+      ap (λ (b : Bool). cond b (Some form) (find_form (matches display_only kind sub_kind content) forms)) (no_match form not)
+      ∙ none_of form.kind not forms one
 
 pub next_group : (index : ℕ) → index < 11 → forms_from index (11 - index) ≡ group_forms index ++ forms_from (index + 1) (11 - (index + 1))
 next_group index l = ap (λ (n : ℕ). forms_from index n) {x = 11 - index} {y = suc (11 - (index + 1))} (omega arith)

@@ -1,6 +1,6 @@
 -- The forms of nodes: how each is printed (UEFI Specification 2.10, section 10.6.1).
 use Rattle.std.specs.Borrow.{Bor}
-use Rattle.std.specs.Prelude.{ℕ, ◌+◌, ◌/◌, Bool, true, nat_le, ◌==◌, ◌&&◌, if◌then◌else◌, List, [], ◌∷◌, ◌++◌, length, codes, drop, slice_range, slice_index, map, Option, Some, None}
+use Rattle.std.specs.Prelude.{ℕ, ◌+◌, ◌/◌, Bool, true, false, nat_le, ◌==◌, ◌&&◌, if◌then◌else◌, List, [], ◌∷◌, ◌++◌, length, codes, drop, slice_range, slice_index, map, Option, Some, None}
 use Rattle.std.specs.List.{flat_map, list_all}
 use Rattle.std.specs.Simd.{first_chunks}
 use Rattle.uefi_field_texts.specs.FieldTexts.{comma_bytes, shown_bytes, until_nul, utf16_text}
@@ -164,6 +164,16 @@ matches display_only kind sub_kind content form =
 abbrev pub find_form : (Form → Bool) → List Form → Option Form
 find_form test [] = None
 find_form test (form ∷ forms) = if test form then Some form else find_form test forms
+
+-- the test for forms of nodes of one type
+abbrev pub have_one_kind : List Form → Bool
+have_one_kind [] = true
+have_one_kind (form ∷ forms) = list_all (λ other. other.kind == form.kind) forms
+
+-- the test for forms of which the first is for nodes of this type
+abbrev pub begin_with_kind : ℕ → List Form → Bool
+begin_with_kind kind [] = false
+begin_with_kind kind (form ∷ forms) = form.kind == kind
 
 -- the test for a field that lies within this many bytes
 abbrev pub is_within : ℕ → Piece → Bool

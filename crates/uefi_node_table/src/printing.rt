@@ -8,7 +8,7 @@ ghost use Rattle.std.specs.Prelude.{◌≡◌, ◌+◌, ◌^◌, ◌<◌, ◌≤
 ghost use Rattle.uefi_text.specs.Packed.{little_endian};
 ghost use Rattle.uefi_field_texts.specs.FieldTexts.{hex};
 ghost use Rattle.uefi_node_table.specs.Fields.{default_text, field_text, fits_shape};
-ghost use Rattle.uefi_node_table.specs.Rows.{as_form, as_item, as_piece, find_form, form_text, has_bytes, is_laid_out, is_used, is_within, item_text, lead_text, list_text, matches, piece_text, pieces_text, tail_text};
+ghost use Rattle.uefi_node_table.specs.Rows.{as_form, as_item, as_piece, begin_with_kind, find_form, form_text, has_bytes, have_one_kind, is_laid_out, is_used, is_within, item_text, lead_text, list_text, matches, piece_text, pieces_text, tail_text};
 ghost use Rattle.uefi_node_table.specs.Table.{forms, has_form, table_text};
 
 use crate::rows::{Item, Mode, Piece, Row, Shape, Tail};
@@ -208,13 +208,41 @@ fn find_row<'a>(
     None
 }
 
+/// Whether the first of these forms is for nodes of a type.
+fn begin_with_kind(rows: &[Row], kind: u8) -> bool
+    ensures { result ≡ begin_with_kind kind (map as_form rows.now) }
+{
+    match rows {
+        [first, ..] => first.kind == kind,
+        [] => false,
+    }
+}
+
+/// The same as [`find_row`] of forms that are for nodes of one type: no other node goes through them.
+fn find_in_group<'a>(
+    rows: &'a [Row],
+    display_only: bool,
+    kind: u8,
+    sub_kind: u8,
+    content: &[u8],
+) -> Option<&'a Row>
+    requires { IsTrue (have_one_kind (map as_form rows.now)) }
+    ensures { option_map (λ row. as_form row.now) result
+        ≡ find_form (matches display_only kind sub_kind content.now) (map as_form rows.now) }
+{
+    if !begin_with_kind(rows, kind) {
+        return None;
+    }
+    find_row(rows, display_only, kind, sub_kind, content)
+}
+
 /// The form of the table that a node is printed in.
 pub fn form_of(display_only: bool, kind: u8, sub_kind: u8, content: &[u8]) -> Option<&'static Row>
     ensures { option_map (λ row. as_form row.now) result
         ≡ find_form (matches display_only kind sub_kind content.now) forms }
 {
     for index in 0..GROUPS {
-        if let Some(row) = find_row(group(index), display_only, kind, sub_kind, content) {
+        if let Some(row) = find_in_group(group(index), display_only, kind, sub_kind, content) {
             return Some(row);
         }
     }

@@ -1,7 +1,8 @@
-use Rattle.std.proofs.Common.{map}
-use Rattle.uefi_node_table.specs.Rows.{as_form, find_form, matches}
+use Rattle.std.proofs.Common.{List, map, subst, sym}
+use Rattle.std.specs.Prelude.{IsTrue}
+use Rattle.uefi_node_table.specs.Rows.{Form, as_form, find_form, have_one_kind, matches}
 use Rattle.uefi_node_table.specs.Table.{forms}
-use Rattle.uefi_node_table.proofs.Groups.{none_step, some_step}
+use Rattle.uefi_node_table.proofs.Groups.{none_step, one_kind, some_step}
 use Rattle.uefi_node_table.proofs.printing.form_of.Goals as goal
 
 pub returns-in-Some : goal.returns-in-Some
@@ -12,4 +13,9 @@ returns-in-Some c = let test = matches c.args.display_only c.args.kind c.args.su
 pub loop-index-preserved : goal.loop-index-preserved
 loop-index-preserved c = let test = matches c.args.display_only c.args.kind c.args.sub_kind c.args.content.now in
     none_step test c.loop-index.index c.loop-index-test.true (map as_form c.group.result.now) c.group.ensures.forms
-    (find_form test forms) (rw c.in_default.is at c.find_row.ensures) c.loop-index.invariant
+    (find_form test forms) (rw c.in_default.is at c.find_in_group.ensures) c.loop-index.invariant
+
+pub find_in_group-requires : goal.find_in_group-requires
+find_in_group-requires c =
+    subst (λ (group : List Form). IsTrue (have_one_kind group)) (sym c.group.ensures.forms)
+    (one_kind c.loop-index.index c.loop-index-test.true)
