@@ -326,6 +326,14 @@ static const struct row rows[] = {
     ROW(device_path_push_lenient_text, WHOLE, .before = BYTES(END), .in = {BYTES(",a")}, .number = 3,
         .out = BYTES("\x7f\1\4\0" FILE_A END)),
     ROW(device_path_push_lenient_text, WHOLE, .before = BYTES(PCI END), .in = {BYTES("")}, .number = 1, .out = BYTES(PCI END)),
+    /* Bytes and texts of libefivar, which efibootmgr prints. */
+    ROW(device_path_push_lenient_text, WHOLE, .before = BYTES(END),
+        .in = {BYTES("PciRoot(0x0)/Pci(0x1f,0x2)/Sata(0,65535,0)")}, .number = 43,
+        .out = BYTES("\2\1\14\0\xd0\x41\3\12\0\0\0\0" "\1\1\6\0\2\x1f" "\3\x12\12\0\0\0\xff\xff\0\0" END)),
+    ROW(device_path_push_lenient_text, WHOLE, .before = BYTES(END),
+        .in = {BYTES("HD(1,GPT,76543210-ba98-fedc-0102-030405060708,0x800,0x64000)/File(\\EFI\\a)")}, .number = 74,
+        .out = BYTES("\4\1\x2a\0\1\0\0\0\0\10\0\0\0\0\0\0\0\x40\6\0\0\0\0\0\x10\x32\x54\x76\x98\xba\xdc\xfe\1\2\3\4\5\6\7\10\2\2"
+                     "\4\4\x12\0\\\0E\0F\0I\0\\\0a\0\0\0" END)),
     FAULT(device_path_push_lenient_text, REFUSED, SCRATCH_TOO_SMALL, 3, .before = BYTES(PCI END), .in = {BYTES("(a")}, .number = 2),
     FAULT(device_path_push_lenient_text, REFUSED, NO_NODE, 2, .before = BYTES(PCI END), .in = {BYTES("a/Pci(0x100)")}, .number = 13),
     FAULT(device_path_push_lenient_text, REFUSED, NOT_UTF8, 1, .before = BYTES(END), .in = {BYTES("x\xc3")}),

@@ -207,7 +207,9 @@ fn written() {
     assert_eq!(error.to_string(), "no node, at 3");
     let error = read.push_text(r"\bc").unwrap_err();
     assert_eq!((error.reason, error.place), (Reason::BufferTooSmall, 22));
-    read.push_text(r"\a").unwrap();
+    let error = read.push_lenient_text("a", &mut [0]).unwrap_err();
+    assert_eq!(error.to_string(), "scratch too small: it needs room for 2");
+    read.push_lenient_text("file(a)", &mut [0; 8]).unwrap();
     assert_eq!(read.finalize(), path);
 
     let name = units("d");

@@ -72,6 +72,14 @@ fn put_lenient_text_at(buffer: &mut [u8], len: usize, text: &[u8], scratch: &mut
 /// `ScratchTooSmall` and the count of bytes that it needs, then with `NoNode` and the byte where the first
 /// node begins that can't be read, and then with `BufferTooSmall` and the count of bytes that the path then
 /// needs; the buffer is then unchanged. Allocates nothing; one pass over the path, and two over the text.
+///
+/// ```rust
+/// let mut buffer = [0x7f, 0xff, 4, 0, 0, 0, 0, 0, 0, 0];
+/// assert_eq!(rt; push_lenient_text_in_buf(&mut buffer, "pci(31, 2)", &mut [0; 11]), Ok(10));
+/// assert_eq!(rt; buffer, [1, 1, 6, 0, 2, 31, 0x7f, 0xff, 4, 0]);
+/// let refused = push_lenient_text_in_buf(&mut buffer, "pci(31, 2)", &mut [0; 10]);
+/// assert_eq!(rt; refused, Err(PushTextError::ScratchTooSmall(11)));
+/// ```
 pub fn push_lenient_text_in_buf(
     buffer: &mut [u8],
     text: &str,
