@@ -39,6 +39,17 @@ pub fn out_of_memory(is_as_promised: bool) -> Result<bool, AllocError> {
     }
 }
 
+/// The same of a call that answered, or was refused with the error for memory that ran out.
+pub fn is_answered<T: Drop, E: PartialEq + Drop>(
+    answer: Result<T, E>,
+    memory: E,
+) -> Result<bool, AllocError> {
+    match answer {
+        Ok(_) => Ok(true),
+        Err(error) => out_of_memory(error == memory),
+    }
+}
+
 /// Runs a call with each request after the first `setup` ones refused in turn, until a run ends with
 /// none refused.
 ///

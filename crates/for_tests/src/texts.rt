@@ -59,19 +59,10 @@ pub fn are_ordered<T: Ord>(a: &T, b: &T, want: Ordering) -> bool {
     a.cmp(b) == want && a.partial_cmp(b) == Some(want) && (a == b) == (want == Ordering::Equal)
 }
 
-/// Whether each element is this one.
-pub fn are_all<T: PartialEq>(list: &[T], want: &T) -> bool {
-    for element in list {
-        if element != want {
-            return false;
-        }
-    }
-    true
-}
-
 /// Whether a buffer begins with these, and else holds this.
 pub fn holds<T: PartialEq>(buffer: &[T], front: &[T], filler: &T) -> bool {
-    buffer.starts_with(front) && are_all(buffer.get(front.len()..).unwrap_or(&[]), filler)
+    let mut rest = buffer.get(front.len()..).unwrap_or(&[]).iter();
+    buffer.starts_with(front) && rest.all(|it| it == filler)
 }
 
 /// The bytes of a text in hexadecimal, two digits each.
@@ -89,4 +80,30 @@ pub fn bytes(alloc: Global, digits: &str) -> Result<Vec<u8>, Fail> {
         }
     }
     Ok(bytes)
+}
+
+/// Whether a call writes all of this into each buffer that has room for it, and nothing into a shorter one,
+/// and leaves all other places as this filler. The call returns how many places it wrote, or how many it
+/// needs.
+pub fn writes_whole<T: Copy + PartialEq, F: Fn(&mut [T]) -> Result<usize, usize>>(
+    alloc: Global,
+    want: &[T],
+    filler: T,
+    call: F,
+) -> Result<bool, Fail>
+    requires { F.IsAlwaysCallable call }
+{
+    for len in 0..want.len().saturating_add(2) {
+        let mut room = vec![in alloc; filler; want.len().saturating_add(9)]?;
+        let answer = call(room.as_mut_slice().get_mut(..len).unwrap_or_default());
+        let is_right = if len < want.len() {
+            answer == Err(want.len()) && holds(&room, &[], &filler)
+        } else {
+            answer == Ok(want.len()) && holds(&room, want, &filler)
+        };
+        if !is_right {
+            return Ok(false);
+        }
+    }
+    Ok(true)
 }

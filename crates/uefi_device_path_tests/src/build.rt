@@ -11,15 +11,6 @@ const BUILT: &[u8] = &[1, 1, 6, 0, 0, 0x1f, 0x7f, 1, 4, 0, 0x7f, 0xff, 4, 0];
 /// The same of the first alone.
 const FIRST: &[u8] = &[1, 1, 6, 0, 0, 0x1f, 0x7f, 0xff, 4, 0];
 
-#[test]
-fn built_in_memory(rt: HostRuntime) -> Result<(), Fail> {
-    let mut path = DevicePathBuf::new(rt.alloc())?;
-    path.push(DeviceType::HARDWARE, DeviceSubType(1), &[0, 0x1f])?;
-    path.push(DeviceType::END, DeviceSubType::END_INSTANCE, &[])?;
-    assert!(rt; path.as_device_path().as_bytes() == BUILT);
-    Ok(())
-}
-
 /// Why two nodes, of 6 and of 4 bytes, are not built in a buffer, and what was built.
 fn build<'a>(buffer: &'a mut [u8]) -> Result<&'a [u8], BuildError> {
     let mut path = DevicePathBuilder::with_buf(buffer)?;

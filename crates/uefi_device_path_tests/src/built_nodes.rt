@@ -8,9 +8,7 @@
 use for_tests::bytes;
 use std::test::Fail;
 use uefi_device_path::build::{acpi, media, messaging};
-use uefi_device_path::{BuildNode, DevicePath, DevicePathBuf, DevicePathBuilder, Guid};
-use uefi_path::Path;
-use uefi_text::CStr16;
+use uefi_device_path::{BuildNode, DevicePathBuf, DevicePathBuilder, Guid};
 
 /// Whether a path of this node alone has these bytes and those of its end, in memory and in a buffer.
 fn is_built<N: BuildNode>(rt: &HostRuntime, node: &N, digits: &str) -> Result<bool, Fail> {
@@ -35,12 +33,11 @@ fn reserved_fields(rt: HostRuntime) -> Result<(), Fail> {
     };
     let want = "030318000000000005060708090a0b0c0d0e0f1011121314";
     assert!(rt; is_built(&rt, &node, want)?);
-    let node = messaging::Ieee1394 {
-        guid: [5, 6, 7, 8, 9, 10, 11, 12],
-    };
+    let guid = [5, 6, 7, 8, 9, 10, 11, 12];
+    let node = messaging::Ieee1394 { guid };
     assert!(rt; is_built(&rt, &node, "030410000000000005060708090a0b0c")?);
     let node = messaging::FibreChannelEx {
-        world_wide_name: [5, 6, 7, 8, 9, 10, 11, 12],
+        world_wide_name: guid,
         logical_unit_number: [13, 14, 15, 16, 17, 18, 19, 20],
     };
     let want = "031518000000000005060708090a0b0c0d0e0f1011121314";
@@ -64,13 +61,11 @@ fn reserved_fields(rt: HostRuntime) -> Result<(), Fail> {
 #[test]
 fn lists_and_kinds_of_no_struct(rt: HostRuntime) -> Result<(), Fail> {
     // The outputs of a display adapter, two of them.
-    let node = acpi::Adr {
-        adr: &[0x8001_0400, 0x0403_0201],
-    };
+    let adr = &[0x8001_0400, 0x0403_0201];
+    let node = acpi::Adr { adr };
     assert!(rt; is_built(&rt, &node, "02030c000004018001020304")?);
-    let node = acpi::Nvdimm {
-        nfit_device_handle: 0x403_0201,
-    };
+    let nfit_device_handle = 0x403_0201;
+    let node = acpi::Nvdimm { nfit_device_handle };
     assert!(rt; is_built(&rt, &node, "0204080001020304")?);
     let node = messaging::RestService {
         service_type: 0x1,
@@ -105,45 +100,5 @@ fn firmware_files(rt: HostRuntime) -> Result<(), Fail> {
     assert!(rt; is_built(&rt, &node, "040614000102030405060708090a0b0c0d0e0f10")?);
     let node = media::PiwgFirmwareVolume { volume_name: guid };
     assert!(rt; is_built(&rt, &node, "040714000102030405060708090a0b0c0d0e0f10")?);
-    Ok(())
-}
-
-/// A boot entry's path: a partition, and a file on it.
-const PATH: &str =
-    "04012a0001000000000800000000000000001000000000000102030405060708090a0b0c0d0e0f100202\
-    04040c005c0061002e000000";
-
-#[test]
-fn path_of_a_boot_entry(rt: HostRuntime) -> Result<(), Fail> {
-    let drive = media::HardDrive {
-        partition_number: 1,
-        partition_start: 2048,
-        partition_size: 0x10_0000,
-        partition_signature: [1, 2, 3, 4, 5, 6, 7, 8, 9, 10, 11, 12, 13, 14, 15, 16],
-        partition_format: 2,
-        signature_type: 2,
-    };
-    let name = CStr16::from_u16_with_nul(&[0x5c, 0x61, 0x2e, 0])?;
-    let mut path = DevicePathBuf::new(rt.alloc())?;
-    path.push_node(&drive)?;
-    path.push_file(Path::new(name))?;
-    let mut room = [9; 58];
-    let mut built = DevicePathBuilder::with_buf(&mut room)?;
-    built.push_node(&drive)?;
-    built.push_file(Path::new(name))?;
-    let mut want = bytes(rt.alloc(), PATH)?;
-    want.extend_from_slice(&[0x7f, 0xff, 4, 0])?;
-    assert!(rt; path.as_device_path().as_bytes() == want.as_slice());
-    assert!(rt; built.finalize().as_bytes() == want.as_slice());
-    Ok(())
-}
-
-/// A node that another path has is pushed as it stands.
-#[test]
-fn node_of_another_path(rt: HostRuntime) -> Result<(), Fail> {
-    let path = DevicePath::from_bytes(&[1, 1, 6, 0, 2, 0x1f, 0x7f, 0xff, 4, 0])?;
-    for node in path.node_iter() {
-        assert!(rt; is_built(&rt, &node, "01010600021f")?);
-    }
     Ok(())
 }

@@ -1,11 +1,11 @@
 //! Nodes that are tested one by one: what comes of bytes, which are made by hand by the UEFI
-//! Specification, section 10.3.1.
+//! Specification, section 10.3.1. `from_bytes` of a path returns the same faults.
 
-use for_tests::{bytes, split_row};
+use for_tests::{bytes, says, split_row};
 use std::alloc::Global;
 use std::fmt::Write;
 use std::test::Fail;
-use uefi_device_path::{AllowShortcuts, CheckedNodes, DisplayOnly};
+use uefi_device_path::{AllowShortcuts, CheckedNodes, DevicePath, DisplayOnly};
 
 /// Bytes in hexadecimal, and what comes of them: each node, a fault, and how many bytes are after
 /// the path.
@@ -21,7 +21,11 @@ const ROWS: &str = " no end node ends the device path at offset 0
 01010600021f7f0004007fff0400 Pci(0x1F,0x2); \
     an end node ends neither a path nor an instance at offset 7
 01010600021f7fff05007fff0400 Pci(0x1F,0x2); an end node has data at offset 8
-01010600021f7fff04 Pci(0x1F,0x2); the bytes end in a node's header at offset 6";
+01010600021f7fff04 Pci(0x1F,0x2); the bytes end in a node's header at offset 6
+7f020000 an end node ends neither a path nor an instance at offset 1
+010100007fff0400 a node is shorter than its header at offset 2
+7f010001 an end node has data at offset 2
+010104000101ffff0000 Path(1,1); a node is longer than the bytes that are left at offset 6";
 
 /// What comes of bytes.
 fn told(alloc: Global, bytes: &[u8]) -> Result<String, Fail> {
@@ -37,7 +41,15 @@ fn told(alloc: Global, bytes: &[u8]) -> Result<String, Fail> {
                 let shown = node.display(DisplayOnly(false), AllowShortcuts(false));
                 write!(text, "{shown}; ")?;
             }
-            Err(error) => write!(text, "{error}")?,
+            Err(error) if DevicePath::from_bytes(bytes).err() == Some(error) => {
+                let printed = error.to_string(alloc)?;
+                text.push_str(if says(alloc, &error, &printed) {
+                    &printed
+                } else {
+                    "?"
+                })?;
+            }
+            Err(_) => text.push_str("another fault")?,
         }
         if nodes.rest().is_some() {
             return Err(Fail::from("no rest before the end"));

@@ -1,10 +1,10 @@
 //! The file paths of paths: the names of their nodes, one after the other.
 
-use for_tests::{bytes, has_text, holds, string};
+use for_tests::{bytes, has_text, string, writes_whole};
 use std::test::Fail;
 use uefi_device_path::{
-    DevicePath, DevicePathBuf, DevicePathInstance, DeviceSubType, DeviceType, FilePathCause,
-    FilePathError, FilePathWriteError,
+    DevicePath, DevicePathBuf, DeviceSubType, DeviceType, FilePathCause, FilePathError,
+    FilePathWriteError,
 };
 use uefi_text::CStr16;
 use uefi_text::FromSliceWithNulError::{InteriorNul, InvalidChar, NotNulTerminated};
@@ -19,67 +19,54 @@ fn named(rt: &HostRuntime, names: &[&[u8]]) -> Result<DevicePathBuf, Fail> {
     Ok(path)
 }
 
-/// What a call says, and left in a buffer of nines, that writes these units where they fit into `len`
-/// places.
-fn has_written(
-    written: Result<usize, FilePathWriteError>,
-    room: &[u16; 64],
-    units: &[u16],
-    len: usize,
-) -> bool {
-    let (said, count) = match written {
-        Ok(count) => (count == units.len() && count <= len, count),
-        Err(FilePathWriteError::BufferTooSmall(count)) => (count == units.len() && len < count, 0),
-        Err(FilePathWriteError::Name(_)) => (false, 0),
-    };
-    said && holds(room, units.get(..count).unwrap_or(&[]), &9)
+/// How many units were written, or are needed.
+fn needed(written: Result<usize, FilePathWriteError>) -> Result<usize, usize> {
+    match written {
+        Ok(count) => Ok(count),
+        Err(FilePathWriteError::BufferTooSmall(count)) => Err(count),
+        Err(FilePathWriteError::Name(_)) => Err(0),
+    }
 }
 
-/// How many units a call borrows from a buffer, with the NUL.
-fn counted(borrowed: Result<CStr16<'_>, FilePathWriteError>) -> Result<usize, FilePathWriteError> {
-    match borrowed {
+/// How many units are borrowed with the NUL, or are needed.
+fn borrowed(path: Result<CStr16<'_>, FilePathWriteError>) -> Result<usize, usize> {
+    match path {
         Ok(string) => Ok(string.to_u16_slice_with_nul().len()),
-        Err(error) => Err(error),
+        Err(error) => needed(Err(error)),
     }
-}
-
-/// Whether a path and an instance of it write these units to each buffer that has room for them, and to no
-/// other.
-fn write(path: DevicePath<'_>, instance: DevicePathInstance<'_>, units: &[u16]) -> bool {
-    for len in 0..units.len() + 2 {
-        let (mut room, mut other) = ([9; 64], [9; 64]);
-        let written = path.write_file_path(room.get_mut(..len).unwrap_or_default());
-        let same = instance.write_file_path(other.get_mut(..len).unwrap_or_default());
-        if !has_written(written, &room, units, len) || !has_written(same, &other, units, len) {
-            return false;
-        }
-    }
-    true
-}
-
-/// The same, where they borrow them from there.
-fn borrow(path: DevicePath<'_>, instance: DevicePathInstance<'_>, units: &[u16]) -> bool {
-    for len in 0..units.len() + 2 {
-        let (mut room, mut other) = ([9; 64], [9; 64]);
-        let borrowed = counted(path.file_path_in_buf(room.get_mut(..len).unwrap_or_default()));
-        let same = counted(instance.file_path_in_buf(other.get_mut(..len).unwrap_or_default()));
-        if !has_written(borrowed, &room, units, len) || !has_written(same, &other, units, len) {
-            return false;
-        }
-    }
-    true
 }
 
 /// Whether a path and its only instance have this file path, in memory and in buffers.
 fn joins(rt: &HostRuntime, path: DevicePath<'_>, want: &str) -> Result<bool, Fail> {
-    let instance = path.instance_iter().next().ok_or("an instance")?;
-    let want_string = string(rt.alloc(), want)?;
-    let units = want_string.as_cstr16().to_u16_slice_with_nul();
+    let all = path.instance_iter().next().ok_or("an instance")?;
+    let units = string(rt.alloc(), want)?.into_vec_with_nul();
     Ok(
         has_text(path.file_path(rt.alloc())?.to_cstr16(), want)
-            && has_text(instance.file_path(rt.alloc())?.to_cstr16(), want)
-            && write(path, instance, units)
-            && borrow(path, instance, units),
+            && has_text(all.file_path(rt.alloc())?.to_cstr16(), want)
+            && writes_whole(
+                rt.alloc(),
+                &units,
+                9,
+                |room| needed(path.write_file_path(room)),
+            )?
+            && writes_whole(
+                rt.alloc(),
+                &units,
+                9,
+                |room| needed(all.write_file_path(room)),
+            )?
+            && writes_whole(
+                rt.alloc(),
+                &units,
+                9,
+                |room| borrowed(path.file_path_in_buf(room)),
+            )?
+            && writes_whole(
+                rt.alloc(),
+                &units,
+                9,
+                |room| borrowed(all.file_path_in_buf(room)),
+            )?,
     )
 }
 

@@ -8,12 +8,8 @@ use std::alloc::{AllocError, Global};
 use std::test::Fail;
 use uefi_device_path::{LoadOption, LoadOptionCause, NodeError};
 
-/// What was seen of many byte strings.
-#[derive(Clone, Copy)]
-struct Seen {
-    accepted: u64,
-    sum: u64,
-}
+/// How many of many byte strings were accepted, and a sum over all others.
+type Seen = (u64, u64);
 
 /// A number for each cause; zero is for what is accepted.
 fn number_of(cause: LoadOptionCause) -> u64 {
@@ -37,18 +33,10 @@ fn see(seen: Seen, bytes: &[u8]) -> Seen {
         Ok(_) => (0, 0),
         Err(error) => (number_of(error.cause), error.offset as u64),
     };
-    let accepted = seen.accepted.wrapping_add(u64::from(number == 0));
-    let sum = seen.sum.wrapping_mul(31).wrapping_add(number);
-    Seen {
-        accepted,
-        sum: sum.wrapping_mul(31).wrapping_add(offset),
-    }
+    let accepted = seen.0.wrapping_add(u64::from(number == 0));
+    let sum = seen.1.wrapping_mul(31).wrapping_add(number);
+    (accepted, sum.wrapping_mul(31).wrapping_add(offset))
 }
-
-const NOTHING: Seen = Seen {
-    accepted: 0,
-    sum: 0,
-};
 
 /// Bytes that readers are known to take wrongly: zero, the shortest lengths, and the type and the
 /// sub-types of end nodes.
@@ -58,7 +46,7 @@ const HOSTILE: &[u8] = &[0, 1, 3, 4, 0x7f, 0xff];
 /// one.
 fn see_changed(alloc: Global, entry: &[u8], is_nudged: bool) -> Result<Seen, AllocError> {
     let mut bytes = Vec::from_slice(alloc, entry)?;
-    let mut seen = NOTHING;
+    let mut seen = (0, 0);
     for (place, byte) in entry.iter().enumerate() {
         let nudged = [byte.wrapping_add(1), byte.wrapping_sub(1)];
         let others: &[u8] = if is_nudged { &nudged } else { HOSTILE };
@@ -77,7 +65,7 @@ fn see_changed(alloc: Global, entry: &[u8], is_nudged: bool) -> Result<Seen, All
 
 /// What each prefix of an entry gives, from no bytes to all.
 fn see_prefixes(entry: &[u8]) -> Seen {
-    let mut seen = NOTHING;
+    let mut seen = (0, 0);
     for len in 0..=entry.len() {
         seen = see(seen, &entry[..len]);
     }
@@ -87,17 +75,12 @@ fn see_prefixes(entry: &[u8]) -> Seen {
 /// Whether this many byte strings that come from an entry are load options, and the three sums over all
 /// others have this one.
 fn gives(alloc: Global, entry: &[u8], accepted: u64, sum: u64) -> Result<bool, AllocError> {
-    let (replaced, nudged) = (
-        see_changed(alloc, entry, false)?,
-        see_changed(alloc, entry, true)?,
-    );
-    let cut = see_prefixes(entry);
-    let all = replaced.accepted.wrapping_add(nudged.accepted);
-    let sums = replaced.sum.wrapping_mul(31).wrapping_add(nudged.sum);
-    Ok(
-        all.wrapping_add(cut.accepted) == accepted
-            && sums.wrapping_mul(31).wrapping_add(cut.sum) == sum,
-    )
+    let (some, replaced) = see_changed(alloc, entry, false)?;
+    let (others, nudged) = see_changed(alloc, entry, true)?;
+    let (whole, cut) = see_prefixes(entry);
+    let sums = replaced.wrapping_mul(31).wrapping_add(nudged);
+    let all = some.wrapping_add(others).wrapping_add(whole);
+    Ok(all == accepted && sums.wrapping_mul(31).wrapping_add(cut) == sum)
 }
 
 /// Entries, how many load options their bytes give once replaced, nudged and cut, and the sum of the

@@ -10,8 +10,6 @@ mod built_nodes;
 #[cfg(test)]
 mod checked_nodes;
 #[cfg(test)]
-mod device_path;
-#[cfg(test)]
 mod entries;
 #[cfg(test)]
 mod file_path;
@@ -23,8 +21,6 @@ mod hostile_entries;
 mod lenient_reader;
 #[cfg(test)]
 mod load_option;
-#[cfg(test)]
-mod load_option_parts;
 #[cfg(test)]
 mod matching;
 #[cfg(test)]
@@ -40,10 +36,7 @@ mod path_reader;
 #[cfg(test)]
 mod path_text;
 #[cfg(test)]
-mod push_lenient_text;
 #[cfg(test)]
 mod push_text;
 #[cfg(test)]
 mod typed_fields;
-#[cfg(test)]
-mod typed_node;

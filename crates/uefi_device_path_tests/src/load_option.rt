@@ -1,10 +1,12 @@
-//! Load options: the fields of those that are accepted, and why others are refused, and where.
+//! Load options: the fields of those that are accepted, why others are refused and where, and what is well in
+//! them before the fault, by the layout of the UEFI Specification, section 3.1.3.
 
 use crate::entries;
-use for_tests::{bytes, has_text, says, split_row};
+use for_tests::{bytes, says, split_row};
+use std::alloc::Global;
+use std::fmt::Write;
 use std::test::Fail;
-use uefi_device_path::LoadOption;
-use uefi_text::FromSliceWithNulError;
+use uefi_device_path::{AllowShortcuts, DisplayOnly, LoadOption};
 
 /// An entry, its attributes, how many units the description has with its NUL, and its first, how many
 /// bytes the list, and how many nodes each of its paths has, and the optional data.
@@ -24,7 +26,7 @@ fn has_nodes(option: &LoadOption<'_>, want: usize) -> bool {
 }
 
 /// Whether an entry has the fields of a row.
-fn says(entry: &[u8], row: &Row) -> bool {
+fn has_fields(entry: &[u8], row: &Row) -> bool {
     let Ok(option) = LoadOption::from_bytes(entry) else {
         return false;
     };
@@ -42,61 +44,63 @@ fn says(entry: &[u8], row: &Row) -> bool {
 #[test]
 fn fields(rt: HostRuntime) -> Result<(), Fail> {
     for row in ROWS {
-        assert!(rt; says(&bytes(rt.alloc(), row.0)?, row), "{}", row.0);
+        assert!(rt; has_fields(&bytes(rt.alloc(), row.0)?, row), "{}", row.0);
     }
     Ok(())
 }
 
-/// Bytes, what is wrong with them, and where.
-const REFUSED: &str = "\
+/// An entry in hexadecimal, and what is well in it: attributes, how many units the description has with its
+/// NUL, each whole device path, the nodes before the fault; the fault, and where it is.
+const PARTS: &str = " the load option ends before its description at offset 0
 0100000004 the load option ends before its description at offset 5
-010000000400 no NUL ends the description at offset 6
-010000000400610000 no NUL ends the description at offset 8
-01000000040000007fff04 the file path list is longer than the bytes that are left at offset 4
-01000000000000007fff0400 the file path list is empty at offset 8
-01000000020000007fff the bytes end in a node's header at offset 8
-010000000400000001010400 no end node ends the device path at offset 12
-010000000400000001010300 a node is shorter than its header at offset 10
-010000000400000001010500 a node is longer than the bytes that are left at offset 10
-01000000040000007f000400 an end node ends neither a path nor an instance at offset 9
-01000000050000007fff050000 an end node has data at offset 10
-01000000060000007fff04007fff the bytes end in a node's header at offset 12";
+0100000004006400 1; no NUL ends the description at offset 8
+01000000040064000000 1; 2 units; \
+    the file path list is longer than the bytes that are left at offset 4
+09000000000064000000 9; 2 units; the file path list is empty at offset 10
+01000000080064000000010106000200017f 1; 2 units; nodes Pci(0x0,0x2); \
+    the bytes end in a node's header at offset 16
+010000001400000001010600021f7fff0400010106000300010203006f 1; 1 units; path Pci(0x1F,0x2); \
+    nodes Pci(0x0,0x3); a node is shorter than its header at offset 26
+010000000f00000001010600021f7fff040001010600037fff0400 1; 1 units; path Pci(0x1F,0x2); \
+    a node is longer than the bytes that are left at offset 20
+010000000400000001010400 1; 1 units; nodes Path(1,1); no end node ends the device path at offset 12
+01000000040000007f000400 1; 1 units; an end node ends neither a path nor an instance at offset 9
+01000000050000007fff050000 1; 1 units; an end node has data at offset 10
+01000000060000007fff04007fff 1; 1 units; path ; the bytes end in a node's header at offset 12";
 
-/// Whether bytes are refused with this text.
-fn is_refused(rt: &HostRuntime, bytes: &[u8], want: &str) -> bool {
-    matches!(LoadOption::from_bytes(bytes), Err(error) if says(rt.alloc(), &error, want))
-}
-
-#[test]
-fn refused(rt: HostRuntime) -> Result<(), Fail> {
-    for line in REFUSED.split('\n') {
-        let (option, want) = split_row(line);
-        let is_right = is_refused(&rt, &bytes(rt.alloc(), option)?, want);
-        assert!(rt; is_right, "{line}");
+/// What is well in an entry, and its fault, which `from_bytes` returns too.
+fn parts_of(alloc: Global, entry: &[u8]) -> Result<String, Fail> {
+    let mut text = String::new(alloc);
+    let parts = LoadOption::read_parts(entry).err().ok_or("a fault")?;
+    if let Some(attributes) = parts.attributes() {
+        write!(text, "{attributes}; ")?;
     }
-    let want = "the load option ends before its description at offset 0";
-    assert!(rt; is_refused(&rt, &[], want));
-    Ok(())
+    if let Some(units) = parts.description_units() {
+        let len = units.len();
+        write!(text, "{len} units; ")?;
+    }
+    for path in parts.device_paths() {
+        write!(text, "path {path}; ")?;
+    }
+    if parts.node_iter().next().is_some() {
+        let nodes = parts.display_nodes(DisplayOnly(false), AllowShortcuts(false));
+        write!(text, "nodes {nodes}; ")?;
+    }
+    let error = parts.error();
+    write!(text, "{error}")?;
+    let printed = error.to_string(alloc)?;
+    if LoadOption::from_bytes(entry).err() != Some(error) || !says(alloc, &error, &printed) {
+        return Err(Fail::from("another fault"));
+    }
+    Ok(text)
 }
 
-/// Two paths, `7f ff 04 00` twice; a description of one surrogate; and two bytes of optional data.
-const TWO_PATHS: &[u8] = &[
-    9, 0, 0, 0, 8, 0, 0, 0xd8, 0, 0, 0x7f, 0xff, 4, 0, 0x7f, 0xff, 4, 0, 0x7f, 0xff,
-];
-
-/// A description as a string; and one with a lone surrogate, which is no string. The option is read.
 #[test]
-fn descriptions(rt: HostRuntime) -> Result<(), Fail> {
-    let shell = bytes(rt.alloc(), entries::BOOT000A)?;
-    let option = LoadOption::from_bytes(&shell)?;
-    assert!(rt; has_text(option.description(rt.alloc())?.as_cstr16(), "UEFI Shell"));
-    assert!(rt; option.is_active() && !option.is_hidden() && !option.is_force_reconnect());
-    assert!(rt; option.category() == 1);
-    let lone = LoadOption::from_bytes(TWO_PATHS)?;
-    let refused = lone.description(rt.alloc()).err();
-    assert!(rt; refused == Some(FromSliceWithNulError::InvalidChar(0)));
-    assert!(rt; lone.is_active() && lone.is_hidden());
-    assert!(rt; lone.optional_data() == [0x7f, 0xff].as_slice());
-    assert!(rt; lone.device_paths().count() == 2);
+fn parts_before_a_fault(rt: HostRuntime) -> Result<(), Fail> {
+    for line in PARTS.split('\n') {
+        let (digits, want) = split_row(line);
+        let text = parts_of(rt.alloc(), &bytes(rt.alloc(), digits)?)?;
+        assert!(rt; text.as_str() == want, "{digits}: {text}");
+    }
     Ok(())
 }

@@ -1,9 +1,10 @@
 //! Device paths beside others: short forms of the UEFI Specification, section 3.1.2, and what they stand for.
 
-use for_tests::{bytes, split_row};
+use for_tests::split_row;
 use std::alloc::Global;
 use std::test::Fail;
-use uefi_device_path::{DevicePath, DevicePathBuf, ShortForm};
+use uefi_device_path::DevicePathBuf;
+use uefi_device_path::ShortForm::{self, File, HardDrive, Uri, UsbClass, UsbWwid};
 
 /// Paths as texts, of which the first is an expansion of the second.
 const EXPANSIONS: &str = "\
@@ -26,14 +27,11 @@ PciRoot(0x0)";
 
 /// A path as a text, and its short form.
 const SHORT_FORMS: &[(&str, Option<ShortForm>)] = &[
-    (
-        "HD(1,MBR,0x12345678,0x0,0x0)/\\a.efi",
-        Some(ShortForm::HardDrive),
-    ),
-    ("\\a.efi", Some(ShortForm::File)),
-    ("UsbClass(0x1,0x2,0x5,0x4,0x5)", Some(ShortForm::UsbClass)),
-    ("UsbWwid(0x1,0x2,0x3,\"a\")", Some(ShortForm::UsbWwid)),
-    ("Uri(http://a/b)", Some(ShortForm::Uri)),
+    ("HD(1,MBR,0x12345678,0x0,0x0)/\\a.efi", Some(HardDrive)),
+    ("\\a.efi", Some(File)),
+    ("UsbClass(0x1,0x2,0x5,0x4,0x5)", Some(UsbClass)),
+    ("UsbWwid(0x1,0x2,0x3,\"a\")", Some(UsbWwid)),
+    ("Uri(http://a/b)", Some(Uri)),
     ("PciRoot(0x0)/HD(1,MBR,0x12345678,0x0,0x0)", None),
     ("CDROM(0x0,0x1,0x2)", None),
     ("", None),
@@ -65,49 +63,6 @@ fn short_forms(rt: HostRuntime) -> Result<(), Fail> {
     for (text, want) in SHORT_FORMS {
         let path = DevicePathBuf::from_text(rt.alloc(), text)?;
         assert!(rt; path.as_device_path().short_form() == *want, "{text}");
-    }
-    Ok(())
-}
-
-/// A partition of seven bytes of data names none, though its type and its sub-type are those of one.
-#[test]
-fn partitions_that_are_cut(rt: HostRuntime) -> Result<(), Fail> {
-    let cut = bytes(rt.alloc(), "04010b00010000000000007fff0400")?;
-    let path = DevicePath::from_bytes(cut.as_slice())?;
-    assert!(rt; path.short_form() == Some(ShortForm::HardDrive));
-    assert!(rt; !path.is_expansion_of(path));
-    Ok(())
-}
-
-/// What is left of one path without another at its start, as texts; `-` where it does not begin with it.
-const PREFIXES: &str = "\
-PciRoot(0x0)/Pci(0x1,0x0)/\\a PciRoot(0x0)/Pci(0x1,0x0) \\a
-PciRoot(0x0)/Pci(0x1,0x0) PciRoot(0x0)/Pci(0x1,0x0)
-PciRoot(0x0)/Pci(0x1,0x0)  PciRoot(0x0)/Pci(0x1,0x0)
-PciRoot(0x0)/Pci(0x1,0x0) PciRoot(0x0)/Pci(0x2,0x0) -
-PciRoot(0x0) PciRoot(0x0)/Pci(0x1,0x0) -
-Path(1,9,0101),\\a Path(1,9,01) -";
-
-/// Whether what is left is this.
-fn leaves(alloc: Global, path: &str, prefix: &str, want: &str) -> Result<bool, Fail> {
-    let path = DevicePathBuf::from_text(alloc, path)?;
-    let prefix = DevicePathBuf::from_text(alloc, prefix)?;
-    let (path, prefix) = (path.as_device_path(), prefix.as_device_path());
-    match path.strip_prefix(prefix) {
-        Some(rest) => {
-            let want = DevicePathBuf::from_text(alloc, want)?;
-            Ok(path.starts_with(prefix) && rest == want.as_device_path())
-        }
-        None => Ok(!path.starts_with(prefix) && want == "-"),
-    }
-}
-
-#[test]
-fn prefixes(rt: HostRuntime) -> Result<(), Fail> {
-    for line in PREFIXES.split('\n') {
-        let (path, others) = split_row(line);
-        let (prefix, want) = split_row(others);
-        assert!(rt; leaves(rt.alloc(), path, prefix, want)?, "{line}");
     }
     Ok(())
 }

@@ -6,7 +6,7 @@ use for_tests::{bytes, repeated, shows, split_row};
 use std::alloc::Global;
 use std::fmt::Write;
 use std::test::Fail;
-use uefi_device_path::{AllowShortcuts, DevicePath, DevicePathNode, DisplayOnly};
+use uefi_device_path::{AllowShortcuts, DevicePathNode, DisplayOnly};
 
 /// Nodes of type ACPI with strings.
 const STRINGS: &str = "\
@@ -335,19 +335,5 @@ fn nodes_that_are_cut(rt: HostRuntime) -> Result<(), Fail> {
             || prints_bytes(rt.alloc(), *kind, *sub, least.saturating_add(3))?;
         assert!(rt; is_right, "{kind}, {sub}");
     }
-    Ok(())
-}
-
-/// `{}` of a path and of a node gives the text that may be read back, without shortcuts.
-#[test]
-fn plain(rt: HostRuntime) -> Result<(), Fail> {
-    let bytes = bytes(
-        rt.alloc(),
-        "030a14005347c1e0bef9d2119a0c0090273fc14d7fff0400",
-    )?;
-    let want = "VenMsg(E0C14753-F9BE-11D2-9A0C-0090273FC14D)";
-    assert!(rt; shows(rt.alloc(), &DevicePath::from_bytes(&bytes)?, want));
-    let (node, _) = DevicePathNode::split_first(&bytes)?;
-    assert!(rt; shows(rt.alloc(), &node, want));
     Ok(())
 }

@@ -5,7 +5,7 @@ use crate::node_text::{REGULAR, sas_lines};
 use for_tests::{bytes, split_row};
 use std::alloc::Global;
 use std::test::Fail;
-use uefi_device_path::{DevicePathBuf, PathTextError};
+use uefi_device_path::DevicePathBuf;
 
 /// The bytes of nodes without the one that ends the path, and their text: devices as firmware prints
 /// them before a partition, partitions, names of files, and instances. The first line is the empty
@@ -58,10 +58,8 @@ fn texts(rt: HostRuntime) -> Result<(), Fail> {
 /// Texts of no path, and where the first node begins that can't be read.
 pub(crate) const REFUSED: &[(&str, usize)] = &[
     ("PciRoot(0x0)/", 13),
-    ("PciRoot(0x0)/,", 13),
     ("PciRoot(0x0)//Pci(0x0,0x0)", 13),
     ("PciRoot(0x0)Pci(0x0,0x0)", 0),
-    ("PciRoot(0x0)x", 0),
     ("PciRoot(0x0)/Pci(0x0,0x0) ", 13),
     (",PciRoot(0x0),Pci(0x0,0x0)x,", 14),
     ("/Pci(0x0,0x0)", 0),
@@ -78,10 +76,6 @@ pub(crate) const REFUSED: &[(&str, usize)] = &[
         "SasEx(0x0000000000000001,0x0000000000000002,0x0,SAS,Internal,Direct,0x101)",
         0,
     ),
-    (
-        "SasEx(0x0000000000000001,0x0000000000000002,0x0,0x1,0,0,0)",
-        0,
-    ),
     ("AcpiAdr(0x1,)", 0),
     ("AcpiAdr()", 0),
     ("Dns(8.8.8.8,)", 0),
@@ -94,34 +88,9 @@ pub(crate) const REFUSED: &[(&str, usize)] = &[
     ("HD(01,MBR,0xA0B1C2D3,0x3F,0x1)", 0),
     ("Path(1,1,ABCD)", 0),
     ("Path(127,1)", 0),
-    ("Path(127,3)", 0),
-    ("Path(127,255)", 0),
     ("Path(256,0)", 0),
     ("EFI", 0),
     ("\\a/\\b/c", 6),
     ("\\a\n", 0),
     ("\\\u{202e}fie.exe", 0),
 ];
-
-/// Whether a text is none, and stops being one at this byte.
-fn is_refused(alloc: Global, text: &str, place: usize) -> bool {
-    matches!(DevicePathBuf::from_text(alloc, text), Err(PathTextError::NoNode(at)) if at == place)
-}
-
-#[test]
-fn refused(rt: HostRuntime) {
-    for (text, place) in REFUSED {
-        assert!(rt; is_refused(rt.alloc(), text, *place), "{text}");
-    }
-}
-
-/// A text of 50,000 ends of instances is read, and one more byte is refused there.
-#[test]
-fn long_texts(rt: HostRuntime) -> Result<(), Fail> {
-    let mut text = ",".repeat(rt.alloc(), 50_000)?;
-    let path = DevicePathBuf::from_text(rt.alloc(), &text)?;
-    assert!(rt; path.as_device_path().node_iter().count() == 50_000);
-    text.push('x')?;
-    assert!(rt; is_refused(rt.alloc(), &text, 50_000));
-    Ok(())
-}

@@ -3,7 +3,7 @@
 use std::test::Fail;
 use uefi_device_path::{
     DevicePathNode, DevicePathNodeEnum as Kind, DeviceSubType as Sub, DeviceType,
-    NodeConversionError, messaging,
+    NodeConversionError,
 };
 
 /// The bytes of a node with this much data, no two of which are the same: 1, 2, 3 and on.
@@ -31,229 +31,156 @@ fn are_data(bytes: &[u8], first: u8) -> bool {
     true
 }
 
-/// Whether a node has the view of its kind, with its fields: of each type, and of Messaging from a sub-type
-/// on.
+/// The data of nodes from the byte of that number on.
+const FROM_13: &[u8] = &[13, 14, 15, 16, 17];
+
+const FROM_17: &[u8] = &[17, 18, 19];
+
+/// Whether a node has the view of one of these kinds, and the fields of that are these.
+macro_rules! has_fields {
+    ($node:ident $($kind:ident $it:ident [$($field:expr),*])*) => {
+        match $node.as_enum() {
+            $(Ok(Kind::$kind($it)) => true $(&& $field)*,)*
+            _ => false,
+        }
+    };
+}
+
 fn is_hardware(node: DevicePathNode<'_>) -> bool {
-    match node.as_enum() {
-        Ok(Kind::HardwarePci(view)) => view.function() == 0x01 && view.device() == 0x02,
-        Ok(Kind::HardwarePccard(view)) => view.function() == 0x01,
-        Ok(Kind::HardwareMemoryMapped(view)) => view.memory_type() == 0x0403_0201
-            && view.starting_address() == 0x0c0b_0a09_0807_0605
-            && view.ending_address() == 0x1413_1211_100f_0e0d,
-        Ok(Kind::HardwareVendor(view)) => are_data(&view.vendor_guid().to_bytes(), 1)
-            && view.vendor_defined_data() == [17, 18, 19].as_slice(),
-        Ok(Kind::HardwareController(view)) => view.controller_number() == 0x0403_0201,
-        Ok(Kind::HardwareBmc(view)) => view.interface_type() == 0x01
-            && view.base_address() == 0x0908_0706_0504_0302,
-        _ => false,
+    has_fields! { node
+        HardwarePci it [it.function() == 1, it.device() == 2]
+        HardwarePccard it [it.function() == 1]
+        HardwareMemoryMapped it [it.memory_type() == 0x0403_0201,
+            it.starting_address() == 0x0c0b_0a09_0807_0605, it.ending_address() == 0x1413_1211_100f_0e0d]
+        HardwareVendor it [are_data(&it.vendor_guid().to_bytes(), 1), it.vendor_defined_data() == FROM_17]
+        HardwareController it [it.controller_number() == 0x0403_0201]
+        HardwareBmc it [it.interface_type() == 1, it.base_address() == 0x0908_0706_0504_0302]
     }
 }
 
 fn is_acpi(node: DevicePathNode<'_>) -> bool {
-    match node.as_enum() {
-        Ok(Kind::AcpiAcpi(view)) => view.hid() == 0x0403_0201 && view.uid() == 0x0807_0605,
-        Ok(Kind::AcpiExpanded(view)) => view.hid() == 0x0403_0201
-            && view.uid() == 0x0807_0605
-            && view.cid() == 0x0c0b_0a09
-            && view.id_strings() == [13, 14, 15, 16, 17].as_slice()
-            && view.hid_str() == [13, 14, 15, 16, 17].as_slice()
-            && view.uid_str().is_empty()
-            && view.cid_str().is_empty(),
-        Ok(Kind::AcpiAdr(view)) => view.adr().len() == 2 && view.adr().get(1) == Some(0x0807_0605),
-        Ok(Kind::AcpiNvdimm(view)) => view.nfit_device_handle() == 0x0403_0201,
-        _ => false,
+    has_fields! { node
+        AcpiAcpi it [it.hid() == 0x0403_0201, it.uid() == 0x0807_0605]
+        AcpiExpanded it [it.hid() == 0x0403_0201, it.uid() == 0x0807_0605, it.cid() == 0x0c0b_0a09,
+            it.id_strings() == FROM_13, it.hid_str() == FROM_13, it.uid_str().is_empty(),
+            it.cid_str().is_empty()]
+        AcpiAdr it [it.adr().len() == 2, it.adr().get(1) == Some(0x0807_0605)]
+        AcpiNvdimm it [it.nfit_device_handle() == 0x0403_0201]
     }
 }
 
-fn is_messaging_from_0(node: DevicePathNode<'_>) -> bool {
-    match node.as_enum() {
-        Ok(Kind::MessagingAtapi(view)) => view.primary_secondary() == 0x01
-            && view.master_slave() == 0x02
-            && view.logical_unit_number() == 0x0403,
-        Ok(Kind::MessagingScsi(view)) => view.target_id() == 0x0201
-            && view.logical_unit_number() == 0x0403,
-        Ok(Kind::MessagingFibreChannel(view)) => view.world_wide_name() == 0x0c0b_0a09_0807_0605
-            && view.logical_unit_number() == 0x1413_1211_100f_0e0d,
-        Ok(Kind::MessagingIeee1394(view)) => are_data(&view.guid(), 5),
-        _ => false,
+fn is_bus(node: DevicePathNode<'_>) -> bool {
+    has_fields! { node
+        MessagingAtapi it [it.primary_secondary() == 1, it.master_slave() == 2,
+            it.logical_unit_number() == 0x0403]
+        MessagingScsi it [it.target_id() == 0x0201, it.logical_unit_number() == 0x0403]
+        MessagingFibreChannel it [it.world_wide_name() == 0x0c0b_0a09_0807_0605,
+            it.logical_unit_number() == 0x1413_1211_100f_0e0d]
+        MessagingIeee1394 it [are_data(&it.guid(), 5)]
+        MessagingUsb it [it.parent_port_number() == 1, it.interface() == 2]
+        MessagingI2o it [it.target_id() == 0x0403_0201]
+        MessagingInfiniband it [it.resource_flags() == 0x0403_0201, are_data(&it.port_gid(), 5),
+            it.ioc_guid_or_service_id() == 0x1c1b_1a19_1817_1615,
+            it.target_port_id() == 0x2423_2221_201f_1e1d, it.device_id() == 0x2c2b_2a29_2827_2625]
+        MessagingVendor it [are_data(&it.vendor_guid().to_bytes(), 1), it.vendor_defined_data() == FROM_17]
     }
 }
 
-fn is_messaging_from_5(node: DevicePathNode<'_>) -> bool {
-    match node.as_enum() {
-        Ok(Kind::MessagingUsb(view)) => view.parent_port_number() == 0x01
-            && view.interface() == 0x02,
-        Ok(Kind::MessagingI2o(view)) => view.target_id() == 0x0403_0201,
-        Ok(Kind::MessagingInfiniband(view)) => view.resource_flags() == 0x0403_0201
-            && are_data(&view.port_gid(), 5)
-            && view.ioc_guid_or_service_id() == 0x1c1b_1a19_1817_1615
-            && view.target_port_id() == 0x2423_2221_201f_1e1d
-            && view.device_id() == 0x2c2b_2a29_2827_2625,
-        Ok(Kind::MessagingVendor(view)) => are_data(&view.vendor_guid().to_bytes(), 1)
-            && view.vendor_defined_data() == [17, 18, 19].as_slice(),
-        _ => false,
+fn is_network(node: DevicePathNode<'_>) -> bool {
+    has_fields! { node
+        MessagingMacAddress it [are_data(&it.mac_address(), 1), it.interface_type() == 0x21]
+        MessagingIpv4 it [are_data(&it.local_ip_address(), 1), are_data(&it.remote_ip_address(), 5),
+            it.local_port() == 0x0a09, it.remote_port() == 0x0c0b, it.protocol() == 0x0e0d,
+            it.ip_address_origin() == 15, it.gateway_ip_address() == Some([16, 17, 18, 19]),
+            it.subnet_mask() == Some([20, 21, 22, 23])]
+        MessagingIpv6 it [are_data(&it.local_ip_address(), 1), are_data(&it.remote_ip_address(), 17),
+            it.local_port() == 0x2221, it.remote_port() == 0x2423, it.protocol() == 0x2625,
+            it.ip_address_origin() == 39, it.prefix_length() == 40, are_data(&it.gateway_ip_address(), 41)]
     }
 }
 
-fn is_messaging_from_11(node: DevicePathNode<'_>) -> bool {
-    match node.as_enum() {
-        Ok(Kind::MessagingMacAddress(view)) => are_data(&view.mac_address(), 1)
-            && view.interface_type() == 0x21,
-        Ok(Kind::MessagingIpv4(view)) => are_data(&view.local_ip_address(), 1)
-            && are_data(&view.remote_ip_address(), 5)
-            && view.local_port() == 0x0a09
-            && view.remote_port() == 0x0c0b
-            && view.protocol() == 0x0e0d
-            && view.ip_address_origin() == 0x0f
-            && view.gateway_ip_address() == Some([16, 17, 18, 19])
-            && view.subnet_mask() == Some([20, 21, 22, 23]),
-        _ => false,
+fn is_line(node: DevicePathNode<'_>) -> bool {
+    has_fields! { node
+        MessagingUart it [it.baud_rate() == 0x0c0b_0a09_0807_0605, it.data_bits() == 13, it.parity() == 14,
+            it.stop_bits() == 15]
+        MessagingUsbClass it [it.vendor_id() == 0x0201, it.product_id() == 0x0403, it.device_class() == 5,
+            it.device_subclass() == 6, it.device_protocol() == 7]
+        MessagingUsbWwid it [it.interface_number() == 0x0201, it.device_vendor_id() == 0x0403,
+            it.device_product_id() == 0x0605,
+            it.serial_number().is_some_and(|units| units.len() == 2 && units.get(1) == Some(0x0a09))]
+        MessagingDeviceLogicalUnit it [it.logical_unit_number() == 1]
+        MessagingSata it [it.hba_port_number() == 0x0201, it.port_multiplier_port_number() == 0x0403,
+            it.logical_unit_number() == 0x0605]
+        MessagingIscsi it [it.protocol() == 0x0201, it.options() == 0x0403,
+            are_data(&it.logical_unit_number(), 5), it.target_portal_group_tag() == 0x0e0d,
+            it.iscsi_target_name() == [15, 16, 17].as_slice()]
+        MessagingVlan it [it.vlan_id() == 0x0201]
     }
 }
 
-fn is_messaging_from_13(node: DevicePathNode<'_>) -> bool {
-    match node.as_enum() {
-        Ok(Kind::MessagingIpv6(view)) => are_data(&view.local_ip_address(), 1)
-            && are_data(&view.remote_ip_address(), 17)
-            && view.local_port() == 0x2221
-            && view.remote_port() == 0x2423
-            && view.protocol() == 0x2625
-            && view.ip_address_origin() == 0x27
-            && view.prefix_length() == 0x28
-            && are_data(&view.gateway_ip_address(), 41),
-        Ok(Kind::MessagingUart(view)) => view.baud_rate() == 0x0c0b_0a09_0807_0605
-            && view.data_bits() == 0x0d
-            && view.parity() == 0x0e
-            && view.stop_bits() == 0x0f,
-        Ok(Kind::MessagingUsbClass(view)) => view.vendor_id() == 0x0201
-            && view.product_id() == 0x0403
-            && view.device_class() == 0x05
-            && view.device_subclass() == 0x06
-            && view.device_protocol() == 0x07,
-        Ok(Kind::MessagingUsbWwid(view)) => view.interface_number() == 0x0201
-            && view.device_vendor_id() == 0x0403
-            && view.device_product_id() == 0x0605
-            && view
-                .serial_number()
-                .is_some_and(|units| units.len() == 2 && units.get(1) == Some(0x0a09)),
-        _ => false,
+fn is_drive(node: DevicePathNode<'_>) -> bool {
+    has_fields! { node
+        MessagingFibreChannelEx it [are_data(&it.world_wide_name(), 5), are_data(&it.logical_unit_number(),
+            13)]
+        MessagingSasEx it [are_data(&it.sas_address(), 1), are_data(&it.logical_unit_number(), 9),
+            it.info() == 0x1211, it.relative_target_port() == 0x1413]
+        MessagingNvmeNamespace it [it.namespace_identifier() == 0x0403_0201,
+            it.ieee_extended_unique_identifier() == 0x0c0b_0a09_0807_0605]
+        MessagingUri it [it.value() == [1, 2, 3].as_slice()]
+        MessagingUfs it [it.target_id() == 1, it.logical_unit_number() == 2]
+        MessagingSd it [it.slot_number() == 1]
+        MessagingBluetooth it [are_data(&it.device_address(), 1)]
+        MessagingWifi it [are_data(&it.ssid(), 1)]
+        MessagingEmmc it [it.slot_number() == 1]
+        MessagingBluetoothLe it [are_data(&it.device_address(), 1), it.address_type() == 7]
     }
 }
 
-fn is_messaging_from_17(node: DevicePathNode<'_>) -> bool {
-    match node.as_enum() {
-        Ok(Kind::MessagingDeviceLogicalUnit(view)) => view.logical_unit_number() == 0x01,
-        Ok(Kind::MessagingSata(view)) => view.hba_port_number() == 0x0201
-            && view.port_multiplier_port_number() == 0x0403
-            && view.logical_unit_number() == 0x0605,
-        Ok(Kind::MessagingIscsi(view)) => view.protocol() == 0x0201
-            && view.options() == 0x0403
-            && are_data(&view.logical_unit_number(), 5)
-            && view.target_portal_group_tag() == 0x0e0d
-            && view.iscsi_target_name() == [15, 16, 17].as_slice(),
-        Ok(Kind::MessagingVlan(view)) => view.vlan_id() == 0x0201,
-        _ => false,
-    }
-}
-
-fn is_messaging_from_21(node: DevicePathNode<'_>) -> bool {
-    match node.as_enum() {
-        Ok(Kind::MessagingFibreChannelEx(view)) => are_data(&view.world_wide_name(), 5)
-            && are_data(&view.logical_unit_number(), 13),
-        Ok(Kind::MessagingSasEx(view)) => are_data(&view.sas_address(), 1)
-            && are_data(&view.logical_unit_number(), 9)
-            && view.info() == 0x1211
-            && view.relative_target_port() == 0x1413,
-        Ok(Kind::MessagingNvmeNamespace(view)) => view.namespace_identifier() == 0x0403_0201
-            && view.ieee_extended_unique_identifier() == 0x0c0b_0a09_0807_0605,
-        Ok(Kind::MessagingUri(view)) => view.value() == [1, 2, 3].as_slice(),
-        _ => false,
-    }
-}
-
-fn is_messaging_from_25(node: DevicePathNode<'_>) -> bool {
-    match node.as_enum() {
-        Ok(Kind::MessagingUfs(view)) => view.target_id() == 0x01
-            && view.logical_unit_number() == 0x02,
-        Ok(Kind::MessagingSd(view)) => view.slot_number() == 0x01,
-        Ok(Kind::MessagingBluetooth(view)) => are_data(&view.device_address(), 1),
-        Ok(Kind::MessagingWifi(view)) => are_data(&view.ssid(), 1),
-        Ok(Kind::MessagingEmmc(view)) => view.slot_number() == 0x01,
-        Ok(Kind::MessagingBluetoothLe(view)) => are_data(&view.device_address(), 1)
-            && view.address_type() == 0x07,
-        _ => false,
-    }
-}
-
-fn is_messaging_from_31(node: DevicePathNode<'_>) -> bool {
-    match node.as_enum() {
-        Ok(Kind::MessagingDns(view)) => view.address_type() == 0x01
-            && view.address_count() == 2
-            && matches!(view.address(1), Some(address) if are_data(&address, 18))
-            && view.address(2).is_none(),
-        Ok(Kind::MessagingNvdimmNamespace(view)) => are_data(&view.uuid().to_bytes(), 1),
-        Ok(Kind::MessagingRestService(view)) => view.service_type() == 0x01
-            && view.access_mode() == 0x02
-            && view.vendor_guid_and_data().is_none(),
-        Ok(Kind::MessagingNvmeOfNamespace(view)) => view.nidt() == 0x01
-            && are_data(&view.nid(), 2)
-            && view.subsystem_nqn() == [18, 19, 20].as_slice(),
-        _ => false,
-    }
-}
-
-fn is_disk(node: DevicePathNode<'_>) -> bool {
-    match node.as_enum() {
-        Ok(Kind::MediaHardDrive(view)) => view.partition_number() == 0x0403_0201
-            && view.partition_start() == 0x0c0b_0a09_0807_0605
-            && view.partition_size() == 0x1413_1211_100f_0e0d
-            && are_data(&view.partition_signature(), 21)
-            && view.partition_format() == 0x25
-            && view.signature_type() == 0x26,
-        Ok(Kind::MediaCdRom(view)) => view.boot_entry() == 0x0403_0201
-            && view.partition_start() == 0x0c0b_0a09_0807_0605
-            && view.partition_size() == 0x1413_1211_100f_0e0d,
-        Ok(Kind::MediaVendor(view)) => are_data(&view.vendor_guid().to_bytes(), 1)
-            && view.vendor_defined_data() == [17, 18, 19].as_slice(),
-        _ => false,
+fn is_service(node: DevicePathNode<'_>) -> bool {
+    has_fields! { node
+        MessagingDns it [it.address_type() == 1, it.address_count() == 2, it.address(2).is_none(),
+            matches!(it.address(1), Some(address) if are_data(&address, 18))]
+        MessagingNvdimmNamespace it [are_data(&it.uuid().to_bytes(), 1)]
+        MessagingRestService it [it.service_type() == 1, it.access_mode() == 2,
+            it.vendor_guid_and_data().is_none()]
+        MessagingNvmeOfNamespace it [it.nidt() == 1, are_data(&it.nid(), 2), it.subsystem_nqn() == [18, 19,
+            20].as_slice()]
     }
 }
 
 fn is_media(node: DevicePathNode<'_>) -> bool {
-    match node.as_enum() {
-        Ok(Kind::MediaProtocol(view)) => are_data(&view.protocol_guid().to_bytes(), 1),
-        Ok(Kind::MediaPiwgFirmwareFile(view)) => are_data(&view.file_name().to_bytes(), 1),
-        Ok(Kind::MediaPiwgFirmwareVolume(view)) => are_data(&view.volume_name().to_bytes(), 1),
-        Ok(Kind::MediaRelativeOffsetRange(view)) => view.starting_offset() == 0x0c0b_0a09_0807_0605
-            && view.ending_offset() == 0x1413_1211_100f_0e0d,
-        Ok(Kind::MediaRamDisk(view)) => view.starting_address() == 0x0807_0605_0403_0201
-            && view.ending_address() == 0x100f_0e0d_0c0b_0a09
-            && are_data(&view.disk_type().to_bytes(), 17)
-            && view.disk_instance() == 0x2221,
-        Ok(Kind::MediaFilePath(view)) => view.path_name().get(1) == Some(0x0403),
-        Ok(Kind::BiosBootSpecBootSpecification(view)) => view.device_type() == 0x0201
-            && view.status_flag() == 0x0403
-            && view.description_string() == [5, 6, 7].as_slice(),
-        _ => false,
+    has_fields! { node
+        MediaHardDrive it [it.partition_number() == 0x0403_0201,
+            it.partition_start() == 0x0c0b_0a09_0807_0605, it.partition_size() == 0x1413_1211_100f_0e0d,
+            are_data(&it.partition_signature(), 21), it.partition_format() == 0x25,
+            it.signature_type() == 0x26]
+        MediaCdRom it [it.boot_entry() == 0x0403_0201, it.partition_start() == 0x0c0b_0a09_0807_0605,
+            it.partition_size() == 0x1413_1211_100f_0e0d]
+        MediaVendor it [are_data(&it.vendor_guid().to_bytes(), 1), it.vendor_defined_data() == FROM_17]
+        MediaFilePath it [it.path_name().get(1) == Some(0x0403)]
+        MediaProtocol it [are_data(&it.protocol_guid().to_bytes(), 1)]
+        MediaPiwgFirmwareFile it [are_data(&it.file_name().to_bytes(), 1)]
+        MediaPiwgFirmwareVolume it [are_data(&it.volume_name().to_bytes(), 1)]
+        MediaRelativeOffsetRange it [it.starting_offset() == 0x0c0b_0a09_0807_0605,
+            it.ending_offset() == 0x1413_1211_100f_0e0d]
+        MediaRamDisk it [it.starting_address() == 0x0807_0605_0403_0201,
+            it.ending_address() == 0x100f_0e0d_0c0b_0a09, are_data(&it.disk_type().to_bytes(), 17),
+            it.disk_instance() == 0x2221]
+        BiosBootSpecBootSpecification it [it.device_type() == 0x0201, it.status_flag() == 0x0403,
+            it.description_string() == [5, 6, 7].as_slice()]
     }
 }
 
 /// Whether a node has a view of its kind, whose fields are the bytes at their places.
 fn is_read(node: DevicePathNode<'_>) -> bool {
-    match node.full_type() {
-        (DeviceType::HARDWARE, _) => is_hardware(node),
-        (DeviceType::ACPI, _) => is_acpi(node),
-        (DeviceType::MESSAGING, Sub(0..=4)) => is_messaging_from_0(node),
-        (DeviceType::MESSAGING, Sub(5..=10)) => is_messaging_from_5(node),
-        (DeviceType::MESSAGING, Sub(11..=12)) => is_messaging_from_11(node),
-        (DeviceType::MESSAGING, Sub(13..=16)) => is_messaging_from_13(node),
-        (DeviceType::MESSAGING, Sub(17..=20)) => is_messaging_from_17(node),
-        (DeviceType::MESSAGING, Sub(21..=24)) => is_messaging_from_21(node),
-        (DeviceType::MESSAGING, Sub(25..=30)) => is_messaging_from_25(node),
-        (DeviceType::MESSAGING, Sub(31..=255)) => is_messaging_from_31(node),
-        (DeviceType::MEDIA, Sub(0..=3)) => is_disk(node),
-        _ => is_media(node),
-    }
+    is_hardware(node)
+        || is_acpi(node)
+        || is_bus(node)
+        || is_network(node)
+        || is_line(node)
+        || is_drive(node)
+        || is_service(node)
+        || is_media(node)
 }
 
 /// The sub-type of each kind, the number of its type and of that in the UEFI Specification, how many bytes of
@@ -332,25 +259,6 @@ fn fields(rt: HostRuntime) -> Result<(), Fail> {
     Ok(())
 }
 
-/// A REST service of a vendor has a GUID where there are bytes for it, and data after that.
-#[test]
-fn rest_services_of_vendors(rt: HostRuntime) -> Result<(), Fail> {
-    for len in 2..21 {
-        let mut bytes = node_bytes(3, 33, len);
-        bytes[4] = 0xff;
-        let (node, _) = DevicePathNode::split_first(&bytes)?;
-        let vendor = messaging::RestService::from_node(node)?.vendor_guid_and_data();
-        let is_right = match vendor {
-            Some((guid, data)) => are_data(&guid.to_bytes(), 3)
-                && are_data(data, 19)
-                && data.len() + 18 == usize::from(len),
-            None => len < 18,
-        };
-        assert!(rt; is_right, "{len}");
-    }
-    Ok(())
-}
-
 #[test]
 fn least_lengths_of_views(rt: HostRuntime) -> Result<(), Fail> {
     for (_, device_type, sub_type, _, least) in KINDS {
@@ -363,29 +271,18 @@ fn least_lengths_of_views(rt: HostRuntime) -> Result<(), Fail> {
     Ok(())
 }
 
-/// Types and sub-types that no kind has.
-const UNSUPPORTED: &[(u8, u8)] = &[
-    (0, 1),
-    (1, 0),
-    (1, 7),
-    (2, 5),
-    (3, 0),
-    (3, 7),
-    (3, 8),
-    (3, 35),
-    (4, 0),
-    (4, 10),
-    (5, 2),
-    (6, 1),
-    (255, 255),
+/// Types and sub-types that no kind has, a byte each.
+const UNSUPPORTED: [u16; 13] = [
+    0x0001, 0x0100, 0x0107, 0x0205, 0x0300, 0x0307, 0x0308, 0x0323, 0x0400, 0x040a, 0x0502, 0x0601,
+    0xffff,
 ];
 
 #[test]
 fn kinds_without_a_view(rt: HostRuntime) -> Result<(), Fail> {
-    for (device_type, sub_type) in UNSUPPORTED {
-        let none = refusal(*device_type, *sub_type, 60)?;
-        let is_right = none == Some(NodeConversionError::UnsupportedType);
-        assert!(rt; is_right, "{device_type}, {sub_type}");
+    for kind in UNSUPPORTED {
+        let [device_type, sub_type] = kind.to_be_bytes();
+        let want = Some(NodeConversionError::UnsupportedType);
+        assert!(rt; refusal(device_type, sub_type, 60)? == want, "{kind:04x}");
     }
     assert!(rt; refusal(4, 4, 5)? == Some(NodeConversionError::InvalidLength));
     Ok(())

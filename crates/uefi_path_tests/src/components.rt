@@ -1,11 +1,10 @@
 //! The components of paths.
 
 use crate::fixtures::buffer;
-use for_tests::{has_text, string};
-use std::fmt::Write;
+use for_tests::string;
 use std::test::Fail;
-use uefi_path::{ComponentIndices, Path};
-use uefi_text::{CStr16, CString16};
+use uefi_path::Path;
+use uefi_text::CStr16;
 
 /// The components of a path, with a bar before each.
 fn barred(rt: &HostRuntime, path: Path<'_>) -> Result<String, Fail> {
@@ -17,38 +16,6 @@ fn barred(rt: &HostRuntime, path: Path<'_>) -> Result<String, Fail> {
         }
     }
     Ok(shown)
-}
-
-/// The components of a path with their places, each before a blank.
-fn placed(rt: &HostRuntime, components: ComponentIndices<'_>) -> Result<CString16, Fail> {
-    let mut shown = string(rt.alloc(), "")?;
-    for (place, component) in components {
-        write!(shown, "{place}:{component} ")?;
-    }
-    Ok(shown)
-}
-
-/// A path, and its components with their places.
-const PLACED: &[(&str, &str)] = &[
-    ("", ""),
-    (r"\", ""),
-    ("é", "0:é "),
-    (r"a\", "0:a 2: "),
-    (r"\\", "1: 2: "),
-    (r"a\\b", "0:a 2: 3:b "),
-    (r"\efi\boot\bootx64.efi", "1:efi 5:boot 10:bootx64.efi "),
-];
-
-#[test]
-fn places_of_components(rt: HostRuntime) -> Result<(), Fail> {
-    for (text, want) in PLACED {
-        let (string, path) = (string(rt.alloc(), text)?, buffer(&rt, text)?);
-        let borrowed = placed(&rt, Path::new(string.as_cstr16()).component_indices())?;
-        let owned = placed(&rt, path.component_indices())?;
-        assert!(rt; has_text(borrowed.as_cstr16(), want), "{text}");
-        assert!(rt; has_text(owned.as_cstr16(), want), "{text}");
-    }
-    Ok(())
 }
 
 /// Whether both ways to make a path of a string keep the string.

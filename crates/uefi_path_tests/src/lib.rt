@@ -1,11 +1,9 @@
-//! Tests of `uefi_path`: components, order and names, buffers, parents, the verdict on a path, normal
-//! paths, and the examples of the documents.
+//! Tests of `uefi_path`: components, order and names, buffers, parents, the verdict on a path, and
+//! normal paths.
 #![tactic(auto)]
 
 #[cfg(test)]
 mod components;
-#[cfg(test)]
-mod documents;
 #[cfg(test)]
 mod fixtures;
 #[cfg(test)]

@@ -15,15 +15,6 @@ fn is_normal_path(rt: &HostRuntime, text: &str, want: &str) -> Result<bool, Fail
     }
 }
 
-/// Whether a text has no normal path, for this reason.
-fn is_refused(rt: &HostRuntime, text: &str, why: PathError) -> Result<bool, Fail> {
-    let string = string(rt.alloc(), text)?;
-    match Path::new(string.as_cstr16()).normalize(rt.alloc()) {
-        Ok(_) => Ok(false),
-        Err(error) => Ok(error == NormalizeError::Invalid(why)),
-    }
-}
-
 /// Texts, and those of their normal paths.
 pub(crate) const NORMAL: &[(&str, &str)] = &[
     (r"a\..\b", "b"),
@@ -42,22 +33,6 @@ pub(crate) const NORMAL: &[(&str, &str)] = &[
 fn paths_and_their_normal_paths(rt: HostRuntime) -> Result<(), Fail> {
     for (text, want) in NORMAL {
         assert!(rt; is_normal_path(&rt, text, want)?, "{text}");
-    }
-    Ok(())
-}
-
-#[test]
-fn paths_without_normal_path(rt: HostRuntime) -> Result<(), Fail> {
-    let slash = Char16::try_from('/')?;
-    for (text, why) in [
-        ("", PathError::Empty),
-        (r"a\..\", PathError::EmptyComponent),
-        ("a/..", PathError::IllegalChar(slash)),
-        (r"..\a", PathError::ClimbsAboveRoot),
-        (r"a\..\..", PathError::ClimbsAboveRoot),
-        (r"a\\..\..", PathError::EmptyComponent),
-    ] {
-        assert!(rt; is_refused(&rt, text, why)?, "{text}");
     }
     Ok(())
 }

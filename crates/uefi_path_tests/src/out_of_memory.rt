@@ -2,7 +2,7 @@
 //! gives what ample memory gives. A call on a buffer asks the buffer's own allocator. All calls stand in
 //! one table, and no call gives up on a path of 150,000 characters.
 
-use for_tests::{Refusing, out_of_memory, repeated, requests, string};
+use for_tests::{Refusing, is_answered, out_of_memory, repeated, requests, string};
 use std::alloc::{AllocError, Global};
 use std::test::Fail;
 use uefi_path::{CountedUnits, NormalizeError, Path, PathBuf, PathError};
@@ -32,50 +32,12 @@ enum Call {
     Nothing,
 }
 
-/// What a call is given: a text, another, and the text of the path that it makes.
-#[derive(Clone, Copy)]
-struct Texts<'a> {
-    text: CStr16<'a>,
-    other: CStr16<'a>,
-    want: CStr16<'a>,
-}
-
-/// Whether a buffer has this text.
-fn shows(path: &Buffer<'_>, want: CStr16<'_>) -> bool {
-    path.to_cstr16() == want
-}
-
-/// Whether the path that takes over a copy of a string has this text, or the very string comes back
-/// where memory ran out.
-fn takes_over(heap: &Refusing<Global>, texts: Texts<'_>) -> Result<bool, AllocError> {
-    match PathBuf::new_from_cstring16(heap, CString16::from_cstr16(heap, texts.text)?) {
-        Ok(path) => Ok(shows(&path, texts.want)),
-        Err(kept) => out_of_memory(kept.eq_cstr16(texts.text)),
-    }
-}
-
-/// Whether a parent has this text.
-fn is_parent(parent: Option<Buffer<'_>>, want: CStr16<'_>) -> bool {
-    matches!(parent, Some(parent) if shows(&parent, want))
-}
-
-/// Whether a call on a buffer gives what ample memory gives.
-fn reads(call: Call, path: &Buffer<'_>, texts: Texts<'_>) -> Result<bool, AllocError> {
-    match call {
-        Call::CloneBuffer => Ok(path.clone()? == *path),
-        Call::JoinBuffer => Ok(shows(&path.join(Path::new(texts.other))?, texts.want)),
-        _ => Ok(is_parent(path.parent()?, texts.want)),
-    }
-}
-
-/// Whether that is so of the buffer of a text, and leaves it unchanged.
-fn leaves(call: Call, heap: &Refusing<Global>, texts: Texts<'_>) -> Result<bool, AllocError> {
-    let path = PathBuf::from(heap, texts.text)?;
-    let answer = reads(call, &path, texts);
-    if shows(&path, texts.text) {
-        answer
-    } else {
-        Ok(false)
+/// Whether the path that takes over a copy of a string is made, or the very string comes back where memory
+/// ran out.
+fn takes_over(heap: &Refusing<Global>, text: CStr16<'_>) -> Result<bool, AllocError> {
+    match PathBuf::new_from_cstring16(heap, CString16::from_cstr16(heap, text)?) {
+        Ok(_) => Ok(true),
+        Err(kept) => out_of_memory(kept.eq_cstr16(text)),
     }
 }
 
@@ -83,142 +45,111 @@ fn leaves(call: Call, heap: &Refusing<Global>, texts: Texts<'_>) -> Result<bool,
 fn filled<'a>(heap: &'a Refusing<Global>, text: CStr16<'_>) -> Result<Buffer<'a>, AllocError> {
     let mut filled = CString16::with_capacity(heap, text.num_chars())?;
     filled.push_str(text)?;
-    match PathBuf::new_from_cstring16(heap, filled) {
-        Ok(path) => Ok(path),
-        Err(_) => Err(AllocError),
-    }
+    PathBuf::new_from_cstring16(heap, filled).map_err(|_| AllocError)
 }
 
-/// Whether a buffer after a push has this text, or is unchanged where memory ran out.
-fn pushes(call: Call, heap: &Refusing<Global>, texts: Texts<'_>) -> Result<bool, AllocError> {
-    let mut path = filled(heap, texts.text)?;
-    let answer = match call {
-        Call::Push => path.push(Path::new(texts.other)),
-        _ => path.push_counted(&mut CountedUnits::new(texts.other)),
-    };
-    match answer {
-        Ok(()) => Ok(shows(&path, texts.want)),
-        Err(_) => out_of_memory(shows(&path, texts.text)),
-    }
-}
-
-/// Whether a path has this normal path, or memory ran out.
-fn normalizes(heap: &Refusing<Global>, texts: Texts<'_>) -> Result<bool, AllocError> {
-    match Path::new(texts.text).normalize(heap) {
-        Ok(path) => Ok(shows(&path, texts.want)),
-        Err(error) => out_of_memory(error == NormalizeError::OutOfMemory),
-    }
-}
-
-/// Whether a path has no normal path for an empty component.
-fn refuses(heap: &Refusing<Global>, text: CStr16<'_>) -> bool {
-    matches!(
-        Path::new(text).normalize(heap),
-        Err(NormalizeError::Invalid(PathError::EmptyComponent))
-    )
-}
-
-/// Whether a buffer that is cleared is empty, and takes the path that it held.
-fn clears_and_takes(heap: &Refusing<Global>, texts: Texts<'_>) -> Result<bool, AllocError> {
-    let mut path = PathBuf::from(heap, texts.text)?;
+/// Whether a buffer is cleared and takes the path that it held, or memory ran out.
+fn clears_and_takes(heap: &Refusing<Global>, text: CStr16<'_>) -> Result<bool, AllocError> {
+    let mut path = PathBuf::from(heap, text)?;
     path.clear();
-    let is_empty = path.is_empty();
-    match path.push(Path::new(texts.text)) {
-        Ok(()) => Ok(is_empty && shows(&path, texts.want)),
-        Err(_) => out_of_memory(is_empty && path.is_empty()),
-    }
+    is_answered(path.push(Path::new(text)), AllocError)
 }
 
-/// Whether the string of a buffer has its text.
-fn gives_back(heap: &Refusing<Global>, texts: Texts<'_>) -> Result<bool, AllocError> {
-    let string = PathBuf::from(heap, texts.text)?.into_cstring16();
-    Ok(string.eq_cstr16(texts.want))
-}
-
-/// Whether a text and its buffer have no parent, and a push of the other, empty path changes nothing.
-fn needs_no_memory(heap: &Refusing<Global>, texts: Texts<'_>) -> Result<bool, AllocError> {
-    let mut path = PathBuf::from(heap, texts.text)?;
-    path.push(Path::new(texts.other))?;
-    let has_parent = path.parent()?.is_some() || Path::new(texts.text).parent(heap)?.is_some();
-    Ok(!has_parent && shows(&path, texts.text))
+/// Whether a text and its buffer have no parent, and a push of the empty path succeeds.
+fn needs_no_memory(
+    heap: &Refusing<Global>,
+    text: CStr16<'_>,
+    empty: Path<'_>,
+) -> Result<bool, AllocError> {
+    let mut path = PathBuf::from(heap, text)?;
+    path.push(empty)?;
+    Ok(path.parent()?.is_none() && Path::new(text).parent(heap)?.is_none())
 }
 
 /// Whether a call gives what ample memory gives, or memory ran out.
-fn answers(call: Call, heap: &Refusing<Global>, texts: Texts<'_>) -> Result<bool, AllocError> {
-    let (path, other) = (Path::new(texts.text), Path::new(texts.other));
+fn answers(
+    call: Call,
+    heap: &Refusing<Global>,
+    text: CStr16<'_>,
+    other: CStr16<'_>,
+) -> Result<bool, AllocError> {
+    let (path, more) = (Path::new(text), Path::new(other));
     match call {
-        Call::New => Ok(PathBuf::new(heap)?.is_empty()),
-        Call::NewFromCString16 => takes_over(heap, texts),
-        Call::From => Ok(shows(&PathBuf::from(heap, texts.text)?, texts.want)),
-        Call::ToPathBuf => Ok(shows(&path.to_path_buf(heap)?, texts.want)),
-        Call::Join => Ok(shows(&path.join(heap, other)?, texts.want)),
-        Call::Parent => Ok(is_parent(path.parent(heap)?, texts.want)),
-        Call::CloneBuffer | Call::JoinBuffer | Call::ParentOfBuffer => leaves(call, heap, texts),
-        Call::Push | Call::PushCounted => pushes(call, heap, texts),
-        Call::Normalize => normalizes(heap, texts),
-        Call::RefusedNormalize => Ok(refuses(heap, texts.text)),
-        Call::Clear => clears_and_takes(heap, texts),
-        Call::IntoCString16 => gives_back(heap, texts),
-        Call::Nothing => needs_no_memory(heap, texts),
+        Call::New => is_answered(PathBuf::new(heap), AllocError),
+        Call::NewFromCString16 => takes_over(heap, text),
+        Call::From => is_answered(PathBuf::from(heap, text), AllocError),
+        Call::ToPathBuf => is_answered(path.to_path_buf(heap), AllocError),
+        Call::Join => is_answered(path.join(heap, more), AllocError),
+        Call::Parent => Ok(path.parent(heap)?.is_some()),
+        Call::CloneBuffer => is_answered(PathBuf::from(heap, text)?.clone(), AllocError),
+        Call::JoinBuffer => is_answered(PathBuf::from(heap, text)?.join(more), AllocError),
+        Call::ParentOfBuffer => Ok(PathBuf::from(heap, text)?.parent()?.is_some()),
+        Call::Push => is_answered(filled(heap, text)?.push(more), AllocError),
+        Call::PushCounted => is_answered(
+            filled(heap, text)?.push_counted(&mut CountedUnits::new(other)),
+            AllocError,
+        ),
+        Call::Normalize => is_answered(path.normalize(heap), NormalizeError::OutOfMemory),
+        Call::RefusedNormalize => Ok(
+            path.normalize(heap).err() == Some(NormalizeError::Invalid(PathError::EmptyComponent)),
+        ),
+        Call::Clear => clears_and_takes(heap, text),
+        Call::IntoCString16 => Ok(PathBuf::from(heap, text)?.into_cstring16().eq_cstr16(text)),
+        Call::Nothing => needs_no_memory(heap, text, more),
     }
 }
 
 /// The requests of a call, after those that come before it.
-fn count_of(rt: &HostRuntime, call: Call, setup: u64, texts: [&str; 3]) -> Result<u64, Fail> {
-    let [text, other, want] = texts;
+fn count_of(rt: &HostRuntime, call: Call, setup: u64, texts: [&str; 2]) -> Result<u64, Fail> {
+    let [text, other] = texts;
     let (text, other) = (string(rt.alloc(), text)?, string(rt.alloc(), other)?);
-    let want = string(rt.alloc(), want)?;
-    let texts = Texts {
-        text: text.as_cstr16(),
-        other: other.as_cstr16(),
-        want: want.as_cstr16(),
-    };
-    requests(rt.alloc(), setup, |heap| answers(call, heap, texts))
+    let (text, other) = (text.as_cstr16(), other.as_cstr16());
+    requests(rt.alloc(), setup, |heap| answers(call, heap, text, other))
 }
 
 /// A call, how many requests come before it, its texts, and how many requests it makes at least and at
 /// most. In the texts each `@` is a name of some length, and each `#` a path of as many names.
-type Counted = (Call, u64, [&'static str; 3], u64, u64);
+type Counted = (Call, u64, [&'static str; 2], u64, u64);
 
 /// A path takes over the memory of its string, and gives it back. Beside its text it asks for the places of
 /// its separators, if it has any.
 const ROWS: &[Counted] = &[
-    (Call::New, 0, ["", "", ""], 1, 1),
-    (Call::NewFromCString16, 1, ["@", "", "@"], 0, 0),
-    (Call::NewFromCString16, 1, ["#", "", "#"], 1, 1),
-    (Call::NewFromCString16, 1, ["@/@", "", r"@\@"], 1, 1),
-    (Call::From, 0, ["@", "", "@"], 1, 1),
-    (Call::From, 0, ["/#", "", r"\#"], 2, 2),
-    (Call::ToPathBuf, 0, ["#/a", "", r"#\a"], 2, 2),
-    (Call::Join, 0, [r"/a\b", "c/d", r"\a\b\c\d"], 2, 3),
-    (Call::Join, 0, ["#", r"\\\\\\\", r"#\\\\\\\\"], 3, 9),
-    (Call::Parent, 0, [r"#\@", "", "#"], 2, 2),
-    (Call::Parent, 0, [r"@\b", "", "@"], 1, 1),
-    (Call::Parent, 0, [r"\\b", "", ""], 1, 1),
-    (Call::Parent, 0, [r"#\\@", "", r"#\"], 2, 2),
-    (Call::Parent, 0, [r"\\#\b", "", "#"], 2, 2),
-    (Call::CloneBuffer, 2, ["#", "", ""], 2, 2),
-    (Call::JoinBuffer, 2, ["#", "/b", r"#\\b"], 2, 2),
-    (Call::ParentOfBuffer, 2, [r"#\@", "", "#"], 2, 2),
-    (Call::ParentOfBuffer, 2, [r"@\b", "", "@"], 1, 1),
-    (Call::ParentOfBuffer, 2, [r"#\\@", "", r"#\"], 2, 2),
-    (Call::ParentOfBuffer, 2, [r"\\#\b", "", "#"], 2, 2),
-    (Call::Push, 2, ["#", "b", r"#\b"], 2, 2),
-    (Call::PushCounted, 2, ["#", "b", r"#\b"], 2, 2),
-    (Call::Normalize, 0, ["@", "", "@"], 1, 1),
-    (Call::Normalize, 0, [r"@\..", "", r"\"], 2, 2),
-    (Call::Normalize, 0, [r"a\..\.\b", "", "b"], 1, 1),
-    (Call::Normalize, 0, ["#", "", "#"], 2, 2),
-    (Call::RefusedNormalize, 0, [r"#\", "", ""], 0, 0),
-    (Call::IntoCString16, 2, ["#", "", "#"], 0, 0),
-    (Call::Nothing, 2, [r"\@", "", ""], 0, 0),
-    (Call::Nothing, 1, ["@", "", ""], 0, 0),
+    (Call::New, 0, ["", ""], 1, 1),
+    (Call::NewFromCString16, 1, ["@", ""], 0, 0),
+    (Call::NewFromCString16, 1, ["#", ""], 1, 1),
+    (Call::NewFromCString16, 1, ["@/@", ""], 1, 1),
+    (Call::From, 0, ["@", ""], 1, 1),
+    (Call::From, 0, ["/#", ""], 2, 2),
+    (Call::ToPathBuf, 0, ["#/a", ""], 2, 2),
+    (Call::Join, 0, [r"/a\b", "c/d"], 2, 3),
+    (Call::Join, 0, ["#", r"\\\\\\\"], 3, 9),
+    (Call::Parent, 0, [r"#\@", ""], 2, 2),
+    (Call::Parent, 0, [r"@\b", ""], 1, 1),
+    (Call::Parent, 0, [r"\\b", ""], 1, 1),
+    (Call::Parent, 0, [r"#\\@", ""], 2, 2),
+    (Call::Parent, 0, [r"\\#\b", ""], 2, 2),
+    (Call::CloneBuffer, 2, ["#", ""], 2, 2),
+    (Call::JoinBuffer, 2, ["#", "/b"], 2, 2),
+    (Call::ParentOfBuffer, 2, [r"#\@", ""], 2, 2),
+    (Call::ParentOfBuffer, 2, [r"@\b", ""], 1, 1),
+    (Call::ParentOfBuffer, 2, [r"#\\@", ""], 2, 2),
+    (Call::ParentOfBuffer, 2, [r"\\#\b", ""], 2, 2),
+    (Call::Push, 2, ["#", "b"], 2, 2),
+    (Call::PushCounted, 2, ["#", "b"], 2, 2),
+    (Call::Normalize, 0, ["@", ""], 1, 1),
+    (Call::Normalize, 0, [r"@\..", ""], 2, 2),
+    (Call::Normalize, 0, [r"a\..\.\b", ""], 1, 1),
+    (Call::Normalize, 0, ["#", ""], 2, 2),
+    (Call::RefusedNormalize, 0, [r"#\", ""], 0, 0),
+    (Call::IntoCString16, 2, ["#", ""], 0, 0),
+    (Call::Nothing, 2, [r"\@", ""], 0, 0),
+    (Call::Nothing, 1, ["@", ""], 0, 0),
 ];
 
 /// A text of 256 characters or more, which a push makes ready in memory that it asks for.
 const LONG_ROWS: &[Counted] = &[
-    (Call::Push, 1, ["", "/#", r"\#"], 3, 97),
-    (Call::PushCounted, 1, ["", "/#", r"\#"], 3, 97),
+    (Call::Push, 1, ["", "/#"], 3, 97),
+    (Call::PushCounted, 1, ["", "/#"], 3, 97),
 ];
 
 /// A text in which each `@` and each `#` is replaced by these.
@@ -229,13 +160,10 @@ fn spread(rt: &HostRuntime, text: &str, name: &str, names: &str) -> Result<Strin
 
 /// How many requests a call makes, each `@` and `#` of its texts replaced by these.
 fn spread_count(rt: &HostRuntime, row: &Counted, name: &str, names: &str) -> Result<u64, Fail> {
-    let (call, setup, [text, other, want], _, _) = row;
-    let (text, want) = (
-        spread(rt, text, name, names)?,
-        spread(rt, want, name, names)?,
-    );
+    let (call, setup, [text, other], _, _) = row;
+    let text = spread(rt, text, name, names)?;
     let other = spread(rt, other, name, names)?;
-    count_of(rt, *call, *setup, [&text, &other, &want])
+    count_of(rt, *call, *setup, [&text, &other])
 }
 
 /// The first of the rows whose call makes another number of requests, and how many.
@@ -273,7 +201,7 @@ fn requests_after_clearing(rt: HostRuntime) -> Result<(), Fail> {
     for (size, count) in [(10, 0), (64, 0), (84, 0), (85, 1), (300, 1), (5000, 1)] {
         let mut names = repeated(rt.alloc(), r"ab\", size)?;
         names.push('c')?;
-        let asked = count_of(&rt, Call::Clear, 2, [&names, "", &names])?;
+        let asked = count_of(&rt, Call::Clear, 2, [&names, ""])?;
         assert_eq!(rt; asked, count, "{size}");
     }
     Ok(())

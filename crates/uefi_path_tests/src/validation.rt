@@ -150,23 +150,19 @@ fn denied_characters(rt: HostRuntime) {
 #[test]
 fn printed_errors(rt: HostRuntime) -> Result<(), Fail> {
     let (illegal, last) = (Char16::try_from('>')?, Char16::try_from(0xffffu16)?);
-    for (error, want) in [
-        (PathError::Empty, "path is empty"),
-        (
-            PathError::EmptyComponent,
-            "path contains an empty component",
-        ),
-        (
-            PathError::IllegalChar(illegal),
-            "path contains an illegal character (value 62)",
-        ),
-        (
-            PathError::IllegalChar(last),
-            "path contains an illegal character (value 65535)",
-        ),
-        (PathError::ClimbsAboveRoot, "path climbs above the root"),
-    ] {
-        assert!(rt; says(rt.alloc(), &error, want), "{want}");
+    let empty = PathError::EmptyComponent;
+    assert!(rt; says(rt.alloc(), &PathError::Empty, "path is empty"));
+    assert!(rt; says(rt.alloc(), &empty, "path contains an empty component"));
+    assert!(rt;
+        says(
+            rt.alloc(),
+            &PathError::ClimbsAboveRoot,
+            "path climbs above the root"
+        )
+    );
+    for (character, number) in [(illegal, 62), (last, 65535)] {
+        let want = format!(in rt.alloc(); "path contains an illegal character (value {number})")?;
+        assert!(rt; says(rt.alloc(), &PathError::IllegalChar(character), &want));
     }
     Ok(())
 }

@@ -2,68 +2,50 @@
 
 use crate::normal::NORMAL;
 use crate::parents::PARENTS;
-use for_tests::{holds, says, string};
+use for_tests::{says, string, writes_whole};
 use std::test::Fail;
 use uefi_path::{NormalWriteError, Path};
 
 /// What stands in the buffers before.
 const FILLER: u16 = 0x21;
 
-/// More places than any text of the rows needs.
-const ROOM: usize = 16;
-
-/// Whether a call that was to write this text, if there is one, answers as it has to, and the first `room`
-/// places hold the text if it fits there, and all others what stood there before.
-fn is_written(
-    answer: Result<Option<usize>, usize>,
-    places: &[u16; ROOM],
-    room: usize,
-    want: Option<&[u16]>,
-) -> bool {
-    let (is_right, held) = match want {
-        None => (answer == Ok(None), [].as_slice()),
-        Some(text) if room < text.len() => (answer == Err(text.len()), [].as_slice()),
-        Some(text) => (answer == Ok(Some(text.len())), text),
-    };
-    is_right && holds(places, held, &FILLER)
+/// How many units of a parent were written, or are needed; none of a path that has none.
+fn parent_in(path: Path<'_>, room: &mut [u16]) -> Result<usize, usize> {
+    Ok(path.write_parent(room)?.unwrap_or(0))
 }
 
-/// Whether the parent of a path, or its normal path, is written so into a buffer of each length.
-fn each_is_written(path: Path<'_>, is_normal: bool, want: Option<&[u16]>) -> bool {
-    for room in 0..=ROOM {
-        let mut places = [FILLER; ROOM];
-        let answer = if is_normal {
-            match path.write_normal(&mut places[..room]) {
-                Ok(len) => Ok(Some(len)),
-                Err(NormalWriteError::Invalid(_)) => Ok(None),
-                Err(NormalWriteError::BufferTooSmall(needed)) => Err(needed),
-            }
-        } else {
-            path.write_parent(&mut places[..room])
-        };
-        if !is_written(answer, &places, room, want) {
-            return false;
-        }
+/// How many units of a normal path were written, or are needed; none of a path that has none.
+fn normal_in(path: Path<'_>, room: &mut [u16]) -> Result<usize, usize> {
+    match path.write_normal(room) {
+        Ok(len) => Ok(len),
+        Err(NormalWriteError::Invalid(_)) => Ok(0),
+        Err(NormalWriteError::BufferTooSmall(needed)) => Err(needed),
     }
-    true
 }
 
-/// The same of the path of a text.
+/// Whether the parent of a path, or its normal path, is written into each buffer that has room for it, and
+/// no other changes; none where it has none.
 fn are_written(
     rt: &HostRuntime,
     text: &str,
-    is_normal: bool,
+    normal: bool,
     want: Option<&str>,
 ) -> Result<bool, Fail> {
-    let (text, written) = (
-        string(rt.alloc(), text)?,
-        string(rt.alloc(), want.unwrap_or(""))?,
-    );
-    let units = match want {
-        Some(_) => Some(written.as_cstr16().to_u16_slice()),
-        None => None,
+    let text = string(rt.alloc(), text)?;
+    let path = Path::new(text.as_cstr16());
+    let written = string(rt.alloc(), want.unwrap_or(""))?;
+    let units = written.as_cstr16().to_u16_slice();
+    let has_one = if normal {
+        path.write_normal(&mut [0; 32]).is_ok()
+    } else {
+        path.write_parent(&mut [0; 32]) != Ok(None)
     };
-    Ok(each_is_written(Path::new(text.as_cstr16()), is_normal, units))
+    let is_right = if normal {
+        writes_whole(rt.alloc(), units, FILLER, |room| normal_in(path, room))?
+    } else {
+        writes_whole(rt.alloc(), units, FILLER, |room| parent_in(path, room))?
+    };
+    Ok(is_right && has_one == want.is_some())
 }
 
 /// A path with slashes, and the normal path that is written of it.

@@ -7,25 +7,6 @@ use std::fmt;
 use std::test::Fail;
 use uefi_text::{CStr16, CharSink};
 
-/// Whether a sink with room for four bytes takes of `aébc`, after nothing and after `x`, as much as
-/// fits, and no byte of the character that does not. What stands in a sink stays there.
-fn fills_four(string: CStr16<'_>) -> bool {
-    let mut small: ArrayString<4> = ArrayString::new();
-    let mut begun: ArrayString<4> = ArrayString::new();
-    begun.push('x');
-    string.as_str_in_buf(&mut small).is_err()
-        && small.as_str() == "aéb"
-        && string.as_str_in_buf(&mut begun).is_err()
-        && begun.as_str() == "xaé"
-}
-
-#[test]
-fn sinks_of_fixed_room(rt: HostRuntime) -> Result<(), Fail> {
-    let string = CStr16::from_u16_with_nul(&[97, 0xe9, 98, 99, 0])?;
-    assert!(rt; fills_four(string));
-    Ok(())
-}
-
 /// A text that takes `LEN` bytes and refuses what comes then: a sink that a caller defines.
 #[derive(Drop)]
 struct Closing<const LEN: usize> {

@@ -13,7 +13,6 @@ const CHARACTERS: &[(char, Option<u8>, Option<u16>)] = &[
     ('Ā', None, Some(0x100)),
     ('ꋃ', None, Some(0xa2c3)),
     ('\u{ffff}', None, Some(0xffff)),
-    ('\u{10000}', None, None),
     ('😀', None, None),
 ];
 

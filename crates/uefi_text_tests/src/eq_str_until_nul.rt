@@ -29,7 +29,6 @@ const TEST: &[(&str, bool)] = &[
     ("test", true),
     ("te\0st", true),
     ("test\0", true),
-    ("", true),
     ("test😀", true),
     ("hello", false),
 ];
@@ -41,6 +40,5 @@ fn equal_until_nul(rt: HostRuntime) -> Result<(), Fail> {
         assert!(rt; is_right, "{text:?}");
     }
     assert!(rt; agree(&rt, &[0xe9, 0], &[0xe9, 0], "é", true)?);
-    assert!(rt; agree(&rt, &[0xe9, 0], &[0xe9, 0], "e", false)?);
     Ok(())
 }

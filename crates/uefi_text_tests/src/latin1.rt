@@ -1,18 +1,15 @@
-//! Borrowed strings of Latin-1, and Rust texts of Latin-1 as arrays.
+//! Borrowed strings of Latin-1.
 
 use for_tests::{hostile_places, prints};
 use std::test::Fail;
 use uefi_text::FromSliceWithNulError::{InteriorNul, NotNulTerminated};
-use uefi_text::{
-    CStr8, FromSliceWithNulError, has_no_nul, is_latin1, str_num_latin1_chars, str_to_latin1,
-};
+use uefi_text::{CStr8, FromSliceWithNulError};
 
 /// Bytes, and what their string prints, or why they are refused.
 const BYTES: &[(&[u8], Result<&str, FromSliceWithNulError>)] = &[
     (&[97, 0], Ok("a|CStr8(['a'])")),
     (&[97, 98, 99, 0], Ok("abc|CStr8(['a', 'b', 'c'])")),
     (&[0xe9, 10, 0], Ok("é\n|CStr8(['é', '\\n'])")),
-    (&[0], Ok("|CStr8([])")),
     (&[], Err(NotNulTerminated)),
     (&[65, 0, 66, 0], Err(InteriorNul(1))),
 ];
@@ -57,19 +54,4 @@ fn zeros_at_each_place(rt: HostRuntime) -> Result<(), Fail> {
         assert!(rt; is_right, "{others} others, at {place}");
     }
     Ok(())
-}
-
-/// The bytes of a text, if it is one character of Latin-1 and no NUL: what a caller tests is what the call
-/// asks for.
-fn one_character(text: &str) -> Option<[u8; 2]> {
-    if is_latin1(text) && has_no_nul(text) && str_num_latin1_chars(text) == 1 {
-        Some(str_to_latin1(text))
-    } else {
-        None
-    }
-}
-
-#[test]
-fn text_of_one_character(rt: HostRuntime) {
-    assert!(rt; one_character("é") == Some([0xe9, 0]) && one_character("\0").is_none());
 }

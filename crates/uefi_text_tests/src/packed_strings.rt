@@ -113,28 +113,6 @@ fn is_split(bytes: &[u8], want: Option<(&[u16], &[u8])>) -> bool {
     }
 }
 
-/// Bytes, the units up to and with their first NUL, and the bytes after it. Two zeros may belong to two
-/// units, and the last byte to half of one.
-const SPLITS: &[(&[u8], Option<(&[u16], &[u8])>)] = &[
-    (&[0, 0], Some((&[0], &[]))),
-    (&[0, 0, 0, 0, 7], Some((&[0], &[0, 0, 7]))),
-    (&[0, 0x41, 0, 0, 9], Some((&[0x4100, 0], &[9]))),
-    (&[0x3d, 0xd8, 0, 0, 1, 2], Some((&[0xd83d, 0], &[1, 2]))),
-    (&[0xff, 0, 0, 0xff, 0, 0], Some((&[0xff, 0xff00, 0], &[]))),
-    (&[], None),
-    (&[0], None),
-    (&[0x41, 0], None),
-    (&[0x41, 0, 0], None),
-    (&[0x41, 0, 0, 0x42, 0x43], None),
-];
-
-#[test]
-fn units_up_to_a_nul(rt: HostRuntime) {
-    for (bytes, want) in SPLITS {
-        assert!(rt; is_split(bytes, *want), "{bytes:?}");
-    }
-}
-
 /// Whether a NUL at this place of units of `a` is found there, at an odd place of memory.
 fn is_found_at(rt: &HostRuntime, place: usize) -> Result<bool, Fail> {
     let mut bytes = vec![in rt.alloc(); 0xffu8]?;

@@ -1,7 +1,7 @@
 //! Patterns: the examples of the UEFI Specification 2.10, section 21.1, and corners of sets as EDK
 //! II's driver `EnglishDxe` decides them.
 
-use for_tests::string;
+use for_tests::{repeated, string};
 use std::test::Fail;
 use uefi_text::CStr16;
 
@@ -76,22 +76,13 @@ fn patterns_and_texts(rt: HostRuntime) -> Result<(), Fail> {
 
 #[test]
 fn many_stars(rt: HostRuntime) -> Result<(), Fail> {
-    let mut pattern = string(rt.alloc(), "")?;
-    let mut text = string(rt.alloc(), "")?;
-    let (part, unit, end) = (
-        string(rt.alloc(), "*a")?,
-        string(rt.alloc(), "a")?,
-        string(rt.alloc(), "b")?,
-    );
-    for _ in 0..500 {
-        pattern.push_str(part.as_cstr16())?;
-    }
-    pattern.push_str(end.as_cstr16())?;
-    for _ in 0..10_000 {
-        text.push_str(unit.as_cstr16())?;
-    }
-    assert!(rt; !text.as_cstr16().matches(pattern.as_cstr16()));
-    text.push_str(end.as_cstr16())?;
-    assert!(rt; text.as_cstr16().matches(pattern.as_cstr16()));
+    let stars = repeated(rt.alloc(), "*a", 500)?;
+    let pattern = string(rt.alloc(), &format!(in rt.alloc(); "{stars}b")?)?;
+    let mut text = repeated(rt.alloc(), "a", 10_000)?;
+    let short = string(rt.alloc(), &text)?;
+    assert!(rt; !short.as_cstr16().matches(pattern.as_cstr16()));
+    text.push('b')?;
+    let whole = string(rt.alloc(), &text)?;
+    assert!(rt; whole.as_cstr16().matches(pattern.as_cstr16()));
     Ok(())
 }

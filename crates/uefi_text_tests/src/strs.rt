@@ -3,10 +3,12 @@
 
 use for_tests::{prints, string};
 use std::test::Fail;
+use uefi_text::FromSliceUntilNulError::InvalidChar as FrontChar;
 use uefi_text::FromSliceWithNulError::{InteriorNul, InvalidChar, NotNulTerminated};
+use uefi_text::FromStrWithBufError::{BufferTooSmall, InteriorNul as NulAt, InvalidChar as CharAt};
 use uefi_text::{
-    CStr16, CString16, Char16, Char16Slice, FromSliceUntilNulError as UntilNul,
-    FromSliceWithNulError as WithNul, FromStrWithBufError as WithBuffer, NUL_16,
+    CStr16, CString16, Char16, FromSliceUntilNulError as UntilNul,
+    FromSliceWithNulError as WithNul, FromStrWithBufError as WithBuffer,
 };
 
 /// Whether this is the string of all units, of which as many come before its NUL, or why there is none.
@@ -104,11 +106,7 @@ const UNITS: &[(&[u16], Result<usize, WithNul>, Result<usize, UntilNul>)] = &[
     (&[97, 98], Err(NotNulTerminated), Err(UntilNul::NoNul)),
     (&[97, 98, 0], Ok(2), Ok(2)),
     (&[97, 0, 98, 0], Err(InteriorNul(1)), Ok(1)),
-    (
-        &[65, 0xde01, 0],
-        Err(InvalidChar(1)),
-        Err(UntilNul::InvalidChar(1)),
-    ),
+    (&[65, 0xde01, 0], Err(InvalidChar(1)), Err(FrontChar(1))),
 ];
 
 #[test]
@@ -203,7 +201,8 @@ fn is_string(rt: &HostRuntime, text: &str, units: &[u16]) -> Result<bool, Fail> 
             && string.to_string(rt.alloc())?.as_str() == text
             && gives_bytes(rt, string)?
             && gives_text(rt, string, text)?
-            && string.eq_cstr16(string.to_owned(rt.alloc())?.as_cstr16()),
+            && string.eq_cstr16(string.to_owned(rt.alloc())?.as_cstr16())
+            && owned.eq_cstr16(string.to_owned(rt.alloc())?.as_cstr16()),
     )
 }
 
@@ -238,67 +237,15 @@ pub(crate) fn is_buffered(
 const BUFFERS: &[(&str, Result<usize, WithBuffer>, &[u16])] = &[
     ("A", Ok(2), &[65, 0, 9, 9]),
     ("ABC", Ok(4), &[65, 66, 67, 0]),
-    ("ABCD", Err(WithBuffer::BufferTooSmall), &[65, 66, 67, 68]),
-    (
-        "a😀",
-        Err(WithBuffer::InvalidChar(1)),
-        &[97, 0xd83d, 0xde00, 0],
-    ),
-    ("a\0b", Err(WithBuffer::InteriorNul(1)), &[97, 0, 98, 0]),
+    ("ABCD", Err(BufferTooSmall), &[65, 66, 67, 68]),
+    ("a😀", Err(CharAt(1)), &[97, 0xd83d, 0xde00, 0]),
+    ("a\0b", Err(NulAt(1)), &[97, 0, 98, 0]),
 ];
 
 #[test]
 fn texts_in_buffers(rt: HostRuntime) -> Result<(), Fail> {
     for (text, want, after) in BUFFERS {
         assert!(rt; is_buffered(&rt, text, *want, after)?, "{after:?}");
-    }
-    Ok(())
-}
-
-/// Whether the characters of `abc` come from both ends, and none after them, however often one asks.
-fn come_from_both_ends(string: CStr16<'_>) -> bool {
-    let mut characters = string.iter();
-    characters.size_hint() == (3, Some(3))
-        && matches!(characters.next_back(), Some(c) if c.eq_char('c'))
-        && matches!(characters.next(), Some(c) if c.eq_char('a'))
-        && characters.size_hint() == (1, Some(1))
-        && matches!(characters.next_back(), Some(c) if c.eq_char('b'))
-        && characters.next_back().is_none()
-        && characters.next().is_none()
-        && characters.next().is_none()
-}
-
-/// Whether loops over a string and over its characters with the NUL count this many.
-fn are_counted(string: CStr16<'_>, len: usize) -> bool {
-    let (mut characters, mut all) = (0usize, 0usize);
-    for _ in string {
-        characters = characters.saturating_add(1);
-    }
-    for _ in string.as_slice_with_nul() {
-        all = all.saturating_add(1);
-    }
-    characters == len && all == len.saturating_add(1)
-}
-
-/// Whether the characters of `abc` with its NUL are what they should be, one by one and in parts.
-fn come_with_nul(all: Char16Slice<'_>) -> bool {
-    all.len() == 4
-        && matches!(all.get(1), Some(c) if c.eq_char('b'))
-        && all.get(3) == Some(NUL_16)
-        && all.get(4).is_none()
-        && all.part(1, 1).is_empty()
-        && all.part(0, 3).has_no_nul()
-        && !all.has_no_nul()
-}
-
-#[test]
-fn characters_of_a_string(rt: HostRuntime) -> Result<(), Fail> {
-    let string = CStr16::from_u16_with_nul(&[97, 98, 99, 0])?;
-    assert!(rt; come_from_both_ends(string));
-    assert!(rt; are_counted(string, 3));
-    let all = string.as_slice_with_nul();
-    if all.len() == 4 {
-        assert!(rt; come_with_nul(all));
     }
     Ok(())
 }

@@ -16,19 +16,6 @@ const BYTES_AFTER_ONE: [u8; 13] = [
     0xff, 0x10, 0x11, 0x12, 0x13, 0x20, 0x21, 0x22, 0x23, 0x30, 0x31, 0x32, 0x33,
 ];
 
-/// Whether numbers of this kind take `size` bytes, and these are the bytes of that one.
-fn takes<T: Packed + PartialEq>(size: usize, bytes: &[u8], want: T) -> bool {
-    T::SIZE == size && bytes.len() == size && T::read_le(bytes) == want
-}
-
-#[test]
-fn bytes_of_an_item(rt: HostRuntime) {
-    assert!(rt; takes(1, &[0xfe], 0xfeu8));
-    assert!(rt; takes(2, &[0x10, 0x11], 0x1110u16));
-    assert!(rt; takes(4, &[0x10, 0x11, 0x12, 0x13], 0x13121110u32));
-    assert!(rt; takes(8, &[1, 2, 3, 4, 5, 6, 7, 8], 0x0807060504030201u64));
-}
-
 /// Whether the bytes hold these numbers, as a view of them gives them one by one, and none after them.
 fn hold<T: Packed + PartialEq>(bytes: &[u8], numbers: &[T]) -> bool {
     let Some(items) = UnalignedSlice::<T>::try_new(bytes, numbers.len()) else {
@@ -50,18 +37,7 @@ fn items_at_any_place(rt: HostRuntime) {
     assert!(rt; hold(&BYTES, &NUMBERS));
     assert!(rt; hold(&BYTES_AFTER_ONE[1..], &NUMBERS));
     assert!(rt; hold(&BYTES_AFTER_ONE[1..], &NUMBERS[..0]));
-    assert!(rt; hold(&[1, 2, 3, 4, 5, 6, 7, 8], &[0x0807060504030201u64]));
     assert!(rt; hold(&[0xff, 0], &[255u8, 0]));
-    assert!(rt; hold(&[0x10, 0x11, 0x12], &[0x1110u16]));
-}
-
-/// How many numbers of four bytes there is room for in three times four. Four times the last wraps to 4.
-#[test]
-fn room_for_items(rt: HostRuntime) {
-    for (len, want) in [(3, true), (4, false), (usize::MAX / 4 + 2, false)] {
-        assert!(rt; UnalignedSlice::<u32>::fits(&BYTES, len) == want, "{len}");
-    }
-    assert!(rt; UnalignedSlice::from_unit_bytes(&[0x10, 0x11, 0x12]).is_none());
 }
 
 /// Whether an iterator gives these numbers, says each time how many are left, and then gives none.
@@ -99,40 +75,6 @@ fn items_in_turn_and_copied(rt: HostRuntime) {
     let items: UnalignedSlice<u32> = UnalignedSlice::new(&BYTES_AFTER_ONE[1..], 3);
     assert!(rt; gives(items.iter(), &NUMBERS) && items.into_iter().eq(NUMBERS));
     assert!(rt; are_copied(&rt, items, &NUMBERS));
-}
-
-/// Whether as many packed numbers as these bytes hold become a vector of them.
-fn become_a_vector<T: Packed + PartialEq + Drop>(
-    rt: &HostRuntime,
-    bytes: &[u8],
-    len: usize,
-) -> Result<bool, AllocError> {
-    let Some(items) = UnalignedSlice::<T>::try_new(bytes, len) else {
-        return Ok(false);
-    };
-    let numbers = items.to_vec(rt.alloc())?;
-    for (index, number) in numbers.iter().enumerate() {
-        if items.get(index) != Some(*number) {
-            return Ok(false);
-        }
-    }
-    Ok(numbers.len() == len)
-}
-
-/// 100,000 items of each size, from an odd place.
-#[test]
-fn long_vectors_of_items(rt: HostRuntime) -> Result<(), Fail> {
-    let mut bytes = Vec::new(rt.alloc());
-    for place in 0..800_001_u32 {
-        bytes.push((place % 251) as u8)?;
-    }
-    let odd = bytes.get(1..).unwrap_or(&[]);
-    let is_right = become_a_vector::<u8>(&rt, odd, 100_000)?
-        && become_a_vector::<u16>(&rt, odd, 100_000)?
-        && become_a_vector::<u32>(&rt, odd, 100_000)?
-        && become_a_vector::<u64>(&rt, odd, 100_000)?;
-    assert!(rt; is_right);
-    Ok(())
 }
 
 #[test]

