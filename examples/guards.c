@@ -105,6 +105,7 @@ CALL(path_normalize, IN(0), OUT, place, JUDGED)
 CALL(path_normalize_utf8, IN(0), OUT, place, JUDGED)
 CALL(fat_name_check, IN(0), place, JUDGED)
 CALL(device_path_text, IN(0), (number & 1) != 0, (number & 2) != 0, OUT, place)
+CALL(node_text, IN(0), (number & 1) != 0, (number & 2) != 0, OUT, place)
 CALL(load_option_read, IN(0), buffer.at, place)
 CALL(node_number, IN(0), number >> 8, number & 0xff, buffer.at)
 CALL(device_path_push, OUT, (nard_byte)(number >> 8), (nard_byte)number, IN(0), place)
@@ -161,6 +162,10 @@ static nard_result call_boot_order_read(void)
 #define OPTION "\1\0\0\0\24\0b\0\0\0" PCI FILE_A END "x"
 #define UNKNOWN "\x7f\2\3\0"
 #define BEYOND PCI "\1\1\5\0"
+
+/* A terminal of EFI_PC_ANSI_GUID, and a disc's boot entry 1, of 3 blocks from block 2 on. */
+#define PC_ANSI "\3\12\24\0\x53\x47\xc1\xe0\xbe\xf9\xd2\x11\x9a\x0c\0\x90\x27\x3f\xc1\x4d"
+#define DISC "\4\2\30\0\1\0\0\0\2\0\0\0\0\0\0\0\3\0\0\0\0\0\0\0"
 
 /* Data and paths that are as long as a node and a list can state, or a byte longer. */
 static const nard_byte long_data[65532], full_node[65539] = {1, 1, 0xff, 0xff, [65535] = 0x7f, 0xff, 4};
@@ -288,6 +293,20 @@ static const struct row rows[] = {
     ROW(device_path_text, PREFIX, .in = {BYTES("\2\1\14\0\xd0\x41\3\12\1\0\0\0" END)}, .number = 3,
         .out = UNITS(u"PciRoot(0x1)")),
     ROW(device_path_text, PREFIX, .in = {BYTES(END)}, .out = UNITS(u"")), BAD_PATHS(device_path_text, REFUSED),
+    /* The specification's forms, and EDK II's for a node's display alone; the file after the first node is not read. */
+    ROW(node_text, PREFIX, .in = {BYTES(PCI FILE_A)}, .out = UNITS(u"Pci(0x1F,0x0)")),
+    ROW(node_text, PREFIX, .in = {BYTES(PC_ANSI)}, .out = UNITS(u"VenMsg(E0C14753-F9BE-11D2-9A0C-0090273FC14D)")),
+    ROW(node_text, PREFIX, .in = {BYTES(PC_ANSI)}, .number = 2, .out = UNITS(u"VenPcAnsi()")),
+    ROW(node_text, PREFIX, .in = {BYTES(DISC)}, .number = 2, .out = UNITS(u"CDROM(0x1,0x2,0x3)")),
+    ROW(node_text, PREFIX, .in = {BYTES(DISC)}, .number = 1, .out = UNITS(u"CDROM(0x1)")),
+    ROW(node_text, PREFIX, .in = {BYTES(END PCI)}, .out = UNITS(u"Path(127,255)")),
+    ROW(node_text, PREFIX, .in = {BYTES("\4\4\6\0\0\0")}, .out = UNITS(u"")),
+    FAULT(node_text, REFUSED, NO_END_NODE, 0, .in = {BYTES("")}),
+    FAULT(node_text, REFUSED, TRUNCATED_HEADER, 0, .in = {BYTES("\1\1\6")}),
+    FAULT(node_text, REFUSED, UNKNOWN_END, 1, .in = {BYTES(UNKNOWN)}),
+    FAULT(node_text, REFUSED, LENGTH_BELOW_HEADER, 2, .in = {BYTES("\1\1\3\0")}),
+    FAULT(node_text, REFUSED, END_WITH_DATA, 2, .in = {BYTES("\x7f\xff\5\0")}),
+    FAULT(node_text, REFUSED, NODE_BEYOND_END, 2, .in = {BYTES("\1\1\5\0")}),
     ROW(node_number, READ, .in = {BYTES("\1\2\3")}, .place = UNCHANGED, .number = 0x102, .out = SIZES(0x302)),
     ROW(node_number, READ, .in = {BYTES("\1\2\3\4\5\6\7\x88")}, .place = UNCHANGED, .number = 8, .out = SIZES(0x8807060504030201)),
     FAULT(node_number, READ, NO_FIELD, UNCHANGED, .in = {BYTES("\1\2\3")}, .number = 0x202, .out = NO_SIZES(1)),

@@ -510,6 +510,23 @@ nard_result NARD_CALL nard_device_path_text(const nard_byte *bytes, nard_size by
                                             nard_bool display_only, nard_bool allow_shortcuts,
                                             nard_unit *buffer, nard_size room, nard_size *length);
 
+/*
+ * Formats one node as text, as nard_device_path_text formats a path, for example
+ *     Pci(0x1F,0x2)
+ * What follows the node is not read: for a node of a path, give the bytes from where nard_device_path_next_node finds it. A node
+ * that ends the path or an instance is Path(127,255) or Path(127,1).
+ *
+ *   display_only, allow_shortcuts   as nard_device_path_text
+ *
+ * Returns
+ *   NARD_OK
+ *   NARD_BUFFER_TOO_SMALL   room <= *length; the buffer holds the first `room` units of the text
+ *   another reason          as nard_device_path_check, of the first node; the buffer is unchanged
+ */
+nard_result NARD_CALL nard_node_text(const nard_byte *bytes, nard_size byte_count,
+                                     nard_bool display_only, nard_bool allow_shortcuts,
+                                     nard_unit *buffer, nard_size room, nard_size *length);
+
 /* Where the parts of a load option stand in its bytes. */
 struct nard_load_option {
     nard_size attributes;         /* 32 bits; bit 0 is LOAD_OPTION_ACTIVE */
@@ -822,6 +839,7 @@ static inline nard_byte *nard_given_byte_room(nard_byte *buffer)
 #define nard_node_number(...) NARD_AS_IS(NARD_GIVEN_B(nard_node_number, __VA_ARGS__))
 #define nard_device_path_file_path(...) NARD_AS_IS(NARD_GIVEN_BNV(nard_device_path_file_path, __VA_ARGS__))
 #define nard_device_path_text(...) NARD_AS_IS(NARD_GIVEN_BNNNV(nard_device_path_text, __VA_ARGS__))
+#define nard_node_text(...) NARD_AS_IS(NARD_GIVEN_BNNNV(nard_node_text, __VA_ARGS__))
 #define nard_load_option_read(...) NARD_AS_IS(NARD_GIVEN_B(nard_load_option_read, __VA_ARGS__))
 #define nard_device_path_begin(...) NARD_AS_IS(NARD_GIVEN_C(nard_device_path_begin, __VA_ARGS__))
 #define nard_device_path_push(...) NARD_AS_IS(NARD_GIVEN_CNNNB(nard_device_path_push, __VA_ARGS__))

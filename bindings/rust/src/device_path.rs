@@ -345,6 +345,9 @@ pub struct DevicePathNode<'a> {
 
     /// The data after the header.
     pub data: &'a [u8],
+
+    /// All bytes of the node.
+    bytes: &'a [u8],
 }
 
 impl<'a> DevicePathNode<'a> {
@@ -401,6 +404,42 @@ impl<'a> DevicePathNode<'a> {
         }
         rest.get(..field.1)
     }
+
+    /// Formats the node as text, such as `Pci(0x1F,0x2)`, into a buffer, and returns its UTF-16 without the NUL.
+    ///
+    /// `display_only` and `allow_shortcuts` are as for [`DevicePath::text_in_buf`].
+    ///
+    /// ```
+    /// # use nardcorbel::DevicePath;
+    /// let mut buffer = [0; 32];
+    /// let path = DevicePath::from_bytes(&[1, 1, 6, 0, 2, 0x1f, 4, 4, 6, 0, 0, 0, 0x7f, 0xff, 4, 0])?;
+    /// let node = path.node_iter().next().unwrap();
+    /// let text = node.text_in_buf(false, false, &mut buffer)?;
+    /// assert!("Pci(0x1F,0x2)".encode_utf16().eq(text.iter().copied()));
+    /// # Ok::<(), nardcorbel::Error>(())
+    /// ```
+    pub fn text_in_buf<'b>(
+        &self,
+        display_only: bool,
+        allow_shortcuts: bool,
+        buffer: &'b mut [u16],
+    ) -> Result<&'b [u16], Error> {
+        let mut length = 0;
+        // SAFETY: the pointers and the counts are those of slices, the second not shared; `length` is a local.
+        let reason = unsafe {
+            sys::nard_node_text(
+                self.bytes.as_ptr(),
+                self.bytes.len(),
+                display_only,
+                allow_shortcuts,
+                buffer.as_mut_ptr(),
+                buffer.len(),
+                &mut length,
+            )
+        };
+        check(reason, length)?;
+        Ok(&buffer[..length])
+    }
 }
 
 /// Iterates over the nodes of a device path, first to last.
@@ -427,11 +466,13 @@ impl<'a> Iterator for DevicePathNodeIterator<'a> {
         if reason != sys::OK {
             return None;
         }
+        let bytes = &self.bytes[self.offset..offset];
         self.offset = offset;
         Some(DevicePathNode {
             device_type: node.device_type,
             sub_type: node.sub_type,
             data: &self.bytes[node.start..node.start + node.length],
+            bytes,
         })
     }
 }

@@ -310,6 +310,15 @@ extern "C" {
         room: usize,
         length: *mut usize,
     ) -> u32;
+    pub fn nard_node_text(
+        bytes: *const u8,
+        byte_count: usize,
+        display_only: bool,
+        allow_shortcuts: bool,
+        buffer: *mut u16,
+        room: usize,
+        length: *mut usize,
+    ) -> u32;
     pub fn nard_load_option_read(
         bytes: *const u8,
         byte_count: usize,

@@ -137,6 +137,14 @@ fn device_paths() {
     assert_eq!(node.bytes(fields::ACPI_UID), None);
     let mut buffer = [9; 32];
     assert_eq!(
+        String::from_utf16_lossy(node.text_in_buf(false, false, &mut buffer).unwrap()),
+        "Pci(0x1F,0x2)"
+    );
+    let error = node
+        .text_in_buf(false, false, &mut buffer[..13])
+        .unwrap_err();
+    assert_eq!((error.reason, error.place), (Reason::BufferTooSmall, 14));
+    assert_eq!(
         String::from_utf16_lossy(path.text_in_buf(false, false, &mut buffer).unwrap()),
         r"Pci(0x1F,0x2)/\a"
     );

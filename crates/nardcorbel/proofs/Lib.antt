@@ -5,3 +5,4 @@ pub mod Written
 mod Surrogates
 mod Judged
 mod Halves
+mod Rooms

@@ -1,6 +1,7 @@
 -- What bytes show: a node of a device path, its text, and the parts of a load option.
-use Rattle.std.specs.Prelude.{◌≡◌, ℕ, Bool, ◌+◌, ◌*◌, List, ◌∷◌, length, slice_range}
-use Rattle.uefi_device_nodes.specs.Nodes.{Node, node_with}
+use Rattle.std.specs.Prelude.{◌≡◌, ℕ, Bool, ◌+◌, ◌*◌, List, ◌++◌, ◌∷◌, length, slice_range}
+use Rattle.uefi_device_nodes.specs.Nodes.{Node, node_bytes, node_with}
+use Rattle.uefi_device_nodes.specs.NodeTexts.{node_text}
 use Rattle.uefi_device_path.specs.LoadOptions.{Entry}
 use Rattle.uefi_device_path.specs.PathLists.{list_bytes}
 use Rattle.uefi_device_path.specs.Paths.{path_bytes}
@@ -19,6 +20,14 @@ node_in bytes node =
 -- the text of a device path of these nodes, in UTF-16
 abbrev pub text_units : Bool → Bool → List Node → List ℕ
 text_units display_only shortcuts nodes = utf16_units (path_text display_only shortcuts nodes)
+
+-- bytes begin with the bytes of this node
+abbrev pub BeginWithNode : List ℕ → Node → Type 0
+BeginWithNode bytes node = (rest : List ℕ) × (bytes ≡ node_bytes node ++ rest)
+
+-- the text of a node, in UTF-16
+abbrev pub node_units : Bool → Bool → Node → List ℕ
+node_units display_only shortcuts node = utf16_units (node_text display_only shortcuts node)
 
 -- how many units a text has with its NUL, which a buffer had no places for
 abbrev pub needed_units : TextWriteError → ℕ

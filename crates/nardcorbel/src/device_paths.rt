@@ -184,7 +184,7 @@ pub extern "C" fn nard_device_path_file_path(
 }
 
 /// How many units a text has with its NUL, which a buffer had no places for.
-fn needed_units(error: TextWriteError) -> usize
+pub(crate) fn needed_units(error: TextWriteError) -> usize
     ensures { result ≡ needed_units error }
 {
     match error {

@@ -12,6 +12,7 @@ pub mod fat_names;
 pub mod load_options;
 pub mod lossy;
 pub mod node_numbers;
+pub mod node_texts;
 pub mod packed;
 pub mod paths;
 pub mod reasons;

@@ -1,14 +1,12 @@
 -- What holds of the path that was read holds of each that the bytes begin with, since there is no other.
-use Rattle.std.proofs.Common.{◌≡◌, ◌+◌, ◌-◌, ◌^◌, ℕ, ◌<◌, ◌≤◌, ◌∙◌, List, ap, arith, length, min, refl, subst, sym, take}
+use Rattle.std.proofs.Common.{◌≡◌, ◌-◌, ◌^◌, ◌<◌, ◌≤◌, ◌∙◌, List, ap, arith, length, min, refl, subst, sym, take}
 use Rattle.uefi_text.specs.UnalignedCStr16.{with_prefix}
 use Rattle.uefi_text.specs.Units.{nul_terminated}
 use Rattle.uefi_device_nodes.specs.Nodes.{Node}
-use Rattle.uefi_text.specs.UnitTexts.{TextRefusedFor}
 use Rattle.uefi_device_path.specs.Views.{nodes_of}
-use Rattle.uefi_text.specs.declared.unit_sink.TextWriteError.{TextWriteError}
-use Rattle.uefi_text.specs.declared.unit_sink.TextWriteError.TheVariants.{BufferTooSmall}
-use Rattle.nardcorbel.specs.DevicePaths.{needed_units, text_units}
+use Rattle.nardcorbel.specs.DevicePaths.{text_units}
 use Rattle.nardcorbel.specs.Reasons.{node_reason}
+use Rattle.nardcorbel.proofs.Rooms.{refused_text}
 use Rattle.nardcorbel.proofs.Tails.{written_with_nul}
 use Rattle.nardcorbel.proofs.device_paths.nard_device_path_text.Goals as goal
 
@@ -37,11 +35,6 @@ returns-in-Ok-write_text-clause-ok c = λ _ nodes begins.
     × (c.write_text.new.buffer ≡ with_prefix (nul_terminated (text_units c.args.display_only c.args.allow_shortcuts ns)) buffer) in
     subst P (sym (c.in-Ok.ensures.only nodes begins))
     (len, room, written.ok ∙ sym (written_with_nul made buffer room))
-
--- a refusal says how many units the text has
-refused_text : (error : TextWriteError) (units : List ℕ) (room : ℕ) → TextRefusedFor units room error
-    → (needed_units error ≡ min (length units + 1) (2 ^ 64 - 1)) × (room < length units + 1)
-refused_text (BufferTooSmall needed) units room refused = refused
 
 pub returns-in-Err-write_text-clause-small : goal.returns-in-Err-write_text-clause-small
 returns-in-Err-write_text-clause-small c = λ _ nodes begins.
