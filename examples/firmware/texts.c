@@ -2,7 +2,7 @@
  * Compares texts of device paths with those of the firmware's own EFI_DEVICE_PATH_TO_TEXT_PROTOCOL: of the handles that the
  * firmware has, of the boot entries of BootOrder, and of the paths that the variable TestPaths holds one after the other.
  * Prints both texts where they differ, and at the end of each kind how many there were. In TestPaths a number stands before
- * the texts: at which offset the path begins.
+ * the texts: at which offset the path begins. Compares the text of each node by itself too, but for those that end an instance.
  *
  * Lets the firmware's EFI_DEVICE_PATH_FROM_TEXT_PROTOCOL read each text, and prints the text, and that of the path which the
  * firmware reads, if they differ.
@@ -20,7 +20,7 @@ static EFI_DEVICE_PATH_FROM_TEXT_PROTOCOL *reader;
 static EFI_DEVICE_PATH_UTILITIES_PROTOCOL *sizes;
 static EFI_GUID global_variable = {0x8be4df61, 0x93ca, 0x11d2, {0xaa, 0x0d, 0x00, 0xe0, 0x98, 0x03, 0x2b, 0x8c}};
 static uint8_t variable[MOST_BYTES];
-static size_t compared, differ, read_back, read_otherwise;
+static size_t compared, compared_nodes, differ, read_back, read_otherwise;
 
 void lines_put_unit(uint16_t unit)
 {
@@ -53,21 +53,16 @@ static size_t length_of(const CHAR16 *text)
     return length;
 }
 
-/* Compares the texts of the device path that bytes begin with, of which `size` are its own. */
-static void compare(const uint8_t *path, size_t size, bool display_only, bool allow_shortcuts, size_t number)
+/* Compares our text of a path or of a node with that of the firmware, and frees the firmware's. */
+static void compare_texts(nard_result reason, const uint16_t *ours, size_t length, CHAR16 *theirs, const char *form, size_t number)
 {
-    static uint16_t ours[MOST_UNITS];
-    size_t length = 0, same = 0;
-    uint32_t reason = nard_device_path_text(path, size, display_only, allow_shortcuts, ours, MOST_UNITS, &length);
-    CHAR16 *theirs = firmware->ConvertDevicePathToText((EFI_DEVICE_PATH *)path, display_only, allow_shortcuts);
-    size_t their_length = length_of(theirs);
-    compared++;
+    size_t their_length = length_of(theirs), same = 0;
     while (reason == NARD_OK && same < length && same < their_length && ours[same] == theirs[same])
         same++;
     if (reason != NARD_OK || same < length || same < their_length) {
         differ++;
         lines_put_number(number);
-        lines_put(display_only ? " shown" : allow_shortcuts ? " short" : "");
+        lines_put(form);
         lines_put(" ours ");
         lines_put_units(ours, reason == NARD_OK ? length : 0);
         lines_put("\n");
@@ -78,6 +73,27 @@ static void compare(const uint8_t *path, size_t size, bool display_only, bool al
     }
     if (theirs != NULL)
         services->FreePool(theirs);
+}
+
+/* Compares the texts of the device path that bytes begin with, of which `size` are its own, and those of its nodes. */
+static void compare(const uint8_t *path, size_t size, bool display_only, bool allow_shortcuts, size_t number)
+{
+    static uint16_t ours[MOST_UNITS];
+    const char *form = display_only ? " shown" : allow_shortcuts ? " short" : "";
+    struct nard_device_node node = {0, 0, 0, 0};
+    size_t length = 0, next = 0;
+    nard_result reason = nard_device_path_text(path, size, display_only, allow_shortcuts, ours, MOST_UNITS, &length);
+    CHAR16 *theirs = firmware->ConvertDevicePathToText((EFI_DEVICE_PATH *)path, display_only, allow_shortcuts);
+    compared++;
+    compare_texts(reason, ours, length, theirs, form, number);
+    for (size_t at = 0; nard_device_path_next_node(path, size, &next, &node) == NARD_OK; at = next) {
+        if (node.device_type == 0x7f)
+            continue;
+        reason = nard_node_text(path + at, size - at, display_only, allow_shortcuts, ours, MOST_UNITS, &length);
+        theirs = firmware->ConvertDeviceNodeToText((EFI_DEVICE_PATH *)(path + at), display_only, allow_shortcuts);
+        compared_nodes++;
+        compare_texts(reason, ours, length, theirs, form, number);
+    }
 }
 
 static void put_text(const char *what, const uint16_t *text, size_t length)
@@ -205,6 +221,8 @@ EFI_STATUS efi_main(EFI_HANDLE handle, EFI_SYSTEM_TABLE *system_table)
     compare_handles();
     compare_entries();
     compare_paths();
-    lines_put("texts end\n");
+    lines_put("nodes: ");
+    lines_put_number(compared_nodes);
+    lines_put(" texts\ntexts end\n");
     return EFI_SUCCESS;
 }
