@@ -1,5 +1,5 @@
-//! Texts of the library in memory of their own. They grow here without a formatter, which would be asked
-//! for each part of each node.
+//! Builds the library's texts in memory without a formatter, which would be called for each part of each
+//! node.
 use std::alloc::{AllocError, Global};
 use uefi_text::{Printed, TextSink};
 
