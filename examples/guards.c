@@ -31,7 +31,6 @@ enum rule {
     REFUSED, /* it is unchanged, whatever its room */
     TEXT,    /* it begins with `out`, whose last element is a NUL, or is unchanged if that does not fit */
     WHOLE,   /* the same without a NUL */
-    PREFIX,  /* as TEXT, but it holds the first elements of `out` if not all fit */
     FITTING  /* it holds what fits of `out`, and `reason` holds once that is more than `place` elements */
 };
 
@@ -289,18 +288,18 @@ static const struct row rows[] = {
     FAULT(device_path_file_path, REFUSED, ODD_BYTES, 10, .in = {BYTES(PCI "\4\4\5\0a" END)}),
     FAULT(device_path_file_path, REFUSED, INVALID_CHAR, 4, .in = {BYTES("\4\4\10\0\0\xd8\0\0" END)}),
     BAD_PATHS(device_path_file_path, REFUSED),
-    ROW(device_path_text, PREFIX, .in = {BYTES(PCI FILE_A END)}, .out = UNITS(u"Pci(0x1F,0x0)/\\a")),
-    ROW(device_path_text, PREFIX, .in = {BYTES("\2\1\14\0\xd0\x41\3\12\1\0\0\0" END)}, .number = 3,
+    ROW(device_path_text, TEXT, .in = {BYTES(PCI FILE_A END)}, .out = UNITS(u"Pci(0x1F,0x0)/\\a")),
+    ROW(device_path_text, TEXT, .in = {BYTES("\2\1\14\0\xd0\x41\3\12\1\0\0\0" END)}, .number = 3,
         .out = UNITS(u"PciRoot(0x1)")),
-    ROW(device_path_text, PREFIX, .in = {BYTES(END)}, .out = UNITS(u"")), BAD_PATHS(device_path_text, REFUSED),
+    ROW(device_path_text, TEXT, .in = {BYTES(END)}, .out = UNITS(u"")), BAD_PATHS(device_path_text, REFUSED),
     /* The specification's forms, and EDK II's for a node's display alone; the file after the first node is not read. */
-    ROW(node_text, PREFIX, .in = {BYTES(PCI FILE_A)}, .out = UNITS(u"Pci(0x1F,0x0)")),
-    ROW(node_text, PREFIX, .in = {BYTES(PC_ANSI)}, .out = UNITS(u"VenMsg(E0C14753-F9BE-11D2-9A0C-0090273FC14D)")),
-    ROW(node_text, PREFIX, .in = {BYTES(PC_ANSI)}, .number = 2, .out = UNITS(u"VenPcAnsi()")),
-    ROW(node_text, PREFIX, .in = {BYTES(DISC)}, .number = 2, .out = UNITS(u"CDROM(0x1,0x2,0x3)")),
-    ROW(node_text, PREFIX, .in = {BYTES(DISC)}, .number = 1, .out = UNITS(u"CDROM(0x1)")),
-    ROW(node_text, PREFIX, .in = {BYTES(END PCI)}, .out = UNITS(u"Path(127,255)")),
-    ROW(node_text, PREFIX, .in = {BYTES("\4\4\6\0\0\0")}, .out = UNITS(u"")),
+    ROW(node_text, TEXT, .in = {BYTES(PCI FILE_A)}, .out = UNITS(u"Pci(0x1F,0x0)")),
+    ROW(node_text, TEXT, .in = {BYTES(PC_ANSI)}, .out = UNITS(u"VenMsg(E0C14753-F9BE-11D2-9A0C-0090273FC14D)")),
+    ROW(node_text, TEXT, .in = {BYTES(PC_ANSI)}, .number = 2, .out = UNITS(u"VenPcAnsi()")),
+    ROW(node_text, TEXT, .in = {BYTES(DISC)}, .number = 2, .out = UNITS(u"CDROM(0x1,0x2,0x3)")),
+    ROW(node_text, TEXT, .in = {BYTES(DISC)}, .number = 1, .out = UNITS(u"CDROM(0x1)")),
+    ROW(node_text, TEXT, .in = {BYTES(END PCI)}, .out = UNITS(u"Path(127,255)")),
+    ROW(node_text, TEXT, .in = {BYTES("\4\4\6\0\0\0")}, .out = UNITS(u"")),
     FAULT(node_text, REFUSED, NO_END_NODE, 0, .in = {BYTES("")}),
     FAULT(node_text, REFUSED, TRUNCATED_HEADER, 0, .in = {BYTES("\1\1\6")}),
     FAULT(node_text, REFUSED, UNKNOWN_END, 1, .in = {BYTES(UNKNOWN)}),
@@ -429,8 +428,8 @@ static void try_room(const struct row *row, const size_t *counts, size_t room)
     const enum rule rule = row->rule;
     const size_t width = width_of(row), count = row->out.count;
     const bool fits = count <= room;
-    size_t written = rule == REFUSED || row->out.at == NULL ? 0 : fits ? count : rule < PREFIX ? 0 : room;
-    size_t wanted_place = rule == TEXT || rule == PREFIX ? count - 1
+    size_t written = rule == REFUSED || row->out.at == NULL ? 0 : fits ? count : rule == FITTING ? room : 0;
+    size_t wanted_place = rule == TEXT ? count - 1
                           : rule == WHOLE                ? count
                           : rule == FITTING              ? written
                                                          : row->place;

@@ -503,7 +503,7 @@ nard_result NARD_CALL nard_device_path_file_path(const nard_byte *bytes, nard_si
  *
  * Returns
  *   NARD_OK
- *   NARD_BUFFER_TOO_SMALL   room <= *length; the buffer holds the first `room` units of the text
+ *   NARD_BUFFER_TOO_SMALL   room <= *length; the buffer is unchanged
  *   another reason          as nard_device_path_check; the buffer is unchanged
  */
 nard_result NARD_CALL nard_device_path_text(const nard_byte *bytes, nard_size byte_count,
@@ -520,7 +520,7 @@ nard_result NARD_CALL nard_device_path_text(const nard_byte *bytes, nard_size by
  *
  * Returns
  *   NARD_OK
- *   NARD_BUFFER_TOO_SMALL   room <= *length; the buffer holds the first `room` units of the text
+ *   NARD_BUFFER_TOO_SMALL   room <= *length; the buffer is unchanged
  *   another reason          as nard_device_path_check, of the first node; the buffer is unchanged
  */
 nard_result NARD_CALL nard_node_text(const nard_byte *bytes, nard_size byte_count,

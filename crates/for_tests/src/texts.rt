@@ -40,7 +40,7 @@ pub fn says<T: Display + Printed>(alloc: Global, error: &T, want: &str) -> bool 
     let Ok(len) = write_units(&mut buffer, error) else {
         return false;
     };
-    matches!(CStr16::from_u16_with_nul(&buffer[..len]), Ok(string) if has_text(string, want))
+    matches!(CStr16::from_u16_with_nul(&buffer[..len + 1]), Ok(string) if has_text(string, want))
         && shows(alloc, error, want)
 }
 

@@ -1,5 +1,5 @@
 -- A buffer in two halves, of which the second begins with a string.
-use Rattle.std.proofs.Common.{◌≡◌, ℕ, ◌+◌, ◌/◌, ◌<◌, ◌∙◌, false, List, [], ◌∷◌, ◌++◌, ap, append_assoc, arith, drop, get_or, length, length-append, length-drop, refl, take}
+use Rattle.std.proofs.Common.{◌≡◌, ℕ, ◌+◌, ◌/◌, ◌<◌, ◌∙◌, false, List, [], ◌∷◌, ◌++◌, ap, append_assoc, arith, drop, get_or, length, length-append, length-drop, refl, sym, take}
 use Rattle.std.specs.List.{position_or_len}
 use Rattle.std.proofs.lemmas.Grind.{common_steps}
 use Rattle.std.proofs.lemmas.List.{get_or_append_left, length-take}
@@ -7,10 +7,10 @@ use Rattle.std.proofs.lemmas.List.Sums.{position_or_len_is}
 use Rattle.std.proofs.Math.Seq.{drop-append_seam, get_or-append_seam, take-append_seam}
 use Rattle.uefi_text.specs.UnalignedCStr16.{with_prefix}
 use Rattle.uefi_text.specs.Units.{BeginsWithString, IsText, IsTextUnit, is_nul, nul_terminated}
+use Rattle.uefi_text.proofs.TextsInBuffers.{text_fits}
 use Rattle.uefi_text.proofs.Accepting.{until_nul_refusal-begins}
 use Rattle.nardcorbel.specs.Buffers.{first_half, second_half}
 use Rattle.nardcorbel.specs.Strings.{text_in, until_nul_place, until_nul_place_at}
-use Rattle.nardcorbel.proofs.Tails.{written_with_nul}
 
 no_nul : (u : ℕ) → IsTextUnit u → is_nul u ≡ false
 no_nul u unit = grind (arith, common_steps)
@@ -29,13 +29,13 @@ text_before text rest is_text =
 pub begins : (text units written : List ℕ) → IsText text → length text < length units
     → written ≡ with_prefix (nul_terminated text) units → BeginsWithString written
 begins text units written is_text room wrote =
-    (text, drop (length text + 1) units, is_text, wrote ∙ written_with_nul text units room)
+    (text, drop (length text + 1) units, is_text, wrote ∙ sym (text_fits text units room))
 
 pub text_of_written : (text units written : List ℕ) → IsText text → length text < length units
     → written ≡ with_prefix (nul_terminated text) units → text_in written ≡ text
 text_of_written text units written is_text room wrote =
     let rest = drop (length text + 1) units in
-    ap text_in (wrote ∙ written_with_nul text units room ∙ append_assoc text (0 ∷ []) rest) ∙ text_before text rest is_text
+    ap text_in (wrote ∙ sym (text_fits text units room) ∙ append_assoc text (0 ∷ []) rest) ∙ text_before text rest is_text
 
 pub end_of_written : (written : List ℕ) → BeginsWithString written → until_nul_place written ≡ length (text_in written)
 end_of_written written begin = ap (until_nul_place_at written) (until_nul_refusal-begins written begin)

@@ -1,8 +1,6 @@
-pub mod Tails
 pub mod Nodes
 pub mod Options
 pub mod Written
 mod Surrogates
 mod Judged
 mod Halves
-mod Rooms

@@ -7,8 +7,6 @@ use Rattle.uefi_device_path.specs.PathLists.{list_bytes}
 use Rattle.uefi_device_path.specs.Paths.{path_bytes}
 use Rattle.uefi_device_path.specs.PathTexts.{path_text}
 use Rattle.uefi_text.specs.UnitTexts.{utf16_units}
-use Rattle.uefi_text.specs.declared.unit_sink.TextWriteError.{TextWriteError}
-use Rattle.uefi_text.specs.declared.unit_sink.TextWriteError.TheVariants.{BufferTooSmall}
 use Rattle.nardcorbel.specs.declared.device_paths.DeviceNode.{DeviceNode}
 use Rattle.nardcorbel.specs.declared.load_options.LoadOptionParts.{LoadOptionParts}
 
@@ -28,10 +26,6 @@ BeginWithNode bytes node = (rest : List ℕ) × (bytes ≡ node_bytes node ++ re
 -- the text of a node, in UTF-16
 abbrev pub node_units : Bool → Bool → Node → List ℕ
 node_units display_only shortcuts node = utf16_units (node_text display_only shortcuts node)
-
--- how many units a text has with its NUL, which a buffer had no places for
-abbrev pub needed_units : TextWriteError → ℕ
-needed_units (BufferTooSmall needed) = needed
 
 -- where the parts of a load option stand in its bytes, one after the other, and how long they are
 pub record HasParts (entry : Entry) (parts : LoadOptionParts) : Type 0 where

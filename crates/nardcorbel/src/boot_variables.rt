@@ -14,6 +14,7 @@ ghost use Rattle.nardcorbel.specs.Buffers.{room_reason};
 ghost use Rattle.nardcorbel.specs.Reasons.{until_nul_reason};
 ghost use Rattle.nardcorbel.specs.Strings.{text_in};
 
+use crate::buffers::report;
 use crate::reasons::{BUFFER_TOO_SMALL, END_OF_ORDER, NOT_A_NAME, ODD_BYTES, OK, until_nul_reason};
 use uefi_boot_variables::order_edits::{contains, insert, move_to_front, remove};
 use uefi_boot_variables::{LoadOptionKind, LoadOptionName, LoadOrder};
@@ -122,16 +123,7 @@ pub extern "C" fn nard_boot_name_write(
         return NOT_A_NAME;
     };
     let name = LoadOptionName { kind, number };
-    match name.write_cstr16(buffer) {
-        Ok(len) => {
-            *place = len - 1;
-            OK
-        }
-        Err(error) => {
-            *place = error.0 - 1;
-            BUFFER_TOO_SMALL
-        }
-    }
+    report(name.write_cstr16(buffer), place)
 }
 
 /// Reads the number at a place of the order that bytes are, those of a variable such as

@@ -1,5 +1,5 @@
 //! Paths that are made in a caller's buffer: whole, or not at all. No call takes memory.
-ghost use Rattle.std.specs.Prelude.{◌≡◌, ℕ, ◌+◌, ◌≤◌, ◌++◌, List, None, Some, length, take};
+ghost use Rattle.std.specs.Prelude.{◌≡◌, ℕ, ◌<◌, ◌≤◌, ◌^◌, List, None, Some, length};
 ghost use Rattle.std.specs.List.{find, position_or_len};
 ghost use Rattle.std.specs.Str.{IsUtf8, chars};
 ghost use Rattle.std.specs.Str.Lossy.{utf8_valid_len};
@@ -8,50 +8,39 @@ ghost use Rattle.uefi_text.specs.FromStr.{is_deciding_char};
 ghost use Rattle.uefi_text.specs.UnalignedCStr16.{with_prefix};
 ghost use Rattle.uefi_text.specs.Units.{BeginsWithString, IsText, nul_terminated};
 ghost use Rattle.uefi_path.specs.Parents.{parent_text};
-ghost use Rattle.uefi_path.specs.Pushing.{pushed, tail_of};
+ghost use Rattle.uefi_path.specs.Pushing.{pushed};
 ghost use Rattle.uefi_path.specs.Separators.{with_separators};
-ghost use Rattle.nardcorbel.specs.Buffers.{HasStringIn, first_half, room_reason, second_half};
+ghost use Rattle.nardcorbel.specs.Buffers.{HasStringIn, first_half, length_shown, room_reason, second_half};
 ghost use Rattle.uefi_path.specs.Verdicts.{IsValid, verdict};
-ghost use Rattle.uefi_path.specs.Writing.{length_shown, normal_path};
+ghost use Rattle.uefi_path.specs.Writing.{normal_path};
+ghost use Rattle.uefi_text.specs.UnitTexts.{written_len};
 ghost use Rattle.nardcorbel.specs.Reasons.{character_reason, path_reason, refused_character, until_nul_reason};
 ghost use Rattle.nardcorbel.specs.Strings.{text_in, until_nul_place};
 
 use crate::reasons::{BUFFER_TOO_SMALL, NO_PARENT, NOT_UTF8, OK, path_reason, until_nul_reason};
 use crate::strings::until_nul_place;
 use crate::texts::nard_string_from_utf8;
-use uefi_path::slices::{
-    is_separator_missing, is_separator_missing_replaced, pushed_len, write_part,
-    write_with_separators,
-};
-use uefi_path::{NormalWriteError, Path, laws};
-use uefi_text::CStr16;
+use uefi_path::{NormalWriteError, Path, laws, push_in_buf};
+use uefi_text::{BufferTooSmall, CStr16};
 
-/// Writes a NUL after the first `len` units of a buffer, where it has room.
-fn end_text(buffer: &mut [u16], len: usize) -> u32
-    requires { len ≤ length buffer.now }
-    ensures reason { result ≡ room_reason (take len buffer.old) buffer.old }
-    ensures buffer { buffer.new ≡ with_prefix (nul_terminated (take len buffer.old)) buffer.old }
+/// What a call returns that writes a text into a buffer, and how many units the text has, or at most
+/// `usize::MAX - 1`.
+pub(crate) fn report(written: Result<usize, BufferTooSmall>, place: &mut usize) -> u32
+    ensures reason { (text buffer : List ℕ) → written ≡ written_len text buffer
+        → result ≡ room_reason text buffer }
+    ensures place { (text buffer : List ℕ) → length buffer < 2 ^ 64 → written ≡ written_len text buffer
+        → place.new ≡ length_shown text }
 {
-    if buffer.len() <= len {
-        return BUFFER_TOO_SMALL;
+    match written {
+        Ok(len) => {
+            *place = len;
+            OK
+        }
+        Err(BufferTooSmall(needed)) => {
+            *place = needed.saturating_sub(1);
+            BUFFER_TOO_SMALL
+        }
     }
-    buffer[len] = 0;
-    OK
-}
-
-/// Writes what a push adds after the first `end` units of a buffer, and a NUL, where it has room.
-fn add_tail(buffer: &mut [u16], end: usize, is_missing: bool, path: &[u16], len: usize) -> u32
-    requires within { end ≤ length buffer.now }
-    requires len { len ≡ length_shown (take end buffer.now ++ tail_of is_missing path.now) }
-    ensures reason { result ≡ room_reason (take end buffer.old ++ tail_of is_missing path.now) buffer.old }
-    ensures buffer { buffer.new
-        ≡ with_prefix (nul_terminated (take end buffer.old ++ tail_of is_missing path.now)) buffer.old }
-{
-    if buffer.len() <= len {
-        return BUFFER_TOO_SMALL;
-    }
-    write_part(&mut buffer[end..len], is_missing, path);
-    end_text(buffer, len)
 }
 
 /// Pushes a path on the path that a buffer begins with, in place, as `PathBuf::push` does: a separator
@@ -59,8 +48,8 @@ fn add_tail(buffer: &mut [u16], end: usize, is_missing: bool, path: &[u16], len:
 /// replaced. The empty path changes nothing.
 ///
 /// Units that begin with no string are refused as by `nard_string_until_nul`, those of the buffer first. Else
-/// `place` becomes how many units the path has, or the greatest `usize` where it has more, and a buffer
-/// of no more places is `BUFFER_TOO_SMALL`. Refused, the buffer stays unchanged; what stands after the
+/// `place` becomes how many units the path has, or at most `usize::MAX - 1`, and a buffer of no more places is
+/// `BUFFER_TOO_SMALL`. Refused, the buffer stays unchanged; what stands after the
 /// NUL stays. One pass over each; takes no memory.
 #[unsafe(no_mangle)]
 pub extern "C" fn nard_path_push(buffer: &mut [u16], path: &[u16], place: &mut usize) -> u32
@@ -79,8 +68,8 @@ pub extern "C" fn nard_path_push(buffer: &mut [u16], path: &[u16], place: &mut u
     ensures buffer { BeginsWithString buffer.old → BeginsWithString path.now → buffer.new
         ≡ with_prefix (nul_terminated (pushed (text_in buffer.old) (text_in path.now))) buffer.old }
 {
-    let text = match CStr16::from_u16_until_nul(buffer) {
-        Ok(string) => string.to_u16_slice(),
+    let end = match CStr16::from_u16_until_nul(buffer) {
+        Ok(string) => string.num_chars(),
         Err(error) => {
             *place = until_nul_place(error, buffer);
             return until_nul_reason(error);
@@ -93,11 +82,7 @@ pub extern "C" fn nard_path_push(buffer: &mut [u16], path: &[u16], place: &mut u
             return until_nul_reason(error);
         }
     };
-    let is_missing = is_separator_missing(text, path);
-    let len = pushed_len(text, is_missing, path);
-    let end = text.len();
-    *place = len;
-    add_tail(buffer, end, is_missing, path, len)
+    report(push_in_buf(buffer, end, path), place)
 }
 
 /// Writes the path of a string, each slash replaced, with another pushed after it, as `Path::join` does, into
@@ -129,28 +114,21 @@ pub extern "C" fn nard_path_join(
         ≡ with_prefix (nul_terminated (pushed (with_separators (text_in path.now)) (text_in other.now)))
         buffer.old }
 {
-    let text = match CStr16::from_u16_until_nul(path) {
-        Ok(string) => string.to_u16_slice(),
+    let path = match CStr16::from_u16_until_nul(path) {
+        Ok(string) => Path::new(string),
         Err(error) => {
             *place = until_nul_place(error, path);
             return until_nul_reason(error);
         }
     };
-    let added = match CStr16::from_u16_until_nul(other) {
-        Ok(string) => string.to_u16_slice(),
+    let other = match CStr16::from_u16_until_nul(other) {
+        Ok(string) => Path::new(string),
         Err(error) => {
             *place = until_nul_place(error, other);
             return until_nul_reason(error);
         }
     };
-    let is_missing = is_separator_missing_replaced(text, added);
-    let len = pushed_len(text, is_missing, added);
-    *place = len;
-    if buffer.len() <= len {
-        return BUFFER_TOO_SMALL;
-    }
-    write_with_separators(&mut buffer[..text.len()], text);
-    add_tail(buffer, text.len(), is_missing, added, len)
+    report(path.write_joined(other, buffer), place)
 }
 
 /// Writes the parent of a string's path, as `Path::parent` has it, into the first places of a buffer, and
@@ -183,18 +161,10 @@ pub extern "C" fn nard_path_parent(path: &[u16], buffer: &mut [u16], place: &mut
             return until_nul_reason(error);
         }
     };
-    // The last place is left for the NUL.
-    let room = buffer.len().saturating_sub(1);
-    match path.write_parent(&mut buffer[..room]) {
-        Ok(Some(len)) => {
-            *place = len;
-            end_text(buffer, len)
-        }
+    match path.write_parent(buffer) {
+        Ok(Some(len)) => report(Ok(len), place),
         Ok(None) => NO_PARENT,
-        Err(len) => {
-            *place = len;
-            BUFFER_TOO_SMALL
-        }
+        Err(error) => report(Err(error), place),
     }
 }
 
@@ -245,23 +215,15 @@ pub extern "C" fn nard_path_normalize(
             return until_nul_reason(error);
         }
     };
-    // The last place is left for the NUL.
-    let most = buffer.len().saturating_sub(1);
-    match Path::new(string).write_normal(&mut buffer[..most]) {
-        Ok(len) => {
-            *place = len;
-            end_text(buffer, len)
-        }
+    match Path::new(string).write_normal(buffer) {
+        Ok(len) => report(Ok(len), place),
         Err(NormalWriteError::Invalid(error)) => {
             *place = string.num_chars();
             let (reason, refused) = path_reason(error);
             *character = refused;
             reason
         }
-        Err(NormalWriteError::BufferTooSmall(len)) => {
-            *place = len;
-            BUFFER_TOO_SMALL
-        }
+        Err(NormalWriteError::BufferTooSmall(needed)) => report(Err(BufferTooSmall(needed)), place),
     }
 }
 

@@ -1,6 +1,6 @@
 //! Device paths in bytes that C holds: whether bytes begin with one, its nodes, the file that it names, and
 //! its text.
-ghost use Rattle.std.specs.Prelude.{◌≡◌, ◌≢◌, ◌↔◌, ℕ, ◌+◌, ◌-◌, ◌^◌, ◌<◌, ◌≤◌, ◌++◌, ◌∷◌, [], All, List, None, Some, drop, length, min, take};
+ghost use Rattle.std.specs.Prelude.{◌≡◌, ◌≢◌, ◌↔◌, ℕ, ◌+◌, ◌<◌, ◌≤◌, ◌++◌, ◌∷◌, [], All, List, None, Some, drop, length};
 ghost use Rattle.uefi_text.specs.UnalignedCStr16.{with_prefix};
 ghost use Rattle.uefi_text.specs.Units.{nul_terminated};
 ghost use Rattle.uefi_device_nodes.specs.NodeFaults.{fault_place, node_fault};
@@ -11,14 +11,15 @@ ghost use Rattle.uefi_device_path.specs.FilePaths.{FileRefusedFor, IsReadable, f
 ghost use Rattle.uefi_device_path.specs.Paths.{BeginWithPath, path_bytes};
 ghost use Rattle.uefi_device_path.specs.declared.errors.DevicePathError.{DevicePathError};
 ghost use Rattle.uefi_device_path.specs.declared.errors.FilePathError.{FilePathError};
-ghost use Rattle.nardcorbel.specs.DevicePaths.{needed_units, node_in, text_units};
+ghost use Rattle.nardcorbel.specs.Buffers.{length_shown, room_reason};
+ghost use Rattle.nardcorbel.specs.DevicePaths.{node_in, text_units};
 ghost use Rattle.nardcorbel.specs.Reasons.{name_reason, node_reason};
 
+use crate::buffers::report;
 use crate::reasons::{BUFFER_TOO_SMALL, END_OF_PATH, NO_END_NODE, OK, name_reason, node_reason};
 use uefi_device_nodes::node::fault_place;
 use uefi_device_path::{
-    AllowShortcuts, DevicePath, DevicePathNode, DisplayOnly, FilePathWriteError, TextWriteError,
-    laws,
+    AllowShortcuts, DevicePath, DevicePathNode, DisplayOnly, FilePathWriteError, laws,
 };
 
 /// Whether bytes begin with a device path: `OK`, or why not.
@@ -169,7 +170,7 @@ pub extern "C" fn nard_device_path_file_path(
     };
     match path.write_file_path(buffer) {
         Ok(len) => {
-            *place = len - 1;
+            *place = len;
             OK
         }
         Err(FilePathWriteError::BufferTooSmall(needed)) => {
@@ -183,23 +184,14 @@ pub extern "C" fn nard_device_path_file_path(
     }
 }
 
-/// How many units a text has with its NUL, which a buffer had no places for.
-pub(crate) fn needed_units(error: TextWriteError) -> usize
-    ensures { result ≡ needed_units error }
-{
-    match error {
-        TextWriteError::BufferTooSmall(needed) => needed,
-    }
-}
-
 /// Writes the device path that bytes begin with as people read it, which [`DevicePath::write_text`] does,
 /// into the first places of a buffer as UTF-16, and a NUL.
 ///
 /// Bytes that begin with no device path are refused as by [`nard_device_path_check`], and the buffer
-/// stays unchanged. Else `place` becomes how many units the text has, its NUL not counted, or 2^64 - 2
-/// where it has more, and a buffer of no more places, and no other, is `BUFFER_TOO_SMALL`: it then holds the
-/// first units of the text. What stands after the NUL stays. Two passes over the nodes; takes no memory
-/// (UEFI Specification 2.10, section 10.6.1).
+/// stays unchanged. Else `place` becomes how many units the text has, its NUL not counted, or at most
+/// `usize::MAX - 1`, and a buffer of no more places, and no other, is `BUFFER_TOO_SMALL`: it stays unchanged.
+/// What stands after the NUL stays. Makes the text twice: once to count it; takes no memory (UEFI
+/// Specification 2.10, section 10.6.1).
 #[unsafe(no_mangle)]
 pub extern "C" fn nard_device_path_text(
     bytes: &[u8],
@@ -211,18 +203,12 @@ pub extern "C" fn nard_device_path_text(
     ensures no_path { (error : DevicePathError) → RefusedFor bytes.now error
         → (result ≡ node_reason error.cause) × (place.new ≡ error.offset) × (buffer.new ≡ buffer.old) }
     ensures path { result ≡ OK → (nodes : List Node) × BeginWithPath bytes.now nodes }
-    ensures ok { result ≡ OK → (nodes : List Node) → BeginWithPath bytes.now nodes
-        → (place.new ≡ length (text_units display_only allow_shortcuts nodes))
-        × (length (text_units display_only allow_shortcuts nodes) < length buffer.old)
-        × (buffer.new ≡ with_prefix
-        (nul_terminated (text_units display_only allow_shortcuts nodes)) buffer.old) }
-    ensures small { result ≡ BUFFER_TOO_SMALL → (nodes : List Node) → BeginWithPath bytes.now nodes
-        → (place.new ≡ min (length (text_units display_only allow_shortcuts nodes)) (2 ^ 64 - 2))
-        × (length buffer.old ≤ length (text_units display_only allow_shortcuts nodes)) }
-    ensures filled { result ≡ BUFFER_TOO_SMALL → (nodes : List Node) → BeginWithPath bytes.now nodes
-        → buffer.new ≡ take (length buffer.old) (text_units display_only allow_shortcuts nodes) }
-    ensures only { (nodes : List Node) → BeginWithPath bytes.now nodes
-        → result ≢ OK → result ≡ BUFFER_TOO_SMALL }
+    ensures reason { (nodes : List Node) → BeginWithPath bytes.now nodes
+        → result ≡ room_reason (text_units display_only allow_shortcuts nodes) buffer.old }
+    ensures place { (nodes : List Node) → BeginWithPath bytes.now nodes
+        → place.new ≡ length_shown (text_units display_only allow_shortcuts nodes) }
+    ensures buffer { (nodes : List Node) → BeginWithPath bytes.now nodes → buffer.new
+        ≡ with_prefix (nul_terminated (text_units display_only allow_shortcuts nodes)) buffer.old }
 {
     // The law does nothing: it says that no path is refused.
     laws::accepted_paths();
@@ -233,18 +219,10 @@ pub extern "C" fn nard_device_path_text(
             return node_reason(error.cause);
         }
     };
-    match path.write_text(
+    let text = path.write_text(
         buffer,
         DisplayOnly(display_only),
         AllowShortcuts(allow_shortcuts),
-    ) {
-        Ok(written) => {
-            *place = written - 1;
-            OK
-        }
-        Err(error) => {
-            *place = needed_units(error) - 1;
-            BUFFER_TOO_SMALL
-        }
-    }
+    );
+    report(text, place)
 }

@@ -16,7 +16,8 @@ ghost use Rattle.nardcorbel.specs.Buffers.{room_reason};
 ghost use Rattle.nardcorbel.specs.Reasons.{fat_name_reason, refused_fat_character, until_nul_reason};
 ghost use Rattle.nardcorbel.specs.Strings.{text_in, until_nul_place};
 
-use crate::reasons::{BUFFER_TOO_SMALL, CHAR_REPLACED, OK, fat_name_reason, until_nul_reason};
+use crate::buffers::report;
+use crate::reasons::{CHAR_REPLACED, OK, fat_name_reason, until_nul_reason};
 use crate::strings::until_nul_place;
 use uefi_fat::{check_fat_name, fat_to_str, is_short_name, same_fat_file, str_to_fat};
 use uefi_text::{CStr16, Char16Slice};
@@ -150,14 +151,5 @@ pub extern "C" fn nard_string_from_fat(bytes: &[u8], buffer: &mut [u16], place: 
     ensures buffer { buffer.new ≡ with_prefix (nul_terminated (fat_text bytes.now)) buffer.old }
     ensures place { place.new ≡ length (fat_text bytes.now) }
 {
-    match fat_to_str(bytes, buffer) {
-        Ok(len) => {
-            *place = len;
-            OK
-        }
-        Err(len) => {
-            *place = len;
-            BUFFER_TOO_SMALL
-        }
-    }
+    report(fat_to_str(bytes, buffer), place)
 }

@@ -1,16 +1,17 @@
 //! Units that may be anything, in UTF-8: descriptions of load options and names of files are mostly
 //! strings, and a menu shows them where they are none.
-ghost use Rattle.std.specs.Prelude.{◌≡◌, ◌+◌, ◌<◌, ◌≤◌, ◌∷◌, drop, length};
+ghost use Rattle.std.specs.Prelude.{◌≡◌, ◌+◌, ◌-◌, ◌<◌, ◌≤◌, ◌^◌, ◌∷◌, drop, length, min};
 ghost use Rattle.std.specs.Char.Utf16.{utf16_chars, utf16_lossy_chars};
 ghost use Rattle.uefi_device_path.specs.LoadOptions.{lossy_utf8};
 ghost use Rattle.uefi_text.specs.UnalignedCStr16.{with_prefix};
 ghost use Rattle.uefi_text.specs.Units.{nul_terminated};
-ghost use Rattle.uefi_path.specs.Writing.{length_shown};
-ghost use Rattle.nardcorbel.specs.Buffers.{room_reason};
+ghost use Rattle.uefi_text.specs.UnitTexts.{written_len};
+ghost use Rattle.nardcorbel.specs.Buffers.{length_shown, room_reason};
 ghost use Rattle.nardcorbel.specs.Strings.{text_in};
 
-use crate::reasons::{BUFFER_TOO_SMALL, OK};
+use crate::buffers::report;
 use crate::texts::write_char;
+use uefi_text::BufferTooSmall;
 use uefi_text::scans::find_nul;
 
 /// The character that units begin with, unless it is a surrogate without a partner, and how many
@@ -50,7 +51,7 @@ fn first_shown(units: &[u16]) -> (char, usize)
 
 /// How many bytes units have in UTF-8, and the greatest `usize` where they have more.
 fn lossy_len(units: &[u16]) -> usize
-    ensures { result ≡ length_shown (lossy_utf8 units.now) }
+    ensures { result ≡ min (length (lossy_utf8 units.now)) (2 ^ 64 - 1) }
 {
     let mut len = 0usize;
     let mut place = 0;
@@ -86,12 +87,26 @@ fn part_shown(units: &[u16]) -> &[u16]
     }
 }
 
+/// Writes units in UTF-8 and a NUL into the first places of `bytes`, where they have room.
+fn write_with_nul(units: &[u16], bytes: &mut [u8]) -> Result<usize, BufferTooSmall>
+    ensures len { result ≡ written_len (lossy_utf8 units.now) bytes.old }
+    ensures bytes { bytes.new ≡ with_prefix (nul_terminated (lossy_utf8 units.now)) bytes.old }
+{
+    let len = lossy_len(units);
+    if bytes.len() <= len {
+        return Err(BufferTooSmall(len.saturating_add(1)));
+    }
+    write_lossy(units, &mut bytes[..len]);
+    bytes[len] = 0;
+    Ok(len)
+}
+
 /// Writes the units before the first NUL, or all of them where there is none, in UTF-8 and with a
 /// NUL to the start of `bytes`.
 ///
 /// Each pair of surrogates is one character, and each surrogate without a partner becomes U+FFFD
 /// (Unicode Standard, section 3.9), so no unit is refused. `place` becomes how many bytes the text
-/// has, or the greatest `usize` where it has more, and bytes with no more places than these are
+/// has, or at most `usize::MAX - 1`, and bytes with no more places than these are
 /// `BUFFER_TOO_SMALL`. Refused, the bytes stay unchanged; what is after the NUL stays. Two passes
 /// over the units; takes no memory.
 #[unsafe(no_mangle)]
@@ -105,13 +120,5 @@ pub extern "C" fn nard_utf8_from_units_lossy(
     ensures bytes { bytes.new
         ≡ with_prefix (nul_terminated (lossy_utf8 (text_in units.now))) bytes.old }
 {
-    let part = part_shown(units);
-    let len = lossy_len(part);
-    *place = len;
-    if bytes.len() <= len {
-        return BUFFER_TOO_SMALL;
-    }
-    write_lossy(part, &mut bytes[..len]);
-    bytes[len] = 0;
-    OK
+    report(write_with_nul(part_shown(units), bytes), place)
 }

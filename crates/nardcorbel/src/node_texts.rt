@@ -1,15 +1,16 @@
 //! The text of a node in bytes that C holds.
-ghost use Rattle.std.specs.Prelude.{◌≡◌, ◌≢◌, ◌-◌, ◌^◌, ◌<◌, ◌≤◌, None, Some, length, min, take};
+ghost use Rattle.std.specs.Prelude.{◌≡◌, None, Some};
 ghost use Rattle.uefi_text.specs.UnalignedCStr16.{with_prefix};
 ghost use Rattle.uefi_text.specs.Units.{nul_terminated};
 ghost use Rattle.uefi_device_nodes.specs.NodeFaults.{fault_place, node_fault};
 ghost use Rattle.uefi_device_nodes.specs.Nodes.{Node};
 ghost use Rattle.uefi_device_nodes.specs.declared.errors.NodeError.{NodeError};
+ghost use Rattle.nardcorbel.specs.Buffers.{length_shown, room_reason};
 ghost use Rattle.nardcorbel.specs.DevicePaths.{BeginWithNode, node_units};
 ghost use Rattle.nardcorbel.specs.Reasons.{node_reason};
 
-use crate::device_paths::needed_units;
-use crate::reasons::{BUFFER_TOO_SMALL, OK, node_reason};
+use crate::buffers::report;
+use crate::reasons::node_reason;
 use uefi_device_nodes::node::fault_place;
 use uefi_device_path::{AllowShortcuts, DevicePathNode, DisplayOnly};
 
@@ -18,10 +19,10 @@ use uefi_device_path::{AllowShortcuts, DevicePathNode, DisplayOnly};
 ///
 /// Bytes that begin with no node are refused as by `nard_device_path_next_node` at place 0: `place` becomes
 /// the offset of the bytes that are at fault, and the buffer stays unchanged. The node may be one that ends
-/// the path or an instance. Else `place` becomes how many units the text has, its NUL not counted, or
-/// 2^64 - 2 where it has more, and a buffer of no more places, and no other, is `BUFFER_TOO_SMALL`: it then
-/// holds the first units of the text. What stands after the NUL stays. What follows the node is not read.
-/// One pass; takes no memory (UEFI Specification 2.10, section 10.6.1).
+/// the path or an instance. Else `place` becomes how many units the text has, its NUL not counted, or at most
+/// `usize::MAX - 1`, and a buffer of no more places, and no other, is `BUFFER_TOO_SMALL`: it stays unchanged.
+/// What stands after the NUL stays. What follows the node is not read. Makes the text twice: once to count it;
+/// takes no memory (UEFI Specification 2.10, section 10.6.1).
 #[unsafe(no_mangle)]
 pub extern "C" fn nard_node_text(
     bytes: &[u8],
@@ -33,17 +34,12 @@ pub extern "C" fn nard_node_text(
     ensures no_node { (cause : NodeError) → node_fault bytes.now ≡ Some cause
         → (result ≡ node_reason cause) × (place.new ≡ fault_place cause) × (buffer.new ≡ buffer.old) }
     ensures node { node_fault bytes.now ≡ None → (node : Node) × BeginWithNode bytes.now node }
-    ensures ok { result ≡ OK → (node : Node) → BeginWithNode bytes.now node
-        → (place.new ≡ length (node_units display_only allow_shortcuts node))
-        × (length (node_units display_only allow_shortcuts node) < length buffer.old)
-        × (buffer.new ≡ with_prefix
-        (nul_terminated (node_units display_only allow_shortcuts node)) buffer.old) }
-    ensures small { result ≡ BUFFER_TOO_SMALL → (node : Node) → BeginWithNode bytes.now node
-        → (place.new ≡ min (length (node_units display_only allow_shortcuts node)) (2 ^ 64 - 2))
-        × (length buffer.old ≤ length (node_units display_only allow_shortcuts node)) }
-    ensures filled { result ≡ BUFFER_TOO_SMALL → (node : Node) → BeginWithNode bytes.now node
-        → buffer.new ≡ take (length buffer.old) (node_units display_only allow_shortcuts node) }
-    ensures only { node_fault bytes.now ≡ None → result ≢ OK → result ≡ BUFFER_TOO_SMALL }
+    ensures reason { (node : Node) → BeginWithNode bytes.now node → node_fault bytes.now ≡ None
+        → result ≡ room_reason (node_units display_only allow_shortcuts node) buffer.old }
+    ensures place { (node : Node) → BeginWithNode bytes.now node → node_fault bytes.now ≡ None
+        → place.new ≡ length_shown (node_units display_only allow_shortcuts node) }
+    ensures buffer { (node : Node) → BeginWithNode bytes.now node → node_fault bytes.now ≡ None → buffer.new
+        ≡ with_prefix (nul_terminated (node_units display_only allow_shortcuts node)) buffer.old }
 {
     let node = match DevicePathNode::split_first(bytes) {
         Ok((found, _)) => found,
@@ -52,18 +48,10 @@ pub extern "C" fn nard_node_text(
             return node_reason(cause);
         }
     };
-    match node.write_text(
+    let text = node.write_text(
         buffer,
         DisplayOnly(display_only),
         AllowShortcuts(allow_shortcuts),
-    ) {
-        Ok(written) => {
-            *place = written - 1;
-            OK
-        }
-        Err(error) => {
-            *place = needed_units(error) - 1;
-            BUFFER_TOO_SMALL
-        }
-    }
+    );
+    report(text, place)
 }

@@ -1,5 +1,5 @@
 //! Texts in UTF-8, as C programs hold them, and strings.
-ghost use Rattle.std.specs.Prelude.{◌≡◌, ◌≢◌, ◌↔◌, ◌+◌, ◌-◌, ◌<◌, ◌≤◌, ◌^◌, ◌++◌, drop, encode_utf8, if◌then◌else◌, length, min, nat_lt, take, IsTrue, List, None, Some, ℕ};
+ghost use Rattle.std.specs.Prelude.{◌≡◌, ◌≢◌, ◌↔◌, ◌+◌, ◌-◌, ◌<◌, ◌≤◌, ◌^◌, ◌++◌, drop, encode_utf8, length, min, take, IsTrue, List, None, Some, ℕ};
 ghost use Rattle.std.specs.List.{find, position_or_len};
 ghost use Rattle.std.specs.Str.{IsUtf8, chars, encode_utf8_all};
 ghost use Rattle.std.specs.Str.Lossy.{utf8_valid_len};
@@ -11,15 +11,17 @@ ghost use Rattle.uefi_text.specs.Latin1.{IsLatin1};
 ghost use Rattle.uefi_text.specs.UnalignedCStr16.{with_prefix};
 ghost use Rattle.uefi_text.specs.Units.{BeginsWithString, IsText, nul_terminated};
 ghost use Rattle.uefi_text.specs.Views.{text_of};
-ghost use Rattle.nardcorbel.specs.Buffers.{room_reason};
+ghost use Rattle.uefi_text.specs.UnitTexts.{written_len};
+ghost use Rattle.nardcorbel.specs.Buffers.{length_shown, room_reason};
 ghost use Rattle.nardcorbel.specs.Reasons.{character_reason, until_nul_reason};
 ghost use Rattle.nardcorbel.specs.Strings.{text_in, until_nul_place};
 
+use crate::buffers::report;
 use crate::reasons::{
     BUFFER_TOO_SMALL, INTERIOR_NUL, INVALID_CHAR, NOT_UTF8, OK, until_nul_reason,
 };
 use crate::strings::until_nul_place;
-use uefi_text::{CStr16, EqStrUntilNul, is_latin1};
+use uefi_text::{BufferTooSmall, CStr16, EqStrUntilNul, is_latin1};
 
 /// Why a text is no string, or `OK`; and how many characters are before the one that it cannot
 /// have, which are all of them where it has none.
@@ -165,30 +167,28 @@ fn write_utf8(string: CStr16<'_>, bytes: &mut [u8])
     }
 }
 
-/// Writes the text of a string in UTF-8, which has `len` bytes, and a NUL into the first places of
-/// `bytes`, where they have room.
-fn write_with_nul(string: CStr16<'_>, bytes: &mut [u8], len: usize) -> u32
-    requires { len ≡ min (length (encode_utf8_all (text_of string))) (2 ^ 64 - 1) }
-    ensures reason { result ≡ (if nat_lt (length (encode_utf8_all (text_of string.entry))) (length bytes.old)
-        then OK else BUFFER_TOO_SMALL) }
+/// Writes the text of a string in UTF-8 and a NUL into the first places of `bytes`, where they have room.
+fn write_with_nul(string: CStr16<'_>, bytes: &mut [u8]) -> Result<usize, BufferTooSmall>
+    ensures len { result ≡ written_len (encode_utf8_all (text_of string.entry)) bytes.old }
     ensures bytes { bytes.new
         ≡ with_prefix (nul_terminated (encode_utf8_all (text_of string.entry))) bytes.old }
 {
+    let len = utf8_len(string);
     if bytes.len() <= len {
-        return BUFFER_TOO_SMALL;
+        return Err(BufferTooSmall(len.saturating_add(1)));
     }
     write_utf8(string, &mut bytes[..len]);
     bytes[len] = 0;
-    OK
+    Ok(len)
 }
 
 /// Writes the text of the string that units begin with, in UTF-8 and with a NUL, into the first
 /// places of `bytes`.
 ///
 /// Units that begin with no string are refused as by `nard_string_until_nul`, with its `place`.
-/// Else `place` becomes how many bytes the text has, or the greatest `usize` where it has more, and
-/// bytes with no more places than these are `BUFFER_TOO_SMALL`. Refused, the bytes stay unchanged;
-/// what stands after the NUL stays. Two passes over the text; takes no memory.
+/// Else `place` becomes how many bytes the text has, or at most `usize::MAX - 1`, and bytes with no more
+/// places than these are `BUFFER_TOO_SMALL`. Refused, the bytes stay unchanged; what stands after the NUL
+/// stays. Two passes over the text; takes no memory.
 #[unsafe(no_mangle)]
 pub extern "C" fn nard_utf8_from_string(units: &[u16], bytes: &mut [u8], place: &mut usize) -> u32
     ensures no_string { ¬ BeginsWithString units.now
@@ -196,19 +196,14 @@ pub extern "C" fn nard_utf8_from_string(units: &[u16], bytes: &mut [u8], place: 
     ensures unchanged { ¬ BeginsWithString units.now → bytes.new ≡ bytes.old }
     ensures refused_place { ¬ BeginsWithString units.now → place.new ≡ until_nul_place units.now }
     ensures reason { BeginsWithString units.now
-        → result ≡ (if nat_lt (length (encode_utf8_all (text_in units.now))) (length bytes.old)
-        then OK else BUFFER_TOO_SMALL) }
+        → result ≡ room_reason (encode_utf8_all (text_in units.now)) bytes.old }
     ensures bytes { BeginsWithString units.now
         → bytes.new ≡ with_prefix (nul_terminated (encode_utf8_all (text_in units.now))) bytes.old }
     ensures place { BeginsWithString units.now
-        → place.new ≡ min (length (encode_utf8_all (text_in units.now))) (2 ^ 64 - 1) }
+        → place.new ≡ length_shown (encode_utf8_all (text_in units.now)) }
 {
     match CStr16::from_u16_until_nul(units) {
-        Ok(string) => {
-            let len = utf8_len(string);
-            *place = len;
-            write_with_nul(string, bytes, len)
-        }
+        Ok(string) => report(write_with_nul(string, bytes), place),
         Err(error) => {
             *place = until_nul_place(error, units);
             until_nul_reason(error)

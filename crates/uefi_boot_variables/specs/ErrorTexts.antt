@@ -1,13 +1,7 @@
 -- What is printed of an error.
 use Rattle.std.specs.Fmt.{decimal}
 use Rattle.std.specs.Prelude.{ℕ, codes, List, ◌++◌}
-use Rattle.uefi_boot_variables.specs.declared.variable_names.NameBufferTooSmall.{NameBufferTooSmall}
 use Rattle.uefi_boot_variables.specs.declared.orders.NotTwoBytes.{NotTwoBytes}
-
--- that of a buffer that is too small for a name
-abbrev pub name_buffer_too_small_text : NameBufferTooSmall → List ℕ
-name_buffer_too_small_text error =
-    codes "buffer too small: the name needs " ++ decimal error.0 ++ codes " units"
 
 -- that of bytes that are odd in number
 abbrev pub odd_length_text : List ℕ

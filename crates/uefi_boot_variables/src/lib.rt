@@ -16,7 +16,7 @@ pub use order_buffer::OrderBuffer;
 pub use order_edits::OrderFull;
 pub use orders::{LoadOrder, NotTwoBytes, OddLength, read_number};
 pub use present::PresentOptions;
-pub use variable_names::{LoadOptionKind, LoadOptionName, NameBufferTooSmall};
+pub use variable_names::{LoadOptionKind, LoadOptionName};
 
 #[cfg(test)]
 mod tests;

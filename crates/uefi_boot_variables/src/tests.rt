@@ -1,11 +1,11 @@
 //! Rows whose values come from the UEFI Specification 2.10, sections 3.1.1, 3.1.3 and 3.3.
 use crate::{
-    LoadOptionKind, LoadOptionName, LoadOrder, NameBufferTooSmall, NotTwoBytes, OddLength,
-    OrderBuffer, OrderFull, order_edits, read_number,
+    LoadOptionKind, LoadOptionName, LoadOrder, NotTwoBytes, OddLength, OrderBuffer, OrderFull,
+    order_edits, read_number,
 };
 use std::process::Abort;
 use std::test::Fail;
-use uefi_text::CStr16;
+use uefi_text::{BufferTooSmall, CStr16};
 
 /// Names, and what they are, or `None` for texts that are no name.
 const NAMES: &[(&str, Option<(LoadOptionKind, u16)>)] = &[
@@ -74,7 +74,7 @@ fn names_are_written(rt: HostRuntime) -> Result<(), Fail> {
                 let short = name
                     .to_cstr16(units.get_mut(..room).unwrap_or_default())
                     .err();
-                assert_eq!(rt; short, Some(NameBufferTooSmall(text.len() + 1)));
+                assert_eq!(rt; short, Some(BufferTooSmall(text.len() + 1)));
                 assert!(rt; units == [0xffff; 32]);
             }
             let string = name.to_cstr16(&mut units)?;

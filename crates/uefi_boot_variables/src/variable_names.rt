@@ -1,16 +1,15 @@
 //! Names of the variables that hold load options (UEFI Specification 2.10, sections 3.1.3 and 3.3).
-ghost use Rattle.std.specs.Prelude.{◌≡◌, ℕ, ◌+◌, ◌*◌, ◌^◌, ◌<◌, ◌≤◌, ◌↔◌, ◌∷◌, ◌++◌, [], drop, length, map, slice_index, IfErr, IfOk, IfSome, IsErr, IsTrue, OnErr, OnOk, Some};
+ghost use Rattle.std.specs.Prelude.{◌≡◌, ℕ, ◌+◌, ◌*◌, ◌^◌, ◌<◌, ◌≤◌, ◌↔◌, ◌∷◌, ◌++◌, [], length, map, slice_index, take, IfErr, IfOk, IfSome, IsErr, IsTrue, OnOk, Some};
 ghost use Rattle.uefi_boot_variables.specs.declared.variable_names.LoadOptionKind.{LoadOptionKind};
 ghost use Rattle.uefi_boot_variables.specs.declared.variable_names.LoadOptionName.{LoadOptionName};
 ghost use Rattle.uefi_boot_variables.specs.Names.{digit_of, four_digits, name_text, word_of};
+ghost use Rattle.uefi_text.specs.UnalignedCStr16.{with_prefix};
+ghost use Rattle.uefi_text.specs.UnitTexts.{written_len};
 ghost use Rattle.uefi_text.specs.Units.{nul_terminated};
 ghost use Rattle.uefi_text.specs.Views.{text_of};
 
-use std::error::Error;
 use std::fmt;
-use uefi_text::CStr16;
-use uefi_text::number_texts::put_decimal;
-use uefi_text::text_sink::{Printed, TextSink, print};
+use uefi_text::{BufferTooSmall, CStr16};
 
 /// What firmware does with a load option.
 #[derive(Clone, Copy, Debug, PartialEq, Eq)]
@@ -38,37 +37,6 @@ pub struct LoadOptionName {
     /// The number, by which an order names the option.
     pub number: u16,
 }
-
-/// Why a name is not written: the buffer has fewer places than the name has characters and a NUL,
-/// which are this many.
-#[derive(Clone, Copy, Debug, PartialEq, Eq)]
-pub struct NameBufferTooSmall(pub usize);
-
-/// Puts the reason, with the number of places in decimal.
-impl Printed for NameBufferTooSmall {
-    ghost use Rattle.uefi_boot_variables.specs.ErrorTexts.{name_buffer_too_small_text};
-
-    ghost printed = { name_buffer_too_small_text };
-
-    #[tactic(auto, using(uefi_text::proofs::Puts::puts))]
-    fn put<S: TextSink>(&self, sink: &mut S) {
-        put_decimal(sink, "buffer too small: the name needs ", self.0 as u64);
-        sink.put_str(" units");
-    }
-}
-
-/// Prints the same.
-impl fmt::Display for NameBufferTooSmall {
-    ghost use Rattle.uefi_boot_variables.specs.ErrorTexts.{name_buffer_too_small_text};
-
-    ghost output = { λ error. Some (name_buffer_too_small_text error) };
-
-    fn fmt<W: fmt::Write>(&self, f: &mut fmt::Formatter<W>) -> fmt::Result {
-        print(f, self)
-    }
-}
-
-impl Error for NameBufferTooSmall {}
 
 /// A unit of a text: a byte of UTF-8 or a unit of UCS-2.
 trait Unit: Copy {
@@ -272,31 +240,31 @@ impl LoadOptionName {
         read_name(string.to_u16_slice())
     }
 
-    /// Writes the name as a string at the start of a buffer, and returns the number of its units, the
-    /// NUL counted. Refused exactly where the buffer has fewer places; the buffer is then unchanged.
-    /// What follows the NUL is unchanged. Takes no memory.
+    /// Writes the name as a string to the start of a buffer, and returns its length without the NUL. What
+    /// follows the NUL is unchanged.
+    ///
+    /// Fails only if the buffer is too small, and then leaves it unchanged. Takes no memory.
     ///
     /// ```rust
     /// let name = LoadOptionName { kind: LoadOptionKind::Boot, number: 0x1f };
     /// let mut buffer = [0xffff; 9];
-    /// assert_eq!(rt; name.write_cstr16(&mut buffer), Ok(9));
+    /// assert_eq!(rt; name.write_cstr16(&mut buffer), Ok(8));
     /// assert_eq!(rt; buffer, [0x42, 0x6f, 0x6f, 0x74, 0x30, 0x30, 0x31, 0x46, 0]);
-    /// assert_eq!(rt; name.write_cstr16(&mut [0; 8]), Err(NameBufferTooSmall(9)));
+    /// assert_eq!(rt; name.write_cstr16(&mut [0; 8]), Err(BufferTooSmall(9)));
     /// ```
-    pub fn write_cstr16(self, buffer: &mut [u16]) -> Result<usize, NameBufferTooSmall>
-        ensures ok { IfOk result (λ len. len ≡ length (name_text self) + 1) }
-        ensures buffer { OnOk result (buffer.new
-            ≡ nul_terminated (name_text self) ++ drop (length (name_text self) + 1) buffer.old) }
-        ensures err { OnErr result (buffer.new ≡ buffer.old) }
-        ensures refused { IsErr result ↔ (length buffer.old ≤ length (name_text self)) }
-        ensures needs { IfErr result (λ error. error.0 ≡ length (name_text self) + 1) }
+    pub fn write_cstr16(self, buffer: &mut [u16]) -> Result<usize, BufferTooSmall>
+        ensures len { result ≡ written_len (name_text self) buffer.old }
+        ensures buffer { buffer.new ≡ with_prefix (nul_terminated (name_text self)) buffer.old }
+        ensures room { IfOk result (λ len. len < length buffer.old) }
+        ensures string { OnOk result
+            (take (length (name_text self) + 1) buffer.new ≡ nul_terminated (name_text self)) }
     {
         let word = self.kind.word();
-        let len = word.len() + 5;
-        if buffer.len() < len {
-            return Err(NameBufferTooSmall(len));
+        let len = word.len() + 4;
+        if buffer.len() <= len {
+            return Err(BufferTooSmall(len + 1));
         }
-        put_name(word, self.number, &mut buffer[..len]);
+        put_name(word, self.number, &mut buffer[..len + 1]);
         Ok(len)
     }
 
@@ -308,13 +276,13 @@ impl LoadOptionName {
     /// let string = name.to_cstr16(&mut buffer)?;
     /// assert_eq!(rt; format!(in rt.alloc(); "{string}")?.as_str(), "Driver0007");
     /// ```
-    pub fn to_cstr16(self, buffer: &mut [u16]) -> Result<CStr16<'_>, NameBufferTooSmall>
+    pub fn to_cstr16(self, buffer: &mut [u16]) -> Result<CStr16<'_>, BufferTooSmall>
         ensures ok { IfOk result (λ string. text_of string ≡ name_text self) }
         ensures refused { IsErr result ↔ (length buffer.old ≤ length (name_text self)) }
         ensures needs { IfErr result (λ error. error.0 ≡ length (name_text self) + 1) }
     {
         let len = self.write_cstr16(buffer)?;
-        Ok(CStr16::from_string(&buffer[..len]))
+        Ok(CStr16::from_string(&buffer[..len + 1]))
     }
 }
 

@@ -30,4 +30,4 @@ pub use node_text::NodeText;
 pub use typed_node::TypedNode;
 pub use uefi_field_texts::forms::{AllowShortcuts, DisplayOnly};
 pub use uefi_field_texts::guid::Guid;
-pub use uefi_text::unit_sink::TextWriteError;
+pub use uefi_text::unit_sink::BufferTooSmall;

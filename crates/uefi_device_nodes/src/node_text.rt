@@ -22,7 +22,7 @@ use uefi_node_table::printing::put_form;
 use uefi_text::Packed;
 use uefi_text::number_texts::put_decimal;
 use uefi_text::text_sink::{Printed, TextSink, print};
-use uefi_text::unit_sink::{TextWriteError, write_units};
+use uefi_text::unit_sink::{BufferTooSmall, write_units};
 
 /// A node that is printed: its type, its sub-type and its data, and the form that is wanted.
 #[derive(Clone, Copy)]
@@ -148,9 +148,9 @@ pub struct NodeText<'a> {
 }
 
 impl<'a> DevicePathNode<'a> {
-    ghost use Rattle.std.specs.Prelude.{◌+◌, ◌≤◌, ◌++◌, IfErr, IfOk, OnErr, OnOk, drop, length, take};
     ghost use Rattle.uefi_device_nodes.specs.NodeViews.{printed_node};
-    ghost use Rattle.uefi_text.specs.UnitTexts.{TextRefusedFor, utf16_units};
+    ghost use Rattle.uefi_text.specs.UnalignedCStr16.{with_prefix};
+    ghost use Rattle.uefi_text.specs.UnitTexts.{utf16_units, written_len};
     ghost use Rattle.uefi_text.specs.Units.{nul_terminated};
 
     /// What is printed of the node, for a `{}` of a format (UEFI Specification 2.10, section 10.6.1):
@@ -181,36 +181,30 @@ impl<'a> DevicePathNode<'a> {
     }
 
     /// Writes what is printed of the node, which [`DevicePathNode::display`] gives, to the start of a buffer
-    /// as UTF-16, with a NUL after it, and returns how many units these are. What follows them is
-    /// unchanged. Refused as `BufferTooSmall`, with the count that it needs; the buffer then holds as many
-    /// of the first units as it has places. Takes no memory; one pass.
+    /// as UTF-16, with a NUL after it, and returns its length without the NUL. What follows the NUL is
+    /// unchanged.
+    ///
+    /// Fails only if the buffer is too small, and then leaves it unchanged. Makes the text twice: once to
+    /// count its units, and once to write them. Takes no memory.
     ///
     /// ```rust
     /// let (node, _) = DevicePathNode::split_first(&[3, 0x1a, 5, 0, 1])?;
     /// let (shortcuts, form) = (AllowShortcuts(true), DisplayOnly(false));
     /// let mut buffer = [0; 8];
-    /// assert_eq!(rt; node.write_text(&mut buffer, form, shortcuts), Ok(8));
+    /// assert_eq!(rt; node.write_text(&mut buffer, form, shortcuts), Ok(7));
     /// assert_eq!(rt; buffer, [0x53, 0x44, 0x28, 0x30, 0x78, 0x31, 0x29, 0]);
-    /// assert_eq!(rt; node.write_text(&mut [0; 7], form, shortcuts), Err(TextWriteError::BufferTooSmall(8)));
+    /// assert_eq!(rt; node.write_text(&mut [0; 7], form, shortcuts), Err(BufferTooSmall(8)));
     /// ```
     pub fn write_text(
         &self,
         buffer: &mut [u16],
         display_only: DisplayOnly,
         allow_shortcuts: AllowShortcuts,
-    ) -> Result<usize, TextWriteError>
-        ensures len { IfOk result (λ len. len ≡ length (utf16_units
-            (node_text display_only.0 allow_shortcuts.0 (node_of self.now))) + 1) }
-        ensures room { IfOk result (λ len. len ≤ length buffer.old) }
-        ensures ok { OnOk result (buffer.new ≡ nul_terminated (utf16_units
-            (node_text display_only.0 allow_shortcuts.0 (node_of self.now)))
-            ++ drop (length (utf16_units
-            (node_text display_only.0 allow_shortcuts.0 (node_of self.now))) + 1) buffer.old) }
-        ensures small { OnErr result (buffer.new ≡ take (length buffer.old) (utf16_units
-            (node_text display_only.0 allow_shortcuts.0 (node_of self.now)))) }
-        ensures refusal { IfErr result (λ error. TextRefusedFor
-            (utf16_units (node_text display_only.0 allow_shortcuts.0 (node_of self.now)))
-            (length buffer.old) error) }
+    ) -> Result<usize, BufferTooSmall>
+        ensures len { result ≡ written_len
+            (utf16_units (node_text display_only.0 allow_shortcuts.0 (node_of self.now))) buffer.old }
+        ensures buffer { buffer.new ≡ with_prefix (nul_terminated
+            (utf16_units (node_text display_only.0 allow_shortcuts.0 (node_of self.now)))) buffer.old }
     {
         write_units(buffer, &self.display(display_only, allow_shortcuts))
     }

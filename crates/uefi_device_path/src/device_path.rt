@@ -1,7 +1,7 @@
 //! Device paths, and the nodes of one.
 #![tactic(auto, unfolding(crate::specs::Views::nodes_of, crate::specs::Views::nodes_left))]
 
-ghost use Rattle.std.specs.Prelude.{◌≡◌, ◌≢◌, ℕ, ◌+◌, ◌<◌, ◌≤◌, ◌^◌, ◌↔◌, ◌++◌, [], List, All, length, drop, take, IfOk, IfErr, IsOk, IfSome, IsTrue, None, OnErr, OnOk};
+ghost use Rattle.std.specs.Prelude.{◌≡◌, ◌≢◌, ℕ, ◌+◌, ◌<◌, ◌≤◌, ◌^◌, ◌↔◌, ◌++◌, [], List, All, length, drop, take, IfOk, IfErr, IsErr, IsOk, IfSome, IsTrue, None, OnErr, OnOk};
 ghost use Rattle.std.specs.Result.{result_err};
 ghost use Rattle.uefi_device_path.specs.FilePathBuffers.{WriteRefusedFor};
 ghost use Rattle.uefi_text.specs.Units.{IsText, nul_terminated};
@@ -23,7 +23,7 @@ use uefi_device_nodes::{AllowShortcuts, DisplayOnly};
 use uefi_path::PathBuf;
 use uefi_text::CStr16;
 use uefi_text::text_sink::print;
-use uefi_text::unit_sink::{TextWriteError, write_units};
+use uefi_text::unit_sink::{BufferTooSmall, write_units};
 
 /// A device path that lies in borrowed bytes: nodes one after the other, and the one that ends it. A
 /// contract sees it as `nodes_of` it: the list of its nodes, without the one that ends it.
@@ -39,7 +39,8 @@ impl<'a> DevicePath<'a> {
     ghost use Rattle.uefi_device_path.specs.Instances.{instances};
     ghost use Rattle.uefi_device_nodes.specs.NodeViews.{node_of};
     ghost use Rattle.uefi_device_path.specs.PathTexts.{path_text};
-    ghost use Rattle.uefi_text.specs.UnitTexts.{TextRefusedFor, utf16_units};
+    ghost use Rattle.uefi_text.specs.UnalignedCStr16.{with_prefix};
+    ghost use Rattle.uefi_text.specs.UnitTexts.{places_needed, utf16_units, written_len};
     ghost use Rattle.uefi_device_path.specs.Views.{instance_nodes, instances_left, nodes_left, nodes_of, printed_path};
     ghost use Rattle.uefi_text.specs.Runs.{GivesEach};
     ghost use Rattle.uefi_device_path.specs.declared.errors.DevicePathError.{DevicePathError};
@@ -210,25 +211,25 @@ impl<'a> DevicePath<'a> {
         file_path_in(alloc, &self.bytes[..self.bytes.len() - 4])
     }
 
-    /// Writes the file path, which [`DevicePath::file_path`] makes, to the start of a buffer,
-    /// with a NUL after it, and returns how many units these are. What follows them is unchanged. Refused
-    /// as `Name` where that call refuses a name, for the same node, and then as `BufferTooSmall`, with the
-    /// count that it needs; the buffer is then unchanged. Takes no memory; one pass over the nodes
-    /// measures, and one writes.
+    /// Writes the file path, which [`DevicePath::file_path`] makes, to the start of a buffer, with a NUL after
+    /// it, and returns its length without the NUL. What follows the NUL is unchanged.
+    ///
+    /// Fails with `Name` if that call refuses a name, for the same node, or else if the buffer is too small. The
+    /// buffer is then unchanged. One pass over the nodes measures, and one writes. Takes no memory.
     ///
     /// ```rust
     /// let path = DevicePathBuf::from_text(rt.alloc(), r"SD(0x1)/\a\b")?;
     /// let mut buffer = [0xffff; 5];
-    /// assert_eq!(rt; path.as_device_path().write_file_path(&mut buffer), Ok(5));
+    /// assert_eq!(rt; path.as_device_path().write_file_path(&mut buffer), Ok(4));
     /// assert_eq!(rt; buffer, [0x5c, 0x61, 0x5c, 0x62, 0]);
     /// let refused = path.as_device_path().write_file_path(&mut buffer[..4]);
     /// assert_eq!(rt; refused, Err(FilePathWriteError::BufferTooSmall(5)));
     /// ```
     pub fn write_file_path(&self, buffer: &mut [u16]) -> Result<usize, FilePathWriteError>
-        ensures len { IfOk result (λ len. len ≡ length (file_path (nodes_of self.now)) + 1) }
+        ensures len { IfOk result (λ len. len ≡ length (file_path (nodes_of self.now))) }
         ensures text { OnOk result (IsText (file_path (nodes_of self.now))) }
         ensures accepted { OnOk result (All IsReadable (nodes_of self.now)) }
-        ensures room { IfOk result (λ len. len ≤ length buffer.old) }
+        ensures room { IfOk result (λ len. len < length buffer.old) }
         ensures ok { OnOk result (buffer.new ≡ nul_terminated (file_path (nodes_of self.now))
             ++ drop (length (file_path (nodes_of self.now)) + 1) buffer.old) }
         ensures err { OnErr result (buffer.new ≡ buffer.old) }
@@ -239,7 +240,7 @@ impl<'a> DevicePath<'a> {
     }
 
     /// The file path, written to the start of a buffer and borrowed from there as a string.
-    /// [`DevicePath::write_file_path`] says when it is refused and what the buffer then holds.
+    /// Fails as [`DevicePath::write_file_path`] does.
     ///
     /// ```rust
     /// let path = DevicePathBuf::from_text(rt.alloc(), r"SD(0x1)/\efi\a.efi")?;
@@ -255,7 +256,7 @@ impl<'a> DevicePath<'a> {
             WriteRefusedFor (nodes_of self.now) (length buf.old) error) }
     {
         match self.write_file_path(buf) {
-            Ok(len) => Ok(CStr16::from_string(&buf[..len])),
+            Ok(len) => Ok(CStr16::from_string(&buf[..len + 1])),
             Err(error) => Err(error),
         }
     }
@@ -286,42 +287,36 @@ impl<'a> DevicePath<'a> {
     }
 
     /// Writes what is printed of the path, which [`DevicePath::display`] gives, to the start of a buffer
-    /// as UTF-16, with a NUL after it, and returns how many units these are. What follows them is
-    /// unchanged. Refused as `BufferTooSmall`, with the count that it needs; the buffer then holds as many
-    /// of the first units as it has places. Takes no memory; one pass.
+    /// as UTF-16, with a NUL after it, and returns its length without the NUL. What follows the NUL is
+    /// unchanged.
+    ///
+    /// Fails only if the buffer is too small, and then leaves it unchanged. Makes the text twice: once to
+    /// count its units, and once to write them. Takes no memory.
     ///
     /// ```rust
     /// let path = DevicePathBuf::from_text(rt.alloc(), "SD(0x1)")?;
     /// let (form, shortcuts) = (DisplayOnly(true), AllowShortcuts(true));
     /// let mut buffer = [0; 8];
-    /// assert_eq!(rt; path.as_device_path().write_text(&mut buffer, form, shortcuts), Ok(8));
+    /// assert_eq!(rt; path.as_device_path().write_text(&mut buffer, form, shortcuts), Ok(7));
     /// let refused = path.as_device_path().write_text(&mut buffer[..7], form, shortcuts);
-    /// assert_eq!(rt; refused, Err(TextWriteError::BufferTooSmall(8)));
+    /// assert_eq!(rt; refused, Err(BufferTooSmall(8)));
     /// ```
     pub fn write_text(
         &self,
         buffer: &mut [u16],
         display_only: DisplayOnly,
         allow_shortcuts: AllowShortcuts,
-    ) -> Result<usize, TextWriteError>
-        ensures len { IfOk result (λ len. len ≡ length (utf16_units
-            (path_text display_only.0 allow_shortcuts.0 (nodes_of self.now))) + 1) }
-        ensures room { IfOk result (λ len. len ≤ length buffer.old) }
-        ensures ok { OnOk result (buffer.new ≡ nul_terminated (utf16_units
-            (path_text display_only.0 allow_shortcuts.0 (nodes_of self.now)))
-            ++ drop (length (utf16_units
-            (path_text display_only.0 allow_shortcuts.0 (nodes_of self.now))) + 1) buffer.old) }
-        ensures small { OnErr result (buffer.new ≡ take (length buffer.old) (utf16_units
-            (path_text display_only.0 allow_shortcuts.0 (nodes_of self.now)))) }
-        ensures refusal { IfErr result (λ error. TextRefusedFor
-            (utf16_units (path_text display_only.0 allow_shortcuts.0 (nodes_of self.now)))
-            (length buffer.old) error) }
+    ) -> Result<usize, BufferTooSmall>
+        ensures len { result ≡ written_len
+            (utf16_units (path_text display_only.0 allow_shortcuts.0 (nodes_of self.now))) buffer.old }
+        ensures buffer { buffer.new ≡ with_prefix (nul_terminated
+            (utf16_units (path_text display_only.0 allow_shortcuts.0 (nodes_of self.now)))) buffer.old }
     {
         write_units(buffer, &self.display(display_only, allow_shortcuts))
     }
 
     /// The same text, written to the start of a buffer and borrowed from there with its NUL.
-    /// [`DevicePath::write_text`] says when it is refused and what the buffer then holds.
+    /// Fails as [`DevicePath::write_text`] does.
     ///
     /// ```rust
     /// let path = DevicePathBuf::from_text(rt.alloc(), "SD(0x1)")?;
@@ -335,19 +330,16 @@ impl<'a> DevicePath<'a> {
         buf: &'b mut [u16],
         display_only: DisplayOnly,
         allow_shortcuts: AllowShortcuts,
-    ) -> Result<&'b [u16], TextWriteError>
+    ) -> Result<&'b [u16], BufferTooSmall>
         ensures ok { IfOk result (λ units. units.now ≡ nul_terminated
             (utf16_units (path_text display_only.0 allow_shortcuts.0 (nodes_of self.now)))) }
-        ensures room { OnOk result (length (utf16_units
-            (path_text display_only.0 allow_shortcuts.0 (nodes_of self.now))) < length buf.old) }
-        ensures refusal { IfErr result (λ error. TextRefusedFor
-            (utf16_units (path_text display_only.0 allow_shortcuts.0 (nodes_of self.now)))
-            (length buf.old) error) }
+        ensures refused { IsErr result ↔ (length buf.old
+            ≤ length (utf16_units (path_text display_only.0 allow_shortcuts.0 (nodes_of self.now)))) }
+        ensures needs { IfErr result (λ error. error.0 ≡ places_needed
+            (utf16_units (path_text display_only.0 allow_shortcuts.0 (nodes_of self.now)))) }
     {
-        match self.write_text(buf, display_only, allow_shortcuts) {
-            Ok(len) => Ok(&buf[..len]),
-            Err(error) => Err(error),
-        }
+        let len = self.write_text(buf, display_only, allow_shortcuts)?;
+        Ok(&buf[..len + 1])
     }
 
     /// The instances of the path, in order: what stands between the nodes that end one.

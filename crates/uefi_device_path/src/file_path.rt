@@ -213,10 +213,10 @@ pub(crate) fn write_file_path_in(
     buffer: &mut [u16],
 ) -> Result<usize, FilePathWriteError>
     requires { AreNodes bytes.now }
-    ensures len { IfOk result (λ len. len ≡ length (file_path (nodes_in bytes.now)) + 1) }
+    ensures len { IfOk result (λ len. len ≡ length (file_path (nodes_in bytes.now))) }
     ensures text { OnOk result (IsText (file_path (nodes_in bytes.now))) }
     ensures readable { OnOk result (All IsReadable (nodes_in bytes.now)) }
-    ensures room { IfOk result (λ len. len ≤ length buffer.old) }
+    ensures room { IfOk result (λ len. len < length buffer.old) }
     ensures ok { OnOk result (buffer.new
         ≡ nul_terminated (file_path (nodes_in bytes.now))
         ++ drop (length (file_path (nodes_in bytes.now)) + 1) buffer.old) }
@@ -231,7 +231,7 @@ pub(crate) fn write_file_path_in(
         return Err(FilePathWriteError::BufferTooSmall(len + 1));
     }
     fill_file_path(&mut buffer[..len + 1], bytes);
-    Ok(len + 1)
+    Ok(len)
 }
 
 /// The file path of the nodes that bytes are, which has this many units, in memory of its own.

@@ -102,24 +102,24 @@ impl<'a> DevicePathInstance<'a> {
         file_path_in(alloc, self.bytes)
     }
 
-    /// Writes the file path, which [`DevicePathInstance::file_path`] makes, to the start of a buffer,
-    /// with a NUL after it, and returns how many units these are. What follows them is unchanged. Refused
-    /// as `Name` where that call refuses a name, for the same node, and then as `BufferTooSmall`, with the
-    /// count that it needs; the buffer is then unchanged. Takes no memory; one pass over the nodes
-    /// measures, and one writes.
+    /// Writes the file path, which [`DevicePathInstance::file_path`] makes, to the start of a buffer, with a NUL
+    /// after it, and returns its length without the NUL. What follows the NUL is unchanged.
+    ///
+    /// Fails with `Name` if that call refuses a name, for the same node, or else if the buffer is too small. The
+    /// buffer is then unchanged. One pass over the nodes measures, and one writes. Takes no memory.
     ///
     /// ```rust
     /// let path = DevicePathBuf::from_text(rt.alloc(), r"\a\b,SD(0x1)")?;
     /// let instance = path.as_device_path().instance_iter().next().ok_or("no instance")?;
     /// let mut buffer = [0xffff; 5];
-    /// assert_eq!(rt; instance.write_file_path(&mut buffer), Ok(5));
+    /// assert_eq!(rt; instance.write_file_path(&mut buffer), Ok(4));
     /// assert_eq!(rt; buffer, [0x5c, 0x61, 0x5c, 0x62, 0]);
     /// ```
     pub fn write_file_path(&self, buffer: &mut [u16]) -> Result<usize, FilePathWriteError>
-        ensures len { IfOk result (λ len. len ≡ length (file_path (instance_nodes self.now)) + 1) }
+        ensures len { IfOk result (λ len. len ≡ length (file_path (instance_nodes self.now))) }
         ensures text { OnOk result (IsText (file_path (instance_nodes self.now))) }
         ensures accepted { OnOk result (All IsReadable (instance_nodes self.now)) }
-        ensures room { IfOk result (λ len. len ≤ length buffer.old) }
+        ensures room { IfOk result (λ len. len < length buffer.old) }
         ensures ok { OnOk result (buffer.new ≡ nul_terminated (file_path (instance_nodes self.now))
             ++ drop (length (file_path (instance_nodes self.now)) + 1) buffer.old) }
         ensures err { OnErr result (buffer.new ≡ buffer.old) }
@@ -130,7 +130,7 @@ impl<'a> DevicePathInstance<'a> {
     }
 
     /// The file path, written to the start of a buffer and borrowed from there as a string.
-    /// [`DevicePathInstance::write_file_path`] says when it is refused and what the buffer then holds.
+    /// Fails as [`DevicePathInstance::write_file_path`] does.
     ///
     /// ```rust
     /// let path = DevicePathBuf::from_text(rt.alloc(), r"\a\b,SD(0x1)")?;
@@ -146,7 +146,7 @@ impl<'a> DevicePathInstance<'a> {
             WriteRefusedFor (instance_nodes self.now) (length buf.old) error) }
     {
         match self.write_file_path(buf) {
-            Ok(len) => Ok(CStr16::from_string(&buf[..len])),
+            Ok(len) => Ok(CStr16::from_string(&buf[..len + 1])),
             Err(error) => Err(error),
         }
     }

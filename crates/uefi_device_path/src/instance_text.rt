@@ -1,9 +1,10 @@
 //! Instances of device paths as people read them.
 #![tactic(auto, unfolding(crate::specs::Views::instance_nodes))]
 
-ghost use Rattle.std.specs.Prelude.{◌≡◌, ◌+◌, ◌≤◌, ◌<◌, ◌++◌, IfErr, IfOk, OnErr, OnOk, drop, length, take};
+ghost use Rattle.std.specs.Prelude.{◌≡◌, ◌≤◌, ◌↔◌, IfErr, IfOk, IsErr, length};
 ghost use Rattle.uefi_device_path.specs.PathTexts.{path_text};
-ghost use Rattle.uefi_text.specs.UnitTexts.{TextRefusedFor, utf16_units};
+ghost use Rattle.uefi_text.specs.UnalignedCStr16.{with_prefix};
+ghost use Rattle.uefi_text.specs.UnitTexts.{places_needed, utf16_units, written_len};
 ghost use Rattle.uefi_text.specs.Units.{nul_terminated};
 
 use crate::instance::DevicePathInstance;
@@ -11,7 +12,7 @@ use crate::path_text::PathText;
 use std::fmt;
 use uefi_device_nodes::{AllowShortcuts, DisplayOnly};
 use uefi_text::text_sink::print;
-use uefi_text::unit_sink::{TextWriteError, write_units};
+use uefi_text::unit_sink::{BufferTooSmall, write_units};
 
 impl<'a> DevicePathInstance<'a> {
     ghost use Rattle.uefi_device_path.specs.Views.{instance_nodes, printed_path};
@@ -37,15 +38,15 @@ impl<'a> DevicePathInstance<'a> {
         PathText::of(self.bytes, display_only, allow_shortcuts)
     }
 
-    /// Writes this text to the start of a buffer as UTF-16, with a NUL after it, and returns how many units
-    /// these are, as [`DevicePath::write_text`](crate::DevicePath) does.
+    /// Writes this text to the start of a buffer as UTF-16, with a NUL after it, and returns its length, as
+    /// [`DevicePath::write_text`](crate::DevicePath) does.
     ///
     /// ```rust
     /// let path = DevicePathBuf::from_text(rt.alloc(), "SD(0x1),SD(0x2)")?;
     /// let instance = path.as_device_path().instance_iter().next().ok_or("no instance")?;
     /// let (form, shortcuts) = (DisplayOnly(true), AllowShortcuts(true));
     /// let mut buffer = [0; 8];
-    /// assert_eq!(rt; instance.write_text(&mut buffer, form, shortcuts), Ok(8));
+    /// assert_eq!(rt; instance.write_text(&mut buffer, form, shortcuts), Ok(7));
     /// assert_eq!(rt; buffer, [0x53, 0x44, 0x28, 0x30, 0x78, 0x31, 0x29, 0]);
     /// ```
     pub fn write_text(
@@ -53,19 +54,11 @@ impl<'a> DevicePathInstance<'a> {
         buffer: &mut [u16],
         display_only: DisplayOnly,
         allow_shortcuts: AllowShortcuts,
-    ) -> Result<usize, TextWriteError>
-        ensures len { IfOk result (λ len. len ≡ length (utf16_units
-            (path_text display_only.0 allow_shortcuts.0 (instance_nodes self.now))) + 1) }
-        ensures room { IfOk result (λ len. len ≤ length buffer.old) }
-        ensures ok { OnOk result (buffer.new ≡ nul_terminated (utf16_units
-            (path_text display_only.0 allow_shortcuts.0 (instance_nodes self.now)))
-            ++ drop (length (utf16_units
-            (path_text display_only.0 allow_shortcuts.0 (instance_nodes self.now))) + 1) buffer.old) }
-        ensures small { OnErr result (buffer.new ≡ take (length buffer.old) (utf16_units
-            (path_text display_only.0 allow_shortcuts.0 (instance_nodes self.now)))) }
-        ensures refusal { IfErr result (λ error. TextRefusedFor
-            (utf16_units (path_text display_only.0 allow_shortcuts.0 (instance_nodes self.now)))
-            (length buffer.old) error) }
+    ) -> Result<usize, BufferTooSmall>
+        ensures len { result ≡ written_len
+            (utf16_units (path_text display_only.0 allow_shortcuts.0 (instance_nodes self.now))) buffer.old }
+        ensures buffer { buffer.new ≡ with_prefix (nul_terminated
+            (utf16_units (path_text display_only.0 allow_shortcuts.0 (instance_nodes self.now)))) buffer.old }
     {
         write_units(buffer, &self.display(display_only, allow_shortcuts))
     }
@@ -84,19 +77,16 @@ impl<'a> DevicePathInstance<'a> {
         buf: &'b mut [u16],
         display_only: DisplayOnly,
         allow_shortcuts: AllowShortcuts,
-    ) -> Result<&'b [u16], TextWriteError>
+    ) -> Result<&'b [u16], BufferTooSmall>
         ensures ok { IfOk result (λ units. units.now ≡ nul_terminated
             (utf16_units (path_text display_only.0 allow_shortcuts.0 (instance_nodes self.now)))) }
-        ensures room { OnOk result (length (utf16_units
-            (path_text display_only.0 allow_shortcuts.0 (instance_nodes self.now))) < length buf.old) }
-        ensures refusal { IfErr result (λ error. TextRefusedFor
-            (utf16_units (path_text display_only.0 allow_shortcuts.0 (instance_nodes self.now)))
-            (length buf.old) error) }
+        ensures refused { IsErr result ↔ (length buf.old
+            ≤ length (utf16_units (path_text display_only.0 allow_shortcuts.0 (instance_nodes self.now)))) }
+        ensures needs { IfErr result (λ error. error.0 ≡ places_needed
+            (utf16_units (path_text display_only.0 allow_shortcuts.0 (instance_nodes self.now)))) }
     {
-        match self.write_text(buf, display_only, allow_shortcuts) {
-            Ok(len) => Ok(&buf[..len]),
-            Err(error) => Err(error),
-        }
+        let len = self.write_text(buf, display_only, allow_shortcuts)?;
+        Ok(&buf[..len + 1])
     }
 }
 

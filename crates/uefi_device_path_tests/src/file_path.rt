@@ -19,10 +19,10 @@ fn named(rt: &HostRuntime, names: &[&[u8]]) -> Result<DevicePathBuf, Fail> {
     Ok(path)
 }
 
-/// How many units were written, or are needed.
+/// How many units were written with the NUL, or are needed.
 fn needed(written: Result<usize, FilePathWriteError>) -> Result<usize, usize> {
     match written {
-        Ok(count) => Ok(count),
+        Ok(count) => Ok(count.saturating_add(1)),
         Err(FilePathWriteError::BufferTooSmall(count)) => Err(count),
         Err(FilePathWriteError::Name(_)) => Err(0),
     }

@@ -4,7 +4,7 @@
 use for_tests::{bytes, shows, split_row};
 use std::test::Fail;
 use uefi_device_path::{
-    AllowShortcuts, DevicePath, DevicePathInstance, DevicePathNode, DisplayOnly, TextWriteError,
+    AllowShortcuts, BufferTooSmall, DevicePath, DevicePathInstance, DevicePathNode, DisplayOnly,
 };
 
 /// Paths in the form that can be read back.
@@ -33,30 +33,27 @@ const SHORTCUTS: &str = "\
 02010c00d041010500000000030a14005347c1e0bef9d2119a0c0090273fc14d7f0104000305060001007fff0400 \
     Serial(0x0)/VenPcAnsi(),USB(0x1,0x0)";
 
-/// What a call says that writes a text and its NUL into this many of 256 places, and what these hold then:
-/// as many of the first units as have a place.
-fn written(want: &str, room: usize) -> (Result<usize, TextWriteError>, [u16; 256]) {
+/// What a call says that writes a text and its NUL into this many of 256 places, and what these hold then.
+fn written(want: &str, room: usize) -> (Result<usize, BufferTooSmall>, [u16; 256]) {
     let mut places = [0xffff; 256];
-    let mut needed = 1usize;
+    let mut len = 0usize;
     for (unit, place) in want.encode_utf16().zip(&mut places) {
-        needed = needed.saturating_add(1);
-        if needed <= room.saturating_add(1) {
-            *place = unit;
-        }
+        *place = unit;
+        len = len.saturating_add(1);
     }
-    if room < needed {
-        return (Err(TextWriteError::BufferTooSmall(needed)), places);
+    if room <= len {
+        return (Err(BufferTooSmall(len.saturating_add(1))), [0xffff; 256]);
     }
-    if let Some(place) = places.get_mut(needed.saturating_sub(1)) {
+    if let Some(place) = places.get_mut(len) {
         *place = 0;
     }
-    (Ok(needed), places)
+    (Ok(len), places)
 }
 
-/// How many units a call borrows from a buffer.
-fn counted(borrowed: Result<&[u16], TextWriteError>) -> Result<usize, TextWriteError> {
+/// How many units a call borrows from a buffer before a NUL.
+fn counted(borrowed: Result<&[u16], BufferTooSmall>) -> Result<usize, BufferTooSmall> {
     match borrowed {
-        Ok(units) => Ok(units.len()),
+        Ok(units) => Ok(units.len().saturating_sub(1)),
         Err(error) => Err(error),
     }
 }

@@ -1,5 +1,5 @@
 -- Names in the 8-bit characters of short names, which are those of Latin-1.
-use Rattle.std.specs.Prelude.{ℕ, Bool, not, nat_lt, if◌then◌else◌, List, Result, Ok, Err, filter, length, map}
+use Rattle.std.specs.Prelude.{ℕ, Bool, not, if◌then◌else◌, List, filter, map}
 use Rattle.std.specs.List.{before_first}
 use Rattle.uefi_text.specs.Case.{upper}
 use Rattle.uefi_text.specs.Units.{is_nul}
@@ -25,7 +25,3 @@ fat_bytes name = map fat_byte (kept_units name)
 -- the text of bytes: a unit for each byte before the first NUL, or for each byte where there is none
 abbrev pub fat_text : List ℕ → List ℕ
 fat_text bytes = before_first is_nul bytes
-
--- the length of a text that is written with a NUL, or as an error where there are too few places
-abbrev pub written_len : List ℕ → ℕ → Result ℕ ℕ
-written_len text room = if nat_lt (length text) room then Ok (length text) else Err (length text)

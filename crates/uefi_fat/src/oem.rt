@@ -3,14 +3,16 @@
 //! Latin-1.
 ghost use Rattle.std.specs.Prelude.{◌≡◌, ◌≤◌, length, min, take};
 ghost use Rattle.std.specs.List.{list_any, position_or_len};
-ghost use Rattle.uefi_fat.specs.Oem.{fat_byte, fat_bytes, fat_text, is_unfit, kept_units, written_len};
+ghost use Rattle.uefi_fat.specs.Oem.{fat_byte, fat_bytes, fat_text, is_unfit, kept_units};
 ghost use Rattle.uefi_fat.specs.Trimming.{is_space_or_dot};
 ghost use Rattle.uefi_text.specs.FromStrWithBuf.{with_units};
 ghost use Rattle.uefi_text.specs.UnalignedCStr16.{with_prefix};
+ghost use Rattle.uefi_text.specs.UnitTexts.{written_len};
 ghost use Rattle.uefi_text.specs.Units.{is_nul, nul_terminated};
 ghost use Rattle.uefi_text.specs.Views.{units_of};
 
 use crate::short_names::is_fat_character;
+use uefi_text::BufferTooSmall;
 use uefi_text::chars::Char16;
 use uefi_text::strs::Char16Slice;
 
@@ -101,25 +103,24 @@ fn text_len(bytes: &[u8]) -> usize
 }
 
 /// Writes the string of bytes in the characters of short names to the start of a buffer, as
-/// `FatToStr` does: a unit for each byte before the first NUL, or for each byte where there is
-/// none, and a NUL. Returns how many units it has without the NUL.
+/// `FatToStr` does: a unit for each byte before the first NUL, or for each byte if there is none, and a NUL.
+/// Returns its length without the NUL. What follows the NUL is unchanged.
 ///
-/// `Err` with that number where the buffer has no more places than that: it is then unchanged. What
-/// is after the NUL is unchanged. Two passes.
+/// Fails only if the buffer is too small, and then leaves it unchanged. Two passes.
 ///
 /// ```rust
 /// let mut buffer = [0xffff; 4];
 /// assert_eq!(rt; fat_to_str(b"A~1", &mut buffer), Ok(3));
 /// assert_eq!(rt; buffer, [0x41, 0x7e, 0x31, 0]);
-/// assert_eq!(rt; fat_to_str(b"A~10", &mut buffer), Err(4));
+/// assert_eq!(rt; fat_to_str(b"A~10", &mut buffer), Err(BufferTooSmall(5)));
 /// ```
-pub fn fat_to_str(bytes: &[u8], buffer: &mut [u16]) -> Result<usize, usize>
-    ensures len { result ≡ written_len (fat_text bytes.now) (length buffer.old) }
+pub fn fat_to_str(bytes: &[u8], buffer: &mut [u16]) -> Result<usize, BufferTooSmall>
+    ensures len { result ≡ written_len (fat_text bytes.now) buffer.old }
     ensures buffer { buffer.new ≡ with_prefix (nul_terminated (fat_text bytes.now)) buffer.old }
 {
     let len = text_len(bytes);
     if buffer.len() <= len {
-        return Err(len);
+        return Err(BufferTooSmall(len + 1));
     }
     widen(&mut buffer[..len], &bytes[..len]);
     buffer[len] = 0;

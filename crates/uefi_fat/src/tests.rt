@@ -6,7 +6,7 @@ use crate::{
 };
 use std::alloc::Global;
 use std::test::Fail;
-use uefi_text::{CString16, Char16};
+use uefi_text::{BufferTooSmall, CString16, Char16};
 
 /// Names, and what is left of each.
 const TRIMMED: &[(&str, &str)] = &[
@@ -195,7 +195,9 @@ fn has_units(bytes: &[u8], room: usize, units: &[u16]) -> bool {
     }
     match fat_to_str(bytes, &mut buffer[..room]) {
         Ok(len) => len == units.len() && &buffer[..len] == units && buffer[len] == 0,
-        Err(len) => room <= len && len == units.len() && buffer.iter().all(|unit| *unit == 7),
+        Err(BufferTooSmall(needed)) => room < needed
+            && needed == units.len() + 1
+            && buffer == [7; 6],
     }
 }
 

@@ -8,7 +8,7 @@ use Rattle.std.proofs.lemmas.List.{drop_at, drop-drop, drop-replicate, length-re
 use Rattle.uefi_text.specs.Units.{IsText, IsTextUnit, nul_terminated, replaced}
 use Rattle.std.proofs.lemmas.List.Elements.{All-head, All-tail}
 use Rattle.uefi_path.specs.Components.{IsPiece, joined}
-use Rattle.uefi_path.specs.Writing.{written_over}
+use Rattle.uefi_path.specs.Writing.{begun_with}
 use Rattle.std.specs.Option.{IfSome, option_map}
 use Rattle.uefi_path.specs.Parents.{all_but_last, is_non_empty, parent_of_components, rejoined}
 use Rattle.uefi_path.specs.Pushing.{appended, needs_separator}
@@ -187,7 +187,7 @@ made_shorter (p ∷ q ∷ ps) are =
 pub made_written : (pieces : List (List ℕ)) (old buffer : List ℕ) → All IsPiece pieces
     → length (made pieces) ≤ length old
     → buffer ≡ with_separators (made pieces) ++ drop (length (made pieces)) old
-    → buffer ≡ written_over (parent_of_components pieces) old
+    → buffer ≡ begun_with (parent_of_components pieces) old
 made_written [] old buffer are fits is = is
 made_written (p ∷ []) old buffer are fits is = is
 made_written (p ∷ q ∷ ps) old buffer are fits is =
@@ -195,7 +195,7 @@ made_written (p ∷ q ∷ ps) old buffer are fits is =
     let size = length-map text (replaced slash separator) in
     is
     ∙ ap (λ n. with_separators text ++ drop n old) (sym size)
-    ∙ changed _ _ old (parent_made (p ∷ q ∷ ps) are (omega arith)) (omega (arith, size, fits))
+    ∙ changed _ _ old (parent_made (p ∷ q ∷ ps) are (omega arith))
 
 -- a parent, by its length
 pub record IsMade (pieces : List (List ℕ)) (len : ℕ) : Type 0 where
@@ -229,7 +229,7 @@ is_made (p ∷ q ∷ ps) len texts are known =
 -- written over NULs, one of them after it, it is a string
 pub written_string : (pieces : List (List ℕ)) (len : ℕ) (old new : List ℕ) (told : Option ℕ) (made : IsMade pieces len)
     → old ≡ replicate (len + 1) 0 → told ≡ option_map length (parent_of_components pieces)
-    → (IfSome told (λ len. len ≤ length old) → new ≡ written_over (parent_of_components pieces) old)
+    → (IfSome told (λ len. len ≤ length old) → new ≡ begun_with (parent_of_components pieces) old)
     → new ≡ nul_terminated made.parent
 written_string pieces len old new told made zeros is wrote =
     let size : length old ≡ len + 1 = ap length zeros ∙ length-replicate (len + 1) 0 in
@@ -240,4 +240,4 @@ written_string pieces len old new told made zeros is wrote =
     ∙ ap (λ n. replicate n 0) one in
     let fits : IfSome told (λ len. len ≤ length old) =
     subst (λ told. IfSome told (λ len. len ≤ length old)) (sym (is ∙ ap (option_map length) made.is)) (omega (arith, made.long, size)) in
-    wrote fits ∙ sym (changed _ _ old made.is (omega (arith, made.long, size))) ∙ ap (λ us. made.parent ++ us) nul
+    wrote fits ∙ sym (changed _ _ old made.is) ∙ ap (λ us. made.parent ++ us) nul

@@ -1,7 +1,10 @@
--- What a call reports that writes a text into a caller's buffer, where there is such a text, and what the
--- buffer becomes.
-use Rattle.std.specs.Prelude.{ℕ, ◌-◌, ◌^◌, min, nat_lt, if◌then◌else◌, List, length, Option, Some, None, Result, Ok, Err}
+-- What a call returns that writes a path with a NUL into a caller's buffer, if there is such a path, and what
+-- the buffer becomes.
+use Rattle.std.specs.Prelude.{ℕ, ◌++◌, drop, nat_lt, if◌then◌else◌, List, length, Option, Some, None, Result, Ok, Err}
 use Rattle.uefi_text.specs.UnalignedCStr16.{with_prefix}
+use Rattle.uefi_text.specs.Units.{nul_terminated}
+use Rattle.uefi_text.specs.UnitTexts.{places_needed}
+use Rattle.uefi_text.specs.declared.unit_sink.BufferTooSmall as unit_sink
 use Rattle.uefi_path.specs.Components.{components_of}
 use Rattle.uefi_path.specs.NormalForms.{normal_of, normal_text}
 use Rattle.uefi_path.specs.Verdicts.{verdict}
@@ -18,24 +21,24 @@ normal_where (Some error) normal = None
 abbrev pub normal_path : List ℕ → Option (List ℕ)
 normal_path text = normal_where (verdict text) (normal_of (components_of text))
 
--- how many units of a normal path are written, by the verdict on its text; or why none is
+-- what is returned where a normal path is written, by the verdict on its text
 abbrev pub normal_written : Option PathError → List ℕ → List ℕ → Result ℕ NormalWriteError
 normal_written (Some error) normal buffer = Err (Invalid error)
-normal_written None normal buffer =
-    if nat_lt (length buffer) (length normal)
-    then Err (BufferTooSmall (length normal)) else Ok (length normal)
+normal_written None normal buffer = if nat_lt (length normal) (length buffer)
+    then Ok (length normal) else Err (BufferTooSmall (places_needed normal))
 
--- how many units are written; or how many the text has, where the buffer has fewer places
-abbrev pub written_len : Option (List ℕ) → List ℕ → Result (Option ℕ) ℕ
-written_len None buffer = Ok None
-written_len (Some text) buffer =
-    if nat_lt (length buffer) (length text) then Err (length text) else Ok (Some (length text))
+-- what is returned where a path is written, if there is one
+abbrev pub path_written : Option (List ℕ) → List ℕ → Result (Option ℕ) unit_sink.BufferTooSmall
+path_written None buffer = Ok None
+path_written (Some path) buffer = if nat_lt (length path) (length buffer)
+    then Ok (Some (length path)) else Err (record { 0 = places_needed path })
 
--- the length of a text as a number of 64 bits: the greatest of these where it is longer
-abbrev pub length_shown : List ℕ → ℕ
-length_shown text = min (length text) (2 ^ 64 - 1)
-
--- the buffer begins with the text; it is unchanged where there is no text or no room
+-- what the buffer becomes
 abbrev pub written_over : Option (List ℕ) → List ℕ → List ℕ
 written_over None buffer = buffer
-written_over (Some text) buffer = with_prefix text buffer
+written_over (Some path) buffer = with_prefix (nul_terminated path) buffer
+
+-- the same of a path that has room, before its NUL
+abbrev pub begun_with : Option (List ℕ) → List ℕ → List ℕ
+begun_with None buffer = buffer
+begun_with (Some path) buffer = path ++ drop (length path) buffer

@@ -67,3 +67,5 @@ pub use pathbuf::PathBuf;
 pub use uefi_text::chars::{CHARACTER_DENY_LIST, SEPARATOR};
 pub use validation::{PathError, validate_path};
 pub use written::NormalWriteError;
+#[doc(hidden)]
+pub use written::push_in_buf;

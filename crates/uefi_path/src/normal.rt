@@ -11,7 +11,7 @@ use crate::names::NamesFromLast;
 use crate::path::Path;
 use crate::pathbuf::{PathBuf, copy_part};
 use crate::validation::{PathError, judge};
-use crate::written::write_names;
+use crate::written::{write_names, write_string};
 use std::alloc::{AllocError, Allocator};
 use std::error::Error;
 use std::fmt;
@@ -56,21 +56,6 @@ impl fmt::Display for NormalizeError {
 }
 
 impl Error for NormalizeError {}
-
-/// Writes the normal path of names, which have `len` units joined, and a NUL into as many places.
-fn write_string(units: &mut [u16], len: usize, names: NamesFromLast<'_>)
-    requires walk { IsWalk names }
-    requires good { All IsGood (names_left names) }
-    requires len { len ≡ length (joined (names_left names)) }
-    requires bound { len < 2 ^ 64 }
-    requires room { length units.now ≡ max len 1 + 1 }
-    ensures { units.new ≡ nul_terminated (normal_text (names_left names.entry)) }
-{
-    // Where no name is left the path is the lone separator.
-    units[0] = u16::from(SEPARATOR);
-    units[len.max(1)] = 0;
-    let _len = write_names(&mut units[..len], names);
-}
 
 /// The path of names, joined, in memory that it owns.
 fn join_names<A: Allocator + Copy>(

@@ -1,6 +1,6 @@
 //! Calls on slices of code units, which paths and the library for C have in common. Contracts speak of the
 //! units as lists. Hidden: nothing promises that they stay.
-ghost use Rattle.std.specs.Prelude.{◌≡◌, ◌≢◌, ◌↔◌, ◌+◌, ◌<◌, ◌≤◌, [], ◌∷◌, ◌++◌, if◌then◌else◌, IfSome, IsNone, IsSome, MatchOption, None, Some, drop, length, option_map, slice_index, slice_range, take};
+ghost use Rattle.std.specs.Prelude.{◌≡◌, ◌≢◌, ◌↔◌, ◌+◌, ◌-◌, ◌^◌, ◌<◌, ◌≤◌, [], ◌∷◌, ◌++◌, if◌then◌else◌, IfSome, IsNone, IsSome, MatchOption, None, Some, drop, length, min, option_map, slice_index, slice_range, take};
 ghost use Rattle.std.specs.List.{last_or, position, position_or_len, slice_split};
 ghost use Rattle.uefi_path.specs.ComponentPlaces.{component_place, components_from};
 ghost use Rattle.uefi_path.specs.Components.{IsPiece, components_of, joined};
@@ -8,7 +8,6 @@ ghost use Rattle.uefi_path.specs.Parents.{all_but_last, parent_text};
 ghost use Rattle.uefi_path.specs.Pushing.{pushed, tail_of};
 ghost use Rattle.uefi_path.specs.Separators.{canonical, is_separator, separator, slash, with_separators};
 ghost use Rattle.uefi_path.specs.Verdicts.{IsValid};
-ghost use Rattle.uefi_path.specs.Writing.{length_shown};
 ghost use Rattle.uefi_text.specs.Units.{replaced};
 
 use crate::separators::last_start;
@@ -70,13 +69,12 @@ pub fn is_separator_missing_replaced(text: &[u16], path: &[u16]) -> bool
     with_separator(text[text.len() - 1]) != u16::from(SEPARATOR)
 }
 
-/// How long a text becomes, when a path is pushed after it, or the greatest `usize` where it becomes longer.
-pub fn pushed_len(text: &[u16], is_missing: bool, path: &[u16]) -> usize
-    ensures len { result ≡ length_shown (text.now ++ tail_of is_missing path.now) }
-    ensures replaced { result ≡ length_shown (with_separators text.now ++ tail_of is_missing path.now) }
+/// How long a text of `end` units becomes, when a path is pushed on it, or the greatest `usize` where it becomes
+/// longer.
+pub fn pushed_len(end: usize, is_missing: bool, path: &[u16]) -> usize
+    ensures { result ≡ min (end + (if is_missing then 1 else 0) + length path.now) (2 ^ 64 - 1) }
 {
-    text.len()
-        .saturating_add(usize::from(is_missing))
+    end.saturating_add(usize::from(is_missing))
         .saturating_add(path.len())
 }
 

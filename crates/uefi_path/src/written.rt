@@ -1,22 +1,30 @@
 //! Paths that are made in a caller's buffer: whole, or not at all. No call takes memory.
-ghost use Rattle.std.specs.Prelude.{◌≡◌, ◌+◌, ◌-◌, ◌<◌, ◌≤◌, ◌^◌, [], ◌∷◌, ◌++◌, All, IfSome, drop, if◌then◌else◌, length, nat_lt, option_map, take};
+ghost use Rattle.std.specs.Prelude.{◌≡◌, ℕ, ◌+◌, ◌-◌, ◌<◌, ◌≤◌, ◌^◌, [], ◌∷◌, ◌++◌, All, IfErr, IfSome, List, Some, drop, if◌then◌else◌, length, max, nat_lt, option_map, take};
 ghost use Rattle.uefi_path.specs.Components.{IsPiece, components_of, joined};
 ghost use Rattle.uefi_path.specs.NormalForms.{normal_of, normal_text};
 ghost use Rattle.uefi_path.specs.NamesLeft.{IsWalk, names_left};
 ghost use Rattle.uefi_path.specs.Parents.{parent_of_components, parent_text};
+ghost use Rattle.uefi_path.specs.Pushing.{pushed, tail_of};
 ghost use Rattle.uefi_path.specs.Separators.{separator, with_separators};
 ghost use Rattle.uefi_path.specs.Verdicts.{IsGood, verdict};
 ghost use Rattle.uefi_path.specs.Views.{components_left, path_text};
-ghost use Rattle.uefi_path.specs.Writing.{normal_path, normal_written, written_len, written_over};
+ghost use Rattle.uefi_path.specs.Writing.{begun_with, normal_path, normal_written, path_written, written_over};
+ghost use Rattle.uefi_text.specs.UnalignedCStr16.{with_prefix};
+ghost use Rattle.uefi_text.specs.UnitTexts.{written_len};
+ghost use Rattle.uefi_text.specs.Units.{nul_terminated};
 
 use crate::components::Components;
 use crate::names::NamesFromLast;
 use crate::path::Path;
 use crate::slashed::judge_slashed;
-use crate::slices::{write_part, write_with_separators};
+use crate::slices::{
+    is_separator_missing, is_separator_missing_replaced, pushed_len, write_part,
+    write_with_separators,
+};
 use crate::validation::PathError;
 use std::error::Error;
 use std::fmt;
+use uefi_text::BufferTooSmall;
 use uefi_text::chars::SEPARATOR;
 use uefi_text::number_texts::put_decimal;
 use uefi_text::text_sink::{Printed, TextSink, print};
@@ -47,7 +55,7 @@ pub(crate) fn write_all_but_last(
     requires bound { length (joined (components_left components)) < 2 ^ 64 }
     ensures len { result ≡ option_map length (parent_of_components (components_left components.entry)) }
     ensures buffer { IfSome result (λ len. len ≤ length buffer.old)
-        → buffer.new ≡ written_over (parent_of_components (components_left components.entry)) buffer.old }
+        → buffer.new ≡ begun_with (parent_of_components (components_left components.entry)) buffer.old }
 {
     let mut last = components.next()?;
     if components.is_done() {
@@ -115,13 +123,65 @@ pub(crate) fn write_names(places: &mut [u16], mut names: NamesFromLast<'_>) -> u
     len
 }
 
+/// Writes the normal path that names have, which are this many units when they are joined, and a NUL into as
+/// many places.
+pub(crate) fn write_string(units: &mut [u16], len: usize, names: NamesFromLast<'_>)
+    requires walk { IsWalk names }
+    requires good { All IsGood (names_left names) }
+    requires len { len ≡ length (joined (names_left names)) }
+    requires bound { len < 2 ^ 64 }
+    requires room { length units.now ≡ max len 1 + 1 }
+    ensures { units.new ≡ nul_terminated (normal_text (names_left names.entry)) }
+{
+    // Where no name is left the path is the lone separator.
+    units[0] = u16::from(SEPARATOR);
+    units[len.max(1)] = 0;
+    let _len = write_names(&mut units[..len], names);
+}
+
+/// Writes what a push adds after the first `end` units of a buffer, and a NUL; or nothing, if the buffer has no
+/// room.
+fn write_tail(
+    buffer: &mut [u16],
+    end: usize,
+    is_missing: bool,
+    path: &[u16],
+) -> Result<usize, BufferTooSmall>
+    requires { end ≤ length buffer.now }
+    ensures len { result ≡ written_len (take end buffer.old ++ tail_of is_missing path.now) buffer.old }
+    ensures buffer { buffer.new
+        ≡ with_prefix (nul_terminated (take end buffer.old ++ tail_of is_missing path.now)) buffer.old }
+{
+    let len = pushed_len(end, is_missing, path);
+    if buffer.len() <= len {
+        return Err(BufferTooSmall(len.saturating_add(1)));
+    }
+    write_part(&mut buffer[end..len], is_missing, path);
+    buffer[len] = 0;
+    Ok(len)
+}
+
+/// Pushes a path on the text that the first `end` units of a buffer are, in the buffer, as
+/// [`PathBuf::push`](crate::PathBuf::push) does, and writes a NUL after it. Fails only if the buffer is too
+/// small, and then leaves it unchanged. One pass over the path.
+#[doc(hidden)]
+pub fn push_in_buf(buffer: &mut [u16], end: usize, path: &[u16]) -> Result<usize, BufferTooSmall>
+    requires { end ≤ length buffer.now }
+    ensures len { result ≡ written_len (pushed (take end buffer.old) path.now) buffer.old }
+    ensures buffer { buffer.new
+        ≡ with_prefix (nul_terminated (pushed (take end buffer.old) path.now)) buffer.old }
+{
+    let is_missing = is_separator_missing(&buffer[..end], path);
+    write_tail(buffer, end, is_missing, path)
+}
+
 /// Why no normal path is written.
 #[derive(Clone, Copy, Debug, PartialEq, Eq)]
 pub enum NormalWriteError {
     /// The path is not valid, for this reason.
     Invalid(PathError),
 
-    /// The path is valid. Its normal path has this many units, and the buffer fewer places.
+    /// The path is valid. Its normal path and a NUL need this many places, and the buffer has fewer.
     BufferTooSmall(usize),
 }
 
@@ -161,26 +221,25 @@ impl fmt::Display for NormalWriteError {
 
 impl Error for NormalWriteError {}
 
-/// Paths in a caller's buffer. No call takes memory.
+/// Paths in a caller's buffer. Each call writes a NUL after the path and returns the length of the path without
+/// it. What follows the NUL is unchanged. A buffer that is too small is unchanged. No call takes memory.
 impl<'a> Path<'a> {
-    /// Writes the parent, which [`Path::parent`] makes, to the start of a buffer, and returns how
-    /// many units it has. Writes no NUL; what follows the parent is unchanged.
-    ///
-    /// `Ok(None)` where the path has at most one component, and `Err` with the length of the parent
-    /// where the buffer has fewer places: the buffer is then unchanged. Two passes over the
-    /// components.
+    /// Writes the parent, which [`Path::parent`] makes, to the start of a buffer; or returns `Ok(None)`, if the
+    /// path has at most one component, and the buffer is unchanged. Two passes over the components.
     ///
     /// ```rust
     /// let text = CString16::try_from_str(rt.alloc(), r"\efi\boot")?;
     /// let path = Path::new(text.as_cstr16());
-    /// let mut buffer = [0; 4];
+    /// let mut buffer = [0xffff; 5];
     /// assert_eq!(rt; path.write_parent(&mut buffer), Ok(Some(3)));
-    /// assert_eq!(rt; buffer, [0x65, 0x66, 0x69, 0]);
-    /// assert_eq!(rt; path.write_parent(&mut buffer[..2]), Err(3));
+    /// assert_eq!(rt; buffer, [0x65, 0x66, 0x69, 0, 0xffff]);
+    /// assert_eq!(rt; path.write_parent(&mut buffer[..3]), Err(BufferTooSmall(4)));
     /// ```
-    pub fn write_parent(&self, buffer: &mut [u16]) -> Result<Option<usize>, usize>
-        ensures len { result ≡ written_len (parent_text (path_text self.now)) buffer.old }
+    pub fn write_parent(&self, buffer: &mut [u16]) -> Result<Option<usize>, BufferTooSmall>
+        ensures len { result ≡ path_written (parent_text (path_text self.now)) buffer.old }
         ensures buffer { buffer.new ≡ written_over (parent_text (path_text self.now)) buffer.old }
+        ensures needs { (parent : List ℕ) → parent_text (path_text self.now) ≡ Some parent
+            → IfErr result (λ error. error.0 ≡ length parent + 1) }
     {
         // A clause of this call says how long the path can be.
         let _text = self.to_cstr16().as_slice();
@@ -188,28 +247,27 @@ impl<'a> Path<'a> {
         let Some(len) = write_all_but_last(&mut [], components.copy()) else {
             return Ok(None);
         };
-        if buffer.len() < len {
-            return Err(len);
+        if buffer.len() <= len {
+            return Err(BufferTooSmall(len + 1));
         }
         write_all_but_last(buffer, components);
+        buffer[len] = 0;
         Ok(Some(len))
     }
 
-    /// Writes the normal path to the start of a buffer, and returns how many units it has: the one that
-    /// [`Path::normalize`] makes of this path once each slash is a separator. Writes no NUL; what follows
-    /// the path is unchanged.
+    /// Writes the normal path to the start of a buffer: the one that [`Path::normalize`] makes of this path once
+    /// each slash is a separator.
     ///
-    /// Refused as `Invalid`, with the reason of [`validate_path`](crate::validate_path) for that path,
-    /// and then as `BufferTooSmall`, with the length of the normal path, if the buffer has fewer places.
-    /// Refused, the buffer is unchanged. Two passes over the components after those that judge the path.
+    /// Fails with `Invalid`, with the reason of [`validate_path`](crate::validate_path) for that path, or else
+    /// if the buffer is too small. Two passes over the components after those that judge the path.
     ///
     /// ```rust
     /// let text = CString16::try_from_str(rt.alloc(), "a/../b")?;
     /// let path = Path::new(text.as_cstr16());
-    /// let mut buffer = [0xffff; 2];
+    /// let mut buffer = [0xffff; 3];
     /// assert_eq!(rt; path.write_normal(&mut buffer), Ok(1));
-    /// assert_eq!(rt; buffer, [0x62, 0xffff]);
-    /// assert_eq!(rt; path.write_normal(&mut []), Err(NormalWriteError::BufferTooSmall(1)));
+    /// assert_eq!(rt; buffer, [0x62, 0, 0xffff]);
+    /// assert_eq!(rt; path.write_normal(&mut []), Err(NormalWriteError::BufferTooSmall(2)));
     /// ```
     pub fn write_normal(&self, buffer: &mut [u16]) -> Result<usize, NormalWriteError>
         ensures len { result ≡ normal_written (verdict (with_separators (path_text self.now)))
@@ -217,19 +275,47 @@ impl<'a> Path<'a> {
             buffer.old }
         ensures buffer { buffer.new
             ≡ written_over (normal_path (with_separators (path_text self.now))) buffer.old }
+        ensures needs { (normal : List ℕ) → normal_path (with_separators (path_text self.now)) ≡ Some normal
+            → IfErr result (λ error. error ≡ NormalWriteError.BufferTooSmall (length normal + 1)) }
     {
         if let Err(error) = judge_slashed(*self) {
             return Err(NormalWriteError::Invalid(error));
         }
         let names = NamesFromLast::of(*self);
         let len = write_names(&mut [], names);
-        // Where no name is left the path is the lone separator.
-        let room = len.max(1);
-        if buffer.len() < room {
-            return Err(NormalWriteError::BufferTooSmall(room));
+        let end = len.max(1);
+        if buffer.len() <= end {
+            return Err(NormalWriteError::BufferTooSmall(end + 1));
         }
-        buffer[0] = u16::from(SEPARATOR);
-        let _len = write_names(&mut buffer[..len], names);
-        Ok(room)
+        write_string(&mut buffer[..end + 1], len, names);
+        Ok(end)
+    }
+
+    /// Writes this path with another pushed on it, which [`Path::join`] makes, to the start of a buffer. One pass
+    /// over each.
+    ///
+    /// ```rust
+    /// let text = CString16::try_from_str(rt.alloc(), "a/b")?;
+    /// let path = Path::new(text.as_cstr16());
+    /// let mut buffer = [0xffff; 8];
+    /// assert_eq!(rt; path.write_joined(path, &mut buffer), Ok(7));
+    /// assert_eq!(rt; buffer, [0x61, 0x5c, 0x62, 0x5c, 0x61, 0x5c, 0x62, 0]);
+    /// assert_eq!(rt; path.write_joined(path, &mut buffer[..7]), Err(BufferTooSmall(8)));
+    /// ```
+    pub fn write_joined(&self, path: Path<'_>, buffer: &mut [u16]) -> Result<usize, BufferTooSmall>
+        ensures len { result
+            ≡ written_len (pushed (with_separators (path_text self.now)) (path_text path.entry)) buffer.old }
+        ensures buffer { buffer.new ≡ with_prefix (nul_terminated
+            (pushed (with_separators (path_text self.now)) (path_text path.entry))) buffer.old }
+    {
+        let text = self.to_cstr16().to_u16_slice();
+        let path = path.to_cstr16().to_u16_slice();
+        let is_missing = is_separator_missing_replaced(text, path);
+        let len = pushed_len(text.len(), is_missing, path);
+        if buffer.len() <= len {
+            return Err(BufferTooSmall(len.saturating_add(1)));
+        }
+        write_with_separators(&mut buffer[..text.len()], text);
+        write_tail(buffer, text.len(), is_missing, path)
     }
 }

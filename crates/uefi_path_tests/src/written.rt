@@ -5,19 +5,23 @@ use crate::parents::PARENTS;
 use for_tests::{says, string, writes_whole};
 use std::test::Fail;
 use uefi_path::{NormalWriteError, Path};
+use uefi_text::BufferTooSmall;
 
 /// What stands in the buffers before.
 const FILLER: u16 = 0x21;
 
-/// How many units of a parent were written, or are needed; none of a path that has none.
+/// How many units of a parent and a NUL were written, or are needed; none of a path that has none.
 fn parent_in(path: Path<'_>, room: &mut [u16]) -> Result<usize, usize> {
-    Ok(path.write_parent(room)?.unwrap_or(0))
+    match path.write_parent(room) {
+        Ok(written) => Ok(written.map_or(0, |len| len.saturating_add(1))),
+        Err(BufferTooSmall(needed)) => Err(needed),
+    }
 }
 
-/// How many units of a normal path were written, or are needed; none of a path that has none.
+/// How many units of a normal path and a NUL were written, or are needed; none of a path that has none.
 fn normal_in(path: Path<'_>, room: &mut [u16]) -> Result<usize, usize> {
     match path.write_normal(room) {
-        Ok(len) => Ok(len),
+        Ok(len) => Ok(len.saturating_add(1)),
         Err(NormalWriteError::Invalid(_)) => Ok(0),
         Err(NormalWriteError::BufferTooSmall(needed)) => Err(needed),
     }
@@ -33,8 +37,8 @@ fn are_written(
 ) -> Result<bool, Fail> {
     let text = string(rt.alloc(), text)?;
     let path = Path::new(text.as_cstr16());
-    let written = string(rt.alloc(), want.unwrap_or(""))?;
-    let units = written.as_cstr16().to_u16_slice();
+    let written = string(rt.alloc(), want.unwrap_or(""))?.into_vec_with_nul();
+    let units = if want.is_some() { &written[..] } else { &[] };
     let has_one = if normal {
         path.write_normal(&mut [0; 32]).is_ok()
     } else {
@@ -94,7 +98,7 @@ fn written_normal_paths(rt: HostRuntime) -> Result<(), Fail> {
     }
     let path = string(rt.alloc(), "a/b")?;
     if let Err(error) = Path::new(path.as_cstr16()).write_normal(&mut [0; 2]) {
-        let why = "buffer too small: the normal path needs 3 units";
+        let why = "buffer too small: the normal path needs 4 units";
         assert!(rt; says(rt.alloc(), &error, why));
     }
     Ok(())

@@ -3,6 +3,7 @@ pub mod Utf8Bytes
 pub mod Deciding
 pub mod Finding
 pub mod Texts
+pub mod TextsInBuffers
 pub mod Utf16
 pub mod PrintedTexts
 pub mod Packing

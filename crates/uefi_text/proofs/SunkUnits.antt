@@ -9,6 +9,8 @@ use Rattle.std.specs.Char.Escape.{encode_utf16}
 use Rattle.std.specs.List.{flat_map}
 use Rattle.std.specs.Prelude.{encode_utf8}
 use Rattle.std.specs.Str.{chars, IsUtf8}
+use Rattle.uefi_text.proofs.TextsInBuffers.{counted_fits, text_ended}
+use Rattle.uefi_text.specs.UnalignedCStr16.{with_prefix}
 use Rattle.uefi_text.specs.Units.{nul_terminated}
 use Rattle.uefi_text.specs.UnitTexts.{AreSunk, utf16_units}
 
@@ -63,12 +65,10 @@ unit_more units old buffer unit room written =
 
 -- a NUL after units that were written
 pub sunk_and_ended : (units old new : List ℕ) (len : ℕ) → AreSunk units old new len → len < length old → length old < 2 ^ 64
-    → set new len 0 ≡ nul_terminated units ++ drop (length units + 1) old
+    → set new len 0 ≡ with_prefix (nul_terminated units) old
 sunk_and_ended units old new len sunk room bound =
-    let all : len ≡ length units = grind (arith, common_steps) in
-    let more : length (units ++ 0 ∷ []) ≡ length units + 1 = length-append units (0 ∷ []) in
+    let all : len ≡ length units = counted_fits units old len sunk.count room bound in
     let within : length units < length old = omega (arith, all, room) in
     ap (λ i. set new i 0) all
-    ∙ unit_more units old new 0 within sunk.written
-    ∙ ap (λ us. us ++ drop (length (units ++ 0 ∷ [])) old) (take_all (length old) (units ++ 0 ∷ []) (omega (arith, more, within)))
-    ∙ ap (λ i. nul_terminated units ++ drop i old) more
+    ∙ ap (λ us. set us (length units) 0) (sunk.written ∙ ap (λ us. us ++ drop (length units) old) (take_all (length old) units (omega (arith, within))))
+    ∙ text_ended units old within

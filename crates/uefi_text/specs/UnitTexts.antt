@@ -1,11 +1,10 @@
--- A text that is written into a caller's buffer as UTF-16.
+-- A text that is written into a caller's buffer, with a NUL after it.
 use Rattle.std.specs.Fmt.{decimal}
-use Rattle.std.specs.Prelude.{◌≡◌, ℕ, ◌+◌, ◌-◌, ◌<◌, ◌^◌, List, ◌++◌, codes, length, take, drop, min}
+use Rattle.std.specs.Prelude.{◌≡◌, ℕ, ◌+◌, ◌-◌, ◌^◌, nat_lt, if◌then◌else◌, List, ◌++◌, codes, length, take, drop, min, Result, Ok, Err}
 use Rattle.std.specs.Char.Escape.{encode_utf16}
 use Rattle.std.specs.List.{flat_map}
 use Rattle.std.specs.Str.{chars}
-use Rattle.uefi_text.specs.declared.unit_sink.TextWriteError.{TextWriteError}
-use Rattle.uefi_text.specs.declared.unit_sink.TextWriteError.TheVariants.{BufferTooSmall}
+use Rattle.uefi_text.specs.declared.unit_sink.BufferTooSmall.{BufferTooSmall}
 
 -- the code units of a text in UTF-16
 unfoldable pub utf16_units : List ℕ → List ℕ
@@ -17,12 +16,16 @@ pub record AreSunk (units old buffer : List ℕ) (len : ℕ) : Type 0 where
   pub count : len ≡ min (length units) (2 ^ 64 - 1)
   pub written : buffer ≡ take (length old) units ++ drop (length units) old
 
--- units and their NUL are not written to `room` places, for this error
-abbrev pub TextRefusedFor : List ℕ → ℕ → TextWriteError → Type 0
-TextRefusedFor units room (BufferTooSmall needed) =
-    (needed ≡ min (length units + 1) (2 ^ 64 - 1)) × (room < length units + 1)
+-- how many places a text and its NUL need, as far as a `usize` counts
+abbrev pub places_needed : List ℕ → ℕ
+places_needed text = min (length text + 1) (2 ^ 64 - 1)
 
--- what is printed where a text is not written
-abbrev pub text_write_error_text : TextWriteError → List ℕ
-text_write_error_text (BufferTooSmall needed) =
-    codes "buffer too small: the text needs " ++ decimal needed ++ codes " units"
+-- what is returned where a text and a NUL are written into a buffer: the length of the text, or, if the buffer
+-- has too few places, how many the two need
+abbrev pub written_len : List ℕ → List ℕ → Result ℕ BufferTooSmall
+written_len text buffer = if nat_lt (length text) (length buffer)
+    then Ok (length text) else Err (record { 0 = places_needed text })
+
+-- what is printed of a buffer that is too small
+abbrev pub buffer_too_small_text : BufferTooSmall → List ℕ
+buffer_too_small_text error = codes "buffer too small: " ++ decimal error.0 ++ codes " units are needed"

@@ -233,10 +233,10 @@ pub(crate) fn units_of_text<A: Allocator>(alloc: A, text: &str) -> Result<Vec<u1
     }
 }
 
-/// Writes a Rust text and a NUL into the prefix of a buffer, and returns how many units they are:
+/// Writes a Rust text and a NUL into the prefix of a buffer, and returns how many units the text has:
 /// `CStr16::write_str` says the rest. Takes no memory.
 pub(crate) fn write_text(input: &str, buffer: &mut [u16]) -> Result<usize, FromStrWithBufError>
-    ensures ok { IfOk result (λ len. len ≡ length (chars input.now) + 1) }
+    ensures ok { IfOk result (λ len. len ≡ length (chars input.now)) }
     ensures refusal { result_err result
         ≡ from_str_with_buf_refusal (chars input.now) (length buffer.old) }
     ensures buffer { buffer.new ≡ with_text (chars input.now) buffer.old }
@@ -251,19 +251,19 @@ pub(crate) fn write_text(input: &str, buffer: &mut [u16]) -> Result<usize, FromS
 /// are its units.
 fn write_ascii(bytes: &[u8], buffer: &mut [u16]) -> usize
     requires { length bytes.now < length buffer.old }
-    ensures len { result ≡ length bytes.now + 1 }
+    ensures len { result ≡ length bytes.now }
     ensures buffer { buffer.new ≡ nul_terminated bytes.now ++ drop (length bytes.now + 1) buffer.old }
 {
     let end = bytes.len();
     widen(&mut buffer[..end + 1], bytes);
     buffer[end] = 0;
-    end + 1
+    end
 }
 
 /// Does what [`write_text`] does, for any text: the prefix of it that is one of UCS-2 at once, and then
 /// character by character.
 fn write_chars(input: &str, buffer: &mut [u16]) -> Result<usize, FromStrWithBufError>
-    ensures ok { IfOk result (λ len. len ≡ length (chars input.now) + 1) }
+    ensures ok { IfOk result (λ len. len ≡ length (chars input.now)) }
     ensures refusal { result_err result
         ≡ from_str_with_buf_refusal (chars input.now) (length buffer.old) }
     ensures buffer { buffer.new ≡ with_text (chars input.now) buffer.old }
@@ -285,7 +285,7 @@ fn write_chars(input: &str, buffer: &mut [u16]) -> Result<usize, FromStrWithBufE
     buffer[len] = 0;
     match refusal {
         Some(error) => Err(error),
-        None => Ok(len + 1),
+        None => Ok(len),
     }
 }
 

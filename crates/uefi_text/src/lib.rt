@@ -62,4 +62,4 @@ pub use strs::{
 };
 pub use text_sink::{Printed, TextSink};
 pub use unaligned_slice::{Packed, UnalignedSlice, UnalignedSliceIntoIter, UnalignedSliceIter};
-pub use unit_sink::{TextWriteError, write_units};
+pub use unit_sink::{BufferTooSmall, write_units};

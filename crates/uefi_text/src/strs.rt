@@ -178,8 +178,7 @@ impl<'a> CStr16<'a> {
         CStr16 { units }
     }
 
-    /// Encodes a Rust text as a string at the start of a buffer, and returns the number of units,
-    /// the NUL counted.
+    /// Encodes a Rust text as a string at the start of a buffer, and returns its length without the NUL.
     ///
     /// The UTF-16 of the text (Unicode Standard, section 3.9) has to have fewer units than the
     /// buffer has places. Else the result is `BufferTooSmall`, whatever the text holds, and the
@@ -191,12 +190,12 @@ impl<'a> CStr16<'a> {
     ///
     /// ```rust
     /// let mut buffer = [0xffff; 4];
-    /// assert_eq!(rt; CStr16::write_str("Hi", &mut buffer), Ok(3));
+    /// assert_eq!(rt; CStr16::write_str("Hi", &mut buffer), Ok(2));
     /// assert_eq!(rt; buffer, [0x48, 0x69, 0, 0xffff]);
     /// assert_eq!(rt; CStr16::write_str("Boot", &mut buffer), Err(FromStrWithBufError::BufferTooSmall));
     /// ```
     pub fn write_str(input: &str, buffer: &mut [u16]) -> Result<usize, FromStrWithBufError>
-        ensures ok { IfOk result (λ len. len ≡ length (chars input.now) + 1) }
+        ensures ok { IfOk result (λ len. len ≡ length (chars input.now)) }
         ensures accepts { IsOk result
             ↔ (IsText (chars input.now) × (length (chars input.now) < length buffer.old)) }
         ensures refusal { result_err result
@@ -228,7 +227,7 @@ impl<'a> CStr16<'a> {
             ≡ from_str_with_buf_refusal (chars input.now) (length buf.old) }
     {
         let len = CStr16::write_str(input, buf)?;
-        Ok(CStr16::from_string(&buf[..len]))
+        Ok(CStr16::from_string(&buf[..len + 1]))
     }
 
     /// The characters of the text, without the NUL.

@@ -1,9 +1,10 @@
 //! Texts that are written into a caller's buffer as UTF-16.
 #![tactic(auto, using(crate::proofs::Puts::puts))]
 
-ghost use Rattle.std.specs.Prelude.{◌≡◌, ℕ, ◌+◌, ◌≤◌, ◌++◌, ◌∷◌, [], List, IfErr, IfOk, OnErr, OnOk, drop, length, take};
+ghost use Rattle.std.specs.Prelude.{◌≡◌, ℕ, ◌∷◌, ◌++◌, [], List};
 ghost use Rattle.std.specs.Char.Escape.{encode_utf16};
-ghost use Rattle.uefi_text.specs.UnitTexts.{AreSunk, TextRefusedFor, utf16_units};
+ghost use Rattle.uefi_text.specs.UnalignedCStr16.{with_prefix};
+ghost use Rattle.uefi_text.specs.UnitTexts.{AreSunk, utf16_units, written_len};
 ghost use Rattle.uefi_text.specs.Units.{nul_terminated};
 
 use crate::number_texts::put_decimal;
@@ -11,43 +12,36 @@ use crate::text_sink::{Printed, TextSink, print};
 use std::error::Error;
 use std::fmt;
 
-/// Why a text is not written into a buffer.
+/// The buffer has fewer places than the call needs, which are this many, or `usize::MAX` if they are more. It
+/// is unchanged.
 #[derive(Clone, Copy, Debug, PartialEq, Eq)]
-pub enum TextWriteError {
-    /// The buffer has fewer places than the text has units with its NUL, which are this many, or `usize::MAX`
-    /// where they are more.
-    BufferTooSmall(usize),
-}
+pub struct BufferTooSmall(pub usize);
 
-/// Puts what is wrong, in words.
-impl Printed for TextWriteError {
-    ghost use Rattle.uefi_text.specs.UnitTexts.{text_write_error_text};
+/// Puts how many units are needed.
+impl Printed for BufferTooSmall {
+    ghost use Rattle.uefi_text.specs.UnitTexts.{buffer_too_small_text};
 
-    ghost printed = { text_write_error_text };
+    ghost printed = { buffer_too_small_text };
 
     fn put<S: TextSink>(&self, sink: &mut S) {
-        match self {
-            Self::BufferTooSmall(needed) => {
-                put_decimal(sink, "buffer too small: the text needs ", *needed as u64);
-                sink.put_str(" units");
-            }
-        }
+        put_decimal(sink, "buffer too small: ", self.0 as u64);
+        sink.put_str(" units are needed");
     }
 }
 
 /// Prints the same.
-impl fmt::Display for TextWriteError {
+impl fmt::Display for BufferTooSmall {
     ghost use Rattle.std.specs.Prelude.{Some};
-    ghost use Rattle.uefi_text.specs.UnitTexts.{text_write_error_text};
+    ghost use Rattle.uefi_text.specs.UnitTexts.{buffer_too_small_text};
 
-    ghost output = { λ error. Some (text_write_error_text error) };
+    ghost output = { λ error. Some (buffer_too_small_text error) };
 
     fn fmt<W: fmt::Write>(&self, f: &mut fmt::Formatter<W>) -> fmt::Result {
         print(f, self)
     }
 }
 
-impl Error for TextWriteError {}
+impl Error for BufferTooSmall {}
 
 /// A buffer, and how many units were written to it, whether it has room for them or not.
 #[derive(Drop)]
@@ -131,31 +125,29 @@ fn fill_units<P: Printed>(buffer: &mut [u16], value: &P) -> usize
     sink.len
 }
 
-/// Writes the text of a value and a NUL to the start of a buffer, and returns how many units these are. What
-/// follows them is unchanged. Refused as `BufferTooSmall`, with the count that it needs; the buffer then
-/// holds as many of the first units as it has places. Takes no memory; one pass.
+/// Writes the text of a value to the start of a buffer as UTF-16, with a NUL after it, and returns the length
+/// of the text without the NUL. What follows the NUL is unchanged.
+///
+/// Fails only if the buffer is too small, and then leaves it unchanged. Makes the text twice: once to count
+/// its units, and once to write them. Takes no memory.
 ///
 /// ```rust
-/// let mut buffer = [0xffff; 20];
-/// assert_eq!(rt; write_units(&mut buffer, &FromSliceUntilNulError::NoNul), Ok(17));
+/// let mut buffer = [0xffff; 18];
+/// assert_eq!(rt; write_units(&mut buffer, &FromSliceUntilNulError::NoNul), Ok(16));
 /// assert!(rt; CStr16::from_u16_with_nul(&buffer[..17])?.eq_str_until_nul("no nul character"));
+/// assert_eq!(rt; buffer[17], 0xffff);
 /// let refused = write_units(&mut buffer[..16], &FromSliceUntilNulError::NoNul);
-/// assert_eq!(rt; refused, Err(TextWriteError::BufferTooSmall(17)));
+/// assert_eq!(rt; refused, Err(BufferTooSmall(17)));
 /// ```
-pub fn write_units<P: Printed>(buffer: &mut [u16], value: &P) -> Result<usize, TextWriteError>
-    ensures len { IfOk result (λ len. len ≡ length (utf16_units (P.printed value.now)) + 1) }
-    ensures room { IfOk result (λ len. len ≤ length buffer.old) }
-    ensures ok { OnOk result (buffer.new ≡ nul_terminated (utf16_units (P.printed value.now))
-        ++ drop (length (utf16_units (P.printed value.now)) + 1) buffer.old) }
-    ensures small { OnErr result (buffer.new
-        ≡ take (length buffer.old) (utf16_units (P.printed value.now))) }
-    ensures refusal { IfErr result (λ error.
-        TextRefusedFor (utf16_units (P.printed value.now)) (length buffer.old) error) }
+pub fn write_units<P: Printed>(buffer: &mut [u16], value: &P) -> Result<usize, BufferTooSmall>
+    ensures len { result ≡ written_len (utf16_units (P.printed value.now)) buffer.old }
+    ensures buffer { buffer.new ≡ with_prefix (nul_terminated (utf16_units (P.printed value.now))) buffer.old }
 {
-    let len = fill_units(buffer, value);
+    let len = fill_units(&mut [], value);
     if buffer.len() <= len {
-        return Err(TextWriteError::BufferTooSmall(len.saturating_add(1)));
+        return Err(BufferTooSmall(len.saturating_add(1)));
     }
+    fill_units(buffer, value);
     buffer[len] = 0;
-    Ok(len + 1)
+    Ok(len)
 }

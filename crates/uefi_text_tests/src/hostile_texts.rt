@@ -99,7 +99,7 @@ fn is_buffered_in(rt: &HostRuntime, hostile: &HostileText, room: usize) -> Resul
         _ if room <= len => Err(WithBuffer::BufferTooSmall),
         Deciding::Nul => Err(WithBuffer::InteriorNul(hostile.len)),
         Deciding::Surrogate => Err(WithBuffer::InvalidChar(hostile.len)),
-        Deciding::None => Ok(len.saturating_add(1)),
+        Deciding::None => Ok(len),
     };
     let mut after = hostile.units.clone()?;
     after.push(0)?;

@@ -226,17 +226,17 @@ pub(crate) fn is_buffered(
     let is_written = CStr16::write_str(text, &mut buffer) == want && buffer.as_slice() == after;
     buffer.fill(9);
     let is_borrowed = match (CStr16::from_str_with_buf(text, &mut buffer), want) {
-        (Ok(string), Ok(len)) => Some(string.to_u16_slice_with_nul()) == after.get(..len),
+        (Ok(string), Ok(len)) => Some(string.to_u16_slice()) == after.get(..len),
         (Err(error), Err(want)) => error == want,
         _ => false,
     };
     Ok(is_written && is_borrowed && buffer.as_slice() == after)
 }
 
-/// How many units are written of a text into nines, or why they are no string, and what stands there then.
+/// The length of a text that is written into nines, or why it is no string, and what stands there then.
 const BUFFERS: &[(&str, Result<usize, WithBuffer>, &[u16])] = &[
-    ("A", Ok(2), &[65, 0, 9, 9]),
-    ("ABC", Ok(4), &[65, 66, 67, 0]),
+    ("A", Ok(1), &[65, 0, 9, 9]),
+    ("ABC", Ok(3), &[65, 66, 67, 0]),
     ("ABCD", Err(BufferTooSmall), &[65, 66, 67, 68]),
     ("a😀", Err(CharAt(1)), &[97, 0xd83d, 0xde00, 0]),
     ("a\0b", Err(NulAt(1)), &[97, 0, 98, 0]),

@@ -11,8 +11,5 @@ at_most Driver = omega arith
 at_most SysPrep = omega arith
 at_most PlatformRecovery = omega arith
 
-pub returns-in-Ok-clause-unknown : goal.returns-in-Ok-clause-unknown
-returns-in-Ok-clause-unknown c = λ above. absurd (omega (arith, above, at_most c.in-Some.kind, (c.kind_of.ensures c.in-Some.kind).0 c.in-Some.is))
-
-pub returns-in-Err-clause-unknown : goal.returns-in-Err-clause-unknown
-returns-in-Err-clause-unknown c = λ above. absurd (omega (arith, above, at_most c.in-Some.kind, (c.kind_of.ensures c.in-Some.kind).0 c.in-Some.is))
+pub returns-clause-unknown : goal.returns-clause-unknown
+returns-clause-unknown c = λ above. absurd (omega (arith, above, at_most c.in-Some.kind, (c.kind_of.ensures c.in-Some.kind).0 c.in-Some.is))

@@ -4,6 +4,7 @@ use Rattle.std.specs.Prelude.{All}
 use Rattle.std.proofs.lemmas.Grind.{common_steps}
 use Rattle.uefi_text.specs.UnalignedCStr16.{with_prefix}
 use Rattle.uefi_text.specs.Units.{nul_terminated}
+use Rattle.uefi_text.proofs.TextsInBuffers.{text_fits}
 use Rattle.uefi_device_nodes.specs.Nodes.{Node}
 use Rattle.uefi_device_path.specs.FilePathBuffers.{WriteRefusedFor}
 use Rattle.uefi_device_path.specs.FilePaths.{FileRefusedFor, IsReadable, file_path}
@@ -11,7 +12,6 @@ use Rattle.uefi_device_path.specs.Views.{nodes_of}
 use Rattle.uefi_device_path.specs.declared.errors.FilePathWriteError.{FilePathWriteError}
 use Rattle.uefi_device_path.specs.declared.errors.FilePathWriteError.TheVariants.{BufferTooSmall, Name}
 use Rattle.nardcorbel.specs.Reasons.{node_reason}
-use Rattle.nardcorbel.proofs.Tails.{written_with_nul}
 use Rattle.nardcorbel.proofs.device_paths.nard_device_path_file_path.Goals as goal
 
 pub returns-in-Err-clause-no_path : goal.returns-in-Err-clause-no_path
@@ -36,13 +36,12 @@ returns-in-Ok-write_file_path-clause-ok c = λ _ nodes begins.
     let buffer = c.args.buffer.now in
     let made = file_path (nodes_of c.in-Ok.path) in
     let written = c.in-Ok-write_file_path.ensures in
-    let len : c.in-Ok-write_file_path.len - 1 ≡ length made = omega (arith, written.len) in
     let room : length made < length buffer = omega (arith, written.len, written.room) in
-    let P : List Node → Type 0 = λ ns. All IsReadable ns × (c.in-Ok-write_file_path.len - 1 ≡ length (file_path ns))
+    let P : List Node → Type 0 = λ ns. All IsReadable ns × (c.in-Ok-write_file_path.len ≡ length (file_path ns))
     × (length (file_path ns) < length buffer)
     × (c.write_file_path.new.buffer ≡ with_prefix (nul_terminated (file_path ns)) buffer) in
     subst P (sym (c.in-Ok.ensures.only nodes begins))
-    (written.accepted, len, room, written.ok ∙ sym (written_with_nul made buffer room))
+    (written.accepted, written.len, room, written.ok ∙ text_fits made buffer room)
 
 pub returns-in-Err-BufferTooSmall-clause-small : goal.returns-in-Err-BufferTooSmall-clause-small
 returns-in-Err-BufferTooSmall-clause-small c = λ _ nodes begins.
