@@ -1,6 +1,6 @@
 pub mod Nodes
 pub mod Options
 pub mod Written
-mod Surrogates
+mod LossyTexts
 mod Judged
 mod Halves

@@ -1,7 +1,7 @@
 //! Units that may be anything, in UTF-8: descriptions of load options and names of files are mostly
 //! strings, and a menu shows them where they are none.
 ghost use Rattle.std.specs.Prelude.{◌≡◌, ◌+◌, ◌-◌, ◌<◌, ◌≤◌, ◌^◌, ◌∷◌, drop, length, min};
-ghost use Rattle.std.specs.Char.Utf16.{utf16_chars, utf16_lossy_chars};
+ghost use Rattle.std.specs.Char.Utf16.{utf16_lossy_chars};
 ghost use Rattle.uefi_device_path.specs.LoadOptions.{lossy_utf8};
 ghost use Rattle.uefi_text.specs.UnalignedCStr16.{with_prefix};
 ghost use Rattle.uefi_text.specs.Units.{nul_terminated};
@@ -12,30 +12,8 @@ ghost use Rattle.nardcorbel.specs.Strings.{text_in};
 use crate::buffers::report;
 use crate::texts::write_char;
 use uefi_text::BufferTooSmall;
+use uefi_text::decode::lossy_char;
 use uefi_text::scans::find_nul;
-
-/// The character that units begin with, unless it is a surrogate without a partner, and how many
-/// units it takes.
-fn first_char(units: &[u16]) -> (Option<char>, usize)
-    requires { 0 < length units.now }
-    ensures some { 0 < result.1 }
-    ensures within { result.1 ≤ length units.now }
-    ensures first { utf16_chars units.now ≡ result.0 ∷ utf16_chars (drop result.1 units.now) }
-{
-    let first = units[0] as u32;
-    if first < 0xd800 || 0xdfff < first {
-        return (char::from_u32(first), 1);
-    }
-    if 0xdc00 <= first || units.len() < 2 {
-        return (None, 1);
-    }
-    let second = units[1] as u32;
-    if second < 0xdc00 || 0xdfff < second {
-        return (None, 1);
-    }
-    let above = (first - 0xd800) * 0x400 + (second - 0xdc00);
-    (char::from_u32(0x1_0000 + above), 2)
-}
 
 /// The character that is shown of those that units begin with, and how many units it takes.
 fn first_shown(units: &[u16]) -> (char, usize)
@@ -45,8 +23,8 @@ fn first_shown(units: &[u16]) -> (char, usize)
     ensures first { utf16_lossy_chars units.now
         ≡ result.0 ∷ utf16_lossy_chars (drop result.1 units.now) }
 {
-    let (first, count) = first_char(units);
-    (first.unwrap_or('\u{fffd}'), count)
+    let next = if 1 < units.len() { units[1] } else { 0 };
+    lossy_char(units[0], next)
 }
 
 /// How many bytes units have in UTF-8, and the greatest `usize` where they have more.

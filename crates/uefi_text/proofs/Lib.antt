@@ -28,3 +28,4 @@ pub mod PatternsWithoutCase
 pub mod Puts
 pub mod SunkUnits
 pub mod Numerals
+pub mod Surrogates

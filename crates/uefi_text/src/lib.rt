@@ -31,6 +31,8 @@ pub mod case;
 pub mod char_sink;
 pub mod chars;
 mod code_units;
+#[doc(hidden)]
+pub mod decode;
 pub mod eq_str_until_nul;
 mod errors;
 mod latin1;

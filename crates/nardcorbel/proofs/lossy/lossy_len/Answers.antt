@@ -1,6 +1,6 @@
 -- No unit is left, so the bytes so far are all.
 use Rattle.std.proofs.Common.{ap, arith, length}
-use Rattle.nardcorbel.proofs.Surrogates.{none_left}
+use Rattle.nardcorbel.proofs.LossyTexts.{none_left}
 use Rattle.nardcorbel.proofs.lossy.lossy_len.Goals as goal
 
 pub returns : goal.returns

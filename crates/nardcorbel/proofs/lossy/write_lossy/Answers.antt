@@ -1,7 +1,7 @@
 -- No unit is left, so the bytes so far are all.
 use Rattle.std.proofs.Common.{◌∙◌, ◌++◌, List, ℕ, ap, sym, take, arith, length}
 use Rattle.std.proofs.lemmas.List.{append-nil, take_all}
-use Rattle.nardcorbel.proofs.Surrogates.{none_left}
+use Rattle.nardcorbel.proofs.LossyTexts.{none_left}
 use Rattle.nardcorbel.proofs.lossy.write_lossy.Goals as goal
 
 pub returns : goal.returns
