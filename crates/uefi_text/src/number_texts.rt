@@ -2,35 +2,55 @@
 #![tactic(auto, using(crate::proofs::Puts::puts))]
 
 ghost use Rattle.std.specs.Fmt.{WritesInCalls, decimal, digit_glyph, digits};
-ghost use Rattle.std.specs.Prelude.{◌≡◌, ◌≤◌, ◌<◌, ◌++◌, nat_lt};
+ghost use Rattle.std.specs.Prelude.{◌≡◌, ◌≤◌, ◌<◌, ◌++◌, drop, nat_lt};
 
 use crate::text_sink::TextSink;
 
-/// The digit of a number below a base.
-fn digit(n: u64, base: u64) -> char
+/// How many digits a number has at most, in base 2.
+const MOST_DIGITS: usize = 64;
+
+/// The digit of a number below a base, in upper case, as a byte of a text.
+#[inline(always)]
+pub fn digit(n: u64, base: u64) -> u8
     requires below { n < base }
     requires small { base ≤ 16 }
     ensures { result ≡ digit_glyph (nat_lt 10 base) n }
 {
-    if n < 10 {
-        char::from(b'0' + n as u8)
-    } else {
-        char::from(b'A' - 10 + n as u8)
-    }
+    let n = n as u8;
+    if n < 10 { b'0' + n } else { b'A' - 10 + n }
 }
 
-/// Puts a number in a base, in upper case and without zeros at its start.
+/// Writes the digits of a number to the end of a buffer, and returns where they begin.
+#[inline(always)]
+fn write_digits(buffer: &mut [u8; MOST_DIGITS], n: u64, base: u64) -> usize
+    requires some { 2 ≤ base }
+    requires small { base ≤ 16 }
+    ensures within { result ≤ 64 }
+    ensures digits { drop result buffer.new ≡ digits base (nat_lt 10 base) n }
+{
+    let mut start = MOST_DIGITS - 1;
+    let mut rest = n;
+    while base <= rest {
+        buffer[start] = digit(rest % base, base);
+        rest /= base;
+        start -= 1;
+    }
+    buffer[start] = digit(rest, base);
+    start
+}
+
+/// Puts a number in a base, in upper case and without zeros at its start. It is made anew for each call, so
+/// that a base that is a literal there leaves no division.
+#[inline(always)]
 pub fn put_digits<S: TextSink>(sink: &mut S, n: u64, base: u64)
     requires some { 2 ≤ base }
     requires small { base ≤ 16 }
     ensures { WritesInCalls S.puts sink.old (digits base (nat_lt 10 base) n) sink.new }
 {
-    if n < base {
-        sink.put_char(digit(n, base));
-        return;
-    }
-    put_digits(sink, n / base, base);
-    sink.put_char(digit(n % base, base));
+    let mut buffer = [0; MOST_DIGITS];
+    let start = write_digits(&mut buffer, n, base);
+    // SAFETY: digits are ASCII, which is proved here as the condition of the call.
+    sink.put_str(unsafe { str::from_utf8_unchecked(&buffer[start..]) });
 }
 
 /// Puts a text, and a number in decimal.

@@ -280,7 +280,7 @@ pub(crate) fn count_wide(units: &[u16]) -> (usize, usize)
 }
 
 /// The place of the first zero.
-pub(crate) fn find_zero(bytes: &[u8]) -> Option<usize>
+pub fn find_zero(bytes: &[u8]) -> Option<usize>
     ensures { result ≡ position is_nul bytes.now }
 {
     find_first::<u8, Zero>(bytes)
