@@ -1,9 +1,9 @@
 -- Bytes that are printed one by one, from the first or from the last.
 use Rattle.std.proofs.Common.{◌≡◌, ℕ, zero, suc, ◌+◌, ◌-◌, ◌<◌, ◌==◌, false, if◌then◌else◌, List, [], ◌∷◌, ◌++◌, codes, append_assoc, length, take, reverse, get_or, ap, sym, ◌∙◌, arith}
 use Rattle.std.proofs.lemmas.Grind.{flat_map-append}
-use Rattle.std.proofs.lemmas.List.{append-nil, flat_map_more, get_or-reverse, length-reverse, length-take, take_more}
+use Rattle.std.proofs.lemmas.List.{append-nil, flat_map_more, get_or-reverse, length-reverse, length-take, reverse-append, take_more}
 use Rattle.std.specs.List.{flat_map, join_by}
-use Rattle.uefi_field_texts.specs.FieldTexts.{hex_bytes, hex_two}
+use Rattle.uefi_field_texts.specs.FieldTexts.{hex_back, hex_bytes, hex_two}
 
 -- one byte more after a text
 pub byte_more : (shown : ℕ → List ℕ) (text bytes : List ℕ) (i : ℕ) → i < length bytes
@@ -12,19 +12,21 @@ byte_more shown text bytes i h =
     flat_map_more shown text (take i bytes) (get_or bytes i 0) ∙ ap (λ (xs : List ℕ). text ++ flat_map shown xs) (sym (take_more bytes i 0 h))
 
 -- more bytes after a text and bytes
+pub shown_more : (shown : ℕ → List ℕ) (text before more : List ℕ)
+    → (text ++ flat_map shown before) ++ flat_map shown more ≡ text ++ flat_map shown (before ++ more)
+shown_more shown text before more =
+    append_assoc text (flat_map shown before) (flat_map shown more)
+    ∙ ap (λ (xs : List ℕ). text ++ xs) (sym (flat_map-append shown before more))
+
 pub bytes_more : (text before more : List ℕ) → (text ++ hex_bytes before) ++ hex_bytes more ≡ text ++ hex_bytes (before ++ more)
 unfolding hex_bytes
-bytes_more text before more =
-    append_assoc text (flat_map hex_two before) (flat_map hex_two more)
-    ∙ ap (λ (xs : List ℕ). text ++ xs) (sym (flat_map-append hex_two before more))
+bytes_more text before more = shown_more hex_two text before more
 
 -- the same from the last byte to the first
-pub hex_back_more : (text bytes : List ℕ) (i : ℕ) → i < length bytes
-    → (text ++ hex_bytes (take i (reverse bytes))) ++ hex_two (get_or bytes (length bytes - 1 - i) 0) ≡ text ++ hex_bytes (take (i + 1) (reverse bytes))
-unfolding hex_bytes
-hex_back_more text bytes i h =
-    ap (λ (x : ℕ). (text ++ hex_bytes (take i (reverse bytes))) ++ hex_two x) (sym (get_or-reverse bytes i 0 h))
-    ∙ byte_more hex_two text (reverse bytes) i (omega (arith, length-reverse bytes))
+pub back_more : (text block after : List ℕ) → (text ++ hex_back after) ++ hex_back block ≡ text ++ hex_back (block ++ after)
+unfolding hex_back
+back_more text block after =
+    bytes_more text (reverse after) (reverse block) ∙ ap (λ (xs : List ℕ). text ++ hex_bytes xs) (sym (reverse-append block after))
 
 -- one byte more after others, and the first
 dashed_push : (ys : List ℕ) (i x : ℕ) → length ys ≡ i

@@ -3,4 +3,4 @@ pub mod Places
 pub mod Surrogates
 pub mod ShownTexts
 pub mod GuidTexts
-pub mod EightBytes
+pub mod HexBlocks

@@ -7,12 +7,13 @@ use Rattle.std.specs.Char.Utf16.{is_high_surrogate, is_low_surrogate, lone_unit_
 use Rattle.std.specs.Fmt.{decimal, digit_glyph, digits, digits_onto}
 use Rattle.std.specs.List.{concat, flat_map, join_by, list_all, position_or_len}
 use Rattle.std.specs.Option.{unwrap_or}
-use Rattle.std.specs.Str.{encode_utf8_all}
+use Rattle.std.specs.Str.{IsUtf8, encode_utf8_all}
 use Rattle.std.proofs.lemmas.Bool.Decides.{nat_tests}
-use Rattle.std.proofs.lemmas.List.Elements.{All-append, All-cons, All-drop, All-head, All-nil, All-tail, All-take}
+use Rattle.std.proofs.lemmas.List.Elements.{All-append, All-cons, All-drop, All-head, All-nil, All-tail, All-take, All-weaker}
 use Rattle.std.proofs.lemmas.List.{append-nil}
 use Rattle.std.proofs.lemmas.List.Folds.{list_all-append}
 use Rattle.std.proofs.lemmas.Str.{encode_ascii, encodes-append}
+use Rattle.uefi_text.proofs.Texts.{scalars-All}
 use Rattle.uefi_text.specs.Packed.{IsByte, little_endian, packed_items}
 use Rattle.uefi_text.specs.UnitBytes.{units_of_bytes}
 use Rattle.uefi_text.specs.Units.{is_nul}
@@ -32,14 +33,14 @@ flat f each [] = refl
 flat f each (x ∷ xs) = joined (f x) (flat_map f xs) (each x) (flat f each xs)
 
 -- such texts hold nothing that is escaped
-printable_char : (c : ℕ) → is_printable c ≡ true → IsShownChar c
+pub printable_char : (c : ℕ) → is_printable c ≡ true → IsShownChar c
 printable_char c e =
     let p = and_parts (nat_le 0x20 c) (nat_lt c 0x7f) e in
     let scalar : IsScalar c = grind (arith, nat_tests, p.0, p.1) in
     let shown : is_escaped c ≡ false = grind (arith, nat_tests, p.0, p.1) in
     (scalar, shown)
 
-printable_code : (c : ℕ) → is_printable c ≡ true → encode_utf8 c ≡ c ∷ []
+pub printable_code : (c : ℕ) → is_printable c ≡ true → encode_utf8 c ≡ c ∷ []
 printable_code c e =
     let p = and_parts (nat_le 0x20 c) (nat_lt c 0x7f) e in
     let small : c < 128 = grind (arith, nat_tests, p.0, p.1) in
@@ -65,6 +66,10 @@ joined_shown front back f b = (
     (λ i. f.1.1 i ++ b.1.1 i) ∙ sym (encodes-append f.0 b.0),
   ),
 )
+
+-- they are Rust texts
+pub shown_utf8 : (text : List ℕ) → IsShown text → IsUtf8 text
+shown_utf8 text is = (is.0, (scalars-All is.0 (All-weaker IsShownChar IsScalar (λ c one. one.0) is.0 is.1.0), sym is.1.1))
 
 -- digits
 glyph : (upper : Bool) (d : ℕ) → d < 16 → is_printable (digit_glyph true d) ≡ true
@@ -134,6 +139,15 @@ byte_ascii byte = by (nat_le 0x20 byte && nat_lt byte 0x7f) refl
 shown_ascii : (bytes : List ℕ) → ascii (shown_bytes bytes)
 unfolding shown_bytes
 shown_ascii bytes = flat shown_byte byte_ascii bytes
+
+-- printable ASCII is printed as it is
+pub printable_bytes : (run : List ℕ) → list_all is_printable run ≡ true → run ≡ shown_bytes run
+unfolding shown_bytes shown_byte
+printable_bytes [] e = refl
+printable_bytes (byte ∷ run) e =
+    let parts = and_parts (is_printable byte) (list_all is_printable run) e in
+    (λ i. sym (printable_code byte parts.0) i ++ printable_bytes run parts.1 i)
+    ∙ ap (λ (t : Bool). (if t then encode_utf8 byte else codes "\\x" ++ hex_two byte) ++ flat_map shown_byte run) (sym parts.0)
 
 letter_ascii : (n : ℕ) → ascii (eisa_letter n)
 unfolding eisa_letter

@@ -1,11 +1,18 @@
 -- The first character of units.
-use Rattle.std.proofs.Common.{◌≡◌, ℕ, ◌≤◌, ◌<◌, ◌+◌, ◌&&◌, false, true, List, [], ◌∷◌, ◌++◌, length, drop, slice_index, ap, refl, sym, ◌∙◌, arith, add-one, add-zero, append_assoc}
-use Rattle.std.proofs.lemmas.List.{append-nil, drop_all, get_or-drop}
+use Rattle.std.proofs.Common.{◌≡◌, ℕ, ◌≤◌, ◌<◌, ◌+◌, ◌&&◌, Bool, false, true, if◌then◌else◌, List, [], ◌∷◌, ◌++◌, codes, length, drop, take, set, slice_index, ap, refl, sym, ◌∙◌, arith, add-one, add-zero, append_assoc}
+use Rattle.std.proofs.lemmas.Bool.{and_parts}
+use Rattle.std.proofs.lemmas.Bool.Decides.{nat_tests}
+use Rattle.std.proofs.lemmas.List.{append-nil, drop-drop, drop_all, get_or-drop, length-drop, take-append-drop, take_more, take_more_set}
+use Rattle.std.proofs.lemmas.List.Folds.{list_all-append}
 use Rattle.std.proofs.Math.Seq.{drop-cons}
 use Rattle.std.specs.Char.Utf16.{is_high_surrogate, is_low_surrogate, lone_unit_char, surrogate_pair_char, utf16_chars, utf16_lossy_chars}
 use Rattle.std.specs.Option.{unwrap_or}
-use Rattle.std.specs.List.{flat_map}
-use Rattle.uefi_field_texts.specs.FieldTexts.{shown_char, shown_units}
+use Rattle.std.specs.List.{concat, flat_map, list_all}
+use Rattle.std.specs.Prelude.{encode_utf8}
+use Rattle.std.specs.Str.{IsUtf8}
+use Rattle.uefi_field_texts.specs.FieldTexts.{hex, shown_char, shown_units}
+use Rattle.uefi_field_texts.specs.ShownTexts.{is_printable}
+use Rattle.uefi_field_texts.proofs.ShownTexts.{ascii_shown, printable_char, printable_code, shown_utf8}
 
 -- the unit at a place, and those after it
 cut : (us : List ℕ) (i : ℕ) → i < length us → drop i us ≡ slice_index us i ∷ drop (i + 1) us
@@ -42,14 +49,61 @@ pair_at us i within h =
     ∙ pair_first (slice_index us i) (slice_index us (i + 1)) (drop (i + 1 + 1) us) h
     ∙ ap (λ (k : ℕ). surrogate_pair_char (slice_index us i) (slice_index us (i + 1)) ∷ utf16_lossy_chars (drop k us)) two
 
--- a character more of what is printed
-pub shown_step : (so_far us : List ℕ) (i n c : ℕ) → so_far ++ shown_units (drop i us) ≡ shown_units us
-    → utf16_lossy_chars (drop i us) ≡ c ∷ utf16_lossy_chars (drop (i + n) us)
-    → (so_far ++ shown_char c) ++ shown_units (drop (i + n) us) ≡ shown_units us
+-- a character of what is printed
+pub shown_one : (us : List ℕ) (i n c : ℕ) → utf16_lossy_chars (drop i us) ≡ c ∷ utf16_lossy_chars (drop (i + n) us)
+    → shown_char c ++ shown_units (drop (i + n) us) ≡ shown_units (drop i us)
 unfolding shown_units
-shown_step so_far us i n c rest first =
-    append_assoc so_far (shown_char c) (flat_map shown_char (utf16_lossy_chars (drop (i + n) us)))
-    ∙ ap (λ (cs : List ℕ). so_far ++ flat_map shown_char cs) (sym first) ∙ rest
+shown_one us i n c first = ap (λ (cs : List ℕ). flat_map shown_char cs) (sym first)
+
+-- printable ASCII is printed as it is
+printable_one : (u : ℕ) (us : List ℕ) → is_printable u ≡ true → shown_units (u ∷ us) ≡ u ∷ shown_units us
+unfolding shown_units shown_char
+printable_one u us e =
+    let is = printable_char u e in
+    let none : (is_high_surrogate u && is_low_surrogate (slice_index us 0)) ≡ false = grind (arith, nat_tests, e) in
+    let lone : unwrap_or (lone_unit_char u) 0xFFFD ≡ u = grind (arith, nat_tests, e) in
+    ap (λ (cs : List ℕ). flat_map shown_char cs) (lone_first u us none ∙ ap (λ (c : ℕ). c ∷ utf16_lossy_chars us) lone)
+    ∙ ap (λ (t : Bool). (if t then concat (codes "\\u{" ∷ hex u ∷ codes "}" ∷ []) else encode_utf8 u) ++ flat_map shown_char (utf16_lossy_chars us)) is.1
+    ∙ ap (λ (xs : List ℕ). xs ++ flat_map shown_char (utf16_lossy_chars us)) (printable_code u e)
+
+printable_front : (run us : List ℕ) → list_all is_printable run ≡ true → run ++ shown_units us ≡ shown_units (run ++ us)
+printable_front [] us e = refl
+printable_front (u ∷ run) us e =
+    let parts = and_parts (is_printable u) (list_all is_printable run) e in
+    ap (λ (xs : List ℕ). u ∷ xs) (printable_front run us parts.1) ∙ sym (printable_one u (run ++ us) parts.0)
+
+pub shown_run : (us : List ℕ) (i n : ℕ) → list_all is_printable (take n (drop i us)) ≡ true
+    → take n (drop i us) ++ shown_units (drop (i + n) us) ≡ shown_units (drop i us)
+shown_run us i n e =
+    ap (λ (vs : List ℕ). take n (drop i us) ++ shown_units vs) (sym (drop-drop n i us))
+    ∙ printable_front (take n (drop i us)) (drop n (drop i us)) e
+    ∙ ap shown_units (take-append-drop n (drop i us))
+
+-- one unit more of a run
+pub run_more : (us run : List ℕ) (i n : ℕ) → i + n < length us → n < length run → take n run ≡ take n (drop i us)
+    → take (n + 1) (set run n (slice_index us (i + n))) ≡ take (n + 1) (drop i us)
+run_more us run i n inside room same =
+    let unit = slice_index us (i + n) in
+    take_more_set run n unit room ∙ ap (λ (xs : List ℕ). xs ++ unit ∷ []) same
+    ∙ ap (λ (u : ℕ). take n (drop i us) ++ u ∷ []) (sym (get_or-drop i us n 0))
+    ∙ sym (take_more (drop i us) n 0 (omega (arith, length-drop i us, inside)))
+
+pub printable_more : (us : List ℕ) (i n : ℕ) → i + n < length us → list_all is_printable (take n (drop i us)) ≡ true
+    → is_printable (slice_index us (i + n)) ≡ true → list_all is_printable (take (n + 1) (drop i us)) ≡ true
+printable_more us i n inside e more =
+    let here = take_more (drop i us) n 0 (omega (arith, length-drop i us, inside)) ∙ ap (λ (u : ℕ). take n (drop i us) ++ u ∷ []) (get_or-drop i us n 0) in
+    ap (list_all is_printable) here ∙ list_all-append is_printable (take n (drop i us)) (slice_index us (i + n) ∷ []) ∙ (λ k. e k && (more k && true))
+
+-- it is a Rust text
+pub printable_utf8 : (text : List ℕ) → list_all is_printable text ≡ true → IsUtf8 text
+printable_utf8 text e = shown_utf8 text (ascii_shown text e)
+
+-- a part more of what is printed
+pub shown_step : (so_far part us : List ℕ) (i n : ℕ) → so_far ++ shown_units (drop i us) ≡ shown_units us
+    → part ++ shown_units (drop (i + n) us) ≡ shown_units (drop i us)
+    → (so_far ++ part) ++ shown_units (drop (i + n) us) ≡ shown_units us
+shown_step so_far part us i n rest more =
+    append_assoc so_far part (shown_units (drop (i + n) us)) ∙ ap (λ (xs : List ℕ). so_far ++ xs) more ∙ rest
 
 -- and all of it
 pub shown_all : (so_far us : List ℕ) (i : ℕ) → so_far ++ shown_units (drop i us) ≡ shown_units us → length us ≤ i → so_far ≡ shown_units us

@@ -1,12 +1,15 @@
 //! Numbers and bytes in hexadecimal, in upper case.
-#![tactic(auto, using(uefi_text::proofs::Puts::puts), unfolding(crate::specs::FieldTexts::hex_two, crate::specs::FieldTexts::hex_four, crate::specs::FieldTexts::hex_bytes, crate::specs::FieldTexts::hex_back, crate::specs::FieldTexts::dashed_back, crate::specs::FieldTexts::comma_bytes))]
+#![tactic(auto, using(uefi_text::proofs::Puts::puts), unfolding(crate::specs::FieldTexts::hex_four, crate::specs::FieldTexts::hex_bytes, crate::specs::FieldTexts::dashed_back, crate::specs::FieldTexts::comma_bytes))]
 
-ghost use Rattle.std.specs.Fmt.{WritesInCalls, digit_glyph};
-ghost use Rattle.std.specs.Prelude.{◌≡◌, ◌<◌, ◌++◌, codes, if◌then◌else◌, true};
+ghost use Rattle.std.specs.Fmt.{WritesInCalls};
+ghost use Rattle.std.specs.Prelude.{◌≤◌, ◌++◌, codes, if◌then◌else◌, length, reverse};
 ghost use Rattle.uefi_field_texts.specs.FieldTexts.{comma_bytes, dashed_back, hex, hex_back, hex_bytes, hex_four, hex_two};
 
-use uefi_text::number_texts::put_digits;
+use uefi_text::number_texts::{digit, put_digits};
 use uefi_text::text_sink::TextSink;
+
+/// How many bytes are put as one text.
+const BLOCK: usize = 32;
 
 /// Puts a text, and a number in hexadecimal.
 pub fn put_hex<S: TextSink>(sink: &mut S, text: &str, n: u64)
@@ -16,57 +19,44 @@ pub fn put_hex<S: TextSink>(sink: &mut S, text: &str, n: u64)
     put_digits(sink, n, 16);
 }
 
+/// Puts the digits of at most a block of bytes as one text.
+fn put_block<S: TextSink>(sink: &mut S, bytes: &[u8])
+    requires { length bytes.now ≤ 32 }
+    ensures { WritesInCalls S.puts sink.old (hex_bytes bytes.now) sink.new }
+{
+    let mut digits = [0; 2 * BLOCK];
+    for place in 0..bytes.len() {
+        digits[2 * place] = digit(u64::from(bytes[place] / 16), 16);
+        digits[2 * place + 1] = digit(u64::from(bytes[place] % 16), 16);
+    }
+    // SAFETY: digits are ASCII, which is proved here as the condition of the call.
+    sink.put_str(unsafe { str::from_utf8_unchecked(&digits[..2 * bytes.len()]) });
+}
+
+/// The same from the last byte to the first.
+fn put_block_back<S: TextSink>(sink: &mut S, bytes: &[u8])
+    requires { length bytes.now ≤ 32 }
+    ensures { WritesInCalls S.puts sink.old (hex_back bytes.now) sink.new }
+{
+    let mut turned = [0; BLOCK];
+    for place in 0..bytes.len() {
+        turned[place] = bytes[bytes.len() - 1 - place];
+    }
+    put_block(sink, &turned[..bytes.len()]);
+}
+
 /// Puts a byte as two digits.
 pub(crate) fn put_two<S: TextSink>(sink: &mut S, byte: u8)
     ensures { WritesInCalls S.puts sink.old (hex_two byte) sink.new }
 {
-    put_digits(sink, u64::from(byte / 16), 16);
-    put_digits(sink, u64::from(byte % 16), 16);
+    put_block(sink, &[byte]);
 }
 
 /// Puts a number of two bytes as four digits.
 pub fn put_word<S: TextSink>(sink: &mut S, word: u16)
     ensures { WritesInCalls S.puts sink.old (hex_four word) sink.new }
 {
-    put_two(sink, (word / 256) as u8);
-    put_two(sink, (word % 256) as u8);
-}
-
-/// The digit of a number below 16, as a byte of a text.
-fn digit(n: u8) -> u8
-    requires { n < 16 }
-    ensures { result ≡ digit_glyph true n }
-{
-    if n < 10 { b'0' + n } else { b'A' - 10 + n }
-}
-
-/// Puts eight bytes as one text.
-fn put_eight<S: TextSink>(sink: &mut S, bytes: [u8; 8])
-    ensures { WritesInCalls S.puts sink.old (hex_bytes bytes) sink.new }
-{
-    let [a, b, c, d, e, f, g, h] = bytes;
-    let digits = [
-        digit(a / 16),
-        digit(a % 16),
-        digit(b / 16),
-        digit(b % 16),
-        digit(c / 16),
-        digit(c % 16),
-        digit(d / 16),
-        digit(d % 16),
-        digit(e / 16),
-        digit(e % 16),
-        digit(f / 16),
-        digit(f % 16),
-        digit(g / 16),
-        digit(g % 16),
-        digit(h / 16),
-        digit(h % 16),
-    ];
-    let Ok(text) = str::from_utf8(&digits) else {
-        unreachable!()
-    };
-    sink.put_str(text);
+    put_block(sink, &[(word / 256) as u8, (word % 256) as u8]);
 }
 
 /// Puts a text, and bytes in order, two digits each.
@@ -75,13 +65,12 @@ pub fn put_bytes<S: TextSink>(sink: &mut S, text: &str, bytes: &[u8])
 {
     sink.put_str(text);
     let mut rest = bytes;
-    'eights: while let [a, b, c, d, e, f, g, h, after @ ..] = rest {
-        put_eight(sink, [*a, *b, *c, *d, *e, *f, *g, *h]);
+    while BLOCK < rest.len() {
+        let (block, after) = rest.split_at(BLOCK);
+        put_block(sink, block);
         rest = after;
     }
-    for byte in rest {
-        put_two(sink, *byte);
-    }
+    put_block(sink, rest);
 }
 
 /// Puts a text, and the number that bytes hold with its low byte first, zeros at its start among the digits.
@@ -89,9 +78,13 @@ pub fn put_back<S: TextSink>(sink: &mut S, text: &str, bytes: &[u8])
     ensures { WritesInCalls S.puts sink.old (text.now ++ hex_back bytes.now) sink.new }
 {
     sink.put_str(text);
-    for place in 0..bytes.len() {
-        put_two(sink, bytes[bytes.len() - 1 - place]);
+    let mut rest = bytes;
+    while BLOCK < rest.len() {
+        let (before, block) = rest.split_at(rest.len() - BLOCK);
+        put_block_back(sink, block);
+        rest = before;
     }
+    put_block_back(sink, rest);
 }
 
 /// Puts a byte as two digits, after a dash where it is not the first.

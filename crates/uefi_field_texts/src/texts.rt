@@ -2,17 +2,19 @@
 #![tactic(auto, using(uefi_text::proofs::Puts::puts), unfolding(crate::specs::FieldTexts::shown_byte, crate::specs::FieldTexts::shown_bytes, crate::specs::FieldTexts::shown_char, crate::specs::FieldTexts::shown_units, crate::specs::FieldTexts::utf16_text))]
 
 ghost use Rattle.std.specs.Fmt.{WritesInCalls};
-ghost use Rattle.std.specs.List.{position_or_len};
+ghost use Rattle.std.specs.List.{list_all, position_or_len};
 ghost use Rattle.std.specs.Char.Utf16.{is_high_surrogate, is_low_surrogate, lone_unit_char, surrogate_pair_char, utf16_lossy_chars};
 ghost use Rattle.std.specs.Option.{unwrap_or};
-ghost use Rattle.std.specs.Prelude.{◌≡◌, ◌+◌, ◌<◌, ◌≤◌, ◌∷◌, ◌++◌, ◌&&◌, drop, length, slice_index, true};
-ghost use Rattle.uefi_field_texts.specs.FieldTexts.{after_nul, is_escaped, shown_byte, shown_bytes, shown_char, until_nul, utf16_text};
+ghost use Rattle.std.specs.Prelude.{◌≡◌, ℕ, ◌+◌, ◌<◌, ◌≤◌, ◌∷◌, ◌++◌, ◌&&◌, List, drop, length, slice_index, take, true};
+ghost use Rattle.uefi_field_texts.specs.FieldTexts.{after_nul, is_escaped, shown_byte, shown_bytes, shown_char, shown_units, until_nul, utf16_text};
+ghost use Rattle.uefi_field_texts.specs.ShownTexts.{is_printable};
 ghost use Rattle.uefi_text.specs.UnitBytes.{units_of_bytes};
 ghost use Rattle.uefi_text.specs.Units.{is_nul};
 ghost use Rattle.uefi_text.specs.Views.{items_of};
 
 use crate::hexadecimal::{put_hex, put_two};
 use uefi_text::UnalignedSlice;
+use uefi_text::scans::find_zero;
 use uefi_text::text_sink::TextSink;
 
 /// The place of the first zero among bytes, or their number where none is zero.
@@ -20,12 +22,17 @@ fn nul_place(bytes: &[u8]) -> usize
     ensures place { result ≡ position_or_len is_nul bytes.now }
     ensures within { result ≤ length bytes.now }
 {
-    for place in 0..bytes.len() {
-        if bytes[place] == 0 {
-            return place;
-        }
-    }
-    bytes.len()
+    find_zero(bytes).unwrap_or(bytes.len())
+}
+
+/// How many characters of printable ASCII are put as one text.
+const RUN: usize = 64;
+
+/// Whether a character is printable ASCII, which each text prints as it is.
+fn is_printable(character: u16) -> bool
+    ensures { result ≡ is_printable character }
+{
+    0x20 <= character && character < 0x7f
 }
 
 /// The bytes before the first zero, or all where none is zero.
@@ -50,12 +57,35 @@ pub fn after_nul(bytes: &[u8]) -> &[u8]
 fn put_byte<S: TextSink>(sink: &mut S, byte: u8)
     ensures { WritesInCalls S.puts sink.old (shown_byte byte) sink.new }
 {
-    if byte >= 0x20 && byte < 0x7f {
+    if is_printable(u16::from(byte)) {
         sink.put_char(char::from(byte));
         return;
     }
     sink.put_str("\\x");
     put_two(sink, byte);
+}
+
+/// How many bytes of printable ASCII come first.
+fn printable_len(bytes: &[u8]) -> usize
+    ensures within { result ≤ length bytes.now }
+    ensures printable { list_all is_printable (take result bytes.now) ≡ true }
+{
+    let mut len = 0;
+    while len < bytes.len() && is_printable(u16::from(bytes[len])) {
+        len += 1;
+    }
+    len
+}
+
+/// Puts the printable ASCII that comes first as one text, and returns the bytes after it.
+fn put_printable<'a, S: TextSink>(sink: &mut S, bytes: &'a [u8]) -> &'a [u8]
+    ensures { (run : List ℕ) × (run ++ result.now ≡ bytes.now)
+        × WritesInCalls S.puts sink.old (shown_bytes run) sink.new }
+{
+    let (run, rest) = bytes.split_at(printable_len(bytes));
+    // SAFETY: the run is ASCII, which is proved here as the condition of the call.
+    sink.put_str(unsafe { str::from_utf8_unchecked(run) });
+    rest
 }
 
 /// Puts a text, and one of bytes, as of a URI: printable ASCII as it stands, and each other byte as `\x` and
@@ -64,8 +94,10 @@ pub fn put_byte_text<S: TextSink>(sink: &mut S, text: &str, bytes: &[u8])
     ensures { WritesInCalls S.puts sink.old (text.now ++ shown_bytes bytes.now) sink.new }
 {
     sink.put_str(text);
-    for byte in bytes {
-        put_byte(sink, *byte);
+    let mut rest = put_printable(sink, bytes);
+    'rest: while let [first, after @ ..] = rest {
+        put_byte(sink, *first);
+        rest = put_printable(sink, after);
     }
 }
 
@@ -178,6 +210,49 @@ fn char_at(units: &UnalignedSlice<'_, u16>, place: usize) -> (char, usize)
     (lone_char(unit), 1)
 }
 
+/// Puts the printable ASCII that stands at a place of units as one text, and returns how many units this is:
+/// at most as many as a run has.
+fn put_run<S: TextSink>(sink: &mut S, units: &UnalignedSlice<'_, u16>, place: usize) -> usize
+    requires { place ≤ length (items_of units.now) }
+    ensures within { place + result ≤ length (items_of units.now) }
+    ensures printable { list_all is_printable (take result (drop place (items_of units.now))) ≡ true }
+    ensures text { WritesInCalls S.puts sink.old (take result (drop place (items_of units.now))) sink.new }
+{
+    // Texts of other characters have no cost for a run.
+    if !is_printable(unit_at(units, place)) {
+        return 0;
+    }
+    let most = RUN.min(units.len() - place);
+    let mut run = [0; RUN];
+    let mut len = 0;
+    while len < most && is_printable(unit_at(units, place + len)) {
+        run[len] = unit_at(units, place + len) as u8;
+        len += 1;
+    }
+    // SAFETY: the run is ASCII, which is proved here as the condition of the call.
+    sink.put_str(unsafe { str::from_utf8_unchecked(&run[..len]) });
+    len
+}
+
+/// Puts a run of printable ASCII that stands at a place of units, or else the character there, and returns
+/// how many units this is.
+fn put_part<S: TextSink>(sink: &mut S, units: &UnalignedSlice<'_, u16>, place: usize) -> usize
+    requires { place < length (items_of units.now) }
+    ensures some { 0 < result }
+    ensures within { place + result ≤ length (items_of units.now) }
+    ensures text { (text : List ℕ) × WritesInCalls S.puts sink.old text sink.new
+        × (text ++ shown_units (drop (place + result) (items_of units.now))
+        ≡ shown_units (drop place (items_of units.now))) }
+{
+    let len = put_run(sink, units, place);
+    if len != 0 {
+        return len;
+    }
+    let (character, count) = char_at(units, place);
+    put_shown(sink, character);
+    count
+}
+
 /// Puts the text that bytes encode in UTF-16, the low byte of each unit first, as of a file's name: the
 /// characters up to the NUL, or all where there is none, U+FFFD for each surrogate that has no partner
 /// (Unicode Standard, section 3.9), and each character that [`is_escaped`] as
@@ -188,8 +263,6 @@ pub fn put_utf16_text<S: TextSink>(sink: &mut S, bytes: &[u8])
     let units = name_units(bytes);
     let mut place = 0;
     while place < units.len() {
-        let (character, count) = char_at(&units, place);
-        put_shown(sink, character);
-        place += count;
+        place += put_part(sink, &units, place);
     }
 }

@@ -1,8 +1,12 @@
-use Rattle.std.proofs.Common.{◌++◌, reverse, take}
+use Rattle.std.proofs.Common.{◌≡◌, List, ℕ, ◌++◌, length}
 use Rattle.std.specs.Fmt.{WritesInCalls}
-use Rattle.uefi_field_texts.specs.FieldTexts.{hex_bytes}
+use Rattle.uefi_field_texts.specs.FieldTexts.{hex_back}
 use Rattle.uefi_field_texts.proofs.hexadecimal.put_back.Given as goal
 
--- the last bytes were put, as many as were seen
-abbrev pub invariant-loop-place : goal.invariant-loop-place
-invariant-loop-place g l = WritesInCalls g.S.TextSink.puts l.fn.sink (l.text ++ hex_bytes (take l.place (reverse l.bytes))) l.sink
+-- the bytes after the rest were put
+abbrev pub invariant-loop-rest : goal.invariant-loop-rest
+invariant-loop-rest g l = (after : List ℕ) × (l.rest ++ after ≡ l.bytes)
+    × WritesInCalls g.S.TextSink.puts l.fn.sink (l.text ++ hex_back after) l.sink
+
+abbrev pub decreases-loop-rest : goal.decreases-loop-rest
+decreases-loop-rest g l = length l.rest

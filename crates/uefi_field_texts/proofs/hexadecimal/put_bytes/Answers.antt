@@ -1,40 +1,28 @@
--- Eight bytes more are put, or one.
-use Rattle.std.proofs.Common.{◌∙◌, ap, sym, refl, ℕ, List, [], ◌++◌, ◌-◌, drop, take, length, append_assoc}
-use Rattle.std.proofs.lemmas.List.{append-nil, take_all}
+-- A block more is put.
+use Rattle.std.proofs.Common.{◌∙◌, ap, refl, sym, List, ℕ, [], ◌++◌, append_assoc}
+use Rattle.std.proofs.lemmas.List.{append-nil, take-append-drop}
 use Rattle.uefi_text.proofs.Puts.{puts_as, puts_two}
-use Rattle.uefi_field_texts.specs.FieldTexts.{hex_bytes, hex_two}
-use Rattle.uefi_field_texts.proofs.EightBytes.{eight_then, first_eight}
-use Rattle.uefi_field_texts.proofs.HexBack.{byte_more, bytes_more}
+use Rattle.uefi_field_texts.specs.FieldTexts.{hex_bytes}
+use Rattle.uefi_field_texts.proofs.HexBack.{bytes_more}
 use Rattle.uefi_field_texts.proofs.hexadecimal.put_bytes.Goals as goal
 
-pub eights-init : goal.eights-init
+pub loop-rest-init : goal.loop-rest-init
 unfolding hex_bytes
-eights-init g c = ([], refl, puts_as _ _ _ _ _ c.put_str.ensures (sym (append-nil c.args.text.now)))
+loop-rest-init g c = ([], refl, puts_as _ _ _ _ _ c.put_str.ensures (sym (append-nil c.args.text.now)))
 
-pub eights-preserved : goal.eights-preserved
-eights-preserved g c =
-    let so_far = c.eights.invariant in
-    let rest = c.eights.rest.now in (
-      so_far.0 ++ first_eight rest,
-      append_assoc so_far.0 (first_eight rest) (take (length rest - 8) (drop 8 rest))
-          ∙ ap (λ (xs : List ℕ). so_far.0 ++ xs) (eight_then rest c.in-len8-up.len_at_least) ∙ so_far.1,
-      puts_two _ _ _ _ _ _ _ so_far.2 c.put_eight.ensures (bytes_more c.args.text.now so_far.0 (first_eight rest)),
+pub loop-rest-preserved : goal.loop-rest-preserved
+loop-rest-preserved g c =
+    let so_far = c.loop-rest.invariant in
+    let block = c.split_at.result.0.now in
+    let after = c.split_at.result.1.now in
+    let cut = (λ i. c.split_at.ensures.front i ++ c.split_at.ensures.back i) ∙ take-append-drop 32 c.loop-rest.rest.now in (
+      so_far.0 ++ block,
+      append_assoc so_far.0 block after ∙ ap (λ (xs : List ℕ). so_far.0 ++ xs) cut ∙ so_far.1,
+      puts_two _ _ _ _ _ _ _ so_far.2 c.put_block.ensures (bytes_more c.args.text.now so_far.0 block),
     )
-
-pub loop-byte-init : goal.loop-byte-init
-unfolding hex_bytes
-loop-byte-init g c = let so_far = c.eights.invariant in (so_far.0, so_far.1, puts_as _ _ _ _ _ so_far.2 (sym (append-nil _)))
-
-pub loop-byte-preserved : goal.loop-byte-preserved
-unfolding hex_bytes
-loop-byte-preserved g c =
-    let so_far = c.loop-byte.invariant in
-    (so_far.0, so_far.1, puts_two _ _ _ _ _ _ _ so_far.2 c.put_two.ensures (byte_more hex_two _ c.eights.rest.now c.loop-byte.byte-index c.loop-byte-test.true))
 
 pub returns : goal.returns
 returns g c =
-    let so_far = c.loop-byte.invariant in
-    puts_as _ _ _ _ _ so_far.2 (
-    ap (λ (xs : List ℕ). (c.args.text.now ++ hex_bytes so_far.0) ++ hex_bytes xs) (take_all _ _ c.loop-byte-test.false)
-    ∙ bytes_more c.args.text.now so_far.0 c.eights.rest.now ∙ ap (λ (xs : List ℕ). c.args.text.now ++ hex_bytes xs) so_far.1
-    )
+    let so_far = c.loop-rest.invariant in
+    puts_two _ _ _ _ _ _ _ so_far.2 c.put_block-2.ensures
+    (bytes_more c.args.text.now so_far.0 c.loop-rest.rest.now ∙ ap (λ (xs : List ℕ). c.args.text.now ++ hex_bytes xs) so_far.1)

@@ -1,8 +1,12 @@
-use Rattle.std.proofs.Common.{◌++◌, take}
+use Rattle.std.proofs.Common.{◌≡◌, List, ℕ, ◌++◌, length}
 use Rattle.std.specs.Fmt.{WritesInCalls}
 use Rattle.uefi_field_texts.specs.FieldTexts.{shown_bytes}
 use Rattle.uefi_field_texts.proofs.texts.put_byte_text.Given as goal
 
--- the bytes so far were put
-abbrev pub invariant-loop-byte : goal.invariant-loop-byte
-invariant-loop-byte g l = WritesInCalls g.S.TextSink.puts l.fn.sink (l.text ++ shown_bytes (take l.byte-index l.bytes)) l.sink
+-- the bytes before the rest were put
+abbrev pub invariant-rest : goal.invariant-rest
+invariant-rest g l = (before : List ℕ) × (before ++ l.rest ≡ l.bytes)
+    × WritesInCalls g.S.TextSink.puts l.fn.sink (l.text ++ shown_bytes before) l.sink
+
+abbrev pub decreases-rest : goal.decreases-rest
+decreases-rest g l = length l.rest

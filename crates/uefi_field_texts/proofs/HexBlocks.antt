@@ -1,0 +1,45 @@
+-- The digits of a block of bytes.
+use Rattle.std.proofs.Common.{◌≡◌, ◌∙◌, ap, sym, suc, ℕ, ◌+◌, ◌*◌, ◌-◌, ◌/◌, ◌%◌, ◌<◌, true, List, [], ◌∷◌, ◌++◌, length, take, drop, reverse, get_or, set, arith}
+use Rattle.std.specs.Fmt.{digit_glyph}
+use Rattle.std.specs.Str.{IsUtf8}
+use Rattle.std.proofs.lemmas.Grind.{common_steps}
+use Rattle.std.proofs.lemmas.List.{get_or-reverse, length-reverse, take_more, take_more_set}
+use Rattle.uefi_text.proofs.UnitBytes.{set_two}
+use Rattle.uefi_field_texts.specs.FieldTexts.{hex_bytes, hex_two}
+use Rattle.uefi_field_texts.proofs.GuidTexts.{two_digits}
+use Rattle.uefi_field_texts.proofs.HexBack.{byte_more}
+use Rattle.uefi_field_texts.proofs.ShownTexts.{bytes_shown, shown_utf8}
+
+-- they are a Rust text
+pub bytes_utf8 : (bytes : List ℕ) → IsUtf8 (hex_bytes bytes)
+bytes_utf8 bytes = shown_utf8 (hex_bytes bytes) (bytes_shown bytes).0
+
+-- those of one byte more are written
+pub byte_written : (bytes digits : List ℕ) (i : ℕ) → i < length bytes → get_or bytes i 0 < 256 → 2 * i + 1 < length digits
+    → take (2 * i) digits ≡ hex_bytes (take i bytes)
+    → take (2 * (i + 1)) (set (set digits (2 * i) (digit_glyph true (get_or bytes i 0 / 16))) (2 * i + 1) (digit_glyph true (get_or bytes i 0 % 16)))
+    ≡ hex_bytes (take (i + 1) bytes)
+unfolding hex_bytes
+byte_written bytes digits i within small room so_far =
+    let byte = get_or bytes i 0 in
+    let high = digit_glyph true (byte / 16) in
+    let low = digit_glyph true (byte % 16) in
+    let next : 2 * i + 1 ≡ suc (2 * i) = omega arith in
+    let made = set_two digits (2 * i) high low (omega (arith, room)) in
+    let front : take (2 * (i + 1)) (take (2 * i) digits ++ high ∷ low ∷ drop (suc (suc (2 * i))) digits) ≡ take (2 * i) digits ++ high ∷ low ∷ [] =
+    grind (arith, common_steps) in
+    ap (λ (k : ℕ). take (2 * (i + 1)) (set (set digits (2 * i) high) k low)) next
+    ∙ ap (λ (xs : List ℕ). take (2 * (i + 1)) xs) made ∙ front
+    ∙ ap (λ (xs : List ℕ). xs ++ high ∷ low ∷ []) so_far
+    ∙ ap (λ (xs : List ℕ). hex_bytes (take i bytes) ++ xs) (sym (two_digits byte small))
+    ∙ byte_more hex_two [] bytes i within
+
+-- one byte more is turned
+pub byte_turned : (bytes turned : List ℕ) (i : ℕ) → i < length bytes → i < length turned → take i turned ≡ take i (reverse bytes)
+    → take (i + 1) (set turned i (get_or bytes (length bytes - 1 - i) 0)) ≡ take (i + 1) (reverse bytes)
+byte_turned bytes turned i within room so_far =
+    let byte = get_or bytes (length bytes - 1 - i) 0 in
+    take_more_set turned i byte room
+    ∙ ap (λ (xs : List ℕ). xs ++ byte ∷ []) so_far
+    ∙ ap (λ (x : ℕ). take i (reverse bytes) ++ x ∷ []) (sym (get_or-reverse bytes i 0 within))
+    ∙ sym (take_more (reverse bytes) i 0 (omega (arith, within, length-reverse bytes)))
