@@ -14,11 +14,9 @@ ghost use Rattle.uefi_node_table.specs.Table.{forms, has_form, table_text};
 use crate::rows::{Item, Mode, Piece, Row, Shape, Tail};
 use crate::table::{GROUPS, group, item_of};
 use crate::words::{word_for, words_of};
-use uefi_field_texts::hexadecimal::{
-    put_back, put_bytes, put_comma_bytes, put_dashed_back, put_hex,
-};
+use uefi_field_texts::hexadecimal::{put_back, put_bytes, put_comma_bytes, put_dashed_back};
 use uefi_field_texts::texts::{put_byte_text, put_utf16_text, until_nul};
-use uefi_text::number_texts::put_decimal;
+use uefi_text::number_texts::put_digits;
 use uefi_text::text_sink::TextSink;
 
 /// The number that bytes encode, the low byte first.
@@ -42,7 +40,7 @@ fn put_or_default<S: TextSink>(sink: &mut S, number: u64)
         sink.put_str("DEFAULT");
         return;
     }
-    put_decimal(sink, "", number);
+    put_digits(sink, number, 10);
 }
 
 /// Puts the number after that of a byte, in hexadecimal.
@@ -50,7 +48,7 @@ fn put_next<S: TextSink>(sink: &mut S, bytes: &[u8])
     requires { length bytes.now ≡ 1 }
     ensures { WritesInCalls S.puts sink.old (hex (little_endian bytes.now + 1)) sink.new }
 {
-    put_hex(sink, "", number_of(bytes) + 1);
+    put_digits(sink, number_of(bytes) + 1, 16);
 }
 
 /// Puts the bytes of a field.
@@ -59,8 +57,8 @@ fn put_value<S: TextSink>(sink: &mut S, shape: Shape, bytes: &[u8])
     ensures { WritesInCalls S.puts sink.old (field_text shape bytes.now) sink.new }
 {
     match shape {
-        Shape::Hexadecimal => put_hex(sink, "", number_of(bytes)),
-        Shape::Decimal => put_decimal(sink, "", number_of(bytes)),
+        Shape::Hexadecimal => put_digits(sink, number_of(bytes), 16),
+        Shape::Decimal => put_digits(sink, number_of(bytes), 10),
         Shape::OrDefault => put_or_default(sink, number_of(bytes)),
         Shape::Back => put_back(sink, "", bytes),
         Shape::Forth => put_bytes(sink, "", bytes),
