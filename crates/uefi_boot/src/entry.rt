@@ -63,7 +63,18 @@ fn write_shown<W: Write>(out: &mut W, character: char) -> fmt::Result {
     })
 }
 
+/// Whether a text holds a character that texts of device paths escape. Few hold more than printable ASCII,
+/// which holds none.
+fn has_escaped(text: &str) -> bool {
+    let is_ascii = text.bytes().all(|byte| 0x20 <= byte && byte < 0x7f);
+    !is_ascii && text.chars().any(is_escaped)
+}
+
 fn shown_text(alloc: Global, text: Char16Slice<'_>) -> Result<String, fmt::Error> {
+    let plain = format!(in alloc; "{text}")?;
+    if !has_escaped(plain.as_str()) {
+        return Ok(plain);
+    }
     let mut shown = String::new(alloc);
     for character in text.iter() {
         write_shown(&mut shown, char::from(character))?;
@@ -76,6 +87,12 @@ fn shown_description(
     alloc: Global,
     description: UnalignedSlice<'_, u16>,
 ) -> Result<String, fmt::Error> {
+    match description.to_cstring16(alloc) {
+        Ok(string) => return shown_text(alloc, string.as_cstr16().as_slice()),
+        Err(FromSliceWithNulError::OutOfMemory) => return Err(fmt::Error),
+        // It holds a surrogate.
+        Err(_) => {}
+    }
     let mut shown = String::new(alloc);
     for character in char::decode_utf16(description.iter().take_while(|unit| *unit != 0)) {
         write_shown(&mut shown, character.unwrap_or(char::REPLACEMENT_CHARACTER))?;

@@ -16,7 +16,8 @@ impl TextSink for Growing {
     ghost puts = { λ _ _ _. ⊤ };
 
     fn put_str(&mut self, text: &str) {
-        if !self.is_refused {
+        // Many parts of nodes are empty.
+        if !text.is_empty() && !self.is_refused {
             self.is_refused = self.text.push_str(text).is_err();
         }
     }

@@ -4,5 +4,5 @@ use Rattle.uefi_boot.proofs.texts.GrowingTextSink.put_str.Goals as goal
 pub returns-then-not-self : goal.returns-then-not-self
 returns-then-not-self c = writes_in_calls_single _ _ _ _ _
 
-pub returns-else-not-self : goal.returns-else-not-self
-returns-else-not-self c = writes_in_calls_single _ _ _ _ _
+pub returns-else-not-is_empty : goal.returns-else-not-is_empty
+returns-else-not-is_empty c = writes_in_calls_single _ _ _ _ _
