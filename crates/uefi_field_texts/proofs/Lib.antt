@@ -1,6 +1,6 @@
 pub mod HexBack
 pub mod Places
-pub mod Surrogates
+pub mod UnitsShown
 pub mod ShownTexts
 pub mod GuidTexts
 pub mod HexBlocks

@@ -3,7 +3,7 @@
 
 ghost use Rattle.std.specs.Fmt.{WritesInCalls};
 ghost use Rattle.std.specs.List.{list_all, position_or_len};
-ghost use Rattle.std.specs.Char.Utf16.{is_high_surrogate, is_low_surrogate, lone_unit_char, surrogate_pair_char, utf16_lossy_chars};
+ghost use Rattle.std.specs.Char.Utf16.{utf16_lossy_chars};
 ghost use Rattle.std.specs.Option.{unwrap_or};
 ghost use Rattle.std.specs.Prelude.{◌≡◌, ℕ, ◌+◌, ◌<◌, ◌≤◌, ◌∷◌, ◌++◌, ◌&&◌, List, drop, length, slice_index, take, true};
 ghost use Rattle.uefi_field_texts.specs.FieldTexts.{after_nul, is_escaped, shown_byte, shown_bytes, shown_char, shown_units, until_nul, utf16_text};
@@ -14,6 +14,7 @@ ghost use Rattle.uefi_text.specs.Views.{items_of};
 
 use crate::hexadecimal::{put_hex, put_two};
 use uefi_text::UnalignedSlice;
+use uefi_text::decode::lossy_char;
 use uefi_text::scans::find_zero;
 use uefi_text::text_sink::TextSink;
 
@@ -167,32 +168,6 @@ fn name_units(bytes: &[u8]) -> UnalignedSlice<'_, u16>
     UnalignedSlice::new(bytes, len)
 }
 
-/// Whether two units are the surrogates of one character.
-fn is_pair(first: u16, second: u16) -> bool
-    ensures { result ≡ is_high_surrogate first && is_low_surrogate second }
-{
-    first >= 0xd800 && first < 0xdc00 && second >= 0xdc00 && second < 0xe000
-}
-
-/// The character of two surrogates.
-fn pair_char(first: u16, second: u16) -> char
-    requires { (is_high_surrogate first && is_low_surrogate second) ≡ true }
-    ensures { result ≡ surrogate_pair_char first second }
-{
-    let (high, low) = (first as u32 - 0xd800, second as u32 - 0xdc00);
-    char::from_u32(0x10000 + high * 0x400 + low).unwrap()
-}
-
-/// The character of a unit that is in no pair: U+FFFD where it is a surrogate.
-fn lone_char(unit: u16) -> char
-    ensures { result ≡ unwrap_or (lone_unit_char unit) 0xfffd }
-{
-    if unit >= 0xd800 && unit < 0xe000 {
-        return '\u{fffd}';
-    }
-    char::from_u32(unit as u32).unwrap()
-}
-
 /// The character that stands at a place of units, and how many units it has.
 fn char_at(units: &UnalignedSlice<'_, u16>, place: usize) -> (char, usize)
     requires { place < length (items_of units.now) }
@@ -202,12 +177,7 @@ fn char_at(units: &UnalignedSlice<'_, u16>, place: usize) -> (char, usize)
     ensures within { place + result.1 ≤ length (items_of units.now) }
 {
     let _len = units.len();
-    let unit = unit_at(units, place);
-    let next = unit_at(units, place + 1);
-    if is_pair(unit, next) {
-        return (pair_char(unit, next), 2);
-    }
-    (lone_char(unit), 1)
+    lossy_char(unit_at(units, place), unit_at(units, place + 1))
 }
 
 /// Puts the printable ASCII that stands at a place of units as one text, and returns how many units this is:

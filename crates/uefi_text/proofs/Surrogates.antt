@@ -15,7 +15,7 @@ unfolding utf16_chars
 lone_first u [] h = refl
 lone_first u (v ∷ us) h = rw h refl
 
-pair_first : (u v : ℕ) (us : List ℕ) → (is_high_surrogate u && is_low_surrogate v) ≡ true
+pub pair_first : (u v : ℕ) (us : List ℕ) → (is_high_surrogate u && is_low_surrogate v) ≡ true
     → utf16_lossy_chars (u ∷ v ∷ us) ≡ surrogate_pair_char u v ∷ utf16_lossy_chars us
 unfolding utf16_chars
 pair_first u v us h = rw h refl

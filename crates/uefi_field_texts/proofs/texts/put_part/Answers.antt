@@ -3,7 +3,7 @@ use Rattle.std.proofs.Common.{ℕ, ◌++◌, ap, drop, take}
 use Rattle.uefi_text.specs.Views.{items_of}
 use Rattle.uefi_text.proofs.Puts.{puts_two}
 use Rattle.uefi_field_texts.specs.FieldTexts.{shown_char}
-use Rattle.uefi_field_texts.proofs.Surrogates.{shown_one, shown_run}
+use Rattle.uefi_field_texts.proofs.UnitsShown.{shown_one, shown_run}
 use Rattle.uefi_field_texts.proofs.texts.put_part.Goals as goal
 
 pub returns-then-len-ne0-clause-text : goal.returns-then-len-ne0-clause-text

@@ -4,7 +4,7 @@ use Rattle.std.proofs.lemmas.List.{take-append-drop}
 use Rattle.std.specs.Str.{IsUtf8}
 use Rattle.uefi_text.proofs.Puts.{puts_as}
 use Rattle.uefi_field_texts.proofs.ShownTexts.{printable_bytes}
-use Rattle.uefi_field_texts.proofs.Surrogates.{printable_utf8}
+use Rattle.uefi_field_texts.proofs.UnitsShown.{printable_utf8}
 use Rattle.uefi_field_texts.proofs.texts.put_printable.Goals as goal
 
 pub from_utf8_unchecked-requires : goal.from_utf8_unchecked-requires

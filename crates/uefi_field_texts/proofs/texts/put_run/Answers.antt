@@ -2,7 +2,7 @@
 use Rattle.std.proofs.Common.{sym, subst, drop, take}
 use Rattle.std.specs.Str.{IsUtf8}
 use Rattle.uefi_text.specs.Views.{items_of}
-use Rattle.uefi_field_texts.proofs.Surrogates.{printable_utf8}
+use Rattle.uefi_field_texts.proofs.UnitsShown.{printable_utf8}
 use Rattle.uefi_field_texts.proofs.texts.put_run.Goals as goal
 
 pub from_utf8_unchecked-requires : goal.from_utf8_unchecked-requires

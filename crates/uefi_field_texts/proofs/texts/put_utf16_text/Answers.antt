@@ -3,7 +3,7 @@ use Rattle.std.proofs.Common.{◌++◌, ◌∙◌, ap, refl, arith}
 use Rattle.uefi_text.specs.Views.{items_of}
 use Rattle.uefi_field_texts.specs.FieldTexts.{shown_units, utf16_text}
 use Rattle.uefi_text.proofs.Puts.{puts_as, puts_two}
-use Rattle.uefi_field_texts.proofs.Surrogates.{shown_all, shown_step}
+use Rattle.uefi_field_texts.proofs.UnitsShown.{shown_all, shown_step}
 use Rattle.uefi_field_texts.proofs.texts.put_utf16_text.Goals as goal
 
 pub loop-place-preserved : goal.loop-place-preserved

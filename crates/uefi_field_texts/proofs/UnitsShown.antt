@@ -1,53 +1,18 @@
--- The first character of units.
-use Rattle.std.proofs.Common.{◌≡◌, ℕ, ◌≤◌, ◌<◌, ◌+◌, ◌&&◌, Bool, false, true, if◌then◌else◌, List, [], ◌∷◌, ◌++◌, codes, length, drop, take, set, slice_index, ap, refl, sym, ◌∙◌, arith, add-one, add-zero, append_assoc}
+-- What is printed of units, character by character.
+use Rattle.std.proofs.Common.{◌≡◌, ℕ, ◌≤◌, ◌<◌, ◌+◌, ◌&&◌, Bool, false, true, if◌then◌else◌, List, [], ◌∷◌, ◌++◌, codes, length, drop, take, set, slice_index, ap, refl, sym, ◌∙◌, arith, append_assoc}
 use Rattle.std.proofs.lemmas.Bool.{and_parts}
 use Rattle.std.proofs.lemmas.Bool.Decides.{nat_tests}
 use Rattle.std.proofs.lemmas.List.{append-nil, drop-drop, drop_all, get_or-drop, length-drop, take-append-drop, take_more, take_more_set}
 use Rattle.std.proofs.lemmas.List.Folds.{list_all-append}
-use Rattle.std.proofs.Math.Seq.{drop-cons}
-use Rattle.std.specs.Char.Utf16.{is_high_surrogate, is_low_surrogate, lone_unit_char, surrogate_pair_char, utf16_chars, utf16_lossy_chars}
+use Rattle.std.specs.Char.Utf16.{is_high_surrogate, is_low_surrogate, lone_unit_char, utf16_chars, utf16_lossy_chars}
 use Rattle.std.specs.Option.{unwrap_or}
 use Rattle.std.specs.List.{concat, flat_map, list_all}
 use Rattle.std.specs.Prelude.{encode_utf8}
 use Rattle.std.specs.Str.{IsUtf8}
+use Rattle.uefi_text.proofs.Surrogates.{lone_first}
 use Rattle.uefi_field_texts.specs.FieldTexts.{hex, shown_char, shown_units}
 use Rattle.uefi_field_texts.specs.ShownTexts.{is_printable}
 use Rattle.uefi_field_texts.proofs.ShownTexts.{ascii_shown, printable_char, printable_code, shown_utf8}
-
--- the unit at a place, and those after it
-cut : (us : List ℕ) (i : ℕ) → i < length us → drop i us ≡ slice_index us i ∷ drop (i + 1) us
-cut us i within = drop-cons us i 0 within ∙ ap (λ (k : ℕ). slice_index us i ∷ drop k us) (sym (add-one i))
-
-pub lone_first : (u : ℕ) (us : List ℕ) → (is_high_surrogate u && is_low_surrogate (slice_index us 0)) ≡ false
-    → utf16_lossy_chars (u ∷ us) ≡ unwrap_or (lone_unit_char u) 0xFFFD ∷ utf16_lossy_chars us
-unfolding utf16_chars
-lone_first u [] h = refl
-lone_first u (v ∷ us) h = rw h refl
-
-pub pair_first : (u v : ℕ) (us : List ℕ) → (is_high_surrogate u && is_low_surrogate v) ≡ true
-    → utf16_lossy_chars (u ∷ v ∷ us) ≡ surrogate_pair_char u v ∷ utf16_lossy_chars us
-unfolding utf16_chars
-pair_first u v us h = rw h refl
-
--- a unit in no pair
-pub lone_at : (us : List ℕ) (i : ℕ) → i < length us
-    → (is_high_surrogate (slice_index us i) && is_low_surrogate (slice_index us (i + 1))) ≡ false
-    → utf16_lossy_chars (drop i us) ≡ unwrap_or (lone_unit_char (slice_index us i)) 0xFFFD ∷ utf16_lossy_chars (drop (i + 1) us)
-lone_at us i within h =
-    let next : slice_index (drop (i + 1) us) 0 ≡ slice_index us (i + 1) =
-    get_or-drop (i + 1) us 0 0 ∙ ap (λ (k : ℕ). slice_index us k) (add-zero (i + 1)) in
-    ap utf16_lossy_chars (cut us i within)
-    ∙ lone_first (slice_index us i) (drop (i + 1) us) (ap (λ (v : ℕ). is_high_surrogate (slice_index us i) && is_low_surrogate v) next ∙ h)
-
--- two surrogates
-pub pair_at : (us : List ℕ) (i : ℕ) → i + 2 ≤ length us
-    → (is_high_surrogate (slice_index us i) && is_low_surrogate (slice_index us (i + 1))) ≡ true
-    → utf16_lossy_chars (drop i us) ≡ surrogate_pair_char (slice_index us i) (slice_index us (i + 1)) ∷ utf16_lossy_chars (drop (i + 2) us)
-pair_at us i within h =
-    let two : i + 1 + 1 ≡ i + 2 = omega arith in
-    ap utf16_lossy_chars (cut us i (omega arith) ∙ ap (λ (vs : List ℕ). slice_index us i ∷ vs) (cut us (i + 1) (omega arith)))
-    ∙ pair_first (slice_index us i) (slice_index us (i + 1)) (drop (i + 1 + 1) us) h
-    ∙ ap (λ (k : ℕ). surrogate_pair_char (slice_index us i) (slice_index us (i + 1)) ∷ utf16_lossy_chars (drop k us)) two
 
 -- a character of what is printed
 pub shown_one : (us : List ℕ) (i n c : ℕ) → utf16_lossy_chars (drop i us) ≡ c ∷ utf16_lossy_chars (drop (i + n) us)
