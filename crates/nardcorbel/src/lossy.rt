@@ -13,7 +13,7 @@ use crate::buffers::report;
 use crate::texts::write_char;
 use uefi_text::BufferTooSmall;
 use uefi_text::decode::lossy_char;
-use uefi_text::scans::find_nul;
+use uefi_text::scan::find_nul;
 
 /// The character that is shown of those that units begin with, and how many units it takes.
 fn first_shown(units: &[u16]) -> (char, usize)

@@ -8,7 +8,7 @@ pub use crate::network::{
 };
 use uefi_built_nodes::BuildNode;
 use uefi_device_nodes::{DeviceSubType, DeviceType, Guid};
-use uefi_text::scans::split;
+use uefi_text::scan::split;
 
 /// A drive on an ATA bus.
 ///

@@ -4,7 +4,7 @@
 use crate::build_node::BuildNode;
 use uefi_device_nodes::{DeviceSubType, DeviceType, Guid};
 use uefi_text::CStr16;
-use uefi_text::scans::split;
+use uefi_text::scan::split;
 
 /// A partition of a hard drive.
 ///

@@ -14,7 +14,7 @@ use crate::device_path::DevicePath;
 use crate::errors::OptionBuildError;
 use std::alloc::Allocator;
 use uefi_built_nodes::build_node::copy_bytes;
-use uefi_text::scans::{find_nul, split};
+use uefi_text::scan::{find_nul, split};
 
 /// The longest file path list that the header of a load option can state.
 const LONGEST_LIST: usize = 0xffff;

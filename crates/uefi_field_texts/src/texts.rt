@@ -15,7 +15,7 @@ ghost use Rattle.uefi_text.specs.Views.{items_of};
 use crate::hexadecimal::{put_hex, put_two};
 use uefi_text::UnalignedSlice;
 use uefi_text::decode::lossy_char;
-use uefi_text::scans::find_zero;
+use uefi_text::scan::find_zero;
 use uefi_text::text_sink::TextSink;
 
 /// The place of the first zero among bytes, or their number where none is zero.

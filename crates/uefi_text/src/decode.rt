@@ -1,7 +1,191 @@
-//! Code units of UTF-16 as characters, where they may be anything.
+//! Code units as characters and as UTF-8. A unit of a text is a character of its own, so it has one, two or
+//! three bytes (Unicode Standard, section 3.9, table 3-6). How many all have is known before the first is
+//! written, so that memory is asked for once, and a refusal leaves everything unchanged. Units that may be
+//! anything are characters of UTF-16.
 ghost use Rattle.std.specs.Char.Utf16.{is_high_surrogate, is_low_surrogate, lone_unit_char, surrogate_pair_char, utf16_lossy_chars};
 ghost use Rattle.std.specs.Option.{unwrap_or};
-ghost use Rattle.std.specs.Prelude.{◌≡◌, ◌+◌, ◌<◌, ◌≤◌, ◌∷◌, ◌&&◌, ℕ, List, drop, length, slice_index, true};
+ghost use Rattle.std.specs.Prelude.{◌≡◌, ℕ, ◌+◌, ◌<◌, ◌≤◌, ◌++◌, ◌*◌, IfSome, OnErr, OnOk, count_by, length, encode_utf8, nat_le, slice_index, take, true, ◌∷◌, ◌&&◌, List, drop};
+ghost use Rattle.std.specs.Str.{IsAscii, encode_utf8_all};
+
+use crate::scan::{count_wide, is_ascii, narrow, widen};
+use std::alloc::{AllocError, Allocator};
+use std::simd::prelude::*;
+
+/// How many characters are printed at a time.
+pub(crate) const PRINTED: usize = 64;
+
+/// How many bytes units have in UTF-8: one each, a second from U+0080 on, and a third from U+0800 on.
+fn utf8_len(units: &[u16]) -> usize
+    ensures { result ≡ length (encode_utf8_all units.now) }
+{
+    let (two, three) = count_wide(units);
+    units.len() + two + three
+}
+
+/// Adds units of ASCII.
+fn add_ascii<A: Allocator>(bytes: &mut Vec<u8, A>, units: &[u16]) -> Result<(), AllocError>
+    requires { IsAscii units.now }
+    ensures ok { OnOk result (bytes.new.items ≡ bytes.old.items ++ units.now) }
+    ensures err { OnErr result (bytes.new.items ≡ bytes.old.items) }
+{
+    let start = bytes.len();
+    bytes.resize(start + units.len(), 0)?;
+    narrow(&mut bytes[start..], units);
+    Ok(())
+}
+
+/// Writes the UTF-8 of a unit from a place on, and returns the place after it.
+#[inline(always)]
+#[tactic(auto, using(crate::proofs::Utf8Bytes::unit_widths, crate::proofs::Writing::places_in_turn))]
+fn write_unit(bytes: &mut [u8], place: usize, unit: u16) -> usize
+    requires { place + length (encode_utf8 unit) ≤ length bytes.old }
+    ensures end { result ≡ place + length (encode_utf8 unit) }
+    ensures bytes { take result bytes.new ≡ take place bytes.old ++ encode_utf8 unit }
+{
+    if unit < 0x80 {
+        bytes[place] = unit as u8;
+        return place + 1;
+    }
+    if unit < 0x800 {
+        bytes[place] = (0xc0 + unit / 64) as u8;
+        bytes[place + 1] = (0x80 + unit % 64) as u8;
+        return place + 2;
+    }
+    bytes[place] = (0xe0 + unit / 4096) as u8;
+    bytes[place + 1] = (0x80 + unit / 64 % 64) as u8;
+    bytes[place + 2] = (0x80 + unit % 64) as u8;
+    place + 3
+}
+
+/// Writes the UTF-8 of units from a place on, one by one, and returns the place after them.
+#[inline(always)]
+fn write_each(bytes: &mut [u8], place: usize, units: &[u16]) -> usize
+    requires { place + length (encode_utf8_all units.now) ≤ length bytes.old }
+    ensures end { result ≡ place + length (encode_utf8_all units.now) }
+    ensures bytes { take result bytes.new ≡ take place bytes.old ++ encode_utf8_all units.now }
+{
+    let mut end = place;
+    for unit in units {
+        end = write_unit(bytes, end, *unit);
+    }
+    end
+}
+
+/// The UTF-8 of eight units that have three bytes each, the first 16 bytes and the last 8.
+#[inline(always)]
+fn eight_of_three_bytes(units: u16x8) -> (u8x16, u8x8)
+    requires { (k : ℕ) → k < 8 → 0x800 ≤ slice_index units k }
+    ensures { result.0 ++ result.1 ≡ encode_utf8_all units }
+{
+    let low_six = u16x8::splat(63);
+    let first = ((units >> u16x8::splat(12)) + u16x8::splat(0xe0)).cast::<u8>();
+    let second = (((units >> u16x8::splat(6)) & low_six) + u16x8::splat(0x80)).cast::<u8>();
+    let third = ((units & low_six) + u16x8::splat(0x80)).cast::<u8>();
+    let firsts: u8x16 = first.shuffle(
+        second,
+        [0, 1, 2, 3, 4, 5, 6, 7, 8, 9, 10, 11, 12, 13, 14, 15],
+    );
+    let thirds: u8x16 = third.swizzle([0, 1, 2, 3, 4, 5, 6, 7, 0, 1, 2, 3, 4, 5, 6, 7]);
+    let front = firsts.shuffle(
+        thirds,
+        [0, 8, 16, 1, 9, 17, 2, 10, 18, 3, 11, 19, 4, 12, 20, 5],
+    );
+    let back = firsts.shuffle(thirds, [13, 21, 6, 14, 22, 7, 15, 23]);
+    (front, back)
+}
+
+/// Writes lanes from a place on.
+#[inline(always)]
+fn store<const N: usize>(bytes: &mut [u8], place: usize, lanes: Simd<u8, N>)
+    requires { place + N ≤ length bytes.old }
+    ensures { take (place + N) bytes.new ≡ take place bytes.old ++ lanes.entry }
+{
+    lanes.copy_to_slice(&mut bytes[place..]);
+}
+
+/// Writes the UTF-8 of at most eight units from a place on, and returns the place after them. Eight that
+/// have three bytes each are written together.
+#[inline(always)]
+fn write_few(bytes: &mut [u8], place: usize, units: &[u16]) -> usize
+    requires few { length units.now ≤ 8 }
+    requires room { place + length (encode_utf8_all units.now) ≤ length bytes.old }
+    ensures end { result ≡ place + length (encode_utf8_all units.now) }
+    ensures bytes { take result bytes.new ≡ take place bytes.old ++ encode_utf8_all units.now }
+{
+    if units.len() < 8 {
+        return write_each(bytes, place, units);
+    }
+    let lanes = u16x8::from_slice(units);
+    if lanes.simd_ge(u16x8::splat(0x800)).to_bitmask() != 0xff {
+        return write_each(bytes, place, units);
+    }
+    let (front, back) = eight_of_three_bytes(lanes);
+    store(bytes, place, front);
+    store(bytes, place + 16, back);
+    place + 24
+}
+
+/// Writes the UTF-8 of units into the prefix of bytes, eight units at a time, and returns how many
+/// bytes they are.
+#[inline(never)]
+fn write_by_eight(bytes: &mut [u8], units: &[u16]) -> usize
+    requires { length (encode_utf8_all units.now) ≤ length bytes.old }
+    ensures len { result ≡ length (encode_utf8_all units.now) }
+    ensures bytes { take result bytes.new ≡ encode_utf8_all units.now }
+{
+    let mut end = 0;
+    for few in units.chunks(8) {
+        end = write_few(bytes, end, few);
+    }
+    end
+}
+
+/// Writes the UTF-8 of units into the prefix of bytes that have room for it, and returns how many
+/// bytes they are. Units of ASCII are written all at once.
+pub(crate) fn write_utf8(bytes: &mut [u8], units: &[u16]) -> usize
+    requires { 3 * length units.now ≤ length bytes.old }
+    ensures len { result ≤ length bytes.new }
+    ensures bytes { take result bytes.new ≡ encode_utf8_all units.now }
+{
+    if is_ascii(units) {
+        narrow(&mut bytes[..units.len()], units);
+        return units.len();
+    }
+    write_by_eight(bytes, units)
+}
+
+/// Does what [`write_utf8`] does, of at most [`PRINTED`] characters of Latin-1.
+pub(crate) fn write_latin1(bytes: &mut [u8], characters: &[u8]) -> usize
+    requires block { length characters.now ≤ 64 }
+    requires room { 3 * length characters.now ≤ length bytes.old }
+    ensures len { result ≤ length bytes.new }
+    ensures bytes { take result bytes.new ≡ encode_utf8_all characters.now }
+{
+    let mut units = [0; PRINTED + 1];
+    let len = characters.len();
+    widen(&mut units[..len + 1], characters);
+    write_utf8(bytes, &units[..len])
+}
+
+/// Adds the UTF-8 of units to bytes, which stay unchanged where memory is refused.
+pub(crate) fn add_utf8<A: Allocator>(
+    bytes: &mut Vec<u8, A>,
+    units: &[u16],
+) -> Result<(), AllocError>
+    ensures ok { OnOk result (bytes.new.items ≡ bytes.old.items ++ encode_utf8_all units.now) }
+    ensures err { OnErr result (bytes.new.items ≡ bytes.old.items) }
+{
+    if is_ascii(units) {
+        return add_ascii(bytes, units);
+    }
+    let start = bytes.len();
+    let Some(end) = start.checked_add(utf8_len(units)) else {
+        return Err(AllocError);
+    };
+    bytes.resize(end, 0)?;
+    write_by_eight(&mut bytes[start..], units);
+    Ok(())
+}
 
 /// Whether two units are the surrogates of one character.
 fn is_pair(first: u16, second: u16) -> bool

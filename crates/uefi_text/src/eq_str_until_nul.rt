@@ -4,7 +4,7 @@ ghost use Rattle.std.specs.Prelude.{◌↔◌, ℕ, List, IsTrue};
 ghost use Rattle.std.specs.Str.{chars};
 ghost use Rattle.uefi_text.specs.EqStrUntilNul.{IsEqualUntilNul};
 
-use crate::code_units::same_front;
+use crate::encode::same_front;
 
 /// A string that can be compared with a Rust text. A contract sees a value as its `characters`,
 /// those before its NUL.

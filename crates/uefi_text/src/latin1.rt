@@ -8,10 +8,10 @@ ghost use Rattle.uefi_text.specs.Units.{is_nul, nul_terminated, without_nul};
 ghost use Rattle.uefi_text.specs.Latin1.{IsLatin1, IsLatin1String};
 
 use crate::chars::Char8;
+use crate::decode::{PRINTED, write_latin1};
 use crate::eq_str_until_nul::EqStrUntilNul;
 use crate::errors::FromSliceWithNulError;
-use crate::scans::{find_zero, has_byte_beyond_latin1, has_zero};
-use crate::utf8::{PRINTED, write_latin1};
+use crate::scan::{find_zero, has_byte_beyond_latin1, has_zero};
 use std::cmp::Ordering;
 use std::fmt;
 use std::hash::{Hash, Hasher};

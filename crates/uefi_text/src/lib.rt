@@ -30,9 +30,9 @@
 pub mod case;
 pub mod char_sink;
 pub mod chars;
-mod code_units;
 #[doc(hidden)]
 pub mod decode;
+mod encode;
 pub mod eq_str_until_nul;
 mod errors;
 mod latin1;
@@ -44,14 +44,13 @@ mod packed;
 mod packed_strings;
 pub mod patterns;
 #[doc(hidden)]
-pub mod scans;
+pub mod scan;
 pub mod steps;
 pub mod strs;
 #[doc(hidden)]
 pub mod text_sink;
 pub mod unaligned_slice;
 pub mod unit_sink;
-mod utf8;
 
 pub use char_sink::CharSink;
 pub use chars::{Char8, Char16, CharConversionError, NUL_8, NUL_16};

@@ -9,10 +9,10 @@ ghost use Rattle.uefi_text.specs.Runs.{CopiesNoNul};
 
 use crate::case::{Case, set_case};
 use crate::chars::{Char16, NUL_16};
-use crate::code_units::{text_len, units_of_text, write_text};
+use crate::encode::{text_len, units_of_text, write_text};
 use crate::eq_str_until_nul::EqStrUntilNul;
 pub use crate::errors::FromStrError;
-use crate::scans::{Class, Nul, find_first, replace_units_from};
+use crate::scan::{Class, Nul, find_first, replace_units_from};
 use crate::strs::{CStr16, Char16Slice, FromSliceUntilNulError, FromSliceWithNulError};
 use std::alloc::{AllocError, Allocator, Global};
 use std::cmp::Ordering;

@@ -16,15 +16,15 @@ ghost use Rattle.uefi_text.specs.Units.{BeginsWithString, IsString, IsText, IsCh
 
 pub use crate::char_sink::CharSink;
 use crate::chars::Char16;
-use crate::code_units::write_text;
+use crate::decode::{PRINTED, add_utf8, write_utf8};
+use crate::encode::write_text;
 use crate::eq_str_until_nul::are_equal_by_block;
 pub use crate::eq_str_until_nul::{EqStrUntilNul, str_eq_until_nul};
 pub use crate::errors::{
     FromSliceUntilNulError, FromSliceWithNulError, FromStrWithBufError, UnalignedCStr16Error,
 };
 pub use crate::latin1::{CStr8, has_no_nul, is_latin1, str_num_latin1_chars, str_to_latin1};
-use crate::scans::{find_deciding_place, find_nul, is_ascii, same_ascii_len, split};
-use crate::utf8::{PRINTED, add_utf8, write_utf8};
+use crate::scan::{find_deciding_place, find_nul, is_ascii, same_ascii_len, split};
 use std::alloc::{AllocError, Allocator};
 use std::cmp::Ordering;
 use std::fmt;

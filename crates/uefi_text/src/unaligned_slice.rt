@@ -35,7 +35,7 @@ ghost use Rattle.uefi_text.specs.UnitBytes.{ends_in_nul};
 
 use crate::owned_strs::CString16;
 pub use crate::packed::Packed;
-use crate::scans::{Class, Deciding, Nul, find_first};
+use crate::scan::{Class, Deciding, Nul, find_first};
 use crate::strs::{CStr16, FromSliceWithNulError, UnalignedCStr16Error, check_deciding_unit};
 use std::alloc::{AllocError, Allocator};
 use std::fmt;

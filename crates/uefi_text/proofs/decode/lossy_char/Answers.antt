@@ -1,5 +1,5 @@
 -- The character is that of a pair, or of one unit.
-use Rattle.std.proofs.Common.{◌≡◌, ◌&&◌, ◌+◌, ◌∷◌, ◌≤◌, ◌<◌, List, ℕ, length, drop, false, true, inl, inr, slice_index, ap, refl, sym, ◌∙◌, arith}
+use Rattle.std.proofs.Common.{◌≡◌, ◌&&◌, ◌+◌, ◌∷◌, ◌≤◌, List, ℕ, length, drop, false, true, inl, inr, slice_index, ap, sym, ◌∙◌, arith}
 use Rattle.std.proofs.Math.ListN.{get_or-eq_default}
 use Rattle.std.proofs.lemmas.Bool.{and_parts, cases_lt}
 use Rattle.std.proofs.lemmas.Bool.Decides.{nat_tests}
