@@ -19,17 +19,17 @@ use Rattle.uefi_node_reader.specs.TableReading.{put_at}
 use Rattle.uefi_node_reader.proofs.Literals.{after_some}
 
 -- what is left of a text
-abbrev Left : Type 0
+abbrev pub Left : Type 0
 Left = Bor (List ℕ)
 
-abbrev found_before : List ℕ → Option Left → Option (List ℕ × List ℕ)
+abbrev pub found_before : List ℕ → Option Left → Option (List ℕ × List ℕ)
 found_before found left = option_map (λ (x : Left). (found, x.now)) left
 
 module _ (kind sub_kind : ℕ) (p : Piece) (content text found : List ℕ) (spare : ℕ) (left : Option Left)
     (within : p.place + p.width ≤ length content) (is_spare : spare ≡ left_out kind sub_kind p.place)
     (read : found_before found left
     ≡ value_or_spare p.shape spare (length (slice_range content p.place (p.place + p.width))) text) where
-  value : value_or_spare p.shape (left_out kind sub_kind p.place) p.width text ≡ found_before found left
+  pub value : value_or_spare p.shape (left_out kind sub_kind p.place) p.width text ≡ found_before found left
   value =
       let wide : length (slice_range content p.place (p.place + p.width)) ≡ p.width =
       length-between content p.place (p.place + p.width) within ∙ omega arith in

@@ -24,4 +24,5 @@ pub mod Spares
 pub mod LenientFields
 pub mod ToldNodes
 pub mod LenientReads
+pub mod LenientFaults
 pub mod LenientLaws

@@ -8,6 +8,8 @@ pub mod Laws
 pub mod LenientFields
 pub mod Telling
 pub mod LenientNodes
+pub mod LenientFaults
+pub mod FaultTexts
 pub mod Counted
 pub mod TextNodes
 pub mod TextNodeViews

@@ -18,14 +18,14 @@ use uefi_node_table::rows::{Piece, Shape};
 use uefi_node_table::words::{Word, Words, words_of};
 
 /// Whether a text begins with `0x`.
-fn begins_base(text: &[u8]) -> bool
+pub(crate) fn begins_base(text: &[u8]) -> bool
     ensures { result ≡ begins_base text.now }
 {
     matches!(text, [b'0', b'x', ..])
 }
 
 /// What stands after `0x`, or all of a text that begins otherwise.
-fn past_base(text: &[u8]) -> &[u8]
+pub(crate) fn past_base(text: &[u8]) -> &[u8]
     ensures { result.now ≡ past_base text.now }
 {
     match text {
@@ -35,7 +35,7 @@ fn past_base(text: &[u8]) -> &[u8]
 }
 
 /// What stands after a byte, in either case.
-fn after_letter(letter: u8, text: &[u8]) -> Option<&[u8]>
+pub(crate) fn after_letter(letter: u8, text: &[u8]) -> Option<&[u8]>
     ensures { option_map (λ x. x.now) result ≡ after_letter letter text.now }
 {
     match text {
@@ -189,7 +189,12 @@ fn put_spare(found: &mut [u8], spare: u8)
 
 /// Fills a buffer with the bytes of a field, or with `spare` where a number is left out. Returns what stands
 /// after it.
-fn value_or_spare<'a>(shape: Shape, spare: u8, found: &mut [u8], text: &'a [u8]) -> Option<&'a [u8]>
+pub(crate) fn value_or_spare<'a>(
+    shape: Shape,
+    spare: u8,
+    found: &mut [u8],
+    text: &'a [u8],
+) -> Option<&'a [u8]>
     requires { IsTrue (fits_shape shape (length found.old)) }
     ensures { option_map (λ x. (found.new, x.now)) result
         ≡ value_or_spare shape spare (length found.old) text.now }
@@ -203,7 +208,7 @@ fn value_or_spare<'a>(shape: Shape, spare: u8, found: &mut [u8], text: &'a [u8])
 
 /// The byte that a field is made of where it is left out (UEFI Specification 2.10, section 10.6.1): all ones
 /// for the port multiplier of SATA and for the fields of a class of USB devices, else 0.
-fn left_out(kind: u8, sub_kind: u8, place: usize) -> u8
+pub(crate) fn left_out(kind: u8, sub_kind: u8, place: usize) -> u8
     ensures { result ≡ left_out kind sub_kind place }
 {
     if kind == 3 && (sub_kind == 15 || sub_kind == 18 && place == 2) {

@@ -21,7 +21,7 @@ use uefi_node_table::rows::{Mode, Row, Tail};
 use uefi_node_table::table::{GROUPS, group};
 
 /// Whether a byte is a blank.
-fn is_blank(byte: u8) -> bool
+pub(crate) fn is_blank(byte: u8) -> bool
     ensures { result ≡ is_blank byte }
 {
     byte == b' ' || byte == b'\t'
@@ -39,7 +39,7 @@ fn tidied_byte(byte: u8) -> u8
 
 /// Puts the text of a call up to its `)` into a buffer, in such bytes and without blanks. Returns how many
 /// bytes these are.
-fn tidy(scratch: &mut [u8], text: &[u8]) -> usize
+pub(crate) fn tidy(scratch: &mut [u8], text: &[u8]) -> usize
     requires { length text.now < length scratch.old }
     ensures within { result ≤ length scratch.old }
     ensures call { take result scratch.new ≡ tidied text.now }
@@ -70,7 +70,7 @@ pub(crate) fn cut_call(text: &[u8]) -> Option<(&[u8], &[u8])>
 }
 
 /// Whether data after the fields hold no text.
-fn is_textless(tail: Tail) -> bool
+pub(crate) fn is_textless(tail: Tail) -> bool
     ensures { result ≡ is_textless tail }
 {
     match tail {

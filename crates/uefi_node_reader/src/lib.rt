@@ -7,7 +7,10 @@
 mod clear_texts;
 mod coding;
 mod counted_bytes;
+#[doc(hidden)]
+pub mod faults;
 mod fields;
+mod lenient_faults;
 mod lenient_fields;
 mod lenient_names;
 mod lenient_table;

@@ -1,14 +1,17 @@
 //! One node read from its text.
 #![tactic(auto, unfolding(crate::specs::NamedFiles::node_read))]
 
-ghost use Rattle.std.specs.Prelude.{◌≡◌, ◌<◌, codes, length};
+ghost use Rattle.std.specs.Prelude.{◌≡◌, ◌<◌, ◌≤◌, codes, length};
 ghost use Rattle.std.specs.Option.{option_map};
 ghost use Rattle.uefi_node_reader.specs.Laws.{NodeAgain, NodeFits, NodeStarts, NodeTakes, NodeTextOnce};
+ghost use Rattle.uefi_node_reader.specs.LenientFaults.{begun, call_fault, lenient_fault};
 ghost use Rattle.uefi_node_reader.specs.LenientFields.{after_literal};
 ghost use Rattle.uefi_node_reader.specs.LenientNodes.{LenientAgain, LenientEnds, LenientStarts, LenientTakes, ended, file_or_call, lenient_read};
 ghost use Rattle.uefi_node_reader.specs.NamedFiles.{is_after_node, node_read};
 ghost use Rattle.uefi_node_reader.specs.TextNodeViews.{text_node};
 
+use crate::faults::{Expected, NodeFault};
+use crate::lenient_faults::{call_fault, file_fault};
 use crate::lenient_fields::after_literal;
 use crate::lenient_names::{bare, begins_call, file};
 use crate::lenient_table::by_call;
@@ -91,6 +94,66 @@ pub fn read_lenient_node<'s, 't: 's>(
         return ended(called(scratch, text));
     }
     bare(scratch, text)
+}
+
+/// What stands after the node that a text begins with, whatever that is. The buffer then holds anything.
+fn begun<'t>(scratch: &mut [u8], text: &'t [u8]) -> Option<&'t [u8]>
+    requires { length text.now < length scratch.old }
+    ensures { option_map (λ x. x.now) result ≡ begun text.now }
+{
+    if let Some((_, rest)) = read_node(text) {
+        return Some(rest);
+    }
+    if begins_call(text) {
+        let (_, rest) = called(scratch, text)?;
+        return Some(rest);
+    }
+    let (_, rest) = bare(scratch, text)?;
+    Some(rest)
+}
+
+/// The fault of a text that begins with a call.
+fn fault_in_call(scratch: &mut [u8], text: &[u8]) -> NodeFault
+    requires { length text.now < length scratch.old }
+    ensures fault { result ≡ call_fault text.now (after_literal (codes "File(") text.now) }
+    ensures within { result.byte ≤ length text.now }
+{
+    match after_literal(b"File(", text) {
+        Some(name) => file_fault(text, name),
+        None => call_fault(scratch, text),
+    }
+}
+
+/// Returns why [`read_lenient_node`] reads no node from a text: the byte that is wrong, and what has to stand
+/// there. The buffer then holds anything.
+///
+/// Several forms of nodes may have the name of the call. The one that was read furthest decides, and the first
+/// of these if there are several. The byte is the first that differs from the form's text, or the first of a
+/// field that can't be read. If the text begins with a whole node, it is the first byte after that. Takes no
+/// memory but the buffer.
+#[tactic(auto, unfolding(crate::specs::LenientFaults::lenient_fault))]
+pub fn lenient_fault(scratch: &mut [u8], text: &[u8]) -> NodeFault
+    requires { length text.now < length scratch.old }
+    ensures fault { result ≡ lenient_fault text.now }
+    ensures within { result.byte ≤ length text.now }
+{
+    if let Some(rest) = begun(scratch, text) {
+        return NodeFault {
+            byte: text.len().saturating_sub(rest.len()),
+            expected: Expected::End,
+        };
+    }
+    if begins_call(text) {
+        return fault_in_call(scratch, text);
+    }
+    NodeFault {
+        byte: 0,
+        expected: if is_after_node(text) {
+            Expected::Node
+        } else {
+            Expected::FileName
+        },
+    }
 }
 
 /// What is read is told, and is printed so; and what is printed of a node that is told is read as that
