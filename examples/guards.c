@@ -353,7 +353,7 @@ static const struct row rows[] = {
         .out = BYTES("\4\1\x2a\0\1\0\0\0\0\10\0\0\0\0\0\0\0\x40\6\0\0\0\0\0\x10\x32\x54\x76\x98\xba\xdc\xfe\1\2\3\4\5\6\7\10\2\2"
                      "\4\4\x12\0\\\0E\0F\0I\0\\\0a\0\0\0" END)),
     FAULT(device_path_push_lenient_text, REFUSED, SCRATCH_TOO_SMALL, 3, .before = BYTES(PCI END), .in = {BYTES("(a")}, .number = 2),
-    FAULT(device_path_push_lenient_text, REFUSED, NO_NODE, 2, .before = BYTES(PCI END), .in = {BYTES("a/Pci(0x100)")}, .number = 13),
+    FAULT(device_path_push_lenient_text, REFUSED, NO_NODE, 6, .before = BYTES(PCI END), .in = {BYTES("a/Pci(0x100)")}, .number = 13),
     FAULT(device_path_push_lenient_text, REFUSED, NOT_UTF8, 1, .before = BYTES(END), .in = {BYTES("x\xc3")}),
     FAULT(device_path_push_lenient_text, REFUSED, UNKNOWN_END, 1, .before = BYTES(UNKNOWN), .in = {BYTES("\xc3")}),
     ROW(load_option_write, WHOLE, .in = {UNITS(u"b\0c"), BYTES(PCI FILE_A END FILE_A), BYTES("x")}, .number = 0xf00000001,

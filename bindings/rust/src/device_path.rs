@@ -287,15 +287,16 @@ impl<'a> DevicePathBuilder<'a> {
     /// without its first backslash. A comma ends an instance.
     ///
     /// `scratch` takes copies and then holds anything. Fails with [`Reason::ScratchTooSmall`](crate::Reason) if it is not longer
-    /// than the text, with [`Reason::NoNode`](crate::Reason) at the byte where the first node begins that can't be read, or if the
-    /// buffer is too small. Then the path is unchanged.
+    /// than the text, with [`Reason::NoNode`](crate::Reason) at the wrong byte of the first node that can't be read, or if the buffer
+    /// is too small. Then the path is unchanged.
     ///
     /// ```
     /// # use nardcorbel::{DevicePathBuilder, Reason};
     /// let (mut one, mut two, mut scratch) = ([0; 32], [0; 32], [0; 32]);
     /// let mut path = DevicePathBuilder::with_buf(&mut one)?;
     /// path.push_lenient_text("pci(31, 2)/File(a)", &mut scratch)?;
-    /// assert_eq!(path.push_lenient_text("pci(x)", &mut scratch).unwrap_err().reason, Reason::NoNode);
+    /// let error = path.push_lenient_text("pci(x)", &mut scratch).unwrap_err();
+    /// assert_eq!((error.reason, error.place), (Reason::NoNode, 4));
     /// assert_eq!(path.push_lenient_text("pci(1)", &mut []).unwrap_err().reason, Reason::ScratchTooSmall);
     /// let mut same = DevicePathBuilder::with_buf(&mut two)?;
     /// same.push_text(r"Pci(0x1F,0x2)/\a")?;

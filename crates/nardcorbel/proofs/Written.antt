@@ -7,14 +7,16 @@ use Rattle.std.specs.Prelude.{OnErr, OnOk}
 use Rattle.std.proofs.lemmas.Bool.{false≢true}
 use Rattle.uefi_device_path.proofs.Entries.{same_entry}
 use Rattle.uefi_device_path.specs.Building.{grow_refusal}
-use Rattle.uefi_device_path.specs.LenientReading.{IsPushLenientError, IsReadable, ReadingStopsAt}
+use Rattle.uefi_device_path.specs.LenientReading.{IsPushLenientError, IsReadable}
 use Rattle.uefi_device_path.specs.LoadOptions.{Entry}
 use Rattle.uefi_device_path.specs.PathReading.{HasPath, IsPushTextError, StopsAt}
 use Rattle.uefi_device_path.specs.declared.errors.BuildError.{BuildError}
 use Rattle.uefi_device_path.specs.declared.errors.GrowError.TheVariants.{Build, Path}
 use Rattle.uefi_device_path.specs.declared.errors.PushTextError.{PushTextError}
 use Rattle.uefi_device_path.specs.declared.errors.PushTextError.TheVariants as text
-use Rattle.nardcorbel.specs.Building.{build_place, build_reason, entry_of_path, text_place, text_reason}
+use Rattle.uefi_device_path.specs.declared.lenient_errors.PushLenientTextError.{PushLenientTextError}
+use Rattle.uefi_device_path.specs.declared.lenient_errors.PushLenientTextError.TheVariants as lenient
+use Rattle.nardcorbel.specs.Building.{IsWrongAt, build_place, build_reason, entry_of_path, lenient_place, lenient_reason, text_place, text_reason}
 use Rattle.nardcorbel.specs.Reasons.{node_reason}
 use Rattle.nardcorbel.specs.declared.reasons.TheConstants.{OK, BUFFER_TOO_SMALL, NO_NODE}
 use Rattle.uefi_device_path.specs.declared.errors.DevicePathError.{DevicePathError}
@@ -85,35 +87,38 @@ node_reason_below node.BeyondEnd = omega arith
 -- so what is reported where the nodes of a text are not added says which of its causes holds
 pub never_added : (error : PushTextError) → text_reason (Some error) ≡ OK → ⊥
 never_added (text.Path error) is = omega (arith, is, node_reason_above error.cause)
-never_added (text.ScratchTooSmall needed) is = omega (arith, is)
 never_added (text.NoNode place) is = omega (arith, is)
 never_added (text.BufferTooSmall needed) is = omega (arith, is)
 
 pub stops_there : (buffer bytes : List ℕ) (error : PushTextError) → IsPushTextError buffer bytes error
     → text_reason (Some error) ≡ NO_NODE → StopsAt bytes (text_place (Some error) 0)
 stops_there buffer bytes (text.Path error) cause is = absurd (omega (arith, is, node_reason_below error.cause))
-stops_there buffer bytes (text.ScratchTooSmall needed) cause is = absurd (omega (arith, is))
 stops_there buffer bytes (text.NoNode place) cause is = cause
 stops_there buffer bytes (text.BufferTooSmall needed) cause is = absurd (omega (arith, is))
 
 pub has_no_room : (buffer bytes : List ℕ) (error : PushTextError) → IsPushTextError buffer bytes error
     → text_reason (Some error) ≡ BUFFER_TOO_SMALL → HasPath bytes
 has_no_room buffer bytes (text.Path error) cause is = absurd (omega (arith, is, node_reason_above error.cause))
-has_no_room buffer bytes (text.ScratchTooSmall needed) cause is = absurd (omega (arith, is))
 has_no_room buffer bytes (text.NoNode place) cause is = absurd (omega (arith, is))
 has_no_room buffer bytes (text.BufferTooSmall needed) cause is = cause
 
 -- the same of a text as people write it
-pub reading_stops_there : (buffer bytes : List ℕ) (error : PushTextError) → IsPushLenientError buffer bytes error
-    → text_reason (Some error) ≡ NO_NODE → ReadingStopsAt bytes (text_place (Some error) 0)
-reading_stops_there buffer bytes (text.Path error) cause is = absurd (omega (arith, is, node_reason_below error.cause))
-reading_stops_there buffer bytes (text.ScratchTooSmall needed) cause is = absurd (omega (arith, is))
-reading_stops_there buffer bytes (text.NoNode place) cause is = cause
-reading_stops_there buffer bytes (text.BufferTooSmall needed) cause is = absurd (omega (arith, is))
+pub lenient_never_added : (error : PushLenientTextError) → lenient_reason (Some error) ≡ OK → ⊥
+lenient_never_added (lenient.Path error) is = omega (arith, is, node_reason_above error.cause)
+lenient_never_added (lenient.ScratchTooSmall needed) is = omega (arith, is)
+lenient_never_added (lenient.NoNode fault) is = omega (arith, is)
+lenient_never_added (lenient.BufferTooSmall needed) is = omega (arith, is)
 
-pub read_has_no_room : (buffer bytes : List ℕ) (error : PushTextError) → IsPushLenientError buffer bytes error
-    → text_reason (Some error) ≡ BUFFER_TOO_SMALL → IsReadable bytes
-read_has_no_room buffer bytes (text.Path error) cause is = absurd (omega (arith, is, node_reason_above error.cause))
-read_has_no_room buffer bytes (text.ScratchTooSmall needed) cause is = absurd (omega (arith, is))
-read_has_no_room buffer bytes (text.NoNode place) cause is = absurd (omega (arith, is))
-read_has_no_room buffer bytes (text.BufferTooSmall needed) cause is = cause
+pub reading_stops_there : (buffer bytes : List ℕ) (error : PushLenientTextError) → IsPushLenientError buffer bytes error
+    → lenient_reason (Some error) ≡ NO_NODE → IsWrongAt bytes (lenient_place (Some error) 0)
+reading_stops_there buffer bytes (lenient.Path error) cause is = absurd (omega (arith, is, node_reason_below error.cause))
+reading_stops_there buffer bytes (lenient.ScratchTooSmall needed) cause is = absurd (omega (arith, is))
+reading_stops_there buffer bytes (lenient.NoNode fault) cause is = (fault, (cause, refl))
+reading_stops_there buffer bytes (lenient.BufferTooSmall needed) cause is = absurd (omega (arith, is))
+
+pub read_has_no_room : (buffer bytes : List ℕ) (error : PushLenientTextError) → IsPushLenientError buffer bytes error
+    → lenient_reason (Some error) ≡ BUFFER_TOO_SMALL → IsReadable bytes
+read_has_no_room buffer bytes (lenient.Path error) cause is = absurd (omega (arith, is, node_reason_above error.cause))
+read_has_no_room buffer bytes (lenient.ScratchTooSmall needed) cause is = absurd (omega (arith, is))
+read_has_no_room buffer bytes (lenient.NoNode fault) cause is = absurd (omega (arith, is))
+read_has_no_room buffer bytes (lenient.BufferTooSmall needed) cause is = cause

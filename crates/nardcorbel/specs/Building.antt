@@ -1,6 +1,7 @@
 -- What a caller in C sees of device paths and load options that are written.
-use Rattle.std.specs.Prelude.{ℕ, List, [], ◌∷◌, Option, Some, None}
+use Rattle.std.specs.Prelude.{◌≡◌, ℕ, List, [], ◌∷◌, Option, Some, None}
 use Rattle.uefi_device_nodes.specs.Nodes.{Node}
+use Rattle.uefi_device_path.specs.LenientReading.{ReadingStopsAt}
 use Rattle.uefi_device_path.specs.LoadOptions.{Entry}
 use Rattle.uefi_device_path.specs.declared.errors.BuildError.{BuildError}
 use Rattle.uefi_device_path.specs.declared.errors.BuildError.TheVariants as build
@@ -8,6 +9,9 @@ use Rattle.uefi_device_path.specs.declared.errors.OptionBuildError.{OptionBuildE
 use Rattle.uefi_device_path.specs.declared.errors.OptionBuildError.TheVariants as option
 use Rattle.uefi_device_path.specs.declared.errors.PushTextError.{PushTextError}
 use Rattle.uefi_device_path.specs.declared.errors.PushTextError.TheVariants as text
+use Rattle.uefi_device_path.specs.declared.lenient_errors.PushLenientTextError.{PushLenientTextError}
+use Rattle.uefi_device_path.specs.declared.lenient_errors.PushLenientTextError.TheVariants as lenient
+use Rattle.uefi_device_path.specs.declared.lenient_errors.TextFault.{TextFault}
 use Rattle.nardcorbel.specs.Reasons.{node_reason}
 use Rattle.nardcorbel.specs.declared.reasons.TheConstants.{OK, INTERIOR_NUL, BUFFER_TOO_SMALL, EMPTY_LIST, NODE_OF_END, NODE_TOO_LONG, LIST_TOO_LONG, NO_NODE, SCRATCH_TOO_SMALL}
 
@@ -23,9 +27,16 @@ build_reason (Some build.OutOfMemory) = BUFFER_TOO_SMALL
 abbrev pub text_reason : Option PushTextError → ℕ
 text_reason None = OK
 text_reason (Some (text.Path error)) = node_reason error.cause
-text_reason (Some (text.ScratchTooSmall needed)) = SCRATCH_TOO_SMALL
 text_reason (Some (text.NoNode place)) = NO_NODE
 text_reason (Some (text.BufferTooSmall needed)) = BUFFER_TOO_SMALL
+
+-- the same of a text as people write it
+abbrev pub lenient_reason : Option PushLenientTextError → ℕ
+lenient_reason None = OK
+lenient_reason (Some (lenient.Path error)) = node_reason error.cause
+lenient_reason (Some (lenient.ScratchTooSmall needed)) = SCRATCH_TOO_SMALL
+lenient_reason (Some (lenient.NoNode fault)) = NO_NODE
+lenient_reason (Some (lenient.BufferTooSmall needed)) = BUFFER_TOO_SMALL
 
 -- the load option of one device path
 abbrev pub entry_of_path : ℕ → List ℕ → List Node → List ℕ → Entry
@@ -58,9 +69,20 @@ build_place (Some build.OutOfMemory) len place = place
 abbrev pub text_place : Option PushTextError → ℕ → ℕ
 text_place None len = len
 text_place (Some (text.Path error)) len = error.offset
-text_place (Some (text.ScratchTooSmall needed)) len = needed
 text_place (Some (text.NoNode place)) len = place
 text_place (Some (text.BufferTooSmall needed)) len = needed
+
+-- the same of a text as people write it: of its fault the byte that is wrong
+abbrev pub lenient_place : Option PushLenientTextError → ℕ → ℕ
+lenient_place None len = len
+lenient_place (Some (lenient.Path error)) len = error.offset
+lenient_place (Some (lenient.ScratchTooSmall needed)) len = needed
+lenient_place (Some (lenient.NoNode fault)) len = fault.byte
+lenient_place (Some (lenient.BufferTooSmall needed)) len = needed
+
+-- a text is not read, and this byte of it is wrong
+abbrev pub IsWrongAt : List ℕ → ℕ → Type 0
+IsWrongAt text byte = (fault : TextFault) × (ReadingStopsAt text fault × (byte ≡ fault.byte))
 
 -- the same of a load option
 abbrev pub option_build_place : Option OptionBuildError → ℕ → ℕ → ℕ

@@ -9,7 +9,7 @@ ghost use Rattle.uefi_text.specs.Units.{BeginsWithString};
 ghost use Rattle.uefi_device_nodes.specs.Nodes.{Node, end_entire, node_bytes, node_with};
 ghost use Rattle.uefi_device_path.specs.Building.{append_refusal, push_refusal, text_refusal, grow_refusal};
 ghost use Rattle.uefi_device_path.specs.Faults.{RefusedFor};
-ghost use Rattle.uefi_device_path.specs.LenientReading.{IsReadAs, IsReadable, ReadingStopsAt};
+ghost use Rattle.uefi_device_path.specs.LenientReading.{IsReadAs, IsReadable, ReadingStopsAt, lenient_refusal};
 ghost use Rattle.uefi_device_path.specs.LoadOptions.{entry_bytes};
 ghost use Rattle.uefi_device_path.specs.Matching.{IsExpansion};
 ghost use Rattle.uefi_device_path.specs.OptionBuilding.{option_over, write_fault};
@@ -18,7 +18,8 @@ ghost use Rattle.uefi_device_path.specs.Paths.{BeginWithPath, path_bytes};
 ghost use Rattle.uefi_device_path.specs.PathTexts.{path_text};
 ghost use Rattle.uefi_device_path.specs.declared.errors.BuildError.{BuildError};
 ghost use Rattle.uefi_device_path.specs.declared.errors.DevicePathError.{DevicePathError};
-ghost use Rattle.nardcorbel.specs.Building.{build_place, build_reason, entry_of_path, option_build_place, option_build_reason, text_place, text_reason};
+ghost use Rattle.uefi_device_path.specs.declared.lenient_errors.TextFault.{TextFault};
+ghost use Rattle.nardcorbel.specs.Building.{build_place, build_reason, entry_of_path, IsWrongAt, lenient_place, lenient_reason, option_build_place, option_build_reason, text_place, text_reason};
 ghost use Rattle.nardcorbel.specs.Reasons.{node_reason, until_nul_reason};
 ghost use Rattle.nardcorbel.specs.Strings.{text_in, until_nul_place};
 
@@ -31,8 +32,8 @@ use crate::strings::until_nul_place;
 use uefi_device_path::build::RawNode;
 use uefi_device_path::{
     BuildError, DevicePath, DeviceSubType, DeviceType, GrowError, LoadOptionBuilder,
-    OptionBuildError, PushTextError, append_in_buf, laws, push_in_buf, push_lenient_text_in_buf,
-    push_text_in_buf,
+    OptionBuildError, PushLenientTextError, PushTextError, append_in_buf, laws, push_in_buf,
+    push_lenient_text_in_buf, push_text_in_buf,
 };
 use uefi_text::CStr16;
 
@@ -187,9 +188,21 @@ fn text_reason(error: PushTextError) -> (u32, usize)
 {
     match error {
         PushTextError::Path(error) => (node_reason(error.cause), error.offset),
-        PushTextError::ScratchTooSmall(needed) => (SCRATCH_TOO_SMALL, needed),
         PushTextError::NoNode(place) => (NO_NODE, place),
         PushTextError::BufferTooSmall(needed) => (BUFFER_TOO_SMALL, needed),
+    }
+}
+
+/// The same of a text as people write it.
+fn lenient_reason(error: PushLenientTextError) -> (u32, usize)
+    ensures reason { result.0 ≡ lenient_reason (Some error) }
+    ensures place { (len : ℕ) → result.1 ≡ lenient_place (Some error) len }
+{
+    match error {
+        PushLenientTextError::Path(error) => (node_reason(error.cause), error.offset),
+        PushLenientTextError::ScratchTooSmall(needed) => (SCRATCH_TOO_SMALL, needed),
+        PushLenientTextError::NoNode(fault) => (NO_NODE, fault.byte),
+        PushLenientTextError::BufferTooSmall(needed) => (BUFFER_TOO_SMALL, needed),
     }
 }
 
@@ -263,8 +276,7 @@ pub extern "C" fn nard_device_path_push_text(
 /// `place`; then bytes that are not UTF-8 as `NOT_UTF8`, and `place` becomes how many bytes before
 /// the fault are; then a `scratch` that is not longer than these bytes as `SCRATCH_TOO_SMALL`, and `place`
 /// becomes how many bytes it needs; then a text that is not read as a path as `NO_NODE`, and `place` becomes
-/// the byte where the first node begins that can't be read; and then a buffer that is too small as
-/// `BUFFER_TOO_SMALL`. Else `place` becomes how many bytes the path then has, or needs, and the
+/// the byte of it that is wrong, or its length; and then a buffer that is too small as `BUFFER_TOO_SMALL`. Else `place` becomes how many bytes the path then has, or needs, and the
 /// greatest `usize` where these are more. Refused, the buffer stays unchanged; what stands after the
 /// path stays; `scratch` then holds anything. Takes no memory (UEFI Specification 2.10, section 10.6.1).
 #[unsafe(no_mangle)]
@@ -283,17 +295,18 @@ pub extern "C" fn nard_device_path_push_lenient_text(
         → (result ≡ SCRATCH_TOO_SMALL) × (place.new ≡ length bytes.now + 1) }
     ensures no_node { (nodes : List Node) → BeginWithPath buffer.old nodes → IsUtf8 bytes.now
         → length bytes.now < length scratch.old
-        → (at : ℕ) → ReadingStopsAt bytes.now at → (result ≡ NO_NODE) × (place.new ≡ at) }
+        → (fault : TextFault) → ReadingStopsAt bytes.now fault
+        → (result ≡ NO_NODE) × (place.new ≡ fault.byte) }
     ensures reason { (nodes read : List Node) → BeginWithPath buffer.old nodes → IsUtf8 bytes.now
         → length bytes.now < length scratch.old → IsReadAs bytes.now read
-        → result ≡ text_reason (text_refusal nodes read (length buffer.old)) }
+        → result ≡ lenient_reason (lenient_refusal nodes read (length buffer.old)) }
     ensures place { (nodes read : List Node) → BeginWithPath buffer.old nodes → IsUtf8 bytes.now
         → length bytes.now < length scratch.old → IsReadAs bytes.now read
-        → place.new ≡ text_place (text_refusal nodes read (length buffer.old))
+        → place.new ≡ lenient_place (lenient_refusal nodes read (length buffer.old))
         (length (path_bytes (nodes ++ read))) }
     ensures buffer { (nodes read : List Node) → BeginWithPath buffer.old nodes → IsReadAs bytes.now read
         → result ≡ OK → buffer.new ≡ with_prefix (path_bytes (nodes ++ read)) buffer.old }
-    ensures stops { result ≡ NO_NODE → ReadingStopsAt bytes.now place.new }
+    ensures stops { result ≡ NO_NODE → IsWrongAt bytes.now place.new }
     ensures read { result ≡ OK → IsReadable bytes.now }
     ensures small { result ≡ BUFFER_TOO_SMALL → IsReadable bytes.now }
     ensures unchanged { result ≢ OK → buffer.new ≡ buffer.old }
@@ -317,7 +330,7 @@ pub extern "C" fn nard_device_path_push_lenient_text(
             OK
         }
         Err(error) => {
-            let (reason, at) = text_reason(error);
+            let (reason, at) = lenient_reason(error);
             *place = at;
             reason
         }

@@ -1,10 +1,14 @@
 -- The nodes that a text is read as are added, one after the other, to the path that a buffer begins with.
-use Rattle.std.proofs.Common.{◌≡◌, ℕ, ◌+◌, ◌≤◌, Bool, true, List, [], ◌∷◌, ◌++◌, length, take, drop, refl, sym, subst, append_assoc}
+use Rattle.std.proofs.Common.{◌≡◌, ℕ, ◌+◌, ◌<◌, ◌≤◌, Bool, true, false, List, [], ◌∷◌, ◌++◌, length, take, drop, refl, ap, sym, subst, append_assoc, arith}
+use Rattle.std.specs.Prelude.{nat_lt, Some, None}
+use Rattle.std.proofs.lemmas.Bool.{le-ltb, lt-ltb}
 use Rattle.std.proofs.lemmas.List.{append-nil}
 use Rattle.uefi_device_nodes.specs.Nodes.{Node, node_length}
-use Rattle.uefi_device_path.specs.LenientReading.{IsReadable, IsReadAs, ReadsTo}
+use Rattle.uefi_device_path.specs.Building.{path_length}
+use Rattle.uefi_device_path.specs.LenientReading.{IsReadable, IsReadAs, ReadsTo, lenient_refusal}
 use Rattle.uefi_device_path.specs.LenientReading.ReadsTo.{Begins}
 use Rattle.uefi_device_path.specs.Paths.{IsPath, nodes_in, path_bytes, without_end}
+use Rattle.uefi_device_path.specs.declared.lenient_errors.PushLenientTextError.TheVariants.{BufferTooSmall}
 use Rattle.uefi_node_reader.specs.LenientNodes.{LenientStarts}
 use Rattle.uefi_device_path.proofs.LenientReading.{first_of_all, reads_rest}
 use Rattle.uefi_device_path.proofs.PushedTexts.{Holds, holds_next, room_for_more}
@@ -56,3 +60,18 @@ puts_next starts old text before done node new newer end more s rest on reads re
       (holds_next old new newer (before ++ done) node end more on
       (room_for_next starts old new text before done node end s rest on reads readable room) is long path shown after);
 }
+
+-- whether there is room for all
+pub without_room : (nodes read : List Node) (room needed : ℕ) → needed ≡ path_length (nodes ++ read)
+    → room < needed → Some (BufferTooSmall needed) ≡ lenient_refusal nodes read room
+without_room nodes read room needed is less =
+    let small : nat_lt room (path_length (nodes ++ read)) ≡ true =
+    lt-ltb room (path_length (nodes ++ read)) (omega (arith, is, less)) in
+    rw small (ap (λ (n : ℕ). Some (BufferTooSmall n)) is)
+
+pub with_room : (nodes read : List Node) (room needed : ℕ) → needed ≡ path_length (nodes ++ read)
+    → needed ≤ room → None ≡ lenient_refusal nodes read room
+with_room nodes read room needed is enough =
+    let fits : nat_lt room (path_length (nodes ++ read)) ≡ false =
+    le-ltb room (path_length (nodes ++ read)) (omega (arith, is, enough)) in
+    rw fits refl

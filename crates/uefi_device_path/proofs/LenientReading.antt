@@ -9,12 +9,14 @@ use Rattle.uefi_device_path.specs.LenientReading.{IsLenientError, IsReadAs, Read
 use Rattle.uefi_device_path.specs.LenientReading.ReadsTo.{Begins, Comma, OneMore}
 use Rattle.uefi_device_path.specs.PathReading.{AreTold, end_instance, is_after_instance}
 use Rattle.uefi_device_path.specs.Paths.{path_bytes}
-use Rattle.uefi_device_path.specs.declared.path_reader.PathTextError.{PathTextError}
-use Rattle.uefi_device_path.specs.declared.path_reader.PathTextError.TheVariants.{NoNode, OutOfMemory}
+use Rattle.uefi_device_path.specs.declared.lenient_errors.LenientTextError.{LenientTextError}
+use Rattle.uefi_device_path.specs.declared.lenient_errors.LenientTextError.TheVariants.{NoNode, OutOfMemory}
+use Rattle.uefi_device_path.specs.declared.lenient_errors.TextFault.{TextFault}
 use Rattle.uefi_device_path.proofs.PathReading.{IsToldOrEnd, path_text_is, place_fits, place_is, printed, rest_text, separator}
 use Rattle.uefi_device_path.proofs.TextLengths.{bytes_more}
 use Rattle.uefi_device_path.proofs.TextStops.{end_first, nothing_is_no_byte, told_first, whole_after}
 use Rattle.uefi_node_reader.specs.Laws.{NodeAgain, NodeFits}
+use Rattle.uefi_node_reader.specs.LenientFaults.{lenient_fault}
 use Rattle.uefi_node_reader.specs.LenientNodes.{LenientAgain, LenientEnds, LenientStarts, LenientTakes, lenient_read}
 use Rattle.uefi_node_reader.specs.NamedFiles.{is_after_node}
 use Rattle.uefi_node_reader.specs.TableReading.{first_of}
@@ -155,9 +157,9 @@ pub reads_rest : (text : List ℕ) (nodes : List Node) → IsReadAs text nodes �
 reads_rest text nodes (s, on) =
     subst (λ (x : List Node). Rests true text x None) (append-nil nodes) (rests_on text on [] None refl)
 
-stops_rest : (text : List ℕ) (place : ℕ) (nodes : List Node) (s : Bool) (rest : List ℕ) → ReadingStops text place nodes s rest
+stops_rest : (text : List ℕ) (fault : TextFault) (nodes : List Node) (s : Bool) (rest : List ℕ) → ReadingStops text fault nodes s rest
     → Rests true text nodes (Some rest)
-stops_rest text place nodes s rest stop =
+stops_rest text fault nodes s rest stop =
     subst (λ (x : List Node). Rests true text x (Some rest)) (append-nil nodes)
     (rests_on text stop.reads [] (Some rest) (refl, (stop.not_empty, stop.none)))
 
@@ -199,17 +201,23 @@ lenient_once starts text nodes others one two =
     (rests_once starts true text nodes others None None (reads_rest text nodes one) (reads_rest text others two)).0
 
 pub lenient_stops_once : LenientStarts → LenientStopsOnce
-lenient_stops_once starts text place other (nodes, s, rest, one) (others, t, left, two) =
-    let same = (rests_once starts true text nodes others (Some rest) (Some left)
-    (stops_rest text place nodes s rest one) (stops_rest text other others t left two)).1 in
-    one.offset ∙ ap (λ (x : List ℕ). length text - length x) (some_same same) ∙ sym two.offset
+lenient_stops_once starts text fault other (nodes, s, rest, one) (others, t, left, two) =
+    let same : rest ≡ left = some_same (rests_once starts true text nodes others (Some rest) (Some left)
+    (stops_rest text fault nodes s rest one) (stops_rest text other others t left two)).1 in
+    let node : fault.node ≡ other.node =
+    one.offset ∙ ap (λ (x : List ℕ). length text - length x) same ∙ sym two.offset in
+    let byte : fault.byte ≡ other.byte =
+    one.byte ∙ (λ i. node i + (lenient_fault (same i)).byte) ∙ sym two.byte in
+    let expected : fault.expected ≡ other.expected =
+    one.expected ∙ ap (λ (x : List ℕ). (lenient_fault x).expected) same ∙ sym two.expected in
+    λ i. record { node = node i; byte = byte i; expected = expected i }
   where
     some_same : {a b : List ℕ} → Some a ≡ Some b → a ≡ b
     some_same e = cc
 
 pub read_never_stops : LenientStarts → ReadNeverStops
-read_never_stops starts text nodes place one (others, s, rest, two) =
-    no (rests_once starts true text nodes others None (Some rest) (reads_rest text nodes one) (stops_rest text place others s rest two)).1
+read_never_stops starts text nodes fault one (others, s, rest, two) =
+    no (rests_once starts true text nodes others None (Some rest) (reads_rest text nodes one) (stops_rest text fault others s rest two)).1
   where
     no : None ≡ Some rest → ⊥
     no e = cc
@@ -298,8 +306,9 @@ over_node ends text nodes s rest place after node on other is read =
 -- where no node is read
 pub stopped : LenientEnds → (text : List ℕ) (nodes : List Node) (s : Bool) (rest place : List ℕ) → ReadsTo text nodes s rest
     → is_after_instance rest ≡ false → place ≡ cond s rest (drop 1 rest) → lenient_read place ≡ None
-    → ReadingStopsAt text (length text - length place)
-stopped ends text nodes s rest place on other is none = (
+    → (fault : TextFault) → fault.node ≡ length text - length place → fault.byte ≡ fault.node + (lenient_fault place).byte
+    → fault.expected ≡ (lenient_fault place).expected → ReadingStopsAt text fault
+stopped ends text nodes s rest place on other is none fault node byte expected = (
   nodes,
   s,
   place,
@@ -307,9 +316,26 @@ stopped ends text nodes s rest place on other is none = (
     reads = subst (λ (x : List ℕ). ReadsTo text nodes s x) (place_whole ends text nodes s rest place on other is) on;
     not_empty = λ e. ap is_after_instance (is ∙ ap (λ (t : Bool). cond t rest (drop 1 rest)) e) ∙ other;
     none = none;
-    offset = refl;
+    offset = node;
+    byte = byte;
+    expected = expected;
   },
 )
+
+-- such a place has a fault
+abbrev rest_fault : List ℕ → List ℕ → TextFault
+rest_fault text place = record {
+  node = length text - length place;
+  byte = (length text - length place) + (lenient_fault place).byte;
+  expected = (lenient_fault place).expected;
+}
+
+pub never_stops : LenientStarts → LenientEnds → (text : List ℕ) (all nodes : List Node) → IsReadAs text all
+    → (s : Bool) (rest place : List ℕ) → ReadsTo text nodes s rest → is_after_instance rest ≡ false
+    → place ≡ cond s rest (drop 1 rest) → lenient_read place ≡ None → ⊥
+never_stops starts ends text all nodes read s rest place on other is none =
+    read_never_stops starts text all (rest_fault text place) read
+    (stopped ends text nodes s rest place on other is none (rest_fault text place) refl refl refl)
 
 pub all_read : (text : List ℕ) (nodes : List Node) (s : Bool) (rest : List ℕ) → ReadsTo text nodes s rest → length rest ≡ 0
     → IsReadAs text nodes
@@ -350,14 +376,14 @@ counts_all starts text s rest len c none nodes read =
     (lenient_once starts text c.nodes nodes (all_read text c.nodes s rest c.on none) read)
 
 -- the nodes that a text is read as are the only result but for memory
-pub only_read : LenientOnce → ReadNeverStops → (text : List ℕ) (r : Result (List Node) PathTextError)
+pub only_read : LenientOnce → ReadNeverStops → (text : List ℕ) (r : Result (List Node) LenientTextError)
     → IfOk r (λ path. IsReadAs text path) → IfErr r (IsLenientError text) → (nodes : List Node) → IsReadAs text nodes
     → IfOk r (λ path. path ≡ nodes) × IfErr r (λ error. error ≡ OutOfMemory)
 only_read once never text (Ok path) ok refusal nodes read = (once text path nodes ok read, tt)
 only_read once never text (Err OutOfMemory) ok refusal nodes read = (tt, refl)
 only_read once never text (Err (NoNode place)) ok refusal nodes read = absurd (never text nodes place read refusal)
 
-pub told_result : LenientTold → (text : List ℕ) (r : Result (List Node) PathTextError)
+pub told_result : LenientTold → (text : List ℕ) (r : Result (List Node) LenientTextError)
     → IfOk r (λ path. IsReadAs text path) → IfOk r (λ path. AreTold path)
 told_result told text (Ok path) ok = told text path ok
 told_result told text (Err error) ok = tt

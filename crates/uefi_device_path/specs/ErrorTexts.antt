@@ -91,6 +91,4 @@ path_text_error_text read.OutOfMemory = codes "out of memory"
 abbrev pub push_text_error_text : PushTextError → List ℕ
 push_text_error_text (push_text.Path error) = device_path_error_text error
 push_text_error_text (push_text.NoNode place) = path_text_error_text (read.NoNode place)
-push_text_error_text (push_text.ScratchTooSmall needed) =
-    codes "scratch too small: the text needs " ++ decimal needed ++ codes " bytes"
 push_text_error_text (push_text.BufferTooSmall needed) = build_error_text (build.BufferTooSmall needed)

@@ -21,6 +21,7 @@ use Rattle.uefi_device_path.specs.FilePaths.{file_names, file_path, name_in}
 use Rattle.uefi_device_path.specs.LoadOptions.{Entry, EntryRefusedFor, IsEntry, entry_bytes}
 use Rattle.uefi_device_path.specs.declared.errors.DevicePathError.{DevicePathError}
 use Rattle.uefi_device_path.specs.declared.errors.LoadOptionError.{LoadOptionError}
+use Rattle.uefi_device_path.specs.declared.lenient_errors.TextFault.{TextFault}
 
 -- bytes begin with one path at most
 abbrev pub PathsOnce : Type 0
@@ -77,26 +78,26 @@ abbrev pub OptionsNeverBoth : Type 0
 OptionsNeverBoth = (entry : Entry) (error : LoadOptionError) → IsEntry entry
     → EntryRefusedFor (entry_bytes entry) error → ⊥
 
--- a text is read as one list of nodes at most, as people write it
+-- a text as people write it is read as at most one list of nodes
 abbrev pub LenientOnce : Type 0
 LenientOnce = (text : List ℕ) (nodes others : List Node) → IsReadAs text nodes → IsReadAs text others
     → nodes ≡ others
 
--- it is not read at one place at most
+-- it has at most one fault
 abbrev pub LenientStopsOnce : Type 0
-LenientStopsOnce = (text : List ℕ) (place other : ℕ) → ReadingStopsAt text place → ReadingStopsAt text other
-    → place ≡ other
+LenientStopsOnce = (text : List ℕ) (fault other : TextFault) → ReadingStopsAt text fault
+    → ReadingStopsAt text other → fault ≡ other
 
--- a text that is read is so at each place
+-- a text that is read has no fault
 abbrev pub ReadNeverStops : Type 0
-ReadNeverStops = (text : List ℕ) (nodes : List Node) (place : ℕ) → IsReadAs text nodes
-    → ReadingStopsAt text place → ⊥
+ReadNeverStops = (text : List ℕ) (nodes : List Node) (fault : TextFault) → IsReadAs text nodes
+    → ReadingStopsAt text fault → ⊥
 
--- what is read is told
+-- the printed text of the nodes that were read tells all of them
 abbrev pub LenientTold : Type 0
 LenientTold = (text : List ℕ) (nodes : List Node) → IsReadAs text nodes → AreTold nodes
 
--- the text of nodes of which it tells all is read as these
+-- a printed text that tells all of its nodes is read as these nodes
 abbrev pub LenientPrinted : Type 0
 LenientPrinted = (text : List ℕ) (nodes : List Node) → AreTold nodes → path_text false false nodes ≡ text
     → IsReadAs text nodes

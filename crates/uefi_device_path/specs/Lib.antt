@@ -15,6 +15,8 @@ pub use Rattle.uefi_built_messages.specs.MessagingNodes
 pub use Rattle.uefi_built_messages.specs.NetworkNodes
 pub use Rattle.uefi_device_nodes.specs.NodeEnums
 pub use Rattle.uefi_device_nodes.specs.Layouts
+pub use Rattle.uefi_node_reader.specs.FaultTexts
+pub use Rattle.uefi_node_reader.specs.declared.faults.Expected
 pub use Rattle.uefi_device_nodes.specs.declared.errors.NodeError
 pub use Rattle.uefi_device_nodes.specs.declared.errors.NodeConversionError
 pub use Rattle.uefi_device_nodes.specs.declared.node.DevicePathNode
@@ -36,5 +38,6 @@ pub mod Instances
 pub mod PathTexts
 pub mod PathReading
 pub mod LenientReading
+pub mod LenientErrorTexts
 pub mod Matching
 pub mod Laws

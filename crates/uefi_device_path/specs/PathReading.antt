@@ -70,6 +70,5 @@ IsReadError text (NoNode place) = StopsAt text place
 -- stops being that of one, or there is no room for it
 abbrev pub IsPushTextError : List ℕ → List ℕ → PushTextError → Type 0
 IsPushTextError buffer text (push_text.Path error) = RefusedFor buffer error
-IsPushTextError buffer text (push_text.ScratchTooSmall needed) = ⊥
 IsPushTextError buffer text (push_text.NoNode place) = StopsAt text place
 IsPushTextError buffer text (push_text.BufferTooSmall needed) = HasPath text

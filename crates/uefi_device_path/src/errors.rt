@@ -347,9 +347,6 @@ impl Error for GrowError {}
 pub enum PushTextError {
     /// The buffer begins with no device path.
     Path(DevicePathError),
-    /// The second buffer, which only [`push_lenient_text_in_buf`](crate::push_lenient_text_in_buf) takes,
-    /// has fewer bytes than this: one more than the text.
-    ScratchTooSmall(usize),
     /// A node has to begin at this byte of the text, and none does, as in
     /// [`PathTextError::NoNode`](crate::PathTextError).
     NoNode(usize),
@@ -367,10 +364,6 @@ impl Printed for PushTextError {
     fn put<S: TextSink>(&self, sink: &mut S) {
         match self {
             Self::Path(error) => error.put(sink),
-            Self::ScratchTooSmall(needed) => {
-                put_decimal(sink, "scratch too small: the text needs ", *needed as u64);
-                sink.put_str(" bytes");
-            }
             Self::NoNode(offset) => put_decimal(sink, "no node at offset ", *offset as u64),
             Self::BufferTooSmall(needed) => {
                 put_decimal(

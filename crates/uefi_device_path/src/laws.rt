@@ -59,8 +59,8 @@ pub fn stopped_texts()
     node_text_once();
 }
 
-/// A text is read as people write it in one way, or not at one place: as nodes whose text tells all of them,
-/// and as those whose text it is, if it is that of such nodes.
+/// A text as people write it is read as exactly one list of nodes, or it has exactly one fault. The printed
+/// text of these nodes tells all of them. A printed text that tells all of its nodes is read as these nodes.
 pub fn lenient_texts()
     ensures once { LenientOnce }
     ensures stops { LenientStopsOnce }

@@ -1,16 +1,17 @@
 //! Reads texts of device paths from standard input, a line each and as people write them, and prints what
 //! each means: the bytes of the path in hexadecimal, and the text that is printed of it.
 //!
-//! Ends with 0 where each line is a path; with 1 where one is none, which is printed with the byte at which
-//! it stops being one; with 2 where a read or a write failed, or a line is not UTF-8 or finds no memory;
-//! with 3, and `out of memory` on standard error, where a path finds no memory.
+//! Ends with 0 where each line is a path; with 1 where one is none, which is printed with the node that can't
+//! be read, the byte that is wrong and what has to stand there; with 2 where a read or a write failed, or a
+//! line is not UTF-8 or finds no memory; with 3, and `out of memory` on standard error, where a path finds no
+//! memory.
 #![tactic(auto)]
 
 use std::alloc::Allocator;
 use std::fmt::{self, Write};
 use std::io::{self, BufRead, BufReader, Write as _};
 use std::process::ExitCode;
-use uefi_device_path::{DevicePathBuf, PathTextError};
+use uefi_device_path::{DevicePathBuf, LenientTextError};
 
 /// Writes what a line means. False where it is no path.
 fn write_path<W: Write, A: Allocator + Copy>(
@@ -27,11 +28,11 @@ fn write_path<W: Write, A: Allocator + Copy>(
             writeln!(out, " {path}")?;
             Ok(true)
         }
-        Err(PathTextError::NoNode(offset)) => {
-            writeln!(out, "refused: {}", PathTextError::NoNode(offset))?;
+        Err(LenientTextError::NoNode(fault)) => {
+            writeln!(out, "refused: {fault}")?;
             Ok(false)
         }
-        Err(PathTextError::OutOfMemory) => Err(fmt::Error),
+        Err(LenientTextError::OutOfMemory) => Err(fmt::Error),
     }
 }
 

@@ -6,8 +6,8 @@ use for_tests::{Refusing, is_answered, repeated, requests};
 use std::alloc::{AllocError, Global};
 use std::test::Fail;
 use uefi_device_path::{
-    BuildError, DevicePath, DevicePathBuf, DeviceSubType, DeviceType, FilePathCause, LoadOption,
-    LoadOptionBuilder, OptionBuildError, PathTextError,
+    BuildError, DevicePath, DevicePathBuf, DeviceSubType, DeviceType, FilePathCause,
+    LenientTextError, LoadOption, LoadOptionBuilder, OptionBuildError, PathTextError,
 };
 use uefi_path::Path;
 use uefi_text::{CStr16, FromSliceWithNulError};
@@ -87,17 +87,16 @@ fn answers(call: Call<'_>, heap: &Refusing<Global>) -> Result<bool, AllocError> 
         ),
         Call::FromLenientText(text) => is_answered(
             DevicePathBuf::from_lenient_text(heap, text),
-            PathTextError::OutOfMemory,
+            LenientTextError::OutOfMemory,
         ),
         Call::NoText(text, place) => Ok(
             DevicePathBuf::from_text(heap, text).err() == Some(PathTextError::NoNode(place)),
         ),
-        Call::NoLenientText(text, place) => {
-            match DevicePathBuf::from_lenient_text(heap, text).err() {
-                Some(PathTextError::OutOfMemory) => Err(AllocError),
-                error => Ok(error == Some(PathTextError::NoNode(place))),
-            }
-        }
+        Call::NoLenientText(text, place) => match DevicePathBuf::from_lenient_text(heap, text) {
+            Err(LenientTextError::OutOfMemory) => Err(AllocError),
+            Err(LenientTextError::NoNode(fault)) => Ok(fault.node == place),
+            Ok(_) => Ok(false),
+        },
         Call::Description(bytes) => describes(heap, bytes, false),
         Call::DescriptionLossy(bytes) => describes(heap, bytes, true),
     }

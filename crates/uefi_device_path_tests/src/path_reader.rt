@@ -55,42 +55,16 @@ fn texts(rt: HostRuntime) -> Result<(), Fail> {
     Ok(())
 }
 
-/// Texts of no path, and where the first node begins that can't be read.
-pub(crate) const REFUSED: &[(&str, usize)] = &[
-    ("PciRoot(0x0)/", 13),
-    ("PciRoot(0x0)//Pci(0x0,0x0)", 13),
-    ("PciRoot(0x0)Pci(0x0,0x0)", 0),
-    ("PciRoot(0x0)/Pci(0x0,0x0) ", 13),
-    (",PciRoot(0x0),Pci(0x0,0x0)x,", 14),
-    ("/Pci(0x0,0x0)", 0),
-    (",,/", 2),
-    ("PciRoot(0x00)", 0),
-    ("PciRoot(0x0)/Pci(0x1f,0x2)", 13),
-    ("PciRoot(0x0)/Pci(0x1F,0x100)", 13),
-    ("Acpi(PNP0A03,0x0)", 0),
-    ("Acpi(0x0A0341D0,0x0)", 0),
-    ("USB(0x1,0x0),USB(0x1)", 13),
-    ("Uart(0,8,N,1)", 0),
-    ("Uart(115200,8,N,1.6)", 0),
-    (
-        "SasEx(0x0000000000000001,0x0000000000000002,0x0,SAS,Internal,Direct,0x101)",
-        0,
-    ),
-    ("AcpiAdr(0x1,)", 0),
-    ("AcpiAdr()", 0),
-    ("Dns(8.8.8.8,)", 0),
-    ("Dns(8.8.8.8,0001:0000:0000:0000:0000:0000:0000:0001)", 0),
-    ("Dns(8.8.8.256)", 0),
-    ("UsbWwid(0x1,0x2,0x3,\"\u{e9}\")", 0),
-    ("UsbWwid(0x1,0x2,0x3,\"a\"b\")", 0),
-    ("Uri(a)b)", 0),
-    ("Wi-Fi(home)", 0),
-    ("HD(01,MBR,0xA0B1C2D3,0x3F,0x1)", 0),
-    ("Path(1,1,ABCD)", 0),
-    ("Path(127,1)", 0),
-    ("Path(256,0)", 0),
-    ("EFI", 0),
-    ("\\a/\\b/c", 6),
-    ("\\a\n", 0),
-    ("\\\u{202e}fie.exe", 0),
-];
+/// Texts of no path, after where the first node begins in them that can't be read.
+pub(crate) const REFUSED: &str = "\
+13 PciRoot(0x0)/ | PciRoot(0x0)//Pci(0x0,0x0) | PciRoot(0x0)/Pci(0x0,0x0)  | PciRoot(0x0)/Pci(0x1f,0x2)
+13 PciRoot(0x0)/Pci(0x1F,0x100) | USB(0x1,0x0),USB(0x1)
+14 ,PciRoot(0x0),Pci(0x0,0x0)x,
+0 PciRoot(0x0)Pci(0x0,0x0) | /Pci(0x0,0x0) | PciRoot(0x00) | Acpi(PNP0A03,0x0) | Acpi(0x0A0341D0,0x0)
+0 Uart(0,8,N,1) | Uart(115200,8,N,1.6) | AcpiAdr(0x1,) | AcpiAdr() | Dns(8.8.8.8,) | Dns(8.8.8.256)
+0 Dns(8.8.8.8,0001:0000:0000:0000:0000:0000:0000:0001) | Uri(a)b) | Wi-Fi(home) | EFI | \\a\r
+0 SasEx(0x0000000000000001,0x0000000000000002,0x0,SAS,Internal,Direct,0x101) | \\\u{202e}fie.exe
+0 UsbWwid(0x1,0x2,0x3,\"\u{e9}\") | UsbWwid(0x1,0x2,0x3,\"a\"b\") | HD(01,MBR,0xA0B1C2D3,0x3F,0x1)
+0 Path(1,1,ABCD) | Path(127,1) | Path(256,0)
+2 ,,/
+6 \\a/\\b/c";

@@ -6,9 +6,10 @@ use crate::option_builder::END;
 use crate::{lenient_reader, path_reader};
 use for_tests::{bytes, holds, split_row};
 use std::alloc::Global;
+use std::fmt::Display;
 use std::test::Fail;
 use uefi_device_path::{
-    DevicePathBuf, PathTextError, PushTextError, push_lenient_text_in_buf, push_text_in_buf,
+    DevicePathBuf, PushLenientTextError, push_lenient_text_in_buf, push_text_in_buf,
 };
 
 /// The path of a PCI device and of the nodes that have these bytes.
@@ -19,35 +20,39 @@ fn path_of(alloc: Global, nodes: &[u8]) -> Result<Vec<u8>, Fail> {
     Ok(path)
 }
 
-/// Adds the nodes of a text, one as people write it with the least second buffer that will do.
-fn push(
-    alloc: Global,
-    is_printed: bool,
-    buffer: &mut [u8],
-    text: &str,
-) -> Result<Result<usize, PushTextError>, Fail> {
-    if is_printed {
-        return Ok(push_text_in_buf(buffer, text));
+/// What a call returned, with its error as a text.
+type Shown<T> = Result<Result<T, String>, Fail>;
+
+/// The same of a result.
+fn shown<T, E: Display + Drop>(alloc: Global, it: Result<T, E>) -> Shown<T> {
+    match it {
+        Ok(value) => Ok(Ok(value)),
+        Err(error) => Ok(Err(format!(in alloc; "{error}")?)),
     }
-    let mut scratch = vec![in alloc; 0xeeu8; text.len().saturating_add(1)]?;
-    Ok(push_lenient_text_in_buf(buffer, text, &mut scratch))
 }
 
-/// Whether a text makes the path of a PCI device to this one in a buffer of `room` bytes, or is refused
+/// Adds the nodes of a text, one as people write it with the least second buffer that will do.
+fn push(alloc: Global, exact: bool, old: &mut [u8], text: &str) -> Shown<usize> {
+    if exact {
+        return shown(alloc, push_text_in_buf(old, text));
+    }
+    let mut scratch = vec![in alloc; 0xeeu8; text.len().saturating_add(1)]?;
+    shown(alloc, push_lenient_text_in_buf(old, text, &mut scratch))
+}
+
+/// Whether a text makes the path of a PCI device to this one in a buffer of `len` bytes, or is refused
 /// there for them where they are too few.
-fn is_added(
-    alloc: Global,
-    is_printed: bool,
-    room: usize,
-    text: &str,
-    path: &[u8],
-) -> Result<bool, Fail> {
+fn is_added(alloc: Global, exact: bool, len: usize, text: &str, path: &[u8]) -> Result<bool, Fail> {
     let device = path_of(alloc, &[])?;
     let mut buffer = Vec::from_slice(alloc, &device)?;
-    buffer.resize(room, 9)?;
-    let added = push(alloc, is_printed, &mut buffer, text)?;
-    Ok(if room < path.len() {
-        added == Err(PushTextError::BufferTooSmall(path.len())) && holds(&buffer, &device, &9)
+    buffer.resize(len, 9)?;
+    let added = push(alloc, exact, &mut buffer, text)?;
+    Ok(if len < path.len() {
+        let needed = format!(in alloc;
+            "buffer too small: the device path needs {} bytes",
+            path.len()
+        )?;
+        added == Err(needed) && holds(&buffer, &device, &9)
     } else {
         added == Ok(path.len()) && holds(&buffer, path, &9)
     })
@@ -55,30 +60,29 @@ fn is_added(
 
 /// Whether a text as people write it is refused for each second buffer that is too short.
 fn needs_scratch(alloc: Global, text: &str) -> Result<bool, Fail> {
-    let needed = Err(PushTextError::ScratchTooSmall(text.len().saturating_add(1)));
+    let needed = Err(PushLenientTextError::ScratchTooSmall(text.len().saturating_add(1)));
     let mut scratch = vec![in alloc; 0xeeu8; text.len()]?;
     let mut buffer = [0x7f, 0xff, 4, 0, 9, 9];
-    let mut wrong = 0usize;
     for room in 0..=scratch.len() {
         let added = push_lenient_text_in_buf(&mut buffer, text, &mut scratch[..room]);
         if added != needed || buffer != [0x7f, 0xff, 4, 0, 9, 9] {
-            wrong = wrong.saturating_add(1);
+            return Ok(false);
         }
     }
-    Ok(wrong == 0)
+    Ok(true)
 }
 
 /// The first line of a table whose text is not added so, in buffers of any size that holds the device.
-fn find_wrong(alloc: Global, is_printed: bool, table: &str) -> Result<Option<&str>, Fail> {
+fn find_wrong(alloc: Global, exact: bool, table: &str) -> Result<Option<&str>, Fail> {
     for line in table.split('\n') {
         let (nodes, text) = split_row(line);
         let path = path_of(alloc, &bytes(alloc, nodes)?)?;
         for room in 10..path.len() + 2 {
-            if !is_added(alloc, is_printed, room, text, &path)? {
+            if !is_added(alloc, exact, room, text, &path)? {
                 return Ok(Some(line));
             }
         }
-        if !is_printed && !needs_scratch(alloc, text)? {
+        if !exact && !needs_scratch(alloc, text)? {
             return Ok(Some(line));
         }
     }
@@ -87,43 +91,50 @@ fn find_wrong(alloc: Global, is_printed: bool, table: &str) -> Result<Option<&st
 
 #[test]
 fn at_each_room(rt: HostRuntime) -> Result<(), Fail> {
-    for (is_printed, table) in [
+    for (exact, table) in [
         (true, path_reader::TEXTS),
         (true, REGULAR),
         (false, lenient_reader::BY_LIBEFIVAR),
         (false, lenient_reader::BY_PEOPLE),
     ] {
-        assert_eq!(rt; find_wrong(rt.alloc(), is_printed, table)?, None);
+        assert_eq!(rt; find_wrong(rt.alloc(), exact, table)?, None);
     }
     Ok(())
 }
 
-/// Whether a text is refused at this byte: in memory, before a buffer without room for more, and after one
-/// that begins with no path.
-fn is_refused(alloc: Global, is_printed: bool, text: &str, place: usize) -> Result<bool, Fail> {
+/// Why a text is refused in memory and before a buffer without room for more; nothing where it is not so in
+/// both, or not refused otherwise after a buffer that begins with no path.
+fn refusal(alloc: Global, exact: bool, text: &str) -> Result<Option<String>, Fail> {
     let (mut buffer, mut no_path) = ([0x7f, 0xff, 4, 0], [0x7f, 0xff, 3, 0]);
-    let added = push(alloc, is_printed, &mut buffer, text)?;
-    let unread = push(alloc, is_printed, &mut no_path, text)?;
-    let read = if is_printed {
-        DevicePathBuf::from_text(alloc, text)
+    let added = push(alloc, exact, &mut buffer, text)?.err();
+    let unread = push(alloc, exact, &mut no_path, text)?.err();
+    let read = if exact {
+        shown(alloc, DevicePathBuf::from_text(alloc, text))?.err()
     } else {
-        DevicePathBuf::from_lenient_text(alloc, text)
+        shown(alloc, DevicePathBuf::from_lenient_text(alloc, text))?.err()
     };
-    Ok(
-        added == Err(PushTextError::NoNode(place))
-            && read.err() == Some(PathTextError::NoNode(place))
-            && buffer == [0x7f, 0xff, 4, 0]
-            && matches!(unread, Err(PushTextError::Path(_))),
-    )
+    let is_first = unread.as_deref() == Some("a node is shorter than its header at offset 2");
+    let is_so = is_first && added == read && buffer == [0x7f, 0xff, 4, 0];
+    Ok(if is_so { added } else { None })
 }
 
 #[test]
 fn refused(rt: HostRuntime) -> Result<(), Fail> {
-    for (text, place) in path_reader::REFUSED {
-        assert!(rt; is_refused(rt.alloc(), true, text, *place)?, "{text}");
+    for line in path_reader::REFUSED.split('\n') {
+        let (place, texts) = split_row(line);
+        for text in texts.split(" | ") {
+            let want = format!(in rt.alloc(); "no node at offset {place}")?;
+            assert_eq!(rt; refusal(rt.alloc(), true, text)?, Some(want), "{text}");
+        }
     }
-    for (text, place) in lenient_reader::REFUSED {
-        assert!(rt; is_refused(rt.alloc(), false, text, *place)?, "{text}");
+    for row in lenient_reader::REFUSED.split(" | ") {
+        let (row, expected) = row.rsplit_once(": ").unwrap_or((row, ""));
+        let (node, row) = split_row(row);
+        let (byte, text) = split_row(row);
+        let want = format!(in rt.alloc();
+            "no node at offset {node}: expected {expected} at offset {byte}"
+        )?;
+        assert_eq!(rt; refusal(rt.alloc(), false, text)?, Some(want), "{text}");
     }
     Ok(())
 }
@@ -144,7 +155,13 @@ fn long_texts(rt: HostRuntime) -> Result<(), Fail> {
         assert!(rt; is_added(alloc, false, room, &written, &path)?);
     }
     let longer = format!(in alloc; "Path(9,200,{digits}AB)")?;
-    assert!(rt; is_refused(alloc, true, &longer, 0)? && is_refused(alloc, false, &longer, 0)?);
+    let want =
+        "no node at offset 0: expected a shorter node, or one whose text tells all of it at offset 131076";
+    assert_eq!(rt;
+        refusal(alloc, true, &longer)?.as_deref(),
+        Some("no node at offset 0")
+    );
+    assert_eq!(rt; refusal(alloc, false, &longer)?.as_deref(), Some(want));
 
     let ends = "7f010400".repeat(alloc, 50_000)?;
     let path = path_of(alloc, &bytes(alloc, &ends)?)?;
@@ -162,6 +179,8 @@ fn long_texts(rt: HostRuntime) -> Result<(), Fail> {
     let filed = format!(in alloc; "file({name})")?;
     assert!(rt; is_added(alloc, false, path.len(), &name, &path)?);
     assert!(rt; is_added(alloc, false, path.len(), &filed, &path)?);
-    assert!(rt; is_refused(alloc, false, &format!(in alloc; "{name}a")?, 0)?);
+    let want = "no node at offset 0: expected the name of a file at offset 0";
+    let longer = format!(in alloc; "{name}a")?;
+    assert_eq!(rt; refusal(alloc, false, &longer)?.as_deref(), Some(want));
     Ok(())
 }

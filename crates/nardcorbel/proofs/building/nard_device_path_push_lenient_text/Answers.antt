@@ -2,10 +2,10 @@
 use Rattle.std.proofs.Common.{◌≡◌, ◌∙◌, ◌+◌, ◌++◌, ap, sym, subst, ℕ, List, Option, Some, length, arith}
 use Rattle.uefi_device_path.specs.LenientReading.{IsReadAs, IsReadable, ReadingStopsAt}
 use Rattle.uefi_device_path.specs.Paths.{path_bytes}
-use Rattle.uefi_device_path.specs.declared.errors.PushTextError.{PushTextError}
-use Rattle.uefi_device_path.specs.declared.errors.PushTextError.TheVariants.{NoNode, Path, ScratchTooSmall}
-use Rattle.nardcorbel.specs.Building.{text_place, text_reason}
-use Rattle.nardcorbel.proofs.Written.{read_has_no_room, never_added, node_reason_above, node_reason_below, reading_stops_there}
+use Rattle.uefi_device_path.specs.declared.lenient_errors.PushLenientTextError.{PushLenientTextError}
+use Rattle.uefi_device_path.specs.declared.lenient_errors.PushLenientTextError.TheVariants.{NoNode, Path, ScratchTooSmall}
+use Rattle.nardcorbel.specs.Building.{IsWrongAt, lenient_place, lenient_reason}
+use Rattle.nardcorbel.proofs.Written.{read_has_no_room, lenient_never_added, node_reason_above, node_reason_below, reading_stops_there}
 use Rattle.nardcorbel.proofs.building.nard_device_path_push_lenient_text.Goals as goal
 
 pub returns-then-reason-ne-OK-clause-not_utf8 : goal.returns-then-reason-ne-OK-clause-not_utf8
@@ -13,7 +13,7 @@ returns-then-reason-ne-OK-clause-not_utf8 c = λ nodes begins no.
     absurd (c.if-reason-ne-OK.true (c.nard_device_path_check-reason.ensures.accepts.1 (nodes, begins)))
 
 pub returns-then-reason-ne-OK-clause-no_node : goal.returns-then-reason-ne-OK-clause-no_node
-returns-then-reason-ne-OK-clause-no_node c = λ nodes begins utf8 long at stop.
+returns-then-reason-ne-OK-clause-no_node c = λ nodes begins utf8 long fault stop.
     absurd (c.if-reason-ne-OK.true (c.nard_device_path_check-reason.ensures.accepts.1 (nodes, begins)))
 
 pub returns-then-reason-ne-OK-clause-reason : goal.returns-then-reason-ne-OK-clause-reason
@@ -56,15 +56,15 @@ returns-in-Ok-push_lenient_text_in_buf-clause-no_path c = λ error refused.
     absurd (cc (c.in-Ok-push_lenient_text_in_buf.ensures.no_path error refused))
 
 pub returns-in-Ok-push_lenient_text_in_buf-clause-no_node : goal.returns-in-Ok-push_lenient_text_in_buf-clause-no_node
-returns-in-Ok-push_lenient_text_in_buf-clause-no_node c = λ nodes begins utf8 long at stop.
+returns-in-Ok-push_lenient_text_in_buf-clause-no_node c = λ nodes begins utf8 long fault stop.
     let same = c.in-Ok.ensures.cases.0 in
-    absurd (cc (c.in-Ok-push_lenient_text_in_buf.ensures.no_node nodes begins (omega (arith, long, ap length (sym same))) at (subst (λ (x : List ℕ).
-    ReadingStopsAt x at) (sym same) stop)))
+    absurd (cc (c.in-Ok-push_lenient_text_in_buf.ensures.no_node nodes begins (omega (arith, long, ap length (sym same))) fault (subst (λ (x : List ℕ).
+    ReadingStopsAt x fault) (sym same) stop)))
 
 pub returns-in-Ok-push_lenient_text_in_buf-clause-reason : goal.returns-in-Ok-push_lenient_text_in_buf-clause-reason
 returns-in-Ok-push_lenient_text_in_buf-clause-reason c = λ nodes read begins utf8 long is.
     let same = c.in-Ok.ensures.cases.0 in
-    ap text_reason (c.in-Ok-push_lenient_text_in_buf.ensures.refusal nodes read begins
+    ap lenient_reason (c.in-Ok-push_lenient_text_in_buf.ensures.refusal nodes read begins
     (omega (arith, long, ap length c.in-Ok.ensures.cases.0))
     (subst (λ (x : List ℕ). IsReadAs x read) (sym c.in-Ok.ensures.cases.0) is))
 
@@ -73,7 +73,7 @@ returns-in-Ok-push_lenient_text_in_buf-clause-place c = λ nodes read begins utf
     let same = c.in-Ok.ensures.cases.0 in
     let len = length (path_bytes (nodes ++ read)) in
     c.in-Ok-push_lenient_text_in_buf.ensures.len nodes read begins (subst (λ (x : List ℕ). IsReadAs x read) (sym c.in-Ok.ensures.cases.0) is)
-    ∙ ap (λ (r : Option PushTextError). text_place r len) (c.in-Ok-push_lenient_text_in_buf.ensures.refusal
+    ∙ ap (λ (r : Option PushLenientTextError). lenient_place r len) (c.in-Ok-push_lenient_text_in_buf.ensures.refusal
     nodes read begins
     (omega (arith, long, ap length c.in-Ok.ensures.cases.0))
     (subst (λ (x : List ℕ). IsReadAs x read) (sym c.in-Ok.ensures.cases.0) is))
@@ -90,54 +90,54 @@ pub returns-in-Err-push_lenient_text_in_buf-clause-no_path : goal.returns-in-Err
 returns-in-Err-push_lenient_text_in_buf-clause-no_path c = λ error refused.
     let said = c.in-Err-push_lenient_text_in_buf.ensures.no_path error refused in
     let same : c.in-Err-push_lenient_text_in_buf.error ≡ Path error = cc in (
-      c.text_reason-reason.ensures.reason ∙ ap (λ (e : PushTextError). text_reason (Some e)) same,
-      c.text_reason-reason.ensures.place 0 ∙ ap (λ (e : PushTextError). text_place (Some e) 0) same,
+      c.lenient_reason-reason.ensures.reason ∙ ap (λ (e : PushLenientTextError). lenient_reason (Some e)) same,
+      c.lenient_reason-reason.ensures.place 0 ∙ ap (λ (e : PushLenientTextError). lenient_place (Some e) 0) same,
     )
 
 pub returns-in-Err-push_lenient_text_in_buf-clause-no_node : goal.returns-in-Err-push_lenient_text_in_buf-clause-no_node
-returns-in-Err-push_lenient_text_in_buf-clause-no_node c = λ nodes begins utf8 long at stop.
-    let said = c.in-Err-push_lenient_text_in_buf.ensures.no_node nodes begins (omega (arith, long, ap length c.in-Ok.ensures.cases.0)) at
-    (subst (λ (x : List ℕ). ReadingStopsAt x at) (sym c.in-Ok.ensures.cases.0) stop) in
-    let same : c.in-Err-push_lenient_text_in_buf.error ≡ NoNode at = cc in (
-      c.text_reason-reason.ensures.reason ∙ ap (λ (e : PushTextError). text_reason (Some e)) same,
-      c.text_reason-reason.ensures.place 0 ∙ ap (λ (e : PushTextError). text_place (Some e) 0) same,
+returns-in-Err-push_lenient_text_in_buf-clause-no_node c = λ nodes begins utf8 long fault stop.
+    let said = c.in-Err-push_lenient_text_in_buf.ensures.no_node nodes begins (omega (arith, long, ap length c.in-Ok.ensures.cases.0)) fault
+    (subst (λ (x : List ℕ). ReadingStopsAt x fault) (sym c.in-Ok.ensures.cases.0) stop) in
+    let same : c.in-Err-push_lenient_text_in_buf.error ≡ NoNode fault = cc in (
+      c.lenient_reason-reason.ensures.reason ∙ ap (λ (e : PushLenientTextError). lenient_reason (Some e)) same,
+      c.lenient_reason-reason.ensures.place 0 ∙ ap (λ (e : PushLenientTextError). lenient_place (Some e) 0) same,
     )
 
 pub returns-in-Err-push_lenient_text_in_buf-clause-reason : goal.returns-in-Err-push_lenient_text_in_buf-clause-reason
 returns-in-Err-push_lenient_text_in_buf-clause-reason c = λ nodes read begins utf8 long is.
-    c.text_reason-reason.ensures.reason
-    ∙ ap text_reason (c.in-Err-push_lenient_text_in_buf.ensures.refusal nodes read begins
+    c.lenient_reason-reason.ensures.reason
+    ∙ ap lenient_reason (c.in-Err-push_lenient_text_in_buf.ensures.refusal nodes read begins
     (omega (arith, long, ap length c.in-Ok.ensures.cases.0))
     (subst (λ (x : List ℕ). IsReadAs x read) (sym c.in-Ok.ensures.cases.0) is))
 
 pub returns-in-Err-push_lenient_text_in_buf-clause-place : goal.returns-in-Err-push_lenient_text_in_buf-clause-place
 returns-in-Err-push_lenient_text_in_buf-clause-place c = λ nodes read begins utf8 long is.
     let len = length (path_bytes (nodes ++ read)) in
-    c.text_reason-reason.ensures.place len ∙ ap (λ (r : Option PushTextError). text_place r len)
+    c.lenient_reason-reason.ensures.place len ∙ ap (λ (r : Option PushLenientTextError). lenient_place r len)
     (c.in-Err-push_lenient_text_in_buf.ensures.refusal nodes read begins
     (omega (arith, long, ap length c.in-Ok.ensures.cases.0))
     (subst (λ (x : List ℕ). IsReadAs x read) (sym c.in-Ok.ensures.cases.0) is))
 
 pub returns-in-Err-push_lenient_text_in_buf-clause-buffer : goal.returns-in-Err-push_lenient_text_in_buf-clause-buffer
 returns-in-Err-push_lenient_text_in_buf-clause-buffer c = λ nodes read begins is ok.
-    absurd (never_added c.in-Err-push_lenient_text_in_buf.error (sym c.text_reason-reason.ensures.reason ∙ ok))
+    absurd (lenient_never_added c.in-Err-push_lenient_text_in_buf.error (sym c.lenient_reason-reason.ensures.reason ∙ ok))
 
 pub returns-in-Err-push_lenient_text_in_buf-clause-stops : goal.returns-in-Err-push_lenient_text_in_buf-clause-stops
 returns-in-Err-push_lenient_text_in_buf-clause-stops c = λ is.
     let stop = reading_stops_there c.args.buffer.now c.in-Ok.text.now c.in-Err-push_lenient_text_in_buf.error
-    c.in-Err-push_lenient_text_in_buf.ensures.cause (sym c.text_reason-reason.ensures.reason ∙ is) in
-    subst (λ (x : List ℕ). ReadingStopsAt x c.text_reason-reason.result.1) c.in-Ok.ensures.cases.0
-    (subst (ReadingStopsAt c.in-Ok.text.now) (sym (c.text_reason-reason.ensures.place 0)) stop)
+    c.in-Err-push_lenient_text_in_buf.ensures.cause (sym c.lenient_reason-reason.ensures.reason ∙ is) in
+    subst (λ (x : List ℕ). IsWrongAt x c.lenient_reason-reason.result.1) c.in-Ok.ensures.cases.0
+    (subst (IsWrongAt c.in-Ok.text.now) (sym (c.lenient_reason-reason.ensures.place 0)) stop)
 
 pub returns-in-Err-push_lenient_text_in_buf-clause-read : goal.returns-in-Err-push_lenient_text_in_buf-clause-read
 returns-in-Err-push_lenient_text_in_buf-clause-read c = λ ok.
-    absurd (never_added c.in-Err-push_lenient_text_in_buf.error (sym c.text_reason-reason.ensures.reason ∙ ok))
+    absurd (lenient_never_added c.in-Err-push_lenient_text_in_buf.error (sym c.lenient_reason-reason.ensures.reason ∙ ok))
 
 pub returns-in-Err-push_lenient_text_in_buf-clause-small : goal.returns-in-Err-push_lenient_text_in_buf-clause-small
 returns-in-Err-push_lenient_text_in_buf-clause-small c = λ is.
     subst IsReadable c.in-Ok.ensures.cases.0 (read_has_no_room c.args.buffer.now c.in-Ok.text.now
     c.in-Err-push_lenient_text_in_buf.error
-    c.in-Err-push_lenient_text_in_buf.ensures.cause (sym c.text_reason-reason.ensures.reason ∙ is))
+    c.in-Err-push_lenient_text_in_buf.ensures.cause (sym c.lenient_reason-reason.ensures.reason ∙ is))
 
 pub returns-then-reason-ne-OK-clause-no_scratch : goal.returns-then-reason-ne-OK-clause-no_scratch
 returns-then-reason-ne-OK-clause-no_scratch c = λ nodes begins utf8 short.
@@ -151,7 +151,7 @@ pub returns-in-Err-push_lenient_text_in_buf-clause-no_scratch : goal.returns-in-
 returns-in-Err-push_lenient_text_in_buf-clause-no_scratch c = λ nodes begins utf8 short.
     let said = c.in-Err-push_lenient_text_in_buf.ensures.no_scratch nodes begins (omega (arith, short, ap length c.in-Ok.ensures.cases.0)) in
     let same : c.in-Err-push_lenient_text_in_buf.error ≡ ScratchTooSmall (length c.in-Ok.text.now + 1) = cc in (
-      c.text_reason-reason.ensures.reason ∙ ap (λ (e : PushTextError). text_reason (Some e)) same,
-      c.text_reason-reason.ensures.place 0 ∙ ap (λ (e : PushTextError). text_place (Some e) 0) same
+      c.lenient_reason-reason.ensures.reason ∙ ap (λ (e : PushLenientTextError). lenient_reason (Some e)) same,
+      c.lenient_reason-reason.ensures.place 0 ∙ ap (λ (e : PushLenientTextError). lenient_place (Some e) 0) same
           ∙ ap (λ (x : List ℕ). length x + 1) c.in-Ok.ensures.cases.0,
     )

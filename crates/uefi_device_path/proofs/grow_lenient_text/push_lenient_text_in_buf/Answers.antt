@@ -5,9 +5,11 @@ use Rattle.std.proofs.lemmas.Grind.{common_steps}
 use Rattle.uefi_device_nodes.specs.Nodes.{Node}
 use Rattle.uefi_device_path.specs.LenientReading.{IsReadAs, ReadingStopsAt}
 use Rattle.uefi_device_path.specs.Paths.{nodes_in, without_end}
-use Rattle.uefi_device_path.specs.declared.errors.PushTextError.TheVariants.{NoNode}
+use Rattle.uefi_device_path.specs.declared.lenient_errors.TextFault.{TextFault}
+use Rattle.uefi_device_path.specs.declared.lenient_errors.PushLenientTextError.TheVariants.{NoNode}
 use Rattle.uefi_device_path.proofs.Building.{grown_buffer, len_of_path}
-use Rattle.uefi_device_path.proofs.PushedTexts.{needed_is, with_room, without_room}
+use Rattle.uefi_device_path.proofs.LenientPushes.{with_room, without_room}
+use Rattle.uefi_device_path.proofs.PushedTexts.{needed_is}
 use Rattle.uefi_device_path.proofs.grow_lenient_text.push_lenient_text_in_buf.Goals as goal
 
 pub returns-in-Err-clause-no_path : goal.returns-in-Err-clause-no_path
@@ -19,7 +21,7 @@ returns-in-Err-clause-no_scratch c = λ nodes begins short. absurd (cc (c.in-Err
     nodes begins).1)
 
 pub returns-in-Err-clause-no_node : goal.returns-in-Err-clause-no_node
-returns-in-Err-clause-no_node c = λ nodes begins long place stop. absurd (cc (c.in-Err.ensures.accepts
+returns-in-Err-clause-no_node c = λ nodes begins long fault stop. absurd (cc (c.in-Err.ensures.accepts
     nodes begins).1)
 
 pub returns-in-Err-clause-refusal : goal.returns-in-Err-clause-refusal
@@ -35,14 +37,14 @@ returns-in-Err-check_lenient_text-clause-no_path c = λ error refused. absurd (c
     error refused))
 
 pub returns-in-Err-check_lenient_text-clause-no_node : goal.returns-in-Err-check_lenient_text-clause-no_node
-returns-in-Err-check_lenient_text-clause-no_node c = λ nodes begins long place stop.
-    ap (λ (n : ℕ). Err (NoNode n)) (c.lenient_texts.ensures.stops c.as_bytes-bytes.result.now
-    c.in-Err-check_lenient_text.place place c.in-Err-check_lenient_text.ensures.refusal (subst (λ (x : List ℕ).
-    ReadingStopsAt x place) (sym c.as_bytes-bytes.ensures.value) stop))
+returns-in-Err-check_lenient_text-clause-no_node c = λ nodes begins long fault stop.
+    ap (λ (f : TextFault). Err (NoNode f)) (c.lenient_texts.ensures.stops c.as_bytes-bytes.result.now
+    c.in-Err-check_lenient_text.fault fault c.in-Err-check_lenient_text.ensures.refusal (subst (λ (x : List ℕ).
+    ReadingStopsAt x fault) (sym c.as_bytes-bytes.ensures.value) stop))
 
 pub returns-in-Err-check_lenient_text-clause-refusal : goal.returns-in-Err-check_lenient_text-clause-refusal
 returns-in-Err-check_lenient_text-clause-refusal c = λ nodes read begins long is.
-    absurd (c.lenient_texts.ensures.never_both c.as_bytes-bytes.result.now read c.in-Err-check_lenient_text.place
+    absurd (c.lenient_texts.ensures.never_both c.as_bytes-bytes.result.now read c.in-Err-check_lenient_text.fault
     (subst (λ (x : List ℕ). IsReadAs x read) (sym c.as_bytes-bytes.ensures.value) is)
     c.in-Err-check_lenient_text.ensures.refusal)
 
@@ -51,10 +53,10 @@ returns-then-buffer-needed-clause-no_path c = λ error refused. absurd (cc (c.in
     error refused))
 
 pub returns-then-buffer-needed-clause-no_node : goal.returns-then-buffer-needed-clause-no_node
-returns-then-buffer-needed-clause-no_node c = λ nodes begins long place stop.
+returns-then-buffer-needed-clause-no_node c = λ nodes begins long fault stop.
     let (read, is) = c.in-Ok-check_lenient_text.ensures.path in
-    absurd (c.lenient_texts.ensures.never_both c.as_bytes-bytes.result.now read place is
-    (subst (λ (x : List ℕ). ReadingStopsAt x place) (sym c.as_bytes-bytes.ensures.value) stop))
+    absurd (c.lenient_texts.ensures.never_both c.as_bytes-bytes.result.now read fault is
+    (subst (λ (x : List ℕ). ReadingStopsAt x fault) (sym c.as_bytes-bytes.ensures.value) stop))
 
 pub returns-then-buffer-needed-clause-refusal : goal.returns-then-buffer-needed-clause-refusal
 returns-then-buffer-needed-clause-refusal c = λ nodes read begins long is.
@@ -81,10 +83,10 @@ pub returns-clause-no_path : goal.returns-clause-no_path
 returns-clause-no_path c = λ error refused. absurd (cc (c.in-Ok.ensures.refusal error refused))
 
 pub returns-clause-no_node : goal.returns-clause-no_node
-returns-clause-no_node c = λ nodes begins long place stop.
+returns-clause-no_node c = λ nodes begins long fault stop.
     let (read, is) = c.in-Ok-check_lenient_text.ensures.path in
-    absurd (c.lenient_texts.ensures.never_both c.as_bytes-bytes.result.now read place is
-    (subst (λ (x : List ℕ). ReadingStopsAt x place) (sym c.as_bytes-bytes.ensures.value) stop))
+    absurd (c.lenient_texts.ensures.never_both c.as_bytes-bytes.result.now read fault is
+    (subst (λ (x : List ℕ). ReadingStopsAt x fault) (sym c.as_bytes-bytes.ensures.value) stop))
 
 pub returns-clause-refusal : goal.returns-clause-refusal
 returns-clause-refusal c = λ nodes read begins long is.

@@ -10,7 +10,7 @@ use Rattle.uefi_device_path.specs.LenientReading.{ReadsTo}
 use Rattle.uefi_device_path.specs.Paths.{nodes_in, without_end}
 use Rattle.uefi_device_path.proofs.PathReading.{accepted}
 use Rattle.uefi_device_path.proofs.LenientPushes.{puts_next, puts_none, room_for_next}
-use Rattle.uefi_device_path.proofs.LenientReading.{all_read, over_comma, over_node, place_within, read_never_stops, stopped}
+use Rattle.uefi_device_path.proofs.LenientReading.{all_read, over_comma, over_node, never_stops, place_within}
 use Rattle.uefi_device_path.proofs.grow_lenient_text.put_lenient_text_at.Goals as goal
 
 pub nodes-init : goal.nodes-init
@@ -59,9 +59,8 @@ pub unreachable-requires : goal.unreachable-requires
 unreachable-requires c =
     let laws = c.nodes_are_read_leniently.ensures in
     let (nodes, read) = c.requires.readable in
-    read_never_stops laws.starts c.args.text.now nodes _ read
-    (stopped laws.ends c.args.text.now c.nodes.invariant.done c.nodes.at_start c.nodes.rest.now c.node_start-place.result.now
-    c.nodes.invariant.on c.in-None.ensures c.node_start-place.ensures c.in_default.ensures)
+    never_stops laws.starts laws.ends c.args.text.now nodes c.nodes.invariant.done read c.nodes.at_start c.nodes.rest.now
+    c.node_start-place.result.now c.nodes.invariant.on c.in-None.ensures c.node_start-place.ensures c.in_default.ensures
 
 pub put_at-end-requires-in-None-clause-unrefused : goal.put_at-end-requires-in-None-clause-unrefused
 put_at-end-requires-in-None-clause-unrefused c =

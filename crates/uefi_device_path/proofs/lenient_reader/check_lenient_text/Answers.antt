@@ -12,8 +12,8 @@ nodes-preserved-in-Some c =
     rw c.saturating_add-len.ensures (counts_comma c.args.text.now c.nodes.at_start c.nodes.rest.now c.in-Some.after.now c.nodes.len
     c.nodes.invariant c.in-Some.ensures).0
 
-pub overflow_sub-result : goal.overflow_sub-result
-overflow_sub-result c =
+pub fault_at-requires-clause-within : goal.fault_at-requires-clause-within
+fault_at-requires-clause-within c =
     place_within c.nodes_are_read_leniently.ensures.ends c.args.text.now c.nodes.invariant.nodes c.nodes.at_start c.nodes.rest.now
     c.node_start-place.result.now c.nodes.invariant.on c.node_start-place.ensures
 
@@ -21,6 +21,7 @@ pub returns-in_default-clause-refusal : goal.returns-in_default-clause-refusal
 returns-in_default-clause-refusal c =
     stopped c.nodes_are_read_leniently.ensures.ends c.args.text.now c.nodes.invariant.nodes c.nodes.at_start c.nodes.rest.now
     c.node_start-place.result.now c.nodes.invariant.on c.in-None.ensures c.node_start-place.ensures c.in_default.ensures
+    c.fault_at.result c.fault_at.ensures.node c.fault_at.ensures.byte c.fault_at.ensures.expected
 
 pub nodes-preserved : goal.nodes-preserved
 nodes-preserved c =
@@ -45,6 +46,12 @@ pub returns-clause-len : goal.returns-clause-len
 returns-clause-len c =
     counts_all c.nodes_are_read_leniently.ensures.starts c.args.text.now c.nodes.at_start c.nodes.rest.now c.nodes.len
     c.nodes.invariant (grind (arith, nat_tests))
+
+pub fault_at-requires-clause-room : goal.fault_at-requires-clause-room
+fault_at-requires-clause-room c =
+    let within = place_within c.nodes_are_read_leniently.ensures.ends c.args.text.now c.nodes.invariant.nodes c.nodes.at_start c.nodes.rest.now
+    c.node_start-place.result.now c.nodes.invariant.on c.node_start-place.ensures in
+    omega (arith, within, c.requires, c.nodes.auto.scratch)
 
 pub first_lenient_node-requires : goal.first_lenient_node-requires
 first_lenient_node-requires c =

@@ -4,7 +4,7 @@ use Rattle.uefi_device_nodes.specs.Nodes.{Node}
 use Rattle.uefi_node_reader.specs.TextNodeViews.{text_node}
 use Rattle.uefi_device_path.specs.LenientReading.{ReadsTo}
 use Rattle.uefi_device_path.specs.LenientReading.ReadsTo.{Begins}
-use Rattle.uefi_device_path.proofs.LenientReading.{all_read, over_comma, over_node, place_within, read_never_stops, stopped}
+use Rattle.uefi_device_path.proofs.LenientReading.{all_read, over_comma, over_node, never_stops, place_within}
 use Rattle.uefi_device_path.proofs.lenient_reader.push_lenient_text.Goals as goal
 
 pub nodes-init : goal.nodes-init
@@ -27,14 +27,13 @@ pub unreachable-requires : goal.unreachable-requires
 unreachable-requires g c =
     let laws = c.nodes_are_read_leniently.ensures in
     let (nodes, read) = c.requires.readable in
-    read_never_stops laws.starts c.args.text.now nodes _ read
-    (stopped laws.ends c.args.text.now c.nodes.path c.nodes.at_start c.nodes.rest.now c.node_start-place.result.now
-    c.nodes.invariant c.in-None.ensures c.node_start-place.ensures c.in_default.ensures)
+    never_stops laws.starts laws.ends c.args.text.now nodes c.nodes.path read c.nodes.at_start c.nodes.rest.now
+    c.node_start-place.result.now c.nodes.invariant c.in-None.ensures c.node_start-place.ensures c.in_default.ensures
 
 pub nodes-preserved : goal.nodes-preserved
 nodes-preserved g c =
     subst (λ (x : List Node). ReadsTo c.args.text.now x false c.in-Some-first_lenient_node.after.now)
-    (sym c.in_ok-push_node-in-None.ensures.ok)
+    (sym c.in_ok-push_read-in-None.ensures.ok)
     (over_node c.nodes_are_read_leniently.ensures.ends c.args.text.now c.nodes.path c.nodes.at_start c.nodes.rest.now
     c.node_start-place.result.now c.in-Some-first_lenient_node.after.now (text_node c.in-Some-first_lenient_node.node.node)
     c.nodes.invariant c.in-None.ensures c.node_start-place.ensures c.in-Some-first_lenient_node.ensures).0
@@ -45,6 +44,12 @@ nodes-smaller g c =
     c.node_start-place.result.now c.in-Some-first_lenient_node.after.now (text_node c.in-Some-first_lenient_node.node.node)
     c.nodes.invariant c.in-None.ensures c.node_start-place.ensures c.in-Some-first_lenient_node.ensures).1
 
-pub returns : goal.returns
-returns g c =
+pub returns-clause-ok : goal.returns-clause-ok
+returns-clause-ok g c =
     all_read c.args.text.now c.nodes.path c.nodes.at_start c.nodes.rest.now c.nodes.invariant (grind (arith, nat_tests))
+
+pub push_read-requires : goal.push_read-requires
+push_read-requires g c =
+    c.nodes_are_read_leniently.ensures.takes c.node_start-place.result.now
+    (text_node c.in-Some-first_lenient_node.node.node) c.in-Some-first_lenient_node.after.now
+    c.in-Some-first_lenient_node.ensures

@@ -1,0 +1,29 @@
+-- What is printed where a text, as people write it, is not read.
+use Rattle.std.specs.Prelude.{ℕ, List, ◌++◌, codes}
+use Rattle.std.specs.Fmt.{decimal}
+use Rattle.uefi_node_reader.specs.FaultTexts.{expected_text}
+use Rattle.uefi_device_path.specs.ErrorTexts.{build_error_text, device_path_error_text}
+use Rattle.uefi_device_path.specs.declared.errors.BuildError.TheVariants as build
+use Rattle.uefi_device_path.specs.declared.lenient_errors.LenientTextError.{LenientTextError}
+use Rattle.uefi_device_path.specs.declared.lenient_errors.LenientTextError.TheVariants as read
+use Rattle.uefi_device_path.specs.declared.lenient_errors.PushLenientTextError.{PushLenientTextError}
+use Rattle.uefi_device_path.specs.declared.lenient_errors.PushLenientTextError.TheVariants as push
+use Rattle.uefi_device_path.specs.declared.lenient_errors.TextFault.{TextFault}
+
+-- what is printed of the place where no node is read
+abbrev pub text_fault_text : TextFault → List ℕ
+text_fault_text fault = codes "no node at offset " ++ decimal fault.node ++ codes ": expected "
+    ++ expected_text fault.expected ++ codes " at offset " ++ decimal fault.byte
+
+-- what is printed where a text is no path
+abbrev pub lenient_text_error_text : LenientTextError → List ℕ
+lenient_text_error_text (read.NoNode fault) = text_fault_text fault
+lenient_text_error_text read.OutOfMemory = codes "out of memory"
+
+-- what is printed where the nodes of a text are not added to the path that a buffer begins with
+abbrev pub push_lenient_text_error_text : PushLenientTextError → List ℕ
+push_lenient_text_error_text (push.Path error) = device_path_error_text error
+push_lenient_text_error_text (push.ScratchTooSmall needed) =
+    codes "scratch too small: the text needs " ++ decimal needed ++ codes " bytes"
+push_lenient_text_error_text (push.NoNode fault) = text_fault_text fault
+push_lenient_text_error_text (push.BufferTooSmall needed) = build_error_text (build.BufferTooSmall needed)

@@ -1,0 +1,142 @@
+//! Why a text as people write it is not read as a device path.
+#![tactic(auto, using(uefi_text::proofs::Puts::puts))]
+
+use crate::errors::DevicePathError;
+use std::error::Error;
+use std::fmt;
+pub use uefi_node_reader::faults::Expected;
+use uefi_text::number_texts::put_decimal;
+use uefi_text::text_sink::{Printed, TextSink, print};
+
+/// Where no node is read from a text: its first wrong byte, and what has to stand there.
+#[derive(Clone, Copy, Debug, PartialEq, Eq)]
+pub struct TextFault {
+    /// The byte of the text where the node begins that can't be read.
+    pub node: usize,
+
+    /// The byte that is wrong, or the length of the text if its end comes too early. In a number, digits or a
+    /// name, it is the first byte of that.
+    pub byte: usize,
+
+    /// What has to stand there.
+    pub expected: Expected,
+}
+
+/// Puts what is wrong, in words.
+impl Printed for TextFault {
+    ghost use Rattle.uefi_device_path.specs.LenientErrorTexts.{text_fault_text};
+
+    ghost printed = { text_fault_text };
+
+    fn put<S: TextSink>(&self, sink: &mut S) {
+        put_decimal(sink, "no node at offset ", self.node as u64);
+        sink.put_str(": expected ");
+        self.expected.put(sink);
+        put_decimal(sink, " at offset ", self.byte as u64);
+    }
+}
+
+/// Prints the same.
+impl fmt::Display for TextFault {
+    ghost use Rattle.std.specs.Prelude.{Some};
+    ghost use Rattle.uefi_device_path.specs.LenientErrorTexts.{text_fault_text};
+
+    ghost output = { λ fault. Some (text_fault_text fault) };
+
+    fn fmt<W: fmt::Write>(&self, f: &mut fmt::Formatter<W>) -> fmt::Result {
+        print(f, self)
+    }
+}
+
+impl Error for TextFault {}
+
+/// Why a text is not read as a device path, as people write it.
+#[derive(Clone, Copy, Debug, PartialEq, Eq)]
+pub enum LenientTextError {
+    /// A node has to begin at a byte of the text, and none can be read there.
+    NoNode(TextFault),
+    /// Memory was refused.
+    OutOfMemory,
+}
+
+/// Puts what is wrong, in words.
+impl Printed for LenientTextError {
+    ghost use Rattle.uefi_device_path.specs.LenientErrorTexts.{lenient_text_error_text};
+
+    ghost printed = { lenient_text_error_text };
+
+    fn put<S: TextSink>(&self, sink: &mut S) {
+        match self {
+            Self::NoNode(fault) => fault.put(sink),
+            Self::OutOfMemory => sink.put_str("out of memory"),
+        }
+    }
+}
+
+/// Prints the same.
+impl fmt::Display for LenientTextError {
+    ghost use Rattle.std.specs.Prelude.{Some};
+    ghost use Rattle.uefi_device_path.specs.LenientErrorTexts.{lenient_text_error_text};
+
+    ghost output = { λ error. Some (lenient_text_error_text error) };
+
+    fn fmt<W: fmt::Write>(&self, f: &mut fmt::Formatter<W>) -> fmt::Result {
+        print(f, self)
+    }
+}
+
+impl Error for LenientTextError {}
+
+/// Why the nodes of a text, as people write it, are not added to the device path that a buffer begins with.
+#[derive(Clone, Copy, Debug, PartialEq, Eq)]
+pub enum PushLenientTextError {
+    /// The buffer begins with no device path.
+    Path(DevicePathError),
+    /// The second buffer has fewer bytes than this: one more than the text.
+    ScratchTooSmall(usize),
+    /// A node has to begin at a byte of the text, and none can be read there.
+    NoNode(TextFault),
+    /// The buffer has fewer bytes than the path with the nodes, which has this many, or `usize::MAX` where
+    /// they are more.
+    BufferTooSmall(usize),
+}
+
+/// Puts what is wrong, in words.
+impl Printed for PushLenientTextError {
+    ghost use Rattle.uefi_device_path.specs.LenientErrorTexts.{push_lenient_text_error_text};
+
+    ghost printed = { push_lenient_text_error_text };
+
+    fn put<S: TextSink>(&self, sink: &mut S) {
+        match self {
+            Self::Path(error) => error.put(sink),
+            Self::ScratchTooSmall(needed) => {
+                put_decimal(sink, "scratch too small: the text needs ", *needed as u64);
+                sink.put_str(" bytes");
+            }
+            Self::NoNode(fault) => fault.put(sink),
+            Self::BufferTooSmall(needed) => {
+                put_decimal(
+                    sink,
+                    "buffer too small: the device path needs ",
+                    *needed as u64,
+                );
+                sink.put_str(" bytes");
+            }
+        }
+    }
+}
+
+/// Prints the same.
+impl fmt::Display for PushLenientTextError {
+    ghost use Rattle.std.specs.Prelude.{Some};
+    ghost use Rattle.uefi_device_path.specs.LenientErrorTexts.{push_lenient_text_error_text};
+
+    ghost output = { λ error. Some (push_lenient_text_error_text error) };
+
+    fn fmt<W: fmt::Write>(&self, f: &mut fmt::Formatter<W>) -> fmt::Result {
+        print(f, self)
+    }
+}
+
+impl Error for PushLenientTextError {}
