@@ -4,7 +4,7 @@ use Rattle.std.specs.Prelude.{IfOk, IfErr, Option, Some, None, Result, Ok, Err, 
 use Rattle.std.proofs.lemmas.List.{append-nil, append_cancel_left, length-append}
 use Rattle.std.proofs.lemmas.List.Elements.{All-head, All-nil, All-push, All-tail}
 use Rattle.uefi_device_nodes.specs.Nodes.{Node}
-use Rattle.uefi_device_path.specs.Laws.{LenientOnce, LenientPrinted, LenientStopsOnce, LenientTold, ReadNeverStops}
+use Rattle.uefi_device_path.specs.Laws.{FaultsWithin, LenientOnce, LenientPrinted, LenientStopsOnce, LenientTold, ReadNeverStops}
 use Rattle.uefi_device_path.specs.LenientReading.{IsLenientError, IsReadAs, ReadingStops, ReadingStopsAt, ReadsTo}
 use Rattle.uefi_device_path.specs.LenientReading.ReadsTo.{Begins, Comma, OneMore}
 use Rattle.uefi_device_path.specs.PathReading.{AreTold, end_instance, is_after_instance}
@@ -16,7 +16,7 @@ use Rattle.uefi_device_path.proofs.PathReading.{IsToldOrEnd, path_text_is, place
 use Rattle.uefi_device_path.proofs.TextLengths.{bytes_more}
 use Rattle.uefi_device_path.proofs.TextStops.{end_first, nothing_is_no_byte, told_first, whole_after}
 use Rattle.uefi_node_reader.specs.Laws.{NodeAgain, NodeFits}
-use Rattle.uefi_node_reader.specs.LenientFaults.{lenient_fault}
+use Rattle.uefi_node_reader.specs.LenientFaults.{FaultWithin, lenient_fault}
 use Rattle.uefi_node_reader.specs.LenientNodes.{LenientAgain, LenientEnds, LenientStarts, LenientTakes, lenient_read}
 use Rattle.uefi_node_reader.specs.NamedFiles.{is_after_node}
 use Rattle.uefi_node_reader.specs.TableReading.{first_of}
@@ -275,6 +275,14 @@ reads_within ends text (OneMore nodes s node place rest on read) =
     let l = reads_within ends text on in
     let end = (ends place node rest read).0 in
     omega (arith, l, length-append (separator s) place, ap length end.2, length-append end.1 rest)
+
+-- so does its wrong byte
+pub faults_within : LenientEnds → FaultWithin → FaultsWithin
+faults_within ends within text fault (nodes, s, rest, stop) =
+    let long : length (separator s ++ rest) ≤ length text = reads_within ends text stop.reads in
+    let size : length rest ≤ length text = omega (arith, long, length-append (separator s) rest) in
+    let here = within rest in
+    (omega (arith, stop.byte), omega (arith, size, here, stop.offset, stop.byte))
 
 -- where a node has to begin
 place_whole : LenientEnds → (text : List ℕ) (nodes : List Node) (s : Bool) (rest place : List ℕ) → ReadsTo text nodes s rest

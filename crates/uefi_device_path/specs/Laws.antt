@@ -1,5 +1,5 @@
 -- The laws of device paths and load options, over the definitions that contracts of working calls cite.
-use Rattle.std.specs.Prelude.{◌≡◌, ◌≢◌, ℕ, ◌+◌, ◌-◌, Bool, true, false, List, [], ◌∷◌, ◌++◌, All, filter, fold, take}
+use Rattle.std.specs.Prelude.{◌≡◌, ◌≢◌, ℕ, ◌+◌, ◌-◌, ◌≤◌, length, Bool, true, false, List, [], ◌∷◌, ◌++◌, All, filter, fold, take}
 use Rattle.std.specs.List.{flat_map}
 use Rattle.uefi_path.specs.Components.{components_of}
 use Rattle.uefi_path.specs.Laws.{IsRelative}
@@ -92,6 +92,11 @@ LenientStopsOnce = (text : List ℕ) (fault other : TextFault) → ReadingStopsA
 abbrev pub ReadNeverStops : Type 0
 ReadNeverStops = (text : List ℕ) (nodes : List Node) (fault : TextFault) → IsReadAs text nodes
     → ReadingStopsAt text fault → ⊥
+
+-- the wrong byte does not stand before the node that it belongs to, nor after the end of the text
+abbrev pub FaultsWithin : Type 0
+FaultsWithin = (text : List ℕ) (fault : TextFault) → ReadingStopsAt text fault
+    → (fault.node ≤ fault.byte) × (fault.byte ≤ length text)
 
 -- the printed text of the nodes that were read tells all of them
 abbrev pub LenientTold : Type 0

@@ -25,4 +25,5 @@ pub mod LenientFields
 pub mod ToldNodes
 pub mod LenientReads
 pub mod LenientFaults
+pub mod FaultPlaces
 pub mod LenientLaws

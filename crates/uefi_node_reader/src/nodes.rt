@@ -4,7 +4,7 @@
 ghost use Rattle.std.specs.Prelude.{◌≡◌, ◌<◌, ◌≤◌, codes, length};
 ghost use Rattle.std.specs.Option.{option_map};
 ghost use Rattle.uefi_node_reader.specs.Laws.{NodeAgain, NodeFits, NodeStarts, NodeTakes, NodeTextOnce};
-ghost use Rattle.uefi_node_reader.specs.LenientFaults.{begun, call_fault, lenient_fault};
+ghost use Rattle.uefi_node_reader.specs.LenientFaults.{FaultWithin, begun, call_fault, lenient_fault};
 ghost use Rattle.uefi_node_reader.specs.LenientFields.{after_literal};
 ghost use Rattle.uefi_node_reader.specs.LenientNodes.{LenientAgain, LenientEnds, LenientStarts, LenientTakes, ended, file_or_call, lenient_read};
 ghost use Rattle.uefi_node_reader.specs.NamedFiles.{is_after_node, node_read};
@@ -178,4 +178,9 @@ pub fn nodes_are_read_leniently()
     ensures ends { LenientEnds }
     ensures starts { LenientStarts }
     ensures again { LenientAgain }
+{}
+
+/// The wrong byte of a text lies in it, or at its end.
+pub fn faults_lie_within()
+    ensures { FaultWithin }
 {}
