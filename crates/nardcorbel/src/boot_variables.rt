@@ -14,8 +14,9 @@ ghost use Rattle.nardcorbel.specs.Buffers.{room_reason};
 ghost use Rattle.nardcorbel.specs.Reasons.{until_nul_reason};
 ghost use Rattle.nardcorbel.specs.Strings.{text_in};
 
-use crate::buffers::report;
-use crate::reasons::{BUFFER_TOO_SMALL, END_OF_ORDER, NOT_A_NAME, ODD_BYTES, OK, until_nul_reason};
+use crate::reasons::{
+    BUFFER_TOO_SMALL, END_OF_ORDER, NOT_A_NAME, ODD_BYTES, OK, report, until_nul_reason,
+};
 use uefi_boot_variables::order_edits::{contains, insert, move_to_front, remove};
 use uefi_boot_variables::{LoadOptionKind, LoadOptionName, LoadOrder};
 use uefi_text::CStr16;

@@ -1,5 +1,5 @@
 //! Paths that are made in a caller's buffer: whole, or not at all. No call takes memory.
-ghost use Rattle.std.specs.Prelude.{◌≡◌, ℕ, ◌<◌, ◌≤◌, ◌^◌, List, None, Some, length};
+ghost use Rattle.std.specs.Prelude.{◌≡◌, ℕ, ◌≤◌, List, None, Some, length};
 ghost use Rattle.std.specs.List.{find, position_or_len};
 ghost use Rattle.std.specs.Str.{IsUtf8, chars};
 ghost use Rattle.std.specs.Str.Lossy.{utf8_valid_len};
@@ -13,44 +13,25 @@ ghost use Rattle.uefi_path.specs.Separators.{with_separators};
 ghost use Rattle.nardcorbel.specs.Buffers.{HasStringIn, first_half, length_shown, room_reason, second_half};
 ghost use Rattle.uefi_path.specs.Verdicts.{IsValid, verdict};
 ghost use Rattle.uefi_path.specs.Writing.{normal_path};
-ghost use Rattle.uefi_text.specs.UnitTexts.{written_len};
 ghost use Rattle.nardcorbel.specs.Reasons.{character_reason, path_reason, refused_character, until_nul_reason};
 ghost use Rattle.nardcorbel.specs.Strings.{text_in, until_nul_place};
 
-use crate::reasons::{BUFFER_TOO_SMALL, NO_PARENT, NOT_UTF8, OK, path_reason, until_nul_reason};
+use crate::reasons::{
+    BUFFER_TOO_SMALL, NO_PARENT, NOT_UTF8, OK, path_reason, report, until_nul_reason,
+};
 use crate::strings::until_nul_place;
 use crate::texts::nard_string_from_utf8;
 use uefi_path::{NormalWriteError, Path, laws, push_in_buf};
 use uefi_text::{BufferTooSmall, CStr16};
 
-/// What a call returns that writes a text into a buffer, and how many units the text has, or at most
-/// `usize::MAX - 1`.
-pub(crate) fn report(written: Result<usize, BufferTooSmall>, place: &mut usize) -> u32
-    ensures reason { (text buffer : List ℕ) → written ≡ written_len text buffer
-        → result ≡ room_reason text buffer }
-    ensures place { (text buffer : List ℕ) → length buffer < 2 ^ 64 → written ≡ written_len text buffer
-        → place.new ≡ length_shown text }
-{
-    match written {
-        Ok(len) => {
-            *place = len;
-            OK
-        }
-        Err(BufferTooSmall(needed)) => {
-            *place = needed.saturating_sub(1);
-            BUFFER_TOO_SMALL
-        }
-    }
-}
-
 /// Pushes a path on the path that a buffer begins with, in place, as `PathBuf::push` does: a separator
 /// between the two where the first is not empty and does not end in one, and each slash of the second
 /// replaced. The empty path changes nothing.
 ///
-/// Units that begin with no string are refused as by `nard_string_until_nul`, those of the buffer first. Else
-/// `place` becomes how many units the path has, or at most `usize::MAX - 1`, and a buffer of no more places is
-/// `BUFFER_TOO_SMALL`. Refused, the buffer stays unchanged; what stands after the
-/// NUL stays. One pass over each; takes no memory.
+/// Units that begin with no string are refused as by `nard_string_until_nul`, those of the buffer first.
+/// Else `place` becomes how many units the path has, or at most `usize::MAX - 1`, and a buffer of no more
+/// places is `BUFFER_TOO_SMALL`. Refused, the buffer stays unchanged; what stands after the NUL stays. One
+/// pass over each; takes no memory.
 #[unsafe(no_mangle)]
 pub extern "C" fn nard_path_push(buffer: &mut [u16], path: &[u16], place: &mut usize) -> u32
     ensures no_string { ¬ BeginsWithString buffer.old

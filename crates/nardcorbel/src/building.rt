@@ -272,13 +272,14 @@ pub extern "C" fn nard_device_path_push_text(
 /// Adds the nodes of a text in UTF-8, as people write it, to the device path that a buffer begins with,
 /// before its end, as [`push_lenient_text_in_buf`] does.
 ///
-/// A buffer that begins with no device path is refused as by [`nard_device_path_check`], with its
-/// `place`; then bytes that are not UTF-8 as `NOT_UTF8`, and `place` becomes how many bytes before
-/// the fault are; then a `scratch` that is not longer than these bytes as `SCRATCH_TOO_SMALL`, and `place`
-/// becomes how many bytes it needs; then a text that is not read as a path as `NO_NODE`, and `place` becomes
-/// the byte of it that is wrong, or its length; and then a buffer that is too small as `BUFFER_TOO_SMALL`. Else `place` becomes how many bytes the path then has, or needs, and the
-/// greatest `usize` where these are more. Refused, the buffer stays unchanged; what stands after the
-/// path stays; `scratch` then holds anything. Takes no memory (UEFI Specification 2.10, section 10.6.1).
+/// A buffer that begins with no device path is refused as by [`nard_device_path_check`], with its `place`;
+/// then bytes that are not UTF-8 as `NOT_UTF8`, and `place` becomes how many bytes before the fault are;
+/// then a `scratch` that is not longer than these bytes as `SCRATCH_TOO_SMALL`, and `place` becomes how
+/// many bytes it needs; then a text that is not read as a path as `NO_NODE`, and `place` becomes the byte
+/// of it that is wrong, or its length; and then a buffer that is too small as `BUFFER_TOO_SMALL`. Else
+/// `place` becomes how many bytes the path then has, or needs, and the greatest `usize` where these are
+/// more. Refused, the buffer stays unchanged; what stands after the path stays; `scratch` then holds
+/// anything. Takes no memory (UEFI Specification 2.10, section 10.6.1).
 #[unsafe(no_mangle)]
 pub extern "C" fn nard_device_path_push_lenient_text(
     buffer: &mut [u8],

@@ -15,8 +15,9 @@ ghost use Rattle.nardcorbel.specs.Buffers.{length_shown, room_reason};
 ghost use Rattle.nardcorbel.specs.DevicePaths.{node_in, text_units};
 ghost use Rattle.nardcorbel.specs.Reasons.{name_reason, node_reason};
 
-use crate::buffers::report;
-use crate::reasons::{BUFFER_TOO_SMALL, END_OF_PATH, NO_END_NODE, OK, name_reason, node_reason};
+use crate::reasons::{
+    BUFFER_TOO_SMALL, END_OF_PATH, NO_END_NODE, OK, name_reason, node_reason, report,
+};
 use uefi_device_nodes::node::fault_place;
 use uefi_device_path::{
     AllowShortcuts, DevicePath, DevicePathNode, DisplayOnly, FilePathWriteError, laws,

@@ -16,8 +16,7 @@ ghost use Rattle.nardcorbel.specs.Buffers.{room_reason};
 ghost use Rattle.nardcorbel.specs.Reasons.{fat_name_reason, refused_fat_character, until_nul_reason};
 ghost use Rattle.nardcorbel.specs.Strings.{text_in, until_nul_place};
 
-use crate::buffers::report;
-use crate::reasons::{CHAR_REPLACED, OK, fat_name_reason, until_nul_reason};
+use crate::reasons::{CHAR_REPLACED, OK, fat_name_reason, report, until_nul_reason};
 use crate::strings::until_nul_place;
 use uefi_fat::{check_fat_name, fat_to_str, is_short_name, same_fat_file, str_to_fat};
 use uefi_text::{CStr16, Char16Slice};

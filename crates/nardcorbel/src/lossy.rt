@@ -9,7 +9,7 @@ ghost use Rattle.uefi_text.specs.UnitTexts.{written_len};
 ghost use Rattle.nardcorbel.specs.Buffers.{length_shown, room_reason};
 ghost use Rattle.nardcorbel.specs.Strings.{text_in};
 
-use crate::buffers::report;
+use crate::reasons::report;
 use crate::texts::write_char;
 use uefi_text::BufferTooSmall;
 use uefi_text::decode::lossy_char;

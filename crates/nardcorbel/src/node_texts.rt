@@ -9,8 +9,7 @@ ghost use Rattle.nardcorbel.specs.Buffers.{length_shown, room_reason};
 ghost use Rattle.nardcorbel.specs.DevicePaths.{BeginWithNode, node_units};
 ghost use Rattle.nardcorbel.specs.Reasons.{node_reason};
 
-use crate::buffers::report;
-use crate::reasons::node_reason;
+use crate::reasons::{node_reason, report};
 use uefi_device_nodes::node::fault_place;
 use uefi_device_path::{AllowShortcuts, DevicePathNode, DisplayOnly};
 
@@ -19,10 +18,10 @@ use uefi_device_path::{AllowShortcuts, DevicePathNode, DisplayOnly};
 ///
 /// Bytes that begin with no node are refused as by `nard_device_path_next_node` at place 0: `place` becomes
 /// the offset of the bytes that are at fault, and the buffer stays unchanged. The node may be one that ends
-/// the path or an instance. Else `place` becomes how many units the text has, its NUL not counted, or at most
-/// `usize::MAX - 1`, and a buffer of no more places, and no other, is `BUFFER_TOO_SMALL`: it stays unchanged.
-/// What stands after the NUL stays. What follows the node is not read. Makes the text twice: once to count it;
-/// takes no memory (UEFI Specification 2.10, section 10.6.1).
+/// the path or an instance. Else `place` becomes how many units the text has, its NUL not counted, or at
+/// most `usize::MAX - 1`, and a buffer of no more places, and no other, is `BUFFER_TOO_SMALL`: it stays
+/// unchanged. What stands after the NUL stays. What follows the node is not read. Makes the text twice:
+/// once to count it; takes no memory (UEFI Specification 2.10, section 10.6.1).
 #[unsafe(no_mangle)]
 pub extern "C" fn nard_node_text(
     bytes: &[u8],

@@ -1,12 +1,14 @@
 //! Why a call refuses, as numbers: the header's `enum nard_reason` has the same.
-ghost use Rattle.std.specs.Prelude.{◌≡◌, Some, negsuc};
+ghost use Rattle.std.specs.Prelude.{◌≡◌, ℕ, ◌<◌, ◌^◌, List, Some, length, negsuc};
+ghost use Rattle.uefi_text.specs.UnitTexts.{written_len};
+ghost use Rattle.nardcorbel.specs.Buffers.{length_shown, room_reason};
 ghost use Rattle.nardcorbel.specs.Reasons.{fat_name_reason, name_reason, node_reason, option_reason, order_number, path_reason, refused_character, refused_fat_character, until_nul_reason, with_nul_reason};
 
 use std::cmp::Ordering;
 use uefi_device_path::{FilePathCause, LoadOptionCause, NodeError};
 use uefi_fat::FatNameError;
 use uefi_path::PathError;
-use uefi_text::{FromSliceUntilNulError, FromSliceWithNulError};
+use uefi_text::{BufferTooSmall, FromSliceUntilNulError, FromSliceWithNulError};
 
 /// Nothing is refused.
 pub const OK: u32 = 0;
@@ -254,5 +256,25 @@ pub(crate) fn order_number(order: Ordering) -> i32
         Ordering::Less => -1,
         Ordering::Equal => 0,
         Ordering::Greater => 1,
+    }
+}
+
+/// What a call returns that writes a text into a buffer, and how many units the text has, or at most
+/// `usize::MAX - 1`.
+pub(crate) fn report(written: Result<usize, BufferTooSmall>, place: &mut usize) -> u32
+    ensures reason { (text buffer : List ℕ) → written ≡ written_len text buffer
+        → result ≡ room_reason text buffer }
+    ensures place { (text buffer : List ℕ) → length buffer < 2 ^ 64 → written ≡ written_len text buffer
+        → place.new ≡ length_shown text }
+{
+    match written {
+        Ok(len) => {
+            *place = len;
+            OK
+        }
+        Err(BufferTooSmall(needed)) => {
+            *place = needed.saturating_sub(1);
+            BUFFER_TOO_SMALL
+        }
     }
 }

@@ -16,9 +16,8 @@ ghost use Rattle.nardcorbel.specs.Buffers.{length_shown, room_reason};
 ghost use Rattle.nardcorbel.specs.Reasons.{character_reason, until_nul_reason};
 ghost use Rattle.nardcorbel.specs.Strings.{text_in, until_nul_place};
 
-use crate::buffers::report;
 use crate::reasons::{
-    BUFFER_TOO_SMALL, INTERIOR_NUL, INVALID_CHAR, NOT_UTF8, OK, until_nul_reason,
+    BUFFER_TOO_SMALL, INTERIOR_NUL, INVALID_CHAR, NOT_UTF8, OK, report, until_nul_reason,
 };
 use crate::strings::until_nul_place;
 use uefi_text::{BufferTooSmall, CStr16, EqStrUntilNul, is_latin1};

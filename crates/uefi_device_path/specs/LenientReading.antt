@@ -32,8 +32,8 @@ IsReadAs text nodes = (at_start : Bool) × ReadsTo text nodes at_start []
 abbrev pub IsReadable : List ℕ → Type 0
 IsReadable text = (nodes : List Node) × IsReadAs text nodes
 
--- after some nodes no node is read, and no instance ends, where this fault says that the next begins: the fault
--- of what is left of the text
+-- after some nodes no node is read, and no instance ends, where this fault says that the next begins: the
+-- fault of what is left of the text
 pub record ReadingStops (text : List ℕ) (fault : TextFault) (nodes : List Node) (at_start : Bool)
     (rest : List ℕ) : Type 0 where
   pub reads : ReadsTo text nodes at_start ((if at_start then [] else codes "/") ++ rest)

@@ -211,11 +211,12 @@ impl<'a> DevicePath<'a> {
         file_path_in(alloc, &self.bytes[..self.bytes.len() - 4])
     }
 
-    /// Writes the file path, which [`DevicePath::file_path`] makes, to the start of a buffer, with a NUL after
-    /// it, and returns its length without the NUL. What follows the NUL is unchanged.
+    /// Writes the file path, which [`DevicePath::file_path`] makes, to the start of a buffer, with a NUL
+    /// after it, and returns its length without the NUL. What follows the NUL is unchanged.
     ///
-    /// Fails with `Name` if that call refuses a name, for the same node, or else if the buffer is too small. The
-    /// buffer is then unchanged. One pass over the nodes measures, and one writes. Takes no memory.
+    /// Fails with `Name` if that call refuses a name, for the same node, or else if the buffer is too
+    /// small. The buffer is then unchanged. One pass over the nodes measures, and one writes. Takes no
+    /// memory.
     ///
     /// ```rust
     /// let path = DevicePathBuf::from_text(rt.alloc(), r"SD(0x1)/\a\b")?;

@@ -169,10 +169,10 @@ impl<A: Allocator + Copy> DevicePathBuf<A> {
     /// A text that [`DevicePathBuf::from_text`] reads is read as the same path. The path that is read prints
     /// as a text that `from_text` reads as that path.
     ///
-    /// Allocates one byte more than the text has, for copies of its calls and names, which it frees; then the
-    /// text is judged, and `NoNode` says where the first node begins that can't be read, which byte of it is
-    /// wrong, and what has to stand there; then it allocates once, for the whole path. `OutOfMemory` if one of
-    /// the two requests is refused.
+    /// Allocates one byte more than the text has, for copies of its calls and names, which it frees; then
+    /// the text is judged, and `NoNode` says where the first node begins that can't be read, which byte of
+    /// it is wrong, and what has to stand there; then it allocates once, for the whole path. `OutOfMemory`
+    /// if one of the two requests is refused.
     ///
     /// ```rust
     /// let path = DevicePathBuf::from_lenient_text(rt.alloc(), "pciroot(0)/pci(31, 2)")?;

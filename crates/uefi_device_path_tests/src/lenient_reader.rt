@@ -90,22 +90,24 @@ fn texts(rt: HostRuntime) -> Result<(), Fail> {
     Ok(())
 }
 
-/// Texts of no path, after where the node begins that can't be read, and the wrong byte; and what is expected.
+/// Texts of no path, after where the node begins that can't be read, and the wrong byte; and what is
+/// expected.
 pub(crate) const REFUSED: &str = "\
-11 11 PciRoot(0)/: the name of a node | 0 0 PcRoot(0): the name of a node | 4 4 a/b//c: the name of a node | \
-0 10 PciRoot(0)x: `/`, `,` or the end of the text | 0 7 Unit(1) /a: `/`, `,` or the end of the text | \
-0 9 PciRoot(0: `)` | 11 18 PciRoot(0)/Pci(1,2,3): `)` | 0 6 File(a: `)` | 2 3 ,,(: `)` | \
-0 45 VenHw(12345678-9abc-def0-1234-56789abcdef0,abc): `)` | 0 4 Pci(f,0): a number up to 0xFF | \
-11 20 PciRoot(0)/Pci(0x1F,0x12345678901)/Sata(0x0): a number up to 0xFF | 12 20 pci root(0)/pci( 31 ; 2 ): `,` | \
-0 7 Sata(0,-1,0): a number up to 0xFFFF | 0 9 HD(1,GPT,1234,0x800,0x64000): 8 hexadecimal digits | \
-0 17 HD(1,GPT,12345678_9abc-def0-1234-56789abcdef0): `-` | 0 18 IPv4(1.2.3.4,TCP,Dynamic,0.0.0.0): `H` | \
-0 43 VenHw(12345678-9abc-def0-1234-56789abcdef0,): 2 hexadecimal digits | 0 12 Ata(Primary,Third,0): `S` | \
-0 26 SAS(0,0,0,SAS,Internal,Dirct,0,0): `e` | 0 5 Uart(fast,8,N,1): DEFAULT or a number up to 0xFFFFFFFFFFFFFFFF | \
-0 12 Uart(9600,8,Q,1): a parity (D, N, E, O, M, S or x) and `,` | 0 17 MAC(001122334455,2): `0` | \
-0 14 Uart(9600,8,N,3): stop bits (D, 1, 1.5, 2 or x) and `)` | 0 13 Acpi(PNP0A03,0x): a number up to 0xFFFFFFFF | \
-0 7 NVMe(1,0025385b71b0031c): 16 hexadecimal digits in pairs, with dashes between them | \
-0 18 AcpiAdr(0x80010100,1): the exact printed form | 0 11 Dns(1.1.1.1,1.1.1.256): the exact printed form | \
-0 0 uri(http://a): the exact printed form | 0 0 Wi-Fi(home): a shorter node, or one whose text tells all of it | \
-0 14 Path(1,1,0102): a shorter node, or one whose text tells all of it | 0 5 file(a\u{7}b): the name of a file | \
-0 0 a\u{202e}: the name of a file | 11 15 PciRoot(0)/Pci(0x100,0): a number up to 0xFF | \
-0 7 HD(128,0,1032547698badcfe0102030405060708,0x0,0x0): `M`";
+11 11 PciRoot(0)/: the name of a node | 0 12 Uart(9600,8,Q,1): a parity (D, N, E, O, M, S or x) and `,` | \
+0 0 PcRoot(0): the name of a node | 0 5 Uart(fast,8,N,1): DEFAULT or a number up to 0xFFFFFFFFFFFFFFFF | \
+4 4 a/b//c: the name of a node | 11 20 PciRoot(0)/Pci(0x1F,0x12345678901)/Sata(0x0): a number up to 0xFF | \
+0 10 PciRoot(0)x: `/`, `,` or the end of the text | 0 11 Dns(1.1.1.1,1.1.1.256): the exact printed form | \
+0 7 Unit(1) /a: `/`, `,` or the end of the text | 0 9 HD(1,GPT,1234,0x800,0x64000): 8 hexadecimal digits | \
+0 9 PciRoot(0: `)` | 0 43 VenHw(12345678-9abc-def0-1234-56789abcdef0,): 2 hexadecimal digits | \
+11 18 PciRoot(0)/Pci(1,2,3): `)` | 0 14 Path(1,1,0102): a shorter node, or one whose text tells all of it | \
+0 6 File(a: `)` | 0 7 NVMe(1,0025385b71b0031c): 16 hexadecimal digits in pairs, with dashes between them | \
+2 3 ,,(: `)` | 0 0 Wi-Fi(home): a shorter node, or one whose text tells all of it | \
+0 45 VenHw(12345678-9abc-def0-1234-56789abcdef0,abc): `)` | 0 18 IPv4(1.2.3.4,TCP,Dynamic,0.0.0.0): `H` | \
+0 4 Pci(f,0): a number up to 0xFF | 0 14 Uart(9600,8,N,3): stop bits (D, 1, 1.5, 2 or x) and `)` | \
+12 20 pci root(0)/pci( 31 ; 2 ): `,` | 0 7 HD(128,0,1032547698badcfe0102030405060708,0x0,0x0): `M` | \
+0 7 Sata(0,-1,0): a number up to 0xFFFF | 0 17 HD(1,GPT,12345678_9abc-def0-1234-56789abcdef0): `-` | \
+0 12 Ata(Primary,Third,0): `S` | 0 18 AcpiAdr(0x80010100,1): the exact printed form | \
+0 26 SAS(0,0,0,SAS,Internal,Dirct,0,0): `e` | 11 15 PciRoot(0)/Pci(0x100,0): a number up to 0xFF | \
+0 17 MAC(001122334455,2): `0` | 0 13 Acpi(PNP0A03,0x): a number up to 0xFFFFFFFF | \
+0 0 uri(http://a): the exact printed form | 0 5 file(a\u{7}b): the name of a file | \
+0 0 a\u{202e}: the name of a file";

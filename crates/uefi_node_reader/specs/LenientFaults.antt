@@ -162,7 +162,7 @@ place_at count (c ∷ cs) = if is_blank c then place_at count cs + 1
 abbrev pub fault : ℕ → Expected → NodeFault
 fault byte what = record { byte = byte; expected = what }
 
--- the fault of a text whose call has so many bytes when it is tidied, by where that stops
+-- the fault of a text, by how many bytes its tidied call has and where reading it stops
 abbrev pub stop_fault : List ℕ → ℕ → Option Stop → NodeFault
 stop_fault text len None = fault 0 expected.Node
 stop_fault text len (Some stop) = fault (place_at (len - stop.left) text) stop.expected

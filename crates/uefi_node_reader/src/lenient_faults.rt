@@ -40,7 +40,8 @@ fn stop_at(text: &[u8], expected: Expected) -> Stop
 
 /// What stands after something that was read, or else where it was not.
 fn or_stop<'a>(read: Option<&'a [u8]>, stop: Stop) -> Result<&'a [u8], Stop>
-    ensures { result_map_both (λ x. x.now) (λ e. e) result ≡ or_stop (option_map (λ x. x.now) read.entry) stop }
+    ensures { result_map_both (λ x. x.now) (λ e. e) result
+        ≡ or_stop (option_map (λ x. x.now) read.entry) stop }
 {
     match read {
         Some(rest) => Ok(rest),

@@ -127,10 +127,10 @@ fn fault_in_call(scratch: &mut [u8], text: &[u8]) -> NodeFault
 /// Returns why [`read_lenient_node`] reads no node from a text: the byte that is wrong, and what has to stand
 /// there. The buffer then holds anything.
 ///
-/// Several forms of nodes may have the name of the call. The one that was read furthest decides, and the first
-/// of these if there are several. The byte is the first that differs from the form's text, or the first of a
-/// field that can't be read. If the text begins with a whole node, it is the first byte after that. Takes no
-/// memory but the buffer.
+/// Several forms of nodes may have the name of the call. The one that was read furthest decides, and the
+/// first of these if there are several. The byte is the first that differs from the form's text, or the
+/// first of a field that can't be read. If the text begins with a whole node, it is the first byte after
+/// that. Takes no memory but the buffer.
 #[tactic(auto, unfolding(crate::specs::LenientFaults::lenient_fault))]
 pub fn lenient_fault(scratch: &mut [u8], text: &[u8]) -> NodeFault
     requires { length text.now < length scratch.old }

@@ -69,8 +69,8 @@ pub fn is_separator_missing_replaced(text: &[u16], path: &[u16]) -> bool
     with_separator(text[text.len() - 1]) != u16::from(SEPARATOR)
 }
 
-/// How long a text of `end` units becomes, when a path is pushed on it, or the greatest `usize` where it becomes
-/// longer.
+/// How long a text of `end` units becomes, when a path is pushed on it, or the greatest `usize` where it
+/// becomes longer.
 pub fn pushed_len(end: usize, is_missing: bool, path: &[u16]) -> usize
     ensures { result ≡ min (end + (if is_missing then 1 else 0) + length path.now) (2 ^ 64 - 1) }
 {

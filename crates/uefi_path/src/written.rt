@@ -139,8 +139,8 @@ pub(crate) fn write_string(units: &mut [u16], len: usize, names: NamesFromLast<'
     let _len = write_names(&mut units[..len], names);
 }
 
-/// Writes what a push adds after the first `end` units of a buffer, and a NUL; or nothing, if the buffer has no
-/// room.
+/// Writes what a push adds after the first `end` units of a buffer, and a NUL; or nothing, if the buffer
+/// has no room.
 fn write_tail(
     buffer: &mut [u16],
     end: usize,
@@ -221,11 +221,12 @@ impl fmt::Display for NormalWriteError {
 
 impl Error for NormalWriteError {}
 
-/// Paths in a caller's buffer. Each call writes a NUL after the path and returns the length of the path without
-/// it. What follows the NUL is unchanged. A buffer that is too small is unchanged. No call takes memory.
+/// Paths in a caller's buffer. Each call writes a NUL after the path and returns the length of the path
+/// without it. What follows the NUL is unchanged. A buffer that is too small is unchanged. No call takes
+/// memory.
 impl<'a> Path<'a> {
-    /// Writes the parent, which [`Path::parent`] makes, to the start of a buffer; or returns `Ok(None)`, if the
-    /// path has at most one component, and the buffer is unchanged. Two passes over the components.
+    /// Writes the parent, which [`Path::parent`] makes, to the start of a buffer; or returns `Ok(None)`, if
+    /// the path has at most one component, and the buffer is unchanged. Two passes over the components.
     ///
     /// ```rust
     /// let text = CString16::try_from_str(rt.alloc(), r"\efi\boot")?;
@@ -255,11 +256,11 @@ impl<'a> Path<'a> {
         Ok(Some(len))
     }
 
-    /// Writes the normal path to the start of a buffer: the one that [`Path::normalize`] makes of this path once
-    /// each slash is a separator.
+    /// Writes the normal path to the start of a buffer: the one that [`Path::normalize`] makes of this path
+    /// once each slash is a separator.
     ///
-    /// Fails with `Invalid`, with the reason of [`validate_path`](crate::validate_path) for that path, or else
-    /// if the buffer is too small. Two passes over the components after those that judge the path.
+    /// Fails with `Invalid`, with the reason of [`validate_path`](crate::validate_path) for that path, or
+    /// else if the buffer is too small. Two passes over the components after those that judge the path.
     ///
     /// ```rust
     /// let text = CString16::try_from_str(rt.alloc(), "a/../b")?;
@@ -291,8 +292,8 @@ impl<'a> Path<'a> {
         Ok(end)
     }
 
-    /// Writes this path with another pushed on it, which [`Path::join`] makes, to the start of a buffer. One pass
-    /// over each.
+    /// Writes this path with another pushed on it, which [`Path::join`] makes, to the start of a buffer.
+    /// One pass over each.
     ///
     /// ```rust
     /// let text = CString16::try_from_str(rt.alloc(), "a/b")?;

@@ -20,8 +20,8 @@ pub record AreSunk (units old buffer : List ℕ) (len : ℕ) : Type 0 where
 abbrev pub places_needed : List ℕ → ℕ
 places_needed text = min (length text + 1) (2 ^ 64 - 1)
 
--- what is returned where a text and a NUL are written into a buffer: the length of the text, or, if the buffer
--- has too few places, how many the two need
+-- what is returned where a text and a NUL are written into a buffer: the length of the text, or, if the
+-- buffer has too few places, how many the two need
 abbrev pub written_len : List ℕ → List ℕ → Result ℕ BufferTooSmall
 written_len text buffer = if nat_lt (length text) (length buffer)
     then Ok (length text) else Err (record { 0 = places_needed text })

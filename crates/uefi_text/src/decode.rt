@@ -213,13 +213,14 @@ fn lone_char(unit: u16) -> char
     char::from_u32(unit as u32).unwrap()
 }
 
-/// The character that stands at a place of units, by the unit there and the one after it, or 0 after the last;
-/// and how many units it has. U+FFFD stands for each surrogate that has no partner (Unicode Standard, section
-/// 3.9).
+/// The character that stands at a place of units, by the unit there and the one after it, or 0 after the
+/// last; and how many units it has. U+FFFD stands for each surrogate that has no partner (Unicode Standard,
+/// section 3.9).
 pub fn lossy_char(unit: u16, next: u16) -> (char, usize)
     ensures first { (units : List ℕ) (place : ℕ) → place < length units
         → slice_index units place ≡ unit → slice_index units (place + 1) ≡ next
-        → utf16_lossy_chars (drop place units) ≡ result.0 ∷ utf16_lossy_chars (drop (place + result.1) units) }
+        → utf16_lossy_chars (drop place units)
+        ≡ result.0 ∷ utf16_lossy_chars (drop (place + result.1) units) }
     ensures some { 0 < result.1 }
     ensures within { (units : List ℕ) (place : ℕ) → place < length units
         → slice_index units (place + 1) ≡ next → place + result.1 ≤ length units }

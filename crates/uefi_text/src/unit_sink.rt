@@ -141,7 +141,8 @@ fn fill_units<P: Printed>(buffer: &mut [u16], value: &P) -> usize
 /// ```
 pub fn write_units<P: Printed>(buffer: &mut [u16], value: &P) -> Result<usize, BufferTooSmall>
     ensures len { result ≡ written_len (utf16_units (P.printed value.now)) buffer.old }
-    ensures buffer { buffer.new ≡ with_prefix (nul_terminated (utf16_units (P.printed value.now))) buffer.old }
+    ensures buffer { buffer.new
+        ≡ with_prefix (nul_terminated (utf16_units (P.printed value.now))) buffer.old }
 {
     let len = fill_units(&mut [], value);
     if buffer.len() <= len {

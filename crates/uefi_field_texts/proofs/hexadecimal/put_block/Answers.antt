@@ -26,5 +26,7 @@ pub from_utf8_unchecked-requires : goal.from_utf8_unchecked-requires
 from_utf8_unchecked-requires g c =
     let bytes = c.args.bytes.now in
     let all = ap hex_bytes (take_all c.loop-place.place bytes c.loop-place-test.false) in
-    let written : take (2 * length bytes) c.loop-place.digits ≡ hex_bytes bytes = grind (arith, common_steps, c.loop-place.invariant.so_far, all, c.loop-place-test.false, c.loop-place.auto.place-end) in
+    let so_far = c.loop-place in
+    let written : take (2 * length bytes) so_far.digits ≡ hex_bytes bytes =
+    grind (arith, common_steps, so_far.invariant.so_far, all, c.loop-place-test.false, so_far.auto.place-end) in
     subst IsUtf8 (sym written) (bytes_utf8 bytes)

@@ -3,7 +3,7 @@ use Rattle.std.proofs.Common.{arith, sym, ◌∙◌}
 use Rattle.std.proofs.lemmas.Bool.{lt-ltb}
 use Rattle.std.proofs.lemmas.Grind.{common_steps}
 use Rattle.uefi_text.proofs.TextsInBuffers.{was_written}
-use Rattle.nardcorbel.proofs.buffers.report.Goals as goal
+use Rattle.nardcorbel.proofs.reasons.report.Goals as goal
 
 pub returns-in-Ok-clause-reason : goal.returns-in-Ok-clause-reason
 returns-in-Ok-clause-reason c = λ text buffer is.
