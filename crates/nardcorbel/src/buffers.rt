@@ -20,7 +20,7 @@ use crate::reasons::{
     BUFFER_TOO_SMALL, NO_PARENT, NOT_UTF8, OK, path_reason, report, until_nul_reason,
 };
 use crate::strings::until_nul_place;
-use crate::texts::nard_string_from_utf8;
+use crate::utf8_texts::nard_string_from_utf8;
 use uefi_path::{NormalWriteError, Path, laws, push_in_buf};
 use uefi_text::{BufferTooSmall, CStr16};
 

@@ -10,7 +10,7 @@ ghost use Rattle.nardcorbel.specs.Buffers.{length_shown, room_reason};
 ghost use Rattle.nardcorbel.specs.Strings.{text_in};
 
 use crate::reasons::report;
-use crate::texts::write_char;
+use crate::utf8_texts::write_char;
 use uefi_text::BufferTooSmall;
 use uefi_text::decode::lossy_char;
 use uefi_text::scan::find_nul;

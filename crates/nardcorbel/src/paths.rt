@@ -16,7 +16,7 @@ ghost use Rattle.nardcorbel.specs.Strings.{text_in, until_nul_place};
 
 use crate::reasons::{NO_ORDER, OK, order_number, path_reason, until_nul_reason};
 use crate::strings::until_nul_place;
-use uefi_path::slices::{last_component, next_component, others_end};
+use uefi_path::path_units::{last_component, next_component, others_end};
 use uefi_path::{Path, validate_path};
 use uefi_text::CStr16;
 

@@ -1,5 +1,5 @@
 //! What an entry says.
-use crate::texts::text_of;
+use crate::growing_texts::text_of;
 use serde::Serialize;
 use std::alloc::{AllocError, Global};
 use std::fmt::{self, Write};

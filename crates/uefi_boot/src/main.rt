@@ -22,8 +22,8 @@
 ghost use Rattle.std.specs.Prelude.{◌≤◌, IfOk, length};
 
 mod entry;
+mod growing_texts;
 mod listing;
-mod texts;
 mod variables;
 
 use entry::{MOST_BYTES, Shown};

@@ -16,7 +16,7 @@ use std::fmt;
 use uefi_field_texts::forms::{AllowShortcuts, DisplayOnly};
 use uefi_field_texts::hexadecimal::{put_comma_bytes, put_hex};
 use uefi_field_texts::ids::{has_uid_alone, id_strings, put_eisa_id};
-use uefi_field_texts::texts::{put_byte_text, put_utf16_text, until_nul};
+use uefi_field_texts::shown_texts::{put_byte_text, put_utf16_text, until_nul};
 use uefi_field_texts::vendor_names::{put_boot_type, vendor_name};
 use uefi_node_table::printing::put_form;
 use uefi_text::Packed;

@@ -20,7 +20,7 @@ use crate::errors::{FilePathCause, FilePathError, FilePathWriteError};
 use std::alloc::{AllocError, Allocator};
 use uefi_device_nodes::{DevicePathNode, DeviceSubType, DeviceType};
 use uefi_path::PathBuf;
-use uefi_path::slices::with_separator;
+use uefi_path::path_units::with_separator;
 use uefi_text::{CString16, UnalignedSlice};
 
 /// How many units a path has so far, and whether a separator is missing after them.

@@ -79,5 +79,5 @@ pub use uefi_device_nodes::typed_node::TypedNode;
 pub use uefi_device_nodes::{acpi, bios_boot_spec, hardware, media, messaging};
 pub use uefi_field_texts::forms::{AllowShortcuts, DisplayOnly};
 pub use uefi_field_texts::guid::Guid;
-pub use uefi_field_texts::texts::is_escaped;
+pub use uefi_field_texts::shown_texts::is_escaped;
 pub use uefi_text::unit_sink::BufferTooSmall;

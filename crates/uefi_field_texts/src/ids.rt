@@ -6,7 +6,7 @@ ghost use Rattle.std.specs.Prelude.{◌≡◌, ◌++◌};
 ghost use Rattle.uefi_field_texts.specs.FieldTexts.{cid_string, eisa_letter, eisa_text, has_uid_alone, hid_string, uid_string};
 
 use crate::hexadecimal::put_word;
-use crate::texts::{after_nul, until_nul};
+use crate::shown_texts::{after_nul, until_nul};
 use uefi_text::text_sink::TextSink;
 
 /// Puts the letter of the five low bits of a number.

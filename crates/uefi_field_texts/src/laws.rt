@@ -4,7 +4,7 @@
 ghost use Rattle.uefi_field_texts.specs.Guids.{GuidsOnce, GuidsRead, GuidsShown};
 ghost use Rattle.uefi_field_texts.specs.ShownTexts.{AsciiShown, BytesShown, JoinedShown, NamesShown, NumbersShown, UnitsShown};
 
-/// No text of a field holds a character that [`is_escaped`](crate::texts::is_escaped).
+/// No text of a field holds a character that [`is_escaped`](crate::shown_texts::is_escaped).
 pub fn fields_are_shown()
     ensures joined { JoinedShown }
     ensures ascii { AsciiShown }

@@ -15,6 +15,6 @@ pub mod ids;
 #[doc(hidden)]
 pub mod laws;
 #[doc(hidden)]
-pub mod texts;
+pub mod shown_texts;
 #[doc(hidden)]
 pub mod vendor_names;

@@ -13,7 +13,7 @@ ghost use Rattle.uefi_node_reader.specs.TextNodeViews.{data_of, text_node};
 
 use crate::counted_bytes::push;
 use crate::lenient_fields::{after_literal, set_pieces};
-use crate::plain::plain_types;
+use crate::plain_nodes::plain_types;
 use crate::table_reader::{finish_row, fixed_part};
 use crate::telling::tells;
 use crate::text_node::TextNode;

@@ -20,7 +20,7 @@ mod node_tails;
 #[doc(hidden)]
 pub mod nodes;
 mod numerals;
-mod plain;
+mod plain_nodes;
 mod table_reader;
 mod telling;
 #[doc(hidden)]

@@ -9,7 +9,7 @@ ghost use Rattle.uefi_node_reader.specs.NamedFiles.{begins_name, ends_name, is_n
 ghost use Rattle.uefi_node_reader.specs.TextNodeViews.{text_node};
 
 use crate::text_node::TextNode;
-use uefi_field_texts::texts::is_escaped;
+use uefi_field_texts::shown_texts::is_escaped;
 
 /// Whether a byte ends a name.
 pub(crate) fn ends_name(byte: u8) -> bool

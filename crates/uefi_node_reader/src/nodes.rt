@@ -16,7 +16,7 @@ use crate::lenient_fields::after_literal;
 use crate::lenient_names::{bare, begins_call, file};
 use crate::lenient_table::by_call;
 use crate::named_files::{ends_name, name};
-use crate::plain::plain;
+use crate::plain_nodes::plain;
 use crate::table_reader::by_table;
 use crate::text_node::TextNode;
 

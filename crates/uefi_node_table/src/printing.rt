@@ -15,7 +15,7 @@ use crate::rows::{Item, Mode, Piece, Row, Shape, Tail};
 use crate::table::{GROUPS, group, item_of};
 use crate::words::{word_for, words_of};
 use uefi_field_texts::hexadecimal::{put_back, put_bytes, put_comma_bytes, put_dashed_back};
-use uefi_field_texts::texts::{put_byte_text, put_utf16_text, until_nul};
+use uefi_field_texts::shown_texts::{put_byte_text, put_utf16_text, until_nul};
 use uefi_text::number_texts::put_digits;
 use uefi_text::text_sink::TextSink;
 

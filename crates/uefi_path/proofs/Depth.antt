@@ -10,8 +10,8 @@ use Rattle.uefi_path.specs.Climbing.{NoneClimbs, counted_dot_dot, counted_name, 
 use Rattle.uefi_path.specs.NormalForms.{IsName, before_normal, before_piece, dot_dot, kind, normal_of}
 use Rattle.uefi_path.specs.Parents.{all_but_last}
 use Rattle.uefi_path.specs.Verdicts.{IsGood, fault, fault_at, first_fault}
-use Rattle.uefi_path.specs.declared.kinds.Kind.{Kind}
-use Rattle.uefi_path.specs.declared.kinds.Kind.TheVariants.{Dot, DotDot, Name}
+use Rattle.uefi_path.specs.declared.component_kinds.Kind.{Kind}
+use Rattle.uefi_path.specs.declared.component_kinds.Kind.TheVariants.{Dot, DotDot, Name}
 use Rattle.uefi_path.specs.declared.validation.PathError.{PathError}
 use Rattle.uefi_path.proofs.Rewriting.{kind-DotDot, kind-Name, name_kind}
 

@@ -5,8 +5,8 @@ use Rattle.std.proofs.lemmas.List.{append-nil, drop-set-lt, length-drop}
 use Rattle.std.proofs.lemmas.List.Elements.{All-head, All-tail}
 use Rattle.uefi_path.specs.Components.{joined}
 use Rattle.uefi_path.specs.NormalForms.{before_normal, before_piece, kind, normal_of, normal_text}
-use Rattle.uefi_path.specs.declared.kinds.Kind.{Kind}
-use Rattle.uefi_path.specs.declared.kinds.Kind.TheVariants.{Dot, DotDot, Name}
+use Rattle.uefi_path.specs.declared.component_kinds.Kind.{Kind}
+use Rattle.uefi_path.specs.declared.component_kinds.Kind.TheVariants.{Dot, DotDot, Name}
 use Rattle.uefi_path.specs.Separators.{separator, with_separators}
 use Rattle.uefi_path.specs.Verdicts.{IsGood}
 use Rattle.uefi_path.proofs.ParentSizes.{room, room-joined}

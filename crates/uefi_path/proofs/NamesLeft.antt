@@ -4,8 +4,8 @@ use Rattle.std.proofs.lemmas.List.{append-nil}
 use Rattle.uefi_path.specs.Components.{components_of, joined}
 use Rattle.uefi_path.specs.NamesLeft.{names_before}
 use Rattle.uefi_path.specs.NormalForms.{IsName, before_normal, before_piece, dot, dot_dot, kind, normal_of}
-use Rattle.uefi_path.specs.declared.kinds.Kind.{Kind}
-use Rattle.uefi_path.specs.declared.kinds.Kind.TheVariants.{Dot, DotDot, Name}
+use Rattle.uefi_path.specs.declared.component_kinds.Kind.{Kind}
+use Rattle.uefi_path.specs.declared.component_kinds.Kind.TheVariants.{Dot, DotDot, Name}
 use Rattle.uefi_path.specs.Verdicts.{IsGood, verdict}
 use Rattle.uefi_text.specs.Units.{IsText}
 use Rattle.uefi_path.proofs.Depth.{names_of_normal}

@@ -5,8 +5,8 @@ use Rattle.std.proofs.lemmas.List.Elements.{All-cons, All-head, All-nil, All-tai
 use Rattle.uefi_path.specs.Components.{components_of, joined, pieces_between}
 use Rattle.uefi_path.specs.Laws.{NormalHoldsNames, NormalIsNormal, NormalIsValid, NormalPathsAgree}
 use Rattle.uefi_path.specs.NormalForms.{IsName, NormalForm, before_normal, before_piece, kind, normal_of, normal_text}
-use Rattle.uefi_path.specs.declared.kinds.Kind.{Kind}
-use Rattle.uefi_path.specs.declared.kinds.Kind.TheVariants.{Dot, DotDot, Name}
+use Rattle.uefi_path.specs.declared.component_kinds.Kind.{Kind}
+use Rattle.uefi_path.specs.declared.component_kinds.Kind.TheVariants.{Dot, DotDot, Name}
 use Rattle.uefi_path.specs.Separators.{canonical, separator, slash, with_separators}
 use Rattle.uefi_path.specs.Verdicts.{IsGood, verdict}
 use Rattle.uefi_text.specs.Units.{IsText, IsTextUnit}

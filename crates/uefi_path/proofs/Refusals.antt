@@ -7,8 +7,8 @@ use Rattle.uefi_path.specs.Components.{components_of}
 use Rattle.uefi_path.specs.Laws.{IsRefusedFor}
 use Rattle.uefi_path.specs.NormalForms.{dot_dot, kind}
 use Rattle.uefi_path.specs.Verdicts.{fault, fault_at, first_fault, verdict}
-use Rattle.uefi_path.specs.declared.kinds.Kind.{Kind}
-use Rattle.uefi_path.specs.declared.kinds.Kind.TheVariants.{Dot, DotDot, Name}
+use Rattle.uefi_path.specs.declared.component_kinds.Kind.{Kind}
+use Rattle.uefi_path.specs.declared.component_kinds.Kind.TheVariants.{Dot, DotDot, Name}
 use Rattle.uefi_path.specs.declared.validation.PathError.{PathError}
 use Rattle.uefi_path.specs.declared.validation.PathError.TheVariants.{ClimbsAboveRoot, Empty}
 use Rattle.uefi_path.proofs.Depth.{Accepted, AcceptedAt, accepted_climbs, climbs_accepted, first_accepted, good_components, with_first}

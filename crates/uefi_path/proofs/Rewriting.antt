@@ -3,8 +3,8 @@
 use Rattle.std.proofs.Common.{◌≡◌, ◌≢◌, ℕ, List, [], ◌∷◌, ◌++◌, inl, inr, zero, suc, refl, sym, ap, ◌∙◌, subst, arith}
 use Rattle.uefi_path.specs.Laws.{NormalFormWhereSame, NormalFormsAgree, NormalFormsExist, NormalFormsOnce}
 use Rattle.uefi_path.specs.NormalForms.{IsName, IsNormal, NormalForm, Rewrites, Step, Steps, before_normal, before_piece, dot, dot_dot, kind, normal_of}
-use Rattle.uefi_path.specs.declared.kinds.Kind.{Kind}
-use Rattle.uefi_path.specs.declared.kinds.Kind.TheVariants.{Dot, DotDot, Name}
+use Rattle.uefi_path.specs.declared.component_kinds.Kind.{Kind}
+use Rattle.uefi_path.specs.declared.component_kinds.Kind.TheVariants.{Dot, DotDot, Name}
 
 pub kind-Dot : (piece : List ℕ) → kind piece ≡ Dot → piece ≡ dot
 kind-Dot [] e = cc

@@ -6,7 +6,7 @@ ghost use Rattle.uefi_path.specs.FileNames.{HasNoExtension, IsExtension, IsLastD
 ghost use Rattle.uefi_path.specs.Views.{path_text};
 ghost use Rattle.uefi_text.specs.Views.{units_of};
 
-use crate::kinds::{Kind, kind_of};
+use crate::component_kinds::{Kind, kind_of};
 use crate::path::Path;
 use uefi_text::strs::Char16Slice;
 

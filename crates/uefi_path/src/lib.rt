@@ -38,21 +38,21 @@
 mod ancestors;
 mod caseless;
 mod component_indices;
+mod component_kinds;
 mod components;
 mod counted;
 mod fault_places;
 mod file_names;
-mod kinds;
 pub mod laws;
 mod names;
 mod normal;
 mod path;
+#[doc(hidden)]
+pub mod path_units;
 mod pathbuf;
+mod push_tails;
 mod separators;
 mod slashed;
-#[doc(hidden)]
-pub mod slices;
-mod tails;
 mod validation;
 mod written;
 

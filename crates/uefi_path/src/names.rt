@@ -13,7 +13,7 @@ ghost use Rattle.uefi_path.specs.Views.{path_text};
 ghost use Rattle.uefi_text.specs.Units.{IsText};
 ghost use Rattle.uefi_text.specs.Views.{units_of};
 
-use crate::kinds::{Kind, kind_of};
+use crate::component_kinds::{Kind, kind_of};
 use crate::path::Path;
 use crate::slashed::{cut_last, to_cut};
 use uefi_text::strs::Char16Slice;

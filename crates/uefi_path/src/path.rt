@@ -11,7 +11,7 @@ ghost use Rattle.uefi_text.specs.Units.{IsText};
 ghost use Rattle.uefi_text.specs.Views.{text_of, units_of};
 
 use crate::components::{Components, Rest};
-use crate::slices::last_component;
+use crate::path_units::last_component;
 use std::cmp::Ordering;
 use std::fmt;
 use uefi_text::chars::SEPARATOR;

@@ -8,7 +8,7 @@ ghost use Rattle.uefi_path.specs.Verdicts.{IsValid, fault, is_denied, verdict};
 ghost use Rattle.uefi_path.specs.Views.{path_text};
 ghost use Rattle.uefi_text.specs.Views.{units_of};
 
-use crate::kinds::{Kind, kind_of};
+use crate::component_kinds::{Kind, kind_of};
 use crate::path::Path;
 use std::error::Error;
 use std::fmt;

@@ -16,11 +16,11 @@ ghost use Rattle.uefi_text.specs.Units.{nul_terminated};
 use crate::components::Components;
 use crate::names::NamesFromLast;
 use crate::path::Path;
-use crate::slashed::judge_slashed;
-use crate::slices::{
+use crate::path_units::{
     is_separator_missing, is_separator_missing_replaced, pushed_len, write_part,
     write_with_separators,
 };
+use crate::slashed::judge_slashed;
 use crate::validation::PathError;
 use std::error::Error;
 use std::fmt;

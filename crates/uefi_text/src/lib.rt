@@ -40,12 +40,12 @@ pub mod laws;
 #[doc(hidden)]
 pub mod number_texts;
 pub mod owned_strs;
-mod packed;
-mod packed_strings;
+mod packed_numbers;
 pub mod patterns;
 #[doc(hidden)]
 pub mod scan;
 pub mod steps;
+mod strings_in_bytes;
 pub mod strs;
 #[doc(hidden)]
 pub mod text_sink;

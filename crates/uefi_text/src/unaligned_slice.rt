@@ -34,7 +34,7 @@ ghost use Rattle.uefi_text.specs.UnalignedCStr16.{refusal_in_buffer};
 ghost use Rattle.uefi_text.specs.UnitBytes.{ends_in_nul};
 
 use crate::owned_strs::CString16;
-pub use crate::packed::Packed;
+pub use crate::packed_numbers::Packed;
 use crate::scan::{Class, Deciding, Nul, find_first};
 use crate::strs::{CStr16, FromSliceWithNulError, UnalignedCStr16Error, check_deciding_unit};
 use std::alloc::{AllocError, Allocator};

@@ -1,0 +1,8 @@
+use Rattle.std.proofs.Output.{writes_in_calls_single}
+use Rattle.uefi_boot.proofs.growing_texts.GrowingTextSink.put_char.Goals as goal
+
+pub returns-then-not-self : goal.returns-then-not-self
+returns-then-not-self c = writes_in_calls_single _ _ _ _ _
+
+pub returns-else-not-self : goal.returns-else-not-self
+returns-else-not-self c = writes_in_calls_single _ _ _ _ _
