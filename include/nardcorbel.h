@@ -617,8 +617,8 @@ nard_result NARD_CALL nard_device_path_push_text(nard_byte *buffer, nard_size ro
  *   as nard_device_path_check of the buffer, *length too
  *   NARD_NOT_UTF8           *length is how many bytes before the fault are UTF-8
  *   NARD_SCRATCH_TOO_SMALL  scratch_room < *length, one more than byte_count
- *   NARD_NO_NODE            a node can't be read, and byte *length of the text is wrong: byte_count if the text ends too early,
- *                           and the first byte of a number, of digits or of a name that is wrong
+ *   NARD_NO_NODE            a node can't be read; *length is the offset of the first wrong byte, or of the number, digits or name
+ *                           that is wrong, and byte_count if the text ends too early
  *   NARD_BUFFER_TOO_SMALL   room < *length, how many bytes the path would have, or SIZE_MAX if these are more
  * If it is NARD_OK, *length is how many bytes the path then has, and those after it are unchanged. Otherwise the buffer is.
  */
