@@ -11,7 +11,7 @@ use Rattle.uefi_node_reader.specs.TableReading.{are_within, form_place, prints}
 
 -- the test for a form that these bytes tell from others
 abbrev is_short : Form → Bool
-is_short form = leb form.least 64 && are_within 64 form.when
+is_short form = leb (form.least + form.more) 64 && are_within 64 form.when
 
 table_short : list_all is_short forms ≡ true
 unfolding group_forms
@@ -38,9 +38,9 @@ module _ (content : List ℕ) where
   module _ (kind sub_kind : ℕ) where
     same : (form : Form) → is_short form ≡ true → matches false kind sub_kind (take 64 content) form ≡ matches false kind sub_kind content form
     same form e =
-        let p = and_parts (leb form.least 64) (are_within 64 form.when) e in
+        let p = and_parts (leb (form.least + form.more) 64) (are_within 64 form.when) e in
         (λ i. (eqb form.kind kind && (eqb form.sub_kind sub_kind && is_used false form.mode))
-        && (least_same form.least (leb-true form.least 64 p.0) i && bytes_same form.when p.1 i))
+        && (least_same (form.least + form.more) (leb-true (form.least + form.more) 64 p.0) i && bytes_same form.when p.1 i))
 
     places : (all : List Form) → list_all is_short all ≡ true
         → form_place (matches false kind sub_kind (take 64 content)) all ≡ form_place (matches false kind sub_kind content) all

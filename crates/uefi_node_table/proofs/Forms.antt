@@ -31,7 +31,8 @@ found test all (f ∷ fs) form e s = by (test f) refl e (found test all fs form)
 -- the data are as long as the form wants
 pub long_enough : (display_only : Bool) (kind sub_kind : ℕ) (content : List ℕ) (form : Form) → matches display_only kind sub_kind content form ≡ true
     → form.least ≤ length content
-long_enough display_only kind sub_kind content form e = leb-true _ _ (and_parts _ _ (and_parts _ _ e).1).0
+long_enough display_only kind sub_kind content form e =
+    let long : form.least + form.more ≤ length content = leb-true _ _ (and_parts _ _ (and_parts _ _ e).1).0 in omega (arith, long)
 
 -- the parts of the text of a node
 pub parts_text : (form : Form) (content : List ℕ)

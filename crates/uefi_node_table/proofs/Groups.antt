@@ -26,7 +26,7 @@ one_kind index more =
 module _ (display_only : Bool) (kind sub_kind : ℕ) (content : List ℕ) where
   no_match : (form : Form) → (form.kind == kind) ≡ false → matches display_only kind sub_kind content form ≡ false
   no_match form e = ap (λ (b : Bool). (b && ((form.sub_kind == sub_kind) && is_used display_only form.mode))
-      && (nat_le (form.least) (length content) && has_bytes form.when content)) e
+      && (nat_le (form.least + form.more) (length content) && has_bytes form.when content)) e
 
   none_of : (first : ℕ) → (first == kind) ≡ false → (forms : List Form) → list_all (λ (other : Form). other.kind == first) forms ≡ true
       → find_form (matches display_only kind sub_kind content) forms ≡ None

@@ -30,6 +30,7 @@ pub record Form : Type 0 where
   pub sub_kind : ℕ
   pub mode : Mode
   pub least : ℕ
+  pub more : ℕ
   pub when : List (ℕ × ℕ)
   pub also : List (ℕ × ℕ)
   pub start : List ℕ
@@ -48,6 +49,7 @@ as_form r = record {
   sub_kind = r.sub_kind;
   mode = r.mode;
   least = r.least;
+  more = r.more;
   when = r.when.now;
   also = r.also.now;
   start = r.start.now;
@@ -68,6 +70,7 @@ const_form r = record {
   sub_kind = r.sub_kind;
   mode = r.mode;
   least = r.least;
+  more = r.more;
   when = r.when.now;
   also = r.also.now;
   start = r.start.now;
@@ -158,7 +161,7 @@ is_used display_only Display = display_only
 abbrev pub matches : Bool → ℕ → ℕ → List ℕ → Form → Bool
 matches display_only kind sub_kind content form =
     ((form.kind == kind) && ((form.sub_kind == sub_kind) && is_used display_only form.mode))
-    && (nat_le (form.least) (length content) && has_bytes form.when content)
+    && (nat_le (form.least + form.more) (length content) && has_bytes form.when content)
 
 -- the first form that passes a test
 abbrev pub find_form : (Form → Bool) → List Form → Option Form

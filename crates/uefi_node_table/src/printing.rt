@@ -4,7 +4,7 @@
 ghost use Rattle.std.specs.Fmt.{WritesInCalls};
 ghost use Rattle.std.specs.List.{list_all};
 ghost use Rattle.std.specs.Option.{option_map};
-ghost use Rattle.std.specs.Prelude.{◌≡◌, ◌+◌, ◌^◌, ◌<◌, ◌≤◌, [], if◌then◌else◌, IsTrue, length, map, slice_index};
+ghost use Rattle.std.specs.Prelude.{◌≡◌, ◌+◌, ◌^◌, ◌<◌, ◌≤◌, [], if◌then◌else◌, IsTrue, length, map, nat_le, slice_index};
 ghost use Rattle.uefi_text.specs.Packed.{little_endian};
 ghost use Rattle.uefi_field_texts.specs.FieldTexts.{hex};
 ghost use Rattle.uefi_node_table.specs.Fields.{default_text, field_text, fits_shape};
@@ -179,12 +179,19 @@ fn is_used(mode: Mode, display_only: bool) -> bool
     }
 }
 
+/// Whether data of this length are long enough for a form.
+fn is_long_enough(row: &Row, len: usize) -> bool
+    ensures { result ≡ nat_le (row.now.least + row.now.more) len }
+{
+    row.least <= len && row.more <= len - row.least
+}
+
 /// Whether a node may have a form.
 pub fn matches(row: &Row, display_only: bool, kind: u8, sub_kind: u8, content: &[u8]) -> bool
     ensures { result ≡ matches display_only kind sub_kind content.now (as_form row.now) }
 {
     let is_kind = row.kind == kind && row.sub_kind == sub_kind && is_used(row.mode, display_only);
-    is_kind && row.least <= content.len() && has_bytes(row.when, content)
+    is_kind && is_long_enough(row, content.len()) && has_bytes(row.when, content)
 }
 
 /// The first form of these that a node may have.

@@ -102,8 +102,10 @@ pub struct RowOf<T, B, P> {
     pub sub_kind: u8,
     /// For which texts it is used.
     pub mode: Mode,
-    /// How many bytes the data have at least: those are their fixed part.
+    /// How many bytes the fixed part of the data has.
     pub least: usize,
+    /// How many bytes the data have after it at least.
+    pub more: usize,
     /// Bytes of the fixed part that distinguish this form from others of its kind: where each lies,
     /// and what it is.
     pub when: B,

@@ -81,13 +81,14 @@ macro_rules! bytes {
 
 /// A form of these.
 macro_rules! row {
-    ($kind:literal $sub_kind:literal $mode:ident $least:literal [$($when:tt)*] [$($also:tt)*]
-        $start:literal $([$($field:tt)*])* $($tail:ident)+ $close:literal) => {
+    ($kind:literal $sub_kind:literal $mode:ident $least:literal $(+ $more:literal)? [$($when:tt)*]
+        [$($also:tt)*] $start:literal $([$($field:tt)*])* $($tail:ident)+ $close:literal) => {
         RowOf {
             kind: $kind,
             sub_kind: $sub_kind,
             mode: Mode::$mode,
             least: $least,
+            more: 0 $(+ $more)?,
             when: bytes!([] $($when)*),
             also: bytes!([] $($also)*),
             start: $start,
