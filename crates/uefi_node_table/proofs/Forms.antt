@@ -5,7 +5,8 @@ use Rattle.std.specs.List.{list_all}
 use Rattle.std.proofs.lemmas.Bool.{and_from, and_parts, le-leb, leb-true}
 use Rattle.std.proofs.lemmas.Slice.{between_to_end}
 use Rattle.uefi_node_table.specs.Fields.{fits_shape}
-use Rattle.uefi_node_table.specs.Rows.{Piece, Form, find_form, form_text, is_within, lead_text, matches, pieces_text, tail_text}
+use Rattle.uefi_node_table.proofs.Lists.{all_of_both}
+use Rattle.uefi_node_table.specs.Rows.{Piece, Form, find_form, form_text, is_laid_out, is_within, matches, pieces_text, tail_text}
 
 -- fields within data lie within longer data
 pub wider : (m n : ℕ) → m ≤ n → (pieces : List Piece) → list_all (is_within m) pieces ≡ true → list_all (is_within n) pieces ≡ true
@@ -15,6 +16,17 @@ wider m n l (p ∷ ps) e =
     let one = and_parts (leb (p.place + p.width) m) (fits_shape p.shape p.width) parts.0 in
     let low = leb-true (p.place + p.width) m one.0 in
     and_from _ _ (and_from _ _ (le-leb (p.place + p.width) n (omega arith)) one.1) (wider m n l ps parts.1)
+
+-- the fields of a form lie within data that are as long as it wants
+module _ (form : Form) (n : ℕ) (long : form.least ≤ n) (within : is_laid_out form ≡ true) where
+  parts : (list_all (is_within form.least) form.pieces ≡ true) × (list_all (is_within form.least) form.rest ≡ true)
+  parts = all_of_both (is_within form.least) form.pieces form.rest within
+
+  pub wider_pieces : list_all (is_within n) form.pieces ≡ true
+  wider_pieces = wider form.least n long form.pieces parts.0
+
+  pub wider_rest : list_all (is_within n) form.rest ≡ true
+  wider_rest = wider form.least n long form.rest parts.1
 
 -- a form that is found passes the test, and what holds of all forms holds of it
 pub found : (test all : Form → Bool) (forms : List Form) (form : Form) → find_form test forms ≡ Some form → list_all all forms ≡ true
@@ -36,7 +48,7 @@ long_enough display_only kind sub_kind content form e =
 
 -- the parts of the text of a node
 pub parts_text : (form : Form) (content : List ℕ)
-    → form.start ++ (lead_text form.tail (slice_range content (form.least) (length content))
-    ++ (pieces_text form.pieces content ++ (tail_text form.tail (slice_range content (form.least) (length content)) ++ form.close))) ≡ form_text form content
-parts_text form content = ap (λ (x : List ℕ). form.start ++ (lead_text form.tail x ++ (pieces_text form.pieces content ++ (tail_text form.tail x ++ form.close))))
+    → form.start ++ (pieces_text form.pieces content
+    ++ (tail_text form.tail (slice_range content (form.least) (length content)) ++ (form.close ++ pieces_text form.rest content))) ≡ form_text form content
+parts_text form content = ap (λ (x : List ℕ). form.start ++ (pieces_text form.pieces content ++ (tail_text form.tail x ++ (form.close ++ pieces_text form.rest content))))
     (between_to_end content (form.least) (length content) (omega arith))

@@ -6,10 +6,10 @@ use Rattle.std.specs.Fmt.{decimal}
 use Rattle.std.specs.List.{flat_map, list_all}
 use Rattle.std.proofs.lemmas.List.Elements.{All-drop}
 use Rattle.uefi_text.specs.Packed.{IsByte, little_endian}
-use Rattle.uefi_field_texts.specs.FieldTexts.{shown_bytes, until_nul}
+use Rattle.uefi_field_texts.specs.FieldTexts.{until_nul}
 use Rattle.uefi_field_texts.specs.ShownTexts.{AsciiShown, BytesShown, IsShown, JoinedShown, NumbersShown, UnitsShown, is_printable}
 use Rattle.uefi_node_table.specs.Fields.{field_text}
-use Rattle.uefi_node_table.specs.Rows.{Form, Piece, form_text, item_of, item_text, items_of, lead_text, matches, pieces_text, tail_text, value_at}
+use Rattle.uefi_node_table.specs.Rows.{Form, Piece, form_text, item_of, item_text, items_of, matches, pieces_text, tail_text, value_at}
 use Rattle.uefi_node_table.specs.ShownTexts.{TableShown}
 use Rattle.uefi_node_table.specs.Table.{form_of, forms, group_forms, table_text, text_in}
 use Rattle.uefi_node_table.specs.Words.{Word, suits, word_text, words_of}
@@ -28,7 +28,8 @@ ends_clean : Piece → Bool
 ends_clean piece = list_all is_printable piece.ending
 
 is_clean : Form → Bool
-is_clean form = list_all is_printable form.start && (list_all ends_clean form.pieces && list_all is_printable form.close)
+is_clean form = (list_all is_printable form.start && list_all ends_clean form.pieces)
+    && (list_all is_printable form.close && list_all ends_clean form.rest)
 
 clean_word : Word → Bool
 clean_word word = list_all is_printable word.text
@@ -111,27 +112,21 @@ module _ (joined : JoinedShown) (ascii : AsciiShown) (numbers : NumbersShown) (b
   tail_shown Bytes bytes h = (bytes_are bytes).3
   tail_shown Text bytes h = (bytes_are bytes).4
   tail_shown Utf16 bytes h = units bytes h
-  tail_shown Name bytes h = none
+  tail_shown Name bytes h = (bytes_are (until_nul bytes)).4
   tail_shown (Repeated items) bytes h = list_shown items (items_of (item_of items).size bytes)
-
-  lead_shown : (tail : Tail) (bytes : List ℕ) → IsShown (lead_text tail bytes)
-  lead_shown Nothing bytes = none
-  lead_shown Bytes bytes = none
-  lead_shown Text bytes = none
-  lead_shown Utf16 bytes = none
-  lead_shown Name bytes = joined (shown_bytes (until_nul bytes)) (codes ",0x") (bytes_are (until_nul bytes)).4 (ascii (codes ",0x") refl)
-  lead_shown (Repeated items) bytes = none
 
   form_shown : (form : Form) → is_clean form ≡ true → (content : List ℕ) → All IsByte content → IsShown (form_text form content)
   unfolding is_clean
   form_shown form e content h =
-      let p = and_parts (list_all is_printable form.start) (list_all ends_clean form.pieces && list_all is_printable form.close) e in
-      let q = and_parts (list_all ends_clean form.pieces) (list_all is_printable form.close) p.1 in
+      let p = and_parts (list_all is_printable form.start && list_all ends_clean form.pieces) (list_all is_printable form.close && list_all ends_clean form.rest) e in
+      let q = and_parts (list_all is_printable form.start) (list_all ends_clean form.pieces) p.0 in
+      let r = and_parts (list_all is_printable form.close) (list_all ends_clean form.rest) p.1 in
       let after = drop form.least content in
-      joined form.start (lead_text form.tail after ++ (pieces_text form.pieces content ++ (tail_text form.tail after ++ form.close))) (ascii form.start p.0)
-      (joined (lead_text form.tail after) (pieces_text form.pieces content ++ (tail_text form.tail after ++ form.close)) (lead_shown form.tail after)
-      (joined (pieces_text form.pieces content) (tail_text form.tail after ++ form.close) (pieces_shown form.pieces q.0 content)
-      (joined (tail_text form.tail after) form.close (tail_shown form.tail after (All-drop IsByte form.least content h)) (ascii form.close q.1))))
+      let end = pieces_text form.rest content in
+      joined form.start (pieces_text form.pieces content ++ (tail_text form.tail after ++ (form.close ++ end))) (ascii form.start q.0)
+      (joined (pieces_text form.pieces content) (tail_text form.tail after ++ (form.close ++ end)) (pieces_shown form.pieces q.1 content)
+      (joined (tail_text form.tail after) (form.close ++ end) (tail_shown form.tail after (All-drop IsByte form.least content h))
+      (joined form.close end (ascii form.close r.0) (pieces_shown form.rest r.1 content))))
 
   pub table_shown : TableShown
   unfolding table_text

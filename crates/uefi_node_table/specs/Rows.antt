@@ -1,6 +1,6 @@
 -- The forms of nodes: how each is printed (UEFI Specification 2.10, section 10.6.1).
 use Rattle.std.specs.Borrow.{Bor}
-use Rattle.std.specs.Prelude.{ℕ, ◌+◌, ◌/◌, Bool, true, false, nat_le, ◌==◌, ◌&&◌, if◌then◌else◌, List, [], ◌∷◌, ◌++◌, length, codes, drop, slice_range, slice_index, map, Option, Some, None}
+use Rattle.std.specs.Prelude.{ℕ, ◌+◌, ◌/◌, Bool, true, false, nat_le, ◌==◌, ◌&&◌, if◌then◌else◌, List, [], ◌∷◌, ◌++◌, length, drop, slice_range, slice_index, map, Option, Some, None}
 use Rattle.std.specs.List.{flat_map, list_all}
 use Rattle.std.specs.Simd.{first_chunks}
 use Rattle.uefi_field_texts.specs.FieldTexts.{comma_bytes, shown_bytes, until_nul, utf16_text}
@@ -37,6 +37,7 @@ pub record Form : Type 0 where
   pub pieces : List Piece
   pub tail : Tail
   pub close : List ℕ
+  pub rest : List Piece
 
 -- the field that a value is
 abbrev pub as_piece : PieceOf (Bor (List ℕ)) → Piece
@@ -56,6 +57,7 @@ as_form r = record {
   pieces = map as_piece r.pieces.now;
   tail = r.tail;
   close = r.close.now;
+  rest = map as_piece r.rest.now;
 }
 
 -- the field that a constant is, whose references have no places
@@ -77,6 +79,7 @@ const_form r = record {
   pieces = map const_piece r.pieces.now;
   tail = r.tail;
   close = r.close.now;
+  rest = map const_piece r.rest.now;
 }
 
 -- the bytes of a field in data
@@ -130,22 +133,13 @@ tail_text Nothing bytes = []
 tail_text Bytes bytes = comma_bytes bytes
 tail_text Text bytes = shown_bytes bytes
 tail_text Utf16 bytes = utf16_text bytes
-tail_text Name bytes = []
+tail_text Name bytes = shown_bytes (until_nul bytes)
 tail_text (Repeated items) bytes = list_text (item_of items) bytes
-
--- the text of the data after the fixed part that stands before the fields
-abbrev pub lead_text : Tail → List ℕ → List ℕ
-lead_text Nothing bytes = []
-lead_text Bytes bytes = []
-lead_text Text bytes = []
-lead_text Utf16 bytes = []
-lead_text Name bytes = shown_bytes (until_nul bytes) ++ codes ",0x"
-lead_text (Repeated items) bytes = []
 
 -- the text of a node of a form, by its data
 abbrev pub form_text : Form → List ℕ → List ℕ
-form_text form content = form.start ++ (lead_text form.tail (drop (form.least) content)
-    ++ (pieces_text form.pieces content ++ (tail_text form.tail (drop (form.least) content) ++ form.close)))
+form_text form content = form.start ++ (pieces_text form.pieces content
+    ++ (tail_text form.tail (drop (form.least) content) ++ (form.close ++ pieces_text form.rest content)))
 
 -- the test for data that hold these bytes
 abbrev pub has_bytes : List (ℕ × ℕ) → List ℕ → Bool
@@ -182,6 +176,10 @@ begin_with_kind kind (form ∷ forms) = form.kind == kind
 abbrev pub is_within : ℕ → Piece → Bool
 is_within size piece = nat_le (piece.place + piece.width) size && fits_shape piece.shape piece.width
 
+-- all fields of a form
+abbrev pub fields_of : Form → List Piece
+fields_of form = form.pieces ++ form.rest
+
 -- the test for a form whose fields lie in the fixed part
 abbrev pub is_laid_out : Form → Bool
-is_laid_out form = list_all (is_within (form.least)) form.pieces
+is_laid_out form = list_all (is_within (form.least)) (fields_of form)

@@ -8,7 +8,7 @@ ghost use Rattle.std.specs.Prelude.{◌≡◌, ◌+◌, ◌^◌, ◌<◌, ◌≤
 ghost use Rattle.uefi_text.specs.Packed.{little_endian};
 ghost use Rattle.uefi_field_texts.specs.FieldTexts.{hex};
 ghost use Rattle.uefi_node_table.specs.Fields.{default_text, field_text, fits_shape};
-ghost use Rattle.uefi_node_table.specs.Rows.{as_form, as_item, as_piece, begin_with_kind, find_form, form_text, has_bytes, have_one_kind, is_laid_out, is_used, is_within, item_text, lead_text, list_text, matches, piece_text, pieces_text, tail_text};
+ghost use Rattle.uefi_node_table.specs.Rows.{as_form, as_item, as_piece, begin_with_kind, find_form, form_text, has_bytes, have_one_kind, is_laid_out, is_used, is_within, item_text, list_text, matches, piece_text, pieces_text, tail_text};
 ghost use Rattle.uefi_node_table.specs.Table.{forms, has_form, table_text};
 
 use crate::rows::{Item, Mode, Piece, Row, Shape, Tail};
@@ -121,18 +121,8 @@ fn put_tail<S: TextSink>(sink: &mut S, tail: Tail, bytes: &[u8])
         Tail::Bytes => put_comma_bytes(sink, bytes),
         Tail::Text => put_byte_text(sink, "", bytes),
         Tail::Utf16 => put_utf16_text(sink, bytes),
-        Tail::Name => {}
+        Tail::Name => put_byte_text(sink, "", until_nul(bytes)),
         Tail::Repeated(items) => put_list(sink, &item_of(items), bytes),
-    }
-}
-
-/// Puts the data after the fixed part that stand before the fields.
-fn put_lead<S: TextSink>(sink: &mut S, tail: Tail, bytes: &[u8])
-    ensures { WritesInCalls S.puts sink.old (lead_text tail bytes.now) sink.new }
-{
-    if let Tail::Name = tail {
-        put_byte_text(sink, "", until_nul(bytes));
-        sink.put_str(",0x");
     }
 }
 
@@ -143,10 +133,10 @@ fn put_row<S: TextSink>(sink: &mut S, row: &Row, content: &[u8])
     ensures { WritesInCalls S.puts sink.old (form_text (as_form row.now) content.now) sink.new }
 {
     sink.put_str(row.start);
-    put_lead(sink, row.tail, &content[row.least..]);
     put_pieces(sink, row.pieces, content);
     put_tail(sink, row.tail, &content[row.least..]);
     sink.put_str(row.close);
+    put_pieces(sink, row.rest, content);
 }
 
 /// The byte at a place, or 0 after the last.

@@ -51,7 +51,7 @@ pub enum Tail {
     Text,
     /// A text in UTF-16, up to a NUL.
     Utf16,
-    /// A text of bytes up to a zero, which stands before the fields, and `,0x`.
+    /// A text of bytes up to a zero.
     Name,
     /// Items of a list, as many as there are whole ones.
     Repeated(Items),
@@ -117,8 +117,10 @@ pub struct RowOf<T, B, P> {
     pub pieces: P,
     /// What the data hold after the fixed part.
     pub tail: Tail,
-    /// What the text ends with.
+    /// What stands after that.
     pub close: T,
+    /// Further fields, which the text ends with.
+    pub rest: P,
 }
 
 /// A field.

@@ -82,7 +82,8 @@ macro_rules! bytes {
 /// A form of these.
 macro_rules! row {
     ($kind:literal $sub_kind:literal $mode:ident $least:literal $(+ $more:literal)? [$($when:tt)*]
-        [$($also:tt)*] $start:literal $([$($field:tt)*])* $($tail:ident)+ $close:literal) => {
+        [$($also:tt)*] $start:literal $([$($field:tt)*])* $($tail:ident)+ $close:literal
+        $([$($rest:tt)*])*) => {
         RowOf {
             kind: $kind,
             sub_kind: $sub_kind,
@@ -95,6 +96,7 @@ macro_rules! row {
             pieces: fields!([] $([$($field)*])*),
             tail: tail!($($tail)+),
             close: $close,
+            rest: fields!([] $([$($rest)*])*),
         }
     };
 }
@@ -302,8 +304,8 @@ const MESSAGING: &[Row] = &[
     row!(3 20 Read 2 [] [] "Vlan(" [Decimal 0 2 ")"] Nothing ""),
     row!(3 21 Read 20 [] [] "FibreEx(0x" [Forth 4 8 ",0x"] [Forth 12 8 ")"] Nothing ""),
     row!(3 23 Read 12 [] [] "NVMe(0x" [Hexadecimal 0 4 ","] [Dashed 4 8 ")"] Nothing ""),
-    row!(3 19 Printed 14 [] [] "iSCSI(" [Hexadecimal 12 2 ",0x"] [Forth 4 8 ","] [Word Digests 2 1]
-        [Word Login 3 1] [Word Protocol 0 2] Name ""),
+    row!(3 19 Read 14 [] [] "iSCSI(" Name ",0x" [Hexadecimal 12 2 ",0x"] [Forth 4 8 ","]
+        [Word Digests 2 1] [Word Login 3 1] [Word Protocol 0 2]),
     row!(3 28 Printed 32 [] [] "Wi-Fi(" [Padded 0 32 ")"] Nothing ""),
     row!(3 24 Read 0 [] [] "Uri(" Text ")"),
     row!(3 25 Read 2 [] [] "UFS(0x" [Hexadecimal 0 1 ",0x"] [Hexadecimal 1 1 ")"] Nothing ""),

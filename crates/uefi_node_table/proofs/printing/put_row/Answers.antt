@@ -1,12 +1,15 @@
 use Rattle.std.proofs.Common.{length}
 use Rattle.uefi_node_table.specs.Rows.{as_form}
-use Rattle.uefi_node_table.proofs.Forms.{parts_text, wider}
+use Rattle.uefi_node_table.proofs.Forms.{parts_text, wider_pieces, wider_rest}
 use Rattle.uefi_text.proofs.Puts.{puts_five}
 use Rattle.uefi_node_table.proofs.printing.put_row.Goals as goal
 
 pub put_pieces-requires : goal.put_pieces-requires
-put_pieces-requires g c = wider _ (length c.args.content.now) c.requires.long _ c.requires.laid_out
+put_pieces-requires g c = wider_pieces (as_form c.args.row.now) (length c.args.content.now) c.requires.long c.requires.laid_out
+
+pub put_pieces-requires-2 : goal.put_pieces-requires-2
+put_pieces-requires-2 g c = wider_rest (as_form c.args.row.now) (length c.args.content.now) c.requires.long c.requires.laid_out
 
 pub returns : goal.returns
-returns g c = puts_five _ _ _ _ _ _ _ _ _ _ _ _ _ c.put_str.ensures c.put_lead.ensures c.put_pieces.ensures c.put_tail.ensures c.put_str-2.ensures
+returns g c = puts_five _ _ _ _ _ _ _ _ _ _ _ _ _ c.put_str.ensures c.put_pieces.ensures c.put_tail.ensures c.put_str-2.ensures c.put_pieces-2.ensures
     (parts_text (as_form c.args.row.now) c.args.content.now)
