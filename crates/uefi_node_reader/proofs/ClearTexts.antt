@@ -18,7 +18,7 @@ use Rattle.uefi_text.specs.UnitBytes.{unit_bytes}
 use Rattle.uefi_text.specs.Units.{is_nul}
 use Rattle.uefi_field_texts.specs.FieldTexts.{is_escaped, shown_byte, shown_bytes, shown_char, shown_units, until_nul, utf16_text}
 use Rattle.uefi_node_reader.specs.FieldReading.{clear_run, is_clear}
-use Rattle.uefi_node_reader.proofs.NamedFiles.{lossy_back, no_nul, place_of}
+use Rattle.uefi_node_reader.proofs.NamedFiles.{lossy_back, no_nul, place_of, until_back}
 
 -- what is known of such a byte
 record Clear (c : ℕ) : Type 0 where
@@ -146,3 +146,8 @@ utf16_clear stop text e =
     ap (λ (x : List ℕ). flat_map shown_char (utf16_lossy_chars (until_nul x))) (units_of_bytes-unit_bytes text)
     ∙ ap (λ (x : List ℕ). flat_map shown_char (utf16_lossy_chars x)) (whole text is.no_nul ∙ sym is.units)
     ∙ ap (λ (x : List ℕ). flat_map shown_char x) (lossy_back text is.scalars) ∙ is.shown
+
+-- such a text is printed up to the NUL that ends it
+pub name_clear : (stop : ℕ) (text : List ℕ) → list_all (is_clear stop) text ≡ true → shown_bytes (until_nul (text ++ 0 ∷ [])) ≡ text
+name_clear stop text e =
+    ap shown_bytes (until_back text (clear_text stop text e).no_nul) ∙ shown_clear stop text e

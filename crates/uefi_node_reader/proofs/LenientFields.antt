@@ -14,13 +14,13 @@ use Rattle.uefi_node_table.specs.declared.rows.Shape.TheVariants.{Hexadecimal, D
 use Rattle.uefi_node_reader.specs.FieldReading.{◌>>=◌, IsValue, as_bytes, less_one, low_bytes}
 use Rattle.uefi_node_reader.specs.LenientFields.{after_ending, after_literal, any_field, any_number, any_word, is_number, left_out, number_or_word, past_base, piece_set, pieces_set, value_or_spare}
 use Rattle.uefi_node_reader.specs.LenientNodes.{form_set, is_textless}
-use Rattle.uefi_node_reader.specs.TableReading.{IsTailTold, added, blank, closed, first_of, is_read, is_sound, put_at, rest_read, tail_read}
+use Rattle.uefi_node_reader.specs.TableReading.{IsTailTold, blank, first_of, followed, is_read, is_sound, pieces_put, put_at, rest_read, tail_read}
 use Rattle.uefi_node_table.specs.Words.{words_of}
 use Rattle.uefi_node_reader.specs.WordReading.{after}
 use Rattle.uefi_node_reader.proofs.Digits.{some_pair}
 use Rattle.uefi_node_reader.proofs.FieldLaws.{field_takes, low_is}
 use Rattle.uefi_node_reader.proofs.Literals.{bind_some}
-use Rattle.uefi_node_reader.proofs.PieceLaws.{within_parts}
+use Rattle.uefi_node_reader.proofs.PieceLaws.{pieces_takes, within_parts}
 use Rattle.uefi_node_reader.proofs.Places.{length-put, put_bytes}
 use Rattle.uefi_node_reader.proofs.TableLaws.{sound}
 use Rattle.uefi_node_reader.proofs.TailLaws.{tail_takes}
@@ -112,16 +112,17 @@ form_set_in form s text content rest e = by (is_read form.mode) (is_textless for
         let is = sound form p s in
         let t = bind_some (after_literal form.start text) _ (content, rest) q in
         let h = bind_some (pieces_set form.kind form.sub_kind form.pieces (blank form) t.0) (rest_read form) (content, rest) t.2 in
-        let a = bind_some (tail_read form.tail form.close h.0.1 >>= added h.0.0) (closed form.close) (content, rest) h.2 in
-        let x = bind_some (tail_read form.tail form.close h.0.1) (added h.0.0) a.0 a.1 in
-        let c = bind_some (after form.close a.0.1) _ (content, rest) a.2 in
-        let same = some_pair (h.0.0 ++ x.0.0, x.0.1) a.0 x.2 in
-        let same_end = some_pair (a.0.0, c.0) (content, rest) c.2 in
-        let fields = pieces_set_bytes form.kind form.sub_kind (length (blank form)) form.pieces (blank form) t.0 h.0.0 h.0.1 is.within refl is.bytes h.1 in
+        let x = bind_some (tail_read form.tail form.close h.0.1) _ (content, rest) h.2 in
+        let c = bind_some (after form.close x.0.1) _ (content, rest) x.2 in
+        let f = bind_some (pieces_put form.rest h.0.0 c.0) (followed x.0.0) (content, rest) c.2 in
+        let same = some_pair (f.0.0 ++ x.0.0, f.0.1) (content, rest) f.2 in
+        let n : ℕ = length (blank form) in
+        let fields = pieces_set_bytes form.kind form.sub_kind n form.pieces (blank form) t.0 h.0.0 h.0.1 is.within refl is.bytes h.1 in
+        let others = pieces_takes n form.rest h.0.0 c.0 f.0.0 f.0.1 is.rest_within is.apart.back fields.0 fields.1 f.1 in
         let tail = tail_takes form.tail form.close h.0.1 x.0.0 x.0.1 x.1 in
-        let left : drop form.least (h.0.0 ++ x.0.0) ≡ x.0.0 =
-        ap (λ (k : ℕ). drop k (h.0.0 ++ x.0.0)) (sym is.size ∙ sym fields.0) ∙ drop-append_seam h.0.0 x.0.0 in
-        subst (λ (y : List ℕ). SetIn form y) (same.0 ∙ same_end.0) (record {
-          bytes = All-append IsByte h.0.0 x.0.0 fields.1 tail.1;
+        let left : drop form.least (f.0.0 ++ x.0.0) ≡ x.0.0 =
+        ap (λ (k : ℕ). drop k (f.0.0 ++ x.0.0)) (sym is.size ∙ sym fields.0 ∙ sym others.size) ∙ drop-append_seam f.0.0 x.0.0 in
+        subst (λ (y : List ℕ). SetIn form y) same.0 (record {
+          bytes = All-append IsByte f.0.0 x.0.0 others.bytes tail.1;
           tail = subst (λ (y : List ℕ). IsTailTold form.tail form.close y) (sym left) tail.2;
         })

@@ -42,7 +42,7 @@ place_of p (x ∷ xs) rest e h =
 nul_place : (us : List ℕ) → no_nul us ≡ true → position_or_len is_nul (us ++ 0 ∷ []) ≡ length us
 nul_place us e = place_of is_nul us (0 ∷ []) e refl
 
-until_back : (us : List ℕ) → no_nul us ≡ true → until_nul (us ++ 0 ∷ []) ≡ us
+pub until_back : (us : List ℕ) → no_nul us ≡ true → until_nul (us ++ 0 ∷ []) ≡ us
 until_back us e = ap (λ (n : ℕ). take n (us ++ 0 ∷ [])) (nul_place us e) ∙ take_at us (0 ∷ []) (length us) refl
 
 all-append : (p : ℕ → Bool) (us vs : List ℕ) → list_all p us ≡ true → list_all p vs ≡ true → list_all p (us ++ vs) ≡ true

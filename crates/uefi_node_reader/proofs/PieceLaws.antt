@@ -2,13 +2,14 @@
 use Rattle.std.proofs.Common.{◌≡◌, ℕ, ◌+◌, ◌≤◌, Bool, true, false, eqb, List, [], ◌∷◌, ◌&&◌, ◌||◌, ◌++◌, length, refl, sym, ap, subst, ◌∙◌, append_assoc, arith}
 use Rattle.std.specs.Prelude.{All, not, Option, Some, None, option_and_then}
 use Rattle.std.specs.List.{list_all}
-use Rattle.std.proofs.lemmas.Bool.{and_parts, leb-true}
+use Rattle.std.proofs.lemmas.Bool.{and_from, and_parts, leb-true}
 use borrow.Author.Tests.{eqb-true}
 use Rattle.uefi_text.specs.Packed.{IsByte}
 use Rattle.uefi_node_reader.specs.FieldReading.{field_kept, field_read, IsValue}
 use Rattle.uefi_node_reader.specs.WordReading.{after}
 use Rattle.uefi_node_table.specs.Fields.{field_text, fits_shape}
 use Rattle.uefi_node_reader.specs.Numerals.{has_digit}
+use Rattle.uefi_node_table.proofs.Lists.{all_of_both}
 use Rattle.uefi_node_table.specs.Rows.{Piece, is_within, piece_text, pieces_text, value_at}
 use Rattle.uefi_node_reader.specs.TableReading.{are_apart, ends_field, ends_pieces, goes_on, is_apart, is_empty, put_at}
 use Rattle.uefi_node_reader.specs.TableReading.{are_parted, list_number, overlay, piece_put, pieces_differ, pieces_put, same_shape}
@@ -70,6 +71,53 @@ pieces_takes n (p ∷ ps) content text found rest w a l c e =
       bytes = others.bytes;
       others = λ q h. let hs = and_parts (is_apart q p) (list_all (is_apart q) ps) h in others.others q hs.1 ∙ put_other q p v.0.0 content hs.0 wide long;
     }
+
+-- fields of which none lies in another, in two parts
+pub record Apart (ps qs : List Piece) : Type 0 where
+  pub front : are_apart ps ≡ true
+  pub back : are_apart qs ≡ true
+  pub both : list_all (λ (p : Piece). list_all (is_apart p) qs) ps ≡ true
+
+pub apart_parts : (ps qs : List Piece) → are_apart (ps ++ qs) ≡ true → Apart ps qs
+apart_parts [] qs e = record { front = refl; back = e; both = refl }
+apart_parts (p ∷ ps) qs e =
+    let parts = and_parts (list_all (is_apart p) (ps ++ qs)) (are_apart (ps ++ qs)) e in
+    let here = all_of_both (is_apart p) ps qs parts.0 in
+    let others = apart_parts ps qs parts.1 in
+    record { front = and_from _ _ here.0 others.front; back = others.back; both = and_from _ _ here.1 others.both }
+
+pub overlay-append : (ps qs : List Piece) (source content : List ℕ) → overlay (ps ++ qs) source content ≡ overlay qs source (overlay ps source content)
+overlay-append [] qs source content = refl
+overlay-append (p ∷ ps) qs source content = overlay-append ps qs source (put_at p (field_kept p.shape (value_at p source)) content)
+
+-- fields that lie alike in other data
+pub alike : (test : Piece → Bool) (one other : List ℕ) → ((p : Piece) → test p ≡ true → value_at p one ≡ value_at p other)
+    → (pieces : List Piece) → list_all test pieces ≡ true
+    → (pieces_text pieces one ≡ pieces_text pieces other) × ((content : List ℕ) → overlay pieces one content ≡ overlay pieces other content)
+alike test one other same [] e = (refl, λ content. refl)
+alike test one other same (p ∷ ps) e =
+    let parts = and_parts (test p) (list_all test ps) e in
+    let value = same p parts.0 in
+    let others = alike test one other same ps parts.1 in (
+      (λ i. (field_text p.shape (value i) ++ p.ending) ++ others.0 i),
+      λ content. ap (λ (x : List ℕ). overlay ps one (put_at p (field_kept p.shape x) content)) value
+          ∙ others.1 (put_at p (field_kept p.shape (value_at p other)) content),
+    )
+
+-- fields are put into as many bytes
+pub put_size : (n : ℕ) (pieces : List Piece) (content text found rest : List ℕ) → list_all (is_within n) pieces ≡ true → length content ≡ n
+    → pieces_put pieces content text ≡ Some (found, rest) → length found ≡ n
+put_size n [] content text found rest w l e = sym (ap length (some_pair (content, text) (found, rest) e).0) ∙ l
+put_size n (p ∷ ps) content text found rest w l e =
+    let ws = and_parts (is_within n p) (list_all (is_within n) ps) w in
+    let here = within_parts n p ws.0 in
+    let x = bind_some (piece_put p content text) _ (found, rest) e in
+    let v = bind_some (field_read p.shape p.width text) _ x.0 x.1 in
+    let t = bind_some (after p.ending v.0.1) _ x.0 v.2 in
+    let same = some_pair (put_at p v.0.0 content, t.0) x.0 t.2 in
+    let wide = (field_takes p.shape p.width here.1 text v.0.0 v.0.1 v.1).1.0 in
+    put_size n ps (put_at p v.0.0 content) t.0 found rest ws.1 (length-put p v.0.0 content wide (omega (arith, here.0, l)) ∙ l)
+    ((λ i. pieces_put ps (same.0 i) (same.1 i)) ∙ x.2)
 
 -- a text that ends a field before others: its own ending, or where it has none and no other follows, what begins with no digit
 and_false : (b : Bool) → b && false ≡ true → (Z : Type 0) → Z

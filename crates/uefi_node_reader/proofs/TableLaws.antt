@@ -10,18 +10,19 @@ use Rattle.std.proofs.lemmas.List.Elements.{All-append, All-drop, All-nil, All-c
 use borrow.Author.Tests.{eq-eqb, eqb-true, ltb-true}
 use Rattle.uefi_text.specs.Packed.{IsByte}
 use Rattle.uefi_node_table.specs.Fields.{field_text}
-use Rattle.uefi_node_table.specs.Rows.{Form, Piece, find_form, form_text, is_used, is_within, lead_text, pieces_text, tail_text, value_at}
+use Rattle.uefi_node_table.specs.Rows.{Form, Piece, fields_of, find_form, form_text, is_used, is_within, pieces_text, tail_text, value_at}
 use Rattle.uefi_node_table.specs.Table.{text_in}
 use Rattle.uefi_device_nodes.specs.Nodes.{Node, node_with}
 use Rattle.uefi_node_reader.specs.FieldReading.{◌>>=◌, either_read, field_kept, read_if}
 use Rattle.uefi_node_reader.specs.WordReading.{after}
-use Rattle.uefi_node_reader.specs.TableReading.{IsTabled, IsTailTold, IsWhole, added, all_differ, are_apart, blank, closed, differ, ends_pieces, ends_tail, form_place, form_read, forms_read, is_kept, is_open, is_read, is_sound, kept, overlay, pieces_differ, pieces_put, printed_by, prints, put_at, rest_read, table_read, tail_read}
+use Rattle.uefi_node_reader.specs.TableReading.{IsTabled, IsTailTold, IsWhole, all_differ, are_apart, blank, differ, ends_pieces, ends_tail, followed, form_place, form_read, forms_read, is_apart, is_kept, is_open, is_read, is_sound, kept, overlay, pieces_differ, pieces_put, printed_by, prints, put_at, rest_read, table_read, tail_read}
 use Rattle.uefi_node_reader.specs.WordReading.{clash, same_text}
 use Rattle.uefi_node_reader.proofs.Digits.{some_pair}
 use Rattle.uefi_node_reader.proofs.Literals.{after_again, after_some, after_takes, bind_some, clash_none, same_is}
 use Rattle.uefi_node_table.proofs.Forms.{found, long_enough}
-use Rattle.uefi_node_reader.proofs.PieceLaws.{differ_none, pieces_again, pieces_takes, within_parts}
-use Rattle.uefi_node_reader.proofs.TailLaws.{no_lead, tail_again, tail_starts, tail_takes}
+use Rattle.uefi_node_table.proofs.Lists.{all_of_both}
+use Rattle.uefi_node_reader.proofs.PieceLaws.{Apart, alike, apart_parts, differ_none, overlay-append, pieces_again, pieces_takes, within_parts}
+use Rattle.uefi_node_reader.proofs.TailLaws.{tail_again, tail_starts, tail_takes}
 
 are_bytes : (bytes : List ℕ) → list_all (λ b. ltb b 256) bytes ≡ true → All IsByte bytes
 are_bytes [] e = All-nil IsByte
@@ -34,21 +35,36 @@ asked false b p e = cc
 
 -- what the test of a form that is read says
 pub record Sound (form : Form) : Type 0 where
+  pub fields : list_all (is_within (length (blank form))) (fields_of form) ≡ true
   pub within : list_all (is_within (length (blank form))) form.pieces ≡ true
-  pub apart : are_apart form.pieces ≡ true
+  pub rest_within : list_all (is_within (length (blank form))) form.rest ≡ true
+  pub apart : Apart form.pieces form.rest
   pub ends : ends_pieces (is_open form.tail) form.pieces ≡ true
+  pub rest_ends : ends_pieces false form.rest ≡ true
   pub tail_ends : ends_tail form.tail form.close ≡ true
   pub bytes : All IsByte (blank form)
   pub size : length (blank form) ≡ form.least
 
 pub sound : (form : Form) → is_read form.mode ≡ true → is_sound form ≡ true → Sound form
 sound form r e =
-    let parts = and_parts (list_all (is_within (length (blank form))) form.pieces && are_apart form.pieces) _ (asked (is_read form.mode) _ r e) in
-    let low = and_parts (list_all (is_within (length (blank form))) form.pieces) (are_apart form.pieces) parts.0 in
-    let high = and_parts (ends_pieces (is_open form.tail) form.pieces) _ parts.1 in
+    let parts = and_parts (list_all (is_within (length (blank form))) (fields_of form) && are_apart (fields_of form)) _ (asked (is_read form.mode) _ r e) in
+    let low = and_parts (list_all (is_within (length (blank form))) (fields_of form)) (are_apart (fields_of form)) parts.0 in
+    let both = all_of_both (is_within (length (blank form))) form.pieces form.rest low.0 in
+    let high = and_parts (ends_pieces (is_open form.tail) form.pieces && ends_pieces false form.rest) _ parts.1 in
+    let ends = and_parts (ends_pieces (is_open form.tail) form.pieces) (ends_pieces false form.rest) high.0 in
     let last = and_parts (ends_tail form.tail form.close) _ high.1 in
     let fixed = and_parts (list_all (λ b. ltb b 256) (blank form)) _ last.1 in
-    record { within = low.0; apart = low.1; ends = high.0; tail_ends = last.0; bytes = are_bytes (blank form) fixed.0; size = eqb-true _ _ fixed.1 }
+    record {
+      fields = low.0;
+      within = both.0;
+      rest_within = both.1;
+      apart = apart_parts form.pieces form.rest low.1;
+      ends = ends.0;
+      rest_ends = ends.1;
+      tail_ends = last.0;
+      bytes = are_bytes (blank form) fixed.0;
+      size = eqb-true _ _ fixed.1;
+    }
 
 -- what a form reads, where it is read
 abbrev body : Form → List ℕ → Option (List ℕ × List ℕ)
@@ -65,36 +81,34 @@ is_body form text x e = by (is_read form.mode) refl e
     by false p q = cc
 
 -- the text of a node, with what follows
-parts_and : (form : Form) (content rest : List ℕ) → form_text form content ++ rest
-    ≡ form.start ++ (lead_text form.tail (drop form.least content) ++ (pieces_text form.pieces content
-    ++ (tail_text form.tail (drop form.least content) ++ (form.close ++ rest))))
-parts_and form content rest = simp append_assoc
-
-text_parts : (form : Form) (content rest : List ℕ) → ends_tail form.tail form.close ≡ true → form_text form content ++ rest
-    ≡ form.start ++ (pieces_text form.pieces content ++ (tail_text form.tail (drop form.least content) ++ (form.close ++ rest)))
-text_parts form content rest e = parts_and form content rest
-    ∙ ap (λ (x : List ℕ). form.start ++ (x ++ (pieces_text form.pieces content ++ (tail_text form.tail (drop form.least content) ++ (form.close ++ rest)))))
-    (no_lead form.tail form.close (drop form.least content) e)
+text_parts : (form : Form) (content rest : List ℕ) → form_text form content ++ rest
+    ≡ form.start ++ (pieces_text form.pieces content ++ (tail_text form.tail (drop form.least content)
+    ++ (form.close ++ (pieces_text form.rest content ++ rest))))
+text_parts form content rest = simp append_assoc
 
 form_again : (form : Form) → is_read form.mode ≡ true → is_sound form ≡ true → (content : List ℕ) → form.least ≤ length content → All IsByte content → IsWhole form content
     → (rest : List ℕ) → form_read form (form_text form content ++ rest) ≡ Some (content, rest)
 form_again form r s content l all whole rest =
     let is = sound form r s in
     let extra : List ℕ = drop form.least content in
-    let ending : List ℕ = form.close ++ rest in
+    let others : List ℕ = pieces_text form.rest content ++ rest in
+    let ending : List ℕ = form.close ++ others in
     let tail : List ℕ = tail_text form.tail extra ++ ending in
     let head : List ℕ = overlay form.pieces content (blank form) in
     let long : length (blank form) ≤ length content = omega (arith, is.size) in
     reads form (form_text form content ++ rest) r
-    ∙ ap (λ (x : List ℕ). body form x) (text_parts form content rest is.tail_ends)
+    ∙ ap (λ (x : List ℕ). body form x) (text_parts form content rest)
     ∙ after_some _ (λ (t : List ℕ). pieces_put form.pieces (blank form) t >>= rest_read form)
     (pieces_text form.pieces content ++ tail) (after_again form.start (pieces_text form.pieces content ++ tail))
     ∙ after_some _ (rest_read form) (head, tail) (pieces_again (length (blank form)) form.pieces (blank form) content tail is.within (is_open form.tail) is.ends
-    (tail_starts form.tail form.close extra rest is.tail_ends) long all)
-    ∙ ap (λ (o : Option (List ℕ × List ℕ)). o >>= added head >>= closed form.close)
-    (tail_again form.tail form.close extra rest is.tail_ends (All-drop IsByte form.least content all) whole.1)
-    ∙ ap (λ (x : List ℕ). closed form.close (x, ending)) whole.0
-    ∙ ap (λ (o : Option (List ℕ)). option_and_then (λ (r : List ℕ). Some (content, r)) o) (after_again form.close rest)
+    (tail_starts form.tail form.close extra others is.tail_ends) long all)
+    ∙ after_some _ (λ (x : List ℕ × List ℕ). after form.close x.1 >>= λ t. pieces_put form.rest head t >>= followed x.0) (extra, ending)
+    (tail_again form.tail form.close extra others is.tail_ends (All-drop IsByte form.least content all) whole.1)
+    ∙ after_some _ (λ (t : List ℕ). pieces_put form.rest head t >>= followed extra) others (after_again form.close others)
+    ∙ after_some _ (followed extra) (overlay form.rest content head, rest)
+    (pieces_again (length (blank form)) form.rest head content rest is.rest_within false is.rest_ends (λ free. cc) long all)
+    ∙ ap (λ (x : List ℕ). Some (x ++ extra, rest)) (sym (overlay-append form.pieces form.rest content (blank form)))
+    ∙ ap (λ (x : List ℕ). Some (x, rest)) whole.0
 
 -- what is known of data that were read in a form
 record Taken (form : Form) (text content rest : List ℕ) : Type 0 where
@@ -106,18 +120,11 @@ record Taken (form : Form) (text content rest : List ℕ) : Type 0 where
 -- fields lie within the head of data
 pub values_same : (n : ℕ) (head extra : List ℕ) → length head ≡ n → (pieces : List Piece) → list_all (is_within n) pieces ≡ true
     → (pieces_text pieces (head ++ extra) ≡ pieces_text pieces head) × ((content : List ℕ) → overlay pieces (head ++ extra) content ≡ overlay pieces head content)
-values_same n head extra l [] w = (refl, λ content. refl)
-values_same n head extra l (p ∷ ps) w =
-    let ws = and_parts (is_within n p) (list_all (is_within n) ps) w in
-    let here = within_parts n p ws.0 in
-    let others = values_same n head extra l ps ws.1 in
+values_same n head extra l = alike (is_within n) (head ++ extra) head (λ p w.
+    let here = within_parts n p w in
     let to : ℕ = p.place + p.width in
-    let value : value_at p (head ++ extra) ≡ value_at p head = between_is (head ++ extra) p.place to
-    ∙ ap (λ (x : List ℕ). drop p.place x) (take-append-le to head extra (omega (arith, here.0))) ∙ sym (between_is head p.place to) in (
-      (λ i. (field_text p.shape (value i) ++ p.ending) ++ others.0 i),
-      λ content. ap (λ (x : List ℕ). overlay ps (head ++ extra) (put_at p (field_kept p.shape x) content)) value
-          ∙ others.1 (put_at p (field_kept p.shape (value_at p head)) content),
-    )
+    between_is (head ++ extra) p.place to
+    ∙ ap (λ (x : List ℕ). drop p.place x) (take-append-le to head extra (omega (arith, here.0, l))) ∙ sym (between_is head p.place to))
 
 form_takes : (form : Form) → is_sound form ≡ true → (text content rest : List ℕ) → form_read form text ≡ Some (content, rest) → Taken form text content rest
 form_takes form s text content rest read =
@@ -126,31 +133,39 @@ form_takes form s text content rest read =
     let n : ℕ = length (blank form) in
     let t = bind_some (after form.start text) _ (content, rest) r.1 in
     let h = bind_some (pieces_put form.pieces (blank form) t.0) (rest_read form) (content, rest) t.2 in
-    let a = bind_some (tail_read form.tail form.close h.0.1 >>= added h.0.0) (closed form.close) (content, rest) h.2 in
-    let x = bind_some (tail_read form.tail form.close h.0.1) (added h.0.0) a.0 a.1 in
-    let c = bind_some (after form.close a.0.1) _ (content, rest) a.2 in
-    let same = some_pair (h.0.0 ++ x.0.0, x.0.1) a.0 x.2 in
-    let same_end = some_pair (a.0.0, c.0) (content, rest) c.2 in
-    let fields = pieces_takes n form.pieces (blank form) t.0 h.0.0 h.0.1 is.within is.apart refl is.bytes h.1 in
+    let x = bind_some (tail_read form.tail form.close h.0.1) _ (content, rest) h.2 in
+    let c = bind_some (after form.close x.0.1) _ (content, rest) x.2 in
+    let f = bind_some (pieces_put form.rest h.0.0 c.0) (followed x.0.0) (content, rest) c.2 in
+    let same = some_pair (f.0.0 ++ x.0.0, f.0.1) (content, rest) f.2 in
+    let fields = pieces_takes n form.pieces (blank form) t.0 h.0.0 h.0.1 is.within is.apart.front refl is.bytes h.1 in
     let tail = tail_takes form.tail form.close h.0.1 x.0.0 x.0.1 x.1 in
-    let head : List ℕ = h.0.0 in
+    let others = pieces_takes n form.rest h.0.0 c.0 f.0.0 f.0.1 is.rest_within is.apart.back fields.size fields.bytes f.1 in
+    let first : List ℕ = h.0.0 in
+    let head : List ℕ = f.0.0 in
     let extra : List ℕ = x.0.0 in
-    let values = values_same n head extra fields.size form.pieces is.within in
-    let left : drop form.least (head ++ extra) ≡ extra = ap (λ (k : ℕ). drop k (head ++ extra)) (sym is.size ∙ sym fields.size) ∙ drop-append_seam head extra in
+    let size : length head ≡ n = others.size ∙ fields.size in
+    let unchanged = alike (λ p. list_all (is_apart p) form.rest) head first others.others form.pieces is.apart.both in
+    let values = values_same n head extra size form.pieces is.within in
+    let rest_values = values_same n head extra size form.rest is.rest_within in
+    let left : drop form.least (head ++ extra) ≡ extra = ap (λ (k : ℕ). drop k (head ++ extra)) (sym is.size ∙ sym size) ∙ drop-append_seam head extra in
     let made : Taken form text (head ++ extra) rest = record {
       text_is = after_takes form.start text t.0 t.1 ∙ ap (λ (y : List ℕ). form.start ++ y) (fields.text_is
-          ∙ ap (λ (y : List ℕ). pieces_text form.pieces head ++ y) (tail.0 ∙ ap (λ (y : List ℕ). tail_text form.tail extra ++ y)
-          (same.1 ∙ after_takes form.close a.0.1 c.0 c.1 ∙ ap (λ (y : List ℕ). form.close ++ y) same_end.1)))
-          ∙ (λ i. form.start ++ (sym values.0 i ++ (tail_text form.tail (sym left i) ++ (form.close ++ rest))))
-          ∙ sym (text_parts form (head ++ extra) rest is.tail_ends);
+          ∙ ap (λ (y : List ℕ). pieces_text form.pieces first ++ y) (tail.0 ∙ ap (λ (y : List ℕ). tail_text form.tail extra ++ y)
+          (after_takes form.close x.0.1 c.0 c.1 ∙ ap (λ (y : List ℕ). form.close ++ y)
+          (others.text_is ∙ ap (λ (y : List ℕ). pieces_text form.rest head ++ y) same.1))))
+          ∙ (λ i. form.start ++ (sym (values.0 ∙ unchanged.0) i ++ (tail_text form.tail (sym left i) ++ (form.close ++ (sym rest_values.0 i ++ rest)))))
+          ∙ sym (text_parts form (head ++ extra) rest);
       read = r.0;
       whole = (
-        (λ i. values.1 (blank form) i ++ left i) ∙ ap (λ (y : List ℕ). y ++ extra) fields.overlaid,
+        ap (λ (y : List ℕ). y ++ drop form.least (head ++ extra)) (overlay-append form.pieces form.rest (head ++ extra) (blank form)
+            ∙ rest_values.1 (overlay form.pieces (head ++ extra) (blank form))
+            ∙ ap (λ (y : List ℕ). overlay form.rest head y) (values.1 (blank form) ∙ unchanged.1 (blank form) ∙ fields.overlaid)
+            ∙ others.overlaid) ∙ ap (λ (y : List ℕ). head ++ y) left,
         subst (λ (y : List ℕ). IsTailTold form.tail form.close y) (sym left) tail.2,
       );
-      bytes = All-append IsByte head extra fields.bytes tail.1;
+      bytes = All-append IsByte head extra others.bytes tail.1;
     } in
-    subst (λ (y : List ℕ). Taken form text y rest) (same.0 ∙ same_end.0) made
+    subst (λ (y : List ℕ). Taken form text y rest) same.0 made
 
 -- the place of the form that a node is printed in
 placed : (test : Form → Bool) (before : List Form) (form : Form) (others : List Form) → form_place test (before ++ form ∷ others) ≡ length before
@@ -241,7 +256,7 @@ not_read one other d r s content rest l all = first (is_read one.mode) refl
     is = sound other r s
 
     tail : List ℕ
-    tail = tail_text other.tail (drop other.least content) ++ (other.close ++ rest)
+    tail = tail_text other.tail (drop other.least content) ++ (other.close ++ (pieces_text other.rest content ++ rest))
 
     others : List ℕ
     others = pieces_text other.pieces content ++ tail
@@ -257,12 +272,12 @@ not_read one other d r s content rest l all = first (is_read one.mode) refl
         ap go (ap (λ (y : List ℕ). after y (other.start ++ others)) (same_is one.start other.start parts.0) ∙ after_again other.start others)
         ∙ ap (λ (o : Option (List ℕ × List ℕ)). option_and_then (rest_read one) o)
         (differ_none (length (blank other)) one.pieces other.pieces (blank one) content tail parts.1 is.within (is_open other.tail) is.ends
-        (tail_starts other.tail other.close (drop other.least content) rest is.tail_ends) (omega (arith, is.size)) all)
+        (tail_starts other.tail other.close (drop other.least content) (pieces_text other.rest content ++ rest) is.tail_ends) (omega (arith, is.size)) all)
 
     first : (b : Bool) → is_read one.mode ≡ b → form_read one (form_text other content ++ rest) ≡ None
     first false p = ap (λ (b : Bool). cond b (body one (form_text other content ++ rest)) None) p
     first true p =
-        reads one (form_text other content ++ rest) p ∙ ap (λ (x : List ℕ). body one x) (text_parts other content rest is.tail_ends)
+        reads one (form_text other content ++ rest) p ∙ ap (λ (x : List ℕ). body one x) (text_parts other content rest)
         ∙ by (clash one.start other.start) refl (asked (is_read other.mode) _ r (asked (is_read one.mode) _ p d))
 
 one_of : (one form : Form) (before others : List Form) → list_all (differ one) (before ++ form ∷ others) ≡ true → differ one form ≡ true

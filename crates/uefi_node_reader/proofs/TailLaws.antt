@@ -4,23 +4,23 @@ use Rattle.std.proofs.lemmas.Bool.{and_parts, not-true}
 use Rattle.std.specs.Prelude.{All, Some, not}
 use Rattle.std.specs.Fmt.{digit_glyph}
 use Rattle.std.specs.List.{flat_map, list_all}
-use Rattle.std.proofs.lemmas.List.Elements.{All-nil, All-cons, All-head, All-tail}
+use Rattle.std.proofs.lemmas.List.Elements.{All-append, All-nil, All-cons, All-head, All-tail}
 use borrow.Author.Tests.{eqb-true, lt-ltb, ltb-true}
 use Rattle.uefi_text.specs.Packed.{IsByte}
 use Rattle.uefi_text.specs.UnitBytes.{unit_bytes}
-use Rattle.uefi_field_texts.specs.FieldTexts.{comma_bytes, hex_bytes, hex_two, utf16_text}
+use Rattle.uefi_field_texts.specs.FieldTexts.{comma_bytes, hex_bytes, hex_two, shown_bytes, until_nul, utf16_text}
 use Rattle.uefi_node_reader.specs.Numerals.{digit_of, has_digit}
 use Rattle.uefi_node_reader.specs.WordReading.{clash}
 use Rattle.uefi_node_reader.proofs.Literals.{clash_none}
 use Rattle.uefi_node_reader.proofs.ListLaws.{apart, list_again, list_starts, list_takes, sound_items}
 use Rattle.uefi_node_reader.specs.TableReading.{begins_apart, ends_tail, is_open}
-use Rattle.uefi_node_table.specs.Rows.{item_of, lead_text, tail_text}
+use Rattle.uefi_node_table.specs.Rows.{item_of, tail_text}
 use Rattle.uefi_node_reader.specs.FieldReading.{clear_run, comma_read, is_clear, run_read, some_run}
-use Rattle.uefi_node_reader.specs.TableReading.{IsTailTold, as_units, first_of, tail_read}
+use Rattle.uefi_node_reader.specs.TableReading.{IsTailTold, as_name, as_units, first_of, tail_read}
 use Rattle.uefi_node_table.specs.declared.rows.Tail.{Tail}
 use Rattle.uefi_node_table.specs.declared.rows.Tail.TheVariants.{Nothing, Bytes, Text, Utf16, Name, Repeated}
 use Rattle.uefi_node_reader.proofs.Digits.{hexadecimal, some_pair}
-use Rattle.uefi_node_reader.proofs.ClearTexts.{clear_again, clear_bytes, clear_takes, clear_units, shown_clear, utf16_clear}
+use Rattle.uefi_node_reader.proofs.ClearTexts.{clear_again, clear_bytes, clear_takes, clear_units, name_clear, shown_clear, utf16_clear}
 use Rattle.uefi_field_texts.proofs.GuidTexts.{two_digits}
 
 run_end : (c : ℕ) (cs rest : List ℕ) → ltb (digit_of c) 16 ≡ false → run_read ((c ∷ cs) ++ rest) ≡ ([], (c ∷ cs) ++ rest)
@@ -146,7 +146,10 @@ tail_again Utf16 [] bytes rest e all told = cc
 tail_again Utf16 (c ∷ cs) bytes rest e all told =
     ap (λ (x : List ℕ). as_units (clear_run c (x ++ ((c ∷ cs) ++ rest)))) (ap utf16_text told.1.0 ∙ utf16_clear c told.0 told.1.1)
     ∙ ap as_units (clear_again c told.0 (cs ++ rest) told.1.1) ∙ (λ i. Some (sym told.1.0 i, (c ∷ cs) ++ rest))
-tail_again Name close bytes rest e all told = cc
+tail_again Name [] bytes rest e all told = cc
+tail_again Name (c ∷ cs) bytes rest e all told =
+    ap (λ (x : List ℕ). as_name (clear_run c (x ++ ((c ∷ cs) ++ rest)))) (ap (λ (x : List ℕ). shown_bytes (until_nul x)) told.1.0 ∙ name_clear c told.0 told.1.1)
+    ∙ ap as_name (clear_again c told.0 (cs ++ rest) told.1.1) ∙ (λ i. Some (sym told.1.0 i, (c ∷ cs) ++ rest))
 tail_again (Repeated items) close bytes rest e all told =
     let parts = and_parts (clash (item_of items).start close) (begins_apart close) e in
     list_again (item_of items) (sound_items items) bytes told all (close ++ rest)
@@ -177,13 +180,12 @@ tail_takes Utf16 close text bytes rest e =
       (name, (sym same.0, run.1)),
     )
 tail_takes (Repeated items) close text bytes rest e = list_takes (item_of items) (sound_items items) text bytes rest e
-tail_takes Name close text bytes rest e = cc
-
--- nothing stands before the fields of a form that is read
-pub no_lead : (tail : Tail) (close bytes : List ℕ) → ends_tail tail close ≡ true → lead_text tail bytes ≡ []
-no_lead Nothing close bytes e = refl
-no_lead Bytes close bytes e = refl
-no_lead Text close bytes e = refl
-no_lead Utf16 close bytes e = refl
-no_lead Name close bytes e = cc
-no_lead (Repeated items) close bytes e = refl
+tail_takes Name close text bytes rest e =
+    let stop : ℕ = first_of close in
+    let run = clear_takes stop text in
+    let name : List ℕ = (clear_run stop text).0 in
+    let same = some_pair (name ++ 0 ∷ [], (clear_run stop text).1) (bytes, rest) e in (
+      run.0 ∙ ap (λ (x : List ℕ). x ++ (clear_run stop text).1) (sym (name_clear stop name run.1)) ∙ (λ i. shown_bytes (until_nul (same.0 i)) ++ same.1 i),
+      subst (λ (x : List ℕ). All IsByte x) same.0 (All-append IsByte name (0 ∷ []) (clear_bytes stop name run.1) (All-cons IsByte 0 [] (omega arith) (All-nil IsByte))),
+      (name, (sym same.0, run.1)),
+    )

@@ -6,7 +6,7 @@ use Rattle.std.proofs.lemmas.Bool.{and_parts, le-leb}
 use Rattle.std.proofs.lemmas.List.{drop-drop, drop_all, length-take, length-take-le, take-append-drop, take-take, take_all}
 use Rattle.std.specs.List.{list_all}
 use borrow.Author.Tests.{eqb-true}
-use Rattle.uefi_node_table.specs.Rows.{Form, Piece, find_form, is_within, item_of}
+use Rattle.uefi_node_table.specs.Rows.{Form, Piece, fields_of, find_form, is_within, item_of}
 use Rattle.uefi_node_table.specs.Table.{forms}
 use Rattle.uefi_node_table.specs.declared.rows.Items.{Items}
 use Rattle.uefi_node_table.specs.declared.rows.Items.TheVariants.{Numbers, Ipv4, Ipv6}
@@ -72,15 +72,15 @@ tells_told read node is e =
         let head : List ℕ = take form.least node.content in
         let extra : List ℕ = drop form.least node.content in
         let whole : head ++ extra ≡ node.content = take-append-drop form.least node.content in
-        let within : list_all (is_within form.least) form.pieces ≡ true = ap (λ (n : ℕ). list_all (is_within n) form.pieces) (sym s.size) ∙ s.within in
-        let values = values_same form.least head extra (length-take-le form.least node.content long) form.pieces within in
-        let fixed = same_text (overlay form.pieces head (blank form)) head (sym second.0) in
+        let within : list_all (is_within form.least) (fields_of form) ≡ true = ap (λ (n : ℕ). list_all (is_within n) (fields_of form)) (sym s.size) ∙ s.fields in
+        let values = values_same form.least head extra (length-take-le form.least node.content long) (fields_of form) within in
+        let fixed = same_text (overlay (fields_of form) head (blank form)) head (sym second.0) in
         record {
           form = form;
           found = f;
           read = first.0;
           whole = (
-            ap (λ (x : List ℕ). overlay form.pieces x (blank form) ++ extra) (sym whole)
+            ap (λ (x : List ℕ). overlay (fields_of form) x (blank form) ++ extra) (sym whole)
                 ∙ ap (λ (x : List ℕ). x ++ extra) (values.1 (blank form) ∙ fixed) ∙ whole,
             tail_told read node.content is form.least form.tail form.close second.1,
           );

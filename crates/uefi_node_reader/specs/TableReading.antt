@@ -4,7 +4,7 @@ use Rattle.std.proofs.Math.ListN.{replicate}
 use Rattle.std.specs.List.{concat, list_all}
 use Rattle.uefi_text.specs.Packed.{IsByte}
 use Rattle.uefi_text.specs.UnitBytes.{unit_bytes}
-use Rattle.uefi_node_table.specs.Rows.{Piece, Form, Item, find_form, is_within, item_of, matches, value_at}
+use Rattle.uefi_node_table.specs.Rows.{Piece, Form, Item, fields_of, find_form, is_within, item_of, matches, value_at}
 use Rattle.uefi_node_table.specs.Table.{text_in}
 use Rattle.uefi_node_table.specs.Fields.{fits_shape}
 use Rattle.uefi_node_table.specs.declared.rows.Mode.{Mode}
@@ -70,26 +70,31 @@ first_of (c ∷ cs) = c
 abbrev pub as_units : List ℕ × List ℕ → Option (List ℕ × List ℕ)
 as_units run = Some (unit_bytes run.0, run.1)
 
+-- a text that was read, and a NUL
+abbrev pub as_name : List ℕ × List ℕ → Option (List ℕ × List ℕ)
+as_name run = Some (run.0 ++ 0 ∷ [], run.1)
+
 -- the data after the fields, before the end of the text, and what stands after them
 abbrev pub tail_read : Tail → List ℕ → List ℕ → Option (List ℕ × List ℕ)
 tail_read Nothing close text = Some ([], text)
 tail_read Bytes close text = comma_read text
 tail_read Text close text = Some (clear_run (first_of close) text)
 tail_read Utf16 close text = as_units (clear_run (first_of close) text)
-tail_read Name close text = None
+tail_read Name close text = as_name (clear_run (first_of close) text)
 tail_read (Repeated items) close text = list_read (item_of items) text
 
 -- bytes after data
 abbrev pub added : List ℕ → List ℕ × List ℕ → Option (List ℕ × List ℕ)
 added content tail = Some (content ++ tail.0, tail.1)
 
--- data, where an end follows
-abbrev pub closed : List ℕ → List ℕ × List ℕ → Option (List ℕ × List ℕ)
-closed close read = after close read.1 >>= λ rest. Some (read.0, rest)
+-- bytes before data
+abbrev pub followed : List ℕ → List ℕ × List ℕ → Option (List ℕ × List ℕ)
+followed tail fixed = Some (fixed.0 ++ tail, fixed.1)
 
--- the data after the fields and the end of the text, after fields that were read
+-- all data, after fields that were read into the fixed part
 abbrev pub rest_read : Form → List ℕ × List ℕ → Option (List ℕ × List ℕ)
-rest_read form head = tail_read form.tail form.close head.1 >>= added head.0 >>= closed form.close
+rest_read form head = tail_read form.tail form.close head.1 >>= λ tail. after form.close tail.1 >>= λ rest.
+    pieces_put form.rest head.0 rest >>= followed tail.0
 
 -- the test for a form whose texts are read
 abbrev pub is_read : Mode → Bool
@@ -153,12 +158,13 @@ IsTailTold Bytes close bytes = Unit {0}
 IsTailTold Text close bytes = list_all (is_clear (first_of close)) bytes ≡ true
 IsTailTold Utf16 close bytes =
     (text : List ℕ) × ((bytes ≡ unit_bytes text) × (list_all (is_clear (first_of close)) text ≡ true))
-IsTailTold Name close bytes = Unit {0}
+IsTailTold Name close bytes =
+    (name : List ℕ) × ((bytes ≡ name ++ 0 ∷ []) × (list_all (is_clear (first_of close)) name ≡ true))
 IsTailTold (Repeated items) close bytes = AreItems (item_of items) bytes
 
 -- data that a form holds all of: its fixed bytes, the fields, and what follows them
 abbrev pub IsWhole : Form → List ℕ → Type 0
-IsWhole form content = (overlay form.pieces content (blank form) ++ drop form.least content ≡ content)
+IsWhole form content = (overlay (fields_of form) content (blank form) ++ drop form.least content ≡ content)
     × IsTailTold form.tail form.close (drop form.least content)
 
 -- the text of a node in its form of the table, or nothing
@@ -244,7 +250,8 @@ is_open (Repeated items) = true
 abbrev pub ends_tail : Tail → List ℕ → Bool
 ends_tail Nothing close = true
 ends_tail (Repeated items) close = clash (item_of items).start close && begins_apart close
-ends_tail Name close = false
+ends_tail Name [] = false
+ends_tail Name (c ∷ cs) = true
 ends_tail Text [] = false
 ends_tail Text (c ∷ cs) = true
 ends_tail Utf16 [] = false
@@ -259,8 +266,9 @@ are_within size bytes = list_all (λ b. nat_lt b.0 size) bytes
 -- the test for a form that is read back what it prints
 abbrev pub is_sound : Form → Bool
 is_sound form = not (is_read form.mode)
-    || ((list_all (is_within (length (blank form))) form.pieces && are_apart form.pieces)
-    && (ends_pieces (is_open form.tail) form.pieces && (ends_tail form.tail form.close
+    || ((list_all (is_within (length (blank form))) (fields_of form) && are_apart (fields_of form))
+    && ((ends_pieces (is_open form.tail) form.pieces && ends_pieces false form.rest)
+    && (ends_tail form.tail form.close
     && (list_all (λ b. nat_lt b 256) (blank form) && (length (blank form) == form.least)))))
 
 -- the test for items of a list that are read back what they print

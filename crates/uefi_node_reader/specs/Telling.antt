@@ -1,7 +1,7 @@
 -- Whether the text of a node holds all of it, by what was read.
 use Rattle.std.specs.Prelude.{ℕ, Bool, true, false, nat_eq, nat_le, ◌==◌, ◌&&◌, List, length, take, Option, Some, None}
 use Rattle.std.specs.Cmp.Lexicographic.{pointwise}
-use Rattle.uefi_node_table.specs.Rows.{Form, find_form}
+use Rattle.uefi_node_table.specs.Rows.{Form, fields_of, find_form}
 use Rattle.uefi_node_table.specs.Table.{forms}
 use Rattle.uefi_node_table.specs.declared.rows.Items.{Items}
 use Rattle.uefi_node_table.specs.declared.rows.Items.TheVariants.{Numbers, Ipv4, Ipv6}
@@ -27,7 +27,7 @@ tells_tail read least tail len = false
 
 -- the test for a fixed part that is read back of its text in a form
 abbrev pub tells_fixed : Form → List ℕ → Bool
-tells_fixed form fixed = pointwise nat_eq (overlay form.pieces fixed (blank form)) fixed
+tells_fixed form fixed = pointwise nat_eq (overlay (fields_of form) fixed (blank form)) fixed
 
 -- the test for data, read in one form, whose text in the other holds all of them
 abbrev pub tells_data : Form → List ℕ → Option Form → Bool

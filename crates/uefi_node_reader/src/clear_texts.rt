@@ -1,7 +1,7 @@
 //! Texts of printable ASCII, read up to a byte that stops them.
 #![tactic(auto)]
 
-ghost use Rattle.std.specs.Prelude.{◌≡◌};
+ghost use Rattle.std.specs.Prelude.{◌≡◌, ◌++◌, ◌∷◌, []};
 ghost use Rattle.uefi_text.specs.UnitBytes.{unit_bytes};
 ghost use Rattle.uefi_node_reader.specs.Counted.{pushed};
 ghost use Rattle.uefi_node_reader.specs.FieldReading.{clear_run, is_clear};
@@ -49,7 +49,22 @@ pub(crate) fn push_clear<'a>(
     (count, rest)
 }
 
-/// Puts the same as code units, the low byte of each first.
+/// Puts the same and a NUL.
+pub(crate) fn push_clear_name<'a>(
+    places: &mut [u8],
+    len: usize,
+    stop: u8,
+    text: &'a [u8],
+) -> (usize, &'a [u8])
+    ensures state { (places.new, result.0)
+        ≡ pushed (places.old, len) ((clear_run stop text.now).0 ++ 0 ∷ []) }
+    ensures rest { result.1.now ≡ (clear_run stop text.now).1 }
+{
+    let (count, rest) = push_clear(places, len, stop, text);
+    (push(places, count, 0), rest)
+}
+
+/// Puts the same text as code units, the low byte of each first.
 pub(crate) fn push_clear_units<'a>(
     places: &mut [u8],
     len: usize,

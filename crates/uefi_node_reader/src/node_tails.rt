@@ -11,7 +11,7 @@ ghost use Rattle.uefi_node_reader.specs.Counted.{pushed, put_on};
 ghost use Rattle.uefi_node_reader.specs.FieldReading.{comma_read, run_read};
 ghost use Rattle.uefi_node_reader.specs.TableReading.{list_read, piece_put, pieces_put, tail_read};
 
-use crate::clear_texts::{first_of, push_clear, push_clear_units};
+use crate::clear_texts::{first_of, push_clear, push_clear_name, push_clear_units};
 use crate::counted_bytes::{push, push_all};
 use crate::fields::{after, byte, read_value};
 use uefi_node_table::rows::{Item, Piece, Tail};
@@ -133,7 +133,7 @@ pub(crate) fn push_tail<'a>(
         Tail::Bytes => push_comma_bytes(places, len, text),
         Tail::Text => Some(push_clear(places, len, first_of(close), text)),
         Tail::Utf16 => Some(push_clear_units(places, len, first_of(close), text)),
-        Tail::Name => None,
+        Tail::Name => Some(push_clear_name(places, len, first_of(close), text)),
         Tail::Repeated(items) => push_items(places, len, &item_of(items), text),
     }
 }

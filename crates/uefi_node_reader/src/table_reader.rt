@@ -4,7 +4,7 @@
 ghost use Rattle.std.specs.List.{list_all};
 ghost use Rattle.std.specs.Option.{option_map};
 ghost use Rattle.std.specs.Prelude.{◌≡◌, ◌<◌, ◌≤◌, ◌+◌, ◌^◌, IfSome, IsTrue, length, map, take};
-ghost use Rattle.uefi_node_table.specs.Rows.{as_form};
+ghost use Rattle.uefi_node_table.specs.Rows.{as_form, as_piece, is_within};
 ghost use Rattle.uefi_node_table.specs.Table.{forms};
 ghost use Rattle.uefi_device_nodes.specs.Nodes.{node_with};
 ghost use Rattle.uefi_node_reader.specs.TableReading.{are_within, blank, form_place, form_read, forms_read, is_filled, is_sound, kept, prints, put_all, rest_read, table_read};
@@ -39,14 +39,15 @@ pub(crate) fn fixed_part(row: &Row) -> [u8; 64]
     fixed
 }
 
-/// Reads a node of a form whose fields were read, from the data after the fixed part on. Returns what stands
-/// after it, too.
+/// Reads a node of a form whose first fields were read, from the data after the fixed part on. Returns what
+/// stands after it, too.
 pub(crate) fn finish_row<'a>(
     row: &Row,
     fixed: [u8; 64],
     text: &'a [u8],
 ) -> Option<(TextNode<'a>, &'a [u8])>
-    requires { row.now.least ≤ 64 }
+    requires small { row.now.least ≤ 64 }
+    requires within { IsTrue (list_all (is_within row.now.least) (map as_piece row.now.rest.now)) }
     ensures types { IfSome result (λ x.
         (x.0.device_type ≡ row.now.kind) × (x.0.sub_type ≡ row.now.sub_kind)) }
     ensures data { option_map (λ x. (data_of x.0, x.1.now)) result
@@ -62,7 +63,7 @@ pub(crate) fn finish_row<'a>(
         text,
     )?;
     let rest = after(row.close.as_bytes(), rest)?;
-    Some((node, rest))
+    node.with_fields(row.rest, rest)
 }
 
 /// Reads a node of a form. Returns what stands after it, too.

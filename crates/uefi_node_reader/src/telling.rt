@@ -72,6 +72,7 @@ fn tells_fixed(row: &Row, fixed: &[u8]) -> bool
 {
     let mut again = fixed_part(row);
     put_all_kept(row.pieces, fixed, &mut again[..row.least]);
+    put_all_kept(row.rest, fixed, &mut again[..row.least]);
     &again[..row.least] == fixed
 }
 

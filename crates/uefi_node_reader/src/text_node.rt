@@ -1,19 +1,21 @@
 //! Nodes whose texts were read. Their data are decoded where they go: reading takes no memory.
 #![tactic(auto, unfolding(crate::specs::TextNodeViews::text_node))]
 
+ghost use Rattle.std.specs.List.{list_all};
 ghost use Rattle.std.specs.Option.{option_and_then, option_map};
-ghost use Rattle.std.specs.Prelude.{◌≡◌, ◌≤◌, IfSome, true, if◌then◌else◌, length, nat_le, take, None, Some};
+ghost use Rattle.std.specs.Prelude.{◌≡◌, ◌≤◌, IfSome, IsTrue, true, drop, if◌then◌else◌, length, map, nat_le, take, None, Some};
 ghost use Rattle.std.specs.Str.{chars};
 ghost use Rattle.uefi_device_nodes.specs.Nodes.{node_with};
 ghost use Rattle.uefi_node_reader.specs.NamedFiles.{name_data};
-ghost use Rattle.uefi_node_reader.specs.TableReading.{added, tail_read};
+ghost use Rattle.uefi_node_table.specs.Rows.{as_piece, is_within};
+ghost use Rattle.uefi_node_reader.specs.TableReading.{added, followed, pieces_put, tail_read};
 ghost use Rattle.uefi_node_reader.specs.TextNodes.{all_data, fitting, is_coded};
 
 use crate::coding::Coding;
 use crate::counted_bytes::push_all;
 use crate::name_data::push_name;
-use crate::node_tails::push_tail;
-use uefi_node_table::rows::Tail;
+use crate::node_tails::{push_tail, read_pieces};
+use uefi_node_table::rows::{Piece, Tail};
 
 /// A node whose text was read. A contract sees it as `text_node` of it. Its numbers are small, so that it is
 /// moved without a call of `memcpy`, which firmware lacks.
@@ -50,6 +52,7 @@ impl<'a> TextNode<'a> {
     ) -> Option<(Self, &'a [u8])>
         requires { fixed ≤ 64 }
         ensures types { IfSome result (λ x. (x.0.device_type ≡ device_type) × (x.0.sub_type ≡ sub_type)) }
+        ensures fixed { IfSome result (λ x. x.0.fixed ≡ fixed) }
         ensures data { option_map (λ x. (data_of x.0, x.1.now)) result
             ≡ fitting (option_and_then (added (take fixed fixed_bytes)) (tail_read tail close.now text.now)) }
     {
@@ -67,6 +70,30 @@ impl<'a> TextNode<'a> {
             close,
             text,
             len: len as u16,
+        };
+        Some((node, rest))
+    }
+
+    /// The node with further fields of its fixed part, which a text begins with; and what stands after them.
+    pub(crate) fn with_fields<'b>(self, pieces: &[Piece], text: &'b [u8]) -> Option<(Self, &'b [u8])>
+        requires { IsTrue (list_all (is_within self.entry.fixed) (map as_piece pieces.now)) }
+        ensures types { IfSome result (λ x.
+            (x.0.device_type ≡ self.entry.device_type) × (x.0.sub_type ≡ self.entry.sub_type)) }
+        ensures data { option_map (λ x. (data_of x.0, x.1.now)) result
+            ≡ option_and_then (followed (drop self.entry.fixed (data_of self.entry)))
+            (pieces_put (map as_piece pieces.now) (take self.entry.fixed (data_of self.entry)) text.now) }
+    {
+        let mut head = self.head;
+        let rest = read_pieces(pieces, &mut head[..usize::from(self.fixed)], text)?;
+        let node = TextNode {
+            device_type: self.device_type,
+            sub_type: self.sub_type,
+            head,
+            fixed: self.fixed,
+            coding: self.coding,
+            close: self.close,
+            text: self.text,
+            len: self.len,
         };
         Some((node, rest))
     }
