@@ -4,12 +4,12 @@ use Rattle.std.specs.Prelude.{All}
 use Rattle.std.specs.Fmt.{decimal}
 use Rattle.std.specs.List.{concat}
 use Rattle.uefi_text.specs.Packed.{IsByte}
-use Rattle.uefi_field_texts.specs.FieldTexts.{boot_type_text, cid_string, comma_bytes, eisa_text, has_uid_alone, hex, hid_string, shown_bytes, uid_string, until_nul, utf16_text}
+use Rattle.uefi_field_texts.specs.FieldTexts.{cid_string, comma_bytes, eisa_text, has_uid_alone, hex, hid_string, shown_bytes, uid_string, utf16_text}
 use Rattle.uefi_field_texts.specs.ShownTexts.{AsciiShown, BytesShown, IsShown, JoinedShown, NamesShown, NumbersShown, UnitsShown}
 use Rattle.uefi_node_table.specs.ShownTexts.{TableShown}
 use Rattle.uefi_node_table.specs.Table.{has_form, table_text}
 use Rattle.uefi_device_nodes.specs.Nodes.{Node}
-use Rattle.uefi_device_nodes.specs.NodeTexts.{boot_end_text, boot_text, expanded_text, irregular_text, is_file_node, is_irregular, node_text, short_name, unknown_text}
+use Rattle.uefi_device_nodes.specs.NodeTexts.{expanded_text, irregular_text, is_file_node, is_irregular, node_text, short_name, unknown_text}
 use Rattle.uefi_device_nodes.specs.ShownNodes.{NodesShown}
 use Rattle.uefi_device_nodes.specs.TypedNodes.{is_kind, number_at}
 
@@ -69,21 +69,6 @@ module _ (joined : JoinedShown) (ascii : AsciiShown) (numbers : NumbersShown) (b
         ),
       ))
 
-  boot_end : (display_only : Bool) (flags : ℕ) → IsShown (boot_end_text display_only flags)
-  boot_end display_only flags =
-      let end = ascii (codes ")") refl in
-      pick display_only (codes ")") _ end
-      (row (codes ",0x" ∷ hex flags ∷ codes ")" ∷ []) (ascii (codes ",0x") refl, ((numbers flags).0, (end, tt))))
-
-  boot : (display_only : Bool) (content : List ℕ) → IsShown (boot_text display_only content)
-  boot display_only content =
-      let name = shown_bytes (until_nul (drop 4 content)) in
-      let end = boot_end_text display_only (number_at 2 2 content) in
-      joined (codes "BBS(") (boot_type_text (number_at 0 2 content) ++ (codes "," ++ (name ++ end))) (ascii (codes "BBS(") refl)
-      (joined (boot_type_text (number_at 0 2 content)) (codes "," ++ (name ++ end)) (names (number_at 0 2 content) 0).1
-      (joined (codes ",") (name ++ end) (ascii (codes ",") refl)
-      (joined name end (text (until_nul (drop 4 content))) (boot_end display_only (number_at 2 2 content)))))
-
   unknown : (node : Node) → IsShown (unknown_text node)
   unfolding unknown_text
   unknown node =
@@ -104,14 +89,13 @@ module _ (joined : JoinedShown) (ascii : AsciiShown) (numbers : NumbersShown) (b
   short : (node : Node) → IsShown (short_name node)
   short node =
       pick ((node.device_type == 3) && ((node.sub_type == 10) && (length node.content == 16))) _ []
-      (names (number_at 0 8 node.content) (number_at 8 8 node.content)).2 none
+      (names (number_at 0 8 node.content) (number_at 8 8 node.content)).1 none
 
   irregular : (display_only shortcuts : Bool) (node : Node) → All IsByte node.content → IsShown (irregular_text display_only shortcuts node)
   unfolding irregular_text
   irregular display_only shortcuts node h =
       pick (is_file_node node) (utf16_text node.content) _ (units node.content h)
-      (pick (is_kind 2 2 15 node) (expanded_text shortcuts node.content) _ (expanded shortcuts node.content)
-      (pick (is_kind 5 1 5 node) (boot_text display_only node.content) (short_name node) (boot display_only node.content) (short node)))
+      (pick (is_kind 2 2 15 node) (expanded_text shortcuts node.content) (short_name node) (expanded shortcuts node.content) (short node))
 
   pub shown : NodesShown
   unfolding node_text

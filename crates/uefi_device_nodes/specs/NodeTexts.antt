@@ -3,7 +3,7 @@
 use Rattle.std.specs.Prelude.{ℕ, ◌%◌, ◌==◌, ◌&&◌, ◌||◌, not, Bool, if◌then◌else◌, List, [], ◌∷◌, ◌++◌, codes, drop, length}
 use Rattle.std.specs.Fmt.{decimal}
 use Rattle.std.specs.List.{concat}
-use Rattle.uefi_field_texts.specs.FieldTexts.{comma_bytes, boot_type_text, eisa_text, cid_string, has_uid_alone, hex, hid_string, shown_bytes, uid_string, until_nul, utf16_text, vendor_name}
+use Rattle.uefi_field_texts.specs.FieldTexts.{comma_bytes, eisa_text, cid_string, has_uid_alone, hex, hid_string, shown_bytes, uid_string, utf16_text, vendor_name}
 use Rattle.uefi_node_table.specs.Table.{has_form, table_text}
 use Rattle.uefi_device_nodes.specs.Nodes.{Node}
 use Rattle.uefi_device_nodes.specs.FileNodes.{is_file}
@@ -27,16 +27,6 @@ abbrev pub short_name : Node → List ℕ
 short_name node = if (node.device_type == 3) && ((node.sub_type == 10) && (length node.content == 16))
     then vendor_name (number_at 0 8 node.content) (number_at 8 8 node.content) else []
 
--- its flags, which are left out where the text is not to be read back, and the end
-abbrev pub boot_end_text : Bool → ℕ → List ℕ
-boot_end_text display_only flags = if display_only then codes ")" else concat (codes ",0x" ∷ hex flags
-    ∷ codes ")" ∷ [])
-
--- a device that a legacy BIOS can boot
-abbrev pub boot_text : Bool → List ℕ → List ℕ
-boot_text display_only content = codes "BBS(" ++ (boot_type_text (number_at 0 2 content) ++ (codes ","
-    ++ (shown_bytes (until_nul (drop 4 content)) ++ boot_end_text display_only (number_at 2 2 content))))
-
 -- a node of no kind: its type, its sub-type and its data
 unfoldable pub unknown_text : Node → List ℕ
 unknown_text node = concat (codes "Path(" ∷ decimal node.device_type ∷ codes "," ∷ decimal node.sub_type
@@ -52,14 +42,12 @@ is_short shortcuts node = shortcuts && not (length (short_name node) == 0)
 
 -- the test for a node whose text no row of the table can say
 abbrev pub is_irregular : Bool → Node → Bool
-is_irregular shortcuts node =
-    is_file_node node || (is_kind 2 2 15 node || (is_kind 5 1 5 node || is_short shortcuts node))
+is_irregular shortcuts node = is_file_node node || (is_kind 2 2 15 node || is_short shortcuts node)
 
 -- the text of such a node: of a file it is the name
 unfoldable pub irregular_text : Bool → Bool → Node → List ℕ
 irregular_text display_only shortcuts node = if is_file_node node then utf16_text node.content
     else if is_kind 2 2 15 node then expanded_text shortcuts node.content
-    else if is_kind 5 1 5 node then boot_text display_only node.content
     else short_name node
 
 -- a node, in the form that is not to be read back where `display_only`, and with shorter names where

@@ -210,6 +210,7 @@ pub fn media(
 pub fn bios_boot_spec(boot_specification: BootSpecification<'_>)
     ensures boot_specification { HasType DeviceType.BIOS_BOOT_SPEC
         DeviceSubType.BIOS_BOOT_SPECIFICATION boot_specification.entry }
+    ensures layout { IsInTable boot_specification.entry }
 {}
 
 /// The numbers of the types.

@@ -3,12 +3,11 @@
 
 ghost use Rattle.std.specs.Fmt.{WritesInCalls};
 ghost use Rattle.std.specs.Prelude.{◌≡◌, [], if◌then◌else◌};
-ghost use Rattle.uefi_device_nodes.specs.NodeTexts.{boot_text, expanded_text, irregular_text, is_irregular, node_text, short_name, unknown_text};
+ghost use Rattle.uefi_device_nodes.specs.NodeTexts.{expanded_text, irregular_text, is_irregular, node_text, short_name, unknown_text};
 ghost use Rattle.uefi_device_nodes.specs.NodeViews.{data_of, node_of};
 ghost use Rattle.uefi_device_nodes.specs.Nodes.{node_with};
 
 use crate::acpi::Expanded;
-use crate::bios_boot_spec::BootSpecification;
 use crate::media::FilePath;
 use crate::node::DevicePathNode;
 use crate::typed_node::TypedNode;
@@ -16,8 +15,8 @@ use std::fmt;
 use uefi_field_texts::forms::{AllowShortcuts, DisplayOnly};
 use uefi_field_texts::hexadecimal::{put_comma_bytes, put_hex};
 use uefi_field_texts::ids::{has_uid_alone, id_strings, put_eisa_id};
-use uefi_field_texts::shown_texts::{put_byte_text, put_utf16_text, until_nul};
-use uefi_field_texts::vendor_names::{put_boot_type, vendor_name};
+use uefi_field_texts::shown_texts::{put_byte_text, put_utf16_text};
+use uefi_field_texts::vendor_names::vendor_name;
 use uefi_node_table::printing::put_form;
 use uefi_text::Packed;
 use uefi_text::number_texts::put_decimal;
@@ -67,20 +66,6 @@ fn put_expanded<S: TextSink>(sink: &mut S, node: &Expanded<'_>, allow_shortcuts:
     sink.put_str(")");
 }
 
-/// Puts a device that a legacy BIOS can boot: `BBS(TYPE,DESCRIPTION,0xFLAGS)`.
-fn put_boot<S: TextSink>(sink: &mut S, node: &BootSpecification<'_>, display_only: bool)
-    ensures { WritesInCalls S.puts sink.old (boot_text display_only (data_of node.now)) sink.new }
-{
-    put_boot_type(sink, "BBS(", node.device_type());
-    put_byte_text(sink, ",", until_nul(node.description_string()));
-    if display_only {
-        sink.put_str(")");
-        return;
-    }
-    put_hex(sink, ",0x", u64::from(node.status_flag()));
-    sink.put_str(")");
-}
-
 /// The shorter name of a vendor's node of messages without data, or an empty text.
 fn short_name(node: &Parts<'_>) -> &'static str
     ensures { result.now ≡ short_name (node_with node.now.device_type node.now.sub_type node.now.data.now) }
@@ -107,10 +92,6 @@ fn put_irregular<S: TextSink>(sink: &mut S, node: &Parts<'_>) -> bool
     }
     if let Ok(device) = Expanded::from_parts(node.device_type, node.sub_type, node.data) {
         put_expanded(sink, &device, node.allow_shortcuts);
-        return true;
-    }
-    if let Ok(device) = BootSpecification::from_parts(node.device_type, node.sub_type, node.data) {
-        put_boot(sink, &device, node.display_only);
         return true;
     }
     let name = if node.allow_shortcuts {

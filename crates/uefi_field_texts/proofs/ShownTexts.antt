@@ -17,7 +17,7 @@ use Rattle.uefi_text.proofs.Texts.{scalars-All}
 use Rattle.uefi_text.specs.Packed.{IsByte, little_endian, packed_items}
 use Rattle.uefi_text.specs.UnitBytes.{units_of_bytes}
 use Rattle.uefi_text.specs.Units.{is_nul}
-use Rattle.uefi_field_texts.specs.FieldTexts.{boot_type_text, comma_bytes, dashed_back, eisa_letter, eisa_text, hex, hex_back, hex_bytes, hex_four, hex_two, is_escaped, shown_byte, shown_bytes, shown_char, shown_units, until_nul, utf16_text, vendor_name}
+use Rattle.uefi_field_texts.specs.FieldTexts.{comma_bytes, dashed_back, eisa_letter, eisa_text, hex, hex_back, hex_bytes, hex_four, hex_two, is_escaped, shown_byte, shown_bytes, shown_char, shown_units, until_nul, utf16_text, vendor_name}
 use Rattle.uefi_field_texts.specs.Guids.{guid_text}
 use Rattle.uefi_field_texts.specs.ShownTexts.{IsShown, IsShownChar, is_printable}
 
@@ -171,12 +171,6 @@ pick : (t : Bool) (one other : List ℕ) → ascii one → ascii other → ascii
 pick true one other e f = e
 pick false one other e f = f
 
-boot_ascii : (kind : ℕ) → ascii (boot_type_text kind)
-unfolding boot_type_text
-boot_ascii kind =
-    pick (kind == 1) (codes "Floppy") _ refl (pick (kind == 2) (codes "HD") _ refl (pick (kind == 3) (codes "CDROM") _ refl
-    (pick (kind == 4) (codes "PCMCIA") _ refl (pick (kind == 5) (codes "USB") _ refl (pick (kind == 6) (codes "Network") _ refl (hex_ascii kind))))))
-
 vendor_ascii : (first second : ℕ) → ascii (vendor_name first second)
 unfolding vendor_name
 vendor_ascii first second =
@@ -255,10 +249,9 @@ bytes_shown bytes = (
   ascii_shown (shown_bytes bytes) (shown_ascii bytes),
 )
 
-pub names_shown : (n other : ℕ) → IsShown (eisa_text n) × IsShown (boot_type_text n) × IsShown (vendor_name n other)
+pub names_shown : (n other : ℕ) → IsShown (eisa_text n) × IsShown (vendor_name n other)
 names_shown n other = (
   ascii_shown (eisa_text n) (eisa_ascii n),
-  ascii_shown (boot_type_text n) (boot_ascii n),
   ascii_shown (vendor_name n other) (vendor_ascii n other),
 )
 

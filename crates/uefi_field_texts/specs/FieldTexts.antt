@@ -100,16 +100,6 @@ vendor_name first second =
     else if (first == 0x41ec3858eba4e8d2) && (second == 0xd06096ba472681a2) then codes "DebugPort()"
     else []
 
--- the type of a device that a legacy BIOS can boot
-unfoldable pub boot_type_text : ℕ → List ℕ
-boot_type_text kind = if kind == 1 then codes "Floppy"
-    else if kind == 2 then codes "HD"
-    else if kind == 3 then codes "CDROM"
-    else if kind == 4 then codes "PCMCIA"
-    else if kind == 5 then codes "USB"
-    else if kind == 6 then codes "Network"
-    else codes "0x" ++ hex kind
-
 -- the strings of a device that ACPI names by strings, which lie as _HID, _UID, _CID
 abbrev pub hid_string : List ℕ → List ℕ
 hid_string bytes = until_nul bytes

@@ -5,7 +5,7 @@ use Rattle.std.specs.Fmt.{decimal}
 use Rattle.std.specs.List.{list_all}
 use Rattle.std.specs.Str.{encode_utf8_all}
 use Rattle.uefi_text.specs.Packed.{IsByte}
-use Rattle.uefi_field_texts.specs.FieldTexts.{boot_type_text, comma_bytes, dashed_back, eisa_text, hex, hex_back, hex_bytes, is_escaped, shown_bytes, utf16_text, vendor_name}
+use Rattle.uefi_field_texts.specs.FieldTexts.{comma_bytes, dashed_back, eisa_text, hex, hex_back, hex_bytes, is_escaped, shown_bytes, utf16_text, vendor_name}
 
 -- a character that texts do not escape
 abbrev pub IsShownChar : ℕ → Type 0
@@ -38,8 +38,7 @@ BytesShown = (bytes : List ℕ) → IsShown (hex_bytes bytes) × IsShown (hex_ba
 
 -- of numbers that have names
 abbrev pub NamesShown : Type 0
-NamesShown = (n other : ℕ)
-    → IsShown (eisa_text n) × IsShown (boot_type_text n) × IsShown (vendor_name n other)
+NamesShown = (n other : ℕ) → IsShown (eisa_text n) × IsShown (vendor_name n other)
 
 -- and of code units
 abbrev pub UnitsShown : Type 0

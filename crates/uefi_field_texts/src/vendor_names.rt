@@ -1,29 +1,8 @@
-//! What has a name of its own in the text of a node, by its number or its GUID.
-#![tactic(auto, using(uefi_text::proofs::Puts::puts), unfolding(crate::specs::FieldTexts::vendor_name, crate::specs::FieldTexts::boot_type_text))]
+//! What has a name of its own in the text of a node, by its GUID.
+#![tactic(auto, unfolding(crate::specs::FieldTexts::vendor_name))]
 
-ghost use Rattle.std.specs.Fmt.{WritesInCalls};
-ghost use Rattle.std.specs.Prelude.{◌≡◌, ◌++◌};
-ghost use Rattle.uefi_field_texts.specs.FieldTexts.{boot_type_text, vendor_name};
-
-use crate::hexadecimal::put_hex;
-use uefi_text::text_sink::TextSink;
-
-/// Puts a text, and the type of a device that a legacy BIOS can boot (BIOS Boot Specification): `Floppy` and
-/// its like, or the number of another.
-pub fn put_boot_type<S: TextSink>(sink: &mut S, text: &str, kind: u16)
-    ensures { WritesInCalls S.puts sink.old (text.now ++ boot_type_text kind) sink.new }
-{
-    sink.put_str(text);
-    match kind {
-        1 => sink.put_str("Floppy"),
-        2 => sink.put_str("HD"),
-        3 => sink.put_str("CDROM"),
-        4 => sink.put_str("PCMCIA"),
-        5 => sink.put_str("USB"),
-        6 => sink.put_str("Network"),
-        other => put_hex(sink, "0x", u64::from(other)),
-    }
-}
+ghost use Rattle.std.specs.Prelude.{◌≡◌};
+ghost use Rattle.uefi_field_texts.specs.FieldTexts.{vendor_name};
 
 /// The shorter name of a vendor's node of messages, by the two halves of its GUID, or an empty text.
 pub fn vendor_name(first: u64, second: u64) -> &'static str

@@ -23,7 +23,7 @@ unfolding group_forms
 table_differs = refl
 
 -- the same of each group, and that its forms are filled
-group_holds : (index : ℕ) → index < 11 → (list_all is_sound (group_forms index) && list_all is_filled (group_forms index)) ≡ true
+group_holds : (index : ℕ) → index < 12 → (list_all is_sound (group_forms index) && list_all is_filled (group_forms index)) ≡ true
 unfolding group_forms item_of
 group_holds zero l = refl
 group_holds (suc zero) l = refl
@@ -36,12 +36,13 @@ group_holds (suc (suc (suc (suc (suc (suc (suc zero))))))) l = refl
 group_holds (suc (suc (suc (suc (suc (suc (suc (suc zero)))))))) l = refl
 group_holds (suc (suc (suc (suc (suc (suc (suc (suc (suc zero))))))))) l = refl
 group_holds (suc (suc (suc (suc (suc (suc (suc (suc (suc (suc zero)))))))))) l = refl
-group_holds (suc (suc (suc (suc (suc (suc (suc (suc (suc (suc (suc n))))))))))) l = absurd (omega arith)
+group_holds (suc (suc (suc (suc (suc (suc (suc (suc (suc (suc (suc zero))))))))))) l = refl
+group_holds (suc (suc (suc (suc (suc (suc (suc (suc (suc (suc (suc (suc n)))))))))))) l = absurd (omega arith)
 
-pub group_sound : (index : ℕ) → index < 11 → list_all is_sound (group_forms index) ≡ true
+pub group_sound : (index : ℕ) → index < 12 → list_all is_sound (group_forms index) ≡ true
 group_sound index l = (and_parts _ _ (group_holds index l)).0
 
-pub group_filled : (index : ℕ) → index < 11 → list_all is_filled (group_forms index) ≡ true
+pub group_filled : (index : ℕ) → index < 12 → list_all is_filled (group_forms index) ≡ true
 group_filled index l = (and_parts _ _ (group_holds index l)).1
 
 module _ (test : Form → Bool) where
@@ -77,40 +78,40 @@ reads_append all place (a ∷ xs) bs text =
     {x = place + 1 + length xs} {y = place + suc (length xs)} (omega arith))
     ∙ either_assoc (kept all place a (form_read a text)) (forms_read all (place + 1) xs text) (forms_read all (place + suc (length xs)) bs text)
 
-module _ (index : ℕ) (more : index < 11) (group : List Form) (is : group ≡ group_forms index) where
+module _ (index : ℕ) (more : index < 12) (group : List Form) (is : group ≡ group_forms index) where
   rest : List Form
-  rest = forms_from (index + 1) (11 - (index + 1))
+  rest = forms_from (index + 1) (12 - (index + 1))
 
-  here : forms_from index (11 - index) ≡ group ++ rest
+  here : forms_from index (12 - index) ≡ group ++ rest
   unfolding rest
-  here = next_group index more ∙ ap (λ (l : List Form). l ++ forms_from (index + 1) (11 - (index + 1))) (sym is)
+  here = next_group index more ∙ ap (λ (l : List Form). l ++ forms_from (index + 1) (12 - (index + 1))) (sym is)
 
   -- the search for a place in one group more
   pub within_step : (test : Form → Bool) (before place all : ℕ) → place ≡ form_place test group → place < length group
-      → before + form_place test (forms_from index (11 - index)) ≡ all → before + place ≡ all
+      → before + form_place test (forms_from index (12 - index)) ≡ all → before + place ≡ all
   within_step test before place all e l a = ap (λ (n : ℕ). before + n)
       (e ∙ sym (place_within test group rest (omega arith)) ∙ ap (λ (l : List Form). form_place test l) (sym here)) ∙ a
 
   pub past_step : (test : Form → Bool) (before place all : ℕ) → place ≡ form_place test group → length group ≤ place
-      → before + form_place test (forms_from index (11 - index)) ≡ all
-      → before + length group + form_place test (forms_from (index + 1) (11 - (index + 1))) ≡ all
+      → before + form_place test (forms_from index (12 - index)) ≡ all
+      → before + length group + form_place test (forms_from (index + 1) (12 - (index + 1))) ≡ all
   unfolding rest
   past_step test before place all e l a =
-      let past : form_place test (forms_from index (11 - index)) ≡ length group + form_place test (forms_from (index + 1) (11 - (index + 1))) =
+      let past : form_place test (forms_from index (12 - index)) ≡ length group + form_place test (forms_from (index + 1) (12 - (index + 1))) =
       ap (λ (l : List Form). form_place test l) here ∙ place_past test group rest (omega arith) in
       omega arith
 
   -- reading in one group more
   pub read_step : (before : ℕ) (text : List ℕ) (read : Node × List ℕ) (all : Option (Node × List ℕ)) → Some read ≡ forms_read forms before group text
-      → forms_read forms before (forms_from index (11 - index)) text ≡ all → Some read ≡ all
+      → forms_read forms before (forms_from index (12 - index)) text ≡ all → Some read ≡ all
   read_step before text read all e a =
       ap (λ (o : Option (Node × List ℕ)). either_read o (forms_read forms (before + length group) rest text)) e
       ∙ sym (reads_append forms before group rest text) ∙ ap (λ (l : List Form). forms_read forms before l text) (sym here) ∙ a
 
   pub unread_step : (before : ℕ) (text : List ℕ) (all : Option (Node × List ℕ)) → None ≡ forms_read forms before group text
-      → forms_read forms before (forms_from index (11 - index)) text ≡ all
-      → forms_read forms (before + length group) (forms_from (index + 1) (11 - (index + 1))) text ≡ all
+      → forms_read forms before (forms_from index (12 - index)) text ≡ all
+      → forms_read forms (before + length group) (forms_from (index + 1) (12 - (index + 1))) text ≡ all
   unfolding rest
   unread_step before text all e a =
-      ap (λ (o : Option (Node × List ℕ)). either_read o (forms_read forms (before + length group) (forms_from (index + 1) (11 - (index + 1))) text)) e
+      ap (λ (o : Option (Node × List ℕ)). either_read o (forms_read forms (before + length group) (forms_from (index + 1) (12 - (index + 1))) text)) e
       ∙ sym (reads_append forms before group rest text) ∙ ap (λ (l : List Form). forms_read forms before l text) (sym here) ∙ a

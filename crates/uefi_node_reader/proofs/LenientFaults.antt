@@ -73,14 +73,14 @@ stops_append (x ∷ xs) ys text = ap (further (form_stop x text)) (stops_append 
     ∙ sym (further_assoc (form_stop x text) (forms_stop xs text) (forms_stop ys text))
 
 -- over one group more
-pub group_step : (index : ℕ) → index < 11 → (group : List Form) → group ≡ group_forms index → (text : List ℕ)
-    → (furthest all : Option Stop) → further furthest (forms_stop (forms_from index (11 - index)) text) ≡ all
-    → further (further furthest (forms_stop group text)) (forms_stop (forms_from (index + 1) (11 - (index + 1))) text)
+pub group_step : (index : ℕ) → index < 12 → (group : List Form) → group ≡ group_forms index → (text : List ℕ)
+    → (furthest all : Option Stop) → further furthest (forms_stop (forms_from index (12 - index)) text) ≡ all
+    → further (further furthest (forms_stop group text)) (forms_stop (forms_from (index + 1) (12 - (index + 1))) text)
     ≡ all
 group_step index more group is text furthest all so_far =
-    further_assoc furthest (forms_stop group text) (forms_stop (forms_from (index + 1) (11 - (index + 1))) text)
+    further_assoc furthest (forms_stop group text) (forms_stop (forms_from (index + 1) (12 - (index + 1))) text)
     ∙ ap (further furthest)
-    (sym (stops_append group (forms_from (index + 1) (11 - (index + 1))) text)
+    (sym (stops_append group (forms_from (index + 1) (12 - (index + 1))) text)
     ∙ ap (λ (l : List Form). forms_stop l text)
-    (ap (λ (l : List Form). l ++ forms_from (index + 1) (11 - (index + 1))) is ∙ sym (next_group index more)))
+    (ap (λ (l : List Form). l ++ forms_from (index + 1) (12 - (index + 1))) is ∙ sym (next_group index more)))
     ∙ so_far

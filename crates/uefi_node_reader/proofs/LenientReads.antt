@@ -104,14 +104,14 @@ sets_append (a ∷ xs) bs text =
     ap (λ (o : Option Node). option_or (told_in a (form_set a text)) o) (sets_append xs bs text)
     ∙ or_assoc (told_in a (form_set a text)) (forms_set xs text) (forms_set bs text)
 
-module _ (index : ℕ) (more : index < 11) (group : List Form) (is : group ≡ group_forms index) (text : List ℕ)
-    (all : Option Node) (so_far : forms_set (forms_from index (11 - index)) text ≡ all) where
+module _ (index : ℕ) (more : index < 12) (group : List Form) (is : group ≡ group_forms index) (text : List ℕ)
+    (all : Option Node) (so_far : forms_set (forms_from index (12 - index)) text ≡ all) where
   others : List Form
-  others = forms_from (index + 1) (11 - (index + 1))
+  others = forms_from (index + 1) (12 - (index + 1))
 
   here : option_or (forms_set group text) (forms_set others text) ≡ all
   unfolding others
-  here = sym (sets_append group (forms_from (index + 1) (11 - (index + 1))) text)
+  here = sym (sets_append group (forms_from (index + 1) (12 - (index + 1))) text)
       ∙ ap (λ (l : List Form). forms_set l text)
       (ap (λ (l : List Form). l ++ others) is ∙ sym (next_group index more))
       ∙ so_far
@@ -121,6 +121,6 @@ module _ (index : ℕ) (more : index < 11) (group : List Form) (is : group ≡ g
   set_step node e = ap (λ (o : Option Node). option_or o (forms_set others text)) e ∙ here
 
   pub unset_step : None ≡ forms_set group text
-      → forms_set (forms_from (index + 1) (11 - (index + 1))) text ≡ all
+      → forms_set (forms_from (index + 1) (12 - (index + 1))) text ≡ all
   unfolding others
   unset_step e = ap (λ (o : Option Node). option_or o (forms_set others text)) e ∙ here

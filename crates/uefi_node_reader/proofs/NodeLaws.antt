@@ -25,7 +25,7 @@ use Rattle.uefi_node_reader.proofs.PlainNodes.{plain_again, plain_parts, plain_t
 -- what is computed of each form: its kind has no form that no row can say, and ends nothing
 is_regular : Form → Bool
 is_regular form = (not (eqb form.kind 0x7f) && not (eqb form.kind 4 && eqb form.sub_kind 4))
-    && (not (eqb form.kind 2 && eqb form.sub_kind 2) && not (eqb form.kind 5 && eqb form.sub_kind 1))
+    && not (eqb form.kind 2 && eqb form.sub_kind 2)
 
 table_regular : list_all is_regular forms ≡ true
 unfolding group_forms is_regular
@@ -69,17 +69,14 @@ regular node told =
     let kind = eqb-true form.kind node.device_type kinds.0 in
     let sub_kind = eqb-true form.sub_kind node.sub_type (and_parts (eqb form.sub_kind node.sub_type) (is_used false form.mode) kinds.1).0 in
     let same : is_regular form ≡ ((not (eqb node.device_type 0x7f) && not (eqb node.device_type 4 && eqb node.sub_type 4))
-    && (not (eqb node.device_type 2 && eqb node.sub_type 2) && not (eqb node.device_type 5 && eqb node.sub_type 1))) =
-    λ i. (not (eqb (kind i) 0x7f) && not (eqb (kind i) 4 && eqb (sub_kind i) 4))
-    && (not (eqb (kind i) 2 && eqb (sub_kind i) 2) && not (eqb (kind i) 5 && eqb (sub_kind i) 1)) in
+    && not (eqb node.device_type 2 && eqb node.sub_type 2)) =
+    λ i. (not (eqb (kind i) 0x7f) && not (eqb (kind i) 4 && eqb (sub_kind i) 4)) && not (eqb (kind i) 2 && eqb (sub_kind i) 2) in
     let parts = and_parts (not (eqb node.device_type 0x7f) && not (eqb node.device_type 4 && eqb node.sub_type 4)) _ (sym same ∙ is.0) in
     let low = and_parts (not (eqb node.device_type 0x7f)) (not (eqb node.device_type 4 && eqb node.sub_type 4)) parts.0 in
-    let high = and_parts (not (eqb node.device_type 2 && eqb node.sub_type 2)) (not (eqb node.device_type 5 && eqb node.sub_type 1)) parts.1 in
     record {
       no_end = not-true _ low.0;
       regular = λ i. no_file (eqb node.device_type 4) (eqb node.sub_type 4) (eqb (length node.content % 2) 0) low.1 i
-          || (no_kind (eqb node.device_type 2) (eqb node.sub_type 2) (leb 15 (length node.content)) high.0 i
-          || (no_kind (eqb node.device_type 5) (eqb node.sub_type 1) (leb 5 (length node.content)) high.1 i || false));
+          || (no_kind (eqb node.device_type 2) (eqb node.sub_type 2) (leb 15 (length node.content)) parts.1 i || false);
     }
 
 -- such a node is printed by the table

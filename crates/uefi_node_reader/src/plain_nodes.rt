@@ -24,7 +24,6 @@ fn is_irregular(device_type: u8, sub_type: u8, len: usize) -> bool
     match (device_type, sub_type) {
         (4, 4) => len % 2 == 0,
         (2, 2) => 15 <= len,
-        (5, 1) => 5 <= len,
         _ => false,
     }
 }

@@ -462,6 +462,26 @@ const MEDIA: &[Row] = &[
         [Decimal 32 2 ","] [Guid 16 ")"] Nothing ""),
 ];
 
+/// Devices that a legacy BIOS can boot, by their types (BIOS Boot Specification). Their flags are left out in
+/// texts for display alone.
+#[rattlefmt::skip]
+const BOOT: &[Row] = &[
+    row!(5 1 Display 4 + 1 [0 = 0x01, 1 = 0x00] [] "BBS(Floppy," Name ")"),
+    row!(5 1 Display 4 + 1 [0 = 0x02, 1 = 0x00] [] "BBS(HD," Name ")"),
+    row!(5 1 Display 4 + 1 [0 = 0x03, 1 = 0x00] [] "BBS(CDROM," Name ")"),
+    row!(5 1 Display 4 + 1 [0 = 0x04, 1 = 0x00] [] "BBS(PCMCIA," Name ")"),
+    row!(5 1 Display 4 + 1 [0 = 0x05, 1 = 0x00] [] "BBS(USB," Name ")"),
+    row!(5 1 Display 4 + 1 [0 = 0x06, 1 = 0x00] [] "BBS(Network," Name ")"),
+    row!(5 1 Display 4 + 1 [] [] "BBS(0x" [Hexadecimal 0 2 ","] Name ")"),
+    row!(5 1 Read 4 + 1 [0 = 0x01, 1 = 0x00] [] "BBS(Floppy," Name ",0x" [Hexadecimal 2 2 ")"]),
+    row!(5 1 Read 4 + 1 [0 = 0x02, 1 = 0x00] [] "BBS(HD," Name ",0x" [Hexadecimal 2 2 ")"]),
+    row!(5 1 Read 4 + 1 [0 = 0x03, 1 = 0x00] [] "BBS(CDROM," Name ",0x" [Hexadecimal 2 2 ")"]),
+    row!(5 1 Read 4 + 1 [0 = 0x04, 1 = 0x00] [] "BBS(PCMCIA," Name ",0x" [Hexadecimal 2 2 ")"]),
+    row!(5 1 Read 4 + 1 [0 = 0x05, 1 = 0x00] [] "BBS(USB," Name ",0x" [Hexadecimal 2 2 ")"]),
+    row!(5 1 Read 4 + 1 [0 = 0x06, 1 = 0x00] [] "BBS(Network," Name ",0x" [Hexadecimal 2 2 ")"]),
+    row!(5 1 Read 4 + 1 [] [] "BBS(0x" [Hexadecimal 0 2 ","] Name ",0x" [Hexadecimal 2 2 ")"]),
+];
+
 /// What each item of a list has.
 #[tactic(auto, unfolding(crate::specs::Rows::item_of))]
 pub fn item_of(items: Items) -> Item
@@ -478,7 +498,7 @@ pub fn item_of(items: Items) -> Item
 }
 
 /// How many groups of forms there are.
-pub const GROUPS: usize = 11;
+pub const GROUPS: usize = 12;
 
 /// The forms of [`HARDWARE`].
 ///
@@ -570,6 +590,14 @@ fn media() -> &'static [Row]
     MEDIA
 }
 
+/// The forms of [`BOOT`].
+fn boot() -> &'static [Row]
+    ensures forms { map as_form result.now ≡ map const_form BOOT.now }
+    ensures few { length result.now ≤ 1000 }
+{
+    BOOT
+}
+
 /// The forms of a group.
 #[tactic(auto, unfolding(crate::specs::Table::group_forms))]
 pub fn group(index: usize) -> &'static [Row]
@@ -588,6 +616,7 @@ pub fn group(index: usize) -> &'static [Row]
         8 => ipv6_short(),
         9 => usb_classes(),
         10 => media(),
+        11 => boot(),
         _ => &[],
     }
 }

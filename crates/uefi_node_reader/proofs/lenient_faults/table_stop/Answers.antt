@@ -23,7 +23,7 @@ group_stop-requires-clause-filled c =
 pub loop-index-preserved : goal.loop-index-preserved
 loop-index-preserved c =
     let index = c.loop-index.index in
-    ap (λ (o : Option Stop). further o (forms_stop (forms_from (index + 1) (11 - (index + 1))) c.args.text.now))
+    ap (λ (o : Option Stop). further o (forms_stop (forms_from (index + 1) (12 - (index + 1))) c.args.text.now))
     (c.further-furthest.ensures ∙ ap (further c.loop-index.furthest) c.group_stop.ensures)
     ∙ group_step index c.loop-index-test.true (map as_form c.group.result.now) c.group.ensures.forms c.args.text.now
     c.loop-index.furthest (forms_stop forms c.args.text.now) c.loop-index.invariant

@@ -5,4 +5,4 @@ use Rattle.uefi_node_reader.proofs.lenient_faults.table_stop.Given as goal
 
 abbrev pub invariant-loop-index : goal.invariant-loop-index
 invariant-loop-index l =
-    further l.furthest (forms_stop (forms_from l.index (11 - l.index)) l.text) ≡ forms_stop forms l.text
+    further l.furthest (forms_stop (forms_from l.index (12 - l.index)) l.text) ≡ forms_stop forms l.text

@@ -27,6 +27,6 @@ loop-index-preserved c =
     let size = length-map c.group-rows.result.now as_form in
     let unread = unread_step c.loop-index.index c.loop-index-test.true (map as_form c.group-rows.result.now) c.group-rows.ensures.forms c.loop-index.before c.args.text.now
     (table_read forms c.args.text.now) (rw c.in_default.is at c.read_group.ensures) c.loop-index.invariant.0 in (
-      ap (λ (n : ℕ). forms_read forms (c.loop-index.before + n) (forms_from (c.loop-index.index + 1) (11 - (c.loop-index.index + 1))) c.args.text.now) (sym size) ∙ unread,
+      ap (λ (n : ℕ). forms_read forms (c.loop-index.before + n) (forms_from (c.loop-index.index + 1) (12 - (c.loop-index.index + 1))) c.args.text.now) (sym size) ∙ unread,
       omega (arith, c.group-rows.ensures.few),
     )
