@@ -1,5 +1,5 @@
 -- No text of a node holds a character that texts escape.
-use Rattle.std.proofs.Common.{◌==◌, ◌&&◌, Bool, true, false, if◌then◌else◌, List, [], ◌∷◌, ◌++◌, codes, drop, length, ℕ, refl}
+use Rattle.std.proofs.Common.{◌==◌, ◌&&◌, Bool, true, false, if◌then◌else◌, List, [], ◌∷◌, codes, drop, length, ℕ, refl}
 use Rattle.std.specs.Prelude.{All}
 use Rattle.std.specs.Fmt.{decimal}
 use Rattle.std.specs.List.{concat}

@@ -1,6 +1,6 @@
 -- What is printed of nodes, in UTF-8 (UEFI Specification 2.10, section 10.6.1): by the table of kinds,
 -- and of those nodes whose text no row of it can say.
-use Rattle.std.specs.Prelude.{ℕ, ◌%◌, ◌==◌, ◌&&◌, ◌||◌, not, Bool, if◌then◌else◌, List, [], ◌∷◌, ◌++◌, codes, drop, length}
+use Rattle.std.specs.Prelude.{ℕ, ◌%◌, ◌==◌, ◌&&◌, ◌||◌, not, Bool, if◌then◌else◌, List, [], ◌∷◌, codes, drop, length}
 use Rattle.std.specs.Fmt.{decimal}
 use Rattle.std.specs.List.{concat}
 use Rattle.uefi_field_texts.specs.FieldTexts.{comma_bytes, eisa_text, cid_string, has_uid_alone, hex, hid_string, shown_bytes, uid_string, utf16_text, vendor_name}

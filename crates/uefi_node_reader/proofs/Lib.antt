@@ -16,6 +16,7 @@ pub mod ClearTexts
 pub mod TailLaws
 pub mod TableLaws
 pub mod PieceReads
+pub mod RestReads
 pub mod Groups
 pub mod PlainNodes
 pub mod NamedFiles

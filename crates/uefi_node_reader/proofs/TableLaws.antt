@@ -9,13 +9,12 @@ use Rattle.std.proofs.lemmas.Slice.{between_is}
 use Rattle.std.proofs.lemmas.List.Elements.{All-append, All-drop, All-nil, All-cons}
 use borrow.Author.Tests.{eq-eqb, eqb-true, ltb-true}
 use Rattle.uefi_text.specs.Packed.{IsByte}
-use Rattle.uefi_node_table.specs.Fields.{field_text}
-use Rattle.uefi_node_table.specs.Rows.{Form, Piece, fields_of, find_form, form_text, is_used, is_within, pieces_text, tail_text, value_at}
+use Rattle.uefi_node_table.specs.Rows.{Form, Piece, fields_of, find_form, form_text, is_used, is_within, pieces_text, tail_text}
 use Rattle.uefi_node_table.specs.Table.{text_in}
 use Rattle.uefi_device_nodes.specs.Nodes.{Node, node_with}
-use Rattle.uefi_node_reader.specs.FieldReading.{◌>>=◌, either_read, field_kept, read_if}
+use Rattle.uefi_node_reader.specs.FieldReading.{◌>>=◌, either_read, read_if}
 use Rattle.uefi_node_reader.specs.WordReading.{after}
-use Rattle.uefi_node_reader.specs.TableReading.{IsTabled, IsTailTold, IsWhole, all_differ, are_apart, blank, differ, ends_pieces, ends_tail, followed, form_place, form_read, forms_read, is_apart, is_kept, is_open, is_read, is_sound, kept, overlay, pieces_differ, pieces_put, printed_by, prints, put_at, rest_read, table_read, tail_read}
+use Rattle.uefi_node_reader.specs.TableReading.{IsTabled, IsTailTold, IsWhole, all_differ, are_apart, blank, differ, ends_pieces, ends_tail, followed, form_place, form_read, forms_read, is_apart, is_kept, is_open, is_read, is_sound, kept, overlay, pieces_differ, pieces_put, printed_by, prints, rest_read, table_read, tail_read}
 use Rattle.uefi_node_reader.specs.WordReading.{clash, same_text}
 use Rattle.uefi_node_reader.proofs.Digits.{some_pair}
 use Rattle.uefi_node_reader.proofs.Literals.{after_again, after_some, after_takes, bind_some, clash_none, same_is}

@@ -1,9 +1,10 @@
 -- Nodes whose first bytes were decoded, and whose others are counted.
-use Rattle.std.proofs.Common.{◌≡◌, Bor, ℕ, ◌+◌, ◌-◌, ◌<◌, ◌≤◌, ◌^◌, min, take, Bool, true, false, true≢false, cond, leb, List, ◌++◌, length, length-append, refl, sym, ap, ◌∙◌, arith}
+use Rattle.std.proofs.Common.{◌≡◌, Bor, ℕ, ◌+◌, ◌-◌, ◌<◌, ◌≤◌, ◌^◌, min, take, drop, Bool, true, false, true≢false, cond, leb, List, ◌++◌, length, length-append, refl, sym, ap, ◌∙◌, arith}
 use Rattle.std.specs.Prelude.{Option, Some, None, is_some, option_and_then, ◌==◌, ◌&&◌}
 use Rattle.std.specs.Option.{option_map}
 use Rattle.std.proofs.lemmas.Bool.{le-leb, lt-leb}
-use Rattle.std.proofs.lemmas.List.{length-take-le}
+use Rattle.std.proofs.Math.Seq.{take-append-add}
+use Rattle.std.proofs.lemmas.List.{drop-take, drop_at, length-take-le, take_at}
 use Rattle.uefi_node_table.specs.Rows.{Form}
 use Rattle.uefi_device_nodes.specs.Nodes.{Node, node_with}
 use Rattle.uefi_node_reader.specs.Counted.{pushed, put_on}
@@ -111,3 +112,30 @@ kept-fitting all place form (Some read) = by (leb (length read.0) 0xfffb) refl
         no : (x : Bool) → None ≡ read_if (x && false) node read.1
         no true = refl
         no false = refl
+
+-- a fixed part in place of another of as many bytes
+pub record OtherFixed (found start bytes : List ℕ) (fixed len : ℕ) : Type 0 where
+  pub front : take fixed (found ++ drop fixed start) ≡ found
+  pub count : len ≡ length (take fixed (found ++ drop fixed start) ++ bytes)
+  pub shown : take len (found ++ drop fixed start) ≡ take 64 (take fixed (found ++ drop fixed start) ++ bytes)
+
+pub other_fixed : (found start bytes : List ℕ) (fixed len : ℕ) → fixed ≤ 64 → length start ≡ 64 → length found ≡ fixed
+    → len ≡ length (take fixed start ++ bytes) → take len start ≡ take 64 (take fixed start ++ bytes) → OtherFixed found start bytes fixed len
+other_fixed found start bytes fixed len small room size count shown =
+    let old : List ℕ = take fixed start in
+    let wide : length old ≡ fixed = front_size start fixed small room in
+    let front : take fixed (found ++ drop fixed start) ≡ found = take_at found (drop fixed start) fixed size in
+    let all : len ≡ fixed + length bytes = count ∙ all_size start fixed small room bytes in
+    let past : ℕ = len - fixed in
+    let others : take past (drop fixed start) ≡ take (64 - fixed) bytes =
+    sym (drop-take fixed past start) ∙ ap (λ (n : ℕ). drop fixed (take n start)) {x = fixed + past} {y = len} (omega (arith, all))
+    ∙ ap (drop fixed) shown ∙ ap (λ (n : ℕ). drop fixed (take n (old ++ bytes))) {x = 64} {y = fixed + (64 - fixed)} (omega (arith, small))
+    ∙ drop-take fixed (64 - fixed) (old ++ bytes) ∙ ap (take (64 - fixed)) (drop_at old bytes fixed wide) in
+    record {
+      front = front;
+      count = all ∙ ap (λ (n : ℕ). n + length bytes) (sym size) ∙ sym (length-append found bytes) ∙ ap (λ (x : List ℕ). length (x ++ bytes)) (sym front);
+      shown = ap (λ (n : ℕ). take n (found ++ drop fixed start)) {x = len} {y = length found + past} (omega (arith, all, size))
+          ∙ take-append-add found (drop fixed start) past ∙ ap (λ (x : List ℕ). found ++ x) others
+          ∙ sym (take-append-add found bytes (64 - fixed)) ∙ ap (λ (n : ℕ). take n (found ++ bytes)) {x = length found + (64 - fixed)} {y = 64} (omega (arith, small, size))
+          ∙ ap (λ (x : List ℕ). take 64 (x ++ bytes)) (sym front);
+    }

@@ -71,9 +71,10 @@ fn tells_fixed(row: &Row, fixed: &[u8]) -> bool
     ensures { result ≡ tells_fixed (as_form row.now) fixed.now }
 {
     let mut again = fixed_part(row);
-    put_all_kept(row.pieces, fixed, &mut again[..row.least]);
-    put_all_kept(row.rest, fixed, &mut again[..row.least]);
-    &again[..row.least] == fixed
+    let content = &mut again[..row.least];
+    put_all_kept(row.pieces, fixed, content);
+    put_all_kept(row.rest, fixed, content);
+    &*content == fixed
 }
 
 /// Whether data after the fields are these items.

@@ -75,8 +75,12 @@ impl<'a> TextNode<'a> {
     }
 
     /// The node with further fields of its fixed part, which a text begins with; and what stands after them.
-    pub(crate) fn with_fields<'b>(self, pieces: &[Piece], text: &'b [u8]) -> Option<(Self, &'b [u8])>
-        requires { IsTrue (list_all (is_within self.entry.fixed) (map as_piece pieces.now)) }
+    pub(crate) fn with_fields<'b>(
+        self,
+        pieces: &[Piece],
+        text: &'b [u8],
+    ) -> Option<(Self, &'b [u8])>
+        requires { IsTrue (list_all (is_within self.fixed) (map as_piece pieces.now)) }
         ensures types { IfSome result (λ x.
             (x.0.device_type ≡ self.entry.device_type) × (x.0.sub_type ≡ self.entry.sub_type)) }
         ensures data { option_map (λ x. (data_of x.0, x.1.now)) result
