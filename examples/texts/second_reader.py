@@ -11,10 +11,10 @@ END, END_INSTANCE = b"\x7f\xff\x04\x00", b"\x7f\x01\x04\x00"
 OK, NOT_UTF8, NO_NODE = 0, 5, 31
 MOST_DATA = 0xFFFF - 4
 VENDORS = {"Sas": "D487DDB4-008B-11D9-AFDC-001083FFCA4D", "Uart": "37499A9D-542F-4C89-A026-35DA142094E4"}
-# Kinds whose texts no row says, and that are not read back, by the least length of their data: AcpiEx and BBS.
-UNTOLD = {(2, 2): 15, (5, 1): 5}
+# Kinds whose texts no row says, and that are not read back, by the least length of their data: AcpiEx.
+UNTOLD = {(2, 2): 15}
 
-Row = collections.namedtuple("Row", "kind mode least when also start pieces tail close")
+Row = collections.namedtuple("Row", "kind mode least more when also start pieces tail close rest")
 # A value in a text: an expression that its text matches, the number or the bytes that the text means, and the text of its bytes.
 Shape = collections.namedtuple("Shape", "look read show")
 
@@ -59,6 +59,11 @@ SHAPES = {
     "ipv6": Shape(BYTES, lambda text: bytes.fromhex(text.replace(":", "")), lambda data: re.sub("(....)(?=.)", r"\1:", digits(data))),
     "parity": words(["D", "N", "E", "O", "M", "S"], ","),
     "stopbits": words(["D", "1", "1.5", "2"], ")"),
+    "digests": Shape("(?:CRC32C|None),(?:CRC32C|None),", lambda text: 2 * text.startswith("C") + 8 * text.endswith("C,"),
+                     lambda data: "".join("CRC32C," if data[0] & bit else "None," for bit in (2, 8))),
+    "login": Shape("(?:None|CHAP_UNI|CHAP_BI),", {"None,": 8, "CHAP_UNI,": 16, "CHAP_BI,": 0}.get,
+                   lambda data: "None," if data[0] & 8 else "CHAP_UNI," if data[0] & 16 else "CHAP_BI,"),
+    "protocol": Shape(r"(?:TCP|reserved)\)", lambda text: int(text != "TCP)"), lambda data: "reserved)" if number(data) else "TCP)"),
 }
 WIDTHS = {"Guid": 16, "Ipv4": 4, "Ipv6": 16}
 
@@ -83,6 +88,7 @@ TAILS = {
     "Bytes": Shape(f"(?:,{HEX})?", lambda text: bytes.fromhex(text[1:]), lambda data: "," * bool(data) + digits(data)),
     "Text": Shape("[ -(*-~]*", str.encode, shown),
     "Utf16": Shape("[ !#-~]*", lambda text: text.encode("utf-16-le"), shown_units),
+    "Name": Shape(r"[ -+\--~]*", lambda text: text.encode() + b"\0", lambda data: shown(data.split(b"\0")[0])),
     "Numbers": items(",0x", SHAPES["hexadecimal"], 4, 4),
     "Ipv4": items(",", SHAPES["ipv4"], 4, 16),
     "Ipv6": items(",", SHAPES["ipv6"], 16, 16),
@@ -95,6 +101,12 @@ def places(text):
     return named + [(int(place), int(byte, 16)) for place, byte in re.findall(r"(\d+) = 0x(\w+)", text)]
 
 
+def fields_of(text):
+    """The fields of a form: the shape of each, where it lies, how many bytes it has, and what stands after it."""
+    for shape, place, width, ending in re.findall(r'\[(?:Word )?(\w+) (\d+)(?: (\d+))?(?: "(.*?)")?\]', text):
+        yield SHAPES.get(shape.lower()), int(place), int(width or WIDTHS[shape]), ending.replace("'", '"')
+
+
 def rows():
     """The rows of the table, in order."""
     # A quote within a text stands as an apostrophe, which no text of the table has.
@@ -102,18 +114,17 @@ def rows():
     usb_class = re.search(r"macro_rules! usb_class .*?row!\((.*?)\)\n", table, re.S)[1]
     for row, value, start in re.findall(r'^    (?:row!\(([^$]*?)|usb_class!\((\w+) ("[^"]*"))\),$', table, re.M):
         row = " ".join((row or usb_class.replace("$class", value).replace("$start", start)).split())
-        kind, sub_kind, mode, least, when, also, start, fields, tail, close = re.fullmatch(
-            r'(\d+) (\d+) (\w+) (\d+) \[(.*?)\] \[(.*?)\] "(.*?)"((?: \[[^]]*\])*) (?:Repeated )?(\w+) "(.*?)"', row).groups()
-        pieces = []
-        for shape, place, width, ending in re.findall(r'\[(?:Word )?(\w+) (\d+)(?: (\d+))?(?: "(.*?)")?\]', fields):
-            pieces.append((SHAPES.get(shape.lower()), int(place), int(width or WIDTHS[shape]), ending.replace("'", '"')))
-        yield Row((int(kind), int(sub_kind)), mode, int(least), places(when), places(also), start, pieces, TAILS.get(tail), close.replace("'", '"'))
+        kind, sub_kind, mode, least, more, when, also, start, fields, tail, close, rest = re.fullmatch(
+            r'(\d+) (\d+) (\w+) (\d+)(?: \+ (\d+))? \[(.*?)\] \[(.*?)\] "(.*?)"((?: \[[^]]*\])*) (?:Repeated )?(\w+) "(.*?)"((?: \[[^]]*\])*)',
+            row).groups()
+        yield Row((int(kind), int(sub_kind)), mode, int(least), int(more or 0), places(when), places(also), start, list(fields_of(fields)),
+                  TAILS.get(tail), close.replace("'", '"'), list(fields_of(rest)))
 
 
 def row_text(row, data):
     """The text of data in a form that is read or for display."""
-    pieces = "".join(shape.show(data[place : place + width]) + ending for shape, place, width, ending in row.pieces)
-    return row.start + pieces + row.tail.show(data[row.least :]) + row.close
+    pieces, rest = ("".join(shape.show(data[place : place + width]) + ending for shape, place, width, ending in fields) for fields in (row.pieces, row.rest))
+    return row.start + pieces + row.tail.show(data[row.least :]) + row.close + rest
 
 
 ROWS = list(rows())
@@ -121,8 +132,8 @@ ROWS = list(rows())
 READERS = collections.defaultdict(list)
 for _number, _row in enumerate(ROWS):
     if _row.mode == "Read":
-        _fields = "".join(f"({shape.look}){re.escape(ending)}" for shape, _, _, ending in _row.pieces)
-        _pattern = re.compile(f"{re.escape(_row.start)}{_fields}({_row.tail.look}){re.escape(_row.close)}")
+        _fields, _rest = ("".join(f"({shape.look}){re.escape(ending)}" for shape, _, _, ending in fields) for fields in (_row.pieces, _row.rest))
+        _pattern = re.compile(f"{re.escape(_row.start)}{_fields}({_row.tail.look}){re.escape(_row.close)}{_rest}")
         READERS[_row.start.split("(")[0]].append((_pattern, _number))
 # The numbers of rows of which a node was read.
 TAKEN = set()
@@ -135,7 +146,7 @@ def node_text(kind, data):
     if len(data) >= UNTOLD.get(kind, 0xFFFF):
         return None
     for row in ROWS:
-        if row.kind == kind and row.mode != "Display" and row.least <= len(data) and all(data[place] == byte for place, byte in row.when):
+        if row.kind == kind and row.mode != "Display" and row.least + row.more <= len(data) and all(data[place] == byte for place, byte in row.when):
             return row_text(row, data) if row.mode == "Read" else None
     return f"Path({kind[0]},{kind[1]}{TAILS['Bytes'].show(data)})"
 
@@ -145,9 +156,10 @@ def data_in(row, texts):
     data = bytearray(row.least)
     for place, byte in row.when + row.also:
         data[place] = byte
-    for (shape, place, width, _), text in zip(row.pieces, texts):
+    before = len(row.pieces)
+    for (shape, place, width, _), text in zip(row.pieces + row.rest, texts[:before] + texts[before + 1 :]):
         data[place : place + width] = value_of(shape, text, width)
-    return bytes(data) + row.tail.read(texts[-1])
+    return bytes(data) + row.tail.read(texts[before])
 
 
 def candidates(text, at):
