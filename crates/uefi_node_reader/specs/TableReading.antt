@@ -87,7 +87,7 @@ tail_read (Repeated items) close text = list_read (item_of items) text
 abbrev pub added : List ℕ → List ℕ × List ℕ → Option (List ℕ × List ℕ)
 added content tail = Some (content ++ tail.0, tail.1)
 
--- bytes before data
+-- a fixed part that was read, and data after it
 abbrev pub followed : List ℕ → List ℕ × List ℕ → Option (List ℕ × List ℕ)
 followed tail fixed = Some (fixed.0 ++ tail, fixed.1)
 
