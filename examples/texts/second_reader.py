@@ -11,10 +11,8 @@ END, END_INSTANCE = b"\x7f\xff\x04\x00", b"\x7f\x01\x04\x00"
 OK, NOT_UTF8, NO_NODE = 0, 5, 31
 MOST_DATA = 0xFFFF - 4
 VENDORS = {"Sas": "D487DDB4-008B-11D9-AFDC-001083FFCA4D", "Uart": "37499A9D-542F-4C89-A026-35DA142094E4"}
-# Kinds whose texts no row says, and that are not read back, by the least length of their data: AcpiEx.
-UNTOLD = {(2, 2): 15}
 
-Row = collections.namedtuple("Row", "kind mode least more when also start pieces tail close rest")
+Row = collections.namedtuple("Row", "kind mode least shortest when also start pieces tail close rest")
 # A value in a text: an expression that its text matches, the number or the bytes that the text means, and the text of its bytes.
 Shape = collections.namedtuple("Shape", "look read show")
 
@@ -39,6 +37,30 @@ def shown_units(data):
     return re.sub(escaped, lambda it: f"\\u{{{ord(it[0]):X}}}", re.sub("[\ud800-\udfff]", "\ufffd", text))
 
 
+def eisa_id(text):
+    """The number of an ID of EISA, or 0."""
+    letters = [ord(it) - 64 for it in text[:3]]
+    return 0 if text == "0" else int(text[3:], 16) << 16 | letters[0] << 10 | letters[1] << 5 | letters[2]
+
+
+def eisa_text(data):
+    """The text of an ID of EISA, of which bit 15 is not printed."""
+    bits = number(data) & 0xFFFF7FFF
+    return "".join(chr(64 + (bits >> shift & 31)) for shift in (10, 5, 0)) + f"{bits >> 16:04X}" if bits else "0"
+
+
+def id_strings(text):
+    """The strings of _HID, _CID and _UID as they lie."""
+    hid, cid, uid = text.encode().split(b",", 2)
+    return hid + b"\0" + uid + b"\0" + cid + b"\0"
+
+
+def id_texts(data):
+    """Their texts."""
+    hid, uid, cid = (data + b"\0\0\0").split(b"\0")[:3]
+    return f"{shown(hid)},{shown(cid)},{shown(uid)}"
+
+
 def words(listed, end):
     """A byte as a word of a list, `x` where it has none, and what ends it."""
     return Shape("[^,)]+" + re.escape(end), lambda text: 255 if text == "x" + end else listed.index(text[:-1]),
@@ -57,6 +79,7 @@ SHAPES = {
     "guid": Shape(BYTES, lambda text: uuid.UUID(text).bytes_le, lambda data: str(uuid.UUID(bytes_le=bytes(data))).upper()),
     "ipv4": Shape("[0-9.]+", lambda text: bytes(map(int, text.split("."))), lambda data: ".".join(map(str, data[:4]))),
     "ipv6": Shape(BYTES, lambda text: bytes.fromhex(text.replace(":", "")), lambda data: re.sub("(....)(?=.)", r"\1:", digits(data))),
+    "eisa": Shape("0|[@-_]{3}[0-9a-fA-F]{4}", eisa_id, eisa_text),
     "parity": words(["D", "N", "E", "O", "M", "S"], ","),
     "stopbits": words(["D", "1", "1.5", "2"], ")"),
     "digests": Shape("(?:CRC32C|None),(?:CRC32C|None),", lambda text: 2 * text.startswith("C") + 8 * text.endswith("C,"),
@@ -89,6 +112,8 @@ TAILS = {
     "Text": Shape("[ -(*-~]*", str.encode, shown),
     "Utf16": Shape("[ !#-~]*", lambda text: text.encode("utf-16-le"), shown_units),
     "Name": Shape(r"[ -+\--~]*", lambda text: text.encode() + b"\0", lambda data: shown(data.split(b"\0")[0])),
+    "Padded": Shape("[ -(*-~]*", lambda text: text.encode().ljust(32, b"\0"), lambda data: shown(data[:32].split(b"\0")[0])),
+    "Ids": Shape(r"[ -+\--~]*,[ -+\--~]*,[ -(*-~]*", id_strings, id_texts),
     "Numbers": items(",0x", SHAPES["hexadecimal"], 4, 4),
     "Ipv4": items(",", SHAPES["ipv4"], 4, 16),
     "Ipv6": items(",", SHAPES["ipv6"], 16, 16),
@@ -117,7 +142,7 @@ def rows():
         kind, sub_kind, mode, least, more, when, also, start, fields, tail, close, rest = re.fullmatch(
             r'(\d+) (\d+) (\w+) (\d+)(?: \+ (\d+))? \[(.*?)\] \[(.*?)\] "(.*?)"((?: \[[^]]*\])*) (?:Repeated )?(\w+) "(.*?)"((?: \[[^]]*\])*)',
             row).groups()
-        yield Row((int(kind), int(sub_kind)), mode, int(least), int(more or 0), places(when), places(also), start, list(fields_of(fields)),
+        yield Row((int(kind), int(sub_kind)), mode, int(least), int(least) + int(more or 0), places(when), places(also), start, list(fields_of(fields)),
                   TAILS.get(tail), close.replace("'", '"'), list(fields_of(rest)))
 
 
@@ -143,10 +168,8 @@ def node_text(kind, data):
     """The text of a node, or None where no text tells all of its kind."""
     if kind == (4, 4) and len(data) % 2 == 0:
         return shown_units(data)
-    if len(data) >= UNTOLD.get(kind, 0xFFFF):
-        return None
     for row in ROWS:
-        if row.kind == kind and row.mode != "Display" and row.least + row.more <= len(data) and all(data[place] == byte for place, byte in row.when):
+        if row.kind == kind and row.mode != "Display" and row.shortest <= len(data) and all(data[place] == byte for place, byte in row.when):
             return row_text(row, data) if row.mode == "Read" else None
     return f"Path({kind[0]},{kind[1]}{TAILS['Bytes'].show(data)})"
 

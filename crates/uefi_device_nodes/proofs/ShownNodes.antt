@@ -4,12 +4,12 @@ use Rattle.std.specs.Prelude.{All}
 use Rattle.std.specs.Fmt.{decimal}
 use Rattle.std.specs.List.{concat}
 use Rattle.uefi_text.specs.Packed.{IsByte}
-use Rattle.uefi_field_texts.specs.FieldTexts.{cid_string, comma_bytes, eisa_text, has_uid_alone, hex, hid_string, shown_bytes, uid_string, utf16_text}
+use Rattle.uefi_field_texts.specs.FieldTexts.{comma_bytes, eisa_text, shown_bytes, uid_string, utf16_text}
 use Rattle.uefi_field_texts.specs.ShownTexts.{AsciiShown, BytesShown, IsShown, JoinedShown, NamesShown, NumbersShown, UnitsShown}
 use Rattle.uefi_node_table.specs.ShownTexts.{TableShown}
 use Rattle.uefi_node_table.specs.Table.{has_form, table_text}
 use Rattle.uefi_device_nodes.specs.Nodes.{Node}
-use Rattle.uefi_device_nodes.specs.NodeTexts.{expanded_text, irregular_text, is_file_node, is_irregular, node_text, short_name, unknown_text}
+use Rattle.uefi_device_nodes.specs.NodeTexts.{expanded_text, has_uid_text, irregular_text, is_file_node, is_irregular, node_text, short_name, unknown_text}
 use Rattle.uefi_device_nodes.specs.ShownNodes.{NodesShown}
 use Rattle.uefi_device_nodes.specs.TypedNodes.{is_kind, number_at}
 
@@ -33,41 +33,19 @@ module _ (joined : JoinedShown) (ascii : AsciiShown) (numbers : NumbersShown) (b
   text : (bytes : List ℕ) → IsShown (shown_bytes bytes)
   text bytes = (bytes_are bytes).4
 
-  expanded : (shortcuts : Bool) (content : List ℕ) → IsShown (expanded_text shortcuts content)
-  expanded shortcuts content =
-      let strings : List ℕ = drop 12 content in
-      let hid : List ℕ = eisa_text (number_at 0 4 content) in
-      let cid : List ℕ = eisa_text (number_at 8 4 content) in
-      let is_hid = (names (number_at 0 4 content) 0).0 in
-      let is_cid = (names (number_at 8 4 content) 0).0 in
+  expanded : (content : List ℕ) → IsShown (expanded_text content)
+  expanded content =
+      let uid : List ℕ = uid_string (drop 12 content) in
+      let hid_id : List ℕ = eisa_text (number_at 0 4 content) in
+      let cid_id : List ℕ = eisa_text (number_at 8 4 content) in
       let comma = ascii (codes ",") refl in
-      let end = ascii (codes ")") refl in
-      pick (shortcuts && has_uid_alone strings) _ _
-      (row (codes "AcpiExp(" ∷ hid ∷ codes "," ∷ cid ∷ codes "," ∷ shown_bytes (uid_string strings) ∷ codes ")" ∷ [])
-      (ascii (codes "AcpiExp(") refl, (is_hid, (comma, (is_cid, (comma, (text (uid_string strings), (end, tt))))))))
-      (row (codes "AcpiEx(" ∷ hid ∷ codes "," ∷ cid ∷ codes ",0x" ∷ hex (number_at 4 4 content) ∷ codes "," ∷ shown_bytes (hid_string strings)
-      ∷ codes "," ∷ shown_bytes (cid_string strings) ∷ codes "," ∷ shown_bytes (uid_string strings) ∷ codes ")" ∷ []) (
-        ascii (codes "AcpiEx(") refl,
+      row (codes "AcpiExp(" ∷ hid_id ∷ codes "," ∷ cid_id ∷ codes "," ∷ shown_bytes uid ∷ codes ")" ∷ []) (
+        ascii (codes "AcpiExp(") refl,
         (
-          is_hid,
-          (
-            comma,
-            (
-              is_cid,
-              (
-                ascii (codes ",0x") refl,
-                (
-                  (numbers (number_at 4 4 content)).0,
-                  (
-                    comma,
-                    (text (hid_string strings), (comma, (text (cid_string strings), (comma, (text (uid_string strings), (end, tt)))))),
-                  ),
-                ),
-              ),
-            ),
-          ),
+          (names (number_at 0 4 content) 0).0,
+          (comma, ((names (number_at 8 4 content) 0).0, (comma, (text uid, (ascii (codes ")") refl, tt))))),
         ),
-      ))
+      )
 
   unknown : (node : Node) → IsShown (unknown_text node)
   unfolding unknown_text
@@ -95,7 +73,7 @@ module _ (joined : JoinedShown) (ascii : AsciiShown) (numbers : NumbersShown) (b
   unfolding irregular_text
   irregular display_only shortcuts node h =
       pick (is_file_node node) (utf16_text node.content) _ (units node.content h)
-      (pick (is_kind 2 2 15 node) (expanded_text shortcuts node.content) (short_name node) (expanded shortcuts node.content) (short node))
+      (pick (has_uid_text shortcuts node) (expanded_text node.content) (short_name node) (expanded node.content) (short node))
 
   pub shown : NodesShown
   unfolding node_text

@@ -3,24 +3,21 @@
 use Rattle.std.specs.Prelude.{ℕ, ◌%◌, ◌==◌, ◌&&◌, ◌||◌, not, Bool, if◌then◌else◌, List, [], ◌∷◌, codes, drop, length}
 use Rattle.std.specs.Fmt.{decimal}
 use Rattle.std.specs.List.{concat}
-use Rattle.uefi_field_texts.specs.FieldTexts.{comma_bytes, eisa_text, cid_string, has_uid_alone, hex, hid_string, shown_bytes, uid_string, utf16_text, vendor_name}
+use Rattle.uefi_field_texts.specs.FieldTexts.{comma_bytes, eisa_text, has_uid_alone, shown_bytes, uid_string, utf16_text, vendor_name}
 use Rattle.uefi_node_table.specs.Table.{has_form, table_text}
 use Rattle.uefi_device_nodes.specs.Nodes.{Node}
 use Rattle.uefi_device_nodes.specs.FileNodes.{is_file}
 use Rattle.uefi_device_nodes.specs.TypedNodes.{is_kind, number_at}
 
--- a device that ACPI names by numbers or by strings
-abbrev pub expanded_text : Bool → List ℕ → List ℕ
-expanded_text shortcuts content =
-    let hid = eisa_text (number_at 0 4 content) in
-    let cid = eisa_text (number_at 8 4 content) in
-    if shortcuts && has_uid_alone (drop 12 content)
-    then concat (codes "AcpiExp(" ∷ hid ∷ codes "," ∷ cid ∷ codes ","
-    ∷ shown_bytes (uid_string (drop 12 content)) ∷ codes ")" ∷ [])
-    else concat (codes "AcpiEx(" ∷ hid ∷ codes "," ∷ cid ∷ codes ",0x" ∷ hex (number_at 4 4 content)
-    ∷ codes "," ∷ shown_bytes (hid_string (drop 12 content)) ∷ codes ","
-    ∷ shown_bytes (cid_string (drop 12 content))
+-- the shorter text of a device that ACPI names by the string of its _UID alone
+abbrev pub expanded_text : List ℕ → List ℕ
+expanded_text content = concat (codes "AcpiExp(" ∷ eisa_text (number_at 0 4 content)
+    ∷ codes "," ∷ eisa_text (number_at 8 4 content)
     ∷ codes "," ∷ shown_bytes (uid_string (drop 12 content)) ∷ codes ")" ∷ [])
+
+-- the test for a node with that text, where such texts are wanted
+abbrev pub has_uid_text : Bool → Node → Bool
+has_uid_text shortcuts node = shortcuts && (is_kind 2 2 15 node && has_uid_alone (drop 12 node.content))
 
 -- the shorter name of a vendor's node of messages without data, or nothing
 abbrev pub short_name : Node → List ℕ
@@ -42,12 +39,12 @@ is_short shortcuts node = shortcuts && not (length (short_name node) == 0)
 
 -- the test for a node whose text no row of the table can say
 abbrev pub is_irregular : Bool → Node → Bool
-is_irregular shortcuts node = is_file_node node || (is_kind 2 2 15 node || is_short shortcuts node)
+is_irregular shortcuts node = is_file_node node || (has_uid_text shortcuts node || is_short shortcuts node)
 
 -- the text of such a node: of a file it is the name
 unfoldable pub irregular_text : Bool → Bool → Node → List ℕ
 irregular_text display_only shortcuts node = if is_file_node node then utf16_text node.content
-    else if is_kind 2 2 15 node then expanded_text shortcuts node.content
+    else if has_uid_text shortcuts node then expanded_text node.content
     else short_name node
 
 -- a node, in the form that is not to be read back where `display_only`, and with shorter names where

@@ -51,6 +51,7 @@ pub fn acpi(acpi: Acpi<'_>, expanded: Expanded<'_>, adr: Adr<'_>, nvdimm: Nvdimm
     ensures acpi { HasType DeviceType.ACPI DeviceSubType.ACPI acpi.entry }
     ensures acpi_layout { IsInTable acpi.entry }
     ensures expanded { HasType DeviceType.ACPI DeviceSubType.ACPI_EXPANDED expanded.entry }
+    ensures expanded_layout { IsInTable expanded.entry }
     ensures adr { HasType DeviceType.ACPI DeviceSubType.ACPI_ADR adr.entry }
     ensures adr_layout { IsInTable adr.entry }
     ensures nvdimm { HasType DeviceType.ACPI DeviceSubType.ACPI_NVDIMM nvdimm.entry }

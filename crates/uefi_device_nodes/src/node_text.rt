@@ -2,8 +2,8 @@
 #![tactic(auto, using(uefi_text::proofs::Puts::puts), unfolding(crate::specs::NodeTexts::unknown_text, crate::specs::NodeTexts::irregular_text, crate::specs::NodeTexts::node_text, crate::specs::NodeViews::printed_node))]
 
 ghost use Rattle.std.specs.Fmt.{WritesInCalls};
-ghost use Rattle.std.specs.Prelude.{◌≡◌, [], if◌then◌else◌};
-ghost use Rattle.uefi_device_nodes.specs.NodeTexts.{expanded_text, irregular_text, is_irregular, node_text, short_name, unknown_text};
+ghost use Rattle.std.specs.Prelude.{◌≡◌, [], IfSome, if◌then◌else◌, is_some};
+ghost use Rattle.uefi_device_nodes.specs.NodeTexts.{expanded_text, has_uid_text, irregular_text, is_irregular, node_text, short_name, unknown_text};
 ghost use Rattle.uefi_device_nodes.specs.NodeViews.{data_of, node_of};
 ghost use Rattle.uefi_device_nodes.specs.Nodes.{node_with};
 
@@ -14,7 +14,7 @@ use crate::typed_node::TypedNode;
 use std::fmt;
 use uefi_field_texts::forms::{AllowShortcuts, DisplayOnly};
 use uefi_field_texts::hexadecimal::{put_comma_bytes, put_hex};
-use uefi_field_texts::ids::{has_uid_alone, id_strings, put_eisa_id};
+use uefi_field_texts::ids::{has_uid_alone, put_eisa_id};
 use uefi_field_texts::shown_texts::{put_byte_text, put_utf16_text};
 use uefi_field_texts::vendor_names::vendor_name;
 use uefi_node_table::printing::put_form;
@@ -44,26 +44,34 @@ fn put_unknown<S: TextSink>(sink: &mut S, node: &Parts<'_>)
     sink.put_str(")");
 }
 
-/// Puts a device that ACPI names by numbers or by strings: `AcpiEx(HID,CID,0xUID,HIDSTR,CIDSTR,UIDSTR)`, each
-/// ID as three letters and four digits, or `0`; or `AcpiExp(HID,CID,UIDSTR)` where shortcuts are wanted.
-fn put_expanded<S: TextSink>(sink: &mut S, node: &Expanded<'_>, allow_shortcuts: bool)
-    ensures { WritesInCalls S.puts sink.old (expanded_text allow_shortcuts (data_of node.now)) sink.new }
+/// Puts the shorter text of a device that ACPI names by the string of its `_UID` alone:
+/// `AcpiExp(HID,CID,UIDSTR)`.
+fn put_expanded<S: TextSink>(sink: &mut S, node: &Expanded<'_>)
+    ensures { WritesInCalls S.puts sink.old (expanded_text (data_of node.now)) sink.new }
 {
-    let strings = id_strings(node.id_strings());
-    if allow_shortcuts && has_uid_alone(node.id_strings()) {
-        put_eisa_id(sink, "AcpiExp(", node.hid());
-        put_eisa_id(sink, ",", node.cid());
-        put_byte_text(sink, ",", strings.uid);
-        sink.put_str(")");
-        return;
-    }
-    put_eisa_id(sink, "AcpiEx(", node.hid());
+    put_eisa_id(sink, "AcpiExp(", node.hid());
     put_eisa_id(sink, ",", node.cid());
-    put_hex(sink, ",0x", u64::from(node.uid()));
-    put_byte_text(sink, ",", strings.hid);
-    put_byte_text(sink, ",", strings.cid);
-    put_byte_text(sink, ",", strings.uid);
+    put_byte_text(sink, ",", node.uid_str());
     sink.put_str(")");
+}
+
+/// The device that ACPI names by the string of its `_UID` alone, if the node is one and its shorter text is
+/// wanted.
+fn named_by_uid<'a>(node: &Parts<'a>) -> Option<Expanded<'a>>
+    ensures some { is_some result ≡ has_uid_text node.now.allow_shortcuts
+        (node_with node.now.device_type node.now.sub_type node.now.data.now) }
+    ensures device { IfSome result (λ device. data_of device ≡ node.now.data.now) }
+{
+    if !node.allow_shortcuts {
+        return None;
+    }
+    let Ok(device) = Expanded::from_parts(node.device_type, node.sub_type, node.data) else {
+        return None;
+    };
+    if !has_uid_alone(device.id_strings()) {
+        return None;
+    }
+    Some(device)
 }
 
 /// The shorter name of a vendor's node of messages without data, or an empty text.
@@ -90,8 +98,8 @@ fn put_irregular<S: TextSink>(sink: &mut S, node: &Parts<'_>) -> bool
         put_utf16_text(sink, node.data);
         return true;
     }
-    if let Ok(device) = Expanded::from_parts(node.device_type, node.sub_type, node.data) {
-        put_expanded(sink, &device, node.allow_shortcuts);
+    if let Some(device) = named_by_uid(node) {
+        put_expanded(sink, &device);
         return true;
     }
     let name = if node.allow_shortcuts {

@@ -17,7 +17,7 @@ use Rattle.uefi_text.proofs.Texts.{scalars-All}
 use Rattle.uefi_text.specs.Packed.{IsByte, little_endian, packed_items}
 use Rattle.uefi_text.specs.UnitBytes.{units_of_bytes}
 use Rattle.uefi_text.specs.Units.{is_nul}
-use Rattle.uefi_field_texts.specs.FieldTexts.{comma_bytes, dashed_back, eisa_letter, eisa_text, hex, hex_back, hex_bytes, hex_four, hex_two, is_escaped, shown_byte, shown_bytes, shown_char, shown_units, until_nul, utf16_text, vendor_name}
+use Rattle.uefi_field_texts.specs.FieldTexts.{comma_bytes, dashed_back, eisa_bits, eisa_letter, eisa_text, hex, hex_back, hex_bytes, hex_four, hex_two, is_escaped, shown_byte, shown_bytes, shown_char, shown_units, until_nul, utf16_text, vendor_name}
 use Rattle.uefi_field_texts.specs.Guids.{guid_text}
 use Rattle.uefi_field_texts.specs.ShownTexts.{IsShown, IsShownChar, is_printable}
 
@@ -158,7 +158,7 @@ letter_ascii n =
 
 eisa_ascii : (id : ℕ) → ascii (eisa_text id)
 unfolding eisa_text
-eisa_ascii id = by (id == 0)
+eisa_ascii id = by (eisa_bits id == 0)
   where
     by : (t : Bool) → ascii (if t then codes "0" else eisa_letter (id / 1024) ++ (eisa_letter (id / 32) ++ (eisa_letter id ++ hex_four (id / 65536))))
     by true = refl

@@ -1,5 +1,5 @@
 -- What is printed of the fields of nodes, in UTF-8.
-use Rattle.std.specs.Prelude.{ℕ, ◌+◌, ◌/◌, ◌%◌, ◌==◌, ◌||◌, ◌&&◌, Bool, true, nat_le, nat_lt, if◌then◌else◌, List, [], ◌∷◌, ◌++◌, codes, length, not, take, drop, reverse, encode_utf8}
+use Rattle.std.specs.Prelude.{ℕ, ◌+◌, ◌*◌, ◌/◌, ◌%◌, ◌==◌, ◌||◌, ◌&&◌, Bool, true, nat_le, nat_lt, if◌then◌else◌, List, [], ◌∷◌, ◌++◌, codes, length, not, take, drop, reverse, encode_utf8}
 use Rattle.std.specs.Fmt.{digits}
 use Rattle.std.specs.List.{concat, flat_map, join_by, position_or_len}
 use Rattle.std.specs.Char.Utf16.{utf16_lossy_chars}
@@ -39,9 +39,13 @@ comma_bytes (byte ∷ bytes) = codes "," ++ hex_bytes (byte ∷ bytes)
 unfoldable pub eisa_letter : ℕ → List ℕ
 eisa_letter n = encode_utf8 (n % 32 + 64)
 
+-- the bits that the text of an ID of EISA tells: all but bit 15
+abbrev pub eisa_bits : ℕ → ℕ
+eisa_bits id = id % 32768 + id / 65536 * 65536
+
 -- an ID of EISA: three letters by the low 15 bits, and the high two bytes; 0 is no ID
 unfoldable pub eisa_text : ℕ → List ℕ
-eisa_text id = if id == 0 then codes "0"
+eisa_text id = if eisa_bits id == 0 then codes "0"
     else eisa_letter (id / 1024) ++ (eisa_letter (id / 32) ++ (eisa_letter id ++ hex_four (id / 65536)))
 
 -- elements up to the first zero, or all
@@ -111,6 +115,11 @@ uid_string bytes = until_nul (after_nul bytes)
 -- that of _CID
 abbrev pub cid_string : List ℕ → List ℕ
 cid_string bytes = until_nul (after_nul (after_nul bytes))
+
+-- all three, as they are printed: _CID before _UID
+unfoldable pub id_strings_text : List ℕ → List ℕ
+id_strings_text bytes = shown_bytes (hid_string bytes) ++ (codes "," ++ (shown_bytes (cid_string bytes)
+    ++ (codes "," ++ shown_bytes (uid_string bytes))))
 
 -- the test for a device that has a string for _UID alone
 unfoldable pub has_uid_alone : List ℕ → Bool

@@ -1,12 +1,12 @@
 //! IDs of devices that ACPI names: those of EISA, packed in four bytes, and strings.
-#![tactic(auto, using(uefi_text::proofs::Puts::puts), unfolding(crate::specs::FieldTexts::eisa_text, crate::specs::FieldTexts::eisa_letter, crate::specs::FieldTexts::has_uid_alone))]
+#![tactic(auto, using(uefi_text::proofs::Puts::puts), unfolding(crate::specs::FieldTexts::eisa_text, crate::specs::FieldTexts::eisa_letter, crate::specs::FieldTexts::has_uid_alone, crate::specs::FieldTexts::id_strings_text))]
 
 ghost use Rattle.std.specs.Fmt.{WritesInCalls};
 ghost use Rattle.std.specs.Prelude.{◌≡◌, ◌++◌};
-ghost use Rattle.uefi_field_texts.specs.FieldTexts.{cid_string, eisa_letter, eisa_text, has_uid_alone, hid_string, uid_string};
+ghost use Rattle.uefi_field_texts.specs.FieldTexts.{cid_string, eisa_bits, eisa_letter, eisa_text, has_uid_alone, hid_string, id_strings_text, uid_string};
 
 use crate::hexadecimal::put_word;
-use crate::shown_texts::{after_nul, until_nul};
+use crate::shown_texts::{after_nul, put_byte_text, until_nul};
 use uefi_text::text_sink::TextSink;
 
 /// Puts the letter of the five low bits of a number.
@@ -16,14 +16,21 @@ fn put_letter<S: TextSink>(sink: &mut S, number: u32)
     sink.put_char(char::from((number % 32) as u8 + b'@'));
 }
 
+/// The bits that the text of an ID of EISA tells: all but bit 15.
+pub fn eisa_bits(id: u32) -> u32
+    ensures { result ≡ eisa_bits id }
+{
+    id % 0x8000 + id / 0x1_0000 * 0x1_0000
+}
+
 /// Puts a text, and an ID of EISA, four bytes as a number: three letters of five bits each and four digits,
-/// as in `PNP0A03`, or `0` where it is 0 (UEFI Specification 2.10, section 10.3.3; ACPI Specification,
-/// `EISAID`).
+/// as in `PNP0A03`, or `0` where all of these bits are 0 (UEFI Specification 2.10, section 10.3.3; ACPI
+/// Specification, `EISAID`).
 pub fn put_eisa_id<S: TextSink>(sink: &mut S, text: &str, id: u32)
     ensures { WritesInCalls S.puts sink.old (text.now ++ eisa_text id) sink.new }
 {
     sink.put_str(text);
-    if id == 0 {
+    if eisa_bits(id) == 0 {
         sink.put_str("0");
         return;
     }
@@ -56,6 +63,16 @@ pub fn id_strings(bytes: &[u8]) -> IdStrings<'_>
         uid: until_nul(after_hid),
         cid: until_nul(after_nul(after_hid)),
     }
+}
+
+/// Puts these strings as they are printed: that of `_CID` before that of `_UID`, with commas between them.
+pub fn put_id_strings<S: TextSink>(sink: &mut S, bytes: &[u8])
+    ensures { WritesInCalls S.puts sink.old (id_strings_text bytes.now) sink.new }
+{
+    let strings = id_strings(bytes);
+    put_byte_text(sink, "", strings.hid);
+    put_byte_text(sink, ",", strings.cid);
+    put_byte_text(sink, ",", strings.uid);
 }
 
 /// Whether a device has a string for `_UID` alone.

@@ -1,5 +1,5 @@
 -- Texts of printable ASCII are printed as they lie, and are read up to the byte that stops them.
-use Rattle.std.proofs.Common.{◌≡◌, ℕ, ◌/◌, ◌%◌, ◌<◌, ◌≤◌, Bool, true, false, cond, leb, ltb, not, ◌&&◌, List, [], ◌∷◌, ◌++◌, length, take, refl, ap, sym, subst, ◌∙◌, arith}
+use Rattle.std.proofs.Common.{◌≡◌, ℕ, suc, ◌+◌, ◌/◌, ◌%◌, ◌<◌, ◌≤◌, Bool, true, false, cond, leb, ltb, not, ◌&&◌, List, [], ◌∷◌, ◌++◌, length, take, drop, refl, ap, sym, subst, ◌∙◌, arith}
 use Rattle.std.proofs.lemmas.Bool.{and_from, and_parts}
 use Rattle.std.specs.Prelude.{All}
 use Rattle.std.specs.Char.Escape.{encode_utf16}
@@ -74,6 +74,27 @@ clear_takes stop (c ∷ cs) = by (is_clear stop c) refl (clear_takes stop cs)
         → Is (cond (is_clear stop c) (c ∷ run.0, run.1) ([], c ∷ cs))
     by t p h = subst (λ (x : Bool). Is (cond x (c ∷ run.0, run.1) ([], c ∷ cs))) (sym p) (at t p h)
 
+-- where such a text ends
+pub run_at : (stop : ℕ) (text : List ℕ) → let end : ℕ = position_or_len (λ c. not (is_clear stop c)) text in
+    clear_run stop text ≡ (take end text, drop end text)
+run_at stop [] = refl
+run_at stop (c ∷ cs) = by (is_clear stop c) refl (run_at stop cs)
+  where
+    run : List ℕ × List ℕ
+    run = clear_run stop cs
+
+    end : ℕ
+    end = position_or_len (λ d. not (is_clear stop d)) cs
+
+    both : ℕ → List ℕ × List ℕ
+    both n = (take n (c ∷ cs), drop n (c ∷ cs))
+
+    by : (t : Bool) → is_clear stop c ≡ t → run ≡ (take end cs, drop end cs)
+        → cond (is_clear stop c) (c ∷ run.0, run.1) ([], c ∷ cs) ≡ both (cond (not (not (is_clear stop c))) (1 + end) 0)
+    by true p h = ap (λ (t : Bool). cond t (c ∷ run.0, run.1) ([], c ∷ cs)) p ∙ (λ i. (c ∷ (h i).0, (h i).1))
+        ∙ ap both {x = suc end} {y = 1 + end} (omega arith) ∙ ap (λ (t : Bool). both (cond (not (not t)) (1 + end) 0)) (sym p)
+    by false p h = ap (λ (t : Bool). cond t (c ∷ run.0, run.1) ([], c ∷ cs)) p ∙ ap (λ (t : Bool). both (cond (not (not t)) (1 + end) 0)) (sym p)
+
 -- such a text prints as it lies, one byte each
 byte_clear : (stop c : ℕ) → is_clear stop c ≡ true → shown_byte c ≡ c ∷ []
 unfolding shown_byte
@@ -132,6 +153,9 @@ clear_text stop (c ∷ cs) e =
       units = λ i. unit_clear stop c parts.0 i ++ others.units i;
       shown = λ i. char_clear stop c parts.0 i ++ others.shown i;
     }
+
+pub clear_no_nul : (stop : ℕ) (text : List ℕ) → list_all (is_clear stop) text ≡ true → no_nul text ≡ true
+clear_no_nul stop text e = (clear_text stop text e).no_nul
 
 -- a text without a NUL goes on to its end
 whole : (text : List ℕ) → no_nul text ≡ true → until_nul text ≡ text

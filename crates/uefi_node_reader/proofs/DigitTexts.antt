@@ -13,7 +13,7 @@ use Rattle.uefi_field_texts.specs.FieldTexts.{hex_back, hex_bytes, hex_two}
 use Rattle.uefi_node_table.specs.Fields.{field_text, fits_shape}
 use Rattle.uefi_node_table.specs.Rows.{Piece}
 use Rattle.uefi_node_table.specs.declared.rows.Shape.{Shape}
-use Rattle.uefi_node_table.specs.declared.rows.Shape.TheVariants.{Hexadecimal, Decimal, OrDefault, Back, Forth, Dashed, Next, Padded, Word}
+use Rattle.uefi_node_table.specs.declared.rows.Shape.TheVariants.{Hexadecimal, Decimal, OrDefault, Back, Forth, Dashed, Next, Eisa, Word}
 use Rattle.uefi_node_reader.specs.FieldReading.{IsValue, field_read}
 use Rattle.uefi_node_reader.specs.Numerals.{digit_of}
 use Rattle.uefi_node_reader.specs.TableReading.{are_parted, ends_apart, is_digits, piece_put, put_at}
@@ -85,7 +85,7 @@ field_digits Forth width f d value is = bytes_digits value is.1
 field_digits OrDefault width f d value is = cc
 field_digits Dashed width f d value is = cc
 field_digits Next width f d value is = cc
-field_digits Padded width f d value is = cc
+field_digits Eisa width f d value is = cc
 field_digits (Word list) width f d value is = cc
 
 no_digit : (b : Bool) → not b ≡ true → b ≡ true → (Z : Type 0) → Z

@@ -1,6 +1,6 @@
 -- The texts of fields are read back, and what is read is printed so.
 use Rattle.std.proofs.Common.{◌≡◌, true≢false, ℕ, zero, suc, ◌+◌, ◌-◌, ◌*◌, ◌/◌, ◌%◌, ◌^◌, ◌<◌, ◌≤◌, Bool, true, false, cond, eqb, leb, ltb, ◌&&◌, List, [], ◌∷◌, ◌++◌, codes, length, reverse, refl, ap, sym, subst, ◌∙◌, append_assoc, arith}
-use Rattle.std.proofs.lemmas.Bool.{not-true}
+use Rattle.std.proofs.lemmas.Bool.{le-leb, not-true}
 use Rattle.std.specs.Prelude.{All, Option, Some, None}
 use Rattle.std.specs.Fmt.{digits, digit_glyph}
 use Rattle.std.specs.List.{flat_map, join_by}
@@ -8,18 +8,19 @@ use Rattle.std.proofs.lemmas.List.Elements.{All-nil, All-cons, All-from_get_or, 
 use native.Mathlib.Nat.{pow-suc, pow-zero}
 use borrow.Author.Tests.{eq-eqb, eqb-true, ne_eqb, leb-true, lt-ltb, ltb-false, ltb-true}
 use Rattle.uefi_text.specs.Packed.{IsByte, little_endian}
-use Rattle.uefi_field_texts.specs.FieldTexts.{dashed_back, hex_back, hex_bytes, hex_two}
+use Rattle.uefi_field_texts.specs.FieldTexts.{dashed_back, eisa_bits, eisa_letter, eisa_text, hex_back, hex_four, hex_bytes, hex_two}
 use Rattle.uefi_node_reader.specs.Numerals.{digit_of, has_digit, number_read}
 use Rattle.uefi_node_reader.specs.TableReading.{ends_field, goes_on}
-use Rattle.uefi_node_reader.specs.FieldReading.{◌>>=◌, byte_read, more_read, bytes_read, default_read, less_one, low_bytes, as_bytes, next_read, or_default, turned, field_kept, field_read, IsValue}
-use Rattle.uefi_node_reader.specs.WordReading.{after, are_sound, word_number, word_read}
+use Rattle.uefi_node_reader.specs.FieldReading.{◌>>=◌, byte_read, more_read, bytes_read, default_read, digits_of_id, eisa_read, letter_of, letters_read, less_one, low_bytes, as_bytes, next_read, or_default, some_id, turned, field_kept, field_read, IsValue}
+use Rattle.uefi_node_reader.specs.WordReading.{after, are_sound, or_word, word_number, word_read}
 use Rattle.uefi_node_table.specs.Fields.{default_text, field_text, fits_shape}
 use Rattle.uefi_node_table.specs.Words.{word_text, words_of}
 use Rattle.uefi_node_table.specs.declared.rows.Shape.{Shape}
-use Rattle.uefi_node_table.specs.declared.rows.Shape.TheVariants.{Hexadecimal, Decimal, OrDefault, Back, Forth, Dashed, Next, Padded, Word}
+use Rattle.uefi_node_table.specs.declared.rows.Shape.TheVariants.{Hexadecimal, Decimal, OrDefault, Back, Forth, Dashed, Next, Eisa, Word}
 use Rattle.uefi_node_table.specs.declared.words.Words.{Words}
 use Rattle.uefi_node_table.specs.declared.words.Words.TheVariants.{Parity, StopBits, Digests, Login, Protocol}
-use Rattle.std.specs.Prelude.{nat_le, not, ◌≢◌}
+use Rattle.std.proofs.lemmas.Str.{encode_ascii}
+use Rattle.std.specs.Prelude.{encode_utf8, nat_le, not, ◌≢◌}
 use Rattle.std.proofs.lemmas.List.{get_or-reverse, length-reverse, reverse-reverse}
 use Rattle.std.proofs.Math.Nat.{pow-le-pow_right}
 use Rattle.uefi_field_texts.proofs.GuidTexts.{two_digits}
@@ -156,7 +157,7 @@ goes_first Back c cs = refl
 goes_first Forth c cs = refl
 goes_first Dashed c cs = refl
 goes_first Next c cs = refl
-goes_first Padded c cs = refl
+goes_first Eisa c cs = refl
 goes_first (Word list) c cs = refl
 
 pub ends_is : (shape : Shape) (ending rest : List ℕ) → ends_field shape ending ≡ true → goes_on shape (ending ++ rest) ≡ false
@@ -168,7 +169,7 @@ ends_is Back [] rest e = refl
 ends_is Forth [] rest e = refl
 ends_is Dashed [] rest e = refl
 ends_is Next [] rest e = cc
-ends_is Padded [] rest e = cc
+ends_is Eisa [] rest e = refl
 ends_is (Word list) [] rest e = refl
 
 -- nor with what begins with no digit
@@ -188,7 +189,7 @@ open_is Back rest n e = refl
 open_is Forth rest n e = refl
 open_is Dashed rest n e = refl
 open_is Next rest n e = e
-open_is Padded rest n e = cc
+open_is Eisa rest n e = refl
 open_is (Word list) rest n e = refl
 
 pub limits : (width : ℕ) → 1 ≤ width → width ≤ 8 → (16 ≤ 256 ^ width) × (256 ^ width ≤ 2 ^ 64)
@@ -265,6 +266,178 @@ next_field value rest h e =
     ∙ ap (λ (k : ℕ). Some (low_bytes 1 k, rest)) same
     ∙ ap (λ (x : List ℕ). Some (x, rest)) (value_low 1 value h)
 
+-- IDs of EISA: the letters
+letter_back : (d : ℕ) → d < 32 → letter_of (d + 64) ≡ d
+letter_back d h =
+    let back : d + 64 - 64 ≡ d = omega arith in
+    (λ i. cond (le-leb 64 (d + 64) (omega arith) i && lt-ltb (d + 64) 96 (omega (arith, h)) i) (d + 64 - 64) 32) ∙ back
+
+letter_is : (c : ℕ) → ltb (letter_of c) 32 ≡ true → c ≡ letter_of c + 64
+letter_is c h = by (leb 64 c) (ltb c 96) refl (ltb-true (letter_of c) 32 h)
+  where
+    by : (t s : Bool) → leb 64 c ≡ t → cond (t && s) (c - 64) 32 < 32 → c ≡ cond (t && s) (c - 64) 32 + 64
+    by false s p q = absurd (omega (arith, q))
+    by true false p q = absurd (omega (arith, q))
+    by true true p q = let low = leb-true 64 c p in omega (arith, low)
+
+letters_again : (a b c : ℕ) (text : List ℕ) → a < 32 → b < 32 → c < 32
+    → letters_read ((a + 64) ∷ (b + 64) ∷ (c + 64) ∷ text) ≡ Some (a * 1024 + b * 32 + c, text)
+letters_again a b c text x y z =
+    let found : ℕ → ℕ → ℕ → Option (ℕ × List ℕ) = λ l m n. Some (l * 1024 + m * 32 + n, text) in
+    let l = letter_back a x in
+    let m = letter_back b y in
+    let n = letter_back c z in
+    (λ i. cond (ltb (l i) 32 && (ltb (m i) 32 && ltb (n i) 32)) (found (l i) (m i) (n i)) None)
+    ∙ (λ i. cond (lt-ltb a 32 x i && (lt-ltb b 32 y i && lt-ltb c 32 z i)) (found a b c) None)
+
+record Letters (text : List ℕ) (letters : ℕ) (rest : List ℕ) : Type 0 where
+  a : ℕ
+  b : ℕ
+  c : ℕ
+  a_small : a < 32
+  b_small : b < 32
+  c_small : c < 32
+  text_is : text ≡ (a + 64) ∷ (b + 64) ∷ (c + 64) ∷ rest
+  sum : letters ≡ a * 1024 + b * 32 + c
+
+letters_take : (text : List ℕ) (letters : ℕ) (rest : List ℕ) → letters_read text ≡ Some (letters, rest) → Letters text letters rest
+letters_take [] letters rest e = cc
+letters_take (a ∷ []) letters rest e = cc
+letters_take (a ∷ b ∷ []) letters rest e = cc
+letters_take (a ∷ b ∷ c ∷ text) letters rest e = by (ltb (letter_of a) 32) (ltb (letter_of b) 32) (ltb (letter_of c) 32) refl refl refl e
+  where
+    found : Option (ℕ × List ℕ)
+    found = Some (letter_of a * 1024 + letter_of b * 32 + letter_of c, text)
+
+    by : (t s r : Bool) → ltb (letter_of a) 32 ≡ t → ltb (letter_of b) 32 ≡ s → ltb (letter_of c) 32 ≡ r
+        → cond (t && (s && r)) found None ≡ Some (letters, rest) → Letters (a ∷ b ∷ c ∷ text) letters rest
+    by false s r p q z e = cc
+    by true false r p q z e = cc
+    by true true false p q z e = cc
+    by true true true p q z e =
+        let same = some_pair (letter_of a * 1024 + letter_of b * 32 + letter_of c, text) (letters, rest) e in
+        record {
+          a = letter_of a;
+          b = letter_of b;
+          c = letter_of c;
+          a_small = ltb-true _ _ p;
+          b_small = ltb-true _ _ q;
+          c_small = ltb-true _ _ z;
+          text_is = λ i. letter_is a p i ∷ letter_is b q i ∷ letter_is c z i ∷ same.1 i;
+          sum = sym same.0;
+        }
+
+-- the text of an ID, by its letters and the bytes of its digits
+id_text : (n a b c high low : ℕ) → eqb (eisa_bits n) 0 ≡ false → n < 2 ^ 32 → n / 1024 % 32 ≡ a → n / 32 % 32 ≡ b → n % 32 ≡ c
+    → n / 65536 / 256 ≡ high → n / 65536 % 256 ≡ low → eisa_text n ≡ (a + 64) ∷ (b + 64) ∷ (c + 64) ∷ (hex_two high ++ hex_two low)
+unfolding eisa_text eisa_letter hex_four
+id_text n a b c high low some small x y z h l =
+    let letter : (d : ℕ) → d < 32 → encode_utf8 (d + 64) ≡ (d + 64) ∷ [] = λ d e. encode_ascii (d + 64) (omega (arith, e)) in
+    rw some ((λ i. encode_utf8 (x i + 64) ++ (encode_utf8 (y i + 64) ++ (encode_utf8 (z i + 64) ++ (hex_two (h i) ++ hex_two (l i)))))
+    ∙ (λ i. letter a (omega (arith, x)) i ++ (letter b (omega (arith, y)) i ++ (letter c (omega (arith, z)) i ++ (hex_two high ++ hex_two low)))))
+
+digits_again : (letters high low : ℕ) (rest : List ℕ) → high < 256 → low < 256 → eqb (letters + (high * 256 + low) * 65536) 0 ≡ false
+    → (byte_read (hex_two high ++ (hex_two low ++ rest)) >>= digits_of_id letters) ≡ Some (letters + (high * 256 + low) * 65536, rest)
+digits_again letters high low rest h l some =
+    let found : Option (ℕ × List ℕ) = Some (letters + (high * 256 + low) * 65536, rest) in
+    after_some _ (digits_of_id letters) (high, hex_two low ++ rest) (byte_again high (hex_two low ++ rest) h)
+    ∙ after_some _ (λ (x : ℕ × List ℕ). some_id (letters + (high * 256 + x.0) * 65536) x.1) (low, rest) (byte_again low rest l)
+    ∙ ap (λ (t : Bool). cond t None found) some
+
+-- an ID that is not 0, from its text
+letters_not_zero : (a : ℕ) (text : List ℕ) (other : Option (ℕ × List ℕ)) → or_word 0 (after (codes "0") ((a + 64) ∷ text)) other ≡ other
+letters_not_zero a text other = ap (λ (t : Bool). or_word 0 (cond t (Some text) None) other) (ne_eqb 48 (a + 64) (λ z. omega (arith, z)))
+
+zero_text : (n : ℕ) → eqb (eisa_bits n) 0 ≡ true → eisa_text n ≡ codes "0"
+unfolding eisa_text
+zero_text n e = rw e refl
+
+eisa_again : (n : ℕ) → n < 2 ^ 32 → (rest : List ℕ) → eisa_read (eisa_text n ++ rest) ≡ Some (eisa_bits n, rest)
+eisa_again n small rest = by (eqb (eisa_bits n) 0) refl
+  where
+    a : ℕ
+    a = n / 1024 % 32
+
+    b : ℕ
+    b = n / 32 % 32
+
+    c : ℕ
+    c = n % 32
+
+    high : ℕ
+    high = n / 65536 / 256
+
+    low : ℕ
+    low = n / 65536 % 256
+
+    by : (t : Bool) → eqb (eisa_bits n) 0 ≡ t → eisa_read (eisa_text n ++ rest) ≡ Some (eisa_bits n, rest)
+    by true p =
+        ap (λ (x : List ℕ). eisa_read (x ++ rest)) (zero_text n p) ∙ ap (λ (m : ℕ). Some (m, rest)) (sym (eqb-true (eisa_bits n) 0 p))
+    by false p =
+        let left : List ℕ = hex_two high ++ (hex_two low ++ rest) in
+        let text : List ℕ = (a + 64) ∷ (b + 64) ∷ (c + 64) ∷ left in
+        let letters : ℕ = a * 1024 + b * 32 + c in
+        let id : letters + (high * 256 + low) * 65536 ≡ eisa_bits n = omega arith in
+        let others : ℕ × List ℕ → Option (ℕ × List ℕ) = λ l. byte_read l.1 >>= digits_of_id l.0 in
+        ap (λ (x : List ℕ). eisa_read (x ++ rest)) (id_text n a b c high low p small refl refl refl refl refl)
+        ∙ ap (λ (x : List ℕ). eisa_read ((a + 64) ∷ (b + 64) ∷ (c + 64) ∷ x)) (append_assoc (hex_two high) (hex_two low) rest)
+        ∙ letters_not_zero a ((b + 64) ∷ (c + 64) ∷ left) (letters_read text >>= others)
+        ∙ after_some _ others (letters, left) (letters_again a b c left (omega arith) (omega arith) (omega arith))
+        ∙ digits_again letters high low rest (omega (arith, small)) (omega arith) (ap (λ (m : ℕ). eqb m 0) id ∙ p)
+        ∙ ap (λ (m : ℕ). Some (m, rest)) id
+
+record IdTaken (text : List ℕ) (n : ℕ) (rest : List ℕ) : Type 0 where
+  text_is : text ≡ eisa_text n ++ rest
+  small : n < 2 ^ 32
+  own : eisa_bits n ≡ n
+
+eisa_takes : (text : List ℕ) (n : ℕ) (rest : List ℕ) → eisa_read text ≡ Some (n, rest) → IdTaken text n rest
+eisa_takes text n rest e = by (after (codes "0") text) refl e
+  where
+    others : ℕ × List ℕ → Option (ℕ × List ℕ)
+    others l = byte_read l.1 >>= digits_of_id l.0
+
+    some : (id : ℕ) (left : List ℕ) → some_id id left ≡ Some (n, rest) → (eqb id 0 ≡ false) × (id ≡ n) × (left ≡ rest)
+    some id left e = at (eqb id 0) refl e
+      where
+        found : Option (ℕ × List ℕ)
+        found = Some (id, left)
+
+        at : (t : Bool) → eqb id 0 ≡ t → cond t None found ≡ Some (n, rest) → (eqb id 0 ≡ false) × (id ≡ n) × (left ≡ rest)
+        at true p q = cc
+        at false p q = let same = some_pair (id, left) (n, rest) q in (p, same.0, same.1)
+
+    by : (o : Option (List ℕ)) → after (codes "0") text ≡ o → or_word 0 o (letters_read text >>= others) ≡ Some (n, rest) → IdTaken text n rest
+    by (Some t) p q =
+        let same = some_pair (0, t) (n, rest) q in
+        record {
+          text_is = after_takes (codes "0") text t p ∙ ap (λ (x : List ℕ). x ++ t) (sym (zero_text 0 refl)) ∙ (λ i. eisa_text (same.0 i) ++ same.1 i);
+          small = omega (arith, same.0);
+          own = omega (arith, same.0);
+        }
+    by None p q =
+        let l = bind_some (letters_read text) others (n, rest) q in
+        let h = bind_some (byte_read l.0.1) (digits_of_id l.0.0) (n, rest) l.2 in
+        let k = bind_some (byte_read h.0.1) (λ (x : ℕ × List ℕ). some_id (l.0.0 + (h.0.0 * 256 + x.0) * 65536) x.1) (n, rest) h.2 in
+        let letters = letters_take text l.0.0 l.0.1 l.1 in
+        let high = byte_takes l.0.1 h.0.0 h.0.1 h.1 in
+        let low = byte_takes h.0.1 k.0.0 k.0.1 k.1 in
+        let id : ℕ = l.0.0 + (h.0.0 * 256 + k.0.0) * 65536 in
+        let same = some id k.0.1 k.2 in
+        let bound : l.0.0 < 32768 = omega (arith, letters.sum, letters.a_small, letters.b_small, letters.c_small) in
+        let own : eisa_bits id ≡ id = omega (arith, bound) in
+        let text_of_id = id_text id letters.a letters.b letters.c h.0.0 k.0.0 (ap (λ (m : ℕ). eqb m 0) own ∙ same.0) (omega (arith, bound, high.1, low.1))
+        (omega (arith, letters.sum, letters.a_small, letters.b_small, letters.c_small)) (omega (arith, letters.sum, letters.a_small, letters.b_small, letters.c_small))
+        (omega (arith, letters.sum, letters.c_small)) (omega (arith, bound, high.1, low.1)) (omega (arith, bound, low.1)) in
+        let whole : text ≡ eisa_text id ++ k.0.1 = letters.text_is
+        ∙ ap (λ (x : List ℕ). (letters.a + 64) ∷ (letters.b + 64) ∷ (letters.c + 64) ∷ x) (high.0 ∙ ap (λ (x : List ℕ). hex_two h.0.0 ++ x) low.0
+        ∙ sym (append_assoc (hex_two h.0.0) (hex_two k.0.0) k.0.1)) ∙ ap (λ (x : List ℕ). x ++ k.0.1) (sym text_of_id) in
+        record {
+          text_is = whole ∙ (λ i. eisa_text (same.1 i) ++ same.2 i);
+          small = subst (λ (m : ℕ). m < 2 ^ 32) same.1 (omega (arith, bound, high.1, low.1));
+          own = subst (λ (m : ℕ). eisa_bits m ≡ m) same.1 own;
+        }
+
 pub sound_words : (list : Words) → are_sound (words_of list) ≡ true
 unfolding words_of
 sound_words Parity = refl
@@ -282,7 +455,11 @@ field_again Next width fits value rest h e =
     let one = eqb-true width 1 fits in
     ap (λ (k : ℕ). next_read (digits 16 true (little_endian value + 1) ++ rest) >>= as_bytes k) one
     ∙ next_field value rest (h.0 ∙ one, h.1) e
-field_again Padded width fits value rest h e = cc
+field_again Eisa width fits value rest h e =
+    let four = eqb-true width 4 fits in
+    let bound : little_endian value < 256 ^ 4 = subst (λ (w : ℕ). little_endian value < 256 ^ w) four (value_bound width value h) in
+    after_some _ (as_bytes width) _ (eisa_again (little_endian value) (omega (arith, bound)) rest)
+    ∙ ap (λ (k : ℕ). Some (low_bytes k (eisa_bits (little_endian value)), rest)) (sym h.0)
 field_again (Word list) width fits value rest h e =
     after_some _ (as_bytes width) _ (word_again (words_of list) (sound_words list) (little_endian value) rest)
     ∙ ap (λ (k : ℕ). Some (low_bytes k (word_number (words_of list) (little_endian value)), rest)) (sym h.0)
@@ -385,6 +562,20 @@ words_take list width low high text value rest e =
       (λ i. low_bytes (is.0 i) (word_number (words_of list) (number i))) ∙ ap (λ (n : ℕ). low_bytes width n) read.own ∙ same.0,
     )
 
+eisa_take : (width : ℕ) → width ≡ 4 → (text value rest : List ℕ) → (eisa_read text >>= as_bytes width) ≡ Some (value, rest)
+    → (text ≡ eisa_text (little_endian value) ++ rest) × (IsValue width value) × (field_kept Eisa value ≡ value)
+eisa_take width four text value rest e =
+    let p = bind_some (eisa_read text) (as_bytes width) (value, rest) e in
+    let same = some_pair (low_bytes width p.0.0, p.0.1) (value, rest) p.2 in
+    let read = eisa_takes text p.0.0 p.0.1 p.1 in
+    let bound : p.0.0 < 256 ^ width = subst (λ (w : ℕ). p.0.0 < 256 ^ w) (sym four) (omega (arith, read.small)) in
+    let number : little_endian value ≡ p.0.0 = ap (λ (x : List ℕ). little_endian x) (sym same.0) ∙ low_value width p.0.0 bound in
+    let is : IsValue width value = subst (λ (x : List ℕ). IsValue width x) same.0 (low_is width p.0.0) in (
+      read.text_is ∙ (λ i. eisa_text (sym number i) ++ same.1 i),
+      is,
+      (λ i. low_bytes (is.0 i) (eisa_bits (number i))) ∙ ap (λ (n : ℕ). low_bytes width n) read.own ∙ same.0,
+    )
+
 -- what is known of a field that was read
 abbrev pub FieldTaken : Shape → ℕ → List ℕ → List ℕ → List ℕ → Type 0
 FieldTaken field width text value rest = (text ≡ field_text field value ++ rest) × (IsValue width value) × (field_kept field value ≡ value)
@@ -403,7 +594,7 @@ field_takes OrDefault width fits text value rest e =
 field_takes Next width fits text value rest e =
     let one = eqb-true width 1 fits in
     let r = next_takes text value rest (ap (λ (k : ℕ). next_read text >>= as_bytes k) (sym one) ∙ e) in (r.0, (r.1.0 ∙ sym one, r.1.1), refl)
-field_takes Padded width fits text value rest e = cc
+field_takes Eisa width fits text value rest e = eisa_take width (eqb-true width 4 fits) text value rest e
 field_takes (Word list) width fits text value rest e = let bounds = number_bounds width fits in words_take list width bounds.0 bounds.1 text value rest e
 field_takes Back width fits text value rest e =
     let r = turned_takes [] width text value rest e in (r.0 ∙ ap (λ (x : List ℕ). x ++ rest) (sym (back_is value)), r.1, refl)

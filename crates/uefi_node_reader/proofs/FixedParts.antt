@@ -1,7 +1,8 @@
 -- The fixed part of a form's data, at the start of a buffer of 64 bytes.
-use Rattle.std.proofs.Common.{◌≡◌, ℕ, zero, suc, ◌≤◌, take, true, leb, ltb, ◌&&◌, List, [], ◌∷◌, refl, ap, ◌∙◌, arith, slice_set}
+use Rattle.std.proofs.Common.{◌≡◌, ℕ, ◌≤◌, take, true, leb, ltb, ◌&&◌, List, [], ◌∷◌, refl, ap, ◌∙◌, arith, slice_set}
 use Rattle.std.proofs.Math.ListN.{replicate}
 use Rattle.std.proofs.Math.Seq.{take-set-lt}
+use Rattle.std.proofs.lemmas.List.{take-replicate}
 use Rattle.std.proofs.lemmas.Bool.{and_parts, leb-true, lt-ltb, ltb-true}
 use Rattle.uefi_node_table.specs.Rows.{Form}
 use Rattle.uefi_node_reader.specs.TableReading.{are_within, blank, is_filled, put_all}
@@ -19,11 +20,6 @@ take_put n (b ∷ bs) content e =
     let p = and_parts (ltb b.0 n) (are_within n bs) e in
     take_put n bs (slice_set content b.0 b.1) p.1
     ∙ ap (λ (l : List ℕ). put_all bs l) (take-set-lt n content b.0 b.1 (ltb-true b.0 n p.0))
-
-zeros : (n m : ℕ) → n ≤ m → let z : ℕ = 0 in take n (replicate m z) ≡ replicate n z
-zeros zero m l = refl
-zeros (suc n) zero l = absurd (omega arith)
-zeros (suc n) (suc m) l = ap (λ (x : List ℕ). 0 ∷ x) (zeros n m (omega (arith, l)))
 
 module _ (form : Form) (filled : is_filled form ≡ true) where
   small : leb form.least 64 ≡ true
@@ -47,4 +43,4 @@ module _ (form : Form) (filled : is_filled form ≡ true) where
       take_put form.least form.also (put_all form.when content) bytes.1
       ∙ ap (λ (l : List ℕ). put_all form.also l) (take_put form.least form.when content bytes.0)
       ∙ ap (λ (l : List ℕ). put_all form.also (put_all form.when (take form.least l))) e
-      ∙ ap (λ (l : List ℕ). put_all form.also (put_all form.when l)) (zeros form.least 64 least_small)
+      ∙ ap (λ (l : List ℕ). put_all form.also (put_all form.when l)) (take-replicate form.least 64 0 least_small)

@@ -10,7 +10,7 @@ use Rattle.uefi_text.specs.Packed.{IsByte}
 use Rattle.uefi_node_table.specs.Fields.{fits_shape}
 use Rattle.uefi_node_table.specs.Rows.{Form, Piece, is_within}
 use Rattle.uefi_node_table.specs.declared.rows.Shape.{Shape}
-use Rattle.uefi_node_table.specs.declared.rows.Shape.TheVariants.{Hexadecimal, Decimal, OrDefault, Back, Forth, Dashed, Next, Padded, Word as WordShape}
+use Rattle.uefi_node_table.specs.declared.rows.Shape.TheVariants.{Hexadecimal, Decimal, OrDefault, Back, Forth, Dashed, Next, Eisa, Word as WordShape}
 use Rattle.uefi_node_reader.specs.FieldReading.{◌>>=◌, IsValue, as_bytes, less_one, low_bytes}
 use Rattle.uefi_node_reader.specs.LenientFields.{after_ending, after_literal, any_field, any_number, any_word, is_number, left_out, number_or_word, past_base, piece_set, pieces_set, value_or_spare}
 use Rattle.uefi_node_reader.specs.LenientNodes.{form_set, is_textless}
@@ -44,7 +44,7 @@ any_value (WordShape list) width f text value rest e = low_value_is width (any_w
 any_value Back width f text value rest e = (field_takes Back width f (past_base text) value rest e).1
 any_value Forth width f text value rest e = (field_takes Forth width f (past_base text) value rest e).1
 any_value Dashed width f text value rest e = (field_takes Dashed width f (past_base text) value rest e).1
-any_value Padded width f text value rest e = (field_takes Padded width f (past_base text) value rest e).1
+any_value Eisa width f text value rest e = (field_takes Eisa width f (past_base text) value rest e).1
 
 -- bytes that are left out
 spares : (width spare : ℕ) → spare < 256 → IsValue width (replicate width spare)

@@ -13,6 +13,7 @@ pub mod Heads
 pub mod TextNodes
 pub mod ListReads
 pub mod ClearTexts
+pub mod TextTails
 pub mod TailLaws
 pub mod TableLaws
 pub mod PieceReads

@@ -22,10 +22,9 @@ use Rattle.uefi_node_reader.proofs.TableLaws.{table_again, table_takes, unread}
 use Rattle.uefi_node_reader.proofs.NamedFiles.{name_again, name_parts, name_printed, name_takes}
 use Rattle.uefi_node_reader.proofs.PlainNodes.{plain_again, plain_parts, plain_takes, plain_text}
 
--- what is computed of each form: its kind has no form that no row can say, and ends nothing
+-- what is computed of each form: it names no file, and ends nothing
 is_regular : Form → Bool
-is_regular form = (not (eqb form.kind 0x7f) && not (eqb form.kind 4 && eqb form.sub_kind 4))
-    && not (eqb form.kind 2 && eqb form.sub_kind 2)
+is_regular form = not (eqb form.kind 0x7f) && not (eqb form.kind 4 && eqb form.sub_kind 4)
 
 table_regular : list_all is_regular forms ≡ true
 unfolding group_forms is_regular
@@ -47,11 +46,6 @@ table_begins : list_all begins forms ≡ true
 unfolding group_forms begins
 table_begins = refl
 
-no_kind : (a b c : Bool) → not (a && b) ≡ true → a && (b && c) ≡ false
-no_kind false b c e = refl
-no_kind true false c e = refl
-no_kind true true c e = cc
-
 no_file : (a b c : Bool) → not (a && b) ≡ true → (a && b) && c ≡ false
 no_file a b c e = ap (λ (x : Bool). x && c) (not-true (a && b) e)
 
@@ -68,15 +62,12 @@ regular node told =
     let kinds = and_parts (eqb form.kind node.device_type) _ (and_parts (eqb form.kind node.device_type && (eqb form.sub_kind node.sub_type && is_used false form.mode)) _ is.1).0 in
     let kind = eqb-true form.kind node.device_type kinds.0 in
     let sub_kind = eqb-true form.sub_kind node.sub_type (and_parts (eqb form.sub_kind node.sub_type) (is_used false form.mode) kinds.1).0 in
-    let same : is_regular form ≡ ((not (eqb node.device_type 0x7f) && not (eqb node.device_type 4 && eqb node.sub_type 4))
-    && not (eqb node.device_type 2 && eqb node.sub_type 2)) =
-    λ i. (not (eqb (kind i) 0x7f) && not (eqb (kind i) 4 && eqb (sub_kind i) 4)) && not (eqb (kind i) 2 && eqb (sub_kind i) 2) in
-    let parts = and_parts (not (eqb node.device_type 0x7f) && not (eqb node.device_type 4 && eqb node.sub_type 4)) _ (sym same ∙ is.0) in
-    let low = and_parts (not (eqb node.device_type 0x7f)) (not (eqb node.device_type 4 && eqb node.sub_type 4)) parts.0 in
+    let same : is_regular form ≡ (not (eqb node.device_type 0x7f) && not (eqb node.device_type 4 && eqb node.sub_type 4)) =
+    λ i. not (eqb (kind i) 0x7f) && not (eqb (kind i) 4 && eqb (sub_kind i) 4) in
+    let parts = and_parts (not (eqb node.device_type 0x7f)) (not (eqb node.device_type 4 && eqb node.sub_type 4)) (sym same ∙ is.0) in
     record {
-      no_end = not-true _ low.0;
-      regular = λ i. no_file (eqb node.device_type 4) (eqb node.sub_type 4) (eqb (length node.content % 2) 0) low.1 i
-          || (no_kind (eqb node.device_type 2) (eqb node.sub_type 2) (leb 15 (length node.content)) parts.1 i || false);
+      no_end = not-true _ parts.0;
+      regular = λ i. no_file (eqb node.device_type 4) (eqb node.sub_type 4) (eqb (length node.content % 2) 0) parts.1 i || false;
     }
 
 -- such a node is printed by the table

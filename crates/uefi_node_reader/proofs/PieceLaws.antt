@@ -15,7 +15,7 @@ use Rattle.uefi_node_reader.specs.TableReading.{are_apart, ends_field, ends_piec
 use Rattle.uefi_node_reader.specs.TableReading.{are_parted, list_number, overlay, piece_put, pieces_differ, pieces_put, same_shape}
 use Rattle.uefi_node_reader.specs.WordReading.{clash, same_text}
 use Rattle.uefi_node_table.specs.declared.rows.Shape.{Shape}
-use Rattle.uefi_node_table.specs.declared.rows.Shape.TheVariants.{Hexadecimal, Decimal, OrDefault, Back, Forth, Dashed, Next, Padded, Word}
+use Rattle.uefi_node_table.specs.declared.rows.Shape.TheVariants.{Hexadecimal, Decimal, OrDefault, Back, Forth, Dashed, Next, Eisa, Word}
 use Rattle.uefi_node_table.specs.declared.words.Words.{Words}
 use Rattle.uefi_node_table.specs.declared.words.Words.TheVariants.{Parity, StopBits, Digests, Login, Protocol}
 use Rattle.uefi_node_reader.proofs.Digits.{some_pair}
@@ -179,7 +179,7 @@ shape_is Back Back e = refl
 shape_is Forth Forth e = refl
 shape_is Dashed Dashed e = refl
 shape_is Next Next e = refl
-shape_is Padded Padded e = refl
+shape_is Eisa Eisa e = refl
 shape_is (Word a) (Word b) e = ap Word (same_list a b e)
 shape_is a b e = cc
 

@@ -18,9 +18,10 @@ use Rattle.uefi_node_table.specs.Rows.{item_of, tail_text}
 use Rattle.uefi_node_reader.specs.FieldReading.{clear_run, comma_read, is_clear, run_read, some_run}
 use Rattle.uefi_node_reader.specs.TableReading.{IsTailTold, as_name, as_units, first_of, tail_read}
 use Rattle.uefi_node_table.specs.declared.rows.Tail.{Tail}
-use Rattle.uefi_node_table.specs.declared.rows.Tail.TheVariants.{Nothing, Bytes, Text, Utf16, Name, Repeated}
+use Rattle.uefi_node_table.specs.declared.rows.Tail.TheVariants.{Nothing, Bytes, Text, Utf16, Name, Padded, Ids, Repeated}
 use Rattle.uefi_node_reader.proofs.Digits.{hexadecimal, some_pair}
 use Rattle.uefi_node_reader.proofs.ClearTexts.{clear_again, clear_bytes, clear_takes, clear_units, name_clear, shown_clear, utf16_clear}
+use Rattle.uefi_node_reader.proofs.TextTails.{ids_again, ids_takes, padded_again, padded_takes}
 use Rattle.uefi_field_texts.proofs.GuidTexts.{two_digits}
 
 run_end : (c : ℕ) (cs rest : List ℕ) → ltb (digit_of c) 16 ≡ false → run_read ((c ∷ cs) ++ rest) ≡ ([], (c ∷ cs) ++ rest)
@@ -131,6 +132,8 @@ tail_starts Bytes close bytes rest e o = cc
 tail_starts Text close bytes rest e o = cc
 tail_starts Utf16 close bytes rest e o = cc
 tail_starts Name close bytes rest e o = cc
+tail_starts Padded close bytes rest e o = cc
+tail_starts Ids close bytes rest e o = cc
 tail_starts (Repeated items) close bytes rest e o =
     let parts = and_parts (clash (item_of items).start close) (begins_apart close) e in
     list_starts (item_of items) (sound_items items) bytes (close ++ rest) (apart close rest parts.1)
@@ -150,6 +153,10 @@ tail_again Name [] bytes rest e all told = cc
 tail_again Name (c ∷ cs) bytes rest e all told =
     ap (λ (x : List ℕ). as_name (clear_run c (x ++ ((c ∷ cs) ++ rest)))) (ap (λ (x : List ℕ). shown_bytes (until_nul x)) told.1.0 ∙ name_clear c told.0 told.1.1)
     ∙ ap as_name (clear_again c told.0 (cs ++ rest) told.1.1) ∙ (λ i. Some (sym told.1.0 i, (c ∷ cs) ++ rest))
+tail_again Padded [] bytes rest e all told = cc
+tail_again Padded (c ∷ cs) bytes rest e all told = padded_again c cs bytes rest told
+tail_again Ids [] bytes rest e all told = cc
+tail_again Ids (c ∷ cs) bytes rest e all told = ids_again c cs bytes rest told
 tail_again (Repeated items) close bytes rest e all told =
     let parts = and_parts (clash (item_of items).start close) (begins_apart close) e in
     list_again (item_of items) (sound_items items) bytes told all (close ++ rest)
@@ -189,3 +196,5 @@ tail_takes Name close text bytes rest e =
       subst (λ (x : List ℕ). All IsByte x) same.0 (All-append IsByte name (0 ∷ []) (clear_bytes stop name run.1) (All-cons IsByte 0 [] (omega arith) (All-nil IsByte))),
       (name, (sym same.0, run.1)),
     )
+tail_takes Padded close text bytes rest e = padded_takes close text bytes rest e
+tail_takes Ids close text bytes rest e = ids_takes close text bytes rest e

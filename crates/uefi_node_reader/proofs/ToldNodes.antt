@@ -13,10 +13,10 @@ use Rattle.uefi_node_table.specs.declared.rows.Items.TheVariants.{Numbers, Ipv4,
 use Rattle.uefi_node_table.specs.declared.rows.Mode.{Mode}
 use Rattle.uefi_node_table.specs.declared.rows.Mode.TheVariants.{Read, Printed, Display}
 use Rattle.uefi_node_table.specs.declared.rows.Shape.{Shape}
-use Rattle.uefi_node_table.specs.declared.rows.Shape.TheVariants.{Hexadecimal, Decimal, OrDefault, Back, Forth, Dashed, Next, Padded, Word}
+use Rattle.uefi_node_table.specs.declared.rows.Shape.TheVariants.{Hexadecimal, Decimal, OrDefault, Back, Forth, Dashed, Next, Eisa, Word}
 use Rattle.uefi_node_table.specs.declared.words.Words.{Words}
 use Rattle.uefi_node_table.specs.declared.rows.Tail.{Tail}
-use Rattle.uefi_node_table.specs.declared.rows.Tail.TheVariants.{Nothing, Bytes, Text, Utf16, Name, Repeated}
+use Rattle.uefi_node_table.specs.declared.rows.Tail.TheVariants.{Nothing, Bytes, Text, Utf16, Name, Padded, Ids, Repeated}
 use Rattle.uefi_node_table.proofs.Forms.{found, long_enough}
 use Rattle.uefi_device_nodes.specs.Nodes.{Node, node_with}
 use Rattle.uefi_node_reader.specs.Counted.{pushed}
@@ -49,6 +49,8 @@ tail_told read content is least (Repeated items) close e =
 tail_told read content is least Text close e = cc
 tail_told read content is least Utf16 close e = cc
 tail_told read content is least Name close e = cc
+tail_told read content is least Padded close e = cc
+tail_told read content is least Ids close e = cc
 
 -- what passes the test is told
 pub tells_told : (read : Form) (node : Node) → SetIn read node.content → tells read node ≡ true → IsTabled forms node
@@ -168,14 +170,14 @@ put_is p value content new count w l few e =
     ∙ ap (λ (n : ℕ). take p.place content ++ (value ++ drop (p.place + n) content)) w
     ∙ ap (λ (x : List ℕ). take p.place content ++ (value ++ x)) (sym (drop-drop p.width p.place content))
 
--- all of a field is read of its text, but for words
-pub kept_whole : (shape : Shape) → ((list : Words) → shape ≡ Word list → ⊥) → (bytes : List ℕ) → bytes ≡ field_kept shape bytes
-kept_whole Hexadecimal other bytes = refl
-kept_whole Decimal other bytes = refl
-kept_whole OrDefault other bytes = refl
-kept_whole Back other bytes = refl
-kept_whole Forth other bytes = refl
-kept_whole Dashed other bytes = refl
-kept_whole Next other bytes = refl
-kept_whole Padded other bytes = refl
-kept_whole (Word list) other bytes = absurd (other list refl)
+-- all of a field is read of its text, but for words and IDs
+pub kept_whole : (shape : Shape) → (shape ≡ Eisa → ⊥) → ((list : Words) → shape ≡ Word list → ⊥) → (bytes : List ℕ) → bytes ≡ field_kept shape bytes
+kept_whole Hexadecimal id other bytes = refl
+kept_whole Decimal id other bytes = refl
+kept_whole OrDefault id other bytes = refl
+kept_whole Back id other bytes = refl
+kept_whole Forth id other bytes = refl
+kept_whole Dashed id other bytes = refl
+kept_whole Next id other bytes = refl
+kept_whole Eisa id other bytes = absurd (id refl)
+kept_whole (Word list) id other bytes = absurd (other list refl)

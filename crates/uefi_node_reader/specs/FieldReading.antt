@@ -1,12 +1,13 @@
 -- Fields of nodes, and how they are read from their texts.
 use Rattle.std.specs.Prelude.{◌≡◌, ℕ, zero, suc, ◌+◌, ◌-◌, ◌*◌, ◌/◌, ◌%◌, ◌^◌, nat_le, nat_lt, not, Bool, true, false, ◌==◌, ◌&&◌, if◌then◌else◌, List, [], ◌∷◌, codes, length, reverse, All, Option, Some, None, option_and_then}
 use Rattle.uefi_text.specs.Packed.{IsByte, little_endian}
+use Rattle.uefi_field_texts.specs.FieldTexts.{eisa_bits}
 use Rattle.uefi_node_table.specs.Words.{words_of}
 use Rattle.uefi_node_table.specs.declared.rows.Shape.{Shape}
-use Rattle.uefi_node_table.specs.declared.rows.Shape.TheVariants.{Hexadecimal, Decimal, OrDefault, Back, Forth, Dashed, Next, Padded, Word}
+use Rattle.uefi_node_table.specs.declared.rows.Shape.TheVariants.{Hexadecimal, Decimal, OrDefault, Back, Forth, Dashed, Next, Eisa, Word}
 use Rattle.uefi_device_nodes.specs.Nodes.{Node}
 use Rattle.uefi_node_reader.specs.Numerals.{digit_of, number_read}
-use Rattle.uefi_node_reader.specs.WordReading.{after, word_number, word_read}
+use Rattle.uefi_node_reader.specs.WordReading.{after, or_word, word_number, word_read}
 
 -- what follows, if something was read
 infixl 10 ◌>>=◌
@@ -63,6 +64,31 @@ less_one number = if number.0 == 0 then None else Some (number.0 - 1, number.1)
 abbrev pub next_read : List ℕ → Option (ℕ × List ℕ)
 next_read text = number_read 16 257 text >>= less_one
 
+-- the five bits that a letter of an ID stands for, or 32
+abbrev pub letter_of : ℕ → ℕ
+letter_of c = if nat_le 64 c && nat_lt c 96 then c - 64 else 32
+
+-- the 15 bits of three letters, and what stands after them
+abbrev pub letters_read : List ℕ → Option (ℕ × List ℕ)
+letters_read (a ∷ b ∷ c ∷ text) =
+    if nat_lt (letter_of a) 32 && (nat_lt (letter_of b) 32 && nat_lt (letter_of c) 32)
+    then Some (letter_of a * 1024 + letter_of b * 32 + letter_of c, text) else None
+letters_read text = None
+
+-- an ID of EISA, but for 0, which has a text of its own
+abbrev pub some_id : ℕ → List ℕ → Option (ℕ × List ℕ)
+some_id id rest = if id == 0 then None else Some (id, rest)
+
+-- an ID from its four digits on, and what stands after it
+abbrev pub digits_of_id : ℕ → ℕ × List ℕ → Option (ℕ × List ℕ)
+digits_of_id letters high =
+    byte_read high.1 >>= λ low. some_id (letters + (high.0 * 256 + low.0) * 65536) low.1
+
+-- an ID of EISA, or 0, and what stands after it
+abbrev pub eisa_read : List ℕ → Option (ℕ × List ℕ)
+eisa_read text = or_word 0 (after (codes "0") text)
+    (letters_read text >>= λ letters. byte_read letters.1 >>= digits_of_id letters.0)
+
 -- the bytes of a field of a width, and what stands after its text
 abbrev pub field_read : Shape → ℕ → List ℕ → Option (List ℕ × List ℕ)
 field_read Hexadecimal width text = number_read 16 (256 ^ width) text >>= as_bytes width
@@ -72,10 +98,10 @@ field_read Back width text = bytes_read [] width text >>= turned
 field_read Forth width text = bytes_read [] width text
 field_read Dashed width text = bytes_read (codes "-") width text >>= turned
 field_read Next width text = next_read text >>= as_bytes width
-field_read Padded width text = None
+field_read Eisa width text = eisa_read text >>= as_bytes width
 field_read (Word list) width text = word_read (words_of list) text >>= as_bytes width
 
--- what is read of the text of bytes, where all of a field is printed: all of them
+-- what is read of the text of bytes: all of them, but for the bits that no word and no ID prints
 abbrev pub field_kept : Shape → List ℕ → List ℕ
 field_kept Hexadecimal bytes = bytes
 field_kept Decimal bytes = bytes
@@ -84,7 +110,7 @@ field_kept Back bytes = bytes
 field_kept Forth bytes = bytes
 field_kept Dashed bytes = bytes
 field_kept Next bytes = bytes
-field_kept Padded bytes = bytes
+field_kept Eisa bytes = low_bytes (length bytes) (eisa_bits (little_endian bytes))
 field_kept (Word list) bytes = low_bytes (length bytes) (word_number (words_of list) (little_endian bytes))
 
 -- bytes that a field of a width may have

@@ -4,7 +4,7 @@ use Rattle.std.specs.Option.{option_map}
 use Rattle.uefi_node_table.specs.Rows.{Form, Piece, is_used}
 use Rattle.uefi_node_table.specs.Table.{forms}
 use Rattle.uefi_node_table.specs.declared.rows.Shape.{Shape}
-use Rattle.uefi_node_table.specs.declared.rows.Shape.TheVariants.{Hexadecimal, Decimal, OrDefault, Back, Forth, Dashed, Next, Padded, Word}
+use Rattle.uefi_node_table.specs.declared.rows.Shape.TheVariants.{Hexadecimal, Decimal, OrDefault, Back, Forth, Dashed, Next, Eisa, Word}
 use Rattle.uefi_node_table.specs.declared.rows.Tail.{Tail}
 use Rattle.uefi_node_table.specs.declared.rows.Tail.TheVariants.{Bytes, Repeated}
 use Rattle.uefi_node_table.specs.declared.words.Words.{Words}
@@ -71,7 +71,7 @@ expected_field Back width = expected.Digits (width * 2)
 expected_field Forth width = expected.Digits (width * 2)
 expected_field Dashed width = expected.DashedDigits (width * 2)
 expected_field Next width = expected.NumberFromOne 256
-expected_field Padded width = expected.AsPrinted
+expected_field Eisa width = expected.AsPrinted
 expected_field (Word list) width = expected_word list
 
 -- what stands after a field of a node of a kind and its ending

@@ -1,5 +1,5 @@
 -- How nodes are read from their texts, by the forms of the table that print them.
-use Rattle.std.specs.Prelude.{◌≡◌, ℕ, zero, suc, ◌+◌, Bool, true, false, nat_le, nat_lt, not, ◌==◌, ◌&&◌, ◌||◌, if◌then◌else◌, List, [], ◌∷◌, ◌++◌, length, take, drop, slice_set, All, Option, Some, None}
+use Rattle.std.specs.Prelude.{◌≡◌, ℕ, zero, suc, ◌+◌, ◌-◌, Bool, true, false, nat_le, nat_lt, not, ◌==◌, ◌&&◌, ◌||◌, if◌then◌else◌, List, [], ◌∷◌, ◌++◌, codes, length, take, drop, slice_set, All, Option, Some, None}
 use Rattle.std.proofs.Math.ListN.{replicate}
 use Rattle.std.specs.List.{concat, list_all}
 use Rattle.uefi_text.specs.Packed.{IsByte}
@@ -10,9 +10,9 @@ use Rattle.uefi_node_table.specs.Fields.{fits_shape}
 use Rattle.uefi_node_table.specs.declared.rows.Mode.{Mode}
 use Rattle.uefi_node_table.specs.declared.rows.Mode.TheVariants.{Read, Printed, Display}
 use Rattle.uefi_node_table.specs.declared.rows.Shape.{Shape}
-use Rattle.uefi_node_table.specs.declared.rows.Shape.TheVariants.{Hexadecimal, Decimal, OrDefault, Back, Forth, Dashed, Next, Padded, Word}
+use Rattle.uefi_node_table.specs.declared.rows.Shape.TheVariants.{Hexadecimal, Decimal, OrDefault, Back, Forth, Dashed, Next, Eisa, Word}
 use Rattle.uefi_node_table.specs.declared.rows.Tail.{Tail}
-use Rattle.uefi_node_table.specs.declared.rows.Tail.TheVariants.{Nothing, Bytes, Text, Utf16, Name, Repeated}
+use Rattle.uefi_node_table.specs.declared.rows.Tail.TheVariants.{Nothing, Bytes, Text, Utf16, Name, Padded, Ids, Repeated}
 use Rattle.uefi_device_nodes.specs.Nodes.{Node, node_with}
 use Rattle.uefi_node_table.specs.declared.words.Words.{Words}
 use Rattle.uefi_node_table.specs.declared.words.Words.TheVariants.{Parity, StopBits, Digests, Login, Protocol}
@@ -74,6 +74,24 @@ as_units run = Some (unit_bytes run.0, run.1)
 abbrev pub as_name : List ℕ × List ℕ → Option (List ℕ × List ℕ)
 as_name run = Some (run.0 ++ 0 ∷ [], run.1)
 
+-- a text with zeros after it, in 32 bytes
+abbrev pub padded : List ℕ → List ℕ
+padded text = text ++ replicate (32 - length text) 0
+
+-- such data, where a text that was read has no more bytes
+abbrev pub as_padded : List ℕ × List ℕ → Option (List ℕ × List ℕ)
+as_padded run = if nat_le (length run.0) 32 then Some (padded run.0, run.1) else None
+
+-- the strings of the IDs of a device as they lie, each with its zero
+abbrev pub as_ids : List ℕ → List ℕ → List ℕ → List ℕ
+as_ids hid cid uid = hid ++ (0 ∷ (uid ++ (0 ∷ (cid ++ (0 ∷ [])))))
+
+-- such strings before the end of the text: that of _HID and that of _CID up to a comma, and that of _UID
+abbrev pub ids_read : ℕ → List ℕ → Option (List ℕ × List ℕ)
+ids_read stop text = after (codes ",") (clear_run 44 text).1 >>= λ t.
+    after (codes ",") (clear_run 44 t).1 >>= λ u.
+    Some (as_ids (clear_run 44 text).0 (clear_run 44 t).0 (clear_run stop u).0, (clear_run stop u).1)
+
 -- the data after the fields, before the end of the text, and what stands after them
 abbrev pub tail_read : Tail → List ℕ → List ℕ → Option (List ℕ × List ℕ)
 tail_read Nothing close text = Some ([], text)
@@ -81,6 +99,8 @@ tail_read Bytes close text = comma_read text
 tail_read Text close text = Some (clear_run (first_of close) text)
 tail_read Utf16 close text = as_units (clear_run (first_of close) text)
 tail_read Name close text = as_name (clear_run (first_of close) text)
+tail_read Padded close text = as_padded (clear_run (first_of close) text)
+tail_read Ids close text = ids_read (first_of close) text
 tail_read (Repeated items) close text = list_read (item_of items) text
 
 -- bytes after data
@@ -160,6 +180,11 @@ IsTailTold Utf16 close bytes =
     (text : List ℕ) × ((bytes ≡ unit_bytes text) × (list_all (is_clear (first_of close)) text ≡ true))
 IsTailTold Name close bytes =
     (name : List ℕ) × ((bytes ≡ name ++ 0 ∷ []) × (list_all (is_clear (first_of close)) name ≡ true))
+IsTailTold Padded close bytes = (text : List ℕ) × (bytes ≡ padded text)
+    × (nat_le (length text) 32 ≡ true) × (list_all (is_clear (first_of close)) text ≡ true)
+IsTailTold Ids close bytes = (hid cid uid : List ℕ) × (bytes ≡ as_ids hid cid uid)
+    × (list_all (is_clear 44) hid ≡ true) × (list_all (is_clear 44) cid ≡ true)
+    × (list_all (is_clear (first_of close)) uid ≡ true)
 IsTailTold (Repeated items) close bytes = AreItems (item_of items) bytes
 
 -- data that a form holds all of: its fixed bytes, the fields, and what follows them
@@ -198,7 +223,7 @@ goes_on Back text = false
 goes_on Forth text = false
 goes_on Dashed text = false
 goes_on Next text = has_digit 16 text
-goes_on Padded text = true
+goes_on Eisa text = false
 goes_on (Word list) text = false
 
 -- the test for a shape whose text is as long as it has to be
@@ -210,7 +235,7 @@ is_closed Back = true
 is_closed Forth = true
 is_closed Dashed = true
 is_closed Next = false
-is_closed Padded = false
+is_closed Eisa = true
 is_closed (Word list) = true
 
 -- the test for an ending that no field of a shape goes on with
@@ -243,6 +268,8 @@ is_open Bytes = false
 is_open Text = false
 is_open Utf16 = false
 is_open Name = false
+is_open Padded = false
+is_open Ids = false
 is_open (Repeated items) = true
 
 -- the test for a tail that the end of a text ends: bytes go on with no digit, and a text with no byte but
@@ -252,6 +279,10 @@ ends_tail Nothing close = true
 ends_tail (Repeated items) close = clash (item_of items).start close && begins_apart close
 ends_tail Name [] = false
 ends_tail Name (c ∷ cs) = true
+ends_tail Padded [] = false
+ends_tail Padded (c ∷ cs) = true
+ends_tail Ids [] = false
+ends_tail Ids (c ∷ cs) = true
 ends_tail Text [] = false
 ends_tail Text (c ∷ cs) = true
 ends_tail Utf16 [] = false
@@ -297,7 +328,7 @@ same_shape Back Back = true
 same_shape Forth Forth = true
 same_shape Dashed Dashed = true
 same_shape Next Next = true
-same_shape Padded Padded = true
+same_shape Eisa Eisa = true
 same_shape (Word one) (Word other) = list_number one == list_number other
 same_shape one other = false
 

@@ -1,7 +1,8 @@
 //! Texts of printable ASCII, read up to a byte that stops them.
 #![tactic(auto)]
 
-ghost use Rattle.std.specs.Prelude.{◌≡◌, ◌++◌, ◌∷◌, []};
+ghost use Rattle.std.specs.Prelude.{◌≡◌, ◌++◌, ◌∷◌, [], not};
+ghost use Rattle.std.specs.List.{position};
 ghost use Rattle.uefi_text.specs.UnitBytes.{unit_bytes};
 ghost use Rattle.uefi_node_reader.specs.Counted.{pushed};
 ghost use Rattle.uefi_node_reader.specs.FieldReading.{clear_run, is_clear};
@@ -24,6 +25,21 @@ fn is_clear(stop: u8, byte: u8) -> bool
     ensures { result ≡ is_clear stop byte }
 {
     byte >= 0x20 && byte < 0x7f && byte != stop
+}
+
+/// The place of the first byte that stops a text.
+fn find_end(stop: u8, text: &[u8]) -> Option<usize>
+    ensures { result ≡ position (λ c. not (is_clear stop c)) text.now }
+{
+    text.iter().position(|byte| !is_clear(stop, *byte))
+}
+
+/// The bytes of a text before one that stops it, and those from it on.
+pub(crate) fn cut_clear(stop: u8, text: &[u8]) -> (&[u8], &[u8])
+    ensures { (result.0.now, result.1.now) ≡ clear_run stop text.now }
+{
+    let end = find_end(stop, text).unwrap_or(text.len());
+    text.split_at(end)
 }
 
 /// Puts all bytes before one that stops them after `len` others. Returns how many bytes these are, and what

@@ -1,9 +1,9 @@
 //! Fields of nodes read from their texts.
 #![tactic(auto)]
 
-ghost use Rattle.std.specs.Prelude.{◌≡◌, ◌+◌, ◌^◌, ◌≤◌, IsTrue, length, map, if◌then◌else◌};
+ghost use Rattle.std.specs.Prelude.{◌≡◌, ◌+◌, ◌*◌, ◌^◌, ◌<◌, ◌≤◌, IfSome, IsTrue, length, map, if◌then◌else◌};
 ghost use Rattle.std.specs.Option.{option_and_then, option_map};
-ghost use Rattle.uefi_node_reader.specs.FieldReading.{as_bytes, byte_read, bytes_read, default_read, field_read, low_bytes, next_read, turned};
+ghost use Rattle.uefi_node_reader.specs.FieldReading.{as_bytes, byte_read, bytes_read, default_read, eisa_read, field_read, letter_of, letters_read, low_bytes, next_read, turned};
 ghost use Rattle.uefi_node_reader.specs.WordReading.{after, word_read};
 ghost use Rattle.uefi_node_table.specs.Words.{as_word, words_of};
 ghost use Rattle.uefi_node_table.specs.Fields.{fits_shape};
@@ -148,6 +148,58 @@ fn next_into<'a>(found: &mut [u8], text: &'a [u8]) -> Option<&'a [u8]>
     Some(rest)
 }
 
+/// The five bits that a letter of an ID stands for, or 32.
+fn letter_of(byte: u8) -> u64
+    ensures { result ≡ letter_of byte }
+{
+    match byte {
+        b'@'..=b'_' => u64::from(byte - b'@'),
+        _ => 32,
+    }
+}
+
+/// The 15 bits of three letters, and what stands after them.
+fn letters(text: &[u8]) -> Option<(u64, &[u8])>
+    ensures letters { option_map (λ x. (x.0, x.1.now)) result ≡ letters_read text.now }
+    ensures small { IfSome result (λ x. x.0 < 32768) }
+{
+    let [first, second, third, rest @ ..] = text else {
+        return None;
+    };
+    let (first, second, third) = (letter_of(*first), letter_of(*second), letter_of(*third));
+    if first >= 32 || second >= 32 || third >= 32 {
+        return None;
+    }
+    Some((first * 1024 + second * 32 + third, rest))
+}
+
+/// The ID of EISA, or 0, that a text begins with, and what stands after it.
+fn eisa(text: &[u8]) -> Option<(u64, &[u8])>
+    ensures { option_map (λ x. (x.0, x.1.now)) result ≡ eisa_read text.now }
+{
+    if let Some(rest) = after(b"0", text) {
+        return Some((0, rest));
+    }
+    let (letters, rest) = letters(text)?;
+    let (high, rest) = byte(rest)?;
+    let (low, rest) = byte(rest)?;
+    let id = letters + (u64::from(high) * 256 + u64::from(low)) * 65536;
+    if id == 0 {
+        return None;
+    }
+    Some((id, rest))
+}
+
+/// Fills a buffer with the bytes of such an ID. Returns what stands after it.
+fn eisa_into<'a>(found: &mut [u8], text: &'a [u8]) -> Option<&'a [u8]>
+    ensures { option_map (λ x. (found.new, x.now)) result
+        ≡ option_and_then (as_bytes (length found.old)) (eisa_read text.now) }
+{
+    let (value, rest) = eisa(text)?;
+    put_low(found, value);
+    Some(rest)
+}
+
 /// The number of the word that a text begins with, and what stands after it.
 fn word<'a>(words: &[Word], text: &'a [u8]) -> Option<(u64, &'a [u8])>
     ensures { option_map (λ x. (x.0, x.1.now)) result ≡ word_read (map as_word words.now) text.now }
@@ -193,7 +245,7 @@ pub(crate) fn read_value<'a>(shape: Shape, found: &mut [u8], text: &'a [u8]) -> 
         Shape::Forth => fill(&[], found, text),
         Shape::Dashed => fill_back(b"-", found, text),
         Shape::Next => next_into(found, text),
-        Shape::Padded => None,
+        Shape::Eisa => eisa_into(found, text),
         Shape::Word(words) => word_into(words, found, text),
     }
 }

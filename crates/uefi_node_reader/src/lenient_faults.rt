@@ -120,7 +120,7 @@ fn expected_field(shape: Shape, width: usize) -> Expected
         Shape::Forth => Expected::Digits(width * 2),
         Shape::Dashed => Expected::DashedDigits(width * 2),
         Shape::Next => Expected::NumberFromOne(256),
-        Shape::Padded => Expected::AsPrinted,
+        Shape::Eisa => Expected::AsPrinted,
         Shape::Word(words) => expected_word(words),
     }
 }

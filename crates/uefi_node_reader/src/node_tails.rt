@@ -4,14 +4,14 @@
 
 ghost use Rattle.std.specs.List.{list_all};
 ghost use Rattle.std.specs.Option.{option_and_then, option_map};
-ghost use Rattle.std.specs.Prelude.{◌≡◌, ◌≤◌, IsTrue, length, map};
+ghost use Rattle.std.specs.Prelude.{◌≡◌, ◌≤◌, ◌∷◌, [], IsTrue, length, map};
 ghost use Rattle.std.proofs.Math.ListN.{replicate};
 ghost use Rattle.uefi_node_table.specs.Rows.{as_item, as_piece, is_within};
 ghost use Rattle.uefi_node_reader.specs.Counted.{pushed, put_on};
-ghost use Rattle.uefi_node_reader.specs.FieldReading.{comma_read, run_read};
-ghost use Rattle.uefi_node_reader.specs.TableReading.{list_read, piece_put, pieces_put, tail_read};
+ghost use Rattle.uefi_node_reader.specs.FieldReading.{clear_run, comma_read, run_read};
+ghost use Rattle.uefi_node_reader.specs.TableReading.{as_padded, ids_read, list_read, piece_put, pieces_put, tail_read};
 
-use crate::clear_texts::{first_of, push_clear, push_clear_name, push_clear_units};
+use crate::clear_texts::{cut_clear, first_of, push_clear, push_clear_name, push_clear_units};
 use crate::counted_bytes::{push, push_all};
 use crate::fields::{after, byte, read_value};
 use uefi_node_table::rows::{Item, Piece, Tail};
@@ -116,6 +116,48 @@ fn push_items<'a>(
     Some((count, rest))
 }
 
+/// Puts a text and zeros after it, 32 bytes in all.
+fn push_padded<'a>(
+    places: &mut [u8],
+    len: usize,
+    stop: u8,
+    text: &'a [u8],
+) -> Option<(usize, &'a [u8])>
+    ensures { option_map (λ x. ((places.new, x.0), x.1.now)) result
+        ≡ option_and_then (put_on (places.old, len)) (as_padded (clear_run stop text.now)) }
+{
+    let (name, rest) = cut_clear(stop, text);
+    let spare = 32usize.checked_sub(name.len())?;
+    let len = push_all(places, len, name);
+    Some((push_all(places, len, &[0; 32][..spare]), rest))
+}
+
+/// Puts a string and a zero after it.
+fn push_string(places: &mut [u8], len: usize, string: &[u8]) -> usize
+    ensures { (places.new, result) ≡ pushed (pushed (places.old, len) string.now) (0 ∷ []) }
+{
+    let len = push_all(places, len, string);
+    push(places, len, 0)
+}
+
+/// Puts the strings of the IDs of a device in the order in which they lie.
+fn push_ids<'a>(
+    places: &mut [u8],
+    len: usize,
+    stop: u8,
+    text: &'a [u8],
+) -> Option<(usize, &'a [u8])>
+    ensures { option_map (λ x. ((places.new, x.0), x.1.now)) result
+        ≡ option_and_then (put_on (places.old, len)) (ids_read stop text.now) }
+{
+    let (hid, rest) = cut_clear(b',', text);
+    let (cid, rest) = cut_clear(b',', after(b",", rest)?);
+    let (uid, rest) = cut_clear(stop, after(b",", rest)?);
+    let len = push_string(places, len, hid);
+    let len = push_string(places, len, uid);
+    Some((push_string(places, len, cid), rest))
+}
+
 /// Puts the data after the fixed part, which a text begins with before `close`, after `len` other bytes, as
 /// many as there is room for. Returns how many bytes these are, and what stands after the data.
 pub(crate) fn push_tail<'a>(
@@ -134,6 +176,8 @@ pub(crate) fn push_tail<'a>(
         Tail::Text => Some(push_clear(places, len, first_of(close), text)),
         Tail::Utf16 => Some(push_clear_units(places, len, first_of(close), text)),
         Tail::Name => Some(push_clear_name(places, len, first_of(close), text)),
+        Tail::Padded => push_padded(places, len, first_of(close), text),
+        Tail::Ids => push_ids(places, len, first_of(close), text),
         Tail::Repeated(items) => push_items(places, len, &item_of(items), text),
     }
 }

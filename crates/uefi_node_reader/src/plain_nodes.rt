@@ -15,17 +15,12 @@ use crate::text_node::TextNode;
 use uefi_node_table::printing::has_form;
 use uefi_node_table::rows::Tail;
 
-/// Whether a node is printed in a form of its own that no row of the table says, by how many bytes of data
-/// it has.
-fn is_irregular(device_type: u8, sub_type: u8, len: usize) -> bool
+/// Whether a node of this many bytes of data is printed as the name of a file.
+fn is_file(device_type: u8, sub_type: u8, len: usize) -> bool
     ensures { (content : List ℕ) → len ≡ length content
         → result ≡ is_irregular false (node_with device_type sub_type content) }
 {
-    match (device_type, sub_type) {
-        (4, 4) => len % 2 == 0,
-        (2, 2) => 15 <= len,
-        _ => false,
-    }
+    device_type == 4 && sub_type == 4 && len % 2 == 0
 }
 
 /// Whether a node has no form of its own, and may stand in a path without ending an instance.
@@ -33,7 +28,7 @@ fn is_plain(node: &TextNode<'_>) -> bool
     ensures { result ≡ is_plain (text_node node.now) }
 {
     let (device_type, sub_type) = node.types();
-    if is_irregular(device_type, sub_type, node.data_len()) {
+    if is_file(device_type, sub_type, node.data_len()) {
         return false;
     }
     if has_form(false, device_type, sub_type, node.head()) {

@@ -15,6 +15,7 @@ use crate::counted_bytes::push_all;
 use crate::fields::put_low;
 use crate::table_reader::fixed_part;
 use crate::text_node::TextNode;
+use uefi_field_texts::ids::eisa_bits;
 use uefi_node_table::printing::{form_of, number_of};
 use uefi_node_table::rows::{Items, Mode, Piece, Row, Shape, Tail};
 use uefi_node_table::words::{Word, suits, words_of};
@@ -44,6 +45,10 @@ fn put_kept(piece: &Piece, fixed: &[u8], content: &mut [u8])
         Shape::Word(words) => {
             let number = word_number(words_of(words), number_of(value));
             put_low(&mut content[from..to], number);
+        }
+        Shape::Eisa => {
+            let id = eisa_bits(number_of(value) as u32);
+            put_low(&mut content[from..to], u64::from(id));
         }
         _ => {
             push_all(content, from, value);

@@ -1,13 +1,13 @@
 -- No text of the table holds a character that texts escape.
-use Rattle.std.proofs.Common.{◌≡◌, ℕ, ◌+◌, ◌==◌, ◌&&◌, Bool, true, false, if◌then◌else◌, List, [], ◌∷◌, ◌++◌, codes, drop, refl}
+use Rattle.std.proofs.Common.{◌≡◌, ℕ, ◌+◌, ◌==◌, ◌&&◌, Bool, true, false, if◌then◌else◌, List, [], ◌∷◌, ◌++◌, codes, drop, take, refl}
 use Rattle.std.proofs.lemmas.Bool.{and_parts}
 use Rattle.std.specs.Prelude.{All, Option, Some, None}
 use Rattle.std.specs.Fmt.{decimal}
 use Rattle.std.specs.List.{flat_map, list_all}
 use Rattle.std.proofs.lemmas.List.Elements.{All-drop}
 use Rattle.uefi_text.specs.Packed.{IsByte, little_endian}
-use Rattle.uefi_field_texts.specs.FieldTexts.{until_nul}
-use Rattle.uefi_field_texts.specs.ShownTexts.{AsciiShown, BytesShown, IsShown, JoinedShown, NumbersShown, UnitsShown, is_printable}
+use Rattle.uefi_field_texts.specs.FieldTexts.{cid_string, hid_string, id_strings_text, shown_bytes, uid_string, until_nul}
+use Rattle.uefi_field_texts.specs.ShownTexts.{AsciiShown, BytesShown, IsShown, JoinedShown, NamesShown, NumbersShown, UnitsShown, is_printable}
 use Rattle.uefi_node_table.specs.Fields.{field_text}
 use Rattle.uefi_node_table.specs.Rows.{Form, Piece, form_text, item_of, item_text, items_of, matches, pieces_text, tail_text, value_at}
 use Rattle.uefi_node_table.specs.ShownTexts.{TableShown}
@@ -16,9 +16,9 @@ use Rattle.uefi_node_table.specs.Words.{Word, suits, word_text, words_of}
 use Rattle.uefi_node_table.specs.declared.rows.Items.{Items}
 use Rattle.uefi_node_table.specs.declared.rows.Items.TheVariants.{Ipv4, Ipv6, Numbers}
 use Rattle.uefi_node_table.specs.declared.rows.Shape.{Shape}
-use Rattle.uefi_node_table.specs.declared.rows.Shape.TheVariants.{Back, Dashed, Decimal, Forth, Hexadecimal, Next, OrDefault, Padded, Word as AWord}
+use Rattle.uefi_node_table.specs.declared.rows.Shape.TheVariants.{Back, Dashed, Decimal, Forth, Hexadecimal, Next, OrDefault, Eisa, Word as AWord}
 use Rattle.uefi_node_table.specs.declared.rows.Tail.{Tail}
-use Rattle.uefi_node_table.specs.declared.rows.Tail.TheVariants.{Bytes, Name, Nothing, Repeated, Text, Utf16}
+use Rattle.uefi_node_table.specs.declared.rows.Tail.TheVariants.{Bytes, Ids, Name, Nothing, Padded, Repeated, Text, Utf16}
 use Rattle.uefi_node_table.specs.declared.words.Words.{Words}
 use Rattle.uefi_node_table.specs.declared.words.Words.TheVariants.{Digests, Login, Parity, Protocol, StopBits}
 use Rattle.uefi_node_table.proofs.Forms.{found}
@@ -59,7 +59,7 @@ items_clean Numbers = refl
 items_clean Ipv4 = refl
 items_clean Ipv6 = refl
 
-module _ (joined : JoinedShown) (ascii : AsciiShown) (numbers : NumbersShown) (bytes_are : BytesShown) (units : UnitsShown) where
+module _ (joined : JoinedShown) (ascii : AsciiShown) (numbers : NumbersShown) (bytes_are : BytesShown) (names : NamesShown) (units : UnitsShown) where
   none : IsShown []
   none = ascii [] refl
 
@@ -86,7 +86,7 @@ module _ (joined : JoinedShown) (ascii : AsciiShown) (numbers : NumbersShown) (b
   field_shown Forth bytes = (bytes_are bytes).0
   field_shown Dashed bytes = (bytes_are bytes).2
   field_shown Next bytes = (numbers (little_endian bytes + 1)).0
-  field_shown Padded bytes = (bytes_are (until_nul bytes)).4
+  field_shown Eisa bytes = (names (little_endian bytes) 0).0
   field_shown (AWord words) bytes = word_shown (words_of words) (words_clean words) (little_endian bytes)
 
   pieces_shown : (pieces : List Piece) → list_all ends_clean pieces ≡ true → (content : List ℕ) → IsShown (pieces_text pieces content)
@@ -107,12 +107,26 @@ module _ (joined : JoinedShown) (ascii : AsciiShown) (numbers : NumbersShown) (b
       (joined item.start (pieces_text item.pieces chunk) (ascii item.start (starts_clean items)) (pieces_shown item.pieces (items_clean items) chunk))
       (list_shown items chunks)
 
+  ids_shown : (bytes : List ℕ) → IsShown (id_strings_text bytes)
+  unfolding id_strings_text
+  ids_shown bytes =
+      let text : List ℕ → List ℕ = λ string. shown_bytes string in
+      let hid = hid_string bytes in
+      let cid = cid_string bytes in
+      let uid = uid_string bytes in
+      let comma = ascii (codes ",") refl in
+      joined (text hid) (codes "," ++ (text cid ++ (codes "," ++ text uid))) (bytes_are hid).4
+      (joined (codes ",") (text cid ++ (codes "," ++ text uid)) comma
+      (joined (text cid) (codes "," ++ text uid) (bytes_are cid).4 (joined (codes ",") (text uid) comma (bytes_are uid).4)))
+
   tail_shown : (tail : Tail) (bytes : List ℕ) → All IsByte bytes → IsShown (tail_text tail bytes)
   tail_shown Nothing bytes h = none
   tail_shown Bytes bytes h = (bytes_are bytes).3
   tail_shown Text bytes h = (bytes_are bytes).4
   tail_shown Utf16 bytes h = units bytes h
   tail_shown Name bytes h = (bytes_are (until_nul bytes)).4
+  tail_shown Padded bytes h = (bytes_are (until_nul (take 32 bytes))).4
+  tail_shown Ids bytes h = ids_shown bytes
   tail_shown (Repeated items) bytes h = list_shown items (items_of (item_of items).size bytes)
 
   form_shown : (form : Form) → is_clean form ≡ true → (content : List ℕ) → All IsByte content → IsShown (form_text form content)

@@ -2,10 +2,10 @@
 use Rattle.std.specs.Prelude.{ℕ, ◌+◌, nat_le, Bool, true, ◌==◌, ◌&&◌, if◌then◌else◌, List, codes}
 use Rattle.std.specs.Fmt.{decimal}
 use Rattle.uefi_text.specs.Packed.{little_endian}
-use Rattle.uefi_field_texts.specs.FieldTexts.{dashed_back, hex, hex_back, hex_bytes, shown_bytes, until_nul}
+use Rattle.uefi_field_texts.specs.FieldTexts.{dashed_back, hex, hex_back, hex_bytes, eisa_text}
 use Rattle.uefi_node_table.specs.Words.{word_text, words_of}
 use Rattle.uefi_node_table.specs.declared.rows.Shape.{Shape}
-use Rattle.uefi_node_table.specs.declared.rows.Shape.TheVariants.{Hexadecimal, Decimal, OrDefault, Back, Forth, Dashed, Next, Padded, Word}
+use Rattle.uefi_node_table.specs.declared.rows.Shape.TheVariants.{Hexadecimal, Decimal, OrDefault, Back, Forth, Dashed, Next, Eisa, Word}
 
 -- a number in decimal, or a word in place of 0
 abbrev pub default_text : ℕ → List ℕ
@@ -20,7 +20,7 @@ field_text Back bytes = hex_back bytes
 field_text Forth bytes = hex_bytes bytes
 field_text Dashed bytes = dashed_back bytes
 field_text Next bytes = hex (little_endian bytes + 1)
-field_text Padded bytes = shown_bytes (until_nul bytes)
+field_text Eisa bytes = eisa_text (little_endian bytes)
 field_text (Word words) bytes = word_text (words_of words) (little_endian bytes)
 
 -- the test for a width that a field may have: one to eight bytes where it is a number
@@ -32,5 +32,5 @@ fits_shape Back width = true
 fits_shape Forth width = true
 fits_shape Dashed width = true
 fits_shape Next width = width == 1
-fits_shape Padded width = true
+fits_shape Eisa width = width == 4
 fits_shape (Word words) width = nat_le 1 width && nat_le width 8

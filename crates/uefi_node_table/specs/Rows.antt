@@ -1,15 +1,15 @@
 -- The forms of nodes: how each is printed (UEFI Specification 2.10, section 10.6.1).
 use Rattle.std.specs.Borrow.{Bor}
-use Rattle.std.specs.Prelude.{ℕ, ◌+◌, ◌/◌, Bool, true, false, nat_le, ◌==◌, ◌&&◌, if◌then◌else◌, List, [], ◌∷◌, ◌++◌, length, drop, slice_range, slice_index, map, Option, Some, None}
+use Rattle.std.specs.Prelude.{ℕ, ◌+◌, ◌/◌, Bool, true, false, nat_le, ◌==◌, ◌&&◌, if◌then◌else◌, List, [], ◌∷◌, ◌++◌, length, drop, take, slice_range, slice_index, map, Option, Some, None}
 use Rattle.std.specs.List.{flat_map, list_all}
 use Rattle.std.specs.Simd.{first_chunks}
-use Rattle.uefi_field_texts.specs.FieldTexts.{comma_bytes, shown_bytes, until_nul, utf16_text}
+use Rattle.uefi_field_texts.specs.FieldTexts.{comma_bytes, id_strings_text, shown_bytes, until_nul, utf16_text}
 use Rattle.uefi_node_table.specs.Fields.{field_text, fits_shape}
 use Rattle.uefi_node_table.specs.declared.rows.Mode.{Mode}
 use Rattle.uefi_node_table.specs.declared.rows.Mode.TheVariants.{Read, Printed, Display}
 use Rattle.uefi_node_table.specs.declared.rows.Shape.{Shape}
 use Rattle.uefi_node_table.specs.declared.rows.Tail.{Tail}
-use Rattle.uefi_node_table.specs.declared.rows.Tail.TheVariants.{Nothing, Bytes, Text, Utf16, Name, Repeated}
+use Rattle.uefi_node_table.specs.declared.rows.Tail.TheVariants.{Nothing, Bytes, Text, Utf16, Name, Padded, Ids, Repeated}
 use Rattle.uefi_node_table.specs.declared.rows.PieceOf.{PieceOf}
 use Rattle.uefi_node_table.specs.declared.rows.RowOf.{RowOf}
 use Rattle.uefi_node_table.specs.declared.rows.ItemOf.{ItemOf}
@@ -134,6 +134,8 @@ tail_text Bytes bytes = comma_bytes bytes
 tail_text Text bytes = shown_bytes bytes
 tail_text Utf16 bytes = utf16_text bytes
 tail_text Name bytes = shown_bytes (until_nul bytes)
+tail_text Padded bytes = shown_bytes (until_nul (take 32 bytes))
+tail_text Ids bytes = id_strings_text bytes
 tail_text (Repeated items) bytes = list_text (item_of items) bytes
 
 -- the text of a node of a form, by its data

@@ -4,9 +4,9 @@
 ghost use Rattle.std.specs.Fmt.{WritesInCalls};
 ghost use Rattle.std.specs.List.{list_all};
 ghost use Rattle.std.specs.Option.{option_map};
-ghost use Rattle.std.specs.Prelude.{◌≡◌, ◌+◌, ◌^◌, ◌<◌, ◌≤◌, [], if◌then◌else◌, IsTrue, length, map, nat_le, slice_index};
+ghost use Rattle.std.specs.Prelude.{◌≡◌, ◌+◌, ◌^◌, ◌<◌, ◌≤◌, [], if◌then◌else◌, IsTrue, length, map, nat_le, slice_index, take};
 ghost use Rattle.uefi_text.specs.Packed.{little_endian};
-ghost use Rattle.uefi_field_texts.specs.FieldTexts.{hex};
+ghost use Rattle.uefi_field_texts.specs.FieldTexts.{eisa_text, hex, shown_bytes, until_nul};
 ghost use Rattle.uefi_node_table.specs.Fields.{default_text, field_text, fits_shape};
 ghost use Rattle.uefi_node_table.specs.Rows.{as_form, as_item, as_piece, begin_with_kind, find_form, form_text, has_bytes, have_one_kind, is_laid_out, is_used, is_within, item_text, list_text, matches, piece_text, pieces_text, tail_text};
 ghost use Rattle.uefi_node_table.specs.Table.{forms, has_form, table_text};
@@ -15,6 +15,7 @@ use crate::rows::{Item, Mode, Piece, Row, Shape, Tail};
 use crate::table::{GROUPS, group, item_of};
 use crate::words::{word_for, words_of};
 use uefi_field_texts::hexadecimal::{put_back, put_bytes, put_comma_bytes, put_dashed_back};
+use uefi_field_texts::ids::{put_eisa_id, put_id_strings};
 use uefi_field_texts::shown_texts::{put_byte_text, put_utf16_text, until_nul};
 use uefi_text::number_texts::put_digits;
 use uefi_text::text_sink::TextSink;
@@ -51,6 +52,14 @@ fn put_next<S: TextSink>(sink: &mut S, bytes: &[u8])
     put_digits(sink, number_of(bytes) + 1, 16);
 }
 
+/// Puts an ID of EISA.
+fn put_eisa<S: TextSink>(sink: &mut S, bytes: &[u8])
+    requires { length bytes.now ≡ 4 }
+    ensures { WritesInCalls S.puts sink.old (eisa_text (little_endian bytes.now)) sink.new }
+{
+    put_eisa_id(sink, "", number_of(bytes) as u32);
+}
+
 /// Puts the bytes of a field.
 fn put_value<S: TextSink>(sink: &mut S, shape: Shape, bytes: &[u8])
     requires { IsTrue (fits_shape shape (length bytes.now)) }
@@ -64,7 +73,7 @@ fn put_value<S: TextSink>(sink: &mut S, shape: Shape, bytes: &[u8])
         Shape::Forth => put_bytes(sink, "", bytes),
         Shape::Dashed => put_dashed_back(sink, bytes),
         Shape::Next => put_next(sink, bytes),
-        Shape::Padded => put_byte_text(sink, "", until_nul(bytes)),
+        Shape::Eisa => put_eisa(sink, bytes),
         Shape::Word(words) => sink.put_str(word_for(words_of(words), number_of(bytes))),
     }
 }
@@ -112,6 +121,13 @@ fn put_list<S: TextSink>(sink: &mut S, item: &Item, bytes: &[u8])
     }
 }
 
+/// Puts a text of bytes up to a zero, in 32 bytes.
+fn put_padded<S: TextSink>(sink: &mut S, bytes: &[u8])
+    ensures { WritesInCalls S.puts sink.old (shown_bytes (until_nul (take 32 bytes.now))) sink.new }
+{
+    put_byte_text(sink, "", until_nul(&bytes[..bytes.len().min(32)]));
+}
+
 /// Puts the data after the fixed part.
 fn put_tail<S: TextSink>(sink: &mut S, tail: Tail, bytes: &[u8])
     ensures { WritesInCalls S.puts sink.old (tail_text tail bytes.now) sink.new }
@@ -122,6 +138,8 @@ fn put_tail<S: TextSink>(sink: &mut S, tail: Tail, bytes: &[u8])
         Tail::Text => put_byte_text(sink, "", bytes),
         Tail::Utf16 => put_utf16_text(sink, bytes),
         Tail::Name => put_byte_text(sink, "", until_nul(bytes)),
+        Tail::Padded => put_padded(sink, bytes),
+        Tail::Ids => put_id_strings(sink, bytes),
         Tail::Repeated(items) => put_list(sink, &item_of(items), bytes),
     }
 }

@@ -20,8 +20,8 @@ pub enum Shape {
     Dashed,
     /// The number after that of a byte, in hexadecimal: of the first, 0, it is 1.
     Next,
-    /// A text of bytes up to a zero, or all of them.
-    Padded,
+    /// An ID of EISA, in four bytes.
+    Eisa,
     /// A word that stands for a number.
     Word(Words),
 }
@@ -53,6 +53,11 @@ pub enum Tail {
     Utf16,
     /// A text of bytes up to a zero.
     Name,
+    /// A text of bytes up to a zero, in 32 bytes.
+    Padded,
+    /// The strings of the IDs of a device that ACPI names: they lie as `_HID`, `_UID` and `_CID`, each up to
+    /// a zero, and `_CID` stands before `_UID`.
+    Ids,
     /// Items of a list, as many as there are whole ones.
     Repeated(Items),
 }

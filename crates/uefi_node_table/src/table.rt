@@ -142,7 +142,7 @@ const HARDWARE: &[Row] = &[
     row!(1 6 Read 9 [] [] "BMC(0x" [Hexadecimal 0 1 ",0x"] [Hexadecimal 1 8 ")"] Nothing ""),
 ];
 
-/// Nodes of type ACPI that name a device by two numbers.
+/// Nodes of type ACPI that name devices.
 #[rattlefmt::skip]
 const ACPI: &[Row] = &[
     row!(2 1 Read 8 [0 = 0xd0, 1 = 0x41, 2 = 0x03, 3 = 0x0a] [] "PciRoot(0x" [Hexadecimal 4 4 ")"]
@@ -159,6 +159,7 @@ const ACPI: &[Row] = &[
         [Hexadecimal 4 4 ")"] Nothing ""),
     row!(2 1 Read 8 [0 = 0xd0, 1 = 0x41] [] "Acpi(PNP" [Back 2 2 ",0x"] [Hexadecimal 4 4 ")"] Nothing
         ""),
+    row!(2 2 Read 12 + 3 [] [] "AcpiEx(" [Eisa 0 4 ","] [Eisa 8 4 ",0x"] [Hexadecimal 4 4 ","] Ids ")"),
     row!(2 3 Read 4 [] [] "AcpiAdr(0x" [Hexadecimal 0 4 ""] Repeated Numbers ")"),
     row!(2 1 Read 8 [] [] "Acpi(0x" [Back 0 4 ",0x"] [Hexadecimal 4 4 ")"] Nothing ""),
 ];
@@ -306,7 +307,7 @@ const MESSAGING: &[Row] = &[
     row!(3 23 Read 12 [] [] "NVMe(0x" [Hexadecimal 0 4 ","] [Dashed 4 8 ")"] Nothing ""),
     row!(3 19 Read 14 [] [] "iSCSI(" Name ",0x" [Hexadecimal 12 2 ",0x"] [Forth 4 8 ","]
         [Word Digests 2 1] [Word Login 3 1] [Word Protocol 0 2]),
-    row!(3 28 Printed 32 [] [] "Wi-Fi(" [Padded 0 32 ")"] Nothing ""),
+    row!(3 28 Read 0 + 32 [] [] "Wi-Fi(" Padded ")"),
     row!(3 24 Read 0 [] [] "Uri(" Text ")"),
     row!(3 25 Read 2 [] [] "UFS(0x" [Hexadecimal 0 1 ",0x"] [Hexadecimal 1 1 ")"] Nothing ""),
     row!(3 26 Read 1 [] [] "SD(0x" [Hexadecimal 0 1 ")"] Nothing ""),

@@ -18,9 +18,9 @@ returns-then-has_form c =
     let node : Node = text_node c.args.node.now in
     let kind : ℕ = c.types-device_type.result.0 in
     let sub_kind : ℕ = c.types-device_type.result.1 in
-    no (not (eqb kind 0x7f)) ∙ (λ i. not (eqb kind 0x7f) && (not (sym c.if-is_irregular.false i || sym c.if-has_form.true i) && true))
+    no (not (eqb kind 0x7f)) ∙ (λ i. not (eqb kind 0x7f) && (not (sym c.if-is_file.false i || sym c.if-has_form.true i) && true))
     ∙ plain_shown node kind sub_kind c.types-device_type.ensures.device_type c.types-device_type.ensures.sub_type
-    c.is_irregular.result c.has_form.result (c.is_irregular.ensures node.content c.data_len.ensures.count)
+    c.is_file.result c.has_form.result (c.is_file.ensures node.content c.data_len.ensures.count)
     (c.has_form.ensures ∙ ap (λ (l : List ℕ). has_form false kind sub_kind l) c.head.ensures)
     (omega (arith, c.data_len.ensures.fits, c.data_len.ensures.count))
 
@@ -29,8 +29,8 @@ returns c =
     let node : Node = text_node c.args.node.now in
     let kind : ℕ = c.types-device_type.result.0 in
     let sub_kind : ℕ = c.types-device_type.result.1 in
-    yes (not (eqb kind 0x7f)) ∙ (λ i. not (eqb kind 0x7f) && (not (sym c.if-is_irregular.false i || sym c.if-has_form.false i) && true))
+    yes (not (eqb kind 0x7f)) ∙ (λ i. not (eqb kind 0x7f) && (not (sym c.if-is_file.false i || sym c.if-has_form.false i) && true))
     ∙ plain_shown node kind sub_kind c.types-device_type.ensures.device_type c.types-device_type.ensures.sub_type
-    c.is_irregular.result c.has_form.result (c.is_irregular.ensures node.content c.data_len.ensures.count)
+    c.is_file.result c.has_form.result (c.is_file.ensures node.content c.data_len.ensures.count)
     (c.has_form.ensures ∙ ap (λ (l : List ℕ). has_form false kind sub_kind l) c.head.ensures)
     (omega (arith, c.data_len.ensures.fits, c.data_len.ensures.count))

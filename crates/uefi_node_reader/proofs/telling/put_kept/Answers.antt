@@ -16,4 +16,4 @@ returns-in_default c =
     put_is piece (value_at piece fixed) c.args.content.now c.push_all.new.places c.push_all.result wide
     (omega (arith, within, c.requires.same)) (omega (arith, within)) c.push_all.ensures
     ∙ ap (λ (v : List ℕ). put_at piece v c.args.content.now)
-    (kept_whole piece.shape c.in_default.not-Word (value_at piece fixed))
+    (kept_whole piece.shape c.in_default.not-Eisa c.in_default.not-Word (value_at piece fixed))
