@@ -591,7 +591,7 @@ nard_result NARD_CALL nard_device_path_append(nard_byte *buffer, nard_size room,
  * Adds the nodes of a text in UTF-8, for example
  *     PciRoot(0x0)/Pci(0x1F,0x2)/Sata(0x0,0xFFFF,0x0)
  * to the device path that a buffer begins with, before its end. The text is as nard_device_path_text writes it without
- * display_only and allow_shortcuts; AcpiEx and Wi-Fi are not read. A comma ends an instance.
+ * display_only and allow_shortcuts. A comma ends an instance.
  *
  * Returns NARD_OK, or the first of these that holds
  *   as nard_device_path_check of the buffer, *length too

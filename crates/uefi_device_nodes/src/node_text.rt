@@ -13,7 +13,7 @@ use crate::node::DevicePathNode;
 use crate::typed_node::TypedNode;
 use std::fmt;
 use uefi_field_texts::forms::{AllowShortcuts, DisplayOnly};
-use uefi_field_texts::hexadecimal::{put_comma_bytes, put_hex};
+use uefi_field_texts::hexadecimal::put_comma_bytes;
 use uefi_field_texts::ids::{has_uid_alone, put_eisa_id};
 use uefi_field_texts::shown_texts::{put_byte_text, put_utf16_text};
 use uefi_field_texts::vendor_names::vendor_name;

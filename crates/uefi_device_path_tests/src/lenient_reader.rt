@@ -101,7 +101,7 @@ pub(crate) const REFUSED: &str = "\
 0 9 PciRoot(0: `)` | 0 43 VenHw(12345678-9abc-def0-1234-56789abcdef0,): 2 hexadecimal digits | \
 11 18 PciRoot(0)/Pci(1,2,3): `)` | 0 14 Path(1,1,0102): a shorter node, or one whose text tells all of it | \
 0 6 File(a: `)` | 0 7 NVMe(1,0025385b71b0031c): 16 hexadecimal digits in pairs, with dashes between them | \
-2 3 ,,(: `)` | 0 0 Wi-Fi(home): a shorter node, or one whose text tells all of it | \
+2 3 ,,(: `)` | 0 0 wi-fi(home): the exact printed form | \
 0 45 VenHw(12345678-9abc-def0-1234-56789abcdef0,abc): `)` | 0 18 IPv4(1.2.3.4,TCP,Dynamic,0.0.0.0): `H` | \
 0 4 Pci(f,0): a number up to 0xFF | 0 14 Uart(9600,8,N,3): stop bits (D, 1, 1.5, 2 or x) and `)` | \
 12 20 pci root(0)/pci( 31 ; 2 ): `,` | 0 7 HD(128,0,1032547698badcfe0102030405060708,0x0,0x0): `M` | \

@@ -62,7 +62,7 @@ pub(crate) const REFUSED: &str = "\
 14 ,PciRoot(0x0),Pci(0x0,0x0)x,
 0 PciRoot(0x0)Pci(0x0,0x0) | /Pci(0x0,0x0) | PciRoot(0x00) | Acpi(PNP0A03,0x0) | Acpi(0x0A0341D0,0x0)
 0 Uart(0,8,N,1) | Uart(115200,8,N,1.6) | AcpiAdr(0x1,) | AcpiAdr() | Dns(8.8.8.8,) | Dns(8.8.8.256)
-0 Dns(8.8.8.8,0001:0000:0000:0000:0000:0000:0000:0001) | Uri(a)b) | Wi-Fi(home) | EFI | \\a\r
+0 Dns(8.8.8.8,0001:0000:0000:0000:0000:0000:0000:0001) | Uri(a)b) | AcpiEx(@@@0000,0,0x0,,,) | EFI | \\a\r
 0 SasEx(0x0000000000000001,0x0000000000000002,0x0,SAS,Internal,Direct,0x101) | \\\u{202e}fie.exe
 0 UsbWwid(0x1,0x2,0x3,\"\u{e9}\") | UsbWwid(0x1,0x2,0x3,\"a\"b\") | HD(01,MBR,0xA0B1C2D3,0x3F,0x1)
 0 Path(1,1,ABCD) | Path(127,1) | Path(256,0) | BBS(HD,disk) | BBS(0x2,disk,0x0) | BBS(HD,disk,0x01)

@@ -77,8 +77,8 @@ fn called<'s, 't>(scratch: &'s mut [u8], text: &'t [u8]) -> Option<(TextNode<'s>
 /// Specification 2.10, section 10.6.1). The name of a file may stand in `File(..)`, or without its first
 /// backslash where it has no `(`. Takes no memory but the buffer, for a copy of the call or of the name.
 ///
-/// Left to [`read_node`], and so read only as printed, are calls that hold texts (`Uri`, `UsbWwid`, `iSCSI`,
-/// `BBS`). The numbers of `AcpiAdr` after the first are as printed but for their case.
+/// Left to [`read_node`], and so read only as printed, are calls that hold texts (`Uri`, `UsbWwid`, `AcpiEx`,
+/// `iSCSI`, `Wi-Fi`, `BBS`). The numbers of `AcpiAdr` after the first are as printed but for their case.
 #[tactic(auto, unfolding(crate::specs::LenientNodes::lenient_read))]
 pub fn read_lenient_node<'s, 't: 's>(
     scratch: &'s mut [u8],
