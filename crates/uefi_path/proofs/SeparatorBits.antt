@@ -6,7 +6,7 @@ use Rattle.std.specs.Simd.Lanes.{mask_l}
 use Rattle.std.specs.Int.Count.{count_trailing_zeros}
 use Rattle.std.proofs.lemmas.Bool.{cases_Bool}
 use Rattle.std.proofs.lemmas.Simd.{mask_l-lt, trailing_mask_l}
-use Rattle.std.proofs.lemmas.List.{drop-drop, drop-take, length-drop, length-map, length-take, take-append-drop}
+use Rattle.std.proofs.lemmas.List.{append-nil, drop-drop, drop-take, length-drop, length-map, length-take, take-append-drop}
 use Rattle.uefi_path.specs.Separators.{is_separator, places_from}
 use Rattle.uefi_path.proofs.SeparatorPlaces.{places_from-no, places_from-yes}
 
@@ -133,4 +133,42 @@ lowest_cut us start end bits ordered within word is some =
           ∙ ap (λ n. drop (lowest + 1) (take n (drop start us))) count
           ∙ drop-take (lowest + 1) (end - (start + lowest + 1)) (drop start us)
           ∙ ap (take (end - (start + lowest + 1))) rest);
+    })
+
+-- where no bit is set, there is no separator
+pub none_in : (start : ℕ) (us : List ℕ) → mask_l (map is_separator us) ≡ 0 → places_from start us ≡ []
+none_in start us none = ap (places_from start) (sym (append-nil us)) ∙ none_ahead start us [] none
+
+-- what the lowest bit says of a block whose first unit has the place `base`, and whose units are left from `start` on
+pub record NextPlace (base start : ℕ) (us : List ℕ) (bits gap : ℕ) : Type 0 where
+  pub within : start + gap + 1 ≤ base + length us
+  pub places : places_from start (drop (start - base) us)
+      ≡ (start + gap) ∷ places_from (start + gap + 1) (drop (start + gap + 1 - base) us)
+  pub rest : bits / 2 ^ gap / 2 ≡ mask_l (map is_separator (drop (start + gap + 1 - base) us))
+
+pub next_place : (base start : ℕ) (us : List ℕ) (bits : ℕ) → length us ≤ 64 → base ≤ start
+    → bits ≡ mask_l (map is_separator (drop (start - base) us)) → 0 < bits
+    → NextPlace base start us bits (count_trailing_zeros 64 bits)
+next_place base start us bits word from is some =
+    let ahead = drop (start - base) us in
+    let gap = prefix_len (λ u. not (is_separator u)) ahead in
+    let size : length ahead ≡ length us - (start - base) = length-drop (start - base) us in
+    let set : 0 < mask_l (map is_separator ahead) = omega (arith, is, some) in
+    let first = first_ahead start ahead [] set in
+    let same : count_trailing_zeros 64 bits ≡ gap =
+    ap (count_trailing_zeros 64) is ∙ trailing_mask_l is_separator 64 ahead (omega (arith, size, word)) set in
+    let at : start - base + (gap + 1) ≡ start + gap + 1 - base = omega (arith, from) in
+    let rest : drop (gap + 1) ahead ≡ drop (start + gap + 1 - base) us = drop-drop (gap + 1) (start - base) us ∙ ap (λ n. drop n us) at in
+    subst (NextPlace base start us bits) (sym same) (record {
+      within = omega (arith, first.inside, size, from);
+      places =
+          ap (places_from start) (sym (append-nil ahead))
+          ∙ first.places
+          ∙ ap (λ vs. (start + gap) ∷ places_from (start + gap + 1) (drop (gap + 1) vs)) (append-nil ahead)
+          ∙ ap (λ vs. (start + gap) ∷ places_from (start + gap + 1) vs) rest;
+      rest =
+          ap (λ n. n / 2 ^ gap / 2) is
+          ∙ ap (λ n. n / 2) (bits-drop gap ahead)
+          ∙ bits-drop 1 (drop gap ahead)
+          ∙ ap (λ vs. mask_l (map is_separator vs)) (drop-drop 1 gap ahead ∙ rest);
     })

@@ -98,6 +98,16 @@ length-places start (u ∷ us) =
     [ true ↦ omega (arith, others) | false ↦ omega (arith, others) ]
     ∙ sym (sum_by-cons _ u us)
 
+pub length-places_from : (start : ℕ) (us : List ℕ) → length (places_from start us) ≡ count_by is_separator us
+length-places_from start [] = refl
+length-places_from start (u ∷ us) =
+    let others = length-places_from (start + 1) us in
+    let rest = places_from (start + 1) us in
+    elim (is_separator u)
+    as (λ b. length (if b then start ∷ rest else rest) ≡ (if b then 1 else 0) + count_by is_separator us)
+    [ true ↦ omega (arith, others) | false ↦ omega (arith, others) ]
+    ∙ sym (sum_by-cons _ u us)
+
 -- the places of both of two parts
 pub places_from-append : (start : ℕ) (us vs : List ℕ)
     → places_from start (us ++ vs) ≡ places_from start us ++ places_from (start + length us) vs

@@ -1,14 +1,13 @@
 -- What a push adds: one unit more of it is made.
-use Rattle.std.proofs.Common.{◌≡◌, ◌≢◌, ℕ, ◌+◌, ◌<◌, Bool, List, [], ◌∷◌, ◌++◌, length, get_or, take, drop, set, ap, sym, zero-add, ◌∙◌, arith, true, false, if◌then◌else◌}
-use Rattle.std.proofs.lemmas.List.{drop_at, map-append, take_more, take_more_set}
-use Rattle.std.proofs.lemmas.List.Elements.{All-append, All-cons}
-use Rattle.std.specs.List.{count_by}
+use Rattle.std.proofs.Common.{◌≡◌, ◌≢◌, ℕ, ◌+◌, ◌-◌, ◌<◌, ◌≤◌, List, ◌∷◌, [], ◌++◌, length, get_or, take, drop, set, ap, sym, zero-add, ◌∙◌, arith}
+use Rattle.std.specs.List.{slice_range}
+use Rattle.std.proofs.Math.Seq.{take-append-add}
+use Rattle.std.proofs.lemmas.List.{length-take-le, map-append, take-append-drop, take_at, take_more, take_more_set}
+use Rattle.std.proofs.lemmas.List.Elements.{All-append, All-drop, All-take}
 use Rattle.uefi_text.proofs.Texts.{IsText-replaced}
 use Rattle.uefi_text.specs.Units.{IsText, IsTextUnit, replaced}
-use Rattle.uefi_path.proofs.Pushing.{separator_is_plain, with_separators-plain}
-use Rattle.uefi_path.proofs.Splitting.{IsPlain-with_separators}
-use Rattle.uefi_path.specs.Separators.{IsPlain, becomes_separator, places_from, places_of, separator, slash, with_separators}
-use Rattle.uefi_path.proofs.SeparatorPlaces.{length-places, places_from-append}
+use Rattle.uefi_path.specs.Separators.{IsPlain, places_from, places_of, separator, slash, with_separators}
+use Rattle.uefi_path.proofs.SeparatorPlaces.{places_from-append}
 
 -- one unit more is written
 pub text_more : (tail us : List ℕ) (i : ℕ) → i < length tail → i < length us
@@ -27,34 +26,42 @@ IsTextUnit-separator = (omega arith, (omega arith, λ high. omega (arith, high.0
 pub IsText-with_separators : (us : List ℕ) → IsText us → IsText (with_separators us)
 IsText-with_separators us is_text = IsText-replaced slash separator us is_text IsTextUnit-separator
 
--- and so is all that is added
-pub IsText-tail : (us : List ℕ) (is_missing : Bool) → IsText us
-    → IsText (if is_missing then separator ∷ with_separators us else with_separators us)
-IsText-tail us true is_text =
-    All-cons IsTextUnit separator (with_separators us) IsTextUnit-separator (IsText-with_separators us is_text)
-IsText-tail us false is_text = IsText-with_separators us is_text
+pub IsText-part : (us : List ℕ) (start end : ℕ) → IsText us → IsText (with_separators (slice_range us start end))
+IsText-part us start end is_text =
+    IsText-with_separators (slice_range us start end)
+    (All-take IsTextUnit (end - start) (drop start us) (All-drop IsTextUnit start us is_text))
 
-pub IsPlain-tail : (us : List ℕ) (is_missing : Bool)
-    → IsPlain (if is_missing then separator ∷ with_separators us else with_separators us)
-IsPlain-tail us true =
-    All-cons (λ unit. unit ≢ slash) separator (with_separators us) separator_is_plain (IsPlain-with_separators us)
-IsPlain-tail us false = IsPlain-with_separators us
+-- a plain text with a plain block after it is plain, and has the places of the block's separators after its own
+pub block_added : (text places block new new_places : List ℕ) → IsPlain text → places ≡ places_of text → IsPlain block
+    → new ≡ text ++ block → new_places ≡ places ++ places_from (length text) block → IsPlain new × (new_places ≡ places_of new)
+block_added text places block new new_places plain all of_block is are =
+    rw is (
+      All-append (λ unit. unit ≢ slash) text block plain of_block,
+      are
+          ∙ ap (λ ps. ps ++ places_from (length text) block) all
+          ∙ ap (λ n. places_of text ++ places_from n block) (sym (zero-add (length text)))
+          ∙ sym (places_from-append 0 text block),
+    )
 
--- the text with what is added is plain, and has its places after those of the text
-pub tail_of_text : (text tail : List ℕ) (end : ℕ) → end ≡ length text → drop end (text ++ tail) ≡ tail
-tail_of_text text tail end last = drop_at text tail end (sym last)
+-- what is left of both where a text is cut back
+pub text_cut : (text places new new_places : List ℕ) (len count : ℕ) → IsPlain text → places ≡ places_of text
+    → count ≡ length (places_of (take len text)) → new ≡ take len text → new_places ≡ take count places
+    → IsPlain new × (new_places ≡ places_of new)
+text_cut text places new new_places len count plain all counted is are =
+    let front = places_of (take len text) in
+    let back = places_from (0 + length (take len text)) (drop len text) in
+    let both : places_of text ≡ front ++ back =
+    ap places_of (sym (take-append-drop len text)) ∙ places_from-append 0 (take len text) (drop len text) in
+    rw is (
+      All-take (λ unit. unit ≢ slash) len text plain,
+      are ∙ ap (take count) (all ∙ both) ∙ take_at front back count (sym counted),
+    )
 
-pub added_tail : (text tail places : List ℕ) (end : ℕ) → IsPlain text → IsPlain tail → places ≡ places_of text
-    → end ≡ length text → IsPlain (text ++ tail) × (places ++ places_from end (drop end (text ++ tail)) ≡ places_of (text ++ tail))
-added_tail text tail places end plain plain_tail all last = (
-  All-append (λ unit. unit ≢ slash) text tail plain plain_tail,
-  ap (λ us. places ++ places_from end us) (tail_of_text text tail end last)
-      ∙ ap (λ ps. ps ++ places_from end tail) all
-      ∙ ap (λ n. places_of text ++ places_from n tail) (last ∙ sym (zero-add (length text)))
-      ∙ sym (places_from-append 0 text tail),
-)
-
--- there are as many of them as were counted
-pub count_of_tail : (tail : List ℕ) (end : ℕ) → IsPlain tail → length (places_from end tail) ≡ count_by becomes_separator tail
-count_of_tail tail end plain =
-    ap (λ us. length (places_from end us)) (sym (with_separators-plain tail plain)) ∙ length-places end tail
+-- the units up to a place, and those after them up to another
+pub ranges_joined : (us : List ℕ) (start end : ℕ) → start ≤ end → start ≤ length us
+    → take start us ++ slice_range us start end ≡ take end us
+ranges_joined us start end ordered within =
+    let size : length (take start us) + (end - start) ≡ end = omega (arith, length-take-le start us within, ordered) in
+    sym (take-append-add (take start us) (drop start us) (end - start))
+    ∙ ap (take (length (take start us) + (end - start))) (take-append-drop start us)
+    ∙ ap (λ n. take n us) size

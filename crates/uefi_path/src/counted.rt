@@ -2,7 +2,7 @@
 //! program reads it, and it takes no memory.
 #![tactic(auto, unfolding(crate::specs::Views::counted_text, crate::specs::Views::reads_of))]
 
-ghost use Rattle.std.specs.Prelude.{◌≡◌, [], ℕ, ◌+◌, ◌<◌, ◌^◌, length, slice_index};
+ghost use Rattle.std.specs.Prelude.{◌≡◌, ℕ, ◌+◌, ◌<◌, ◌^◌, length, slice_index};
 ghost use Rattle.uefi_text.specs.Units.{IsText};
 ghost use Rattle.uefi_text.specs.Views.{text_of};
 
@@ -68,15 +68,6 @@ impl<'a> CountedUnits<'a> {
             units: text.units(),
             count: ReadCount::zero(),
         }
-    }
-
-    /// A view of no units, which stands in where another is moved out.
-    #[inline(always)]
-    pub(crate) fn empty() -> CountedUnits<'a>
-        ensures { counted_text result ≡ [] }
-    {
-        let count = ReadCount::zero();
-        CountedUnits { units: &[], count }
     }
 
     /// The number of units.

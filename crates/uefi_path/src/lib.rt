@@ -50,7 +50,7 @@ mod path;
 #[doc(hidden)]
 pub mod path_units;
 mod pathbuf;
-mod push_tails;
+mod push_blocks;
 mod separators;
 mod slashed;
 mod validation;

@@ -6,9 +6,9 @@ ghost use Rattle.uefi_path.specs.Components as pieces_joined;
 ghost use Rattle.uefi_path.specs.Parents.{all_but_last, parent_of_components, parent_text};
 ghost use Rattle.uefi_path.specs.Popping.{IsPopped};
 ghost use Rattle.uefi_path.specs.Runs.{GivesNoNulIn};
-ghost use Rattle.uefi_path.specs.Pushing.{IsPush, appended, needs_separator, pushed};
+ghost use Rattle.uefi_path.specs.Pushing.{IsPushNext, appended, needs_separator, pushed};
 ghost use Rattle.uefi_path.specs.Renaming.{IsExtended, IsRenamed, StartsName, dotted};
-ghost use Rattle.uefi_path.specs.Separators.{IsPlain, canonical, is_slash, is_separator, places_of, with_separators};
+ghost use Rattle.uefi_path.specs.Separators.{IsPlain, canonical, is_slash, is_separator, places_of, separator, with_separators};
 ghost use Rattle.uefi_path.specs.SuccessiveParents.{parent_chain, parents_of};
 ghost use Rattle.uefi_path.specs.Views.{components_left, path_text};
 ghost use Rattle.uefi_text.specs.Units.{IsText};
@@ -19,7 +19,7 @@ use crate::counted::CountedUnits;
 use crate::file_names::stem_len;
 use crate::path::Path;
 use crate::path_units::{last_component, others_end};
-use crate::push_tails::make_tail;
+use crate::push_blocks::{add_block, copy_units};
 use crate::separators::{add_places, count_separators, cut_last};
 use crate::written::write_all_but_last;
 use std::alloc::{AllocError, Allocator, Global};
@@ -111,13 +111,6 @@ pub(crate) fn copy_part<A: Allocator + Copy>(
     string.push_part(part)?;
     PathBuf::from_string(alloc, string)
 }
-
-/// How many units the room has in which a short text is made ready to be pushed: with a separator before it
-/// and the NUL after it.
-const ROOM: usize = 32;
-
-/// How many it has for a longer one. What is longer still is made in memory that it asks for.
-const LONG_ROOM: usize = 256;
 
 /// Replaces each slash of a string, of which it is known whether it has one.
 #[inline(always)]
@@ -365,57 +358,104 @@ impl<A: Allocator + Copy> PathBuf<A> {
             ≡ reads_of units.old + length (counted_text units.old)) }
         ensures at_most { reads_of units.new ≤ reads_of units.old + length (counted_text units.old) }
     {
-        let len = units.len();
-        if len == 0 {
+        if units.len() == 0 {
             return Ok(());
         }
-        if len + 1 < ROOM {
-            return self.push_made(&mut [0; ROOM], units);
+        let (len, count) = (self.string.num_chars(), self.places.len());
+        let done = self.push_all(units);
+        if done.is_err() {
+            self.cut_back(len, count);
         }
-        self.push_longer(units)
+        done
     }
 
-    /// What [`PathBuf::push_counted`] does for a longer text: a function of its own, since the compiler
-    /// clears the room as soon as a function begins.
-    #[inline(never)]
-    fn push_longer(&mut self, units: &mut CountedUnits<'_>) -> Result<(), AllocError>
-        requires { counted_text units.now ≢ [] }
-        ensures { IsPush self.old self.new units.old units.new result }
+    /// Adds a separator, if one is missing, and the units of a text, each slash replaced. Where memory is
+    /// refused, a part of this may have been added.
+    fn push_all(&mut self, units: &mut CountedUnits<'_>) -> Result<(), AllocError>
+        ensures ok { OnOk result (self.new ≡ appended self.old (with_separators (counted_text units.old))) }
+        ensures begins { take (length self.old) self.new ≡ self.old }
+        ensures text { counted_text units.new ≡ counted_text units.old }
+        ensures once { OnOk result (reads_of units.new
+            ≡ reads_of units.old + length (counted_text units.old)) }
+        ensures at_most { reads_of units.new ≤ reads_of units.old + length (counted_text units.old) }
     {
         let len = units.len();
-        if len + 1 < LONG_ROOM {
-            return self.push_made(&mut [0; LONG_ROOM], units);
+        self.push_separator(len)?;
+        let mut i = 0;
+        while i < len {
+            i = self.push_next(units, i)?;
         }
-        let Some(size) = len.checked_add(2) else {
-            return Err(AllocError);
-        };
-        let mut room = zeros(self.alloc(), size)?;
-        self.push_made(&mut room, units)
+        Ok(())
     }
 
-    /// Makes what a push of a text adds, in this room, and adds it.
+    /// Adds a separator, if one is missing, with room for this many characters after it.
     #[inline(always)]
-    fn push_made(
-        &mut self,
-        room: &mut [u16],
-        units: &mut CountedUnits<'_>,
-    ) -> Result<(), AllocError>
-        requires room { length (counted_text units.now) + 1 < length room.now }
-        requires is_text { IsText (counted_text units.now) }
-        requires some { counted_text units.now ≢ [] }
-        ensures { IsPush self.old self.new units.old units.new result }
+    fn push_separator(&mut self, len: usize) -> Result<(), AllocError>
+        requires { len + 1 < 2 ^ 64 }
+        ensures ok { OnOk result (self.new
+            ≡ (if needs_separator self.old then self.old ++ separator ∷ [] else self.old)) }
+        ensures err { OnErr result (self.new ≡ self.old) }
     {
-        let end = self.string.num_chars();
-        let tail = make_tail(room, needs_separator(&self.string), units);
-        let (count, _) = count_separators(tail.to_u16_slice());
-        self.places.reserve(count)?;
-        self.string.push_str(tail)?;
-        add_places(
-            &mut self.places,
-            self.string.as_cstr16().to_u16_slice(),
-            end,
-        );
+        let is_missing = needs_separator(&self.string);
+        self.string.reserve(len + usize::from(is_missing))?;
+        if !is_missing {
+            return Ok(());
+        }
+        add_block(&mut self.string, &mut self.places, [u16::from(SEPARATOR)])?;
         Ok(())
+    }
+
+    /// Adds the units of a text from an index on, as many as fit a block, and returns the index after them.
+    #[inline(always)]
+    fn push_next(&mut self, units: &mut CountedUnits<'_>, start: usize) -> Result<usize, AllocError>
+        requires { start < length (counted_text units.now) }
+        ensures { IsPushNext self.old self.new units.old units.new start result }
+    {
+        let left = units.len() - start;
+        if 32 <= left {
+            return self.push_block::<32>(units, start);
+        }
+        if 16 <= left {
+            return self.push_block::<16>(units, start);
+        }
+        if 8 <= left {
+            return self.push_block::<8>(units, start);
+        }
+        if 4 <= left {
+            return self.push_block::<4>(units, start);
+        }
+        if 2 <= left {
+            return self.push_block::<2>(units, start);
+        }
+        self.push_block::<1>(units, start)
+    }
+
+    /// Adds N units of a text from an index on, each slash replaced, and returns the index after them.
+    #[inline(always)]
+    fn push_block<const N: usize>(
+        &mut self,
+        units: &mut CountedUnits<'_>,
+        start: usize,
+    ) -> Result<usize, AllocError>
+        requires is_text { IsText (counted_text units.now) }
+        requires within { start + N ≤ length (counted_text units.now) }
+        requires some { 0 < N }
+        requires word { N ≤ 64 }
+        ensures { IsPushNext self.old self.new units.old units.new start result }
+    {
+        let mut block = [0; N];
+        copy_units(&mut block, units, start);
+        add_block(&mut self.string, &mut self.places, block)?;
+        Ok(start + N)
+    }
+
+    /// Keeps the first `len` characters, of which `count` are separators.
+    fn cut_back(&mut self, len: usize, count: usize)
+        requires { count ≡ length (places_of (take len self.now)) }
+        ensures { self.new ≡ take len self.old }
+    {
+        self.string.truncate(len);
+        self.places.truncate(count);
     }
 
     /// This path with another pushed after it.

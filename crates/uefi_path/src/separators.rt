@@ -58,7 +58,7 @@ pub(crate) fn count_separators(units: &[u16]) -> (usize, bool)
 
 /// A bit for each of the first units, set where it is a separator; the first is the lowest.
 #[inline(always)]
-fn separator_bits_first<const N: usize>(units: &[u16]) -> u64
+pub(crate) fn separator_bits_first<const N: usize>(units: &[u16]) -> u64
     requires within { N ≤ length units.now }
     requires word { N ≤ 64 }
     ensures { result ≡ mask_l (map is_separator (take N units.now)) }

@@ -1,6 +1,6 @@
 //! Owned NUL-terminated strings of UCS-2. A string keeps its NUL in its vector, which nothing
 //! outside this module sees.
-ghost use Rattle.std.specs.Prelude.{◌≡◌, ◌≢◌, ℕ, ◌+◌, ◌<◌, ◌↔◌, ◌++◌, [], All, Contains, List, None, length, map, find, position, unwrap_or, IsTrue, IfOk, IfErr, ◌∷◌, take, IsOk, OnOk, OnErr, drop};
+ghost use Rattle.std.specs.Prelude.{◌≡◌, ◌≢◌, ℕ, ◌+◌, ◌<◌, ◌≤◌, ◌↔◌, ◌++◌, [], All, Contains, List, None, length, map, find, position, unwrap_or, IsTrue, IfOk, IfErr, ◌∷◌, take, IsOk, OnOk, OnErr, drop};
 ghost use Rattle.std.specs.Str.{chars};
 ghost use Rattle.uefi_text.specs.Units.{IsChar16, IsNulTerminated, IsString, IsText, is_nul, nul_terminated, replaced};
 ghost use Rattle.std.specs.Result.{result_err};
@@ -73,6 +73,15 @@ fn write_text_from(units: &mut [u16], start: usize, text: &str)
 {
     // Never refused: each character is one unit, and has a place, and so has the NUL.
     let _len = write_text(text, &mut units[start..]);
+}
+
+/// Copies a block over units, from a place on.
+#[inline(always)]
+fn put_block<const N: usize>(units: &mut [u16], start: usize, block: [u16; N])
+    requires { start + N ≤ length units.old }
+    ensures { units.new ≡ take start units.old ++ block.entry ++ drop (start + N) units.old }
+{
+    units[start..start + N].copy_from_slice(&block);
 }
 
 /// Units and a NUL, in one allocation.
@@ -285,6 +294,21 @@ impl<A: Allocator> CString16<A> {
         Ok(CString16 { units })
     }
 
+    /// Makes room for this many more characters; or returns `AllocError`. The text stays as it is. What
+    /// is pushed into the room takes no memory.
+    ///
+    /// ```rust
+    /// let mut name = CString16::try_from_str(rt.alloc(), "Boot")?;
+    /// name.reserve(4)?;
+    /// assert_eq!(rt; name.num_chars(), 4);
+    /// ```
+    #[inline(always)]
+    pub fn reserve(&mut self, characters: usize) -> Result<(), AllocError>
+        ensures { self.new ≡ self.old }
+    {
+        self.units.reserve(characters)
+    }
+
     /// Encodes a Rust text as an owned string.
     ///
     /// The first character that is NUL or above U+FFFF decides: the text is refused as
@@ -454,6 +478,29 @@ impl<A: Allocator> CString16<A> {
         self.units.truncate(end);
         self.units.extend_from_slice(part.units())?;
         self.units.extend_from_slice(&[0])
+    }
+
+    /// Appends a block of units of a text; or returns `AllocError`, and the string is unchanged. In
+    /// one call their number is known when the program is compiled, so that they are copied with no loop.
+    ///
+    /// Takes memory at most once, and none where [`CString16::reserve`] made room.
+    ///
+    /// ```rust
+    /// let mut name = CString16::try_from_str(rt.alloc(), "Boot")?;
+    /// name.push_block([0x30, 0x31])?;
+    /// assert!(rt; name == CString16::try_from_str(rt.alloc(), "Boot01")?);
+    /// ```
+    #[inline(always)]
+    pub fn push_block<const N: usize>(&mut self, block: [u16; N]) -> Result<(), AllocError>
+        requires { IsText block }
+        ensures ok { OnOk result (self.new ≡ self.old ++ block.entry) }
+        ensures err { OnErr result (self.new ≡ self.old) }
+    {
+        let end = self.num_chars();
+        // The last of the zeros is the new NUL. The block takes the places of the old one and of the others.
+        self.units.extend_from_slice(&[0; N])?;
+        put_block(&mut self.units, end, block);
+        Ok(())
     }
 
     /// Keeps the first `len` characters, or all where there are no more. Takes no memory and gives
