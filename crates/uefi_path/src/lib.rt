@@ -51,6 +51,7 @@ mod path;
 pub mod path_units;
 mod pathbuf;
 mod push_blocks;
+mod rooms;
 mod separators;
 mod slashed;
 mod validation;

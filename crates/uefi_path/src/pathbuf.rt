@@ -20,6 +20,7 @@ use crate::file_names::stem_len;
 use crate::path::Path;
 use crate::path_units::{last_component, others_end};
 use crate::push_blocks::{add_block, copy_units};
+use crate::rooms::{copy_places, copy_string, room_for_both};
 use crate::separators::{add_places, count_separators, cut_last};
 use crate::written::write_all_but_last;
 use std::alloc::{AllocError, Allocator, Global};
@@ -121,39 +122,6 @@ fn replace_slashes<A: Allocator>(string: &mut CString16<A>, has_slash: bool)
     if has_slash {
         string.replace_char(SLASH, SEPARATOR);
     }
-}
-
-/// How long a path becomes at most, when another is pushed after it.
-fn room_for_both(path: Path<'_>, other: Path<'_>) -> usize {
-    let (first, second) = (path.to_cstr16().num_chars(), other.to_cstr16().num_chars());
-    first.saturating_add(second).saturating_add(1)
-}
-
-/// Copies a string, with room for this many characters.
-fn copy_string<A: Allocator>(
-    alloc: A,
-    string: CStr16<'_>,
-    room: usize,
-) -> Result<CString16<A>, AllocError>
-    ensures { IfOk result (λ copy. copy ≡ text_of string.entry) }
-{
-    let mut copy = CString16::with_capacity(alloc, room)?;
-    copy.push_str(string)?;
-    Ok(copy)
-}
-
-/// Copies places, with room for this many more and the separator between.
-fn copy_places<A: Allocator>(
-    alloc: A,
-    places: &[usize],
-    more: usize,
-) -> Result<Vec<usize, A>, AllocError>
-    ensures { IfOk result (λ copy. copy.items ≡ places.now) }
-{
-    let room = places.len().saturating_add(more).saturating_add(1);
-    let mut copy = Vec::with_capacity(alloc, room)?;
-    copy.extend_from_slice(places)?;
-    Ok(copy)
 }
 
 /// Where the last component begins, or the length where there is none.
@@ -318,8 +286,8 @@ impl<A: Allocator + Copy> PathBuf<A> {
     /// unchanged.
     ///
     /// The empty path changes nothing, takes no memory and is never refused. Any other takes memory
-    /// where text or places have no room, and a long one for what it adds. A push costs what it
-    /// adds, on average: of what stands already it reads the last character alone.
+    /// where text or places have no room: once for the text, and for the places as they come. A push
+    /// costs what it adds, on average: of what stands already it reads the last character alone.
     ///
     /// ```rust
     /// let text = CString16::try_from_str(rt.alloc(), "efi/boot")?;
@@ -340,8 +308,7 @@ impl<A: Allocator + Copy> PathBuf<A> {
     /// count of reads rises by their number.
     ///
     /// Where memory is refused the count rises by at most that. The last character of this path is
-    /// read too, which is not counted. One pass makes what is added; where that holds separators,
-    /// their places are found in it.
+    /// read too, which is not counted. One pass adds the units and the places of their separators.
     ///
     /// ```rust
     /// let text = CString16::try_from_str(rt.alloc(), "efi/boot")?;

@@ -112,7 +112,7 @@ fn count_of(rt: &HostRuntime, call: Call, setup: u64, texts: [&str; 2]) -> Resul
 type Counted = (Call, u64, [&'static str; 2], u64, u64);
 
 /// A path takes over the memory of its string, and gives it back. Beside its text it asks for the places of
-/// its separators, if it has any.
+/// its separators, if it has any. A push asks once for the text, and for the places as they come.
 const ROWS: &[Counted] = &[
     (Call::New, 0, ["", ""], 1, 1),
     (Call::NewFromCString16, 1, ["@", ""], 0, 0),
@@ -136,6 +136,9 @@ const ROWS: &[Counted] = &[
     (Call::ParentOfBuffer, 2, [r"\\#\b", ""], 2, 2),
     (Call::Push, 2, ["#", "b"], 2, 2),
     (Call::PushCounted, 2, ["#", "b"], 2, 2),
+    (Call::Push, 1, ["", "@/"], 2, 2),
+    (Call::Push, 1, ["", "/#"], 2, 16),
+    (Call::PushCounted, 1, ["", "/#"], 2, 16),
     (Call::Normalize, 0, ["@", ""], 1, 1),
     (Call::Normalize, 0, [r"@\..", ""], 2, 2),
     (Call::Normalize, 0, [r"a\..\.\b", ""], 1, 1),
@@ -144,12 +147,6 @@ const ROWS: &[Counted] = &[
     (Call::IntoCString16, 2, ["#", ""], 0, 0),
     (Call::Nothing, 2, [r"\@", ""], 0, 0),
     (Call::Nothing, 1, ["@", ""], 0, 0),
-];
-
-/// A text of 256 characters or more, which a push makes ready in memory that it asks for.
-const LONG_ROWS: &[Counted] = &[
-    (Call::Push, 1, ["", "/#"], 3, 97),
-    (Call::PushCounted, 1, ["", "/#"], 3, 97),
 ];
 
 /// A text in which each `@` and each `#` is replaced by these.
@@ -187,22 +184,17 @@ fn requests_of_each_call(rt: HostRuntime) -> Result<(), Fail> {
         let wrong = find_wrong(&rt, ROWS, size)?;
         assert!(rt; wrong.is_none(), "{size}: {wrong:?}");
     }
-    for size in [86, 300, 5000, 50_000] {
-        let wrong = find_wrong(&rt, LONG_ROWS, size)?;
-        assert!(rt; wrong.is_none(), "{size}: {wrong:?}");
-    }
     Ok(())
 }
 
-/// A buffer that was cleared has room for what it held: a push of that asks for no more than what is added
-/// takes while it is made.
+/// A buffer that was cleared has room for what it held: a push of that asks for no memory.
 #[test]
 fn requests_after_clearing(rt: HostRuntime) -> Result<(), Fail> {
-    for (size, count) in [(10, 0), (64, 0), (84, 0), (85, 1), (300, 1), (5000, 1)] {
+    for size in [10, 64, 84, 85, 300, 5000] {
         let mut names = repeated(rt.alloc(), r"ab\", size)?;
         names.push('c')?;
         let asked = count_of(&rt, Call::Clear, 2, [&names, ""])?;
-        assert_eq!(rt; asked, count, "{size}");
+        assert_eq!(rt; asked, 0, "{size}");
     }
     Ok(())
 }

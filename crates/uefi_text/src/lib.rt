@@ -50,6 +50,7 @@ pub mod strs;
 #[doc(hidden)]
 pub mod text_sink;
 pub mod unaligned_slice;
+mod unit_blocks;
 pub mod unit_sink;
 
 pub use char_sink::CharSink;

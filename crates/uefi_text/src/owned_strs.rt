@@ -1,6 +1,6 @@
 //! Owned NUL-terminated strings of UCS-2. A string keeps its NUL in its vector, which nothing
 //! outside this module sees.
-ghost use Rattle.std.specs.Prelude.{◌≡◌, ◌≢◌, ℕ, ◌+◌, ◌<◌, ◌≤◌, ◌↔◌, ◌++◌, [], All, Contains, List, None, length, map, find, position, unwrap_or, IsTrue, IfOk, IfErr, ◌∷◌, take, IsOk, OnOk, OnErr, drop};
+ghost use Rattle.std.specs.Prelude.{◌≡◌, ◌≢◌, ℕ, ◌+◌, ◌<◌, ◌↔◌, ◌++◌, [], All, Contains, List, None, length, map, find, position, unwrap_or, IsTrue, IfOk, IfErr, ◌∷◌, take, IsOk, OnOk, OnErr, drop};
 ghost use Rattle.std.specs.Str.{chars};
 ghost use Rattle.uefi_text.specs.Units.{IsChar16, IsNulTerminated, IsString, IsText, is_nul, nul_terminated, replaced};
 ghost use Rattle.std.specs.Result.{result_err};
@@ -14,6 +14,7 @@ use crate::eq_str_until_nul::EqStrUntilNul;
 pub use crate::errors::FromStrError;
 use crate::scan::{Class, Nul, find_first, replace_units_from};
 use crate::strs::{CStr16, Char16Slice, FromSliceUntilNulError, FromSliceWithNulError};
+use crate::unit_blocks::{put_block, units_with_nul};
 use std::alloc::{AllocError, Allocator, Global};
 use std::cmp::Ordering;
 use std::fmt;
@@ -73,25 +74,6 @@ fn write_text_from(units: &mut [u16], start: usize, text: &str)
 {
     // Never refused: each character is one unit, and has a place, and so has the NUL.
     let _len = write_text(text, &mut units[start..]);
-}
-
-/// Copies a block over units, from a place on.
-#[inline(always)]
-fn put_block<const N: usize>(units: &mut [u16], start: usize, block: [u16; N])
-    requires { start + N ≤ length units.old }
-    ensures { units.new ≡ take start units.old ++ block.entry ++ drop (start + N) units.old }
-{
-    units[start..start + N].copy_from_slice(&block);
-}
-
-/// Units and a NUL, in one allocation.
-fn units_with_nul<A: Allocator>(alloc: A, units: &[u16]) -> Result<Vec<u16, A>, AllocError>
-    ensures { IfOk result (λ string. string.items ≡ nul_terminated units.now) }
-{
-    let mut string = Vec::with_capacity(alloc, units.len() + 1)?;
-    string.extend_from_slice(units)?;
-    string.push(0)?;
-    Ok(string)
 }
 
 /// The units of characters, in one allocation.
@@ -294,14 +276,8 @@ impl<A: Allocator> CString16<A> {
         Ok(CString16 { units })
     }
 
-    /// Makes room for this many more characters; or returns `AllocError`. The text stays as it is. What
-    /// is pushed into the room takes no memory.
-    ///
-    /// ```rust
-    /// let mut name = CString16::try_from_str(rt.alloc(), "Boot")?;
-    /// name.reserve(4)?;
-    /// assert_eq!(rt; name.num_chars(), 4);
-    /// ```
+    /// Makes room for this many more characters, which then take no memory; or returns `AllocError`. The
+    /// text stays as it is. See [`CString16::push_block`].
     #[inline(always)]
     pub fn reserve(&mut self, characters: usize) -> Result<(), AllocError>
         ensures { self.new ≡ self.old }
@@ -480,13 +456,12 @@ impl<A: Allocator> CString16<A> {
         self.units.extend_from_slice(&[0])
     }
 
-    /// Appends a block of units of a text; or returns `AllocError`, and the string is unchanged. In
-    /// one call their number is known when the program is compiled, so that they are copied with no loop.
-    ///
-    /// Takes memory at most once, and none where [`CString16::reserve`] made room.
+    /// Appends the units of a text, whose number is known when the program is compiled, so that no loop
+    /// copies them; or returns `AllocError`, and the string is unchanged. Takes memory at most once.
     ///
     /// ```rust
     /// let mut name = CString16::try_from_str(rt.alloc(), "Boot")?;
+    /// name.reserve(2)?;
     /// name.push_block([0x30, 0x31])?;
     /// assert!(rt; name == CString16::try_from_str(rt.alloc(), "Boot01")?);
     /// ```

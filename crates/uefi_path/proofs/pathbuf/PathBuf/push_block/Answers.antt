@@ -10,8 +10,7 @@ use Rattle.uefi_path.proofs.pathbuf.PathBuf.push_block.Goals as goal
 
 pub add_block-requires : goal.add_block-requires
 add_block-requires g c =
-    let text = counted_text c.args.units.now in
-    (
+    let text = counted_text c.args.units.now in (
       omega (arith, c.requires.word),
       (subst IsText (sym c.copy_units.ensures.block) (IsText-part text c.args.start _ c.requires.is_text), c.requires.word),
     )

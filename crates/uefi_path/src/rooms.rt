@@ -1,0 +1,41 @@
+//! Copies of a path's parts, with room for what is pushed after them.
+ghost use Rattle.std.specs.Prelude.{◌≡◌, IfOk};
+ghost use Rattle.uefi_text.specs.Views.{text_of};
+
+use crate::path::Path;
+use std::alloc::{AllocError, Allocator};
+use uefi_text::owned_strs::CString16;
+use uefi_text::strs::CStr16;
+
+/// How long a path becomes at most, when another is pushed after it.
+pub(crate) fn room_for_both(path: Path<'_>, other: Path<'_>) -> usize {
+    let (first, second) = (path.to_cstr16().num_chars(), other.to_cstr16().num_chars());
+    first.saturating_add(second).saturating_add(1)
+}
+
+/// Copies a string, with room for this many characters.
+pub(crate) fn copy_string<A: Allocator>(
+    alloc: A,
+    string: CStr16<'_>,
+    room: usize,
+) -> Result<CString16<A>, AllocError>
+    ensures { IfOk result (λ copy. copy ≡ text_of string.entry) }
+{
+    let mut copy = CString16::with_capacity(alloc, room)?;
+    copy.push_str(string)?;
+    Ok(copy)
+}
+
+/// Copies places, with room for this many more and the separator between.
+pub(crate) fn copy_places<A: Allocator>(
+    alloc: A,
+    places: &[usize],
+    more: usize,
+) -> Result<Vec<usize, A>, AllocError>
+    ensures { IfOk result (λ copy. copy.items ≡ places.now) }
+{
+    let room = places.len().saturating_add(more).saturating_add(1);
+    let mut copy = Vec::with_capacity(alloc, room)?;
+    copy.extend_from_slice(places)?;
+    Ok(copy)
+}
