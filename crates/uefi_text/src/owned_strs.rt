@@ -277,7 +277,13 @@ impl<A: Allocator> CString16<A> {
     }
 
     /// Makes room for this many more characters, which then take no memory; or returns `AllocError`. The
-    /// text stays as it is. See [`CString16::push_block`].
+    /// text stays as it is.
+    ///
+    /// ```rust
+    /// let mut name = CString16::try_from_str(rt.alloc(), "Boot")?;
+    /// name.reserve(4)?;
+    /// assert_eq!(rt; name.num_chars(), 4);
+    /// ```
     #[inline(always)]
     pub fn reserve(&mut self, characters: usize) -> Result<(), AllocError>
         ensures { self.new ≡ self.old }
@@ -457,14 +463,9 @@ impl<A: Allocator> CString16<A> {
     }
 
     /// Appends the units of a text, whose number is known when the program is compiled, so that no loop
-    /// copies them; or returns `AllocError`, and the string is unchanged. Takes memory at most once.
-    ///
-    /// ```rust
-    /// let mut name = CString16::try_from_str(rt.alloc(), "Boot")?;
-    /// name.reserve(2)?;
-    /// name.push_block([0x30, 0x31])?;
-    /// assert!(rt; name == CString16::try_from_str(rt.alloc(), "Boot01")?);
-    /// ```
+    /// copies them; or returns `AllocError`, and the string is unchanged. For crates that prove of units
+    /// that they are a text, as paths do of what they add; all others have the calls above.
+    #[doc(hidden)]
     #[inline(always)]
     pub fn push_block<const N: usize>(&mut self, block: [u16; N]) -> Result<(), AllocError>
         requires { IsText block }
@@ -563,9 +564,8 @@ impl<A: Allocator> CString16<A> {
         }
     }
 
-    /// Puts the text in upper case, character by character, as `StrUpr` does (UEFI Specification
-    /// 2.10, section
-    /// 21.1). One pass; takes no memory.
+    /// Puts the text in upper case, character by character, as `StrUpr` does (UEFI Specification 2.10,
+    /// section 21.1). One pass; takes no memory.
     ///
     /// ```rust
     /// let mut name = CString16::try_from_str(rt.alloc(), "café.txt")?;

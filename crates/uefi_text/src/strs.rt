@@ -168,8 +168,8 @@ impl<'a> CStr16<'a> {
     }
 
     /// The string of units that are known to be one, as a view of them. Looks at none of them; takes no
-    /// memory. For crates that prove of units that they are a string, as paths do of what they add; all
-    /// others have the constructors above, which look.
+    /// memory. For crates that prove of units that they are a string, as device paths do of their texts;
+    /// all others have the constructors above, which look.
     #[doc(hidden)]
     pub fn from_string(units: &'a [u16]) -> CStr16<'a>
         requires { IsString units.now }

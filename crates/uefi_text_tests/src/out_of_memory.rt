@@ -117,6 +117,7 @@ enum Change {
     PushStr,
     PushPart,
     PushNothing,
+    Reserve,
     WriteStr,
     Extend,
 }
@@ -139,6 +140,11 @@ fn changes(change: Change, heap: &Refusing<Global>, part: CStr16<'_>) -> Result<
         Change::PushStr => text.push_str(part)?,
         Change::PushPart => text.push_part(part.as_slice())?,
         Change::PushNothing => text.push_part(part.as_slice().part(0, 0))?,
+        Change::Reserve => {
+            text.reserve(2)?;
+            text.push(c)?;
+            text.push(c)?;
+        }
         Change::WriteStr => return text.write_str("Boot").map(|_| true).map_err(|_| AllocError),
         Change::Extend => text.extend(iter::repeat_n(c, 64))?,
     }
@@ -152,6 +158,7 @@ const CHANGES: &[(Change, u64, u64)] = &[
     (Change::PushStr, 1, 1),
     (Change::PushPart, 1, 1),
     (Change::PushNothing, 0, 0),
+    (Change::Reserve, 1, 1),
     (Change::WriteStr, 1, 1),
     (Change::Extend, 1, 96),
 ];
