@@ -1,10 +1,10 @@
 -- The lowest bit is that of the first separator ahead.
-use Rattle.std.proofs.Common.{◌≡◌, ◌+◌, ◌-◌, ◌≤◌, ◌<◌, ◌^◌, ◌++◌, [], ◌∷◌, ◌∙◌, append_assoc, ap, arith, drop, length, map, subst, sym, take, ℕ, List}
+use Rattle.std.proofs.Common.{◌≡◌, ◌+◌, ◌-◌, ◌≤◌, ◌++◌, [], ◌∷◌, ◌∙◌, append_assoc, ap, arith, drop, length, map, sym}
 use Rattle.std.specs.List.{count_by}
 use Rattle.std.specs.Simd.Lanes.{mask_l}
 use Rattle.std.specs.Int.Count.{count_trailing_zeros}
 use Rattle.std.specs.Int.RustNames.{count_ones}
-use Rattle.std.proofs.lemmas.List.{append-nil, drop-drop, length-append, length-drop, take_all}
+use Rattle.std.proofs.lemmas.List.{append-nil, length-append, take_all}
 use Rattle.std.proofs.lemmas.Simd.{ones-mask_l}
 use Rattle.uefi_path.specs.Separators.{is_separator, places_from}
 use Rattle.uefi_path.proofs.SeparatorBits.{next_place, none_in}

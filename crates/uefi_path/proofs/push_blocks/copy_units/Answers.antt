@@ -1,8 +1,8 @@
 -- One unit more is read, and written.
-use Rattle.std.proofs.Common.{◌≡◌, ◌<◌, ◌+◌, ◌-◌, ◌∙◌, arith, ap, drop, get_or, length, sym, take}
+use Rattle.std.proofs.Common.{◌≡◌, ◌<◌, ◌∙◌, arith, ap, drop, get_or, length}
 use Rattle.std.proofs.lemmas.Grind.{common_steps}
 use Rattle.std.proofs.lemmas.List.{get_or-drop, length-drop}
-use Rattle.uefi_path.specs.Separators.{separator, slash, with_separators}
+use Rattle.uefi_path.specs.Separators.{separator, slash}
 use Rattle.uefi_path.specs.Views.{counted_text}
 use Rattle.uefi_text.specs.Units.{replaced}
 use Rattle.uefi_path.proofs.TailUnits.{text_more}

@@ -1,6 +1,5 @@
 -- A block whose slashes are replaced is plain.
-use Rattle.std.proofs.Common.{◌+◌, arith, subst, sym}
-use Rattle.std.specs.List.{slice_range}
+use Rattle.std.proofs.Common.{arith, subst, sym}
 use Rattle.uefi_path.specs.Separators.{IsPlain}
 use Rattle.uefi_path.specs.Views.{counted_text}
 use Rattle.uefi_text.specs.Units.{IsText}

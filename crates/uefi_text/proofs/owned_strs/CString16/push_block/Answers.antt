@@ -1,7 +1,7 @@
 -- The block stands where the NUL stood, before a new one.
 use Rattle.std.proofs.Common.{◌≡◌, ◌∙◌, ℕ, zero, suc, ◌+◌, List, [], ◌∷◌, ◌++◌, append_assoc, ap, refl, sym, take, drop, length, replicate, arith}
 use Rattle.std.proofs.lemmas.Grind.{common_steps}
-use Rattle.std.proofs.lemmas.List.{drop-drop, drop_at, length-append, length-replicate, take_at}
+use Rattle.std.proofs.lemmas.List.{drop-drop, drop_at, take_at}
 use Rattle.std.proofs.lemmas.List.Elements.{All-append}
 use Rattle.uefi_text.specs.Units.{IsTextUnit, nul_terminated, without_nul}
 use Rattle.uefi_text.proofs.Texts.{IsString-made, without_nul-nul_terminated}
