@@ -1,7 +1,7 @@
 -- The last names of a normal path, joined: how long they are, and what one more name before them adds.
-use Rattle.std.proofs.Common.{◌≡◌, ℕ, ◌+◌, ◌-◌, ◌≤◌, nat_lt, cond, if◌then◌else◌, List, [], ◌∷◌, ◌++◌, drop, length, max, set, All, append_assoc, length-append, refl, sym, ap, ◌∙◌, subst, arith}
+use Rattle.std.proofs.Common.{◌≡◌, ℕ, ◌+◌, ◌-◌, ◌≤◌, nat_lt, cond, if◌then◌else◌, List, [], ◌∷◌, ◌++◌, drop, length, max, All, append_assoc, length-append, refl, sym, ap, ◌∙◌, subst, arith}
 use Rattle.std.proofs.lemmas.Bool.{le-ltb, lt-ltb}
-use Rattle.std.proofs.lemmas.List.{append-nil, drop-set-lt, length-drop}
+use Rattle.std.proofs.lemmas.List.{append-nil, length-drop}
 use Rattle.std.proofs.lemmas.List.Elements.{All-head, All-tail}
 use Rattle.uefi_path.specs.Components.{joined}
 use Rattle.uefi_path.specs.NormalForms.{before_normal, before_piece, kind, normal_of, normal_text}
@@ -133,12 +133,3 @@ pub length-normal_text : (names : List (List ℕ)) → All IsGood names
     → length (normal_text names) ≡ max (length (joined names)) 1
 length-normal_text [] good = omega arith
 length-normal_text (name ∷ names) good = omega (arith, some_units name names good)
-
-pub normal_text_written : (names : List (List ℕ)) (buffer : List ℕ) → All IsGood names → 1 ≤ length buffer
-    → joined names ++ drop (length (joined names)) (set buffer 0 separator)
-    ≡ normal_text names ++ drop (length (normal_text names)) buffer
-normal_text_written [] [] good some = absurd (omega (arith, some))
-normal_text_written [] (b ∷ buffer) good some = refl
-normal_text_written (name ∷ names) buffer good some =
-    let text = joined (name ∷ names) in
-    ap (λ us. text ++ us) (drop-set-lt (length text) buffer 0 separator (omega (arith, some_units name names good)))

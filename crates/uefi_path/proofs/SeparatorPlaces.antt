@@ -5,7 +5,8 @@ use Rattle.std.proofs.lemmas.Bool.{cases_Bool}
 use Rattle.std.proofs.lemmas.List.{drop-drop, length-drop}
 use Rattle.std.proofs.lemmas.List.Sums.{sum_by-cons}
 use Rattle.std.proofs.lemmas.List.Splits.{slice_split-cons_no, slice_split-cons_yes}
-use Rattle.uefi_path.specs.Separators.{becomes_separator, canonical, is_separator, places_from, places_of, with_separators}
+use Rattle.uefi_path.specs.Separators.{becomes_separator, canonical, is_separator, places_from, places_of, separator, slash, with_separators}
+use Rattle.uefi_text.specs.Units.{replaced}
 
 -- where the units begin with a separator, so do the places
 pub places_from-yes : (start u : ℕ) (us : List ℕ) → is_separator u ≡ true
@@ -87,17 +88,6 @@ placed_cut text start place places within found =
     }
 
 -- there are as many places as separators
-pub length-places : (start : ℕ) (us : List ℕ)
-    → length (places_from start (with_separators us)) ≡ count_by becomes_separator us
-length-places start [] = refl
-length-places start (u ∷ us) =
-    let others = length-places (start + 1) us in
-    let rest = places_from (start + 1) (with_separators us) in
-    elim (becomes_separator u)
-    as (λ b. length (if b then start ∷ rest else rest) ≡ (if b then 1 else 0) + count_by becomes_separator us)
-    [ true ↦ omega (arith, others) | false ↦ omega (arith, others) ]
-    ∙ sym (sum_by-cons _ u us)
-
 pub length-places_from : (start : ℕ) (us : List ℕ) → length (places_from start us) ≡ count_by is_separator us
 length-places_from start [] = refl
 length-places_from start (u ∷ us) =
@@ -107,6 +97,18 @@ length-places_from start (u ∷ us) =
     as (λ b. length (if b then start ∷ rest else rest) ≡ (if b then 1 else 0) + count_by is_separator us)
     [ true ↦ omega (arith, others) | false ↦ omega (arith, others) ]
     ∙ sym (sum_by-cons _ u us)
+
+-- and once slashes are replaced, as many as become one
+count_by-with_separators : (us : List ℕ) → count_by is_separator (with_separators us) ≡ count_by becomes_separator us
+count_by-with_separators [] = refl
+count_by-with_separators (u ∷ us) =
+    sum_by-cons _ (replaced slash separator u) (with_separators us)
+    ∙ ap (λ n. (if becomes_separator u then 1 else 0) + n) (count_by-with_separators us)
+    ∙ sym (sum_by-cons _ u us)
+
+pub length-places : (start : ℕ) (us : List ℕ)
+    → length (places_from start (with_separators us)) ≡ count_by becomes_separator us
+length-places start us = length-places_from start (with_separators us) ∙ count_by-with_separators us
 
 -- the places of both of two parts
 pub places_from-append : (start : ℕ) (us vs : List ℕ)
