@@ -1,12 +1,12 @@
 -- Separators as bits: what a vector comparison gives, and where the first of them stands.
-use Rattle.std.proofs.Common.{◌≡◌, ℕ, zero, suc, ◌+◌, ◌-◌, ◌*◌, ◌/◌, ◌^◌, ◌<◌, ◌≤◌, Bool, true, false, not, List, [], ◌∷◌, ◌++◌, length, map, take, drop, inl, inr, append_assoc, ap, sym, ◌∙◌, arith, cond, add-zero, div-one, pow-suc, mul_comm, add_comm, subst, lt_of_lt_of_le, pow_mono}
+use Rattle.std.proofs.Common.{◌≡◌, ℕ, zero, suc, ◌+◌, ◌-◌, ◌*◌, ◌/◌, ◌^◌, ◌<◌, ◌≤◌, Bool, true, false, not, List, [], ◌∷◌, ◌++◌, length, map, take, drop, inl, inr, ap, sym, ◌∙◌, arith, cond, add-zero, div-one, pow-suc, mul_comm, add_comm, subst, lt_of_lt_of_le, pow_mono}
 use Rattle.std.proofs.Math.Nat.{div-div-eq-div-mul, zero-div}
 use Rattle.std.specs.List.{prefix_len, slice_range}
 use Rattle.std.specs.Simd.Lanes.{mask_l}
 use Rattle.std.specs.Int.Count.{count_trailing_zeros}
 use Rattle.std.proofs.lemmas.Bool.{cases_Bool}
 use Rattle.std.proofs.lemmas.Simd.{mask_l-lt, trailing_mask_l}
-use Rattle.std.proofs.lemmas.List.{append-nil, length-append, drop-drop, drop-take, length-drop, length-map, length-take, take-append-drop}
+use Rattle.std.proofs.lemmas.List.{drop_all, drop-drop, drop-take, length-drop, length-map, length-take, take-append-drop}
 use Rattle.uefi_path.specs.Separators.{is_separator, places_from}
 use Rattle.uefi_path.proofs.SeparatorPlaces.{places_from-no, places_from-yes}
 
@@ -96,6 +96,13 @@ others_ahead us start end ordered within none =
     ∙ none_ahead start (slice_range us start end) (drop end us) none
     ∙ ap (λ n. places_from n (drop end us)) next
 
+-- there is none where all were looked at
+pub none_ahead_seen : (us : List ℕ) (start end : ℕ) → start ≤ end → end ≡ length us
+    → mask_l (map is_separator (slice_range us start end)) ≡ 0 → places_from start (drop start us) ≡ []
+none_ahead_seen us start end ordered all none =
+    others_ahead us start end ordered (omega (arith, all)) none
+    ∙ ap (places_from end) (drop_all end us (omega (arith, all)))
+
 -- how the lowest bit cuts units from a place on
 pub record LowestCut (us : List ℕ) (start end bits gap : ℕ) : Type 0 where
   pub inside : start + gap < end
@@ -133,72 +140,4 @@ lowest_cut us start end bits ordered within word is some =
           ∙ ap (λ n. drop (lowest + 1) (take n (drop start us))) count
           ∙ drop-take (lowest + 1) (end - (start + lowest + 1)) (drop start us)
           ∙ ap (take (end - (start + lowest + 1))) rest);
-    })
-
--- the places so far and those of a block's units from `start` on, whose bits are left, are all of them
-pub record ArePlacesLeft (block : List ℕ) (base start bits : ℕ) (places all : List ℕ) : Type 0 where
-  pub word : length block ≤ 64
-  pub from : base ≤ start
-  pub bits_are : bits ≡ mask_l (map is_separator (drop (start - base) block))
-  pub joined : places ++ places_from start (drop (start - base) block) ≡ all
-
-pub left_at_first : {block : List ℕ} {base start bits : ℕ} {places : List ℕ} → length block ≤ 64 → start ≡ base
-    → bits ≡ mask_l (map is_separator block) → ArePlacesLeft block base start bits places (places ++ places_from base block)
-left_at_first {block} {base} {start} {bits} {places} word at is =
-    let none : base - base ≡ 0 = omega arith in
-    rw at (record {
-      word = word;
-      from = omega arith;
-      bits_are = is ∙ ap (λ n. mask_l (map is_separator (drop n block))) (sym none);
-      joined = ap (λ n. places ++ places_from base (drop n block)) none;
-    })
-
-pub none_left : {block : List ℕ} {base start bits : ℕ} {places all : List ℕ} → ArePlacesLeft block base start bits places all
-    → bits ≡ 0 → places ≡ all
-none_left {block} {base} {start} {bits} {places} {all} left none =
-    let ahead = drop (start - base) block in
-    let ended : places_from start (ahead ++ []) ≡ [] = none_ahead start ahead [] (sym left.bits_are ∙ none) in
-    sym (append-nil places)
-    ∙ ap (λ ps. places ++ ps) (sym ended ∙ ap (places_from start) (append-nil ahead))
-    ∙ left.joined
-
--- the lowest bit is that of the next place
-pub record NextPlace (block : List ℕ) (base start bits : ℕ) (places all : List ℕ) (gap : ℕ) : Type 0 where
-  pub within : start + gap + 1 ≤ base + length block
-  pub room : length places + 1 ≤ length all
-  pub left : ArePlacesLeft block base (start + gap + 1) (bits / 2 ^ gap / 2) (places ++ (start + gap) ∷ []) all
-
-pub next_place : {block : List ℕ} {base start bits : ℕ} {places all : List ℕ} → ArePlacesLeft block base start bits places all
-    → 0 < bits → NextPlace block base start bits places all (count_trailing_zeros 64 bits)
-next_place {block} {base} {start} {bits} {places} {all} left some =
-    let ahead = drop (start - base) block in
-    let gap = prefix_len (λ u. not (is_separator u)) ahead in
-    let from = left.from in
-    let size : length ahead ≡ length block - (start - base) = length-drop (start - base) block in
-    let set : 0 < mask_l (map is_separator ahead) = omega (arith, left.bits_are, some) in
-    let first = first_ahead start ahead [] set in
-    let same : count_trailing_zeros 64 bits ≡ gap =
-    ap (count_trailing_zeros 64) left.bits_are ∙ trailing_mask_l is_separator 64 ahead (omega (arith, size, left.word)) set in
-    let at : start - base + (gap + 1) ≡ start + gap + 1 - base = omega (arith, from) in
-    let rest : drop (gap + 1) ahead ≡ drop (start + gap + 1 - base) block = drop-drop (gap + 1) (start - base) block ∙ ap (λ n. drop n block) at in
-    let places_ahead : places_from start ahead ≡ (start + gap) ∷ places_from (start + gap + 1) (drop (start + gap + 1 - base) block) =
-    ap (places_from start) (sym (append-nil ahead))
-    ∙ first.places
-    ∙ ap (λ vs. (start + gap) ∷ places_from (start + gap + 1) (drop (gap + 1) vs)) (append-nil ahead)
-    ∙ ap (λ vs. (start + gap) ∷ places_from (start + gap + 1) vs) rest in
-    let joined : places ++ (start + gap) ∷ places_from (start + gap + 1) (drop (start + gap + 1 - base) block) ≡ all =
-    ap (λ ps. places ++ ps) (sym places_ahead) ∙ left.joined in
-    subst (NextPlace block base start bits places all) (sym same) (record {
-      within = omega (arith, first.inside, size, from);
-      room = omega (arith, ap length joined, length-append places ((start + gap) ∷ places_from (start + gap + 1) (drop (start + gap + 1 - base) block)));
-      left = record {
-        word = left.word;
-        from = omega (arith, from);
-        bits_are =
-            ap (λ n. n / 2 ^ gap / 2) left.bits_are
-            ∙ ap (λ n. n / 2) (bits-drop gap ahead)
-            ∙ bits-drop 1 (drop gap ahead)
-            ∙ ap (λ vs. mask_l (map is_separator vs)) (drop-drop 1 gap ahead ∙ rest);
-        joined = append_assoc places ((start + gap) ∷ []) _ ∙ joined;
-      };
     })

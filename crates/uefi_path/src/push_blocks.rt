@@ -9,7 +9,7 @@ ghost use Rattle.uefi_text.specs.Units.{IsText};
 
 use crate::counted::CountedUnits;
 use crate::path_units::with_separator;
-use crate::separators::separator_bits_first;
+use crate::separators::{Separators, separator_bits_first};
 use std::alloc::{AllocError, Allocator};
 use uefi_text::owned_strs::CString16;
 
@@ -46,18 +46,11 @@ pub(crate) fn add_block<A: Allocator, const N: usize>(
     ensures err { OnErr result (string.new ≡ string.old) }
     ensures err_places { OnErr result (places.new.items ≡ places.old.items) }
 {
-    let mut bits = separator_bits_first::<N>(&block);
+    let bits = separator_bits_first::<N>(&block);
     places.reserve(bits.count_ones() as usize)?;
-    let mut start = string.num_chars();
+    let start = string.num_chars();
     string.push_block(block)?;
-    // No place is greater than the length.
-    let _end = string.num_chars();
-    while bits != 0 {
-        let gap = bits.trailing_zeros();
-        let place = start + gap as usize;
-        places.push_reserved(place);
-        start = place + 1;
-        bits = bits >> gap >> 1;
-    }
+    let units = string.as_cstr16().to_u16_slice();
+    Separators::seen(units, start, bits).add_to(places);
     Ok(())
 }

@@ -149,6 +149,25 @@ impl<'a> Separators<'a> {
         }
     }
 
+    /// Those of units from a place on that were all looked at: a bit says of each whether it is one.
+    #[inline(always)]
+    pub(crate) fn seen(units: &'a [u16], start: usize, bits: u64) -> Separators<'a>
+        requires within { start ≤ length units.now }
+        requires word { length units.now ≤ start + 64 }
+        requires bits { bits ≡ mask_l (map is_separator (drop start units.now)) }
+        ensures left { places_left result ≡ places_from start (drop start units.now) }
+        ensures all { result.end ≡ length result.units.now }
+        ensures none_known { result.known.now ≡ [] }
+    {
+        Separators {
+            known: &[],
+            units,
+            start,
+            bits,
+            end: units.len(),
+        }
+    }
+
     /// These separators, once the next units are looked at, where no bit is set.
     #[inline(always)]
     fn look_on(self) -> Separators<'a>
@@ -174,7 +193,10 @@ impl<'a> Separators<'a> {
     fn take_lowest(self) -> (usize, Separators<'a>)
         requires some { 0 < self.bits }
         requires none_known { self.known.now ≡ [] }
-        ensures { places_left self.entry ≡ result.0 ∷ places_left result.1 }
+        ensures left { places_left self.entry ≡ result.0 ∷ places_left result.1 }
+        ensures units { result.1.units.now ≡ self.entry.units.now }
+        ensures end { result.1.end ≡ self.entry.end }
+        ensures none_known { result.1.known.now ≡ [] }
     {
         let gap = self.bits.trailing_zeros();
         let place = self.start + gap as usize;
@@ -186,6 +208,22 @@ impl<'a> Separators<'a> {
             end: self.end,
         };
         (place, after)
+    }
+
+    /// Adds these places to others, for which there is room, where all units were looked at.
+    #[inline(always)]
+    pub(crate) fn add_to<A: Allocator>(self, places: &mut Vec<usize, A>)
+        requires all { self.end ≡ length self.units.now }
+        requires none_known { self.known.now ≡ [] }
+        requires room { vec_len places.now + length (places_left self) ≤ vec_capacity places.now }
+        ensures { places.new.items ≡ places.old.items ++ places_left self.entry }
+    {
+        let mut left = self;
+        while left.bits != 0 {
+            let (place, after) = left.take_lowest();
+            places.push_reserved(place);
+            left = after;
+        }
     }
 
     /// The place of the next one.

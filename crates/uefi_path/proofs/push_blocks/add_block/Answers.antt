@@ -1,56 +1,23 @@
--- The lowest bit is that of the next place.
-use Rattle.std.proofs.Common.{◌≡◌, ◌∙◌, ap, arith, length, map}
-use Rattle.std.specs.Simd.Lanes.{mask_l}
+-- There is room for as many places as there are bits.
+use Rattle.std.proofs.Common.{◌≡◌, ◌∙◌, ap, arith, drop, length, map, sym}
 use Rattle.std.specs.Int.RustNames.{count_ones}
-use Rattle.std.proofs.lemmas.List.{length-append, take_all}
+use Rattle.std.specs.Simd.Lanes.{mask_l}
+use Rattle.std.proofs.lemmas.List.{drop_at, take_all}
 use Rattle.std.proofs.lemmas.Simd.{ones-mask_l}
 use Rattle.uefi_path.specs.Separators.{is_separator, places_from}
-use Rattle.uefi_path.proofs.SeparatorBits.{left_at_first, next_place, none_left}
+use Rattle.uefi_path.specs.SeparatorsLeft.{places_left}
 use Rattle.uefi_path.proofs.SeparatorPlaces.{length-places_from}
 use Rattle.uefi_path.proofs.push_blocks.add_block.Goals as goal
 
-pub loop-bits-init : goal.loop-bits-init
-loop-bits-init g c =
+pub add_to-requires-clause-room : goal.add_to-requires-clause-room
+add_to-requires-clause-room g c =
     let block = c.args.block in
-    let base = length c.args.string.now in
+    let start = c.num_chars-start.result in
     let size : length block ≡ g.row.N = omega arith in
     let bits : c.separator_bits_first-bits.result ≡ mask_l (map is_separator block) =
     c.separator_bits_first-bits.ensures ∙ ap (λ us. mask_l (map is_separator us)) (take_all g.row.N block (omega (arith, size))) in
-    let kept = c.in_ok-reserve.ensures in
-    record {
-      left = rw kept.items (left_at_first (omega (arith, size, c.requires.word)) c.num_chars-start.ensures bits);
-      room = omega (
-        arith,
-        kept.ok,
-        kept.len,
-        length-append c.args.places.now.items (places_from base block),
-        length-places_from base block,
-        ap count_ones bits ∙ ones-mask_l is_separator block,
-      );
-    }
-
-pub overflow_add-place : goal.overflow_add-place
-overflow_add-place g c =
-    let next = next_place c.loop-bits.invariant.left (omega (arith, c.loop-bits-test.true)) in
-    let end = ap length c.in_ok-push_block.ensures.ok ∙ length-append c.args.string.now c.args.block in
-    record { fits = omega (arith, next.within, end, c.num_chars-end.ensures, c.num_chars-end.type_inv) }
-
-pub overflow_add-start : goal.overflow_add-start
-overflow_add-start g c =
-    let next = next_place c.loop-bits.invariant.left (omega (arith, c.loop-bits-test.true)) in
-    let end = ap length c.in_ok-push_block.ensures.ok ∙ length-append c.args.string.now c.args.block in
-    record { fits = omega (arith, next.within, end, c.num_chars-end.ensures, c.num_chars-end.type_inv) }
-
-pub push_reserved-requires : goal.push_reserved-requires
-push_reserved-requires g c =
-    let next = next_place c.loop-bits.invariant.left (omega (arith, c.loop-bits-test.true)) in
-    omega (arith, c.loop-bits.invariant.room, next.room)
-
-pub loop-bits-preserved : goal.loop-bits-preserved
-loop-bits-preserved g c =
-    let next = next_place c.loop-bits.invariant.left (omega (arith, c.loop-bits-test.true)) in
-    let pushed = c.push_reserved.ensures in
-    record { left = rw pushed.items next.left; room = omega (arith, c.loop-bits.invariant.room, pushed.capacity) }
-
-pub returns-clause-places : goal.returns-clause-places
-returns-clause-places g c = none_left c.loop-bits.invariant.left c.loop-bits-test.false
+    let units = c.to_u16_slice-units.ensures ∙ c.as_cstr16.ensures.same ∙ c.in_ok-push_block.ensures.ok in
+    let back : drop start c.to_u16_slice-units.result.now ≡ block =
+    ap (drop start) units ∙ drop_at c.args.string.now block start (sym c.num_chars-start.ensures) in
+    let left : places_left c.seen.result ≡ places_from start block = c.seen.ensures.left ∙ ap (places_from start) back in
+    omega (arith, c.in_ok-reserve.ensures.ok, ap length left, length-places_from start block, ap count_ones bits ∙ ones-mask_l is_separator block)

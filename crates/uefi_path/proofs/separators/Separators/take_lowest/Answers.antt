@@ -23,8 +23,8 @@ invariant_of-after c =
     let cut = lowest_cut left.units.now left.start left.end left.bits left.ordered left.within left.word left.seen c.requires.some in
     record { ordered = omega (arith, cut.inside); within = left.within; word = omega (arith, left.word); seen = cut.seen }
 
-pub returns : goal.returns
-returns c =
+pub returns-clause-left : goal.returns-clause-left
+returns-clause-left c =
     let left = c.args.self in
     let cut = lowest_cut left.units.now left.start left.end left.bits left.ordered left.within left.word left.seen c.requires.some in
     ap (λ ps. ps ++ places_from left.start (drop left.start left.units.now)) c.requires.none_known
