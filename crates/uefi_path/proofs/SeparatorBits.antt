@@ -5,8 +5,9 @@ use Rattle.std.specs.List.{prefix_len, slice_range}
 use Rattle.std.specs.Simd.Lanes.{mask_l}
 use Rattle.std.specs.Int.Count.{count_trailing_zeros}
 use Rattle.std.proofs.lemmas.Bool.{cases_Bool}
+use Rattle.std.proofs.lemmas.List.Folds.{drop_split}
 use Rattle.std.proofs.lemmas.Simd.{mask_l-lt, trailing_mask_l}
-use Rattle.std.proofs.lemmas.List.{drop_all, drop-drop, drop-take, length-drop, length-map, length-take, take-append-drop}
+use Rattle.std.proofs.lemmas.List.{drop_all, drop-drop, drop-take, length-drop, length-map, length-take}
 use Rattle.uefi_path.specs.Separators.{is_separator, places_from}
 use Rattle.uefi_path.proofs.SeparatorPlaces.{places_from-no, places_from-yes}
 
@@ -79,12 +80,6 @@ bits-drop (suc count) (u ∷ us) =
     ∙ bits-drop count us
 
 -- units from a place on, of which those up to an end were looked at
-pub seen_and_others : (us : List ℕ) (start end : ℕ) → start ≤ end → drop start us ≡ slice_range us start end ++ drop end us
-seen_and_others us start end ordered =
-    let sum : end - start + start ≡ end = omega (arith, ordered) in
-    sym (take-append-drop (end - start) (drop start us))
-    ∙ ap (λ vs. slice_range us start end ++ vs) (drop-drop (end - start) start us ∙ ap (λ n. drop n us) (add_comm start (end - start) ∙ sum))
-
 length-seen : (us : List ℕ) (start end : ℕ) → end ≤ length us → length (slice_range us start end) ≡ end - start
 length-seen us start end within = omega (arith, length-take (end - start) (drop start us), length-drop start us, within)
 
@@ -92,7 +87,7 @@ pub others_ahead : (us : List ℕ) (start end : ℕ) → start ≤ end → end �
     → mask_l (map is_separator (slice_range us start end)) ≡ 0 → places_from start (drop start us) ≡ places_from end (drop end us)
 others_ahead us start end ordered within none =
     let next : start + length (slice_range us start end) ≡ end = omega (arith, ordered, length-seen us start end within) in
-    ap (places_from start) (seen_and_others us start end ordered)
+    ap (places_from start) (drop_split us start end ordered)
     ∙ none_ahead start (slice_range us start end) (drop end us) none
     ∙ ap (λ n. places_from n (drop end us)) next
 
@@ -121,7 +116,7 @@ lowest_cut us start end bits ordered within word is some =
     let same : count_trailing_zeros 64 bits ≡ lowest =
     ap (count_trailing_zeros 64) is ∙ trailing_mask_l is_separator 64 seen (omega (arith, size, word)) set in
     let at : lowest + 1 + start ≡ start + lowest + 1 = omega arith in
-    let all = seen_and_others us start end ordered in
+    let all = drop_split us start end ordered in
     let rest : drop (lowest + 1) (drop start us) ≡ drop (start + lowest + 1) us =
     drop-drop (lowest + 1) start us ∙ ap (λ n. drop n us) (add_comm start (lowest + 1) ∙ at) in
     let count : end - start ≡ lowest + 1 + (end - (start + lowest + 1)) = omega (arith, first.inside, size) in
