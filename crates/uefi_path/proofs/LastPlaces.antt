@@ -1,6 +1,5 @@
 -- The places of separators of a text that loses its last component.
 use Rattle.std.proofs.Common.{◌≡◌, ◌≢◌, ℕ, ◌+◌, ◌-◌, ◌<◌, List, [], ◌∷◌, ◌++◌, length, get_or, take, drop, drop-cons, add-one, ap, sym, refl, ◌∙◌, arith, length-append}
-use Rattle.std.proofs.Math.Seq.{take-append_seam}
 use Rattle.std.proofs.lemmas.Bool.{ne_eqb}
 use Rattle.std.proofs.lemmas.List.{take-append-drop}
 use Rattle.std.proofs.lemmas.List.Elements.{All-head, All-tail}
@@ -25,15 +24,12 @@ pub popped : (text : List ℕ) (end : ℕ) → end < length text → get_or text
 popped text end inside is piece = record { component = drop (end + 1) text; whole = cut_at text end inside is; piece = piece }
 
 -- the last one goes with the piece after it
-pub places_of-popped : (text : List ℕ) (end : ℕ) → end < length text → get_or text end 0 ≡ separator → IsPiece (drop (end + 1) text)
-    → take (length (places_of text) - 1) (places_of text) ≡ places_of (take end text)
-places_of-popped text end inside is piece =
+pub count-popped : (text : List ℕ) (end : ℕ) → end < length text → get_or text end 0 ≡ separator → IsPiece (drop (end + 1) text)
+    → length (places_of text) - 1 ≡ length (places_of (take end text))
+count-popped text end inside is piece =
     let front = take end text in
     let last = drop (end + 1) text in
-    let whole = cut_at text end inside is in
     let places : places_of text ≡ places_of front ++ (0 + length front) ∷ [] =
-    ap places_of whole ∙ places_from-append 0 front (separator ∷ last)
+    ap places_of (cut_at text end inside is) ∙ places_from-append 0 front (separator ∷ last)
     ∙ ap (λ ps. places_of front ++ (0 + length front) ∷ ps) (places_from-piece (0 + length front + 1) last piece) in
-    let count : length (places_of text) - 1 ≡ length (places_of front) =
-    omega (arith, ap length places, length-append (places_of front) ((0 + length front) ∷ [])) in
-    ap (λ n. take n (places_of text)) count ∙ ap (take (length (places_of front))) places ∙ take-append_seam (places_of front) ((0 + length front) ∷ [])
+    omega (arith, ap length places, length-append (places_of front) ((0 + length front) ∷ []))

@@ -1,4 +1,4 @@
--- What a push adds: one unit more of it is made.
+-- What a push adds: its units, and a path with a block more, or cut back.
 use Rattle.std.proofs.Common.{◌≡◌, ◌≢◌, ℕ, ◌+◌, ◌-◌, ◌<◌, ◌≤◌, List, ◌∷◌, [], ◌++◌, length, get_or, take, drop, set, ap, sym, zero-add, ◌∙◌, arith}
 use Rattle.std.specs.List.{slice_range}
 use Rattle.std.proofs.Math.Seq.{take-append-add}
@@ -10,12 +10,12 @@ use Rattle.uefi_path.specs.Separators.{IsPlain, places_from, places_of, separato
 use Rattle.uefi_path.proofs.SeparatorPlaces.{places_from-append}
 
 -- one unit more is written
-pub text_more : (tail us : List ℕ) (i : ℕ) → i < length tail → i < length us
-    → take i tail ≡ with_separators (take i us)
-    → take (i + 1) (set tail i (replaced slash separator (get_or us i 0))) ≡ with_separators (take (i + 1) us)
-text_more tail us i room inside so_far =
+pub text_more : (block us : List ℕ) (i : ℕ) → i < length block → i < length us
+    → take i block ≡ with_separators (take i us)
+    → take (i + 1) (set block i (replaced slash separator (get_or us i 0))) ≡ with_separators (take (i + 1) us)
+text_more block us i room inside so_far =
     let u = replaced slash separator (get_or us i 0) in
-    take_more_set tail i u room
+    take_more_set block i u room
     ∙ ap (λ vs. vs ++ u ∷ []) so_far
     ∙ sym (ap with_separators (take_more us i 0 inside) ∙ map-append (replaced slash separator) (take i us) (get_or us i 0 ∷ []))
 

@@ -502,8 +502,8 @@ impl<A: Allocator + Copy> PathBuf<A> {
         let Some(end) = others_end(self.string.as_cstr16().to_u16_slice()) else {
             return false;
         };
-        self.string.truncate(end);
-        self.places.truncate(self.places.len().saturating_sub(1));
+        let count = self.places.len().saturating_sub(1);
+        self.cut_back(end, count);
         true
     }
 
