@@ -130,6 +130,12 @@ static nard_result call_device_path_push_lenient_text(void)
     return nard_device_path_push_lenient_text(OUT, IN(0), scratch, number, place);
 }
 
+static nard_result call_lenient_text_fault(void)
+{
+    nard_byte *scratch = put(SCRATCH, NULL, number);
+    return nard_lenient_text_fault(IN(0), scratch, number, OUT, place);
+}
+
 /* The number of a name or of an order is the character then. */
 static nard_result call_boot_name_read(void)
 {
@@ -356,6 +362,11 @@ static const struct row rows[] = {
     FAULT(device_path_push_lenient_text, REFUSED, NO_NODE, 6, .before = BYTES(PCI END), .in = {BYTES("a/Pci(0x100)")}, .number = 13),
     FAULT(device_path_push_lenient_text, REFUSED, NOT_UTF8, 1, .before = BYTES(END), .in = {BYTES("x\xc3")}),
     FAULT(device_path_push_lenient_text, REFUSED, UNKNOWN_END, 1, .before = BYTES(UNKNOWN), .in = {BYTES("\xc3")}),
+    ROW(lenient_text_fault, TEXT, .in = {BYTES("PciRoot(0)/Pci(256,0)")}, .number = 22,
+        .out = UNITS(u"no node at offset 11: expected a number up to 0xFF at offset 15")),
+    ROW(lenient_text_fault, TEXT, .in = {BYTES("file(a)")}, .number = 8, .out = UNITS(u"")),
+    FAULT(lenient_text_fault, REFUSED, SCRATCH_TOO_SMALL, 3, .in = {BYTES("(a")}, .number = 2),
+    FAULT(lenient_text_fault, REFUSED, NOT_UTF8, 1, .in = {BYTES("x\xc3")}),
     ROW(load_option_write, WHOLE, .in = {UNITS(u"b\0c"), BYTES(PCI FILE_A END FILE_A), BYTES("x")}, .number = 0xf00000001,
         .out = BYTES(OPTION)),
     ROW(load_option_write, WHOLE, .in = {UNITS(u"b"), {full_list, 65535, 1}, BYTES("")}, .out = {full_option, 65545, 1}),

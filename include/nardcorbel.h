@@ -627,6 +627,23 @@ nard_result NARD_CALL nard_device_path_push_lenient_text(nard_byte *buffer, nard
                                                          nard_size *length);
 
 /*
+ * Writes in words why nard_device_path_push_lenient_text returns NARD_NO_NODE for a text, as UTF-16 with a NUL, for example
+ *     no node at offset 11: expected a number up to 0xFF at offset 20
+ * If it reads the text, there are no words.
+ *
+ *   scratch, scratch_room   as there: one byte more than the text; it then holds anything
+ *
+ * Returns NARD_OK, or the first of these that holds
+ *   NARD_NOT_UTF8           *length is how many bytes before the fault are UTF-8
+ *   NARD_SCRATCH_TOO_SMALL  scratch_room < *length, one more than byte_count
+ *   NARD_BUFFER_TOO_SMALL   room <= *length, how many units the words have without their NUL
+ * If it is NARD_OK, the words and a NUL were written, *length is their length without it, and the rest of the buffer is
+ * unchanged. Otherwise the buffer is.
+ */
+nard_result NARD_CALL nard_lenient_text_fault(const nard_byte *bytes, nard_size byte_count, nard_byte *scratch,
+                                              nard_size scratch_room, nard_unit *buffer, nard_size room, nard_size *length);
+
+/*
  * Writes a load option of one device path: what a variable Boot#### holds.
  *
  *   attributes    32 bits; those above are ignored
@@ -767,6 +784,8 @@ static inline nard_byte *nard_given_byte_room(nard_byte *buffer)
     (call)(nard_given_bytes(a), __VA_ARGS__)
 #define NARD_GIVEN_BNB(call, a, b, c, ...) \
     (call)(nard_given_bytes(a), b, nard_given_bytes(c), __VA_ARGS__)
+#define NARD_GIVEN_BNCNV(call, a, b, c, d, e, ...) \
+    (call)(nard_given_bytes(a), b, nard_given_byte_room(c), d, nard_given_unit_room(e), __VA_ARGS__)
 #define NARD_GIVEN_BNNNV(call, a, b, c, d, e, ...) \
     (call)(nard_given_bytes(a), b, c, d, nard_given_unit_room(e), __VA_ARGS__)
 #define NARD_GIVEN_BNV(call, a, b, c, ...) \
@@ -847,6 +866,7 @@ static inline nard_byte *nard_given_byte_room(nard_byte *buffer)
 #define nard_device_path_append(...) NARD_AS_IS(NARD_GIVEN_CNB(nard_device_path_append, __VA_ARGS__))
 #define nard_device_path_push_text(...) NARD_AS_IS(NARD_GIVEN_CNB(nard_device_path_push_text, __VA_ARGS__))
 #define nard_device_path_push_lenient_text(...) NARD_AS_IS(NARD_GIVEN_CNBNC(nard_device_path_push_lenient_text, __VA_ARGS__))
+#define nard_lenient_text_fault(...) NARD_AS_IS(NARD_GIVEN_BNCNV(nard_lenient_text_fault, __VA_ARGS__))
 #define nard_load_option_write(...) NARD_AS_IS(NARD_GIVEN_NUNBNBNC(nard_load_option_write, __VA_ARGS__))
 #define nard_device_path_strip_prefix(...) NARD_AS_IS(NARD_GIVEN_BNB(nard_device_path_strip_prefix, __VA_ARGS__))
 #define nard_device_path_is_expansion(...) NARD_AS_IS(NARD_GIVEN_BNB(nard_device_path_is_expansion, __VA_ARGS__))

@@ -322,6 +322,37 @@ impl<'a> DevicePathBuilder<'a> {
         Ok(())
     }
 
+    /// Writes in words why [`push_lenient_text`](Self::push_lenient_text) fails with [`Reason::NoNode`](crate::Reason) for a text,
+    /// into a buffer, and returns their UTF-16 without the NUL: none if it reads the text.
+    ///
+    /// ```
+    /// # use nardcorbel::DevicePathBuilder;
+    /// let words = DevicePathBuilder::lenient_text_fault("Pci(x)", &mut [0; 7], &mut [0; 64])?.len();
+    /// assert_eq!(words, "no node at offset 0: expected a number up to 0xFF at offset 4".len());
+    /// # Ok::<(), nardcorbel::Error>(())
+    /// ```
+    pub fn lenient_text_fault<'b>(
+        text: &str,
+        scratch: &mut [u8],
+        buffer: &'b mut [u16],
+    ) -> Result<&'b [u16], Error> {
+        let mut length = 0;
+        // SAFETY: the pointers and the counts are those of slices, the last two not shared; `length` is a local.
+        let reason = unsafe {
+            sys::nard_lenient_text_fault(
+                text.as_ptr(),
+                text.len(),
+                scratch.as_mut_ptr(),
+                scratch.len(),
+                buffer.as_mut_ptr(),
+                buffer.len(),
+                &mut length,
+            )
+        };
+        check(reason, length)?;
+        Ok(&buffer[..length])
+    }
+
     /// Returns the path, borrowed from the buffer.
     ///
     /// ```

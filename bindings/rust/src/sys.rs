@@ -362,6 +362,15 @@ extern "C" {
         scratch_room: usize,
         length: *mut usize,
     ) -> u32;
+    pub fn nard_lenient_text_fault(
+        bytes: *const u8,
+        byte_count: usize,
+        scratch: *mut u8,
+        scratch_room: usize,
+        buffer: *mut u16,
+        room: usize,
+        length: *mut usize,
+    ) -> u32;
     pub fn nard_load_option_write(
         attributes: usize,
         description: *const u16,

@@ -6,3 +6,4 @@ pub mod DevicePaths
 pub mod Building
 pub mod BootVariables
 pub mod NodeNumbers
+pub mod TextFaults

@@ -17,5 +17,6 @@ pub mod packed_units;
 pub mod paths;
 pub mod reasons;
 pub mod strings;
+pub mod text_faults;
 pub mod utf8_texts;
 pub mod without_case;
