@@ -23,8 +23,8 @@ pushed text (unit ∷ units) = appended text (with_separators (unit ∷ units))
 abbrev pub tail_of : Bool → List ℕ → List ℕ
 tail_of is_missing path = if is_missing then separator ∷ with_separators path else with_separators path
 
--- a push of the counted units from an index on: what the text becomes, where the units after them begin, and that
--- each was read once, or at most once where the push was refused
+-- a push of the counted units from an index on: what the text becomes, where the units after them begin, and
+-- that each was read once, or at most once where the push was refused
 pub record IsPushNext {E : Type 0} (old new : List ℕ) (before after : CountedUnits) (start : ℕ)
     (done : Result ℕ E) : Type 0 where
   pub ok : IfOk done (λ end. new ≡ old ++ with_separators (slice_range (counted_text before) start end))
