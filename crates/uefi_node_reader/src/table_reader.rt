@@ -3,12 +3,13 @@
 
 ghost use Rattle.std.specs.List.{list_all};
 ghost use Rattle.std.specs.Option.{option_map};
-ghost use Rattle.std.specs.Prelude.{◌≡◌, ◌<◌, ◌≤◌, ◌+◌, ◌^◌, IfSome, IsTrue, length, map, take};
+ghost use Rattle.std.specs.Prelude.{◌≡◌, None, false, ◌<◌, ◌≤◌, ◌+◌, ◌^◌, IfSome, IsTrue, length, map, take};
 ghost use Rattle.uefi_node_table.specs.Rows.{as_form, as_piece, is_within};
 ghost use Rattle.uefi_node_table.specs.Table.{forms};
 ghost use Rattle.uefi_device_nodes.specs.Nodes.{node_with};
 ghost use Rattle.uefi_node_reader.specs.TableReading.{are_within, blank, form_place, form_read, forms_read, is_filled, is_sound, kept, prints, put_all, rest_read, table_read};
 ghost use Rattle.uefi_node_reader.specs.TextNodes.{fitting};
+ghost use Rattle.uefi_node_reader.specs.WordReading.{after};
 ghost use Rattle.uefi_node_reader.specs.TextNodeViews.{data_of, text_node};
 
 use crate::fields::after;
@@ -112,6 +113,16 @@ fn form_place(kind: u8, sub_kind: u8, content: &[u8]) -> usize
     before
 }
 
+/// Whether a text may begin with the start of a form, by the first bytes of both: most forms go no further.
+fn begin_alike(start: &[u8], text: &[u8]) -> bool
+    ensures { result ≡ false → after start.now text.now ≡ None }
+{
+    match (start, text) {
+        ([first, ..], [byte, ..]) => first == byte,
+        _ => true,
+    }
+}
+
 /// Reads a node of the form at a place of the table, if it is printed in that form.
 fn read_kept<'a>(row: &Row, place: usize, text: &'a [u8]) -> Option<(TextNode<'a>, &'a [u8])>
     requires sound { IsTrue (is_sound (as_form row.now)) }
@@ -119,6 +130,9 @@ fn read_kept<'a>(row: &Row, place: usize, text: &'a [u8]) -> Option<(TextNode<'a
     ensures { option_map (λ x. (text_node x.0, x.1.now)) result
         ≡ kept forms place (as_form row.now) (form_read (as_form row.now) text.now) }
 {
+    if !begin_alike(row.start.as_bytes(), text) {
+        return None;
+    }
     let (node, rest) = read_row(row, text)?;
     if form_place(row.kind, row.sub_kind, node.head()) != place {
         return None;
