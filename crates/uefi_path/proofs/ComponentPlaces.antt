@@ -16,9 +16,7 @@ found n m true test low = refl
 found n m false test low = omega (arith, ltb-false n m test)
 
 pub found_or_after : (us : List ℕ) → unwrap_or (position is_separator us) (length us) ≡ position_or_len is_separator us
-found_or_after us =
-    let count = position_or_len is_separator us in
-    found count (length us) (nat_lt count (length us)) refl (prefix_len-le-length (λ v. not (is_separator v)) us)
+found_or_after us = grind (arith, found, prefix_len-le-length)
 
 -- the first of the pieces that are left from a place on, and those after it
 pub first_piece : (text : List ℕ) (start : ℕ) → start ≤ length text

@@ -2,8 +2,6 @@
 -- in a row, and their normal form holds names alone.
 use Rattle.std.proofs.Common.{◌≡◌, ℕ, zero, suc, ◌+◌, ◌<◌, ◌≤◌, ◌&&◌, Bool, nat_lt, IsTrue, List, [], ◌∷◌, ◌++◌, All, length, Option, None, Some, take, ap, sym, refl, subst, ◌∙◌, arith}
 use Rattle.std.specs.List.{slice_get}
-use Rattle.std.specs.Option.{option_or}
-use Rattle.std.proofs.lemmas.Bool.{and_parts, ltb-true}
 use Rattle.std.proofs.lemmas.List.Elements.{All-cons, All-head, All-nil, All-tail}
 use Rattle.std.proofs.lemmas.Option.{same_Some}
 use Rattle.uefi_path.specs.Climbing.{NoneClimbs, counted_dot_dot, counted_name, depth_after, dot_dots, names}
@@ -13,7 +11,7 @@ use Rattle.uefi_path.specs.Verdicts.{IsGood, fault, fault_at, first_fault}
 use Rattle.uefi_path.specs.declared.component_kinds.Kind.{Kind}
 use Rattle.uefi_path.specs.declared.component_kinds.Kind.TheVariants.{Dot, DotDot, Name}
 use Rattle.uefi_path.specs.declared.validation.PathError.{PathError}
-use Rattle.uefi_path.proofs.Rewriting.{kind-DotDot, kind-Name, name_kind}
+use Rattle.uefi_path.proofs.Rewriting.{kind-DotDot, name_kind}
 
 -- components that are accepted where this many names are left before them, and after a piece, unless it
 -- climbs
@@ -25,16 +23,11 @@ AcceptedAt cs left = fault_at left (first_fault cs) ≡ None
 
 pub first_accepted : (c : List ℕ) (cs : List (List ℕ)) (depth : ℕ) → Accepted (c ∷ cs) depth
     → IsGood c × AcceptedAt cs (depth_after (kind c) depth)
-first_accepted c cs depth accepted = neither (fault c) _ accepted
-  where
-    neither : (first second : Option PathError) → option_or first second ≡ None → (first ≡ None) × (second ≡ None)
-    neither None second e = (refl, e)
-    neither (Some error) second e = absurd (cc)
+first_accepted c cs depth accepted = grind arith
 
 pub with_first : (c : List ℕ) (cs : List (List ℕ)) (depth : ℕ) → IsGood c → AcceptedAt cs (depth_after (kind c) depth)
     → Accepted (c ∷ cs) depth
-with_first c cs depth good others =
-    ap (λ o. option_or o (fault_at (depth_after (kind c) depth) (first_fault cs))) good ∙ others
+with_first c cs depth good others = grind arith
 
 -- what holds of those that are accepted at some depth holds after a piece, at some depth then
 module _ (cs : List (List ℕ)) (P : Type 0) (holds : (depth : ℕ) → Accepted cs depth → P) where
@@ -45,8 +38,7 @@ module _ (cs : List (List ℕ)) (P : Type 0) (holds : (depth : ℕ) → Accepted
 pub good_components : (cs : List (List ℕ)) (depth : ℕ) → Accepted cs depth → All IsGood cs
 good_components [] depth accepted = All-nil IsGood
 good_components (c ∷ cs) depth accepted =
-    let first = first_accepted c cs depth accepted in
-    All-cons IsGood c cs first.0 (after_piece cs (All IsGood cs) (good_components cs) (depth_after (kind c) depth) first.1)
+    grind (arith, good_components cs, first_accepted, All-cons, after_piece)
 
 -- they are accepted also where more names are left before them, others stand after them, or only those but
 -- the last are left
@@ -60,9 +52,7 @@ module _ (cs ds : List (List ℕ)) (rest : (depth more : ℕ) → depth ≤ more
   onto Name depth more less others = rest (depth + 1) (more + 1) (omega (arith, less)) others
 
   with_same : (c : List ℕ) (depth more : ℕ) → depth ≤ more → Accepted (c ∷ cs) depth → Accepted (c ∷ ds) more
-  with_same c depth more less accepted =
-      let first = first_accepted c cs depth accepted in
-      with_first c ds more first.0 (onto (kind c) depth more less first.1)
+  with_same c depth more less accepted = grind (arith, first_accepted, with_first, onto)
 
 deeper : (cs : List (List ℕ)) (depth more : ℕ) → depth ≤ more → Accepted cs depth → Accepted cs more
 deeper [] depth more less accepted = refl
@@ -71,8 +61,7 @@ deeper (c ∷ cs) depth more less accepted = with_same cs cs (deeper cs) c depth
 append_deeper : (ds : List (List ℕ)) → Accepted ds 0 → (cs : List (List ℕ)) (depth more : ℕ) → depth ≤ more
     → Accepted cs depth → Accepted (cs ++ ds) more
 append_deeper ds after [] depth more less accepted = deeper ds 0 more (omega arith) after
-append_deeper ds after (c ∷ cs) depth more less accepted =
-    with_same cs (cs ++ ds) (append_deeper ds after cs) c depth more less accepted
+append_deeper ds after (c ∷ cs) depth more less accepted = grind (arith, append_deeper ds after cs, with_same)
 
 pub Accepted-append : (cs ds : List (List ℕ)) → Accepted cs 0 → Accepted ds 0 → Accepted (cs ++ ds) 0
 Accepted-append cs ds accepted after = append_deeper ds after cs 0 0 (omega arith) accepted
@@ -119,15 +108,12 @@ none_accepted (c ∷ cs) depth good none =
 module _ (c : List ℕ) (cs : List (List ℕ)) (rest : (depth : ℕ) → Accepted cs depth → NoneAbove cs depth) where
   none_where : (k : Kind) (depth : ℕ) → kind c ≡ k → AcceptedAt cs (depth_after k depth) → NoneAbove (c ∷ cs) depth
   none_where Dot depth e others zero up more = let k = ap kind (same_Some c dot_dot up) in cc
-  none_where Dot depth e others (suc place) up more =
-      rest depth others place up (omega (arith, ap counted_name e, ap counted_dot_dot e, more))
+  none_where Dot depth e others (suc place) up more = grind arith
   none_where DotDot zero e others place up more = cc
   none_where DotDot (suc depth) e others zero up more = omega (arith, more)
-  none_where DotDot (suc depth) e others (suc place) up more =
-      rest depth others place up (omega (arith, ap counted_name e, ap counted_dot_dot e, more))
+  none_where DotDot (suc depth) e others (suc place) up more = grind arith
   none_where Name depth e others zero up more = let k = ap kind (same_Some c dot_dot up) in cc
-  none_where Name depth e others (suc place) up more =
-      rest (depth + 1) others place up (omega (arith, ap counted_name e, ap counted_dot_dot e, more))
+  none_where Name depth e others (suc place) up more = grind arith
 
 accepted_none : (cs : List (List ℕ)) (depth : ℕ) → Accepted cs depth → NoneAbove cs depth
 accepted_none [] depth accepted place up more = cc
@@ -154,44 +140,30 @@ Begins (c ∷ cs) depth = begins_at (kind c) depth (All IsName cs) (Begins cs)
 names_begin : (cs : List (List ℕ)) (depth : ℕ) → All IsName cs → Begins cs depth
 names_begin [] depth all = tt
 names_begin (c ∷ cs) depth all =
-    subst (λ k. begins_at k depth (All IsName cs) (Begins cs)) (sym (name_kind c (All-head IsName c cs all)))
-    (All-tail IsName c cs all)
+    grind (arith, name_kind c (All-head IsName c cs all), All-head IsName c cs all, All-tail IsName c cs all)
 
 name_before : (k : Kind) (c d : List ℕ) (ds : List (List ℕ)) (depth : ℕ) → kind c ≡ Name → kind d ≡ k
     → begins_at k (depth + 1) (All IsName ds) (Begins ds) → Begins (before_piece k c d ds) depth
 name_before Dot c d ds depth e f begins = absurd begins
-name_before DotDot c d ds depth e f begins =
-    let more : depth + 1 ≡ suc depth = omega arith in
-    subst (λ left. begins_at DotDot left (All IsName ds) (Begins ds)) more begins
-name_before Name c d ds depth e f begins =
-    names_begin (c ∷ d ∷ ds) depth
-    (All-cons IsName c (d ∷ ds) (kind-Name c e) (All-cons IsName d ds (kind-Name d f) begins))
+name_before DotDot c d ds depth e f begins = grind arith
+name_before Name c d ds depth e f begins = grind arith
 
 piece_before : (k : Kind) (c : List ℕ) (cs ds : List (List ℕ)) (depth : ℕ) → kind c ≡ k
     → ((left : ℕ) → Accepted cs left → Begins ds left)
     → AcceptedAt cs (depth_after k depth) → Begins (before_normal k c ds) depth
 piece_before Dot c cs ds depth e begins others = begins depth others
 piece_before DotDot c cs ds zero e begins others = absurd (cc)
-piece_before DotDot c cs ds (suc depth) e begins others =
-    subst (λ k. begins_at k (suc depth) (All IsName ds) (Begins ds)) (sym e) (begins depth others)
-piece_before Name c cs [] depth e begins others =
-    names_begin (c ∷ []) depth (All-cons IsName c [] (kind-Name c e) (All-nil IsName))
-piece_before Name c cs (d ∷ ds) depth e begins others =
-    name_before (kind d) c d ds depth e refl (begins (depth + 1) others)
+piece_before DotDot c cs ds (suc depth) e begins others = grind arith
+piece_before Name c cs [] depth e begins others = grind arith
+piece_before Name c cs (d ∷ ds) depth e begins others = grind arith
 
 normal_begins : (cs : List (List ℕ)) (depth : ℕ) → Accepted cs depth → Begins (normal_of cs) depth
 normal_begins [] depth accepted = tt
-normal_begins (c ∷ cs) depth accepted =
-    piece_before (kind c) c cs (normal_of cs) depth refl (normal_begins cs) (first_accepted c cs depth accepted).1
+normal_begins (c ∷ cs) depth accepted = grind (arith, normal_begins cs, piece_before, first_accepted)
 
 all_names : (cs : List (List ℕ)) → Begins cs 0 → All IsName cs
 all_names [] begins = All-nil IsName
-all_names (c ∷ cs) begins = at (kind c) refl begins
-  where
-    at : (k : Kind) → kind c ≡ k → begins_at k 0 (All IsName cs) (Begins cs) → All IsName (c ∷ cs)
-    at Dot e b = absurd b
-    at DotDot e b = absurd b
-    at Name e b = All-cons IsName c cs (kind-Name c e) b
+all_names (c ∷ cs) begins = grind arith
 
 -- so it holds names alone
 pub names_of_normal : (cs : List (List ℕ)) → Accepted cs 0 → All IsName (normal_of cs)
@@ -199,11 +171,9 @@ names_of_normal cs accepted = all_names (normal_of cs) (normal_begins cs 0 accep
 
 -- one name more is left at most, and only after a name
 after_one : (k : Kind) (depth left : ℕ) → depth_after k depth ≡ Some left → (left ≤ depth + 1) × (depth < left → k ≡ Name)
-after_one Dot depth left e =
-    let same = same_Some depth left e in (omega (arith, same), λ more. absurd (omega (arith, same, more)))
+after_one Dot depth left e = grind arith
 after_one DotDot zero left e = absurd (cc)
-after_one DotDot (suc depth) left e =
-    let same = same_Some depth left e in (omega (arith, same), λ more. absurd (omega (arith, same, more)))
+after_one DotDot (suc depth) left e = grind arith
 after_one Name depth left e = (omega (arith, same_Some (depth + 1) left e), λ more. refl)
 
 -- where the components that are left have the fault, so has the next of them, or what is after it, or
@@ -211,16 +181,11 @@ after_one Name depth left e = (omega (arith, same_Some (depth + 1) left e), λ m
 module _ (found : Option PathError) (left : List (List ℕ)) (depth : ℕ) (same : first_fault left depth ≡ found) where
   pub fault_here : (c : List ℕ) (cs : List (List ℕ)) (error : PathError) → left ≡ c ∷ cs → fault c ≡ Some error
       → found ≡ Some error
-  fault_here c cs error e here =
-      sym same ∙ ap (λ pieces. first_fault pieces depth) e
-      ∙ ap (λ o. option_or o (fault_at (depth_after (kind c) depth) (first_fault cs))) here
+  fault_here c cs error e here = grind arith
 
   pub past_here : (c : List ℕ) (cs : List (List ℕ)) (after : Option ℕ) → left ≡ c ∷ cs → fault c ≡ None
       → depth_after (kind c) depth ≡ after → found ≡ fault_at after (first_fault cs)
-  past_here c cs after e good is =
-      sym same ∙ ap (λ pieces. first_fault pieces depth) e
-      ∙ ap (λ o. option_or o (fault_at (depth_after (kind c) depth) (first_fault cs))) good
-      ∙ ap (λ o. fault_at o (first_fault cs)) is
+  past_here c cs after e good is = grind arith
 
   pub none_here : left ≡ [] → found ≡ None
   none_here e = sym same ∙ ap (λ pieces. first_fault pieces depth) e
@@ -228,10 +193,7 @@ module _ (found : Option PathError) (left : List (List ℕ)) (depth : ℕ) (same
   -- all are names where those left are, and so where it is one and the others are
   pub names_here : (all : List (List ℕ)) (are : Bool) (c : List ℕ) (cs : List (List ℕ)) (after : ℕ) → (IsTrue are → All IsName left → All IsName all)
       → left ≡ c ∷ cs → depth_after (kind c) depth ≡ Some after → IsTrue (are && nat_lt depth after) → All IsName cs → All IsName all
-  names_here all are c cs after so_far e is more others =
-      let each = and_parts are (nat_lt depth after) more in
-      let is_name = kind-Name c ((after_one (kind c) depth after is).1 (ltb-true depth after each.1)) in
-      so_far each.0 (subst (All IsName) (sym e) (All-cons IsName c cs is_name others))
+  names_here all are c cs after so_far e is more others = grind arith
 
   pub room_here : (c : List ℕ) (cs : List (List ℕ)) (after limit : ℕ) → left ≡ c ∷ cs → depth_after (kind c) depth ≡ Some after
       → depth + length left < limit → after + length cs < limit

@@ -1,44 +1,54 @@
--- A text that is made of components, added one after the other: how long it is so far, and what is
--- still to come.
-use Rattle.std.proofs.Common.{subst, IsTrue, ◌↔◌, cond, ◌≡◌, ℕ, ◌+◌, ◌≤◌, List, [], ◌∷◌, ◌++◌, length, All, Bool, true, false, not, if◌then◌else◌, inl, inr, drop, set, ◌-◌, ap, refl, sym, ◌∙◌, arith, length-append, ◌<◌, Some, Option, replicate, add_comm, append_assoc}
-use borrow.Rule.Slice.PartMut.{put_mid}
+-- A path that is added to a buffer, part by part: components that make a parent, and what a push adds.
+use Rattle.std.proofs.Common.{append_assoc, ◌-◌, ◌≢◌, ◌==◌, get_or, suc, subst, IsTrue, ◌↔◌, ◌≡◌, ℕ, ◌^◌, List, [], ◌∷◌, ◌++◌, length, All, Bool, true, false, not, if◌then◌else◌, inl, inr, ap, refl, sym, ◌∙◌, arith, ◌<◌, None, Some, Option}
 use Rattle.std.specs.List.{fold}
 use Rattle.std.proofs.lemmas.Bool.{cases_Bool}
-use Rattle.std.proofs.lemmas.List.{drop_at, drop-drop, drop-replicate, length-replicate, append-nil, drop_all, length-map, map-append, take_at}
-use Rattle.uefi_text.specs.Units.{IsText, IsTextUnit, nul_terminated, replaced}
+use Rattle.std.proofs.lemmas.List.{append-nil, get_or-map, length-map, map-append}
 use Rattle.std.proofs.lemmas.List.Elements.{All-head, All-tail}
+use Rattle.uefi_text.specs.Units.{IsText, IsTextUnit, replaced}
+use Rattle.uefi_text.specs.UnitTexts.{AreSunk}
 use Rattle.uefi_path.specs.Components.{IsPiece, joined}
-use Rattle.uefi_path.specs.Writing.{begun_with}
-use Rattle.std.specs.Option.{IfSome, option_map}
 use Rattle.uefi_path.specs.Parents.{all_but_last, is_non_empty, parent_of_components, rejoined}
-use Rattle.uefi_path.specs.Pushing.{appended, needs_separator}
-use Rattle.uefi_path.specs.Separators.{separator, slash, with_separators}
-use Rattle.uefi_path.proofs.Parents.{after_separator, needs_separator-append, closed, open_piece, All-all_but_last, parent_of_components-many, rejoined-added}
+use Rattle.uefi_path.specs.Pushing.{appended, needs_separator, pushed, tail_of}
+use Rattle.uefi_path.specs.Separators.{is_separator, separator, slash, with_separators}
+use Rattle.uefi_path.specs.Writing.{IsSunk}
 use Rattle.uefi_path.proofs.ParentForm.{All-rejoined}
+use Rattle.uefi_path.proofs.Parents.{after_separator, needs_separator-append, closed, open_piece, All-all_but_last, parent_of_components-many, rejoined-added}
+use Rattle.uefi_path.proofs.ParentSizes.{parent_of_components-shorter}
 use Rattle.uefi_path.proofs.Pushing.{with_separators-plain}
 use Rattle.uefi_path.proofs.Splitting.{IsPlain-with_separators}
 use Rattle.uefi_path.proofs.TailUnits.{IsText-with_separators, IsTextUnit-separator}
-use Rattle.std.proofs.lemmas.Option.{same_Some}
-use Rattle.uefi_path.proofs.IntoBuffers.{changed}
-use Rattle.uefi_path.proofs.ParentSizes.{parent_of_components-shorter}
 
--- what is added after a text: a separator where one is missing, and the component
-abbrev pub tail_of : Bool → List ℕ → List ℕ
-tail_of is_missing piece = if is_missing then separator ∷ piece else piece
+-- whether a separator is missing after a text whose slashes are replaced
+pub needs_replaced : (text : List ℕ) → text ≢ []
+    → not (is_separator (replaced slash separator (get_or text (length text - 1) 0))) ≡ needs_separator (with_separators text)
+needs_replaced [] some = absurd (some refl)
+needs_replaced (u ∷ us) some =
+    let by = replaced slash separator in
+    let last : length us ≡ suc (length us) - 1 = omega arith in
+    ap (λ n. not (is_separator (by (get_or (u ∷ us) n 0)))) (sym last)
+    ∙ ap (λ v. not (is_separator v)) (sym (get_or-map by (u ∷ us) (length us) 0 0 (omega arith)))
+    ∙ ap (λ n. not (is_separator (get_or (with_separators (u ∷ us)) n 0))) (sym (length-map us by))
 
-pub appended_tail : (text piece : List ℕ) → appended text piece ≡ text ++ tail_of (needs_separator text) piece
-appended_tail text piece =
+-- what is added after a text, and after one whose slashes are replaced
+pub pushed_tail : (text path : List ℕ) (needs empty : Bool) → needs ≡ needs_separator text → empty ≡ (length path == 0)
+    → empty ≡ false → text ++ tail_of needs path ≡ pushed text path
+pushed_tail text [] needs empty is says fails = absurd (cc)
+pushed_tail text (u ∷ us) true empty is says fails = rw (sym is) refl
+pushed_tail text (u ∷ us) false empty is says fails = rw (sym is) refl
+
+pub part_tail : (path part : List ℕ) (is_missing : Bool)
+    → (if is_missing then path ++ separator ∷ [] else path) ++ with_separators part ≡ path ++ tail_of is_missing part
+part_tail path part true = append_assoc path (separator ∷ []) (with_separators part)
+part_tail path part false = refl
+
+pub replaced_tail : (text part : List ℕ)
+    → with_separators text ++ tail_of (needs_separator text) part ≡ with_separators (appended text part)
+replaced_tail text part =
     elim (needs_separator text)
-    as (λ b. (if b then text ++ separator ∷ piece else text ++ piece) ≡ text ++ tail_of b piece)
-    [ true ↦ refl | false ↦ refl ]
-
--- how long that is
-abbrev pub missing_count : Bool → ℕ
-missing_count is_missing = cond is_missing 1 0
-
-length-tail : (is_missing : Bool) (piece : List ℕ) → length (tail_of is_missing piece) ≡ missing_count is_missing + length piece
-length-tail true piece = omega arith
-length-tail false piece = omega arith
+    as (λ b. with_separators text ++ tail_of b part ≡ with_separators (if b then text ++ separator ∷ part else text ++ part)) [
+      | true ↦ sym (map-append (replaced slash separator) text (separator ∷ part))
+      | false ↦ sym (map-append (replaced slash separator) text part)
+    ]
 
 -- a separator is missing after a component exactly where it is not empty
 pub needs_separator-appended : (text piece : List ℕ) → IsPiece piece
@@ -57,21 +67,9 @@ needs_separator-appended text (u ∷ us) is =
       | false ↦ needs_separator-append text u us ∙ own
     ]
 
--- a text grows
-pub fold_grows : (text : List ℕ) (pieces : List (List ℕ)) → length text ≤ length (fold appended text pieces)
-fold_grows text [] = omega arith
-fold_grows text (piece ∷ pieces) =
-    omega (
-      arith,
-      ap length (appended_tail text piece),
-      length-append text (tail_of (needs_separator text) piece),
-      fold_grows (appended text piece) pieces,
-    )
-
--- a text so far: how long it is, whether a separator is missing after it, and that adding the pieces to
--- come but the last makes the whole
-pub record IsDraft (text : List ℕ) (len : ℕ) (is_missing : Bool) (pieces : List (List ℕ)) (whole : List ℕ) : Type 0 where
-  pub len_is : len ≡ length text
+-- a text so far: its units were added to a buffer, and adding the pieces to come but the last makes the whole
+pub record IsDraft (text old buffer : List ℕ) (len : ℕ) (is_missing : Bool) (pieces : List (List ℕ)) (whole : List ℕ) : Type 0 where
+  pub sunk : AreSunk (with_separators text) old buffer len
   pub missing : is_missing ≡ needs_separator text
   pub are_pieces : All IsPiece pieces
   pub to_come : fold appended text (all_but_last pieces) ≡ whole
@@ -82,24 +80,17 @@ non_empty_by is_empty [] is = ap not (is.1 refl)
 non_empty_by true (u ∷ us) is = absurd (omega (arith, ap length (is.0 refl)))
 non_empty_by false (u ∷ us) is = refl
 
--- how long it is with one component more
-length-more : (text : List ℕ) (len : ℕ) (is_missing : Bool) (piece : List ℕ) (left : List (List ℕ)) (whole : List ℕ)
-    → IsDraft text len is_missing (piece ∷ left) whole → len + missing_count is_missing + length piece ≡ length (appended text piece)
-length-more text len is_missing piece left whole d =
-    let appended_len = length-append text (tail_of (needs_separator text) piece) in
-    omega (arith, d.len_is, ap missing_count d.missing, ap length (appended_tail text piece), appended_len, length-tail (needs_separator text) piece)
-
 -- one component more, where another follows it
-pub draft_next : (text : List ℕ) (len : ℕ) (is_missing : Bool) (piece : List ℕ) (left : List (List ℕ)) (whole : List ℕ)
-    (next : List ℕ) (pieces : List (List ℕ)) (end : ℕ) (is_empty : Bool)
-    → IsDraft text len is_missing (piece ∷ left) whole → left ≡ next ∷ pieces
-    → end ≡ len + missing_count is_missing + length piece → (IsTrue is_empty ↔ (piece ≡ []))
-    → IsDraft (appended text piece) end (not is_empty) (next ∷ pieces) whole
-draft_next text len is_missing piece left whole next pieces end is_empty draft follows ends empty =
-    let d : IsDraft text len is_missing (piece ∷ next ∷ pieces) whole =
-    subst (λ ps. IsDraft text len is_missing (piece ∷ ps) whole) follows draft in
+pub draft_next : (text old buffer : List ℕ) (len : ℕ) (is_missing : Bool) (piece : List ℕ) (left : List (List ℕ)) (whole : List ℕ)
+    (next : List ℕ) (pieces : List (List ℕ)) (new : List ℕ) (end : ℕ) (is_empty : Bool)
+    → IsDraft text old buffer len is_missing (piece ∷ left) whole → left ≡ next ∷ pieces
+    → AreSunk (with_separators text ++ tail_of is_missing piece) old new end → (IsTrue is_empty ↔ (piece ≡ []))
+    → IsDraft (appended text piece) old new end (not is_empty) (next ∷ pieces) whole
+draft_next text old buffer len is_missing piece left whole next pieces new end is_empty draft follows sunk empty =
+    let d : IsDraft text old buffer len is_missing (piece ∷ next ∷ pieces) whole =
+    subst (λ ps. IsDraft text old buffer len is_missing (piece ∷ ps) whole) follows draft in
     record {
-      len_is = ends ∙ length-more text len is_missing piece left whole draft;
+      sunk = subst (λ us. AreSunk us old new end) (ap (λ b. with_separators text ++ tail_of b piece) d.missing ∙ replaced_tail text piece) sunk;
       missing =
           non_empty_by is_empty piece empty
           ∙ sym (needs_separator-appended text piece (All-head IsPiece piece (next ∷ pieces) d.are_pieces));
@@ -107,97 +98,16 @@ draft_next text len is_missing piece left whole next pieces end is_empty draft f
       to_come = d.to_come;
     }
 
--- it is the whole, where no other follows
-pub draft_done : (text : List ℕ) (len : ℕ) (is_missing : Bool) (piece : List ℕ) (left : List (List ℕ)) (whole : List ℕ)
-    → IsDraft text len is_missing (piece ∷ left) whole → left ≡ [] → text ≡ whole
-draft_done text len is_missing piece left whole draft none =
-    ap (λ ps. fold appended text (all_but_last (piece ∷ ps))) (sym none) ∙ draft.to_come
+-- the parent of two components or more was added, where no other follows
+pub draft_done : (text old buffer : List ℕ) (len : ℕ) (is_missing : Bool) (piece : List ℕ) (left pieces : List (List ℕ))
+    → IsDraft text old buffer len is_missing (piece ∷ left) (fold appended [] (all_but_last pieces)) → left ≡ []
+    → All IsPiece pieces → 1 < length pieces → IsSunk (parent_of_components pieces) (Some len) old buffer
+draft_done text old buffer len is_missing piece left pieces draft none are many =
+    let whole : text ≡ rejoined (all_but_last pieces) =
+    ap (λ ps. fold appended text (all_but_last (piece ∷ ps))) (sym none) ∙ draft.to_come ∙ rejoined-added pieces are in
+    rw (parent_of_components-many pieces many) (subst (λ us. AreSunk (with_separators us) old buffer len) whole draft.sunk)
 
--- it is no longer than the whole then
-pub draft_more_fits : (text : List ℕ) (len : ℕ) (is_missing : Bool) (piece : List ℕ) (left : List (List ℕ)) (whole : List ℕ)
-    (next : List ℕ) (pieces : List (List ℕ))
-    → IsDraft text len is_missing (piece ∷ left) whole → left ≡ next ∷ pieces
-    → len + missing_count is_missing + length piece ≤ length whole
-draft_more_fits text len is_missing piece left whole next pieces draft follows =
-    let more = length-more text len is_missing piece left whole draft in
-    let d = subst (λ ps. IsDraft text len is_missing (piece ∷ ps) whole) follows draft in
-    omega (arith, more, fold_grows (appended text piece) (all_but_last (next ∷ pieces)), ap length d.to_come)
-
--- a buffer that begins with a draft, each slash replaced, with one component more
-pub draft_written : (text piece old buffer places : List ℕ) (len end : ℕ) → len ≡ length text
-    → end ≡ length (appended text piece) → end ≤ length old
-    → buffer ≡ with_separators text ++ drop (length text) old
-    → places ≡ with_separators (tail_of (needs_separator text) piece)
-    → put_mid len (end - len) buffer places
-    ≡ with_separators (appended text piece) ++ drop (length (appended text piece)) old
-draft_written text piece old buffer places len end starts ends room is wrote =
-    let tail = tail_of (needs_separator text) piece in
-    let replaces = replaced slash separator in
-    let front = with_separators text in
-    let size : length front ≡ len = length-map text replaces ∙ sym starts in
-    let sum : length (appended text piece) ≡ length text + length tail = ap length (appended_tail text piece) ∙ length-append text tail in
-    let rest : end - len + length text ≡ end = omega (arith, starts, ends, sum) in
-    ap (λ us. put_mid len (end - len) us places) is
-    ∙ ap (λ us. us ++ (places ++ drop (end - len) (drop len (front ++ drop (length text) old)))) (take_at front (drop (length text) old) len size)
-    ∙ ap (λ us. front ++ (places ++ drop (end - len) us)) (drop_at front (drop (length text) old) len size)
-    ∙ ap (λ us. front ++ (places ++ us)) (drop-drop (end - len) (length text) old)
-    ∙ ap (λ n. front ++ (places ++ drop n old)) (add_comm (length text) (end - len) ∙ rest ∙ ends)
-    ∙ ap (λ us. front ++ (us ++ drop (length (appended text piece)) old)) wrote
-    ∙ sym (append_assoc front (with_separators tail) (drop (length (appended text piece)) old))
-    ∙ ap (λ us. us ++ drop (length (appended text piece)) old)
-    (sym (map-append replaces text tail) ∙ ap with_separators (sym (appended_tail text piece)))
-
--- a separator that was written first stays before what is written after it
-pub separator_before : (places added : List ℕ) (k : ℕ) → length places ≡ length added + 1
-    → k ≡ length (set places 0 separator) - 1 → put_mid 1 k (set places 0 separator) added ≡ separator ∷ added
-separator_before [] added k long same = absurd (omega arith)
-separator_before (t ∷ ts) added k long same =
-    let none : drop k ts ≡ [] = drop_all k ts (omega arith) in
-    ap (λ us. separator ∷ us) (ap (λ us. added ++ us) none ∙ append-nil added)
-
--- the components but the last, added one after the other
-abbrev pub made : List (List ℕ) → List ℕ
-made pieces = fold appended [] (all_but_last pieces)
-
--- their parent, where there are two or more
-parent_made : (pieces : List (List ℕ)) → All IsPiece pieces → 1 < length pieces
-    → parent_of_components pieces ≡ Some (with_separators (made pieces))
-parent_made pieces are many =
-    parent_of_components-many pieces many ∙ ap (λ us. Some (with_separators us)) (sym (rejoined-added pieces are))
-
-pub made_len : (pieces : List (List ℕ)) (len : ℕ) → All IsPiece pieces → 1 < length pieces → len ≡ length (made pieces)
-    → Some len ≡ option_map length (parent_of_components pieces)
-made_len pieces len are many counted =
-    ap Some (counted ∙ sym (length-map (made pieces) (replaced slash separator)))
-    ∙ sym (ap (option_map length) (parent_made pieces are many))
-
--- how long it is
-pub made_shorter : (pieces : List (List ℕ)) → All IsPiece pieces → length (made pieces) ≤ length (joined pieces)
-made_shorter [] are = omega arith
-made_shorter (p ∷ []) are = omega arith
-made_shorter (p ∷ q ∷ ps) are =
-    let text = made (p ∷ q ∷ ps) in
-    omega (
-      arith,
-      length-map text (replaced slash separator),
-      parent_of_components-shorter (p ∷ q ∷ ps) (with_separators text) are (parent_made (p ∷ q ∷ ps) are (omega arith)),
-    )
-
--- a buffer that begins with it
-pub made_written : (pieces : List (List ℕ)) (old buffer : List ℕ) → All IsPiece pieces
-    → length (made pieces) ≤ length old
-    → buffer ≡ with_separators (made pieces) ++ drop (length (made pieces)) old
-    → buffer ≡ begun_with (parent_of_components pieces) old
-made_written [] old buffer are fits is = is
-made_written (p ∷ []) old buffer are fits is = is
-made_written (p ∷ q ∷ ps) old buffer are fits is =
-    let text = made (p ∷ q ∷ ps) in
-    let size = length-map text (replaced slash separator) in
-    is
-    ∙ ap (λ n. with_separators text ++ drop n old) (sym size)
-    ∙ changed _ _ old (parent_made (p ∷ q ∷ ps) are (omega arith))
-
--- a parent, by its length
+-- a parent, by the number of its units
 pub record IsMade (pieces : List (List ℕ)) (len : ℕ) : Type 0 where
   pub parent : List ℕ
   pub is : parent_of_components pieces ≡ Some parent
@@ -206,38 +116,40 @@ pub record IsMade (pieces : List (List ℕ)) (len : ℕ) : Type 0 where
   pub is_text : IsText parent
   pub plain : with_separators parent ≡ parent
 
-pub is_made : (pieces : List (List ℕ)) (len : ℕ) → All IsText pieces → All IsPiece pieces
-    → option_map length (parent_of_components pieces) ≡ Some len → IsMade pieces len
-is_made [] len texts are known = absurd (cc)
-is_made (p ∷ []) len texts are known = absurd (cc)
-is_made (p ∷ q ∷ ps) len texts are known =
-    let kept = rejoined (all_but_last (p ∷ q ∷ ps)) in
-    let text = with_separators kept in
-    let long : length text ≡ len = same_Some _ _ known in
-    record {
-      parent = text;
-      is = refl;
-      long = sym long;
-      shorter = omega (arith, long, parent_of_components-shorter (p ∷ q ∷ ps) text are refl);
-      is_text =
-          IsText-with_separators kept
-          (All-rejoined IsTextUnit (all_but_last (p ∷ q ∷ ps)) IsTextUnit-separator
-          (All-all_but_last IsText (p ∷ q ∷ ps) texts));
-      plain = with_separators-plain text (IsPlain-with_separators kept);
-    }
+pub is_made : (pieces copied : List (List ℕ)) (told : Option ℕ) (old buffer : List ℕ) (len : ℕ) → All IsText pieces → All IsPiece pieces
+    → length (joined pieces) < 2 ^ 64 → told ≡ Some len → copied ≡ pieces → IsSunk (parent_of_components copied) told old buffer
+    → IsMade pieces len
+is_made pieces copied told old buffer len texts are bound known same sunk =
+    go pieces texts are bound (subst (λ told. IsSunk (parent_of_components pieces) told old buffer) known
+    (subst (λ ps. IsSunk (parent_of_components ps) told old buffer) same sunk))
+  where
+    go : (pieces : List (List ℕ)) → All IsText pieces → All IsPiece pieces → length (joined pieces) < 2 ^ 64
+        → IsSunk (parent_of_components pieces) (Some len) old buffer → IsMade pieces len
+    go [] texts are bound sunk = absurd (cc)
+    go (p ∷ []) texts are bound sunk = absurd (cc)
+    go (p ∷ q ∷ ps) texts are bound sunk =
+        let kept = rejoined (all_but_last (p ∷ q ∷ ps)) in
+        let text = with_separators kept in
+        let shorter = parent_of_components-shorter (p ∷ q ∷ ps) text are refl in
+        let long : len ≡ length text = omega (arith, sunk.count, shorter, bound) in
+        record {
+          parent = text;
+          is = refl;
+          long = long;
+          shorter = omega (arith, long, shorter);
+          is_text =
+              IsText-with_separators kept
+              (All-rejoined IsTextUnit (all_but_last (p ∷ q ∷ ps)) IsTextUnit-separator
+              (All-all_but_last IsText (p ∷ q ∷ ps) texts));
+          plain = with_separators-plain text (IsPlain-with_separators kept);
+        }
 
--- written over NULs, one of them after it, it is a string
-pub written_string : (pieces : List (List ℕ)) (len : ℕ) (old new : List ℕ) (told : Option ℕ) (made : IsMade pieces len)
-    → old ≡ replicate (len + 1) 0 → told ≡ option_map length (parent_of_components pieces)
-    → (IfSome told (λ len. len ≤ length old) → new ≡ begun_with (parent_of_components pieces) old)
-    → new ≡ nul_terminated made.parent
-written_string pieces len old new told made zeros is wrote =
-    let size : length old ≡ len + 1 = ap length zeros ∙ length-replicate (len + 1) 0 in
-    let one : len + 1 - length made.parent ≡ 1 = omega (arith, made.long) in
-    let nul : drop (length made.parent) old ≡ 0 ∷ [] =
-    ap (drop (length made.parent)) zeros
-    ∙ drop-replicate (length made.parent) (len + 1) 0
-    ∙ ap (λ n. replicate n 0) one in
-    let fits : IfSome told (λ len. len ≤ length old) =
-    subst (λ told. IfSome told (λ len. len ≤ length old)) (sym (is ∙ ap (option_map length) made.is)) (omega (arith, made.long, size)) in
-    wrote fits ∙ sym (changed _ _ old made.is) ∙ ap (λ us. made.parent ++ us) nul
+-- its units, where it is added once more
+pub sunk_parent : (made : Option (List ℕ)) (told : Option ℕ) (parent old buffer : List ℕ) → made ≡ Some parent
+    → IsSunk made told old buffer → (len : ℕ) × AreSunk parent old buffer len
+sunk_parent made told parent old buffer is sunk =
+    go told (subst (λ m. IsSunk m told old buffer) is sunk)
+  where
+    go : (told : Option ℕ) → IsSunk (Some parent) told old buffer → (len : ℕ) × AreSunk parent old buffer len
+    go None sunk = absurd sunk
+    go (Some len) sunk = (len, sunk)

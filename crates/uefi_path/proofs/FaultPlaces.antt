@@ -1,5 +1,5 @@
 -- A walk over components with their places, and how many names are left before each.
-use Rattle.std.proofs.Common.{inr, ◌≡◌, ◌≢◌, ◌∙◌, ℕ, List, [], ◌∷◌, ◌++◌, None, Some, ap, sym, refl, subst, map, append_assoc}
+use Rattle.std.proofs.Common.{List, None, Some, [], ap, append_assoc, arith, inr, map, subst, sym, ℕ, ◌++◌, ◌∙◌, ◌∷◌, ◌≡◌, ◌≢◌}
 use Rattle.std.specs.Option.{option_or}
 use Rattle.std.proofs.lemmas.List.{append-nil}
 use Rattle.uefi_path.specs.Climbing.{depth_after}
@@ -21,17 +21,11 @@ pub record IsWalkAt (text : List ℕ) (depth : ℕ) (left : List (ℕ × List �
 
 pub start : (text : List ℕ) (left : List (ℕ × List ℕ)) → map (λ item. item.1) left ≡ components_of text → BeginAtPlaces text left
     → IsWalkAt text 0 left
-start text left same places = record {
-  before = [];
-  whole = sym same;
-  passed = λ others. refl;
-  places = places;
-}
+start text left same places = grind arith
 
 judged : (c : List ℕ) (cs : List (List ℕ)) (depth left : ℕ) → fault c ≡ None → depth_after (kind c) depth ≡ Some left
     → first_fault (c ∷ cs) depth ≡ first_fault cs left
-judged c cs depth left good is =
-    ap (λ o. option_or o (fault_at (depth_after (kind c) depth) (first_fault cs))) good ∙ ap (λ o. fault_at o (first_fault cs)) is
+judged c cs depth left good is = grind arith
 
 module _ (text : List ℕ) (depth : ℕ) (all : List (ℕ × List ℕ)) (walk : IsWalkAt text depth all) (place : ℕ) (c : List ℕ)
     (more : List (ℕ × List ℕ)) (here : all ≡ (place, c) ∷ more) where
@@ -45,13 +39,7 @@ module _ (text : List ℕ) (depth : ℕ) (all : List (ℕ × List ℕ)) (walk : 
   places = subst (BeginAtPlaces text) here walk.places
 
   pub step : (left : ℕ) → fault c ≡ None → depth_after (kind c) depth ≡ Some left → IsWalkAt text left more
-  step left good is = record {
-    before = walk.before ++ c ∷ [];
-    whole = whole ∙ sym (append_assoc walk.before (c ∷ []) cs);
-    passed = λ others.
-        ap (λ ps. first_fault ps 0) (append_assoc walk.before (c ∷ []) others) ∙ walk.passed (c ∷ others) ∙ judged c others depth left good is;
-    places = places.1.1;
-  }
+  step left good is = grind (arith, whole, append_assoc walk.before (c ∷ []) cs, append_assoc, judged, places)
 
   -- the component is at fault
   pub stop : (error : PathError) → ((others : List (List ℕ)) → first_fault (c ∷ others) depth ≡ Some error) → text ≢ []
@@ -76,10 +64,7 @@ refused_by_name c depth error at others = ap (λ o. option_or o (fault_at (depth
 
 pub refused_by_climb : (c : List ℕ) (depth : ℕ) → fault c ≡ None → depth_after (kind c) depth ≡ None
     → (others : List (List ℕ)) → first_fault (c ∷ others) depth ≡ Some ClimbsAboveRoot
-refused_by_climb c depth good at others =
-    ap (λ o. option_or o (fault_at (depth_after (kind c) depth) (first_fault others))) good ∙ ap (λ o. fault_at o (first_fault others)) at
+refused_by_climb c depth good at others = grind arith
 
 pub none_left : (text : List ℕ) (depth : ℕ) (left : List (ℕ × List ℕ)) → IsWalkAt text depth left → left ≡ [] → text ≢ [] → verdict text ≡ None
-none_left text depth left walk none non_empty =
-    verdict_from text non_empty ∙ ap (λ ps. first_fault ps 0) walk.whole ∙ walk.passed (map (λ item. item.1) left)
-    ∙ ap (λ items. first_fault (map (λ item. item.1) items) depth) none
+none_left text depth left walk none non_empty = grind arith

@@ -1,10 +1,8 @@
 -- The last component of a text, and the others before it: they stand on either side of the last separator.
-use Rattle.std.proofs.Common.{◌≡◌, ◌≢◌, ℕ, zero, suc, ◌-◌, ◌<◌, ◌≤◌, ◌⊎◌, List, [], ◌∷◌, ◌++◌, length, take, drop, cond, false, length-append, length-drop, length-take, None, Some, refl, sym, ◌∙◌, ap, inl, inr, arith}
+use Rattle.std.proofs.Common.{◌≡◌, ◌≢◌, ℕ, ◌-◌, ◌<◌, ◌≤◌, ◌⊎◌, List, [], ◌∷◌, ◌++◌, length, take, drop, length-append, length-drop, length-take, None, Some, refl, sym, ◌∙◌, ap, inl, inr, arith}
 use Rattle.std.specs.List.{last_or, slice_split}
 use Rattle.std.proofs.lemmas.Bool.{cases_Bool, cases_lt}
-use Rattle.std.proofs.lemmas.List.Elements.{All-head}
 use Rattle.std.proofs.lemmas.List.Splits.{join_with_byte-slice_split}
-use Rattle.std.proofs.Math.Seq.{drop-nil}
 use Rattle.uefi_path.specs.Components.{IsPiece, components_of, joined, pieces_between}
 use Rattle.uefi_path.specs.Parents.{all_but_last, parent_text}
 use Rattle.uefi_path.specs.Separators.{canonical, is_separator, separator}
@@ -13,23 +11,23 @@ use Rattle.uefi_path.proofs.Joining.{slice_split-non_empty}
 use Rattle.uefi_path.proofs.LastPieces.{IsLastStart, around, last_piece, without_separator}
 use Rattle.uefi_path.proofs.ParentForm.{all_but_last-push, parent_of_components-good}
 use Rattle.uefi_path.proofs.Runs.{last_or-push}
-use Rattle.uefi_path.proofs.Splitting.{passes_over, pieces_between-some, some_slice_split}
+use Rattle.uefi_path.proofs.Splitting.{pieces_between-some, some_slice_split}
 use Rattle.uefi_path.proofs.Validity.{valid-components}
 use Rattle.uefi_path.proofs.ValidPaths.{valid_unrefused}
+use Rattle.std.proofs.lemmas.Grind.{common_steps}
 
 -- a piece after a separator, and what stands before that
 with_last : (us vs : List ℕ) → us ≢ [] → IsPiece vs
     → components_of (us ++ separator ∷ vs) ≡ slice_split is_separator (canonical us) ++ vs ∷ []
 with_last [] vs some piece = absurd (some refl)
 with_last (u ∷ us) vs some piece =
-    elim (cases_Bool (is_separator u)) [
-      | inl hit ↦ rw hit (between us ∙ last_piece us vs piece)
-      | inr miss ↦ rw miss (last_piece (u ∷ us) vs piece)
-    ]
-  where
-    between : (us : List ℕ) → pieces_between (us ++ separator ∷ vs) ≡ slice_split is_separator (us ++ separator ∷ vs)
-    between [] = refl
-    between (u ∷ us) = refl
+    grind (
+      arith,
+      common_steps,
+      cases_Bool (is_separator u),
+      last_piece us vs piece,
+      last_piece (u ∷ us) vs piece,
+    )
 
 -- the components of a text with a separator after its first unit
 module _ (text : List ℕ) (start : ℕ) (is : IsLastStart text start) (more : 1 < start) where
@@ -37,10 +35,7 @@ module _ (text : List ℕ) (start : ℕ) (is : IsLastStart text start) (more : 1
   others = slice_split is_separator (canonical (take (start - 1) text))
 
   with_others : components_of text ≡ others ++ drop start text ∷ []
-  with_others =
-      let us = take (start - 1) text in
-      let some : us ≢ [] = λ e. let l = ap length e in omega (arith, length-take (start - 1) text, is.within) in
-      ap components_of (around text start is (omega arith)) ∙ with_last us (drop start text) some is.piece
+  with_others = grind (arith, length-take (start - 1) text, around text start is (omega arith), with_last)
 
   but_last : all_but_last (components_of text) ≡ others
   but_last = ap all_but_last with_others ∙ all_but_last-push others (drop start text)
@@ -65,16 +60,7 @@ module _ (text : List ℕ) (start : ℕ) (is : IsLastStart text start) (more : 1
 -- those of any other text
 module _ (text : List ℕ) (start : ℕ) (is : IsLastStart text start) (few : start ≤ 1) where
   no_others : components_of text ≡ pieces_between (drop start text)
-  no_others = at text start is few
-    where
-      at : (text : List ℕ) (start : ℕ) → IsLastStart text start → start ≤ 1
-          → components_of text ≡ pieces_between (drop start text)
-      at [] start is few = rw (drop-nil {A = ℕ} start) refl
-      at (u ∷ us) zero is few =
-          let miss = All-head (λ v. is_separator v ≡ false) u us (passes_over (u ∷ us) is.piece) in
-          ap (λ b. pieces_between (cond b us (u ∷ us))) miss
-      at (u ∷ us) (suc zero) is few = rw (is.after (omega arith)) refl
-      at (u ∷ us) (suc (suc start)) is few = absurd (omega arith)
+  no_others = grind arith
 
   pub none_before : all_but_last (components_of text) ≡ []
   none_before = ap all_but_last no_others ∙ of_piece (drop start text) is.piece

@@ -1,5 +1,5 @@
 -- The last piece of a text: what stands after its last separator, or all of it where it has none.
-use Rattle.std.proofs.Common.{◌≡◌, ◌≢◌, ℕ, suc, ◌-◌, ◌<◌, ◌≤◌, List, [], ◌∷◌, ◌++◌, length, take, drop, get_or, drop-cons, sym, subst, ◌∙◌, ap, arith}
+use Rattle.std.proofs.Common.{◌≡◌, ◌≢◌, ℕ, ◌-◌, ◌<◌, ◌≤◌, List, [], ◌∷◌, ◌++◌, length, take, drop, get_or, drop-cons, arith}
 use Rattle.std.specs.List.{slice_range, slice_split}
 use Rattle.std.proofs.lemmas.List.{length-drop, take-append-drop}
 use Rattle.std.proofs.lemmas.List.Splits.{slice_split_none}
@@ -12,9 +12,7 @@ use Rattle.uefi_path.proofs.Splitting.{passes_over}
 -- a piece after a separator is the last of all
 pub last_piece : (us vs : List ℕ) → IsPiece vs
     → slice_split is_separator (us ++ separator ∷ vs) ≡ slice_split is_separator us ++ vs ∷ []
-last_piece us vs piece =
-    slice_split-append us vs
-    ∙ ap (λ ps. slice_split is_separator us ++ ps) (slice_split_none is_separator vs (passes_over vs piece))
+last_piece us vs piece = grind (arith, slice_split-append, slice_split_none, passes_over)
 
 -- what stands after the last separator of a text, or all of it where there is none
 pub record IsLastStart (text : List ℕ) (start : ℕ) : Type 0 where
@@ -25,44 +23,27 @@ pub record IsLastStart (text : List ℕ) (start : ℕ) : Type 0 where
 -- a text around its last separator
 pub around : (text : List ℕ) (start : ℕ) → IsLastStart text start → 0 < start
     → text ≡ take (start - 1) text ++ separator ∷ drop start text
-around text start is some =
-    let front = start - 1 in
-    let less : front < length text = omega (arith, is.within) in
-    let next : suc front ≡ start = omega arith in
-    sym (take-append-drop front text)
-    ∙ ap (λ us. take front text ++ us)
-    (drop-cons text front 0 less ∙ ap (λ u. u ∷ drop (suc front) text) (is.after some)
-    ∙ ap (λ n. separator ∷ drop n text) next)
+around text start is some = grind (arith, take-append-drop, drop-cons)
 
 -- the pieces of a text with a separator, and of one without
 pub with_separator : (text : List ℕ) (start : ℕ) → IsLastStart text start → 0 < start
     → slice_split is_separator text ≡ slice_split is_separator (take (start - 1) text) ++ drop start text ∷ []
 with_separator text start is some =
-    ap (slice_split is_separator) (around text start is some)
-    ∙ last_piece (take (start - 1) text) (drop start text) is.piece
+    grind (arith, around text start is some, last_piece (take (start - 1) text) (drop start text) is.piece)
 
 pub without_separator : (text : List ℕ) → IsPiece text → slice_split is_separator text ≡ text ∷ []
 without_separator text piece = slice_split_none is_separator text (passes_over text piece)
 
 -- the same of a part of the text from there on, and of the part before the separator
 pub to_the_end : (text : List ℕ) (start end : ℕ) → end ≡ length text → slice_range text start end ≡ drop start text
-to_the_end text start end e =
-    let rest = drop start text in
-    let count : end - start ≡ length rest = omega (arith, e, length-drop start text) in
-    ap (λ n. take n rest) count ∙ take-length rest
+to_the_end text start end e = grind (arith, length-drop start text, take-length)
 
 pub cut_none : (text last : List ℕ) (start end : ℕ) → IsLastStart text start → start ≡ 0 → end ≡ length text
     → last ≡ slice_range text start end → slice_split is_separator text ≡ last ∷ []
-cut_none text last start end is none ends cut =
-    let all : last ≡ text = cut ∙ to_the_end text start end ends ∙ ap (λ n. drop n text) none in
-    without_separator text (subst (λ n. IsPiece (drop n text)) none is.piece) ∙ ap (λ ps. ps ∷ []) (sym all)
+cut_none text last start end is none ends cut = grind (arith, to_the_end, without_separator)
 
 pub cut_some : (text front last : List ℕ) (start end : ℕ) → IsLastStart text start → start ≢ 0
     → end ≡ length text → last ≡ slice_range text start end → front ≡ slice_range text 0 (start - 1)
     → slice_split is_separator text ≡ slice_split is_separator front ++ last ∷ []
 cut_some text front last start end is some ends cut before =
-    let count : start - 1 - 0 ≡ start - 1 = omega arith in
-    let first : front ≡ take (start - 1) text = before ∙ ap (λ n. take n text) count in
-    with_separator text start is (omega (arith, some))
-    ∙ ap (λ us. slice_split is_separator us ++ drop start text ∷ []) (sym first)
-    ∙ ap (λ us. slice_split is_separator front ++ us ∷ []) (sym (cut ∙ to_the_end text start end ends))
+    grind (arith, with_separator text start is (omega (arith, some)), to_the_end text start end ends)

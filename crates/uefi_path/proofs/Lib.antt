@@ -4,8 +4,6 @@ pub mod Pushing
 pub mod Parents
 pub mod Drafts
 mod IntoBuffers
-mod TailsInBuffers
-mod MissingSeparators
 pub mod CutParents
 pub mod Joining
 pub mod Validity

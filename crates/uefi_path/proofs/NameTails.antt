@@ -61,21 +61,17 @@ no_longer : (front back : List (List ℕ)) → length (joined back) ≤ length (
 no_longer [] back = omega arith
 no_longer (f ∷ []) [] = omega arith
 no_longer (f ∷ []) (b ∷ back) = omega (arith, length-append f (separator ∷ joined (b ∷ back)))
-no_longer (f ∷ g ∷ front) back =
-    omega (arith, no_longer (g ∷ front) back, length-append f (separator ∷ joined (g ∷ (front ++ back))))
+no_longer (f ∷ g ∷ front) back = grind (arith, no_longer (g ∷ front) back, length-append)
 
 pub last_fit : (whole left : List (List ℕ)) (last : List ℕ) → AreLast whole left last
     → length last ≤ length (joined whole)
-last_fit whole left last are =
-    omega (arith, ap length are.text, ap (λ ps. length (joined ps)) are.all, no_longer left are.names)
+last_fit whole left last are = grind (arith, no_longer)
 
 -- how long they are with a name before them
 pub next_counted : (name last : List ℕ) (len count : ℕ) → len ≡ length last → count ≡ cond (nat_lt 0 len) 1 0
     → len + (length name + count) ≡ length (name_before name last)
-next_counted name [] len count e one =
-    omega (arith, e, one ∙ ap (λ b. cond b 1 0) (le-ltb 0 len (omega (arith, e))))
-next_counted name (u ∷ us) len count e one =
-    omega (arith, e, one ∙ ap (λ b. cond b 1 0) (lt-ltb 0 len (omega (arith, e))), length-append name (separator ∷ u ∷ us))
+next_counted name [] len count e one = grind arith
+next_counted name (u ∷ us) len count e one = grind (arith, lt-ltb, length-append)
 
 pub next_fits : (whole left new : List (List ℕ)) (name last : List ℕ) (len count : ℕ) → AreLast whole left last
     → left ≡ new ++ name ∷ [] → len ≡ length last → count ≡ cond (nat_lt 0 len) 1 0

@@ -1,9 +1,9 @@
 -- The names of a normal path, found from the last piece on: what each piece changes.
-use Rattle.std.proofs.Common.{◌≡◌, ◌≤◌, length, ℕ, suc, List, [], ◌∷◌, ◌++◌, All, inl, inr, append_assoc, refl, sym, ap, ◌∙◌, subst, arith, replicate, None}
+use Rattle.std.proofs.Common.{◌≡◌, ◌≤◌, length, ℕ, suc, List, [], ◌∷◌, ◌++◌, All, append_assoc, refl, sym, ap, ◌∙◌, subst, arith, None}
 use Rattle.std.proofs.lemmas.List.{append-nil}
 use Rattle.uefi_path.specs.Components.{components_of, joined}
 use Rattle.uefi_path.specs.NamesLeft.{names_before}
-use Rattle.uefi_path.specs.NormalForms.{IsName, before_normal, before_piece, dot, dot_dot, kind, normal_of}
+use Rattle.uefi_path.specs.NormalForms.{IsName, before_normal, before_piece, dot, kind, normal_of}
 use Rattle.uefi_path.specs.declared.component_kinds.Kind.{Kind}
 use Rattle.uefi_path.specs.declared.component_kinds.Kind.TheVariants.{Dot, DotDot, Name}
 use Rattle.uefi_path.specs.Verdicts.{IsGood, verdict}
@@ -15,6 +15,7 @@ use Rattle.uefi_path.proofs.ParentSizes.{units-canonical}
 use Rattle.uefi_path.proofs.Rewriting.{NormalForm-normal_of, name_kind, normal_of-step}
 use Rattle.uefi_path.proofs.Splitting.{AreComponents-components_of}
 use Rattle.uefi_path.proofs.Validity.{valid-accepted, valid-components}
+use Rattle.std.proofs.lemmas.Grind.{common_steps}
 
 -- a name after all others stays
 before_piece-push : (k : Kind) (p q : List ℕ) (qs : List (List ℕ)) (name : List ℕ)
@@ -33,44 +34,22 @@ before_normal-push Name p (q ∷ qs) name is = before_piece-push (kind q) p q qs
 normal_of-push : (ps : List (List ℕ)) (name : List ℕ) → IsName name
     → normal_of (ps ++ name ∷ []) ≡ normal_of ps ++ name ∷ []
 normal_of-push [] name is = ap (λ k. before_normal k name []) (name_kind name is)
-normal_of-push (p ∷ ps) name is =
-    ap (before_normal (kind p) p) (normal_of-push ps name is)
-    ∙ before_normal-push (kind p) p (normal_of ps) name is
+normal_of-push (p ∷ ps) name is = grind (arith, normal_of-push ps name is, before_normal-push)
 
 -- a last `.` goes
 pub dot_before : (ps : List (List ℕ)) (piece : List ℕ) (climbs : ℕ) → piece ≡ dot
     → names_before (ps ++ piece ∷ []) climbs ≡ names_before ps climbs
-dot_before ps piece climbs e =
-    let ups = replicate climbs dot_dot in
-    normal_of-step ((ps ++ piece ∷ []) ++ ups) (ps ++ ups)
-    (inl (record {
-      front = ps;
-      back = ups;
-      before = append_assoc ps (piece ∷ []) ups ∙ ap (λ p. ps ++ p ∷ ups) e;
-      after = refl;
-    }))
+dot_before ps piece climbs e = grind (arith, normal_of-step, append_assoc)
 
 -- a last name goes with one of them
 pub name_before : (ps : List (List ℕ)) (name : List ℕ) (climbs : ℕ) → IsName name
     → names_before (ps ++ name ∷ []) (suc climbs) ≡ names_before ps climbs
-name_before ps name climbs is =
-    let ups = replicate climbs dot_dot in
-    normal_of-step ((ps ++ name ∷ []) ++ dot_dot ∷ ups) (ps ++ ups)
-    (inr (record {
-      front = ps;
-      name = name;
-      back = ups;
-      is_name = is;
-      before = append_assoc ps (name ∷ []) (dot_dot ∷ ups);
-      after = refl;
-    }))
+name_before ps name climbs is = grind (arith, normal_of-step, append_assoc)
 
 -- and stays where there is none
 pub last_name_before : (ps : List (List ℕ)) (name : List ℕ) → IsName name
     → names_before (ps ++ name ∷ []) 0 ≡ names_before ps 0 ++ name ∷ []
-last_name_before ps name is =
-    ap normal_of (append-nil (ps ++ name ∷ [])) ∙ normal_of-push ps name is
-    ∙ ap (λ qs. normal_of qs ++ name ∷ []) (sym (append-nil ps))
+last_name_before ps name is = grind (arith, append-nil, normal_of-push)
 
 -- all of them, before the first one is taken
 pub from_start : (text : List ℕ) (pieces : List (List ℕ)) → pieces ≡ components_of text
@@ -80,8 +59,7 @@ from_start text pieces e = ap normal_of (append-nil pieces ∙ e)
 -- those of a valid path are names
 pub valid_names : (text : List ℕ) (pieces : List (List ℕ)) → verdict text ≡ None → pieces ≡ components_of text
     → All IsName (names_before pieces 0)
-valid_names text pieces valid e =
-    subst (All IsName) (sym (from_start text pieces e)) (names_of_normal (components_of text) (valid-accepted text valid))
+valid_names text pieces valid e = grind (arith, common_steps, from_start, names_of_normal, valid-accepted)
 
 -- and good ones
 pub good_names : (text : List ℕ) (pieces : List (List ℕ)) → verdict text ≡ None → pieces ≡ components_of text
@@ -103,10 +81,4 @@ text_names text pieces e texts =
 pub names_no_longer : (text : List ℕ) (pieces : List (List ℕ)) → pieces ≡ components_of text
     → length (joined (names_before pieces 0)) ≤ length text
 names_no_longer text pieces e =
-    omega (
-      arith,
-      ap (λ ps. length (joined ps)) (from_start text pieces e),
-      normal_no_longer (components_of text),
-      ap length (AreComponents-components_of text).join,
-      units-canonical text,
-    )
+    grind (arith, common_steps, from_start, normal_no_longer, AreComponents-components_of, units-canonical)

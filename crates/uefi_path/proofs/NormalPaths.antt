@@ -46,8 +46,7 @@ components_of-normal_text (q ∷ qs) good = components_of-joined (q ∷ qs) good
 
 normal_text-non_empty : (qs : List (List ℕ)) → All IsGood qs → normal_text qs ≢ []
 normal_text-non_empty [] good e = cc
-normal_text-non_empty (q ∷ qs) good e =
-    let none : q ∷ qs ≡ [] = sym (components_of-joined (q ∷ qs) good) ∙ ap components_of e in cc
+normal_text-non_empty (q ∷ qs) good e = grind (arith, components_of-joined (q ∷ qs) good)
 
 good_normal : (text : List ℕ) (normal : List (List ℕ)) → verdict text ≡ None
     → NormalForm (components_of text) normal → All IsGood normal
@@ -68,10 +67,7 @@ normal_is_valid text normal valid form =
     (Accepted-names normal 0 good (normal_holds_names text normal valid form)))
 
 pub normal_is_normal : NormalIsNormal
-normal_is_normal text normal valid form =
-    subst (λ pieces. NormalForm pieces normal)
-    (sym (components_of-normal_text normal (good_normal text normal valid form)))
-    ((0, refl), form.1)
+normal_is_normal text normal valid form = grind (arith, components_of-normal_text, good_normal)
 
 pub normal_paths_agree : NormalPathsAgree
 normal_paths_agree text other normal others valid other_valid form other_form =

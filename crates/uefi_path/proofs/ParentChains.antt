@@ -11,11 +11,7 @@ Within None most = ⊤
 Within (Some parent) most = length parent < most
 
 Within-parent_text : (text : List ℕ) (most : ℕ) → length text ≤ most → Within (parent_text text) most
-Within-parent_text text most within = go (parent_text text) refl
-  where
-    go : (o : Option (List ℕ)) → parent_text text ≡ o → Within o most
-    go None e = tt
-    go (Some parent) e = omega (arith, parent_text-shorter text parent e, within)
+Within-parent_text text most within = grind (arith, parent_text-shorter)
 
 -- a greater bound than is needed changes nothing
 parents_from-enough : (most more : ℕ) (o : Option (List ℕ)) → Within o most → Within o more
@@ -41,8 +37,7 @@ parents_of-chain text = go (parent_text text) refl
 AreParents-from : (most : ℕ) (text : List ℕ) (o : Option (List ℕ)) → parent_text text ≡ o
     → length text ≤ most → AreParents text (parents_from most o)
 AreParents-from most text None e within = e
-AreParents-from zero text (Some parent) e within =
-    absurd (omega (arith, within, parent_text-shorter text parent e))
+AreParents-from zero text (Some parent) e within = grind arith
 AreParents-from (suc most) text (Some parent) e within =
     let fewer : length parent ≤ most = omega (arith, within, parent_text-shorter text parent e) in
     (e, AreParents-from most parent (parent_text parent) refl fewer)

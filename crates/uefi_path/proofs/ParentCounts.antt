@@ -1,5 +1,5 @@
 -- How many successive parents a parent of a plain text has: one fewer than components.
-use Rattle.std.proofs.Common.{◌≡◌, ◌≢◌, ℕ, zero, suc, ◌-◌, List, [], ◌∷◌, ◌++◌, length, All, Bool, true, false, None, Some, Option, Result, IfOk, IfSome, ap, sym, refl, subst, ◌∙◌, ◌<◌, arith}
+use Rattle.std.proofs.Common.{◌≡◌, ◌≢◌, ℕ, zero, suc, ◌-◌, List, [], ◌∷◌, ◌++◌, length, All, Bool, true, false, Some, Option, Result, IfOk, IfSome, ap, sym, refl, subst, ◌∙◌, ◌<◌, arith}
 use Rattle.std.proofs.lemmas.List.{append-nil, length-append, take_all}
 use Rattle.std.proofs.lemmas.List.Elements.{All-filter}
 use Rattle.uefi_path.specs.Components.{IsPiece, components_of, joined}
@@ -29,9 +29,7 @@ module _ (n : List ℕ) (ns : List (List ℕ)) (pieces : All IsPiece (n ∷ ns))
     (plain : All IsPlain (n ∷ ns)) where
   parents_without_end : (text : List ℕ) → components_of text ≡ n ∷ ns
       → AreParents text (prefixes (length ns) (n ∷ ns))
-  parents_without_end text e =
-      parents_of_some text (length ns) (n ∷ ns) pieces full plain (omega arith)
-      (e ∙ sym (take_all (suc (length ns)) (n ∷ ns) (omega arith)))
+  parents_without_end text e = grind (arith, parents_of_some, take_all)
 
   -- the separator at the end is left out first
   first_parent : (text : List ℕ) → components_of text ≡ (n ∷ ns) ++ [] ∷ []
@@ -89,21 +87,11 @@ count_of_parent text parent plain e =
 -- what a call says of the parent that it returns
 module _ {E : Type 0} (result : Result (Option (List ℕ)) E) (text : List ℕ) (is : IfOk result (λ parent. parent ≡ parent_text text)) where
   pub shorter_parent : IfOk result (λ parent. IfSome parent (λ parent. length parent < length text))
-  shorter_parent = IfOk-weaker result _ _ (λ parent e. some parent (sym e)) is
-    where
-      some : (parent : Option (List ℕ)) → parent_text text ≡ parent → IfSome parent (λ parent. length parent < length text)
-      some None e = tt
-      some (Some parent) e = parent_text-shorter text parent e
+  shorter_parent = grind (arith, IfOk-weaker, parent_text-shorter)
 
   pub successive_parents : IfOk result (λ parent. parents_of text ≡ parent_chain parent)
-  successive_parents =
-      IfOk-weaker result _ _ (λ parent e. parents_of-chain text ∙ ap parent_chain (sym e)) is
+  successive_parents = grind (arith, IfOk-weaker, parents_of-chain)
 
   pub counted_parents : IsPlain text
       → IfOk result (λ parent. IfSome parent (λ parent. length (parents_of parent) ≡ length (components_of parent) - 1))
-  counted_parents plain = IfOk-weaker result _ _ (λ parent e. some parent (sym e)) is
-    where
-      some : (parent : Option (List ℕ)) → parent_text text ≡ parent
-          → IfSome parent (λ parent. length (parents_of parent) ≡ length (components_of parent) - 1)
-      some None e = tt
-      some (Some parent) e = count_of_parent text parent plain e
+  counted_parents plain = grind (arith, IfOk-weaker, count_of_parent)

@@ -5,7 +5,7 @@ use Rattle.std.proofs.lemmas.Bool.{false≢true, ne_eqb}
 use Rattle.std.proofs.lemmas.List.{append-nil}
 use Rattle.std.proofs.lemmas.List.Elements.{All-append, All-cons, All-filter, All-head, All-nil, All-tail}
 use Rattle.std.proofs.lemmas.Option.{same_Some}
-use Rattle.uefi_path.specs.Components.{IsPiece, components_of, joined, pieces_between}
+use Rattle.uefi_path.specs.Components.{IsPiece, components_of, joined}
 use Rattle.uefi_path.specs.Parents.{parent_text, parent_of_components, all_but_last, ends_empty, non_empty, is_non_empty, joined_with_end, rejoined}
 use Rattle.uefi_path.specs.Separators.{IsPlain, canonical, is_separator, separator, slash, with_separators}
 use Rattle.uefi_path.specs.Verdicts.{IsGood, verdict}
@@ -20,11 +20,8 @@ use Rattle.uefi_path.proofs.Validity.{All-good_non_empty, All-good_piece, All-go
 prefix_joined : (n : List ℕ) (ns : List (List ℕ)) (more : List ℕ) → IsPiece n → IsFull n
     → canonical (joined (n ∷ ns) ++ more) ≡ joined (n ∷ ns) ++ more
 prefix_joined [] ns more piece full = absurd (false≢true full)
-prefix_joined (u ∷ us) [] more piece full =
-    canonical-no u (us ++ more) (ne_eqb u separator (All-head (λ v. v ≢ separator) u us piece))
-prefix_joined (u ∷ us) (m ∷ ms) more piece full =
-    canonical-no u ((us ++ separator ∷ joined (m ∷ ms)) ++ more)
-    (ne_eqb u separator (All-head (λ v. v ≢ separator) u us piece))
+prefix_joined (u ∷ us) [] more piece full = grind (arith, canonical-no, ne_eqb, All-head)
+prefix_joined (u ∷ us) (m ∷ ms) more piece full = grind (arith, canonical-no, ne_eqb, All-head)
 
 pub prefix_with_end : (ns : List (List ℕ)) (ends : Bool) → All IsPiece ns → All IsFull ns
     → canonical (joined_with_end ns ends) ≡ joined_with_end ns ends
@@ -37,10 +34,8 @@ prefix_with_end (n ∷ ns) ends pieces full =
 pub split_with_end : (n : List ℕ) (ns : List (List ℕ)) (ends : Bool) → All IsPiece (n ∷ ns)
     → slice_split is_separator (joined_with_end (n ∷ ns) ends) ≡ (n ∷ ns)
     ++ (if ends then [] ∷ [] else [])
-split_with_end n ns true pieces = slice_split-append (joined (n ∷ ns)) []
-    ∙ ap (λ ps. ps ++ [] ∷ []) (slice_split-joined n ns pieces)
-split_with_end n ns false pieces = ap (slice_split is_separator) (append-nil (joined (n ∷ ns)))
-    ∙ slice_split-joined n ns pieces ∙ sym (append-nil (n ∷ ns))
+split_with_end n ns true pieces = grind (arith, slice_split-append, slice_split-joined)
+split_with_end n ns false pieces = grind (arith, append-nil, slice_split-joined)
 
 -- what stands between the separators of full pieces that are joined, and of the end after them
 filled : (n : List ℕ) (ns : List (List ℕ)) (more : List ℕ) → IsFull n → joined (n ∷ ns) ++ more ≢ []
@@ -52,11 +47,7 @@ pub components_with_end : (n : List ℕ) (ns : List (List ℕ)) (ends : Bool) �
     → All IsFull (n ∷ ns)
     → components_of (joined_with_end (n ∷ ns) ends) ≡ (n ∷ ns) ++ (if ends then [] ∷ [] else [])
 components_with_end n ns ends pieces full =
-    let text = joined_with_end (n ∷ ns) ends in
-    ap pieces_between (prefix_with_end (n ∷ ns) ends pieces full)
-    ∙ pieces_between-some text
-    (filled n ns (if ends then separator ∷ [] else []) (All-head IsFull n ns full))
-    ∙ split_with_end n ns ends pieces
+    grind (arith, prefix_with_end, pieces_between-some, filled, All-head, IsFull, split_with_end)
 
 pub all_but_last-push : (ps : List (List ℕ)) (q : List ℕ) → all_but_last (ps ++ q ∷ []) ≡ ps
 all_but_last-push [] q = refl
@@ -68,8 +59,7 @@ all_but_last-middle : (ps : List (List ℕ)) (q : List ℕ) (qs : List (List ℕ
 all_but_last-middle [] q [] non_empty = absurd (non_empty refl)
 all_but_last-middle [] q (r ∷ rs) non_empty = refl
 all_but_last-middle (p ∷ []) q qs non_empty = ap (λ ps. p ∷ ps) (all_but_last-middle [] q qs non_empty)
-all_but_last-middle (p ∷ r ∷ rs) q qs non_empty =
-    ap (λ ps. p ∷ ps) (all_but_last-middle (r ∷ rs) q qs non_empty)
+all_but_last-middle (p ∷ r ∷ rs) q qs non_empty = grind (arith, all_but_last-middle (r ∷ rs) q qs non_empty)
 
 All-middle : (P : List ℕ → Type 0) (ps : List (List ℕ)) (q : List ℕ) (qs : List (List ℕ))
     → All P (ps ++ q ∷ qs) → P q
@@ -80,8 +70,7 @@ full_but_last : (ns : List (List ℕ)) (ends : Bool) → All IsPiece ns → All 
     → All IsFull (all_but_last (slice_split is_separator (joined_with_end ns ends)))
 full_but_last [] ends pieces full = All-nil IsFull
 full_but_last (n ∷ ns) true pieces full =
-    subst (All IsFull)
-    (sym (ap all_but_last (split_with_end n ns true pieces) ∙ all_but_last-push (n ∷ ns) [])) full
+    grind (arith, IsFull, split_with_end n ns true pieces, all_but_last-push (n ∷ ns) [])
 full_but_last (n ∷ ns) false pieces full =
     subst (λ ps. All IsFull (all_but_last ps))
     (sym (split_with_end n ns false pieces ∙ append-nil (n ∷ ns)))
@@ -91,20 +80,13 @@ full_but_last (n ∷ ns) false pieces full =
 doubled : (before after : List ℕ)
     → slice_split is_separator (before ++ separator ∷ separator ∷ after)
     ≡ slice_split is_separator before ++ [] ∷ slice_split is_separator after
-doubled before after = slice_split-append before (separator ∷ after)
-    ∙ ap (λ ps. slice_split is_separator before ++ ps) (slice_split-append [] after)
+doubled before after = grind (arith, slice_split-append)
 
 not_doubled : (text before after : List ℕ)
     → All IsFull (all_but_last (slice_split is_separator text))
     → text ≢ before ++ separator ∷ separator ∷ after
 not_doubled text before after full e =
-    let pieces = ap (λ us. all_but_last (slice_split is_separator us)) e
-    ∙ ap all_but_last (doubled before after)
-    ∙ all_but_last-middle (slice_split is_separator before) [] (slice_split is_separator after)
-    (slice_split-non_empty after) in
-    false≢true
-    (All-middle IsFull (slice_split is_separator before) []
-    (all_but_last (slice_split is_separator after)) (subst (All IsFull) pieces full))
+    grind (arith, doubled, all_but_last-middle, slice_split-non_empty, false≢true, All-middle, IsFull)
 
 -- pieces that were rejoined
 prefix_rejoined : (ps : List (List ℕ)) → All IsPiece ps → canonical (rejoined ps) ≡ rejoined ps
@@ -192,22 +174,17 @@ with_no_end [] = refl
 with_no_end (p ∷ ps) = append-nil (joined (p ∷ ps))
 
 pub rejoined-full : (ps : List (List ℕ)) → All IsFull ps → rejoined ps ≡ joined ps
-rejoined-full ps full =
-    ap (λ ns. joined_with_end ns (ends_empty ps)) (non_empty-full ps full)
-    ∙ ap (joined_with_end ps) (ends-full ps full) ∙ with_no_end ps
+rejoined-full ps full = grind (arith, non_empty-full, ends-full, with_no_end)
 
 prefix_full : (ps : List (List ℕ)) → All IsPiece ps → All IsFull ps → canonical (joined ps) ≡ joined ps
-prefix_full ps pieces full =
-    subst (λ us. canonical us ≡ us) (rejoined-full ps full) (prefix_rejoined ps pieces)
+prefix_full ps pieces full = grind (arith, rejoined-full ps full, prefix_rejoined ps pieces)
 
 one_is_full : (ps : List (List ℕ)) → All IsFull ps → ps ≢ [] ∷ []
 one_is_full ps full e = false≢true (All-head IsFull [] [] (subst (All IsFull) e full))
 
 -- joined full pieces have themselves as components
 pub components_of-full : (ps : List (List ℕ)) → All IsPiece ps → All IsFull ps → components_of (joined ps) ≡ ps
-components_of-full ps pieces full =
-    ap pieces_between (prefix_full ps pieces full)
-    ∙ pieces_between-joined ps pieces (one_is_full ps full)
+components_of-full ps pieces full = grind (arith, prefix_full, pieces_between-joined, one_is_full)
 
 pub components_of-joined : (cs : List (List ℕ)) → All IsGood cs → components_of (joined cs) ≡ cs
 components_of-joined cs good = components_of-full cs (All-good_piece cs good) (All-good_non_empty cs good)

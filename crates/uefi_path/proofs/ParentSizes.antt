@@ -1,14 +1,14 @@
 -- How large a parent is: it is shorter than its path, and has at least one component fewer.
-use Rattle.std.proofs.Common.{◌≡◌, ℕ, ◌+◌, ◌<◌, ◌≤◌, List, [], ◌∷◌, ◌++◌, length, All, Bool, true, false, if◌then◌else◌, Some, ap, subst, arith}
+use Rattle.std.proofs.Common.{◌≡◌, ℕ, ◌+◌, ◌<◌, ◌≤◌, List, [], ◌∷◌, ◌++◌, length, All, Bool, true, false, if◌then◌else◌, Some, ap, arith}
 use Rattle.std.specs.List.{fold}
 use Rattle.std.proofs.lemmas.List.Elements.{All-filter}
-use Rattle.uefi_path.specs.Pushing.{appended, needs_separator}
+use Rattle.uefi_path.specs.Pushing.{appended}
 use Rattle.std.proofs.lemmas.Grind.{common_steps}
 use Rattle.std.proofs.lemmas.List.{length-append}
 use Rattle.std.proofs.lemmas.Option.{same_Some}
 use Rattle.uefi_path.specs.Components.{IsPiece, components_of, joined}
 use Rattle.uefi_path.specs.Parents.{is_non_empty, parent_text, parent_of_components, all_but_last, ends_empty, non_empty, joined_with_end, rejoined}
-use Rattle.uefi_path.specs.Separators.{IsPlain, canonical, separator}
+use Rattle.uefi_path.specs.Separators.{IsPlain, canonical}
 use Rattle.uefi_path.proofs.ParentForm.{components_with_end, parent_text-plain, length-all_but_last}
 use Rattle.uefi_path.proofs.Parents.{All-all_but_last, All-non_empty, IsFull, rejoined-added}
 use Rattle.uefi_path.proofs.Splitting.{AreComponents-components_of, IsPlain-with_separators}
@@ -20,8 +20,7 @@ room (piece ∷ pieces) = length piece + 1 + room pieces
 
 pub room-joined : (piece : List ℕ) (pieces : List (List ℕ)) → length (joined (piece ∷ pieces)) + 1 ≡ room (piece ∷ pieces)
 room-joined piece [] = omega arith
-room-joined piece (next ∷ pieces) =
-    omega (arith, room-joined next pieces, length-append piece (separator ∷ joined (next ∷ pieces)))
+room-joined piece (next ∷ pieces) = grind (arith, room-joined next pieces, length-append)
 
 room-all_but_last : (piece : List ℕ) (pieces : List (List ℕ)) → room (all_but_last (piece ∷ pieces)) < room (piece ∷ pieces)
 room-all_but_last piece [] = omega arith
@@ -29,12 +28,7 @@ room-all_but_last piece (next ∷ pieces) = omega (arith, room-all_but_last next
 
 -- added one after the other they take no more
 length-appended : (text piece : List ℕ) → length (appended text piece) ≤ length text + 1 + length piece
-length-appended text piece =
-    elim (needs_separator text)
-    as (λ b. length (if b then text ++ separator ∷ piece else text ++ piece) ≤ length text + 1 + length piece) [
-      | true ↦ omega (arith, length-append text (separator ∷ piece))
-      | false ↦ omega (arith, length-append text piece)
-    ]
+length-appended text piece = grind (arith, length-append)
 
 fold_room : (text : List ℕ) (pieces : List (List ℕ)) → length (fold appended text pieces) ≤ length text + room pieces
 fold_room text [] = omega arith
@@ -49,11 +43,10 @@ pub parent_of_components-shorter : (pieces : List (List ℕ)) (parent : List ℕ
 parent_of_components-shorter [] parent are is = absurd (grind (arith, common_steps))
 parent_of_components-shorter (piece ∷ []) parent are is = absurd (grind (arith, common_steps))
 parent_of_components-shorter (piece ∷ next ∷ pieces) parent are is =
-    let same : length parent ≡ length (rejoined (all_but_last (piece ∷ next ∷ pieces))) = grind (arith, common_steps) in
-    omega (
+    grind (
       arith,
-      same,
-      ap length (rejoined-added (piece ∷ next ∷ pieces) are),
+      common_steps,
+      rejoined-added (piece ∷ next ∷ pieces) are,
       fold_room piece (all_but_last (next ∷ pieces)),
       room-all_but_last next pieces,
       room-joined piece (next ∷ pieces),
@@ -62,13 +55,7 @@ parent_of_components-shorter (piece ∷ next ∷ pieces) parent are is =
 -- a parent is shorter than its path
 pub parent_text-shorter : (text parent : List ℕ) → parent_text text ≡ Some parent → length parent < length text
 parent_text-shorter text parent is =
-    let components = AreComponents-components_of text in
-    omega (
-      arith,
-      parent_of_components-shorter (components_of text) parent components.are_pieces is,
-      ap length components.join,
-      units-canonical text,
-    )
+    grind (arith, AreComponents-components_of, parent_of_components-shorter, units-canonical)
 
 -- how many pieces the end of some is: one that is empty, or none
 abbrev pieces_of_end : Bool → ℕ
@@ -83,8 +70,7 @@ count-end ps false = length-append ps []
 count-with_end : (ns : List (List ℕ)) (ends : Bool) → All IsPiece ns → All IsFull ns
     → length (components_of (joined_with_end ns ends)) ≤ length ns + pieces_of_end ends
 count-with_end [] ends pieces full = omega arith
-count-with_end (n ∷ ns) ends pieces full =
-    omega (arith, ap length (components_with_end n ns ends pieces full), count-end (n ∷ ns) ends)
+count-with_end (n ∷ ns) ends pieces full = grind (arith, components_with_end, count-end)
 
 count-non_empty : (ps : List (List ℕ))
     → length (non_empty ps) + pieces_of_end (ends_empty ps) ≤ length ps
@@ -124,8 +110,7 @@ pub parent_of_components-with_separators : (ps : List (List ℕ)) (parent : List
     → IsPlain parent
 parent_of_components-with_separators [] parent e = absurd (cc)
 parent_of_components-with_separators (p ∷ []) parent e = absurd (cc)
-parent_of_components-with_separators (p ∷ q ∷ ps) parent e =
-    subst IsPlain (same_Some _ _ e) (IsPlain-with_separators (rejoined (all_but_last (p ∷ q ∷ ps))))
+parent_of_components-with_separators (p ∷ q ∷ ps) parent e = grind (arith, same_Some, IsPlain-with_separators)
 
 -- a parent is plain: its slashes were replaced
 pub parent_text-with_separators : (text parent : List ℕ) → parent_text text ≡ Some parent → IsPlain parent

@@ -1,7 +1,7 @@
 -- A parent is made by adding the components but the last one after the other.
-use Rattle.std.proofs.Common.{◌≡◌, ℕ, ◌+◌, List, [], ◌∷◌, ◌++◌, length, All, Bool, true, false, not, get_or, if◌then◌else◌, inl, inr, ap, sym, refl, subst, ◌∙◌, ◌<◌, Some, append_assoc, arith}
+use Rattle.std.proofs.Common.{◌≡◌, ℕ, List, [], ◌∷◌, ◌++◌, length, All, Bool, true, false, not, if◌then◌else◌, inl, inr, ap, sym, refl, subst, ◌∙◌, ◌<◌, Some, append_assoc, arith}
 use Rattle.std.specs.List.{fold, slice_split}
-use Rattle.std.proofs.lemmas.Bool.{cases_Bool, false≢true, ne_eqb}
+use Rattle.std.proofs.lemmas.Bool.{cases_Bool, false≢true}
 use Rattle.std.proofs.lemmas.List.{append-nil, get_or-append-add, length-append}
 use Rattle.std.proofs.lemmas.List.Elements.{All-append, All-cons, All-filter, All-head, All-nil, All-tail, filter-append}
 use Rattle.std.proofs.lemmas.List.Splits.{slice_split-cons_no, slice_split-cons_yes}
@@ -20,9 +20,7 @@ pub needs_separator-append : (us : List ℕ) (v : ℕ) (vs : List ℕ)
     → needs_separator (us ++ v ∷ vs) ≡ needs_separator (v ∷ vs)
 needs_separator-append [] v vs = refl
 needs_separator-append (u ∷ us) v vs =
-    let place : length (us ++ v ∷ vs) ≡ length (u ∷ us) + length vs = omega (arith, length-append us (v ∷ vs)) in
-    ap (λ i. not (is_separator (get_or (u ∷ (us ++ v ∷ vs)) i 0))) place
-    ∙ ap (λ unit. not (is_separator unit)) (get_or-append-add (u ∷ us) (v ∷ vs) (length vs) 0)
+    grind (arith, length-append us (v ∷ vs), get_or-append-add (u ∷ us) (v ∷ vs) (length vs) 0)
 
 -- none is missing after a separator
 pub closed : (us : List ℕ) → needs_separator (us ++ separator ∷ []) ≡ false
@@ -31,9 +29,7 @@ closed us = needs_separator-append us separator []
 -- one is missing after a full piece
 pub open_piece : (p : List ℕ) → IsPiece p → IsFull p → needs_separator p ≡ true
 open_piece [] piece full = absurd (false≢true full)
-open_piece (u ∷ us) piece full =
-    let last = get_or (u ∷ us) (length us) 0 in
-    ap not (ne_eqb last separator (piece (length us) 0 (omega arith)))
+open_piece (u ∷ us) piece full = grind arith
 
 -- a leading separator changes nothing
 pub after_separator : (us : List ℕ) → needs_separator us ≡ true
@@ -55,9 +51,7 @@ open_joined p (q ∷ qs) pieces full =
 pub joined-append : (p : List ℕ) (ps : List (List ℕ)) (q : List ℕ)
     → joined (p ∷ (ps ++ q ∷ [])) ≡ joined (p ∷ ps) ++ separator ∷ q
 joined-append p [] q = refl
-joined-append p (r ∷ rs) q =
-    ap (λ units. p ++ separator ∷ units) (joined-append r rs q)
-    ∙ sym (append_assoc p (separator ∷ joined (r ∷ rs)) (separator ∷ q))
+joined-append p (r ∷ rs) q = grind (arith, joined-append r rs q, append_assoc)
 
 ends_empty-append : (ps : List (List ℕ)) (q : List ℕ) → ends_empty (ps ++ q ∷ []) ≡ not (is_non_empty q)
 ends_empty-append [] q = refl
@@ -68,14 +62,10 @@ added_after : (n : List ℕ) (ns : List (List ℕ)) (q : List ℕ)
     → joined_with_end ((n ∷ ns) ++ non_empty (q ∷ [])) (not (is_non_empty q))
     ≡ joined (n ∷ ns) ++ separator ∷ q
 added_after n ns [] = ap (λ ms. joined (n ∷ ms) ++ separator ∷ []) (append-nil ns)
-added_after n ns (u ∷ us) =
-    append-nil (joined (n ∷ (ns ++ (u ∷ us) ∷ []))) ∙ joined-append n ns (u ∷ us)
+added_after n ns (u ∷ us) = grind (arith, append-nil, joined-append)
 
 after_closed : (text q : List ℕ) → appended (text ++ separator ∷ []) q ≡ text ++ separator ∷ q
-after_closed text q =
-    let ended = text ++ separator ∷ [] in
-    ap (λ b. if b then ended ++ separator ∷ q else ended ++ q) (closed text)
-    ∙ append_assoc text (separator ∷ []) q
+after_closed text q = grind (arith, closed, append_assoc)
 
 after_open : (text q : List ℕ) → needs_separator text ≡ true
     → appended text q ≡ text ++ separator ∷ q
@@ -87,13 +77,8 @@ added_piece : (ns : List (List ℕ)) (ends : Bool) (q : List ℕ) → All IsPiec
     ≡ appended (joined_with_end ns ends) q
 added_piece [] ends [] pieces full = refl
 added_piece [] ends (u ∷ us) pieces full = append-nil (u ∷ us)
-added_piece (n ∷ ns) true q pieces full =
-    added_after n ns q ∙ sym (after_closed (joined (n ∷ ns)) q)
-added_piece (n ∷ ns) false q pieces full =
-    let text = joined (n ∷ ns) in
-    added_after n ns q
-    ∙ sym (ap (λ us. appended us q) (append-nil text)
-    ∙ after_open text q (open_joined n ns pieces full))
+added_piece (n ∷ ns) true q pieces full = grind (arith, added_after, after_closed)
+added_piece (n ∷ ns) false q pieces full = grind (arith, added_after, append-nil, after_open, open_joined)
 
 pub All-non_empty : (ps : List (List ℕ)) → All IsFull (non_empty ps)
 All-non_empty [] = All-nil IsFull
@@ -125,8 +110,7 @@ pub All-all_but_last : (P : List ℕ → Type 0) (ps : List (List ℕ)) → All 
 All-all_but_last P [] all = All-nil P
 All-all_but_last P (p ∷ []) all = All-nil P
 All-all_but_last P (p ∷ q ∷ ps) all =
-    All-cons P p (all_but_last (q ∷ ps)) (All-head P p (q ∷ ps) all)
-    (All-all_but_last P (q ∷ ps) (All-tail P p (q ∷ ps) all))
+    grind (arith, All-all_but_last P (q ∷ ps) (All-tail P p (q ∷ ps) all), All-cons, All-head, All-tail)
 
 -- added one after the other to nothing they are rejoined
 pub rejoined-added : (ps : List (List ℕ)) → All IsPiece ps
@@ -155,9 +139,7 @@ module _ (P : ℕ → Type 0) where
 
   pub All-canonical : (text : List ℕ) → All P text → All P (canonical text)
   All-canonical [] all = All-nil P
-  All-canonical (u ∷ us) all =
-      elim (is_separator u) as (λ b. All P (if b then us else u ∷ us))
-      [ true ↦ All-tail P u us all | false ↦ all ]
+  All-canonical (u ∷ us) all = grind (arith, All-tail P u us all)
 
   pub All-components_of : (text : List ℕ) → All P text → All (All P) (components_of text)
   All-components_of text all = All-pieces_between (canonical text) (All-canonical text all)

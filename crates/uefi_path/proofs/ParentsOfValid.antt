@@ -2,7 +2,7 @@
 use Rattle.std.proofs.Common.{◌≡◌, ℕ, zero, suc, ◌+◌, ◌-◌, ◌<◌, List, [], ◌∷◌, length, take, All, None, Some, ap, sym, refl, subst, ◌∙◌, arith}
 use Rattle.std.proofs.lemmas.List.{length-take-le, take_all}
 use Rattle.std.proofs.lemmas.List.Elements.{All-take}
-use Rattle.std.proofs.lemmas.Option.{none-some, same_Some}
+use Rattle.std.proofs.lemmas.Option.{same_Some}
 use Rattle.uefi_path.proofs.ParentForm.{components_of-full, parent_of_components-full}
 use Rattle.uefi_path.proofs.Parents.{IsFull}
 use Rattle.uefi_path.proofs.Validity.{All-good_non_empty, All-good_piece, All-good_plain, valid-components}
@@ -16,10 +16,8 @@ use Rattle.uefi_path.specs.SuccessiveParents.{AreParents, prefixes, shorter_pref
 pub parents_once : (text : List ℕ) (parents others : List (List ℕ)) → AreParents text parents
     → AreParents text others → parents ≡ others
 parents_once text [] [] none none_other = refl
-parents_once text [] (other ∷ others) none of_other =
-    absurd (none-some other (sym none ∙ of_other.0))
-parents_once text (parent ∷ parents) [] of_parent none =
-    absurd (none-some parent (sym none ∙ of_parent.0))
+parents_once text [] (other ∷ others) none of_other = grind arith
+parents_once text (parent ∷ parents) [] of_parent none = grind arith
 parents_once text (parent ∷ parents) (other ∷ others) of_parent of_other =
     let same : parent ≡ other = same_Some parent other (sym of_parent.0 ∙ of_other.0) in
     let rest =
@@ -43,8 +41,7 @@ parent_of_components-one (c ∷ cs) = refl
 pub parents_of_some : (text : List ℕ) (count : ℕ) (ps : List (List ℕ)) → All IsPiece ps → All IsFull ps
     → All IsPlain ps → count < length ps → components_of text ≡ take (suc count) ps
     → AreParents text (prefixes count ps)
-parents_of_some text zero ps pieces full plain below e =
-    ap parent_of_components e ∙ parent_of_components-one ps
+parents_of_some text zero ps pieces full plain below e = grind arith
 parents_of_some text (suc count) ps pieces full plain below e =
     let kept = take (suc (suc count)) ps in
     let more : length kept ≡ suc (suc count) = length-take-le (suc (suc count)) ps (omega (arith, below)) in

@@ -11,11 +11,7 @@ same_first own piece ours theirs more same = (λ e. cc, λ e i. same i ∷ e i)
 
 pub same_step : {P : Type 0} (own piece : List ℕ) (us vs ours theirs more : List (List ℕ)) → us ≡ own ∷ ours → vs ≡ piece ∷ theirs
     → uppers own ≡ uppers piece → P ↔ (capital_pieces us ≡ capital_pieces vs ++ more) → P ↔ (capital_pieces ours ≡ capital_pieces theirs ++ more)
-same_step own piece us vs ours theirs more first other same so_far =
-    let both = same_first own piece ours theirs more same in
-    let left : capital_pieces us ≡ capital_pieces (own ∷ ours) = ap capital_pieces first in
-    let right : capital_pieces vs ++ more ≡ capital_pieces (piece ∷ theirs) ++ more = ap (λ ps. capital_pieces ps ++ more) other in
-    (λ p. both.0 (sym left ∙ so_far.0 p ∙ right), λ e. so_far.1 (left ∙ both.1 e ∙ sym right))
+same_step own piece us vs ours theirs more first other same so_far = grind arith
 
 pub dropped_step : (own piece : List ℕ) (us vs ours theirs : List (List ℕ)) → us ≡ own ∷ ours → vs ≡ piece ∷ theirs
     → drop (length vs) us ≡ drop (length theirs) ours
@@ -25,17 +21,13 @@ dropped_step own piece us vs ours theirs first other = λ i. drop (length (other
 pub back_step : {P : Type 0} (own piece : List ℕ) (us vs ours theirs front : List (List ℕ)) → us ≡ ours ++ own ∷ [] → vs ≡ theirs ++ piece ∷ []
     → own ≡ piece → P ↔ (us ≡ front ++ vs) → P ↔ (ours ≡ front ++ theirs)
 back_step own piece us vs ours theirs front last other same so_far =
-    let whole : front ++ vs ≡ (front ++ theirs) ++ piece ∷ [] = ap (λ ps. front ++ ps) other ∙ sym (append_assoc front theirs (piece ∷ [])) in (
-      λ p. (same_from_push ours (front ++ theirs) own piece (sym last ∙ so_far.0 p ∙ whole)).0,
-      λ e. so_far.1 (last ∙ (λ i. e i ++ same i ∷ []) ∙ sym whole),
-    )
+    grind (arith, append_assoc, same_from_push)
 
 -- which has to be the same
 pub back_same : (own piece : List ℕ) (us vs ours theirs front : List (List ℕ)) → us ≡ ours ++ own ∷ [] → vs ≡ theirs ++ piece ∷ []
     → us ≡ front ++ vs → own ≡ piece
 back_same own piece us vs ours theirs front last other e =
-    (same_from_push ours (front ++ theirs) own piece
-    (sym last ∙ e ∙ ap (λ ps. front ++ ps) other ∙ sym (append_assoc front theirs (piece ∷ [])))).1
+    grind (arith, same_from_push, append_assoc front theirs (piece ∷ []))
 
 -- and has to be there
 pub back_some : (piece : List ℕ) (us vs theirs front : List (List ℕ)) → us ≡ [] → vs ≡ theirs ++ piece ∷ [] → us ≡ front ++ vs → ⊥

@@ -1,23 +1,22 @@
 -- What was pushed onto a text: which units it has, and what replacing its slashes does.
-use Rattle.std.proofs.Common.{◌≡◌, ◌≢◌, ℕ, List, [], ◌∷◌, ◌++◌, All, true, false, if◌then◌else◌, ap, refl, ◌∙◌, arith}
+use Rattle.std.proofs.Common.{◌≡◌, ◌≢◌, ℕ, List, [], ◌∷◌, All, ap, refl, ◌∙◌, arith}
 use Rattle.std.proofs.lemmas.Grind.{common_steps}
 use Rattle.std.proofs.lemmas.List.Elements.{All-append, All-cons, All-head, All-tail}
 use Rattle.uefi_text.specs.Units.{replaced}
 use Rattle.uefi_path.specs.Separators.{IsPlain, separator, slash, with_separators}
-use Rattle.uefi_path.specs.Pushing.{appended, needs_separator, pushed}
+use Rattle.uefi_path.specs.Pushing.{appended, pushed}
 use Rattle.uefi_path.proofs.Splitting.{IsPlain-with_separators}
 
 -- what holds of the separator and of each unit holds of each of both
 pub All-appended : (P : ℕ → Type 0) (text part : List ℕ) → P separator → All P text → All P part
     → All P (appended text part)
 All-appended P text part of_separator of_text of_part =
-    elim (needs_separator text)
-    as (λ b. All P (if b then text ++ separator ∷ part else text ++ part)) [
-      | true ↦
-          All-append P text (separator ∷ part) of_text
-          (All-cons P separator part of_separator of_part)
-      | false ↦ All-append P text part of_text of_part
-    ]
+    grind (
+      arith,
+      All-append P text (separator ∷ part) of_text (All-cons P separator part of_separator of_part),
+      All-cons P separator part of_separator of_part,
+      All-append P text part of_text of_part,
+    )
 
 -- a path that is not empty is added with its slashes replaced
 pub pushed-non_empty : (text part : List ℕ) → part ≢ []

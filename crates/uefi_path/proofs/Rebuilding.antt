@@ -1,5 +1,5 @@
 -- Paths that are built by pushing good pieces, and what is above them.
-use Rattle.std.proofs.Common.{◌≡◌, ◌≢◌, ℕ, ◌<◌, List, [], ◌∷◌, ◌++◌, length, All, true, if◌then◌else◌, None, Some, ap, sym, refl, subst, ◌∙◌, append_assoc, arith}
+use Rattle.std.proofs.Common.{◌≡◌, ◌≢◌, ℕ, ◌<◌, List, [], ◌∷◌, ◌++◌, length, All, true, if◌then◌else◌, None, Some, ap, sym, refl, ◌∙◌, append_assoc, arith}
 use Rattle.std.specs.List.{fold}
 use Rattle.std.proofs.lemmas.Bool.{false≢true}
 use Rattle.std.proofs.lemmas.List.{append-nil, length-append}
@@ -55,9 +55,7 @@ pushed_components text valid =
 
 -- the canonical text of a valid one begins with no separator
 pub prefix_valid : (text : List ℕ) → verdict text ≡ None → canonical (canonical text) ≡ canonical text
-prefix_valid text valid =
-    subst (λ us. canonical us ≡ us) (AreComponents-components_of text).join
-    (prefix_good (components_of text) (valid-components text valid))
+prefix_valid text valid = grind arith
 
 components_of-pushed_piece : (text piece : List ℕ) → verdict text ≡ None → IsGood piece
     → components_of (pushed text piece) ≡ components_of text ++ piece ∷ []

@@ -14,6 +14,7 @@ use Rattle.uefi_path.specs.declared.validation.PathError.TheVariants.{ClimbsAbov
 use Rattle.uefi_path.proofs.Depth.{Accepted, AcceptedAt, accepted_climbs, climbs_accepted, first_accepted, good_components, with_first}
 use Rattle.uefi_path.proofs.Rewriting.{kind-DotDot}
 use Rattle.uefi_path.proofs.Validity.{verdict_from}
+use Rattle.std.proofs.lemmas.Grind.{common_steps}
 
 -- the component that decides, where this many names are left before all of them
 abbrev IsDecider : List (List ℕ) → List ℕ → ℕ → PathError → Type 0
@@ -48,12 +49,8 @@ module _ (c : List ℕ) (cs : List (List ℕ)) (depth : ℕ) (error : PathError)
   -- by its kind
   at : (k : Kind) → kind c ≡ k → ((left : ℕ) → first_fault cs left ≡ Some error → Refused cs left error)
       → fault_at (depth_after k depth) (first_fault cs) ≡ Some error → Refused (c ∷ cs) depth error
-  at Dot e rest refused =
-      past depth (ap (λ k. depth_after k depth) e)
-      (λ front less. omega (arith, ap counted_name e, ap counted_dot_dot e, less)) (rest depth refused)
-  at Name e rest refused =
-      past (depth + 1) (ap (λ k. depth_after k depth) e)
-      (λ front less. omega (arith, ap counted_name e, ap counted_dot_dot e, less)) (rest (depth + 1) refused)
+  at Dot e rest refused = grind (arith, common_steps, past)
+  at Name e rest refused = grind (arith, past)
   at DotDot e rest refused = at_dots depth refl refused
     where
       at_dots : (n : ℕ) → depth ≡ n → fault_at (depth_after DotDot n) (first_fault cs) ≡ Some error → Refused (c ∷ cs) depth error
@@ -91,9 +88,7 @@ refused_front (c ∷ cs) depth error refused =
 decided : (c : List ℕ) (rest : List (List ℕ)) (depth : ℕ) (error : PathError) → IsDecider [] c depth error
     → first_fault (c ∷ rest) depth ≡ Some error
 decided c rest depth error (inl bad) = ap (λ o. option_or o (fault_at (depth_after (kind c) depth) (first_fault rest))) bad
-decided c rest depth error (inr climbs) =
-    let none : depth ≡ 0 = omega (arith, climbs.1) in
-    ap (λ d. first_fault (c ∷ rest) d) none ∙ ap (λ d. first_fault (d ∷ rest) 0) climbs.0 ∙ ap Some (sym climbs.2)
+decided c rest depth error (inr climbs) = grind arith
 
 module _ (f : List ℕ) (fs : List (List ℕ)) (c : List ℕ) (rest : List (List ℕ)) (error : PathError)
     (others : (left : ℕ) → Accepted fs left → IsDecider fs c left error → first_fault (fs ++ c ∷ rest) left ≡ Some error) where
@@ -104,13 +99,10 @@ module _ (f : List ℕ) (fs : List (List ℕ)) (c : List ℕ) (rest : List (List
 
   onwards : (k : Kind) → kind f ≡ k → (depth : ℕ) → AcceptedAt fs (depth_after k depth) → IsDecider (f ∷ fs) c depth error
       → fault_at (depth_after k depth) (first_fault (fs ++ c ∷ rest)) ≡ Some error
-  onwards Dot e depth accepted why =
-      others depth accepted (later depth depth (λ less. omega (arith, ap counted_name e, ap counted_dot_dot e, less)) why)
+  onwards Dot e depth accepted why = grind arith
   onwards DotDot e zero accepted why = absurd (cc)
-  onwards DotDot e (suc left) accepted why =
-      others left accepted (later left (suc left) (λ less. omega (arith, ap counted_name e, ap counted_dot_dot e, less)) why)
-  onwards Name e depth accepted why =
-      others (depth + 1) accepted (later (depth + 1) depth (λ less. omega (arith, ap counted_name e, ap counted_dot_dot e, less)) why)
+  onwards DotDot e (suc left) accepted why = grind arith
+  onwards Name e depth accepted why = grind arith
 
 front_refused : (front : List (List ℕ)) (c : List ℕ) (rest : List (List ℕ)) (depth : ℕ) (error : PathError) → Accepted front depth
     → IsDecider front c depth error → first_fault (front ++ c ∷ rest) depth ≡ Some error

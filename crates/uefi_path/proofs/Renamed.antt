@@ -1,34 +1,26 @@
 -- A path whose last component was replaced.
-use Rattle.std.proofs.Common.{◌≡◌, ◌≢◌, ◌+◌, ◌∙◌, ℕ, List, ◌++◌, None, Option, Some, ap, inl, inr, sym, take, drop, length, refl}
+use Rattle.std.proofs.Common.{List, None, Option, Some, ap, arith, drop, length, refl, sym, take, ℕ, ◌++◌, ◌+◌, ◌∙◌, ◌≡◌, ◌≢◌}
 use Rattle.std.proofs.Math.Seq.{take-add, take-length}
 use Rattle.std.proofs.lemmas.List.{map-append, take-append-drop}
 use Rattle.std.proofs.lemmas.List.Elements.{All-take}
 use Rattle.std.specs.List.{last_or, slice_range}
-use Rattle.uefi_text.specs.Units.{replaced}
 use Rattle.uefi_path.specs.Components.{components_of}
 use Rattle.uefi_path.specs.FileNames.{IsStem}
 use Rattle.uefi_path.specs.Renaming.{IsExtended, IsRenamed, StartsName, dotted}
-use Rattle.uefi_path.specs.Separators.{IsPlain, separator, slash, with_separators}
+use Rattle.uefi_path.specs.Separators.{IsPlain, slash, with_separators}
 use Rattle.uefi_path.proofs.LastPieces.{to_the_end}
 use Rattle.uefi_path.proofs.Pushing.{with_separators-plain}
+use Rattle.std.proofs.lemmas.Grind.{common_steps}
 
 -- what stands before a name has no slash
 kept : (front name : List ℕ) → IsPlain front → with_separators (front ++ name) ≡ front ++ with_separators name
-kept front name plain =
-    map-append (replaced slash separator) front name ∙ ap (λ us. us ++ with_separators name) (with_separators-plain front plain)
+kept front name plain = grind (arith, map-append, with_separators-plain)
 
 renamed_by : (old name : List ℕ) (start : ℕ) (last : Option (List ℕ)) → last_or None (components_of old) ≡ last → StartsName old start last
     → IsPlain old → IsRenamed old (with_separators (take start old ++ name)) name
-renamed_by old name start None is starts plain =
-    let whole : take start old ≡ old = ap (λ n. take n old) starts ∙ take-length old in
-    inl (is, ap (λ us. with_separators (us ++ name)) whole ∙ kept old name plain)
+renamed_by old name start None is starts plain = grind (arith, common_steps, take-length, kept)
 renamed_by old name start (Some component) is starts plain =
-    inr (
-      take start old,
-      component,
-      record { whole = sym (take-append-drop start old) ∙ ap (λ us. take start old ++ us) starts; last = is },
-      kept (take start old) name (All-take (λ unit. unit ≢ slash) start old plain),
-    )
+    grind (arith, common_steps, take-append-drop, kept, All-take)
 
 pub renamed : (old name : List ℕ) (start : ℕ) → StartsName old start (last_or None (components_of old)) → IsPlain old
     → IsRenamed old (with_separators (take start old ++ name)) name

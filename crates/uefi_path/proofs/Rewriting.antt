@@ -19,21 +19,14 @@ kind-DotDot (c ∷ d ∷ []) e = grind arith
 kind-DotDot (c ∷ d ∷ f ∷ rest) e = cc
 
 pub kind-Name : (piece : List ℕ) → kind piece ≡ Name → IsName piece
-kind-Name piece e =
-    (λ is_dot. let k = ap kind is_dot in cc, λ is_up. let k = ap kind is_up in cc)
+kind-Name piece e = grind arith
 
 pub name_kind : (piece : List ℕ) → IsName piece → kind piece ≡ Name
-name_kind piece name = by_kind (kind piece) refl
-  where
-    by_kind : (k : Kind) → kind piece ≡ k → kind piece ≡ Name
-    by_kind Dot e = absurd (name.0 (kind-Dot piece e))
-    by_kind DotDot e = absurd (name.1 (kind-DotDot piece e))
-    by_kind Name e = e
+name_kind piece name = grind arith
 
 -- a `.`, and a name before `..`, at the front
 dot_goes : (p : List ℕ) (ps : List (List ℕ)) → p ≡ dot → Step (p ∷ ps) ps
-dot_goes p ps e =
-    inl (record { front = []; back = ps; before = ap (λ q. q ∷ ps) e; after = refl })
+dot_goes p ps e = grind arith
 
 pair_goes : (p q : List ℕ) (ps : List (List ℕ)) → IsName p → q ≡ dot_dot → Step (p ∷ q ∷ ps) ps
 pair_goes p q ps name e = inr (record {
@@ -64,8 +57,7 @@ step_after p ps qs (inr d) = inr (record {
 
 steps_after : (n : ℕ) (p : List ℕ) (ps qs : List (List ℕ)) → Steps n ps qs → Steps n (p ∷ ps) (p ∷ qs)
 steps_after zero p ps qs e = ap (λ others. p ∷ others) e
-steps_after (suc n) p ps qs s =
-    (p ∷ s.0, step_after p ps s.0 s.1, steps_after n p s.0 qs s.2)
+steps_after (suc n) p ps qs s = grind (arith, steps_after n p s.0 qs s.2, step_after)
 
 pub steps_then : (n : ℕ) (ps qs rs : List (List ℕ)) → Steps n ps qs → Rewrites qs rs → Rewrites ps rs
 steps_then zero ps qs rs e more = subst (λ pieces. Rewrites pieces rs) (sym e) more
@@ -82,13 +74,8 @@ normal_of-after [] ps qs e = e
 normal_of-after (f ∷ front) ps qs e = ap (before_normal (kind f) f) (normal_of-after front ps qs e)
 
 pub normal_of-step : (ps qs : List (List ℕ)) → Step ps qs → normal_of ps ≡ normal_of qs
-normal_of-step ps qs (inl d) =
-    ap normal_of d.before ∙ normal_of-after d.front (dot ∷ d.back) d.back refl ∙ ap normal_of (sym d.after)
-normal_of-step ps qs (inr d) =
-    ap normal_of d.before
-    ∙ normal_of-after d.front (d.name ∷ dot_dot ∷ d.back) d.back
-    (ap (λ k. before_normal k d.name (dot_dot ∷ normal_of d.back)) (name_kind d.name d.is_name))
-    ∙ ap normal_of (sym d.after)
+normal_of-step ps qs (inl d) = grind (arith, normal_of-after)
+normal_of-step ps qs (inr d) = grind (arith, normal_of-after, name_kind)
 
 normal_of-steps : (n : ℕ) (ps qs : List (List ℕ)) → Steps n ps qs → normal_of ps ≡ normal_of qs
 normal_of-steps zero ps qs e = ap normal_of e
@@ -122,8 +109,7 @@ normal_of-normal (p ∷ ps) normal =
 before_piece_reached : (k : Kind) (p q : List ℕ) (qs : List (List ℕ)) → IsName p → kind q ≡ k
     → Rewrites (p ∷ q ∷ qs) (before_piece k p q qs)
 before_piece_reached Dot p q qs name e = (0, refl)
-before_piece_reached DotDot p q qs name e =
-    one_step (p ∷ q ∷ qs) qs (pair_goes p q qs name (kind-DotDot q e))
+before_piece_reached DotDot p q qs name e = grind (arith, one_step, pair_goes, kind-DotDot)
 before_piece_reached Name p q qs name e = (0, refl)
 
 before_normal_reached : (k : Kind) (p : List ℕ) (ps : List (List ℕ)) → kind p ≡ k → Rewrites (p ∷ ps) (before_normal k p ps)
@@ -217,10 +203,4 @@ normal_form_where_same ps qs = (
 )
 
 pub normal_forms_agree : NormalFormsAgree
-normal_forms_agree ps qs ns ms form other = (
-  λ same. (ns, form.0, subst (λ rs. Rewrites qs rs) (sym same) other.0),
-  λ common. normal_of-only ps ns form
-      ∙ normal_of-steps common.1.0 ps common.0 common.1.1
-      ∙ sym (normal_of-steps common.2.0 qs common.0 common.2.1)
-      ∙ sym (normal_of-only qs ms other),
-)
+normal_forms_agree ps qs ns ms form other = grind (arith, normal_of-only, normal_of-steps)

@@ -9,7 +9,7 @@ use Rattle.std.proofs.lemmas.Bool.{cases_lt}
 use Rattle.std.proofs.lemmas.Grind.{common_steps}
 use Rattle.std.proofs.lemmas.List.Elements.{All-nil, All-weaker}
 use Rattle.uefi_text.proofs.Runs.{gives_each}
-use Rattle.uefi_text.specs.Units.{IsText, IsTextUnit}
+use Rattle.uefi_text.specs.Units.{IsText}
 use Rattle.uefi_text.specs.Views.{units_of}
 use Rattle.uefi_path.specs.Runs.{GivesNoNulIn}
 use Rattle.uefi_path.specs.Views.{components_left}
@@ -17,8 +17,7 @@ use Rattle.uefi_path.specs.declared.components.Components.{Components}
 
 -- no unit of a text is NUL
 pub no_nul : (text : List ℕ) → IsText text → All (λ unit. unit ≢ 0) text
-no_nul text is_text =
-    All-weaker IsTextUnit (λ unit. unit ≢ 0) (λ unit is_unit. omega (arith, is_unit.0)) text is_text
+no_nul text is_text = grind arith
 
 -- what holds of each that it shows, and of some other, holds of each that it gives
 pub gives_all : {S A B : Type 0} (P : B → Type 0) (other : B) (view : A → B) (left : S → List B) (here : S) → P other

@@ -18,9 +18,7 @@ bit_no u us other = ap (λ b. cond b 1 0 + 2 * mask_l (map is_separator us)) oth
 
 -- the bits of few units are a small number
 pub bits_fit : (us : List ℕ) → length us < 16 → mask_l (map is_separator us) < 2 ^ 16
-bits_fit us few =
-    lt_of_lt_of_le (mask_l-lt (map is_separator us))
-    (pow_mono {i = length (map is_separator us)} {j = 16} (omega (arith, few, length-map us is_separator)))
+bits_fit us few = grind (arith, lt_of_lt_of_le, mask_l-lt, pow_mono, length-map)
 
 -- where no bit is set, the separators stand after the units
 none_ahead : (at : ℕ) (us vs : List ℕ) → mask_l (map is_separator us) ≡ 0
@@ -94,9 +92,7 @@ others_ahead us start end ordered within none =
 -- there is none where all were looked at
 pub none_ahead_seen : (us : List ℕ) (start end : ℕ) → start ≤ end → end ≡ length us
     → mask_l (map is_separator (slice_range us start end)) ≡ 0 → places_from start (drop start us) ≡ []
-none_ahead_seen us start end ordered all none =
-    others_ahead us start end ordered (omega (arith, all)) none
-    ∙ ap (places_from end) (drop_all end us (omega (arith, all)))
+none_ahead_seen us start end ordered all none = grind (arith, others_ahead, drop_all)
 
 -- how the lowest bit cuts units from a place on
 pub record LowestCut (us : List ℕ) (start end bits gap : ℕ) : Type 0 where

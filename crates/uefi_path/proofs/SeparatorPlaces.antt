@@ -1,12 +1,12 @@
 -- The places of separators: how they cut a text, and what they are once it is edited.
-use Rattle.std.proofs.Common.{◌≡◌, ◌≢◌, ℕ, suc, ◌+◌, ◌-◌, ◌<◌, ◌≤◌, List, [], ◌∷◌, ◌++◌, length, get_or, take, drop, true, false, inl, inr, ap, sym, refl, ◌∙◌, arith, add-zero, if◌then◌else◌}
+use Rattle.std.proofs.Common.{◌≡◌, ◌≢◌, ℕ, suc, ◌+◌, ◌-◌, ◌<◌, ◌≤◌, List, [], ◌∷◌, ◌++◌, length, get_or, take, drop, true, false, inl, inr, ap, sym, refl, ◌∙◌, arith, add-zero}
 use Rattle.std.specs.List.{count_by, onto_first, slice_range, slice_split}
 use Rattle.std.proofs.lemmas.Bool.{cases_Bool}
 use Rattle.std.proofs.lemmas.List.{drop-drop, length-drop}
 use Rattle.std.proofs.lemmas.List.Sums.{sum_by-cons}
 use Rattle.std.proofs.lemmas.List.Splits.{slice_split-cons_no, slice_split-cons_yes}
-use Rattle.uefi_path.specs.Separators.{becomes_separator, canonical, is_separator, places_from, places_of, separator, slash, with_separators}
-use Rattle.uefi_text.specs.Units.{replaced}
+use Rattle.uefi_path.specs.Separators.{becomes_separator, canonical, is_separator, places_from, places_of, with_separators}
+use Rattle.std.proofs.lemmas.Grind.{common_steps}
 
 -- where the units begin with a separator, so do the places
 pub places_from-yes : (start u : ℕ) (us : List ℕ) → is_separator u ≡ true
@@ -91,20 +91,12 @@ placed_cut text start place places within found =
 pub length-places_from : (start : ℕ) (us : List ℕ) → length (places_from start us) ≡ count_by is_separator us
 length-places_from start [] = refl
 length-places_from start (u ∷ us) =
-    let others = length-places_from (start + 1) us in
-    let rest = places_from (start + 1) us in
-    elim (is_separator u)
-    as (λ b. length (if b then start ∷ rest else rest) ≡ (if b then 1 else 0) + count_by is_separator us)
-    [ true ↦ omega (arith, others) | false ↦ omega (arith, others) ]
-    ∙ sym (sum_by-cons _ u us)
+    grind (arith, common_steps, length-places_from (start + 1) us, sum_by-cons)
 
 -- and once slashes are replaced, as many as become one
 count_by-with_separators : (us : List ℕ) → count_by is_separator (with_separators us) ≡ count_by becomes_separator us
 count_by-with_separators [] = refl
-count_by-with_separators (u ∷ us) =
-    sum_by-cons _ (replaced slash separator u) (with_separators us)
-    ∙ ap (λ n. (if becomes_separator u then 1 else 0) + n) (count_by-with_separators us)
-    ∙ sym (sum_by-cons _ u us)
+count_by-with_separators (u ∷ us) = grind (arith, common_steps, count_by-with_separators us, sum_by-cons)
 
 pub length-places : (start : ℕ) (us : List ℕ)
     → length (places_from start (with_separators us)) ≡ count_by becomes_separator us
@@ -114,16 +106,7 @@ length-places start us = length-places_from start (with_separators us) ∙ count
 pub places_from-append : (start : ℕ) (us vs : List ℕ)
     → places_from start (us ++ vs) ≡ places_from start us ++ places_from (start + length us) vs
 places_from-append start [] vs = ap (λ n. places_from n vs) (sym (add-zero start))
-places_from-append start (u ∷ us) vs =
-    let others = places_from-append (start + 1) us vs in
-    let long : start + 1 + length us ≡ start + length (u ∷ us) = omega arith in
-    let all : places_from (start + 1) (us ++ vs) ≡ places_from (start + 1) us ++ places_from (start + length (u ∷ us)) vs =
-    others ∙ ap (λ n. places_from (start + 1) us ++ places_from n vs) long in
-    let here = places_from (start + 1) us in
-    let both = places_from (start + 1) (us ++ vs) in
-    elim (is_separator u)
-    as (λ b. (if b then start ∷ both else both) ≡ (if b then start ∷ here else here) ++ places_from (start + length (u ∷ us)) vs)
-    [ true ↦ ap (λ ps. start ∷ ps) all | false ↦ all ]
+places_from-append start (u ∷ us) vs = grind (arith, places_from-append (start + 1) us vs)
 
 -- whether the text begins with a separator is what its first place says
 pub canonical_placed : (text : List ℕ) → 0 < length (places_of text) → get_or (places_of text) 0 0 ≡ 0

@@ -1,5 +1,5 @@
 -- Texts in which slashes separate pieces too: how the first and the last piece are cut.
-use Rattle.std.proofs.Common.{◌≡◌, ◌≢◌, ℕ, suc, ◌+◌, ◌-◌, ◌<◌, ◌≤◌, true, false, List, [], ◌∷◌, ◌++◌, All, length, take, drop, get_or, drop-cons, refl, sym, subst, ◌∙◌, ap, arith}
+use Rattle.std.proofs.Common.{◌≡◌, ◌≢◌, ℕ, suc, ◌+◌, ◌-◌, ◌<◌, ◌≤◌, true, false, List, [], ◌∷◌, ◌++◌, All, length, take, drop, get_or, drop-cons, sym, subst, ◌∙◌, ap, arith}
 use Rattle.std.specs.List.{slice_range, slice_split}
 use Rattle.std.proofs.lemmas.Bool.{eqb-true}
 use Rattle.std.proofs.lemmas.Grind.{common_steps}
@@ -39,8 +39,7 @@ is_piece : (us : List ℕ) → Inside us → IsPiece us
 is_piece us inside = All-weaker (λ u. becomes_separator u ≡ false) (λ u. u ≢ separator) not_separator us inside
 
 pub one_piece : (us : List ℕ) → Inside us → slice_split is_separator (with_separators us) ≡ us ∷ []
-one_piece us inside =
-    ap (slice_split is_separator) (same us inside) ∙ slice_split_none is_separator us (passes_over us (is_piece us inside))
+one_piece us inside = grind (arith, same, slice_split_none, passes_over, is_piece)
 
 -- a text around a unit that becomes a separator
 around : (us : List ℕ) (place : ℕ) → place < length us → becomes_separator (get_or us place 0) ≡ true
@@ -56,10 +55,7 @@ around us place less ends =
 pub first_piece : (us : List ℕ) (end : ℕ) → end < length us → Inside (take end us) → becomes_separator (get_or us end 0) ≡ true
     → slice_split is_separator (with_separators us) ≡ take end us ∷ slice_split is_separator (with_separators (drop (suc end) us))
 first_piece us end less inside ends =
-    let first = take end us in
-    let rest = with_separators (drop (suc end) us) in
-    ap (slice_split is_separator) (around us end less ends ∙ ap (λ vs. vs ++ separator ∷ rest) (same first inside))
-    ∙ slice_split_at is_separator first separator rest (passes_over first (is_piece first inside)) refl
+    grind (arith, around us end less ends, same, slice_split_at, passes_over, is_piece)
 
 pub last_piece_slashed : (us : List ℕ) (start : ℕ) → 0 < start → start ≤ length us → Inside (drop start us)
     → becomes_separator (get_or us (start - 1) 0) ≡ true
@@ -80,10 +76,7 @@ upto us end = let all : end - 0 ≡ end = omega arith in ap (λ n. take n us) al
 -- the pieces of a text, as they are cut at such places
 pub cut_at_end : (us first : List ℕ) (end : ℕ) → Inside (take end us) → end ≡ length us → first ≡ slice_range us 0 end
     → slice_split is_separator (with_separators us) ≡ first ∷ []
-cut_at_end us first end inside all cut =
-    let whole : take end us ≡ us = ap (λ n. take n us) all ∙ take-length us in
-    let same_units : first ≡ us = cut ∙ upto us end ∙ whole in
-    one_piece us (subst Inside whole inside) ∙ ap (λ vs. vs ∷ []) (sym same_units)
+cut_at_end us first end inside all cut = grind (arith, take-length, upto, one_piece)
 
 pub cut_inside : (us first rest : List ℕ) (end len : ℕ) → end ≤ length us → end ≢ len → len ≡ length us → Inside (take end us)
     → (end < length us → becomes_separator (get_or us end 0) ≡ true) → first ≡ slice_range us 0 end
@@ -98,16 +91,11 @@ cut_inside us first rest end len within other all inside ends cut after =
 
 pub cut_whole : (us last : List ℕ) (start len : ℕ) → Inside (drop start us) → start ≡ 0 → len ≡ length us
     → last ≡ slice_range us start len → slice_split is_separator (with_separators us) ≡ last ∷ []
-cut_whole us last start len inside none all cut =
-    let same_units : last ≡ us = cut ∙ to_the_end us start len all ∙ ap (λ n. drop n us) none in
-    one_piece us (subst (λ n. Inside (drop n us)) none inside) ∙ ap (λ vs. vs ∷ []) (sym same_units)
+cut_whole us last start len inside none all cut = grind (arith, to_the_end, one_piece)
 
 pub cut_back_inside : (us front last : List ℕ) (start len : ℕ) → start ≤ length us → start ≢ 0 → len ≡ length us
     → Inside (drop start us) → (0 < start → becomes_separator (get_or us (start - 1) 0) ≡ true) → last ≡ slice_range us start len
     → front ≡ slice_range us 0 (start - 1)
     → slice_split is_separator (with_separators us) ≡ slice_split is_separator (with_separators front) ++ last ∷ []
 cut_back_inside us front last start len within other all inside ends cut before =
-    let some : 0 < start = omega (arith, other) in
-    last_piece_slashed us start some within inside (ends some)
-    ∙ ap (λ vs. slice_split is_separator (with_separators vs) ++ drop start us ∷ []) (sym (before ∙ upto us (start - 1)))
-    ∙ ap (λ vs. slice_split is_separator (with_separators front) ++ vs ∷ []) (sym (cut ∙ to_the_end us start len all))
+    grind (arith, last_piece_slashed, upto, to_the_end)

@@ -1,8 +1,8 @@
 -- The components of a text: there is exactly one list of them, what stands between the separators.
 use Rattle.std.proofs.Common.{◌≡◌, ◌≢◌, ℕ, ◌+◌, ◌≤◌, false, List, [], ◌∷◌, length, Some, arith, sym, ◌∙◌, ap, refl, All, subst, inl, inr, get_or}
 use Rattle.std.specs.List.{list_any, slice_split, onto_first}
-use Rattle.std.proofs.lemmas.Bool.{cases_Bool, eqb-false, ne_eqb}
-use Rattle.std.proofs.lemmas.List.Elements.{All-nil, All-cons, All-head, All-tail, All-map, All-weaker}
+use Rattle.std.proofs.lemmas.Bool.{cases_Bool, eqb-false}
+use Rattle.std.proofs.lemmas.List.Elements.{All-nil, All-cons, All-head, All-tail, All-map}
 use Rattle.std.proofs.lemmas.List.Splits.{length-slice_split, slice_split_none, slice_split_at, slice_split-cons_yes, slice_split-cons_no, join_with_byte-slice_split}
 use Rattle.std.proofs.lemmas.List.Sums.{count_by-le-length}
 use Rattle.std.proofs.lemmas.Grind.{common_steps}
@@ -13,8 +13,7 @@ use Rattle.uefi_path.specs.Separators.{separator, slash, is_separator, is_slash,
 -- lists of which the first gets another first element: what holds of it and of theirs holds of all
 pub All-onto_first : (P : ℕ → Type 0) (u : ℕ) (ps : List (List ℕ)) → P u → All (All P) ps
     → All (All P) (onto_first u ps)
-All-onto_first P u [] of_unit all =
-    All-cons (All P) (u ∷ []) [] (All-cons P u [] of_unit (All-nil P)) (All-nil (All P))
+All-onto_first P u [] of_unit all = grind (arith, All-cons, All-nil)
 All-onto_first P u (p ∷ ps) of_unit all =
     All-cons (All P) (u ∷ p) ps (All-cons P u p of_unit (All-head (All P) p ps all))
     (All-tail (All P) p ps all)
@@ -47,8 +46,7 @@ not_one_empty u us e = let j = joined-slice_split (u ∷ us) in let k = ap joine
 
 -- the test for a separator fails at each unit of a piece
 pub passes_over : (p : List ℕ) → IsPiece p → All (λ v. is_separator v ≡ false) p
-passes_over p piece =
-    All-weaker IsNoSeparator (λ v. is_separator v ≡ false) (λ v h. ne_eqb v separator h) p piece
+passes_over p piece = grind arith
 
 -- pieces that were joined are what stands between the separators of what they join to
 pub slice_split-joined : (p : List ℕ) (ps : List (List ℕ)) → All IsPiece (p ∷ ps)
@@ -66,14 +64,11 @@ pieces_between-some (u ∷ us) some = refl
 
 pub pieces_between-joined : (ps : List (List ℕ)) → All IsPiece ps → ps ≢ [] ∷ [] → pieces_between (joined ps) ≡ ps
 pieces_between-joined [] all ne = refl
-pieces_between-joined (p ∷ ps) all ne =
-    let s = slice_split-joined p ps all in
-    pieces_between-some (joined (p ∷ ps)) (λ e. ne (sym s ∙ ap (slice_split is_separator) e)) ∙ s
+pieces_between-joined (p ∷ ps) all ne = grind (arith, slice_split-joined, pieces_between-some)
 
 -- the pieces between the separators of the canonical text are components
 AreComponents-between : (text us : List ℕ) → canonical text ≡ us → AreComponents text (pieces_between us)
-AreComponents-between text [] e =
-    record { are_pieces = All-nil IsPiece; not_one_empty = λ f. cc; join = sym e }
+AreComponents-between text [] e = grind (arith, All-nil, not_one_empty)
 AreComponents-between text (u ∷ us) e = record {
   are_pieces = All-IsPiece-slice_split (u ∷ us);
   not_one_empty = not_one_empty u us;
@@ -86,9 +81,7 @@ AreComponents-components_of text = AreComponents-between text (canonical text) r
 -- and no others are
 pub components_of-only : (text : List ℕ) (pieces : List (List ℕ)) → AreComponents text pieces
     → pieces ≡ components_of text
-components_of-only text pieces components =
-    sym (pieces_between-joined pieces components.are_pieces components.not_one_empty)
-    ∙ ap pieces_between components.join
+components_of-only text pieces components = grind (arith, pieces_between-joined)
 
 -- the pieces of a canonical text that is not empty
 pub slice_split-canonical : (text us : List ℕ) → us ≡ canonical text → (us ≡ [] → ⊥)
@@ -113,9 +106,7 @@ hint_of_some [] some = absurd (omega (arith, some))
 hint_of_some (piece ∷ pieces) some = refl
 
 pub hint_of_split : (us : List ℕ) → hint_of_pieces (slice_split is_separator us) ≡ (1, Some (length us + 1))
-hint_of_split us =
-    hint_of_some (slice_split is_separator us) (some_slice_split us)
-    ∙ ap (λ (vs : List ℕ). (1, Some (length vs + 1))) (joined-slice_split us)
+hint_of_split us = grind (arith, hint_of_some, some_slice_split, joined-slice_split)
 
 from_string : (unit : ℕ) → replaced slash separator unit ≢ slash
 from_string unit e = grind (arith, common_steps)
@@ -124,8 +115,7 @@ from_string unit e = grind (arith, common_steps)
 pub IsPlain-no_slash : (text : List ℕ) → list_any is_slash text ≡ false → IsPlain text
 IsPlain-no_slash [] none = All-nil (λ unit. unit ≢ slash)
 IsPlain-no_slash (unit ∷ units) none =
-    let first : unit ≢ slash = λ is. grind (arith, common_steps) in
-    All-cons (λ unit. unit ≢ slash) unit units first (IsPlain-no_slash units (grind (arith, common_steps)))
+    grind (arith, IsPlain-no_slash units (grind (arith, common_steps)), All-cons)
 
 -- a text in which each slash was replaced has none
 pub IsPlain-with_separators : (text : List ℕ) → IsPlain (with_separators text)

@@ -1,23 +1,14 @@
 -- What a push adds: its units, and a path with a block more, or cut back.
-use Rattle.std.proofs.Common.{◌≡◌, ◌≢◌, ℕ, ◌+◌, ◌-◌, ◌<◌, ◌≤◌, List, ◌∷◌, [], ◌++◌, length, get_or, take, drop, set, ap, sym, zero-add, ◌∙◌, arith}
+use Rattle.std.proofs.Common.{◌≡◌, ◌≢◌, ℕ, ◌+◌, ◌-◌, ◌≤◌, List, ◌++◌, length, take, drop, ap, sym, zero-add, ◌∙◌, arith}
 use Rattle.std.specs.List.{slice_range}
 use Rattle.std.proofs.Math.Seq.{take-append-add}
-use Rattle.std.proofs.lemmas.List.{length-take-le, map-append, take-append-drop, take_at, take_more, take_more_set}
+use Rattle.std.proofs.lemmas.List.{length-take-le, take-append-drop, take_at}
 use Rattle.std.proofs.lemmas.List.Elements.{All-append, All-drop, All-take}
 use Rattle.uefi_text.proofs.Texts.{IsText-replaced}
-use Rattle.uefi_text.specs.Units.{IsText, IsTextUnit, replaced}
+use Rattle.uefi_text.specs.Units.{IsText, IsTextUnit}
 use Rattle.uefi_path.specs.Separators.{IsPlain, places_from, places_of, separator, slash, with_separators}
 use Rattle.uefi_path.proofs.SeparatorPlaces.{places_from-append}
-
--- one unit more is written
-pub text_more : (block us : List ℕ) (i : ℕ) → i < length block → i < length us
-    → take i block ≡ with_separators (take i us)
-    → take (i + 1) (set block i (replaced slash separator (get_or us i 0))) ≡ with_separators (take (i + 1) us)
-text_more block us i room inside so_far =
-    let u = replaced slash separator (get_or us i 0) in
-    take_more_set block i u room
-    ∙ ap (λ vs. vs ++ u ∷ []) so_far
-    ∙ sym (ap with_separators (take_more us i 0 inside) ∙ map-append (replaced slash separator) (take i us) (get_or us i 0 ∷ []))
+use Rattle.std.proofs.lemmas.Grind.{common_steps}
 
 -- a text stays one with its slashes replaced
 pub IsTextUnit-separator : IsTextUnit separator
@@ -35,13 +26,7 @@ IsText-part us start end is_text =
 pub block_added : (text places block new new_places : List ℕ) → IsPlain text → places ≡ places_of text → IsPlain block
     → new ≡ text ++ block → new_places ≡ places ++ places_from (length text) block → IsPlain new × (new_places ≡ places_of new)
 block_added text places block new new_places plain all of_block is are =
-    rw is (
-      All-append (λ unit. unit ≢ slash) text block plain of_block,
-      are
-          ∙ ap (λ ps. ps ++ places_from (length text) block) all
-          ∙ ap (λ n. places_of text ++ places_from n block) (sym (zero-add (length text)))
-          ∙ sym (places_from-append 0 text block),
-    )
+    grind (arith, common_steps, All-append, zero-add, places_from-append)
 
 -- what is left of both where a text is cut back
 pub text_cut : (text places new new_places : List ℕ) (len count : ℕ) → IsPlain text → places ≡ places_of text

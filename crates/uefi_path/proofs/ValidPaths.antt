@@ -1,11 +1,11 @@
 -- A path is valid exactly where it is not refused.
-use Rattle.std.proofs.Common.{◌≡◌, ◌≢◌, ℕ, ◌↔◌, ◌==◌, List, [], ◌∷◌, true, false, None, Result, Ok, Err, IsOk, ap, sym, refl, subst, ◌∙◌}
+use Rattle.std.proofs.Common.{Err, IsOk, List, None, Ok, Result, [], ap, arith, false, refl, subst, true, ℕ, ◌==◌, ◌↔◌, ◌∷◌, ◌≡◌, ◌≢◌}
 use Rattle.std.specs.List.{Contains}
 use Rattle.std.specs.Option.{option_map}
 use Rattle.std.specs.Result.{result_err}
-use Rattle.std.proofs.lemmas.Bool.{eq-eqb, eqb-true, false_from_ne_true, false≢true, true≢false}
+use Rattle.std.proofs.lemmas.Bool.{eqb-true, false_from_ne_true, false≢true}
 use Rattle.std.proofs.lemmas.List.Elements.{All-weaker}
-use Rattle.std.proofs.lemmas.List.Folds.{Any-from_list_any, list_any-from_Any}
+use Rattle.std.proofs.lemmas.List.Folds.{Any-from_list_any}
 use Rattle.uefi_text.proofs.Finding.{found_none}
 use Rattle.uefi_path.specs.Components.{components_of}
 use Rattle.uefi_path.specs.Verdicts.{IsFileName, IsGood, IsValid, denied, is_denied, verdict}
@@ -16,11 +16,7 @@ use Rattle.uefi_path.proofs.Validity.{good-units, valid-accepted, valid-componen
 
 -- a unit that none of those denied is, and the test that says so
 none_denied : (unit : ℕ) → is_denied unit ≡ false → ¬ Contains denied unit
-none_denied unit allowed found =
-    true≢false
-    (sym (list_any-from_Any (λ other. other == unit) denied
-    (found.0, unit, found.1, found.2, eq-eqb unit unit refl))
-    ∙ allowed)
+none_denied unit allowed found = grind arith
 
 denied_unit : (unit : ℕ) → is_denied unit ≡ true → Contains denied unit
 denied_unit unit tested =
@@ -69,7 +65,4 @@ accepted (Err error) = (λ ok. absurd (false≢true ok), λ e. absurd (cc))
 
 pub accepted_valid : {T : Type 0} (result : Result T PathError) (text : List ℕ) → result_err result ≡ verdict text
     → IsOk result ↔ IsValid text
-accepted_valid result text e = (
-  λ ok. (valid_unrefused text).1 (sym e ∙ (accepted result).0 ok),
-  λ valid. (accepted result).1 (e ∙ (valid_unrefused text).0 valid),
-)
+accepted_valid result text e = grind (arith, valid_unrefused, accepted)

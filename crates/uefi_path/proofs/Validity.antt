@@ -1,19 +1,16 @@
 -- Texts that name files: each of their components is good, which is that it has no fault.
-use Rattle.uefi_text.specs.Units.{replaced}
-use Rattle.std.proofs.Common.{◌≡◌, ◌≢◌, ℕ, List, [], ◌∷◌, ◌++◌, if◌then◌else◌, All, true, false, None, inl, inr, ap, sym, refl, subst, ◌∙◌, ◌⊎◌, arith, length, length-append}
-use Rattle.std.specs.List.{find}
+use Rattle.std.proofs.Common.{◌≡◌, ◌≢◌, ℕ, List, [], ◌∷◌, All, true, false, None, inl, inr, ap, sym, refl, subst, ◌∙◌, ◌⊎◌, arith}
 use Rattle.std.proofs.lemmas.Bool.{cases_Bool, eqb-true, false≢true, ne_eqb, true≢false}
 use Rattle.std.proofs.lemmas.List.Elements.{All-append, All-cons, All-head, All-nil, All-tail, All-weaker}
 use Rattle.uefi_text.proofs.Finding.{All-found_none, unmapped}
 use Rattle.uefi_path.specs.Components.{IsPiece, components_of, joined}
 use Rattle.uefi_path.specs.Parents.{is_non_empty}
 use Rattle.uefi_path.specs.Pushing.{appended, needs_separator, pushed}
-use Rattle.uefi_path.specs.Separators.{IsPlain, canonical, is_separator, separator, slash, with_separators}
+use Rattle.uefi_path.specs.Separators.{IsPlain, canonical, is_separator, separator, slash}
 use Rattle.uefi_path.specs.Verdicts.{IsGood, first_fault, is_denied, verdict}
-use Rattle.uefi_path.specs.declared.validation.PathError.TheVariants.{IllegalChar}
 use Rattle.uefi_path.proofs.Depth.{Accepted, Accepted-append, good_components}
 use Rattle.uefi_path.proofs.Joining.{canonical-no, canonical-yes, components_of-pushed}
-use Rattle.uefi_path.proofs.Parents.{IsFull, after_separator, open_joined}
+use Rattle.uefi_path.proofs.Parents.{IsFull, open_joined}
 use Rattle.uefi_path.proofs.Pushing.{separator_is_plain}
 use Rattle.uefi_path.proofs.Splitting.{AreComponents-components_of}
 
@@ -45,8 +42,7 @@ good-non_empty (u ∷ us) good = refl
 -- and none of its units is denied
 pub good-units : (c : List ℕ) → IsGood c → All (λ u. is_denied u ≡ false) c
 good-units [] good = All-nil (λ u. is_denied u ≡ false)
-good-units (u ∷ us) good =
-    All-found_none is_denied (u ∷ us) (unmapped IllegalChar (find is_denied (u ∷ us)) good)
+good-units (u ∷ us) good = grind (arith, All-found_none, unmapped)
 
 not_slash : (u : ℕ) → is_denied u ≡ false → u ≢ slash
 not_slash u allowed e = true≢false (sym (ap is_denied e) ∙ allowed)
@@ -103,13 +99,7 @@ valid-plain text valid =
 
 open_canonical : (text : List ℕ) → needs_separator (canonical text) ≡ true → needs_separator text ≡ true
 open_canonical [] missing = missing
-open_canonical (u ∷ us) missing =
-    elim (cases_Bool (is_separator u)) [
-      | inl cut ↦
-          subst (λ v. needs_separator (v ∷ us) ≡ true) (sym (eqb-true u separator cut))
-          (after_separator us (ap needs_separator (sym (canonical-yes u us cut)) ∙ missing))
-      | inr other ↦ ap needs_separator (sym (canonical-no u us other)) ∙ missing
-    ]
+open_canonical (u ∷ us) missing = grind arith
 
 open_pieces : (text : List ℕ) (cs : List (List ℕ)) → joined cs ≡ canonical text → All IsPiece cs → All IsFull cs
     → (canonical text ≡ []) ⊎ (needs_separator text ≡ true)
@@ -118,23 +108,17 @@ open_pieces text (c ∷ cs) e pieces full = inr (open_canonical text (ap needs_s
 
 -- a text whose components are not empty has none, or ends in no separator
 pub full-open : (text : List ℕ) → All IsFull (components_of text) → (canonical text ≡ []) ⊎ (needs_separator text ≡ true)
-full-open text full =
-    let are = AreComponents-components_of text in open_pieces text (components_of text) are.join are.are_pieces full
+full-open text full = grind (arith, AreComponents-components_of, open_pieces)
 
 -- and its canonical text begins with none
 relative_pieces : (text : List ℕ) (cs : List (List ℕ)) → joined cs ≡ text → All IsPiece cs → All IsFull cs → canonical text ≡ text
 relative_pieces text [] e pieces full = ap canonical (sym e) ∙ e
 relative_pieces text ([] ∷ cs) e pieces full = absurd (false≢true (All-head IsFull [] cs full))
-relative_pieces text ((u ∷ us) ∷ []) e pieces full =
-    let other = ne_eqb u separator (All-head (λ unit. unit ≢ separator) u us (All-head IsPiece (u ∷ us) [] pieces)) in
-    ap canonical (sym e) ∙ canonical-no u us other ∙ e
-relative_pieces text ((u ∷ us) ∷ q ∷ ps) e pieces full =
-    let other = ne_eqb u separator (All-head (λ unit. unit ≢ separator) u us (All-head IsPiece (u ∷ us) (q ∷ ps) pieces)) in
-    ap canonical (sym e) ∙ canonical-no u (us ++ separator ∷ joined (q ∷ ps)) other ∙ e
+relative_pieces text ((u ∷ us) ∷ []) e pieces full = grind (arith, ne_eqb, All-head, canonical-no)
+relative_pieces text ((u ∷ us) ∷ q ∷ ps) e pieces full = grind (arith, ne_eqb, All-head, canonical-no)
 
 pub full-relative : (text : List ℕ) → All IsFull (components_of text) → canonical (canonical text) ≡ canonical text
-full-relative text full =
-    let are = AreComponents-components_of text in relative_pieces (canonical text) (components_of text) are.join are.are_pieces full
+full-relative text full = grind arith
 
 -- a valid text has no component or ends in no separator
 pub valid-open : (text : List ℕ) → verdict text ≡ None
@@ -142,17 +126,11 @@ pub valid-open : (text : List ℕ) → verdict text ≡ None
 valid-open text valid = full-open text (All-good_non_empty (components_of text) (valid-components text valid))
 
 appended-non_empty : (text : List ℕ) (u : ℕ) (us : List ℕ) → appended text (u ∷ us) ≢ []
-appended-non_empty text u us =
-    elim (needs_separator text)
-    as (λ b. (if b then text ++ separator ∷ u ∷ us else text ++ u ∷ us) ≢ []) [
-      | true ↦ λ e. omega (arith, ap length e, length-append text (separator ∷ u ∷ us))
-      | false ↦ λ e. omega (arith, ap length e, length-append text (u ∷ us))
-    ]
+appended-non_empty text u us = grind arith
 
 pushed-not_empty : (text part : List ℕ) → part ≢ [] → pushed text part ≢ []
 pushed-not_empty text [] non_empty = absurd (non_empty refl)
-pushed-not_empty text (u ∷ us) non_empty =
-    appended-non_empty text (replaced slash separator u) (with_separators us)
+pushed-not_empty text (u ∷ us) non_empty = grind arith
 
 -- a valid path pushed onto another, unless it begins with a separator
 pub valid-pushed : (text part : List ℕ) → verdict text ≡ None → verdict part ≡ None

@@ -1,9 +1,9 @@
 -- What a call returns that writes a path with a NUL into a caller's buffer, if there is such a path, and what
 -- the buffer becomes.
-use Rattle.std.specs.Prelude.{ℕ, ◌++◌, drop, nat_lt, if◌then◌else◌, List, length, Option, Some, None, Result, Ok, Err}
+use Rattle.std.specs.Prelude.{◌≡◌, ℕ, nat_lt, if◌then◌else◌, List, length, Option, Some, None, Result, Ok, Err}
 use Rattle.uefi_text.specs.UnalignedCStr16.{with_prefix}
 use Rattle.uefi_text.specs.Units.{nul_terminated}
-use Rattle.uefi_text.specs.UnitTexts.{places_needed}
+use Rattle.uefi_text.specs.UnitTexts.{AreSunk, places_needed}
 use Rattle.uefi_text.specs.declared.unit_sink.BufferTooSmall as unit_sink
 use Rattle.uefi_path.specs.Components.{components_of}
 use Rattle.uefi_path.specs.NormalForms.{normal_of, normal_text}
@@ -38,7 +38,8 @@ abbrev pub written_over : Option (List ℕ) → List ℕ → List ℕ
 written_over None buffer = buffer
 written_over (Some path) buffer = with_prefix (nul_terminated path) buffer
 
--- the same of a path that has room, before its NUL
-abbrev pub begun_with : Option (List ℕ) → List ℕ → List ℕ
-begun_with None buffer = buffer
-begun_with (Some path) buffer = path ++ drop (length path) buffer
+-- a path was added to what a buffer was given, which was nothing yet, if there is such a path
+abbrev pub IsSunk : Option (List ℕ) → Option ℕ → List ℕ → List ℕ → Type 0
+IsSunk None told old buffer = told ≡ None
+IsSunk (Some path) None old buffer = ⊥
+IsSunk (Some path) (Some len) old buffer = AreSunk path old buffer len

@@ -5,7 +5,7 @@ ghost use Rattle.std.specs.List.{last_or, position, position_or_len, slice_split
 ghost use Rattle.uefi_path.specs.ComponentPlaces.{component_place, components_from};
 ghost use Rattle.uefi_path.specs.Components.{IsPiece, components_of, joined};
 ghost use Rattle.uefi_path.specs.Parents.{all_but_last, parent_text};
-ghost use Rattle.uefi_path.specs.Pushing.{pushed, tail_of};
+ghost use Rattle.uefi_path.specs.Pushing.{needs_separator};
 ghost use Rattle.uefi_path.specs.Separators.{canonical, is_separator, separator, slash, with_separators};
 ghost use Rattle.uefi_path.specs.Verdicts.{IsValid};
 ghost use Rattle.uefi_text.specs.Units.{replaced};
@@ -25,57 +25,18 @@ pub fn with_separator(unit: u16) -> u16
     }
 }
 
-/// Writes units, each slash replaced, into as many places.
-pub fn write_with_separators(places: &mut [u16], units: &[u16])
-    requires { length places.now ≡ length units.now }
-    ensures { places.new ≡ with_separators units.now }
+/// Whether a text is not empty and its last unit is no separator.
+pub(crate) fn needs_separator(text: &[u16]) -> bool
+    ensures { result ≡ needs_separator text.now }
 {
-    for i in 0..places.len() {
-        places[i] = with_separator(units[i]);
-    }
+    !text.is_empty() && text[text.len() - 1] != u16::from(SEPARATOR)
 }
 
-/// Writes a part of a path, each slash replaced, and a separator before it where one is missing.
-pub fn write_part(places: &mut [u16], is_missing: bool, part: &[u16])
-    requires { length places.now ≡ length (if is_missing then separator ∷ part.now else part.now) }
-    ensures { places.new ≡ with_separators (if is_missing then separator ∷ part.now else part.now) }
+/// The same of a text whose slashes are replaced.
+pub(crate) fn needs_separator_replaced(text: &[u16]) -> bool
+    ensures { result ≡ needs_separator (with_separators text.now) }
 {
-    if is_missing {
-        places[0] = u16::from(SEPARATOR);
-        write_with_separators(&mut places[1..], part);
-    } else {
-        write_with_separators(places, part);
-    }
-}
-
-/// Whether a push of a path after a text adds a separator.
-pub fn is_separator_missing(text: &[u16], path: &[u16]) -> bool
-    ensures { pushed text.now path.now ≡ text.now ++ tail_of result path.now }
-{
-    !path.is_empty() && !text.is_empty() && text[text.len() - 1] != u16::from(SEPARATOR)
-}
-
-/// The same after a text whose slashes are replaced.
-pub fn is_separator_missing_replaced(text: &[u16], path: &[u16]) -> bool
-    ensures { pushed (with_separators text.now) path.now
-        ≡ with_separators text.now ++ tail_of result path.now }
-{
-    if path.is_empty() {
-        return false;
-    }
-    if text.is_empty() {
-        return false;
-    }
-    with_separator(text[text.len() - 1]) != u16::from(SEPARATOR)
-}
-
-/// How long a text of `end` units becomes, when a path is pushed on it, or the greatest `usize` where it
-/// becomes longer.
-pub fn pushed_len(end: usize, is_missing: bool, path: &[u16]) -> usize
-    ensures { result ≡ min (end + (if is_missing then 1 else 0) + length path.now) (2 ^ 64 - 1) }
-{
-    end.saturating_add(usize::from(is_missing))
-        .saturating_add(path.len())
+    !text.is_empty() && with_separator(text[text.len() - 1]) != u16::from(SEPARATOR)
 }
 
 /// Where the last component begins, if there is one: it ends with the units. Looks at it alone.

@@ -18,11 +18,11 @@ use crate::components::{Components, Rest};
 use crate::counted::CountedUnits;
 use crate::file_names::stem_len;
 use crate::path::Path;
-use crate::path_units::{last_component, others_end};
+use crate::path_units::{last_component, needs_separator, others_end};
 use crate::push_blocks::{add_block, copy_units};
 use crate::rooms::{copy_places, copy_string, room_for_both};
 use crate::separators::{add_places, count_separators, cut_last};
-use crate::written::write_all_but_last;
+use crate::written::sink_parent;
 use std::alloc::{AllocError, Allocator, Global};
 use std::cmp::Ordering;
 use std::fmt;
@@ -62,14 +62,6 @@ impl<A: Allocator> Model for PathBuf<A> {
     ghost invariant = { λ path. IsPlain path.string × (path.places.items ≡ places_of path.string) };
 }
 
-/// Whether the string is not empty and its last character is no separator.
-fn needs_separator<A: Allocator>(string: &CString16<A>) -> bool
-    ensures { result ≡ needs_separator string.now }
-{
-    let units = string.as_cstr16().to_u16_slice();
-    !units.is_empty() && units[units.len() - 1] != u16::from(SEPARATOR)
-}
-
 /// This many zeros. Takes memory once.
 fn zeros<A: Allocator>(alloc: A, len: usize) -> Result<Vec<u16, A>, AllocError>
     ensures { IfOk result (λ units. units.items ≡ replicate len 0) }
@@ -91,11 +83,11 @@ fn parent_of<A: Allocator + Copy>(
     ensures ok { IfOk result (λ parent. parent ≡ parent_of_components (components_left components.entry)) }
     ensures none { parent_of_components (components_left components.entry) ≡ None → IsOk result }
 {
-    let Some(len) = write_all_but_last(&mut [], components.copy()) else {
+    let Some(len) = sink_parent(&mut [], components.copy()) else {
         return Ok(None);
     };
     let mut units = zeros(alloc, len + 1)?;
-    write_all_but_last(&mut units, components);
+    sink_parent(&mut units, components);
     let string = CString16::try_from_vec(units).unwrap();
     Ok(Some(PathBuf::from_string(alloc, string)?))
 }
@@ -363,7 +355,7 @@ impl<A: Allocator + Copy> PathBuf<A> {
             ≡ (if needs_separator self.old then self.old ++ separator ∷ [] else self.old)) }
         ensures err { OnErr result (self.new ≡ self.old) }
     {
-        let is_missing = needs_separator(&self.string);
+        let is_missing = needs_separator(self.string.as_cstr16().to_u16_slice());
         self.string.reserve(len + usize::from(is_missing))?;
         if !is_missing {
             return Ok(());

@@ -4,58 +4,85 @@ ghost use Rattle.uefi_path.specs.Components.{IsPiece, components_of, joined};
 ghost use Rattle.uefi_path.specs.NormalForms.{normal_of, normal_text};
 ghost use Rattle.uefi_path.specs.NamesLeft.{IsWalk, names_left};
 ghost use Rattle.uefi_path.specs.Parents.{parent_of_components, parent_text};
-ghost use Rattle.uefi_path.specs.Pushing.{pushed, tail_of};
+ghost use Rattle.uefi_path.specs.Pushing.{needs_separator, pushed, tail_of};
 ghost use Rattle.uefi_path.specs.Separators.{separator, with_separators};
 ghost use Rattle.uefi_path.specs.Verdicts.{IsGood, verdict};
 ghost use Rattle.uefi_path.specs.Views.{components_left, path_text};
-ghost use Rattle.uefi_path.specs.Writing.{begun_with, normal_path, normal_written, path_written, written_over};
+ghost use Rattle.uefi_path.specs.Writing.{IsSunk, normal_path, normal_written, path_written, written_over};
 ghost use Rattle.uefi_text.specs.UnalignedCStr16.{with_prefix};
-ghost use Rattle.uefi_text.specs.UnitTexts.{written_len};
+ghost use Rattle.uefi_text.specs.UnitTexts.{AreSunk, written_len};
 ghost use Rattle.uefi_text.specs.Units.{nul_terminated};
 
 use crate::components::Components;
 use crate::names::NamesFromLast;
 use crate::path::Path;
-use crate::path_units::{
-    is_separator_missing, is_separator_missing_replaced, pushed_len, write_part,
-    write_with_separators,
-};
+use crate::path_units::{needs_separator, needs_separator_replaced};
 use crate::slashed::judge_slashed;
 use crate::validation::PathError;
 use std::error::Error;
 use std::fmt;
 use uefi_text::BufferTooSmall;
-use uefi_text::chars::SEPARATOR;
+use uefi_text::chars::{SEPARATOR, SLASH};
 use uefi_text::number_texts::put_decimal;
 use uefi_text::text_sink::{Printed, TextSink, print};
+use uefi_text::unit_sink::{sink_replaced, sink_unit};
 
-/// Writes a part of a path at its place in a buffer, each slash replaced, and a separator before it
-/// where one is missing; or nothing, where the buffer has no room. Returns where the part ends.
-fn write_part_at(buffer: &mut [u16], start: usize, is_missing: bool, part: &[u16]) -> usize
-    requires { start + (if is_missing then 1 else 0) + length part.now < 2 ^ 64 }
-    ensures end { result ≡ start + (if is_missing then 1 else 0) + length part.now }
-    ensures written { result ≤ length buffer.old → buffer.new ≡ take start buffer.old
-        ++ (with_separators (if is_missing then separator ∷ part.now else part.now)
-        ++ drop (result - start) (drop start buffer.old)) }
+/// Adds the separator that is missing to what a buffer was given, of which `len` units were counted, and
+/// returns how many there are now.
+fn sink_missing(buffer: &mut [u16], len: usize, is_missing: bool) -> usize
+    ensures { (path old : List ℕ) → AreSunk path old buffer.old len →
+        AreSunk (if is_missing then path ++ separator ∷ [] else path) old buffer.new result }
 {
-    let end = start + usize::from(is_missing) + part.len();
-    if end <= buffer.len() {
-        write_part(&mut buffer[start..end], is_missing, part);
+    if is_missing {
+        return sink_unit(buffer, len, u16::from(SEPARATOR));
     }
-    end
+    len
 }
 
-/// How long the parent of a path of these components is, which one of at most one component has
-/// not. Writes it to the start of a buffer, each slash replaced, where it has room.
-pub(crate) fn write_all_but_last(
-    buffer: &mut [u16],
-    mut components: Components<'_>,
-) -> Option<usize>
-    requires pieces { All IsPiece (components_left components) }
-    requires bound { length (joined (components_left components)) < 2 ^ 64 }
-    ensures len { result ≡ option_map length (parent_of_components (components_left components.entry)) }
-    ensures buffer { IfSome result (λ len. len ≤ length buffer.old)
-        → buffer.new ≡ begun_with (parent_of_components (components_left components.entry)) buffer.old }
+/// Adds units, each slash replaced.
+fn sink_with_separators(buffer: &mut [u16], len: usize, units: &[u16]) -> usize
+    ensures sunk { (path old : List ℕ) → AreSunk path old buffer.old len →
+        AreSunk (path ++ with_separators units.now) old buffer.new result }
+    ensures all { len ≡ 0 → length buffer.old ≡ length units.now → buffer.new ≡ with_separators units.now }
+{
+    sink_replaced(buffer, len, units, u16::from(SLASH), u16::from(SEPARATOR))
+}
+
+/// Adds a part of a path, each slash replaced, after a separator where one is missing.
+fn sink_part(buffer: &mut [u16], len: usize, is_missing: bool, part: &[u16]) -> usize
+    ensures { (path old : List ℕ) → AreSunk path old buffer.old len →
+        AreSunk (path ++ tail_of is_missing part.now) old buffer.new result }
+{
+    let start = sink_missing(buffer, len, is_missing);
+    sink_with_separators(buffer, start, part)
+}
+
+/// Adds what a push of a path adds to a text, by whether that needs a separator.
+fn sink_pushed(buffer: &mut [u16], len: usize, needs: bool, path: &[u16]) -> usize
+    ensures { (text old : List ℕ) → needs ≡ needs_separator text → AreSunk text old buffer.old len →
+        AreSunk (pushed text path.now) old buffer.new result }
+{
+    if path.is_empty() {
+        return len;
+    }
+    sink_part(buffer, len, needs, path)
+}
+
+/// Adds a path, each slash replaced, with another pushed on it.
+fn sink_joined(buffer: &mut [u16], first: Path<'_>, path: Path<'_>) -> usize
+    ensures { AreSunk (pushed (with_separators (path_text first.entry)) (path_text path.entry))
+        buffer.old buffer.new result }
+{
+    let text = first.to_cstr16().to_u16_slice();
+    let end = sink_part(buffer, 0, false, text);
+    let needs = needs_separator_replaced(text);
+    sink_pushed(buffer, end, needs, path.to_cstr16().to_u16_slice())
+}
+
+/// Adds the parent of a path of these components, each slash replaced, if it has one.
+pub(crate) fn sink_parent(buffer: &mut [u16], mut components: Components<'_>) -> Option<usize>
+    requires { All IsPiece (components_left components) }
+    ensures { IsSunk (parent_of_components (components_left components.entry)) result buffer.old buffer.new }
 {
     let mut last = components.next()?;
     if components.is_done() {
@@ -64,7 +91,7 @@ pub(crate) fn write_all_but_last(
     let mut len = 0;
     let mut is_missing = false;
     for component in components {
-        len = write_part_at(buffer, len, is_missing, last.units());
+        len = sink_part(buffer, len, is_missing, last.units());
         // No component holds a separator.
         is_missing = !last.is_empty();
         last = component;
@@ -98,7 +125,7 @@ fn write_name_before(buffer: &mut [u16], end: usize, name: &[u16])
     ensures same { length buffer.new ≡ length buffer.old }
 {
     // A name of a normal path has no slash, but a plain copy would be a call of the C library.
-    write_with_separators(&mut buffer[end - name.len()..end], name);
+    sink_with_separators(&mut buffer[end - name.len()..end], 0, name);
 }
 
 /// How many units names have, joined. Writes them into places, where these are as many.
@@ -139,28 +166,6 @@ pub(crate) fn write_string(units: &mut [u16], len: usize, names: NamesFromLast<'
     let _len = write_names(&mut units[..len], names);
 }
 
-/// Writes what a push adds after the first `end` units of a buffer, and a NUL; or nothing, if the buffer
-/// has no room.
-fn write_tail(
-    buffer: &mut [u16],
-    end: usize,
-    is_missing: bool,
-    path: &[u16],
-) -> Result<usize, BufferTooSmall>
-    requires { end ≤ length buffer.now }
-    ensures len { result ≡ written_len (take end buffer.old ++ tail_of is_missing path.now) buffer.old }
-    ensures buffer { buffer.new
-        ≡ with_prefix (nul_terminated (take end buffer.old ++ tail_of is_missing path.now)) buffer.old }
-{
-    let len = pushed_len(end, is_missing, path);
-    if buffer.len() <= len {
-        return Err(BufferTooSmall(len.saturating_add(1)));
-    }
-    write_part(&mut buffer[end..len], is_missing, path);
-    buffer[len] = 0;
-    Ok(len)
-}
-
 /// Pushes a path on the text that the first `end` units of a buffer are, in the buffer, as
 /// [`PathBuf::push`](crate::PathBuf::push) does, and writes a NUL after it. Fails only if the buffer is too
 /// small, and then leaves it unchanged. One pass over the path.
@@ -171,8 +176,14 @@ pub fn push_in_buf(buffer: &mut [u16], end: usize, path: &[u16]) -> Result<usize
     ensures buffer { buffer.new
         ≡ with_prefix (nul_terminated (pushed (take end buffer.old) path.now)) buffer.old }
 {
-    let is_missing = is_separator_missing(&buffer[..end], path);
-    write_tail(buffer, end, is_missing, path)
+    let needs = needs_separator(&buffer[..end]);
+    let len = sink_pushed(&mut [], end, needs, path);
+    if buffer.len() <= len {
+        return Err(BufferTooSmall(len.saturating_add(1)));
+    }
+    sink_pushed(buffer, end, needs, path);
+    buffer[len] = 0;
+    Ok(len)
 }
 
 /// Why no normal path is written.
@@ -245,13 +256,13 @@ impl<'a> Path<'a> {
         // A clause of this call says how long the path can be.
         let _text = self.to_cstr16().as_slice();
         let components = self.components();
-        let Some(len) = write_all_but_last(&mut [], components.copy()) else {
+        let Some(len) = sink_parent(&mut [], components.copy()) else {
             return Ok(None);
         };
         if buffer.len() <= len {
             return Err(BufferTooSmall(len + 1));
         }
-        write_all_but_last(buffer, components);
+        sink_parent(buffer, components);
         buffer[len] = 0;
         Ok(Some(len))
     }
@@ -309,14 +320,12 @@ impl<'a> Path<'a> {
         ensures buffer { buffer.new ≡ with_prefix (nul_terminated
             (pushed (with_separators (path_text self.now)) (path_text path.entry))) buffer.old }
     {
-        let text = self.to_cstr16().to_u16_slice();
-        let path = path.to_cstr16().to_u16_slice();
-        let is_missing = is_separator_missing_replaced(text, path);
-        let len = pushed_len(text.len(), is_missing, path);
+        let len = sink_joined(&mut [], *self, path);
         if buffer.len() <= len {
             return Err(BufferTooSmall(len.saturating_add(1)));
         }
-        write_with_separators(&mut buffer[..text.len()], text);
-        write_tail(buffer, text.len(), is_missing, path)
+        sink_joined(buffer, *self, path);
+        buffer[len] = 0;
+        Ok(len)
     }
 }

@@ -50,6 +50,22 @@ pub counted_short : (text buffer : List ℕ) (len : ℕ) → len ≡ min (length
     → (length buffer ≤ length text) × (min (len + 1) (2 ^ 64 - 1) ≡ places_needed text)
 counted_short text buffer len count full = (grind (arith, common_steps), grind (arith, common_steps))
 
+-- so what is returned by that count, and a buffer that is unchanged
+pub counted_len : (text buffer : List ℕ) (len : ℕ) → len ≡ min (length text) (2 ^ 64 - 1) → len < length buffer
+    → length buffer < 2 ^ 64 → Ok len ≡ written_len text buffer
+counted_len text buffer len count room bound =
+    let all = counted_fits text buffer len count room bound in
+    ap Ok all ∙ len_fits text buffer (rw (sym all) room)
+
+pub counted_needed : (text buffer : List ℕ) (len needed : ℕ) → len ≡ min (length text) (2 ^ 64 - 1) → length buffer ≤ len
+    → needed ≡ min (len + 1) (2 ^ 64 - 1) → Err (record { 0 = needed }) ≡ written_len text buffer
+counted_needed text buffer len needed count full is =
+    let short = counted_short text buffer len count full in len_short text buffer needed short.0 (is ∙ short.1)
+
+pub counted_unchanged : (text buffer : List ℕ) (len : ℕ) → len ≡ min (length text) (2 ^ 64 - 1) → length buffer ≤ len
+    → buffer ≡ with_prefix (nul_terminated text) buffer
+counted_unchanged text buffer len count full = text_short text buffer (counted_short text buffer len count full).0
+
 -- what is returned says whether the text had room
 pub was_written : (text buffer : List ℕ) (len : ℕ) → Ok len ≡ written_len text buffer
     → (len ≡ length text) × (length text < length buffer)

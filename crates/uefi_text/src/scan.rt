@@ -404,7 +404,9 @@ pub fn split(bytes: &mut [u8], units: &[u16])
     }
 }
 
-fn unit_after(unit: u16, search: u16, replace: u16) -> u16
+/// `replace` in place of `search`, or else the unit.
+#[inline(always)]
+pub(crate) fn unit_after(unit: u16, search: u16, replace: u16) -> u16
     ensures { result ≡ replaced search replace unit }
 {
     if unit == search { replace } else { unit }

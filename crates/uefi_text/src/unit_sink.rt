@@ -1,13 +1,14 @@
 //! Texts that are written into a caller's buffer as UTF-16.
 #![tactic(auto, using(crate::proofs::Puts::puts))]
 
-ghost use Rattle.std.specs.Prelude.{◌≡◌, ℕ, ◌∷◌, ◌++◌, [], List};
+ghost use Rattle.std.specs.Prelude.{◌≡◌, ℕ, ◌∷◌, ◌++◌, ◌≤◌, [], List, length, map, take};
 ghost use Rattle.std.specs.Char.Escape.{encode_utf16};
 ghost use Rattle.uefi_text.specs.UnalignedCStr16.{with_prefix};
 ghost use Rattle.uefi_text.specs.UnitTexts.{AreSunk, utf16_units, written_len};
-ghost use Rattle.uefi_text.specs.Units.{nul_terminated};
+ghost use Rattle.uefi_text.specs.Units.{nul_terminated, replaced};
 
 use crate::number_texts::put_decimal;
+use crate::scan::unit_after;
 use crate::text_sink::{Printed, TextSink, print};
 use std::error::Error;
 use std::fmt;
@@ -43,6 +44,51 @@ impl fmt::Display for BufferTooSmall {
 
 impl Error for BufferTooSmall {}
 
+/// Adds a unit to those that a buffer was given, of which `len` were counted: writes it if the buffer has a
+/// place for it, and returns how many there are now, or `usize::MAX` if they are more.
+///
+/// All texts and paths that go into a caller's buffer go through this call or [`sink_replaced`], once to count
+/// their units, and once to write them. Hidden: nothing promises that it stays.
+#[doc(hidden)]
+#[inline(always)]
+pub fn sink_unit(buffer: &mut [u16], len: usize, unit: u16) -> usize
+    ensures { (units old : List ℕ) → AreSunk units old buffer.old len →
+        AreSunk (units ++ unit ∷ []) old buffer.new result }
+{
+    if len < buffer.len() {
+        buffer[len] = unit;
+    }
+    len.saturating_add(1)
+}
+
+/// Copies the first of some units into places, `replace` in each place of `search`.
+fn copy_replaced(places: &mut [u16], units: &[u16], search: u16, replace: u16)
+    requires { length places.now ≤ length units.now }
+    ensures { places.new ≡ map (replaced search replace) (take (length places.old) units.now) }
+{
+    for i in 0..places.len() {
+        places[i] = unit_after(units[i], search, replace);
+    }
+}
+
+/// Adds units as [`sink_unit`] adds each, `replace` in each place of `search`.
+#[doc(hidden)]
+pub fn sink_replaced(
+    buffer: &mut [u16],
+    len: usize,
+    units: &[u16],
+    search: u16,
+    replace: u16,
+) -> usize
+    ensures { (before old : List ℕ) → AreSunk before old buffer.old len →
+        AreSunk (before ++ map (replaced search replace) units.now) old buffer.new result }
+{
+    let start = len.min(buffer.len());
+    let end = start + units.len().min(buffer.len() - start);
+    copy_replaced(&mut buffer[start..end], units, search, replace);
+    len.saturating_add(units.len())
+}
+
 /// A buffer, and how many units were written to it, whether it has room for them or not.
 #[derive(Drop)]
 struct UnitSink<'b> {
@@ -65,10 +111,7 @@ impl<'b> UnitSink<'b> {
         ensures sunk { (units old : List ℕ) → AreSunk units old self.old.buffer.now self.old.len →
             AreSunk (units ++ unit ∷ []) old self.new.buffer.now self.new.len }
     {
-        if self.len < self.buffer.len() {
-            self.buffer[self.len] = unit;
-        }
-        self.len = self.len.saturating_add(1);
+        self.len = sink_unit(self.buffer, self.len, unit);
     }
 
     /// Adds the one or two units of a character.

@@ -1,4 +1,4 @@
-use Rattle.std.proofs.Common.{refl, sym, ◌∙◌}
+use Rattle.std.proofs.Common.{arith, refl}
 use Rattle.std.proofs.lemmas.Bool.{false≢true}
 use Rattle.uefi_path.specs.Views.{path_text}
 use Rattle.uefi_path.proofs.ValidPaths.{valid_unrefused}
@@ -8,7 +8,4 @@ pub returns-in-None-clause-valid : goal.returns-in-None-clause-valid
 returns-in-None-clause-valid c = (λ _. (valid_unrefused (path_text c.args.path)).1 c.in-None.ensures, λ _. refl)
 
 pub returns-in-Some-clause-valid : goal.returns-in-Some-clause-valid
-returns-in-Some-clause-valid c = (
-  λ ok. absurd (false≢true ok),
-  λ valid. absurd (let refused = sym ((valid_unrefused (path_text c.args.path)).0 valid) ∙ c.in-Some.ensures.error in cc),
-)
+returns-in-Some-clause-valid c = grind (arith, false≢true, valid_unrefused)

@@ -1,6 +1,5 @@
-use Rattle.std.proofs.Common.{◌≢◌, List, [], ◌∷◌, ℕ, refl}
+use Rattle.std.proofs.Common.{List, [], arith, refl, ℕ, ◌∷◌, ◌≢◌}
 use Rattle.std.proofs.lemmas.List.Elements.{All-weaker}
-use Rattle.uefi_path.specs.Components.{components_of}
 use Rattle.uefi_path.proofs.Joining.{components_of-pushed}
 use Rattle.uefi_path.proofs.Parents.{IsFull}
 use Rattle.uefi_path.proofs.Validity.{full-open, full-relative}
@@ -14,6 +13,4 @@ pub returns-clause-joined : goal.returns-clause-joined
 returns-clause-joined c text part takes plain relative = components_of-pushed text part plain takes relative
 
 pub returns-clause-full : goal.returns-clause-full
-returns-clause-full c text some =
-    let all = All-weaker (λ component. component ≢ []) IsFull full (components_of text) some in
-    (full-open text all, full-relative text all)
+returns-clause-full c text some = grind (arith, All-weaker, IsFull, full, full-open, full-relative)

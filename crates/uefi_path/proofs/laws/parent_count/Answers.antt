@@ -1,4 +1,4 @@
-use Rattle.std.proofs.Common.{ℕ, ◌-◌, ◌≤◌, List, [], ◌∷◌, length, subst, sym, arith}
+use Rattle.std.proofs.Common.{ℕ, ◌-◌, ◌≤◌, List, [], ◌∷◌, length, arith}
 use Rattle.uefi_path.proofs.ParentForm.{parent_text-plain}
 use Rattle.uefi_path.proofs.ParentSizes.{parent_text-with_separators, fewer_parent_text}
 use Rattle.uefi_path.specs.Components.{components_of}
@@ -26,11 +26,7 @@ pub returns-clause-parents : goal.returns-clause-parents
 returns-clause-parents c text = AreParents-parents_of text
 
 pub returns-clause-same : goal.returns-clause-same
-returns-clause-same c text parents =
-    let are = AreParents-parents_of text in (
-      λ of_parents. parents_once text parents (parents_of text) of_parents are,
-      λ same. subst (AreParents text) (sym same) are,
-    )
+returns-clause-same c text parents = grind (arith, AreParents-parents_of text, parents_once)
 
 pub returns-clause-fewer : goal.returns-clause-fewer
 returns-clause-fewer c text parents plain are_parents = fewer_parents text parents plain are_parents

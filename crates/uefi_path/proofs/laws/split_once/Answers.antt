@@ -1,10 +1,11 @@
-use Rattle.std.proofs.Common.{◌≡◌, ◌≢◌, ℕ, ◌+◌, List, [], ◌∷◌, length, sym, subst, ◌∙◌, ap, refl}
+use Rattle.std.proofs.Common.{List, [], arith, length, refl, sym, ℕ, ◌+◌, ◌∙◌, ◌∷◌, ◌≡◌, ◌≢◌}
 use Rattle.std.proofs.lemmas.List.Splits.{length-slice_split}
 use Rattle.std.specs.List.{count_by}
 use Rattle.uefi_path.proofs.Splitting.{AreComponents-components_of, components_of-only}
-use Rattle.uefi_path.specs.Components.{AreComponents, components_of, pieces_between}
+use Rattle.uefi_path.specs.Components.{components_of, pieces_between}
 use Rattle.uefi_path.specs.Separators.{canonical, is_separator}
 use Rattle.uefi_path.proofs.laws.split_once.Goals as goal
+use Rattle.std.proofs.lemmas.Grind.{common_steps}
 
 length-pieces_between : (us : List ℕ) → us ≢ []
     → length (pieces_between us) ≡ count_by is_separator us + 1
@@ -19,17 +20,12 @@ returns-clause-once c text pieces others are_pieces are_others =
     components_of-only text pieces are_pieces ∙ sym (components_of-only text others are_others)
 
 pub returns-clause-same : goal.returns-clause-same
-returns-clause-same c text pieces = (
-  λ are_pieces. components_of-only text pieces are_pieces,
-  λ same. subst (AreComponents text) (sym same) (AreComponents-components_of text),
-)
+returns-clause-same c text pieces = grind (arith, components_of-only, AreComponents-components_of)
 
 pub returns-clause-none : goal.returns-clause-none
 returns-clause-none c text pieces are_pieces is_empty =
-    ap length (components_of-only text pieces are_pieces)
-    ∙ ap (λ us. length (pieces_between us)) is_empty
+    grind (arith, common_steps, components_of-only text pieces are_pieces)
 
 pub returns-clause-count : goal.returns-clause-count
 returns-clause-count c text pieces are_pieces non_empty =
-    ap length (components_of-only text pieces are_pieces)
-    ∙ length-pieces_between (canonical text) non_empty
+    grind (arith, components_of-only text pieces are_pieces, length-pieces_between (canonical text) non_empty)

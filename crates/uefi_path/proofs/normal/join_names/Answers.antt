@@ -1,9 +1,8 @@
 -- The units that are written are the text of the names and its NUL.
-use Rattle.std.proofs.Common.{◌≡◌, IfOk, arith, ap, subst, ◌∙◌}
+use Rattle.std.proofs.Common.{arith}
 use Rattle.std.proofs.lemmas.Grind.{common_steps}
 use Rattle.uefi_path.specs.NamesLeft.{names_left}
 use Rattle.uefi_path.specs.NormalForms.{normal_text}
-use Rattle.uefi_path.specs.Separators.{with_separators}
 use Rattle.uefi_path.proofs.NormalPaths.{IsText-normal_text, plain_normal_text}
 use Rattle.uefi_path.proofs.normal.join_names.Goals as goal
 
@@ -13,9 +12,4 @@ unwrap-requires g c =
     (c.try_from_vec.ensures.made (normal_text names) (IsText-normal_text names c.requires.texts) (grind (arith, common_steps))).0
 
 pub returns : goal.returns
-returns g c =
-    let names = names_left c.args.names in
-    let made = (c.try_from_vec.ensures.made (normal_text names) (IsText-normal_text names c.requires.texts) (grind (arith, common_steps))).1 in
-    let text = subst (λ r. IfOk r (λ string. string ≡ normal_text names)) c.unwrap.ensures made in
-    subst (λ units. IfOk c.from_string.result (λ path. path ≡ units))
-    (ap with_separators text ∙ plain_normal_text names c.requires.good) c.from_string.ensures
+returns g c = grind (arith, common_steps, IsText-normal_text, plain_normal_text)

@@ -1,16 +1,11 @@
-use Rattle.std.proofs.Common.{◌-◌, ap, length, sym, ◌∙◌}
+use Rattle.std.proofs.Common.{ap, arith, length, sym, ◌-◌, ◌∙◌}
 use Rattle.std.specs.List.{slice_range, slice_split}
 use Rattle.uefi_path.specs.Separators.{is_separator, with_separators}
 use Rattle.uefi_path.proofs.Slashes.{cut_back_inside, cut_whole}
 use Rattle.uefi_path.proofs.slashed.cut_last.Goals as goal
 
 pub returns-then-start-eq0-clause-pieces : goal.returns-then-start-eq0-clause-pieces
-returns-then-start-eq0-clause-pieces c =
-    let start = c.last_start-start in
-    let same = sym c.units.ensures in
-    ap (λ us. slice_split is_separator (with_separators us)) same
-    ∙ cut_whole c.units.result.now _ start.result c.len.result start.ensures.piece c.if-start-eq0.true (c.len.ensures ∙ ap length same)
-    (c.part-last.ensures ∙ ap (λ us. slice_range us start.result c.len.result) same)
+returns-then-start-eq0-clause-pieces c = grind (arith, cut_whole)
 
 pub returns-clause-pieces : goal.returns-clause-pieces
 returns-clause-pieces c =

@@ -4,7 +4,7 @@ use Rattle.std.proofs.lemmas.List.{drop_all, length-drop, length-map}
 use Rattle.std.specs.List.{slice_range}
 use Rattle.uefi_text.specs.Units.{IsText, IsTextUnit, replaced}
 use Rattle.uefi_text.specs.Views.{units_of}
-use Rattle.uefi_path.specs.Components.{components_of, pieces_between}
+use Rattle.uefi_path.specs.Components.{components_of}
 use Rattle.uefi_path.specs.Separators.{canonical, separator, slash, with_separators}
 use Rattle.uefi_path.specs.Views.{path_text}
 use Rattle.uefi_path.proofs.LastPieces.{to_the_end}
@@ -14,8 +14,7 @@ use Rattle.uefi_path.proofs.TailUnits.{IsText-with_separators}
 use Rattle.uefi_path.proofs.slashed.to_cut.Goals as goal
 
 no_pieces : (us vs : List ℕ) (start : ℕ) → with_separators (drop start us) ≡ canonical vs → length us ≤ start → components_of vs ≡ []
-no_pieces us vs start same past =
-    sym (ap pieces_between (sym (ap with_separators (drop_all start us past)) ∙ same))
+no_pieces us vs start same past = grind (arith, drop_all)
 
 left : (us vs part : List ℕ) (start len : ℕ) → with_separators (drop start us) ≡ canonical vs → len ≡ length us
     → part ≡ slice_range us start len → with_separators part ≡ canonical vs
@@ -26,26 +25,10 @@ some_left us vs start same less none =
     omega (arith, ap length (same ∙ none), length-map (drop start us) (replaced slash separator), length-drop start us, less)
 
 pub returns-then-len-start-clause-same : goal.returns-then-len-start-clause-same
-returns-then-len-start-clause-same c =
-    let start = c.canonical_start-start in
-    let units = c.units.ensures in
-    let text = c.as_slice-text.ensures.same ∙ c.to_cstr16.ensures.same in
-    sym
-    (no_pieces c.units.result.now (with_separators (path_text c.args.path)) start.result
-    (start.ensures.start ∙ ap (λ us. canonical (with_separators us)) (units ∙ text))
-    (omega (arith, c.if-len-start.true, c.len.ensures, ap length units)))
+returns-then-len-start-clause-same c = grind (arith, no_pieces)
 
 pub returns-clause-same : goal.returns-clause-same
-returns-clause-same c =
-    let start = c.canonical_start-start in
-    let units = c.units.ensures in
-    let text = c.as_slice-text.ensures.same ∙ c.to_cstr16.ensures.same in
-    let whole = with_separators (path_text c.args.path) in
-    let same = start.ensures.start ∙ ap (λ us. canonical (with_separators us)) (units ∙ text) in
-    let here = left c.units.result.now whole (units_of c.part.result) start.result c.len-2.result same (c.len-2.ensures ∙ ap length (sym units))
-    (c.part.ensures ∙ ap (λ us. slice_range us start.result c.len-2.result) (sym units)) in
-    slice_split-canonical whole (with_separators (units_of c.part.result)) here
-    (λ none. some_left c.units.result.now whole start.result same (omega (arith, c.if-len-start.false, c.len.ensures, ap length units)) (sym here ∙ none))
+returns-clause-same c = grind (arith, left, slice_split-canonical, some_left)
 
 pub returns-clause-texts : goal.returns-clause-texts
 returns-clause-texts c =
@@ -61,14 +44,4 @@ returns-clause-texts c =
     (subst IsText (sym here) (All-canonical IsTextUnit whole (IsText-with_separators (path_text c.args.path) is_text)))
 
 pub returns-clause-count : goal.returns-clause-count
-returns-clause-count c =
-    let part = units_of c.part.result in
-    omega (
-      arith,
-      length-slice_split-le (with_separators part),
-      length-map part (replaced slash separator),
-      ap length (c.part.ensures ∙ to_the_end (units_of c.as_slice-text.result) c.canonical_start-start.result c.len-2.result c.len-2.ensures),
-      length-drop c.canonical_start-start.result (units_of c.as_slice-text.result),
-      c.as_slice-text.ensures.bound,
-      ap length c.as_slice-text.ensures.same,
-    )
+returns-clause-count c = grind (arith, length-slice_split-le, length-map, to_the_end, length-drop)

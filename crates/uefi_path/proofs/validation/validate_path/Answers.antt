@@ -1,5 +1,5 @@
 -- What is accepted is valid.
-use Rattle.std.proofs.Common.{Ok, Err, ap, sym, ◌∙◌}
+use Rattle.std.proofs.Common.{Err, Ok, ap, sym, ◌∙◌}
 use Rattle.std.specs.Result.{result_err}
 use Rattle.uefi_path.specs.Views.{path_text}
 use Rattle.uefi_path.proofs.ValidPaths.{accepted_valid}

@@ -1,7 +1,6 @@
-use Rattle.std.proofs.Common.{All, ap, arith, length, length-drop, subst, sym, ◌∙◌}
+use Rattle.std.proofs.Common.{All, arith, length-drop, subst, sym, ◌∙◌}
 use Rattle.uefi_path.specs.ComponentIndices.{indexed_units, indices_left}
-use Rattle.uefi_path.specs.Components.{joined}
-use Rattle.uefi_path.specs.Views.{components_left, path_text}
+use Rattle.uefi_path.specs.Views.{components_left}
 use Rattle.uefi_text.specs.Units.{IsText}
 use Rattle.uefi_path.proofs.PlacedComponents.{begin_at_places, count_placed, pieces_placed}
 use Rattle.uefi_text.proofs.Runs.{gives_each}
@@ -11,30 +10,13 @@ use Rattle.uefi_path.proofs.component_indices.ComponentIndices.of.Goals as goal
 -- the text from the first place on
 begins : goal.returns-clause-places
 unfolding indices_left
-begins c =
-    let text = path_text c.args.path in
-    let start = c.canonical_start-place in
-    begin_at_places text start.result (components_left c.args.components) (λ _. start.ensures.within)
-    (start.ensures.start ∙ sym (AreComponents-components_of text).join ∙ ap joined (sym c.requires.same))
+begins c = grind (arith, begin_at_places, AreComponents-components_of)
 
 pub returns-clause-places : goal.returns-clause-places
 returns-clause-places c = begins c
 
 pub invariant_of-result : goal.invariant_of-result
-invariant_of-result c =
-    let text = path_text c.args.path in
-    let start = c.canonical_start-place in
-    record {
-      room = λ _. omega (
-        arith,
-        start.ensures.within,
-        ap length (start.ensures.start ∙ sym (AreComponents-components_of text).join ∙ ap joined (sym c.requires.same)),
-        length-drop start.result text,
-        c.as_slice-text.ensures.bound,
-        ap length c.to_cstr16.ensures.same,
-        ap length c.as_slice-text.ensures.same,
-      );
-    }
+invariant_of-result c = grind (arith, AreComponents-components_of, length-drop)
 
 pub returns-clause-components : goal.returns-clause-components
 unfolding indices_left

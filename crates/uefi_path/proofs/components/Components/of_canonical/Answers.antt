@@ -1,5 +1,5 @@
 -- The pieces between the separators of a canonical text are the components, and there are no others.
-use Rattle.std.proofs.Common.{[], ◌≡◌, ap, arith, length, subst, sym, ◌∙◌}
+use Rattle.std.proofs.Common.{[], ◌≡◌, arith, subst, sym, ◌∙◌}
 use Rattle.std.proofs.lemmas.Grind.{common_steps}
 use Rattle.std.proofs.lemmas.List.Elements.{All-nil}
 use Rattle.uefi_text.specs.Units.{IsText, IsTextUnit}
@@ -44,14 +44,7 @@ returns-clause-texts c =
 
 pub returns-clause-bound : goal.returns-clause-bound
 unfolding components_left
-returns-clause-bound c =
-    omega (
-      arith,
-      length-slice_split-le (units_left c.args.rest),
-      ap length c.requires,
-      units-canonical (text_of c.args.string),
-      c.as_slice-text.ensures.bound,
-    )
+returns-clause-bound c = grind (arith, length-slice_split-le, units-canonical)
 
 pub returns-then-is_empty-clause-runs : goal.returns-then-is_empty-clause-runs
 returns-then-is_empty-clause-runs c = gives_each units_of components_left _

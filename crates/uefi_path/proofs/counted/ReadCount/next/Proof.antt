@@ -1,5 +1,5 @@
 -- `next` picks a count that is one more, and leaves the one that it is given.
-use Rattle.std.proofs.Common.{◌+◌, List, [], ◌∷◌, ◌++◌, refl}
+use Rattle.std.proofs.Common.{List, [], refl, ◌++◌, ◌+◌, ◌∷◌}
 use Rattle.std.proofs.raw_atomic.Walks.{proved_at}
 use mir.Val.{Val, vptr}
 use contract.Running.{tables}

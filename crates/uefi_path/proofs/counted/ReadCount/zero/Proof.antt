@@ -1,5 +1,5 @@
 -- `zero` picks a count of 0.
-use Rattle.std.proofs.Common.{[], ◌∷◌, refl}
+use Rattle.std.proofs.Common.{[], refl, ◌∷◌}
 use Rattle.std.proofs.raw_atomic.Walks.{proved}
 use types.Kit.{raw, ‵, ◌⊛◌, ◌$◌, ◌∵◌, !, qed, done, keep, split, drop, move, fjoin, suffices}
 use types.Part.{agg}

@@ -12,11 +12,7 @@ pub returns-clause-names : goal.returns-clause-names
 returns-clause-names c = from_start (with_separators (path_text c.args.path)) _ c.to_cut.ensures.same
 
 pub returns-clause-walk : goal.returns-clause-walk
-returns-clause-walk c =
-    record {
-      are_names = valid_names (with_separators (path_text c.args.path)) _ c.requires c.to_cut.ensures.same;
-      bound = omega (arith, c.to_cut.ensures.bound);
-    }
+returns-clause-walk c = grind (arith, valid_names)
 
 pub returns-clause-good : goal.returns-clause-good
 returns-clause-good c = good_names (with_separators (path_text c.args.path)) _ c.requires c.to_cut.ensures.same

@@ -1,5 +1,5 @@
 -- The places of the first characters come first.
-use Rattle.std.proofs.Common.{◌∙◌, ap, length, sym, take}
+use Rattle.std.proofs.Common.{ap, length, sym, take, ◌∙◌}
 use Rattle.uefi_path.specs.Separators.{places_of}
 use Rattle.uefi_path.proofs.TailUnits.{text_cut}
 use Rattle.uefi_path.proofs.pathbuf.PathBuf.cut_back.Goals as goal

@@ -1,5 +1,5 @@
 -- What is left before the extension stays, as it holds no slash.
-use Rattle.std.proofs.Common.{◌≡◌, ◌∙◌, None, Some, drop, subst, sym}
+use Rattle.std.proofs.Common.{None, Some, drop, subst, sym, ◌∙◌, ◌≡◌}
 use Rattle.std.specs.List.{last_or}
 use Rattle.uefi_text.specs.Views.{text_of, units_of}
 use Rattle.uefi_path.specs.Components.{components_of}

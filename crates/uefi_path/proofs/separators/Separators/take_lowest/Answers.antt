@@ -1,7 +1,5 @@
 -- The lowest bit is that of the first separator.
-use Rattle.std.proofs.Common.{ap, arith, ◌∷◌, ◌++◌, ◌+◌, ◌∙◌, drop, sym}
-use Rattle.std.specs.Int.Count.{count_trailing_zeros}
-use Rattle.uefi_path.specs.Separators.{places_from}
+use Rattle.std.proofs.Common.{arith}
 use Rattle.uefi_path.proofs.SeparatorBits.{lowest_cut}
 use Rattle.uefi_path.proofs.separators.Separators.take_lowest.Goals as goal
 
@@ -24,10 +22,4 @@ invariant_of-after c =
     record { ordered = omega (arith, cut.inside); within = left.within; word = omega (arith, left.word); seen = cut.seen }
 
 pub returns-clause-left : goal.returns-clause-left
-returns-clause-left c =
-    let left = c.args.self in
-    let cut = lowest_cut left.units.now left.start left.end left.bits left.ordered left.within left.word left.seen c.requires.some in
-    ap (λ ps. ps ++ places_from left.start (drop left.start left.units.now)) c.requires.none_known
-    ∙ cut.places
-    ∙ sym (ap (λ ps. (left.start + count_trailing_zeros 64 left.bits)
-    ∷ (ps ++ places_from (left.start + count_trailing_zeros 64 left.bits + 1) (drop (left.start + count_trailing_zeros 64 left.bits + 1) left.units.now))) c.requires.none_known)
+returns-clause-left c = grind (arith, lowest_cut)
