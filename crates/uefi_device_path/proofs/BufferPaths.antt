@@ -1,5 +1,5 @@
 -- A file path that is written unit by unit.
-use Rattle.std.proofs.Common.{◌≡◌, ◌∙◌, ap, sym, refl, subst, inl, inr, ℕ, ◌+◌, ◌<◌, ◌≤◌, ◌==◌, Bool, ◌&&◌, false, nat_lt, if◌then◌else◌, List, [], ◌∷◌, ◌++◌, fold, length, get_or, take, drop, append_assoc, arith}
+use Rattle.std.proofs.Common.{◌≡◌, ◌∙◌, ap, sym, refl, subst, inl, inr, ℕ, ◌+◌, ◌-◌, ◌^◌, ◌<◌, ◌≤◌, ◌==◌, min, Bool, ◌&&◌, false, nat_lt, if◌then◌else◌, List, [], ◌∷◌, ◌++◌, fold, length, get_or, take, drop, append_assoc, arith}
 use Rattle.std.proofs.lemmas.Bool.{cases_Bool, cases_lt, le-ltb, lt-ltb}
 use Rattle.std.proofs.lemmas.Grind.{common_steps}
 use Rattle.std.proofs.lemmas.List.{append-nil, drop-append-le, drop_all, map-append, take_all, take_more}
@@ -40,7 +40,7 @@ abbrev pub start_of : List ℕ → List ℕ → ℕ
 start_of [] name = 0
 start_of (unit ∷ units) name = if is_rooted name then 1 else 0
 
-pub start_is : (path name : List ℕ) (len : ℕ) → len ≡ length path
+pub start_is : (path name : List ℕ) (len : ℕ) → len ≡ min (length path) (2 ^ 64 - 1)
     → (if len == 0 then 0 else if is_rooted name then 1 else 0) ≡ start_of path name
 start_is [] name len e = rw e refl
 start_is (u ∷ us) name len e =

@@ -1,5 +1,6 @@
 -- A file path that is written into a caller's buffer, unit by unit.
-use Rattle.std.specs.Prelude.{◌≡◌, ℕ, ◌+◌, ◌<◌, ◌≤◌, List, All, length, take, drop}
+use Rattle.std.specs.Prelude.{◌≡◌, ℕ, ◌+◌, ◌<◌, List, All, length}
+use Rattle.uefi_text.specs.UnitTexts.{AreSunk}
 use Rattle.uefi_path.specs.Pushing.{needs_separator}
 use Rattle.uefi_device_nodes.specs.Nodes.{Node}
 use Rattle.uefi_device_path.specs.FilePaths.{FileRefusedFor, IsReadable, file_path}
@@ -7,13 +8,10 @@ use Rattle.uefi_device_path.specs.declared.errors.FilePathWriteError.{FilePathWr
 use Rattle.uefi_device_path.specs.declared.errors.FilePathWriteError.TheVariants.{BufferTooSmall, Name}
 use Rattle.uefi_device_path.specs.declared.file_path.Written.{Written}
 
--- a path was counted, and written to the start of a buffer that has room for it, which was `old`
+-- a path was added to what a buffer was given, which was `old` before
 pub record IsWritten (path : List ℕ) (written : Written) (old buffer : List ℕ) : Type 0 where
-  pub long : written.len ≡ length path
+  pub sunk : AreSunk path old buffer written.len
   pub missing : written.is_missing ≡ needs_separator path
-  pub same : length buffer ≡ length old
-  pub front : length path ≤ length old → take (length path) buffer ≡ path
-  pub back : length path ≤ length old → drop (length path) buffer ≡ drop (length path) old
 
 -- nodes have no file path that is written into `room` places, for this error: a malformed name comes first
 abbrev pub WriteRefusedFor : List Node → ℕ → FilePathWriteError → Type 0

@@ -21,6 +21,7 @@ use std::alloc::{AllocError, Allocator};
 use uefi_device_nodes::{DevicePathNode, DeviceSubType, DeviceType};
 use uefi_path::PathBuf;
 use uefi_path::path_units::with_separator;
+use uefi_text::unit_sink::sink_unit;
 use uefi_text::{CString16, UnalignedSlice};
 
 /// How many units a path has so far, and whether a separator is missing after them.
@@ -32,23 +33,18 @@ struct Written {
 
 /// Adds a unit to a path, and writes it where the buffer has a place for it.
 fn put_unit(buffer: &mut [u16], written: Written, unit: u16) -> Written
-    requires { written.len + 1 < 2 ^ 64 }
     ensures written { (path old : List ℕ) → IsWritten path written old buffer.old →
         IsWritten (path ++ unit ∷ []) result old buffer.new }
-    ensures len { result.len ≡ written.len + 1 }
+    ensures len { result.len ≤ written.len + 1 }
 {
-    if written.len < buffer.len() {
-        buffer[written.len] = unit;
-    }
     Written {
-        len: written.len + 1,
+        len: sink_unit(buffer, written.len, unit),
         is_missing: unit != 0x5c,
     }
 }
 
 /// Adds the separator that is missing before a name of some units.
 fn put_missing(buffer: &mut [u16], written: Written, is_some: bool) -> Written
-    requires { written.len + 1 < 2 ^ 64 }
     ensures written { (path old : List ℕ) → IsWritten path written old buffer.old →
         IsWritten (if needs_separator path && is_some then path ++ separator ∷ [] else path)
         result old buffer.new }
@@ -86,8 +82,7 @@ fn put_units(
     name: &UnalignedSlice<'_, u16>,
     start: usize,
 ) -> Written
-    requires is_string { IsString (items_of name.now) }
-    requires room { written.len + length (items_of name.now) < 2 ^ 64 }
+    requires { IsString (items_of name.now) }
     ensures written { (path old : List ℕ) → IsWritten path written old buffer.old →
         IsWritten (path ++ with_separators (drop start (without_nul (items_of name.now))))
         result old buffer.new }
@@ -103,8 +98,7 @@ fn put_units(
 
 /// Adds a name to a path, without the separator that it begins with where the path has text.
 fn put_name(buffer: &mut [u16], written: Written, name: &UnalignedSlice<'_, u16>) -> Written
-    requires is_string { IsString (items_of name.now) }
-    requires room { written.len + length (items_of name.now) + 1 < 2 ^ 64 }
+    requires { IsString (items_of name.now) }
     ensures written { (path old : List ℕ) → IsWritten path written old buffer.old →
         IsWritten (name_after path (without_nul (items_of name.now))) result old buffer.new }
     ensures len { result.len ≤ written.len + length (items_of name.now) }
@@ -143,7 +137,6 @@ fn put_node(
     written: Written,
     node: DevicePathNode<'_>,
 ) -> Result<Written, FilePathCause>
-    requires { written.len + length (node_of node).content + 1 < 2 ^ 64 }
     ensures written { IfOk result (λ after. (path old : List ℕ) → IsWritten path written old buffer.old →
         IsWritten (with_node path (node_of node.entry)) after old buffer.new) }
     ensures len { IfOk result (λ after. after.len ≤ written.len + length (node_of node.entry).content) }

@@ -1,7 +1,7 @@
 //! Texts that are written into a caller's buffer as UTF-16.
 #![tactic(auto, using(crate::proofs::Puts::puts))]
 
-ghost use Rattle.std.specs.Prelude.{◌≡◌, ℕ, ◌∷◌, ◌++◌, ◌≤◌, [], List, length, map, take};
+ghost use Rattle.std.specs.Prelude.{◌≡◌, ℕ, ◌∷◌, ◌++◌, ◌+◌, ◌≤◌, [], List, length, map, take};
 ghost use Rattle.std.specs.Char.Escape.{encode_utf16};
 ghost use Rattle.uefi_text.specs.UnalignedCStr16.{with_prefix};
 ghost use Rattle.uefi_text.specs.UnitTexts.{AreSunk, utf16_units, written_len};
@@ -52,8 +52,9 @@ impl Error for BufferTooSmall {}
 #[doc(hidden)]
 #[inline(always)]
 pub fn sink_unit(buffer: &mut [u16], len: usize, unit: u16) -> usize
-    ensures { (units old : List ℕ) → AreSunk units old buffer.old len →
+    ensures sunk { (units old : List ℕ) → AreSunk units old buffer.old len →
         AreSunk (units ++ unit ∷ []) old buffer.new result }
+    ensures most { result ≤ len + 1 }
 {
     if len < buffer.len() {
         buffer[len] = unit;

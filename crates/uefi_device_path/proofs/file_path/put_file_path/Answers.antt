@@ -1,7 +1,7 @@
 -- One more node has a name, or is the first that has none.
 use Rattle.std.proofs.Common.{◌≡◌, ◌≢◌, ◌∙◌, ap, sym, subst, ◌+◌, ◌∷◌, [], ◌++◌, All, length, arith, length-append}
 use Rattle.std.proofs.lemmas.Grind.{common_steps}
-use Rattle.std.proofs.lemmas.List.{take_all}
+use Rattle.uefi_text.proofs.SunkUnits.{sunk_whole}
 use Rattle.uefi_text.specs.Units.{IsText}
 use Rattle.uefi_device_nodes.specs.NodeViews.{node_of}
 use Rattle.uefi_device_path.specs.FilePathBuffers.{IsWritten}
@@ -51,21 +51,23 @@ loop-rest-preserved c =
     let cut : length rest ≡ length node.content + 4 + length after =
     ap length c.take_first.ensures.split ∙ omega (arith, length-append node.content after) in
     let short = so_far.short in
+    let wrote = subst (λ us. IsWritten us c.in-Ok.more c.args.buffer.now c.put_node.new.buffer) (sym made)
+    (c.in-Ok.ensures.written (file_path nodes) c.args.buffer.now so_far.written) in
     record {
       short = omega (arith, short, cut, c.in-Ok.ensures.len);
       left = first.0;
       nodes = nodes ++ node ∷ [];
       named = more;
+      exact = grind (arith, common_steps, wrote.sunk.count, short, cut, c.in-Ok.ensures.len);
       text = subst IsText (sym made) (c.in-Ok.ensures.text (file_path nodes) so_far.text);
-      written = subst (λ us. IsWritten us c.in-Ok.more c.args.buffer.now c.put_node.new.buffer) (sym made)
-          (c.in-Ok.ensures.written (file_path nodes) c.args.buffer.now so_far.written);
+      written = wrote;
     }
 
 pub returns-clause-len : goal.returns-clause-len
 returns-clause-len c =
     let so_far = c.loop-rest.invariant in
     let all = named_all c.args.bytes.now so_far.nodes c.loop-rest.rest.now (file_path so_far.nodes) so_far.named (grind (arith, common_steps)) in
-    so_far.written.long ∙ ap (λ ns. length (file_path ns)) (sym all)
+    so_far.exact ∙ ap (λ ns. length (file_path ns)) (sym all)
 
 pub returns-clause-text : goal.returns-clause-text
 returns-clause-text c =
@@ -84,8 +86,4 @@ pub returns-clause-buffer : goal.returns-clause-buffer
 returns-clause-buffer c = λ fits.
     let so_far = c.loop-rest.invariant in
     let all = named_all c.args.bytes.now so_far.nodes c.loop-rest.rest.now (file_path so_far.nodes) so_far.named (grind (arith, common_steps)) in
-    let written = so_far.written in
-    let room : length (file_path so_far.nodes) ≡ length c.args.buffer.now = ap (λ ns. length (file_path ns)) (sym all) ∙ fits in
-    let same = written.same in
-    sym (take_all (length (file_path so_far.nodes)) c.loop-rest.buffer (omega (arith, room, same)))
-    ∙ written.front (omega (arith, room)) ∙ ap file_path (sym all)
+    sunk_whole _ _ _ _ so_far.written.sunk (ap (λ ns. length (file_path ns)) (sym all) ∙ fits) ∙ ap file_path (sym all)

@@ -1,4 +1,4 @@
-use Rattle.std.proofs.Common.{◌+◌, ◌≤◌, List, length}
+use Rattle.std.proofs.Common.{◌≡◌, ◌+◌, ◌≤◌, List, length}
 use Rattle.uefi_text.specs.Units.{IsText}
 use Rattle.uefi_device_nodes.specs.Nodes.{Node}
 use Rattle.uefi_device_path.specs.FilePathBuffers.{IsWritten}
@@ -14,6 +14,7 @@ invariant-loop-rest l = record {
   left : AreNodes l.rest;
   nodes : List Node;
   named : Named l.bytes nodes l.rest (file_path nodes);
+  exact : l.written.len ≡ length (file_path nodes);
   text : IsText (file_path nodes);
   written : IsWritten (file_path nodes) l.written l.fn.buffer l.buffer;
 }

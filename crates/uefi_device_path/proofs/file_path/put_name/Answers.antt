@@ -8,16 +8,12 @@ use Rattle.uefi_path.specs.Separators.{with_separators}
 use Rattle.std.specs.Prelude.{nat_lt}
 use Rattle.uefi_device_path.proofs.file_path.put_name.Goals as goal
 
-pub put_units-requires-clause-room : goal.put_units-requires-clause-room
-put_units-requires-clause-room c = omega (arith, c.requires.room, c.put_missing-made.ensures.len)
-
 pub returns-clause-written : goal.returns-clause-written
 returns-clause-written c = λ path old so_far.
     let items = items_of c.args.name.now in
     let text = without_nul items in
-    let long = so_far.long in
     let start = c.name_start-start.result in
-    let begins : start ≡ start_of path text = c.name_start-start.ensures.place ∙ start_is path text c.args.written.len long in
+    let begins : start ≡ start_of path text = c.name_start-start.ensures.place ∙ start_is path text c.args.written.len so_far.sunk.count in
     let count : length items ≡ length text + 1 = grind (arith, common_steps) in
     let some : nat_lt (start + 1) (length items) ≡ nat_lt (start_of path text) (length text) =
     ap (λ n. nat_lt (start + 1) n) count ∙ lt_step start (length text) ∙ ap (λ n. nat_lt n (length text)) begins in

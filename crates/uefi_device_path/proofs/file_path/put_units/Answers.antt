@@ -31,7 +31,7 @@ pub loop-place-init : goal.loop-place-init
 loop-place-init c =
     let text = without_nul (items_of c.args.name.now) in
     record {
-      long = refl;
+      long = omega arith;
       within = (let some : 1 ≤ length (items_of c.args.name.now) = grind (arith, common_steps) in omega (arith, some));
       written = λ path old so_far. subst (λ us. IsWritten us c.args.written old c.args.buffer.now) (sym (units_none path text c.args.start)) so_far;
     }
@@ -39,11 +39,6 @@ loop-place-init c =
 pub unwrap-unit-requires : goal.unwrap-unit-requires
 unwrap-unit-requires c =
     found _ c.get.result (items_of c.args.name.now) c.loop-place.place c.get.ensures (omega (arith, c.loop-place-test.true, c.len-place-end.ensures))
-
-pub put_unit-made-requires : goal.put_unit-made-requires
-put_unit-made-requires c =
-    let long = c.loop-place.invariant.long in
-    omega (arith, long, c.loop-place-test.true, c.len-place-end.ensures, c.requires.room, c.loop-place.auto.place)
 
 pub loop-place-preserved : goal.loop-place-preserved
 loop-place-preserved c =

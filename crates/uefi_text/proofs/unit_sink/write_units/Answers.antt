@@ -1,5 +1,5 @@
 -- The units of the text, its NUL, and what followed them; or an unchanged buffer.
-use Rattle.std.proofs.Common.{arith, ap, ◌∙◌, sym, set}
+use Rattle.std.proofs.Common.{arith}
 use Rattle.std.proofs.lemmas.Grind.{common_steps}
 use Rattle.uefi_text.proofs.SunkUnits.{sunk_and_ended}
 use Rattle.uefi_text.proofs.TextsInBuffers.{counted_len, counted_needed, counted_unchanged}
