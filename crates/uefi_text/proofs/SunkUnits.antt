@@ -1,7 +1,7 @@
 -- The units of a text that is read character by character, and written part by part.
-use Rattle.std.proofs.Common.{inl, inr, map, min, replicate, ◌≡◌, ℕ, ◌+◌, ◌-◌, ◌/◌, ◌%◌, ◌<◌, ◌≤◌, ◌^◌, set, take, drop, get_or, List, [], ◌∷◌, ◌++◌, length, append_assoc, length-append, add-one, ap, sym, refl, subst, ◌∙◌, arith}
+use Rattle.std.proofs.Common.{inl, inr, map, min, replicate, ◌≡◌, ℕ, ◌+◌, ◌-◌, ◌/◌, ◌%◌, ◌<◌, ◌≤◌, ◌^◌, set, take, drop, get_or, List, [], ◌∷◌, ◌++◌, length, append_assoc, length-append, ap, sym, subst, ◌∙◌, arith}
 use Rattle.std.proofs.lemmas.Grind.{common_steps, flat_map-append}
-use Rattle.std.proofs.Math.Seq.{drop-cons, set-append_seam, take-append-add}
+use Rattle.std.proofs.Math.Seq.{take-append-add}
 use Rattle.std.proofs.lemmas.Bool.{cases_lt}
 use Rattle.std.proofs.lemmas.List.{append-nil, drop_all, drop_at, drop-drop, drop-replicate, length-replicate, map-append, take-append-drop, take-append-le, take_all, take_at, take_more, take_more_set}
 use Rattle.std.proofs.lemmas.Str.{chars-append, chars-nil, chars_past_char, IsUtf8-encode}
@@ -48,21 +48,6 @@ unfolding utf16_units
 units_one c scalar =
     let one = chars_past_char (encode_utf8 c) [] c (IsUtf8-encode c scalar) (sym (append-nil (encode_utf8 c))) in
     ap (λ (cs : List ℕ). flat_map encode_utf16 cs) (one ∙ ap (λ (cs : List ℕ). c ∷ cs) chars-nil) ∙ append-nil (encode_utf16 c)
-
--- one unit more, where the buffer has a place for it
-pub unit_more : (units old buffer : List ℕ) (unit : ℕ) → length units < length old
-    → buffer ≡ take (length old) units ++ drop (length units) old
-    → set buffer (length units) unit ≡ take (length old) (units ++ unit ∷ []) ++ drop (length (units ++ unit ∷ [])) old
-unit_more units old buffer unit room written =
-    let n = length units in
-    let more : length (units ++ unit ∷ []) ≡ n + 1 = length-append units (unit ∷ []) in
-    let rest = drop (n + 1) old in
-    let cut : drop n old ≡ get_or old n 0 ∷ rest = rw (add-one, drop-cons old n 0) refl in
-    ap (λ us. set us n unit) (written ∙ ap (λ us. us ++ drop n old) (take_all (length old) units (omega (arith, room))) ∙ ap (λ us. units ++ us) cut)
-    ∙ set-append_seam units (get_or old n 0) rest unit
-    ∙ sym (append_assoc units (unit ∷ []) rest)
-    ∙ ap (λ us. us ++ rest) (sym (take_all (length old) (units ++ unit ∷ []) (omega (arith, more, room))))
-    ∙ ap (λ i. take (length old) (units ++ unit ∷ []) ++ drop i old) (sym more)
 
 -- one unit more is copied, `replace` in place of `search`
 pub replaced_more : (search replace : ℕ) (places us : List ℕ) (i : ℕ) → i < length places → i < length us

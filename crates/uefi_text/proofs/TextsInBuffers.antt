@@ -6,7 +6,6 @@ use Rattle.std.proofs.lemmas.Grind.{common_steps}
 use Rattle.uefi_text.specs.UnalignedCStr16.{with_prefix}
 use Rattle.uefi_text.specs.Units.{nul_terminated}
 use Rattle.uefi_text.specs.UnitTexts.{places_needed, written_len}
-use Rattle.uefi_text.specs.declared.unit_sink.BufferTooSmall.{BufferTooSmall}
 
 -- a text that has room with its NUL
 pub len_fits : (text buffer : List ℕ) → length text < length buffer → Ok (length text) ≡ written_len text buffer
@@ -76,16 +75,4 @@ was_written text buffer len is = elim (cases_lt (length text) (length buffer)) [
   | inr full ↦
       let short = le-ltb (length text) (length buffer) (omega (arith, full)) in
       absurd (grind (arith, common_steps, is, short))
-]
-
-pub was_refused : (text buffer : List ℕ) (error : BufferTooSmall) → Err error ≡ written_len text buffer
-    → (error.0 ≡ places_needed text) × (length buffer ≤ length text)
-was_refused text buffer error is = elim (cases_lt (length text) (length buffer)) [
-  | inl room ↦
-      let fits = lt-ltb (length text) (length buffer) room in
-      absurd (grind (arith, common_steps, is, fits))
-  | inr full ↦
-      let short = le-ltb (length text) (length buffer) (omega (arith, full)) in
-      let made : error ≡ record { 0 = places_needed text } = grind (arith, common_steps, is, short) in
-      (ap (λ (e : BufferTooSmall). e.0) made, omega (arith, full))
 ]
