@@ -1,5 +1,5 @@
 -- Where the components of a text stand: the first of those left from a place on, and those after it.
-use Rattle.std.proofs.Common.{◌≡◌, ℕ, suc, ◌+◌, ◌-◌, ◌<◌, ◌≤◌, true, false, not, nat_lt, Bool, cond, List, ◌∷◌, length, drop, length-drop, All, Some, None, refl, sym, ◌∙◌, ap, inl, inr, arith}
+use Rattle.std.proofs.Common.{◌≡◌, ℕ, suc, ◌+◌, ◌-◌, ◌<◌, ◌≤◌, false, not, nat_lt, Bool, cond, List, ◌∷◌, length, drop, length-drop, All, Some, None, sym, ◌∙◌, ap, inl, inr, arith}
 use Rattle.std.specs.List.{position, position_or_len, slice_range, slice_split}
 use Rattle.std.specs.Option.{unwrap_or}
 use Rattle.std.proofs.lemmas.Bool.{cases_Bool, ltb-true, ltb-false}
@@ -12,11 +12,10 @@ use Rattle.uefi_path.specs.ComponentPlaces.{components_from}
 
 -- a place that is not found stands after all units
 found : (n m : ℕ) (b : Bool) → nat_lt n m ≡ b → n ≤ m → unwrap_or (cond b (Some n) None) m ≡ n
-found n m true test low = refl
-found n m false test low = omega (arith, ltb-false n m test)
+found n m b h1 h2 = grind (arith, ltb-false)
 
 pub found_or_after : (us : List ℕ) → unwrap_or (position is_separator us) (length us) ≡ position_or_len is_separator us
-found_or_after us = grind (arith, found, prefix_len-le-length)
+found_or_after us = grind (arith, prefix_len-le-length, ltb-false)
 
 -- the first of the pieces that are left from a place on, and those after it
 pub first_piece : (text : List ℕ) (start : ℕ) → start ≤ length text

@@ -1,6 +1,6 @@
 -- Components that the verdict accepts: they are good, and none climbs. So are a part of them and others
 -- in a row, and their normal form holds names alone.
-use Rattle.std.proofs.Common.{◌≡◌, ℕ, zero, suc, ◌+◌, ◌<◌, ◌≤◌, ◌&&◌, Bool, nat_lt, IsTrue, List, [], ◌∷◌, ◌++◌, All, length, Option, None, Some, take, ap, sym, refl, subst, ◌∙◌, arith}
+use Rattle.std.proofs.Common.{◌≡◌, ℕ, zero, suc, ◌+◌, ◌<◌, ◌≤◌, ◌&&◌, Bool, nat_lt, IsTrue, List, [], ◌∷◌, ◌++◌, All, length, Option, None, Some, take, ap, sym, refl, subst, arith}
 use Rattle.std.specs.List.{slice_get}
 use Rattle.std.proofs.lemmas.List.Elements.{All-cons, All-head, All-nil, All-tail}
 use Rattle.std.proofs.lemmas.Option.{same_Some}
@@ -32,8 +32,7 @@ with_first c cs depth good others = grind arith
 -- what holds of those that are accepted at some depth holds after a piece, at some depth then
 module _ (cs : List (List ℕ)) (P : Type 0) (holds : (depth : ℕ) → Accepted cs depth → P) where
   after_piece : (left : Option ℕ) → AcceptedAt cs left → P
-  after_piece None others = absurd (cc)
-  after_piece (Some depth) others = holds depth others
+  after_piece left h1 = grind arith
 
 pub good_components : (cs : List (List ℕ)) (depth : ℕ) → Accepted cs depth → All IsGood cs
 good_components [] depth accepted = All-nil IsGood
@@ -45,11 +44,7 @@ good_components (c ∷ cs) depth accepted =
 module _ (cs ds : List (List ℕ)) (rest : (depth more : ℕ) → depth ≤ more → Accepted cs depth → Accepted ds more) where
   onto : (k : Kind) (depth more : ℕ) → depth ≤ more → AcceptedAt cs (depth_after k depth)
       → AcceptedAt ds (depth_after k more)
-  onto Dot depth more less others = rest depth more less others
-  onto DotDot zero more less others = absurd (cc)
-  onto DotDot (suc depth) zero less others = absurd (omega (arith, less))
-  onto DotDot (suc depth) (suc more) less others = rest depth more (omega (arith, less)) others
-  onto Name depth more less others = rest (depth + 1) (more + 1) (omega (arith, less)) others
+  onto k depth more h1 h2 = grind arith
 
   with_same : (c : List ℕ) (depth more : ℕ) → depth ≤ more → Accepted (c ∷ cs) depth → Accepted (c ∷ ds) more
   with_same c depth more less accepted = grind (arith, first_accepted, with_first, onto)
@@ -107,13 +102,7 @@ none_accepted (c ∷ cs) depth good none =
 
 module _ (c : List ℕ) (cs : List (List ℕ)) (rest : (depth : ℕ) → Accepted cs depth → NoneAbove cs depth) where
   none_where : (k : Kind) (depth : ℕ) → kind c ≡ k → AcceptedAt cs (depth_after k depth) → NoneAbove (c ∷ cs) depth
-  none_where Dot depth e others zero up more = let k = ap kind (same_Some c dot_dot up) in cc
-  none_where Dot depth e others (suc place) up more = grind arith
-  none_where DotDot zero e others place up more = cc
-  none_where DotDot (suc depth) e others zero up more = omega (arith, more)
-  none_where DotDot (suc depth) e others (suc place) up more = grind arith
-  none_where Name depth e others zero up more = let k = ap kind (same_Some c dot_dot up) in cc
-  none_where Name depth e others (suc place) up more = grind arith
+  none_where k depth h1 h2 = grind (arith, same_Some)
 
 accepted_none : (cs : List (List ℕ)) (depth : ℕ) → Accepted cs depth → NoneAbove cs depth
 accepted_none [] depth accepted place up more = cc
@@ -137,25 +126,14 @@ abbrev Begins : List (List ℕ) → ℕ → Type 0
 Begins [] depth = Unit {0}
 Begins (c ∷ cs) depth = begins_at (kind c) depth (All IsName cs) (Begins cs)
 
-names_begin : (cs : List (List ℕ)) (depth : ℕ) → All IsName cs → Begins cs depth
-names_begin [] depth all = tt
-names_begin (c ∷ cs) depth all =
-    grind (arith, name_kind c (All-head IsName c cs all), All-head IsName c cs all, All-tail IsName c cs all)
-
 name_before : (k : Kind) (c d : List ℕ) (ds : List (List ℕ)) (depth : ℕ) → kind c ≡ Name → kind d ≡ k
     → begins_at k (depth + 1) (All IsName ds) (Begins ds) → Begins (before_piece k c d ds) depth
-name_before Dot c d ds depth e f begins = absurd begins
-name_before DotDot c d ds depth e f begins = grind arith
-name_before Name c d ds depth e f begins = grind arith
+name_before k c d ds depth h1 h2 h3 = grind arith
 
 piece_before : (k : Kind) (c : List ℕ) (cs ds : List (List ℕ)) (depth : ℕ) → kind c ≡ k
     → ((left : ℕ) → Accepted cs left → Begins ds left)
     → AcceptedAt cs (depth_after k depth) → Begins (before_normal k c ds) depth
-piece_before Dot c cs ds depth e begins others = begins depth others
-piece_before DotDot c cs ds zero e begins others = absurd (cc)
-piece_before DotDot c cs ds (suc depth) e begins others = grind arith
-piece_before Name c cs [] depth e begins others = grind arith
-piece_before Name c cs (d ∷ ds) depth e begins others = grind arith
+piece_before k c cs ds depth h1 h2 h3 = grind arith
 
 normal_begins : (cs : List (List ℕ)) (depth : ℕ) → Accepted cs depth → Begins (normal_of cs) depth
 normal_begins [] depth accepted = tt
@@ -171,24 +149,14 @@ names_of_normal cs accepted = all_names (normal_of cs) (normal_begins cs 0 accep
 
 -- one name more is left at most, and only after a name
 after_one : (k : Kind) (depth left : ℕ) → depth_after k depth ≡ Some left → (left ≤ depth + 1) × (depth < left → k ≡ Name)
-after_one Dot depth left e = grind arith
-after_one DotDot zero left e = absurd (cc)
-after_one DotDot (suc depth) left e = grind arith
-after_one Name depth left e = (omega (arith, same_Some (depth + 1) left e), λ more. refl)
+after_one k depth left h1 = grind (arith, same_Some)
 
 -- where the components that are left have the fault, so has the next of them, or what is after it, or
 -- there is none
 module _ (found : Option PathError) (left : List (List ℕ)) (depth : ℕ) (same : first_fault left depth ≡ found) where
-  pub fault_here : (c : List ℕ) (cs : List (List ℕ)) (error : PathError) → left ≡ c ∷ cs → fault c ≡ Some error
-      → found ≡ Some error
-  fault_here c cs error e here = grind arith
-
   pub past_here : (c : List ℕ) (cs : List (List ℕ)) (after : Option ℕ) → left ≡ c ∷ cs → fault c ≡ None
       → depth_after (kind c) depth ≡ after → found ≡ fault_at after (first_fault cs)
   past_here c cs after e good is = grind arith
-
-  pub none_here : left ≡ [] → found ≡ None
-  none_here e = sym same ∙ ap (λ pieces. first_fault pieces depth) e
 
   -- all are names where those left are, and so where it is one and the others are
   pub names_here : (all : List (List ℕ)) (are : Bool) (c : List ℕ) (cs : List (List ℕ)) (after : ℕ) → (IsTrue are → All IsName left → All IsName all)

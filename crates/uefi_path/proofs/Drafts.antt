@@ -1,5 +1,5 @@
 -- A path that is added to a buffer, part by part: components that make a parent, and what a push adds.
-use Rattle.std.proofs.Common.{append_assoc, ◌-◌, ◌≢◌, ◌==◌, get_or, suc, subst, IsTrue, ◌↔◌, ◌≡◌, ℕ, ◌^◌, List, [], ◌∷◌, ◌++◌, length, All, Bool, true, false, not, if◌then◌else◌, inl, inr, ap, refl, sym, ◌∙◌, arith, ◌<◌, None, Some, Option}
+use Rattle.std.proofs.Common.{append_assoc, ◌-◌, ◌≢◌, get_or, suc, subst, IsTrue, ◌↔◌, ◌≡◌, ℕ, ◌^◌, List, [], ◌∷◌, ◌++◌, length, All, Bool, true, false, not, if◌then◌else◌, ap, refl, sym, ◌∙◌, arith, ◌<◌, None, Some, Option}
 use Rattle.std.specs.List.{fold}
 use Rattle.std.proofs.lemmas.Bool.{cases_Bool}
 use Rattle.std.proofs.lemmas.List.{append-nil, get_or-map, length-map, map-append}
@@ -8,7 +8,7 @@ use Rattle.uefi_text.specs.Units.{IsText, IsTextUnit, replaced}
 use Rattle.uefi_text.specs.UnitTexts.{AreSunk}
 use Rattle.uefi_path.specs.Components.{IsPiece, joined}
 use Rattle.uefi_path.specs.Parents.{all_but_last, is_non_empty, parent_of_components, rejoined}
-use Rattle.uefi_path.specs.Pushing.{appended, needs_separator, pushed, tail_of}
+use Rattle.uefi_path.specs.Pushing.{appended, needs_separator, tail_of}
 use Rattle.uefi_path.specs.Separators.{is_separator, separator, slash, with_separators}
 use Rattle.uefi_path.specs.Writing.{IsSunk}
 use Rattle.uefi_path.proofs.ParentForm.{All-rejoined}
@@ -24,22 +24,12 @@ pub needs_replaced : (text : List ℕ) → text ≢ []
 needs_replaced [] some = absurd (some refl)
 needs_replaced (u ∷ us) some =
     let by = replaced slash separator in
-    let last : length us ≡ suc (length us) - 1 = omega arith in
-    ap (λ n. not (is_separator (by (get_or (u ∷ us) n 0)))) (sym last)
-    ∙ ap (λ v. not (is_separator v)) (sym (get_or-map by (u ∷ us) (length us) 0 0 (omega arith)))
-    ∙ ap (λ n. not (is_separator (get_or (with_separators (u ∷ us)) n 0))) (sym (length-map us by))
+    let last : length us ≡ suc (length us) - 1 = omega arith in grind (arith, get_or-map, length-map, by, last)
 
 -- what is added after a text, and after one whose slashes are replaced
-pub pushed_tail : (text path : List ℕ) (needs empty : Bool) → needs ≡ needs_separator text → empty ≡ (length path == 0)
-    → empty ≡ false → text ++ tail_of needs path ≡ pushed text path
-pushed_tail text [] needs empty is says fails = absurd (cc)
-pushed_tail text (u ∷ us) true empty is says fails = rw (sym is) refl
-pushed_tail text (u ∷ us) false empty is says fails = rw (sym is) refl
-
 pub part_tail : (path part : List ℕ) (is_missing : Bool)
     → (if is_missing then path ++ separator ∷ [] else path) ++ with_separators part ≡ path ++ tail_of is_missing part
-part_tail path part true = append_assoc path (separator ∷ []) (with_separators part)
-part_tail path part false = refl
+part_tail path part is_missing = grind (arith, append_assoc)
 
 pub replaced_tail : (text part : List ℕ)
     → with_separators text ++ tail_of (needs_separator text) part ≡ with_separators (appended text part)
@@ -53,19 +43,8 @@ replaced_tail text part =
 -- a separator is missing after a component exactly where it is not empty
 pub needs_separator-appended : (text piece : List ℕ) → IsPiece piece
     → needs_separator (appended text piece) ≡ is_non_empty piece
-needs_separator-appended text [] is =
-    let added = λ (b : Bool). needs_separator (if b then text ++ separator ∷ [] else text ++ []) in
-    elim (cases_Bool (needs_separator text)) [
-      | inl missing ↦ ap added missing ∙ closed text
-      | inr none ↦ ap added none ∙ ap needs_separator (append-nil text) ∙ none
-    ]
-needs_separator-appended text (u ∷ us) is =
-    let own = open_piece (u ∷ us) is refl in
-    elim (needs_separator text)
-    as (λ b. needs_separator (if b then text ++ separator ∷ u ∷ us else text ++ u ∷ us) ≡ true) [
-      | true ↦ needs_separator-append text separator (u ∷ us) ∙ after_separator (u ∷ us) own
-      | false ↦ needs_separator-append text u us ∙ own
-    ]
+needs_separator-appended text piece h1 =
+    grind (arith, cases_Bool, closed, append-nil, open_piece, needs_separator-append, after_separator)
 
 -- a text so far: its units were added to a buffer, and adding the pieces to come but the last makes the whole
 pub record IsDraft (text old buffer : List ℕ) (len : ℕ) (is_missing : Bool) (pieces : List (List ℕ)) (whole : List ℕ) : Type 0 where
@@ -76,9 +55,7 @@ pub record IsDraft (text old buffer : List ℕ) (len : ℕ) (is_missing : Bool) 
 
 -- a test for an empty component
 non_empty_by : (is_empty : Bool) (piece : List ℕ) → (IsTrue is_empty ↔ (piece ≡ [])) → not is_empty ≡ is_non_empty piece
-non_empty_by is_empty [] is = ap not (is.1 refl)
-non_empty_by true (u ∷ us) is = absurd (omega (arith, ap length (is.0 refl)))
-non_empty_by false (u ∷ us) is = refl
+non_empty_by is_empty piece h1 = grind arith
 
 -- one component more, where another follows it
 pub draft_next : (text old buffer : List ℕ) (len : ℕ) (is_missing : Bool) (piece : List ℕ) (left : List (List ℕ)) (whole : List ℕ)
@@ -91,9 +68,7 @@ draft_next text old buffer len is_missing piece left whole next pieces new end i
     subst (λ ps. IsDraft text old buffer len is_missing (piece ∷ ps) whole) follows draft in
     record {
       sunk = subst (λ us. AreSunk us old new end) (ap (λ b. with_separators text ++ tail_of b piece) d.missing ∙ replaced_tail text piece) sunk;
-      missing =
-          non_empty_by is_empty piece empty
-          ∙ sym (needs_separator-appended text piece (All-head IsPiece piece (next ∷ pieces) d.are_pieces));
+      missing = grind (arith, non_empty_by, needs_separator-appended, All-head, d);
       are_pieces = All-tail IsPiece piece (next ∷ pieces) d.are_pieces;
       to_come = d.to_come;
     }

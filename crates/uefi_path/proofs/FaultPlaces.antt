@@ -19,14 +19,6 @@ pub record IsWalkAt (text : List ℕ) (depth : ℕ) (left : List (ℕ × List �
   pub passed : (others : List (List ℕ)) → first_fault (before ++ others) 0 ≡ first_fault others depth
   pub places : BeginAtPlaces text left
 
-pub start : (text : List ℕ) (left : List (ℕ × List ℕ)) → map (λ item. item.1) left ≡ components_of text → BeginAtPlaces text left
-    → IsWalkAt text 0 left
-start text left same places = grind arith
-
-judged : (c : List ℕ) (cs : List (List ℕ)) (depth left : ℕ) → fault c ≡ None → depth_after (kind c) depth ≡ Some left
-    → first_fault (c ∷ cs) depth ≡ first_fault cs left
-judged c cs depth left good is = grind arith
-
 module _ (text : List ℕ) (depth : ℕ) (all : List (ℕ × List ℕ)) (walk : IsWalkAt text depth all) (place : ℕ) (c : List ℕ)
     (more : List (ℕ × List ℕ)) (here : all ≡ (place, c) ∷ more) where
   abbrev cs : List (List ℕ)
@@ -39,7 +31,7 @@ module _ (text : List ℕ) (depth : ℕ) (all : List (ℕ × List ℕ)) (walk : 
   places = subst (BeginAtPlaces text) here walk.places
 
   pub step : (left : ℕ) → fault c ≡ None → depth_after (kind c) depth ≡ Some left → IsWalkAt text left more
-  step left good is = grind (arith, whole, append_assoc walk.before (c ∷ []) cs, append_assoc, judged, places)
+  step left good is = grind (arith, whole, append_assoc walk.before (c ∷ []) cs, append_assoc, places)
 
   -- the component is at fault
   pub stop : (error : PathError) → ((others : List (List ℕ)) → first_fault (c ∷ others) depth ≡ Some error) → text ≢ []

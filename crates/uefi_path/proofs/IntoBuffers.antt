@@ -1,28 +1,14 @@
 -- A path that a call writes into a caller's buffer: what is returned, and what the buffer becomes.
-use Rattle.std.proofs.Common.{◌≡◌, ◌<◌, ◌≤◌, ◌+◌, ◌^◌, ℕ, List, Option, Err, None, Ok, Some, length, refl, arith}
-use Rattle.std.proofs.lemmas.Bool.{le-ltb, lt-ltb}
+use Rattle.std.proofs.Common.{◌≡◌, ◌<◌, ◌≤◌, ◌+◌, ◌^◌, ℕ, List, Option, Err, Some, length, refl, arith}
+use Rattle.std.proofs.lemmas.Bool.{le-ltb}
 use Rattle.std.proofs.lemmas.Grind.{common_steps}
 use Rattle.uefi_text.specs.UnitTexts.{places_needed}
-use Rattle.uefi_path.specs.Writing.{normal_written, path_written}
-use Rattle.uefi_path.specs.declared.written.NormalWriteError.TheVariants.{BufferTooSmall}
-use Rattle.uefi_path.specs.declared.validation.PathError.{PathError}
+use Rattle.uefi_path.specs.Writing.{path_written}
 
 -- the places that a text needs that a `usize` counts
 pub needed : (text : List ℕ) (len count : ℕ) → len ≡ length text → count ≡ len + 1 → count < 2 ^ 64
     → count ≡ places_needed text
 needed text len count long one bound = grind (arith, common_steps)
-
--- a normal path that has no room, and one that has
-pub short : (refusal : Option PathError) (text buffer : List ℕ) (count : ℕ) → refusal ≡ None
-    → length buffer ≤ length text → count ≡ places_needed text
-    → Err (BufferTooSmall count) ≡ normal_written refusal text buffer
-short refusal text buffer count is less enough =
-    rw (is, enough, le-ltb (length text) (length buffer) less) refl
-
-pub fits : (refusal : Option PathError) (text buffer : List ℕ) → refusal ≡ None → length text < length buffer
-    → Ok (length text) ≡ normal_written refusal text buffer
-fits refusal text buffer is room =
-    rw (is, lt-ltb (length text) (length buffer) room) refl
 
 -- the same of a path that there is
 pub path_short : (made : Option (List ℕ)) (text buffer : List ℕ) (count : ℕ) → made ≡ Some text
@@ -30,8 +16,3 @@ pub path_short : (made : Option (List ℕ)) (text buffer : List ℕ) (count : �
     → Err (record { 0 = count }) ≡ path_written made buffer
 path_short made text buffer count is less enough =
     rw (is, enough, le-ltb (length text) (length buffer) less) refl
-
-pub path_fits : (made : Option (List ℕ)) (text buffer : List ℕ) → made ≡ Some text → length text < length buffer
-    → Ok (Some (length text)) ≡ path_written made buffer
-path_fits made text buffer is room =
-    rw (is, lt-ltb (length text) (length buffer) room) refl

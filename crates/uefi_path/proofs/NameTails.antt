@@ -1,12 +1,11 @@
 -- The last names of a normal path, joined: how long they are, and what one more name before them adds.
-use Rattle.std.proofs.Common.{◌≡◌, ℕ, ◌+◌, ◌-◌, ◌≤◌, nat_lt, cond, if◌then◌else◌, List, [], ◌∷◌, ◌++◌, drop, length, max, All, append_assoc, length-append, refl, sym, ap, ◌∙◌, subst, arith}
+use Rattle.std.proofs.Common.{◌≡◌, ℕ, ◌+◌, ◌-◌, ◌≤◌, nat_lt, cond, if◌then◌else◌, List, [], ◌∷◌, ◌++◌, drop, length, All, append_assoc, length-append, refl, sym, ap, ◌∙◌, subst, arith}
 use Rattle.std.proofs.lemmas.Bool.{le-ltb, lt-ltb}
 use Rattle.std.proofs.lemmas.List.{append-nil, length-drop}
 use Rattle.std.proofs.lemmas.List.Elements.{All-head, All-tail}
 use Rattle.uefi_path.specs.Components.{joined}
-use Rattle.uefi_path.specs.NormalForms.{before_normal, before_piece, kind, normal_of, normal_text}
+use Rattle.uefi_path.specs.NormalForms.{before_normal, kind, normal_of}
 use Rattle.uefi_path.specs.declared.component_kinds.Kind.{Kind}
-use Rattle.uefi_path.specs.declared.component_kinds.Kind.TheVariants.{Dot, DotDot, Name}
 use Rattle.uefi_path.specs.Separators.{separator, with_separators}
 use Rattle.uefi_path.specs.Verdicts.{IsGood}
 use Rattle.uefi_path.proofs.ParentSizes.{room, room-joined}
@@ -27,10 +26,7 @@ pub record AreLast (whole left : List (List ℕ)) (last : List ℕ) : Type 0 whe
 
 joined-before : (name : List ℕ) (names : List (List ℕ)) → All IsGood names
     → joined (name ∷ names) ≡ name_before name (joined names)
-joined-before name [] good = refl
-joined-before name ([] ∷ names) good = absurd (let fault = All-head IsGood [] names good in cc)
-joined-before name ((u ∷ us) ∷ []) good = refl
-joined-before name ((u ∷ us) ∷ next ∷ names) good = refl
+joined-before name names h1 = grind (arith, All-head)
 
 good_after : (front back : List (List ℕ)) → All IsGood (front ++ back) → All IsGood back
 good_after [] back good = good
@@ -70,8 +66,7 @@ last_fit whole left last are = grind (arith, no_longer)
 -- how long they are with a name before them
 pub next_counted : (name last : List ℕ) (len count : ℕ) → len ≡ length last → count ≡ cond (nat_lt 0 len) 1 0
     → len + (length name + count) ≡ length (name_before name last)
-next_counted name [] len count e one = grind arith
-next_counted name (u ∷ us) len count e one = grind (arith, lt-ltb, length-append)
+next_counted name last len count h1 h2 = grind (arith, lt-ltb, length-append)
 
 pub next_fits : (whole left new : List (List ℕ)) (name last : List ℕ) (len count : ℕ) → AreLast whole left last
     → left ≡ new ++ name ∷ [] → len ≡ length last → count ≡ cond (nat_lt 0 len) 1 0
@@ -95,16 +90,8 @@ with_name name places text start e = ap (λ us. name ++ us) e ∙ before (drop s
     before (u ∷ us) some = rw (lt-ltb start (length places) (omega (arith, some))) refl
 
 -- the names of a normal path take no more than the components
-room-before_piece : (k : Kind) (p q : List ℕ) (qs : List (List ℕ)) → room (before_piece k p q qs) ≤ room (p ∷ q ∷ qs)
-room-before_piece Dot p q qs = omega arith
-room-before_piece DotDot p q qs = omega arith
-room-before_piece Name p q qs = omega arith
-
 room-before_normal : (k : Kind) (p : List ℕ) (ps : List (List ℕ)) → room (before_normal k p ps) ≤ room (p ∷ ps)
-room-before_normal Dot p ps = omega arith
-room-before_normal DotDot p ps = omega arith
-room-before_normal Name p [] = omega arith
-room-before_normal Name p (q ∷ qs) = room-before_piece (kind q) p q qs
+room-before_normal k p ps = grind arith
 
 room-normal_of : (ps : List (List ℕ)) → room (normal_of ps) ≤ room ps
 room-normal_of [] = omega arith
@@ -117,15 +104,3 @@ units_of_room (p ∷ ps) (q ∷ qs) less = omega (arith, less, room-joined p ps,
 
 pub normal_no_longer : (ps : List (List ℕ)) → length (joined (normal_of ps)) ≤ length (joined ps)
 normal_no_longer ps = units_of_room (normal_of ps) ps (room-normal_of ps)
-
--- the text of good names: they are joined, with the lone separator where there are none
-some_units : (name : List ℕ) (names : List (List ℕ)) → All IsGood (name ∷ names)
-    → 1 ≤ length (joined (name ∷ names))
-some_units [] names good = absurd (let fault = All-head IsGood [] names good in cc)
-some_units (u ∷ us) [] good = omega arith
-some_units (u ∷ us) (next ∷ names) good = omega (arith, length-append (u ∷ us) (separator ∷ joined (next ∷ names)))
-
-pub length-normal_text : (names : List (List ℕ)) → All IsGood names
-    → length (normal_text names) ≡ max (length (joined names)) 1
-length-normal_text [] good = omega arith
-length-normal_text (name ∷ names) good = omega (arith, some_units name names good)

@@ -1,5 +1,5 @@
 -- Names that are cut at their last dot.
-use Rattle.std.proofs.Common.{◌≡◌, ◌≢◌, ◌∙◌, ◌+◌, ◌<◌, ℕ, suc, List, [], ◌∷◌, ◌++◌, None, Option, Some, ap, inl, inr, sym, subst, take, drop, drop-cons, add-one, get_or, length, length-append, length-drop, arith}
+use Rattle.std.proofs.Common.{◌≡◌, ◌≢◌, ◌∙◌, ◌+◌, ◌<◌, ℕ, suc, List, [], ◌∷◌, ◌++◌, Option, ap, inl, sym, subst, take, drop, drop-cons, add-one, get_or, length, length-append, length-drop, arith}
 use Rattle.std.specs.Option.{IfSome, MatchOption}
 use Rattle.std.proofs.Math.Seq.{get_or-append_seam}
 use Rattle.std.proofs.lemmas.List.{get_or_default, get_or-drop, take-append-drop, length-take-le}
@@ -17,18 +17,14 @@ named name dot positive inside is none other =
     record {
       whole = sym (take-append-drop dot name) ∙ ap (λ us. take dot name ++ us) (next ∙ ap (λ c. c ∷ drop (dot + 1) name) is);
       some_stem = λ e. omega (arith, ap length e, length-take-le dot name (omega arith), positive);
-      last_dot = λ k d here dotted.
-          let low : dot < dot + 1 + k = omega arith in
-          let high : dot + 1 + k < length name = omega (arith, here, length-drop (dot + 1) name) in
-          none (dot + 1 + k) low high (sym (get_or-drop (dot + 1) name k 0) ∙ get_or_default (drop (dot + 1) name) k 0 d here ∙ dotted);
+      last_dot = grind (arith, length-drop, get_or-drop, get_or_default);
       other = other;
     }
 
 -- what the search for the last dot finds
 pub at_last_dot : (name : List ℕ) (found : Option ℕ) → name ≢ dot_dot → IsLastDot name found
     → MatchOption found (HasNoExtension name) (λ dot. IsNamed name (take dot name) (drop (dot + 1) name)) × IfSome found (λ dot. dot < length name)
-at_last_dot name None other none = (no_extension name none, tt)
-at_last_dot name (Some dot) other at = (named name dot at.0 at.1 at.2 at.3 other, at.1)
+at_last_dot name found h1 h2 = grind (arith, no_extension, named)
 
 -- units that hold a dot
 holds_dot : (units more : List ℕ) → HasNoDot (units ++ 46 ∷ more) → ⊥
@@ -53,5 +49,4 @@ named_apart [] extension some none = some (λ i. [])
 named_apart (c ∷ cs) extension some none = holds_dot cs extension none
 
 pub named_or_not : (name stem extension : List ℕ) → IsNamed name stem extension → HasNoExtension name → ⊥
-named_or_not name stem extension n (inl none) = named_apart stem extension n.some_stem (subst (λ us. HasNoDot (drop 1 us)) n.whole none)
-named_or_not name stem extension n (inr is) = n.other is
+named_or_not name stem extension h1 h2 = grind (arith, named_apart)

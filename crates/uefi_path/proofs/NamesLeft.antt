@@ -1,11 +1,9 @@
 -- The names of a normal path, found from the last piece on: what each piece changes.
-use Rattle.std.proofs.Common.{◌≡◌, ◌≤◌, length, ℕ, suc, List, [], ◌∷◌, ◌++◌, All, append_assoc, refl, sym, ap, ◌∙◌, subst, arith, None}
+use Rattle.std.proofs.Common.{◌≡◌, ◌≤◌, length, ℕ, suc, List, [], ◌∷◌, ◌++◌, All, append_assoc, sym, ap, ◌∙◌, subst, arith, None}
 use Rattle.std.proofs.lemmas.List.{append-nil}
 use Rattle.uefi_path.specs.Components.{components_of, joined}
 use Rattle.uefi_path.specs.NamesLeft.{names_before}
-use Rattle.uefi_path.specs.NormalForms.{IsName, before_normal, before_piece, dot, kind, normal_of}
-use Rattle.uefi_path.specs.declared.component_kinds.Kind.{Kind}
-use Rattle.uefi_path.specs.declared.component_kinds.Kind.TheVariants.{Dot, DotDot, Name}
+use Rattle.uefi_path.specs.NormalForms.{IsName, before_normal, dot, normal_of}
 use Rattle.uefi_path.specs.Verdicts.{IsGood, verdict}
 use Rattle.uefi_text.specs.Units.{IsText}
 use Rattle.uefi_path.proofs.Depth.{names_of_normal}
@@ -18,23 +16,10 @@ use Rattle.uefi_path.proofs.Validity.{valid-accepted, valid-components}
 use Rattle.std.proofs.lemmas.Grind.{common_steps}
 
 -- a name after all others stays
-before_piece-push : (k : Kind) (p q : List ℕ) (qs : List (List ℕ)) (name : List ℕ)
-    → before_piece k p q (qs ++ name ∷ []) ≡ before_piece k p q qs ++ name ∷ []
-before_piece-push Dot p q qs name = refl
-before_piece-push DotDot p q qs name = refl
-before_piece-push Name p q qs name = refl
-
-before_normal-push : (k : Kind) (p : List ℕ) (qs : List (List ℕ)) (name : List ℕ) → IsName name
-    → before_normal k p (qs ++ name ∷ []) ≡ before_normal k p qs ++ name ∷ []
-before_normal-push Dot p qs name is = refl
-before_normal-push DotDot p qs name is = refl
-before_normal-push Name p [] name is = ap (λ k. before_piece k p name []) (name_kind name is)
-before_normal-push Name p (q ∷ qs) name is = before_piece-push (kind q) p q qs name
-
 normal_of-push : (ps : List (List ℕ)) (name : List ℕ) → IsName name
     → normal_of (ps ++ name ∷ []) ≡ normal_of ps ++ name ∷ []
 normal_of-push [] name is = ap (λ k. before_normal k name []) (name_kind name is)
-normal_of-push (p ∷ ps) name is = grind (arith, normal_of-push ps name is, before_normal-push)
+normal_of-push (p ∷ ps) name is = grind (arith, normal_of-push ps name is, name_kind)
 
 -- a last `.` goes
 pub dot_before : (ps : List (List ℕ)) (piece : List ℕ) (climbs : ℕ) → piece ≡ dot

@@ -45,8 +45,7 @@ components_of-normal_text [] good = refl
 components_of-normal_text (q ∷ qs) good = components_of-joined (q ∷ qs) good
 
 normal_text-non_empty : (qs : List (List ℕ)) → All IsGood qs → normal_text qs ≢ []
-normal_text-non_empty [] good e = cc
-normal_text-non_empty (q ∷ qs) good e = grind (arith, components_of-joined (q ∷ qs) good)
+normal_text-non_empty qs h1 = grind (arith, components_of-joined)
 
 good_normal : (text : List ℕ) (normal : List (List ℕ)) → verdict text ≡ None
     → NormalForm (components_of text) normal → All IsGood normal
@@ -106,8 +105,7 @@ normal_of-names (p ∷ q ∷ ps) all =
     ∙ ap (λ k. before_piece k p q ps) (name_kind q (All-head IsName q ps others))
 
 normal_text-joined : (ps : List (List ℕ)) → joined ps ≢ [] → normal_text ps ≡ joined ps
-normal_text-joined [] some = absurd (some refl)
-normal_text-joined (p ∷ ps) some = refl
+normal_text-joined ps h1 = grind arith
 
 -- so the normal path of names is their canonical text
 pub normal_text-names : (text : List ℕ) → verdict text ≡ None → canonical text ≢ [] → All IsName (components_of text)

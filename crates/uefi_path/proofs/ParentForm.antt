@@ -19,29 +19,21 @@ use Rattle.uefi_path.proofs.Validity.{All-good_non_empty, All-good_piece, All-go
 -- no separator stands before pieces that are not empty
 prefix_joined : (n : List ℕ) (ns : List (List ℕ)) (more : List ℕ) → IsPiece n → IsFull n
     → canonical (joined (n ∷ ns) ++ more) ≡ joined (n ∷ ns) ++ more
-prefix_joined [] ns more piece full = absurd (false≢true full)
-prefix_joined (u ∷ us) [] more piece full = grind (arith, canonical-no, ne_eqb, All-head)
-prefix_joined (u ∷ us) (m ∷ ms) more piece full = grind (arith, canonical-no, ne_eqb, All-head)
+prefix_joined n ns more h1 h2 = grind (arith, false≢true, canonical-no, ne_eqb, All-head)
 
 pub prefix_with_end : (ns : List (List ℕ)) (ends : Bool) → All IsPiece ns → All IsFull ns
     → canonical (joined_with_end ns ends) ≡ joined_with_end ns ends
-prefix_with_end [] ends pieces full = refl
-prefix_with_end (n ∷ ns) ends pieces full =
-    prefix_joined n ns (if ends then separator ∷ [] else []) (All-head IsPiece n ns pieces)
-    (All-head IsFull n ns full)
+prefix_with_end ns ends h1 h2 = grind (arith, prefix_joined, All-head, IsFull)
 
 -- what stands between the separators of such pieces, and of the end after them
 pub split_with_end : (n : List ℕ) (ns : List (List ℕ)) (ends : Bool) → All IsPiece (n ∷ ns)
     → slice_split is_separator (joined_with_end (n ∷ ns) ends) ≡ (n ∷ ns)
     ++ (if ends then [] ∷ [] else [])
-split_with_end n ns true pieces = grind (arith, slice_split-append, slice_split-joined)
-split_with_end n ns false pieces = grind (arith, append-nil, slice_split-joined)
+split_with_end n ns ends h1 = grind (arith, slice_split-append, slice_split-joined, append-nil)
 
 -- what stands between the separators of full pieces that are joined, and of the end after them
 filled : (n : List ℕ) (ns : List (List ℕ)) (more : List ℕ) → IsFull n → joined (n ∷ ns) ++ more ≢ []
-filled [] ns more full e = false≢true full
-filled (u ∷ us) [] more full e = cc
-filled (u ∷ us) (m ∷ ms) more full e = cc
+filled n ns more h1 = grind (arith, false≢true)
 
 pub components_with_end : (n : List ℕ) (ns : List (List ℕ)) (ends : Bool) → All IsPiece (n ∷ ns)
     → All IsFull (n ∷ ns)
@@ -76,17 +68,20 @@ full_but_last (n ∷ ns) false pieces full =
     (sym (split_with_end n ns false pieces ∙ append-nil (n ∷ ns)))
     (All-all_but_last IsFull (n ∷ ns) full)
 
--- two separators in a row have an empty piece between them
-doubled : (before after : List ℕ)
-    → slice_split is_separator (before ++ separator ∷ separator ∷ after)
-    ≡ slice_split is_separator before ++ [] ∷ slice_split is_separator after
-doubled before after = grind (arith, slice_split-append)
-
+-- no two separators stand in a row where no piece but the last is empty
 not_doubled : (text before after : List ℕ)
     → All IsFull (all_but_last (slice_split is_separator text))
     → text ≢ before ++ separator ∷ separator ∷ after
 not_doubled text before after full e =
-    grind (arith, doubled, all_but_last-middle, slice_split-non_empty, false≢true, All-middle, IsFull)
+    grind (
+      arith,
+      all_but_last-middle,
+      slice_split-non_empty,
+      false≢true,
+      All-middle,
+      IsFull,
+      slice_split-append,
+    )
 
 -- pieces that were rejoined
 prefix_rejoined : (ps : List (List ℕ)) → All IsPiece ps → canonical (rejoined ps) ≡ rejoined ps
@@ -169,12 +164,8 @@ ends-full [] full = refl
 ends-full (p ∷ []) full = ap not (All-head IsFull p [] full)
 ends-full (p ∷ q ∷ ps) full = ends-full (q ∷ ps) (All-tail IsFull p (q ∷ ps) full)
 
-with_no_end : (ps : List (List ℕ)) → joined_with_end ps false ≡ joined ps
-with_no_end [] = refl
-with_no_end (p ∷ ps) = append-nil (joined (p ∷ ps))
-
 pub rejoined-full : (ps : List (List ℕ)) → All IsFull ps → rejoined ps ≡ joined ps
-rejoined-full ps full = grind (arith, non_empty-full, ends-full, with_no_end)
+rejoined-full ps full = grind (arith, non_empty-full, ends-full, append-nil)
 
 prefix_full : (ps : List (List ℕ)) → All IsPiece ps → All IsFull ps → canonical (joined ps) ≡ joined ps
 prefix_full ps pieces full = grind (arith, rejoined-full ps full, prefix_rejoined ps pieces)
@@ -235,10 +226,7 @@ valid_parent_text text parent valid e =
     let good = All-all_but_last IsGood (components_of text) (valid-components text valid) in
     let same : components_of parent ≡ all_but_last (components_of text) =
     ap components_of is.0 ∙ components_of-joined (all_but_last (components_of text)) good in
-    let filled_parent : parent ≢ [] =
-    λ none. let n : 0 ≡ length (all_but_last (components_of text)) =
-    ap (λ us. length (components_of us)) (sym none) ∙ ap length same in
-    omega (arith, length-all_but_last (components_of text), is.1) in
+    let filled_parent : parent ≢ [] = grind (arith, length-all_but_last, is, same) in
     valid-from parent filled_parent
     (subst (λ pieces. Accepted pieces 0) (sym same)
     (Accepted-all_but_last (components_of text) (valid-accepted text valid)))

@@ -1,5 +1,5 @@
 -- How large a parent is: it is shorter than its path, and has at least one component fewer.
-use Rattle.std.proofs.Common.{◌≡◌, ℕ, ◌+◌, ◌<◌, ◌≤◌, List, [], ◌∷◌, ◌++◌, length, All, Bool, true, false, if◌then◌else◌, Some, ap, arith}
+use Rattle.std.proofs.Common.{◌≡◌, ℕ, ◌+◌, ◌<◌, ◌≤◌, List, [], ◌∷◌, length, All, Bool, true, false, Some, ap, arith}
 use Rattle.std.specs.List.{fold}
 use Rattle.std.proofs.lemmas.List.Elements.{All-filter}
 use Rattle.uefi_path.specs.Pushing.{appended}
@@ -35,8 +35,7 @@ fold_room text [] = omega arith
 fold_room text (piece ∷ pieces) = omega (arith, fold_room (appended text piece) pieces, length-appended text piece)
 
 pub units-canonical : (text : List ℕ) → length (canonical text) ≤ length text
-units-canonical [] = omega arith
-units-canonical (unit ∷ units) = grind (arith, common_steps)
+units-canonical text = grind arith
 
 pub parent_of_components-shorter : (pieces : List (List ℕ)) (parent : List ℕ) → All IsPiece pieces
     → parent_of_components pieces ≡ Some parent → length parent < length (joined pieces)
@@ -62,15 +61,10 @@ abbrev pieces_of_end : Bool → ℕ
 pieces_of_end true = 1
 pieces_of_end false = 0
 
-count-end : (ps : List (List ℕ)) (ends : Bool)
-    → length (ps ++ (if ends then [] ∷ [] else [])) ≡ length ps + pieces_of_end ends
-count-end ps true = length-append ps ([] ∷ [])
-count-end ps false = length-append ps []
-
 count-with_end : (ns : List (List ℕ)) (ends : Bool) → All IsPiece ns → All IsFull ns
     → length (components_of (joined_with_end ns ends)) ≤ length ns + pieces_of_end ends
 count-with_end [] ends pieces full = omega arith
-count-with_end (n ∷ ns) ends pieces full = grind (arith, components_with_end, count-end)
+count-with_end (n ∷ ns) ends pieces full = grind (arith, components_with_end, length-append)
 
 count-non_empty : (ps : List (List ℕ))
     → length (non_empty ps) + pieces_of_end (ends_empty ps) ≤ length ps
@@ -83,12 +77,7 @@ count-non_empty ((u ∷ us) ∷ q ∷ ps) = omega (arith, count-non_empty (q ∷
 count-rejoined : (ps : List (List ℕ)) → All IsPiece ps
     → length (components_of (rejoined ps)) ≤ length ps
 count-rejoined ps pieces =
-    let parts = All-filter is_non_empty IsPiece ps pieces in
-    omega (
-      arith,
-      count-with_end (non_empty ps) (ends_empty ps) parts (All-non_empty ps),
-      count-non_empty ps,
-    )
+    let parts = All-filter is_non_empty IsPiece ps pieces in grind (arith, count-with_end, All-non_empty, count-non_empty, parts)
 
 -- the parent of a plain text has fewer components
 pub fewer_parent_text : (text parent : List ℕ) → IsPlain text → parent_text text ≡ Some parent
@@ -108,9 +97,7 @@ fewer_parent_text text parent plain e =
 
 pub parent_of_components-with_separators : (ps : List (List ℕ)) (parent : List ℕ) → parent_of_components ps ≡ Some parent
     → IsPlain parent
-parent_of_components-with_separators [] parent e = absurd (cc)
-parent_of_components-with_separators (p ∷ []) parent e = absurd (cc)
-parent_of_components-with_separators (p ∷ q ∷ ps) parent e = grind (arith, same_Some, IsPlain-with_separators)
+parent_of_components-with_separators ps parent h1 = grind (arith, same_Some, IsPlain-with_separators)
 
 -- a parent is plain: its slashes were replaced
 pub parent_text-with_separators : (text parent : List ℕ) → parent_text text ≡ Some parent → IsPlain parent

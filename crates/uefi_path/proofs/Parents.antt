@@ -28,14 +28,12 @@ closed us = needs_separator-append us separator []
 
 -- one is missing after a full piece
 pub open_piece : (p : List ℕ) → IsPiece p → IsFull p → needs_separator p ≡ true
-open_piece [] piece full = absurd (false≢true full)
-open_piece (u ∷ us) piece full = grind arith
+open_piece p h1 h2 = grind (arith, false≢true)
 
 -- a leading separator changes nothing
 pub after_separator : (us : List ℕ) → needs_separator us ≡ true
     → needs_separator (separator ∷ us) ≡ true
-after_separator [] missing = absurd (false≢true missing)
-after_separator (u ∷ us) missing = needs_separator-append (separator ∷ []) u us ∙ missing
+after_separator us h1 = grind (arith, false≢true, needs_separator-append)
 
 -- and after such pieces that were joined
 pub open_joined : (p : List ℕ) (ps : List (List ℕ)) → All IsPiece (p ∷ ps) → All IsFull (p ∷ ps)
@@ -58,15 +56,6 @@ ends_empty-append [] q = refl
 ends_empty-append (p ∷ []) q = refl
 ends_empty-append (p ∷ r ∷ rs) q = ends_empty-append (r ∷ rs) q
 
-added_after : (n : List ℕ) (ns : List (List ℕ)) (q : List ℕ)
-    → joined_with_end ((n ∷ ns) ++ non_empty (q ∷ [])) (not (is_non_empty q))
-    ≡ joined (n ∷ ns) ++ separator ∷ q
-added_after n ns [] = ap (λ ms. joined (n ∷ ms) ++ separator ∷ []) (append-nil ns)
-added_after n ns (u ∷ us) = grind (arith, append-nil, joined-append)
-
-after_closed : (text q : List ℕ) → appended (text ++ separator ∷ []) q ≡ text ++ separator ∷ q
-after_closed text q = grind (arith, closed, append_assoc)
-
 after_open : (text q : List ℕ) → needs_separator text ≡ true
     → appended text q ≡ text ++ separator ∷ q
 after_open text q missing = ap (λ b. if b then text ++ separator ∷ q else text ++ q) missing
@@ -77,8 +66,8 @@ added_piece : (ns : List (List ℕ)) (ends : Bool) (q : List ℕ) → All IsPiec
     ≡ appended (joined_with_end ns ends) q
 added_piece [] ends [] pieces full = refl
 added_piece [] ends (u ∷ us) pieces full = append-nil (u ∷ us)
-added_piece (n ∷ ns) true q pieces full = grind (arith, added_after, after_closed)
-added_piece (n ∷ ns) false q pieces full = grind (arith, added_after, append-nil, after_open, open_joined)
+added_piece (n ∷ ns) true q pieces full = grind (arith, append-nil, joined-append, closed, append_assoc)
+added_piece (n ∷ ns) false q pieces full = grind (arith, append-nil, after_open, open_joined, joined-append)
 
 pub All-non_empty : (ps : List (List ℕ)) → All IsFull (non_empty ps)
 All-non_empty [] = All-nil IsFull
@@ -125,9 +114,7 @@ module _ (P : ℕ → Type 0) where
   All-slice_split (u ∷ us) all =
       let others = All-slice_split us (All-tail P u us all) in
       elim (cases_Bool (is_separator u)) [
-        | inl cut ↦
-            subst (All (All P)) (sym (slice_split-cons_yes is_separator u us cut))
-            (All-cons (All P) [] (slice_split is_separator us) (All-nil P) others)
+        | inl cut ↦ grind (arith, slice_split-cons_yes, All-cons, All-nil, others)
         | inr other ↦
             subst (All (All P)) (sym (slice_split-cons_no is_separator u us other))
             (All-onto_first P u (slice_split is_separator us) (All-head P u us all) others)
@@ -147,6 +134,4 @@ module _ (P : ℕ → Type 0) where
 -- two components or more have a parent
 pub parent_of_components-many : (ps : List (List ℕ)) → 1 < length ps
     → parent_of_components ps ≡ Some (with_separators (rejoined (all_but_last ps)))
-parent_of_components-many [] many = absurd (omega (arith, many))
-parent_of_components-many (p ∷ []) many = absurd (omega (arith, many))
-parent_of_components-many (p ∷ q ∷ ps) many = refl
+parent_of_components-many ps h1 = grind arith

@@ -33,10 +33,6 @@ all_but_last-take zero (c ∷ d ∷ cs) below = refl
 all_but_last-take (suc count) (c ∷ d ∷ cs) below =
     ap (λ ps. c ∷ ps) (all_but_last-take count (d ∷ cs) (omega (arith, below)))
 
-parent_of_components-one : (cs : List (List ℕ)) → parent_of_components (take 1 cs) ≡ None
-parent_of_components-one [] = refl
-parent_of_components-one (c ∷ cs) = refl
-
 -- the parents of a text of `count` components and one more, the first of all
 pub parents_of_some : (text : List ℕ) (count : ℕ) (ps : List (List ℕ)) → All IsPiece ps → All IsFull ps
     → All IsPlain ps → count < length ps → components_of text ≡ take (suc count) ps
@@ -58,13 +54,8 @@ parents_of_some text (suc count) ps pieces full plain below e =
 
 from_all : (text : List ℕ) (cs : List (List ℕ)) → All IsGood cs → components_of text ≡ cs
     → AreParents text (prefixes (length cs - 1) cs)
-from_all text [] good e = ap parent_of_components e
-from_all text (c ∷ cs) good e =
-    let fewer : length cs ≡ length (c ∷ cs) - 1 = omega arith in
-    subst (λ count. AreParents text (prefixes count (c ∷ cs))) fewer
-    (parents_of_some text (length cs) (c ∷ cs) (All-good_piece (c ∷ cs) good)
-    (All-good_non_empty (c ∷ cs) good) (All-good_plain (c ∷ cs) good) (omega arith)
-    (e ∙ sym (take_all (suc (length cs)) (c ∷ cs) (omega arith))))
+from_all text cs h1 h2 =
+    grind (arith, parents_of_some, All-good_piece, All-good_non_empty, All-good_plain, take_all)
 
 pub AreParents-prefixes : (text : List ℕ) → verdict text ≡ None → AreParents text (shorter_prefixes text)
 AreParents-prefixes text valid = from_all text (components_of text) (valid-components text valid) refl

@@ -5,10 +5,6 @@ use Rattle.uefi_text.specs.Case.{uppers}
 use Rattle.uefi_path.specs.WithoutCase.{capital_pieces}
 
 -- one more that is the same without case
-same_first : (own piece : List ℕ) (ours theirs more : List (List ℕ)) → uppers own ≡ uppers piece
-    → (capital_pieces (own ∷ ours) ≡ capital_pieces (piece ∷ theirs) ++ more) ↔ (capital_pieces ours ≡ capital_pieces theirs ++ more)
-same_first own piece ours theirs more same = (λ e. cc, λ e i. same i ∷ e i)
-
 pub same_step : {P : Type 0} (own piece : List ℕ) (us vs ours theirs more : List (List ℕ)) → us ≡ own ∷ ours → vs ≡ piece ∷ theirs
     → uppers own ≡ uppers piece → P ↔ (capital_pieces us ≡ capital_pieces vs ++ more) → P ↔ (capital_pieces ours ≡ capital_pieces theirs ++ more)
 same_step own piece us vs ours theirs more first other same so_far = grind arith

@@ -17,8 +17,7 @@ after_first piece (next ∷ pieces) =
 -- how long pieces are, joined, if more than one is left
 pub joined_longer : (piece : List ℕ) (pieces : List (List ℕ)) → pieces ≢ []
     → length (joined (piece ∷ pieces)) ≡ length piece + 1 + length (joined pieces)
-joined_longer piece [] some = absurd (some refl)
-joined_longer piece (next ∷ pieces) some = omega (arith, length-append piece (separator ∷ joined (next ∷ pieces)))
+joined_longer piece pieces h1 = grind (arith, length-append)
 
 pub pieces_placed : (place : ℕ) (pieces : List (List ℕ)) → map (λ item. item.1) (placed_from place pieces) ≡ pieces
 pieces_placed place [] = refl

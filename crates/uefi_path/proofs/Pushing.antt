@@ -21,13 +21,11 @@ All-appended P text part of_separator of_text of_part =
 -- a path that is not empty is added with its slashes replaced
 pub pushed-non_empty : (text part : List ℕ) → part ≢ []
     → pushed text part ≡ appended text (with_separators part)
-pushed-non_empty text [] non_empty = absurd (non_empty refl)
-pushed-non_empty text (unit ∷ units) non_empty = refl
+pushed-non_empty text part h1 = grind arith
 
 -- a path pushed onto the empty one
 pub pushed-nil : (part : List ℕ) → pushed [] part ≡ with_separators part
-pushed-nil [] = refl
-pushed-nil (unit ∷ units) = refl
+pushed-nil part = grind arith
 
 pub separator_is_plain : separator ≢ slash
 separator_is_plain e = omega (arith, e)

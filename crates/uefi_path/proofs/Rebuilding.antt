@@ -53,10 +53,7 @@ pushed_components text valid =
     fold-pushed [] (components_of text) (All-nil IsGood) (valid-components text valid)
     ∙ (AreComponents-components_of text).join
 
--- the canonical text of a valid one begins with no separator
-pub prefix_valid : (text : List ℕ) → verdict text ≡ None → canonical (canonical text) ≡ canonical text
-prefix_valid text valid = grind arith
-
+-- a good piece that is pushed comes after the components of a valid text
 components_of-pushed_piece : (text piece : List ℕ) → verdict text ≡ None → IsGood piece
     → components_of (pushed text piece) ≡ components_of text ++ piece ∷ []
 components_of-pushed_piece text piece valid good =

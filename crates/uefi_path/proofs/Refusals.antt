@@ -40,10 +40,7 @@ module _ (c : List ℕ) (cs : List (List ℕ)) (depth : ℕ) (error : PathError)
     rest = later.rest;
     split = ap (λ ps. c ∷ ps) later.split;
     accepted = with_first c later.front depth good (subst (AcceptedAt later.front) (sym is) later.accepted);
-    why = elim later.why [
-      | inl fault_is ↦ inl fault_is
-      | inr climbs ↦ inr (climbs.0, counts later.front climbs.1, climbs.2)
-    ];
+    why = grind arith;
   }
 
   -- by its kind
@@ -87,22 +84,17 @@ refused_front (c ∷ cs) depth error refused =
 -- and back: what is refused for a component is refused whatever follows it
 decided : (c : List ℕ) (rest : List (List ℕ)) (depth : ℕ) (error : PathError) → IsDecider [] c depth error
     → first_fault (c ∷ rest) depth ≡ Some error
-decided c rest depth error (inl bad) = ap (λ o. option_or o (fault_at (depth_after (kind c) depth) (first_fault rest))) bad
-decided c rest depth error (inr climbs) = grind arith
+decided c rest depth error h1 = grind arith
 
 module _ (f : List ℕ) (fs : List (List ℕ)) (c : List ℕ) (rest : List (List ℕ)) (error : PathError)
     (others : (left : ℕ) → Accepted fs left → IsDecider fs c left error → first_fault (fs ++ c ∷ rest) left ≡ Some error) where
   later : (left depth : ℕ) → ((names (f ∷ fs) + depth ≤ dot_dots (f ∷ fs)) → names fs + left ≤ dot_dots fs)
       → IsDecider (f ∷ fs) c depth error → IsDecider fs c left error
-  later left depth counts (inl bad) = inl bad
-  later left depth counts (inr climbs) = inr (climbs.0, counts climbs.1, climbs.2)
+  later left depth h1 h2 = grind arith
 
   onwards : (k : Kind) → kind f ≡ k → (depth : ℕ) → AcceptedAt fs (depth_after k depth) → IsDecider (f ∷ fs) c depth error
       → fault_at (depth_after k depth) (first_fault (fs ++ c ∷ rest)) ≡ Some error
-  onwards Dot e depth accepted why = grind arith
-  onwards DotDot e zero accepted why = absurd (cc)
-  onwards DotDot e (suc left) accepted why = grind arith
-  onwards Name e depth accepted why = grind arith
+  onwards k h1 depth h2 h3 = grind arith
 
 front_refused : (front : List (List ℕ)) (c : List ℕ) (rest : List (List ℕ)) (depth : ℕ) (error : PathError) → Accepted front depth
     → IsDecider front c depth error → first_fault (front ++ c ∷ rest) depth ≡ Some error
@@ -122,24 +114,17 @@ not_empty text error some refused =
       split = found.split;
       good = good_components found.front 0 found.accepted;
       none_climbs = accepted_climbs found.front found.accepted;
-      why = elim found.why [
-        | inl bad ↦ inl bad
-        | inr climbs ↦ inr (climbs.0, omega (arith, climbs.1), climbs.2)
-      ];
+      why = grind (arith, found);
     }
 
 pub refused_first : (text : List ℕ) (error : PathError) → verdict text ≡ Some error
     → (((text ≡ []) × (error ≡ Empty)) ⊎ ((text ≢ []) × IsRefusedFor (components_of text) error))
-refused_first [] error refused = inl (refl, sym (same_Some Empty error refused))
-refused_first (u ∷ us) error refused = inr (λ e. cc, not_empty (u ∷ us) error (λ e. cc) refused)
+refused_first text error h1 = grind (arith, same_Some, not_empty)
 
 pub first_refused : (text : List ℕ) (error : PathError)
     → (((text ≡ []) × (error ≡ Empty)) ⊎ ((text ≢ []) × IsRefusedFor (components_of text) error)) → verdict text ≡ Some error
 first_refused text error (inl empty) = ap verdict empty.0 ∙ ap Some (sym empty.1)
 first_refused text error (inr (some, found)) =
-    let why : IsDecider found.front found.component 0 error = elim found.why [
-      | inl bad ↦ inl bad
-      | inr climbs ↦ inr (climbs.0, omega (arith, climbs.1), climbs.2)
-    ] in
+    let why : IsDecider found.front found.component 0 error = grind arith in
     verdict_from text some ∙ ap (λ ps. first_fault ps 0) found.split
     ∙ front_refused found.front found.component found.rest 0 error (climbs_accepted found.front found.good found.none_climbs) why

@@ -36,10 +36,7 @@ extended old units name extension start end len same last cut ends stem plain =
       front = take start old;
       name = name;
       stem = take len name;
-      ends = record {
-        whole = sym (take-append-drop start old) ∙ ap (λ us. take start old ++ us) (sym rest);
-        last = ap (λ us. last_or None (components_of us)) (sym same) ∙ sym last ∙ ap (λ us. Some (drop start us)) same ∙ ap Some (sym rest);
-      };
+      ends = grind (arith, take-append-drop, rest);
       is_stem = stem;
       after =
           kept (take (start + len) old) (dotted extension) (All-take (λ unit. unit ≢ slash) (start + len) old plain)

@@ -7,16 +7,10 @@ use Rattle.uefi_path.specs.declared.component_kinds.Kind.{Kind}
 use Rattle.uefi_path.specs.declared.component_kinds.Kind.TheVariants.{Dot, DotDot, Name}
 
 pub kind-Dot : (piece : List ℕ) → kind piece ≡ Dot → piece ≡ dot
-kind-Dot [] e = cc
-kind-Dot (c ∷ []) e = grind arith
-kind-Dot (c ∷ d ∷ []) e = grind arith
-kind-Dot (c ∷ d ∷ f ∷ rest) e = cc
+kind-Dot piece h1 = grind arith
 
 pub kind-DotDot : (piece : List ℕ) → kind piece ≡ DotDot → piece ≡ dot_dot
-kind-DotDot [] e = cc
-kind-DotDot (c ∷ []) e = grind arith
-kind-DotDot (c ∷ d ∷ []) e = grind arith
-kind-DotDot (c ∷ d ∷ f ∷ rest) e = cc
+kind-DotDot piece h1 = grind arith
 
 pub kind-Name : (piece : List ℕ) → kind piece ≡ Name → IsName piece
 kind-Name piece e = grind arith
@@ -74,8 +68,7 @@ normal_of-after [] ps qs e = e
 normal_of-after (f ∷ front) ps qs e = ap (before_normal (kind f) f) (normal_of-after front ps qs e)
 
 pub normal_of-step : (ps qs : List (List ℕ)) → Step ps qs → normal_of ps ≡ normal_of qs
-normal_of-step ps qs (inl d) = grind (arith, normal_of-after)
-normal_of-step ps qs (inr d) = grind (arith, normal_of-after, name_kind)
+normal_of-step ps qs h1 = grind (arith, normal_of-after, name_kind)
 
 normal_of-steps : (n : ℕ) (ps qs : List (List ℕ)) → Steps n ps qs → normal_of ps ≡ normal_of qs
 normal_of-steps zero ps qs e = ap normal_of e
@@ -108,9 +101,7 @@ normal_of-normal (p ∷ ps) normal =
 -- steps lead to it
 before_piece_reached : (k : Kind) (p q : List ℕ) (qs : List (List ℕ)) → IsName p → kind q ≡ k
     → Rewrites (p ∷ q ∷ qs) (before_piece k p q qs)
-before_piece_reached Dot p q qs name e = (0, refl)
-before_piece_reached DotDot p q qs name e = grind (arith, one_step, pair_goes, kind-DotDot)
-before_piece_reached Name p q qs name e = (0, refl)
+before_piece_reached k p q qs h1 h2 = grind (arith, one_step, pair_goes, kind-DotDot)
 
 before_normal_reached : (k : Kind) (p : List ℕ) (ps : List (List ℕ)) → kind p ≡ k → Rewrites (p ∷ ps) (before_normal k p ps)
 before_normal_reached Dot p ps e = one_step (p ∷ ps) ps (dot_goes p ps (kind-Dot p e))
@@ -131,8 +122,7 @@ from_nil [] p back e = cc
 from_nil (f ∷ front) p back e = cc
 
 pub nil_normal : IsNormal []
-nil_normal qs (inl d) = from_nil d.front dot d.back d.before
-nil_normal qs (inr d) = from_nil d.front d.name (dot_dot ∷ d.back) d.before
+nil_normal = grind (arith, from_nil)
 
 -- a piece before a normal list: no step leads from both where none begins at the piece
 after_piece_normal : (p : List ℕ) (ps : List (List ℕ)) → IsNormal ps → p ≢ dot

@@ -1,5 +1,5 @@
 -- Separators as bits: what a vector comparison gives, and where the first of them stands.
-use Rattle.std.proofs.Common.{◌≡◌, ℕ, zero, suc, ◌+◌, ◌-◌, ◌*◌, ◌/◌, ◌^◌, ◌<◌, ◌≤◌, Bool, true, false, not, List, [], ◌∷◌, ◌++◌, length, map, take, drop, inl, inr, ap, sym, ◌∙◌, arith, cond, add-zero, div-one, pow-suc, mul_comm, add_comm, subst, lt_of_lt_of_le, pow_mono}
+use Rattle.std.proofs.Common.{◌≡◌, ℕ, zero, suc, ◌+◌, ◌-◌, ◌*◌, ◌/◌, ◌^◌, ◌<◌, ◌≤◌, Bool, false, not, List, [], ◌∷◌, ◌++◌, length, map, take, drop, inl, inr, ap, sym, ◌∙◌, arith, cond, add-zero, div-one, pow-suc, mul_comm, add_comm, subst, lt_of_lt_of_le, pow_mono}
 use Rattle.std.proofs.Math.Nat.{div-div-eq-div-mul, zero-div}
 use Rattle.std.specs.List.{prefix_len, slice_range}
 use Rattle.std.specs.Simd.Lanes.{mask_l}
@@ -26,11 +26,7 @@ none_ahead : (at : ℕ) (us vs : List ℕ) → mask_l (map is_separator us) ≡ 
 none_ahead at [] vs none = ap (λ n. places_from n vs) (sym (add-zero at))
 none_ahead at (u ∷ us) vs none = elim (cases_Bool (is_separator u)) [
   | inl cut ↦ absurd (omega (arith, none, ap (λ b. cond b 1 0 + 2 * mask_l (map is_separator us)) cut))
-  | inr other ↦
-      let long : at + 1 + length us ≡ at + length (u ∷ us) = omega arith in
-      places_from-no at u (us ++ vs) other
-      ∙ none_ahead (at + 1) us vs (omega (arith, none, bit_no u us other))
-      ∙ ap (λ n. places_from n vs) long
+  | inr other ↦ grind (arith, none_ahead (at + 1) us vs (omega (arith, none, bit_no u us other)), places_from-no, bit_no)
 ]
 
 -- where one is set, the lowest is the first separator's
@@ -51,21 +47,12 @@ first_ahead at (u ∷ us) vs some = elim (cases_Bool (is_separator u)) [
       let next = first_ahead (at + 1) us vs (omega (arith, some, bit_no u us other)) in
       let gap = prefix_len (λ u. not (is_separator u)) us in
       let same : at + 1 + gap ≡ at + (1 + gap) = omega arith in
-      let after : suc (gap + 1) ≡ 1 + gap + 1 = omega arith in
-      rw other (record {
-        inside = omega (arith, next.inside);
-        places =
-            places_from-no at u (us ++ vs) other
-            ∙ next.places
-            ∙ ap (λ n. n ∷ places_from (n + 1) (drop (gap + 1) (us ++ vs))) same
-            ∙ ap (λ n. (at + (1 + gap)) ∷ places_from (at + (1 + gap) + 1) (drop n (u ∷ (us ++ vs)))) after;
-      })
+      let after : suc (gap + 1) ≡ 1 + gap + 1 = omega arith in grind (arith, places_from-no, next, gap, same, after)
 ]
 
 -- without the lowest bits, those of the units after the first
 halved : (b : Bool) (n : ℕ) → (cond b 1 0 + 2 * n) / 2 ≡ n
-halved true n = omega arith
-halved false n = omega arith
+halved b n = grind arith
 
 bits-drop : (count : ℕ) (us : List ℕ) → mask_l (map is_separator us) / 2 ^ count ≡ mask_l (map is_separator (drop count us))
 bits-drop zero us = div-one (mask_l (map is_separator us))
@@ -118,10 +105,7 @@ lowest_cut us start end bits ordered within word is some =
     let count : end - start ≡ lowest + 1 + (end - (start + lowest + 1)) = omega (arith, first.inside, size) in
     subst (LowestCut us start end bits) (sym same) (record {
       inside = omega (arith, first.inside, size);
-      places =
-          ap (places_from start) all
-          ∙ first.places
-          ∙ ap (λ vs. (start + lowest) ∷ places_from (start + lowest + 1) vs) (ap (drop (lowest + 1)) (sym all) ∙ rest);
+      places = grind (arith, lowest, first, all, rest);
       seen =
           ap (λ n. n / 2 ^ lowest / 2) is
           ∙ ap (λ n. n / 2) (bits-drop lowest seen)

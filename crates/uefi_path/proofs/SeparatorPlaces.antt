@@ -23,9 +23,7 @@ whole_piece start [] none = refl
 whole_piece start (u ∷ us) none =
     elim (cases_Bool (is_separator u)) [
       | inl cut ↦ absurd (let at = places_from-yes start u us cut in cc)
-      | inr other ↦
-          slice_split-cons_no is_separator u us other
-          ∙ ap (onto_first u) (whole_piece (start + 1) us (none ∙ places_from-no start u us other))
+      | inr other ↦ grind (arith, whole_piece (start + 1) us (none ∙ places_from-no start u us other), slice_split-cons_no, places_from-no)
     ]
 
 -- how the first place cuts units: those before it are the first piece
@@ -41,15 +39,7 @@ first_place : (start : ℕ) (us : List ℕ) (place : ℕ) (places : List ℕ) �
 first_place start [] place places found = absurd (cc)
 first_place start (u ∷ us) place places found =
     elim (cases_Bool (is_separator u)) [
-      | inl cut ↦
-          let all : place ∷ places ≡ start ∷ places_from (start + 1) us = found ∙ places_from-yes start u us cut in
-          let same : place ≡ start = cc in record {
-            before = 0;
-            at = omega (arith, same);
-            inside = omega arith;
-            pieces = slice_split-cons_yes is_separator u us cut;
-            after = let rest : places ≡ places_from (start + 1) us = cc in rw same rest;
-          }
+      | inl cut ↦ grind (arith, places_from-yes, slice_split-cons_yes)
       | inr other ↦
           let next = first_place (start + 1) us place places (found ∙ places_from-no start u us other) in record {
             before = suc next.before;
@@ -77,15 +67,7 @@ placed_cut text start place places within found =
     let before : first.before ≡ place - start = omega (arith, first.at) in
     let end : start + suc first.before ≡ place + 1 = omega (arith, first.at) in
     let rest : drop (suc first.before) (drop start text) ≡ drop (place + 1) text =
-    drop-drop (suc first.before) start text ∙ ap (λ n. drop n text) end in record {
-      from = omega (arith, first.at);
-      inside = omega (arith, first.at, first.inside, long);
-      pieces =
-          first.pieces
-          ∙ ap (λ n. take n (drop start text) ∷ slice_split is_separator (drop (suc first.before) (drop start text))) before
-          ∙ ap (λ us. slice_range text start place ∷ slice_split is_separator us) rest;
-      after = first.after ∙ ap (places_from (place + 1)) rest;
-    }
+    drop-drop (suc first.before) start text ∙ ap (λ n. drop n text) end in grind (arith, first, long, before, rest)
 
 -- there are as many places as separators
 pub length-places_from : (start : ℕ) (us : List ℕ) → length (places_from start us) ≡ count_by is_separator us
@@ -114,11 +96,7 @@ pub canonical_placed : (text : List ℕ) → 0 < length (places_of text) → get
 canonical_placed [] some first = absurd (omega (arith, some))
 canonical_placed (u ∷ us) some first =
     elim (cases_Bool (is_separator u)) [
-      | inl cut ↦ (
-        omega arith,
-        rw cut refl,
-        ap (drop 1) (places_from-yes 0 u us cut),
-      )
+      | inl cut ↦ grind (arith, places_from-yes)
       | inr other ↦
           let none = places_from-no 0 u us other in
           absurd (later (places_from 1 us) refl (omega (arith, some, ap length none)) (sym (ap (λ ps. get_or ps 0 0) none) ∙ first))

@@ -7,7 +7,6 @@ use Rattle.std.proofs.lemmas.List.{map-append, take-append-drop}
 use Rattle.std.proofs.lemmas.List.Elements.{All-append, All-cons, All-nil, All-weaker}
 use Rattle.std.proofs.lemmas.List.Splits.{slice_split_at, slice_split_none}
 use Rattle.std.proofs.Math.Seq.{take-length, take-suc}
-use Rattle.uefi_text.specs.Units.{replaced}
 use Rattle.uefi_path.specs.Components.{IsPiece}
 use Rattle.uefi_path.specs.Separators.{becomes_separator, is_separator, separator, slash, with_separators}
 use Rattle.uefi_path.proofs.LastPieces.{last_piece, to_the_end}
@@ -46,11 +45,7 @@ around : (us : List ℕ) (place : ℕ) → place < length us → becomes_separat
     → with_separators us ≡ with_separators (take place us) ++ separator ∷ with_separators (drop (suc place) us)
 around us place less ends =
     let halves : us ≡ take place us ++ get_or us place 0 ∷ drop (suc place) us =
-    sym (take-append-drop place us) ∙ ap (λ vs. take place us ++ vs) (drop-cons us place 0 less) in
-    ap with_separators halves
-    ∙ map-append (replaced slash separator) (take place us) (get_or us place 0 ∷ drop (suc place) us)
-    ∙ ap (λ u. with_separators (take place us) ++ u ∷ with_separators (drop (suc place) us))
-    (eqb-true (replaced slash separator (get_or us place 0)) separator ends)
+    sym (take-append-drop place us) ∙ ap (λ vs. take place us ++ vs) (drop-cons us place 0 less) in grind (arith, map-append, eqb-true, halves)
 
 pub first_piece : (us : List ℕ) (end : ℕ) → end < length us → Inside (take end us) → becomes_separator (get_or us end 0) ≡ true
     → slice_split is_separator (with_separators us) ≡ take end us ∷ slice_split is_separator (with_separators (drop (suc end) us))
@@ -76,7 +71,8 @@ upto us end = let all : end - 0 ≡ end = omega arith in ap (λ n. take n us) al
 -- the pieces of a text, as they are cut at such places
 pub cut_at_end : (us first : List ℕ) (end : ℕ) → Inside (take end us) → end ≡ length us → first ≡ slice_range us 0 end
     → slice_split is_separator (with_separators us) ≡ first ∷ []
-cut_at_end us first end inside all cut = grind (arith, take-length, upto, one_piece)
+cut_at_end us first end inside all cut =
+    grind (arith, take-length, upto, same, slice_split_none, passes_over, is_piece)
 
 pub cut_inside : (us first rest : List ℕ) (end len : ℕ) → end ≤ length us → end ≢ len → len ≡ length us → Inside (take end us)
     → (end < length us → becomes_separator (get_or us end 0) ≡ true) → first ≡ slice_range us 0 end
@@ -91,7 +87,8 @@ cut_inside us first rest end len within other all inside ends cut after =
 
 pub cut_whole : (us last : List ℕ) (start len : ℕ) → Inside (drop start us) → start ≡ 0 → len ≡ length us
     → last ≡ slice_range us start len → slice_split is_separator (with_separators us) ≡ last ∷ []
-cut_whole us last start len inside none all cut = grind (arith, to_the_end, one_piece)
+cut_whole us last start len inside none all cut =
+    grind (arith, to_the_end, same, slice_split_none, passes_over, is_piece)
 
 pub cut_back_inside : (us front last : List ℕ) (start len : ℕ) → start ≤ length us → start ≢ 0 → len ≡ length us
     → Inside (drop start us) → (0 < start → becomes_separator (get_or us (start - 1) 0) ≡ true) → last ≡ slice_range us start len

@@ -29,9 +29,7 @@ All-IsPiece-slice_split (u ∷ us) =
     let rest = slice_split is_separator us in
     let others = All-IsPiece-slice_split us in
     elim (cases_Bool (is_separator u)) [
-      | inl cut ↦
-          subst (All IsPiece) (sym (slice_split-cons_yes is_separator u us cut))
-          (All-cons IsPiece [] rest (All-nil IsNoSeparator) others)
+      | inl cut ↦ grind (arith, slice_split-cons_yes, All-cons, All-nil, rest, others)
       | inr other ↦
           subst (All IsPiece) (sym (slice_split-cons_no is_separator u us other))
           (All-onto_first IsNoSeparator u rest (eqb-false u separator other) others)
@@ -59,8 +57,7 @@ slice_split-joined p (q ∷ qs) all =
     ∙ ap (λ parts. p ∷ parts) (slice_split-joined q qs (All-tail IsPiece p (q ∷ qs) all))
 
 pub pieces_between-some : (us : List ℕ) → us ≢ [] → pieces_between us ≡ slice_split is_separator us
-pieces_between-some [] some = absurd (some refl)
-pieces_between-some (u ∷ us) some = refl
+pieces_between-some us h1 = grind arith
 
 pub pieces_between-joined : (ps : List (List ℕ)) → All IsPiece ps → ps ≢ [] ∷ [] → pieces_between (joined ps) ≡ ps
 pieces_between-joined [] all ne = refl
@@ -86,8 +83,7 @@ components_of-only text pieces components = grind (arith, pieces_between-joined)
 -- the pieces of a canonical text that is not empty
 pub slice_split-canonical : (text us : List ℕ) → us ≡ canonical text → (us ≡ [] → ⊥)
     → slice_split is_separator us ≡ components_of text
-slice_split-canonical text [] e ne = absurd (ne refl)
-slice_split-canonical text (u ∷ us) e ne = ap pieces_between e
+slice_split-canonical text us h1 h2 = grind arith
 
 -- there is at most one piece more than units
 pub length-slice_split-le : (us : List ℕ) → length (slice_split is_separator us) ≤ length us + 1
@@ -102,8 +98,7 @@ slice_split_some us none = omega (arith, ap length none, some_slice_split us)
 
 hint_of_some : (pieces : List (List ℕ)) → 1 ≤ length pieces
     → hint_of_pieces pieces ≡ (1, Some (length (joined pieces) + 1))
-hint_of_some [] some = absurd (omega (arith, some))
-hint_of_some (piece ∷ pieces) some = refl
+hint_of_some pieces h1 = grind arith
 
 pub hint_of_split : (us : List ℕ) → hint_of_pieces (slice_split is_separator us) ≡ (1, Some (length us + 1))
 hint_of_split us = grind (arith, hint_of_some, some_slice_split, joined-slice_split)

@@ -1,5 +1,5 @@
 -- A path is valid exactly where it is not refused.
-use Rattle.std.proofs.Common.{Err, IsOk, List, None, Ok, Result, [], ap, arith, false, refl, subst, true, ℕ, ◌==◌, ◌↔◌, ◌∷◌, ◌≡◌, ◌≢◌}
+use Rattle.std.proofs.Common.{IsOk, List, None, Result, [], ap, arith, false, refl, subst, true, ℕ, ◌==◌, ◌↔◌, ◌∷◌, ◌≡◌, ◌≢◌}
 use Rattle.std.specs.List.{Contains}
 use Rattle.std.specs.Option.{option_map}
 use Rattle.std.specs.Result.{result_err}
@@ -36,8 +36,7 @@ good_name (u ∷ us) name =
     name.none_denied))
 
 good_non_empty : (c : List ℕ) → IsGood c → c ≢ []
-good_non_empty [] good = absurd (cc)
-good_non_empty (u ∷ us) good = λ e. cc
+good_non_empty c h1 = grind arith
 
 name_good : (c : List ℕ) → IsGood c → IsFileName c
 name_good c good = record {
@@ -47,9 +46,7 @@ name_good c good = record {
 
 pub valid_unrefused : (text : List ℕ) → IsValid text ↔ (verdict text ≡ None)
 valid_unrefused text = (
-  λ valid. valid-from text valid.not_empty
-      (climbs_accepted (components_of text)
-      (All-weaker IsFileName IsGood good_name (components_of text) valid.file_names) valid.none_climbs),
+  grind (arith, valid-from, climbs_accepted, All-weaker, good_name),
   λ unrefused. record {
     not_empty = valid-non_empty text unrefused;
     file_names =
@@ -60,9 +57,8 @@ valid_unrefused text = (
 
 -- what is accepted is what is not refused
 accepted : {T : Type 0} (result : Result T PathError) → IsOk result ↔ (result_err result ≡ None)
-accepted (Ok value) = (λ _. refl, λ _. refl)
-accepted (Err error) = (λ ok. absurd (false≢true ok), λ e. absurd (cc))
+accepted h1 = grind (arith, false≢true)
 
 pub accepted_valid : {T : Type 0} (result : Result T PathError) (text : List ℕ) → result_err result ≡ verdict text
     → IsOk result ↔ IsValid text
-accepted_valid result text e = grind (arith, valid_unrefused, accepted)
+accepted_valid result text e = grind (arith, valid_unrefused, false≢true)

@@ -1,12 +1,12 @@
 -- Texts that name files: each of their components is good, which is that it has no fault.
-use Rattle.std.proofs.Common.{◌≡◌, ◌≢◌, ℕ, List, [], ◌∷◌, All, true, false, None, inl, inr, ap, sym, refl, subst, ◌∙◌, ◌⊎◌, arith}
-use Rattle.std.proofs.lemmas.Bool.{cases_Bool, eqb-true, false≢true, ne_eqb, true≢false}
+use Rattle.std.proofs.Common.{◌≡◌, ◌≢◌, ℕ, List, [], ◌∷◌, All, true, false, None, inl, inr, ap, sym, subst, ◌∙◌, ◌⊎◌, arith}
+use Rattle.std.proofs.lemmas.Bool.{cases_Bool, eqb-true, true≢false}
 use Rattle.std.proofs.lemmas.List.Elements.{All-append, All-cons, All-head, All-nil, All-tail, All-weaker}
 use Rattle.uefi_text.proofs.Finding.{All-found_none, unmapped}
 use Rattle.uefi_path.specs.Components.{IsPiece, components_of, joined}
 use Rattle.uefi_path.specs.Parents.{is_non_empty}
-use Rattle.uefi_path.specs.Pushing.{appended, needs_separator, pushed}
-use Rattle.uefi_path.specs.Separators.{IsPlain, canonical, is_separator, separator, slash}
+use Rattle.uefi_path.specs.Pushing.{needs_separator, pushed}
+use Rattle.uefi_path.specs.Separators.{IsPlain, canonical, separator, slash}
 use Rattle.uefi_path.specs.Verdicts.{IsGood, first_fault, is_denied, verdict}
 use Rattle.uefi_path.proofs.Depth.{Accepted, Accepted-append, good_components}
 use Rattle.uefi_path.proofs.Joining.{canonical-no, canonical-yes, components_of-pushed}
@@ -16,13 +16,11 @@ use Rattle.uefi_path.proofs.Splitting.{AreComponents-components_of}
 
 -- the verdict on a text that is not empty is that on its components
 pub verdict_from : (text : List ℕ) → text ≢ [] → verdict text ≡ first_fault (components_of text) 0
-verdict_from [] non_empty = absurd (non_empty refl)
-verdict_from (u ∷ us) non_empty = refl
+verdict_from text h1 = grind arith
 
 -- a valid text is not empty, and has components that are accepted, which are good
 pub valid-non_empty : (text : List ℕ) → verdict text ≡ None → text ≢ []
-valid-non_empty [] valid e = cc
-valid-non_empty (u ∷ us) valid e = cc
+valid-non_empty text h1 = grind arith
 
 pub valid-accepted : (text : List ℕ) → verdict text ≡ None → Accepted (components_of text) 0
 valid-accepted text valid = sym (verdict_from text (valid-non_empty text valid)) ∙ valid
@@ -36,13 +34,11 @@ valid-from text non_empty accepted = verdict_from text non_empty ∙ accepted
 
 -- a good component is not empty
 pub good-non_empty : (c : List ℕ) → IsGood c → is_non_empty c ≡ true
-good-non_empty [] good = absurd (cc)
-good-non_empty (u ∷ us) good = refl
+good-non_empty c h1 = grind arith
 
 -- and none of its units is denied
 pub good-units : (c : List ℕ) → IsGood c → All (λ u. is_denied u ≡ false) c
-good-units [] good = All-nil (λ u. is_denied u ≡ false)
-good-units (u ∷ us) good = grind (arith, All-found_none, unmapped)
+good-units c h1 = grind (arith, All-nil, All-found_none, unmapped)
 
 not_slash : (u : ℕ) → is_denied u ≡ false → u ≢ slash
 not_slash u allowed e = true≢false (sym (ap is_denied e) ∙ allowed)
@@ -80,14 +76,7 @@ All-joined P (p ∷ q ∷ ps) of_separator all =
     (All-joined P (q ∷ ps) of_separator (All-tail (All P) p (q ∷ ps) all)))
 
 All-from_canonical : (P : ℕ → Type 0) (text : List ℕ) → P separator → All P (canonical text) → All P text
-All-from_canonical P [] of_separator all = all
-All-from_canonical P (u ∷ us) of_separator all =
-    elim (cases_Bool (is_separator u)) [
-      | inl cut ↦
-          All-cons P u us (subst P (sym (eqb-true u separator cut)) of_separator)
-          (subst (All P) (canonical-yes u us cut) all)
-      | inr other ↦ subst (All P) (canonical-no u us other) all
-    ]
+All-from_canonical P text h1 h2 = grind (arith, cases_Bool, All-cons, eqb-true, canonical-yes, canonical-no)
 
 -- a valid text is plain
 pub valid-plain : (text : List ℕ) → verdict text ≡ None → IsPlain text
@@ -98,8 +87,7 @@ valid-plain text valid =
     (subst IsPlain (AreComponents-components_of text).join whole)
 
 open_canonical : (text : List ℕ) → needs_separator (canonical text) ≡ true → needs_separator text ≡ true
-open_canonical [] missing = missing
-open_canonical (u ∷ us) missing = grind arith
+open_canonical text h1 = grind arith
 
 open_pieces : (text : List ℕ) (cs : List (List ℕ)) → joined cs ≡ canonical text → All IsPiece cs → All IsFull cs
     → (canonical text ≡ []) ⊎ (needs_separator text ≡ true)
@@ -111,12 +99,6 @@ pub full-open : (text : List ℕ) → All IsFull (components_of text) → (canon
 full-open text full = grind (arith, AreComponents-components_of, open_pieces)
 
 -- and its canonical text begins with none
-relative_pieces : (text : List ℕ) (cs : List (List ℕ)) → joined cs ≡ text → All IsPiece cs → All IsFull cs → canonical text ≡ text
-relative_pieces text [] e pieces full = ap canonical (sym e) ∙ e
-relative_pieces text ([] ∷ cs) e pieces full = absurd (false≢true (All-head IsFull [] cs full))
-relative_pieces text ((u ∷ us) ∷ []) e pieces full = grind (arith, ne_eqb, All-head, canonical-no)
-relative_pieces text ((u ∷ us) ∷ q ∷ ps) e pieces full = grind (arith, ne_eqb, All-head, canonical-no)
-
 pub full-relative : (text : List ℕ) → All IsFull (components_of text) → canonical (canonical text) ≡ canonical text
 full-relative text full = grind arith
 
@@ -125,12 +107,8 @@ pub valid-open : (text : List ℕ) → verdict text ≡ None
     → (canonical text ≡ []) ⊎ (needs_separator text ≡ true)
 valid-open text valid = full-open text (All-good_non_empty (components_of text) (valid-components text valid))
 
-appended-non_empty : (text : List ℕ) (u : ℕ) (us : List ℕ) → appended text (u ∷ us) ≢ []
-appended-non_empty text u us = grind arith
-
 pushed-not_empty : (text part : List ℕ) → part ≢ [] → pushed text part ≢ []
-pushed-not_empty text [] non_empty = absurd (non_empty refl)
-pushed-not_empty text (u ∷ us) non_empty = grind arith
+pushed-not_empty text part h1 = grind arith
 
 -- a valid path pushed onto another, unless it begins with a separator
 pub valid-pushed : (text part : List ℕ) → verdict text ≡ None → verdict part ≡ None
@@ -138,7 +116,4 @@ pub valid-pushed : (text part : List ℕ) → verdict text ≡ None → verdict 
 valid-pushed text part valid valid_part front =
     let both =
     components_of-pushed text part (valid-plain part valid_part) (valid-open text valid) front
-    in
-    valid-from (pushed text part) (pushed-not_empty text part (valid-non_empty part valid_part))
-    (subst (λ pieces. Accepted pieces 0) (sym both)
-    (Accepted-append (components_of text) (components_of part) (valid-accepted text valid) (valid-accepted part valid_part)))
+    in grind (arith, valid-from, pushed-not_empty, valid-non_empty, Accepted, Accepted-append, valid-accepted, both)

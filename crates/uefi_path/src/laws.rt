@@ -22,6 +22,7 @@ pub fn split_once()
 {}
 
 /// A path is valid exactly where `validate_path` does not refuse it.
+#[tactic(auto, using(crate::proofs::ValidPaths::valid_unrefused))]
 pub fn validity()
     ensures { ValidWhereUnrefused }
 {}
@@ -73,17 +74,20 @@ pub fn join_congruence()
 {}
 
 /// The parent of a plain path begins with no separator, and holds no two of them in a row.
+#[tactic(auto, using(crate::proofs::ParentForm::parent_text_not_doubled, crate::proofs::ParentForm::prefix_parent_text))]
 pub fn parent_shape()
     ensures relative { ParentIsRelative }
     ensures not_doubled { ParentIsNotDoubled }
 {}
 
 /// The parent of a valid path, where there is one, is valid.
+#[tactic(auto, using(crate::proofs::ParentForm::valid_parent_text))]
 pub fn parent_valid()
     ensures { ParentIsValid }
 {}
 
 /// The components of a valid path, joined one by one to the empty path, give its canonical text.
+#[tactic(auto, using(crate::proofs::Rebuilding::pushed_components))]
 pub fn push_components()
     ensures { ComponentsRebuild }
 {}
@@ -137,6 +141,7 @@ pub fn named_once()
 
 /// The beginnings of a path that has components are its canonical text and its shorter prefixes,
 /// which are the successive parents of a valid one ([`parents_enumerate`]).
+#[tactic(auto, using(crate::proofs::Beginnings::beginnings_are_prefixes))]
 pub fn ancestors_enumerate()
     ensures { BeginningsArePrefixes }
 {}

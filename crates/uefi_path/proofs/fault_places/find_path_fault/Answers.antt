@@ -1,26 +1,19 @@
 -- The walk goes on over each component without a fault, and stops at the first other.
-use Rattle.std.proofs.Common.{◌∙◌, ap, arith, length, map, sym}
+use Rattle.std.proofs.Common.{◌∙◌, arith, sym}
 use Rattle.std.proofs.lemmas.Bool.{false≢true}
-use Rattle.std.proofs.lemmas.List.{length-map}
 use Rattle.uefi_path.specs.Views.{path_text}
 use Rattle.uefi_path.specs.declared.validation.PathError.TheVariants.{ClimbsAboveRoot}
 use Rattle.uefi_text.specs.Views.{units_of}
 use Rattle.uefi_path.proofs.Depth.{room_here}
-use Rattle.uefi_path.proofs.FaultPlaces.{IsWalkAt, none_left, refused_by_climb, refused_by_name, start, step, stop}
+use Rattle.uefi_path.proofs.FaultPlaces.{none_left, refused_by_climb, refused_by_name, step, stop}
 use Rattle.uefi_path.proofs.fault_places.find_path_fault.Goals as goal
 use Rattle.std.proofs.lemmas.Grind.{common_steps}
-
-pub loop-place-init : goal.loop-place-init
-loop-place-init c = grind (arith, IsWalkAt, start, length-map)
 
 pub returns-in-Some-find_fault : goal.returns-in-Some-find_fault
 returns-in-Some-find_fault c =
     stop _ _ _ c.loop-place.invariant.walk _ _ _ c.in-Some.ensures.steps c.in-Some-find_fault.error
     (refused_by_name (units_of c.in-Some.component) c.loop-place.depth c.in-Some-find_fault.error (sym c.find_fault.ensures ∙ c.in-Some-find_fault.is))
     (λ none. false≢true (c.if-is_empty.ensures.1 none))
-
-pub depth_after-requires : goal.depth_after-requires
-depth_after-requires c = omega (arith, c.loop-place.invariant.bound, ap (λ items. length (map (λ item. item.1) items)) c.in-Some.ensures.steps)
 
 pub returns-in_default-depth_after : goal.returns-in_default-depth_after
 returns-in_default-depth_after c =

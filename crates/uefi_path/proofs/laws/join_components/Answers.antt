@@ -1,16 +1,12 @@
-use Rattle.std.proofs.Common.{List, [], arith, refl, ℕ, ◌∷◌, ◌≢◌}
+use Rattle.std.proofs.Common.{arith}
 use Rattle.std.proofs.lemmas.List.Elements.{All-weaker}
 use Rattle.uefi_path.proofs.Joining.{components_of-pushed}
 use Rattle.uefi_path.proofs.Parents.{IsFull}
-use Rattle.uefi_path.proofs.Validity.{full-open, full-relative}
+use Rattle.uefi_path.proofs.Validity.{full-open}
 use Rattle.uefi_path.proofs.laws.join_components.Goals as goal
-
-full : (component : List ℕ) → component ≢ [] → IsFull component
-full [] some = absurd (some refl)
-full (u ∷ us) some = refl
 
 pub returns-clause-joined : goal.returns-clause-joined
 returns-clause-joined c text part takes plain relative = components_of-pushed text part plain takes relative
 
 pub returns-clause-full : goal.returns-clause-full
-returns-clause-full c text some = grind (arith, All-weaker, IsFull, full, full-open, full-relative)
+returns-clause-full c text some = grind (arith, All-weaker, IsFull, full-open)

@@ -2,12 +2,12 @@ use Rattle.std.proofs.Common.{◌≡◌, ℕ, List, true, sym, ◌∙◌, refl, 
 use Rattle.std.proofs.lemmas.Bool.{false≢true}
 use Rattle.std.proofs.lemmas.Bool.Decides.{nat_tests}
 use Rattle.std.proofs.lemmas.Cmp.{same_from_slice_cmp}
-use Rattle.std.specs.Cmp.{nat_cmp_total, nat_eq_equiv, on_equiv, on_total}
-use Rattle.std.specs.Cmp.Lexicographic.{bytes_decides, lists_equiv, lists_total, pointwise, slice_cmp}
+use Rattle.std.specs.Cmp.{nat_cmp_total, on_total}
+use Rattle.std.specs.Cmp.Lexicographic.{bytes_decides, lists_total, pointwise, slice_cmp}
 use Rattle.std.specs.Ordering.{is_eq, nat_cmp}
 use Rattle.std.specs.Prelude.{nat_eq}
 use Rattle.std.specs.declared.cmp.Ordering.{Ordering}
-use Rattle.std.specs.declared.cmp.Ordering.TheVariants.{Less, Equal, Greater}
+use Rattle.std.specs.declared.cmp.Ordering.TheVariants.{Equal}
 use Rattle.uefi_path.specs.Separators.{canonical}
 use Rattle.uefi_path.proofs.laws.order_agrees.Goals as goal
 
@@ -19,9 +19,7 @@ ties =
     (λ x y xs ys order h. grind (arith, nat_tests))
 
 is_Equal : (order : Ordering) → is_eq order ≡ true → order ≡ Equal
-is_Equal Less e = absurd (false≢true e)
-is_Equal Equal e = refl
-is_Equal Greater e = absurd (false≢true e)
+is_Equal order h1 = grind (arith, false≢true)
 
 pub returns-clause-total : goal.returns-clause-total
 returns-clause-total c = on_total canonical (lists_total nat_cmp_total)
@@ -33,9 +31,3 @@ returns-clause-ties c text other =
       λ same. is_Equal (slice_cmp nat_cmp (canonical text) (canonical other))
           (ties (canonical text) (canonical other) _ refl ∙ same_texts.1 same),
     )
-
-pub returns-clause-equivalence : goal.returns-clause-equivalence
-returns-clause-equivalence c = on_equiv canonical (lists_equiv nat_eq_equiv)
-
-pub returns-clause-equal : goal.returns-clause-equal
-returns-clause-equal c text other = bytes_decides (canonical text) (canonical other)

@@ -1,34 +1,20 @@
 -- What is left after one leading separator or slash is the canonical text.
-use Rattle.std.proofs.Common.{◌≡◌, ◌≢◌, ◌<◌, ◌≤◌, ℕ, List, [], ap, arith, drop, length, subst, sym, ◌∙◌}
-use Rattle.std.proofs.lemmas.List.{drop_all, length-drop, length-map}
+use Rattle.std.proofs.Common.{◌≡◌, ℕ, List, ap, arith, drop, length, subst, sym, ◌∙◌}
+use Rattle.std.proofs.lemmas.List.{length-drop, length-map}
 use Rattle.std.specs.List.{slice_range}
-use Rattle.uefi_text.specs.Units.{IsText, IsTextUnit, replaced}
+use Rattle.uefi_text.specs.Units.{IsText, IsTextUnit}
 use Rattle.uefi_text.specs.Views.{units_of}
-use Rattle.uefi_path.specs.Components.{components_of}
-use Rattle.uefi_path.specs.Separators.{canonical, separator, slash, with_separators}
+use Rattle.uefi_path.specs.Separators.{canonical, with_separators}
 use Rattle.uefi_path.specs.Views.{path_text}
 use Rattle.uefi_path.proofs.LastPieces.{to_the_end}
 use Rattle.uefi_path.proofs.Parents.{All-canonical, All-slice_split}
-use Rattle.uefi_path.proofs.Splitting.{length-slice_split-le, slice_split-canonical}
+use Rattle.uefi_path.proofs.Splitting.{length-slice_split-le}
 use Rattle.uefi_path.proofs.TailUnits.{IsText-with_separators}
 use Rattle.uefi_path.proofs.slashed.to_cut.Goals as goal
-
-no_pieces : (us vs : List ℕ) (start : ℕ) → with_separators (drop start us) ≡ canonical vs → length us ≤ start → components_of vs ≡ []
-no_pieces us vs start same past = grind (arith, drop_all)
 
 left : (us vs part : List ℕ) (start len : ℕ) → with_separators (drop start us) ≡ canonical vs → len ≡ length us
     → part ≡ slice_range us start len → with_separators part ≡ canonical vs
 left us vs part start len same all cut = ap with_separators (cut ∙ to_the_end us start len all) ∙ same
-
-some_left : (us vs : List ℕ) (start : ℕ) → with_separators (drop start us) ≡ canonical vs → start < length us → canonical vs ≢ []
-some_left us vs start same less none =
-    omega (arith, ap length (same ∙ none), length-map (drop start us) (replaced slash separator), length-drop start us, less)
-
-pub returns-then-len-start-clause-same : goal.returns-then-len-start-clause-same
-returns-then-len-start-clause-same c = grind (arith, no_pieces)
-
-pub returns-clause-same : goal.returns-clause-same
-returns-clause-same c = grind (arith, left, slice_split-canonical, some_left)
 
 pub returns-clause-texts : goal.returns-clause-texts
 returns-clause-texts c =

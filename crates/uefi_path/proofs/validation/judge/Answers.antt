@@ -1,13 +1,10 @@
 -- The verdict is the fault of the component that was looked at last.
-use Rattle.std.proofs.Common.{◌^◌, arith, sym, ◌∙◌}
+use Rattle.std.proofs.Common.{◌^◌, sym, ◌∙◌}
 use Rattle.uefi_path.specs.Components.{components_of}
 use Rattle.uefi_path.specs.Views.{components_left, path_text}
 use Rattle.uefi_text.specs.Views.{units_of}
-use Rattle.uefi_path.proofs.Depth.{names_here, none_here, past_here, room_here}
+use Rattle.uefi_path.proofs.Depth.{names_here, past_here, room_here}
 use Rattle.uefi_path.proofs.validation.judge.Goals as goal
-
-pub loop-component-init : goal.loop-component-init
-loop-component-init c = grind arith
 
 pub loop-component-preserved : goal.loop-component-preserved
 loop-component-preserved c =
@@ -26,15 +23,3 @@ loop-component-preserved c =
           room_here _ left so_far.depth so_far.invariant.fault here others c.in-Some-depth_after.left (2 ^ 64) steps after
           so_far.invariant.bound;
     }
-
-pub returns-in-Some-find_fault-clause-refusal : goal.returns-in-Some-find_fault-clause-refusal
-returns-in-Some-find_fault-clause-refusal c = grind arith
-
-pub returns-in-None-depth_after-clause-refusal : goal.returns-in-None-depth_after-clause-refusal
-returns-in-None-depth_after-clause-refusal c = grind arith
-
-pub returns-clause-refusal : goal.returns-clause-refusal
-returns-clause-refusal c = sym (none_here _ _ c.loop-component.depth c.loop-component.invariant.fault c.in-None.ensures.steps.0)
-
-pub returns-clause-names : goal.returns-clause-names
-returns-clause-names c are_names = grind arith

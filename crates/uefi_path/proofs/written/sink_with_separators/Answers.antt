@@ -7,12 +7,6 @@ use Rattle.uefi_text.specs.UnitTexts.{AreSunk}
 use Rattle.uefi_path.specs.Separators.{separator, slash, with_separators}
 use Rattle.uefi_path.proofs.written.sink_with_separators.Goals as goal
 
-pub returns-clause-sunk : goal.returns-clause-sunk
-returns-clause-sunk c =
-    let from : c.from.result ≡ slash = grind (arith, common_steps) in
-    let to : c.from-2.result ≡ separator = grind (arith, common_steps) in
-    λ path old sunk. rw (sym from, sym to) (c.sink_replaced.ensures path old sunk)
-
 pub returns-clause-all : goal.returns-clause-all
 returns-clause-all c = λ first room.
     let from : c.from.result ≡ slash = grind (arith, common_steps) in

@@ -1,6 +1,5 @@
 -- A name and the separator after it are counted, and have room before the names that stand there.
-use Rattle.std.proofs.Common.{◌≡◌, ◌<◌, ◌∷◌, ◌++◌, ◌+◌, ◌-◌, ℕ, List, [], cond, nat_lt, drop, length, arith, ap, ◌∙◌}
-use Rattle.std.proofs.lemmas.List.{length-append}
+use Rattle.std.proofs.Common.{◌≡◌, ◌++◌, ◌+◌, ◌-◌, cond, nat_lt, drop, length, arith, ap, ◌∙◌}
 use Rattle.std.proofs.lemmas.Bool.Decides.{nat_tests}
 use Rattle.std.proofs.lemmas.Grind.{common_steps}
 use Rattle.uefi_path.specs.Separators.{with_separators}
@@ -61,13 +60,3 @@ loop-name-preserved c =
       omega (arith, next_counted name last c.loop-name.len c.from.result len one, c.len.ensures),
       λ fits. absurd (omega (arith, fits, c.if-all-places.false)),
     )
-
--- one name less is left
-fewer : (names left : List (List ℕ)) (name : List ℕ) → names ≡ left ++ name ∷ [] → length left < length names
-fewer names left name is = omega (arith, ap length is, length-append left (name ∷ []))
-
-pub loop-name-smaller-then-all-places : goal.loop-name-smaller-then-all-places
-loop-name-smaller-then-all-places c = fewer _ _ _ c.in-Some.ensures.next
-
-pub loop-name-smaller : goal.loop-name-smaller
-loop-name-smaller c = fewer _ _ _ c.in-Some.ensures.next

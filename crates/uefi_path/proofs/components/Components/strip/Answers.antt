@@ -29,11 +29,7 @@ loop-component-preserved c =
     ∙ ap (λ piece. piece ∷ components_left c.next-in-loop-component.new.self)
     ((bytes_decides own component).0 tested) in
     record {
-      same = λ more. (
-        λ e. let whole = sym ours ∙ (so_far.invariant.same more).0 e ∙ ap (λ ps. ps ++ more) theirs in cc,
-        λ e. (so_far.invariant.same more).1
-            (ours ∙ ap (λ ps. component ∷ ps) e ∙ sym (ap (λ ps. ps ++ more) theirs)),
-      );
+      same = grind (arith, so_far, component, theirs, ours);
       texts = All-tail IsText _ _ (subst (All IsText) ours so_far.invariant.texts);
       bound = omega (arith, ap length ours);
     }

@@ -1,9 +1,8 @@
 -- A name that stays is left out of those that are left.
-use Rattle.std.proofs.Common.{◌≡◌, ◌++◌, ◌∷◌, [], All, length, arith, sym, subst, ◌∙◌, ap}
+use Rattle.std.proofs.Common.{◌≡◌, ◌++◌, ◌∷◌, [], All, length, arith, subst}
 use Rattle.std.proofs.Math.Seq.{take-append_seam}
 use Rattle.std.proofs.lemmas.List.Elements.{All-take}
-use Rattle.uefi_path.specs.CutPieces.{are_left, slashed_left}
-use Rattle.uefi_path.specs.NamesLeft.{names_before, names_left}
+use Rattle.uefi_path.specs.NamesLeft.{names_left}
 use Rattle.uefi_path.specs.NormalForms.{IsName}
 use Rattle.uefi_text.specs.Views.{units_of}
 use Rattle.uefi_path.proofs.names.NamesFromLast.next.Goals as goal
@@ -14,22 +13,10 @@ returns-then-keeps-clause-walk c =
     let new = c.keeps.new.self in
     let last = units_of c.cut_last.result.1 in
     let walk = c.loop-self.invariant.0 in
-    let same : names_left old ≡ names_left new ++ last ∷ [] =
-    ap (λ rest. names_before (slashed_left rest) old.climbs) c.in-Some.is
-    ∙ ap (λ pieces. names_before pieces old.climbs) c.cut_last.ensures.pieces
-    ∙ c.if-keeps.ensures.kept (slashed_left c.cut_last.result.0)
-    ∙ ap (λ rest. names_before (slashed_left rest) new.climbs ++ last ∷ []) (sym c.keeps.ensures.rest) in
+    let same : names_left old ≡ names_left new ++ last ∷ [] = grind (arith, old, new, last) in
     record {
       are_names =
           subst (All IsName) (take-append_seam (names_left new) (last ∷ []))
           (All-take IsName (length (names_left new)) _ (subst (All IsName) same walk.are_names));
-      bound =
-          omega (
-            arith,
-            walk.bound,
-            c.cut_last.ensures.shorter,
-            c.keeps.ensures.climbs,
-            ap are_left c.in-Some.is,
-            ap are_left c.keeps.ensures.rest,
-          );
+      bound = grind (arith, walk);
     }

@@ -1,16 +1,13 @@
 -- The parent of the components is that of the text, or what stands before the last separator.
 use Rattle.std.proofs.Common.{IfOk, ap, arith, subst, sym, ◌∙◌, ◌≡◌}
-use Rattle.std.proofs.lemmas.List.Elements.{All-take}
 use Rattle.uefi_path.specs.Parents.{parent_of_components}
 use Rattle.uefi_path.specs.SuccessiveParents.{parent_chain}
 use Rattle.uefi_path.specs.Views.{path_text}
 use Rattle.uefi_path.proofs.CutParents.{cut_parent, cut_some}
 use Rattle.uefi_path.proofs.ParentChains.{parents_of-chain}
 use Rattle.uefi_path.proofs.ParentCounts.{shorter_parent, successive_parents}
-use Rattle.uefi_path.proofs.ParentSizes.{parent_text-shorter}
 use Rattle.uefi_path.proofs.Parents.{IsFull}
 use Rattle.uefi_path.proofs.path.Path.parent.Goals as goal
-use Rattle.std.proofs.lemmas.Grind.{common_steps}
 
 pub returns-then-has_empty-clause-shorter : goal.returns-then-has_empty-clause-shorter
 returns-then-has_empty-clause-shorter g c =
@@ -26,11 +23,5 @@ returns-in_err-copy_part-clause-none g c none = grind (arith, cut_some)
 pub returns-clause-ok : goal.returns-clause-ok
 returns-clause-ok g c = grind (arith, IsFull, cut_parent)
 
-pub returns-clause-shorter : goal.returns-clause-shorter
-returns-clause-shorter g c = parent_text-shorter (path_text c.args.self.now) _ (sym (returns-clause-ok g c))
-
 pub returns-clause-successive : goal.returns-clause-successive
 returns-clause-successive g c = parents_of-chain (path_text c.args.self.now) ∙ ap parent_chain (sym (returns-clause-ok g c))
-
-pub copy_part-requires : goal.copy_part-requires
-copy_part-requires g c = grind (arith, common_steps, All-take)

@@ -22,12 +22,7 @@ loop-i-preserved g c =
     ∙ ap with_separators (ranges_joined us i end (omega (arith, further)) before.within) in
     record {
       within = subst (λ vs. end ≤ length vs) before.text next.within;
-      made =
-          next.ok
-          ∙ ap (λ vs. c.loop-i.self ++ with_separators (slice_range vs i end)) before.text
-          ∙ ap (λ vs. vs ++ with_separators (slice_range us i end)) before.made
-          ∙ append_assoc base (with_separators (take i us)) (with_separators (slice_range us i end))
-          ∙ ap (λ vs. base ++ vs) joined;
+      made = grind (arith, append_assoc, us, i, end, next, before, base, joined);
       text = next.text ∙ before.text;
       count = omega (arith, next.once, before.count);
     }

@@ -3,18 +3,6 @@ use Rattle.std.proofs.Common.{arith}
 use Rattle.uefi_path.proofs.SeparatorBits.{lowest_cut}
 use Rattle.uefi_path.proofs.separators.Separators.take_lowest.Goals as goal
 
-pub overflow_add-place : goal.overflow_add-place
-overflow_add-place c =
-    let left = c.args.self in
-    let cut = lowest_cut left.units.now left.start left.end left.bits left.ordered left.within left.word left.seen c.requires.some in
-    omega (arith, cut.inside, left.within, c.ranges.self)
-
-pub overflow_add-after : goal.overflow_add-after
-overflow_add-after c =
-    let left = c.args.self in
-    let cut = lowest_cut left.units.now left.start left.end left.bits left.ordered left.within left.word left.seen c.requires.some in
-    omega (arith, cut.inside, left.within, c.ranges.self)
-
 pub invariant_of-after : goal.invariant_of-after
 invariant_of-after c =
     let left = c.args.self in
