@@ -1,6 +1,6 @@
 //! Names of load options and orders of them in units that C holds (UEFI Specification 2.10, section
 //! 3.3).
-ghost use Rattle.std.specs.Prelude.{◌≡◌, ◌≢◌, ◌↔◌, ◌%◌, ◌<◌, ◌≤◌, ◌^◌, false, length, slice_get, take, IsTrue, Some};
+ghost use Rattle.std.specs.Prelude.{◌≡◌, ◌≢◌, ◌↔◌, ◌%◌, ◌<◌, ◌≤◌, ◌^◌, false, length, slice_get, take, Some};
 ghost use Rattle.uefi_boot_variables.specs.declared.variable_names.LoadOptionKind.{LoadOptionKind};
 ghost use Rattle.uefi_boot_variables.specs.declared.variable_names.LoadOptionName.{LoadOptionName};
 ghost use Rattle.uefi_boot_variables.specs.Names.{name_text};

@@ -6,7 +6,7 @@ ghost use Rattle.std.specs.Result.{result_err};
 ghost use Rattle.uefi_text.specs.FromSliceUntilNul.{until_nul_refusal};
 ghost use Rattle.uefi_text.specs.UnalignedCStr16.{with_prefix};
 ghost use Rattle.uefi_text.specs.Units.{BeginsWithString};
-ghost use Rattle.uefi_device_nodes.specs.Nodes.{Node, end_entire, node_bytes, node_with};
+ghost use Rattle.uefi_device_nodes.specs.Nodes.{Node, node_with};
 ghost use Rattle.uefi_device_path.specs.Building.{append_refusal, push_refusal, text_refusal, grow_refusal};
 ghost use Rattle.uefi_device_path.specs.Faults.{RefusedFor};
 ghost use Rattle.uefi_device_path.specs.LenientReading.{IsReadAs, IsReadable, ReadingStopsAt, lenient_refusal};

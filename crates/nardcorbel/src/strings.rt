@@ -1,12 +1,11 @@
 //! Strings in units that C holds: which units are one, and how two compare.
-ghost use Rattle.std.specs.Prelude.{◌≡◌, ◌↔◌, ◌+◌, ◌<◌, length, IfErr, IfOk, IsOk, IsTrue, Some};
+ghost use Rattle.std.specs.Prelude.{◌≡◌, ◌↔◌, IsTrue, Some};
 ghost use Rattle.std.specs.Cmp.Lexicographic.{slice_cmp};
 ghost use Rattle.std.specs.Ordering.{nat_cmp};
 ghost use Rattle.std.specs.Str.{IsAscii};
 ghost use Rattle.uefi_text.specs.Units.{BeginsWithString, IsString};
 ghost use Rattle.uefi_text.specs.FromSliceUntilNul.{until_nul_refusal};
 ghost use Rattle.uefi_text.specs.FromSliceWithNul.{with_nul_refusal};
-ghost use Rattle.uefi_text.specs.Views.{text_of};
 ghost use Rattle.nardcorbel.specs.Reasons.{order_number, until_nul_reason, with_nul_reason};
 ghost use Rattle.nardcorbel.specs.Strings.{text_in, until_nul_place, until_nul_place_at, with_nul_place, with_nul_place_at};
 

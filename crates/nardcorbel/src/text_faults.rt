@@ -6,7 +6,7 @@ ghost use Rattle.uefi_text.specs.UnalignedCStr16.{with_prefix};
 ghost use Rattle.uefi_text.specs.Units.{nul_terminated};
 ghost use Rattle.uefi_device_path.specs.declared.lenient_errors.TextFault.{TextFault};
 ghost use Rattle.nardcorbel.specs.Buffers.{length_shown, room_reason};
-ghost use Rattle.nardcorbel.specs.TextFaults.{IsFaultOf, fault_in, fault_units};
+ghost use Rattle.nardcorbel.specs.TextFaults.{IsFaultOf, fault_in, fault_units, fault_text};
 
 use crate::reasons::{NOT_UTF8, SCRATCH_TOO_SMALL, report};
 use uefi_device_path::{PushLenientTextError, TextFault, laws, push_lenient_text_in_buf};
@@ -20,8 +20,6 @@ struct FaultText {
 }
 
 impl Printed for FaultText {
-    ghost use Rattle.nardcorbel.specs.TextFaults.{fault_text};
-
     ghost printed = { λ said. fault_text said.fault };
 
     fn put<S: TextSink>(&self, sink: &mut S) {

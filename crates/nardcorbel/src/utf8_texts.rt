@@ -1,17 +1,14 @@
 //! Texts in UTF-8, as C programs hold them, and strings.
-ghost use Rattle.std.specs.Prelude.{◌≡◌, ◌≢◌, ◌↔◌, ◌+◌, ◌-◌, ◌<◌, ◌≤◌, ◌^◌, ◌++◌, drop, encode_utf8, length, min, take, IsTrue, List, None, Some, ℕ};
+ghost use Rattle.std.specs.Prelude.{◌≡◌, ◌↔◌, ◌+◌, ◌<◌, ◌++◌, drop, length, IsTrue, None};
 ghost use Rattle.std.specs.List.{find, position_or_len};
 ghost use Rattle.std.specs.Str.{IsUtf8, chars, encode_utf8_all};
 ghost use Rattle.std.specs.Str.Lossy.{utf8_valid_len};
 ghost use Rattle.uefi_text.specs.EqStrUntilNul.{IsEqualUntilNul};
 ghost use Rattle.uefi_text.specs.FromSliceUntilNul.{until_nul_refusal};
 ghost use Rattle.uefi_text.specs.FromStr.{is_deciding_char};
-ghost use Rattle.uefi_text.specs.FromStrWithBuf.{from_str_with_buf_refusal, with_text};
 ghost use Rattle.uefi_text.specs.Latin1.{IsLatin1};
 ghost use Rattle.uefi_text.specs.UnalignedCStr16.{with_prefix};
 ghost use Rattle.uefi_text.specs.Units.{BeginsWithString, IsText, nul_terminated};
-ghost use Rattle.uefi_text.specs.Views.{text_of};
-ghost use Rattle.uefi_text.specs.UnitTexts.{written_len};
 ghost use Rattle.nardcorbel.specs.Buffers.{length_shown, room_reason};
 ghost use Rattle.nardcorbel.specs.Reasons.{character_reason, until_nul_reason};
 ghost use Rattle.nardcorbel.specs.Strings.{text_in, until_nul_place};
@@ -20,7 +17,8 @@ use crate::reasons::{
     BUFFER_TOO_SMALL, INTERIOR_NUL, INVALID_CHAR, NOT_UTF8, OK, report, until_nul_reason,
 };
 use crate::strings::until_nul_place;
-use uefi_text::{BufferTooSmall, CStr16, EqStrUntilNul, is_latin1};
+use uefi_text::decode::write_lossy;
+use uefi_text::{CStr16, EqStrUntilNul, is_latin1};
 
 /// Why a text is no string, or `OK`; and how many characters are before the one that it cannot
 /// have, which are all of them where it has none.
@@ -124,70 +122,13 @@ pub extern "C" fn nard_utf8_is_latin1(bytes: &[u8]) -> bool
     }
 }
 
-/// How many bytes the text of a string has in UTF-8, and the greatest `usize` where it has more.
-fn utf8_len(string: CStr16<'_>) -> usize
-    ensures { result ≡ min (length (encode_utf8_all (text_of string.entry))) (2 ^ 64 - 1) }
-{
-    let mut len = 0usize;
-    for character in string.iter() {
-        len = len.saturating_add(char::from(character).len_utf8());
-    }
-    len
-}
-
-/// Writes a character in UTF-8 from a place on, and returns the place after it.
-pub(crate) fn write_char(character: char, bytes: &mut [u8], place: usize) -> usize
-    requires { place + length (encode_utf8 character) ≤ length bytes.now }
-    ensures end { result ≡ place + length (encode_utf8 character) }
-    ensures bytes { bytes.new ≡ take place bytes.old ++ encode_utf8 character
-        ++ drop (place + length (encode_utf8 character)) bytes.old }
-{
-    let mut four = [0; 4];
-    let encoded = character.encode_utf8(&mut four).as_bytes();
-    // Each length by itself: a copy of a length that is known needs no `memcpy`.
-    match encoded {
-        [a] => bytes[place..place + 1].copy_from_slice(&[*a]),
-        [a, b] => bytes[place..place + 2].copy_from_slice(&[*a, *b]),
-        [a, b, c] => bytes[place..place + 3].copy_from_slice(&[*a, *b, *c]),
-        [a, b, c, d] => bytes[place..place + 4].copy_from_slice(&[*a, *b, *c, *d]),
-        _ => {}
-    }
-    place + encoded.len()
-}
-
-/// Writes the text of a string in UTF-8 into bytes that have just the room.
-fn write_utf8(string: CStr16<'_>, bytes: &mut [u8])
-    requires { length bytes.now ≡ length (encode_utf8_all (text_of string)) }
-    ensures { bytes.new ≡ encode_utf8_all (text_of string.entry) }
-{
-    let mut place = 0;
-    for character in string.iter() {
-        place = write_char(char::from(character), bytes, place);
-    }
-}
-
-/// Writes the text of a string in UTF-8 and a NUL into the first places of `bytes`, where they have room.
-fn write_with_nul(string: CStr16<'_>, bytes: &mut [u8]) -> Result<usize, BufferTooSmall>
-    ensures len { result ≡ written_len (encode_utf8_all (text_of string.entry)) bytes.old }
-    ensures bytes { bytes.new
-        ≡ with_prefix (nul_terminated (encode_utf8_all (text_of string.entry))) bytes.old }
-{
-    let len = utf8_len(string);
-    if bytes.len() <= len {
-        return Err(BufferTooSmall(len.saturating_add(1)));
-    }
-    write_utf8(string, &mut bytes[..len]);
-    bytes[len] = 0;
-    Ok(len)
-}
-
 /// Writes the text of the string that units begin with, in UTF-8 and with a NUL, into the first
 /// places of `bytes`.
 ///
 /// Units that begin with no string are refused as by `nard_string_until_nul`, with its `place`.
 /// Else `place` becomes how many bytes the text has, or at most `usize::MAX - 1`, and bytes with no more
 /// places than these are `BUFFER_TOO_SMALL`. Refused, the bytes stay unchanged; what stands after the NUL
-/// stays. Two passes over the text; takes no memory.
+/// stays. A few passes over the text; takes no memory.
 #[unsafe(no_mangle)]
 pub extern "C" fn nard_utf8_from_string(units: &[u16], bytes: &mut [u8], place: &mut usize) -> u32
     ensures no_string { ¬ BeginsWithString units.now
@@ -202,7 +143,7 @@ pub extern "C" fn nard_utf8_from_string(units: &[u16], bytes: &mut [u8], place: 
         → place.new ≡ length_shown (encode_utf8_all (text_in units.now)) }
 {
     match CStr16::from_u16_until_nul(units) {
-        Ok(string) => report(write_with_nul(string, bytes), place),
+        Ok(string) => report(write_lossy(string.as_slice().units(), bytes), place),
         Err(error) => {
             *place = until_nul_place(error, units);
             until_nul_reason(error)

@@ -1,11 +1,11 @@
 -- What a constructor takes is a string exactly where the first element that no text holds is a NUL in
 -- the last place.
-use Rattle.std.proofs.Common.{◌≡◌, ◌≢◌, ℕ, ◌+◌, ◌-◌, ◌<◌, ◌^◌, ◌∙◌, ap, subst, sym, Bool, true, false, All, List, [], ◌∷◌, ◌++◌, length, get_or, take, Some, None, Option, arith, refl}
+use Rattle.std.proofs.Common.{suc, ◌≡◌, ◌≢◌, ℕ, ◌+◌, ◌-◌, ◌<◌, ◌^◌, ◌∙◌, ap, subst, sym, Bool, true, false, All, List, [], ◌∷◌, ◌++◌, length, get_or, take, Some, None, Option, arith, refl}
 use Rattle.std.specs.List.{before_first, position, position_or_len}
 use Rattle.std.specs.Option.{unwrap_or}
 use Rattle.std.proofs.lemmas.List.Sums.{position_or_len_is}
 use Rattle.std.proofs.lemmas.List.Quantifiers.{position-Some}
-use Rattle.std.proofs.lemmas.List.Elements.{All-from_get_or, All-weaker}
+use Rattle.std.proofs.lemmas.List.Elements.{All-cons, All-from_get_or, All-nil, All-weaker}
 use Rattle.std.proofs.lemmas.List.{get_or-take, get_or_append_left, length-take-le, length-append, take_more}
 use Rattle.std.proofs.Math.Seq.{get_or-append_seam}
 use Rattle.std.proofs.lemmas.Grind.{common_steps}
@@ -87,6 +87,13 @@ first_nul_refusal-IsLatin1String bytes string =
     rw found.0 (grind (arith, common_steps))
 
 -- what stands before a deciding place is a text
+pub IsText-none : (units : List ℕ) → ((k : ℕ) → get_or units k 0 < 2 ^ 16) → deciding_place units ≡ None → IsText units
+IsText-none [] small none = All-nil IsTextUnit
+IsText-none (u ∷ us) small none =
+    let other : is_deciding u ≡ false = grind (arith, common_steps) in
+    let rest : deciding_place us ≡ None = grind (arith, common_steps) in
+    All-cons IsTextUnit u us (IsTextUnit-undecided u (small 0) other) (IsText-none us (λ k. small (suc k)) rest)
+
 pub IsText-before : (units : List ℕ) (i : ℕ) → ((k : ℕ) → get_or units k 0 < 2 ^ 16) → deciding_place units ≡ Some i → IsText (take i units)
 IsText-before units i small place =
     let found = position-Some is_deciding units i 0 place in

@@ -1,9 +1,15 @@
 -- The first character of units in UTF-16.
-use Rattle.std.proofs.Common.{◌≡◌, ℕ, ◌≤◌, ◌<◌, ◌+◌, ◌&&◌, false, true, List, [], ◌∷◌, length, drop, slice_index, ap, refl, sym, ◌∙◌, arith, add-one, add-zero}
-use Rattle.std.proofs.lemmas.List.{get_or-drop}
+use Rattle.std.proofs.Common.{All, ◌≡◌, ℕ, ◌≤◌, ◌<◌, ◌+◌, ◌&&◌, false, true, List, [], ◌∷◌, length, drop, slice_index, ap, refl, sym, ◌∙◌, arith, add-one, add-zero}
+use Rattle.std.proofs.lemmas.Bool.Decides.{nat_tests}
+use Rattle.std.proofs.lemmas.Grind.{common_steps}
+use Rattle.std.proofs.lemmas.List.{drop_all, get_or-drop}
+use Rattle.std.proofs.lemmas.List.Elements.{All-from_get_or, All-head, All-tail, All-weaker}
+use Rattle.std.proofs.lemmas.Str.{encodes-IsAscii, utf16_chars-nil}
 use Rattle.std.proofs.Math.Seq.{drop-cons}
 use Rattle.std.specs.Char.Utf16.{is_high_surrogate, is_low_surrogate, lone_unit_char, surrogate_pair_char, utf16_chars, utf16_lossy_chars}
 use Rattle.std.specs.Option.{unwrap_or}
+use Rattle.std.specs.Str.{IsAscii, encode_utf8_all}
+use Rattle.uefi_text.specs.Units.{IsChar16, IsText, IsTextUnit}
 
 -- the unit at a place, and those after it
 cut : (us : List ℕ) (i : ℕ) → i < length us → drop i us ≡ slice_index us i ∷ drop (i + 1) us
@@ -39,3 +45,26 @@ pair_at us i within h =
     ap utf16_lossy_chars (cut us i (omega arith) ∙ ap (λ (vs : List ℕ). slice_index us i ∷ vs) (cut us (i + 1) (omega arith)))
     ∙ pair_first (slice_index us i) (slice_index us (i + 1)) (drop (i + 1 + 1) us) h
     ∙ ap (λ (k : ℕ). surrogate_pair_char (slice_index us i) (slice_index us (i + 1)) ∷ utf16_lossy_chars (drop k us)) two
+
+-- the characters of a text are its units, and so are those of ASCII
+lossy_plain : (us : List ℕ) → All IsChar16 us → utf16_lossy_chars us ≡ us
+lossy_plain [] are = grind (arith, common_steps, utf16_chars-nil)
+lossy_plain (u ∷ us) are =
+    let rest = lossy_plain us (All-tail IsChar16 u us are) in
+    let is = All-head IsChar16 u us are in
+    grind (arith, nat_tests, lone_first u us, rest, is)
+
+pub lossy_text : (us : List ℕ) → IsText us → utf16_lossy_chars us ≡ us
+lossy_text us is = lossy_plain us (All-weaker IsTextUnit IsChar16 (λ u is. is.1) us is)
+
+pub lossy_ascii : (us : List ℕ) → IsAscii us → encode_utf8_all (utf16_lossy_chars us) ≡ us
+lossy_ascii us are =
+    let plain = All-from_get_or IsChar16 us 0 (λ i within. (omega (arith, are i), λ is. omega (arith, are i, is))) in
+    ap encode_utf8_all (lossy_plain us plain) ∙ encodes-IsAscii us are
+
+-- no unit is left
+pub none_left : (units : List ℕ) (place : ℕ) → length units ≤ place → encode_utf8_all (utf16_lossy_chars (drop place units)) ≡ []
+none_left units place end = ap (λ (us : List ℕ). encode_utf8_all (utf16_lossy_chars us)) (drop_all place units end) ∙ nothing
+  where
+    nothing : encode_utf8_all (utf16_lossy_chars []) ≡ []
+    nothing = grind (arith, common_steps, utf16_chars-nil)

@@ -4,7 +4,7 @@
 //! both are private to this module, so that the constants of all crates stand here.
 //! `specs/Units.antt` defines code units, texts and NUL-terminated strings.
 
-ghost use Rattle.std.specs.Prelude.{◌≡◌, ◌<◌, ◌≤◌, ◌^◌, ◌↔◌, IsTrue};
+ghost use Rattle.std.specs.Prelude.{◌≡◌, ◌<◌, ◌^◌, ◌↔◌, IsTrue, Some, codes, encode_utf8};
 ghost use Rattle.std.specs.Result.{OkIff};
 ghost use Rattle.uefi_text.specs.Units.{IsChar16, denied_characters, is_surrogate};
 
@@ -19,8 +19,6 @@ pub struct CharConversionError;
 
 /// Puts `CharConversionError`.
 impl Printed for CharConversionError {
-    ghost use Rattle.std.specs.Prelude.{Some, codes};
-
     ghost printed = { λ _. codes "CharConversionError" };
 
     fn put<S: TextSink>(&self, sink: &mut S) {
@@ -30,8 +28,6 @@ impl Printed for CharConversionError {
 
 /// Prints the same.
 impl fmt::Display for CharConversionError {
-    ghost use Rattle.std.specs.Prelude.{Some, codes};
-
     ghost output = { λ _. Some (codes "CharConversionError") };
 
     fn fmt<W: fmt::Write>(&self, f: &mut fmt::Formatter<W>) -> fmt::Result {
@@ -129,8 +125,6 @@ impl From<Char8> for char {
 
 /// Writes the character.
 impl fmt::Display for Char8 {
-    ghost use Rattle.std.specs.Prelude.{Some, encode_utf8};
-
     ghost output = { λ c. Some (encode_utf8 c) };
 
     fn fmt<W: fmt::Write>(&self, f: &mut fmt::Formatter<W>) -> fmt::Result {
@@ -286,8 +280,6 @@ impl From<Char16> for char {
 
 /// Writes the character.
 impl fmt::Display for Char16 {
-    ghost use Rattle.std.specs.Prelude.{Some, encode_utf8};
-
     ghost output = { λ c. Some (encode_utf8 c) };
 
     fn fmt<W: fmt::Write>(&self, f: &mut fmt::Formatter<W>) -> fmt::Result {

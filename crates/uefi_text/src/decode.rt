@@ -4,10 +4,14 @@
 //! anything are characters of UTF-16.
 ghost use Rattle.std.specs.Char.Utf16.{is_high_surrogate, is_low_surrogate, lone_unit_char, surrogate_pair_char, utf16_lossy_chars};
 ghost use Rattle.std.specs.Option.{unwrap_or};
-ghost use Rattle.std.specs.Prelude.{◌≡◌, ℕ, ◌+◌, ◌<◌, ◌≤◌, ◌++◌, ◌*◌, IfSome, OnErr, OnOk, count_by, length, encode_utf8, nat_le, slice_index, take, true, ◌∷◌, ◌&&◌, List, drop};
+ghost use Rattle.std.specs.Prelude.{◌≡◌, ℕ, ◌+◌, ◌-◌, ◌<◌, ◌≤◌, ◌^◌, ◌++◌, ◌*◌, OnErr, OnOk, length, encode_utf8, min, slice_index, take, true, ◌∷◌, ◌&&◌, List, drop};
 ghost use Rattle.std.specs.Str.{IsAscii, encode_utf8_all};
+ghost use Rattle.uefi_text.specs.UnalignedCStr16.{with_prefix};
+ghost use Rattle.uefi_text.specs.Units.{IsText, nul_terminated};
+ghost use Rattle.uefi_text.specs.UnitTexts.{written_len};
 
-use crate::scan::{count_wide, is_ascii, narrow, widen};
+use crate::scan::{count_wide, find_deciding_place, is_ascii, narrow, widen};
+use crate::unit_sink::BufferTooSmall;
 use std::alloc::{AllocError, Allocator};
 use std::simd::prelude::*;
 
@@ -229,4 +233,93 @@ pub fn lossy_char(unit: u16, next: u16) -> (char, usize)
         return (pair_char(unit, next), 2);
     }
     (lone_char(unit), 1)
+}
+
+/// The first character of units that may be anything, and how many units it has, as [`lossy_char`] says.
+fn first_lossy(units: &[u16]) -> (char, usize)
+    requires { 0 < length units.now }
+    ensures some { 0 < result.1 }
+    ensures within { result.1 ≤ length units.now }
+    ensures first { utf16_lossy_chars units.now
+        ≡ result.0 ∷ utf16_lossy_chars (drop result.1 units.now) }
+{
+    let next = if 1 < units.len() { units[1] } else { 0 };
+    lossy_char(units[0], next)
+}
+
+/// How many bytes units that may be anything have in UTF-8, and the greatest `usize` where they have more.
+fn lossy_len(units: &[u16]) -> usize
+    ensures { result ≡ min (length (encode_utf8_all (utf16_lossy_chars units.now))) (2 ^ 64 - 1) }
+{
+    if find_deciding_place(units).is_none() {
+        return utf8_len(units);
+    }
+    let mut len = 0usize;
+    let mut place = 0;
+    while place < units.len() {
+        let (character, count) = first_lossy(&units[place..]);
+        len = len.saturating_add(character.len_utf8());
+        place += count;
+    }
+    len
+}
+
+/// Writes a character in UTF-8 from a place on, and returns the place after it.
+fn write_char(character: char, bytes: &mut [u8], place: usize) -> usize
+    requires { place + length (encode_utf8 character) ≤ length bytes.now }
+    ensures end { result ≡ place + length (encode_utf8 character) }
+    ensures bytes { bytes.new ≡ take place bytes.old ++ encode_utf8 character
+        ++ drop (place + length (encode_utf8 character)) bytes.old }
+{
+    let mut four = [0; 4];
+    let encoded = character.encode_utf8(&mut four).as_bytes();
+    // Each length by itself: a copy of a length that is known needs no `memcpy`.
+    match encoded {
+        [a] => bytes[place..place + 1].copy_from_slice(&[*a]),
+        [a, b] => bytes[place..place + 2].copy_from_slice(&[*a, *b]),
+        [a, b, c] => bytes[place..place + 3].copy_from_slice(&[*a, *b, *c]),
+        [a, b, c, d] => bytes[place..place + 4].copy_from_slice(&[*a, *b, *c, *d]),
+        _ => {}
+    }
+    place + encoded.len()
+}
+
+/// Writes units that may be anything in UTF-8 into bytes that have just the room.
+fn fill_lossy(units: &[u16], bytes: &mut [u8])
+    requires { length bytes.now ≡ length (encode_utf8_all (utf16_lossy_chars units.now)) }
+    ensures { bytes.new ≡ encode_utf8_all (utf16_lossy_chars units.now) }
+{
+    if is_ascii(units) {
+        narrow(bytes, units);
+        return;
+    }
+    if find_deciding_place(units).is_none() {
+        write_by_eight(bytes, units);
+        return;
+    }
+    let mut end = 0;
+    let mut place = 0;
+    while place < units.len() {
+        let (character, count) = first_lossy(&units[place..]);
+        end = write_char(character, bytes, end);
+        place += count;
+    }
+}
+
+/// Writes units that may be anything, in UTF-8 and with a NUL, to the start of a buffer, and returns how many
+/// bytes they have. A buffer that is too small is unchanged. Units of a text are characters of their own.
+pub fn write_lossy(units: &[u16], bytes: &mut [u8]) -> Result<usize, BufferTooSmall>
+    ensures len { result
+        ≡ written_len (encode_utf8_all (utf16_lossy_chars units.now)) bytes.old }
+    ensures bytes { bytes.new
+        ≡ with_prefix (nul_terminated (encode_utf8_all (utf16_lossy_chars units.now))) bytes.old }
+    ensures of_text { IsText units.now → utf16_lossy_chars units.now ≡ units.now }
+{
+    let len = lossy_len(units);
+    if bytes.len() <= len {
+        return Err(BufferTooSmall(len.saturating_add(1)));
+    }
+    fill_lossy(units, &mut bytes[..len]);
+    bytes[len] = 0;
+    Ok(len)
 }

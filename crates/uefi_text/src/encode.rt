@@ -1,6 +1,6 @@
 //! Code units of Rust texts: in a vector, where the text is one of UCS-2, or in a buffer; and compared
 //! with others. Characters are decoded one by one, or eight at a time where each has three bytes.
-ghost use Rattle.std.specs.Prelude.{All, IsTrue, ◌↔◌, ◌≢◌, ◌∷◌, ◌≡◌, ◌+◌, ◌<◌, ◌≤◌, ◌++◌, if◌then◌else◌, None, Some, drop, find, length, take, unwrap_or, IfOk, IfErr, IfSome, IsSome};
+ghost use Rattle.std.specs.Prelude.{All, IsTrue, ◌↔◌, ◌≢◌, ◌≡◌, ◌+◌, ◌<◌, ◌≤◌, ◌++◌, if◌then◌else◌, None, Some, drop, find, length, take, unwrap_or, IfOk, IfErr, IfSome, IsSome};
 ghost use Rattle.std.specs.Option.{SomeIff};
 ghost use Rattle.std.specs.Vec.{vec_len, vec_capacity};
 ghost use Rattle.std.specs.Char.Escape.{encode_utf16};
@@ -29,19 +29,14 @@ fn is_undecided(text: &str) -> bool
     !has_deciding_byte(text.as_bytes())
 }
 
-/// How many characters a text has of which none is refused; `None` exactly for other texts. Bytes are
-/// looked at, and none of them is decoded.
-fn undecided_len(text: &str) -> Option<usize>
-    ensures { SomeIff result (find is_deciding_char (chars text.now) ≡ None) (length (chars text.now)) }
+/// How many units a text of UCS-2 has, which is how many characters; `None` exactly for other texts. Bytes
+/// are looked at, and none of them is decoded.
+pub(crate) fn text_len(text: &str) -> Option<usize>
+    ensures text { SomeIff result (IsText (chars text.now)) (length (chars text.now)) }
+    ensures undecided { SomeIff result (find is_deciding_char (chars text.now) ≡ None)
+        (length (chars text.now)) }
 {
     count_undecided_chars(text.as_bytes())
-}
-
-/// How many units a text of UCS-2 has, which is how many characters; `None` exactly for other texts.
-pub(crate) fn text_len(text: &str) -> Option<usize>
-    ensures { SomeIff result (IsText (chars text.now)) (length (chars text.now)) }
-{
-    undecided_len(text)
 }
 
 /// Appends bytes as units to a vector that has room for them, so that none is filled before.
@@ -214,7 +209,7 @@ fn try_units<A: Allocator>(alloc: A, text: &str) -> Option<Result<Vec<u16, A>, A
     if text.len() < FEW && is_undecided(text) {
         return Some(units_of_few_chars(alloc, text));
     }
-    let len = undecided_len(text)?;
+    let len = text_len(text)?;
     Some(units_of_chars(alloc, text, len))
 }
 

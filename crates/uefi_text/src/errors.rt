@@ -1,5 +1,8 @@
 //! Why bytes, code units and texts are refused as a string. The modules [`strs`](crate::strs) and
 //! [`owned_strs`](crate::owned_strs) re-export these, under whose names callers know them.
+ghost use Rattle.uefi_text.specs.ErrorTexts.{from_slice_until_nul_error_text, from_slice_with_nul_error_text, unaligned_cstr16_error_text, from_str_with_buf_error_text, from_str_error_text};
+ghost use Rattle.std.specs.Prelude.{Some};
+
 use crate::number_texts::put_decimal;
 use crate::text_sink::{Printed, TextSink, print};
 use std::error::Error;
@@ -21,8 +24,6 @@ pub enum FromSliceUntilNulError {
 
 /// Puts the reason, with its number in decimal.
 impl Printed for FromSliceUntilNulError {
-    ghost use Rattle.uefi_text.specs.ErrorTexts.{from_slice_until_nul_error_text};
-
     ghost printed = { from_slice_until_nul_error_text };
 
     fn put<S: TextSink>(&self, sink: &mut S) {
@@ -40,9 +41,6 @@ impl Printed for FromSliceUntilNulError {
 
 /// Prints the same.
 impl fmt::Display for FromSliceUntilNulError {
-    ghost use Rattle.std.specs.Prelude.{Some};
-    ghost use Rattle.uefi_text.specs.ErrorTexts.{from_slice_until_nul_error_text};
-
     ghost output = { λ error. Some (from_slice_until_nul_error_text error) };
 
     fn fmt<W: fmt::Write>(&self, f: &mut fmt::Formatter<W>) -> fmt::Result {
@@ -75,8 +73,6 @@ pub enum FromSliceWithNulError {
 
 /// Puts the reason, with its number in decimal.
 impl Printed for FromSliceWithNulError {
-    ghost use Rattle.uefi_text.specs.ErrorTexts.{from_slice_with_nul_error_text};
-
     ghost printed = { from_slice_with_nul_error_text };
 
     fn put<S: TextSink>(&self, sink: &mut S) {
@@ -100,9 +96,6 @@ impl Printed for FromSliceWithNulError {
 
 /// Prints the same.
 impl fmt::Display for FromSliceWithNulError {
-    ghost use Rattle.std.specs.Prelude.{Some};
-    ghost use Rattle.uefi_text.specs.ErrorTexts.{from_slice_with_nul_error_text};
-
     ghost output = { λ error. Some (from_slice_with_nul_error_text error) };
 
     fn fmt<W: fmt::Write>(&self, f: &mut fmt::Formatter<W>) -> fmt::Result {
@@ -130,8 +123,6 @@ pub enum UnalignedCStr16Error {
 
 /// Puts the reason, with its number in decimal.
 impl Printed for UnalignedCStr16Error {
-    ghost use Rattle.uefi_text.specs.ErrorTexts.{unaligned_cstr16_error_text};
-
     ghost printed = { unaligned_cstr16_error_text };
 
     fn put<S: TextSink>(&self, sink: &mut S) {
@@ -154,9 +145,6 @@ impl Printed for UnalignedCStr16Error {
 
 /// Prints the same.
 impl fmt::Display for UnalignedCStr16Error {
-    ghost use Rattle.std.specs.Prelude.{Some};
-    ghost use Rattle.uefi_text.specs.ErrorTexts.{unaligned_cstr16_error_text};
-
     ghost output = { λ error. Some (unaligned_cstr16_error_text error) };
 
     fn fmt<W: fmt::Write>(&self, f: &mut fmt::Formatter<W>) -> fmt::Result {
@@ -182,8 +170,6 @@ pub enum FromStrWithBufError {
 
 /// Puts the reason, with its number in decimal.
 impl Printed for FromStrWithBufError {
-    ghost use Rattle.uefi_text.specs.ErrorTexts.{from_str_with_buf_error_text};
-
     ghost printed = { from_str_with_buf_error_text };
 
     fn put<S: TextSink>(&self, sink: &mut S) {
@@ -205,9 +191,6 @@ impl Printed for FromStrWithBufError {
 
 /// Prints the same.
 impl fmt::Display for FromStrWithBufError {
-    ghost use Rattle.std.specs.Prelude.{Some};
-    ghost use Rattle.uefi_text.specs.ErrorTexts.{from_str_with_buf_error_text};
-
     ghost output = { λ error. Some (from_str_with_buf_error_text error) };
 
     fn fmt<W: fmt::Write>(&self, f: &mut fmt::Formatter<W>) -> fmt::Result {
@@ -232,8 +215,6 @@ pub enum FromStrError {
 
 /// Puts the reason.
 impl Printed for FromStrError {
-    ghost use Rattle.uefi_text.specs.ErrorTexts.{from_str_error_text};
-
     ghost printed = { from_str_error_text };
 
     fn put<S: TextSink>(&self, sink: &mut S) {
@@ -247,9 +228,6 @@ impl Printed for FromStrError {
 
 /// Prints the same.
 impl fmt::Display for FromStrError {
-    ghost use Rattle.std.specs.Prelude.{Some};
-    ghost use Rattle.uefi_text.specs.ErrorTexts.{from_str_error_text};
-
     ghost output = { λ error. Some (from_str_error_text error) };
 
     fn fmt<W: fmt::Write>(&self, f: &mut fmt::Formatter<W>) -> fmt::Result {

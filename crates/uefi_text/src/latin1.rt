@@ -1,11 +1,16 @@
 //! Borrowed strings of Latin-1, and calls on Rust texts of Latin-1.
 #![tactic(auto, unfolding(crate::specs::Views::bytes_of))]
 
-ghost use Rattle.std.specs.Prelude.{◌≡◌, ◌≢◌, ◌<◌, ◌+◌, ◌^◌, ◌↔◌, All, length, position, IsTrue, IsOk, IfOk};
+ghost use Rattle.std.specs.Prelude.{◌≡◌, ◌≢◌, ◌<◌, ◌+◌, ◌^◌, ◌↔◌, All, length, IsTrue, IsOk, IfOk, nat_eq, Some};
 ghost use Rattle.std.specs.Result.{result_err};
-ghost use Rattle.std.specs.Str.{chars};
-ghost use Rattle.uefi_text.specs.Units.{is_nul, nul_terminated, without_nul};
+ghost use Rattle.std.specs.Str.{chars, encode_utf8_all};
+ghost use Rattle.uefi_text.specs.Units.{nul_terminated, without_nul};
 ghost use Rattle.uefi_text.specs.Latin1.{IsLatin1, IsLatin1String};
+ghost use Rattle.uefi_text.specs.FromSliceWithNul.{first_nul_refusal};
+ghost use Rattle.std.specs.Cmp.{on_per, partial_equiv_from_equiv, on_po};
+ghost use Rattle.std.specs.Cmp.Lexicographic.{nat_list_eq_equiv, pointwise, on_texts_equal, slice_cmp, texts_po, on_texts, texts_ties};
+ghost use Rattle.std.specs.Ordering.{nat_cmp, as_partial_cmp, on};
+ghost use Rattle.std.proofs.Common.{refl};
 
 use crate::chars::Char8;
 use crate::decode::{PRINTED, write_latin1};
@@ -25,7 +30,6 @@ pub struct CStr8<'a> {
 }
 
 impl<'a> CStr8<'a> {
-    ghost use Rattle.uefi_text.specs.FromSliceWithNul.{first_nul_refusal};
     ghost use Rattle.uefi_text.specs.Views.{bytes_of};
 
     /// Borrows all of the bytes as a string.
@@ -73,9 +77,6 @@ impl<'a> CStr8<'a> {
 
 /// Two strings are equal exactly when their bytes are.
 impl<'a> PartialEq for CStr8<'a> {
-    ghost use Rattle.std.specs.Cmp.{on_per, partial_equiv_from_equiv};
-    ghost use Rattle.std.specs.Prelude.{nat_eq};
-    ghost use Rattle.std.specs.Cmp.Lexicographic.{nat_list_eq_equiv, pointwise};
     ghost use Rattle.uefi_text.specs.Views.{bytes_of};
 
     ghost eq = { λ a b. pointwise nat_eq (bytes_of a) (bytes_of b) };
@@ -88,7 +89,6 @@ impl<'a> PartialEq for CStr8<'a> {
 }
 
 impl<'a> Eq for CStr8<'a> {
-    ghost use Rattle.std.specs.Cmp.Lexicographic.{on_texts_equal};
     ghost use Rattle.uefi_text.specs.Views.{bytes_of};
 
     ghost laws = { on_texts_equal bytes_of };
@@ -96,9 +96,6 @@ impl<'a> Eq for CStr8<'a> {
 
 /// The list order of the bytes.
 impl<'a> PartialOrd for CStr8<'a> {
-    ghost use Rattle.std.specs.Cmp.{on_po};
-    ghost use Rattle.std.specs.Ordering.{nat_cmp, as_partial_cmp, on};
-    ghost use Rattle.std.specs.Cmp.Lexicographic.{slice_cmp, texts_po};
     ghost use Rattle.uefi_text.specs.Views.{bytes_of};
 
     ghost partial_cmp = { as_partial_cmp (on bytes_of (slice_cmp nat_cmp)) };
@@ -112,9 +109,6 @@ impl<'a> PartialOrd for CStr8<'a> {
 
 /// `Equal` exactly for equal strings.
 impl<'a> Ord for CStr8<'a> {
-    ghost use Rattle.std.proofs.Common.{refl};
-    ghost use Rattle.std.specs.Ordering.{nat_cmp, on};
-    ghost use Rattle.std.specs.Cmp.Lexicographic.{on_texts, slice_cmp, texts_ties};
     ghost use Rattle.uefi_text.specs.Views.{bytes_of};
 
     ghost cmp = { on bytes_of (slice_cmp nat_cmp) };
@@ -148,9 +142,6 @@ impl<'a> Hash for CStr8<'a> {
 
 /// Writes the character of each byte before the zero.
 impl<'a> fmt::Display for CStr8<'a> {
-    ghost use Rattle.std.specs.Prelude.{Some};
-    ghost use Rattle.std.specs.Str.{encode_utf8_all};
-    ghost use Rattle.uefi_text.specs.Units.{without_nul};
     ghost use Rattle.uefi_text.specs.Views.{bytes_of};
 
     ghost output = { λ string. Some (encode_utf8_all (without_nul (bytes_of string))) };

@@ -1,11 +1,23 @@
 //! Owned NUL-terminated strings of UCS-2. A string keeps its NUL in its vector, which nothing
 //! outside this module sees.
-ghost use Rattle.std.specs.Prelude.{◌≡◌, ◌≢◌, ℕ, ◌+◌, ◌<◌, ◌↔◌, ◌++◌, [], All, Contains, List, None, length, map, find, position, unwrap_or, IsTrue, IfOk, IfErr, ◌∷◌, take, IsOk, OnOk, OnErr, drop};
-ghost use Rattle.std.specs.Str.{chars};
+ghost use Rattle.std.specs.Prelude.{◌≡◌, ◌≢◌, ℕ, ◌+◌, ◌<◌, ◌↔◌, ◌++◌, [], All, Contains, List, None, length, map, unwrap_or, IsTrue, IfOk, IfErr, ◌∷◌, take, IsOk, OnOk, OnErr, drop, nat_eq, Some};
+ghost use Rattle.std.specs.Str.{chars, encode_utf8_all};
 ghost use Rattle.uefi_text.specs.Units.{IsChar16, IsNulTerminated, IsString, IsText, is_nul, nul_terminated, replaced};
 ghost use Rattle.std.specs.Result.{result_err};
-ghost use Rattle.uefi_text.specs.FromStr.{is_deciding_char, from_str_refusal};
-ghost use Rattle.uefi_text.specs.Runs.{CopiesNoNul};
+ghost use Rattle.uefi_text.specs.FromStr.{from_str_refusal};
+ghost use Rattle.uefi_text.specs.Runs.{CopiesNoNul, GivesNoNul};
+ghost use Rattle.std.specs.List.{before_first};
+ghost use Rattle.uefi_text.specs.FromSliceUntilNul.{missing_nul_refusal};
+ghost use Rattle.uefi_text.specs.FromSliceWithNul.{first_nul_refusal, with_nul_refusal};
+ghost use Rattle.uefi_text.specs.Views.{text_of, units_of};
+ghost use Rattle.std.specs.Iterator.{IsFinite};
+ghost use Rattle.std.specs.Iterator.Runs.{SomeRun, WholeRun};
+ghost use Rattle.uefi_text.specs.Case.{in_case, lowers, uppers};
+ghost use Rattle.std.specs.Cmp.{partial_equiv_from_equiv};
+ghost use Rattle.std.specs.Cmp.Lexicographic.{nat_list_eq_equiv, pointwise, slice_cmp, texts_po, texts_ties};
+ghost use Rattle.std.specs.Ordering.{nat_cmp, as_partial_cmp};
+ghost use Rattle.std.proofs.Common.{refl};
+ghost use Rattle.std.proofs.lemmas.Cmp.{nat_list_cmp_total};
 
 use crate::case::{Case, set_case};
 use crate::chars::{Char16, NUL_16};
@@ -41,8 +53,6 @@ impl<A: Allocator> Model for CString16<A> {
 
 /// Characters that are NUL.
 impl Class<Char16> for Nul {
-    ghost use Rattle.uefi_text.specs.Units.{is_nul};
-
     ghost holds = { is_nul };
 
     #[inline(always)]
@@ -93,11 +103,6 @@ fn units_of_characters<A: Allocator>(
 
 /// Owned strings of characters and of a borrowed string.
 impl<'a> CStr16<'a> {
-    ghost use Rattle.std.specs.List.{before_first};
-    ghost use Rattle.uefi_text.specs.FromSliceUntilNul.{missing_nul_refusal};
-    ghost use Rattle.uefi_text.specs.FromSliceWithNul.{first_nul_refusal};
-    ghost use Rattle.uefi_text.specs.Views.{text_of};
-
     /// Copies the characters up to the first NUL into an owned string.
     ///
     /// Where there is no NUL the result is `NoNul`, and where memory is refused `OutOfMemory`. What
@@ -190,8 +195,6 @@ impl<'a> CStr16<'a> {
 
 /// Owned strings of characters that lie side by side.
 impl<'a> Char16Slice<'a> {
-    ghost use Rattle.uefi_text.specs.Views.{units_of};
-
     /// Copies the characters into an owned string.
     ///
     /// Where a NUL is among them the result is `InteriorNul`, and where memory is refused
@@ -225,13 +228,6 @@ impl<'a> Char16Slice<'a> {
 }
 
 impl<A: Allocator> CString16<A> {
-    ghost use Rattle.std.specs.Iterator.{IsFinite};
-    ghost use Rattle.std.specs.Iterator.Runs.{SomeRun, WholeRun};
-    ghost use Rattle.uefi_text.specs.Case.{in_case, lowers, uppers};
-    ghost use Rattle.uefi_text.specs.FromSliceWithNul.{with_nul_refusal};
-    ghost use Rattle.uefi_text.specs.Runs.{GivesNoNul};
-    ghost use Rattle.uefi_text.specs.Views.{text_of, units_of};
-
     /// The string of units that are known to be one.
     pub(crate) fn from_string(units: Vec<u16, A>) -> Self
         requires { IsString units.items }
@@ -659,10 +655,6 @@ impl<A: Allocator + Clone> Clone for CString16<A> {
 
 /// Two strings are equal exactly when their texts are.
 impl<A: Allocator> PartialEq for CString16<A> {
-    ghost use Rattle.std.specs.Cmp.{partial_equiv_from_equiv};
-    ghost use Rattle.std.specs.Prelude.{nat_eq};
-    ghost use Rattle.std.specs.Cmp.Lexicographic.{nat_list_eq_equiv, pointwise};
-
     ghost eq = { pointwise nat_eq };
 
     ghost laws = { partial_equiv_from_equiv nat_list_eq_equiv };
@@ -673,16 +665,11 @@ impl<A: Allocator> PartialEq for CString16<A> {
 }
 
 impl<A: Allocator> Eq for CString16<A> {
-    ghost use Rattle.std.specs.Cmp.Lexicographic.{nat_list_eq_equiv};
-
     ghost laws = { nat_list_eq_equiv };
 }
 
 /// The order of the views: the list order of the code units.
 impl<A: Allocator> PartialOrd for CString16<A> {
-    ghost use Rattle.std.specs.Ordering.{nat_cmp, as_partial_cmp};
-    ghost use Rattle.std.specs.Cmp.Lexicographic.{slice_cmp, texts_po};
-
     ghost partial_cmp = { as_partial_cmp (slice_cmp nat_cmp) };
 
     ghost laws = { texts_po };
@@ -694,11 +681,6 @@ impl<A: Allocator> PartialOrd for CString16<A> {
 
 /// `Equal` exactly for equal strings.
 impl<A: Allocator> Ord for CString16<A> {
-    ghost use Rattle.std.proofs.Common.{refl};
-    ghost use Rattle.std.specs.Ordering.{nat_cmp};
-    ghost use Rattle.std.specs.Cmp.Lexicographic.{slice_cmp, texts_ties};
-    ghost use Rattle.std.proofs.lemmas.Cmp.{nat_list_cmp_total};
-
     ghost cmp = { slice_cmp nat_cmp };
 
     ghost total = { nat_list_cmp_total };
@@ -731,8 +713,6 @@ impl<A: Allocator> Hash for CString16<A> {
 impl<A: Allocator> TryFrom<Vec<u16, A>> for CString16<A> {
     type Error = FromSliceWithNulError;
 
-    ghost use Rattle.uefi_text.specs.FromSliceWithNul.{with_nul_refusal};
-
     ghost try_from_gives = { λ units result. IfOk result (λ string. nul_terminated string ≡ units.items)
         × (IsOk result ↔ IsString units.items) × (result_err result ≡ with_nul_refusal units.items) };
 
@@ -747,8 +727,6 @@ impl<A: Allocator> TryFrom<Vec<u16, A>> for CString16<A> {
 /// `write!` prints in parts, and an error leaves the parts before it. Each part is tested before
 /// memory is asked for, at most once.
 impl<A: Allocator> fmt::Write for CString16<A> {
-    ghost use Rattle.std.specs.Str.{encode_utf8_all};
-
     ghost write_str_gives = { λ old bytes new. encode_utf8_all new ≡ encode_utf8_all old ++ bytes };
 
     fn write_str(&mut self, s: &str) -> fmt::Result
@@ -772,9 +750,6 @@ impl<A: Allocator> fmt::Write for CString16<A> {
 
 /// Writes the characters of the text.
 impl<A: Allocator> fmt::Display for CString16<A> {
-    ghost use Rattle.std.specs.Prelude.{Some};
-    ghost use Rattle.std.specs.Str.{encode_utf8_all};
-
     ghost output = { λ text. Some (encode_utf8_all text) };
 
     fn fmt<W: fmt::Write>(&self, f: &mut fmt::Formatter<W>) -> fmt::Result {

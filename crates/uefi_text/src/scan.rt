@@ -3,7 +3,7 @@
 //! by std's words, so that callers see nothing of the form.
 //!
 //! What a pass looks for is a [`Class`] of elements: all classes share one pass, and one proof.
-ghost use Rattle.std.specs.Prelude.{IsTrue, ◌≡◌, ◌↔◌, ◌||◌, ℕ, ◌+◌, ◌-◌, ◌*◌, ◌<◌, ◌≤◌, ◌++◌, All, Bool, Option, None, count_by, fold, length, take, drop, map, position, true, false};
+ghost use Rattle.std.specs.Prelude.{IsTrue, ◌≡◌, ◌↔◌, ◌||◌, ◌+◌, ◌-◌, ◌*◌, ◌<◌, ◌≤◌, ◌++◌, All, Bool, Option, None, count_by, length, take, drop, map, position, true, false};
 ghost use Rattle.std.specs.Fmt.{is_char_start};
 ghost use Rattle.std.specs.List.{list_any};
 ghost use Rattle.std.specs.Option.{SomeIff};
@@ -123,8 +123,6 @@ fn count<T: Copy, C: Class<T>>(elements: &[T]) -> usize
 pub(crate) struct Deciding;
 
 impl Class<u16> for Deciding {
-    ghost use Rattle.uefi_text.specs.Units.{is_deciding};
-
     ghost holds = { is_deciding };
 
     #[inline(always)]
@@ -137,8 +135,6 @@ impl Class<u16> for Deciding {
 pub(crate) struct Nul;
 
 impl Class<u16> for Nul {
-    ghost use Rattle.uefi_text.specs.Units.{is_nul};
-
     ghost holds = { is_nul };
 
     #[inline(always)]
@@ -151,8 +147,6 @@ impl Class<u16> for Nul {
 struct BeyondAscii;
 
 impl Class<u16> for BeyondAscii {
-    ghost use Rattle.uefi_text.specs.Scans.{is_beyond_ascii};
-
     ghost holds = { is_beyond_ascii };
 
     #[inline(always)]
@@ -165,8 +159,6 @@ impl Class<u16> for BeyondAscii {
 struct OfThreeBytes;
 
 impl Class<u16> for OfThreeBytes {
-    ghost use Rattle.uefi_text.specs.Scans.{is_of_three_bytes};
-
     ghost holds = { is_of_three_bytes };
 
     #[inline(always)]
@@ -179,8 +171,6 @@ impl Class<u16> for OfThreeBytes {
 struct Zero;
 
 impl Class<u8> for Zero {
-    ghost use Rattle.uefi_text.specs.Units.{is_nul};
-
     ghost holds = { is_nul };
 
     #[inline(always)]
@@ -193,8 +183,6 @@ impl Class<u8> for Zero {
 struct NoAsciiText;
 
 impl Class<u8> for NoAsciiText {
-    ghost use Rattle.uefi_text.specs.Scans.{is_no_ascii_text};
-
     ghost holds = { is_no_ascii_text };
 
     #[inline(always)]
@@ -208,8 +196,6 @@ impl Class<u8> for NoAsciiText {
 struct DecidingByte;
 
 impl Class<u8> for DecidingByte {
-    ghost use Rattle.uefi_text.specs.Scans.{is_deciding_byte};
-
     ghost holds = { is_deciding_byte };
 
     #[inline(always)]
@@ -223,8 +209,6 @@ impl Class<u8> for DecidingByte {
 struct BeyondLatin1;
 
 impl Class<u8> for BeyondLatin1 {
-    ghost use Rattle.uefi_text.specs.Scans.{is_beyond_latin1_byte};
-
     ghost holds = { is_beyond_latin1_byte };
 
     #[inline(always)]
@@ -237,8 +221,6 @@ impl Class<u8> for BeyondLatin1 {
 struct CharStart;
 
 impl Class<u8> for CharStart {
-    ghost use Rattle.std.specs.Fmt.{is_char_start};
-
     ghost holds = { is_char_start };
 
     #[inline(always)]

@@ -3,13 +3,12 @@ ghost use Rattle.std.specs.Prelude.{◌≡◌, OnOk};
 ghost use Rattle.std.specs.Result.{result_err};
 ghost use Rattle.uefi_text.specs.FromSliceWithNul.{with_nul_refusal};
 ghost use Rattle.uefi_text.specs.Units.{IsString};
+ghost use Rattle.uefi_text.specs.Views.{items_of};
 
 use crate::strs::FromSliceWithNulError;
 use crate::unaligned_slice::UnalignedSlice;
 
 impl<'a> UnalignedSlice<'a, u16> {
-    ghost use Rattle.uefi_text.specs.Views.{items_of};
-
     /// Whether the items are a string. Refused as
     /// [`CStr16::from_u16_with_nul`](crate::CStr16::from_u16_with_nul) refuses the same units. Needs no
     /// buffer of the caller; takes no memory.

@@ -3,16 +3,23 @@
 //! `specs/Views.antt` says what a contract sees of each view.
 #![tactic(auto, unfolding(crate::specs::Views::text_of, crate::specs::Views::units_of, crate::specs::Views::units_left))]
 
-ghost use Rattle.std.specs.Prelude.{◌≡◌, ◌<◌, ◌≤◌, ◌+◌, ◌*◌, ◌^◌, ◌↔◌, ◌==◌, ◌≢◌, ◌++◌, if◌then◌else◌, [], nat_eq, ℕ, List, Option, All, length, position, slice_get, slice_index, slice_range, take, IsTrue, IsOk, IfOk, IfSome, OnErr, OnOk, Some, false, true};
-ghost use Rattle.std.specs.Char.Escape.{encode_utf16};
-ghost use Rattle.std.specs.Cmp.Lexicographic.{pointwise};
+ghost use Rattle.std.specs.Prelude.{◌≡◌, ◌<◌, ◌≤◌, ◌+◌, ◌*◌, ◌^◌, ◌↔◌, ◌==◌, ◌≢◌, ◌++◌, [], nat_eq, ℕ, Option, All, length, slice_get, slice_index, slice_range, take, IsTrue, IsOk, IfOk, IfSome, OnErr, OnOk, Some, false, true};
+ghost use Rattle.std.specs.Cmp.Lexicographic.{pointwise, nat_list_eq_equiv, on_texts_equal, slice_cmp, texts_po, on_texts, texts_ties};
 ghost use Rattle.std.specs.Result.{result_err};
-ghost use Rattle.std.specs.Str.{chars};
-ghost use Rattle.uefi_text.specs.FromStr.{is_deciding_char};
-ghost use Rattle.uefi_text.specs.FromStrWithBuf.{refusal_of_char_at, with_units};
-ghost use Rattle.uefi_text.specs.FromSliceWithNul.{deciding_refusal};
+ghost use Rattle.std.specs.Str.{chars, IsAscii, encode_utf8_all};
+ghost use Rattle.uefi_text.specs.FromStrWithBuf.{from_str_with_buf_refusal, with_text};
+ghost use Rattle.uefi_text.specs.FromSliceWithNul.{deciding_refusal, with_nul_refusal};
 ghost use Rattle.uefi_text.specs.Runs.{GivesAll, GivesEach, GivesNoNul};
 ghost use Rattle.uefi_text.specs.Units.{BeginsWithString, IsString, IsText, IsChar16, is_nul, nul_terminated, without_nul};
+ghost use Rattle.std.specs.List.{before_first};
+ghost use Rattle.std.specs.String.{string_bytes};
+ghost use Rattle.uefi_text.specs.UnitBytes.{unit_bytes};
+ghost use Rattle.std.specs.Iterator.{YieldsFirst, UpTo, item_count, YieldsLast};
+ghost use Rattle.uefi_text.specs.FromSliceUntilNul.{until_nul_refusal};
+ghost use Rattle.std.specs.Cmp.{on_per, partial_equiv_from_equiv, on_po};
+ghost use Rattle.std.specs.Ordering.{nat_cmp, as_partial_cmp, on};
+ghost use Rattle.std.proofs.Common.{refl};
+ghost use Rattle.std.specs.Iterator.SizeHint.{IsWithinCount};
 
 pub use crate::char_sink::CharSink;
 use crate::chars::Char16;
@@ -104,14 +111,6 @@ pub struct Char16Slice<'a> {
 }
 
 impl<'a> CStr16<'a> {
-    ghost use Rattle.std.specs.List.{before_first};
-    ghost use Rattle.std.specs.Str.{IsAscii, encode_utf8_all};
-    ghost use Rattle.std.specs.String.{string_bytes};
-    ghost use Rattle.uefi_text.specs.UnitBytes.{unit_bytes};
-    ghost use Rattle.std.specs.Iterator.{YieldsFirst};
-    ghost use Rattle.uefi_text.specs.FromSliceUntilNul.{until_nul_refusal};
-    ghost use Rattle.uefi_text.specs.FromSliceWithNul.{with_nul_refusal};
-    ghost use Rattle.uefi_text.specs.FromStrWithBuf.{from_str_with_buf_refusal, with_text};
     ghost use Rattle.uefi_text.specs.Views.{text_of, units_of, units_left};
 
     /// Borrows the units up to the first NUL, and with it, as a string.
@@ -386,8 +385,6 @@ impl<'a> CStr16<'a> {
 
 /// Writes the characters of the text.
 impl<'a> fmt::Display for CStr16<'a> {
-    ghost use Rattle.std.specs.Prelude.{Some};
-    ghost use Rattle.std.specs.Str.{encode_utf8_all};
     ghost use Rattle.uefi_text.specs.Views.{text_of};
 
     ghost output = { λ string. Some (encode_utf8_all (text_of string)) };
@@ -399,9 +396,6 @@ impl<'a> fmt::Display for CStr16<'a> {
 
 /// Two strings are equal exactly when their texts are.
 impl<'a> PartialEq for CStr16<'a> {
-    ghost use Rattle.std.specs.Cmp.{on_per, partial_equiv_from_equiv};
-    ghost use Rattle.std.specs.Prelude.{nat_eq};
-    ghost use Rattle.std.specs.Cmp.Lexicographic.{nat_list_eq_equiv, pointwise};
     ghost use Rattle.uefi_text.specs.Views.{text_of};
 
     ghost eq = { λ a b. pointwise nat_eq (text_of a) (text_of b) };
@@ -414,7 +408,6 @@ impl<'a> PartialEq for CStr16<'a> {
 }
 
 impl<'a> Eq for CStr16<'a> {
-    ghost use Rattle.std.specs.Cmp.Lexicographic.{on_texts_equal};
     ghost use Rattle.uefi_text.specs.Views.{text_of};
 
     ghost laws = { on_texts_equal text_of };
@@ -422,9 +415,6 @@ impl<'a> Eq for CStr16<'a> {
 
 /// The list order of the code units.
 impl<'a> PartialOrd for CStr16<'a> {
-    ghost use Rattle.std.specs.Cmp.{on_po};
-    ghost use Rattle.std.specs.Ordering.{nat_cmp, as_partial_cmp, on};
-    ghost use Rattle.std.specs.Cmp.Lexicographic.{slice_cmp, texts_po};
     ghost use Rattle.uefi_text.specs.Views.{text_of};
 
     ghost partial_cmp = { as_partial_cmp (on text_of (slice_cmp nat_cmp)) };
@@ -438,9 +428,6 @@ impl<'a> PartialOrd for CStr16<'a> {
 
 /// `Equal` exactly for equal strings.
 impl<'a> Ord for CStr16<'a> {
-    ghost use Rattle.std.proofs.Common.{refl};
-    ghost use Rattle.std.specs.Ordering.{nat_cmp, on};
-    ghost use Rattle.std.specs.Cmp.Lexicographic.{on_texts, slice_cmp, texts_ties};
     ghost use Rattle.uefi_text.specs.Views.{text_of};
 
     ghost cmp = { on text_of (slice_cmp nat_cmp) };
@@ -478,7 +465,6 @@ impl<'a> IntoIterator for CStr16<'a> {
 
     type IntoIter = CStr16Iter<'a>;
 
-    ghost use Rattle.std.specs.Iterator.{YieldsFirst};
     ghost use Rattle.uefi_text.specs.Views.{text_of, units_left};
 
     ghost into_iter_gives = { λ string iter. GivesAll (λ unit. unit) units_left iter (text_of string)
@@ -513,8 +499,6 @@ impl<'a> EqStrUntilNul for CStr16<'a> {
 impl<'a> Iterator for CStr16Iter<'a> {
     type Item = Char16;
 
-    ghost use Rattle.std.specs.Iterator.{UpTo, YieldsFirst, item_count};
-    ghost use Rattle.std.specs.Iterator.SizeHint.{IsWithinCount};
     ghost use Rattle.uefi_text.specs.Views.{units_left};
 
     ghost next_gives = { YieldsFirst units_left };
@@ -540,7 +524,6 @@ impl<'a> Iterator for CStr16Iter<'a> {
 
 /// Gives the characters from the back.
 impl<'a> DoubleEndedIterator for CStr16Iter<'a> {
-    ghost use Rattle.std.specs.Iterator.{YieldsLast};
     ghost use Rattle.uefi_text.specs.Views.{units_left};
 
     ghost next_back_gives = { YieldsLast units_left };
@@ -560,7 +543,6 @@ impl<'a> fmt::Debug for CStr16Iter<'a> {
 }
 
 impl<'a> Char16Slice<'a> {
-    ghost use Rattle.std.specs.Str.{encode_utf8_all};
     ghost use Rattle.uefi_text.specs.Views.{units_of, units_left};
 
     /// The number of characters.
@@ -680,9 +662,6 @@ impl<'a> Char16Slice<'a> {
 
 /// Two slices are equal exactly when their code units are.
 impl<'a> PartialEq for Char16Slice<'a> {
-    ghost use Rattle.std.specs.Cmp.{on_per, partial_equiv_from_equiv};
-    ghost use Rattle.std.specs.Prelude.{nat_eq};
-    ghost use Rattle.std.specs.Cmp.Lexicographic.{nat_list_eq_equiv, pointwise};
     ghost use Rattle.uefi_text.specs.Views.{units_of};
 
     ghost eq = { λ a b. pointwise nat_eq (units_of a) (units_of b) };
@@ -695,7 +674,6 @@ impl<'a> PartialEq for Char16Slice<'a> {
 }
 
 impl<'a> Eq for Char16Slice<'a> {
-    ghost use Rattle.std.specs.Cmp.Lexicographic.{on_texts_equal};
     ghost use Rattle.uefi_text.specs.Views.{units_of};
 
     ghost laws = { on_texts_equal units_of };
@@ -703,9 +681,6 @@ impl<'a> Eq for Char16Slice<'a> {
 
 /// The list order of the code units.
 impl<'a> PartialOrd for Char16Slice<'a> {
-    ghost use Rattle.std.specs.Cmp.{on_po};
-    ghost use Rattle.std.specs.Ordering.{nat_cmp, as_partial_cmp, on};
-    ghost use Rattle.std.specs.Cmp.Lexicographic.{slice_cmp, texts_po};
     ghost use Rattle.uefi_text.specs.Views.{units_of};
 
     ghost partial_cmp = { as_partial_cmp (on units_of (slice_cmp nat_cmp)) };
@@ -719,9 +694,6 @@ impl<'a> PartialOrd for Char16Slice<'a> {
 
 /// `Equal` exactly for equal slices.
 impl<'a> Ord for Char16Slice<'a> {
-    ghost use Rattle.std.proofs.Common.{refl};
-    ghost use Rattle.std.specs.Ordering.{nat_cmp, on};
-    ghost use Rattle.std.specs.Cmp.Lexicographic.{on_texts, slice_cmp, texts_ties};
     ghost use Rattle.uefi_text.specs.Views.{units_of};
 
     ghost cmp = { on units_of (slice_cmp nat_cmp) };
@@ -755,7 +727,6 @@ impl<'a> Hash for Char16Slice<'a> {
 
 /// Writes the characters.
 impl<'a> fmt::Display for Char16Slice<'a> {
-    ghost use Rattle.std.specs.Str.{encode_utf8_all};
     ghost use Rattle.uefi_text.specs.Views.{units_of};
 
     ghost output = { λ part. Some (encode_utf8_all (units_of part)) };

@@ -23,15 +23,19 @@
 //! for each type that implements it.
 #![tactic(auto, using(crate::proofs::Packing::packing), unfolding(crate::specs::Views::items_of, crate::specs::Views::items_left, crate::specs::Views::into_iter_items_left))]
 
-ghost use Rattle.std.specs.Prelude.{◌≡◌, ℕ, ◌+◌, ◌++◌, ◌*◌, ◌^◌, ◌<◌, ◌≤◌, ◌↔◌, [], length, map, take, slice_index, slice_get, slice_range, IfOk, IfErr, IfSome, IsOk, IsSome, IsTrue};
+ghost use Rattle.std.specs.Prelude.{◌≡◌, ℕ, ◌+◌, ◌++◌, ◌*◌, ◌^◌, ◌<◌, ◌≤◌, ◌↔◌, [], length, map, slice_index, slice_get, slice_range, IfOk, IfErr, IfSome, IsOk, IsSome, IsTrue, ⊤, List, None, drop, position, unwrap_or, ◌%◌, OnOk};
 ghost use Rattle.std.specs.Iterator.{UpTo, YieldsFirstBy, item_count};
 ghost use Rattle.std.specs.Iterator.SizeHint.{IsWithinCount};
 ghost use Rattle.std.specs.Option.{option_map};
 ghost use Rattle.std.specs.Vec.{vec_len, vec_capacity};
 ghost use Rattle.uefi_text.specs.Packed.{little_endian, packed_items};
-ghost use Rattle.uefi_text.specs.Runs.{GivesEach};
-ghost use Rattle.uefi_text.specs.UnalignedCStr16.{refusal_in_buffer};
-ghost use Rattle.uefi_text.specs.UnitBytes.{ends_in_nul};
+ghost use Rattle.uefi_text.specs.Runs.{GivesEach, GivesAll};
+ghost use Rattle.uefi_text.specs.UnalignedCStr16.{refusal_in_buffer, unaligned_refusal, with_prefix};
+ghost use Rattle.uefi_text.specs.UnitBytes.{ends_in_nul, unit_bytes, units_of_bytes, BytesEncode, unit_bytes_refusal};
+ghost use Rattle.std.specs.Result.{result_err};
+ghost use Rattle.uefi_text.specs.FromSliceWithNul.{with_nul_refusal};
+ghost use Rattle.uefi_text.specs.Units.{IsString, IsText, nul_terminated};
+ghost use Rattle.uefi_text.specs.PackedStrings.{SplitsUntilNul};
 
 use crate::owned_strs::CString16;
 pub use crate::packed_numbers::Packed;
@@ -391,7 +395,6 @@ impl<'a, T: Packed> IntoIterator for UnalignedSlice<'a, T> {
 
     type IntoIter = UnalignedSliceIntoIter<'a, T>;
 
-    ghost use Rattle.uefi_text.specs.Runs.{GivesAll};
     ghost use Rattle.uefi_text.specs.Views.{into_iter_items_left, items_of};
 
     ghost into_iter_gives = { λ slice iter. GivesAll T.number into_iter_items_left iter (items_of slice) };
@@ -403,8 +406,6 @@ impl<'a, T: Packed> IntoIterator for UnalignedSlice<'a, T> {
 
 /// The clone shows the same items. It takes no memory, and is never refused.
 impl<'a, T: Packed> Clone for UnalignedSlice<'a, T> {
-    ghost use Rattle.std.specs.Prelude.{⊤};
-
     ghost is_clone = { λ slice clone. clone ≡ slice };
 
     ghost is_infallible = { λ _. ⊤ };
@@ -506,14 +507,6 @@ fn refusal_in_buffer(error: FromSliceWithNulError) -> UnalignedCStr16Error
 
 /// Packed code units as strings.
 impl<'a> UnalignedSlice<'a, u16> {
-    ghost use Rattle.std.specs.Prelude.{List, None, drop, position, unwrap_or, ◌%◌};
-    ghost use Rattle.std.specs.Result.{result_err};
-    ghost use Rattle.uefi_text.specs.FromSliceWithNul.{with_nul_refusal};
-    ghost use Rattle.uefi_text.specs.UnalignedCStr16.{unaligned_refusal, with_prefix};
-    ghost use Rattle.std.specs.Prelude.{IsOk, OnOk};
-    ghost use Rattle.uefi_text.specs.UnitBytes.{unit_bytes, units_of_bytes};
-    ghost use Rattle.uefi_text.specs.Units.{IsString, IsText, deciding_place, is_nul, nul_terminated};
-    ghost use Rattle.uefi_text.specs.PackedStrings.{SplitsUntilNul};
     ghost use Rattle.uefi_text.specs.Views.{items_of, text_of};
 
     /// The code units that all of the bytes encode, two bytes for each, the low one first; or
@@ -706,11 +699,6 @@ fn ends_in_nul(bytes: &[u8]) -> bool
 }
 
 impl<'a> CStr16<'a> {
-    ghost use Rattle.std.specs.Prelude.{List, None, unwrap_or, IsOk};
-    ghost use Rattle.std.specs.Result.{result_err};
-    ghost use Rattle.uefi_text.specs.UnalignedCStr16.{unaligned_refusal};
-    ghost use Rattle.uefi_text.specs.UnitBytes.{BytesEncode, unit_bytes, unit_bytes_refusal};
-    ghost use Rattle.uefi_text.specs.Units.{IsString, nul_terminated};
     ghost use Rattle.uefi_text.specs.Views.{items_of, text_of};
 
     /// Decodes bytes at any address, two for each code unit and the low one first, into an owned
@@ -767,9 +755,6 @@ impl<'a> CStr16<'a> {
 }
 
 impl<A: Allocator> CString16<A> {
-    ghost use Rattle.std.specs.Prelude.{None, unwrap_or};
-    ghost use Rattle.uefi_text.specs.FromSliceWithNul.{with_nul_refusal};
-    ghost use Rattle.uefi_text.specs.Units.{IsString, nul_terminated};
     ghost use Rattle.uefi_text.specs.Views.{items_of};
 
     /// [`UnalignedSlice::to_cstring16`] of the slice, with one request for memory.

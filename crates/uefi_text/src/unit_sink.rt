@@ -1,11 +1,12 @@
 //! Texts that are written into a caller's buffer as UTF-16.
 #![tactic(auto, using(crate::proofs::Puts::puts))]
 
-ghost use Rattle.std.specs.Prelude.{◌≡◌, ℕ, ◌∷◌, ◌++◌, ◌+◌, ◌≤◌, [], List, length, map, take};
+ghost use Rattle.std.specs.Prelude.{◌≡◌, ℕ, ◌∷◌, ◌++◌, ◌+◌, ◌≤◌, [], List, length, map, take, Some};
 ghost use Rattle.std.specs.Char.Escape.{encode_utf16};
 ghost use Rattle.uefi_text.specs.UnalignedCStr16.{with_prefix};
-ghost use Rattle.uefi_text.specs.UnitTexts.{AreSunk, utf16_units, written_len};
+ghost use Rattle.uefi_text.specs.UnitTexts.{AreSunk, utf16_units, written_len, buffer_too_small_text};
 ghost use Rattle.uefi_text.specs.Units.{nul_terminated, replaced};
+ghost use Rattle.std.specs.Str.{IsUtf8};
 
 use crate::number_texts::put_decimal;
 use crate::scan::unit_after;
@@ -20,8 +21,6 @@ pub struct BufferTooSmall(pub usize);
 
 /// Puts how many units are needed.
 impl Printed for BufferTooSmall {
-    ghost use Rattle.uefi_text.specs.UnitTexts.{buffer_too_small_text};
-
     ghost printed = { buffer_too_small_text };
 
     fn put<S: TextSink>(&self, sink: &mut S) {
@@ -32,9 +31,6 @@ impl Printed for BufferTooSmall {
 
 /// Prints the same.
 impl fmt::Display for BufferTooSmall {
-    ghost use Rattle.std.specs.Prelude.{Some};
-    ghost use Rattle.uefi_text.specs.UnitTexts.{buffer_too_small_text};
-
     ghost output = { λ error. Some (buffer_too_small_text error) };
 
     fn fmt<W: fmt::Write>(&self, f: &mut fmt::Formatter<W>) -> fmt::Result {
@@ -47,8 +43,8 @@ impl Error for BufferTooSmall {}
 /// Adds a unit to those that a buffer was given, of which `len` were counted: writes it if the buffer has a
 /// place for it, and returns how many there are now, or `usize::MAX` if they are more.
 ///
-/// All texts and paths that go into a caller's buffer go through this call or [`sink_replaced`], once to count
-/// their units, and once to write them. Hidden: nothing promises that it stays.
+/// Texts and paths that are made in a caller's buffer go through this call or [`sink_replaced`], once to
+/// count their units, and once to write them. Hidden: nothing promises that it stays.
 #[doc(hidden)]
 #[inline(always)]
 pub fn sink_unit(buffer: &mut [u16], len: usize, unit: u16) -> usize
@@ -133,8 +129,6 @@ impl<'b> UnitSink<'b> {
 
 /// Adds the units of each character.
 impl<'b> TextSink for UnitSink<'b> {
-    ghost use Rattle.std.specs.Str.{IsUtf8};
-
     ghost puts = { λ old text new. (new.buffer.ghost_name ≡ old.buffer.ghost_name)
         × (IsUtf8 text × ((units start : List ℕ) → AreSunk units start old.buffer.now old.len →
         AreSunk (units ++ utf16_units text) start new.buffer.now new.len)) };

@@ -23,7 +23,7 @@ made g c =
     whole ∙ of_units ∙ ap (λ us. us ++ nul_terminated cs) front ∙ sym (append_assoc text cs (0 ∷ []))
 
 pub invariant_of-self-2 : goal.invariant_of-self-2
-invariant_of-self-2 g c = IsString-made _ _ (made g c) (All-append IsTextUnit _ _ c.self.invariant.1 c.in-Some.ensures.0)
+invariant_of-self-2 g c = IsString-made _ _ (made g c) (All-append IsTextUnit _ _ c.self.invariant.1 c.in-Some.ensures.text.0)
 
 pub returns-clause-added : goal.returns-clause-added
 returns-clause-added g c =

@@ -2,8 +2,8 @@
 use Rattle.std.proofs.Common.{◌≡◌, ◌+◌, ◌∷◌, ℕ, drop, slice_index, ap, arith, refl, sym, ◌∙◌}
 use Rattle.std.proofs.Math.ListN.{get_or-eq_default}
 use Rattle.std.specs.Char.Utf16.{utf16_lossy_chars}
-use Rattle.nardcorbel.proofs.lossy.first_shown.Goals as goal
-use Rattle.nardcorbel.proofs.lossy.first_shown.Goals.{then-units-gt1, else-units-gt1}
+use Rattle.uefi_text.proofs.decode.first_lossy.Goals as goal
+use Rattle.uefi_text.proofs.decode.first_lossy.Goals.{then-units-gt1, else-units-gt1}
 
 pub returns-clause-within : goal.returns-clause-within
 returns-clause-within c =
