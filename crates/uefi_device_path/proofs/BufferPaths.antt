@@ -5,9 +5,8 @@ use Rattle.std.proofs.lemmas.Grind.{common_steps}
 use Rattle.std.proofs.lemmas.List.{append-nil, drop-append-le, drop_all, map-append, take_all, take_more}
 use Rattle.std.proofs.lemmas.List.Elements.{All-append, All-cons, All-nil}
 use Rattle.uefi_text.specs.Units.{IsText, IsTextUnit, replaced}
-use Rattle.uefi_path.proofs.Pushing.{with_separators-plain}
-use Rattle.uefi_path.proofs.Splitting.{IsPlain-with_separators}
-use Rattle.uefi_path.proofs.TailUnits.{IsText-with_separators, IsTextUnit-separator}
+use Rattle.uefi_path.proofs.Joining.{with_separators-plain, IsPlain-with_separators}
+use Rattle.uefi_path.proofs.SeparatorPlaces.{IsText-with_separators, IsTextUnit-separator}
 use Rattle.uefi_path.specs.Pushing.{needs_separator}
 use Rattle.uefi_path.specs.Separators.{becomes_separator, separator, slash, with_separators}
 use Rattle.uefi_device_nodes.specs.FileNodes.{is_file}

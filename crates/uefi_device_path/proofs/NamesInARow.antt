@@ -4,9 +4,7 @@ use Rattle.std.specs.List.{flat_map}
 use Rattle.std.proofs.lemmas.Bool.{cases_Bool}
 use Rattle.std.proofs.lemmas.List.{append-nil}
 use Rattle.std.proofs.lemmas.List.Elements.{All-append, All-head, All-tail}
-use Rattle.uefi_path.proofs.Joining.{pushed-with_separators}
-use Rattle.uefi_path.proofs.Parents.{All-canonical}
-use Rattle.uefi_path.proofs.Splitting.{IsPlain-with_separators}
+use Rattle.uefi_path.proofs.Joining.{pushed-with_separators, All-canonical, IsPlain-with_separators}
 use Rattle.uefi_path.specs.Components.{components_of, pieces_between}
 use Rattle.uefi_path.specs.Laws.{ComponentsAreJoined, FullTextsTakeMore, IsRelative}
 use Rattle.uefi_path.specs.Pushing.{pushed}

@@ -10,8 +10,7 @@ use Rattle.std.proofs.Math.Seq.{take-length, take-suc}
 use Rattle.uefi_path.specs.Components.{IsPiece}
 use Rattle.uefi_path.specs.Separators.{becomes_separator, is_separator, separator, slash, with_separators}
 use Rattle.uefi_path.proofs.LastPieces.{last_piece, to_the_end}
-use Rattle.uefi_path.proofs.Pushing.{with_separators-plain}
-use Rattle.uefi_path.proofs.Splitting.{passes_over}
+use Rattle.uefi_path.proofs.Joining.{with_separators-plain, passes_over}
 
 -- units of which none becomes a separator
 abbrev pub Inside : List ℕ → Type 0
@@ -71,8 +70,7 @@ upto us end = let all : end - 0 ≡ end = omega arith in ap (λ n. take n us) al
 -- the pieces of a text, as they are cut at such places
 pub cut_at_end : (us first : List ℕ) (end : ℕ) → Inside (take end us) → end ≡ length us → first ≡ slice_range us 0 end
     → slice_split is_separator (with_separators us) ≡ first ∷ []
-cut_at_end us first end inside all cut =
-    grind (arith, take-length, upto, same, slice_split_none, passes_over, is_piece)
+cut_at_end us first end inside all cut = grind (arith, common_steps, take-length, upto, same, slice_split_none, passes_over, is_piece)
 
 pub cut_inside : (us first rest : List ℕ) (end len : ℕ) → end ≤ length us → end ≢ len → len ≡ length us → Inside (take end us)
     → (end < length us → becomes_separator (get_or us end 0) ≡ true) → first ≡ slice_range us 0 end

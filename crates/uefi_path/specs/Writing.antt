@@ -1,12 +1,14 @@
 -- What a call returns that writes a path with a NUL into a caller's buffer, if there is such a path, and what
 -- the buffer becomes.
-use Rattle.std.specs.Prelude.{◌≡◌, ℕ, nat_lt, if◌then◌else◌, List, length, Option, Some, None, Result, Ok, Err}
+use Rattle.std.specs.Prelude.{◌≡◌, ◌+◌, ◌<◌, ◌^◌, ℕ, nat_lt, if◌then◌else◌, List, length, Option, Some, None, Result, Ok, Err}
 use Rattle.uefi_text.specs.UnalignedCStr16.{with_prefix}
-use Rattle.uefi_text.specs.Units.{nul_terminated}
+use Rattle.uefi_text.specs.Units.{IsText, nul_terminated}
 use Rattle.uefi_text.specs.UnitTexts.{AreSunk, places_needed}
 use Rattle.uefi_text.specs.declared.unit_sink.BufferTooSmall as unit_sink
 use Rattle.uefi_path.specs.Components.{components_of}
 use Rattle.uefi_path.specs.NormalForms.{normal_of, normal_text}
+use Rattle.uefi_path.specs.Parents.{parent_of_components}
+use Rattle.uefi_path.specs.Separators.{with_separators}
 use Rattle.uefi_path.specs.Verdicts.{verdict}
 use Rattle.uefi_path.specs.declared.written.NormalWriteError.{NormalWriteError}
 use Rattle.uefi_path.specs.declared.written.NormalWriteError.TheVariants.{BufferTooSmall, Invalid}
@@ -43,3 +45,17 @@ abbrev pub IsSunk : Option (List ℕ) → Option ℕ → List ℕ → List ℕ �
 IsSunk None told old buffer = told ≡ None
 IsSunk (Some path) None old buffer = ⊥
 IsSunk (Some path) (Some len) old buffer = AreSunk path old buffer len
+
+-- the parent of pieces, by the number of its units, which a `usize` counts with a NUL: a text without slashes
+pub record HasParent (pieces : List (List ℕ)) (len : ℕ) : Type 0 where
+  pub parent : List ℕ
+  pub is : parent_of_components pieces ≡ Some parent
+  pub long : len ≡ length parent
+  pub fits : len + 1 < 2 ^ 64
+  pub is_text : IsText parent
+  pub plain : with_separators parent ≡ parent
+
+-- how many units the parent of pieces has, if they have one
+abbrev pub IsParentLen : List (List ℕ) → Option ℕ → Type 0
+IsParentLen pieces None = parent_of_components pieces ≡ None
+IsParentLen pieces (Some len) = HasParent pieces len

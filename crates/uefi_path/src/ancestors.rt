@@ -7,6 +7,7 @@ ghost use Rattle.uefi_path.specs.Components.{components_of};
 ghost use Rattle.uefi_path.specs.Views.{path_text};
 ghost use Rattle.uefi_text.specs.Runs.{GivesEach};
 ghost use Rattle.uefi_text.specs.Views.{units_of};
+ghost use Rattle.std.specs.Iterator.{YieldsFirstBy, item_count};
 
 use crate::path::Path;
 use crate::separators::cut_last;
@@ -48,10 +49,6 @@ impl<'a> Path<'a> {
 /// Gives the beginnings, the longest first, and then `None` for ever.
 impl<'a> Iterator for Ancestors<'a> {
     type Item = Char16Slice<'a>;
-
-    ghost use Rattle.std.specs.Iterator.{YieldsFirstBy, item_count};
-    ghost use Rattle.uefi_path.specs.Ancestors.{ancestors_left};
-    ghost use Rattle.uefi_text.specs.Views.{units_of};
 
     ghost next_gives = { YieldsFirstBy units_of ancestors_left };
 

@@ -3,21 +3,19 @@
 ghost use Rattle.std.specs.Prelude.{◌≡◌, ◌<◌, ◌^◌, ◌↔◌, All, IfSome, IsSome, IsTrue, drop, length};
 ghost use Rattle.uefi_path.specs.Components.{components_of};
 ghost use Rattle.uefi_path.specs.Separators.{canonical};
-ghost use Rattle.uefi_path.specs.Views.{path_text};
+ghost use Rattle.uefi_path.specs.Views.{path_text, components_left};
 ghost use Rattle.uefi_path.specs.WithoutCase.{MatchesPath, StartsWithoutCase};
 ghost use Rattle.uefi_text.specs.Case.{caseless_order, uppers};
 ghost use Rattle.uefi_text.specs.Runs.{GivesEach};
 ghost use Rattle.uefi_text.specs.Units.{IsText};
 ghost use Rattle.uefi_text.specs.Views.{units_of};
+ghost use Rattle.uefi_path.specs.Runs.{GivesNoNulIn};
 
 use crate::components::Components;
 use crate::path::Path;
 use std::cmp::Ordering;
 
 impl<'a> Path<'a> {
-    ghost use Rattle.uefi_path.specs.Runs.{GivesNoNulIn};
-    ghost use Rattle.uefi_path.specs.Views.{components_left};
-
     /// Whether both paths are equal without case: their canonical texts are.
     ///
     /// ```rust

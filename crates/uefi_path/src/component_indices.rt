@@ -1,12 +1,12 @@
 //! The components of a path, each with the place where it begins in the text.
-#![tactic(auto, unfolding(crate::specs::ComponentIndices::indices_left))]
+#![tactic(auto, using(crate::proofs::Rules::indices_rules), unfolding(crate::specs::ComponentIndices::indices_left))]
 
-ghost use Rattle.std.specs.Prelude.{◌≡◌, ◌≢◌, ◌+◌, ◌<◌, ◌≤◌, ◌^◌, [], All, drop, length, map};
+ghost use Rattle.std.specs.Prelude.{◌≡◌, ◌≢◌, ◌+◌, ◌<◌, ◌^◌, [], All, length, map};
 ghost use Rattle.uefi_path.specs.Components.{components_of, joined};
-ghost use Rattle.uefi_path.specs.Separators.{canonical};
 ghost use Rattle.uefi_path.specs.Views.{components_left, path_text};
 ghost use Rattle.uefi_text.specs.Runs.{GivesEach};
 ghost use Rattle.uefi_text.specs.Units.{IsText};
+ghost use Rattle.std.specs.Iterator.{YieldsFirstBy, item_count};
 
 use crate::components::Components;
 use crate::path::Path;
@@ -100,7 +100,6 @@ impl<A: Allocator + Copy> PathBuf<A> {
 impl<'a> Iterator for ComponentIndices<'a> {
     type Item = (usize, Char16Slice<'a>);
 
-    ghost use Rattle.std.specs.Iterator.{YieldsFirstBy, item_count};
     ghost use Rattle.uefi_path.specs.ComponentIndices.{indexed_units, indices_left};
 
     ghost next_gives = { YieldsFirstBy indexed_units indices_left };

@@ -1,9 +1,9 @@
 //! The components of a path, cut one after the other. `specs/Views.antt` says which are still to come.
-#![tactic(auto, unfolding(crate::specs::Views::components_left))]
+#![tactic(auto, using(crate::proofs::Rules::cuts_rules), unfolding(crate::specs::Views::components_left))]
 
 ghost use Rattle.std.specs.Prelude.{◌≡◌, ℕ, ◌+◌, ◌<◌, ◌^◌, ◌↔◌, [], ◌∷◌, ◌++◌, ◌≤◌, All, List, None, Option, drop, false, length, IfSome, IsSome, IsTrue};
 ghost use Rattle.std.specs.List.{slice_split};
-ghost use Rattle.uefi_path.specs.Components.{AreComponents, components_of};
+ghost use Rattle.uefi_path.specs.Components.{AreComponents, components_of, hint_of_pieces};
 ghost use Rattle.uefi_path.specs.Parents.{is_non_empty};
 ghost use Rattle.uefi_path.specs.Separators.{canonical, is_separator, places_from};
 ghost use Rattle.uefi_path.specs.SeparatorsLeft.{places_left};
@@ -11,6 +11,8 @@ ghost use Rattle.uefi_path.specs.WithoutCase.{MatchEach, capital_pieces};
 ghost use Rattle.uefi_text.specs.Runs.{GivesEach};
 ghost use Rattle.uefi_text.specs.Units.{IsText};
 ghost use Rattle.uefi_text.specs.Views.{text_of, units_of};
+ghost use Rattle.std.specs.Iterator.{UpTo, YieldsFirstBy, item_count, YieldsLastBy};
+ghost use Rattle.std.specs.Iterator.SizeHint.{IsWithinCount};
 
 use crate::separators::{Separators, cut_last};
 use std::fmt;
@@ -141,7 +143,7 @@ impl<'a> Components<'a> {
     }
 
     /// Whether none is left.
-    #[tactic(auto, using(crate::proofs::Splitting::slice_split_some), unfolding(crate::specs::Views::components_left))]
+    #[tactic(auto, using(crate::proofs::Joining::slice_split_some), unfolding(crate::specs::Views::components_left))]
     pub(crate) fn is_done(&self) -> bool
         ensures { IsTrue result ↔ (components_left self.now ≡ []) }
     {
@@ -251,10 +253,6 @@ impl<'a> Components<'a> {
 impl<'a> Iterator for Components<'a> {
     type Item = Char16Slice<'a>;
 
-    ghost use Rattle.std.specs.Iterator.{UpTo, YieldsFirstBy, item_count};
-    ghost use Rattle.std.specs.Iterator.SizeHint.{IsWithinCount};
-    ghost use Rattle.uefi_path.specs.Components.{hint_of_pieces};
-    ghost use Rattle.uefi_text.specs.Views.{units_of};
     ghost use Rattle.uefi_path.specs.Views.{components_left};
 
     ghost next_gives = { YieldsFirstBy units_of components_left };
@@ -284,8 +282,6 @@ impl<'a> Iterator for Components<'a> {
 
 /// Gives the components from the last one on. Each costs a pass over it, of a path buffer too.
 impl<'a> DoubleEndedIterator for Components<'a> {
-    ghost use Rattle.std.specs.Iterator.{YieldsLastBy};
-    ghost use Rattle.uefi_text.specs.Views.{units_of};
     ghost use Rattle.uefi_path.specs.Views.{components_left};
 
     ghost next_back_gives = { YieldsLastBy units_of components_left };

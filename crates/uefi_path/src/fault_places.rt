@@ -1,4 +1,6 @@
 //! Where the component begins for which a path is refused.
+#![tactic(auto, using(crate::proofs::Rules::faults_rules))]
+
 ghost use Rattle.std.specs.Prelude.{◌≡◌, ◌↔◌, IfErr, IsOk, MatchOption, None};
 ghost use Rattle.uefi_path.specs.FaultPlaces.{IsRefusedAt};
 ghost use Rattle.uefi_path.specs.Verdicts.{IsValid, verdict};

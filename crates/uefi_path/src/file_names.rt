@@ -1,4 +1,6 @@
 //! The stem and the extension of a path's last component. No call takes memory.
+#![tactic(auto, using(crate::proofs::LastPieces::no_extension, crate::proofs::LastPieces::named))]
+
 ghost use Rattle.std.specs.Prelude.{◌<◌, ◌≤◌, ◌+◌, IfSome, MatchOption, None, Some, drop, length, option_map, take};
 ghost use Rattle.std.specs.List.{last_or};
 ghost use Rattle.uefi_path.specs.Components.{components_of};

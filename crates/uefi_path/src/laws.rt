@@ -22,7 +22,7 @@ pub fn split_once()
 {}
 
 /// A path is valid exactly where `validate_path` does not refuse it.
-#[tactic(auto, using(crate::proofs::ValidPaths::valid_unrefused))]
+#[tactic(auto, using(crate::proofs::Validity::valid_unrefused))]
 pub fn validity()
     ensures { ValidWhereUnrefused }
 {}
@@ -87,7 +87,7 @@ pub fn parent_valid()
 {}
 
 /// The components of a valid path, joined one by one to the empty path, give its canonical text.
-#[tactic(auto, using(crate::proofs::Rebuilding::pushed_components))]
+#[tactic(auto, using(crate::proofs::ParentForm::pushed_components))]
 pub fn push_components()
     ensures { ComponentsRebuild }
 {}
@@ -141,7 +141,7 @@ pub fn named_once()
 
 /// The beginnings of a path that has components are its canonical text and its shorter prefixes,
 /// which are the successive parents of a valid one ([`parents_enumerate`]).
-#[tactic(auto, using(crate::proofs::Beginnings::beginnings_are_prefixes))]
+#[tactic(auto, using(crate::proofs::TakenComponents::beginnings_are_prefixes))]
 pub fn ancestors_enumerate()
     ensures { BeginningsArePrefixes }
 {}

@@ -1,13 +1,13 @@
 //! The names of a normal path, found from the last component on. A `..` there says how many names before it
 //! go, so that none has to be kept on the way: no call takes memory.
-ghost use Rattle.std.specs.Prelude.{◌≡◌, ◌↔◌, ◌+◌, ◌-◌, ◌<◌, ◌≤◌, ◌^◌, ◌++◌, ◌∷◌, [], All, IfSome, IsNone, IsTrue, List, None, ℕ, drop, if◌then◌else◌, length, option_map, slice_index, take};
-ghost use Rattle.std.specs.List.{slice_split};
+#![tactic(auto, using(crate::proofs::Rules::kept_names_rules))]
+
+ghost use Rattle.std.specs.Prelude.{◌≡◌, ◌+◌, ◌<◌, ◌≤◌, ◌^◌, ◌++◌, ◌∷◌, [], All, IsNone, List, None, ℕ, if◌then◌else◌, length, option_map};
 ghost use Rattle.std.specs.Option.{option_to_list};
-ghost use Rattle.uefi_path.specs.Components.{IsPiece, components_of, joined};
-ghost use Rattle.uefi_path.specs.CutPieces.{are_left, slashed_left};
+ghost use Rattle.uefi_path.specs.Components.{components_of, joined};
 ghost use Rattle.uefi_path.specs.NamesLeft.{IsWalk, names_before, names_left};
 ghost use Rattle.uefi_path.specs.NormalForms.{normal_of};
-ghost use Rattle.uefi_path.specs.Separators.{separator, with_separators};
+ghost use Rattle.uefi_path.specs.Separators.{with_separators};
 ghost use Rattle.uefi_path.specs.Verdicts.{IsGood, verdict};
 ghost use Rattle.uefi_path.specs.Views.{path_text};
 ghost use Rattle.uefi_text.specs.Units.{IsText};

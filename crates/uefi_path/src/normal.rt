@@ -1,11 +1,14 @@
 //! Normal paths, which hold names alone: no `.` and no `..`. `specs/NormalForms.antt` says what they are.
-ghost use Rattle.std.specs.Prelude.{◌≡◌, ◌+◌, ◌<◌, ◌^◌, All, IfErr, IfOk, IsTrue, None, length, max};
+#![tactic(auto, using(crate::proofs::Rules::normal_paths_rules))]
+
+ghost use Rattle.std.specs.Prelude.{◌≡◌, ◌+◌, ◌<◌, ◌^◌, All, IfErr, IfOk, IsTrue, None, length, max, Some};
 ghost use Rattle.uefi_path.specs.Components.{components_of, joined};
 ghost use Rattle.uefi_path.specs.NamesLeft.{IsWalk, names_left};
 ghost use Rattle.uefi_path.specs.NormalForms.{IsName, NormalForm, normal_of, normal_text};
 ghost use Rattle.uefi_path.specs.Verdicts.{IsGood, normal_refusal, verdict};
 ghost use Rattle.uefi_path.specs.Views.{path_text};
-ghost use Rattle.uefi_text.specs.Units.{IsText, nul_terminated};
+ghost use Rattle.uefi_text.specs.Units.{IsText};
+ghost use Rattle.uefi_path.specs.PathErrors.{normalize_error_text};
 
 use crate::names::NamesFromLast;
 use crate::path::Path;
@@ -31,8 +34,6 @@ pub enum NormalizeError {
 
 /// Puts the reason.
 impl Printed for NormalizeError {
-    ghost use Rattle.uefi_path.specs.PathErrors.{normalize_error_text};
-
     ghost printed = { normalize_error_text };
 
     fn put<S: TextSink>(&self, sink: &mut S) {
@@ -45,9 +46,6 @@ impl Printed for NormalizeError {
 
 /// Prints the same.
 impl fmt::Display for NormalizeError {
-    ghost use Rattle.std.specs.Prelude.{Some};
-    ghost use Rattle.uefi_path.specs.PathErrors.{normalize_error_text};
-
     ghost output = { λ error. Some (normalize_error_text error) };
 
     fn fmt<W: fmt::Write>(&self, f: &mut fmt::Formatter<W>) -> fmt::Result {

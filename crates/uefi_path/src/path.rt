@@ -1,7 +1,7 @@
 //! Paths that are borrowed. `specs/Views.antt` says what a path shows.
 #![tactic(auto, unfolding(crate::specs::Views::path_text, crate::specs::Views::components_left))]
 
-ghost use Rattle.std.specs.Prelude.{◌≡◌, ℕ, ◌+◌, ◌<◌, ◌≤◌, ◌^◌, ◌↔◌, [], ◌∷◌, ◌++◌, All, List, None, drop, length, option_map, IfSome, IsSome, IsTrue};
+ghost use Rattle.std.specs.Prelude.{◌≡◌, ℕ, ◌+◌, ◌<◌, ◌≤◌, ◌^◌, ◌↔◌, [], ◌∷◌, ◌++◌, All, List, None, drop, length, option_map, IfSome, IsSome, IsTrue, nat_eq, Some};
 ghost use Rattle.std.specs.List.{last_or};
 ghost use Rattle.uefi_path.specs.Components.{AreComponents, StartsWith, components_of};
 ghost use Rattle.uefi_path.specs.FileNames.{EndsWith};
@@ -9,6 +9,13 @@ ghost use Rattle.uefi_path.specs.Separators.{canonical, separator};
 ghost use Rattle.uefi_text.specs.Runs.{GivesEach};
 ghost use Rattle.uefi_text.specs.Units.{IsText};
 ghost use Rattle.uefi_text.specs.Views.{text_of, units_of};
+ghost use Rattle.uefi_path.specs.Runs.{GivesNoNulIn};
+ghost use Rattle.uefi_path.specs.Views.{path_text, components_left};
+ghost use Rattle.std.specs.Cmp.{on_per, partial_equiv_from_equiv, on_po};
+ghost use Rattle.std.specs.Cmp.Lexicographic.{nat_list_eq_equiv, pointwise, on_texts_equal, slice_cmp, texts_po, on_texts, texts_ties};
+ghost use Rattle.std.specs.Ordering.{nat_cmp, as_partial_cmp, on};
+ghost use Rattle.std.proofs.Common.{refl};
+ghost use Rattle.std.specs.Str.{encode_utf8_all};
 
 use crate::components::{Components, Rest};
 use crate::path_units::last_component;
@@ -25,9 +32,6 @@ pub struct Path<'a> {
 }
 
 impl<'a> Path<'a> {
-    ghost use Rattle.uefi_path.specs.Runs.{GivesNoNulIn};
-    ghost use Rattle.uefi_path.specs.Views.{path_text, components_left};
-
     /// The path of a string. No slash is replaced. Takes no memory.
     ///
     /// ```rust
@@ -197,8 +201,6 @@ impl<'a> Path<'a> {
 
 /// As [`Path::new`].
 impl<'a> From<CStr16<'a>> for Path<'a> {
-    ghost use Rattle.uefi_path.specs.Views.{path_text};
-
     ghost from_gives = { λ string result. path_text result ≡ text_of string };
 
     fn from(string: CStr16<'a>) -> Path<'a> {
@@ -208,12 +210,6 @@ impl<'a> From<CStr16<'a>> for Path<'a> {
 
 /// Two paths are equal exactly when their canonical texts are, which is when their components are.
 impl<'a> PartialEq for Path<'a> {
-    ghost use Rattle.std.specs.Cmp.{on_per, partial_equiv_from_equiv};
-    ghost use Rattle.std.specs.Prelude.{nat_eq};
-    ghost use Rattle.std.specs.Cmp.Lexicographic.{nat_list_eq_equiv, pointwise};
-    ghost use Rattle.uefi_path.specs.Separators.{canonical};
-    ghost use Rattle.uefi_path.specs.Views.{path_text};
-
     ghost eq = { λ a b. pointwise nat_eq (canonical (path_text a)) (canonical (path_text b)) };
 
     ghost laws = { on_per (λ path. canonical (path_text path)) (partial_equiv_from_equiv nat_list_eq_equiv) };
@@ -224,22 +220,12 @@ impl<'a> PartialEq for Path<'a> {
 }
 
 impl<'a> Eq for Path<'a> {
-    ghost use Rattle.std.specs.Cmp.Lexicographic.{on_texts_equal};
-    ghost use Rattle.uefi_path.specs.Separators.{canonical};
-    ghost use Rattle.uefi_path.specs.Views.{path_text};
-
     ghost laws = { on_texts_equal (λ path. canonical (path_text path)) };
 }
 
 /// The order of the canonical texts, by code unit: components are not compared one by one, so `a\\b`
 /// comes after `a!`.
 impl<'a> PartialOrd for Path<'a> {
-    ghost use Rattle.std.specs.Cmp.{on_po};
-    ghost use Rattle.std.specs.Ordering.{nat_cmp, as_partial_cmp, on};
-    ghost use Rattle.std.specs.Cmp.Lexicographic.{slice_cmp, texts_po};
-    ghost use Rattle.uefi_path.specs.Separators.{canonical};
-    ghost use Rattle.uefi_path.specs.Views.{path_text};
-
     ghost partial_cmp = { as_partial_cmp (on (λ path. canonical (path_text path)) (slice_cmp nat_cmp)) };
 
     ghost laws = { on_po (λ path. canonical (path_text path)) texts_po };
@@ -251,12 +237,6 @@ impl<'a> PartialOrd for Path<'a> {
 
 /// `Equal` exactly for equal paths.
 impl<'a> Ord for Path<'a> {
-    ghost use Rattle.std.proofs.Common.{refl};
-    ghost use Rattle.std.specs.Ordering.{nat_cmp, on};
-    ghost use Rattle.std.specs.Cmp.Lexicographic.{on_texts, slice_cmp, texts_ties};
-    ghost use Rattle.uefi_path.specs.Separators.{canonical};
-    ghost use Rattle.uefi_path.specs.Views.{path_text};
-
     ghost cmp = { on (λ path. canonical (path_text path)) (slice_cmp nat_cmp) };
 
     ghost total = { on_texts (λ path. canonical (path_text path)) };
@@ -272,10 +252,6 @@ impl<'a> Ord for Path<'a> {
 
 /// Writes the characters of the text.
 impl<'a> fmt::Display for Path<'a> {
-    ghost use Rattle.std.specs.Prelude.{Some};
-    ghost use Rattle.std.specs.Str.{encode_utf8_all};
-    ghost use Rattle.uefi_path.specs.Views.{path_text};
-
     ghost output = { λ path. Some (encode_utf8_all (path_text path)) };
 
     fn fmt<W: fmt::Write>(&self, f: &mut fmt::Formatter<W>) -> fmt::Result {

@@ -1,6 +1,8 @@
 //! Calls on slices of code units, which paths and the library for C have in common. Contracts speak of the
 //! units as lists. Hidden: nothing promises that they stay.
-ghost use Rattle.std.specs.Prelude.{◌≡◌, ◌≢◌, ◌↔◌, ◌+◌, ◌-◌, ◌^◌, ◌<◌, ◌≤◌, [], ◌∷◌, ◌++◌, if◌then◌else◌, IfSome, IsNone, IsSome, MatchOption, None, Some, drop, length, min, option_map, slice_index, slice_range, take};
+#![tactic(auto, using(crate::proofs::Rules::last_pieces_rules))]
+
+ghost use Rattle.std.specs.Prelude.{◌≡◌, ◌≢◌, ◌↔◌, ◌+◌, ◌-◌, ◌<◌, ◌≤◌, [], ◌∷◌, IfSome, IsNone, IsSome, MatchOption, None, Some, drop, length, option_map, slice_index, slice_range, take};
 ghost use Rattle.std.specs.List.{last_or, position, position_or_len, slice_split};
 ghost use Rattle.uefi_path.specs.ComponentPlaces.{component_place, components_from};
 ghost use Rattle.uefi_path.specs.Components.{IsPiece, components_of, joined};

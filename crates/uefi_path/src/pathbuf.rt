@@ -1,18 +1,26 @@
 //! Paths that are owned, and the calls of [`Path`] that make one.
-ghost use Rattle.std.specs.Prelude.{◌≡◌, ◌≢◌, ℕ, ◌+◌, ◌<◌, ◌≤◌, ◌^◌, ◌↔◌, [], ◌∷◌, ◌++◌, All, List, Some, None, drop, fold, false, true, if◌then◌else◌, length, map, option_map, replicate, take, ◌-◌, IsTrue, IsOk, IsSome, IfOk, IfErr, IfSome, OnOk, OnErr};
-ghost use Rattle.std.specs.List.{last_or, list_any, slice_range, slice_split};
+#![tactic(auto, using(crate::proofs::Rules::path_buffers_rules))]
+
+ghost use Rattle.std.specs.Prelude.{◌≡◌, ◌≢◌, ℕ, ◌+◌, ◌<◌, ◌≤◌, ◌^◌, ◌↔◌, [], ◌∷◌, ◌++◌, All, List, Some, None, false, true, if◌then◌else◌, length, option_map, replicate, take, ◌-◌, IsTrue, IsOk, IsSome, IfOk, IfErr, IfSome, OnOk, OnErr, nat_eq};
+ghost use Rattle.std.specs.List.{last_or, list_any};
 ghost use Rattle.uefi_path.specs.Components.{AreComponents, IsPiece, StartsWith, components_of};
-ghost use Rattle.uefi_path.specs.Components as pieces_joined;
 ghost use Rattle.uefi_path.specs.Parents.{all_but_last, parent_of_components, parent_text};
 ghost use Rattle.uefi_path.specs.Popping.{IsPopped};
 ghost use Rattle.uefi_path.specs.Runs.{GivesNoNulIn};
 ghost use Rattle.uefi_path.specs.Pushing.{IsPushNext, appended, needs_separator, pushed};
 ghost use Rattle.uefi_path.specs.Renaming.{IsExtended, IsRenamed, StartsName, dotted};
-ghost use Rattle.uefi_path.specs.Separators.{IsPlain, canonical, is_slash, is_separator, places_of, separator, with_separators};
+ghost use Rattle.uefi_path.specs.Separators.{IsPlain, canonical, is_slash, places_of, separator, with_separators};
 ghost use Rattle.uefi_path.specs.SuccessiveParents.{parent_chain, parents_of};
-ghost use Rattle.uefi_path.specs.Views.{components_left, path_text};
+ghost use Rattle.uefi_path.specs.Views.{components_left, path_text, counted_text, reads_of, units_left};
 ghost use Rattle.uefi_text.specs.Units.{IsText};
 ghost use Rattle.uefi_text.specs.Views.{text_of, units_of};
+ghost use Rattle.uefi_text.specs.Runs.{GivesEach};
+ghost use Rattle.std.specs.Cmp.{on_per, partial_equiv_from_equiv, on_po};
+ghost use Rattle.std.specs.Cmp.Lexicographic.{nat_list_eq_equiv, pointwise, on_texts_equal, slice_cmp, texts_po, on_texts, texts_ties};
+ghost use Rattle.std.specs.Ordering.{nat_cmp, as_partial_cmp, on};
+ghost use Rattle.std.proofs.Common.{refl};
+ghost use Rattle.std.specs.Str.{encode_utf8_all};
+ghost use Rattle.uefi_path.specs.Components as pieces_joined;
 
 use crate::components::{Components, Rest};
 use crate::counted::CountedUnits;
@@ -22,7 +30,7 @@ use crate::path_units::{last_component, needs_separator, others_end};
 use crate::push_blocks::{add_block, copy_units};
 use crate::rooms::{copy_places, copy_string, room_for_both};
 use crate::separators::{add_places, count_separators, cut_last};
-use crate::written::sink_parent;
+use crate::written::{parent_len, sink_parent};
 use std::alloc::{AllocError, Allocator, Global};
 use std::cmp::Ordering;
 use std::fmt;
@@ -83,7 +91,7 @@ fn parent_of<A: Allocator + Copy>(
     ensures ok { IfOk result (λ parent. parent ≡ parent_of_components (components_left components.entry)) }
     ensures none { parent_of_components (components_left components.entry) ≡ None → IsOk result }
 {
-    let Some(len) = sink_parent(&mut [], components.copy()) else {
+    let Some(len) = parent_len(&components) else {
         return Ok(None);
     };
     let mut units = zeros(alloc, len + 1)?;
@@ -129,8 +137,6 @@ fn name_start(units: &[u16]) -> usize
 
 /// Owned paths of a borrowed one.
 impl<'a> Path<'a> {
-    ghost use Rattle.uefi_path.specs.Views.{path_text};
-
     /// Copies the path, each slash replaced; or returns `AllocError`. Takes memory as
     /// [`PathBuf::from`] does.
     ///
@@ -203,9 +209,6 @@ impl<'a> Path<'a> {
 }
 
 impl<A: Allocator + Copy> PathBuf<A> {
-    ghost use Rattle.uefi_text.specs.Runs.{GivesEach};
-    ghost use Rattle.uefi_path.specs.Views.{components_left, counted_text, path_text, reads_of, units_left};
-
     /// The empty path, or `AllocError`: its NUL takes memory.
     ///
     /// ```rust
@@ -699,11 +702,6 @@ impl<A: Allocator + Copy> Clone for PathBuf<A> {
 
 /// Equality is that of [`Path`].
 impl<A: Allocator + Copy> PartialEq for PathBuf<A> {
-    ghost use Rattle.std.specs.Cmp.{on_per, partial_equiv_from_equiv};
-    ghost use Rattle.std.specs.Prelude.{nat_eq};
-    ghost use Rattle.std.specs.Cmp.Lexicographic.{nat_list_eq_equiv, pointwise};
-    ghost use Rattle.uefi_path.specs.Separators.{canonical};
-
     ghost eq = { λ a b. pointwise nat_eq (canonical a) (canonical b) };
 
     ghost laws = { on_per canonical (partial_equiv_from_equiv nat_list_eq_equiv) };
@@ -714,19 +712,11 @@ impl<A: Allocator + Copy> PartialEq for PathBuf<A> {
 }
 
 impl<A: Allocator + Copy> Eq for PathBuf<A> {
-    ghost use Rattle.std.specs.Cmp.Lexicographic.{on_texts_equal};
-    ghost use Rattle.uefi_path.specs.Separators.{canonical};
-
     ghost laws = { on_texts_equal canonical };
 }
 
 /// The order is that of [`Path`].
 impl<A: Allocator + Copy> PartialOrd for PathBuf<A> {
-    ghost use Rattle.std.specs.Cmp.{on_po};
-    ghost use Rattle.std.specs.Ordering.{nat_cmp, as_partial_cmp, on};
-    ghost use Rattle.std.specs.Cmp.Lexicographic.{slice_cmp, texts_po};
-    ghost use Rattle.uefi_path.specs.Separators.{canonical};
-
     ghost partial_cmp = { as_partial_cmp (on canonical (slice_cmp nat_cmp)) };
 
     ghost laws = { on_po canonical texts_po };
@@ -738,11 +728,6 @@ impl<A: Allocator + Copy> PartialOrd for PathBuf<A> {
 
 /// `Equal` exactly for equal paths.
 impl<A: Allocator + Copy> Ord for PathBuf<A> {
-    ghost use Rattle.std.proofs.Common.{refl};
-    ghost use Rattle.std.specs.Ordering.{nat_cmp, on};
-    ghost use Rattle.std.specs.Cmp.Lexicographic.{on_texts, slice_cmp, texts_ties};
-    ghost use Rattle.uefi_path.specs.Separators.{canonical};
-
     ghost cmp = { on canonical (slice_cmp nat_cmp) };
 
     ghost total = { on_texts canonical };
@@ -758,9 +743,6 @@ impl<A: Allocator + Copy> Ord for PathBuf<A> {
 
 /// Writes the characters of the text.
 impl<A: Allocator + Copy> fmt::Display for PathBuf<A> {
-    ghost use Rattle.std.specs.Prelude.{Some};
-    ghost use Rattle.std.specs.Str.{encode_utf8_all};
-
     ghost output = { λ text. Some (encode_utf8_all text) };
 
     fn fmt<W: fmt::Write>(&self, f: &mut fmt::Formatter<W>) -> fmt::Result {

@@ -1,6 +1,8 @@
 //! What a push adds to a path, block by block: units with their slashes replaced, and the places of their
 //! separators. The length of a block is known when the program is compiled, so that a block takes a few
 //! vector instructions and no loop but the one over its separators.
+#![tactic(auto, using(crate::proofs::Rules::blocks_rules))]
+
 ghost use Rattle.std.specs.Prelude.{◌≡◌, ◌+◌, ◌<◌, ◌≤◌, ◌^◌, ◌++◌, OnErr, OnOk, length};
 ghost use Rattle.std.specs.List.{slice_range};
 ghost use Rattle.uefi_path.specs.Separators.{places_from, with_separators};

@@ -1,4 +1,6 @@
 //! Separators: which units become them, and where they stand. A vector comparison looks at a block of units.
+#![tactic(auto, using(crate::proofs::Rules::places_rules))]
+
 ghost use Rattle.std.specs.Prelude.{◌≡◌, ◌<◌, ◌≤◌, ◌+◌, ◌-◌, ◌++◌, ◌∷◌, [], IfSome, IsNone, count_by, drop, length, map, slice_index, take};
 ghost use Rattle.std.specs.List.{list_any, slice_range, slice_split};
 ghost use Rattle.uefi_path.specs.Components.{IsPiece};

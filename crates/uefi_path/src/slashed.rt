@@ -1,5 +1,5 @@
 //! Paths in which a slash separates components too, as in those that a path buffer takes over.
-#![tactic(auto)]
+#![tactic(auto, using(crate::proofs::Rules::slashed_paths_rules))]
 
 ghost use Rattle.std.specs.Prelude.{◌≡◌, ◌≤◌, ◌+◌, ◌-◌, ◌<◌, ◌^◌, ◌++◌, ◌∷◌, [], All, drop, false, length, slice_index, take, true};
 ghost use Rattle.std.specs.List.{slice_split};

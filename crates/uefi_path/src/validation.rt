@@ -1,5 +1,5 @@
 //! Which paths are accepted, and why the others are refused.
-ghost use Rattle.std.specs.Prelude.{◌≡◌, ◌+◌, ◌<◌, ◌^◌, ◌↔◌, All, IfOk, IsOk, IsTrue, Option, find};
+ghost use Rattle.std.specs.Prelude.{◌≡◌, ◌+◌, ◌<◌, ◌^◌, ◌↔◌, All, IfOk, IsOk, IsTrue, Option, find, Some};
 ghost use Rattle.std.specs.Result.{result_err};
 ghost use Rattle.uefi_path.specs.Climbing.{depth_after};
 ghost use Rattle.uefi_path.specs.Components.{components_of};
@@ -7,6 +7,7 @@ ghost use Rattle.uefi_path.specs.NormalForms.{IsName, kind};
 ghost use Rattle.uefi_path.specs.Verdicts.{IsValid, fault, is_denied, verdict};
 ghost use Rattle.uefi_path.specs.Views.{path_text};
 ghost use Rattle.uefi_text.specs.Views.{units_of};
+ghost use Rattle.uefi_path.specs.PathErrors.{path_error_text};
 
 use crate::component_kinds::{Kind, kind_of};
 use crate::path::Path;
@@ -36,8 +37,6 @@ pub enum PathError {
 
 /// Puts the reason, with the number of an illegal character in decimal.
 impl Printed for PathError {
-    ghost use Rattle.uefi_path.specs.PathErrors.{path_error_text};
-
     ghost printed = { path_error_text };
 
     #[tactic(auto, using(uefi_text::proofs::Puts::puts))]
@@ -57,9 +56,6 @@ impl Printed for PathError {
 
 /// Prints the same.
 impl fmt::Display for PathError {
-    ghost use Rattle.std.specs.Prelude.{Some};
-    ghost use Rattle.uefi_path.specs.PathErrors.{path_error_text};
-
     ghost output = { λ error. Some (path_error_text error) };
 
     fn fmt<W: fmt::Write>(&self, f: &mut fmt::Formatter<W>) -> fmt::Result {

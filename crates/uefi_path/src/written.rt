@@ -1,5 +1,5 @@
 //! Paths that are made in a caller's buffer: whole, or not at all. No call takes memory.
-ghost use Rattle.std.specs.Prelude.{◌≡◌, ℕ, ◌+◌, ◌-◌, ◌<◌, ◌≤◌, ◌^◌, [], ◌∷◌, ◌++◌, All, IfErr, IfSome, List, Some, drop, if◌then◌else◌, length, max, nat_lt, option_map, take};
+ghost use Rattle.std.specs.Prelude.{◌≡◌, ℕ, ◌+◌, ◌-◌, ◌<◌, ◌≤◌, ◌^◌, [], ◌∷◌, ◌++◌, All, IfErr, List, Some, drop, if◌then◌else◌, length, max, nat_lt, take};
 ghost use Rattle.uefi_path.specs.Components.{IsPiece, components_of, joined};
 ghost use Rattle.uefi_path.specs.NormalForms.{normal_of, normal_text};
 ghost use Rattle.uefi_path.specs.NamesLeft.{IsWalk, names_left};
@@ -8,10 +8,11 @@ ghost use Rattle.uefi_path.specs.Pushing.{needs_separator, pushed, tail_of};
 ghost use Rattle.uefi_path.specs.Separators.{separator, with_separators};
 ghost use Rattle.uefi_path.specs.Verdicts.{IsGood, verdict};
 ghost use Rattle.uefi_path.specs.Views.{components_left, path_text};
-ghost use Rattle.uefi_path.specs.Writing.{IsSunk, normal_path, normal_written, path_written, written_over};
+ghost use Rattle.uefi_path.specs.Writing.{IsParentLen, IsSunk, normal_path, normal_written, path_written, written_over};
 ghost use Rattle.uefi_text.specs.UnalignedCStr16.{with_prefix};
 ghost use Rattle.uefi_text.specs.UnitTexts.{AreSunk, written_len};
-ghost use Rattle.uefi_text.specs.Units.{nul_terminated};
+ghost use Rattle.uefi_text.specs.Units.{IsText, nul_terminated};
+ghost use Rattle.uefi_path.specs.PathErrors.{normal_write_error_text};
 
 use crate::components::Components;
 use crate::names::NamesFromLast;
@@ -97,6 +98,16 @@ pub(crate) fn sink_parent(buffer: &mut [u16], mut components: Components<'_>) ->
         last = component;
     }
     Some(len)
+}
+
+/// How many units the parent of a path of these components has, if it has one.
+pub(crate) fn parent_len(components: &Components<'_>) -> Option<usize>
+    requires texts { All IsText (components_left components.now) }
+    requires pieces { All IsPiece (components_left components.now) }
+    requires bound { length (joined (components_left components.now)) < 2 ^ 64 }
+    ensures { IsParentLen (components_left components.now) result }
+{
+    sink_parent(&mut [], components.copy())
 }
 
 /// Writes a separator before what stands at the end of a buffer, if anything does, and returns where that
@@ -198,8 +209,6 @@ pub enum NormalWriteError {
 
 /// Puts the reason.
 impl Printed for NormalWriteError {
-    ghost use Rattle.uefi_path.specs.PathErrors.{normal_write_error_text};
-
     ghost printed = { normal_write_error_text };
 
     #[tactic(auto, using(uefi_text::proofs::Puts::puts))]
@@ -220,9 +229,6 @@ impl Printed for NormalWriteError {
 
 /// Prints the same.
 impl fmt::Display for NormalWriteError {
-    ghost use Rattle.std.specs.Prelude.{Some};
-    ghost use Rattle.uefi_path.specs.PathErrors.{normal_write_error_text};
-
     ghost output = { λ error. Some (normal_write_error_text error) };
 
     fn fmt<W: fmt::Write>(&self, f: &mut fmt::Formatter<W>) -> fmt::Result {
@@ -256,7 +262,7 @@ impl<'a> Path<'a> {
         // A clause of this call says how long the path can be.
         let _text = self.to_cstr16().as_slice();
         let components = self.components();
-        let Some(len) = sink_parent(&mut [], components.copy()) else {
+        let Some(len) = parent_len(&components) else {
             return Ok(None);
         };
         if buffer.len() <= len {

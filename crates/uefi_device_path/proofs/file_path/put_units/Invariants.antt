@@ -1,4 +1,4 @@
-use Rattle.std.proofs.Common.{◌≡◌, ◌+◌, ◌≤◌, ◌++◌, ℕ, List, drop, length, take}
+use Rattle.std.proofs.Common.{◌+◌, ◌≤◌, ◌++◌, ℕ, List, drop, length, take}
 use Rattle.uefi_path.specs.Separators.{with_separators}
 use Rattle.uefi_text.specs.Units.{without_nul}
 use Rattle.uefi_text.specs.Views.{items_of}

@@ -1,11 +1,10 @@
 -- The walk goes on over each component without a fault, and stops at the first other.
 use Rattle.std.proofs.Common.{◌∙◌, arith, sym}
 use Rattle.std.proofs.lemmas.Bool.{false≢true}
-use Rattle.uefi_path.specs.Views.{path_text}
 use Rattle.uefi_path.specs.declared.validation.PathError.TheVariants.{ClimbsAboveRoot}
 use Rattle.uefi_text.specs.Views.{units_of}
-use Rattle.uefi_path.proofs.Depth.{room_here}
-use Rattle.uefi_path.proofs.FaultPlaces.{none_left, refused_by_climb, refused_by_name, step, stop}
+use Rattle.uefi_path.proofs.Rewriting.{room_here}
+use Rattle.uefi_path.proofs.Validity.{refused_by_climb, refused_by_name, step, stop}
 use Rattle.uefi_path.proofs.fault_places.find_path_fault.Goals as goal
 use Rattle.std.proofs.lemmas.Grind.{common_steps}
 
@@ -26,4 +25,4 @@ pub loop-place-preserved : goal.loop-place-preserved
 loop-place-preserved c = grind (arith, common_steps, step, room_here)
 
 pub returns : goal.returns
-returns c = none_left (path_text c.args.path) c.loop-place.depth _ c.loop-place.invariant.walk c.in-None.ensures.steps.0 (λ none. false≢true (c.if-is_empty.ensures.1 none))
+returns c = grind arith

@@ -1,7 +1,7 @@
 use Rattle.std.proofs.Common.{◌+◌, ◌<◌, ◌^◌, length, map}
 use Rattle.uefi_path.specs.ComponentIndices.{indices_left}
 use Rattle.uefi_path.specs.Views.{path_text}
-use Rattle.uefi_path.proofs.FaultPlaces.{IsWalkAt}
+use Rattle.uefi_path.proofs.Validity.{IsWalkAt}
 use Rattle.uefi_path.proofs.fault_places.find_path_fault.Given as goal
 
 abbrev pub invariant-loop-place : goal.invariant-loop-place

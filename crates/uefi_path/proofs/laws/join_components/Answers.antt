@@ -1,7 +1,6 @@
 use Rattle.std.proofs.Common.{arith}
 use Rattle.std.proofs.lemmas.List.Elements.{All-weaker}
-use Rattle.uefi_path.proofs.Joining.{components_of-pushed}
-use Rattle.uefi_path.proofs.Parents.{IsFull}
+use Rattle.uefi_path.proofs.Joining.{components_of-pushed, IsFull}
 use Rattle.uefi_path.proofs.Validity.{full-open}
 use Rattle.uefi_path.proofs.laws.join_components.Goals as goal
 

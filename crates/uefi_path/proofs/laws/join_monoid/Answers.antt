@@ -1,6 +1,5 @@
 use Rattle.std.proofs.Common.{◌∙◌}
-use Rattle.uefi_path.proofs.Joining.{pushed-pushed}
-use Rattle.uefi_path.proofs.Pushing.{pushed-nil, with_separators-plain}
+use Rattle.uefi_path.proofs.Joining.{pushed-pushed, pushed-nil, with_separators-plain}
 use Rattle.uefi_path.proofs.laws.join_monoid.Goals as goal
 
 pub returns-clause-associative : goal.returns-clause-associative

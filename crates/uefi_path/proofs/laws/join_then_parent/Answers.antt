@@ -1,4 +1,4 @@
-use Rattle.uefi_path.proofs.Rebuilding.{parent_text-pushed}
+use Rattle.uefi_path.proofs.ParentForm.{parent_text-pushed}
 use Rattle.uefi_path.proofs.laws.join_then_parent.Goals as goal
 
 pub returns-clause-parent : goal.returns-clause-parent

@@ -1,4 +1,4 @@
-use Rattle.uefi_path.proofs.NamedFiles.{named_once, named_or_not}
+use Rattle.uefi_path.proofs.LastPieces.{named_once, named_or_not}
 use Rattle.uefi_path.proofs.laws.named_once.Goals as goal
 
 pub returns-clause-once : goal.returns-clause-once

@@ -1,4 +1,4 @@
-use Rattle.uefi_path.proofs.NormalPaths.{normal_holds_names, normal_is_normal, normal_is_valid, normal_paths_agree}
+use Rattle.uefi_path.proofs.KeptNames.{normal_holds_names, normal_is_normal, normal_is_valid, normal_paths_agree}
 use Rattle.uefi_path.proofs.laws.normal_once.Goals as goal
 
 pub returns-clause-valid : goal.returns-clause-valid

@@ -1,11 +1,8 @@
 use Rattle.std.proofs.Common.{ℕ, ◌-◌, ◌≤◌, List, [], ◌∷◌, length, arith}
-use Rattle.uefi_path.proofs.ParentForm.{parent_text-plain}
-use Rattle.uefi_path.proofs.ParentSizes.{parent_text-with_separators, fewer_parent_text}
+use Rattle.uefi_path.proofs.ParentForm.{parent_text-plain, parent_text-with_separators, fewer_parent_text, AreParents-parents_of, parents_once}
 use Rattle.uefi_path.specs.Components.{components_of}
 use Rattle.uefi_path.specs.Separators.{IsPlain}
 use Rattle.uefi_path.specs.SuccessiveParents.{AreParents, parents_of}
-use Rattle.uefi_path.proofs.ParentChains.{AreParents-parents_of}
-use Rattle.uefi_path.proofs.ParentsOfValid.{parents_once}
 use Rattle.uefi_path.proofs.laws.parent_count.Goals as goal
 
 fewer_parents : (text : List ℕ) (parents : List (List ℕ)) → IsPlain text → AreParents text parents

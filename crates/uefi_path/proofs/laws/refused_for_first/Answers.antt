@@ -1,4 +1,4 @@
-use Rattle.uefi_path.proofs.Refusals.{first_refused, refused_first}
+use Rattle.uefi_path.proofs.Validity.{first_refused, refused_first}
 use Rattle.uefi_path.proofs.laws.refused_for_first.Goals as goal
 
 pub returns : goal.returns

@@ -1,7 +1,7 @@
 use Rattle.std.proofs.Common.{List, [], arith, length, refl, sym, ℕ, ◌+◌, ◌∙◌, ◌∷◌, ◌≡◌, ◌≢◌}
 use Rattle.std.proofs.lemmas.List.Splits.{length-slice_split}
 use Rattle.std.specs.List.{count_by}
-use Rattle.uefi_path.proofs.Splitting.{AreComponents-components_of, components_of-only}
+use Rattle.uefi_path.proofs.Joining.{AreComponents-components_of, components_of-only}
 use Rattle.uefi_path.specs.Components.{components_of, pieces_between}
 use Rattle.uefi_path.specs.Separators.{canonical, is_separator}
 use Rattle.uefi_path.proofs.laws.split_once.Goals as goal

@@ -3,7 +3,7 @@ use Rattle.std.proofs.Common.{arith}
 use Rattle.std.proofs.lemmas.Grind.{common_steps}
 use Rattle.uefi_path.specs.NamesLeft.{names_left}
 use Rattle.uefi_path.specs.NormalForms.{normal_text}
-use Rattle.uefi_path.proofs.NormalPaths.{IsText-normal_text, plain_normal_text}
+use Rattle.uefi_path.proofs.KeptNames.{IsText-normal_text, plain_normal_text}
 use Rattle.uefi_path.proofs.normal.join_names.Goals as goal
 
 pub unwrap-requires : goal.unwrap-requires

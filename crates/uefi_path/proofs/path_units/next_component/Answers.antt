@@ -3,7 +3,7 @@ use Rattle.std.proofs.Common.{◌≡◌, ◌+◌, ◌-◌, arith, length, length
 use Rattle.std.proofs.lemmas.List.{take_all}
 use Rattle.std.specs.List.{position_or_len}
 use Rattle.uefi_path.specs.Separators.{is_separator}
-use Rattle.uefi_path.proofs.ComponentPlaces.{first_piece}
+use Rattle.uefi_path.proofs.TakenComponents.{first_piece}
 use Rattle.uefi_path.proofs.path_units.next_component.Goals as goal
 
 pub returns-clause-next : goal.returns-clause-next

@@ -1,7 +1,6 @@
 -- All components but the last stand before the last separator.
 use Rattle.std.proofs.Common.{arith}
-use Rattle.uefi_path.proofs.LastPieces.{IsLastStart}
-use Rattle.uefi_path.proofs.LastComponents.{joined_others, none_before, some_others, valid_others}
+use Rattle.uefi_path.proofs.LastPieces.{IsLastStart, joined_others, none_before, some_others, valid_others}
 use Rattle.uefi_path.proofs.path_units.others_end.Goals as goal
 
 pub returns-then-start-le1-clause-some : goal.returns-then-start-le1-clause-some

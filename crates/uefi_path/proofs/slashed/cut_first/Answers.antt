@@ -1,11 +1,8 @@
-use Rattle.std.proofs.Common.{ap, arith, length, sym, ◌+◌, ◌∙◌}
+use Rattle.std.proofs.Common.{ap, length, sym, ◌+◌, ◌∙◌}
 use Rattle.std.specs.List.{slice_range, slice_split}
 use Rattle.uefi_path.specs.Separators.{is_separator, with_separators}
-use Rattle.uefi_path.proofs.Slashes.{cut_at_end, cut_inside}
+use Rattle.uefi_path.proofs.Slashes.{cut_inside}
 use Rattle.uefi_path.proofs.slashed.cut_first.Goals as goal
-
-pub returns-then-end-len-clause-pieces : goal.returns-then-end-len-clause-pieces
-returns-then-end-len-clause-pieces c = grind (arith, cut_at_end)
 
 pub returns-clause-pieces : goal.returns-clause-pieces
 returns-clause-pieces c =

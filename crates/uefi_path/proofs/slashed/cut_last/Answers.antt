@@ -1,12 +1,8 @@
-use Rattle.std.proofs.Common.{ap, arith, length, sym, ◌-◌, ◌∙◌}
+use Rattle.std.proofs.Common.{ap, length, sym, ◌-◌, ◌∙◌}
 use Rattle.std.specs.List.{slice_range, slice_split}
 use Rattle.uefi_path.specs.Separators.{is_separator, with_separators}
-use Rattle.uefi_path.proofs.Slashes.{cut_back_inside, one_piece}
+use Rattle.uefi_path.proofs.Slashes.{cut_back_inside}
 use Rattle.uefi_path.proofs.slashed.cut_last.Goals as goal
-use Rattle.uefi_path.proofs.LastPieces.{to_the_end}
-
-pub returns-then-start-eq0-clause-pieces : goal.returns-then-start-eq0-clause-pieces
-returns-then-start-eq0-clause-pieces c = grind (arith, to_the_end, one_piece)
 
 pub returns-clause-pieces : goal.returns-clause-pieces
 returns-clause-pieces c =

@@ -1,15 +1,13 @@
 -- What is left after one leading separator or slash is the canonical text.
-use Rattle.std.proofs.Common.{◌≡◌, ℕ, List, ap, arith, drop, length, subst, sym, ◌∙◌}
-use Rattle.std.proofs.lemmas.List.{length-drop, length-map}
+use Rattle.std.proofs.Common.{◌≡◌, ℕ, List, ap, drop, length, subst, sym, ◌∙◌}
 use Rattle.std.specs.List.{slice_range}
 use Rattle.uefi_text.specs.Units.{IsText, IsTextUnit}
 use Rattle.uefi_text.specs.Views.{units_of}
 use Rattle.uefi_path.specs.Separators.{canonical, with_separators}
 use Rattle.uefi_path.specs.Views.{path_text}
 use Rattle.uefi_path.proofs.LastPieces.{to_the_end}
-use Rattle.uefi_path.proofs.Parents.{All-canonical, All-slice_split}
-use Rattle.uefi_path.proofs.Splitting.{length-slice_split-le}
-use Rattle.uefi_path.proofs.TailUnits.{IsText-with_separators}
+use Rattle.uefi_path.proofs.Joining.{All-canonical, All-slice_split}
+use Rattle.uefi_path.proofs.SeparatorPlaces.{IsText-with_separators}
 use Rattle.uefi_path.proofs.slashed.to_cut.Goals as goal
 
 left : (us vs part : List ℕ) (start len : ℕ) → with_separators (drop start us) ≡ canonical vs → len ≡ length us
@@ -28,6 +26,3 @@ returns-clause-texts c =
     let is_text : IsText (path_text c.args.path) = subst IsText text c.as_slice-text.ensures.is_text in
     All-slice_split IsTextUnit (with_separators (units_of c.part.result))
     (subst IsText (sym here) (All-canonical IsTextUnit whole (IsText-with_separators (path_text c.args.path) is_text)))
-
-pub returns-clause-count : goal.returns-clause-count
-returns-clause-count c = grind (arith, length-slice_split-le, length-map, to_the_end, length-drop)

@@ -3,7 +3,7 @@ use Rattle.std.proofs.Common.{◌^◌, sym, ◌∙◌}
 use Rattle.uefi_path.specs.Components.{components_of}
 use Rattle.uefi_path.specs.Views.{components_left, path_text}
 use Rattle.uefi_text.specs.Views.{units_of}
-use Rattle.uefi_path.proofs.Depth.{names_here, past_here, room_here}
+use Rattle.uefi_path.proofs.Rewriting.{names_here, past_here, room_here}
 use Rattle.uefi_path.proofs.validation.judge.Goals as goal
 
 pub loop-component-preserved : goal.loop-component-preserved

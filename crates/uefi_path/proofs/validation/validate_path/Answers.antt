@@ -2,7 +2,7 @@
 use Rattle.std.proofs.Common.{Err, Ok, ap, sym, ◌∙◌}
 use Rattle.std.specs.Result.{result_err}
 use Rattle.uefi_path.specs.Views.{path_text}
-use Rattle.uefi_path.proofs.ValidPaths.{accepted_valid}
+use Rattle.uefi_path.proofs.Validity.{accepted_valid}
 use Rattle.uefi_path.proofs.validation.validate_path.Goals as goal
 
 pub returns-in-Err-clause-valid : goal.returns-in-Err-clause-valid

@@ -3,7 +3,7 @@ use Rattle.std.proofs.Common.{◌≡◌, ◌++◌, ◌+◌, ◌-◌, cond, nat_l
 use Rattle.std.proofs.lemmas.Bool.Decides.{nat_tests}
 use Rattle.std.proofs.lemmas.Grind.{common_steps}
 use Rattle.uefi_path.specs.Separators.{with_separators}
-use Rattle.uefi_path.proofs.NameTails.{name_before, name_is_plain, next_counted, next_fits, one_more, with_name}
+use Rattle.uefi_path.proofs.KeptNames.{name_before, name_is_plain, next_counted, next_fits, one_more, with_name}
 use Rattle.uefi_text.specs.Views.{units_of}
 use Rattle.uefi_path.proofs.written.write_names.Goals as goal
 

@@ -1,7 +1,7 @@
 -- The names that were found are counted, and stand at the end, joined, where they have room.
 use Rattle.std.proofs.Common.{◌≡◌, ◌≤◌, ◌-◌, ℕ, List, drop, length}
 use Rattle.uefi_path.specs.NamesLeft.{IsWalk, names_left}
-use Rattle.uefi_path.proofs.NameTails.{AreLast}
+use Rattle.uefi_path.proofs.KeptNames.{AreLast}
 use Rattle.uefi_path.proofs.written.write_names.Given as goal
 
 abbrev pub invariant-loop-name : goal.invariant-loop-name

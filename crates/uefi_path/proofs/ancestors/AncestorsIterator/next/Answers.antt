@@ -2,7 +2,7 @@
 use Rattle.std.proofs.Common.{ap, length, arith}
 use Rattle.std.proofs.lemmas.Grind.{common_steps}
 use Rattle.uefi_path.specs.Ancestors.{ancestors_left}
-use Rattle.uefi_path.proofs.Beginnings.{beginnings-cut}
+use Rattle.uefi_path.proofs.TakenComponents.{beginnings-cut}
 use Rattle.uefi_path.proofs.ancestors.AncestorsIterator.next.Goals as goal
 
 pub returns-clause-steps : goal.returns-clause-steps

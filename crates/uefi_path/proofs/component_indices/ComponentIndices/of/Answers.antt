@@ -1,10 +1,10 @@
-use Rattle.std.proofs.Common.{All, arith, length-drop, subst, sym, ◌∙◌}
+use Rattle.std.proofs.Common.{All, arith, subst, sym, ◌∙◌}
 use Rattle.uefi_path.specs.ComponentIndices.{indexed_units, indices_left}
 use Rattle.uefi_path.specs.Views.{components_left}
 use Rattle.uefi_text.specs.Units.{IsText}
-use Rattle.uefi_path.proofs.PlacedComponents.{begin_at_places, count_placed, pieces_placed}
+use Rattle.uefi_path.proofs.TakenComponents.{begin_at_places, count_placed, pieces_placed}
 use Rattle.uefi_text.proofs.Runs.{gives_each}
-use Rattle.uefi_path.proofs.Splitting.{AreComponents-components_of}
+use Rattle.uefi_path.proofs.Joining.{AreComponents-components_of}
 use Rattle.uefi_path.proofs.component_indices.ComponentIndices.of.Goals as goal
 
 -- the text from the first place on
@@ -14,9 +14,6 @@ begins c = grind (arith, begin_at_places, AreComponents-components_of)
 
 pub returns-clause-places : goal.returns-clause-places
 returns-clause-places c = begins c
-
-pub invariant_of-result : goal.invariant_of-result
-invariant_of-result c = grind (arith, AreComponents-components_of, length-drop)
 
 pub returns-clause-components : goal.returns-clause-components
 unfolding indices_left

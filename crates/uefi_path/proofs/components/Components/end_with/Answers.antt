@@ -6,7 +6,7 @@ use Rattle.std.specs.Cmp.Lexicographic.{bytes_decides, pointwise}
 use Rattle.std.specs.Prelude.{nat_eq}
 use Rattle.uefi_text.specs.Views.{units_of}
 use Rattle.uefi_path.specs.Views.{components_left}
-use Rattle.uefi_path.proofs.PathsWithoutCase.{back_same, back_some, back_step}
+use Rattle.uefi_path.proofs.TakenComponents.{back_same, back_some, back_step}
 use Rattle.uefi_path.proofs.components.Components.end_with.Goals as goal
 
 pub returns-in_default-next_back : goal.returns-in_default-next_back

@@ -5,11 +5,9 @@ use Rattle.std.proofs.lemmas.List.Elements.{All-nil}
 use Rattle.uefi_text.specs.Units.{IsText, IsTextUnit}
 use Rattle.uefi_text.specs.Views.{text_of, units_of}
 use Rattle.uefi_path.specs.Views.{components_left, units_left}
-use Rattle.uefi_path.proofs.Splitting.{AreComponents-components_of, components_of-only, slice_split-canonical, length-slice_split-le}
-use Rattle.uefi_path.proofs.ParentSizes.{units-canonical}
-use Rattle.uefi_path.proofs.Parents.{All-canonical, All-slice_split}
+use Rattle.uefi_path.proofs.Joining.{AreComponents-components_of, components_of-only, slice_split-canonical, All-canonical, All-slice_split}
 use Rattle.uefi_text.proofs.Runs.{gives_each}
-use Rattle.uefi_path.proofs.Runs.{gives_no_nul}
+use Rattle.uefi_path.proofs.TakenComponents.{gives_no_nul}
 use Rattle.uefi_path.proofs.components.Components.of_canonical.Goals as goal
 
 pub returns-then-is_empty-clause-only : goal.returns-then-is_empty-clause-only
@@ -41,10 +39,6 @@ returns-clause-texts c =
     let is_text : IsText text = subst IsText c.as_slice-text.ensures.same c.as_slice-text.ensures.is_text in
     All-slice_split IsTextUnit (units_left c.args.rest)
     (subst IsText (sym c.requires) (All-canonical IsTextUnit text is_text))
-
-pub returns-clause-bound : goal.returns-clause-bound
-unfolding components_left
-returns-clause-bound c = grind (arith, length-slice_split-le, units-canonical)
 
 pub returns-then-is_empty-clause-runs : goal.returns-then-is_empty-clause-runs
 returns-then-is_empty-clause-runs c = gives_each units_of components_left _

@@ -8,29 +8,20 @@ use Rattle.uefi_text.specs.Units.{IsText}
 use Rattle.uefi_text.specs.Views.{units_of}
 use Rattle.uefi_path.specs.Views.{components_left}
 use Rattle.uefi_text.proofs.Runs.{gives_each}
-use Rattle.uefi_path.proofs.Runs.{gives_no_nul}
+use Rattle.uefi_path.proofs.TakenComponents.{gives_no_nul}
 use Rattle.uefi_path.proofs.components.Components.strip.Goals as goal
 
 pub loop-component-preserved : goal.loop-component-preserved
 loop-component-preserved c =
-    let so_far = c.loop-component in
     let component = units_of c.in-Some.component in
-    let theirs :
-    components_left so_far.component-iterator ≡ component ∷ components_left c.next.new.self =
-    c.in-Some.ensures.steps in
-    let own = units_of c.in-Some-next.own in
-    let tested : pointwise nat_eq own component ≡ true = grind (arith, common_steps) in
-    let first :
-    components_left so_far.rest ≡ own ∷ components_left c.next-in-loop-component.new.self =
-    c.in-Some-next.ensures.steps in
-    let ours :
-    components_left so_far.rest ≡ component ∷ components_left c.next-in-loop-component.new.self =
-    first
-    ∙ ap (λ piece. piece ∷ components_left c.next-in-loop-component.new.self)
-    ((bytes_decides own component).0 tested) in
+    let left = components_left c.next-in-loop-component.new.self in
+    let tested : pointwise nat_eq (units_of c.in-Some-next.own) component ≡ true = grind (arith, common_steps) in
+    let theirs : components_left c.loop-component.component-iterator ≡ component ∷ components_left c.next.new.self = c.in-Some.ensures.steps in
+    let ours : components_left c.loop-component.rest ≡ component ∷ left =
+    c.in-Some-next.ensures.steps ∙ ap (λ piece. piece ∷ left) ((bytes_decides _ component).0 tested) in
     record {
-      same = grind (arith, so_far, component, theirs, ours);
-      texts = All-tail IsText _ _ (subst (All IsText) ours so_far.invariant.texts);
+      same = grind (arith, c.loop-component, component, theirs, ours);
+      texts = All-tail IsText _ _ (subst (All IsText) ours c.loop-component.invariant.texts);
       bound = omega (arith, ap length ours);
     }
 

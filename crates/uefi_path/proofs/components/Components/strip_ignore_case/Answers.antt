@@ -7,9 +7,8 @@ use Rattle.uefi_text.specs.Units.{IsText}
 use Rattle.uefi_text.specs.Views.{units_of}
 use Rattle.uefi_path.specs.Views.{components_left}
 use Rattle.uefi_path.specs.WithoutCase.{capital_pieces}
-use Rattle.uefi_path.proofs.PathsWithoutCase.{dropped_step, same_step}
+use Rattle.uefi_path.proofs.TakenComponents.{dropped_step, same_step, gives_no_nul}
 use Rattle.uefi_text.proofs.Runs.{gives_each}
-use Rattle.uefi_path.proofs.Runs.{gives_no_nul}
 use Rattle.uefi_path.proofs.components.Components.strip_ignore_case.Goals as goal
 
 pub loop-component-preserved : goal.loop-component-preserved

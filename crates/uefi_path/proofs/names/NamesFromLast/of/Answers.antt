@@ -5,14 +5,8 @@ use Rattle.uefi_text.specs.Units.{replaced}
 use Rattle.uefi_path.specs.CutPieces.{slashed_left}
 use Rattle.uefi_path.specs.Separators.{separator, slash, with_separators}
 use Rattle.uefi_path.specs.Views.{path_text}
-use Rattle.uefi_path.proofs.NamesLeft.{from_start, good_names, names_no_longer, text_names}
+use Rattle.uefi_path.proofs.KeptNames.{good_names, names_no_longer, text_names}
 use Rattle.uefi_path.proofs.names.NamesFromLast.of.Goals as goal
-use Rattle.std.proofs.lemmas.Grind.{common_steps}
-use Rattle.uefi_path.proofs.Depth.{names_of_normal}
-use Rattle.uefi_path.proofs.Validity.{valid-accepted}
-
-pub returns-clause-walk : goal.returns-clause-walk
-returns-clause-walk c = grind (arith, common_steps, from_start, names_of_normal, valid-accepted)
 
 pub returns-clause-good : goal.returns-clause-good
 returns-clause-good c = good_names (with_separators (path_text c.args.path)) _ c.requires c.to_cut.ensures.same

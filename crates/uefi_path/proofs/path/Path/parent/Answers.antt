@@ -3,10 +3,8 @@ use Rattle.std.proofs.Common.{IfOk, ap, arith, subst, sym, ◌∙◌, ◌≡◌}
 use Rattle.uefi_path.specs.Parents.{parent_of_components}
 use Rattle.uefi_path.specs.SuccessiveParents.{parent_chain}
 use Rattle.uefi_path.specs.Views.{path_text}
-use Rattle.uefi_path.proofs.CutParents.{cut_parent, cut_some}
-use Rattle.uefi_path.proofs.ParentChains.{parents_of-chain}
-use Rattle.uefi_path.proofs.ParentCounts.{shorter_parent, successive_parents}
-use Rattle.uefi_path.proofs.Parents.{IsFull}
+use Rattle.uefi_path.proofs.ParentForm.{cut_parent, parents_of-chain, shorter_parent, successive_parents}
+use Rattle.uefi_path.proofs.Joining.{IsFull}
 use Rattle.uefi_path.proofs.path.Path.parent.Goals as goal
 
 pub returns-then-has_empty-clause-shorter : goal.returns-then-has_empty-clause-shorter
@@ -16,9 +14,6 @@ returns-then-has_empty-clause-shorter g c =
 
 pub returns-then-has_empty-clause-successive : goal.returns-then-has_empty-clause-successive
 returns-then-has_empty-clause-successive g c = grind (arith, successive_parents)
-
-pub returns-in_err-copy_part-clause-none : goal.returns-in_err-copy_part-clause-none
-returns-in_err-copy_part-clause-none g c none = grind (arith, cut_some)
 
 pub returns-clause-ok : goal.returns-clause-ok
 returns-clause-ok g c = grind (arith, IsFull, cut_parent)

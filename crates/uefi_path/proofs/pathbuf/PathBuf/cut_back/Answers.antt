@@ -1,7 +1,7 @@
 -- The places of the first characters come first.
 use Rattle.std.proofs.Common.{ap, length, sym, take, ◌∙◌}
 use Rattle.uefi_path.specs.Separators.{places_of}
-use Rattle.uefi_path.proofs.TailUnits.{text_cut}
+use Rattle.uefi_path.proofs.SeparatorPlaces.{text_cut}
 use Rattle.uefi_path.proofs.pathbuf.PathBuf.cut_back.Goals as goal
 
 pub invariant_of-self : goal.invariant_of-self

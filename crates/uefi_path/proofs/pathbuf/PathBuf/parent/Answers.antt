@@ -2,7 +2,7 @@
 use Rattle.std.proofs.Common.{IfOk, arith, subst, ◌≡◌}
 use Rattle.uefi_path.specs.Parents.{parent_text}
 use Rattle.uefi_path.specs.Separators.{IsPlain}
-use Rattle.uefi_path.proofs.ParentCounts.{counted_parents, shorter_parent, successive_parents}
+use Rattle.uefi_path.proofs.ParentForm.{counted_parents, shorter_parent, successive_parents}
 use Rattle.uefi_path.proofs.pathbuf.PathBuf.parent.Goals as goal
 
 is_parent : (g : _) (c : goal.After-parent_of g) → IfOk c.parent_of.result (λ parent. parent ≡ parent_text c.args.self.now)

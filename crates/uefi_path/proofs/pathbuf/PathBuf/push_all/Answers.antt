@@ -5,7 +5,7 @@ use Rattle.std.proofs.lemmas.List.{map-append}
 use Rattle.uefi_path.specs.Separators.{separator, slash, with_separators}
 use Rattle.uefi_path.specs.Views.{counted_text}
 use Rattle.uefi_text.specs.Units.{replaced}
-use Rattle.uefi_path.proofs.TailUnits.{ranges_joined}
+use Rattle.uefi_path.proofs.SeparatorPlaces.{ranges_joined}
 use Rattle.uefi_path.proofs.pathbuf.PathBuf.push_all.Goals as goal
 
 pub loop-i-preserved : goal.loop-i-preserved

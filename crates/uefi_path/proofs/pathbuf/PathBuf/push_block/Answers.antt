@@ -1,12 +1,9 @@
 -- A block whose slashes are replaced is plain.
-use Rattle.std.proofs.Common.{arith, subst, sym}
+use Rattle.std.proofs.Common.{subst, sym}
 use Rattle.uefi_path.specs.Separators.{IsPlain}
-use Rattle.uefi_path.proofs.Splitting.{IsPlain-with_separators}
-use Rattle.uefi_path.proofs.TailUnits.{IsText-part, block_added}
+use Rattle.uefi_path.proofs.Joining.{IsPlain-with_separators}
+use Rattle.uefi_path.proofs.SeparatorPlaces.{block_added}
 use Rattle.uefi_path.proofs.pathbuf.PathBuf.push_block.Goals as goal
-
-pub add_block-requires : goal.add_block-requires
-add_block-requires g c = grind (arith, IsText-part)
 
 pub invariant_of-self-2 : goal.invariant_of-self-2
 invariant_of-self-2 g c =

@@ -3,8 +3,8 @@ use Rattle.std.proofs.Common.{◌≡◌, ◌≢◌, [], ◌∷◌, ◌++◌, ◌
 use Rattle.std.proofs.lemmas.Grind.{common_steps}
 use Rattle.std.proofs.lemmas.List.Elements.{All-cons, All-nil}
 use Rattle.uefi_path.specs.Separators.{IsPlain, places_from, separator, slash}
-use Rattle.uefi_path.proofs.Pushing.{separator_is_plain}
-use Rattle.uefi_path.proofs.TailUnits.{block_added}
+use Rattle.uefi_path.proofs.Joining.{separator_is_plain}
+use Rattle.uefi_path.proofs.SeparatorPlaces.{block_added}
 use Rattle.uefi_path.proofs.pathbuf.PathBuf.push_separator.Goals as goal
 
 pub invariant_of-self-2 : goal.invariant_of-self-2

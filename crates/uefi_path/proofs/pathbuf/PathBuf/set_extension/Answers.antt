@@ -5,7 +5,7 @@ use Rattle.uefi_text.specs.Views.{text_of, units_of}
 use Rattle.uefi_path.specs.Components.{components_of}
 use Rattle.uefi_path.specs.Renaming.{IsExtended}
 use Rattle.uefi_path.specs.Separators.{IsPlain}
-use Rattle.uefi_path.proofs.Renamed.{extended}
+use Rattle.uefi_path.proofs.LastPieces.{extended}
 use Rattle.uefi_path.proofs.pathbuf.PathBuf.set_extension.Goals as goal
 
 pub returns-clause-ok : goal.returns-clause-ok

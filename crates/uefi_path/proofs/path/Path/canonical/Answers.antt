@@ -1,1 +1,0 @@
--- A part of a text is a text.

@@ -1,1 +1,0 @@
--- One unit more is read, and written.

@@ -1,1 +1,0 @@
--- One unit more is counted, and is a slash or not.

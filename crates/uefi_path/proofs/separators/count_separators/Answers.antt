@@ -1,1 +1,0 @@
--- The units of a block are counted before those that are left.
