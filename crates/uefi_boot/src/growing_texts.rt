@@ -1,5 +1,7 @@
 //! Builds the library's texts in memory without a formatter, which would be called for each part of each
 //! node.
+ghost use Rattle.std.specs.Prelude.{⊤};
+
 use std::alloc::{AllocError, Global};
 use uefi_text::{Printed, TextSink};
 
@@ -11,8 +13,6 @@ struct Growing {
 }
 
 impl TextSink for Growing {
-    ghost use Rattle.std.specs.Prelude.{⊤};
-
     ghost puts = { λ _ _ _. ⊤ };
 
     fn put_str(&mut self, text: &str) {

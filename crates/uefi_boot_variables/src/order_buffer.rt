@@ -5,7 +5,7 @@
 //! [`OrderBuffer::write_bytes`] writes them.
 #![tactic(auto, unfolding(crate::specs::Views::numbers_in, crate::specs::Views::room_of, crate::specs::Views::numbers_of))]
 
-ghost use Rattle.std.specs.Prelude.{◌≡◌, ◌==◌, ◌+◌, ◌-◌, ◌*◌, ◌<◌, ◌≤◌, ◌↔◌, ◌∷◌, ◌++◌, [], ℕ, drop, insert, length, remove, take, position, true, false, slice_index, IfOk, IsErr, IsTrue, OnErr, OnOk};
+ghost use Rattle.std.specs.Prelude.{◌≡◌, ◌==◌, ◌+◌, ◌*◌, ◌<◌, ◌≤◌, ◌↔◌, ◌∷◌, ◌++◌, [], drop, insert, length, remove, take, true, false, IfOk, IsErr, IsTrue, OnErr, OnOk};
 ghost use Rattle.uefi_boot_variables.specs.Orders.{no_twice, once_each, stands_in, with_at, with_front, without};
 ghost use Rattle.uefi_text.specs.UnitBytes.{unit_bytes};
 

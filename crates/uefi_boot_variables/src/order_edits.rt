@@ -5,8 +5,9 @@
 //! there twice. The places after the order are unchanged. No call takes memory.
 #![tactic(auto)]
 
-ghost use Rattle.std.specs.Prelude.{◌≡◌, ◌+◌, ◌-◌, ◌<◌, ◌≤◌, ◌↔◌, ◌∷◌, ◌++◌, [], drop, false, insert, length, slice_index, take, IfOk, IsErr, OnErr, OnOk};
+ghost use Rattle.std.specs.Prelude.{◌≡◌, ◌+◌, ◌-◌, ◌<◌, ◌≤◌, ◌↔◌, false, insert, length, take, IfOk, IsErr, OnErr, OnOk, Some};
 ghost use Rattle.uefi_boot_variables.specs.Orders.{over, stands_in, with_at, with_front, without};
+ghost use Rattle.uefi_boot_variables.specs.ErrorTexts.{order_full_text};
 
 use std::error::Error;
 use std::fmt;
@@ -18,8 +19,6 @@ pub struct OrderFull;
 
 /// Puts the reason.
 impl Printed for OrderFull {
-    ghost use Rattle.uefi_boot_variables.specs.ErrorTexts.{order_full_text};
-
     ghost printed = { λ _. order_full_text };
 
     fn put<S: TextSink>(&self, sink: &mut S) {
@@ -29,9 +28,6 @@ impl Printed for OrderFull {
 
 /// Prints the same.
 impl fmt::Display for OrderFull {
-    ghost use Rattle.std.specs.Prelude.{Some};
-    ghost use Rattle.uefi_boot_variables.specs.ErrorTexts.{order_full_text};
-
     ghost output = { λ _. Some order_full_text };
 
     fn fmt<W: fmt::Write>(&self, f: &mut fmt::Formatter<W>) -> fmt::Result {

@@ -2,8 +2,12 @@
 //! `BootNext` and `BootCurrent` (UEFI Specification 2.10, section 3.3).
 #![tactic(auto, unfolding(crate::specs::Views::numbers_of))]
 
-ghost use Rattle.std.specs.Prelude.{◌≡◌, ◌==◌, ◌%◌, ◌<◌, ◌^◌, ◌↔◌, ◌∷◌, [], ℕ, Contains, length, position, slice_get, slice_index, IfErr, IfOk, IsErr, IsTrue, Some};
+ghost use Rattle.std.specs.Prelude.{◌≡◌, ◌==◌, ◌%◌, ◌<◌, ◌^◌, ◌↔◌, ◌∷◌, [], Contains, length, position, slice_get, slice_index, IfErr, IfOk, IsErr, IsTrue, Some};
 ghost use Rattle.uefi_text.specs.UnitBytes.{unit_bytes, units_of_bytes};
+ghost use Rattle.uefi_boot_variables.specs.ErrorTexts.{odd_length_text, not_two_bytes_text};
+ghost use Rattle.uefi_boot_variables.specs.Views.{numbers_of};
+ghost use Rattle.uefi_text.specs.Runs.{GivesEach};
+ghost use Rattle.uefi_text.specs.Views.{items_left};
 
 use std::error::Error;
 use std::fmt;
@@ -18,8 +22,6 @@ pub struct OddLength;
 
 /// Puts the reason.
 impl Printed for OddLength {
-    ghost use Rattle.uefi_boot_variables.specs.ErrorTexts.{odd_length_text};
-
     ghost printed = { λ _. odd_length_text };
 
     fn put<S: TextSink>(&self, sink: &mut S) {
@@ -29,8 +31,6 @@ impl Printed for OddLength {
 
 /// Prints the same.
 impl fmt::Display for OddLength {
-    ghost use Rattle.uefi_boot_variables.specs.ErrorTexts.{odd_length_text};
-
     ghost output = { λ _. Some odd_length_text };
 
     fn fmt<W: fmt::Write>(&self, f: &mut fmt::Formatter<W>) -> fmt::Result {
@@ -46,8 +46,6 @@ pub struct NotTwoBytes(pub usize);
 
 /// Puts the reason, with the count of bytes in decimal.
 impl Printed for NotTwoBytes {
-    ghost use Rattle.uefi_boot_variables.specs.ErrorTexts.{not_two_bytes_text};
-
     ghost printed = { not_two_bytes_text };
 
     fn put<S: TextSink>(&self, sink: &mut S) {
@@ -57,8 +55,6 @@ impl Printed for NotTwoBytes {
 
 /// Prints the same.
 impl fmt::Display for NotTwoBytes {
-    ghost use Rattle.uefi_boot_variables.specs.ErrorTexts.{not_two_bytes_text};
-
     ghost output = { λ error. Some (not_two_bytes_text error) };
 
     fn fmt<W: fmt::Write>(&self, f: &mut fmt::Formatter<W>) -> fmt::Result {
@@ -102,10 +98,6 @@ pub struct LoadOrder<'a> {
 }
 
 impl<'a> LoadOrder<'a> {
-    ghost use Rattle.uefi_boot_variables.specs.Views.{numbers_of};
-    ghost use Rattle.uefi_text.specs.Runs.{GivesEach};
-    ghost use Rattle.uefi_text.specs.Views.{items_left};
-
     /// The order that the bytes of a variable are, two for each number and the low one first. Refused
     /// exactly where the bytes are odd in number.
     ///

@@ -1,10 +1,12 @@
 //! What a boot manager walks: the options of an order whose variables are there.
 #![tactic(auto, unfolding(crate::specs::Views::numbers_of, crate::specs::Views::options_left))]
 
-ghost use Rattle.std.specs.Prelude.{◌≡◌, ◌<◌, ◌^◌, length};
+ghost use Rattle.std.specs.Prelude.{◌≡◌};
 ghost use Rattle.std.specs.Iterator.{YieldsFirstBy, item_count};
 ghost use Rattle.std.specs.Option.{option_copied};
-ghost use Rattle.uefi_boot_variables.specs.Present.{bytes_of, shown};
+ghost use Rattle.uefi_boot_variables.specs.Present.{bytes_of, shown, present_options};
+ghost use Rattle.uefi_boot_variables.specs.Views.{numbers_of, options_left};
+ghost use Rattle.uefi_text.specs.Runs.{GivesEach};
 
 use crate::orders::LoadOrder;
 use uefi_text::unaligned_slice::UnalignedSliceIter;
@@ -30,10 +32,6 @@ pub struct PresentOptions<'a> {
 }
 
 impl<'a> LoadOrder<'a> {
-    ghost use Rattle.uefi_boot_variables.specs.Present.{present_options};
-    ghost use Rattle.uefi_boot_variables.specs.Views.{numbers_of, options_left};
-    ghost use Rattle.uefi_text.specs.Runs.{GivesEach};
-
     /// The options whose variables are among those that are given as number and bytes: for each number of
     /// the order, in order, the first variable with this number, and nothing where there is none. A number
     /// that stands twice in the order comes twice. Each step looks through the variables.
@@ -60,8 +58,6 @@ impl<'a> LoadOrder<'a> {
 /// Gives the options from the front, and then `None` for ever.
 impl<'a> Iterator for PresentOptions<'a> {
     type Item = (u16, &'a [u8]);
-
-    ghost use Rattle.uefi_boot_variables.specs.Views.{options_left};
 
     ghost next_gives = { YieldsFirstBy shown options_left };
 

@@ -1,5 +1,5 @@
 //! Names of the variables that hold load options (UEFI Specification 2.10, sections 3.1.3 and 3.3).
-ghost use Rattle.std.specs.Prelude.{◌≡◌, ℕ, ◌+◌, ◌*◌, ◌^◌, ◌<◌, ◌≤◌, ◌↔◌, ◌∷◌, ◌++◌, [], length, map, slice_index, take, IfErr, IfOk, IfSome, IsErr, IsTrue, OnOk, Some};
+ghost use Rattle.std.specs.Prelude.{◌≡◌, ℕ, ◌+◌, ◌*◌, ◌^◌, ◌<◌, ◌≤◌, ◌↔◌, ◌++◌, length, map, slice_index, take, IfErr, IfOk, IfSome, IsErr, IsTrue, OnOk, Some};
 ghost use Rattle.uefi_boot_variables.specs.declared.variable_names.LoadOptionKind.{LoadOptionKind};
 ghost use Rattle.uefi_boot_variables.specs.declared.variable_names.LoadOptionName.{LoadOptionName};
 ghost use Rattle.uefi_boot_variables.specs.Names.{digit_of, four_digits, name_text, word_of};

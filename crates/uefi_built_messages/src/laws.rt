@@ -1,7 +1,7 @@
 //! Laws of nodes that are built: a view of one has the fields that were given.
 #![tactic(auto)]
 
-ghost use Rattle.std.specs.Prelude.{◌≡◌, IfSome, None, drop, length, slice_range};
+ghost use Rattle.std.specs.Prelude.{◌≡◌, IfSome, None, drop, slice_range};
 ghost use Rattle.uefi_device_nodes.specs.TypedNodes.{IsOfKind, number_at};
 ghost use Rattle.uefi_text.specs.UnitBytes.{units_of_bytes};
 ghost use Rattle.uefi_built_messages.specs.MessagingNodes.{atapi_node, device_logical_unit_node, emmc_node, fibre_channel_ex_node, fibre_channel_node, i2o_node, ieee1394_node, messaging_vendor_node, nvdimm_namespace_node, nvme_namespace_node, sas_ex_node, sata_node, scsi_node, sd_node, uart_node, ufs_node, usb_class_node, usb_node, usb_wwid_node};

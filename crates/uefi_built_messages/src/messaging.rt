@@ -2,6 +2,8 @@
 //! stand in `network`.
 #![tactic(auto)]
 
+ghost use Rattle.uefi_built_messages.specs.MessagingNodes.{atapi_node, scsi_node, fibre_channel_node, fibre_channel_ex_node, ieee1394_node, usb_node, usb_wwid_node, usb_class_node, device_logical_unit_node, i2o_node, sata_node, sas_ex_node, uart_node, messaging_vendor_node, nvme_namespace_node, ufs_node, sd_node, emmc_node, nvdimm_namespace_node};
+
 pub use crate::network::{
     Bluetooth, BluetoothLe, Dns, Infiniband, Ipv4, Ipv6, Iscsi, MacAddress, NvmeOfNamespace,
     RestService, Uri, Vlan, Wifi,
@@ -32,8 +34,6 @@ pub struct Atapi {
 
 /// The node of these fields.
 impl BuildNode for Atapi {
-    ghost use Rattle.uefi_built_messages.specs.MessagingNodes.{atapi_node};
-
     ghost node = { atapi_node };
 
     fn full_type(&self) -> (DeviceType, DeviceSubType) {
@@ -69,8 +69,6 @@ pub struct Scsi {
 
 /// The node of these fields.
 impl BuildNode for Scsi {
-    ghost use Rattle.uefi_built_messages.specs.MessagingNodes.{scsi_node};
-
     ghost node = { scsi_node };
 
     fn full_type(&self) -> (DeviceType, DeviceSubType) {
@@ -108,8 +106,6 @@ pub struct FibreChannel {
 
 /// The node of these fields.
 impl BuildNode for FibreChannel {
-    ghost use Rattle.uefi_built_messages.specs.MessagingNodes.{fibre_channel_node};
-
     ghost node = { fibre_channel_node };
 
     fn full_type(&self) -> (DeviceType, DeviceSubType) {
@@ -152,8 +148,6 @@ pub struct FibreChannelEx {
 
 /// The node of these fields.
 impl BuildNode for FibreChannelEx {
-    ghost use Rattle.uefi_built_messages.specs.MessagingNodes.{fibre_channel_ex_node};
-
     ghost node = { fibre_channel_ex_node };
 
     fn full_type(&self) -> (DeviceType, DeviceSubType) {
@@ -192,8 +186,6 @@ pub struct Ieee1394 {
 
 /// The node of these fields.
 impl BuildNode for Ieee1394 {
-    ghost use Rattle.uefi_built_messages.specs.MessagingNodes.{ieee1394_node};
-
     ghost node = { ieee1394_node };
 
     fn full_type(&self) -> (DeviceType, DeviceSubType) {
@@ -229,8 +221,6 @@ pub struct Usb {
 
 /// The node of these fields.
 impl BuildNode for Usb {
-    ghost use Rattle.uefi_built_messages.specs.MessagingNodes.{usb_node};
-
     ghost node = { usb_node };
 
     fn full_type(&self) -> (DeviceType, DeviceSubType) {
@@ -270,8 +260,6 @@ pub struct UsbWwid<'a> {
 
 /// The node of these fields.
 impl BuildNode for UsbWwid<'_> {
-    ghost use Rattle.uefi_built_messages.specs.MessagingNodes.{usb_wwid_node};
-
     ghost node = { usb_wwid_node };
 
     fn full_type(&self) -> (DeviceType, DeviceSubType) {
@@ -319,8 +307,6 @@ pub struct UsbClass {
 
 /// The node of these fields.
 impl BuildNode for UsbClass {
-    ghost use Rattle.uefi_built_messages.specs.MessagingNodes.{usb_class_node};
-
     ghost node = { usb_class_node };
 
     fn full_type(&self) -> (DeviceType, DeviceSubType) {
@@ -360,8 +346,6 @@ pub struct DeviceLogicalUnit {
 
 /// The node of these fields.
 impl BuildNode for DeviceLogicalUnit {
-    ghost use Rattle.uefi_built_messages.specs.MessagingNodes.{device_logical_unit_node};
-
     ghost node = { device_logical_unit_node };
 
     fn full_type(&self) -> (DeviceType, DeviceSubType) {
@@ -396,8 +380,6 @@ pub struct I2o {
 
 /// The node of these fields.
 impl BuildNode for I2o {
-    ghost use Rattle.uefi_built_messages.specs.MessagingNodes.{i2o_node};
-
     ghost node = { i2o_node };
 
     fn full_type(&self) -> (DeviceType, DeviceSubType) {
@@ -435,8 +417,6 @@ pub struct Sata {
 
 /// The node of these fields.
 impl BuildNode for Sata {
-    ghost use Rattle.uefi_built_messages.specs.MessagingNodes.{sata_node};
-
     ghost node = { sata_node };
 
     fn full_type(&self) -> (DeviceType, DeviceSubType) {
@@ -482,8 +462,6 @@ pub struct SasEx {
 
 /// The node of these fields.
 impl BuildNode for SasEx {
-    ghost use Rattle.uefi_built_messages.specs.MessagingNodes.{sas_ex_node};
-
     ghost node = { sas_ex_node };
 
     fn full_type(&self) -> (DeviceType, DeviceSubType) {
@@ -527,8 +505,6 @@ pub struct Uart {
 
 /// The node of these fields.
 impl BuildNode for Uart {
-    ghost use Rattle.uefi_built_messages.specs.MessagingNodes.{uart_node};
-
     ghost node = { uart_node };
 
     fn full_type(&self) -> (DeviceType, DeviceSubType) {
@@ -568,8 +544,6 @@ pub struct Vendor<'a> {
 
 /// The node of these fields.
 impl BuildNode for Vendor<'_> {
-    ghost use Rattle.uefi_built_messages.specs.MessagingNodes.{messaging_vendor_node};
-
     ghost node = { messaging_vendor_node };
 
     fn full_type(&self) -> (DeviceType, DeviceSubType) {
@@ -608,8 +582,6 @@ pub struct NvmeNamespace {
 
 /// The node of these fields.
 impl BuildNode for NvmeNamespace {
-    ghost use Rattle.uefi_built_messages.specs.MessagingNodes.{nvme_namespace_node};
-
     ghost node = { nvme_namespace_node };
 
     fn full_type(&self) -> (DeviceType, DeviceSubType) {
@@ -648,8 +620,6 @@ pub struct Ufs {
 
 /// The node of these fields.
 impl BuildNode for Ufs {
-    ghost use Rattle.uefi_built_messages.specs.MessagingNodes.{ufs_node};
-
     ghost node = { ufs_node };
 
     fn full_type(&self) -> (DeviceType, DeviceSubType) {
@@ -681,8 +651,6 @@ pub struct Sd {
 
 /// The node of these fields.
 impl BuildNode for Sd {
-    ghost use Rattle.uefi_built_messages.specs.MessagingNodes.{sd_node};
-
     ghost node = { sd_node };
 
     fn full_type(&self) -> (DeviceType, DeviceSubType) {
@@ -714,8 +682,6 @@ pub struct Emmc {
 
 /// The node of these fields.
 impl BuildNode for Emmc {
-    ghost use Rattle.uefi_built_messages.specs.MessagingNodes.{emmc_node};
-
     ghost node = { emmc_node };
 
     fn full_type(&self) -> (DeviceType, DeviceSubType) {
@@ -747,8 +713,6 @@ pub struct NvdimmNamespace {
 
 /// The node of these fields.
 impl BuildNode for NvdimmNamespace {
-    ghost use Rattle.uefi_built_messages.specs.MessagingNodes.{nvdimm_namespace_node};
-
     ghost node = { nvdimm_namespace_node };
 
     fn full_type(&self) -> (DeviceType, DeviceSubType) {

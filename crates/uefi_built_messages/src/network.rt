@@ -1,6 +1,8 @@
 //! Nodes of type Messaging that name networks, and are built (UEFI Specification 2.10, section 10.3.4).
 #![tactic(auto)]
 
+ghost use Rattle.uefi_built_messages.specs.NetworkNodes.{mac_address_node, ipv4_node, ipv6_node, vlan_node, infiniband_node, iscsi_node, uri_node, bluetooth_node, bluetooth_le_node, wifi_node, dns_node, rest_service_node, nvme_of_namespace_node};
+
 use uefi_built_nodes::BuildNode;
 use uefi_device_nodes::{DeviceSubType, DeviceType, Guid};
 
@@ -24,8 +26,6 @@ pub struct MacAddress {
 
 /// The node of these fields.
 impl BuildNode for MacAddress {
-    ghost use Rattle.uefi_built_messages.specs.NetworkNodes.{mac_address_node};
-
     ghost node = { mac_address_node };
 
     fn full_type(&self) -> (DeviceType, DeviceSubType) {
@@ -75,8 +75,6 @@ pub struct Ipv4 {
 
 /// The node of these fields.
 impl BuildNode for Ipv4 {
-    ghost use Rattle.uefi_built_messages.specs.NetworkNodes.{ipv4_node};
-
     ghost node = { ipv4_node };
 
     fn full_type(&self) -> (DeviceType, DeviceSubType) {
@@ -138,8 +136,6 @@ pub struct Ipv6 {
 
 /// The node of these fields.
 impl BuildNode for Ipv6 {
-    ghost use Rattle.uefi_built_messages.specs.NetworkNodes.{ipv6_node};
-
     ghost node = { ipv6_node };
 
     fn full_type(&self) -> (DeviceType, DeviceSubType) {
@@ -183,8 +179,6 @@ pub struct Vlan {
 
 /// The node of these fields.
 impl BuildNode for Vlan {
-    ghost use Rattle.uefi_built_messages.specs.NetworkNodes.{vlan_node};
-
     ghost node = { vlan_node };
 
     fn full_type(&self) -> (DeviceType, DeviceSubType) {
@@ -227,8 +221,6 @@ pub struct Infiniband {
 
 /// The node of these fields.
 impl BuildNode for Infiniband {
-    ghost use Rattle.uefi_built_messages.specs.NetworkNodes.{infiniband_node};
-
     ghost node = { infiniband_node };
 
     fn full_type(&self) -> (DeviceType, DeviceSubType) {
@@ -278,8 +270,6 @@ pub struct Iscsi<'a> {
 
 /// The node of these fields.
 impl BuildNode for Iscsi<'_> {
-    ghost use Rattle.uefi_built_messages.specs.NetworkNodes.{iscsi_node};
-
     ghost node = { iscsi_node };
 
     fn full_type(&self) -> (DeviceType, DeviceSubType) {
@@ -319,8 +309,6 @@ pub struct Uri<'a> {
 
 /// The node of these fields.
 impl BuildNode for Uri<'_> {
-    ghost use Rattle.uefi_built_messages.specs.NetworkNodes.{uri_node};
-
     ghost node = { uri_node };
 
     fn full_type(&self) -> (DeviceType, DeviceSubType) {
@@ -352,8 +340,6 @@ pub struct Bluetooth {
 
 /// The node of these fields.
 impl BuildNode for Bluetooth {
-    ghost use Rattle.uefi_built_messages.specs.NetworkNodes.{bluetooth_node};
-
     ghost node = { bluetooth_node };
 
     fn full_type(&self) -> (DeviceType, DeviceSubType) {
@@ -389,8 +375,6 @@ pub struct BluetoothLe {
 
 /// The node of these fields.
 impl BuildNode for BluetoothLe {
-    ghost use Rattle.uefi_built_messages.specs.NetworkNodes.{bluetooth_le_node};
-
     ghost node = { bluetooth_le_node };
 
     fn full_type(&self) -> (DeviceType, DeviceSubType) {
@@ -426,8 +410,6 @@ pub struct Wifi {
 
 /// The node of these fields.
 impl BuildNode for Wifi {
-    ghost use Rattle.uefi_built_messages.specs.NetworkNodes.{wifi_node};
-
     ghost node = { wifi_node };
 
     fn full_type(&self) -> (DeviceType, DeviceSubType) {
@@ -463,8 +445,6 @@ pub struct Dns<'a> {
 
 /// The node of these fields.
 impl BuildNode for Dns<'_> {
-    ghost use Rattle.uefi_built_messages.specs.NetworkNodes.{dns_node};
-
     ghost node = { dns_node };
 
     fn full_type(&self) -> (DeviceType, DeviceSubType) {
@@ -506,8 +486,6 @@ pub struct RestService<'a> {
 
 /// The node of these fields.
 impl BuildNode for RestService<'_> {
-    ghost use Rattle.uefi_built_messages.specs.NetworkNodes.{rest_service_node};
-
     ghost node = { rest_service_node };
 
     fn full_type(&self) -> (DeviceType, DeviceSubType) {
@@ -558,8 +536,6 @@ pub struct NvmeOfNamespace<'a> {
 
 /// The node of these fields.
 impl BuildNode for NvmeOfNamespace<'_> {
-    ghost use Rattle.uefi_built_messages.specs.NetworkNodes.{nvme_of_namespace_node};
-
     ghost node = { nvme_of_namespace_node };
 
     fn full_type(&self) -> (DeviceType, DeviceSubType) {

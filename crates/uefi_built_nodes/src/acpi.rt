@@ -4,6 +4,7 @@
 ghost use Rattle.std.specs.Int.{to_le_bytes, w32};
 ghost use Rattle.std.specs.List.{flat_map};
 ghost use Rattle.std.specs.Prelude.{◌≡◌, ◌*◌, length};
+ghost use Rattle.uefi_built_nodes.specs.AcpiNodes.{acpi_node, expanded_node, adr_node, nvdimm_node};
 
 use crate::build_node::BuildNode;
 use uefi_device_nodes::{DeviceSubType, DeviceType};
@@ -26,8 +27,6 @@ pub struct Acpi {
 
 /// The node of these fields.
 impl BuildNode for Acpi {
-    ghost use Rattle.uefi_built_nodes.specs.AcpiNodes.{acpi_node};
-
     ghost node = { acpi_node };
 
     fn full_type(&self) -> (DeviceType, DeviceSubType) {
@@ -69,8 +68,6 @@ pub struct Expanded<'a> {
 
 /// The node of these fields.
 impl BuildNode for Expanded<'_> {
-    ghost use Rattle.uefi_built_nodes.specs.AcpiNodes.{expanded_node};
-
     ghost node = { expanded_node };
 
     fn full_type(&self) -> (DeviceType, DeviceSubType) {
@@ -118,8 +115,6 @@ pub struct Adr<'a> {
 
 /// The node of these fields.
 impl BuildNode for Adr<'_> {
-    ghost use Rattle.uefi_built_nodes.specs.AcpiNodes.{adr_node};
-
     ghost node = { adr_node };
 
     fn full_type(&self) -> (DeviceType, DeviceSubType) {
@@ -151,8 +146,6 @@ pub struct Nvdimm {
 
 /// The node of these fields.
 impl BuildNode for Nvdimm {
-    ghost use Rattle.uefi_built_nodes.specs.AcpiNodes.{nvdimm_node};
-
     ghost node = { nvdimm_node };
 
     fn full_type(&self) -> (DeviceType, DeviceSubType) {

@@ -1,6 +1,8 @@
 //! Nodes of type BIOS Boot Specification that are built (UEFI Specification 2.10, section 10.3.6).
 #![tactic(auto)]
 
+ghost use Rattle.uefi_built_nodes.specs.BootNodes.{boot_specification_node};
+
 use crate::build_node::BuildNode;
 use uefi_device_nodes::{DeviceSubType, DeviceType};
 
@@ -26,8 +28,6 @@ pub struct BootSpecification<'a> {
 
 /// The node of these fields.
 impl BuildNode for BootSpecification<'_> {
-    ghost use Rattle.uefi_built_nodes.specs.BootNodes.{boot_specification_node};
-
     ghost node = { boot_specification_node };
 
     fn full_type(&self) -> (DeviceType, DeviceSubType) {

@@ -3,6 +3,8 @@
 
 ghost use Rattle.std.specs.Prelude.{◌≡◌, length};
 ghost use Rattle.uefi_device_nodes.specs.Nodes.{Node};
+ghost use Rattle.uefi_device_nodes.specs.NodeViews.{node_of};
+ghost use Rattle.uefi_built_nodes.specs.RawNodes.{raw_node};
 
 use uefi_device_nodes::{DevicePathNode, DeviceSubType, DeviceType};
 
@@ -50,8 +52,6 @@ pub fn copy_bytes(dest: &mut [u8], bytes: &[u8])
 
 /// A node that was read, or that another path has.
 impl BuildNode for DevicePathNode<'_> {
-    ghost use Rattle.uefi_device_nodes.specs.NodeViews.{node_of};
-
     ghost node = { node_of };
 
     fn full_type(&self) -> (DeviceType, DeviceSubType) {
@@ -88,8 +88,6 @@ pub struct RawNode<'a> {
 
 /// The node of these.
 impl BuildNode for RawNode<'_> {
-    ghost use Rattle.uefi_built_nodes.specs.RawNodes.{raw_node};
-
     ghost node = { raw_node };
 
     fn full_type(&self) -> (DeviceType, DeviceSubType) {

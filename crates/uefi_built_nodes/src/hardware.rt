@@ -1,6 +1,8 @@
 //! Nodes of type Hardware that are built (UEFI Specification 2.10, section 10.3.2).
 #![tactic(auto)]
 
+ghost use Rattle.uefi_built_nodes.specs.HardwareNodes.{pci_node, pccard_node, memory_mapped_node, hardware_vendor_node, controller_node, bmc_node};
+
 use crate::build_node::BuildNode;
 use uefi_device_nodes::{DeviceSubType, DeviceType, Guid};
 
@@ -22,8 +24,6 @@ pub struct Pci {
 
 /// The node of these fields.
 impl BuildNode for Pci {
-    ghost use Rattle.uefi_built_nodes.specs.HardwareNodes.{pci_node};
-
     ghost node = { pci_node };
 
     fn full_type(&self) -> (DeviceType, DeviceSubType) {
@@ -55,8 +55,6 @@ pub struct Pccard {
 
 /// The node of these fields.
 impl BuildNode for Pccard {
-    ghost use Rattle.uefi_built_nodes.specs.HardwareNodes.{pccard_node};
-
     ghost node = { pccard_node };
 
     fn full_type(&self) -> (DeviceType, DeviceSubType) {
@@ -94,8 +92,6 @@ pub struct MemoryMapped {
 
 /// The node of these fields.
 impl BuildNode for MemoryMapped {
-    ghost use Rattle.uefi_built_nodes.specs.HardwareNodes.{memory_mapped_node};
-
     ghost node = { memory_mapped_node };
 
     fn full_type(&self) -> (DeviceType, DeviceSubType) {
@@ -135,8 +131,6 @@ pub struct Vendor<'a> {
 
 /// The node of these fields.
 impl BuildNode for Vendor<'_> {
-    ghost use Rattle.uefi_built_nodes.specs.HardwareNodes.{hardware_vendor_node};
-
     ghost node = { hardware_vendor_node };
 
     fn full_type(&self) -> (DeviceType, DeviceSubType) {
@@ -171,8 +165,6 @@ pub struct Controller {
 
 /// The node of these fields.
 impl BuildNode for Controller {
-    ghost use Rattle.uefi_built_nodes.specs.HardwareNodes.{controller_node};
-
     ghost node = { controller_node };
 
     fn full_type(&self) -> (DeviceType, DeviceSubType) {
@@ -206,8 +198,6 @@ pub struct Bmc {
 
 /// The node of these fields.
 impl BuildNode for Bmc {
-    ghost use Rattle.uefi_built_nodes.specs.HardwareNodes.{bmc_node};
-
     ghost node = { bmc_node };
 
     fn full_type(&self) -> (DeviceType, DeviceSubType) {

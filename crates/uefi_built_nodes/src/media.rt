@@ -1,6 +1,8 @@
 //! Nodes of type Media that are built (UEFI Specification 2.10, section 10.3.5).
 #![tactic(auto)]
 
+ghost use Rattle.uefi_built_nodes.specs.MediaNodes.{hard_drive_node, cd_rom_node, media_vendor_node, file_path_node, protocol_node, firmware_file_node, firmware_volume_node, relative_offset_range_node, ram_disk_node};
+
 use crate::build_node::BuildNode;
 use uefi_device_nodes::{DeviceSubType, DeviceType, Guid};
 use uefi_text::CStr16;
@@ -34,8 +36,6 @@ pub struct HardDrive {
 
 /// The node of these fields.
 impl BuildNode for HardDrive {
-    ghost use Rattle.uefi_built_nodes.specs.MediaNodes.{hard_drive_node};
-
     ghost node = { hard_drive_node };
 
     fn full_type(&self) -> (DeviceType, DeviceSubType) {
@@ -79,8 +79,6 @@ pub struct CdRom {
 
 /// The node of these fields.
 impl BuildNode for CdRom {
-    ghost use Rattle.uefi_built_nodes.specs.MediaNodes.{cd_rom_node};
-
     ghost node = { cd_rom_node };
 
     fn full_type(&self) -> (DeviceType, DeviceSubType) {
@@ -120,8 +118,6 @@ pub struct Vendor<'a> {
 
 /// The node of these fields.
 impl BuildNode for Vendor<'_> {
-    ghost use Rattle.uefi_built_nodes.specs.MediaNodes.{media_vendor_node};
-
     ghost node = { media_vendor_node };
 
     fn full_type(&self) -> (DeviceType, DeviceSubType) {
@@ -157,8 +153,6 @@ pub struct FilePath<'a> {
 
 /// The node of these fields.
 impl BuildNode for FilePath<'_> {
-    ghost use Rattle.uefi_built_nodes.specs.MediaNodes.{file_path_node};
-
     ghost node = { file_path_node };
 
     fn full_type(&self) -> (DeviceType, DeviceSubType) {
@@ -190,8 +184,6 @@ pub struct Protocol {
 
 /// The node of these fields.
 impl BuildNode for Protocol {
-    ghost use Rattle.uefi_built_nodes.specs.MediaNodes.{protocol_node};
-
     ghost node = { protocol_node };
 
     fn full_type(&self) -> (DeviceType, DeviceSubType) {
@@ -223,8 +215,6 @@ pub struct PiwgFirmwareFile {
 
 /// The node of these fields.
 impl BuildNode for PiwgFirmwareFile {
-    ghost use Rattle.uefi_built_nodes.specs.MediaNodes.{firmware_file_node};
-
     ghost node = { firmware_file_node };
 
     fn full_type(&self) -> (DeviceType, DeviceSubType) {
@@ -256,8 +246,6 @@ pub struct PiwgFirmwareVolume {
 
 /// The node of these fields.
 impl BuildNode for PiwgFirmwareVolume {
-    ghost use Rattle.uefi_built_nodes.specs.MediaNodes.{firmware_volume_node};
-
     ghost node = { firmware_volume_node };
 
     fn full_type(&self) -> (DeviceType, DeviceSubType) {
@@ -291,8 +279,6 @@ pub struct RelativeOffsetRange {
 
 /// The node of these fields.
 impl BuildNode for RelativeOffsetRange {
-    ghost use Rattle.uefi_built_nodes.specs.MediaNodes.{relative_offset_range_node};
-
     ghost node = { relative_offset_range_node };
 
     fn full_type(&self) -> (DeviceType, DeviceSubType) {
@@ -339,8 +325,6 @@ pub struct RamDisk {
 
 /// The node of these fields.
 impl BuildNode for RamDisk {
-    ghost use Rattle.uefi_built_nodes.specs.MediaNodes.{ram_disk_node};
-
     ghost node = { ram_disk_node };
 
     fn full_type(&self) -> (DeviceType, DeviceSubType) {

@@ -6,6 +6,7 @@ ghost use Rattle.uefi_field_texts.specs.FieldTexts.{cid_string, hid_string, uid_
 ghost use Rattle.uefi_device_nodes.specs.TypedNodes.{number_at};
 ghost use Rattle.uefi_text.specs.Packed.{packed_items};
 ghost use Rattle.uefi_text.specs.Views.{items_of};
+ghost use Rattle.uefi_device_nodes.specs.NodeViews.{data_of};
 
 use crate::typed_node::TypedNode;
 use uefi_field_texts::ids::id_strings;
@@ -21,8 +22,6 @@ use uefi_text::UnalignedSlice;
 pub type Acpi<'a> = TypedNode<'a, 2, 1, 8>;
 
 impl<'a> Acpi<'a> {
-    ghost use Rattle.uefi_device_nodes.specs.NodeViews.{data_of};
-
     /// The number of its hardware ID, `_HID`.
     pub fn hid(&self) -> u32
         ensures { result ≡ number_at 0 4 (data_of self.now) }
@@ -51,8 +50,6 @@ impl<'a> Acpi<'a> {
 pub type Expanded<'a> = TypedNode<'a, 2, 2, 15>;
 
 impl<'a> Expanded<'a> {
-    ghost use Rattle.uefi_device_nodes.specs.NodeViews.{data_of};
-
     /// The number of its hardware ID, `_HID`.
     pub fn hid(&self) -> u32
         ensures { result ≡ number_at 0 4 (data_of self.now) }
@@ -114,8 +111,6 @@ impl<'a> Expanded<'a> {
 pub type Adr<'a> = TypedNode<'a, 2, 3, 4>;
 
 impl<'a> Adr<'a> {
-    ghost use Rattle.uefi_device_nodes.specs.NodeViews.{data_of};
-
     /// The `_ADR` values of the outputs, one or more. Bytes after the last whole one are left out.
     pub fn adr(&self) -> UnalignedSlice<'a, u32>
         ensures { items_of result ≡ packed_items 4 (length (data_of self.now) / 4) (data_of self.now) }
@@ -135,8 +130,6 @@ impl<'a> Adr<'a> {
 pub type Nvdimm<'a> = TypedNode<'a, 2, 4, 4>;
 
 impl<'a> Nvdimm<'a> {
-    ghost use Rattle.uefi_device_nodes.specs.NodeViews.{data_of};
-
     /// The handle of the module in the table NFIT.
     pub fn nfit_device_handle(&self) -> u32
         ensures { result ≡ number_at 0 4 (data_of self.now) }

@@ -3,6 +3,7 @@
 
 ghost use Rattle.std.specs.Prelude.{◌≡◌, drop};
 ghost use Rattle.uefi_device_nodes.specs.TypedNodes.{number_at};
+ghost use Rattle.uefi_device_nodes.specs.NodeViews.{data_of};
 
 use crate::typed_node::TypedNode;
 
@@ -17,8 +18,6 @@ use crate::typed_node::TypedNode;
 pub type BootSpecification<'a> = TypedNode<'a, 5, 1, 5>;
 
 impl<'a> BootSpecification<'a> {
-    ghost use Rattle.uefi_device_nodes.specs.NodeViews.{data_of};
-
     /// The type of the device, by the BIOS Boot Specification.
     pub fn device_type(&self) -> u16
         ensures { result ≡ number_at 0 2 (data_of self.now) }

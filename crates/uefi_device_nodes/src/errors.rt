@@ -1,4 +1,7 @@
 //! Why no node stands at a place, and why a node is not of a kind.
+ghost use Rattle.uefi_device_nodes.specs.NodeErrorTexts.{node_error_text, node_conversion_error_text};
+ghost use Rattle.std.specs.Prelude.{Some};
+
 use std::error::Error;
 use std::fmt;
 use uefi_text::text_sink::{Printed, TextSink, print};
@@ -22,8 +25,6 @@ pub enum NodeError {
 
 /// Puts what is wrong, in words.
 impl Printed for NodeError {
-    ghost use Rattle.uefi_device_nodes.specs.NodeErrorTexts.{node_error_text};
-
     ghost printed = { node_error_text };
 
     fn put<S: TextSink>(&self, sink: &mut S) {
@@ -40,9 +41,6 @@ impl Printed for NodeError {
 
 /// Prints the same.
 impl fmt::Display for NodeError {
-    ghost use Rattle.std.specs.Prelude.{Some};
-    ghost use Rattle.uefi_device_nodes.specs.NodeErrorTexts.{node_error_text};
-
     ghost output = { λ error. Some (node_error_text error) };
 
     fn fmt<W: fmt::Write>(&self, f: &mut fmt::Formatter<W>) -> fmt::Result {
@@ -65,8 +63,6 @@ pub enum NodeConversionError {
 
 /// Puts what is wrong, in words.
 impl Printed for NodeConversionError {
-    ghost use Rattle.uefi_device_nodes.specs.NodeErrorTexts.{node_conversion_error_text};
-
     ghost printed = { node_conversion_error_text };
 
     fn put<S: TextSink>(&self, sink: &mut S) {
@@ -80,9 +76,6 @@ impl Printed for NodeConversionError {
 
 /// Prints the same.
 impl fmt::Display for NodeConversionError {
-    ghost use Rattle.std.specs.Prelude.{Some};
-    ghost use Rattle.uefi_device_nodes.specs.NodeErrorTexts.{node_conversion_error_text};
-
     ghost output = { λ error. Some (node_conversion_error_text error) };
 
     fn fmt<W: fmt::Write>(&self, f: &mut fmt::Formatter<W>) -> fmt::Result {

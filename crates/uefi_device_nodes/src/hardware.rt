@@ -3,6 +3,7 @@
 
 ghost use Rattle.std.specs.Prelude.{◌≡◌, drop, slice_range};
 ghost use Rattle.uefi_device_nodes.specs.TypedNodes.{number_at};
+ghost use Rattle.uefi_device_nodes.specs.NodeViews.{data_of};
 
 use crate::typed_node::TypedNode;
 use uefi_field_texts::guid::Guid;
@@ -17,8 +18,6 @@ use uefi_field_texts::guid::Guid;
 pub type Pci<'a> = TypedNode<'a, 1, 1, 2>;
 
 impl<'a> Pci<'a> {
-    ghost use Rattle.uefi_device_nodes.specs.NodeViews.{data_of};
-
     /// The number of the function.
     pub fn function(&self) -> u8
         ensures { result ≡ number_at 0 1 (data_of self.now) }
@@ -44,8 +43,6 @@ impl<'a> Pci<'a> {
 pub type Pccard<'a> = TypedNode<'a, 1, 2, 1>;
 
 impl<'a> Pccard<'a> {
-    ghost use Rattle.uefi_device_nodes.specs.NodeViews.{data_of};
-
     /// The number of the function, from 0 on.
     pub fn function(&self) -> u8
         ensures { result ≡ number_at 0 1 (data_of self.now) }
@@ -67,8 +64,6 @@ impl<'a> Pccard<'a> {
 pub type MemoryMapped<'a> = TypedNode<'a, 1, 3, 20>;
 
 impl<'a> MemoryMapped<'a> {
-    ghost use Rattle.uefi_device_nodes.specs.NodeViews.{data_of};
-
     /// The type of the memory, as in the memory map of the firmware.
     pub fn memory_type(&self) -> u32
         ensures { result ≡ number_at 0 4 (data_of self.now) }
@@ -105,8 +100,6 @@ pub type HardwareVendor<'a> = TypedNode<'a, 1, 4, 16>;
 pub type Vendor<'a> = HardwareVendor<'a>;
 
 impl<'a> HardwareVendor<'a> {
-    ghost use Rattle.uefi_device_nodes.specs.NodeViews.{data_of};
-
     /// The GUID that names the vendor.
     pub fn vendor_guid(&self) -> Guid
         ensures { result ≡ slice_range (data_of self.now) 0 16 }
@@ -132,8 +125,6 @@ impl<'a> HardwareVendor<'a> {
 pub type Controller<'a> = TypedNode<'a, 1, 5, 4>;
 
 impl<'a> Controller<'a> {
-    ghost use Rattle.uefi_device_nodes.specs.NodeViews.{data_of};
-
     /// The number of the controller.
     pub fn controller_number(&self) -> u32
         ensures { result ≡ number_at 0 4 (data_of self.now) }
@@ -152,8 +143,6 @@ impl<'a> Controller<'a> {
 pub type Bmc<'a> = TypedNode<'a, 1, 6, 9>;
 
 impl<'a> Bmc<'a> {
-    ghost use Rattle.uefi_device_nodes.specs.NodeViews.{data_of};
-
     /// The type of the interface: 0 unknown, 1 KCS, 2 SMIC, 3 BT.
     pub fn interface_type(&self) -> u8
         ensures { result ≡ number_at 0 1 (data_of self.now) }

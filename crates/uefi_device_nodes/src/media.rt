@@ -1,12 +1,13 @@
 //! Nodes of type Media (UEFI Specification 2.10, section 10.3.5).
 #![tactic(auto, unfolding(crate::specs::NodeViews::file_node, crate::specs::NodeViews::node_of))]
 
-ghost use Rattle.std.specs.Prelude.{◌≡◌, ℕ, ◌==◌, ◌↔◌, IfOk, IfErr, IsOk, None, Some, drop, if◌then◌else◌, length, slice_range};
+ghost use Rattle.std.specs.Prelude.{◌≡◌, ◌==◌, ◌↔◌, IfOk, IsOk, None, Some, drop, if◌then◌else◌, slice_range};
 ghost use Rattle.std.specs.Result.{result_err};
 ghost use Rattle.uefi_device_nodes.specs.Nodes.{first_node};
-ghost use Rattle.uefi_device_nodes.specs.FileNodes.{IsFilePath};
+ghost use Rattle.uefi_device_nodes.specs.FileNodes.{IsFilePath, file_path_refusal};
 ghost use Rattle.uefi_device_nodes.specs.TypedNodes.{number_at};
 ghost use Rattle.uefi_text.specs.UnitBytes.{unit_bytes, units_of_bytes};
+ghost use Rattle.uefi_text.specs.Views.{items_of};
 
 use crate::errors::NodeConversionError;
 use crate::node::{DevicePathNode, DeviceSubType, DeviceType};
@@ -22,8 +23,6 @@ pub struct FilePath<'a> {
 }
 
 impl<'a> FilePath<'a> {
-    ghost use Rattle.uefi_device_nodes.specs.FileNodes.{file_path_refusal};
-    ghost use Rattle.uefi_text.specs.Views.{items_of};
     ghost use Rattle.uefi_device_nodes.specs.NodeViews.{node_of, file_node};
 
     /// The node as one that names a file. Refused as `DifferentType` where its type or its sub-type is
@@ -72,7 +71,6 @@ impl<'a> FilePath<'a> {
 
 /// The view that [`FilePath::from_node`] gives, or its refusal.
 impl<'a> TryFrom<DevicePathNode<'a>> for FilePath<'a> {
-    ghost use Rattle.uefi_device_nodes.specs.FileNodes.{file_path_refusal};
     ghost use Rattle.uefi_device_nodes.specs.NodeViews.{node_of, file_node};
 
     type Error = NodeConversionError;

@@ -5,6 +5,7 @@ ghost use Rattle.std.specs.Prelude.{◌≡◌, ◌%◌, ◌↔◌, IfSome, IsSom
 ghost use Rattle.uefi_device_nodes.specs.TypedNodes.{number_at};
 ghost use Rattle.uefi_text.specs.UnitBytes.{units_of_bytes};
 ghost use Rattle.uefi_text.specs.Views.{items_of};
+ghost use Rattle.uefi_device_nodes.specs.NodeViews.{data_of};
 
 pub use crate::network::{
     Bluetooth, BluetoothLe, Dns, Infiniband, Ipv4, Ipv6, Iscsi, MacAddress, NvmeOfNamespace,
@@ -25,8 +26,6 @@ use uefi_text::UnalignedSlice;
 pub type Atapi<'a> = TypedNode<'a, 3, 1, 4>;
 
 impl<'a> Atapi<'a> {
-    ghost use Rattle.uefi_device_nodes.specs.NodeViews.{data_of};
-
     /// The bus: 0 is the primary one, 1 the secondary one.
     pub fn primary_secondary(&self) -> u8
         ensures { result ≡ number_at 0 1 (data_of self.now) }
@@ -59,8 +58,6 @@ impl<'a> Atapi<'a> {
 pub type Scsi<'a> = TypedNode<'a, 3, 2, 4>;
 
 impl<'a> Scsi<'a> {
-    ghost use Rattle.uefi_device_nodes.specs.NodeViews.{data_of};
-
     /// The number of the target on its bus.
     pub fn target_id(&self) -> u16
         ensures { result ≡ number_at 0 2 (data_of self.now) }
@@ -88,8 +85,6 @@ impl<'a> Scsi<'a> {
 pub type FibreChannel<'a> = TypedNode<'a, 3, 3, 20>;
 
 impl<'a> FibreChannel<'a> {
-    ghost use Rattle.uefi_device_nodes.specs.NodeViews.{data_of};
-
     /// The world wide name.
     pub fn world_wide_name(&self) -> u64
         ensures { result ≡ number_at 4 8 (data_of self.now) }
@@ -116,8 +111,6 @@ impl<'a> FibreChannel<'a> {
 pub type FibreChannelEx<'a> = TypedNode<'a, 3, 21, 20>;
 
 impl<'a> FibreChannelEx<'a> {
-    ghost use Rattle.uefi_device_nodes.specs.NodeViews.{data_of};
-
     /// The bytes of the world wide name.
     pub fn world_wide_name(&self) -> [u8; 8]
         ensures { result ≡ slice_range (data_of self.now) 4 12 }
@@ -143,8 +136,6 @@ impl<'a> FibreChannelEx<'a> {
 pub type Ieee1394<'a> = TypedNode<'a, 3, 4, 12>;
 
 impl<'a> Ieee1394<'a> {
-    ghost use Rattle.uefi_device_nodes.specs.NodeViews.{data_of};
-
     /// The bytes of its GUID, of eight bytes.
     pub fn guid(&self) -> [u8; 8]
         ensures { result ≡ slice_range (data_of self.now) 4 12 }
@@ -163,8 +154,6 @@ impl<'a> Ieee1394<'a> {
 pub type Usb<'a> = TypedNode<'a, 3, 5, 2>;
 
 impl<'a> Usb<'a> {
-    ghost use Rattle.uefi_device_nodes.specs.NodeViews.{data_of};
-
     /// The number of the port of its hub.
     pub fn parent_port_number(&self) -> u8
         ensures { result ≡ number_at 0 1 (data_of self.now) }
@@ -192,8 +181,6 @@ impl<'a> Usb<'a> {
 pub type UsbWwid<'a> = TypedNode<'a, 3, 16, 6>;
 
 impl<'a> UsbWwid<'a> {
-    ghost use Rattle.uefi_device_nodes.specs.NodeViews.{data_of};
-
     /// The number of its interface.
     pub fn interface_number(&self) -> u16
         ensures { result ≡ number_at 0 2 (data_of self.now) }
@@ -238,8 +225,6 @@ impl<'a> UsbWwid<'a> {
 pub type UsbClass<'a> = TypedNode<'a, 3, 15, 7>;
 
 impl<'a> UsbClass<'a> {
-    ghost use Rattle.uefi_device_nodes.specs.NodeViews.{data_of};
-
     /// The ID of the vendor; 0xffff is any.
     pub fn vendor_id(&self) -> u16
         ensures { result ≡ number_at 0 2 (data_of self.now) }
@@ -286,8 +271,6 @@ impl<'a> UsbClass<'a> {
 pub type DeviceLogicalUnit<'a> = TypedNode<'a, 3, 17, 1>;
 
 impl<'a> DeviceLogicalUnit<'a> {
-    ghost use Rattle.uefi_device_nodes.specs.NodeViews.{data_of};
-
     /// The logical unit number.
     pub fn logical_unit_number(&self) -> u8
         ensures { result ≡ number_at 0 1 (data_of self.now) }
@@ -306,8 +289,6 @@ impl<'a> DeviceLogicalUnit<'a> {
 pub type I2o<'a> = TypedNode<'a, 3, 6, 4>;
 
 impl<'a> I2o<'a> {
-    ghost use Rattle.uefi_device_nodes.specs.NodeViews.{data_of};
-
     /// The number of the target on its bus.
     pub fn target_id(&self) -> u32
         ensures { result ≡ number_at 0 4 (data_of self.now) }
@@ -328,8 +309,6 @@ impl<'a> I2o<'a> {
 pub type Sata<'a> = TypedNode<'a, 3, 18, 6>;
 
 impl<'a> Sata<'a> {
-    ghost use Rattle.uefi_device_nodes.specs.NodeViews.{data_of};
-
     /// The number of the port of the host bus adapter.
     pub fn hba_port_number(&self) -> u16
         ensures { result ≡ number_at 0 2 (data_of self.now) }
@@ -364,8 +343,6 @@ impl<'a> Sata<'a> {
 pub type SasEx<'a> = TypedNode<'a, 3, 22, 20>;
 
 impl<'a> SasEx<'a> {
-    ghost use Rattle.uefi_device_nodes.specs.NodeViews.{data_of};
-
     /// The bytes of the SAS address.
     pub fn sas_address(&self) -> [u8; 8]
         ensures { result ≡ slice_range (data_of self.now) 0 8 }
@@ -407,8 +384,6 @@ impl<'a> SasEx<'a> {
 pub type Uart<'a> = TypedNode<'a, 3, 14, 15>;
 
 impl<'a> Uart<'a> {
-    ghost use Rattle.uefi_device_nodes.specs.NodeViews.{data_of};
-
     /// The baud rate; 0 is the default of the device.
     pub fn baud_rate(&self) -> u64
         ensures { result ≡ number_at 4 8 (data_of self.now) }
@@ -452,8 +427,6 @@ pub type MessagingVendor<'a> = TypedNode<'a, 3, 10, 16>;
 pub type Vendor<'a> = MessagingVendor<'a>;
 
 impl<'a> MessagingVendor<'a> {
-    ghost use Rattle.uefi_device_nodes.specs.NodeViews.{data_of};
-
     /// The GUID that names the vendor.
     pub fn vendor_guid(&self) -> Guid
         ensures { result ≡ slice_range (data_of self.now) 0 16 }
@@ -480,8 +453,6 @@ impl<'a> MessagingVendor<'a> {
 pub type NvmeNamespace<'a> = TypedNode<'a, 3, 23, 12>;
 
 impl<'a> NvmeNamespace<'a> {
-    ghost use Rattle.uefi_device_nodes.specs.NodeViews.{data_of};
-
     /// The number of the namespace.
     pub fn namespace_identifier(&self) -> u32
         ensures { result ≡ number_at 0 4 (data_of self.now) }
@@ -507,8 +478,6 @@ impl<'a> NvmeNamespace<'a> {
 pub type Ufs<'a> = TypedNode<'a, 3, 25, 2>;
 
 impl<'a> Ufs<'a> {
-    ghost use Rattle.uefi_device_nodes.specs.NodeViews.{data_of};
-
     /// The number of the target on its bus.
     pub fn target_id(&self) -> u8
         ensures { result ≡ number_at 0 1 (data_of self.now) }
@@ -534,8 +503,6 @@ impl<'a> Ufs<'a> {
 pub type Sd<'a> = TypedNode<'a, 3, 26, 1>;
 
 impl<'a> Sd<'a> {
-    ghost use Rattle.uefi_device_nodes.specs.NodeViews.{data_of};
-
     /// The number of the slot.
     pub fn slot_number(&self) -> u8
         ensures { result ≡ number_at 0 1 (data_of self.now) }
@@ -554,8 +521,6 @@ impl<'a> Sd<'a> {
 pub type Emmc<'a> = TypedNode<'a, 3, 29, 1>;
 
 impl<'a> Emmc<'a> {
-    ghost use Rattle.uefi_device_nodes.specs.NodeViews.{data_of};
-
     /// The number of the slot.
     pub fn slot_number(&self) -> u8
         ensures { result ≡ number_at 0 1 (data_of self.now) }
@@ -574,8 +539,6 @@ impl<'a> Emmc<'a> {
 pub type NvdimmNamespace<'a> = TypedNode<'a, 3, 32, 16>;
 
 impl<'a> NvdimmNamespace<'a> {
-    ghost use Rattle.uefi_device_nodes.specs.NodeViews.{data_of};
-
     /// The UUID that labels the namespace.
     pub fn uuid(&self) -> Guid
         ensures { result ≡ slice_range (data_of self.now) 0 16 }

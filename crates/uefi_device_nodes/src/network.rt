@@ -4,6 +4,7 @@
 
 ghost use Rattle.std.specs.Prelude.{◌≡◌, ◌+◌, ◌*◌, ◌/◌, ◌<◌, ◌≤◌, ◌↔◌, IfSome, IsSome, drop, length, slice_range};
 ghost use Rattle.uefi_device_nodes.specs.TypedNodes.{number_at};
+ghost use Rattle.uefi_device_nodes.specs.NodeViews.{data_of};
 
 use crate::typed_node::TypedNode;
 use uefi_field_texts::guid::Guid;
@@ -20,8 +21,6 @@ use uefi_field_texts::guid::Guid;
 pub type MacAddress<'a> = TypedNode<'a, 3, 11, 33>;
 
 impl<'a> MacAddress<'a> {
-    ghost use Rattle.uefi_device_nodes.specs.NodeViews.{data_of};
-
     /// The address, filled up with zeros.
     pub fn mac_address(&self) -> [u8; 32]
         ensures { result ≡ slice_range (data_of self.now) 0 32 }
@@ -50,8 +49,6 @@ impl<'a> MacAddress<'a> {
 pub type Ipv4<'a> = TypedNode<'a, 3, 12, 15>;
 
 impl<'a> Ipv4<'a> {
-    ghost use Rattle.uefi_device_nodes.specs.NodeViews.{data_of};
-
     /// The local address.
     pub fn local_ip_address(&self) -> [u8; 4]
         ensures { result ≡ slice_range (data_of self.now) 0 4 }
@@ -126,8 +123,6 @@ impl<'a> Ipv4<'a> {
 pub type Ipv6<'a> = TypedNode<'a, 3, 13, 56>;
 
 impl<'a> Ipv6<'a> {
-    ghost use Rattle.uefi_device_nodes.specs.NodeViews.{data_of};
-
     /// The local address.
     pub fn local_ip_address(&self) -> [u8; 16]
         ensures { result ≡ slice_range (data_of self.now) 0 16 }
@@ -195,8 +190,6 @@ impl<'a> Ipv6<'a> {
 pub type Vlan<'a> = TypedNode<'a, 3, 20, 2>;
 
 impl<'a> Vlan<'a> {
-    ghost use Rattle.uefi_device_nodes.specs.NodeViews.{data_of};
-
     /// The number of the network, from 0 to 4094.
     pub fn vlan_id(&self) -> u16
         ensures { result ≡ number_at 0 2 (data_of self.now) }
@@ -218,8 +211,6 @@ impl<'a> Vlan<'a> {
 pub type Infiniband<'a> = TypedNode<'a, 3, 9, 44>;
 
 impl<'a> Infiniband<'a> {
-    ghost use Rattle.uefi_device_nodes.specs.NodeViews.{data_of};
-
     /// What the node names, in bits: 0 an I/O controller or a service, 1 an extension of the boot
     /// environment, 2 a console, 3 storage, 4 a network.
     pub fn resource_flags(&self) -> u32
@@ -270,8 +261,6 @@ impl<'a> Infiniband<'a> {
 pub type Iscsi<'a> = TypedNode<'a, 3, 19, 14>;
 
 impl<'a> Iscsi<'a> {
-    ghost use Rattle.uefi_device_nodes.specs.NodeViews.{data_of};
-
     /// The protocol: 0 is TCP.
     pub fn protocol(&self) -> u16
         ensures { result ≡ number_at 0 2 (data_of self.now) }
@@ -318,8 +307,6 @@ impl<'a> Iscsi<'a> {
 pub type Uri<'a> = TypedNode<'a, 3, 24, 0>;
 
 impl<'a> Uri<'a> {
-    ghost use Rattle.uefi_device_nodes.specs.NodeViews.{data_of};
-
     /// The bytes of the URI.
     pub fn value(&self) -> &'a [u8]
         ensures { result.now ≡ drop 0 (data_of self.now) }
@@ -338,8 +325,6 @@ impl<'a> Uri<'a> {
 pub type Bluetooth<'a> = TypedNode<'a, 3, 27, 6>;
 
 impl<'a> Bluetooth<'a> {
-    ghost use Rattle.uefi_device_nodes.specs.NodeViews.{data_of};
-
     /// The bytes of its address.
     pub fn device_address(&self) -> [u8; 6]
         ensures { result ≡ slice_range (data_of self.now) 0 6 }
@@ -359,8 +344,6 @@ impl<'a> Bluetooth<'a> {
 pub type BluetoothLe<'a> = TypedNode<'a, 3, 30, 7>;
 
 impl<'a> BluetoothLe<'a> {
-    ghost use Rattle.uefi_device_nodes.specs.NodeViews.{data_of};
-
     /// The bytes of its address.
     pub fn device_address(&self) -> [u8; 6]
         ensures { result ≡ slice_range (data_of self.now) 0 6 }
@@ -387,8 +370,6 @@ impl<'a> BluetoothLe<'a> {
 pub type Wifi<'a> = TypedNode<'a, 3, 28, 32>;
 
 impl<'a> Wifi<'a> {
-    ghost use Rattle.uefi_device_nodes.specs.NodeViews.{data_of};
-
     /// The name of the network, its SSID, filled up with zeros.
     pub fn ssid(&self) -> [u8; 32]
         ensures { result ≡ slice_range (data_of self.now) 0 32 }
@@ -410,8 +391,6 @@ impl<'a> Wifi<'a> {
 pub type Dns<'a> = TypedNode<'a, 3, 31, 1>;
 
 impl<'a> Dns<'a> {
-    ghost use Rattle.uefi_device_nodes.specs.NodeViews.{data_of};
-
     /// The type of the addresses: 0 is IP version 4, 1 is version 6.
     pub fn address_type(&self) -> u8
         ensures { result ≡ number_at 0 1 (data_of self.now) }
@@ -454,8 +433,6 @@ impl<'a> Dns<'a> {
 pub type RestService<'a> = TypedNode<'a, 3, 33, 2>;
 
 impl<'a> RestService<'a> {
-    ghost use Rattle.uefi_device_nodes.specs.NodeViews.{data_of};
-
     /// The service: 1 Redfish, 2 OData, 0xff that of a vendor.
     pub fn service_type(&self) -> u8
         ensures { result ≡ number_at 0 1 (data_of self.now) }
@@ -497,8 +474,6 @@ impl<'a> RestService<'a> {
 pub type NvmeOfNamespace<'a> = TypedNode<'a, 3, 34, 17>;
 
 impl<'a> NvmeOfNamespace<'a> {
-    ghost use Rattle.uefi_device_nodes.specs.NodeViews.{data_of};
-
     /// The type of the identifier: 1 EUI-64, 2 NGUID, 3 UUID.
     pub fn nidt(&self) -> u8
         ensures { result ≡ number_at 0 1 (data_of self.now) }

@@ -1,10 +1,12 @@
 //! One node of a device path.
 #![tactic(auto, unfolding(crate::specs::NodeViews::node_of))]
 
-ghost use Rattle.std.specs.Prelude.{◌≡◌, ◌≢◌, ℕ, ◌+◌, ◌<◌, ◌≤◌, ◌^◌, ◌↔◌, ◌++◌, length, slice_index, IfOk, IsTrue, None, Some};
+ghost use Rattle.std.specs.Prelude.{◌≡◌, ◌<◌, ◌≤◌, ◌↔◌, ◌++◌, length, slice_index, IfOk, IsTrue, None, Some, nat_eq};
 ghost use Rattle.std.specs.Result.{result_err};
-ghost use Rattle.uefi_device_nodes.specs.NodeFaults.{fault_place};
-ghost use Rattle.uefi_device_nodes.specs.Nodes.{IsSound, end_entire, first_node, node_bytes, node_length, stated_length};
+ghost use Rattle.uefi_device_nodes.specs.NodeFaults.{fault_place, node_fault};
+ghost use Rattle.uefi_device_nodes.specs.Nodes.{IsSound, end_entire, first_node, node_bytes, node_length, stated_length, is_end_instance};
+ghost use Rattle.std.specs.Cmp.{on_per, partial_equiv_from_equiv};
+ghost use Rattle.std.specs.Cmp.Lexicographic.{nat_list_eq_equiv, pointwise, on_texts_equal};
 
 use crate::errors::NodeError;
 use std::fmt;
@@ -240,8 +242,6 @@ pub struct DevicePathNode<'a> {
 }
 
 impl<'a> DevicePathNode<'a> {
-    ghost use Rattle.uefi_device_nodes.specs.NodeFaults.{node_fault};
-    ghost use Rattle.uefi_device_nodes.specs.Nodes.{is_end_instance};
     ghost use Rattle.uefi_device_nodes.specs.NodeViews.{node_of};
 
     /// The node of this length that bytes begin with, and the bytes after it.
@@ -396,9 +396,6 @@ impl<'a> DevicePathNode<'a> {
 
 /// Two nodes are equal exactly when their bytes are.
 impl<'a> PartialEq for DevicePathNode<'a> {
-    ghost use Rattle.std.specs.Cmp.{on_per, partial_equiv_from_equiv};
-    ghost use Rattle.std.specs.Prelude.{nat_eq};
-    ghost use Rattle.std.specs.Cmp.Lexicographic.{nat_list_eq_equiv, pointwise};
     ghost use Rattle.uefi_device_nodes.specs.NodeViews.{node_of};
 
     ghost eq = { λ a b. pointwise nat_eq (node_bytes (node_of a)) (node_bytes (node_of b)) };
@@ -411,7 +408,6 @@ impl<'a> PartialEq for DevicePathNode<'a> {
 }
 
 impl<'a> Eq for DevicePathNode<'a> {
-    ghost use Rattle.std.specs.Cmp.Lexicographic.{on_texts_equal};
     ghost use Rattle.uefi_device_nodes.specs.NodeViews.{node_of};
 
     ghost laws = { on_texts_equal (λ a. node_bytes (node_of a)) };

@@ -3,7 +3,7 @@
 
 ghost use Rattle.std.specs.Prelude.{◌≡◌, IfOk};
 ghost use Rattle.std.specs.Result.{result_err};
-ghost use Rattle.uefi_device_nodes.specs.NodeEnums.{IsNodeOf, acpi_kinds, bios_boot_spec_kinds, hardware_kinds, media_kinds, messaging_kinds, second_messaging_kinds, third_messaging_kinds, refusal_among};
+ghost use Rattle.uefi_device_nodes.specs.NodeEnums.{IsNodeOf, acpi_kinds, bios_boot_spec_kinds, hardware_kinds, media_kinds, messaging_kinds, second_messaging_kinds, third_messaging_kinds, refusal_among, enum_refusal};
 ghost use Rattle.uefi_device_nodes.specs.NodeViews.{node_of};
 
 use crate::errors::NodeConversionError;
@@ -269,8 +269,6 @@ fn bios_boot_spec_node(
 }
 
 impl<'a> DevicePathNode<'a> {
-    ghost use Rattle.uefi_device_nodes.specs.NodeEnums.{enum_refusal};
-
     /// The node as the view of its kind. Refused as `UnsupportedType` where its type and its sub-type are
     /// those of no kind that has a view, and then as `InvalidLength` where its data have a length that none
     /// of its kind has.
@@ -304,8 +302,6 @@ impl<'a> DevicePathNode<'a> {
 
 /// The view that [`DevicePathNode::as_enum`] gives, or its refusal.
 impl<'a> TryFrom<DevicePathNode<'a>> for DevicePathNodeEnum<'a> {
-    ghost use Rattle.uefi_device_nodes.specs.NodeEnums.{enum_refusal};
-
     type Error = NodeConversionError;
 
     ghost try_from_gives = { λ node result. IfOk result (λ view. IsNodeOf view (node_of node))

@@ -2,10 +2,14 @@
 #![tactic(auto, using(uefi_text::proofs::Puts::puts), unfolding(crate::specs::NodeTexts::unknown_text, crate::specs::NodeTexts::irregular_text, crate::specs::NodeTexts::node_text, crate::specs::NodeViews::printed_node))]
 
 ghost use Rattle.std.specs.Fmt.{WritesInCalls};
-ghost use Rattle.std.specs.Prelude.{◌≡◌, [], IfSome, if◌then◌else◌, is_some};
+ghost use Rattle.std.specs.Prelude.{◌≡◌, [], IfSome, if◌then◌else◌, is_some, Some, false};
 ghost use Rattle.uefi_device_nodes.specs.NodeTexts.{expanded_text, has_uid_text, irregular_text, is_irregular, node_text, short_name, unknown_text};
-ghost use Rattle.uefi_device_nodes.specs.NodeViews.{data_of, node_of};
+ghost use Rattle.uefi_device_nodes.specs.NodeViews.{data_of, node_of, printed_node, file_node};
 ghost use Rattle.uefi_device_nodes.specs.Nodes.{node_with};
+ghost use Rattle.uefi_text.specs.UnalignedCStr16.{with_prefix};
+ghost use Rattle.uefi_text.specs.UnitTexts.{utf16_units, written_len};
+ghost use Rattle.uefi_text.specs.Units.{nul_terminated};
+ghost use Rattle.uefi_field_texts.specs.FieldTexts.{utf16_text};
 
 use crate::acpi::Expanded;
 use crate::media::FilePath;
@@ -137,11 +141,6 @@ pub struct NodeText<'a> {
 }
 
 impl<'a> DevicePathNode<'a> {
-    ghost use Rattle.uefi_device_nodes.specs.NodeViews.{printed_node};
-    ghost use Rattle.uefi_text.specs.UnalignedCStr16.{with_prefix};
-    ghost use Rattle.uefi_text.specs.UnitTexts.{utf16_units, written_len};
-    ghost use Rattle.uefi_text.specs.Units.{nul_terminated};
-
     /// What is printed of the node, for a `{}` of a format (UEFI Specification 2.10, section 10.6.1):
     /// the form of its kind, or `Path(TYPE,SUBTYPE,BYTES)` where it is of none, or too short for its
     /// kind. No control character stands in it, and none that turns its direction or ends its line.
@@ -201,8 +200,6 @@ impl<'a> DevicePathNode<'a> {
 
 /// The text.
 impl<'a> Printed for NodeText<'a> {
-    ghost use Rattle.uefi_device_nodes.specs.NodeViews.{printed_node};
-
     ghost printed = { printed_node };
 
     fn put<S: TextSink>(&self, sink: &mut S) {
@@ -219,9 +216,6 @@ impl<'a> Printed for NodeText<'a> {
 
 /// Prints the text.
 impl<'a> fmt::Display for NodeText<'a> {
-    ghost use Rattle.std.specs.Prelude.{Some};
-    ghost use Rattle.uefi_device_nodes.specs.NodeViews.{printed_node};
-
     ghost output = { λ text. Some (printed_node text) };
 
     fn fmt<W: fmt::Write>(&self, f: &mut fmt::Formatter<W>) -> fmt::Result {
@@ -231,10 +225,6 @@ impl<'a> fmt::Display for NodeText<'a> {
 
 /// Prints the text that may be read back, without shorter names.
 impl<'a> fmt::Display for DevicePathNode<'a> {
-    ghost use Rattle.std.specs.Prelude.{Some, false};
-    ghost use Rattle.uefi_device_nodes.specs.NodeTexts.{node_text};
-    ghost use Rattle.uefi_device_nodes.specs.NodeViews.{node_of};
-
     ghost output = { λ node. Some (node_text false false (node_of node)) };
 
     fn fmt<W: fmt::Write>(&self, f: &mut fmt::Formatter<W>) -> fmt::Result {
@@ -245,11 +235,6 @@ impl<'a> fmt::Display for DevicePathNode<'a> {
 /// The text that may be read back, without shorter names.
 impl<'a, const DEVICE_TYPE: u8, const SUB_TYPE: u8, const LEAST: usize> Printed
     for TypedNode<'a, DEVICE_TYPE, SUB_TYPE, LEAST> {
-    ghost use Rattle.std.specs.Prelude.{false};
-    ghost use Rattle.uefi_device_nodes.specs.NodeTexts.{node_text};
-    ghost use Rattle.uefi_device_nodes.specs.NodeViews.{data_of};
-    ghost use Rattle.uefi_device_nodes.specs.Nodes.{node_with};
-
     ghost printed = { λ node. node_text false false (node_with DEVICE_TYPE SUB_TYPE (data_of node)) };
 
     fn put<S: TextSink>(&self, sink: &mut S) {
@@ -267,11 +252,6 @@ impl<'a, const DEVICE_TYPE: u8, const SUB_TYPE: u8, const LEAST: usize> Printed
 /// Prints that text.
 impl<'a, const DEVICE_TYPE: u8, const SUB_TYPE: u8, const LEAST: usize> fmt::Display
     for TypedNode<'a, DEVICE_TYPE, SUB_TYPE, LEAST> {
-    ghost use Rattle.std.specs.Prelude.{Some, false};
-    ghost use Rattle.uefi_device_nodes.specs.NodeTexts.{node_text};
-    ghost use Rattle.uefi_device_nodes.specs.NodeViews.{data_of};
-    ghost use Rattle.uefi_device_nodes.specs.Nodes.{node_with};
-
     ghost output = { λ node. Some (node_text false false
         (node_with DEVICE_TYPE SUB_TYPE (data_of node))) };
 
@@ -283,9 +263,6 @@ impl<'a, const DEVICE_TYPE: u8, const SUB_TYPE: u8, const LEAST: usize> fmt::Dis
 /// The name up to its NUL: U+FFFD for each surrogate that has no partner, and each control character as
 /// `\u{HEX}`.
 impl<'a> Printed for FilePath<'a> {
-    ghost use Rattle.uefi_device_nodes.specs.NodeViews.{file_node};
-    ghost use Rattle.uefi_field_texts.specs.FieldTexts.{utf16_text};
-
     ghost printed = { λ path. utf16_text (file_node path).content };
 
     fn put<S: TextSink>(&self, sink: &mut S) {
@@ -295,10 +272,6 @@ impl<'a> Printed for FilePath<'a> {
 
 /// Prints the name.
 impl<'a> fmt::Display for FilePath<'a> {
-    ghost use Rattle.std.specs.Prelude.{Some};
-    ghost use Rattle.uefi_device_nodes.specs.NodeViews.{file_node};
-    ghost use Rattle.uefi_field_texts.specs.FieldTexts.{utf16_text};
-
     ghost output = { λ path. Some (utf16_text (file_node path).content) };
 
     fn fmt<W: fmt::Write>(&self, f: &mut fmt::Formatter<W>) -> fmt::Result {

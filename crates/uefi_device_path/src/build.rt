@@ -1,13 +1,14 @@
 //! Device paths that are owned, and grow.
 #![tactic(auto)]
 
-ghost use Rattle.std.specs.Prelude.{◌≡◌, ℕ, ◌+◌, ◌-◌, ◌<◌, ◌≤◌, ◌∷◌, ◌++◌, ◌%◌, ◌/◌, [], List, length, take, IfOk, IfErr, OnOk, OnErr, None, unwrap_or};
+ghost use Rattle.std.specs.Prelude.{◌≡◌, ◌+◌, ◌-◌, ◌<◌, ◌≤◌, ◌∷◌, ◌++◌, ◌%◌, ◌/◌, [], List, length, IfOk, IfErr, OnOk, OnErr, None, unwrap_or};
 ghost use Rattle.std.specs.Result.{result_err};
 ghost use Rattle.std.specs.Vec.{vec_capacity, vec_len};
 ghost use Rattle.uefi_device_nodes.specs.Nodes.{end_entire, node_bytes, node_length, node_with};
-ghost use Rattle.uefi_device_path.specs.Paths.{path_bytes, without_end};
+ghost use Rattle.uefi_device_path.specs.Paths.{without_end};
 ghost use Rattle.uefi_device_path.specs.Building.{build_refusal, node_of_name};
 ghost use Rattle.uefi_path.specs.Views.{path_text};
+ghost use Rattle.uefi_device_path.specs.Views.{nodes_of};
 
 use crate::device_path::DevicePath;
 pub use crate::errors::BuildError;
@@ -96,8 +97,6 @@ pub(crate) fn node_header<N: BuildNode>(node: &N) -> [u8; 4]
 }
 
 impl<A: Allocator> DevicePathBuf<A> {
-    ghost use Rattle.uefi_device_path.specs.Views.{nodes_of};
-
     /// The device path without nodes, or `AllocError`. One request for memory.
     ///
     /// ```rust

@@ -1,7 +1,7 @@
 //! The nodes of a device path, each tested as it comes.
 #![tactic(auto, unfolding(crate::specs::Views::checked_bytes, crate::specs::Views::checked_left, crate::specs::Views::rest_of))]
 
-ghost use Rattle.std.specs.Prelude.{◌≡◌, ◌≢◌, ℕ, ◌<◌, ◌^◌, ◌++◌, ◌∷◌, [], List, map, length, Option, None, Some, IfNone, IfSome, OnSome, Ok, Err};
+ghost use Rattle.std.specs.Prelude.{◌≡◌, ◌≢◌, ℕ, ◌<◌, ◌^◌, ◌++◌, ◌∷◌, [], List, map, length, Option, None, Some, IfNone, IfSome, OnSome, Ok, Err, ⊤};
 ghost use Rattle.std.specs.Iterator.{MakesProgress, YieldsFirstBy, item_count};
 ghost use Rattle.std.specs.Option.{option_map};
 ghost use Rattle.uefi_device_nodes.specs.NodeFaults.{node_fault};
@@ -11,6 +11,7 @@ ghost use Rattle.uefi_device_path.specs.Faults.{RefusedFor, Refuses};
 ghost use Rattle.uefi_device_path.specs.Paths.{BeginWith, BeginWithPath};
 ghost use Rattle.uefi_device_path.specs.declared.checked_nodes.Progress.{Progress};
 ghost use Rattle.uefi_device_path.specs.declared.errors.DevicePathError.{DevicePathError};
+ghost use Rattle.uefi_text.specs.Runs.{GivesEach};
 
 use crate::errors::DevicePathError;
 use uefi_device_nodes::node::{DevicePathNode, fault_place};
@@ -41,7 +42,6 @@ pub struct CheckedNodes<'a> {
 
 impl<'a> CheckedNodes<'a> {
     ghost use Rattle.uefi_device_path.specs.Views.{checked_bytes, checked_left, checked_node, rest_of};
-    ghost use Rattle.uefi_text.specs.Runs.{GivesEach};
 
     /// Creates an iterator over the nodes of the device path that bytes begin with. Reads none.
     ///
@@ -128,7 +128,6 @@ impl<'a> Iterator for CheckedNodes<'a> {
     type Item = Result<DevicePathNode<'a>, DevicePathError>;
 
     ghost use Rattle.uefi_device_path.specs.Views.{checked_bytes, checked_left, checked_node, rest_of};
-    ghost use Rattle.std.specs.Prelude.{⊤};
 
     ghost next_gives = { YieldsFirstBy checked_node checked_left };
 

@@ -1,14 +1,24 @@
 //! Device paths, and the nodes of one.
 #![tactic(auto, unfolding(crate::specs::Views::nodes_of, crate::specs::Views::nodes_left))]
 
-ghost use Rattle.std.specs.Prelude.{◌≡◌, ◌≢◌, ℕ, ◌+◌, ◌<◌, ◌≤◌, ◌^◌, ◌↔◌, ◌++◌, [], List, All, length, drop, take, IfOk, IfErr, IsErr, IsOk, IfSome, IsTrue, None, OnErr, OnOk};
-ghost use Rattle.std.specs.Result.{result_err};
+ghost use Rattle.std.specs.Prelude.{◌≡◌, ℕ, ◌+◌, ◌<◌, ◌≤◌, ◌^◌, ◌↔◌, ◌++◌, List, All, length, drop, IfOk, IfErr, IsErr, IsOk, OnErr, OnOk, nat_eq, Some, false};
 ghost use Rattle.uefi_device_path.specs.FilePathBuffers.{WriteRefusedFor};
 ghost use Rattle.uefi_text.specs.Units.{IsText, nul_terminated};
 ghost use Rattle.uefi_text.specs.Views.{text_of};
 ghost use Rattle.uefi_device_path.specs.FilePaths.{FilePathRefusedFor, IsReadable, file_path};
-ghost use Rattle.uefi_device_nodes.specs.Nodes.{IsInner, Node, end_entire, node_bytes, node_length};
-ghost use Rattle.uefi_device_path.specs.Paths.{AreNodes, BeginWith, BeginWithPath, IsPath, joined, nodes_in, path_bytes, without_end};
+ghost use Rattle.uefi_device_nodes.specs.Nodes.{IsInner, Node, end_entire, node_bytes};
+ghost use Rattle.uefi_device_path.specs.Paths.{BeginWith, BeginWithPath, IsPath, nodes_in, path_bytes, without_end};
+ghost use Rattle.uefi_device_nodes.specs.NodeFaults.{fault_place};
+ghost use Rattle.uefi_device_path.specs.Faults.{RefusedFor, GivesPath};
+ghost use Rattle.uefi_device_path.specs.Instances.{instances};
+ghost use Rattle.uefi_device_nodes.specs.NodeViews.{node_of};
+ghost use Rattle.uefi_device_path.specs.PathTexts.{path_text};
+ghost use Rattle.uefi_text.specs.UnalignedCStr16.{with_prefix};
+ghost use Rattle.uefi_text.specs.UnitTexts.{places_needed, utf16_units, written_len};
+ghost use Rattle.uefi_text.specs.Runs.{GivesEach};
+ghost use Rattle.uefi_device_path.specs.declared.errors.DevicePathError.{DevicePathError};
+ghost use Rattle.std.specs.Cmp.{on_per, partial_equiv_from_equiv};
+ghost use Rattle.std.specs.Cmp.Lexicographic.{nat_list_eq_equiv, pointwise, on_texts_equal};
 
 use crate::errors::{DevicePathError, FilePathCause, FilePathError, FilePathWriteError};
 use crate::file_path::{file_path_in, write_file_path_in};
@@ -34,16 +44,7 @@ pub struct DevicePath<'a> {
 }
 
 impl<'a> DevicePath<'a> {
-    ghost use Rattle.uefi_device_nodes.specs.NodeFaults.{fault_place};
-    ghost use Rattle.uefi_device_path.specs.Faults.{RefusedFor};
-    ghost use Rattle.uefi_device_path.specs.Instances.{instances};
-    ghost use Rattle.uefi_device_nodes.specs.NodeViews.{node_of};
-    ghost use Rattle.uefi_device_path.specs.PathTexts.{path_text};
-    ghost use Rattle.uefi_text.specs.UnalignedCStr16.{with_prefix};
-    ghost use Rattle.uefi_text.specs.UnitTexts.{places_needed, utf16_units, written_len};
     ghost use Rattle.uefi_device_path.specs.Views.{instance_nodes, instances_left, nodes_left, nodes_of, printed_path};
-    ghost use Rattle.uefi_text.specs.Runs.{GivesEach};
-    ghost use Rattle.uefi_device_path.specs.declared.errors.DevicePathError.{DevicePathError};
 
     /// The device path that the bytes are.
     pub(crate) fn of_path(bytes: &'a [u8]) -> Self
@@ -360,9 +361,6 @@ impl<'a> DevicePath<'a> {
 
 /// Two paths are equal exactly when their bytes are.
 impl<'a> PartialEq for DevicePath<'a> {
-    ghost use Rattle.std.specs.Cmp.{on_per, partial_equiv_from_equiv};
-    ghost use Rattle.std.specs.Prelude.{nat_eq};
-    ghost use Rattle.std.specs.Cmp.Lexicographic.{nat_list_eq_equiv, pointwise};
     ghost use Rattle.uefi_device_path.specs.Views.{nodes_of};
 
     ghost eq = { λ a b. pointwise nat_eq (path_bytes (nodes_of a)) (path_bytes (nodes_of b)) };
@@ -375,7 +373,6 @@ impl<'a> PartialEq for DevicePath<'a> {
 }
 
 impl<'a> Eq for DevicePath<'a> {
-    ghost use Rattle.std.specs.Cmp.Lexicographic.{on_texts_equal};
     ghost use Rattle.uefi_device_path.specs.Views.{nodes_of};
 
     ghost laws = { on_texts_equal (λ a. path_bytes (nodes_of a)) };
@@ -408,7 +405,6 @@ impl<'a> fmt::Debug for DevicePath<'a> {
 impl<'a> TryFrom<&'a [u8]> for DevicePath<'a> {
     type Error = DevicePathError;
 
-    ghost use Rattle.uefi_device_path.specs.Faults.{GivesPath};
     ghost use Rattle.uefi_device_path.specs.Views.{nodes_of};
 
     ghost try_from_gives = { λ bytes result. GivesPath nodes_of bytes.now result };
@@ -420,8 +416,6 @@ impl<'a> TryFrom<&'a [u8]> for DevicePath<'a> {
 
 /// Prints the text that may be read back, without shorter names.
 impl<'a> fmt::Display for DevicePath<'a> {
-    ghost use Rattle.std.specs.Prelude.{Some, false};
-    ghost use Rattle.uefi_device_path.specs.PathTexts.{path_text};
     ghost use Rattle.uefi_device_path.specs.Views.{nodes_of};
 
     ghost output = { λ path. Some (path_text false false (nodes_of path)) };

@@ -1,6 +1,9 @@
 //! Why bytes are no device path and no load option, and why a node is not added.
 #![tactic(auto, using(uefi_text::proofs::Puts::puts))]
 
+ghost use Rattle.uefi_device_path.specs.ErrorTexts.{device_path_error_text, file_path_cause_text, file_path_error_text, file_path_write_error_text, load_option_cause_text, load_option_error_text, build_error_text, grow_error_text, push_text_error_text, option_build_error_text};
+ghost use Rattle.std.specs.Prelude.{Some};
+
 use std::error::Error;
 use std::fmt;
 pub use uefi_device_nodes::errors::{NodeConversionError, NodeError};
@@ -21,8 +24,6 @@ pub struct DevicePathError {
 
 /// Puts what is wrong, in words.
 impl Printed for DevicePathError {
-    ghost use Rattle.uefi_device_path.specs.ErrorTexts.{device_path_error_text};
-
     ghost printed = { device_path_error_text };
 
     fn put<S: TextSink>(&self, sink: &mut S) {
@@ -33,9 +34,6 @@ impl Printed for DevicePathError {
 
 /// Prints the same.
 impl fmt::Display for DevicePathError {
-    ghost use Rattle.std.specs.Prelude.{Some};
-    ghost use Rattle.uefi_device_path.specs.ErrorTexts.{device_path_error_text};
-
     ghost output = { λ error. Some (device_path_error_text error) };
 
     fn fmt<W: fmt::Write>(&self, f: &mut fmt::Formatter<W>) -> fmt::Result {
@@ -58,8 +56,6 @@ pub enum FilePathCause {
 
 /// Puts what is wrong, in words.
 impl Printed for FilePathCause {
-    ghost use Rattle.uefi_device_path.specs.ErrorTexts.{file_path_cause_text};
-
     ghost printed = { file_path_cause_text };
 
     fn put<S: TextSink>(&self, sink: &mut S) {
@@ -76,9 +72,6 @@ impl Printed for FilePathCause {
 
 /// Prints the same.
 impl fmt::Display for FilePathCause {
-    ghost use Rattle.std.specs.Prelude.{Some};
-    ghost use Rattle.uefi_device_path.specs.ErrorTexts.{file_path_cause_text};
-
     ghost output = { λ cause. Some (file_path_cause_text cause) };
 
     fn fmt<W: fmt::Write>(&self, f: &mut fmt::Formatter<W>) -> fmt::Result {
@@ -100,8 +93,6 @@ pub struct FilePathError {
 
 /// Puts what is wrong, in words.
 impl Printed for FilePathError {
-    ghost use Rattle.uefi_device_path.specs.ErrorTexts.{file_path_error_text};
-
     ghost printed = { file_path_error_text };
 
     fn put<S: TextSink>(&self, sink: &mut S) {
@@ -112,9 +103,6 @@ impl Printed for FilePathError {
 
 /// Prints the same.
 impl fmt::Display for FilePathError {
-    ghost use Rattle.std.specs.Prelude.{Some};
-    ghost use Rattle.uefi_device_path.specs.ErrorTexts.{file_path_error_text};
-
     ghost output = { λ error. Some (file_path_error_text error) };
 
     fn fmt<W: fmt::Write>(&self, f: &mut fmt::Formatter<W>) -> fmt::Result {
@@ -135,8 +123,6 @@ pub enum FilePathWriteError {
 
 /// Puts what is wrong, in words.
 impl Printed for FilePathWriteError {
-    ghost use Rattle.uefi_device_path.specs.ErrorTexts.{file_path_write_error_text};
-
     ghost printed = { file_path_write_error_text };
 
     fn put<S: TextSink>(&self, sink: &mut S) {
@@ -156,9 +142,6 @@ impl Printed for FilePathWriteError {
 
 /// Prints the same.
 impl fmt::Display for FilePathWriteError {
-    ghost use Rattle.std.specs.Prelude.{Some};
-    ghost use Rattle.uefi_device_path.specs.ErrorTexts.{file_path_write_error_text};
-
     ghost output = { λ error. Some (file_path_write_error_text error) };
 
     fn fmt<W: fmt::Write>(&self, f: &mut fmt::Formatter<W>) -> fmt::Result {
@@ -185,8 +168,6 @@ pub enum LoadOptionCause {
 
 /// Puts what is wrong, in words.
 impl Printed for LoadOptionCause {
-    ghost use Rattle.uefi_device_path.specs.ErrorTexts.{load_option_cause_text};
-
     ghost printed = { load_option_cause_text };
 
     fn put<S: TextSink>(&self, sink: &mut S) {
@@ -204,9 +185,6 @@ impl Printed for LoadOptionCause {
 
 /// Prints the same.
 impl fmt::Display for LoadOptionCause {
-    ghost use Rattle.std.specs.Prelude.{Some};
-    ghost use Rattle.uefi_device_path.specs.ErrorTexts.{load_option_cause_text};
-
     ghost output = { λ cause. Some (load_option_cause_text cause) };
 
     fn fmt<W: fmt::Write>(&self, f: &mut fmt::Formatter<W>) -> fmt::Result {
@@ -227,8 +205,6 @@ pub struct LoadOptionError {
 
 /// Puts what is wrong, in words.
 impl Printed for LoadOptionError {
-    ghost use Rattle.uefi_device_path.specs.ErrorTexts.{load_option_error_text};
-
     ghost printed = { load_option_error_text };
 
     fn put<S: TextSink>(&self, sink: &mut S) {
@@ -239,9 +215,6 @@ impl Printed for LoadOptionError {
 
 /// Prints the same.
 impl fmt::Display for LoadOptionError {
-    ghost use Rattle.std.specs.Prelude.{Some};
-    ghost use Rattle.uefi_device_path.specs.ErrorTexts.{load_option_error_text};
-
     ghost output = { λ error. Some (load_option_error_text error) };
 
     fn fmt<W: fmt::Write>(&self, f: &mut fmt::Formatter<W>) -> fmt::Result {
@@ -268,8 +241,6 @@ pub enum BuildError {
 
 /// Puts what is wrong, in words.
 impl Printed for BuildError {
-    ghost use Rattle.uefi_device_path.specs.ErrorTexts.{build_error_text};
-
     ghost printed = { build_error_text };
 
     fn put<S: TextSink>(&self, sink: &mut S) {
@@ -293,9 +264,6 @@ impl Printed for BuildError {
 
 /// Prints the same.
 impl fmt::Display for BuildError {
-    ghost use Rattle.std.specs.Prelude.{Some};
-    ghost use Rattle.uefi_device_path.specs.ErrorTexts.{build_error_text};
-
     ghost output = { λ error. Some (build_error_text error) };
 
     fn fmt<W: fmt::Write>(&self, f: &mut fmt::Formatter<W>) -> fmt::Result {
@@ -316,8 +284,6 @@ pub enum GrowError {
 
 /// Puts what is wrong, in words.
 impl Printed for GrowError {
-    ghost use Rattle.uefi_device_path.specs.ErrorTexts.{grow_error_text};
-
     ghost printed = { grow_error_text };
 
     fn put<S: TextSink>(&self, sink: &mut S) {
@@ -330,9 +296,6 @@ impl Printed for GrowError {
 
 /// Prints the same.
 impl fmt::Display for GrowError {
-    ghost use Rattle.std.specs.Prelude.{Some};
-    ghost use Rattle.uefi_device_path.specs.ErrorTexts.{grow_error_text};
-
     ghost output = { λ error. Some (grow_error_text error) };
 
     fn fmt<W: fmt::Write>(&self, f: &mut fmt::Formatter<W>) -> fmt::Result {
@@ -357,8 +320,6 @@ pub enum PushTextError {
 
 /// Puts what is wrong, in words.
 impl Printed for PushTextError {
-    ghost use Rattle.uefi_device_path.specs.ErrorTexts.{push_text_error_text};
-
     ghost printed = { push_text_error_text };
 
     fn put<S: TextSink>(&self, sink: &mut S) {
@@ -379,9 +340,6 @@ impl Printed for PushTextError {
 
 /// Prints the same.
 impl fmt::Display for PushTextError {
-    ghost use Rattle.std.specs.Prelude.{Some};
-    ghost use Rattle.uefi_device_path.specs.ErrorTexts.{push_text_error_text};
-
     ghost output = { λ error. Some (push_text_error_text error) };
 
     fn fmt<W: fmt::Write>(&self, f: &mut fmt::Formatter<W>) -> fmt::Result {
@@ -410,8 +368,6 @@ pub enum OptionBuildError {
 
 /// Puts what is wrong, in words.
 impl Printed for OptionBuildError {
-    ghost use Rattle.uefi_device_path.specs.ErrorTexts.{option_build_error_text};
-
     ghost printed = { option_build_error_text };
 
     fn put<S: TextSink>(&self, sink: &mut S) {
@@ -441,9 +397,6 @@ impl Printed for OptionBuildError {
 
 /// Prints the same.
 impl fmt::Display for OptionBuildError {
-    ghost use Rattle.std.specs.Prelude.{Some};
-    ghost use Rattle.uefi_device_path.specs.ErrorTexts.{option_build_error_text};
-
     ghost output = { λ error. Some (option_build_error_text error) };
 
     fn fmt<W: fmt::Write>(&self, f: &mut fmt::Formatter<W>) -> fmt::Result {

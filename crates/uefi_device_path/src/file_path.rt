@@ -2,14 +2,13 @@
 //! its own or in a caller's buffer.
 #![tactic(auto)]
 
-ghost use Rattle.std.specs.Prelude.{◌≡◌, ℕ, ◌+◌, ◌*◌, ◌<◌, ◌≤◌, ◌^◌, ◌∷◌, ◌++◌, [], ◌&&◌, ◌==◌, List, All, drop, length, nat_lt, if◌then◌else◌, IfOk, IfErr, OnErr, OnOk, Some, true};
+ghost use Rattle.std.specs.Prelude.{◌≡◌, ℕ, ◌+◌, ◌<◌, ◌≤◌, ◌^◌, ◌∷◌, ◌++◌, [], ◌&&◌, ◌==◌, List, All, drop, length, if◌then◌else◌, IfOk, IfErr, OnErr, OnOk, Some, true};
 ghost use Rattle.std.specs.Result.{result_err};
-ghost use Rattle.uefi_text.specs.UnalignedCStr16.{with_prefix};
 ghost use Rattle.uefi_text.specs.UnitBytes.{units_of_bytes};
-ghost use Rattle.uefi_text.specs.Units.{IsString, IsText, nul_terminated, replaced, without_nul};
+ghost use Rattle.uefi_text.specs.Units.{IsString, IsText, nul_terminated, without_nul};
 ghost use Rattle.uefi_text.specs.Views.{items_of};
 ghost use Rattle.uefi_path.specs.Pushing.{needs_separator};
-ghost use Rattle.uefi_path.specs.Separators.{separator, slash, with_separators};
+ghost use Rattle.uefi_path.specs.Separators.{separator, with_separators};
 ghost use Rattle.uefi_device_nodes.specs.FileNodes.{is_file};
 ghost use Rattle.uefi_device_nodes.specs.NodeViews.{node_of};
 ghost use Rattle.uefi_device_path.specs.FilePathBuffers.{IsWritten, WriteRefusedFor};

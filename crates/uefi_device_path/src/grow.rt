@@ -1,7 +1,7 @@
 //! Device paths that grow in the buffer in which they lie.
 #![tactic(auto)]
 
-ghost use Rattle.std.specs.Prelude.{◌≡◌, ℕ, ◌+◌, ◌-◌, ◌≤◌, ◌∷◌, ◌++◌, [], List, drop, length, take, Err, IfErr, IfOk, IsOk, None, OnErr, OnOk};
+ghost use Rattle.std.specs.Prelude.{◌≡◌, ◌+◌, ◌-◌, ◌≤◌, ◌∷◌, ◌++◌, [], List, drop, length, take, Err, IfErr, IfOk, IsOk, None, OnErr, OnOk};
 ghost use Rattle.std.specs.Result.{result_err};
 ghost use Rattle.uefi_text.specs.UnalignedCStr16.{with_prefix};
 ghost use Rattle.uefi_device_nodes.specs.Nodes.{Node, end_entire, node_bytes, node_length};

@@ -1,16 +1,20 @@
 //! The instances of a device path.
 #![tactic(auto, unfolding(crate::specs::Views::instance_nodes, crate::specs::Views::instances_left, crate::specs::Views::nodes_left))]
 
-ghost use Rattle.std.specs.Prelude.{◌≡◌, ℕ, ◌+◌, ◌<◌, ◌≤◌, ◌^◌, ◌∷◌, ◌++◌, ◌≢◌, All, drop, length, IfErr, IfOk, IsTrue, OnErr, OnOk};
+ghost use Rattle.std.specs.Prelude.{◌≡◌, ◌+◌, ◌<◌, ◌^◌, ◌∷◌, ◌++◌, All, drop, length, IfErr, IfOk, OnErr, OnOk, nat_eq};
 ghost use Rattle.std.specs.Option.{ForSome};
 ghost use Rattle.uefi_device_path.specs.FilePathBuffers.{WriteRefusedFor};
 ghost use Rattle.uefi_text.specs.Units.{IsText, nul_terminated};
 ghost use Rattle.uefi_text.specs.Views.{text_of};
 ghost use Rattle.uefi_device_path.specs.FilePaths.{FilePathRefusedFor, IsReadable, file_path};
-ghost use Rattle.uefi_device_nodes.specs.Nodes.{IsInner};
+ghost use Rattle.uefi_device_nodes.specs.Nodes.{IsInner, is_end_instance};
 ghost use Rattle.uefi_device_path.specs.Paths.{AreNodes, joined, nodes_in};
-ghost use Rattle.uefi_device_nodes.specs.Nodes.{is_end_instance};
 ghost use Rattle.uefi_device_path.specs.Instances.{instances, instances_in};
+ghost use Rattle.uefi_device_nodes.specs.NodeViews.{node_of};
+ghost use Rattle.uefi_text.specs.Runs.{GivesEach};
+ghost use Rattle.std.specs.Cmp.{on_per, partial_equiv_from_equiv};
+ghost use Rattle.std.specs.Cmp.Lexicographic.{nat_list_eq_equiv, pointwise, on_texts_equal};
+ghost use Rattle.std.specs.Iterator.{YieldsFirstBy, item_count};
 
 use crate::errors::{FilePathCause, FilePathError, FilePathWriteError};
 use crate::file_path::{file_path_in, write_file_path_in};
@@ -65,9 +69,7 @@ pub(crate) fn cut_instance(bytes: &[u8]) -> (&[u8], Option<&[u8]>)
 }
 
 impl<'a> DevicePathInstance<'a> {
-    ghost use Rattle.uefi_device_nodes.specs.NodeViews.{node_of};
     ghost use Rattle.uefi_device_path.specs.Views.{instance_nodes, nodes_left};
-    ghost use Rattle.uefi_text.specs.Runs.{GivesEach};
 
     /// The bytes of the nodes.
     pub fn as_bytes(&self) -> &'a [u8]
@@ -155,9 +157,6 @@ impl<'a> DevicePathInstance<'a> {
 
 /// Two instances are equal exactly when their bytes are.
 impl<'a> PartialEq for DevicePathInstance<'a> {
-    ghost use Rattle.std.specs.Cmp.{on_per, partial_equiv_from_equiv};
-    ghost use Rattle.std.specs.Prelude.{nat_eq};
-    ghost use Rattle.std.specs.Cmp.Lexicographic.{nat_list_eq_equiv, pointwise};
     ghost use Rattle.uefi_device_path.specs.Views.{instance_nodes};
 
     ghost eq = { λ a b. pointwise nat_eq (joined (instance_nodes a)) (joined (instance_nodes b)) };
@@ -170,7 +169,6 @@ impl<'a> PartialEq for DevicePathInstance<'a> {
 }
 
 impl<'a> Eq for DevicePathInstance<'a> {
-    ghost use Rattle.std.specs.Cmp.Lexicographic.{on_texts_equal};
     ghost use Rattle.uefi_device_path.specs.Views.{instance_nodes};
 
     ghost laws = { on_texts_equal (λ a. joined (instance_nodes a)) };
@@ -203,7 +201,6 @@ impl<'a> fmt::Debug for DevicePathInstance<'a> {
 
 impl<'a> DevicePathInstanceIterator<'a> {
     ghost use Rattle.uefi_device_path.specs.Views.{instance_nodes, instances_left};
-    ghost use Rattle.uefi_text.specs.Runs.{GivesEach};
 
     /// The instances of nodes.
     pub(crate) fn of(bytes: &'a [u8]) -> Self
@@ -219,7 +216,6 @@ impl<'a> DevicePathInstanceIterator<'a> {
 impl<'a> Iterator for DevicePathInstanceIterator<'a> {
     type Item = DevicePathInstance<'a>;
 
-    ghost use Rattle.std.specs.Iterator.{YieldsFirstBy, item_count};
     ghost use Rattle.uefi_device_path.specs.Views.{instance_nodes, instances_left};
 
     ghost next_gives = { YieldsFirstBy instance_nodes instances_left };

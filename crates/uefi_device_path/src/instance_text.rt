@@ -1,11 +1,12 @@
 //! Instances of device paths as people read them.
 #![tactic(auto, unfolding(crate::specs::Views::instance_nodes))]
 
-ghost use Rattle.std.specs.Prelude.{◌≡◌, ◌≤◌, ◌↔◌, IfErr, IfOk, IsErr, length};
+ghost use Rattle.std.specs.Prelude.{◌≡◌, ◌≤◌, ◌↔◌, IfErr, IfOk, IsErr, length, Some, false};
 ghost use Rattle.uefi_device_path.specs.PathTexts.{path_text};
 ghost use Rattle.uefi_text.specs.UnalignedCStr16.{with_prefix};
 ghost use Rattle.uefi_text.specs.UnitTexts.{places_needed, utf16_units, written_len};
 ghost use Rattle.uefi_text.specs.Units.{nul_terminated};
+ghost use Rattle.uefi_device_path.specs.Views.{instance_nodes, printed_path};
 
 use crate::instance::DevicePathInstance;
 use crate::path_text::PathText;
@@ -15,8 +16,6 @@ use uefi_text::text_sink::print;
 use uefi_text::unit_sink::{BufferTooSmall, write_units};
 
 impl<'a> DevicePathInstance<'a> {
-    ghost use Rattle.uefi_device_path.specs.Views.{instance_nodes, printed_path};
-
     /// What is printed of the instance, for a `{}` of a format (UEFI Specification 2.10, section 10.6.1):
     /// the texts of its nodes, which [`DevicePathNode::display`] gives, with a slash between each two. Takes
     /// no memory.
@@ -92,9 +91,6 @@ impl<'a> DevicePathInstance<'a> {
 
 /// Prints the text that may be read back, without shorter names.
 impl<'a> fmt::Display for DevicePathInstance<'a> {
-    ghost use Rattle.std.specs.Prelude.{Some, false};
-    ghost use Rattle.uefi_device_path.specs.Views.{instance_nodes};
-
     ghost output = { λ instance. Some (path_text false false (instance_nodes instance)) };
 
     fn fmt<W: fmt::Write>(&self, f: &mut fmt::Formatter<W>) -> fmt::Result {

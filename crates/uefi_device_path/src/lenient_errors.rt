@@ -1,6 +1,9 @@
 //! Why a text as people write it is not read as a device path.
 #![tactic(auto, using(uefi_text::proofs::Puts::puts))]
 
+ghost use Rattle.uefi_device_path.specs.LenientErrorTexts.{text_fault_text, lenient_text_error_text, push_lenient_text_error_text};
+ghost use Rattle.std.specs.Prelude.{Some};
+
 use crate::errors::DevicePathError;
 use std::error::Error;
 use std::fmt;
@@ -24,8 +27,6 @@ pub struct TextFault {
 
 /// Puts what is wrong, in words.
 impl Printed for TextFault {
-    ghost use Rattle.uefi_device_path.specs.LenientErrorTexts.{text_fault_text};
-
     ghost printed = { text_fault_text };
 
     fn put<S: TextSink>(&self, sink: &mut S) {
@@ -38,9 +39,6 @@ impl Printed for TextFault {
 
 /// Prints the same.
 impl fmt::Display for TextFault {
-    ghost use Rattle.std.specs.Prelude.{Some};
-    ghost use Rattle.uefi_device_path.specs.LenientErrorTexts.{text_fault_text};
-
     ghost output = { λ fault. Some (text_fault_text fault) };
 
     fn fmt<W: fmt::Write>(&self, f: &mut fmt::Formatter<W>) -> fmt::Result {
@@ -61,8 +59,6 @@ pub enum LenientTextError {
 
 /// Puts what is wrong, in words.
 impl Printed for LenientTextError {
-    ghost use Rattle.uefi_device_path.specs.LenientErrorTexts.{lenient_text_error_text};
-
     ghost printed = { lenient_text_error_text };
 
     fn put<S: TextSink>(&self, sink: &mut S) {
@@ -75,9 +71,6 @@ impl Printed for LenientTextError {
 
 /// Prints the same.
 impl fmt::Display for LenientTextError {
-    ghost use Rattle.std.specs.Prelude.{Some};
-    ghost use Rattle.uefi_device_path.specs.LenientErrorTexts.{lenient_text_error_text};
-
     ghost output = { λ error. Some (lenient_text_error_text error) };
 
     fn fmt<W: fmt::Write>(&self, f: &mut fmt::Formatter<W>) -> fmt::Result {
@@ -103,8 +96,6 @@ pub enum PushLenientTextError {
 
 /// Puts what is wrong, in words.
 impl Printed for PushLenientTextError {
-    ghost use Rattle.uefi_device_path.specs.LenientErrorTexts.{push_lenient_text_error_text};
-
     ghost printed = { push_lenient_text_error_text };
 
     fn put<S: TextSink>(&self, sink: &mut S) {
@@ -129,9 +120,6 @@ impl Printed for PushLenientTextError {
 
 /// Prints the same.
 impl fmt::Display for PushLenientTextError {
-    ghost use Rattle.std.specs.Prelude.{Some};
-    ghost use Rattle.uefi_device_path.specs.LenientErrorTexts.{push_lenient_text_error_text};
-
     ghost output = { λ error. Some (push_lenient_text_error_text error) };
 
     fn fmt<W: fmt::Write>(&self, f: &mut fmt::Formatter<W>) -> fmt::Result {

@@ -1,7 +1,7 @@
 //! Device paths read from texts as people write them.
 #![tactic(auto)]
 
-ghost use Rattle.std.specs.Prelude.{◌++◌, ◌∷◌, ◌≡◌, ℕ, ◌+◌, ◌-◌, ◌<◌, ◌≤◌, ◌^◌, min, false, [], List, IfOk, IfErr, MatchOption, OnOk, Some, None, length};
+ghost use Rattle.std.specs.Prelude.{◌++◌, ◌∷◌, ◌≡◌, ◌+◌, ◌-◌, ◌<◌, ◌≤◌, ◌^◌, min, false, [], List, IfOk, IfErr, MatchOption, OnOk, Some, None, length};
 ghost use Rattle.uefi_device_nodes.specs.Nodes.{Node};
 ghost use Rattle.uefi_device_path.specs.LenientReading.{IsLenientError, IsReadAs, IsReadable, ReadingStopsAt};
 ghost use Rattle.uefi_device_path.specs.PathReading.{AreTold};
@@ -11,6 +11,7 @@ ghost use Rattle.uefi_node_reader.specs.LenientFaults.{lenient_fault};
 ghost use Rattle.uefi_node_reader.specs.LenientNodes.{lenient_read};
 ghost use Rattle.uefi_node_reader.specs.NamedFiles.{IsTold};
 ghost use Rattle.uefi_node_reader.specs.TextNodeViews.{text_node};
+ghost use Rattle.uefi_device_path.specs.declared.lenient_errors.LenientTextError.TheVariants.{OutOfMemory};
 
 use crate::build::DevicePathBuf;
 use crate::errors::BuildError;
@@ -160,8 +161,6 @@ fn read_path<A: Allocator + Copy>(
 }
 
 impl<A: Allocator + Copy> DevicePathBuf<A> {
-    ghost use Rattle.uefi_device_path.specs.declared.lenient_errors.LenientTextError.TheVariants.{OutOfMemory};
-
     /// Reads a path from a text as people write it, and as `efibootmgr -v` prints it: names and digits in
     /// either case, numbers in decimal or after `0x`, zeros before them, blanks in a call, numbers left
     /// out at its end, `File(..)`, and a file's name without its first backslash.

@@ -1,14 +1,19 @@
 //! Boot load options: the bytes of the variables `Boot####` (UEFI Specification 2.10, section 3.1.3).
 #![tactic(auto, unfolding(crate::specs::Views::entry_of))]
 
-ghost use Rattle.std.specs.Prelude.{◌≡◌, ℕ, ◌+◌, ◌-◌, ◌*◌, ◌/◌, ◌%◌, ◌<◌, ◌≤◌, ◌↔◌, ◌++◌, ◌^◌, List, length, IfOk, IfErr, IfSome, IsOk, IsSome, IsTrue, None, unwrap_or};
+ghost use Rattle.std.specs.Prelude.{◌≡◌, ◌+◌, ◌-◌, ◌/◌, ◌%◌, ◌<◌, ◌↔◌, ◌^◌, length, IfOk, IfErr, IfSome, IsOk, IsSome, IsTrue, unwrap_or, nat_eq};
 ghost use Rattle.uefi_text.specs.FromSliceWithNul.{with_nul_refusal};
 ghost use Rattle.uefi_text.specs.UnitBytes.{unit_bytes, units_of_bytes};
 ghost use Rattle.uefi_text.specs.Units.{IsNulTerminated, IsString, nul_terminated};
 ghost use Rattle.uefi_text.specs.Views.{items_of};
 ghost use Rattle.uefi_device_path.specs.PathLists.{IsPathList, list_bytes};
 ghost use Rattle.std.specs.String.{string_bytes};
-ghost use Rattle.uefi_device_path.specs.LoadOptions.{Entry, EntryRefusedFor, IsEntry, entry_bytes, entry_with, lossy_utf8};
+ghost use Rattle.uefi_device_path.specs.LoadOptions.{Entry, EntryRefusedFor, IsEntry, entry_bytes, entry_with, lossy_utf8, GivesOption};
+ghost use Rattle.uefi_device_path.specs.LoadOptionParts.{AreWell};
+ghost use Rattle.uefi_device_path.specs.declared.errors.LoadOptionError.{LoadOptionError};
+ghost use Rattle.uefi_text.specs.Runs.{GivesEach};
+ghost use Rattle.std.specs.Cmp.{on_per, partial_equiv_from_equiv};
+ghost use Rattle.std.specs.Cmp.Lexicographic.{nat_list_eq_equiv, pointwise, on_texts_equal};
 
 use crate::errors::{LoadOptionCause, LoadOptionError};
 use crate::load_option_parts::LoadOptionParts;
@@ -43,9 +48,6 @@ pub struct LoadOption<'a> {
 
 impl<'a> LoadOption<'a> {
     ghost use Rattle.uefi_device_path.specs.Views.{entry_of, nodes_of, parts_of, paths_left};
-    ghost use Rattle.uefi_device_path.specs.LoadOptionParts.{AreWell};
-    ghost use Rattle.uefi_device_path.specs.declared.errors.LoadOptionError.{LoadOptionError};
-    ghost use Rattle.uefi_text.specs.Runs.{GivesEach};
 
     /// The load option that the bytes are. Refused for the first of these that is wrong: fewer than
     /// six bytes, a description without NUL, a file path list beyond the end or of no bytes, and a
@@ -290,9 +292,6 @@ impl<'a> LoadOption<'a> {
 
 /// Two load options are equal exactly when their bytes are.
 impl<'a> PartialEq for LoadOption<'a> {
-    ghost use Rattle.std.specs.Cmp.{on_per, partial_equiv_from_equiv};
-    ghost use Rattle.std.specs.Prelude.{nat_eq};
-    ghost use Rattle.std.specs.Cmp.Lexicographic.{nat_list_eq_equiv, pointwise};
     ghost use Rattle.uefi_device_path.specs.Views.{entry_of};
 
     ghost eq = { λ a b. pointwise nat_eq (entry_bytes (entry_of a)) (entry_bytes (entry_of b)) };
@@ -305,7 +304,6 @@ impl<'a> PartialEq for LoadOption<'a> {
 }
 
 impl<'a> Eq for LoadOption<'a> {
-    ghost use Rattle.std.specs.Cmp.Lexicographic.{on_texts_equal};
     ghost use Rattle.uefi_device_path.specs.Views.{entry_of};
 
     ghost laws = { on_texts_equal (λ a. entry_bytes (entry_of a)) };
@@ -338,7 +336,6 @@ impl<'a> fmt::Debug for LoadOption<'a> {
 impl<'a> TryFrom<&'a [u8]> for LoadOption<'a> {
     type Error = LoadOptionError;
 
-    ghost use Rattle.uefi_device_path.specs.LoadOptions.{GivesOption};
     ghost use Rattle.uefi_device_path.specs.Views.{entry_of};
 
     ghost try_from_gives = { λ bytes result. GivesOption entry_of bytes.now result };

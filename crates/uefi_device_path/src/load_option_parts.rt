@@ -1,15 +1,17 @@
 //! What is well in bytes that are not a load option.
 #![tactic(auto, unfolding(crate::specs::Views::parts_of))]
 
-ghost use Rattle.std.specs.Prelude.{◌≡◌, ◌+◌, ◌<◌, ◌≤◌, ◌^◌, [], All, MatchOption, None, Some, length};
+ghost use Rattle.std.specs.Prelude.{◌≡◌, ◌+◌, ◌<◌, ◌^◌, [], All, MatchOption, None, Some, length};
 ghost use Rattle.std.specs.Option.{ForSome};
 ghost use Rattle.uefi_device_nodes.specs.Nodes.{IsInner};
-ghost use Rattle.uefi_device_path.specs.LoadOptionParts.{Parts, parts_with};
+ghost use Rattle.uefi_device_path.specs.LoadOptionParts.{parts_with};
 ghost use Rattle.uefi_device_path.specs.PathLists.{ArePacked, ArePaths, paths_in};
 ghost use Rattle.uefi_device_path.specs.Paths.{AreNodes, nodes_in};
 ghost use Rattle.uefi_device_path.specs.PathTexts.{path_text};
 ghost use Rattle.uefi_text.specs.Units.{IsNulTerminated, without_nul};
 ghost use Rattle.uefi_text.specs.Views.{items_of};
+ghost use Rattle.uefi_device_nodes.specs.NodeViews.{node_of};
+ghost use Rattle.uefi_text.specs.Runs.{GivesEach};
 
 use crate::errors::{LoadOptionCause, LoadOptionError};
 use crate::node_iterator::DevicePathNodeIterator;
@@ -42,8 +44,6 @@ pub struct LoadOptionParts<'a> {
 
 impl<'a> LoadOptionParts<'a> {
     ghost use Rattle.uefi_device_path.specs.Views.{nodes_left, nodes_of, parts_of, paths_left, printed_path};
-    ghost use Rattle.uefi_device_nodes.specs.NodeViews.{node_of};
-    ghost use Rattle.uefi_text.specs.Runs.{GivesEach};
 
     /// No part, of bytes that end in the header.
     pub(crate) fn without_header(len: usize) -> Self

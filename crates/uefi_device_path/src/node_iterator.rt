@@ -1,8 +1,11 @@
 //! The nodes of a device path or of an instance, one by one.
 #![tactic(auto, unfolding(crate::specs::Views::nodes_left))]
 
-ghost use Rattle.std.specs.Prelude.{◌≡◌, ℕ, ◌<◌, ◌^◌, length, IsTrue};
+ghost use Rattle.std.specs.Prelude.{◌≡◌, ◌<◌, ◌^◌, length};
 ghost use Rattle.uefi_device_path.specs.Paths.{AreNodes, nodes_in};
+ghost use Rattle.uefi_device_nodes.specs.NodeViews.{node_of};
+ghost use Rattle.uefi_text.specs.Runs.{GivesEach};
+ghost use Rattle.std.specs.Iterator.{YieldsFirstBy, item_count};
 
 use uefi_device_nodes::DevicePathNode;
 
@@ -15,9 +18,7 @@ pub struct DevicePathNodeIterator<'a> {
 }
 
 impl<'a> DevicePathNodeIterator<'a> {
-    ghost use Rattle.uefi_device_nodes.specs.NodeViews.{node_of};
     ghost use Rattle.uefi_device_path.specs.Views.{nodes_left};
-    ghost use Rattle.uefi_text.specs.Runs.{GivesEach};
 
     /// The nodes that bytes are.
     pub(crate) fn of(bytes: &'a [u8]) -> Self
@@ -34,8 +35,6 @@ impl<'a> DevicePathNodeIterator<'a> {
 impl<'a> Iterator for DevicePathNodeIterator<'a> {
     type Item = DevicePathNode<'a>;
 
-    ghost use Rattle.std.specs.Iterator.{YieldsFirstBy, item_count};
-    ghost use Rattle.uefi_device_nodes.specs.NodeViews.{node_of};
     ghost use Rattle.uefi_device_path.specs.Views.{nodes_left};
 
     ghost next_gives = { YieldsFirstBy node_of nodes_left };

@@ -1,14 +1,14 @@
 //! Load options that are written, into a caller's buffer or into memory.
 #![tactic(auto, unfolding(crate::specs::Views::fields_of))]
 
-ghost use Rattle.std.specs.Prelude.{◌≡◌, ℕ, ◌+◌, ◌*◌, ◌<◌, ◌≤◌, ◌++◌, List, length, map, IfOk, IfErr, IfSome, IsNone, None, unwrap_or};
+ghost use Rattle.std.specs.Prelude.{◌≡◌, ◌+◌, ◌*◌, ◌<◌, ◌≤◌, ◌++◌, length, map, IfOk, IfErr, IfSome, IsNone, None, unwrap_or};
 ghost use Rattle.std.specs.Result.{result_err};
 ghost use Rattle.uefi_text.specs.UnitBytes.{unit_bytes};
 ghost use Rattle.uefi_text.specs.Units.{nul_terminated};
 ghost use Rattle.uefi_device_path.specs.PathLists.{list_bytes};
-ghost use Rattle.uefi_device_path.specs.LoadOptions.{Entry, IsEntry, entry_bytes, four_bytes, two_bytes};
+ghost use Rattle.uefi_device_path.specs.LoadOptions.{IsEntry, entry_bytes, four_bytes, two_bytes};
 ghost use Rattle.uefi_device_path.specs.OptionBuilding.{fields_fault, option_over, write_fault};
-ghost use Rattle.uefi_device_path.specs.Views.{nodes_of};
+ghost use Rattle.uefi_device_path.specs.Views.{nodes_of, fields_of};
 
 use crate::device_path::DevicePath;
 use crate::errors::OptionBuildError;
@@ -94,8 +94,6 @@ struct Lengths {
 }
 
 impl<'a> LoadOptionBuilder<'a> {
-    ghost use Rattle.uefi_device_path.specs.Views.{fields_of};
-
     /// These fields: the attributes; the code units of the description, without NUL, as
     /// [`CStr16::to_u16_slice`](uefi_text::CStr16::to_u16_slice) has them; the device paths of the file path
     /// list, in order; and the bytes after it. Nothing is tested before the load option is written.

@@ -5,6 +5,8 @@ ghost use Rattle.std.specs.Prelude.{◌≡◌, ◌≤◌, ◌<◌, ◌^◌, ◌�
 ghost use Rattle.uefi_device_path.specs.PathLists.{ArePacked, BreaksAfter, IsPathList, ListRefusedFor, paths_in};
 ghost use Rattle.uefi_device_path.specs.Paths.{AreNodes, nodes_in};
 ghost use Rattle.uefi_device_path.specs.declared.errors.DevicePathError.{DevicePathError};
+ghost use Rattle.uefi_text.specs.Runs.{GivesEach};
+ghost use Rattle.std.specs.Iterator.{YieldsFirstBy, item_count};
 
 use crate::device_path::DevicePath;
 use crate::errors::DevicePathError;
@@ -88,7 +90,6 @@ pub struct DevicePaths<'a> {
 
 impl<'a> DevicePaths<'a> {
     ghost use Rattle.uefi_device_path.specs.Views.{nodes_of, paths_left};
-    ghost use Rattle.uefi_text.specs.Runs.{GivesEach};
 
     /// The device paths that bytes are.
     pub(crate) fn of(bytes: &'a [u8]) -> Self
@@ -105,7 +106,6 @@ impl<'a> DevicePaths<'a> {
 impl<'a> Iterator for DevicePaths<'a> {
     type Item = DevicePath<'a>;
 
-    ghost use Rattle.std.specs.Iterator.{YieldsFirstBy, item_count};
     ghost use Rattle.uefi_device_path.specs.Views.{nodes_of, paths_left};
 
     ghost next_gives = { YieldsFirstBy nodes_of paths_left };

@@ -1,13 +1,15 @@
 //! Device paths read from their texts.
 #![tactic(auto)]
 
-ghost use Rattle.std.specs.Prelude.{◌≡◌, ℕ, ◌<◌, ◌-◌, ◌^◌, min, true, false, if◌then◌else◌, ◌∷◌, ◌++◌, [], List, length, drop, IfOk, IfErr, MatchOption, OnOk, Err};
+ghost use Rattle.std.specs.Prelude.{◌≡◌, ℕ, ◌<◌, ◌-◌, ◌^◌, min, true, false, if◌then◌else◌, ◌∷◌, ◌++◌, [], List, length, drop, IfOk, IfErr, MatchOption, OnOk, Err, Some};
 ghost use Rattle.uefi_device_nodes.specs.Nodes.{Node};
 ghost use Rattle.uefi_device_path.specs.PathReading.{AreTold, BeginsWithNode, HasPath, IsReadError, NoneBegins, StopsAt, end_instance, is_after_instance};
 ghost use Rattle.uefi_device_path.specs.Paths.{path_bytes};
 ghost use Rattle.uefi_device_path.specs.PathTexts.{path_text};
 ghost use Rattle.uefi_node_reader.specs.NamedFiles.{is_after_node};
 ghost use Rattle.uefi_node_reader.specs.TextNodeViews.{text_node};
+ghost use Rattle.uefi_device_path.specs.ErrorTexts.{path_text_error_text};
+ghost use Rattle.uefi_device_path.specs.declared.path_reader.PathTextError.TheVariants.{NoNode, OutOfMemory};
 
 use crate::build::DevicePathBuf;
 use crate::errors::BuildError;
@@ -33,8 +35,6 @@ pub enum PathTextError {
 
 /// Puts what is wrong, in words.
 impl Printed for PathTextError {
-    ghost use Rattle.uefi_device_path.specs.ErrorTexts.{path_text_error_text};
-
     ghost printed = { path_text_error_text };
 
     fn put<S: TextSink>(&self, sink: &mut S) {
@@ -47,9 +47,6 @@ impl Printed for PathTextError {
 
 /// Prints the same.
 impl fmt::Display for PathTextError {
-    ghost use Rattle.std.specs.Prelude.{Some};
-    ghost use Rattle.uefi_device_path.specs.ErrorTexts.{path_text_error_text};
-
     ghost output = { λ error. Some (path_text_error_text error) };
 
     fn fmt<W: fmt::Write>(&self, f: &mut fmt::Formatter<W>) -> fmt::Result {
@@ -85,8 +82,6 @@ pub(crate) struct ReadNode<'a> {
 
 /// The node.
 impl BuildNode for ReadNode<'_> {
-    ghost use Rattle.uefi_node_reader.specs.TextNodeViews.{text_node};
-
     ghost node = { λ n. text_node n.node };
 
     fn full_type(&self) -> (DeviceType, DeviceSubType) {
@@ -220,8 +215,6 @@ fn read_path<A: Allocator + Copy>(alloc: A, text: &[u8]) -> Result<DevicePathBuf
 }
 
 impl<A: Allocator + Copy> DevicePathBuf<A> {
-    ghost use Rattle.uefi_device_path.specs.declared.path_reader.PathTextError.TheVariants.{NoNode, OutOfMemory};
-
     /// Reads a path from its text, as it is printed to be read back, without shorter names (UEFI
     /// Specification 2.10, section 10.6.1).
     ///

@@ -2,7 +2,7 @@
 #![tactic(auto, using(uefi_text::proofs::Puts::puts), unfolding(crate::specs::PathTexts::instance_text, crate::specs::Views::printed_path, crate::specs::Views::nodes_of))]
 
 ghost use Rattle.std.specs.Fmt.{WritesInCalls};
-ghost use Rattle.std.specs.Prelude.{◌≡◌, ◌≢◌, ◌<◌, ◌∷◌, length};
+ghost use Rattle.std.specs.Prelude.{◌≡◌, ◌≢◌, ◌<◌, ◌∷◌, length, Some};
 ghost use Rattle.uefi_device_nodes.specs.NodeViews.{node_of};
 ghost use Rattle.uefi_device_path.specs.Paths.{AreNodes, nodes_in};
 ghost use Rattle.uefi_device_path.specs.PathTexts.{instance_text, path_text};
@@ -112,7 +112,6 @@ impl<'a> Printed for PathText<'a> {
 
 /// Prints the text.
 impl<'a> fmt::Display for PathText<'a> {
-    ghost use Rattle.std.specs.Prelude.{Some};
     ghost use Rattle.uefi_device_path.specs.Views.{printed_path};
 
     ghost output = { λ text. Some (printed_path text) };

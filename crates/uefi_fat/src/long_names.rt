@@ -1,11 +1,12 @@
 //! The part of a name that counts, which names are names of files, and which are names of one file.
-ghost use Rattle.std.specs.Prelude.{◌≡◌, ◌↔◌, IsOk, IsTrue, find, length};
+ghost use Rattle.std.specs.Prelude.{◌≡◌, ◌↔◌, IsOk, IsTrue, find, Some};
 ghost use Rattle.std.specs.List.{prefix_len, suffix_len};
 ghost use Rattle.std.specs.Result.{result_err};
 ghost use Rattle.uefi_fat.specs.LongNames.{IsFatName, is_illegal, name_refusal};
 ghost use Rattle.uefi_fat.specs.Trimming.{is_space, is_space_or_dot, trimmed, without_leading, without_trailing};
 ghost use Rattle.uefi_text.specs.Case.{uppers};
 ghost use Rattle.uefi_text.specs.Views.{units_of};
+ghost use Rattle.uefi_fat.specs.ErrorTexts.{fat_name_error_text};
 
 use std::error::Error;
 use std::fmt;
@@ -32,8 +33,6 @@ pub enum FatNameError {
 
 /// Puts the reason, with the number of an illegal character in decimal.
 impl Printed for FatNameError {
-    ghost use Rattle.uefi_fat.specs.ErrorTexts.{fat_name_error_text};
-
     ghost printed = { fat_name_error_text };
 
     #[tactic(auto, using(uefi_text::proofs::Puts::puts))]
@@ -52,9 +51,6 @@ impl Printed for FatNameError {
 
 /// Prints the same.
 impl fmt::Display for FatNameError {
-    ghost use Rattle.std.specs.Prelude.{Some};
-    ghost use Rattle.uefi_fat.specs.ErrorTexts.{fat_name_error_text};
-
     ghost output = { λ error. Some (fat_name_error_text error) };
 
     fn fmt<W: fmt::Write>(&self, f: &mut fmt::Formatter<W>) -> fmt::Result {

@@ -2,8 +2,8 @@
 #![tactic(auto, using(uefi_text::proofs::Puts::puts), unfolding(crate::specs::Guids::guid_text))]
 
 ghost use Rattle.std.specs.Char.{to_ascii_uppercase};
-ghost use Rattle.std.specs.Fmt.{WritesInCalls, digit_glyph};
-ghost use Rattle.std.specs.Prelude.{◌≡◌, ℕ, ◌+◌, ◌<◌, ◌↔◌, All, IfNone, IfSome, IsSome, IsTrue, List, length, true};
+ghost use Rattle.std.specs.Fmt.{digit_glyph};
+ghost use Rattle.std.specs.Prelude.{◌≡◌, ℕ, ◌+◌, ◌<◌, ◌↔◌, All, IfNone, IfSome, IsSome, IsTrue, List, length, true, Some};
 ghost use Rattle.uefi_field_texts.specs.Guids.{HasBytes, IsDashed, IsGuid, IsGuidText, StandsAt, guid_text};
 ghost use Rattle.uefi_text.specs.Packed.{IsByte};
 
@@ -166,8 +166,6 @@ impl Printed for Guid {
 
 /// Prints the text in upper case, as nodes print it: `8BE4DF61-93CA-11D2-AA0D-00E098032B8C`.
 impl fmt::Display for Guid {
-    ghost use Rattle.std.specs.Prelude.{Some};
-
     ghost output = { λ guid. Some (guid_text guid) };
 
     fn fmt<W: fmt::Write>(&self, f: &mut fmt::Formatter<W>) -> fmt::Result {

@@ -2,7 +2,7 @@
 #![tactic(auto, using(uefi_text::proofs::Puts::puts), unfolding(crate::specs::FieldTexts::hex_four, crate::specs::FieldTexts::hex_bytes, crate::specs::FieldTexts::dashed_back, crate::specs::FieldTexts::comma_bytes))]
 
 ghost use Rattle.std.specs.Fmt.{WritesInCalls};
-ghost use Rattle.std.specs.Prelude.{◌≤◌, ◌++◌, codes, if◌then◌else◌, length, reverse};
+ghost use Rattle.std.specs.Prelude.{◌≤◌, ◌++◌, codes, if◌then◌else◌, length};
 ghost use Rattle.uefi_field_texts.specs.FieldTexts.{comma_bytes, dashed_back, hex, hex_back, hex_bytes, hex_four, hex_two};
 
 use uefi_text::number_texts::{digit, put_digits};

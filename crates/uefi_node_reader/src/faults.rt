@@ -1,6 +1,9 @@
 //! Why no node is read from a text.
 #![tactic(auto, using(uefi_text::proofs::Puts::puts))]
 
+ghost use Rattle.uefi_node_reader.specs.FaultTexts.{expected_text};
+ghost use Rattle.std.specs.Prelude.{Some};
+
 use std::fmt;
 use uefi_field_texts::hexadecimal::put_hex;
 use uefi_text::number_texts::put_decimal;
@@ -39,8 +42,6 @@ pub enum Expected {
 
 /// Puts what has to stand there, in words.
 impl Printed for Expected {
-    ghost use Rattle.uefi_node_reader.specs.FaultTexts.{expected_text};
-
     ghost printed = { expected_text };
 
     fn put<S: TextSink>(&self, sink: &mut S) {
@@ -76,9 +77,6 @@ impl Printed for Expected {
 
 /// Prints the same.
 impl fmt::Display for Expected {
-    ghost use Rattle.std.specs.Prelude.{Some};
-    ghost use Rattle.uefi_node_reader.specs.FaultTexts.{expected_text};
-
     ghost output = { λ expected. Some (expected_text expected) };
 
     fn fmt<W: fmt::Write>(&self, f: &mut fmt::Formatter<W>) -> fmt::Result {

@@ -2,7 +2,7 @@
 //! those of EDK II. `specs/Words.antt` says what a list means.
 #![tactic(auto, unfolding(crate::specs::Words::words_of))]
 
-ghost use Rattle.std.specs.Prelude.{◌≡◌, ◌≤◌, length, map};
+ghost use Rattle.std.specs.Prelude.{◌≡◌, map};
 ghost use Rattle.uefi_node_table.specs.Words.{as_word, const_word, suits, word_text, words_of};
 
 /// A list of words, by the field whose numbers they stand for.

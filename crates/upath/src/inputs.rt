@@ -1,5 +1,5 @@
 //! A run over an input, whole or in parts: a line may begin in one part and end in another.
-ghost use Rattle.std.specs.Prelude.{◌≡◌, ◌<◌, ◌≤◌, ◌+◌, ◌++◌, [], List, ℕ, length, IfOk, OnOk};
+ghost use Rattle.std.specs.Prelude.{◌≡◌, ◌≤◌, ◌+◌, ◌++◌, [], List, ℕ, length, IfOk, OnOk};
 ghost use Rattle.upath.specs.Commands.{command_of};
 ghost use Rattle.upath.specs.Lines.{IsUnended};
 ghost use Rattle.upath.specs.Output.{output_of, output_with, path_after, printed_by};

@@ -1,7 +1,8 @@
 //! Bytes from outside, judged to be a path or refused.
-ghost use Rattle.std.specs.Prelude.{◌≡◌, None, IfErr, IfOk, unwrap_or};
+ghost use Rattle.std.specs.Prelude.{◌≡◌, None, IfErr, IfOk, Some};
 ghost use Rattle.uefi_text.specs.UnitBytes.{BytesEncode};
 ghost use Rattle.upath.specs.Judging.{IsPathOf, IsRefusalOf, bytes_fault};
+ghost use Rattle.upath.specs.ErrorTexts.{judge_error_text};
 
 use std::alloc::Allocator;
 use std::error::Error;
@@ -29,8 +30,6 @@ pub enum JudgeError {
 
 /// Puts the reason; of `Text` and `Invalid`, the one within.
 impl Printed for JudgeError {
-    ghost use Rattle.upath.specs.ErrorTexts.{judge_error_text};
-
     ghost printed = { judge_error_text };
 
     fn put<S: TextSink>(&self, sink: &mut S) {
@@ -45,9 +44,6 @@ impl Printed for JudgeError {
 
 /// Prints the same.
 impl fmt::Display for JudgeError {
-    ghost use Rattle.std.specs.Prelude.{Some};
-    ghost use Rattle.upath.specs.ErrorTexts.{judge_error_text};
-
     ghost output = { λ error. Some (judge_error_text error) };
 
     fn fmt<W: fmt::Write>(&self, f: &mut fmt::Formatter<W>) -> fmt::Result {

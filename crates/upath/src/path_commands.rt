@@ -1,11 +1,12 @@
 //! Lists of commands on one path.
-ghost use Rattle.std.specs.Prelude.{◌≡◌, ◌<◌, ℕ, List, None, IfErr, IfOk, IsSomeAnd, MatchResult, OnOk, length, map, slice_get, take};
+ghost use Rattle.std.specs.Prelude.{◌≡◌, ◌<◌, ℕ, List, None, IfErr, IfOk, IsSomeAnd, MatchResult, OnOk, length, map, slice_get, take, Some};
 ghost use Rattle.uefi_path.specs.Components.{AreComponents, components_of};
 ghost use Rattle.uefi_path.specs.SuccessiveParents.{AreParents, parents_of, shorter_prefixes};
 ghost use Rattle.uefi_path.specs.Verdicts.{verdict};
 ghost use Rattle.uefi_path.specs.Views.{path_text};
 ghost use Rattle.uefi_text.specs.Views.{units_of};
 ghost use Rattle.upath.specs.PathCommands.{TakesMemory, after_command, after_commands};
+ghost use Rattle.upath.specs.ErrorTexts.{run_fault_text};
 
 use std::alloc::{AllocError, Allocator};
 use std::error::Error;
@@ -43,8 +44,6 @@ pub struct RunFault {
 
 /// Puts `out of memory after N commands`, N in decimal.
 impl Printed for RunFault {
-    ghost use Rattle.upath.specs.ErrorTexts.{run_fault_text};
-
     ghost printed = { λ fault. run_fault_text fault.done };
 
     #[tactic(auto, using(uefi_text::proofs::Puts::puts))]
@@ -56,9 +55,6 @@ impl Printed for RunFault {
 
 /// Prints the same.
 impl fmt::Display for RunFault {
-    ghost use Rattle.std.specs.Prelude.{Some};
-    ghost use Rattle.upath.specs.ErrorTexts.{run_fault_text};
-
     ghost output = { λ fault. Some (run_fault_text fault.done) };
 
     fn fmt<W: fmt::Write>(&self, f: &mut fmt::Formatter<W>) -> fmt::Result {

@@ -1,12 +1,11 @@
 //! A run line by line: the path between the lines, and what each one prints.
-ghost use Rattle.std.specs.Prelude.{◌≡◌, ◌-◌, ◌++◌, [], List, ℕ, length, Some, None, IfOk, IfSome, OnOk, MatchOption, codes, is_some};
+ghost use Rattle.std.specs.Prelude.{◌≡◌, ◌-◌, ◌++◌, [], length, Some, None, IfOk, IfSome, OnOk, MatchOption, codes};
 ghost use Rattle.std.specs.List.{flat_map};
 ghost use Rattle.std.specs.Str.{chars};
 ghost use Rattle.uefi_path.specs.Components.{components_of};
 ghost use Rattle.uefi_text.specs.ErrorTexts.{from_str_error_text};
 ghost use Rattle.uefi_text.specs.FromStr.{from_str_refusal};
 ghost use Rattle.uefi_path.specs.NormalForms.{normal_of, normal_text};
-ghost use Rattle.uefi_path.specs.Parents.{parent_text};
 ghost use Rattle.uefi_path.specs.PathErrors.{path_error_text};
 ghost use Rattle.uefi_path.specs.SuccessiveParents.{parent_chain, parents_of};
 ghost use Rattle.uefi_path.specs.Verdicts.{verdict};

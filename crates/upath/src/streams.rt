@@ -1,9 +1,10 @@
 //! A run from a reader to a writer.
-ghost use Rattle.std.specs.Prelude.{◌≡◌, ◌≢◌, ℕ, List, IfOk, IfErr, OnOk, OnErr, false, true};
+ghost use Rattle.std.specs.Prelude.{◌≡◌, ◌≢◌, ℕ, List, IfOk, IfErr, OnOk, OnErr, false, true, Some};
 ghost use Rattle.std.specs.Io.KnownBytes.{Appends, Consumes, IsAtEnd};
 ghost use Rattle.upath.specs.Output.{output_of};
 ghost use Rattle.upath.specs.Streams.{AppendsPrefix};
 ghost use Rattle.upath.specs.Watched.{is_marked, stream_of};
+ghost use Rattle.upath.specs.ErrorTexts.{stream_fault_text};
 
 use crate::inputs::PartialRun;
 use crate::watched::Watched;
@@ -28,8 +29,6 @@ pub enum StreamFault {
 
 /// Puts what failed.
 impl Printed for StreamFault {
-    ghost use Rattle.upath.specs.ErrorTexts.{stream_fault_text};
-
     ghost printed = { stream_fault_text };
 
     fn put<S: TextSink>(&self, sink: &mut S) {
@@ -43,9 +42,6 @@ impl Printed for StreamFault {
 
 /// Prints the same.
 impl fmt::Display for StreamFault {
-    ghost use Rattle.std.specs.Prelude.{Some};
-    ghost use Rattle.upath.specs.ErrorTexts.{stream_fault_text};
-
     ghost output = { λ fault. Some (stream_fault_text fault) };
 
     fn fmt<W: fmt::Write>(&self, f: &mut fmt::Formatter<W>) -> fmt::Result {

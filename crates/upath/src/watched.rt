@@ -112,8 +112,6 @@ impl<W: Write> Watched<W> {
 
 /// As [`Watched::read`].
 impl<R: Read> Read for Watched<R> {
-    ghost use Rattle.upath.specs.Watched.{stream_of};
-
     ghost remaining = { λ watched. R.remaining (stream_of watched) };
 
     fn read(&mut self, buf: &mut [u8]) -> io::Result<usize> {
@@ -123,8 +121,6 @@ impl<R: Read> Read for Watched<R> {
 
 /// As [`Watched::write`] and [`Watched::flush`].
 impl<W: Write> Write for Watched<W> {
-    ghost use Rattle.upath.specs.Watched.{stream_of};
-
     ghost contents = { λ watched. W.contents (stream_of watched) };
 
     fn write(&mut self, buf: &[u8]) -> io::Result<usize> {
