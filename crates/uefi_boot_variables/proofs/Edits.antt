@@ -5,16 +5,11 @@ use Rattle.std.proofs.lemmas.Bool.Decides.{nat_tests}
 use Rattle.std.proofs.lemmas.Grind.{common_steps}
 use Rattle.std.proofs.lemmas.List.Sums.{count_by-le-length, length-filter}
 use Rattle.std.proofs.lemmas.List.Edits.{get_or-insert_at}
-use Rattle.std.proofs.lemmas.List.{append-nil, drop_all, length-append, length-take, drop_more, set_at, take_more}
+use Rattle.std.proofs.lemmas.List.{append-nil, drop_all, length-append, length-take, drop_more, set_at, take_all, take_more}
 use Rattle.std.proofs.lemmas.Slice.{drop-append-drop}
 use Rattle.std.specs.Prelude.{insert}
-use Rattle.uefi_boot_variables.proofs.OrderLists.{not_reached, without_absent}
-use Rattle.uefi_boot_variables.specs.Orders.{no_twice, over, stands_in, with_front, without}
-
--- a list without a number is no longer than the list
-pub within : (n : ℕ) (xs : List ℕ) → length (without n xs) ≤ length xs
-within n xs =
-    let stays = λ (other : ℕ). not (eqb other n) in omega (arith, length-filter stays xs, count_by-le-length stays xs)
+use Rattle.uefi_boot_variables.proofs.OrderLists.{next_new, not_reached, stands-once_each, within, without_absent}
+use Rattle.uefi_boot_variables.specs.Orders.{no_twice, once_each, over, stands_in, with_front, without}
 
 -- and shorter where the number stands in it
 step_fewer : (b s : Bool) (x m : ℕ) (ws : List ℕ) → (b || s) ≡ true → length ws ≤ m → (s ≡ true → length ws < m)
@@ -150,3 +145,25 @@ carried_out xs numbers place at n inside end within_xs e =
     let all : at ≡ length xs = omega (arith, end, within_xs) in
     e ∙ ap (λ (l : List ℕ). take at (insert xs place n) ++ l) (drop_all at xs end) ∙ append-nil (take at (insert xs place n))
     ∙ ap (λ (k : ℕ). take k (insert xs place n)) all ∙ cut xs place n inside
+
+-- a number stands in the places that an order was copied to so far exactly where it stood before in the order
+pub stood_before : (all old places : List ℕ) (i len n : ℕ) (stands : Bool) → len ≡ length (once_each (take i all))
+    → places ≡ over (once_each (take i all)) old → stands ≡ stands_in n (take len places) → stands_in n (take i all) ≡ stands
+stood_before all old places i len n stands counted so_far e =
+    sym (stands-once_each n (take i all)) ∙ ap (stands_in n) (sym (over_front (once_each (take i all)) old len counted))
+    ∙ ap (λ (l : List ℕ). stands_in n (take len l)) (sym so_far) ∙ sym e
+
+-- places after one more number of an order
+pub copied_new : (all old places made : List ℕ) (i len n : ℕ) → i < length all → n ≡ get_or all i 0
+    → len ≡ length (once_each (take i all)) → places ≡ over (once_each (take i all)) old → stands_in n (take i all) ≡ false
+    → made ≡ over (insert (take len places) len n) places
+    → (len + 1 ≡ length (once_each (take (i + 1) all))) × (made ≡ over (once_each (take (i + 1) all)) old)
+copied_new all old places made i len n inside here counted so_far absent e =
+    let zs = once_each (take i all) in
+    let more : once_each (take (i + 1) all) ≡ zs ++ n ∷ [] = next_new all i n inside here absent in
+    let front : take len zs ≡ zs = take_all len zs (omega arith) in
+    let none : drop len zs ≡ [] = drop_all len zs (omega arith) in (
+      omega (arith, ap length more, length-append zs (n ∷ [])),
+      put_over zs old made len len n counted (rw (← so_far) e)
+          ∙ ap (λ (l : List ℕ). over l old) (rw (front, none) (sym more)),
+    )

@@ -4,7 +4,7 @@ use Rattle.std.proofs.lemmas.Bool.{cases_eq, eq-eqb, eqb-false, eqb-true, false�
 use Rattle.std.proofs.lemmas.Bool.Decides.{nat_tests}
 use Rattle.std.proofs.lemmas.List.{append-nil, drop_all, drop_more, get_or_default, length-append, length-take, set_at, take-append-drop, take_all, take_more}
 use Rattle.std.proofs.lemmas.List.Quantifiers.{position-Some}
-use Rattle.std.proofs.lemmas.List.Sums.{fails_before_first, position_or_len_is}
+use Rattle.std.proofs.lemmas.List.Sums.{count_by-le-length, fails_before_first, length-filter, position_or_len_is}
 use Rattle.std.proofs.lemmas.List.Elements.{filter-append, filter_more}
 use Rattle.std.proofs.lemmas.List.Edits.{get_or-insert_at}
 use Rattle.std.proofs.lemmas.List.Kept.{AllPairs-cons}
@@ -224,24 +224,36 @@ once_each-twice false xs n e =
     once_each-new (once_each xs) n (stands-once_each n xs ∙ e)
     ∙ ap (λ (l : List ℕ). l ++ n ∷ []) (once_each-same (once_each xs) (no_twice-once_each xs)) ∙ sym (once_each-new xs n e)
 
-pub order_more : (all zs ys : List ℕ) (i n : ℕ) → i < length all → n ≡ get_or all i 0 → zs ≡ once_each (take i all)
-    → ys ≡ once_each (zs ++ n ∷ []) → ys ≡ once_each (take (i + 1) all)
-order_more all zs ys i n inside here so_far e =
-    e ∙ ap (λ (l : List ℕ). once_each (l ++ n ∷ [])) so_far ∙ once_each-twice (stands_in n (take i all)) (take i all) n refl
-    ∙ ap (λ (m : ℕ). once_each (take i all ++ m ∷ [])) here ∙ ap once_each (sym (take_more all i 0 inside))
+-- a list without a number is no longer than the list
+pub within : (n : ℕ) (xs : List ℕ) → length (without n xs) ≤ length xs
+within n xs =
+    let stays = λ (other : ℕ). not (eqb other n) in omega (arith, length-filter stays xs, count_by-le-length stays xs)
 
--- where a number of an order finds no room, the order has more numbers than there are places
-pub order_full : (all zs : List ℕ) (i n room : ℕ) → i < length all → n ≡ get_or all i 0 → zs ≡ once_each (take i all)
-    → stands_in n zs ≡ false → length zs ≡ room → room < length (once_each all)
-order_full all zs i n room inside here so_far absent full =
-    let new : stands_in n (take i all) ≡ false = sym (stands-once_each n (take i all)) ∙ ap (stands_in n) (sym so_far) ∙ absent in
-    let next : take (i + 1) all ≡ take i all ++ n ∷ [] = take_more all i 0 inside ∙ ap (λ (m : ℕ). take i all ++ m ∷ []) (sym here) in
-    let grown : once_each (take (i + 1) all) ≡ once_each (take i all) ++ n ∷ [] = ap once_each next ∙ once_each-new (take i all) n new in
+-- a list with each number once is no longer than the list
+pub once_each-short : (xs : List ℕ) → length (once_each xs) ≤ length xs
+once_each-short [] = omega arith
+once_each-short (x ∷ xs) = omega (arith, within x (once_each xs), once_each-short xs)
+
+-- a beginning with one more number, which stood before it or not
+next : (all : List ℕ) (i n : ℕ) → i < length all → n ≡ get_or all i 0 → take (i + 1) all ≡ take i all ++ n ∷ []
+next all i n inside here = take_more all i 0 inside ∙ ap (λ (m : ℕ). take i all ++ m ∷ []) (sym here)
+
+pub next_again : (all : List ℕ) (i n : ℕ) → i < length all → n ≡ get_or all i 0 → stands_in n (take i all) ≡ true
+    → once_each (take (i + 1) all) ≡ once_each (take i all)
+next_again all i n inside here stands = ap once_each (next all i n inside here) ∙ once_each-again (take i all) n stands
+
+pub next_new : (all : List ℕ) (i n : ℕ) → i < length all → n ≡ get_or all i 0 → stands_in n (take i all) ≡ false
+    → once_each (take (i + 1) all) ≡ once_each (take i all) ++ n ∷ []
+next_new all i n inside here absent = ap once_each (next all i n inside here) ∙ once_each-new (take i all) n absent
+
+-- a beginning has no more different numbers than the list
+pub next_fits : (all : List ℕ) (i n : ℕ) → i < length all → n ≡ get_or all i 0 → stands_in n (take i all) ≡ false
+    → length (once_each (take i all)) < length (once_each all)
+next_fits all i n inside here absent =
     omega (
       arith,
-      ap length grown,
+      ap length (next_new all i n inside here absent),
       length-append (once_each (take i all)) (n ∷ []),
-      ap length so_far,
       once_each-grows (take (i + 1) all) (drop (i + 1) all),
       ap (λ (l : List ℕ). length (once_each l)) (take-append-drop (i + 1) all),
     )

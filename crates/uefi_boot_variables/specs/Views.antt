@@ -1,5 +1,6 @@
 -- What a borrowed value shows. Other crates see these words alone, and no field.
 use Rattle.std.specs.Prelude.{ℕ, List, length, take}
+use Rattle.std.specs.Borrow.{GName}
 use Rattle.uefi_text.specs.Views.{items_left, items_of}
 use Rattle.uefi_boot_variables.specs.Present.{present_options}
 use Rattle.uefi_boot_variables.specs.declared.present.PresentOptions.{PresentOptions}
@@ -14,9 +15,17 @@ numbers_of order = items_of order.numbers
 unfoldable pub numbers_in : OrderBuffer → List ℕ
 numbers_in buffer = take buffer.len buffer.places.now
 
+-- what all places of that memory hold
+unfoldable pub places_of : OrderBuffer → List ℕ
+places_of buffer = buffer.places.now
+
 -- how many numbers that memory has room for
-unfoldable pub room_of : OrderBuffer → ℕ
-room_of buffer = length buffer.places.now
+abbrev pub room_of : OrderBuffer → ℕ
+room_of buffer = length (places_of buffer)
+
+-- the slice that is that memory
+unfoldable pub memory_of : OrderBuffer → GName
+memory_of buffer = buffer.places.ghost_name
 
 -- the options whose variables are there that are still to come
 unfoldable pub options_left : PresentOptions → List (ℕ × List ℕ)

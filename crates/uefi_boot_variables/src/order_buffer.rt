@@ -3,18 +3,21 @@
 //! The memory is a slice of numbers, as firmware keeps an order once it has read it: `SetVariable` takes
 //! the address of these numbers, and twice their count as the size. Where bytes are wanted instead,
 //! [`OrderBuffer::write_bytes`] writes them.
-#![tactic(auto, unfolding(crate::specs::Views::numbers_in, crate::specs::Views::room_of, crate::specs::Views::numbers_of))]
+#![tactic(auto, unfolding(crate::specs::Views::memory_of, crate::specs::Views::numbers_in, crate::specs::Views::numbers_of, crate::specs::Views::places_of))]
 
 ghost use Rattle.std.specs.Prelude.{◌≡◌, ◌==◌, ◌+◌, ◌*◌, ◌<◌, ◌≤◌, ◌↔◌, ◌∷◌, ◌++◌, [], drop, insert, length, remove, take, true, false, IfOk, IsErr, IsTrue, OnErr, OnOk};
-ghost use Rattle.uefi_boot_variables.specs.Orders.{no_twice, once_each, stands_in, with_at, with_front, without};
+ghost use Rattle.uefi_boot_variables.specs.Orders.{no_twice, once_each, over, stands_in, with_at, with_front, without};
 ghost use Rattle.uefi_text.specs.UnitBytes.{unit_bytes};
 
-use crate::order_edits::{OrderFull, insert, move_to_front, put, remove};
+use crate::order_edits::{OrderFull, copy, insert, move_to_front, put, remove};
 use crate::orders::LoadOrder;
 
-/// An order that is edited in memory of the caller, in which no number stands twice. A contract sees it
-/// as `numbers_in` it, the list of its numbers, and `room_of` it, how many the memory has places for. No
-/// call takes memory.
+/// An order in memory of the caller, in which no number stands twice. No call allocates memory.
+///
+/// A contract sees the list of its numbers (`numbers_in`), and what all places of the caller's memory hold
+/// (`places_of`): the numbers come first, and no call changes the places after them. Once the order is no
+/// longer used, the caller's slice holds the places of its last call, because each call keeps the slice
+/// that the order was made from (`memory_of`).
 ///
 /// ```rust
 /// let mut places = [0; 4];
@@ -33,18 +36,22 @@ pub struct OrderBuffer<'a> {
 }
 
 impl<'a> OrderBuffer<'a> {
-    ghost use Rattle.uefi_boot_variables.specs.Views.{numbers_in, numbers_of, room_of};
+    ghost use Rattle.uefi_boot_variables.specs.Views.{memory_of, numbers_in, numbers_of, places_of, room_of};
 
-    /// The order without numbers, which has room for as many as there are places.
+    /// Creates an order without numbers. It has room for as many as there are places, and changes none.
     pub fn new(places: &'a mut [u16]) -> Self
         ensures numbers { numbers_in result ≡ [] }
-        ensures room { room_of result ≡ length places.old }
+        ensures places { places_of result ≡ places.old }
+        ensures memory { memory_of result ≡ places.entry.ghost_name }
     {
         OrderBuffer { places, len: 0 }
     }
 
-    /// The numbers of an order, each where it stands first. Refused exactly where these are more than
-    /// the places. Compares each number with those before it.
+    /// Copies the numbers of an order, each where it stands first.
+    ///
+    /// Returns `OrderFull` if there are fewer places than different numbers; the places are then unchanged.
+    /// Compares each number with those before it, and does so twice if the order has more numbers than
+    /// there are places.
     ///
     /// ```rust
     /// let order = LoadOrder::from_bytes(&[3, 0, 1, 0, 3, 0])?;
@@ -55,14 +62,12 @@ impl<'a> OrderBuffer<'a> {
     /// ```
     pub fn from_order(places: &'a mut [u16], order: &LoadOrder<'_>) -> Result<Self, OrderFull>
         ensures ok { IfOk result (λ buffer. numbers_in buffer ≡ once_each (numbers_of order.now)) }
-        ensures room { IfOk result (λ buffer. room_of buffer ≡ length places.old) }
+        ensures places { IfOk result (λ buffer. places_of buffer ≡ over (numbers_in buffer) places.old) }
         ensures refused { IsErr result ↔ (length places.old < length (once_each (numbers_of order.now))) }
+        ensures memory { IfOk result (λ buffer. memory_of buffer ≡ places.entry.ghost_name) }
     {
-        let mut buffer = OrderBuffer::new(places);
-        for place in 0..order.len() {
-            buffer.push(order.number(place))?;
-        }
-        Ok(buffer)
+        let len = copy(places, order)?;
+        Ok(OrderBuffer { places, len })
     }
 
     /// The numbers in order.
@@ -100,7 +105,8 @@ impl<'a> OrderBuffer<'a> {
         requires room { length (numbers_in self.old) < room_of self.old }
         requires absent { stands_in number (numbers_in self.old) ≡ false }
         ensures numbers { numbers_in self.new ≡ insert (numbers_in self.old) place number }
-        ensures room { room_of self.new ≡ room_of self.old }
+        ensures places { places_of self.new ≡ over (numbers_in self.new) (places_of self.old) }
+        ensures memory { memory_of self.new ≡ memory_of self.old }
     {
         put(self.places, self.len, place, number);
         self.len += 1;
@@ -119,7 +125,8 @@ impl<'a> OrderBuffer<'a> {
     pub fn push(&mut self, number: u16) -> Result<(), OrderFull>
         ensures ok { OnOk result (numbers_in self.new ≡ once_each (numbers_in self.old ++ number ∷ [])) }
         ensures err { OnErr result (numbers_in self.new ≡ numbers_in self.old) }
-        ensures room { room_of self.new ≡ room_of self.old }
+        ensures places { places_of self.new ≡ over (numbers_in self.new) (places_of self.old) }
+        ensures memory { memory_of self.new ≡ memory_of self.old }
         ensures refused { IsErr result ↔ ((stands_in number (numbers_in self.old) ≡ false)
             × (length (numbers_in self.old) ≡ room_of self.old)) }
     {
@@ -145,7 +152,8 @@ impl<'a> OrderBuffer<'a> {
         ensures numbers { numbers_in self.new ≡ without number (numbers_in self.old) }
         ensures stood { result ≡ stands_in number (numbers_in self.old) }
         ensures len { result ≡ true → length (numbers_in self.new) + 1 ≡ length (numbers_in self.old) }
-        ensures room { room_of self.new ≡ room_of self.old }
+        ensures places { places_of self.new ≡ over (numbers_in self.new) (places_of self.old) }
+        ensures memory { memory_of self.new ≡ memory_of self.old }
     {
         let len = remove(self.places, self.len, number);
         let stood = len < self.len;
@@ -168,7 +176,8 @@ impl<'a> OrderBuffer<'a> {
     pub fn insert(&mut self, place: usize, number: u16) -> Result<(), OrderFull>
         ensures ok { OnOk result (numbers_in self.new ≡ with_at place number (numbers_in self.old)) }
         ensures err { OnErr result (numbers_in self.new ≡ numbers_in self.old) }
-        ensures room { room_of self.new ≡ room_of self.old }
+        ensures places { places_of self.new ≡ over (numbers_in self.new) (places_of self.old) }
+        ensures memory { memory_of self.new ≡ memory_of self.old }
         ensures refused { IsErr result ↔ ((stands_in number (numbers_in self.old) ≡ false)
             × (length (numbers_in self.old) ≡ room_of self.old)) }
     {
@@ -189,7 +198,8 @@ impl<'a> OrderBuffer<'a> {
     pub fn move_to_front(&mut self, number: u16) -> bool
         ensures numbers { numbers_in self.new ≡ with_front number (numbers_in self.old) }
         ensures stood { result ≡ stands_in number (numbers_in self.old) }
-        ensures room { room_of self.new ≡ room_of self.old }
+        ensures places { places_of self.new ≡ over (numbers_in self.new) (places_of self.old) }
+        ensures memory { memory_of self.new ≡ memory_of self.old }
     {
         let stood = self.contains(number);
         self.len = move_to_front(self.places, self.len, number);

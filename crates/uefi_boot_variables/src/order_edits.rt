@@ -6,9 +6,11 @@
 #![tactic(auto)]
 
 ghost use Rattle.std.specs.Prelude.{◌≡◌, ◌+◌, ◌-◌, ◌<◌, ◌≤◌, ◌↔◌, false, insert, length, take, IfOk, IsErr, OnErr, OnOk, Some};
-ghost use Rattle.uefi_boot_variables.specs.Orders.{over, stands_in, with_at, with_front, without};
+ghost use Rattle.uefi_boot_variables.specs.Orders.{once_each, over, stands_in, with_at, with_front, without};
 ghost use Rattle.uefi_boot_variables.specs.ErrorTexts.{order_full_text};
+ghost use Rattle.uefi_boot_variables.specs.Views.{numbers_of};
 
+use crate::orders::LoadOrder;
 use std::error::Error;
 use std::fmt;
 use uefi_text::text_sink::{Printed, TextSink, print};
@@ -120,6 +122,48 @@ pub fn insert(places: &mut [u16], len: usize, place: usize, number: u16) -> Resu
     }
     put(places, kept, place.min(kept), number);
     Ok(kept + 1)
+}
+
+/// Puts the numbers of an order, each where it stands first, into places that have room for them.
+fn fill(places: &mut [u16], order: &LoadOrder<'_>) -> usize
+    requires { length (once_each (numbers_of order.now)) ≤ length places.old }
+    ensures len { result ≡ length (once_each (numbers_of order.now)) }
+    ensures places { places.new ≡ over (once_each (numbers_of order.now)) places.old }
+{
+    let mut len = 0;
+    for place in 0..order.len() {
+        let number = order.number(place);
+        if !contains(places, len, number) {
+            put(places, len, len, number);
+            len += 1;
+        }
+    }
+    len
+}
+
+/// Puts the numbers of an order, each where it stands first, into the first places, and returns how many
+/// there are. Returns `OrderFull` if there are fewer places; they are then unchanged.
+///
+/// Compares each number with those before it, and does so twice if the order has more numbers than there
+/// are places.
+///
+/// ```rust
+/// let order = LoadOrder::from_bytes(&[3, 0, 1, 0, 3, 0])?;
+/// let mut places = [9; 3];
+/// assert_eq!(rt; order_edits::copy(&mut places, &order), Ok(2));
+/// assert_eq!(rt; places, [3, 1, 9]);
+/// assert_eq!(rt; order_edits::copy(&mut places[..1], &order), Err(OrderFull));
+/// ```
+pub fn copy(places: &mut [u16], order: &LoadOrder<'_>) -> Result<usize, OrderFull>
+    ensures ok { IfOk result (λ len. len ≡ length (once_each (numbers_of order.now))) }
+    ensures places { OnOk result (places.new ≡ over (once_each (numbers_of order.now)) places.old) }
+    ensures err { OnErr result (places.new ≡ places.old) }
+    ensures refused { IsErr result ↔ (length places.old < length (once_each (numbers_of order.now))) }
+{
+    if places.len() < order.len() && places.len() < order.different_len() {
+        return Err(OrderFull);
+    }
+    Ok(fill(places, order))
 }
 
 /// Moves a number of an order to the front, and returns how many numbers there are then; where it

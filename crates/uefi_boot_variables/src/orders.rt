@@ -2,9 +2,10 @@
 //! `BootNext` and `BootCurrent` (UEFI Specification 2.10, section 3.3).
 #![tactic(auto, unfolding(crate::specs::Views::numbers_of))]
 
-ghost use Rattle.std.specs.Prelude.{◌≡◌, ◌==◌, ◌%◌, ◌<◌, ◌^◌, ◌↔◌, ◌∷◌, [], Contains, length, position, slice_get, slice_index, IfErr, IfOk, IsErr, IsTrue, Some};
+ghost use Rattle.std.specs.Prelude.{◌≡◌, ◌==◌, ◌%◌, ◌<◌, ◌≤◌, ◌^◌, ◌↔◌, ◌∷◌, [], Contains, length, position, slice_get, slice_index, take, IfErr, IfOk, IsErr, IsTrue, Some};
 ghost use Rattle.uefi_text.specs.UnitBytes.{unit_bytes, units_of_bytes};
 ghost use Rattle.uefi_boot_variables.specs.ErrorTexts.{odd_length_text, not_two_bytes_text};
+ghost use Rattle.uefi_boot_variables.specs.Orders.{once_each, stands_in};
 ghost use Rattle.uefi_boot_variables.specs.Views.{numbers_of};
 ghost use Rattle.uefi_text.specs.Runs.{GivesEach};
 ghost use Rattle.uefi_text.specs.Views.{items_left};
@@ -164,6 +165,32 @@ impl<'a> LoadOrder<'a> {
             }
         }
         None
+    }
+
+    /// Whether a number stands before a place.
+    fn stands_before(&self, place: usize, number: u16) -> bool
+        requires { place ≤ length (numbers_of self.now) }
+        ensures { result ≡ stands_in number (take place (numbers_of self.now)) }
+    {
+        for before in 0..place {
+            if self.number(before) == number {
+                return true;
+            }
+        }
+        false
+    }
+
+    /// How many different numbers there are. Compares each number with those before it.
+    pub(crate) fn different_len(&self) -> usize
+        ensures { result ≡ length (once_each (numbers_of self.now)) }
+    {
+        let mut count = 0;
+        for place in 0..self.len() {
+            if !self.stands_before(place, self.number(place)) {
+                count += 1;
+            }
+        }
+        count
     }
 
     /// Whether a number stands in the order.

@@ -1,8 +1,8 @@
 use Rattle.std.proofs.Common.{◌≡◌, ◌∙◌, ◌≤◌, List, ℕ, ap, refl, length, take, arith}
 use Rattle.std.proofs.lemmas.Bool.{false≢true}
 use Rattle.std.proofs.lemmas.List.{length-take}
-use Rattle.uefi_boot_variables.proofs.Edits.{absent_by_length, front_same, insert_end, left, over_same, put_over, within}
-use Rattle.uefi_boot_variables.proofs.OrderLists.{without_absent}
+use Rattle.uefi_boot_variables.proofs.Edits.{absent_by_length, front_same, insert_end, left, over_same, put_over}
+use Rattle.uefi_boot_variables.proofs.OrderLists.{within, without_absent}
 use Rattle.uefi_boot_variables.specs.Orders.{over, without}
 use Rattle.uefi_boot_variables.proofs.order_edits.insert.Goals as goal
 

@@ -1,6 +1,7 @@
 use Rattle.std.proofs.Common.{◌≡◌, ◌∙◌, List, ℕ, ap, sym, length, take, arith}
 use Rattle.std.proofs.lemmas.List.{length-take}
-use Rattle.uefi_boot_variables.proofs.Edits.{front_moved, front_same, over_length, put_over, within}
+use Rattle.uefi_boot_variables.proofs.Edits.{front_moved, front_same, over_length, put_over}
+use Rattle.uefi_boot_variables.proofs.OrderLists.{within}
 use Rattle.uefi_boot_variables.specs.Orders.{over, without}
 use Rattle.uefi_boot_variables.proofs.order_edits.move_to_front.Goals as goal
 
