@@ -15,7 +15,7 @@
 
 #include "nardcorbel.h"
 
-/* More than firmware keeps of one variable. */
+/* More than firmware keeps of one variable, without its attributes. */
 enum { MOST_BYTES = 65536, MOST_UNITS = MOST_BYTES / 2, MOST_SHOWN = 4 * MOST_BYTES, MOST_UTF8 = 3 * MOST_SHOWN + 1 };
 
 /* LOAD_OPTION_ACTIVE, and the attributes of a variable that is kept, and seen at boot and at run time. */
@@ -109,12 +109,11 @@ static bool print_nodes(struct entry entry, size_t at, size_t end)
     }
 }
 
-/* Prints whether an entry is active, and its description, which has `length` units. */
-static void print_head(struct entry entry, size_t length)
+/* Prints the description of an entry, which has `length` units. */
+static void print_description(struct entry entry, size_t length)
 {
     size_t count = 0;
     (void)nard_units_from_bytes(entry.bytes + HEAD, 2 * length, units, MOST_UNITS, &count);
-    printf("  active: %s\n", entry.bytes[0] & ACTIVE ? "yes" : "no");
     printf("  description: ");
     print_units(units, count);
     printf("\n");
@@ -141,12 +140,15 @@ static bool print_entry(struct entry entry)
     struct nard_load_option option = {0, 0, 0, 0, 0, 0, 0, 0};
     size_t fault = 0, length = 0;
     uint32_t reason = nard_load_option_read(entry.bytes, entry.size, &option, &fault);
-    if (reason == NARD_OPTION_TOO_SHORT || reason == NARD_DESCRIPTION_WITHOUT_END)
+    if (reason == NARD_OPTION_TOO_SHORT)
+        return refuse(fault, nard_reason_text(reason));
+    printf("  active: %s\n", entry.bytes[0] & ACTIVE ? "yes" : "no");
+    if (reason == NARD_DESCRIPTION_WITHOUT_END)
         return refuse(fault, nard_reason_text(reason));
     /* All else that is refused stands after the description, or says where the list after it ends. */
     (void)nard_packed_until_nul(entry.bytes + HEAD, entry.size - HEAD, &length);
     size_t list = HEAD + 2 * (length + 1), end = reason == NARD_OK ? option.optional_start : fault;
-    print_head(entry, length);
+    print_description(entry, length);
     print_device_paths(entry, list, end);
     if (!print_nodes(entry, list, end))
         return false;
@@ -166,7 +168,9 @@ static bool read_name(const char *path, uint16_t *number)
 
 static bool print_file(const char *path)
 {
-    static uint8_t bytes[MOST_BYTES + 1];
+    /* No load option begins with these: the third bit of its attributes is reserved. */
+    static const uint8_t attributes[] = {VARIABLE_ATTRIBUTES, 0, 0, 0};
+    static uint8_t bytes[sizeof attributes + MOST_BYTES + 1];
     uint16_t number = 0;
     if (!read_name(path, &number)) {
         printf("%s\n", path);
@@ -181,17 +185,13 @@ static bool print_file(const char *path)
     fclose(file);
     if (!is_read)
         return refuse(size, "the file cannot be read");
-    if (size > MOST_BYTES)
-        return refuse(MOST_BYTES, "the entry is longer than a variable");
-
-    /* No load option begins with these: the third bit of its attributes is reserved. */
-    static const uint8_t attributes[] = {VARIABLE_ATTRIBUTES, 0, 0, 0};
-    bool has_attributes = sizeof attributes <= size && memcmp(bytes, attributes, sizeof attributes) == 0;
     struct entry entry = {bytes, size};
-    if (has_attributes) {
+    if (sizeof attributes <= size && memcmp(bytes, attributes, sizeof attributes) == 0) {
         entry.bytes += sizeof attributes;
         entry.size -= sizeof attributes;
     }
+    if (entry.size > MOST_BYTES)
+        return refuse(MOST_BYTES, "the entry is longer than a variable");
     return print_entry(entry);
 }
 

@@ -12,7 +12,7 @@ use uefi_path::{Path, validate_path};
 use uefi_text::strs::Char16Slice;
 use uefi_text::{CStr16, FromSliceWithNulError, UnalignedSlice};
 
-/// More than firmware keeps of one variable.
+/// More than firmware keeps of one variable, without its attributes.
 pub(crate) const MOST_BYTES: usize = 65536;
 
 /// The attributes of a variable that is kept, and seen at boot and at run time: the four bytes that
@@ -39,7 +39,7 @@ pub(crate) struct Fault {
     reason: String,
 }
 
-/// What is well in an entry, and what is malformed after that.
+/// What is well in an entry, and what is malformed after that, or why its variable can't be read.
 #[derive(Drop, Serialize)]
 pub(crate) struct Shown {
     active: Option<bool>,
@@ -47,6 +47,7 @@ pub(crate) struct Shown {
     device_paths: Vec<String>,
     files: Vec<File>,
     malformed: Option<Fault>,
+    unreadable: Option<String>,
 }
 
 pub(crate) fn push<T: Drop>(items: &mut Vec<T>, item: T) -> Result<(), AllocError> {
@@ -55,7 +56,7 @@ pub(crate) fn push<T: Drop>(items: &mut Vec<T>, item: T) -> Result<(), AllocErro
 }
 
 /// Writes a character, or `?` for one that texts of device paths escape.
-fn write_shown<W: Write>(out: &mut W, character: char) -> fmt::Result {
+pub(crate) fn write_shown<W: Write>(out: &mut W, character: char) -> fmt::Result {
     out.write_char(if is_escaped(character) {
         '?'
     } else {
@@ -135,7 +136,31 @@ impl Shown {
             device_paths: Vec::new(alloc),
             files: Vec::new(alloc),
             malformed: None,
+            unreadable: None,
         }
+    }
+
+    /// Of bytes that are malformed at an offset.
+    pub(crate) fn malformed(
+        alloc: Global,
+        offset: usize,
+        reason: &str,
+    ) -> Result<Shown, fmt::Error> {
+        let mut shown = Shown::new(alloc);
+        shown.fail(offset, String::from_str(alloc, reason)?);
+        Ok(shown)
+    }
+
+    /// Of a variable that can't be read.
+    pub(crate) fn unreadable(alloc: Global, cause: &String) -> Result<Shown, fmt::Error> {
+        let mut shown = Shown::new(alloc);
+        shown.unreadable = Some(cause.clone()?);
+        Ok(shown)
+    }
+
+    /// Whether the variable can be read.
+    pub(crate) fn is_read(&self) -> bool {
+        self.unreadable.is_none()
     }
 
     /// Whether nothing is malformed.
@@ -148,15 +173,13 @@ impl Shown {
         self.malformed = Some(Fault { offset, reason });
     }
 
-    /// Adds attributes, a description and device paths.
+    /// Adds a description and device paths.
     fn begin(
         &mut self,
         alloc: Global,
-        is_active: bool,
         description: UnalignedSlice<'_, u16>,
         paths: DevicePaths<'_>,
     ) -> fmt::Result {
-        self.active = Some(is_active);
         self.description = Some(shown_description(alloc, description)?);
         for path in paths {
             let text = path.display(DisplayOnly(false), AllowShortcuts(false));
@@ -254,16 +277,11 @@ impl Shown {
 
     /// Adds what is well in bytes that are no load option, and then what is malformed.
     fn add_parts(&mut self, alloc: Global, parts: LoadOptionParts<'_>) -> fmt::Result {
-        if let (Some(attributes), Some(description)) = (
-            parts.attributes(),
-            parts.description_units(),
-        ) {
-            self.begin(
-                alloc,
-                attributes % 2 == 1,
-                description,
-                parts.device_paths(),
-            )?;
+        if let Some(attributes) = parts.attributes() {
+            self.active = Some(attributes % 2 == 1);
+        }
+        if let Some(description) = parts.description_units() {
+            self.begin(alloc, description, parts.device_paths())?;
             let start = list_start(description);
             let Some(offset) = self.add_paths(alloc, start, parts.device_paths())? else {
                 return Ok(());
@@ -281,12 +299,8 @@ impl Shown {
     /// Adds what an option says.
     fn add_option(&mut self, alloc: Global, option: LoadOption<'_>) -> fmt::Result {
         let description = option.description_units();
-        self.begin(
-            alloc,
-            option.is_active(),
-            description,
-            option.device_paths(),
-        )?;
+        self.active = Some(option.is_active());
+        self.begin(alloc, description, option.device_paths())?;
         let start = list_start(description);
         self.add_paths(alloc, start, option.device_paths())?;
         Ok(())
@@ -295,12 +309,11 @@ impl Shown {
     /// What an entry says, up to the most bytes that a variable has; or an error where memory was
     /// refused.
     pub(crate) fn of_entry(alloc: Global, bytes: &[u8]) -> Result<Shown, fmt::Error> {
-        let mut shown = Shown::new(alloc);
         if MOST_BYTES < bytes.len() {
-            let reason = format!(in alloc; "the entry is longer than a variable")?;
-            shown.fail(MOST_BYTES, reason);
-            return Ok(shown);
+            let reason = "the entry is longer than a variable";
+            return Shown::malformed(alloc, MOST_BYTES, reason);
         }
+        let mut shown = Shown::new(alloc);
         match LoadOption::read_parts(bytes) {
             Ok(option) => shown.add_option(alloc, option)?,
             Err(parts) => shown.add_parts(alloc, parts)?,
@@ -311,18 +324,19 @@ impl Shown {
     /// What the entry in a variable says, with or without the four bytes that Linux puts before it, as
     /// [`Shown::of_entry`].
     pub(crate) fn of_variable(alloc: Global, bytes: &[u8]) -> Result<Shown, fmt::Error> {
-        let entry = if bytes.len() <= MOST_BYTES {
-            bytes.strip_prefix(&VARIABLE_ATTRIBUTES).unwrap_or(bytes)
-        } else {
-            bytes
-        };
+        let entry = bytes.strip_prefix(&VARIABLE_ATTRIBUTES).unwrap_or(bytes);
         Shown::of_entry(alloc, entry)
     }
 
     /// Writes it line by line.
     pub(crate) fn write<W: Write>(&self, out: &mut W) -> fmt::Result {
-        if let (Some(active), Some(description)) = (&self.active, &self.description) {
+        if let Some(cause) = &self.unreadable {
+            writeln!(out, "  cannot be read: {cause}")?;
+        }
+        if let Some(active) = &self.active {
             writeln!(out, "  active: {}", if *active { "yes" } else { "no" })?;
+        }
+        if let Some(description) = &self.description {
             writeln!(out, "  description: {description}")?;
         }
         for path in &self.device_paths {

@@ -1,16 +1,23 @@
 //! What a machine's boot variables say.
-use crate::entry::{Shown, push};
-use crate::variables::Variables;
+use crate::entry::{MOST_BYTES, Shown, push, write_shown};
+use crate::variables::{Content, Found, Variable, Variables};
 use serde::Serialize;
 use std::alloc::{AllocError, Global};
 use std::fmt::{self, Write};
 use uefi_boot_variables::{LoadOptionKind, LoadOptionName, LoadOrder, read_number};
 
-/// A variable that is malformed, and why.
+/// A variable that says nothing, and why.
 #[derive(Drop, Serialize)]
-struct Malformed {
+struct Silent {
     variable: &'static str,
     reason: String,
+}
+
+/// A file that is not printed, and why.
+#[derive(Drop, Serialize)]
+struct PassedOver {
+    file: String,
+    reason: &'static str,
 }
 
 /// An entry, and its name.
@@ -21,15 +28,20 @@ struct Named {
     entry: Shown,
 }
 
-/// What variables say: each is nothing where it is not set or malformed. The entries are those of the order
-/// first, each where it stands first there, and then the others by number.
+/// What variables say. `BootOrder`, `BootCurrent` and `BootNext` are `None` if they are not set, malformed or
+/// can't be read. The entries are first those of the order, in order and once each, and then the others by
+/// number.
 #[derive(Drop, Serialize)]
 pub(crate) struct Listing {
     boot_order: Option<Vec<String>>,
     boot_current: Option<String>,
     boot_next: Option<String>,
-    malformed: Vec<Malformed>,
+    malformed: Vec<Silent>,
+    unreadable: Vec<Silent>,
     entries: Vec<Named>,
+    /// The names in the order whose variables are not set, once each.
+    not_set: Vec<String>,
+    passed_over: Vec<PassedOver>,
 }
 
 /// The name of a boot entry.
@@ -41,33 +53,79 @@ fn boot(alloc: Global, number: u16) -> Result<String, AllocError> {
     format!(in alloc; "{name}")
 }
 
+/// What a file says of an entry.
+fn shown_entry(alloc: Global, content: &Content) -> Result<Shown, fmt::Error> {
+    match content {
+        Content::Bytes(bytes) => Shown::of_entry(alloc, bytes),
+        Content::TooShort => {
+            Shown::malformed(alloc, 0, "the file ends within the variable's attributes")
+        }
+        Content::Unreadable(cause) => Shown::unreadable(alloc, cause),
+    }
+}
+
 impl Listing {
+    /// Notes that a variable is malformed.
+    fn fail(&mut self, variable: &'static str, reason: String) -> Result<(), AllocError> {
+        push(&mut self.malformed, Silent { variable, reason })
+    }
+
+    /// The bytes of a variable, if it is set and can be read.
+    fn value<'a>(
+        &mut self,
+        alloc: Global,
+        variable: &'static str,
+        content: Option<&'a Content>,
+    ) -> Result<Option<&'a [u8]>, AllocError> {
+        match content {
+            None => {}
+            Some(Content::Bytes(bytes)) => {
+                if bytes.len() <= MOST_BYTES {
+                    return Ok(Some(bytes.as_slice()));
+                }
+                let reason = String::from_str(alloc, "longer than a variable")?;
+                self.fail(variable, reason)?;
+            }
+            Some(Content::TooShort) => {
+                let reason = "the file ends within the variable's attributes";
+                self.fail(variable, String::from_str(alloc, reason)?)?;
+            }
+            Some(Content::Unreadable(cause)) => {
+                let reason = cause.clone()?;
+                push(&mut self.unreadable, Silent { variable, reason })?;
+            }
+        }
+        Ok(None)
+    }
+
     /// The entry that a variable names.
     fn one(
         &mut self,
         alloc: Global,
         variable: &'static str,
-        bytes: &Option<Vec<u8>>,
+        content: Option<&Content>,
     ) -> Result<Option<String>, fmt::Error> {
-        let Some(bytes) = bytes else {
+        let Some(bytes) = self.value(alloc, variable, content)? else {
             return Ok(None);
         };
         match read_number(bytes) {
             Ok(number) => Ok(Some(boot(alloc, number)?)),
             Err(error) => {
-                let reason = format!(in alloc; "{error}")?;
-                push(&mut self.malformed, Malformed { variable, reason })?;
+                self.fail(variable, format!(in alloc; "{error}")?)?;
                 Ok(None)
             }
         }
     }
 
-    /// Adds the names of an order, and returns it, if it is one.
-    fn add_order<'a>(
+    /// The order, if there is one; its names are added.
+    fn order<'a>(
         &mut self,
         alloc: Global,
-        bytes: &'a [u8],
+        content: Option<&'a Content>,
     ) -> Result<Option<LoadOrder<'a>>, fmt::Error> {
+        let Some(bytes) = self.value(alloc, "BootOrder", content)? else {
+            return Ok(None);
+        };
         match LoadOrder::from_bytes(bytes) {
             Ok(order) => {
                 let mut names = Vec::new(alloc);
@@ -78,47 +136,42 @@ impl Listing {
                 Ok(Some(order))
             }
             Err(error) => {
-                let (variable, reason) = ("BootOrder", format!(in alloc; "{error}")?);
-                push(&mut self.malformed, Malformed { variable, reason })?;
+                self.fail("BootOrder", format!(in alloc; "{error}")?)?;
                 Ok(None)
             }
         }
     }
 
     /// Adds an entry.
-    fn add_entry(&mut self, alloc: Global, number: u16, bytes: &[u8]) -> fmt::Result {
-        let (name, entry) = (boot(alloc, number)?, Shown::of_entry(alloc, bytes)?);
+    fn add_entry(&mut self, alloc: Global, number: u16, content: &Content) -> fmt::Result {
+        let (name, entry) = (boot(alloc, number)?, shown_entry(alloc, content)?);
         push(&mut self.entries, Named { name, entry })?;
         Ok(())
     }
 
-    /// Adds the entries of an order whose variables are there, each where it stands first.
-    fn add_ordered(
+    /// Adds entries, which are sorted by number: first those of an order, and then the others.
+    fn add_entries(
         &mut self,
         alloc: Global,
-        order: LoadOrder<'_>,
-        entries: &[(u16, &[u8])],
-        shown: &mut Vec<u16>,
+        order: Option<LoadOrder<'_>>,
+        entries: &[(u16, &Content)],
     ) -> fmt::Result {
-        for (number, bytes) in order.present(entries) {
-            if !shown.contains(&number) {
-                self.add_entry(alloc, number, bytes)?;
-                push(shown, number)?;
+        let mut is_seen = [false; 65536];
+        if let Some(order) = order {
+            for number in order.iter() {
+                if is_seen[usize::from(number)] {
+                    continue;
+                }
+                is_seen[usize::from(number)] = true;
+                match entries.binary_search_by_key(&number, |entry| entry.0) {
+                    Ok(place) => self.add_entry(alloc, number, entries[place].1)?,
+                    Err(_) => push(&mut self.not_set, boot(alloc, number)?)?,
+                }
             }
         }
-        Ok(())
-    }
-
-    /// Adds the entries that were not added yet, by number.
-    fn add_others(
-        &mut self,
-        alloc: Global,
-        entries: &[(u16, &[u8])],
-        shown: &[u16],
-    ) -> fmt::Result {
-        for (number, bytes) in entries {
-            if !shown.contains(number) {
-                self.add_entry(alloc, *number, bytes)?;
+        for (number, content) in entries {
+            if !is_seen[usize::from(*number)] {
+                self.add_entry(alloc, *number, content)?;
             }
         }
         Ok(())
@@ -126,29 +179,44 @@ impl Listing {
 
     /// What variables say; or an error where memory was refused.
     pub(crate) fn of(alloc: Global, variables: &Variables) -> Result<Listing, fmt::Error> {
-        let mut entries = Vec::new(alloc);
-        for entry in &variables.entries {
-            push(&mut entries, (entry.number, entry.bytes.as_slice()))?;
-        }
         let mut listing = Listing {
             boot_order: None,
             boot_current: None,
             boot_next: None,
             malformed: Vec::new(alloc),
+            unreadable: Vec::new(alloc),
             entries: Vec::new(alloc),
+            not_set: Vec::new(alloc),
+            passed_over: Vec::new(alloc),
         };
-        let order = match &variables.order {
-            Some(bytes) => listing.add_order(alloc, bytes)?,
-            None => None,
-        };
-        listing.boot_current = listing.one(alloc, "BootCurrent", &variables.current)?;
-        listing.boot_next = listing.one(alloc, "BootNext", &variables.next)?;
-        let mut shown = Vec::new(alloc);
-        if let Some(order) = order {
-            listing.add_ordered(alloc, order, &entries, &mut shown)?;
+        let (mut order, mut current, mut next) = (None, None, None);
+        let mut entries = Vec::new(alloc);
+        for Found {
+            variable,
+            content,
+            ..
+        } in &variables.found {
+            match variable {
+                Variable::Order => order = Some(content),
+                Variable::Current => current = Some(content),
+                Variable::Next => next = Some(content),
+                Variable::Entry(number) => push(&mut entries, (*number, content))?,
+            }
         }
-        listing.add_others(alloc, &entries, &shown)?;
+        let order = listing.order(alloc, order)?;
+        listing.boot_current = listing.one(alloc, "BootCurrent", current)?;
+        listing.boot_next = listing.one(alloc, "BootNext", next)?;
+        listing.add_entries(alloc, order, &entries)?;
+        for it in &variables.passed_over {
+            let (file, reason) = (it.file.clone()?, it.reason);
+            push(&mut listing.passed_over, PassedOver { file, reason })?;
+        }
         Ok(listing)
+    }
+
+    /// Whether each variable can be read.
+    pub(crate) fn is_read(&self) -> bool {
+        self.unreadable.is_empty() && self.entries.iter().all(|named| named.entry.is_read())
     }
 
     /// Whether nothing is malformed.
@@ -156,11 +224,16 @@ impl Listing {
         self.malformed.is_empty() && self.entries.iter().all(|named| named.entry.is_well())
     }
 
-    /// Writes why a variable says nothing: it is malformed, or not set.
+    /// Writes why a variable says nothing: it is malformed, can't be read, or is not set.
     fn write_without<W: Write>(&self, out: &mut W, variable: &str) -> fmt::Result {
-        for malformed in &self.malformed {
-            if malformed.variable == variable {
-                return writeln!(out, "{variable}: malformed: {}", malformed.reason);
+        for (list, what) in [
+            (&self.malformed, "malformed"),
+            (&self.unreadable, "cannot be read"),
+        ] {
+            for silent in list {
+                if silent.variable == variable {
+                    return writeln!(out, "{variable}: {what}: {}", silent.reason);
+                }
             }
         }
         writeln!(out, "{variable}: not set")
@@ -199,6 +272,16 @@ impl Listing {
         for named in &self.entries {
             writeln!(out, "{}", named.name)?;
             named.entry.write(out)?;
+        }
+        for name in &self.not_set {
+            writeln!(out, "{name}: in BootOrder, but not set")?;
+        }
+        for it in &self.passed_over {
+            write!(out, "passed over: ")?;
+            for character in it.file.as_str().chars() {
+                write_shown(out, character)?;
+            }
+            writeln!(out, ": {}", it.reason)?;
         }
         Ok(())
     }

@@ -6,17 +6,18 @@
 //! Linux puts before it, and prints whether the entry is active, its description, and each file that it
 //! names, judged.
 //!
-//! The arguments are files of variables, or one folder of them: Linux's `efivars`, whose files are named
-//! by the variable and its GUID, or a folder of files that are named by the variable alone. It prints
-//! `BootOrder`, `BootCurrent` and `BootNext`, and then each entry: those of the order first, in its order,
-//! and then the others by number. Files of other names are passed over.
+//! The arguments are files of variables, or folders of them: Linux's `efivars`, whose files are named by
+//! the variable and its GUID, or files that are named by the variable alone. It prints `BootOrder`,
+//! `BootCurrent` and `BootNext`, and then each entry: those of the order first, in its order, and then the
+//! others by number. A file of a folder is opened only if its name is that of one of these variables. A
+//! variable that can't be read is printed with the cause.
 //!
 //! With `--json` it prints the same as JSON.
 //!
-//! Ends with 0 where all is well; with 1 where a variable is malformed, which is printed with the
-//! reason and the offset in the entry; with 2 where a read of standard input or a write failed;
-//! with 3, and `out of memory` on standard error, where memory was refused; with 4, and a message
-//! there, where a file or a folder can't be read.
+//! Ends with 0 if all is well; with 1 if a variable is malformed, which is printed with the reason and the
+//! offset in the entry; with 2 if a read of standard input or a write failed; with 3, and `out of memory` on
+//! standard error, if memory ran out; with 4 if a variable or a folder can't be read; with 5, and a message
+//! on standard error, if the arguments are wrong.
 #![tactic(auto)]
 
 ghost use Rattle.std.specs.Prelude.{◌≤◌, IfOk, length};
@@ -26,19 +27,24 @@ mod growing_texts;
 mod listing;
 mod variables;
 
-use entry::{MOST_BYTES, Shown};
+use entry::Shown;
 use listing::Listing;
 use serde::Serialize;
-use std::io::{self, Read, Write};
+use std::io::{self, IsTerminal, Read, Write};
 use std::process::ExitCode;
 use std::{env, fmt};
-use variables::{Failure, Variables, read_all};
+use variables::{Failure, MOST_READ, Variables, read_all};
 
-const HELP: &str = "usage: uefi_boot            prints the boot entry that standard input is
+const HELP: &str = "usage: uefi_boot < FILE     prints the boot entry that a file holds
        uefi_boot FOLDER     prints the boot variables of a folder, such as /sys/firmware/efi/efivars
        uefi_boot FILE ..    prints those of files, named as Boot0000 or Boot0000-GUID
        --json               prints it as JSON
-status: 0 well, 1 malformed, 2 a read or a write failed, 3 out of memory, 4 a file can't be read
+status: 0 well, 1 malformed, 2 a read or a write failed, 3 out of memory, 4 a variable can't be read,
+        5 wrong arguments
+";
+
+const NO_VARIABLE: &str = "no file is named as a boot variable, such as Boot0000 or BootOrder
+for one entry, write: uefi_boot < FILE
 ";
 
 /// The bytes that a reader gives until its end, or until the buffer is full.
@@ -62,12 +68,19 @@ fn is_out_of_memory(rt: &HostRuntime) -> ExitCode {
     ExitCode::from(3)
 }
 
-/// Writes an output. Ends with 0 where all is well, with 2 where it can't be written, and else with 1.
-fn end(rt: &HostRuntime, output: &str, is_well: bool) -> ExitCode {
+/// Writes an output. Ends with a status, or with 2 if the output can't be written.
+fn end(rt: &HostRuntime, output: &str, status: u8) -> ExitCode {
     if io::writer(rt).write_all(output.as_bytes()).is_err() {
         return ExitCode::from(2);
     }
-    ExitCode::from(if is_well { 0 } else { 1 })
+    ExitCode::from(status)
+}
+
+/// Says what is wrong with the arguments.
+fn refuse_arguments(rt: &HostRuntime, message: &str) -> ExitCode {
+    // Nothing is left to do where standard error can't be written.
+    let _ = eprint!(rt; "{message}");
+    ExitCode::from(5)
 }
 
 /// How what is read is printed.
@@ -112,7 +125,10 @@ fn text_of_listing(rt: &HostRuntime, listing: &Listing, form: Form) -> Result<St
 
 /// Prints the entry that standard input is.
 fn print_entry(rt: &HostRuntime, form: Form) -> ExitCode {
-    let mut buffer = [0; MOST_BYTES + 1];
+    if rt.stdin().is_terminal() {
+        return refuse_arguments(rt, HELP);
+    }
+    let mut buffer = [0; MOST_READ];
     let Ok(count) = fill(&mut rt.reader(), &mut buffer) else {
         return ExitCode::from(2);
     };
@@ -120,7 +136,7 @@ fn print_entry(rt: &HostRuntime, form: Form) -> ExitCode {
         return is_out_of_memory(rt);
     };
     match text_of_entry(rt, &entry, form) {
-        Ok(output) => end(rt, output.as_str(), entry.is_well()),
+        Ok(output) => end(rt, output.as_str(), if entry.is_well() { 0 } else { 1 }),
         Err(_) => is_out_of_memory(rt),
     }
 }
@@ -130,8 +146,15 @@ fn print_listing(rt: &HostRuntime, variables: &Variables, form: Form) -> ExitCod
     let Ok(listing) = Listing::of(rt.alloc(), variables) else {
         return is_out_of_memory(rt);
     };
+    let status = if !listing.is_read() {
+        4
+    } else if listing.is_well() {
+        0
+    } else {
+        1
+    };
     match text_of_listing(rt, &listing, form) {
-        Ok(output) => end(rt, output.as_str(), listing.is_well()),
+        Ok(output) => end(rt, output.as_str(), status),
         Err(_) => is_out_of_memory(rt),
     }
 }
@@ -144,8 +167,12 @@ fn main(rt: HostRuntime) -> ExitCode {
     let mut form = Form::Lines;
     for argument in arguments.skip(1) {
         match argument.as_str() {
-            "--help" => return end(&rt, HELP, true),
+            "--help" => return end(&rt, HELP, 0),
             "--json" => form = Form::Json,
+            option if option.starts_with("-") => {
+                let _ = eprint!(rt; "there is no option {option}\n");
+                return refuse_arguments(&rt, HELP);
+            }
             _ => {
                 if names.push(argument).is_err() {
                     return is_out_of_memory(&rt);
@@ -160,5 +187,6 @@ fn main(rt: HostRuntime) -> ExitCode {
         Ok(variables) => print_listing(&rt, &variables, form),
         Err(Failure::OutOfMemory) => is_out_of_memory(&rt),
         Err(Failure::Unreadable) => ExitCode::from(4),
+        Err(Failure::NoVariable) => refuse_arguments(&rt, NO_VARIABLE),
     }
 }
