@@ -196,7 +196,8 @@ nard_result NARD_CALL nard_string_make_lowercase(nard_unit *buffer, nard_size ro
 
 /*
  * Whether both begin with a string, and the pattern matches the whole text of `units` without case, as MetaiMatch does: `*`
- * is any text, `?` is one unit, `[a-z]` is one unit of a set. Takes at most twice the product of both lengths in steps.
+ * is any text, `?` is one unit, `[a-z]` is one unit of a set. Takes at most 2 * (p + 1) * (t + 1) steps for a pattern of p
+ * units and a text of t; a step goes over one set of the pattern.
  */
 nard_bool NARD_CALL nard_string_matches(const nard_unit *units, nard_size count,
                                         const nard_unit *pattern, nard_size pattern_count);
@@ -251,8 +252,10 @@ nard_result NARD_CALL nard_utf8_from_string(const nard_unit *units, nard_size co
 
 /*
  * Writes the units before the first NUL, or all of them if there is none, as UTF-8 with a NUL. Each pair of surrogates is one
- * character, and U+FFFD stands for each surrogate that has no partner, so that nothing is refused: to show a description or a
- * name that may be no string.
+ * character, and U+FFFD stands for each surrogate that has no partner, so that nothing is refused.
+ *
+ * The text may hold control characters, ESC among them, and characters that change the direction of a text. Replace them
+ * before you show a description or a name to a person, as examples/boot_entry.c does.
  *
  * Returns
  *   NARD_OK                 *length is how many bytes stand before the NUL

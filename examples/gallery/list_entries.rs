@@ -22,12 +22,11 @@ fn print(folder: &str, name: &str) -> Result<(), Box<dyn Error>> {
     let bytes = value(folder, name)?;
     let option = LoadOption::from_bytes(&bytes)?;
     let star = if option.is_active() { "*" } else { "" };
-    let description: String = option.description_chars().collect();
     // No byte prints more than four units, and no unit more than three bytes.
     let (mut units, mut text) = (vec![0; 4 * bytes.len()], vec![0; 12 * bytes.len()]);
     for path in option.device_paths() {
         let shown = str_from_units_lossy(path.text_in_buf(false, false, &mut units)?, &mut text)?;
-        println!("{name}{star} {}: {shown}", description.escape_debug());
+        println!("{name}{star} {}: {shown}", option.description());
         let file = path.file_path_in_buf(&mut units);
         match file.and_then(|it| it.validate().map(|()| it)) {
             Ok(file) => println!("  file: {file}"),

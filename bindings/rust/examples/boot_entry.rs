@@ -1,6 +1,6 @@
 //! Prints a boot entry, the value of a variable `Boot####` from standard input, such as `examples/data/Boot0001`.
 
-use nardcorbel::{LoadOption, Path};
+use nardcorbel::{LoadOption, Path, Shown};
 use std::error::Error;
 use std::io::{self, Read};
 
@@ -15,10 +15,7 @@ fn main() -> Result<(), Box<dyn Error>> {
     let entry = bytes.strip_prefix(&[7, 0, 0, 0]).unwrap_or(&bytes);
     let option = LoadOption::from_bytes(entry)?;
     println!("active: {}", option.is_active());
-    println!(
-        "description: {}",
-        option.description_chars().collect::<String>()
-    );
+    println!("description: {}", option.description());
     for path in option.device_paths() {
         let mut buffer = vec![0; 0x10000];
         println!(
@@ -28,7 +25,7 @@ fn main() -> Result<(), Box<dyn Error>> {
         let file: &Path = path.file_path_in_buf(&mut buffer)?;
         match file.validate() {
             Ok(()) => println!("file: {file}"),
-            Err(error) => println!("file: {file}: {error}"),
+            Err(error) => println!("file: {}: {error}", Shown(file.to_string().chars())),
         }
     }
     Ok(())

@@ -2,7 +2,7 @@
 
 use crate::error::{check, check_bytes, Error};
 use crate::path::Path;
-use crate::strs::CStr16;
+use crate::strs::{CStr16, Shown};
 use crate::sys;
 
 /// A device path in borrowed bytes: nodes one after the other, and the one that ends it.
@@ -564,23 +564,36 @@ impl<'a> LoadOption<'a> {
     /// assert!(LoadOption::from_bytes(&[1, 0, 0, 0, 4, 0, 0x62, 0, 0, 0, 0x7f, 0xff, 4, 0, 9])?.description_units().eq([0x62]));
     /// # Ok::<(), nardcorbel::Error>(())
     /// ```
-    pub fn description_units(&self) -> impl Iterator<Item = u16> + 'a {
+    pub fn description_units(&self) -> impl Iterator<Item = u16> + Clone + 'a {
         let (start, length) = (self.parts.description_start, self.parts.description_length);
         self.bytes[start..start + 2 * length]
             .chunks_exact(2)
             .map(|it| u16::from_le_bytes([it[0], it[1]]))
     }
 
-    /// Iterates over the characters of the description. U+FFFD stands for each unpaired surrogate.
+    /// Iterates over the characters of the description. U+FFFD stands for each unpaired surrogate. They may be
+    /// control characters: print [`LoadOption::description`].
     ///
     /// ```
     /// # use nardcorbel::LoadOption;
     /// assert!(LoadOption::from_bytes(&[1, 0, 0, 0, 4, 0, 0x62, 0, 0, 0, 0x7f, 0xff, 4, 0, 9])?.description_chars().eq(['b']));
     /// # Ok::<(), nardcorbel::Error>(())
     /// ```
-    pub fn description_chars(&self) -> impl Iterator<Item = char> + 'a {
+    pub fn description_chars(&self) -> impl Iterator<Item = char> + Clone + 'a {
         char::decode_utf16(self.description_units())
             .map(|it| it.unwrap_or(char::REPLACEMENT_CHARACTER))
+    }
+
+    /// Returns the description as people may see it: see [`Shown`].
+    ///
+    /// ```
+    /// # use nardcorbel::LoadOption;
+    /// let entry = [1, 0, 0, 0, 4, 0, 0x62, 0, 0x1b, 0, 0, 0, 0x7f, 0xff, 4, 0];
+    /// assert_eq!(LoadOption::from_bytes(&entry)?.description().to_string(), "b\\u{1b}");
+    /// # Ok::<(), nardcorbel::Error>(())
+    /// ```
+    pub fn description(&self) -> Shown<impl Iterator<Item = char> + Clone + 'a> {
+        Shown(self.description_chars())
     }
 
     /// Iterates over the device paths of the file path list. There is at least one.

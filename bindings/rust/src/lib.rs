@@ -35,4 +35,4 @@ pub use device_path::{
 };
 pub use error::{Error, Reason};
 pub use path::{Components, Path};
-pub use strs::{str_from_units_lossy, CStr16};
+pub use strs::{str_from_units_lossy, CStr16, Shown};

@@ -329,3 +329,28 @@ impl fmt::Debug for CStr16 {
         write!(f, "CStr16(\"{self}\")")
     }
 }
+
+/// Displays characters to a person, for example the description of a boot entry.
+///
+/// Each control character, and each that ends a line or changes the direction of a text, is shown as `\u{N}`, as
+/// in the texts of device paths: printed on a terminal, it could hide or forge what stands beside it.
+///
+/// ```
+/// # use nardcorbel::Shown;
+/// assert_eq!(Shown("red\u{1b}[31m".chars()).to_string(), "red\\u{1b}[31m");
+/// ```
+#[derive(Clone, Debug)]
+pub struct Shown<I>(pub I);
+
+impl<I: Iterator<Item = char> + Clone> fmt::Display for Shown<I> {
+    fn fmt(&self, f: &mut fmt::Formatter<'_>) -> fmt::Result {
+        for character in self.0.clone() {
+            match character {
+                '\0'..='\u{1f}' | '\u{7f}'..='\u{9f}' | '\u{61c}' | '\u{200e}' | '\u{200f}'
+                | '\u{2028}'..='\u{202e}' | '\u{2066}'..='\u{2069}' => write!(f, "{}", character.escape_unicode())?,
+                _ => f.write_char(character)?,
+            }
+        }
+        Ok(())
+    }
+}

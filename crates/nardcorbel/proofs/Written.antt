@@ -7,7 +7,7 @@ use Rattle.std.specs.Prelude.{OnErr, OnOk}
 use Rattle.std.proofs.lemmas.Bool.{false≢true}
 use Rattle.uefi_device_path.proofs.Entries.{same_entry}
 use Rattle.uefi_device_path.specs.Building.{grow_refusal}
-use Rattle.uefi_device_path.specs.LenientReading.{IsPushLenientError, IsReadable}
+use Rattle.uefi_device_path.specs.LenientReading.{IsPushLenientError, IsLenientText}
 use Rattle.uefi_device_path.specs.LoadOptions.{Entry}
 use Rattle.uefi_device_path.specs.PathReading.{HasPath, IsPushTextError, StopsAt}
 use Rattle.uefi_device_path.specs.declared.errors.BuildError.{BuildError}
@@ -117,7 +117,7 @@ reading_stops_there buffer bytes (lenient.NoNode fault) cause is = (fault, (caus
 reading_stops_there buffer bytes (lenient.BufferTooSmall needed) cause is = absurd (omega (arith, is))
 
 pub read_has_no_room : (buffer bytes : List ℕ) (error : PushLenientTextError) → IsPushLenientError buffer bytes error
-    → lenient_reason (Some error) ≡ BUFFER_TOO_SMALL → IsReadable bytes
+    → lenient_reason (Some error) ≡ BUFFER_TOO_SMALL → IsLenientText bytes
 read_has_no_room buffer bytes (lenient.Path error) cause is = absurd (omega (arith, is, node_reason_above error.cause))
 read_has_no_room buffer bytes (lenient.ScratchTooSmall needed) cause is = absurd (omega (arith, is))
 read_has_no_room buffer bytes (lenient.NoNode fault) cause is = absurd (omega (arith, is))

@@ -2,14 +2,14 @@
 use Rattle.std.specs.Prelude.{ℕ, List, [], Option, Some, None}
 use Rattle.uefi_text.specs.UnitTexts.{utf16_units}
 use Rattle.uefi_device_path.specs.LenientErrorTexts.{text_fault_text}
-use Rattle.uefi_device_path.specs.LenientReading.{IsReadable, ReadingStopsAt}
+use Rattle.uefi_device_path.specs.LenientReading.{IsLenientText, ReadingStopsAt}
 use Rattle.uefi_device_path.specs.declared.lenient_errors.PushLenientTextError.{PushLenientTextError}
 use Rattle.uefi_device_path.specs.declared.lenient_errors.PushLenientTextError.TheVariants.{NoNode}
 use Rattle.uefi_device_path.specs.declared.lenient_errors.TextFault.{TextFault}
 
 -- the fault of a text that is not read, or none of one that is
 abbrev pub IsFaultOf : List ℕ → Option TextFault → Type 0
-IsFaultOf text None = IsReadable text
+IsFaultOf text None = IsLenientText text
 IsFaultOf text (Some fault) = ReadingStopsAt text fault
 
 -- the fault of a text whose nodes are not added, if that is why

@@ -9,13 +9,13 @@ ghost use Rattle.uefi_text.specs.Units.{BeginsWithString};
 ghost use Rattle.uefi_device_nodes.specs.Nodes.{Node, node_with};
 ghost use Rattle.uefi_device_path.specs.Building.{append_refusal, push_refusal, text_refusal, grow_refusal};
 ghost use Rattle.uefi_device_path.specs.Faults.{RefusedFor};
-ghost use Rattle.uefi_device_path.specs.LenientReading.{IsReadAs, IsReadable, ReadingStopsAt, lenient_refusal};
+ghost use Rattle.uefi_device_path.specs.LenientReading.{IsReadAs, IsLenientText, ReadingStopsAt, lenient_refusal};
 ghost use Rattle.uefi_device_path.specs.LoadOptions.{entry_bytes};
 ghost use Rattle.uefi_device_path.specs.Matching.{IsExpansion};
 ghost use Rattle.uefi_device_path.specs.OptionBuilding.{option_over, write_fault};
 ghost use Rattle.uefi_device_path.specs.PathReading.{AreTold, HasPath, StopsAt};
 ghost use Rattle.uefi_device_path.specs.Paths.{BeginWithPath, path_bytes};
-ghost use Rattle.uefi_device_path.specs.PathTexts.{path_text};
+ghost use Rattle.uefi_device_path.specs.PathTexts.{device_path_text};
 ghost use Rattle.uefi_device_path.specs.declared.errors.BuildError.{BuildError};
 ghost use Rattle.uefi_device_path.specs.declared.errors.DevicePathError.{DevicePathError};
 ghost use Rattle.uefi_device_path.specs.declared.lenient_errors.TextFault.{TextFault};
@@ -229,14 +229,14 @@ pub extern "C" fn nard_device_path_push_text(
     ensures no_node { (nodes : List Node) → BeginWithPath buffer.old nodes → IsUtf8 bytes.now
         → (at : ℕ) → StopsAt bytes.now at → (result ≡ NO_NODE) × (place.new ≡ at) }
     ensures reason { (nodes told : List Node) → BeginWithPath buffer.old nodes → IsUtf8 bytes.now
-        → AreTold told → path_text false false told ≡ bytes.now
+        → AreTold told → device_path_text false false told ≡ bytes.now
         → result ≡ text_reason (text_refusal nodes told (length buffer.old)) }
     ensures place { (nodes told : List Node) → BeginWithPath buffer.old nodes → IsUtf8 bytes.now
-        → AreTold told → path_text false false told ≡ bytes.now
+        → AreTold told → device_path_text false false told ≡ bytes.now
         → place.new ≡ text_place (text_refusal nodes told (length buffer.old))
         (length (path_bytes (nodes ++ told))) }
     ensures buffer { (nodes told : List Node) → BeginWithPath buffer.old nodes → AreTold told
-        → path_text false false told ≡ bytes.now → result ≡ OK
+        → device_path_text false false told ≡ bytes.now → result ≡ OK
         → buffer.new ≡ with_prefix (path_bytes (nodes ++ told)) buffer.old }
     ensures stops { result ≡ NO_NODE → StopsAt bytes.now place.new }
     ensures read { result ≡ OK → HasPath bytes.now }
@@ -308,8 +308,8 @@ pub extern "C" fn nard_device_path_push_lenient_text(
     ensures buffer { (nodes read : List Node) → BeginWithPath buffer.old nodes → IsReadAs bytes.now read
         → result ≡ OK → buffer.new ≡ with_prefix (path_bytes (nodes ++ read)) buffer.old }
     ensures stops { result ≡ NO_NODE → IsWrongAt bytes.now place.new }
-    ensures read { result ≡ OK → IsReadable bytes.now }
-    ensures small { result ≡ BUFFER_TOO_SMALL → IsReadable bytes.now }
+    ensures read { result ≡ OK → IsLenientText bytes.now }
+    ensures small { result ≡ BUFFER_TOO_SMALL → IsLenientText bytes.now }
     ensures unchanged { result ≢ OK → buffer.new ≡ buffer.old }
 {
     // The law does nothing: it says that no path is refused.

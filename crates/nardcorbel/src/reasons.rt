@@ -160,6 +160,7 @@ pub fn numbers()
     ensures end_of_order { END_OF_ORDER ≡ 30 }
     ensures no_node { NO_NODE ≡ 31 }
     ensures no_field { NO_FIELD ≡ 32 }
+    ensures scratch_too_small { SCRATCH_TOO_SMALL ≡ 33 }
     ensures no_order { NO_ORDER ≡ negsuc 2147483647 }
 {}
 

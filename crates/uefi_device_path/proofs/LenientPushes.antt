@@ -5,7 +5,7 @@ use Rattle.std.proofs.lemmas.Bool.{le-ltb, lt-ltb}
 use Rattle.std.proofs.lemmas.List.{append-nil}
 use Rattle.uefi_device_nodes.specs.Nodes.{Node, node_length}
 use Rattle.uefi_device_path.specs.Building.{path_length}
-use Rattle.uefi_device_path.specs.LenientReading.{IsReadable, IsReadAs, ReadsTo, lenient_refusal}
+use Rattle.uefi_device_path.specs.LenientReading.{IsLenientText, IsReadAs, ReadsTo, lenient_refusal}
 use Rattle.uefi_device_path.specs.LenientReading.ReadsTo.{Begins}
 use Rattle.uefi_device_path.specs.Paths.{IsPath, nodes_in, path_bytes, without_end}
 use Rattle.uefi_device_path.specs.declared.lenient_errors.PushLenientTextError.TheVariants.{BufferTooSmall}
@@ -40,7 +40,7 @@ puts_none old text len within path = record {
 
 -- there is room for one node more
 pub room_for_next : LenientStarts → (old new text : List ℕ) (before done : List Node) (node : Node) (end : ℕ) (s : Bool) (rest : List ℕ)
-    → Holds old (before ++ done) new end → ReadsTo text (done ++ node ∷ []) s rest → IsReadable text → HasRoom old text before
+    → Holds old (before ++ done) new end → ReadsTo text (done ++ node ∷ []) s rest → IsLenientText text → HasRoom old text before
     → end + node_length node ≤ length new
 room_for_next starts old new text before done node end s rest on more (all, read) room =
     let x = first_of_all starts text all (reads_rest text all read) more in
@@ -49,7 +49,7 @@ room_for_next starts old new text before done node end s rest on more (all, read
 
 pub puts_next : LenientStarts → (old text : List ℕ) (before done : List Node) (node : Node) (new newer : List ℕ) (end more : ℕ)
     (s : Bool) (rest : List ℕ) → Holds old (before ++ done) new end → ReadsTo text (done ++ node ∷ []) s rest
-    → IsReadable text → HasRoom old text before
+    → IsLenientText text → HasRoom old text before
     → more ≡ end + node_length node → length newer ≡ length new → IsPath (take more newer)
     → nodes_in (without_end (take more newer)) ≡ nodes_in (without_end (take end new)) ++ node ∷ []
     → drop more newer ≡ drop more new → Puts old text before newer more s rest

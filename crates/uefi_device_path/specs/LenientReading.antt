@@ -29,8 +29,8 @@ abbrev pub IsReadAs : List ℕ → List Node → Type 0
 IsReadAs text nodes = (at_start : Bool) × ReadsTo text nodes at_start []
 
 -- a text is read as some path
-abbrev pub IsReadable : List ℕ → Type 0
-IsReadable text = (nodes : List Node) × IsReadAs text nodes
+abbrev pub IsLenientText : List ℕ → Type 0
+IsLenientText text = (nodes : List Node) × IsReadAs text nodes
 
 -- after some nodes no node is read, and no instance ends, where this fault says that the next begins: the
 -- fault of what is left of the text
@@ -59,7 +59,7 @@ abbrev pub IsPushLenientError : List ℕ → List ℕ → PushLenientTextError �
 IsPushLenientError buffer text (push.Path error) = RefusedFor buffer error
 IsPushLenientError buffer text (push.ScratchTooSmall needed) = needed ≡ length text + 1
 IsPushLenientError buffer text (push.NoNode fault) = ReadingStopsAt text fault
-IsPushLenientError buffer text (push.BufferTooSmall needed) = IsReadable text
+IsPushLenientError buffer text (push.BufferTooSmall needed) = IsLenientText text
 
 -- why the nodes that a text is read as are not added to a path of these nodes in a buffer of `room` bytes, or
 -- none

@@ -5,7 +5,7 @@ ghost use Rattle.std.specs.Prelude.{◌≡◌, ◌+◌, ◌<◌, ◌≤◌, ◌+
 ghost use Rattle.std.specs.Result.{result_err};
 ghost use Rattle.uefi_device_nodes.specs.Nodes.{Node};
 ghost use Rattle.uefi_device_path.specs.Faults.{RefusedFor};
-ghost use Rattle.uefi_device_path.specs.LenientReading.{IsPushLenientError, IsReadAs, IsReadable, ReadingStopsAt, lenient_refusal};
+ghost use Rattle.uefi_device_path.specs.LenientReading.{IsPushLenientError, IsReadAs, IsLenientText, ReadingStopsAt, lenient_refusal};
 ghost use Rattle.uefi_device_path.specs.Paths.{BeginWithPath, IsPath, nodes_in, path_bytes, without_end};
 ghost use Rattle.uefi_text.specs.UnalignedCStr16.{with_prefix};
 ghost use Rattle.uefi_device_path.specs.declared.errors.DevicePathError.{DevicePathError};
@@ -25,7 +25,7 @@ fn put_lenient_text_at(buffer: &mut [u8], len: usize, text: &[u8], scratch: &mut
     requires scratch { length text.now < length scratch.old }
     requires within { len ≤ length buffer.now }
     requires is_path { IsPath (take len buffer.now) }
-    requires readable { IsReadable text.now }
+    requires readable { IsLenientText text.now }
     requires room { (read : List Node) → IsReadAs text.now read
         → length (path_bytes (nodes_in (without_end (take len buffer.now)) ++ read)) ≤ length buffer.now }
     ensures within { result ≤ length buffer.old }
@@ -102,7 +102,7 @@ pub fn push_lenient_text_in_buf(
         → IfOk result (λ len. len ≡ length (path_bytes (nodes ++ read))) }
     ensures buffer { (nodes read : List Node) → BeginWithPath buffer.old nodes → IsReadAs text.now read
         → OnOk result (buffer.new ≡ with_prefix (path_bytes (nodes ++ read)) buffer.old) }
-    ensures read { OnOk result (IsReadable text.now) }
+    ensures read { OnOk result (IsLenientText text.now) }
     ensures cause { IfErr result (λ error. IsPushLenientError buffer.old text.now error) }
     ensures err { OnErr result (buffer.new ≡ buffer.old) }
 {

@@ -3,10 +3,10 @@
 
 ghost use Rattle.std.specs.Prelude.{◌++◌, ◌∷◌, ◌≡◌, ◌+◌, ◌-◌, ◌<◌, ◌≤◌, ◌^◌, min, false, [], List, IfOk, IfErr, MatchOption, OnOk, Some, None, length};
 ghost use Rattle.uefi_device_nodes.specs.Nodes.{Node};
-ghost use Rattle.uefi_device_path.specs.LenientReading.{IsLenientError, IsReadAs, IsReadable, ReadingStopsAt};
+ghost use Rattle.uefi_device_path.specs.LenientReading.{IsLenientError, IsReadAs, IsLenientText, ReadingStopsAt};
 ghost use Rattle.uefi_device_path.specs.PathReading.{AreTold};
 ghost use Rattle.uefi_device_path.specs.Paths.{path_bytes};
-ghost use Rattle.uefi_device_path.specs.PathTexts.{path_text};
+ghost use Rattle.uefi_device_path.specs.PathTexts.{device_path_text};
 ghost use Rattle.uefi_node_reader.specs.LenientFaults.{lenient_fault};
 ghost use Rattle.uefi_node_reader.specs.LenientNodes.{lenient_read};
 ghost use Rattle.uefi_node_reader.specs.NamedFiles.{IsTold};
@@ -58,7 +58,7 @@ fn fault_at(scratch: &mut [u8], text: &[u8], rest: &[u8]) -> TextFault
 /// The buffer then holds anything.
 pub(crate) fn check_lenient_text(scratch: &mut [u8], text: &[u8]) -> Result<usize, TextFault>
     requires { length text.now < length scratch.old }
-    ensures path { IfOk result (λ _. IsReadable text.now) }
+    ensures path { IfOk result (λ _. IsLenientText text.now) }
     ensures len { IfOk result (λ len. (nodes : List Node) → IsReadAs text.now nodes
         → len ≡ min (length (path_bytes nodes)) (2 ^ 64 - 1)) }
     ensures refusal { IfErr result (ReadingStopsAt text.now) }
@@ -109,7 +109,7 @@ fn push_lenient_text<A: Allocator>(
 ) -> Result<(), BuildError>
     requires room { length text.now < length scratch.old }
     requires empty { path.old ≡ [] }
-    requires readable { IsReadable text.now }
+    requires readable { IsLenientText text.now }
     ensures ok { OnOk result (IsReadAs text.now path.new) }
     ensures memory { IfErr result (λ error. error ≡ BuildError.OutOfMemory) }
 {
@@ -186,7 +186,7 @@ impl<A: Allocator + Copy> DevicePathBuf<A> {
         ensures ok { IfOk result (λ path. IsReadAs text.now path) }
         ensures only { (nodes : List Node) → IsReadAs text.now nodes
             → IfOk result (λ path. path ≡ nodes) × IfErr result (λ error. error ≡ OutOfMemory) }
-        ensures printed { (nodes : List Node) → AreTold nodes → path_text false false nodes ≡ text.now
+        ensures printed { (nodes : List Node) → AreTold nodes → device_path_text false false nodes ≡ text.now
             → IfOk result (λ path. path ≡ nodes) × IfErr result (λ error. error ≡ OutOfMemory) }
         ensures refusal { IfErr result (IsLenientError text.now) }
     {

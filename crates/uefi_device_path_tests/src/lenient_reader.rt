@@ -47,7 +47,7 @@ pub(crate) const BY_PEOPLE: &str = "\
 03120a000100ffff0000 SATA(1,65535,0)
 030506000100 USB(1,0)
 030506000100 usb(0X1)
-030f0b00ffffffff08ffff UsbClass(0xFFFF,65535,8)
+030f0b00ffffffff08ffff UsbClass(0xFFFF,0xffff,8)
 030f0b00ffffffff080650 usbmassstorage(65535,0xffff,6,80)
 031d050000 EMMC(0)
 03110500ff unit(255)
@@ -66,7 +66,7 @@ pub(crate) const BY_PEOPLE: &str = "\
 04041a005c004500460049005c0078002e006500660069000000 file(\\EFI\\x.efi)
 04012a0002000000000000000000000000000000000000000df0ad0b0000000000000000000000000101 \
     hd(2,mbr,0x0badf00d)
-04040a005c0061000000 a
+04040e005c0061005c0062000000 a\\b
 02010c00d041030a0000000001010600021f7f01040004040a005c0061000000 pciroot(0)/pci(0x1f,2),file(a)";
 
 /// Whether a text is read as the path of these bytes, and what is printed of that path is read as it is.
@@ -95,7 +95,7 @@ fn texts(rt: HostRuntime) -> Result<(), Fail> {
 pub(crate) const REFUSED: &str = "\
 11 11 PciRoot(0)/: the name of a node | 0 12 Uart(9600,8,Q,1): a parity (D, N, E, O, M, S or x) and `,` | \
 0 0 PcRoot(0): the name of a node | 0 5 Uart(fast,8,N,1): DEFAULT or a number up to 0xFFFFFFFFFFFFFFFF | \
-4 4 a/b//c: the name of a node | 11 20 PciRoot(0)/Pci(0x1F,0x12345678901)/Sata(0x0): a number up to 0xFF | \
+6 6 \\a/\\b//c: the name of a node | 11 20 PciRoot(0)/Pci(0x1F,0x12345678901)/Sata(0x0): a number up to 0xFF | \
 0 10 PciRoot(0)x: `/`, `,` or the end of the text | 0 11 Dns(1.1.1.1,1.1.1.256): the exact printed form | \
 0 7 Unit(1) /a: `/`, `,` or the end of the text | 0 9 HD(1,GPT,1234,0x800,0x64000): 8 hexadecimal digits | \
 0 9 PciRoot(0: `)` | 0 43 VenHw(12345678-9abc-def0-1234-56789abcdef0,): 2 hexadecimal digits | \
@@ -110,4 +110,11 @@ pub(crate) const REFUSED: &str = "\
 0 26 SAS(0,0,0,SAS,Internal,Dirct,0,0): `e` | 11 15 PciRoot(0)/Pci(0x100,0): a number up to 0xFF | \
 0 17 MAC(001122334455,2): `0` | 0 13 Acpi(PNP0A03,0x): a number up to 0xFFFFFFFF | \
 0 0 uri(http://a): the exact printed form | 0 5 file(a\u{7}b): the name of a file | \
-0 0 a\u{202e}: the name of a file";
+0 0 a\u{202e}: the name of a file | 0 0 shim.efi: the name of a file | \
+0 0 Pci 0x1F,0x2): the name of a file | 0 0 PciRoot/Pci(0x1,0x0): the name of a file | \
+0 0 FS0:\\EFI\\x.efi: the name of a file | 7 7 \\EFI\\a,b.efi: the name of a file | \
+0 0 EFI\\x)\\y: the name of a file | 0 9 HD(1,MBR,12345678,0x800,0x64000): a number after `0x` | \
+0 5 Acpi(12345678,0): a number after `0x` | 0 25 BluetoothLE(001122334455,10): a number after `0x` | \
+0 6 Fibre(5006016047273469,0): a number after `0x` | 0 11 Fibre(0x1, 5006016047273469): a number after `0x` | \
+0 4 SAS(5000,0,0,NoTopology,0,0,0): a number after `0x` | 0 9 UsbClass(781,5583,255,255): a number after `0x` | \
+0 8 PciRoot(): a number after `0x` | 0 5 Sata(): a number after `0x`";

@@ -25,7 +25,7 @@ stop_within text len (Some stop) = place_within (len - stop.left) text
 
 cut_within : (text : List ℕ) (o : Option (List ℕ × List ℕ)) → (cut_fault text o).byte ≤ length text
 cut_within text None = omega arith
-cut_within text (Some call) = stop_within text (length (tidied call.0)) (further (forms_stop forms (tidied call.0)) (path_stop (tidied call.0)))
+cut_within text (Some call) = stop_within text (length (tidied call.0)) _
 
 file_within : (text name : List ℕ) (o : Option (List ℕ × List ℕ)) → (file_fault text name o).byte ≤ length text
 file_within text name None = omega arith

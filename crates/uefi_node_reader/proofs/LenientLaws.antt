@@ -1,5 +1,5 @@
 -- What is read leniently is told, and what is read strictly is read so too.
-use Rattle.std.proofs.Common.{◌≡◌, ◌++◌, append_assoc, take, ℕ, suc, ◌+◌, Bool, true, false, cond, eqb, leb, not, ◌==◌, ◌&&◌, ◌⊎◌, List, [], ◌∷◌, length, drop, refl, sym, ap, subst, ◌∙◌, inl, inr, arith, true≢false}
+use Rattle.std.proofs.Common.{is_some, ◌≡◌, ◌++◌, append_assoc, take, ℕ, suc, ◌+◌, Bool, true, false, cond, eqb, leb, not, ◌==◌, ◌&&◌, ◌⊎◌, List, [], ◌∷◌, length, drop, refl, sym, ap, subst, ◌∙◌, inl, inr, arith, true≢false}
 use Rattle.std.specs.Prelude.{Option, Some, None, codes, position}
 use Rattle.std.specs.Char.{to_ascii_uppercase}
 use Rattle.std.specs.List.{list_all, list_any, position_or_len}
@@ -13,7 +13,8 @@ use Rattle.uefi_device_nodes.specs.Nodes.{Node, node_with}
 use Rattle.uefi_node_reader.specs.FieldReading.{◌>>=◌, either_read, read_if}
 use Rattle.uefi_device_nodes.specs.NodeTexts.{node_text}
 use Rattle.uefi_node_reader.specs.LenientFields.{after_letter, after_literal, begins_base, literal_left, past_base}
-use Rattle.uefi_node_reader.specs.LenientNodes.{IsRestOf, LenientAgain, LenientEnds, LenientStarts, LenientTakes, bare_read, begins_call, call_read, cut_call, ended, file_or_call, file_read, form_set, forms_set, lenient_read, rooted, path_set, tidied, told_in, whole}
+use Rattle.uefi_node_reader.specs.Ambiguous.{ambiguous_stop}
+use Rattle.uefi_node_reader.specs.LenientNodes.{IsRestOf, LenientAgain, LenientEnds, LenientStarts, LenientTakes, bare_read, is_bare, named_read, begins_call, call_read, cut_call, ended, file_or_call, file_read, form_set, forms_set, lenient_read, rooted, path_set, tidied, told_in, whole}
 use Rattle.uefi_node_reader.specs.NamedFiles.{IsTold, ends_name, is_after_node, is_name, name_bytes, name_data, name_read, node_read}
 use Rattle.uefi_node_reader.specs.PlainNodes.{plain_read, types_read}
 use Rattle.uefi_node_reader.specs.TableReading.{is_empty, is_sound, prints}
@@ -123,13 +124,27 @@ with_rest : (o : Option Node) (after : List ℕ) (node : Node) (rest : List ℕ)
 with_rest None after node rest e = cc
 with_rest (Some x) after node rest e = let p = some_pair (x, after) (node, rest) e in (λ i. Some (p.0 i), p.1)
 
+-- what is read although some texts are not
+unless : {A : Type 0} (b : Bool) (o : Option A) (x : A) → cond b None o ≡ Some x → o ≡ Some x
+unless true o x e = cc
+unless false o x e = e
+
+if_bare : {A : Type 0} (b : Bool) (o : Option A) (x : A) → cond b o None ≡ Some x → o ≡ Some x
+if_bare true o x e = e
+if_bare false o x e = cc
+
 -- what a call was read of
 called : (text : List ℕ) (node : Node) (rest : List ℕ) → call_read text ≡ Some (node, rest)
     → (call : List ℕ × List ℕ) × (cut_call text ≡ Some call)
     × ((option_or (forms_set forms (tidied call.0)) (path_set (tidied call.0)) ≡ Some node) × (call.1 ≡ rest))
 called text node rest e =
     let call = bind_some (cut_call text) _ (node, rest) e in
-    (call.0, call.1, with_rest _ call.0.1 node rest call.2)
+    (call.0, call.1, with_rest _ call.0.1 node rest (unless (is_some (ambiguous_stop (tidied call.0.0))) _ (node, rest) call.2))
+
+-- what a bare name was read of
+bare_named : (text : List ℕ) (node : Node) (rest : List ℕ) → bare_read text ≡ Some (node, rest)
+    → (whole (name_read (rooted (name_bytes text))) ≡ Some node) × (drop (position_or_len ends_name text) text ≡ rest)
+bare_named text node rest e = with_rest _ _ node rest (if_bare (is_bare (name_bytes text)) (named_read text) (node, rest) e)
 
 call_told : (text : List ℕ) (node : Node) (rest : List ℕ) → call_read text ≡ Some (node, rest) → IsTold node
 call_told text node rest e =
@@ -187,7 +202,7 @@ pub lenient_takes : LenientTakes
 lenient_takes text node rest e = one_of_four text node rest (IsTold node)
     (λ p _. (node_takes text node rest p).0)
     (λ _ name _ p _. file_told name node rest p) (λ _ p _. call_told text node rest p)
-    (λ p. name_told (rooted (name_bytes text)) node (with_rest _ _ node rest p).0) e
+    (λ p. name_told (rooted (name_bytes text)) node (bare_named text node rest p).0) e
 
 pub lenient_again : LenientAgain
 unfolding lenient_read
@@ -339,7 +354,7 @@ bare_rest (c ∷ cs) node e = by (ends_name c) e
 bare_end : (text : List ℕ) (node : Node) (rest : List ℕ) → bare_read text ≡ Some (node, rest)
     → IsRestOf text rest × (is_after_node rest ≡ true)
 bare_end text node rest e =
-    let name = with_rest (whole (name_read (rooted (name_bytes text)))) _ node rest e in
+    let name = bare_named text node rest e in
     subst (λ (x : List ℕ). IsRestOf text x × (is_after_node x ≡ true)) name.1
     (bare_rest text node name.0, after_name text)
 
@@ -366,7 +381,7 @@ lenient_starts text node rest e = by (is_after_node text) refl
 
     bare : is_after_node text ≡ true → bare_read text ≡ Some (node, rest) → is_after_node text ≡ false
     bare first p =
-        let name = (with_rest (whole (name_read (rooted (name_bytes text)))) _ node rest p).0 in
+        let name = (bare_named text node rest p).0 in
         let none : whole (name_read (rooted (name_bytes text))) ≡ None =
         ap (λ (x : List ℕ). whole (name_read (rooted x))) (no_bytes text first) ∙ no_name in
         cc (name, none)

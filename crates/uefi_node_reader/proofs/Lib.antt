@@ -1,4 +1,5 @@
 pub mod Digits
+mod Marks
 pub mod ByteRuns
 pub mod Literals
 pub mod WordLaws

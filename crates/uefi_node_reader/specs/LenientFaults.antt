@@ -1,6 +1,6 @@
 -- Why no node is read leniently of a text: which byte is wrong, and what was expected there.
 use Rattle.std.specs.Prelude.{ℕ, ◌+◌, ◌-◌, ◌*◌, ◌^◌, ◌≤◌, nat_lt, Bool, true, false, ◌==◌, ◌&&◌, if◌then◌else◌, List, [], ◌∷◌, codes, drop, take, length, position, Option, Some, None, is_some, Result, Ok, Err}
-use Rattle.std.specs.Option.{option_map}
+use Rattle.std.specs.Option.{option_map, option_or}
 use Rattle.uefi_node_table.specs.Rows.{Form, Piece, is_used}
 use Rattle.uefi_node_table.specs.Table.{forms}
 use Rattle.uefi_node_table.specs.declared.rows.Shape.{Shape}
@@ -9,6 +9,7 @@ use Rattle.uefi_node_table.specs.declared.rows.Tail.{Tail}
 use Rattle.uefi_node_table.specs.declared.rows.Tail.TheVariants.{Bytes, Repeated}
 use Rattle.uefi_node_table.specs.declared.words.Words.{Words}
 use Rattle.uefi_node_table.specs.declared.words.Words.TheVariants.{Parity, StopBits}
+use Rattle.uefi_node_reader.specs.Ambiguous.{ambiguous_stop}
 use Rattle.uefi_node_reader.specs.FieldReading.{either_read}
 use Rattle.uefi_node_reader.specs.LenientFields.{after_letter, after_literal, begins_base, left_out, past_base, value_or_spare}
 use Rattle.uefi_node_reader.specs.LenientNodes.{bare_read, begins_call, cut_call, file_or_call, is_blank, is_textless, tidied}
@@ -170,8 +171,8 @@ stop_fault text len (Some stop) = fault (place_at (len - stop.left) text) stop.e
 -- the fault of a call, by what stands before its `)`
 abbrev pub cut_fault : List ℕ → Option (List ℕ × List ℕ) → NodeFault
 cut_fault text None = fault (length text) (expected.Byte 41)
-cut_fault text (Some call) = stop_fault text (length (tidied call.0))
-    (further (forms_stop forms (tidied call.0)) (path_stop (tidied call.0)))
+cut_fault text (Some call) = stop_fault text (length (tidied call.0)) (option_or (ambiguous_stop (tidied call.0))
+    (further (forms_stop forms (tidied call.0)) (path_stop (tidied call.0))))
 
 -- the fault of a file's name up to a `)`
 abbrev pub file_fault : List ℕ → List ℕ → Option (List ℕ × List ℕ) → NodeFault

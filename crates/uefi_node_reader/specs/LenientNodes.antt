@@ -1,5 +1,5 @@
 -- Nodes as people write them. Each is one that is told.
-use Rattle.std.specs.Prelude.{◌≡◌, ℕ, ◌+◌, Bool, true, false, not, ◌==◌, ◌&&◌, ◌||◌, if◌then◌else◌, List, [], ◌∷◌, ◌++◌, codes, filter, map, take, drop, position, Option, Some, None}
+use Rattle.std.specs.Prelude.{◌≡◌, ℕ, ◌+◌, Bool, true, false, not, ◌==◌, ◌&&◌, ◌||◌, if◌then◌else◌, List, [], ◌∷◌, ◌++◌, codes, filter, map, take, drop, position, Option, Some, None, is_some}
 use Rattle.std.specs.Char.{to_ascii_uppercase}
 use Rattle.std.specs.List.{list_any, position_or_len}
 use Rattle.std.specs.Option.{option_map, option_or}
@@ -8,6 +8,7 @@ use Rattle.uefi_node_table.specs.Table.{forms}
 use Rattle.uefi_node_table.specs.declared.rows.Tail.{Tail}
 use Rattle.uefi_node_table.specs.declared.rows.Tail.TheVariants.{Nothing, Bytes, Repeated}
 use Rattle.uefi_device_nodes.specs.Nodes.{Node, node_with}
+use Rattle.uefi_node_reader.specs.Ambiguous.{ambiguous_stop}
 use Rattle.uefi_node_reader.specs.FieldReading.{◌>>=◌, either_read, read_if}
 use Rattle.uefi_node_reader.specs.LenientFields.{after_literal, pieces_set}
 use Rattle.uefi_node_reader.specs.NamedFiles.{ends_name, is_after_node, IsTold, name_bytes, name_read, node_read}
@@ -64,10 +65,11 @@ whole (Some read) = if is_empty read.1 then Some read.0 else None
 abbrev pub path_set : List ℕ → Option Node
 path_set text = after_literal (codes "Path(") text >>= λ rest. whole (types_read rest)
 
--- the node whose call a text begins with, and what stands after it
+-- the node whose call a text begins with, and what stands after it: none if programs print the call for
+-- different nodes
 abbrev pub call_read : List ℕ → Option (Node × List ℕ)
-call_read text = cut_call text >>= λ call. option_map (λ node. (node, call.1))
-    (option_or (forms_set forms (tidied call.0)) (path_set (tidied call.0)))
+call_read text = cut_call text >>= λ call. if is_some (ambiguous_stop (tidied call.0)) then None
+    else option_map (λ node. (node, call.1)) (option_or (forms_set forms (tidied call.0)) (path_set (tidied call.0)))
 
 -- a name with a backslash at its start
 abbrev pub rooted : List ℕ → List ℕ
@@ -84,10 +86,18 @@ abbrev pub file_or_call : Option (List ℕ) → List ℕ → Option (Node × Lis
 file_or_call None text = call_read text
 file_or_call (Some name) text = file_read name
 
--- the node with the name that a text begins with, without its first backslash
-abbrev pub bare_read : List ℕ → Option (Node × List ℕ)
-bare_read text = option_map (λ node. (node, drop (position_or_len ends_name text) text))
+-- the node with the name that a text begins with, with a backslash before it, and what stands after it
+abbrev pub named_read : List ℕ → Option (Node × List ℕ)
+named_read text = option_map (λ node. (node, drop (position_or_len ends_name text) text))
     (whole (name_read (rooted (name_bytes text))))
+
+-- the test for a name that may stand without its first backslash: it has another, and neither a `)` nor a `:`
+abbrev pub is_bare : List ℕ → Bool
+is_bare name = list_any (λ c. c == 92) name && not (list_any (λ c. c == 41) name || list_any (λ c. c == 58) name)
+
+-- the node with the name that a text begins with, if that may stand without its first backslash
+abbrev pub bare_read : List ℕ → Option (Node × List ℕ)
+bare_read text = if is_bare (name_bytes text) then named_read text else None
 
 -- the test for a text that begins with a call: a `(` stands before a slash or a comma
 abbrev pub begins_call : List ℕ → Bool

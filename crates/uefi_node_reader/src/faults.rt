@@ -36,6 +36,9 @@ pub enum Expected {
     End,
     /// The text of this node, or of what is left of it, exactly as it is printed.
     AsPrinted,
+    /// A number after `0x`, since without it programs print the number in different bases, or leave it out for
+    /// different nodes.
+    Base,
     /// A node that is not too long, and whose text tells all of it. What stands before this byte was read.
     Untold,
 }
@@ -70,6 +73,7 @@ impl Printed for Expected {
             Self::FileName => sink.put_str("the name of a file"),
             Self::End => sink.put_str("`/`, `,` or the end of the text"),
             Self::AsPrinted => sink.put_str("the exact printed form"),
+            Self::Base => sink.put_str("a number after `0x`"),
             Self::Untold => sink.put_str("a shorter node, or one whose text tells all of it"),
         }
     }

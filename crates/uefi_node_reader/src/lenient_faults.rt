@@ -2,18 +2,20 @@
 #![tactic(auto)]
 
 ghost use Rattle.std.specs.List.{list_all};
-ghost use Rattle.std.specs.Option.{option_map};
+ghost use Rattle.std.specs.Option.{option_or, option_map};
 ghost use Rattle.std.specs.Prelude.{◌≡◌, ◌<◌, ◌≤◌, ◌==◌, IfSome, IsTrue, false, length, map, position};
 ghost use Rattle.std.specs.Result.{result_map_both};
 ghost use Rattle.uefi_node_table.specs.Fields.{fits_shape};
 ghost use Rattle.uefi_node_table.specs.Rows.{as_form, as_piece, is_within};
 ghost use Rattle.uefi_node_table.specs.Table.{forms};
+ghost use Rattle.uefi_node_reader.specs.Ambiguous.{ambiguous_stop};
 ghost use Rattle.uefi_node_reader.specs.LenientFaults.{call_name, close_stop, cut_fault, ending_end, exact_end, expected_field, expected_word, file_fault, form_end, form_stop, forms_stop, further, literal_end, named_stop, or_stop, past, path_stop, piece_end, pieces_end, place_at, rest_end, stop_at, stop_of, tail_stop, types_end};
 ghost use Rattle.uefi_node_reader.specs.LenientNodes.{cut_call};
 ghost use Rattle.uefi_node_reader.specs.Numerals.{number_read};
 ghost use Rattle.uefi_node_reader.specs.TableReading.{is_filled, is_read, is_sound, tail_read};
 ghost use Rattle.uefi_node_reader.specs.declared.faults.Expected.TheVariants.{Number};
 
+use crate::ambiguous::ambiguous_stop;
 use crate::clear_texts::first_of;
 use crate::faults::{Expected, NodeFault, Stop};
 use crate::fields::{after, last};
@@ -345,11 +347,14 @@ fn path_stop(text: &[u8]) -> Option<Stop>
     Some(stop_of(types_end(rest)))
 }
 
-/// The same of either.
+/// Where a tidied call stops telling which node it is, or else where it stops being that of any form.
 pub(crate) fn call_stop(text: &[u8]) -> Option<Stop>
-    ensures { result ≡ further (forms_stop forms text.now) (path_stop text.now) }
+    ensures { result ≡ option_or (ambiguous_stop text.now) (further (forms_stop forms text.now) (path_stop text.now)) }
 {
-    further(table_stop(text), path_stop(text))
+    match ambiguous_stop(text) {
+        Some(stop) => Some(stop),
+        None => further(table_stop(text), path_stop(text)),
+    }
 }
 
 /// Where a byte stands that has this many bytes before it but blanks.

@@ -3,7 +3,7 @@
 
 ghost use Rattle.std.specs.Option.{option_map};
 ghost use Rattle.std.specs.Prelude.{◌≡◌, ◌<◌, ◌≤◌, length, take};
-ghost use Rattle.uefi_node_reader.specs.LenientNodes.{bare_read, begins_call, file_read, rooted, whole};
+ghost use Rattle.uefi_node_reader.specs.LenientNodes.{bare_read, begins_call, file_read, is_bare, rooted, whole};
 ghost use Rattle.uefi_node_reader.specs.NamedFiles.{name_read};
 ghost use Rattle.uefi_node_reader.specs.TextNodeViews.{text_node};
 
@@ -62,8 +62,15 @@ pub(crate) fn begins_call(text: &[u8]) -> bool
     name.iter().any(|byte| *byte == b'(')
 }
 
-/// Reads the node with the name that a text begins with, without its first backslash. Returns what stands
-/// after it, too.
+/// Whether a name may stand without its first backslash: it has another, and neither a `)` nor a `:`.
+fn is_bare(name: &[u8]) -> bool
+    ensures { result ≡ is_bare name.now }
+{
+    name.contains(&b'\\') && !(name.contains(&b')') || name.contains(&b':'))
+}
+
+/// Reads the node with the name that a text begins with, if that may stand without its first backslash. Returns
+/// what stands after it, too.
 pub(crate) fn bare<'s, 't>(
     scratch: &'s mut [u8],
     text: &'t [u8],
@@ -72,6 +79,9 @@ pub(crate) fn bare<'s, 't>(
     ensures { option_map (λ x. (text_node x.0, x.1.now)) result ≡ bare_read text.now }
 {
     let (front, rest) = text.split_at(name_len(text));
+    if !is_bare(front) {
+        return None;
+    }
     let node = whole_name(scratch, front)?;
     Some((node, rest))
 }

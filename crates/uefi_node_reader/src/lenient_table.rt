@@ -11,6 +11,7 @@ ghost use Rattle.uefi_node_reader.specs.TableReading.{is_filled, is_sound};
 ghost use Rattle.uefi_node_reader.specs.TextNodes.{fitting};
 ghost use Rattle.uefi_node_reader.specs.TextNodeViews.{data_of, text_node};
 
+use crate::ambiguous::ambiguous_stop;
 use crate::counted_bytes::push;
 use crate::lenient_fields::{after_literal, set_pieces};
 use crate::plain_nodes::plain_types;
@@ -183,6 +184,10 @@ pub(crate) fn by_call<'s, 't>(
 {
     let (front, rest) = cut_call(text)?;
     let len = tidy(scratch, front);
-    let node = set_call(&scratch[..len])?;
+    let call = &scratch[..len];
+    if ambiguous_stop(call).is_some() {
+        return None;
+    }
+    let node = set_call(call)?;
     Some((node, rest))
 }

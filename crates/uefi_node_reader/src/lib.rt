@@ -4,6 +4,7 @@
 //! (UEFI Specification 2.10, section 10.6.1). Callers use `uefi_device_path`, which reads whole paths.
 #![tactic(auto)]
 
+mod ambiguous;
 mod clear_texts;
 mod coding;
 mod counted_bytes;

@@ -1,6 +1,6 @@
 -- What is refused is the path in the buffer, then the second buffer, then the text, and then the room.
 use Rattle.std.proofs.Common.{◌≡◌, ◌∙◌, ◌+◌, ◌++◌, ap, sym, subst, ℕ, List, Option, Some, length, arith}
-use Rattle.uefi_device_path.specs.LenientReading.{IsReadAs, IsReadable, ReadingStopsAt}
+use Rattle.uefi_device_path.specs.LenientReading.{IsReadAs, IsLenientText, ReadingStopsAt}
 use Rattle.uefi_device_path.specs.Paths.{path_bytes}
 use Rattle.uefi_device_path.specs.declared.lenient_errors.PushLenientTextError.{PushLenientTextError}
 use Rattle.uefi_device_path.specs.declared.lenient_errors.PushLenientTextError.TheVariants.{NoNode, Path, ScratchTooSmall}
@@ -83,7 +83,7 @@ returns-in-Ok-push_lenient_text_in_buf-clause-buffer c = λ nodes read begins is
     c.in-Ok-push_lenient_text_in_buf.ensures.buffer nodes read begins (subst (λ (x : List ℕ). IsReadAs x read) (sym c.in-Ok.ensures.cases.0) is)
 
 pub returns-in-Ok-push_lenient_text_in_buf-clause-read : goal.returns-in-Ok-push_lenient_text_in_buf-clause-read
-returns-in-Ok-push_lenient_text_in_buf-clause-read c = λ ok. subst IsReadable c.in-Ok.ensures.cases.0
+returns-in-Ok-push_lenient_text_in_buf-clause-read c = λ ok. subst IsLenientText c.in-Ok.ensures.cases.0
     c.in-Ok-push_lenient_text_in_buf.ensures.read
 
 pub returns-in-Err-push_lenient_text_in_buf-clause-no_path : goal.returns-in-Err-push_lenient_text_in_buf-clause-no_path
@@ -135,7 +135,7 @@ returns-in-Err-push_lenient_text_in_buf-clause-read c = λ ok.
 
 pub returns-in-Err-push_lenient_text_in_buf-clause-small : goal.returns-in-Err-push_lenient_text_in_buf-clause-small
 returns-in-Err-push_lenient_text_in_buf-clause-small c = λ is.
-    subst IsReadable c.in-Ok.ensures.cases.0 (read_has_no_room c.args.buffer.now c.in-Ok.text.now
+    subst IsLenientText c.in-Ok.ensures.cases.0 (read_has_no_room c.args.buffer.now c.in-Ok.text.now
     c.in-Err-push_lenient_text_in_buf.error
     c.in-Err-push_lenient_text_in_buf.ensures.cause (sym c.lenient_reason-reason.ensures.reason ∙ is))
 

@@ -1,0 +1,50 @@
+-- Calls that programs print for different nodes.
+use Rattle.std.specs.Prelude.{ℕ, ◌==◌, ◌-◌, nat_lt, Bool, false, ◌&&◌, ◌||◌, if◌then◌else◌, List, [], ◌∷◌, codes, drop, length, Option, Some, None, is_some}
+use Rattle.std.specs.Option.{option_map, option_or}
+use Rattle.uefi_node_reader.specs.Numerals.{digit_of}
+use Rattle.uefi_node_reader.specs.TableReading.{first_of}
+use Rattle.uefi_node_reader.specs.WordReading.{after}
+use Rattle.uefi_node_reader.specs.declared.faults.Expected.TheVariants as expected
+use Rattle.uefi_node_reader.specs.declared.faults.Stop.{Stop}
+
+-- the test for a text that begins with two decimal digits
+abbrev pub two_digits : List ℕ → Bool
+two_digits [] = false
+two_digits (c ∷ cs) = nat_lt (digit_of c) 10 && nat_lt (digit_of (first_of cs)) 10
+
+-- how much of a text there is, if it begins with two digits
+abbrev pub digits_left : Option (List ℕ) → Option ℕ
+digits_left None = None
+digits_left (Some text) = if two_digits text then Some (length text) else None
+
+-- how much of a text is left from the first two digits on that stand after a mark
+abbrev pub left_after : List ℕ → List ℕ → Option ℕ
+left_after mark [] = None
+left_after mark (c ∷ cs) = option_or (digits_left (after mark (c ∷ cs))) (left_after mark cs)
+
+-- the test for a text that begins with another
+abbrev pub begins_with : List ℕ → List ℕ → Bool
+begins_with start text = is_some (after start text)
+
+-- how much of a tidied call is left from the first number on that some programs print in hexadecimal without
+-- `0x`, and others in decimal
+abbrev pub bare_number_left : List ℕ → Option ℕ
+bare_number_left text =
+    if begins_with (codes "HD(") text then left_after (codes "MBR,") text
+    else if begins_with (codes "ACPI(") text then left_after (codes "(") text
+    else if begins_with (codes "BLUETOOTHLE(") text then left_after (codes ",") text
+    else if begins_with (codes "FIBRE(") text || (begins_with (codes "SAS(") text || begins_with (codes "USBCLASS(") text)
+    then option_or (left_after (codes "(") text) (left_after (codes ",") text)
+    else None
+
+-- where a number should begin with `0x`
+abbrev pub base_stop : ℕ → Stop
+base_stop left = record { left = left; expected = expected.Base }
+
+-- the test for a tidied call without numbers
+abbrev pub is_empty_call : List ℕ → Bool
+is_empty_call text = first_of (drop (length text - 2) text) == 40
+
+-- where a tidied call stops telling which node it is
+abbrev pub ambiguous_stop : List ℕ → Option Stop
+ambiguous_stop text = if is_empty_call text then Some (base_stop 1) else option_map base_stop (bare_number_left text)

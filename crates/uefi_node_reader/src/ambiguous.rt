@@ -1,0 +1,102 @@
+//! Calls that programs print for different nodes.
+//!
+//! Some programs print some numbers in hexadecimal without `0x`, where EDK II reads decimal, and leave the
+//! number of an ACPI device out if the node has a text in its place.
+#![tactic(auto)]
+
+ghost use Rattle.std.specs.Prelude.{◌≡◌};
+ghost use Rattle.std.specs.Option.{option_map};
+ghost use Rattle.uefi_node_reader.specs.Ambiguous.{ambiguous_stop, bare_number_left, begins_with, digits_left, is_empty_call, left_after, two_digits};
+ghost use Rattle.uefi_node_reader.specs.WordReading.{after};
+
+use crate::clear_texts::first_of;
+use crate::faults::{Expected, Stop};
+use crate::fields::after;
+use crate::numerals::digit_of;
+
+/// Whether a text begins with two decimal digits.
+fn two_digits(text: &[u8]) -> bool
+    ensures { result ≡ two_digits text.now }
+{
+    match text {
+        [byte, rest @ ..] => digit_of(*byte) < 10 && digit_of(first_of(rest)) < 10,
+        [] => false,
+    }
+}
+
+/// How much of a text is left after a mark that it begins with, if two digits stand there.
+fn digits_after(mark: &[u8], text: &[u8]) -> Option<usize>
+    ensures { result ≡ digits_left (after mark.now text.now) }
+{
+    let rest = after(mark, text)?;
+    if two_digits(rest) {
+        Some(rest.len())
+    } else {
+        None
+    }
+}
+
+/// How much of a text is left from the first two digits on that stand after a mark.
+fn left_after(mark: &[u8], text: &[u8]) -> Option<usize>
+    ensures { result ≡ left_after mark.now text.now }
+{
+    for place in 0..text.len() {
+        if let Some(left) = digits_after(mark, &text[place..]) {
+            return Some(left);
+        }
+    }
+    None
+}
+
+/// Whether a text begins with another.
+fn begins_with(start: &[u8], text: &[u8]) -> bool
+    ensures { result ≡ begins_with start.now text.now }
+{
+    after(start, text).is_some()
+}
+
+/// How much of a tidied call is left from the first number on that some programs print in hexadecimal without
+/// `0x`, and others in decimal.
+fn bare_number_left(text: &[u8]) -> Option<usize>
+    ensures { result ≡ bare_number_left text.now }
+{
+    if begins_with(b"HD(", text) {
+        left_after(b"MBR,", text)
+    } else if begins_with(b"ACPI(", text) {
+        left_after(b"(", text)
+    } else if begins_with(b"BLUETOOTHLE(", text) {
+        left_after(b",", text)
+    } else if begins_with(b"FIBRE(", text)
+        || begins_with(b"SAS(", text)
+        || begins_with(b"USBCLASS(", text)
+    {
+        match left_after(b"(", text) {
+            Some(left) => Some(left),
+            None => left_after(b",", text),
+        }
+    } else {
+        None
+    }
+}
+
+/// Whether a tidied call has no numbers.
+fn is_empty_call(text: &[u8]) -> bool
+    ensures { result ≡ is_empty_call text.now }
+{
+    first_of(&text[text.len().saturating_sub(2)..]) == b'('
+}
+
+/// Where a tidied call stops telling which node it is.
+pub(crate) fn ambiguous_stop(text: &[u8]) -> Option<Stop>
+    ensures { result ≡ ambiguous_stop text.now }
+{
+    let left = if is_empty_call(text) {
+        1
+    } else {
+        bare_number_left(text)?
+    };
+    Some(Stop {
+        left,
+        expected: Expected::Base,
+    })
+}
