@@ -96,7 +96,7 @@ static void read_fields(void)
     struct nard_device_node node = {0, 0, 0, 0};
     size_t place = 0;
     nard_number number = 99;
-    nard_device_path_next_node(path, sizeof path, &place, &node);
+    expect(nard_device_path_next_node(path, sizeof path, &place, &node) == NARD_OK, "nard_device_path_next_node", 0);
     const uint8_t *data = path + node.start;
     expect(NARD_IS(node, NARD_PCI) && !NARD_IS(node, NARD_ACPI), "NARD_IS", 0);
     expect(nard_node_number(data, node.length, NARD_ACPI_UID, &number) == NARD_NO_FIELD && number == 99, "nard_node_number", 0);
