@@ -31,7 +31,8 @@
  *
  * Two kinds of archive
  *   - For programs on Linux, by `rt lib`: ELF for x86-64-v2. It may use the red zone, so firmware must not link it.
- *   - For firmware, by tools/firmware-lib: ELF and COFF, for any x86-64 and aarch64 processor, without a red zone.
+ *   - For firmware, by tools/firmware-lib: ELF and COFF, for any x86-64 and aarch64 processor, without a red zone, and with general
+ *     registers alone.
  */
 #ifndef NARDCORBEL_H
 #define NARDCORBEL_H
