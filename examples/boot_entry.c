@@ -113,9 +113,9 @@ static bool print_nodes(struct entry entry, size_t at, size_t end)
 static void print_description(struct entry entry, size_t length)
 {
     size_t count = 0;
-    (void)nard_units_from_bytes(entry.bytes + HEAD, 2 * length, units, MOST_UNITS, &count);
+    bool fits = nard_units_from_bytes(entry.bytes + HEAD, 2 * length, units, MOST_UNITS, &count) == NARD_OK;
     printf("  description: ");
-    print_units(units, count);
+    print_units(units, fits ? count : 0);
     printf("\n");
 }
 
@@ -143,10 +143,9 @@ static bool print_entry(struct entry entry)
     if (reason == NARD_OPTION_TOO_SHORT)
         return refuse(fault, nard_reason_text(reason));
     printf("  active: %s\n", entry.bytes[0] & ACTIVE ? "yes" : "no");
-    if (reason == NARD_DESCRIPTION_WITHOUT_END)
+    if (nard_packed_until_nul(entry.bytes + HEAD, entry.size - HEAD, &length) != NARD_OK)
         return refuse(fault, nard_reason_text(reason));
     /* All else that is refused stands after the description, or says where the list after it ends. */
-    (void)nard_packed_until_nul(entry.bytes + HEAD, entry.size - HEAD, &length);
     size_t list = HEAD + 2 * (length + 1), end = reason == NARD_OK ? option.optional_start : fault;
     print_description(entry, length);
     print_device_paths(entry, list, end);

@@ -81,17 +81,31 @@ static void walk_nodes(void)
     expect(reason == NARD_NO_END_NODE && far == (size_t)-1 && node.start == 10, "nard_device_path_next_node", rows_count);
 }
 
+/* The macros of nodes in a caller's own macros, where a field is a parameter. */
+#define READ(data, size, field, number) \
+    (NARD_WIDTH(field) <= 8 && NARD_PLACE(field) < (size) ? nard_node_number(data, size, field, number) : NARD_NO_FIELD)
+#define IS_ANY(node, first, second) (NARD_IS(node, first) || NARD_IS(node, second))
+
+/* The second and the third string of an expanded ACPI node have no place that is known before the first is read. */
+#if defined(NARD_EXPANDED_HID_STR) || defined(NARD_EXPANDED_UID_STR) || defined(NARD_EXPANDED_CID_STR)
+#error "a string of an expanded ACPI node is no field"
+#endif
+
 static void read_fields(void)
 {
     struct nard_device_node node = {0, 0, 0, 0};
     size_t place = 0;
     nard_number number = 99;
-    nard_device_path_next_node(path, sizeof path, &place, &node);
+    expect(nard_device_path_next_node(path, sizeof path, &place, &node) == NARD_OK, "nard_device_path_next_node", 0);
     const uint8_t *data = path + node.start;
     expect(NARD_IS(node, NARD_PCI) && !NARD_IS(node, NARD_ACPI), "NARD_IS", 0);
     expect(nard_node_number(data, node.length, NARD_ACPI_UID, &number) == NARD_NO_FIELD && number == 99, "nard_node_number", 0);
     expect(nard_node_number(data, node.length, NARD_PCI_DEVICE, &number) == NARD_OK && number == 0x1f, "nard_node_number", 1);
     expect(NARD_PLACE(NARD_PCI_DEVICE) == 1 && NARD_WIDTH(NARD_PCI_DEVICE) == 1, "NARD_PLACE", 0);
+    expect(READ(data, node.length, NARD_PCI_FUNCTION, &number) == NARD_OK && number == 0, "NARD_PLACE", 1);
+    expect(IS_ANY(node, NARD_ACPI, NARD_PCI) && !IS_ANY(node, NARD_ACPI, NARD_ADR), "NARD_IS", 1);
+    static const uint8_t outputs[] = {0, 1, 1, 0x80, 0, 3, 1, 0x80};
+    expect(READ(outputs, sizeof outputs, NARD_ADR_ADR, &number) == NARD_OK && number == 0x80010100, "NARD_ADR_ADR", 0);
 }
 
 static void write_file_paths(void)

@@ -582,17 +582,6 @@ static void try_halves(const struct halves *it, size_t room)
     }
 }
 
-/* A call is a macro, which evaluates an argument once. */
-static void try_macro(void)
-{
-    const nard_unit text[] = {'a', 0}, *at = text;
-    nard_size count = 2;
-    if (!nard_string_is_ascii(at++, count--) || at != text + 1 || count != 1 || (nard_string_is_ascii)(text, 1)) {
-        printf("nard_string_is_ascii: WRONG\n");
-        failed = true;
-    }
-}
-
 static void try_row(const struct row *row)
 {
     size_t counts[] = {row->in[0].count, row->in[1].count, row->in[2].count};
@@ -634,7 +623,6 @@ int main(int argc, char **argv)
             for (size_t room = 0; room <= 2 * halves[i].string.count + 2; room++)
                 try_halves(&halves[i], room);
     }
-    try_macro();
     for (int i = 0; i < AREAS && is_uninitialized; i++)
         free(areas[i]);
     return failed;

@@ -31,10 +31,15 @@
  *
  * Two kinds of archive
  *   - For programs on Linux, by `rt lib`: ELF for x86-64-v2. It may use the red zone, so firmware must not link it.
- *   - For firmware, by tools/firmware-lib: ELF and COFF, for any x86-64 and aarch64 processor, without a red zone.
+ *   - For firmware, by tools/firmware-lib: ELF and COFF, for any x86-64 and aarch64 processor, without a red zone, and with general
+ *     registers alone.
  */
 #ifndef NARDCORBEL_H
 #define NARDCORBEL_H
+
+#if (defined(__SIZEOF_POINTER__) && __SIZEOF_POINTER__ != 8) || (defined(_WIN32) && !defined(_WIN64))
+#error "nardcorbel is for x86-64 and aarch64 with pointers of 64 bits: not -m32, -mx32 or -mabi=ilp32"
+#endif
 
 #ifndef NARD_TYPES
 #include <stdbool.h>
@@ -62,6 +67,15 @@ typedef unsigned long long nard_number; /* of 64 bits */
 #define NARD_CALL __attribute__((ms_abi))
 #else
 #define NARD_CALL
+#endif
+#endif
+
+#ifndef NARD_MUST_USE
+/* The compiler warns where a reason is not looked at. Who wants no warning defines this as nothing first. */
+#if defined(__GNUC__)
+#define NARD_MUST_USE __attribute__((warn_unused_result))
+#else
+#define NARD_MUST_USE
 #endif
 #endif
 
@@ -754,9 +768,9 @@ nard_result NARD_CALL nard_version(void);
 /* ---- Null pointers ---- */
 
 /*
- * The library takes no null pointer. So each call that takes a pointer with a count is a macro too, which gives the library a
- * pointer to an element in place of a null pointer. It evaluates each argument once. The function itself is
- * (nard_string_equal), say; nobody reads or writes the element, since the count of a null pointer has to be 0.
+ * The library takes no null pointer. So the name of each call that takes a pointer with a count means a function of this header,
+ * which gives the library a pointer to an element in place of a null pointer. Nobody reads or writes the element, since the count
+ * of a null pointer has to be 0.
  */
 static inline const nard_unit *nard_given_units(const nard_unit *units)
 {
@@ -782,103 +796,402 @@ static inline nard_byte *nard_given_byte_room(nard_byte *buffer)
     return buffer ? buffer : &none;
 }
 
-/* A letter for each argument: U and B for units and bytes that are read, V and C for those that are written, N for another. */
-#define NARD_GIVEN_B(call, a, ...) \
-    (call)(nard_given_bytes(a), __VA_ARGS__)
-#define NARD_GIVEN_BNB(call, a, b, c, ...) \
-    (call)(nard_given_bytes(a), b, nard_given_bytes(c), __VA_ARGS__)
-#define NARD_GIVEN_BNCNV(call, a, b, c, d, e, ...) \
-    (call)(nard_given_bytes(a), b, nard_given_byte_room(c), d, nard_given_unit_room(e), __VA_ARGS__)
-#define NARD_GIVEN_BNNNV(call, a, b, c, d, e, ...) \
-    (call)(nard_given_bytes(a), b, c, d, nard_given_unit_room(e), __VA_ARGS__)
-#define NARD_GIVEN_BNV(call, a, b, c, ...) \
-    (call)(nard_given_bytes(a), b, nard_given_unit_room(c), __VA_ARGS__)
-#define NARD_GIVEN_C(call, a, ...) \
-    (call)(nard_given_byte_room(a), __VA_ARGS__)
-#define NARD_GIVEN_CNB(call, a, b, c, ...) \
-    (call)(nard_given_byte_room(a), b, nard_given_bytes(c), __VA_ARGS__)
-#define NARD_GIVEN_CNBNC(call, a, b, c, d, e, ...) \
-    (call)(nard_given_byte_room(a), b, nard_given_bytes(c), d, nard_given_byte_room(e), __VA_ARGS__)
-#define NARD_GIVEN_CNNNB(call, a, b, c, d, e, ...) \
-    (call)(nard_given_byte_room(a), b, c, d, nard_given_bytes(e), __VA_ARGS__)
-#define NARD_GIVEN_NNV(call, a, b, c, ...) \
-    (call)(a, b, nard_given_unit_room(c), __VA_ARGS__)
-#define NARD_GIVEN_NUNBNBNC(call, a, b, c, d, e, f, g, h, ...) \
-    (call)(a, nard_given_units(b), c, nard_given_bytes(d), e, nard_given_bytes(f), g, nard_given_byte_room(h), __VA_ARGS__)
-#define NARD_GIVEN_U(call, a, ...) \
-    (call)(nard_given_units(a), __VA_ARGS__)
-#define NARD_GIVEN_UNB(call, a, b, c, ...) \
-    (call)(nard_given_units(a), b, nard_given_bytes(c), __VA_ARGS__)
-#define NARD_GIVEN_UNC(call, a, b, c, ...) \
-    (call)(nard_given_units(a), b, nard_given_byte_room(c), __VA_ARGS__)
-#define NARD_GIVEN_UNU(call, a, b, c, ...) \
-    (call)(nard_given_units(a), b, nard_given_units(c), __VA_ARGS__)
-#define NARD_GIVEN_UNUNV(call, a, b, c, d, e, ...) \
-    (call)(nard_given_units(a), b, nard_given_units(c), d, nard_given_unit_room(e), __VA_ARGS__)
-#define NARD_GIVEN_UNV(call, a, b, c, ...) \
-    (call)(nard_given_units(a), b, nard_given_unit_room(c), __VA_ARGS__)
-#define NARD_GIVEN_V(call, a, ...) \
-    (call)(nard_given_unit_room(a), __VA_ARGS__)
-#define NARD_GIVEN_VNU(call, a, b, c, ...) \
-    (call)(nard_given_unit_room(a), b, nard_given_units(c), __VA_ARGS__)
-#define NARD_AS_IS(call) call
-#define nard_string_with_nul(...) NARD_AS_IS(NARD_GIVEN_U(nard_string_with_nul, __VA_ARGS__))
-#define nard_string_until_nul(...) NARD_AS_IS(NARD_GIVEN_U(nard_string_until_nul, __VA_ARGS__))
-#define nard_string_equal(...) NARD_AS_IS(NARD_GIVEN_UNU(nard_string_equal, __VA_ARGS__))
-#define nard_string_order(...) NARD_AS_IS(NARD_GIVEN_UNU(nard_string_order, __VA_ARGS__))
-#define nard_string_is_ascii(...) NARD_AS_IS(NARD_GIVEN_U(nard_string_is_ascii, __VA_ARGS__))
-#define nard_string_equal_ignore_case(...) NARD_AS_IS(NARD_GIVEN_UNU(nard_string_equal_ignore_case, __VA_ARGS__))
-#define nard_string_order_ignore_case(...) NARD_AS_IS(NARD_GIVEN_UNU(nard_string_order_ignore_case, __VA_ARGS__))
-#define nard_string_make_uppercase(...) NARD_AS_IS(NARD_GIVEN_V(nard_string_make_uppercase, __VA_ARGS__))
-#define nard_string_make_lowercase(...) NARD_AS_IS(NARD_GIVEN_V(nard_string_make_lowercase, __VA_ARGS__))
-#define nard_string_matches(...) NARD_AS_IS(NARD_GIVEN_UNU(nard_string_matches, __VA_ARGS__))
-#define nard_units_from_bytes(...) NARD_AS_IS(NARD_GIVEN_BNV(nard_units_from_bytes, __VA_ARGS__))
-#define nard_packed_until_nul(...) NARD_AS_IS(NARD_GIVEN_B(nard_packed_until_nul, __VA_ARGS__))
-#define nard_string_from_utf8(...) NARD_AS_IS(NARD_GIVEN_BNV(nard_string_from_utf8, __VA_ARGS__))
-#define nard_utf8_from_string(...) NARD_AS_IS(NARD_GIVEN_UNC(nard_utf8_from_string, __VA_ARGS__))
-#define nard_utf8_from_units_lossy(...) NARD_AS_IS(NARD_GIVEN_UNC(nard_utf8_from_units_lossy, __VA_ARGS__))
-#define nard_string_equal_until_nul(...) NARD_AS_IS(NARD_GIVEN_UNB(nard_string_equal_until_nul, __VA_ARGS__))
-#define nard_utf8_is_latin1(...) NARD_AS_IS(NARD_GIVEN_B(nard_utf8_is_latin1, __VA_ARGS__))
-#define nard_path_verdict(...) NARD_AS_IS(NARD_GIVEN_U(nard_path_verdict, __VA_ARGS__))
-#define nard_path_equal(...) NARD_AS_IS(NARD_GIVEN_UNU(nard_path_equal, __VA_ARGS__))
-#define nard_path_order(...) NARD_AS_IS(NARD_GIVEN_UNU(nard_path_order, __VA_ARGS__))
-#define nard_path_equal_ignore_case(...) NARD_AS_IS(NARD_GIVEN_UNU(nard_path_equal_ignore_case, __VA_ARGS__))
-#define nard_path_matches(...) NARD_AS_IS(NARD_GIVEN_UNU(nard_path_matches, __VA_ARGS__))
-#define nard_path_next_component(...) NARD_AS_IS(NARD_GIVEN_U(nard_path_next_component, __VA_ARGS__))
-#define nard_path_file_name(...) NARD_AS_IS(NARD_GIVEN_U(nard_path_file_name, __VA_ARGS__))
-#define nard_path_parent_length(...) NARD_AS_IS(NARD_GIVEN_U(nard_path_parent_length, __VA_ARGS__))
-#define nard_path_push(...) NARD_AS_IS(NARD_GIVEN_VNU(nard_path_push, __VA_ARGS__))
-#define nard_path_join(...) NARD_AS_IS(NARD_GIVEN_UNUNV(nard_path_join, __VA_ARGS__))
-#define nard_path_parent(...) NARD_AS_IS(NARD_GIVEN_UNV(nard_path_parent, __VA_ARGS__))
-#define nard_path_normalize(...) NARD_AS_IS(NARD_GIVEN_UNV(nard_path_normalize, __VA_ARGS__))
-#define nard_path_normalize_utf8(...) NARD_AS_IS(NARD_GIVEN_BNV(nard_path_normalize_utf8, __VA_ARGS__))
-#define nard_fat_name_check(...) NARD_AS_IS(NARD_GIVEN_U(nard_fat_name_check, __VA_ARGS__))
-#define nard_fat_name_equal(...) NARD_AS_IS(NARD_GIVEN_UNU(nard_fat_name_equal, __VA_ARGS__))
-#define nard_fat_name_is_short(...) NARD_AS_IS(NARD_GIVEN_U(nard_fat_name_is_short, __VA_ARGS__))
-#define nard_fat_from_string(...) NARD_AS_IS(NARD_GIVEN_UNC(nard_fat_from_string, __VA_ARGS__))
-#define nard_string_from_fat(...) NARD_AS_IS(NARD_GIVEN_BNV(nard_string_from_fat, __VA_ARGS__))
-#define nard_device_path_check(...) NARD_AS_IS(NARD_GIVEN_B(nard_device_path_check, __VA_ARGS__))
-#define nard_device_path_next_node(...) NARD_AS_IS(NARD_GIVEN_B(nard_device_path_next_node, __VA_ARGS__))
-#define nard_node_number(...) NARD_AS_IS(NARD_GIVEN_B(nard_node_number, __VA_ARGS__))
-#define nard_device_path_file_path(...) NARD_AS_IS(NARD_GIVEN_BNV(nard_device_path_file_path, __VA_ARGS__))
-#define nard_device_path_text(...) NARD_AS_IS(NARD_GIVEN_BNNNV(nard_device_path_text, __VA_ARGS__))
-#define nard_node_text(...) NARD_AS_IS(NARD_GIVEN_BNNNV(nard_node_text, __VA_ARGS__))
-#define nard_load_option_read(...) NARD_AS_IS(NARD_GIVEN_B(nard_load_option_read, __VA_ARGS__))
-#define nard_device_path_begin(...) NARD_AS_IS(NARD_GIVEN_C(nard_device_path_begin, __VA_ARGS__))
-#define nard_device_path_push(...) NARD_AS_IS(NARD_GIVEN_CNNNB(nard_device_path_push, __VA_ARGS__))
-#define nard_device_path_append(...) NARD_AS_IS(NARD_GIVEN_CNB(nard_device_path_append, __VA_ARGS__))
-#define nard_device_path_push_text(...) NARD_AS_IS(NARD_GIVEN_CNB(nard_device_path_push_text, __VA_ARGS__))
-#define nard_device_path_push_lenient_text(...) NARD_AS_IS(NARD_GIVEN_CNBNC(nard_device_path_push_lenient_text, __VA_ARGS__))
-#define nard_lenient_text_fault(...) NARD_AS_IS(NARD_GIVEN_BNCNV(nard_lenient_text_fault, __VA_ARGS__))
-#define nard_load_option_write(...) NARD_AS_IS(NARD_GIVEN_NUNBNBNC(nard_load_option_write, __VA_ARGS__))
-#define nard_device_path_strip_prefix(...) NARD_AS_IS(NARD_GIVEN_BNB(nard_device_path_strip_prefix, __VA_ARGS__))
-#define nard_device_path_is_expansion(...) NARD_AS_IS(NARD_GIVEN_BNB(nard_device_path_is_expansion, __VA_ARGS__))
-#define nard_boot_name_read(...) NARD_AS_IS(NARD_GIVEN_U(nard_boot_name_read, __VA_ARGS__))
-#define nard_boot_name_write(...) NARD_AS_IS(NARD_GIVEN_NNV(nard_boot_name_write, __VA_ARGS__))
-#define nard_boot_order_read(...) NARD_AS_IS(NARD_GIVEN_B(nard_boot_order_read, __VA_ARGS__))
-#define nard_boot_order_insert(...) NARD_AS_IS(NARD_GIVEN_V(nard_boot_order_insert, __VA_ARGS__))
-#define nard_boot_order_remove(...) NARD_AS_IS(NARD_GIVEN_V(nard_boot_order_remove, __VA_ARGS__))
-#define nard_boot_order_move_to_front(...) NARD_AS_IS(NARD_GIVEN_V(nard_boot_order_move_to_front, __VA_ARGS__))
+/* Made by tools/check-header --write. */
+static inline NARD_MUST_USE nard_result NARD_CALL nard_call_string_with_nul(const nard_unit *units, nard_size count,
+        nard_size *length)
+{
+    return nard_string_with_nul(nard_given_units(units), count, length);
+}
+#define nard_string_with_nul nard_call_string_with_nul
+
+static inline NARD_MUST_USE nard_result NARD_CALL nard_call_string_until_nul(const nard_unit *units, nard_size count,
+        nard_size *length)
+{
+    return nard_string_until_nul(nard_given_units(units), count, length);
+}
+#define nard_string_until_nul nard_call_string_until_nul
+
+static inline nard_bool NARD_CALL nard_call_string_equal(const nard_unit *first, nard_size first_count, const nard_unit *second,
+        nard_size second_count)
+{
+    return nard_string_equal(nard_given_units(first), first_count, nard_given_units(second), second_count);
+}
+#define nard_string_equal nard_call_string_equal
+
+static inline nard_order NARD_CALL nard_call_string_order(const nard_unit *first, nard_size first_count,
+        const nard_unit *second, nard_size second_count)
+{
+    return nard_string_order(nard_given_units(first), first_count, nard_given_units(second), second_count);
+}
+#define nard_string_order nard_call_string_order
+
+static inline nard_bool NARD_CALL nard_call_string_is_ascii(const nard_unit *units, nard_size count)
+{
+    return nard_string_is_ascii(nard_given_units(units), count);
+}
+#define nard_string_is_ascii nard_call_string_is_ascii
+
+static inline nard_bool NARD_CALL nard_call_string_equal_ignore_case(const nard_unit *first, nard_size first_count,
+        const nard_unit *second, nard_size second_count)
+{
+    return nard_string_equal_ignore_case(nard_given_units(first), first_count, nard_given_units(second), second_count);
+}
+#define nard_string_equal_ignore_case nard_call_string_equal_ignore_case
+
+static inline nard_order NARD_CALL nard_call_string_order_ignore_case(const nard_unit *first, nard_size first_count,
+        const nard_unit *second, nard_size second_count)
+{
+    return nard_string_order_ignore_case(nard_given_units(first), first_count, nard_given_units(second), second_count);
+}
+#define nard_string_order_ignore_case nard_call_string_order_ignore_case
+
+static inline NARD_MUST_USE nard_result NARD_CALL nard_call_string_make_uppercase(nard_unit *buffer, nard_size room,
+        nard_size *length)
+{
+    return nard_string_make_uppercase(nard_given_unit_room(buffer), room, length);
+}
+#define nard_string_make_uppercase nard_call_string_make_uppercase
+
+static inline NARD_MUST_USE nard_result NARD_CALL nard_call_string_make_lowercase(nard_unit *buffer, nard_size room,
+        nard_size *length)
+{
+    return nard_string_make_lowercase(nard_given_unit_room(buffer), room, length);
+}
+#define nard_string_make_lowercase nard_call_string_make_lowercase
+
+static inline nard_bool NARD_CALL nard_call_string_matches(const nard_unit *units, nard_size count, const nard_unit *pattern,
+        nard_size pattern_count)
+{
+    return nard_string_matches(nard_given_units(units), count, nard_given_units(pattern), pattern_count);
+}
+#define nard_string_matches nard_call_string_matches
+
+static inline NARD_MUST_USE nard_result NARD_CALL nard_call_units_from_bytes(const nard_byte *bytes, nard_size byte_count,
+        nard_unit *buffer, nard_size room, nard_size *count)
+{
+    return nard_units_from_bytes(nard_given_bytes(bytes), byte_count, nard_given_unit_room(buffer), room, count);
+}
+#define nard_units_from_bytes nard_call_units_from_bytes
+
+static inline NARD_MUST_USE nard_result NARD_CALL nard_call_packed_until_nul(const nard_byte *bytes, nard_size byte_count,
+        nard_size *count)
+{
+    return nard_packed_until_nul(nard_given_bytes(bytes), byte_count, count);
+}
+#define nard_packed_until_nul nard_call_packed_until_nul
+
+static inline NARD_MUST_USE nard_result NARD_CALL nard_call_string_from_utf8(const nard_byte *bytes, nard_size byte_count,
+        nard_unit *buffer, nard_size room, nard_size *length)
+{
+    return nard_string_from_utf8(nard_given_bytes(bytes), byte_count, nard_given_unit_room(buffer), room, length);
+}
+#define nard_string_from_utf8 nard_call_string_from_utf8
+
+static inline NARD_MUST_USE nard_result NARD_CALL nard_call_utf8_from_string(const nard_unit *units, nard_size count,
+        nard_byte *bytes, nard_size room, nard_size *length)
+{
+    return nard_utf8_from_string(nard_given_units(units), count, nard_given_byte_room(bytes), room, length);
+}
+#define nard_utf8_from_string nard_call_utf8_from_string
+
+static inline NARD_MUST_USE nard_result NARD_CALL nard_call_utf8_from_units_lossy(const nard_unit *units, nard_size count,
+        nard_byte *bytes, nard_size room, nard_size *length)
+{
+    return nard_utf8_from_units_lossy(nard_given_units(units), count, nard_given_byte_room(bytes), room, length);
+}
+#define nard_utf8_from_units_lossy nard_call_utf8_from_units_lossy
+
+static inline nard_bool NARD_CALL nard_call_string_equal_until_nul(const nard_unit *units, nard_size count,
+        const nard_byte *bytes, nard_size byte_count)
+{
+    return nard_string_equal_until_nul(nard_given_units(units), count, nard_given_bytes(bytes), byte_count);
+}
+#define nard_string_equal_until_nul nard_call_string_equal_until_nul
+
+static inline nard_bool NARD_CALL nard_call_utf8_is_latin1(const nard_byte *bytes, nard_size byte_count)
+{
+    return nard_utf8_is_latin1(nard_given_bytes(bytes), byte_count);
+}
+#define nard_utf8_is_latin1 nard_call_utf8_is_latin1
+
+static inline NARD_MUST_USE nard_result NARD_CALL nard_call_path_verdict(const nard_unit *units, nard_size count,
+        nard_size *length, nard_unit *character)
+{
+    return nard_path_verdict(nard_given_units(units), count, length, character);
+}
+#define nard_path_verdict nard_call_path_verdict
+
+static inline nard_bool NARD_CALL nard_call_path_equal(const nard_unit *first, nard_size first_count, const nard_unit *second,
+        nard_size second_count)
+{
+    return nard_path_equal(nard_given_units(first), first_count, nard_given_units(second), second_count);
+}
+#define nard_path_equal nard_call_path_equal
+
+static inline nard_order NARD_CALL nard_call_path_order(const nard_unit *first, nard_size first_count, const nard_unit *second,
+        nard_size second_count)
+{
+    return nard_path_order(nard_given_units(first), first_count, nard_given_units(second), second_count);
+}
+#define nard_path_order nard_call_path_order
+
+static inline nard_bool NARD_CALL nard_call_path_equal_ignore_case(const nard_unit *first, nard_size first_count,
+        const nard_unit *second, nard_size second_count)
+{
+    return nard_path_equal_ignore_case(nard_given_units(first), first_count, nard_given_units(second), second_count);
+}
+#define nard_path_equal_ignore_case nard_call_path_equal_ignore_case
+
+static inline nard_bool NARD_CALL nard_call_path_matches(const nard_unit *path, nard_size count, const nard_unit *pattern,
+        nard_size pattern_count)
+{
+    return nard_path_matches(nard_given_units(path), count, nard_given_units(pattern), pattern_count);
+}
+#define nard_path_matches nard_call_path_matches
+
+static inline nard_bool NARD_CALL nard_call_path_next_component(const nard_unit *text, nard_size length, nard_size *place,
+        nard_size *start, nard_size *component_length)
+{
+    return nard_path_next_component(nard_given_units(text), length, place, start, component_length);
+}
+#define nard_path_next_component nard_call_path_next_component
+
+static inline nard_bool NARD_CALL nard_call_path_file_name(const nard_unit *text, nard_size length, nard_size *start)
+{
+    return nard_path_file_name(nard_given_units(text), length, start);
+}
+#define nard_path_file_name nard_call_path_file_name
+
+static inline nard_bool NARD_CALL nard_call_path_parent_length(const nard_unit *text, nard_size length,
+        nard_size *parent_length)
+{
+    return nard_path_parent_length(nard_given_units(text), length, parent_length);
+}
+#define nard_path_parent_length nard_call_path_parent_length
+
+static inline NARD_MUST_USE nard_result NARD_CALL nard_call_path_push(nard_unit *buffer, nard_size room, const nard_unit *path,
+        nard_size count, nard_size *length)
+{
+    return nard_path_push(nard_given_unit_room(buffer), room, nard_given_units(path), count, length);
+}
+#define nard_path_push nard_call_path_push
+
+static inline NARD_MUST_USE nard_result NARD_CALL nard_call_path_join(const nard_unit *path, nard_size count,
+        const nard_unit *other, nard_size other_count, nard_unit *buffer, nard_size room, nard_size *length)
+{
+    return nard_path_join(nard_given_units(path), count, nard_given_units(other), other_count, nard_given_unit_room(buffer), room, length);
+}
+#define nard_path_join nard_call_path_join
+
+static inline NARD_MUST_USE nard_result NARD_CALL nard_call_path_parent(const nard_unit *path, nard_size count,
+        nard_unit *buffer, nard_size room, nard_size *length)
+{
+    return nard_path_parent(nard_given_units(path), count, nard_given_unit_room(buffer), room, length);
+}
+#define nard_path_parent nard_call_path_parent
+
+static inline NARD_MUST_USE nard_result NARD_CALL nard_call_path_normalize(const nard_unit *path, nard_size count,
+        nard_unit *buffer, nard_size room, nard_size *length, nard_unit *character)
+{
+    return nard_path_normalize(nard_given_units(path), count, nard_given_unit_room(buffer), room, length, character);
+}
+#define nard_path_normalize nard_call_path_normalize
+
+static inline NARD_MUST_USE nard_result NARD_CALL nard_call_path_normalize_utf8(const nard_byte *bytes, nard_size byte_count,
+        nard_unit *buffer, nard_size room, nard_size *length, nard_unit *character)
+{
+    return nard_path_normalize_utf8(nard_given_bytes(bytes), byte_count, nard_given_unit_room(buffer), room, length, character);
+}
+#define nard_path_normalize_utf8 nard_call_path_normalize_utf8
+
+static inline NARD_MUST_USE nard_result NARD_CALL nard_call_fat_name_check(const nard_unit *units, nard_size count,
+        nard_size *length, nard_unit *character)
+{
+    return nard_fat_name_check(nard_given_units(units), count, length, character);
+}
+#define nard_fat_name_check nard_call_fat_name_check
+
+static inline nard_bool NARD_CALL nard_call_fat_name_equal(const nard_unit *first, nard_size first_count,
+        const nard_unit *second, nard_size second_count)
+{
+    return nard_fat_name_equal(nard_given_units(first), first_count, nard_given_units(second), second_count);
+}
+#define nard_fat_name_equal nard_call_fat_name_equal
+
+static inline nard_bool NARD_CALL nard_call_fat_name_is_short(const nard_unit *units, nard_size count)
+{
+    return nard_fat_name_is_short(nard_given_units(units), count);
+}
+#define nard_fat_name_is_short nard_call_fat_name_is_short
+
+static inline NARD_MUST_USE nard_result NARD_CALL nard_call_fat_from_string(const nard_unit *units, nard_size count,
+        nard_byte *bytes, nard_size room, nard_size *length)
+{
+    return nard_fat_from_string(nard_given_units(units), count, nard_given_byte_room(bytes), room, length);
+}
+#define nard_fat_from_string nard_call_fat_from_string
+
+static inline NARD_MUST_USE nard_result NARD_CALL nard_call_string_from_fat(const nard_byte *bytes, nard_size byte_count,
+        nard_unit *buffer, nard_size room, nard_size *length)
+{
+    return nard_string_from_fat(nard_given_bytes(bytes), byte_count, nard_given_unit_room(buffer), room, length);
+}
+#define nard_string_from_fat nard_call_string_from_fat
+
+static inline NARD_MUST_USE nard_result NARD_CALL nard_call_device_path_check(const nard_byte *bytes, nard_size byte_count,
+        nard_size *length)
+{
+    return nard_device_path_check(nard_given_bytes(bytes), byte_count, length);
+}
+#define nard_device_path_check nard_call_device_path_check
+
+static inline NARD_MUST_USE nard_result NARD_CALL nard_call_device_path_next_node(const nard_byte *bytes, nard_size byte_count,
+        nard_size *offset, struct nard_device_node *node)
+{
+    return nard_device_path_next_node(nard_given_bytes(bytes), byte_count, offset, node);
+}
+#define nard_device_path_next_node nard_call_device_path_next_node
+
+static inline NARD_MUST_USE nard_result NARD_CALL nard_call_node_number(const nard_byte *content, nard_size byte_count,
+        nard_size place, nard_size width, nard_number *number)
+{
+    return nard_node_number(nard_given_bytes(content), byte_count, place, width, number);
+}
+#define nard_node_number nard_call_node_number
+
+static inline NARD_MUST_USE nard_result NARD_CALL nard_call_device_path_file_path(const nard_byte *bytes, nard_size byte_count,
+        nard_unit *buffer, nard_size room, nard_size *length)
+{
+    return nard_device_path_file_path(nard_given_bytes(bytes), byte_count, nard_given_unit_room(buffer), room, length);
+}
+#define nard_device_path_file_path nard_call_device_path_file_path
+
+static inline NARD_MUST_USE nard_result NARD_CALL nard_call_device_path_text(const nard_byte *bytes, nard_size byte_count,
+        nard_bool display_only, nard_bool allow_shortcuts, nard_unit *buffer, nard_size room, nard_size *length)
+{
+    return nard_device_path_text(nard_given_bytes(bytes), byte_count, display_only, allow_shortcuts, nard_given_unit_room(buffer), room, length);
+}
+#define nard_device_path_text nard_call_device_path_text
+
+static inline NARD_MUST_USE nard_result NARD_CALL nard_call_node_text(const nard_byte *bytes, nard_size byte_count,
+        nard_bool display_only, nard_bool allow_shortcuts, nard_unit *buffer, nard_size room, nard_size *length)
+{
+    return nard_node_text(nard_given_bytes(bytes), byte_count, display_only, allow_shortcuts, nard_given_unit_room(buffer), room, length);
+}
+#define nard_node_text nard_call_node_text
+
+static inline NARD_MUST_USE nard_result NARD_CALL nard_call_load_option_read(const nard_byte *bytes, nard_size byte_count,
+        struct nard_load_option *option, nard_size *offset)
+{
+    return nard_load_option_read(nard_given_bytes(bytes), byte_count, option, offset);
+}
+#define nard_load_option_read nard_call_load_option_read
+
+static inline NARD_MUST_USE nard_result NARD_CALL nard_call_device_path_begin(nard_byte *buffer, nard_size room,
+        nard_size *length)
+{
+    return nard_device_path_begin(nard_given_byte_room(buffer), room, length);
+}
+#define nard_device_path_begin nard_call_device_path_begin
+
+static inline NARD_MUST_USE nard_result NARD_CALL nard_call_device_path_push(nard_byte *buffer, nard_size room,
+        nard_byte device_type, nard_byte sub_type, const nard_byte *content, nard_size byte_count, nard_size *length)
+{
+    return nard_device_path_push(nard_given_byte_room(buffer), room, device_type, sub_type, nard_given_bytes(content), byte_count, length);
+}
+#define nard_device_path_push nard_call_device_path_push
+
+static inline NARD_MUST_USE nard_result NARD_CALL nard_call_device_path_append(nard_byte *buffer, nard_size room,
+        const nard_byte *bytes, nard_size byte_count, nard_size *length)
+{
+    return nard_device_path_append(nard_given_byte_room(buffer), room, nard_given_bytes(bytes), byte_count, length);
+}
+#define nard_device_path_append nard_call_device_path_append
+
+static inline NARD_MUST_USE nard_result NARD_CALL nard_call_device_path_push_text(nard_byte *buffer, nard_size room,
+        const nard_byte *bytes, nard_size byte_count, nard_size *length)
+{
+    return nard_device_path_push_text(nard_given_byte_room(buffer), room, nard_given_bytes(bytes), byte_count, length);
+}
+#define nard_device_path_push_text nard_call_device_path_push_text
+
+static inline NARD_MUST_USE nard_result NARD_CALL nard_call_device_path_push_lenient_text(nard_byte *buffer, nard_size room,
+        const nard_byte *bytes, nard_size byte_count, nard_byte *scratch, nard_size scratch_room, nard_size *length)
+{
+    return nard_device_path_push_lenient_text(nard_given_byte_room(buffer), room, nard_given_bytes(bytes), byte_count, nard_given_byte_room(scratch), scratch_room, length);
+}
+#define nard_device_path_push_lenient_text nard_call_device_path_push_lenient_text
+
+static inline NARD_MUST_USE nard_result NARD_CALL nard_call_lenient_text_fault(const nard_byte *bytes, nard_size byte_count,
+        nard_byte *scratch, nard_size scratch_room, nard_unit *buffer, nard_size room, nard_size *length)
+{
+    return nard_lenient_text_fault(nard_given_bytes(bytes), byte_count, nard_given_byte_room(scratch), scratch_room, nard_given_unit_room(buffer), room, length);
+}
+#define nard_lenient_text_fault nard_call_lenient_text_fault
+
+static inline NARD_MUST_USE nard_result NARD_CALL nard_call_load_option_write(nard_size attributes,
+        const nard_unit *description, nard_size count, const nard_byte *bytes, nard_size byte_count, const nard_byte *optional,
+        nard_size optional_count, nard_byte *buffer, nard_size room, nard_size *length)
+{
+    return nard_load_option_write(attributes, nard_given_units(description), count, nard_given_bytes(bytes), byte_count, nard_given_bytes(optional), optional_count, nard_given_byte_room(buffer), room, length);
+}
+#define nard_load_option_write nard_call_load_option_write
+
+static inline nard_bool NARD_CALL nard_call_device_path_strip_prefix(const nard_byte *bytes, nard_size byte_count,
+        const nard_byte *prefix, nard_size prefix_count, nard_size *offset)
+{
+    return nard_device_path_strip_prefix(nard_given_bytes(bytes), byte_count, nard_given_bytes(prefix), prefix_count, offset);
+}
+#define nard_device_path_strip_prefix nard_call_device_path_strip_prefix
+
+static inline nard_bool NARD_CALL nard_call_device_path_is_expansion(const nard_byte *bytes, nard_size byte_count,
+        const nard_byte *form, nard_size form_count)
+{
+    return nard_device_path_is_expansion(nard_given_bytes(bytes), byte_count, nard_given_bytes(form), form_count);
+}
+#define nard_device_path_is_expansion nard_call_device_path_is_expansion
+
+static inline NARD_MUST_USE nard_result NARD_CALL nard_call_boot_name_read(const nard_unit *units, nard_size count,
+        nard_byte *kind, nard_unit *number)
+{
+    return nard_boot_name_read(nard_given_units(units), count, kind, number);
+}
+#define nard_boot_name_read nard_call_boot_name_read
+
+static inline NARD_MUST_USE nard_result NARD_CALL nard_call_boot_name_write(nard_byte kind, nard_unit number, nard_unit *buffer,
+        nard_size room, nard_size *length)
+{
+    return nard_boot_name_write(kind, number, nard_given_unit_room(buffer), room, length);
+}
+#define nard_boot_name_write nard_call_boot_name_write
+
+static inline NARD_MUST_USE nard_result NARD_CALL nard_call_boot_order_read(const nard_byte *bytes, nard_size byte_count,
+        nard_size place, nard_unit *number)
+{
+    return nard_boot_order_read(nard_given_bytes(bytes), byte_count, place, number);
+}
+#define nard_boot_order_read nard_call_boot_order_read
+
+static inline NARD_MUST_USE nard_result NARD_CALL nard_call_boot_order_insert(nard_unit *order, nard_size room,
+        nard_size *count, nard_size place, nard_unit number)
+{
+    return nard_boot_order_insert(nard_given_unit_room(order), room, count, place, number);
+}
+#define nard_boot_order_insert nard_call_boot_order_insert
+
+static inline nard_bool NARD_CALL nard_call_boot_order_remove(nard_unit *order, nard_size room, nard_size *count,
+        nard_unit number)
+{
+    return nard_boot_order_remove(nard_given_unit_room(order), room, count, number);
+}
+#define nard_boot_order_remove nard_call_boot_order_remove
+
+static inline nard_bool NARD_CALL nard_call_boot_order_move_to_front(nard_unit *order, nard_size room, nard_size *count,
+        nard_unit number)
+{
+    return nard_boot_order_move_to_front(nard_given_unit_room(order), room, count, number);
+}
+#define nard_boot_order_move_to_front nard_call_boot_order_move_to_front
 
 #ifdef __cplusplus
 }

@@ -2,7 +2,8 @@
  * nardcorbel_nodes.h - where the fields of device path nodes lie (UEFI Specification 2.10, section 10.3)
  *
  * Made by include/make-nodes from the contracts of the views. A kind of node is its type and its sub-type. A field is the place
- * of its first byte in the data of the node, and how many bytes it has, or 0 for all that follow:
+ * of its first byte in the data of the node, and how many bytes it has, or 0 for all that follow. Of a list of numbers, it is
+ * the first. A part whose place depends on the bytes before it is no field.
  *
  *     nard_number start;
  *     if (NARD_IS(node, NARD_HARD_DRIVE) &&
@@ -16,13 +17,14 @@
 #ifndef NARDCORBEL_NODES_H
 #define NARDCORBEL_NODES_H
 
+#define NARD_AS_IS_(macro) macro
 #define NARD_FIRST_(first, second) (first)
 #define NARD_SECOND_(first, second) (second)
-/* The place of a field, and how many bytes it has. */
-#define NARD_PLACE(field) NARD_FIRST_(field)
-#define NARD_WIDTH(field) NARD_SECOND_(field)
-/* Whether a struct nard_device_node is of a kind. */
-#define NARD_IS(node, kind) ((node).device_type == NARD_FIRST_(kind) && (node).sub_type == NARD_SECOND_(kind))
+/* NARD_PLACE(field) and NARD_WIDTH(field): the place of a field, and how many bytes it has. */
+#define NARD_PLACE(...) NARD_AS_IS_(NARD_FIRST_(__VA_ARGS__))
+#define NARD_WIDTH(...) NARD_AS_IS_(NARD_SECOND_(__VA_ARGS__))
+/* NARD_IS(node, kind): whether a struct nard_device_node is of a kind. */
+#define NARD_IS(node, ...) ((node).device_type == NARD_PLACE(__VA_ARGS__) && (node).sub_type == NARD_WIDTH(__VA_ARGS__))
 
 #define NARD_PCI 1, 1
 #define NARD_PCI_FUNCTION 0, 1
@@ -56,11 +58,9 @@
 #define NARD_EXPANDED_UID 4, 4
 #define NARD_EXPANDED_CID 8, 4
 #define NARD_EXPANDED_ID_STRINGS 12, 0
-#define NARD_EXPANDED_HID_STR 12, 0
-#define NARD_EXPANDED_UID_STR 12, 0
-#define NARD_EXPANDED_CID_STR 12, 0
 
 #define NARD_ADR 2, 3
+#define NARD_ADR_ADR 0, 4
 
 #define NARD_NVDIMM 2, 4
 #define NARD_NVDIMM_NFIT_DEVICE_HANDLE 0, 4

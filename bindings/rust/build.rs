@@ -8,9 +8,9 @@ fn main() {
     println!("cargo:rerun-if-env-changed=NARDCORBEL_LIB_DIR");
     let of = |name: &str| env::var(name).unwrap_or_default();
     let (processor, system) = (of("CARGO_CFG_TARGET_ARCH"), of("CARGO_CFG_TARGET_OS"));
-    let (library, file) = match system.as_str() {
-        "uefi" => ("nardcorbel_firmware", "nardcorbel_firmware.lib"),
-        _ => ("nardcorbel", "libnardcorbel.a"),
+    let file = match system.as_str() {
+        "uefi" => "nardcorbel_firmware.lib",
+        _ => "libnardcorbel.a",
     };
     let top = Path::new(&of("CARGO_MANIFEST_DIR")).join("../../..");
     let repository = Path::new(&of("CARGO_MANIFEST_DIR")).join("../../crates/nardcorbel/out");
@@ -34,5 +34,9 @@ fn main() {
             "there is no {file} in {folders:?}: set NARDCORBEL_LIB_DIR to the folder that has it"
         ),
     }
-    println!("cargo:rustc-link-lib=static={library}");
+    // On targets of UEFI rustc looks for libNAME.a, so the file has its whole name.
+    match system.as_str() {
+        "uefi" => println!("cargo:rustc-link-lib=static:+verbatim={file}"),
+        _ => println!("cargo:rustc-link-lib=static=nardcorbel"),
+    }
 }

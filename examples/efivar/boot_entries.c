@@ -96,8 +96,8 @@ static bool print_entry(const char *folder, const char *name)
         return false;
     }
     printf("%s%c ", name, option.attributes & ACTIVE ? '*' : ' ');
-    (void)nard_units_from_bytes(entry + option.description_start, 2 * option.description_length, shown, MOST_SHOWN, &length);
-    print_shown(length);
+    reason = nard_units_from_bytes(entry + option.description_start, 2 * option.description_length, shown, MOST_SHOWN, &length);
+    print_shown(reason == NARD_OK ? length : 0);
     printf("\t");
     reason = nard_device_path_text(entry + option.list_start, option.path_length, false, false, shown, MOST_SHOWN, &length);
     if (reason == NARD_OK)

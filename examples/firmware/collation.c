@@ -63,7 +63,8 @@ static void make_signed(uint16_t *to, const uint16_t *text)
     size_t place = 0, length = length_of(text);
     for (size_t i = 0; i <= length; i++)
         to[i] = text[i];
-    nard_string_make_uppercase(to, length + 1, &place);
+    if (nard_string_make_uppercase(to, length + 1, &place) != NARD_OK)
+        return;
     for (size_t i = 0; i < length; i++)
         to[i] = 0x80 <= text[i] && text[i] <= 0xff ? (uint16_t)(to[i] | 0xff00) : text[i];
 }
@@ -124,13 +125,10 @@ static void compare_cases(bool is_upper)
     for (uint32_t unit = 0; unit <= 0xffff; unit++) {
         uint16_t ours[2] = {(uint16_t)unit, 0}, theirs[2] = {(uint16_t)unit, 0}, as_signed[2] = {0, 0};
         size_t place = 0;
-        if (is_upper) {
-            nard_string_make_uppercase(ours, 2, &place);
-            firmware->StrUpr(firmware, theirs);
-        } else {
-            nard_string_make_lowercase(ours, 2, &place);
-            firmware->StrLwr(firmware, theirs);
-        }
+        nard_result reason = is_upper ? nard_string_make_uppercase(ours, 2, &place) : nard_string_make_lowercase(ours, 2, &place);
+        if (reason != NARD_OK)
+            ours[0] = (uint16_t)unit;
+        (is_upper ? firmware->StrUpr : firmware->StrLwr)(firmware, theirs);
         as_signed[0] = 0x80 <= unit && unit <= 0xff ? (uint16_t)(ours[0] | 0xff00) : ours[0];
         count(&counts, theirs[0], ours[0], as_signed[0], false, ours, theirs);
     }
@@ -257,7 +255,8 @@ static void compare_names_of_bytes(void)
         bool is_same = true, is_signed = true;
         for (size_t k = 0; k < MOST; k++)
             name[k] = bytes[next_number(sizeof bytes)];
-        nard_string_from_fat(name, size, ours, MOST + 1, &place);
+        if (nard_string_from_fat(name, size, ours, MOST + 1, &place) != NARD_OK)
+            ours[0] = 0xffff;
         firmware->FatToStr(firmware, size, (CHAR8 *)name, theirs);
         for (size_t k = 0; k <= MOST; k++) {
             as_signed[k] = 0x80 <= ours[k] ? (uint16_t)(ours[k] | 0xff00) : ours[k];

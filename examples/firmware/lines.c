@@ -40,8 +40,8 @@ void lines_put_name(uint16_t number)
 {
     uint16_t name[9] = {0};
     size_t length = 0;
-    (void)nard_boot_name_write(NARD_BOOT, number, name, 9, &length);
-    lines_put_units(name, length);
+    if (nard_boot_name_write(NARD_BOOT, number, name, 9, &length) == NARD_OK)
+        lines_put_units(name, length);
 }
 
 static void put_fault(struct reader_fault fault)

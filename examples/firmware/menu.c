@@ -65,8 +65,8 @@ static EFI_STATUS read_entry(uint16_t number, size_t *size)
 {
     uint16_t name[MOST_NAME];
     size_t length = 0;
-    (void)nard_boot_name_write(NARD_BOOT, number, name, MOST_NAME, &length);
-    return read_variable(name, variable, sizeof variable, size);
+    nard_result reason = nard_boot_name_write(NARD_BOOT, number, name, MOST_NAME, &length);
+    return reason == NARD_OK ? read_variable(name, variable, sizeof variable, size) : NARD_EFI_STATUS(reason);
 }
 
 /* The device path of a handle, and how many bytes it has, which the firmware says. */

@@ -14,8 +14,9 @@ static bool refuse(struct reader *reader, size_t offset, const char *part, const
 static void read_description(struct reader *reader, size_t length)
 {
     size_t count = 0, place = 0;
-    (void)nard_units_from_bytes(reader->bytes + HEAD, 2 * (length + 1), reader->description, READER_MOST_UNITS, &count);
-    uint32_t reason = nard_string_with_nul(reader->description, count, &place);
+    uint32_t reason = nard_units_from_bytes(reader->bytes + HEAD, 2 * (length + 1), reader->description, READER_MOST_UNITS, &count);
+    if (reason == NARD_OK)
+        reason = nard_string_with_nul(reader->description, count, &place);
     if (reason != NARD_OK)
         reader->description_fault = (struct reader_fault){HEAD + 2 * place, "description: ", nard_reason_text(reason)};
     reader->description_length = length;
@@ -34,10 +35,9 @@ bool reader_begin(struct reader *reader, const uint8_t *bytes, size_t size)
     if (READER_MOST_BYTES < size)
         return refuse(reader, READER_MOST_BYTES, "", "the entry is too long");
     uint32_t reason = nard_load_option_read(bytes, size, &option, &place);
-    if (reason == NARD_OPTION_TOO_SHORT || reason == NARD_DESCRIPTION_WITHOUT_END)
+    if (reason == NARD_OPTION_TOO_SHORT || nard_packed_until_nul(bytes + HEAD, size - HEAD, &length) != NARD_OK)
         return refuse(reader, place, "", nard_reason_text(reason));
     /* All else that is refused stands after the description, or says where the list after it ends. */
-    (void)nard_packed_until_nul(bytes + HEAD, size - HEAD, &length);
     read_description(reader, length);
     reader->is_active = (bytes[0] & ACTIVE) != 0;
     if (reason == NARD_LIST_BEYOND_END)

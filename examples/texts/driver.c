@@ -27,14 +27,14 @@ int main(void)
     uint32_t size;
     while (fread(&size, sizeof size, 1, stdin) == 1) {
         nard_size place = 0, end = 0;
-        if (size > MOST || fread(text, 1, size, stdin) != size)
+        if (size > MOST || fread(text, 1, size, stdin) != size || nard_device_path_begin(path, ROOM, &end) != NARD_OK)
             return 1;
-        nard_device_path_begin(path, ROOM, &end);
         /* Without room for any node, and then with exactly as much as the call asks for. */
         nard_result reason = nard_device_path_push_text(path, end, text, size, &place);
         if (reason == NARD_BUFFER_TOO_SMALL && place <= ROOM)
             reason = nard_device_path_push_text(path, place, text, size, &place);
-        nard_device_path_check(path, ROOM, &end);
+        if (nard_device_path_check(path, ROOM, &end) != NARD_OK)
+            return 1;
         printf("%u %zu %d ", (unsigned)reason, place, reason == NARD_OK && is_text_of(end, size));
         for (nard_size i = 0; i < end; i++)
             printf("%02x", path[i]);
