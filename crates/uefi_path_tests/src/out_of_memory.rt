@@ -2,7 +2,7 @@
 //! gives what ample memory gives. A call on a buffer asks the buffer's own allocator. All calls stand in
 //! one table, and no call gives up on a path of 150,000 characters.
 
-use for_tests::{Refusing, is_answered, out_of_memory, repeated, requests, string};
+use for_tests::{Refusing, has_text, is_answered, out_of_memory, repeated, requests, string};
 use std::alloc::{AllocError, Global};
 use std::test::Fail;
 use uefi_path::{CountedUnits, NormalizeError, Path, PathBuf, PathError};
@@ -184,6 +184,27 @@ fn requests_of_each_call(rt: HostRuntime) -> Result<(), Fail> {
         let wrong = find_wrong(&rt, ROWS, size)?;
         assert!(rt; wrong.is_none(), "{size}: {wrong:?}");
     }
+    Ok(())
+}
+
+/// Whether the path of `a/b` is made, or the string comes back with its slash.
+fn replaces_or_keeps(heap: &Refusing<Global>, text: CStr16<'_>) -> Result<bool, AllocError> {
+    let taken = CString16::from_cstr16(heap, text)?;
+    match PathBuf::new_from_cstring16(heap, taken) {
+        Ok(path) => Ok(has_text(path.to_cstr16(), r"a\b")),
+        Err(kept) => out_of_memory(has_text(kept.as_cstr16(), "a/b")),
+    }
+}
+
+#[test]
+fn slashes_after_a_refusal(rt: HostRuntime) -> Result<(), Fail> {
+    let text = string(rt.alloc(), "a/b")?;
+    let asked = requests(
+        rt.alloc(),
+        1,
+        |heap| replaces_or_keeps(heap, text.as_cstr16()),
+    )?;
+    assert!(rt; asked == 1);
     Ok(())
 }
 
