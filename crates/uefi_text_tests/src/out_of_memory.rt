@@ -122,10 +122,16 @@ enum Change {
     WriteStr,
     Extend,
     ExtendByNone,
+    ExtendByText,
 }
 
 /// Whether a string is changed, or memory ran out.
-fn changes(change: Change, heap: &Refusing<Global>, part: CStr16<'_>) -> Result<bool, AllocError> {
+fn changes(
+    change: Change,
+    heap: &Refusing<Global>,
+    part: CStr16<'_>,
+    rust: &str,
+) -> Result<bool, AllocError> {
     let mut text = filled(heap, part)?;
     let Ok(c) = Char16::try_from('c') else {
         return Ok(false);
@@ -151,9 +157,10 @@ fn changes(change: Change, heap: &Refusing<Global>, part: CStr16<'_>) -> Result<
             text.push(c)?;
             text.push(c)?;
         }
-        Change::WriteStr => return text.write_str("Boot").map(|_| true).map_err(|_| AllocError),
+        Change::WriteStr => return text.write_str(rust).map(|_| true).map_err(|_| AllocError),
         Change::Extend => text.extend(iter::repeat_n(c, 64))?,
         Change::ExtendByNone => text.extend(iter::repeat_n(c, 0))?,
+        Change::ExtendByText => text.extend(part.iter())?,
     }
     Ok(true)
 }
@@ -170,6 +177,7 @@ const CHANGES: &[(Change, u64, u64)] = &[
     (Change::WriteStr, 1, 1),
     (Change::Extend, 1, 96),
     (Change::ExtendByNone, 0, 0),
+    (Change::ExtendByText, 1, 2),
 ];
 
 /// Whether the bytes of a text are added to a list of one byte, with this much room, or memory ran out.
@@ -206,7 +214,7 @@ fn is_counted(rt: &HostRuntime, rust: &str) -> Result<bool, Fail> {
     let bytes = part.as_bytes(rt.alloc())?;
     let list = characters(rt, part.to_u16_slice_with_nul())?;
     for (change, least, most) in CHANGES {
-        let count = requests(rt.alloc(), 1, |heap| changes(*change, heap, part))?;
+        let count = requests(rt.alloc(), 1, |heap| changes(*change, heap, part, rust))?;
         if count < *least || *most < count {
             return Ok(false);
         }
