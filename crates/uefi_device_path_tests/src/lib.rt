@@ -12,6 +12,8 @@ mod checked_nodes;
 #[cfg(test)]
 mod entries;
 #[cfg(test)]
+mod errors;
+#[cfg(test)]
 mod file_path;
 #[cfg(test)]
 mod guid;

@@ -49,6 +49,41 @@ fn fields(rt: HostRuntime) -> Result<(), Fail> {
     Ok(())
 }
 
+/// Attributes of one bit, and what they say: active, force reconnect, hidden, and the category.
+const ATTRIBUTES: &[(u32, bool, bool, bool, u32)] = &[
+    (0x1, true, false, false, 0),
+    (0x2, false, true, false, 0),
+    (0x4, false, false, false, 0),
+    (0x8, false, false, true, 0),
+    (0x10, false, false, false, 0),
+    (0x80, false, false, false, 0),
+    (0x100, false, false, false, 1),
+    (0x200, false, false, false, 2),
+    (0x400, false, false, false, 4),
+    (0x800, false, false, false, 8),
+    (0x1000, false, false, false, 0x10),
+    (0x2000, false, false, false, 0),
+    (0x8000_0000, false, false, false, 0),
+];
+
+#[test]
+fn attributes_of_one_bit(rt: HostRuntime) -> Result<(), Fail> {
+    for (attributes, active, reconnect, hidden, category) in ATTRIBUTES {
+        let mut entry = bytes(rt.alloc(), "00000000040000007fff0400")?;
+        entry[..4].copy_from_slice(&attributes.to_le_bytes());
+        let option = LoadOption::from_bytes(&entry)?;
+        let is_right = option.is_active() == *active
+            && option.is_force_reconnect() == *reconnect
+            && option.is_hidden() == *hidden
+            && option.category() == *category;
+        assert!(rt;
+            is_right && option.attributes() == *attributes,
+            "{attributes:x}"
+        );
+    }
+    Ok(())
+}
+
 /// An entry in hexadecimal, and what is well in it: attributes, how many units the description has with its
 /// NUL, each whole device path, the nodes before the fault; the fault, and where it is.
 const PARTS: &str = " the load option ends before its description at offset 0

@@ -2,11 +2,11 @@
 //! refused in turn; and long ones, with ample memory.
 
 use crate::option_builder::END;
-use for_tests::{Refusing, is_answered, repeated, requests};
+use for_tests::{Refusing, is_answered, out_of_memory, repeated, requests};
 use std::alloc::{AllocError, Global};
 use std::test::Fail;
 use uefi_device_path::{
-    BuildError, DevicePath, DevicePathBuf, DeviceSubType, DeviceType, FilePathCause,
+    BuildError, DevicePath, DevicePathBuf, DeviceSubType, DeviceType, FilePathCause, FilePathError,
     LenientTextError, LoadOption, LoadOptionBuilder, OptionBuildError, PathTextError,
 };
 use uefi_path::Path;
@@ -19,8 +19,14 @@ enum Call<'a> {
     Push(usize, &'a [u8]),
     /// The name of a file.
     PushFile(&'a [u16]),
+    /// A device path, and another that is added to it.
+    Append(&'a [u8], &'a [u8]),
+    /// The same twice, the second time in the room that is left.
+    AppendTwice(&'a [u8], &'a [u8]),
     /// A device path.
     FilePath(&'a [u8]),
+    /// The first instance of a device path.
+    InstanceFilePath(&'a [u8]),
     FromText(&'a str),
     FromLenientText(&'a str),
     /// A text that is refused at a place.
@@ -52,14 +58,54 @@ fn names(heap: &Refusing<Global>, name: &[u16]) -> Result<bool, AllocError> {
     }
 }
 
-/// Whether a path has a file path, or memory ran out.
-fn has_name(heap: &Refusing<Global>, bytes: &[u8]) -> Result<bool, AllocError> {
-    match DevicePath::from_bytes(bytes) {
-        Ok(path) => match path.file_path(heap) {
-            Ok(_) => Ok(true),
-            Err(error) => is_answered(Err::<(), _>(error.cause), FilePathCause::OutOfMemory),
-        },
-        Err(_) => Ok(false),
+/// Whether a path is added to another, or is unchanged where memory ran out.
+fn appends(
+    heap: &Refusing<Global>,
+    start: &[u8],
+    added: &[u8],
+    times: usize,
+) -> Result<bool, AllocError> {
+    let (Ok(start), Ok(added)) = (DevicePath::from_bytes(start), DevicePath::from_bytes(added))
+    else {
+        return Ok(false);
+    };
+    let mut path = DevicePathBuf::new(heap)?;
+    if !is_answered(path.append(start), BuildError::OutOfMemory)? {
+        return Ok(false);
+    }
+    for _ in 0..times {
+        let len = path.as_device_path().as_bytes().len();
+        let answer = path.append(added);
+        let grown = path.as_device_path().as_bytes().len().saturating_sub(len);
+        if answer.is_err() {
+            return out_of_memory(answer == Err(BuildError::OutOfMemory) && grown == 0);
+        }
+        if grown.saturating_add(4) != added.as_bytes().len() {
+            return Ok(false);
+        }
+    }
+    Ok(true)
+}
+
+/// Whether nodes have a file path, or memory ran out.
+fn is_named<T: Drop>(answer: Result<T, FilePathError>) -> Result<bool, AllocError> {
+    match answer {
+        Ok(_) => Ok(true),
+        Err(error) => out_of_memory(error.cause == FilePathCause::OutOfMemory),
+    }
+}
+
+/// Whether a path has a file path, or its first instance, or memory ran out.
+fn has_name(heap: &Refusing<Global>, bytes: &[u8], is_instance: bool) -> Result<bool, AllocError> {
+    let Ok(path) = DevicePath::from_bytes(bytes) else {
+        return Ok(false);
+    };
+    if !is_instance {
+        return is_named(path.file_path(heap));
+    }
+    match path.instance_iter().next() {
+        Some(instance) => is_named(instance.file_path(heap)),
+        None => Ok(false),
     }
 }
 
@@ -80,7 +126,10 @@ fn answers(call: Call<'_>, heap: &Refusing<Global>) -> Result<bool, AllocError> 
     match call {
         Call::Push(count, data) => builds(heap, count, data),
         Call::PushFile(name) => names(heap, name),
-        Call::FilePath(bytes) => has_name(heap, bytes),
+        Call::Append(start, added) => appends(heap, start, added, 1),
+        Call::AppendTwice(start, added) => appends(heap, start, added, 2),
+        Call::FilePath(bytes) => has_name(heap, bytes, false),
+        Call::InstanceFilePath(bytes) => has_name(heap, bytes, true),
         Call::FromText(text) => is_answered(
             DevicePathBuf::from_text(heap, text),
             PathTextError::OutOfMemory,
@@ -116,6 +165,7 @@ const ROWS: &[(Call<'static>, u64)] = &[
     (Call::PushFile(&[0x61, 0]), 2),
     (Call::PushFile(&[0]), 2),
     (Call::FilePath(NAMED), 1),
+    (Call::InstanceFilePath(NAMED), 1),
     (Call::FromText(""), 1),
     (Call::FromText("PciRoot(0x0)/Pci(0x1F,0x2)"), 1),
     (Call::FromText("USB(0x1,0x0),,\\a"), 1),
@@ -164,6 +214,8 @@ const FILE_PATHS: &[(u64, u64, &str, u64)] = &[
     (60, 30, "\\", 2),
     (400, 4, "", 2),
     (2, 16_000, "\\", 2),
+    (1, 32_764, "", 1),
+    (4, 25_000, "\\", 2),
 ];
 
 #[test]
@@ -176,8 +228,10 @@ fn file_paths_of_each_size(rt: HostRuntime) -> Result<(), Fail> {
             path.push(DeviceType::MEDIA, DeviceSubType::MEDIA_FILE_PATH, &data)?;
         }
         let bytes = path.as_device_path().as_bytes();
-        let count = requests(rt.alloc(), 0, |heap| has_name(heap, bytes))?;
-        assert_eq!(rt; count, *wanted, "{nodes} {characters} {front}");
+        for call in [Call::FilePath(bytes), Call::InstanceFilePath(bytes)] {
+            let count = requests(rt.alloc(), 0, |heap| answers(call, heap))?;
+            assert_eq!(rt; count, *wanted, "{nodes} {characters} {front}");
+        }
     }
     Ok(())
 }
@@ -203,6 +257,10 @@ const TEXTS: &[(bool, &str, &str, u64, &str)] = &[
     (false, "file(", "é", 300, ")"),
     (false, "", "中", 300, ""),
     (false, "usb(1,0)", ",usb(1)", 2, "/a"),
+    (false, "pci(0,0)", "/pci(31,7)", 300, ""),
+    (false, "pci(0,0)", "/pci(31,7)", 10_000, ""),
+    (false, "path(3,99,", "0f", 65_531, ")"),
+    (false, "file(", "中", 32_763, ")"),
 ];
 
 /// A printed text takes one request, and one as people write it two: for a copy and for the path.
@@ -223,7 +281,15 @@ fn texts_of_each_size(rt: HostRuntime) -> Result<(), Fail> {
 }
 
 /// How often a description has a character, and how many bytes of optional data follow the path.
-const DESCRIPTIONS: &[(u64, usize)] = &[(0, 0), (1, 136), (300, 0), (300, 136), (1000, 5000)];
+const DESCRIPTIONS: &[(u64, usize)] = &[
+    (0, 0),
+    (1, 136),
+    (300, 0),
+    (300, 136),
+    (1000, 5000),
+    (100_000, 0),
+    (1, 100_000),
+];
 
 /// Whether the calls on an option with this description make one request for a string, which no pair of
 /// surrogates is, and two or more for a text that is not empty.
@@ -271,9 +337,68 @@ fn options_of_each_size(rt: HostRuntime) -> Result<(), Fail> {
         (300, 400, 0),
         (1000, 5461, 5000),
         (100_000, 1, 0),
+        (0, 1, 100_000),
     ] {
         let is_right = is_written(&rt, len, paths, optional)?;
         assert!(rt; is_right, "{len} {paths} {optional}");
+    }
+    Ok(())
+}
+
+/// How many nodes two paths have of six bytes each, and how many requests it takes to make the first, to add
+/// the second to it, and to add that once more.
+const APPENDED: &[(usize, usize, u64, u64)] = &[
+    (0, 0, 1, 1),
+    (0, 1, 2, 3),
+    (1, 0, 2, 2),
+    (1, 1, 3, 4),
+    (10, 1, 3, 3),
+    (10, 20, 3, 4),
+    (1, 300, 3, 4),
+    (17_000, 1, 3, 3),
+    (1, 17_000, 3, 4),
+    (17_000, 17_000, 3, 4),
+];
+
+#[test]
+fn appended_paths(rt: HostRuntime) -> Result<(), Fail> {
+    for (first, second, once, twice) in APPENDED {
+        let (mut start, mut added) = (Vec::new(rt.alloc()), Vec::new(rt.alloc()));
+        for _ in 0..*first {
+            start.extend_from_slice(&[1, 1, 6, 0, 0, 0x1f])?;
+        }
+        for _ in 0..*second {
+            added.extend_from_slice(&[1, 1, 6, 0, 7, 0])?;
+        }
+        start.extend_from_slice(END)?;
+        added.extend_from_slice(END)?;
+        let append = Call::Append(&start, &added);
+        assert_eq!(rt;
+            requests(rt.alloc(), 0, |heap| answers(append, heap))?,
+            *once,
+            "{first}, {second}"
+        );
+        let append = Call::AppendTwice(&start, &added);
+        assert_eq!(rt;
+            requests(rt.alloc(), 0, |heap| answers(append, heap))?,
+            *twice,
+            "{first}, {second}"
+        );
+    }
+    Ok(())
+}
+
+/// How often a name has a character.
+const NAMES: [u64; 6] = [0, 1, 300, 1000, 5000, 32_764];
+
+/// A node that names a file asks once, after the path without nodes.
+#[test]
+fn names_of_each_size(rt: HostRuntime) -> Result<(), Fail> {
+    for count in NAMES {
+        let mut name = vec![in rt.alloc(); 0xe9u16; count as usize]?;
+        name.push(0)?;
+        let asked = requests(rt.alloc(), 0, |heap| answers(Call::PushFile(&name), heap))?;
+        assert_eq!(rt; asked, 2, "{count}");
     }
     Ok(())
 }

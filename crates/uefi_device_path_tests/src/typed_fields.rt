@@ -271,6 +271,29 @@ fn least_lengths_of_views(rt: HostRuntime) -> Result<(), Fail> {
     Ok(())
 }
 
+/// How many bytes of addresses follow the type of those of a domain name server, and how many addresses.
+const SERVERS: &[(u8, usize)] = &[(0, 0), (15, 0), (16, 1), (31, 1), (32, 2), (48, 3)];
+
+#[test]
+fn addresses_of_servers(rt: HostRuntime) -> Result<(), Fail> {
+    for (len, count) in SERVERS {
+        let bytes = node_bytes(3, 31, len.saturating_add(1));
+        let Ok(Kind::MessagingDns(it)) = DevicePathNode::split_first(&bytes)?.0.as_enum() else {
+            return Err("a view".into());
+        };
+        assert!(rt;
+            it.address_count() == *count && it.address(*count).is_none(),
+            "{len}"
+        );
+        for place in 0..*count {
+            let first = place as u8 % 8 * 16 + 2;
+            let is_right = matches!(it.address(place), Some(address) if are_data(&address, first));
+            assert!(rt; is_right, "{len}, {place}");
+        }
+    }
+    Ok(())
+}
+
 /// Types and sub-types that no kind has, a byte each.
 const UNSUPPORTED: [u16; 13] = [
     0x0001, 0x0100, 0x0107, 0x0205, 0x0300, 0x0307, 0x0308, 0x0323, 0x0400, 0x040a, 0x0502, 0x0601,

@@ -17,6 +17,8 @@ mod parents;
 #[cfg(test)]
 mod pathbuf;
 #[cfg(test)]
+mod separators;
+#[cfg(test)]
 mod validation;
 #[cfg(test)]
 mod written;

@@ -13,6 +13,13 @@ use uefi_text::{CStr16, Char16Slice};
 
 /// Two paths, how they compare, and how their buffers do, in which each slash is replaced.
 const ORDERS: &[(&str, &str, Ordering, Ordering)] = &[
+    ("", r"\", Equal, Equal),
+    (r"\a", "a", Equal, Equal),
+    (r"\a", r"\\a", Greater, Greater),
+    (r"\x", r"\\x", Greater, Greater),
+    (r"\b", "a", Greater, Greater),
+    // By components the first would be less.
+    (r"a\b", "a!", Greater, Greater),
     (r"a\b", r"\a\b", Equal, Equal),
     (r"a\b", r"a\b\c", Less, Less),
     (r"first\second\third", r"\first\second", Greater, Greater),

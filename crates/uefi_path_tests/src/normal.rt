@@ -23,6 +23,7 @@ pub(crate) const NORMAL: &[(&str, &str)] = &[
     (".", r"\"),
     (r"\", r"\"),
     (r"...\b", r"...\b"),
+    (r"\a\.", "a"),
     (r"\a\b", r"a\b"),
     (r"a\..", r"\"),
     (r".a\a.\.. \ .", r".a\a.\.. \ ."),
@@ -33,6 +34,29 @@ pub(crate) const NORMAL: &[(&str, &str)] = &[
 fn paths_and_their_normal_paths(rt: HostRuntime) -> Result<(), Fail> {
     for (text, want) in NORMAL {
         assert!(rt; is_normal_path(&rt, text, want)?, "{text}");
+    }
+    Ok(())
+}
+
+/// Texts without a normal path, and why.
+const REFUSED: &[(&str, &str)] = &[
+    ("", "path is empty"),
+    (r"a\\..", "path contains an empty component"),
+    (r"a\\..\..", "path contains an empty component"),
+    ("a/..", "path contains an illegal character (value 47)"),
+    (r"..\a", "path climbs above the root"),
+    (r"a\..\..", "path climbs above the root"),
+];
+
+#[test]
+fn refused_paths(rt: HostRuntime) -> Result<(), Fail> {
+    for (text, why) in REFUSED {
+        let string = string(rt.alloc(), text)?;
+        let normal = Path::new(string.as_cstr16()).normalize(rt.alloc());
+        assert!(rt;
+            matches!(&normal, Err(error) if says(rt.alloc(), error, why)),
+            "{text}"
+        );
     }
     Ok(())
 }

@@ -1,8 +1,8 @@
 //! Paths whose requests for memory are refused in turn, until a run ends with none refused, which
 //! gives what ample memory gives. A call on a buffer asks the buffer's own allocator. All calls stand in
-//! one table, and no call gives up on a path of 150,000 characters.
+//! one table, and no call gives up on a path of 300,000 characters.
 
-use for_tests::{Refusing, is_answered, out_of_memory, repeated, requests, string};
+use for_tests::{Refusing, has_text, is_answered, out_of_memory, repeated, requests, string};
 use std::alloc::{AllocError, Global};
 use std::test::Fail;
 use uefi_path::{CountedUnits, NormalizeError, Path, PathBuf, PathError};
@@ -27,6 +27,9 @@ enum Call {
     PushCounted,
     Normalize,
     RefusedNormalize,
+    SetFileName,
+    SetExtension,
+    Pop,
     Clear,
     IntoCString16,
     Nothing,
@@ -53,6 +56,38 @@ fn clears_and_takes(heap: &Refusing<Global>, text: CStr16<'_>) -> Result<bool, A
     let mut path = PathBuf::from(heap, text)?;
     path.clear();
     is_answered(path.push(Path::new(text)), AllocError)
+}
+
+/// Whether the file name of a path, or its extension, is replaced, or it is unchanged where memory ran out.
+fn renames(
+    heap: &Refusing<Global>,
+    text: CStr16<'_>,
+    other: CStr16<'_>,
+    is_extension: bool,
+) -> Result<bool, AllocError> {
+    let mut path = PathBuf::from(heap, text)?;
+    let is_set = if is_extension {
+        path.set_extension(other).is_ok()
+    } else {
+        path.set_file_name(other).is_ok()
+    };
+    if is_set {
+        Ok(true)
+    } else {
+        out_of_memory(path.to_cstr16() == text)
+    }
+}
+
+/// Whether a path loses its last component, and takes it again in the memory that it has.
+fn pops_and_takes(
+    heap: &Refusing<Global>,
+    text: CStr16<'_>,
+    last: CStr16<'_>,
+) -> Result<bool, AllocError> {
+    let mut path = PathBuf::from(heap, text)?;
+    let is_shorter = path.pop() && path.to_cstr16().num_chars() < text.num_chars();
+    path.push(Path::new(last))?;
+    Ok(is_shorter && path.to_cstr16() == text)
 }
 
 /// Whether a text and its buffer have no parent, and a push of the empty path succeeds.
@@ -93,6 +128,9 @@ fn answers(
         Call::RefusedNormalize => Ok(
             path.normalize(heap).err() == Some(NormalizeError::Invalid(PathError::EmptyComponent)),
         ),
+        Call::SetFileName => renames(heap, text, other, false),
+        Call::SetExtension => renames(heap, text, other, true),
+        Call::Pop => pops_and_takes(heap, text, other),
         Call::Clear => clears_and_takes(heap, text),
         Call::IntoCString16 => Ok(PathBuf::from(heap, text)?.into_cstring16().eq_cstr16(text)),
         Call::Nothing => needs_no_memory(heap, text, more),
@@ -144,6 +182,17 @@ const ROWS: &[Counted] = &[
     (Call::Normalize, 0, [r"a\..\.\b", ""], 1, 1),
     (Call::Normalize, 0, ["#", ""], 2, 2),
     (Call::RefusedNormalize, 0, [r"#\", ""], 0, 0),
+    (Call::SetFileName, 1, ["", "@"], 1, 1),
+    (Call::SetFileName, 1, ["@", "#"], 2, 2),
+    (Call::SetFileName, 2, ["#", "@"], 2, 2),
+    (Call::SetFileName, 2, [r"\@", ""], 2, 2),
+    (Call::SetExtension, 1, ["", "@"], 0, 0),
+    (Call::SetExtension, 2, [r"\", "@"], 0, 0),
+    (Call::SetExtension, 1, ["@", "efi"], 2, 2),
+    (Call::SetExtension, 2, ["#", "@"], 3, 3),
+    (Call::SetExtension, 2, ["#.efi", ""], 2, 2),
+    (Call::Pop, 2, [r"#\@", "@"], 0, 0),
+    (Call::Pop, 2, [r"@\b", "b"], 0, 0),
     (Call::IntoCString16, 2, ["#", ""], 0, 0),
     (Call::Nothing, 2, [r"\@", ""], 0, 0),
     (Call::Nothing, 1, ["@", ""], 0, 0),
@@ -180,10 +229,31 @@ fn find_wrong(rt: &HostRuntime, rows: &[Counted], size: u64) -> Result<Option<(u
 
 #[test]
 fn requests_of_each_call(rt: HostRuntime) -> Result<(), Fail> {
-    for size in [1, 10, 63, 64, 65, 70, 300, 513, 5000, 50_000] {
+    for size in [1, 10, 63, 64, 65, 70, 300, 513, 5000, 100_000] {
         let wrong = find_wrong(&rt, ROWS, size)?;
         assert!(rt; wrong.is_none(), "{size}: {wrong:?}");
     }
+    Ok(())
+}
+
+/// Whether the path of `a/b` is made, or the string comes back with its slash.
+fn replaces_or_keeps(heap: &Refusing<Global>, text: CStr16<'_>) -> Result<bool, AllocError> {
+    let taken = CString16::from_cstr16(heap, text)?;
+    match PathBuf::new_from_cstring16(heap, taken) {
+        Ok(path) => Ok(has_text(path.to_cstr16(), r"a\b")),
+        Err(kept) => out_of_memory(has_text(kept.as_cstr16(), "a/b")),
+    }
+}
+
+#[test]
+fn slashes_after_a_refusal(rt: HostRuntime) -> Result<(), Fail> {
+    let text = string(rt.alloc(), "a/b")?;
+    let asked = requests(
+        rt.alloc(),
+        1,
+        |heap| replaces_or_keeps(heap, text.as_cstr16()),
+    )?;
+    assert!(rt; asked == 1);
     Ok(())
 }
 

@@ -112,6 +112,7 @@ const PUSHES: &[(&str, &str, &str)] = &[
     ("a", "b", r"a\b"),
     (r"a\", "b", r"a\b"),
     ("a", "/b", r"a\\b"),
+    ("a", "b/c", r"a\b\c"),
     ("a", r"\b", r"a\\b"),
     (r"\", r"\x", r"\\x"),
     (r"a\b", r"c\d", r"a\b\c\d"),
@@ -136,6 +137,7 @@ fn pushed_in_turn(rt: &HostRuntime, parts: &[&str]) -> Result<PathBuf, Fail> {
 
 /// Texts that are pushed in turn, and the text of the path.
 const SEVERAL: &[(&[&str], &str)] = &[
+    (&["a", "b"], r"a\b"),
     (&["first", "second", "third"], r"first\second\third"),
     (&[r"\first", "second"], r"\first\second"),
     (&["first", "", "", "", "second"], r"first\second"),

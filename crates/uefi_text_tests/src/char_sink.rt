@@ -3,6 +3,7 @@
 ghost use Rattle.std.specs.Prelude.{◌≡◌, ◌+◌, ◌<◌, ◌⊎◌, encode_utf8, length};
 
 use arrayvec::ArrayString;
+use for_tests::string;
 use std::fmt;
 use std::test::Fail;
 use uefi_text::{CStr16, CharSink};
@@ -37,6 +38,32 @@ fn takes_letters<const LEN: usize>(string: CStr16<'_>, taken: &str) -> bool {
     };
     let answer = string.as_str_in_buf(&mut sink);
     answer.is_ok() == (taken == "abc") && sink.text.as_str() == taken
+}
+
+/// Whether a text of this many bytes, which holds `before`, holds `after` once it was given a string, and
+/// says whether it took all.
+fn fits_in<const LEN: usize>(string: CStr16<'_>, before: &str, after: &str, all: bool) -> bool {
+    let mut sink: ArrayString<LEN> = ArrayString::new();
+    if sink.try_push_str(before).is_err() {
+        return false;
+    }
+    string.as_str_in_buf(&mut sink).is_ok() == all && sink.as_str() == after
+}
+
+/// Texts of a fixed length, full and not, and one that grows.
+#[test]
+fn texts_as_sinks(rt: HostRuntime) -> Result<(), Fail> {
+    let (owned, empty) = (string(rt.alloc(), "aébc")?, string(rt.alloc(), "")?);
+    let string = owned.as_cstr16();
+    assert!(rt; fits_in::<4>(string, "", "aéb", false));
+    assert!(rt; fits_in::<5>(string, "", "aébc", true));
+    assert!(rt; fits_in::<4>(string, "x", "xaé", false));
+    assert!(rt; fits_in::<0>(empty.as_cstr16(), "", "", true));
+    let mut text = String::new(rt.alloc());
+    text.push('x')?;
+    let is_whole = string.as_str_in_buf(&mut text).is_ok();
+    assert!(rt; is_whole && text.as_str() == "xaébc");
+    Ok(())
 }
 
 /// A sink that refuses at each character in turn, and one that refuses none.

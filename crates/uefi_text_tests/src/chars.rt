@@ -55,6 +55,27 @@ fn characters_and_their_numbers(rt: HostRuntime) {
     assert!(rt; Char8::default() == NUL_8 && Char16::default() == NUL_16);
 }
 
+/// Code units, and whether they are characters.
+const UNITS: &[(u16, bool)] = &[
+    (0xd7ff, true),
+    (0xd800, false),
+    (0xdfff, false),
+    (0xe000, true),
+    (0xffff, true),
+];
+
+#[test]
+fn code_units_as_characters(rt: HostRuntime) {
+    for (unit, is_character) in UNITS {
+        let want = if *is_character {
+            Ok(*unit)
+        } else {
+            Err(CharConversionError)
+        };
+        assert!(rt; Char16::try_from(*unit).map(u16::from) == want, "{unit}");
+    }
+}
+
 #[test]
 fn printed_characters(rt: HostRuntime) -> Result<(), Fail> {
     assert!(rt; prints(rt.alloc(), &Char8::from(65), "A|'A'"));

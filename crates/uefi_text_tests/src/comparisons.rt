@@ -1,11 +1,43 @@
-//! Strings and characters as keys of sets.
+//! Strings and characters in order, and as keys of sets.
 
-use for_tests::string;
+use for_tests::{are_ordered, string};
 use std::alloc::Global;
+use std::cmp::Ordering::{self, Equal, Greater, Less};
 use std::collections::HashSet;
 use std::hash::Hash;
 use std::test::Fail;
 use uefi_text::{CStr8, CStr16};
+
+/// Units of two strings, and how these compare.
+const ORDERS: &[(&[u16], &[u16], Ordering)] = &[
+    (&[0xffff, 0], &[0xe000, 0], Greater),
+    (&[97, 0], &[97, 98, 0], Less),
+    (&[97, 98, 0], &[97, 98, 0], Equal),
+];
+
+/// Bytes of two strings of Latin-1, and how these compare.
+const LATIN1_ORDERS: &[(&[u8], &[u8], Ordering)] = &[
+    (&[65, 0], &[65, 66, 0], Less),
+    (&[0xff, 0], &[65, 66, 0], Greater),
+];
+
+#[test]
+fn orders(rt: HostRuntime) -> Result<(), Fail> {
+    for (a, b, want) in ORDERS {
+        let (a, b) = (CStr16::from_u16_with_nul(a)?, CStr16::from_u16_with_nul(b)?);
+        let (owned, other) = (a.to_owned(rt.alloc())?, b.to_owned(rt.alloc())?);
+        let is_right = are_ordered(&a, &b, *want) && are_ordered(&owned, &other, *want);
+        assert!(rt; is_right, "{a} and {b}");
+    }
+    for (a, b, want) in LATIN1_ORDERS {
+        let (a, b) = (
+            CStr8::from_bytes_with_nul(a)?,
+            CStr8::from_bytes_with_nul(b)?,
+        );
+        assert!(rt; are_ordered(&a, &b, *want), "{a} and {b}");
+    }
+    Ok(())
+}
 
 /// Whether the first two of these are new in a set, and the third is not.
 fn are_keys<T: Hash + Eq + Drop>(alloc: Global, keys: [T; 3]) -> Result<bool, Fail> {

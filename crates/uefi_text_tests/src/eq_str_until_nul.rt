@@ -24,21 +24,27 @@ fn agree(
     )
 }
 
-/// Texts, and whether `test` equals them.
-const TEST: &[(&str, bool)] = &[
-    ("test", true),
-    ("te\0st", true),
-    ("test\0", true),
-    ("test😀", true),
-    ("hello", false),
+const TEST: &[u16] = &[116, 101, 115, 116, 0];
+
+/// The units of a string, its bytes, a text, and whether the two are equal.
+const ROWS: &[(&[u16], &[u8], &str, bool)] = &[
+    (TEST, b"test\0", "test", true),
+    (TEST, b"test\0", "te\0st", true),
+    (TEST, b"test\0", "test\0", true),
+    (TEST, b"test\0", "test😀", true),
+    (TEST, b"test\0", "", true),
+    (TEST, b"test\0", "hello", false),
+    (&[0xe9, 0], &[0xe9, 0], "é", true),
+    (&[0xe9, 0], &[0xe9, 0], "e", false),
 ];
 
 #[test]
 fn equal_until_nul(rt: HostRuntime) -> Result<(), Fail> {
-    for (text, want) in TEST {
-        let is_right = agree(&rt, &[116, 101, 115, 116, 0], b"test\0", text, *want)?;
-        assert!(rt; is_right, "{text:?}");
+    for (units, bytes, text, want) in ROWS {
+        assert!(rt;
+            agree(&rt, units, bytes, text, *want)?,
+            "{bytes:?} and {text:?}"
+        );
     }
-    assert!(rt; agree(&rt, &[0xe9, 0], &[0xe9, 0], "é", true)?);
     Ok(())
 }

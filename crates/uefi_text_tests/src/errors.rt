@@ -5,8 +5,9 @@ use std::alloc::Global;
 use std::fmt::Display;
 use std::test::Fail;
 use uefi_text::{
-    CharConversionError, FromSliceUntilNulError as UntilNul, FromSliceWithNulError as WithNul,
-    FromStrError, FromStrWithBufError as WithBuffer, Printed, UnalignedCStr16Error as Packed,
+    BufferTooSmall, CharConversionError, FromSliceUntilNulError as UntilNul,
+    FromSliceWithNulError as WithNul, FromStrError, FromStrWithBufError as WithBuffer, Printed,
+    UnalignedCStr16Error as Packed,
 };
 
 /// Whether each error says what stands at its place in a list with a semicolon after each text.
@@ -81,6 +82,13 @@ fn printed_for_users(rt: HostRuntime) {
     ];
     assert!(rt; say(alloc, &texts, FROM_STR));
     assert!(rt; say(alloc, &[CharConversionError], "CharConversionError;"));
+    assert!(rt;
+        say(
+            alloc,
+            &[BufferTooSmall(7)],
+            "buffer too small: 7 units are needed;"
+        )
+    );
 }
 
 #[test]

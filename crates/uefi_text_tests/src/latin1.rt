@@ -1,16 +1,22 @@
-//! Borrowed strings of Latin-1.
+//! Borrowed strings of Latin-1, and Rust texts encoded as Latin-1.
 
 use for_tests::{hostile_places, prints};
 use std::test::Fail;
 use uefi_text::FromSliceWithNulError::{InteriorNul, NotNulTerminated};
-use uefi_text::{CStr8, FromSliceWithNulError};
+use uefi_text::{
+    CStr8, FromSliceWithNulError, has_no_nul, is_latin1, str_num_latin1_chars, str_to_latin1,
+};
 
 /// Bytes, and what their string prints, or why they are refused.
 const BYTES: &[(&[u8], Result<&str, FromSliceWithNulError>)] = &[
     (&[97, 0], Ok("a|CStr8(['a'])")),
     (&[97, 98, 99, 0], Ok("abc|CStr8(['a', 'b', 'c'])")),
+    (&[65, 0], Ok("A|CStr8(['A'])")),
+    (&[0xe9, 0], Ok("é|CStr8(['é'])")),
     (&[0xe9, 10, 0], Ok("é\n|CStr8(['é', '\\n'])")),
     (&[], Err(NotNulTerminated)),
+    (&[65], Err(NotNulTerminated)),
+    (&[0, 65], Err(InteriorNul(0))),
     (&[65, 0, 66, 0], Err(InteriorNul(1))),
 ];
 
@@ -28,6 +34,44 @@ fn strings_of_bytes(rt: HostRuntime) {
     for (bytes, want) in BYTES {
         assert!(rt; are_read(&rt, bytes, *want), "{bytes:?}");
     }
+}
+
+/// Texts, and how many characters they have, if Latin-1 has all of them.
+const TEXTS: &[(&str, Option<usize>)] = &[
+    ("", Some(0)),
+    ("ÿ", Some(1)),
+    ("é\0", Some(2)),
+    ("Ā", None),
+];
+
+/// How many characters a text has, if Latin-1 has all of them.
+fn count_of(text: &str) -> Option<usize> {
+    if is_latin1(text) {
+        Some(str_num_latin1_chars(text))
+    } else {
+        None
+    }
+}
+
+#[test]
+fn texts_and_their_characters(rt: HostRuntime) {
+    for (text, want) in TEXTS {
+        assert!(rt; count_of(text) == *want, "{text:?}");
+    }
+}
+
+/// Whether a text becomes these bytes.
+fn becomes<const LEN: usize>(text: &str, want: [u8; LEN]) -> bool {
+    if !is_latin1(text) || !has_no_nul(text) {
+        return false;
+    }
+    let count = str_num_latin1_chars(text);
+    count < LEN && count + 1 == LEN && str_to_latin1::<LEN>(text) == want
+}
+
+#[test]
+fn texts_as_bytes(rt: HostRuntime) {
+    assert!(rt; becomes("", [0]) && becomes("é", [0xe9, 0]));
 }
 
 /// Whether a zero among this many others ends the string of all bytes, or is refused with its place; and

@@ -2,7 +2,7 @@
 //! requests each makes. Input is checked before memory is asked for.
 
 use crate::strs::characters;
-use for_tests::{Refusing, is_answered, repeated, requests, string};
+use for_tests::{Refusing, is_answered, out_of_memory, repeated, requests, string};
 use std::alloc::{AllocError, Global};
 use std::fmt::Write;
 use std::iter;
@@ -117,13 +117,21 @@ enum Change {
     PushStr,
     PushPart,
     PushNothing,
+    PushEmpty,
     Reserve,
     WriteStr,
     Extend,
+    ExtendByNone,
+    ExtendByText,
 }
 
 /// Whether a string is changed, or memory ran out.
-fn changes(change: Change, heap: &Refusing<Global>, part: CStr16<'_>) -> Result<bool, AllocError> {
+fn changes(
+    change: Change,
+    heap: &Refusing<Global>,
+    part: CStr16<'_>,
+    rust: &str,
+) -> Result<bool, AllocError> {
     let mut text = filled(heap, part)?;
     let Ok(c) = Char16::try_from('c') else {
         return Ok(false);
@@ -140,13 +148,19 @@ fn changes(change: Change, heap: &Refusing<Global>, part: CStr16<'_>) -> Result<
         Change::PushStr => text.push_str(part)?,
         Change::PushPart => text.push_part(part.as_slice())?,
         Change::PushNothing => text.push_part(part.as_slice().part(0, 0))?,
+        Change::PushEmpty => match CStr16::from_u16_with_nul(&[0]) {
+            Ok(empty) => text.push_str(empty)?,
+            Err(_) => return Ok(false),
+        },
         Change::Reserve => {
             text.reserve(2)?;
             text.push(c)?;
             text.push(c)?;
         }
-        Change::WriteStr => return text.write_str("Boot").map(|_| true).map_err(|_| AllocError),
+        Change::WriteStr => return text.write_str(rust).map(|_| true).map_err(|_| AllocError),
         Change::Extend => text.extend(iter::repeat_n(c, 64))?,
+        Change::ExtendByNone => text.extend(iter::repeat_n(c, 0))?,
+        Change::ExtendByText => text.extend(part.iter())?,
     }
     Ok(true)
 }
@@ -158,9 +172,12 @@ const CHANGES: &[(Change, u64, u64)] = &[
     (Change::PushStr, 1, 1),
     (Change::PushPart, 1, 1),
     (Change::PushNothing, 0, 0),
+    (Change::PushEmpty, 0, 0),
     (Change::Reserve, 1, 1),
     (Change::WriteStr, 1, 1),
     (Change::Extend, 1, 96),
+    (Change::ExtendByNone, 0, 0),
+    (Change::ExtendByText, 1, 2),
 ];
 
 /// Whether the bytes of a text are added to a list of one byte, with this much room, or memory ran out.
@@ -197,7 +214,7 @@ fn is_counted(rt: &HostRuntime, rust: &str) -> Result<bool, Fail> {
     let bytes = part.as_bytes(rt.alloc())?;
     let list = characters(rt, part.to_u16_slice_with_nul())?;
     for (change, least, most) in CHANGES {
-        let count = requests(rt.alloc(), 1, |heap| changes(*change, heap, part))?;
+        let count = requests(rt.alloc(), 1, |heap| changes(*change, heap, part, rust))?;
         if count < *least || *most < count {
             return Ok(false);
         }
@@ -271,6 +288,50 @@ fn requests_for_vectors(rt: HostRuntime) -> Result<(), Fail> {
         assert!(rt; count == 0, "{units:?}");
     }
     assert!(rt; CString16::with_capacity(rt.alloc(), usize::MAX).is_err());
+    Ok(())
+}
+
+/// Whether a text is `ab` and this many times `c`.
+fn is_ab_and(text: CStr16<'_>, count: usize) -> bool {
+    match text.to_u16_slice() {
+        [97, 98, rest @ ..] => rest.len() == count && rest.iter().all(|unit| *unit == 99),
+        _ => false,
+    }
+}
+
+/// Whether `ab` takes 64 characters one by one, or holds those before the refused one.
+fn pushes_one_by_one(
+    heap: &Refusing<Global>,
+    ab: CStr16<'_>,
+    c: Char16,
+) -> Result<bool, AllocError> {
+    let mut text = filled(heap, ab)?;
+    for count in 0..64 {
+        if c != NUL_16 && text.push(c).is_err() {
+            return out_of_memory(is_ab_and(text.as_cstr16(), count));
+        }
+    }
+    Ok(is_ab_and(text.as_cstr16(), 64))
+}
+
+/// Whether `ab` is extended by 64 characters, or holds fewer of them where memory ran out.
+fn extends(heap: &Refusing<Global>, ab: CStr16<'_>, c: Char16) -> Result<bool, AllocError> {
+    let mut text = filled(heap, ab)?;
+    if c != NUL_16 && text.extend(iter::repeat_n(c, 64)).is_err() {
+        let count = text.num_chars().saturating_sub(2);
+        return out_of_memory(count < 64 && is_ab_and(text.as_cstr16(), count));
+    }
+    Ok(is_ab_and(text.as_cstr16(), 64))
+}
+
+#[test]
+fn held_after_a_refusal(rt: HostRuntime) -> Result<(), Fail> {
+    let (ab, c) = (
+        CStr16::from_u16_with_nul(&[97, 98, 0])?,
+        Char16::try_from('c')?,
+    );
+    assert!(rt; 1 <= requests(rt.alloc(), 1, |heap| pushes_one_by_one(heap, ab, c))?);
+    assert!(rt; 1 <= requests(rt.alloc(), 1, |heap| extends(heap, ab, c))?);
     Ok(())
 }
 

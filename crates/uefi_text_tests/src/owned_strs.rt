@@ -59,12 +59,26 @@ fn grows(
     Ok(has_text(text.as_cstr16(), want))
 }
 
+/// What a string is made of by pushes of characters, what is pushed then, by what it is extended, and its
+/// text.
+const GROWN: &[[&str; 4]] = &[
+    ["hi", "", "", "hi"],
+    ["!", "hi", "!", "!hi!"],
+    ["b", "", "", "b"],
+    ["", "", "", ""],
+];
+
 #[test]
 fn pushed_and_extended(rt: HostRuntime) -> Result<(), Fail> {
-    let hi = pushed_one_by_one(&rt, "hi")?;
-    assert!(rt; hi.num_chars() == 2 && has_text(hi.as_cstr16(), "hi"));
-    let mark = CStr16::from_u16_with_nul(&[33, 0])?;
-    assert!(rt; grows(pushed_one_by_one(&rt, "!")?, hi.as_cstr16(), mark, "!hi!")?);
+    for [pushed, text, more, want] in GROWN {
+        let (text, more) = (string(rt.alloc(), text)?, string(rt.alloc(), more)?);
+        let start = pushed_one_by_one(&rt, pushed)?;
+        assert!(rt; start.num_chars() == pushed.len(), "{pushed}");
+        assert!(rt;
+            grows(start, text.as_cstr16(), more.as_cstr16(), want)?,
+            "{want}"
+        );
+    }
     Ok(())
 }
 
@@ -101,10 +115,17 @@ fn replaces(
     Ok(has_text(string.as_cstr16(), want))
 }
 
+/// A text, one of its characters, what stands in its place, and the text then.
+const REPLACED: &[(&str, char, char, &str)] = &[
+    ("foo/bar/foobar//", '/', '\\', r"foo\bar\foobar\\"),
+    ("aba", 'a', 'a', "aba"),
+];
+
 #[test]
 fn replaced_characters(rt: HostRuntime) -> Result<(), Fail> {
-    let (slash, separator) = (Char16::try_from('/')?, Char16::try_from('\\')?);
-    let (text, want) = ("foo/bar/foobar//", r"foo\bar\foobar\\");
-    assert!(rt; replaces(&rt, text, slash, separator, want)?);
+    for (text, search, replace, want) in REPLACED {
+        let (search, replace) = (Char16::try_from(*search)?, Char16::try_from(*replace)?);
+        assert!(rt; replaces(&rt, text, search, replace, want)?, "{text}");
+    }
     Ok(())
 }

@@ -2,7 +2,7 @@
 
 use for_tests::{has_text, hostile_places};
 use std::test::Fail;
-use uefi_text::UnalignedCStr16Error::BufferTooSmall;
+use uefi_text::UnalignedCStr16Error::{BufferTooSmall, InteriorNul, InvalidChar, NotNulTerminated};
 use uefi_text::{CStr16, CString16, UnalignedCStr16Error, UnalignedSlice};
 
 /// `test` and its NUL, after one other byte.
@@ -93,12 +93,30 @@ fn are_buffered(
     }
 }
 
+/// Packed units, what a buffer of nines holds then, and why they are no string there, if they are none.
+const BUFFERED: &[(&[u8], &[u16], Option<UnalignedCStr16Error>)] = &[
+    (b"t\0e\0s\0t\0\0\0", &[9, 9, 9, 9], Some(BufferTooSmall)),
+    (b"t\0e\0s\0t\0\0\0", &[0x74, 0x65, 0x73, 0x74, 0], None),
+    (b"t\0e\0s\0t\0\0\0", &[0x74, 0x65, 0x73, 0x74, 0, 9], None),
+    (&[0, 0xd8, 0, 0], &[0xd800, 0, 9], Some(InvalidChar(0))),
+    (&[0, 0xd8, 0, 0], &[9], Some(BufferTooSmall)),
+    (b"A\0", &[65, 9], Some(NotNulTerminated)),
+    (b"a\0\0\0b\0", &[97, 0, 98], Some(InteriorNul(1))),
+    (b"", &[9], Some(NotNulTerminated)),
+    (b"", &[], Some(NotNulTerminated)),
+    (b"\0\0", &[0, 9], None),
+];
+
+/// From an even place of memory and from an odd one.
 #[test]
 fn strings_in_buffers(rt: HostRuntime) -> Result<(), Fail> {
-    let (test, units) = (&TEST_AFTER_ONE[1..], &[0x74, 0x65, 0x73, 0x74, 0, 9]);
-    assert!(rt; are_buffered(&rt, test, &[9; 4], Some(BufferTooSmall))?);
-    assert!(rt; are_buffered(&rt, test, &units[..5], None)?);
-    assert!(rt; are_buffered(&rt, test, units, None)?);
+    for (bytes, after, want) in BUFFERED {
+        let mut moved = vec![in rt.alloc(); 0xffu8]?;
+        moved.extend_from_slice(bytes)?;
+        let is_right = are_buffered(&rt, bytes, after, *want)?
+            && are_buffered(&rt, moved.get(1..).unwrap_or(&[]), after, *want)?;
+        assert!(rt; is_right, "{bytes:?}");
+    }
     Ok(())
 }
 

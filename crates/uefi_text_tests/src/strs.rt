@@ -102,11 +102,20 @@ pub(crate) fn are_strings(
 /// first NUL.
 const UNITS: &[(&[u16], Result<usize, WithNul>, Result<usize, UntilNul>)] = &[
     (&[], Err(NotNulTerminated), Err(UntilNul::NoNul)),
+    (&[65], Err(NotNulTerminated), Err(UntilNul::NoNul)),
     (&[65, 66], Err(NotNulTerminated), Err(UntilNul::NoNul)),
     (&[97, 98], Err(NotNulTerminated), Err(UntilNul::NoNul)),
+    (&[0], Ok(0), Ok(0)),
+    (&[65, 0], Ok(1), Ok(1)),
     (&[97, 98, 0], Ok(2), Ok(2)),
+    (&[65, 0, 66], Err(InteriorNul(1)), Ok(1)),
+    (&[97, 0, 98], Err(InteriorNul(1)), Ok(1)),
     (&[97, 0, 98, 0], Err(InteriorNul(1)), Ok(1)),
+    (&[97, 0, 0xd800], Err(InteriorNul(1)), Ok(1)),
     (&[65, 0xde01, 0], Err(InvalidChar(1)), Err(FrontChar(1))),
+    (&[0xd800, 0, 65, 0], Err(InvalidChar(0)), Err(FrontChar(0))),
+    (&[0xd83d, 0], Err(InvalidChar(0)), Err(FrontChar(0))),
+    (&[0xd83d, 0xde00, 0], Err(InvalidChar(0)), Err(FrontChar(0))),
 ];
 
 #[test]
@@ -133,11 +142,15 @@ fn is_string_of(rt: &HostRuntime, bytes: &[u8], want: Result<&[u16], WithNul>) -
 /// Bytes, and the units of their string, or why they are refused.
 const BYTES: &[(&[u8], Result<&[u16], WithNul>)] = &[
     (&[0, 0], Ok(&[0])),
+    (&[0x61, 0, 0, 0], Ok(&[97, 0])),
     (&[0x41, 0, 0x42, 0, 0, 0], Ok(&[65, 66, 0])),
+    (&[], Err(NotNulTerminated)),
+    (&[0, 0xd8], Err(NotNulTerminated)),
     (&[0x41, 0, 0], Err(NotNulTerminated)),
     (&[0x41, 0, 0x42, 0], Err(NotNulTerminated)),
     (&[0x41, 0, 0, 1], Err(NotNulTerminated)),
     (&[0, 0xd8, 0, 0], Err(InvalidChar(0))),
+    (&[0, 0, 0, 0], Err(InteriorNul(0))),
     (&[0x41, 0, 0, 0, 0x42, 0, 0, 0], Err(InteriorNul(1))),
 ];
 
@@ -185,6 +198,7 @@ const TEXTS: &[(&[u16], &str)] = &[
     (&[0], ""),
     (&[97, 0], "a"),
     (&[120, 0], "x"),
+    (&[0xe9, 0], "é"),
     (&[97, 98, 0], "ab"),
     (&[97, 98, 99, 0], "abc"),
     (&[65, 66, 67, 0], "ABC"),
@@ -240,12 +254,44 @@ const BUFFERS: &[(&str, Result<usize, WithBuffer>, &[u16])] = &[
     ("ABCD", Err(BufferTooSmall), &[65, 66, 67, 68]),
     ("a😀", Err(CharAt(1)), &[97, 0xd83d, 0xde00, 0]),
     ("a\0b", Err(NulAt(1)), &[97, 0, 98, 0]),
+    ("ab😀", Err(BufferTooSmall), &[97, 98, 0xd83d, 0xde00]),
+    ("", Err(BufferTooSmall), &[]),
+    ("", Ok(0), &[0]),
+    // Each room from none to one more than the text and its NUL need.
+    ("a😀b", Err(BufferTooSmall), &[]),
+    ("a😀b", Err(BufferTooSmall), &[97]),
+    ("a😀b", Err(BufferTooSmall), &[97, 0xd83d]),
+    ("a😀b", Err(BufferTooSmall), &[97, 0xd83d, 0xde00]),
+    ("a😀b", Err(BufferTooSmall), &[97, 0xd83d, 0xde00, 98]),
+    ("a😀b", Err(CharAt(1)), &[97, 0xd83d, 0xde00, 98, 0]),
+    ("a😀b", Err(CharAt(1)), &[97, 0xd83d, 0xde00, 98, 0, 9]),
 ];
 
 #[test]
 fn texts_in_buffers(rt: HostRuntime) -> Result<(), Fail> {
     for (text, want, after) in BUFFERS {
         assert!(rt; is_buffered(&rt, text, *want, after)?, "{after:?}");
+    }
+    Ok(())
+}
+
+/// Units of strings, their text in UTF-8, whether it is one of ASCII, and how many bytes the units take.
+const ENCODED: &[(&[u16], &[u8], bool, usize)] = &[
+    (&[0], b"", true, 2),
+    (&[65, 66, 67, 0], b"ABC", true, 8),
+    (&[0xe9, 0], b"\xc3\xa9", false, 4),
+    (&[0xff, 0], b"\xc3\xbf", false, 4),
+    (&[0x100, 0], b"\xc4\x80", false, 4),
+    (&[0xa2c3, 0], b"\xea\x8b\x83", false, 4),
+];
+
+#[test]
+fn encoded_strings(rt: HostRuntime) -> Result<(), Fail> {
+    for (units, bytes, is_ascii, num_bytes) in ENCODED {
+        let string = CStr16::from_u16_with_nul(units)?;
+        let text = string.to_rust_string(rt.alloc())?;
+        let is_right = string.is_ascii() == *is_ascii && string.num_bytes() == *num_bytes;
+        assert!(rt; is_right && text.as_bytes() == *bytes, "{units:?}");
     }
     Ok(())
 }

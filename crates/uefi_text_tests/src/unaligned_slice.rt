@@ -38,6 +38,25 @@ fn items_at_any_place(rt: HostRuntime) {
     assert!(rt; hold(&BYTES_AFTER_ONE[1..], &NUMBERS));
     assert!(rt; hold(&BYTES_AFTER_ONE[1..], &NUMBERS[..0]));
     assert!(rt; hold(&[0xff, 0], &[255u8, 0]));
+    assert!(rt; hold(&[0x10, 0x11, 0x12], &[0x1110u16]));
+    assert!(rt; hold(&[1, 2, 3, 4, 5, 6, 7, 8], &[0x0807060504030201u64]));
+}
+
+/// Bytes, a number of items, and whether there is room for as many of two bytes, and of eight.
+const ROOM: &[(&[u8], usize, bool, bool)] = &[
+    (&[1, 2, 3], 1, true, false),
+    (&[1, 2, 3], 2, false, false),
+    (&[], 0, true, true),
+    (&[], usize::MAX, false, false),
+];
+
+#[test]
+fn room_for_items(rt: HostRuntime) {
+    for (bytes, len, of_two, of_eight) in ROOM {
+        let is_right = UnalignedSlice::<u16>::fits(bytes, *len) == *of_two
+            && UnalignedSlice::<u64>::fits(bytes, *len) == *of_eight;
+        assert!(rt; is_right, "{bytes:?}, {len} items");
+    }
 }
 
 /// Whether an iterator gives these numbers, says each time how many are left, and then gives none.

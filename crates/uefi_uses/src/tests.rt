@@ -4,11 +4,15 @@ use crate::loaders::is_offered;
 use crate::names::name_len;
 use crate::paths::{EntryError, entry_path};
 use crate::stored::is_entry;
+use std::alloc::Global;
+use std::fmt::Display;
 use std::test::Fail;
+use uefi_boot_variables::{NotTwoBytes, OddLength, OrderFull};
 use uefi_device_path::build::media::HardDrive;
 use uefi_device_path::{LoadOptionCause, LoadOptionError};
+use uefi_fat::FatNameError;
 use uefi_path::{Path, PathError};
-use uefi_text::{CString16, FromSliceWithNulError, FromStrError};
+use uefi_text::{CString16, Char16, FromSliceWithNulError, FromStrError};
 use upath::JudgeError;
 
 #[test]
@@ -142,5 +146,35 @@ fn names_of_one_file(rt: HostRuntime) -> Result<(), Fail> {
     let new = CString16::try_from_str(rt.alloc(), "Boot.")?;
     let present = CString16::try_from_str(rt.alloc(), "BOOT")?;
     assert!(rt; takes_place_of(new.as_cstr16().as_slice(), present.as_cstr16().as_slice()));
+    Ok(())
+}
+
+/// Whether an error prints this sentence.
+fn says<T: Display>(alloc: Global, error: &T, sentence: &str) -> bool {
+    matches!(error.to_string(alloc), Ok(text) if text.as_str() == sentence)
+}
+
+#[test]
+fn errors_of_names_and_orders(rt: HostRuntime) -> Result<(), Fail> {
+    let (alloc, star) = (rt.alloc(), Char16::try_from('*')?);
+    let illegal = "name contains an illegal character (value 42)";
+    assert!(rt;
+        says(
+            alloc,
+            &FatNameError::Empty,
+            "name is empty without spaces and dots"
+        )
+    );
+    assert!(rt;
+        says(
+            alloc,
+            &FatNameError::TooLong,
+            "name has more than 255 characters"
+        )
+    );
+    assert!(rt; says(alloc, &FatNameError::IllegalChar(star), illegal));
+    assert!(rt; says(alloc, &OddLength, "an order has two bytes for each number"));
+    assert!(rt; says(alloc, &NotTwoBytes(3), "a number has two bytes, and not 3"));
+    assert!(rt; says(alloc, &OrderFull, "there is no room for another number"));
     Ok(())
 }

@@ -1,6 +1,7 @@
 //! Bytes that are judged to be a path, or refused.
 
 use for_tests::{has_text, says};
+use std::test::Fail;
 use upath::judge;
 
 /// Whether bytes are accepted as the path of a text.
@@ -8,17 +9,34 @@ pub(crate) fn accepts(rt: &HostRuntime, bytes: &[u8], want: &str) -> bool {
     matches!(&judge(rt.alloc(), bytes), Ok(path) if has_text(path.to_cstr16(), want))
 }
 
+/// Bytes, and the text of their path.
+const ACCEPTED: &[(&[u8], &str)] = &[
+    (b"\\\0\0\0", r"\"),
+    (b"\\\0a\0\0\0", r"\a"),
+    (b"/\0a\0\0\0", r"\a"),
+    (b"\xff\xff\0\0", "\u{ffff}"),
+];
+
 /// Bytes of no path, and what the refusal says. An odd number of bytes is refused for that, and else bytes
 /// that no NUL ends.
 const REFUSED: &[(&[u8], &str)] = &[
     (b"", "not null-terminated"),
     (b"a", "odd number of bytes"),
     (b"a\0", "not null-terminated"),
+    (b"a\0\0", "odd number of bytes"),
+    // The beginnings of a path that is accepted.
+    (b"\\", "odd number of bytes"),
+    (b"\\\0", "not null-terminated"),
+    (b"\\\0a", "odd number of bytes"),
+    (b"\\\0a\0", "not null-terminated"),
+    (b"\\\0a\0\0", "odd number of bytes"),
     (b"\0\xd8", "invalid character at index 0"),
+    (b"\0\xd8\0\0", "invalid character at index 0"),
     (b"A\0\0\xd8\0\0", "invalid character at index 1"),
     (b"a\0\0\0b\0", "interior null character at index 1"),
     (b"\0\0", "path is empty"),
     (b"\\\0\\\0\0\0", "path contains an empty component"),
+    (b"a\0/\0/\0b\0\0\0", "path contains an empty component"),
     (b".\0.\0\0\0", "path climbs above the root"),
     (
         b"a\0>\0\0\0",
@@ -33,5 +51,53 @@ fn judged_bytes(rt: HostRuntime) {
         let is_right = matches!(&judged, Err(error) if says(rt.alloc(), error, want));
         assert!(rt; is_right, "{want}");
     }
-    assert!(rt; accepts(&rt, b"/\0a\0\0\0", r"\a") && accepts(&rt, b"\xff\xff\0\0", "\u{ffff}"));
+    for (bytes, want) in ACCEPTED {
+        assert!(rt; accepts(&rt, bytes, want), "{bytes:?}");
+    }
+}
+
+/// A unit, whether it stands in the place of the NUL of a text or in that of each other unit in turn, and
+/// what the refusal says before the number of that place, or nothing where bytes are accepted.
+const HOSTILE_UNITS: &[(u16, bool, &str)] = &[
+    (0xd800, false, "invalid character at index "),
+    (0xdfff, false, "invalid character at index "),
+    (0, false, "interior null character at index "),
+    (0xdc00, true, "invalid character at index "),
+    (0xd7ff, false, ""),
+    (0xe000, false, ""),
+    (0xffff, false, ""),
+];
+
+/// The bytes of this many `A` and a NUL, with this unit at a place.
+fn bytes_with(rt: &HostRuntime, len: usize, place: usize, unit: u16) -> Result<Vec<u8>, Fail> {
+    let mut bytes = Vec::new(rt.alloc());
+    for index in 0..=len {
+        let other = if index < len { 65 } else { 0 };
+        let unit = if index == place { unit } else { other };
+        bytes.extend_from_slice(&unit.to_le_bytes())?;
+    }
+    Ok(bytes)
+}
+
+/// Whether bytes are refused with these words and the number of this place, or accepted if there are none.
+fn is_decided(rt: &HostRuntime, bytes: &[u8], words: &str, place: usize) -> Result<bool, Fail> {
+    let want = format!(in rt.alloc(); "{words}{place}")?;
+    Ok(match &judge(rt.alloc(), bytes) {
+        Ok(path) => words.is_empty() && path.to_cstr16().num_bytes() == bytes.len(),
+        Err(error) => says(rt.alloc(), error, &want),
+    })
+}
+
+#[test]
+fn hostile_units_at_each_place(rt: HostRuntime) -> Result<(), Fail> {
+    for len in 1..=5usize {
+        for (unit, is_last, words) in HOSTILE_UNITS {
+            let places = if *is_last { len..=len } else { 0..=len - 1 };
+            for place in places {
+                let bytes = bytes_with(&rt, len, place, *unit)?;
+                assert!(rt; is_decided(&rt, &bytes, words, place)?, "{bytes:?}");
+            }
+        }
+    }
+    Ok(())
 }

@@ -1,53 +1,41 @@
 //! What programs do with paths, with each request for memory refused in turn, until a run ends with
 //! none refused, and how many requests each call makes.
 
-use crate::streams::{FailingReader, KINDS};
+use crate::commands::runs;
+use crate::streams::{FailingReader, KINDS, SHORT};
 use for_tests::{Refusing, is_answered, out_of_memory, refused_in_turn, requests, string};
 use std::alloc::{AllocError, Global};
 use std::test::Fail;
 use uefi_path::{Path, PathBuf};
-use uefi_text::{CStr16, Char16Slice};
+use uefi_text::{CStr16, CString16, Char16Slice};
 use upath::{
-    JudgeError, PathCommand, StreamFault, Watched, all_parents, judge, pieces, run_commands,
-    run_streams, run_text,
+    JudgeError, PathCommand, StreamFault, Watched, all_parents, judge, pieces, run_streams,
+    run_text,
 };
 
-/// Whether commands are run on an empty path, or memory ran out.
-fn runs(heap: &Refusing<Global>, commands: &[PathCommand<'_>]) -> Result<bool, AllocError> {
-    let mut path = PathBuf::new(heap)?;
-    is_answered(
-        run_commands(heap, &mut path, commands).map_err(|_| AllocError),
-        AllocError,
-    )
+/// The texts of a path that is empty, then `a`, and then takes another `b` each time.
+fn texts_of_pushes(alloc: Global) -> Result<Vec<CString16>, Fail> {
+    let mut texts = vec![in alloc; string(alloc, "")?]?;
+    let mut text = String::new(alloc);
+    text.push('a')?;
+    for _ in 0..65 {
+        texts.push(string(alloc, &text)?)?;
+        text.push_str(r"\b")?;
+    }
+    Ok(texts)
 }
 
-/// A command that sets the path `a`, and 64 that push `b`; commands of each kind; and some that take no
-/// memory: a parent of the empty path, a push of the empty text, and a clearing.
+/// A command that sets the path `a`, and 64 that push `b`.
 #[test]
 fn requests_of_commands(rt: HostRuntime) -> Result<(), Fail> {
     let (a, b) = (
-        CStr16::from_u16_with_nul(&[47, 97, 0])?,
+        CStr16::from_u16_with_nul(&[97, 0])?,
         CStr16::from_u16_with_nul(&[98, 0])?,
     );
-    let empty = CStr16::from_u16_with_nul(&[0])?;
     let mut long = [PathCommand::Push(Path::new(b)); 65];
     long[0] = PathCommand::From(a);
-    let (from, push) = (PathCommand::From(a), PathCommand::Push(Path::new(b)));
-    let each = [
-        from,
-        push,
-        PathCommand::Parent,
-        PathCommand::Parent,
-        PathCommand::Clear,
-    ];
-    let none = [
-        PathCommand::Parent,
-        PathCommand::Push(Path::new(empty)),
-        PathCommand::Clear,
-    ];
-    assert!(rt; 2 <= requests(rt.alloc(), 1, |heap| runs(heap, &long))?);
-    assert!(rt; 3 <= requests(rt.alloc(), 1, |heap| runs(heap, &each))?);
-    assert!(rt; requests(rt.alloc(), 1, |heap| runs(heap, &none))? == 0);
+    let texts = texts_of_pushes(rt.alloc())?;
+    assert!(rt; 2 <= requests(rt.alloc(), 1, |heap| runs(heap, &long, &texts))?);
     Ok(())
 }
 
@@ -81,9 +69,10 @@ fn has_parents(heap: &Refusing<Global>, text: CStr16<'_>) -> Result<bool, AllocE
 
 /// Whether a run over streams writes this, or nothing where memory ran out. Few bytes go through a read, so
 /// that most lines are not given whole.
-fn writes(heap: &Refusing<Global>, alloc: Global) -> Result<bool, AllocError> {
+fn writes(heap: &Refusing<Global>, alloc: Global, run: (&[u8], &[u8])) -> Result<bool, AllocError> {
+    let (input, want) = run;
     let mut reader = Watched::new(FailingReader {
-        rest: INPUT,
+        rest: input,
         step: 5,
         failing: 0,
         kind: KINDS[0],
@@ -94,7 +83,7 @@ fn writes(heap: &Refusing<Global>, alloc: Global) -> Result<bool, AllocError> {
     let is_unmarked = !reader.has_failed() && !writer.has_failed();
     let output: Vec<u8> = writer.into_inner();
     match outcome {
-        Ok(()) => Ok(is_unmarked && output.as_slice() == OUTPUT),
+        Ok(()) => Ok(is_unmarked && output.as_slice() == want),
         Err(StreamFault::OutOfMemory) => out_of_memory(is_unmarked && output.is_empty()),
         Err(_) => Ok(false),
     }
@@ -129,7 +118,8 @@ fn requests_of_each_call(rt: HostRuntime) -> Result<(), Fail> {
         0,
         |heap| Ok(run_text(heap, INPUT)?.as_slice() == OUTPUT),
     )?;
-    assert!(rt; 6 <= run && 7 <= requests(alloc, 0, |heap| writes(heap, alloc))?);
+    assert!(rt; 6 <= run && 7 <= requests(alloc, 0, |heap| writes(heap, alloc, (INPUT, OUTPUT)))?);
+    assert!(rt; 3 <= requests(alloc, 0, |heap| writes(heap, alloc, SHORT[0]))?);
     Ok(())
 }
 

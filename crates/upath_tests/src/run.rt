@@ -23,17 +23,33 @@ const NO_UCS2: &str = "UCS-2 Conversion Error: Invalid character\n";
 /// string, and what they print.
 const RUNS: &[(&str, &str)] = &[
     (
-        "from /a\\b\neq a\\b\neq \\\\a\\b\npush\npieces\n",
+        "from \\foo\\bar\npieces\n",
+        "= \\foo\\bar\npieces 2\n| foo\n| bar\n",
+    ),
+    // The last line has no end.
+    (
+        "from /a\\b\neq a\\b\neq \\\\a\\b\npush\npieces",
         "= \\a\\b\nequal\ndifferent\n? unknown command\npieces 2\n| a\n| b\n",
     ),
     (
-        "from a\npush \nparent\nclear\ncmp \\\njoin \\x\nfrom \\\njoin \\x\ncmp x\nfrom b\ncmp \\c\n",
-        "= a\n= a\nnone\n= \nequal\n= \\x\n= \\\n= \\\\x\nless\n= b\nless\n",
+        "from a\npush \nparent\nclear\ncmp \\\njoin \\x\nfrom \\\njoin \\x\ncmp x\ncheck\nfrom b\ncmp \\c\n",
+        "= a\n= a\nnone\n= \nequal\n= \\x\n= \\\n= \\\\x\nless\n\
+         path contains an empty component\n= b\nless\n",
     ),
     (
         "from a/../b\nnorm\npieces\nclear\nnorm\nnorm \n",
         "= a\\..\\b\n= b\npieces 3\n| a\n| ..\n| b\n= \npath is empty\n? unknown command\n",
     ),
+    (
+        "from ..\\a\ncheck\nnorm\nparent\ncheck\n",
+        "= ..\\a\npath climbs above the root\npath climbs above the root\n= ..\n\
+         path climbs above the root\n",
+    ),
+    (
+        "from \\\\\\\npieces\nup\ncheck\n",
+        "= \\\\\\\npieces 3\n| \n| \n| \nparents 1\n| \npath contains an empty component\n",
+    ),
+    ("from \u{ffff}\n", "= \u{ffff}\n"),
     (
         "from a/b\neq a/b\ncmp \\a\\b\ncmp a\njoin \\\npieces\ncheck\nup\n",
         "= a\\b\ndifferent\nequal\ngreater\n= a\\b\\\\\npieces 4\n| a\n| b\n| \n| \n\
@@ -63,8 +79,17 @@ const RUNS: &[(&str, &str)] = &[
     ("wat x\0", "? unknown command\n"),
 ];
 
+/// Texts that are no strings, a line without a verb, and one that is not UTF-8.
+const FAULTY_LINES: &[u8] =
+    b"from a\xf0\x9f\x98\x80\n\nfrom \npieces\neq \\\ncheck\n\xff\nfrom x\0\nclear \n";
+
+const FAULTS: &str =
+    "UCS-2 Conversion Error: Invalid character\n? unknown command\n= \npieces 0\nequal\n\
+    path is empty\n? not UTF-8\nUCS-2 Conversion Error: Interior null terminator\n? unknown command\n";
+
 #[test]
 fn runs_and_what_they_print(rt: HostRuntime) {
+    assert!(rt; prints(&rt, FAULTY_LINES, FAULTS));
     for (input, want) in RUNS {
         assert!(rt; prints(&rt, input.as_bytes(), want), "{input:?}");
     }

@@ -233,11 +233,14 @@ fn each_call_ends(rt: &HostRuntime, run: Run<'_>, kind: ErrorKind) -> Result<boo
     ends_in_flush(rt, run, writes, kind)
 }
 
-/// No input, the shortest one that is not empty, another, and that of the program's stored run.
-const SHORT: &[(&[u8], &[u8])] = &[
+/// A path and its pieces, no input, the shortest one that is not empty, and that of the program's stored run.
+pub(crate) const SHORT: &[(&[u8], &[u8])] = &[
+    (
+        b"from \\foo\\bar\npieces\n",
+        b"= \\foo\\bar\npieces 2\n| foo\n| bar\n",
+    ),
     (b"", b""),
     (b"\n", b"? unknown command\n"),
-    (b"from \\foo\npieces\n", b"= \\foo\npieces 1\n| foo\n"),
     (
         b"from /a\npush b\nup\nparent\nparent\npieces\ncheck\n",
         b"= \\a\n= \\a\\b\nparents 1\n| a\n= a\nnone\npieces 1\n| a\nok\n",

@@ -1,0 +1,283 @@
+//! What errors print for users, each value with its sentence.
+
+use for_tests::says;
+use std::alloc::Global;
+use std::fmt::Display;
+use uefi_device_path::{
+    BuildError, DevicePathError, Expected, FilePathCause, FilePathError, FilePathWriteError,
+    GrowError, LenientTextError, LoadOptionCause, LoadOptionError, NodeConversionError, NodeError,
+    OptionBuildError, PathTextError, PushLenientTextError, PushTextError, TextFault,
+};
+use uefi_text::{FromSliceWithNulError, Printed};
+
+/// The first sentence that its error does not say.
+fn find_unsaid<'a, E: Display + Printed>(alloc: Global, rows: &[(E, &'a str)]) -> Option<&'a str> {
+    for (error, sentence) in rows {
+        if !says(alloc, error, sentence) {
+            return Some(sentence);
+        }
+    }
+    None
+}
+
+const NODES: &[(NodeError, &str)] = &[
+    (NodeError::Missing, "no end node ends the device path"),
+    (
+        NodeError::TruncatedHeader,
+        "the bytes end in a node's header",
+    ),
+    (
+        NodeError::UnknownEnd,
+        "an end node ends neither a path nor an instance",
+    ),
+    (
+        NodeError::LengthBelowHeader,
+        "a node is shorter than its header",
+    ),
+    (NodeError::EndWithData, "an end node has data"),
+    (
+        NodeError::BeyondEnd,
+        "a node is longer than the bytes that are left",
+    ),
+];
+
+const CONVERSIONS: &[(NodeConversionError, &str)] = &[
+    (
+        NodeConversionError::DifferentType,
+        "the node is of another type or sub-type",
+    ),
+    (
+        NodeConversionError::InvalidLength,
+        "no node of this kind has this length",
+    ),
+    (
+        NodeConversionError::UnsupportedType,
+        "no kind has this type and sub-type",
+    ),
+];
+
+const BEYOND: DevicePathError = DevicePathError {
+    cause: NodeError::BeyondEnd,
+    offset: 12,
+};
+
+const PATHS: &[(DevicePathError, &str)] = &[(
+    BEYOND,
+    "a node is longer than the bytes that are left at offset 12",
+)];
+
+const HALF_UNIT: FilePathError = FilePathError {
+    cause: FilePathCause::HalfUnit,
+    offset: 10,
+};
+
+const FILE_PATHS: &[(FilePathError, &str)] = &[
+    (HALF_UNIT, "file path: odd number of bytes at offset 10"),
+    (
+        FilePathError {
+            cause: FilePathCause::Text(FromSliceWithNulError::InteriorNul(3)),
+            offset: 4,
+        },
+        "file path: interior null character at index 3 at offset 4",
+    ),
+    (
+        FilePathError {
+            cause: FilePathCause::OutOfMemory,
+            offset: 0,
+        },
+        "out of memory at offset 0",
+    ),
+];
+
+const FILE_PATH_WRITES: &[(FilePathWriteError, &str)] = &[
+    (
+        FilePathWriteError::Name(HALF_UNIT),
+        "file path: odd number of bytes at offset 10",
+    ),
+    (
+        FilePathWriteError::BufferTooSmall(9),
+        "buffer too small: the file path needs 9 units",
+    ),
+];
+
+const FILE_PATH_CAUSES: &[(FilePathCause, &str)] = &[
+    (FilePathCause::HalfUnit, "file path: odd number of bytes"),
+    (
+        FilePathCause::Text(FromSliceWithNulError::NotNulTerminated),
+        "file path: not null-terminated",
+    ),
+    (FilePathCause::OutOfMemory, "out of memory"),
+];
+
+const LOAD_OPTION_CAUSES: &[(LoadOptionCause, &str)] = &[
+    (
+        LoadOptionCause::TooShort,
+        "the load option ends before its description",
+    ),
+    (
+        LoadOptionCause::DescriptionWithoutEnd,
+        "no NUL ends the description",
+    ),
+    (
+        LoadOptionCause::ListBeyondEnd,
+        "the file path list is longer than the bytes that are left",
+    ),
+    (LoadOptionCause::EmptyList, "the file path list is empty"),
+    (
+        LoadOptionCause::FilePathList(NodeError::EndWithData),
+        "an end node has data",
+    ),
+];
+
+const LOAD_OPTIONS: &[(LoadOptionError, &str)] = &[(
+    LoadOptionError {
+        cause: LoadOptionCause::EmptyList,
+        offset: 10,
+    },
+    "the file path list is empty at offset 10",
+)];
+
+const BUILDS: &[(BuildError, &str)] = &[
+    (
+        BuildError::EndNode,
+        "an end node may not stand before the end of a device path",
+    ),
+    (
+        BuildError::NodeTooLong,
+        "the node is longer than its header can state",
+    ),
+    (
+        BuildError::BufferTooSmall(14),
+        "buffer too small: the device path needs 14 bytes",
+    ),
+    (BuildError::OutOfMemory, "out of memory"),
+];
+
+const GROWS: &[(GrowError, &str)] = &[
+    (
+        GrowError::Path(BEYOND),
+        "a node is longer than the bytes that are left at offset 12",
+    ),
+    (
+        GrowError::Build(BuildError::NodeTooLong),
+        "the node is longer than its header can state",
+    ),
+];
+
+const PUSHED_TEXTS: &[(PushTextError, &str)] = &[
+    (
+        PushTextError::Path(BEYOND),
+        "a node is longer than the bytes that are left at offset 12",
+    ),
+    (PushTextError::NoNode(7), "no node at offset 7"),
+    (
+        PushTextError::BufferTooSmall(20),
+        "buffer too small: the device path needs 20 bytes",
+    ),
+];
+
+const OPTION_BUILDS: &[(OptionBuildError, &str)] = &[
+    (
+        OptionBuildError::NulInDescription(2),
+        "description: interior null character at index 2",
+    ),
+    (OptionBuildError::EmptyList, "the file path list is empty"),
+    (
+        OptionBuildError::ListTooLong,
+        "the file path list is longer than its header can state",
+    ),
+    (
+        OptionBuildError::TooLong,
+        "the load option is longer than memory",
+    ),
+    (
+        OptionBuildError::BufferTooSmall(24),
+        "buffer too small: the load option needs 24 bytes",
+    ),
+    (OptionBuildError::OutOfMemory, "out of memory"),
+];
+
+const TEXTS: &[(PathTextError, &str)] = &[
+    (PathTextError::NoNode(0), "no node at offset 0"),
+    (PathTextError::OutOfMemory, "out of memory"),
+];
+
+const FAULT: TextFault = TextFault {
+    node: 11,
+    byte: 15,
+    expected: Expected::Number(0xff),
+};
+
+const FAULT_TEXT: &str = "no node at offset 11: expected a number up to 0xFF at offset 15";
+
+const LENIENT_TEXTS: &[(LenientTextError, &str)] = &[
+    (LenientTextError::NoNode(FAULT), FAULT_TEXT),
+    (LenientTextError::OutOfMemory, "out of memory"),
+];
+
+const PUSHED_LENIENT_TEXTS: &[(PushLenientTextError, &str)] = &[
+    (
+        PushLenientTextError::Path(BEYOND),
+        "a node is longer than the bytes that are left at offset 12",
+    ),
+    (
+        PushLenientTextError::ScratchTooSmall(8),
+        "scratch too small: the text needs 8 bytes",
+    ),
+    (PushLenientTextError::NoNode(FAULT), FAULT_TEXT),
+    (
+        PushLenientTextError::BufferTooSmall(20),
+        "buffer too small: the device path needs 20 bytes",
+    ),
+];
+
+const EXPECTED: &[(Expected, &str)] = &[
+    (Expected::Node, "the name of a node"),
+    (Expected::Number(0xffff), "a number up to 0xFFFF"),
+    (
+        Expected::NumberOrDefault(0xff),
+        "DEFAULT or a number up to 0xFF",
+    ),
+    (Expected::NumberFromOne(0x7f), "a number from 1 to 0x7F"),
+    (Expected::Digits(8), "8 hexadecimal digits"),
+    (
+        Expected::DashedDigits(16),
+        "16 hexadecimal digits in pairs, with dashes between them",
+    ),
+    (Expected::Parity, "a parity (D, N, E, O, M, S or x) and `,`"),
+    (Expected::StopBits, "stop bits (D, 1, 1.5, 2 or x) and `)`"),
+    (Expected::Byte(b')'), "`)`"),
+    (Expected::FileName, "the name of a file"),
+    (Expected::End, "`/`, `,` or the end of the text"),
+    (Expected::AsPrinted, "the exact printed form"),
+    (
+        Expected::Untold,
+        "a shorter node, or one whose text tells all of it",
+    ),
+];
+
+#[test]
+fn printed_for_users(rt: HostRuntime) {
+    let alloc = rt.alloc();
+    assert_eq!(rt; find_unsaid(alloc, NODES), None);
+    assert_eq!(rt; find_unsaid(alloc, CONVERSIONS), None);
+    assert_eq!(rt; find_unsaid(alloc, PATHS), None);
+    assert_eq!(rt; find_unsaid(alloc, FILE_PATHS), None);
+    assert_eq!(rt; find_unsaid(alloc, FILE_PATH_CAUSES), None);
+    assert_eq!(rt; find_unsaid(alloc, FILE_PATH_WRITES), None);
+    assert_eq!(rt; find_unsaid(alloc, LOAD_OPTION_CAUSES), None);
+    assert_eq!(rt; find_unsaid(alloc, LOAD_OPTIONS), None);
+}
+
+#[test]
+fn printed_of_writers_and_readers(rt: HostRuntime) {
+    let alloc = rt.alloc();
+    assert_eq!(rt; find_unsaid(alloc, BUILDS), None);
+    assert_eq!(rt; find_unsaid(alloc, GROWS), None);
+    assert_eq!(rt; find_unsaid(alloc, PUSHED_TEXTS), None);
+    assert_eq!(rt; find_unsaid(alloc, OPTION_BUILDS), None);
+    assert_eq!(rt; find_unsaid(alloc, TEXTS), None);
+    assert_eq!(rt; find_unsaid(alloc, LENIENT_TEXTS), None);
+    assert_eq!(rt; find_unsaid(alloc, PUSHED_LENIENT_TEXTS), None);
+    assert_eq!(rt; find_unsaid(alloc, EXPECTED), None);
+}
