@@ -169,13 +169,14 @@ fn long_texts(rt: HostRuntime) -> Result<(), Fail> {
     assert!(rt; is_added(alloc, true, path.len().saturating_sub(1), &text, &path)?);
     assert!(rt; is_added(alloc, true, path.len() + 1, &text, &path)?);
 
-    let mut node = Vec::from_slice(alloc, &[4, 4, 0xfe, 0xff, 0x5c, 0])?;
-    for _ in 0..32_763 {
+    let mut node = Vec::from_slice(alloc, &[4, 4, 0xfe, 0xff, 0x5c, 0, 0x62, 0, 0x5c, 0])?;
+    for _ in 0..32_761 {
         node.extend_from_slice(&[0x61, 0])?;
     }
     node.extend_from_slice(&[0, 0])?;
     let path = path_of(alloc, &node)?;
-    let name = "a".repeat(alloc, 32_763)?;
+    let letters = "a".repeat(alloc, 32_761)?;
+    let name = format!(in alloc; "b\\{letters}")?;
     let filed = format!(in alloc; "file({name})")?;
     assert!(rt; is_added(alloc, false, path.len(), &name, &path)?);
     assert!(rt; is_added(alloc, false, path.len(), &filed, &path)?);
