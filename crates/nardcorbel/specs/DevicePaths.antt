@@ -5,7 +5,7 @@ use Rattle.uefi_device_nodes.specs.NodeTexts.{node_text}
 use Rattle.uefi_device_path.specs.LoadOptions.{Entry}
 use Rattle.uefi_device_path.specs.PathLists.{list_bytes}
 use Rattle.uefi_device_path.specs.Paths.{path_bytes}
-use Rattle.uefi_device_path.specs.PathTexts.{device_path_text}
+use Rattle.uefi_device_path.specs.PathTexts.{nodes_text}
 use Rattle.uefi_text.specs.UnitTexts.{utf16_units}
 use Rattle.nardcorbel.specs.declared.device_paths.DeviceNode.{DeviceNode}
 use Rattle.nardcorbel.specs.declared.load_options.LoadOptionParts.{LoadOptionParts}
@@ -17,7 +17,7 @@ node_in bytes node =
 
 -- the text of a device path of these nodes, in UTF-16
 abbrev pub text_units : Bool → Bool → List Node → List ℕ
-text_units display_only shortcuts nodes = utf16_units (device_path_text display_only shortcuts nodes)
+text_units display_only shortcuts nodes = utf16_units (nodes_text display_only shortcuts nodes)
 
 -- bytes begin with the bytes of this node
 abbrev pub BeginWithNode : List ℕ → Node → Type 0

@@ -15,7 +15,7 @@ ghost use Rattle.uefi_device_path.specs.Matching.{IsExpansion};
 ghost use Rattle.uefi_device_path.specs.OptionBuilding.{option_over, write_fault};
 ghost use Rattle.uefi_device_path.specs.PathReading.{AreTold, HasPath, StopsAt};
 ghost use Rattle.uefi_device_path.specs.Paths.{BeginWithPath, path_bytes};
-ghost use Rattle.uefi_device_path.specs.PathTexts.{device_path_text};
+ghost use Rattle.uefi_device_path.specs.PathTexts.{nodes_text};
 ghost use Rattle.uefi_device_path.specs.declared.errors.BuildError.{BuildError};
 ghost use Rattle.uefi_device_path.specs.declared.errors.DevicePathError.{DevicePathError};
 ghost use Rattle.uefi_device_path.specs.declared.lenient_errors.TextFault.{TextFault};
@@ -229,14 +229,14 @@ pub extern "C" fn nard_device_path_push_text(
     ensures no_node { (nodes : List Node) → BeginWithPath buffer.old nodes → IsUtf8 bytes.now
         → (at : ℕ) → StopsAt bytes.now at → (result ≡ NO_NODE) × (place.new ≡ at) }
     ensures reason { (nodes told : List Node) → BeginWithPath buffer.old nodes → IsUtf8 bytes.now
-        → AreTold told → device_path_text false false told ≡ bytes.now
+        → AreTold told → nodes_text false false told ≡ bytes.now
         → result ≡ text_reason (text_refusal nodes told (length buffer.old)) }
     ensures place { (nodes told : List Node) → BeginWithPath buffer.old nodes → IsUtf8 bytes.now
-        → AreTold told → device_path_text false false told ≡ bytes.now
+        → AreTold told → nodes_text false false told ≡ bytes.now
         → place.new ≡ text_place (text_refusal nodes told (length buffer.old))
         (length (path_bytes (nodes ++ told))) }
     ensures buffer { (nodes told : List Node) → BeginWithPath buffer.old nodes → AreTold told
-        → device_path_text false false told ≡ bytes.now → result ≡ OK
+        → nodes_text false false told ≡ bytes.now → result ≡ OK
         → buffer.new ≡ with_prefix (path_bytes (nodes ++ told)) buffer.old }
     ensures stops { result ≡ NO_NODE → StopsAt bytes.now place.new }
     ensures read { result ≡ OK → HasPath bytes.now }

@@ -10,7 +10,7 @@ use Rattle.uefi_device_nodes.specs.Nodes.{Node, is_end_instance}
 use Rattle.uefi_device_nodes.specs.NodeTexts.{node_text}
 use Rattle.uefi_device_path.specs.Building.{build_refusal}
 use Rattle.uefi_device_path.specs.Instances.{instances}
-use Rattle.uefi_device_path.specs.PathTexts.{instance_text, device_path_text}
+use Rattle.uefi_device_path.specs.PathTexts.{instance_text, nodes_text}
 use Rattle.uefi_device_path.specs.PathReading.{AreTold, BeginsWithNode, NoneBegins, StopsAt, end_instance, is_after_instance, starts_instance, text_before}
 use Rattle.uefi_device_path.specs.declared.errors.BuildError.TheVariants.{EndNode, NodeTooLong}
 use Rattle.uefi_node_reader.specs.Laws.{NodeFits, NodeStarts, NodeTakes}
@@ -86,8 +86,8 @@ rest_is (n ∷ ns) = by (is_end_instance n) (instances ns) (instances_some ns) (
         let e = ap (λ (x : List ℕ). text ++ x) h.1 ∙ sym (append_assoc text (slashed p) (comma_parts ps)) in
         (e, ap (λ (x : List ℕ). codes "/" ++ x) e)
 
-pub path_text_is : (nodes : List Node) → device_path_text false false nodes ≡ rest_text true nodes
-unfolding device_path_text
+pub path_text_is : (nodes : List Node) → nodes_text false false nodes ≡ rest_text true nodes
+unfolding nodes_text
 path_text_is nodes = sym (rest_is nodes).0
 
 -- a node that is told, or the end of an instance
@@ -266,7 +266,7 @@ over_node fits starts text nodes new at_start rest place after node on other is 
 
 -- at the end, and where no node begins
 pub done : (text : List ℕ) (nodes : List Node) (at_start : Bool) (rest : List ℕ)
-    → Going text nodes at_start rest → length rest ≡ 0 → device_path_text false false nodes ≡ text
+    → Going text nodes at_start rest → length rest ≡ 0 → nodes_text false false nodes ≡ text
 done text nodes at_start (c ∷ cs) on none = absurd (omega arith)
 done text nodes at_start [] on none =
     path_text_is nodes ∙ sym (append-nil (rest_text true nodes)) ∙ sym on.splits

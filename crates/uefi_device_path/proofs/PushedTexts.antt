@@ -8,7 +8,7 @@ use Rattle.uefi_device_nodes.specs.Nodes.{Node, end_entire, node_bytes, node_len
 use Rattle.uefi_device_path.specs.Building.{path_length, text_refusal}
 use Rattle.uefi_device_path.specs.PathReading.{AreTold, BeginsWithNode, HasPath, NoneBegins, end_instance, is_after_instance}
 use Rattle.uefi_device_path.specs.Paths.{IsPath, joined, nodes_in, path_bytes, without_end}
-use Rattle.uefi_device_path.specs.PathTexts.{device_path_text}
+use Rattle.uefi_device_path.specs.PathTexts.{nodes_text}
 use Rattle.uefi_device_path.specs.declared.errors.PushTextError.TheVariants.{BufferTooSmall}
 use Rattle.uefi_node_reader.specs.Laws.{NodeFits, NodeStarts, NodeTextOnce}
 use Rattle.uefi_device_path.proofs.Building.{len_of_path}
@@ -72,7 +72,7 @@ pub record Leaves (text : List ℕ) (done : List Node) (at_start : Bool) (rest :
   pub others : List Node
   pub told : AreTold others
   pub all : AreTold (done ++ others)
-  pub whole : device_path_text false false (done ++ others) ≡ text
+  pub whole : nodes_text false false (done ++ others) ≡ text
   pub left : rest ≡ whole_text at_start others None
 
 pub leaves_all : (text : List ℕ) → HasPath text → Leaves text [] true text
@@ -82,13 +82,13 @@ leaves_all text (nodes, told, is) =
 -- one more was read
 leaves_next : (text : List ℕ) (done : List Node) (node : Node) (others : List Node) (at_start : Bool)
     (rest : List ℕ) → AreTold (node ∷ others) → AreTold (done ++ node ∷ others)
-    → device_path_text false false (done ++ node ∷ others) ≡ text → rest ≡ whole_text at_start others None
+    → nodes_text false false (done ++ node ∷ others) ≡ text → rest ≡ whole_text at_start others None
     → Leaves text (done ++ node ∷ []) at_start rest
 leaves_next text done node others at_start rest told all is left = record {
   others = others;
   told = All-tail IsToldOrEnd node others told;
   all = subst AreTold same all;
-  whole = ap (device_path_text false false) (sym same) ∙ is;
+  whole = ap (nodes_text false false) (sym same) ∙ is;
   left = left;
 }
   where
@@ -102,7 +102,7 @@ leaves_comma starts fits text done at_start rest after on is =
     (by on.others on.told on.all on.whole on.left, omega (arith, ap length is))
   where
     by : (others : List Node) → AreTold others → AreTold (done ++ others)
-        → device_path_text false false (done ++ others) ≡ text → rest ≡ whole_text at_start others None
+        → nodes_text false false (done ++ others) ≡ text → rest ≡ whole_text at_start others None
         → Leaves text (done ++ end_instance ∷ []) true after
     by [] told all whole left = absurd (nothing_is_no_byte 44 after (sym left ∙ is))
     by (n ∷ ns) told all whole left =
@@ -132,7 +132,7 @@ leaves_node once starts fits text done at_start rest place after node on other i
     within false e = omega (arith, ap length e, length-drop 1 rest)
 
     by : (others : List Node) → AreTold others → AreTold (done ++ others)
-        → device_path_text false false (done ++ others) ≡ text → rest ≡ whole_text at_start others None
+        → nodes_text false false (done ++ others) ≡ text → rest ≡ whole_text at_start others None
         → Leaves text (done ++ node ∷ []) false after
     by [] told all whole left = absurd (true≢false (sym (ap is_after_instance left) ∙ other))
     by (n ∷ ns) told all whole left =
@@ -158,15 +158,15 @@ never_stops fits text done at_start rest place on other is none = by on.others o
 -- where nothing is left, all were read
 pub leaves_none : NodeStarts → NodeFits → (text : List ℕ) (done : List Node) (at_start : Bool)
     (rest : List ℕ) → Leaves text done at_start rest → length rest ≡ 0
-    → AreTold done × (device_path_text false false done ≡ text)
+    → AreTold done × (nodes_text false false done ≡ text)
 leaves_none starts fits text done at_start rest on none = by on.others on.told on.all on.whole on.left
   where
     by : (others : List Node) → AreTold others → AreTold (done ++ others)
-        → device_path_text false false (done ++ others) ≡ text → rest ≡ whole_text at_start others None
-        → AreTold done × (device_path_text false false done ≡ text)
+        → nodes_text false false (done ++ others) ≡ text → rest ≡ whole_text at_start others None
+        → AreTold done × (nodes_text false false done ≡ text)
     by [] told all whole left =
         let same = append-nil done in
-        (subst AreTold same all, ap (device_path_text false false) (sym same) ∙ whole)
+        (subst AreTold same all, ap (nodes_text false false) (sym same) ∙ whole)
     by (n ∷ ns) told all whole left =
         absurd (not_empty starts fits at_start n ns rest (All-head IsToldOrEnd n ns told) left none)
 
@@ -207,7 +207,7 @@ first_bytes nodes others = omega (
 
 -- a buffer has room for the path of these nodes and of those of a text
 abbrev pub HasRoom : List ℕ → List ℕ → List Node → Type 0
-HasRoom old text before = (told : List Node) → AreTold told → device_path_text false false told ≡ text
+HasRoom old text before = (told : List Node) → AreTold told → nodes_text false false told ≡ text
     → length (path_bytes (before ++ told)) ≤ length old
 
 -- there is room for one node more, where there is room for all

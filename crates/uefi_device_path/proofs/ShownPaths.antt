@@ -10,7 +10,7 @@ use Rattle.uefi_device_nodes.specs.NodeTexts.{node_text}
 use Rattle.uefi_device_nodes.specs.ShownNodes.{NodesShown}
 use Rattle.uefi_device_path.specs.Instances.{instances}
 use Rattle.uefi_device_path.specs.Laws.{InstancesShown, PathsShown}
-use Rattle.uefi_device_path.specs.PathTexts.{instance_text, device_path_text}
+use Rattle.uefi_device_path.specs.PathTexts.{instance_text, nodes_text}
 
 -- what holds of all elements holds of those of each part
 module _ {X : Type 0} (P : X → Type 0) (test : X → Bool) where
@@ -49,7 +49,7 @@ module _ (joined : JoinedShown) (ascii : AsciiShown) (nodes_shown : NodesShown) 
       join_shown HasBytes (node_text display_only shortcuts) (nodes_shown display_only shortcuts) (codes "/") (ascii (codes "/") refl) nodes all
 
   pub paths_shown : PathsShown
-  unfolding device_path_text
+  unfolding nodes_text
   paths_shown display_only shortcuts nodes all =
       join_shown (All HasBytes) (instance_text display_only shortcuts) (instances_shown display_only shortcuts) (codes ",") (ascii (codes ",") refl)
       (instances nodes) (parts_all HasBytes is_end_instance nodes all)

@@ -6,7 +6,7 @@ use Rattle.uefi_device_nodes.specs.Nodes.{Node, end_entire, node_bytes}
 use Rattle.uefi_device_path.specs.Laws.{TextsOnce}
 use Rattle.uefi_device_path.specs.Paths.{joined, path_bytes}
 use Rattle.uefi_device_path.specs.PathReading.{AreTold, BeginsWithNode, HasPath, NoneBegins, StopsAt, end_instance, is_after_instance}
-use Rattle.uefi_device_path.specs.PathTexts.{device_path_text}
+use Rattle.uefi_device_path.specs.PathTexts.{nodes_text}
 use Rattle.uefi_node_reader.specs.Laws.{NodeFits, NodeStarts}
 use Rattle.uefi_device_path.proofs.PathReading.{done, Going, going_first, over_comma, over_node, place_within, stopped}
 
@@ -67,7 +67,7 @@ pub counts_done : (text : List ℕ) (at_start : Bool) (rest : List ℕ) (len : �
 counts_done text at_start rest len on none = (on.nodes, on.going.told, done text on.nodes at_start rest on.going none)
 
 pub counts_all : TextsOnce → (text : List ℕ) (at_start : Bool) (rest : List ℕ) (len : ℕ) → CountsOn text at_start rest len → length rest ≡ 0
-    → (nodes : List Node) → AreTold nodes → device_path_text false false nodes ≡ text → len ≡ min (length (path_bytes nodes)) (2 ^ 64 - 1)
+    → (nodes : List Node) → AreTold nodes → nodes_text false false nodes ≡ text → len ≡ min (length (path_bytes nodes)) (2 ^ 64 - 1)
 counts_all once text at_start rest len on none nodes told is =
     on.count ∙ ap (λ (ns : List Node). min (length (path_bytes ns)) (2 ^ 64 - 1))
     (once on.nodes nodes on.going.told told (done text on.nodes at_start rest on.going none ∙ sym is))

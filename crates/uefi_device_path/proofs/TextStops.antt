@@ -6,7 +6,7 @@ use Rattle.std.proofs.lemmas.List.Elements.{All-head, All-tail}
 use Rattle.uefi_device_nodes.specs.Nodes.{Node, is_end_instance}
 use Rattle.uefi_device_path.specs.Laws.{StopsOnce, TextsNeverBoth, TextsOnce}
 use Rattle.uefi_device_path.specs.PathReading.{AreTold, IsReadError, NoneBegins, Stops, StopsAt, end_instance, is_after_instance, text_before}
-use Rattle.uefi_device_path.specs.PathTexts.{device_path_text}
+use Rattle.uefi_device_path.specs.PathTexts.{nodes_text}
 use Rattle.uefi_device_path.specs.declared.path_reader.PathTextError.{PathTextError}
 use Rattle.uefi_device_path.specs.declared.path_reader.PathTextError.TheVariants.{NoNode, OutOfMemory}
 use Rattle.uefi_device_path.proofs.PathReading.{IsToldOrEnd, no_end, onto_is, path_text_is, printed, rest_text, separator, starts_after, starts_after_is, text_before_is, text_onto}
@@ -140,7 +140,7 @@ wholes_once node_once starts fits (n ∷ ns) (m ∷ ms) s tail other told all is
         (cc, same.1)
 
 -- texts of nodes, and texts that stop, as such wholes
-pub path_whole : (nodes : List Node) → device_path_text false false nodes ≡ whole_text true nodes None
+pub path_whole : (nodes : List Node) → nodes_text false false nodes ≡ whole_text true nodes None
 path_whole nodes = path_text_is nodes
 
 stop_whole : (text : List ℕ) (place : ℕ) (nodes : List Node) (rest : List ℕ) → Stops text place nodes rest
@@ -168,7 +168,7 @@ stops_once node_once starts fits text place other (nodes, rest, first) (others, 
 
 pub never_both : NodeTextOnce → NodeStarts → NodeFits → TextsNeverBoth
 never_both node_once starts fits nodes place told (others, rest, stop) =
-    let text = device_path_text false false nodes in
+    let text = nodes_text false false nodes in
     let same = wholes_once node_once starts fits nodes others true None (Some rest) told stop.told
     tt (stop_tail text place others rest stop)
     (sym (path_whole nodes) ∙ stop_whole text place others rest stop) in
@@ -178,12 +178,12 @@ never_both node_once starts fits nodes place told (others, rest, stop) =
 -- what reading a text gives: nodes that are told and have this text, or a refusal
 pub record IsRead (text : List ℕ) (result : Result (List Node) PathTextError) : Type 0 where
   pub told : IfOk result AreTold
-  pub ok : IfOk result (λ path. device_path_text false false path ≡ text)
+  pub ok : IfOk result (λ path. nodes_text false false path ≡ text)
   pub refusal : IfErr result (IsReadError text)
 
 -- the nodes of a text are the only result but for memory, and so is the place where it stops
 pub if_only : NodeTextOnce → NodeStarts → NodeFits → (text : List ℕ) (r : Result (List Node) PathTextError)
-    → IsRead text r → (nodes : List Node) → AreTold nodes → device_path_text false false nodes ≡ text
+    → IsRead text r → (nodes : List Node) → AreTold nodes → nodes_text false false nodes ≡ text
     → IfOk r (λ path. path ≡ nodes) × IfErr r (λ error. error ≡ OutOfMemory)
 if_only node_once starts fits text (Ok path) read nodes told is =
     (once node_once starts fits path nodes read.told told (read.ok ∙ sym is), tt)

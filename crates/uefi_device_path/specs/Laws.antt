@@ -14,7 +14,7 @@ use Rattle.uefi_device_path.specs.LenientReading.{IsReadAs, ReadingStopsAt}
 use Rattle.uefi_device_path.specs.PathReading.{AreTold, StopsAt}
 use Rattle.uefi_text.specs.Packed.{IsByte}
 use Rattle.uefi_field_texts.specs.ShownTexts.{IsShown}
-use Rattle.uefi_device_path.specs.PathTexts.{instance_text, device_path_text}
+use Rattle.uefi_device_path.specs.PathTexts.{instance_text, nodes_text}
 use Rattle.uefi_device_path.specs.Paths.{BeginWithPath, path_bytes}
 use Rattle.uefi_device_path.specs.Faults.{RefusedFor}
 use Rattle.uefi_device_path.specs.FilePaths.{file_names, file_path, name_in}
@@ -104,13 +104,13 @@ LenientTold = (text : List ℕ) (nodes : List Node) → IsReadAs text nodes → 
 
 -- a printed text that tells all of its nodes is read as these nodes
 abbrev pub LenientPrinted : Type 0
-LenientPrinted = (text : List ℕ) (nodes : List Node) → AreTold nodes → device_path_text false false nodes ≡ text
+LenientPrinted = (text : List ℕ) (nodes : List Node) → AreTold nodes → nodes_text false false nodes ≡ text
     → IsReadAs text nodes
 
 -- no two lists of nodes of which the text tells all have the same text
 abbrev pub TextsOnce : Type 0
 TextsOnce = (nodes others : List Node) → AreTold nodes → AreTold others
-    → device_path_text false false nodes ≡ device_path_text false false others → nodes ≡ others
+    → nodes_text false false nodes ≡ nodes_text false false others → nodes ≡ others
 
 -- a text stops at one place at most being that of nodes of which the text tells all
 abbrev pub StopsOnce : Type 0
@@ -119,7 +119,7 @@ StopsOnce = (text : List ℕ) (place other : ℕ) → StopsAt text place → Sto
 -- no text of nodes of which the text tells all stops being one
 abbrev pub TextsNeverBoth : Type 0
 TextsNeverBoth = (nodes : List Node) (place : ℕ) → AreTold nodes
-    → StopsAt (device_path_text false false nodes) place → ⊥
+    → StopsAt (nodes_text false false nodes) place → ⊥
 
 -- the file path of one node that names a file is its name, each slash replaced
 abbrev pub OneName : Type 0
@@ -144,7 +144,7 @@ NamesInARow = (nodes : List Node)
 abbrev pub PathsShown : Type 0
 PathsShown = (display_only shortcuts : Bool) (nodes : List Node)
     → All (λ node. All IsByte node.content) nodes
-    → IsShown (device_path_text display_only shortcuts nodes)
+    → IsShown (nodes_text display_only shortcuts nodes)
 
 -- nor does one of an instance
 abbrev pub InstancesShown : Type 0

@@ -4,7 +4,7 @@ use Rattle.std.specs.List.{last_or}
 use Rattle.uefi_device_nodes.specs.Nodes.{Node, is_end_instance, node_with}
 use Rattle.uefi_device_nodes.specs.NodeTexts.{node_text}
 use Rattle.uefi_device_path.specs.Faults.{RefusedFor}
-use Rattle.uefi_device_path.specs.PathTexts.{device_path_text}
+use Rattle.uefi_device_path.specs.PathTexts.{nodes_text}
 use Rattle.uefi_device_path.specs.declared.errors.PushTextError.{PushTextError}
 use Rattle.uefi_device_path.specs.declared.errors.PushTextError.TheVariants as push_text
 use Rattle.uefi_device_path.specs.declared.path_reader.PathTextError.{PathTextError}
@@ -37,7 +37,7 @@ starts_instance (Some node) = is_end_instance node
 -- the text of nodes up to where one more node begins: a slash stands between two nodes of an instance
 abbrev pub text_before : List Node → List ℕ
 text_before nodes =
-    device_path_text false false nodes ++ (if starts_instance (last_or None nodes) then [] else codes "/")
+    nodes_text false false nodes ++ (if starts_instance (last_or None nodes) then [] else codes "/")
 
 -- the test for bytes that may stand after an instance: none, or a comma first
 abbrev pub is_after_instance : List ℕ → Bool
@@ -59,7 +59,7 @@ StopsAt text place = (nodes : List Node) × (rest : List ℕ) × Stops text plac
 
 -- a text is that of a path of which it tells all
 abbrev pub HasPath : List ℕ → Type 0
-HasPath text = (nodes : List Node) × AreTold nodes × (device_path_text false false nodes ≡ text)
+HasPath text = (nodes : List Node) × AreTold nodes × (nodes_text false false nodes ≡ text)
 
 -- why no path was read: memory was refused for that of this text, or the text stops being that of one
 abbrev pub IsReadError : List ℕ → PathTextError → Type 0

@@ -10,6 +10,6 @@ unfoldable pub instance_text : Bool → Bool → List Node → List ℕ
 instance_text display_only shortcuts nodes = join_by (node_text display_only shortcuts) (codes "/") nodes
 
 -- a path: the texts of its instances, with a comma between each two
-unfoldable pub device_path_text : Bool → Bool → List Node → List ℕ
-device_path_text display_only shortcuts nodes =
+unfoldable pub nodes_text : Bool → Bool → List Node → List ℕ
+nodes_text display_only shortcuts nodes =
     join_by (instance_text display_only shortcuts) (codes ",") (instances nodes)

@@ -12,7 +12,7 @@ ghost use Rattle.uefi_device_nodes.specs.NodeFaults.{fault_place};
 ghost use Rattle.uefi_device_path.specs.Faults.{RefusedFor, GivesPath};
 ghost use Rattle.uefi_device_path.specs.Instances.{instances};
 ghost use Rattle.uefi_device_nodes.specs.NodeViews.{node_of};
-ghost use Rattle.uefi_device_path.specs.PathTexts.{device_path_text};
+ghost use Rattle.uefi_device_path.specs.PathTexts.{nodes_text};
 ghost use Rattle.uefi_text.specs.UnalignedCStr16.{with_prefix};
 ghost use Rattle.uefi_text.specs.UnitTexts.{places_needed, utf16_units, written_len};
 ghost use Rattle.uefi_text.specs.Runs.{GivesEach};
@@ -279,7 +279,7 @@ impl<'a> DevicePath<'a> {
         display_only: DisplayOnly,
         allow_shortcuts: AllowShortcuts,
     ) -> PathText<'a>
-        ensures { printed_path result ≡ device_path_text display_only.0 allow_shortcuts.0 (nodes_of self.now) }
+        ensures { printed_path result ≡ nodes_text display_only.0 allow_shortcuts.0 (nodes_of self.now) }
     {
         PathText::of(
             &self.bytes[..self.bytes.len() - 4],
@@ -310,9 +310,9 @@ impl<'a> DevicePath<'a> {
         allow_shortcuts: AllowShortcuts,
     ) -> Result<usize, BufferTooSmall>
         ensures len { result ≡ written_len
-            (utf16_units (device_path_text display_only.0 allow_shortcuts.0 (nodes_of self.now))) buffer.old }
+            (utf16_units (nodes_text display_only.0 allow_shortcuts.0 (nodes_of self.now))) buffer.old }
         ensures buffer { buffer.new ≡ with_prefix (nul_terminated
-            (utf16_units (device_path_text display_only.0 allow_shortcuts.0 (nodes_of self.now)))) buffer.old }
+            (utf16_units (nodes_text display_only.0 allow_shortcuts.0 (nodes_of self.now)))) buffer.old }
     {
         write_units(buffer, &self.display(display_only, allow_shortcuts))
     }
@@ -334,11 +334,11 @@ impl<'a> DevicePath<'a> {
         allow_shortcuts: AllowShortcuts,
     ) -> Result<&'b [u16], BufferTooSmall>
         ensures ok { IfOk result (λ units. units.now ≡ nul_terminated
-            (utf16_units (device_path_text display_only.0 allow_shortcuts.0 (nodes_of self.now)))) }
+            (utf16_units (nodes_text display_only.0 allow_shortcuts.0 (nodes_of self.now)))) }
         ensures refused { IsErr result ↔ (length buf.old
-            ≤ length (utf16_units (device_path_text display_only.0 allow_shortcuts.0 (nodes_of self.now)))) }
+            ≤ length (utf16_units (nodes_text display_only.0 allow_shortcuts.0 (nodes_of self.now)))) }
         ensures needs { IfErr result (λ error. error.0 ≡ places_needed
-            (utf16_units (device_path_text display_only.0 allow_shortcuts.0 (nodes_of self.now)))) }
+            (utf16_units (nodes_text display_only.0 allow_shortcuts.0 (nodes_of self.now)))) }
     {
         let len = self.write_text(buf, display_only, allow_shortcuts)?;
         Ok(&buf[..len + 1])
@@ -418,7 +418,7 @@ impl<'a> TryFrom<&'a [u8]> for DevicePath<'a> {
 impl<'a> fmt::Display for DevicePath<'a> {
     ghost use Rattle.uefi_device_path.specs.Views.{nodes_of};
 
-    ghost output = { λ path. Some (device_path_text false false (nodes_of path)) };
+    ghost output = { λ path. Some (nodes_text false false (nodes_of path)) };
 
     fn fmt<W: fmt::Write>(&self, f: &mut fmt::Formatter<W>) -> fmt::Result {
         print(f, &self.display(DisplayOnly(false), AllowShortcuts(false)))

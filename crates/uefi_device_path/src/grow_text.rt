@@ -9,7 +9,7 @@ ghost use Rattle.uefi_device_path.specs.Building.{text_refusal};
 ghost use Rattle.uefi_device_path.specs.Faults.{RefusedFor};
 ghost use Rattle.uefi_device_path.specs.PathReading.{AreTold, HasPath, IsPushTextError, StopsAt, end_instance};
 ghost use Rattle.uefi_device_path.specs.Paths.{BeginWithPath, IsPath, nodes_in, path_bytes, without_end};
-ghost use Rattle.uefi_device_path.specs.PathTexts.{device_path_text};
+ghost use Rattle.uefi_device_path.specs.PathTexts.{nodes_text};
 ghost use Rattle.uefi_text.specs.UnalignedCStr16.{with_prefix};
 ghost use Rattle.uefi_device_path.specs.declared.errors.DevicePathError.{DevicePathError};
 
@@ -37,11 +37,11 @@ fn put_text_at(buffer: &mut [u8], len: usize, text: &[u8]) -> usize
     requires within { len ≤ length buffer.now }
     requires is_path { IsPath (take len buffer.now) }
     requires has_path { HasPath text.now }
-    requires room { (told : List Node) → AreTold told → device_path_text false false told ≡ text.now
+    requires room { (told : List Node) → AreTold told → nodes_text false false told ≡ text.now
         → length (path_bytes (nodes_in (without_end (take len buffer.now)) ++ told)) ≤ length buffer.now }
     ensures within { result ≤ length buffer.old }
     ensures grown { IsPath (take result buffer.new) }
-    ensures nodes { (told : List Node) → AreTold told → device_path_text false false told ≡ text.now
+    ensures nodes { (told : List Node) → AreTold told → nodes_text false false told ≡ text.now
         → nodes_in (without_end (take result buffer.new))
         ≡ nodes_in (without_end (take len buffer.old)) ++ told }
     ensures rest { drop result buffer.new ≡ drop result buffer.old }
@@ -94,13 +94,13 @@ pub fn push_text_in_buf(buffer: &mut [u8], text: &str) -> Result<usize, PushText
     ensures no_node { (nodes : List Node) → BeginWithPath buffer.old nodes
         → (place : ℕ) → StopsAt text.now place → result ≡ Err (PushTextError.NoNode place) }
     ensures refusal { (nodes told : List Node) → BeginWithPath buffer.old nodes
-        → AreTold told → device_path_text false false told ≡ text.now
+        → AreTold told → nodes_text false false told ≡ text.now
         → result_err result ≡ text_refusal nodes told (length buffer.old) }
     ensures len { (nodes told : List Node) → BeginWithPath buffer.old nodes
-        → AreTold told → device_path_text false false told ≡ text.now
+        → AreTold told → nodes_text false false told ≡ text.now
         → IfOk result (λ len. len ≡ length (path_bytes (nodes ++ told))) }
     ensures buffer { (nodes told : List Node) → BeginWithPath buffer.old nodes
-        → AreTold told → device_path_text false false told ≡ text.now
+        → AreTold told → nodes_text false false told ≡ text.now
         → OnOk result (buffer.new ≡ with_prefix (path_bytes (nodes ++ told)) buffer.old) }
     ensures read { OnOk result (HasPath text.now) }
     ensures cause { IfErr result (λ error. IsPushTextError buffer.old text.now error) }

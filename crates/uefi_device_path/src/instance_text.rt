@@ -2,7 +2,7 @@
 #![tactic(auto, unfolding(crate::specs::Views::instance_nodes))]
 
 ghost use Rattle.std.specs.Prelude.{◌≡◌, ◌≤◌, ◌↔◌, IfErr, IfOk, IsErr, length, Some, false};
-ghost use Rattle.uefi_device_path.specs.PathTexts.{device_path_text};
+ghost use Rattle.uefi_device_path.specs.PathTexts.{nodes_text};
 ghost use Rattle.uefi_text.specs.UnalignedCStr16.{with_prefix};
 ghost use Rattle.uefi_text.specs.UnitTexts.{places_needed, utf16_units, written_len};
 ghost use Rattle.uefi_text.specs.Units.{nul_terminated};
@@ -32,7 +32,7 @@ impl<'a> DevicePathInstance<'a> {
         allow_shortcuts: AllowShortcuts,
     ) -> PathText<'a>
         ensures { printed_path result
-            ≡ device_path_text display_only.0 allow_shortcuts.0 (instance_nodes self.now) }
+            ≡ nodes_text display_only.0 allow_shortcuts.0 (instance_nodes self.now) }
     {
         PathText::of(self.bytes, display_only, allow_shortcuts)
     }
@@ -55,9 +55,10 @@ impl<'a> DevicePathInstance<'a> {
         allow_shortcuts: AllowShortcuts,
     ) -> Result<usize, BufferTooSmall>
         ensures len { result ≡ written_len
-            (utf16_units (device_path_text display_only.0 allow_shortcuts.0 (instance_nodes self.now))) buffer.old }
+            (utf16_units (nodes_text display_only.0 allow_shortcuts.0 (instance_nodes self.now))) buffer.old }
         ensures buffer { buffer.new ≡ with_prefix (nul_terminated
-            (utf16_units (device_path_text display_only.0 allow_shortcuts.0 (instance_nodes self.now)))) buffer.old }
+            (utf16_units (nodes_text display_only.0 allow_shortcuts.0
+            (instance_nodes self.now)))) buffer.old }
     {
         write_units(buffer, &self.display(display_only, allow_shortcuts))
     }
@@ -78,11 +79,11 @@ impl<'a> DevicePathInstance<'a> {
         allow_shortcuts: AllowShortcuts,
     ) -> Result<&'b [u16], BufferTooSmall>
         ensures ok { IfOk result (λ units. units.now ≡ nul_terminated
-            (utf16_units (device_path_text display_only.0 allow_shortcuts.0 (instance_nodes self.now)))) }
+            (utf16_units (nodes_text display_only.0 allow_shortcuts.0 (instance_nodes self.now)))) }
         ensures refused { IsErr result ↔ (length buf.old
-            ≤ length (utf16_units (device_path_text display_only.0 allow_shortcuts.0 (instance_nodes self.now)))) }
+            ≤ length (utf16_units (nodes_text display_only.0 allow_shortcuts.0 (instance_nodes self.now)))) }
         ensures needs { IfErr result (λ error. error.0 ≡ places_needed
-            (utf16_units (device_path_text display_only.0 allow_shortcuts.0 (instance_nodes self.now)))) }
+            (utf16_units (nodes_text display_only.0 allow_shortcuts.0 (instance_nodes self.now)))) }
     {
         let len = self.write_text(buf, display_only, allow_shortcuts)?;
         Ok(&buf[..len + 1])
@@ -91,7 +92,7 @@ impl<'a> DevicePathInstance<'a> {
 
 /// Prints the text that may be read back, without shorter names.
 impl<'a> fmt::Display for DevicePathInstance<'a> {
-    ghost output = { λ instance. Some (device_path_text false false (instance_nodes instance)) };
+    ghost output = { λ instance. Some (nodes_text false false (instance_nodes instance)) };
 
     fn fmt<W: fmt::Write>(&self, f: &mut fmt::Formatter<W>) -> fmt::Result {
         print(f, &self.display(DisplayOnly(false), AllowShortcuts(false)))

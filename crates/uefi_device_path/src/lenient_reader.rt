@@ -6,7 +6,7 @@ ghost use Rattle.uefi_device_nodes.specs.Nodes.{Node};
 ghost use Rattle.uefi_device_path.specs.LenientReading.{IsLenientError, IsReadAs, IsLenientText, ReadingStopsAt};
 ghost use Rattle.uefi_device_path.specs.PathReading.{AreTold};
 ghost use Rattle.uefi_device_path.specs.Paths.{path_bytes};
-ghost use Rattle.uefi_device_path.specs.PathTexts.{device_path_text};
+ghost use Rattle.uefi_device_path.specs.PathTexts.{nodes_text};
 ghost use Rattle.uefi_node_reader.specs.LenientFaults.{lenient_fault};
 ghost use Rattle.uefi_node_reader.specs.LenientNodes.{lenient_read};
 ghost use Rattle.uefi_node_reader.specs.NamedFiles.{IsTold};
@@ -186,7 +186,7 @@ impl<A: Allocator + Copy> DevicePathBuf<A> {
         ensures ok { IfOk result (λ path. IsReadAs text.now path) }
         ensures only { (nodes : List Node) → IsReadAs text.now nodes
             → IfOk result (λ path. path ≡ nodes) × IfErr result (λ error. error ≡ OutOfMemory) }
-        ensures printed { (nodes : List Node) → AreTold nodes → device_path_text false false nodes ≡ text.now
+        ensures printed { (nodes : List Node) → AreTold nodes → nodes_text false false nodes ≡ text.now
             → IfOk result (λ path. path ≡ nodes) × IfErr result (λ error. error ≡ OutOfMemory) }
         ensures refusal { IfErr result (IsLenientError text.now) }
     {

@@ -7,7 +7,7 @@ ghost use Rattle.uefi_device_nodes.specs.Nodes.{IsInner};
 ghost use Rattle.uefi_device_path.specs.LoadOptionParts.{parts_with};
 ghost use Rattle.uefi_device_path.specs.PathLists.{ArePacked, ArePaths, paths_in};
 ghost use Rattle.uefi_device_path.specs.Paths.{AreNodes, nodes_in};
-ghost use Rattle.uefi_device_path.specs.PathTexts.{device_path_text};
+ghost use Rattle.uefi_device_path.specs.PathTexts.{nodes_text};
 ghost use Rattle.uefi_text.specs.Units.{IsNulTerminated, without_nul};
 ghost use Rattle.uefi_text.specs.Views.{items_of};
 ghost use Rattle.uefi_device_nodes.specs.NodeViews.{node_of};
@@ -184,7 +184,7 @@ impl<'a> LoadOptionParts<'a> {
         allow_shortcuts: AllowShortcuts,
     ) -> PathText<'a>
         ensures { printed_path result
-            ≡ device_path_text display_only.0 allow_shortcuts.0 (parts_of self.now).nodes }
+            ≡ nodes_text display_only.0 allow_shortcuts.0 (parts_of self.now).nodes }
     {
         PathText::of(self.nodes, display_only, allow_shortcuts)
     }

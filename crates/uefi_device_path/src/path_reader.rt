@@ -5,7 +5,7 @@ ghost use Rattle.std.specs.Prelude.{◌≡◌, ℕ, ◌<◌, ◌-◌, ◌^◌, m
 ghost use Rattle.uefi_device_nodes.specs.Nodes.{Node};
 ghost use Rattle.uefi_device_path.specs.PathReading.{AreTold, BeginsWithNode, HasPath, IsReadError, NoneBegins, StopsAt, end_instance, is_after_instance};
 ghost use Rattle.uefi_device_path.specs.Paths.{path_bytes};
-ghost use Rattle.uefi_device_path.specs.PathTexts.{device_path_text};
+ghost use Rattle.uefi_device_path.specs.PathTexts.{nodes_text};
 ghost use Rattle.uefi_node_reader.specs.NamedFiles.{is_after_node};
 ghost use Rattle.uefi_node_reader.specs.TextNodeViews.{text_node};
 ghost use Rattle.uefi_device_path.specs.ErrorTexts.{path_text_error_text};
@@ -135,7 +135,7 @@ pub(crate) fn node_start(at_start: bool, text: &[u8]) -> &[u8]
 pub(crate) fn check_text(text: &[u8]) -> Result<usize, usize>
     ensures path { IfOk result (λ _. HasPath text.now) }
     ensures len { IfOk result (λ len. (nodes : List Node) → AreTold nodes
-        → device_path_text false false nodes ≡ text.now → len ≡ min (length (path_bytes nodes)) (2 ^ 64 - 1)) }
+        → nodes_text false false nodes ≡ text.now → len ≡ min (length (path_bytes nodes)) (2 ^ 64 - 1)) }
     ensures refusal { IfErr result (StopsAt text.now) }
 {
     nodes_are_read();
@@ -169,7 +169,7 @@ fn push_text<A: Allocator>(path: &mut DevicePathBuf<A>, text: &[u8]) -> Result<(
     requires empty { path.old ≡ [] }
     requires has_path { HasPath text.now }
     ensures told { OnOk result (AreTold path.new) }
-    ensures ok { OnOk result (device_path_text false false path.new ≡ text.now) }
+    ensures ok { OnOk result (nodes_text false false path.new ≡ text.now) }
 {
     nodes_are_read();
     node_text_once();
@@ -198,7 +198,7 @@ fn push_text<A: Allocator>(path: &mut DevicePathBuf<A>, text: &[u8]) -> Result<(
 /// The path whose text bytes are, in memory that is asked for once they are known to be the text of one.
 fn read_path<A: Allocator + Copy>(alloc: A, text: &[u8]) -> Result<DevicePathBuf<A>, PathTextError>
     ensures told { IfOk result (λ path. AreTold path) }
-    ensures ok { IfOk result (λ path. device_path_text false false path ≡ text.now) }
+    ensures ok { IfOk result (λ path. nodes_text false false path ≡ text.now) }
     ensures refusal { IfErr result (IsReadError text.now) }
 {
     let len = match check_text(text) {
@@ -229,8 +229,8 @@ impl<A: Allocator + Copy> DevicePathBuf<A> {
     /// ```
     pub fn from_text(alloc: A, text: &str) -> Result<Self, PathTextError>
         ensures told { IfOk result (λ path. AreTold path) }
-        ensures ok { IfOk result (λ path. device_path_text false false path ≡ text.now) }
-        ensures only { (nodes : List Node) → AreTold nodes → device_path_text false false nodes ≡ text.now
+        ensures ok { IfOk result (λ path. nodes_text false false path ≡ text.now) }
+        ensures only { (nodes : List Node) → AreTold nodes → nodes_text false false nodes ≡ text.now
             → IfOk result (λ path. path ≡ nodes) × IfErr result (λ error. error ≡ OutOfMemory) }
         ensures refusal { IfErr result (IsReadError text.now) }
         ensures only_refusal { (place : ℕ) → StopsAt text.now place → result ≡ Err (NoNode place) }

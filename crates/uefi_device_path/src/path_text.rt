@@ -5,7 +5,7 @@ ghost use Rattle.std.specs.Fmt.{WritesInCalls};
 ghost use Rattle.std.specs.Prelude.{◌≡◌, ◌≢◌, ◌<◌, ◌∷◌, length, Some};
 ghost use Rattle.uefi_device_nodes.specs.NodeViews.{node_of};
 ghost use Rattle.uefi_device_path.specs.Paths.{AreNodes, nodes_in};
-ghost use Rattle.uefi_device_path.specs.PathTexts.{instance_text, device_path_text};
+ghost use Rattle.uefi_device_path.specs.PathTexts.{instance_text, nodes_text};
 
 use crate::instance::cut_instance;
 use std::fmt;
@@ -57,7 +57,7 @@ fn put_path<S: TextSink>(
 )
     requires { AreNodes bytes.now }
     ensures { WritesInCalls S.puts sink.old
-        (device_path_text display_only.0 allow_shortcuts.0 (nodes_in bytes.now)) sink.new }
+        (nodes_text display_only.0 allow_shortcuts.0 (nodes_in bytes.now)) sink.new }
 {
     let (first, after_first) = cut_instance(bytes);
     put_instance(sink, first, display_only, allow_shortcuts);
@@ -89,7 +89,7 @@ impl<'a> PathText<'a> {
         allow_shortcuts: AllowShortcuts,
     ) -> Self
         requires { AreNodes bytes.now }
-        ensures { printed_path result ≡ device_path_text display_only.0 allow_shortcuts.0 (nodes_in bytes.now) }
+        ensures { printed_path result ≡ nodes_text display_only.0 allow_shortcuts.0 (nodes_in bytes.now) }
     {
         PathText {
             bytes,

@@ -95,7 +95,8 @@ fn texts(rt: HostRuntime) -> Result<(), Fail> {
 pub(crate) const REFUSED: &str = "\
 11 11 PciRoot(0)/: the name of a node | 0 12 Uart(9600,8,Q,1): a parity (D, N, E, O, M, S or x) and `,` | \
 0 0 PcRoot(0): the name of a node | 0 5 Uart(fast,8,N,1): DEFAULT or a number up to 0xFFFFFFFFFFFFFFFF | \
-6 6 \\a/\\b//c: the name of a node | 11 20 PciRoot(0)/Pci(0x1F,0x12345678901)/Sata(0x0): a number up to 0xFF | \
+6 6 \\a/\\b//c: the name of a node | \
+11 20 PciRoot(0)/Pci(0x1F,0x12345678901)/Sata(0x0): a number up to 0xFF | \
 0 10 PciRoot(0)x: `/`, `,` or the end of the text | 0 11 Dns(1.1.1.1,1.1.1.256): the exact printed form | \
 0 7 Unit(1) /a: `/`, `,` or the end of the text | 0 9 HD(1,GPT,1234,0x800,0x64000): 8 hexadecimal digits | \
 0 9 PciRoot(0: `)` | 0 43 VenHw(12345678-9abc-def0-1234-56789abcdef0,): 2 hexadecimal digits | \
@@ -115,6 +116,8 @@ pub(crate) const REFUSED: &str = "\
 0 0 FS0:\\EFI\\x.efi: the name of a file | 7 7 \\EFI\\a,b.efi: the name of a file | \
 0 0 EFI\\x)\\y: the name of a file | 0 9 HD(1,MBR,12345678,0x800,0x64000): a number after `0x` | \
 0 5 Acpi(12345678,0): a number after `0x` | 0 25 BluetoothLE(001122334455,10): a number after `0x` | \
-0 6 Fibre(5006016047273469,0): a number after `0x` | 0 11 Fibre(0x1, 5006016047273469): a number after `0x` | \
-0 4 SAS(5000,0,0,NoTopology,0,0,0): a number after `0x` | 0 9 UsbClass(781,5583,255,255): a number after `0x` | \
+0 6 Fibre(5006016047273469,0): a number after `0x` | \
+0 11 Fibre(0x1, 5006016047273469): a number after `0x` | \
+0 4 SAS(5000,0,0,NoTopology,0,0,0): a number after `0x` | \
+0 9 UsbClass(781,5583,255,255): a number after `0x` | \
 0 8 PciRoot(): a number after `0x` | 0 5 Sata(): a number after `0x`";

@@ -33,7 +33,8 @@ bare_number_left text =
     if begins_with (codes "HD(") text then left_after (codes "MBR,") text
     else if begins_with (codes "ACPI(") text then left_after (codes "(") text
     else if begins_with (codes "BLUETOOTHLE(") text then left_after (codes ",") text
-    else if begins_with (codes "FIBRE(") text || (begins_with (codes "SAS(") text || begins_with (codes "USBCLASS(") text)
+    else if begins_with (codes "FIBRE(") text
+    || (begins_with (codes "SAS(") text || begins_with (codes "USBCLASS(") text)
     then option_or (left_after (codes "(") text) (left_after (codes ",") text)
     else None
 
@@ -47,4 +48,5 @@ is_empty_call text = first_of (drop (length text - 2) text) == 40
 
 -- where a tidied call stops telling which node it is
 abbrev pub ambiguous_stop : List ℕ → Option Stop
-ambiguous_stop text = if is_empty_call text then Some (base_stop 1) else option_map base_stop (bare_number_left text)
+ambiguous_stop text = if is_empty_call text then Some (base_stop 1)
+    else option_map base_stop (bare_number_left text)

@@ -69,7 +69,8 @@ path_set text = after_literal (codes "Path(") text >>= λ rest. whole (types_rea
 -- different nodes
 abbrev pub call_read : List ℕ → Option (Node × List ℕ)
 call_read text = cut_call text >>= λ call. if is_some (ambiguous_stop (tidied call.0)) then None
-    else option_map (λ node. (node, call.1)) (option_or (forms_set forms (tidied call.0)) (path_set (tidied call.0)))
+    else option_map (λ node. (node, call.1))
+    (option_or (forms_set forms (tidied call.0)) (path_set (tidied call.0)))
 
 -- a name with a backslash at its start
 abbrev pub rooted : List ℕ → List ℕ
@@ -93,7 +94,8 @@ named_read text = option_map (λ node. (node, drop (position_or_len ends_name te
 
 -- the test for a name that may stand without its first backslash: it has another, and neither a `)` nor a `:`
 abbrev pub is_bare : List ℕ → Bool
-is_bare name = list_any (λ c. c == 92) name && not (list_any (λ c. c == 41) name || list_any (λ c. c == 58) name)
+is_bare name = list_any (λ c. c == 92) name
+    && not (list_any (λ c. c == 41) name || list_any (λ c. c == 58) name)
 
 -- the node with the name that a text begins with, if that may stand without its first backslash
 abbrev pub bare_read : List ℕ → Option (Node × List ℕ)

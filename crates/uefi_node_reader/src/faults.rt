@@ -36,7 +36,7 @@ pub enum Expected {
     End,
     /// The text of this node, or of what is left of it, exactly as it is printed.
     AsPrinted,
-    /// A number after `0x`, since without it programs print the number in different bases, or leave it out for
+    /// A number after `0x`: without it, programs print the number in different bases, or leave it out for
     /// different nodes.
     Base,
     /// A node that is not too long, and whose text tells all of it. What stands before this byte was read.

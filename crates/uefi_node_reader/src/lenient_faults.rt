@@ -349,7 +349,8 @@ fn path_stop(text: &[u8]) -> Option<Stop>
 
 /// Where a tidied call stops telling which node it is, or else where it stops being that of any form.
 pub(crate) fn call_stop(text: &[u8]) -> Option<Stop>
-    ensures { result ≡ option_or (ambiguous_stop text.now) (further (forms_stop forms text.now) (path_stop text.now)) }
+    ensures { result ≡ option_or (ambiguous_stop text.now)
+        (further (forms_stop forms text.now) (path_stop text.now)) }
 {
     match ambiguous_stop(text) {
         Some(stop) => Some(stop),

@@ -69,8 +69,8 @@ fn is_bare(name: &[u8]) -> bool
     name.contains(&b'\\') && !(name.contains(&b')') || name.contains(&b':'))
 }
 
-/// Reads the node with the name that a text begins with, if that may stand without its first backslash. Returns
-/// what stands after it, too.
+/// Reads the node with the name that a text begins with, if that may stand without its first backslash.
+/// Returns what stands after it, too.
 pub(crate) fn bare<'s, 't>(
     scratch: &'s mut [u8],
     text: &'t [u8],

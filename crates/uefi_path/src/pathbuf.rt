@@ -631,8 +631,8 @@ impl<A: Allocator + Copy> PathBuf<A> {
         self.string.is_empty()
     }
 
-    /// The components, as [`Path::components`]. All of them together cost time linear in their number from the
-    /// front; from the back, the characters are read.
+    /// The components, as [`Path::components`]. From the front, all of them together cost time linear in
+    /// their number; from the back, the characters are read.
     pub fn components(&self) -> Components<'_>
         ensures same { components_left result ≡ components_of self.now }
         ensures components { AreComponents self.now (components_left result) }

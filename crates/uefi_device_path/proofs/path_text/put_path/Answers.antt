@@ -4,7 +4,7 @@ use Rattle.std.proofs.lemmas.Grind.{common_steps}
 use Rattle.uefi_text.proofs.Puts.{puts_as, puts_three}
 use Rattle.uefi_device_path.specs.Instances.{instances, instances_in}
 use Rattle.uefi_device_path.specs.Paths.{nodes_in}
-use Rattle.uefi_device_path.specs.PathTexts.{instance_text, device_path_text}
+use Rattle.uefi_device_path.specs.PathTexts.{instance_text, nodes_text}
 use Rattle.uefi_device_path.proofs.PathTexts.{after_more, after_none, first_piece}
 use Rattle.uefi_device_path.proofs.path_text.put_path.Goals as goal
 
@@ -33,7 +33,7 @@ instances-preserved g c =
     }
 
 pub returns : goal.returns
-unfolding device_path_text
+unfolding nodes_text
 returns g c =
     let so_far = c.instances.invariant in
     let none : instances_in c.instances.rest ≡ [] = grind (arith, common_steps) in
