@@ -172,7 +172,8 @@ stop_fault text len (Some stop) = fault (place_at (len - stop.left) text) stop.e
 abbrev pub cut_fault : List ℕ → Option (List ℕ × List ℕ) → NodeFault
 cut_fault text None = fault (length text) (expected.Byte 41)
 cut_fault text (Some call) = stop_fault text (length (tidied call.0))
-    (option_or (ambiguous_stop (tidied call.0)) (further (forms_stop forms (tidied call.0)) (path_stop (tidied call.0))))
+    (option_or (ambiguous_stop (tidied call.0))
+    (further (forms_stop forms (tidied call.0)) (path_stop (tidied call.0))))
 
 -- the fault of a file's name up to a `)`
 abbrev pub file_fault : List ℕ → List ℕ → Option (List ℕ × List ℕ) → NodeFault
