@@ -621,12 +621,16 @@ nard_result NARD_CALL nard_device_path_push_text(nard_byte *buffer, nard_size ro
                                                  nard_size *length);
 
 /*
- * Adds the nodes of a text in UTF-8 to the device path that a buffer begins with, before its end, as people write it and as
- * efibootmgr -v prints it, for example
+ * Adds the nodes of a text of the UEFI Specification, in UTF-8 and as people write it, to the device path that a buffer begins
+ * with, before its end, for example
  *     pciroot(0)/pci(31, 2)/HD(1,GPT,12345678-9abc-def0-1234-56789abcdef0,0x800,0x100000)/File(\EFI\boot\bootx64.efi)
  * Names and digits stand in either case, numbers in decimal or after 0x, with zeros before them; blanks may stand in a call, and
- * numbers at its end may be left out; the name of a file may stand in File(..), or without its first backslash. What
- * nard_device_path_push_text reads is read as the same. A comma ends an instance.
+ * numbers at its end may be left out, but not all of them; the name of a file may stand in File(..), or without its first
+ * backslash if it has another, and neither a `)` nor a `:`. What nard_device_path_push_text reads is read as the same. A comma
+ * ends an instance.
+ *
+ * A call in which other programs print hexadecimal numbers without 0x, such as Fibre(5006,0), is refused. efibootmgr prints the
+ * identifier of an NVMe node with its bytes in the other order: its text is the specification's text of another node.
  *
  *   scratch, scratch_room   for copies of calls and names: one byte more than the text; it then holds anything
  *

@@ -161,9 +161,12 @@ fn read_path<A: Allocator + Copy>(
 }
 
 impl<A: Allocator + Copy> DevicePathBuf<A> {
-    /// Reads a path from a text as people write it, and as `efibootmgr -v` prints it: names and digits in
-    /// either case, numbers in decimal or after `0x`, zeros before them, blanks in a call, numbers left
-    /// out at its end, `File(..)`, and a file's name without its first backslash.
+    /// Reads a path from a text of the UEFI Specification as people write it: names and digits in either
+    /// case, numbers in decimal or after `0x`, zeros before them, blanks in a call, numbers left out at its
+    /// end, `File(..)`, and a file's name that has a backslash without its first one.
+    ///
+    /// A call in which other programs print hexadecimal numbers without `0x`, such as `Fibre(5006,0)`, is
+    /// refused. `efibootmgr` prints the identifier of an NVMe node with its bytes in the other order.
     ///
     /// A text that [`DevicePathBuf::from_text`] reads is read as the same path. The path that is read prints
     /// as a text that `from_text` reads as that path.
