@@ -42,7 +42,9 @@ fn takes_letters<const LEN: usize>(string: CStr16<'_>, taken: &str) -> bool {
 
 /// Whether a text of this many bytes, which holds `before`, holds `after` once it was given a string, and
 /// says whether it took all.
-fn fits_in<const LEN: usize>(string: CStr16<'_>, before: &str, after: &str, all: bool) -> bool {
+fn fits_in<const LEN: usize>(string: CStr16<'_>, before: &str, after: &str, all: bool) -> bool
+    requires { LEN < 64 }
+{
     let mut sink: ArrayString<LEN> = ArrayString::new();
     if sink.try_push_str(before).is_err() {
         return false;
