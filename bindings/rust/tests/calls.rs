@@ -25,6 +25,7 @@ fn strings() {
         (8, "Boot.efi".to_string())
     );
     assert!(string == "Boot.efi" && string.is_ascii());
+    assert!(string != "Boot" && string != "Boot.efi." && string != "");
     let error = CStr16::from_u16_with_nul(&[97, 0, 98, 0]).unwrap_err();
     assert_eq!((error.reason, error.place), (Reason::InteriorNul, 1));
     assert_eq!(
@@ -135,6 +136,12 @@ fn device_paths() {
     assert_eq!(node.number(fields::ACPI_UID), None);
     assert_eq!(node.bytes(fields::PCI_DEVICE), Some(&[0x1f][..]));
     assert_eq!(node.bytes(fields::ACPI_UID), None);
+
+    // A field without a width is all that follows its place.
+    let vendor = [&[1, 4, 22, 0][..], &[7; 16], &[8, 9], &[0x7f, 0xff, 4, 0]].concat();
+    let vendor = DevicePath::from_bytes(&vendor).unwrap().node_iter().next().unwrap();
+    let field = fields::HARDWARE_VENDOR_VENDOR_DEFINED_DATA;
+    assert_eq!((vendor.bytes(field), vendor.number(field)), (Some(&[8, 9][..]), None));
     let mut buffer = [9; 32];
     assert_eq!(
         String::from_utf16_lossy(node.text_in_buf(false, false, &mut buffer).unwrap()),
@@ -176,6 +183,14 @@ fn load_options() {
         [PATH]
     );
     assert_eq!(option.optional_data(), b"root");
+
+    // A pair of surrogates, a surrogate without a partner, and ESC.
+    let units = [0xd83d, 0xde00, 0xd800, 0x1b, 0x62, 0];
+    let description: Vec<u8> = units.iter().flat_map(|it: &u16| it.to_le_bytes()).collect();
+    let shown = [&[1, 0, 0, 0, PATH.len() as u8, 0][..], &description, PATH].concat();
+    let shown = LoadOption::from_bytes(&shown).unwrap();
+    assert_eq!(shown.description_chars().collect::<String>(), "\u{1f600}\u{fffd}\u{1b}b");
+    assert_eq!(shown.description().to_string(), "\u{1f600}\u{fffd}\\u{1b}b");
     let error = LoadOption::from_bytes(&bytes[..9]).unwrap_err();
     assert_eq!(
         (error.reason, error.place),
