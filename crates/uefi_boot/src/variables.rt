@@ -1,4 +1,6 @@
 //! The variables of a machine, read from files.
+ghost use Rattle.std.specs.Prelude.{◌≤◌, IfOk, length};
+
 use crate::entry::{MOST_BYTES, VARIABLE_ATTRIBUTES};
 use crate::fill;
 use std::alloc::AllocError;
@@ -111,7 +113,9 @@ fn unreadable(rt: &HostRuntime, path: &str, error: &io::Error) -> Failure {
 }
 
 /// Reads a file into a buffer, and returns how many bytes it has, or that the buffer is full.
-fn read_file(rt: &HostRuntime, path: &str, buffer: &mut [u8]) -> io::Result<usize> {
+fn read_file(rt: &HostRuntime, path: &str, buffer: &mut [u8]) -> io::Result<usize>
+    ensures { IfOk result (λ count. count ≤ length buffer.new) }
+{
     // A pipe would have to be waited for.
     if !fs::metadata(rt, path)?.is_file() {
         return Err(io::Error::from(io::ErrorKind::InvalidInput));
