@@ -347,7 +347,7 @@ static const struct row rows[] = {
     FAULT(device_path_push_text, REFUSED, UNKNOWN_END, 1, .before = BYTES(UNKNOWN), .in = {BYTES("\xc3")}),
     ROW(device_path_push_lenient_text, WHOLE, .before = BYTES(PCI END "x"), .in = {BYTES("pci( 31, 0 )/File(a)")}, .number = 21,
         .out = BYTES(PCI PCI FILE_A END)),
-    ROW(device_path_push_lenient_text, WHOLE, .before = BYTES(END), .in = {BYTES(",a")}, .number = 3,
+    ROW(device_path_push_lenient_text, WHOLE, .before = BYTES(END), .in = {BYTES(",\\a")}, .number = 4,
         .out = BYTES("\x7f\1\4\0" FILE_A END)),
     ROW(device_path_push_lenient_text, WHOLE, .before = BYTES(PCI END), .in = {BYTES("")}, .number = 1, .out = BYTES(PCI END)),
     /* Bytes and texts of libefivar, which efibootmgr prints. */
@@ -359,7 +359,8 @@ static const struct row rows[] = {
         .out = BYTES("\4\1\x2a\0\1\0\0\0\0\10\0\0\0\0\0\0\0\x40\6\0\0\0\0\0\x10\x32\x54\x76\x98\xba\xdc\xfe\1\2\3\4\5\6\7\10\2\2"
                      "\4\4\x12\0\\\0E\0F\0I\0\\\0a\0\0\0" END)),
     FAULT(device_path_push_lenient_text, REFUSED, SCRATCH_TOO_SMALL, 3, .before = BYTES(PCI END), .in = {BYTES("(a")}, .number = 2),
-    FAULT(device_path_push_lenient_text, REFUSED, NO_NODE, 6, .before = BYTES(PCI END), .in = {BYTES("a/Pci(0x100)")}, .number = 13),
+    FAULT(device_path_push_lenient_text, REFUSED, NO_NODE, 7, .before = BYTES(PCI END), .in = {BYTES("\\a/Pci(0x100)")},
+          .number = 14),
     FAULT(device_path_push_lenient_text, REFUSED, NOT_UTF8, 1, .before = BYTES(END), .in = {BYTES("x\xc3")}),
     FAULT(device_path_push_lenient_text, REFUSED, UNKNOWN_END, 1, .before = BYTES(UNKNOWN), .in = {BYTES("\xc3")}),
     ROW(lenient_text_fault, TEXT, .in = {BYTES("PciRoot(0)/Pci(256,0)")}, .number = 22,
