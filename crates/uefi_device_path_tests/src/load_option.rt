@@ -69,8 +69,8 @@ const ATTRIBUTES: &[(u32, bool, bool, bool, u32)] = &[
 #[test]
 fn attributes_of_one_bit(rt: HostRuntime) -> Result<(), Fail> {
     for (attributes, active, reconnect, hidden, category) in ATTRIBUTES {
-        let mut entry = bytes(rt.alloc(), "00000000040000007fff0400")?;
-        entry[..4].copy_from_slice(&attributes.to_le_bytes());
+        let mut entry = Vec::from_slice(rt.alloc(), &attributes.to_le_bytes())?;
+        entry.extend_from_slice(&bytes(rt.alloc(), "040000007fff0400")?)?;
         let option = LoadOption::from_bytes(&entry)?;
         let is_right = option.is_active() == *active
             && option.is_force_reconnect() == *reconnect
