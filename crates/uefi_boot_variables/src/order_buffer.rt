@@ -105,6 +105,7 @@ impl<'a> OrderBuffer<'a> {
         requires room { length (numbers_in self.old) < room_of self.old }
         requires absent { stands_in number (numbers_in self.old) ≡ false }
         ensures numbers { numbers_in self.new ≡ insert (numbers_in self.old) place number }
+        ensures room { room_of self.new ≡ room_of self.old }
         ensures places { places_of self.new ≡ over (numbers_in self.new) (places_of self.old) }
         ensures memory { memory_of self.new ≡ memory_of self.old }
     {
@@ -125,6 +126,7 @@ impl<'a> OrderBuffer<'a> {
     pub fn push(&mut self, number: u16) -> Result<(), OrderFull>
         ensures ok { OnOk result (numbers_in self.new ≡ once_each (numbers_in self.old ++ number ∷ [])) }
         ensures err { OnErr result (numbers_in self.new ≡ numbers_in self.old) }
+        ensures room { room_of self.new ≡ room_of self.old }
         ensures places { places_of self.new ≡ over (numbers_in self.new) (places_of self.old) }
         ensures memory { memory_of self.new ≡ memory_of self.old }
         ensures refused { IsErr result ↔ ((stands_in number (numbers_in self.old) ≡ false)
@@ -152,6 +154,7 @@ impl<'a> OrderBuffer<'a> {
         ensures numbers { numbers_in self.new ≡ without number (numbers_in self.old) }
         ensures stood { result ≡ stands_in number (numbers_in self.old) }
         ensures len { result ≡ true → length (numbers_in self.new) + 1 ≡ length (numbers_in self.old) }
+        ensures room { room_of self.new ≡ room_of self.old }
         ensures places { places_of self.new ≡ over (numbers_in self.new) (places_of self.old) }
         ensures memory { memory_of self.new ≡ memory_of self.old }
     {
@@ -176,6 +179,7 @@ impl<'a> OrderBuffer<'a> {
     pub fn insert(&mut self, place: usize, number: u16) -> Result<(), OrderFull>
         ensures ok { OnOk result (numbers_in self.new ≡ with_at place number (numbers_in self.old)) }
         ensures err { OnErr result (numbers_in self.new ≡ numbers_in self.old) }
+        ensures room { room_of self.new ≡ room_of self.old }
         ensures places { places_of self.new ≡ over (numbers_in self.new) (places_of self.old) }
         ensures memory { memory_of self.new ≡ memory_of self.old }
         ensures refused { IsErr result ↔ ((stands_in number (numbers_in self.old) ≡ false)
@@ -198,6 +202,7 @@ impl<'a> OrderBuffer<'a> {
     pub fn move_to_front(&mut self, number: u16) -> bool
         ensures numbers { numbers_in self.new ≡ with_front number (numbers_in self.old) }
         ensures stood { result ≡ stands_in number (numbers_in self.old) }
+        ensures room { room_of self.new ≡ room_of self.old }
         ensures places { places_of self.new ≡ over (numbers_in self.new) (places_of self.old) }
         ensures memory { memory_of self.new ≡ memory_of self.old }
     {
