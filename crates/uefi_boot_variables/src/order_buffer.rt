@@ -41,6 +41,7 @@ impl<'a> OrderBuffer<'a> {
     /// Creates an order without numbers. It has room for as many as there are places, and changes none.
     pub fn new(places: &'a mut [u16]) -> Self
         ensures numbers { numbers_in result ≡ [] }
+        ensures room { room_of result ≡ length places.old }
         ensures places { places_of result ≡ places.old }
         ensures memory { memory_of result ≡ places.entry.ghost_name }
     {
@@ -62,6 +63,7 @@ impl<'a> OrderBuffer<'a> {
     /// ```
     pub fn from_order(places: &'a mut [u16], order: &LoadOrder<'_>) -> Result<Self, OrderFull>
         ensures ok { IfOk result (λ buffer. numbers_in buffer ≡ once_each (numbers_of order.now)) }
+        ensures room { IfOk result (λ buffer. room_of buffer ≡ length places.old) }
         ensures places { IfOk result (λ buffer. places_of buffer ≡ over (numbers_in buffer) places.old) }
         ensures refused { IsErr result ↔ (length places.old < length (once_each (numbers_of order.now))) }
         ensures memory { IfOk result (λ buffer. memory_of buffer ≡ places.entry.ghost_name) }
