@@ -6,6 +6,9 @@ use std::alloc::{AllocError, Global};
 use std::fmt::{self, Write};
 use uefi_boot_variables::{LoadOptionKind, LoadOptionName, LoadOrder, read_number};
 
+/// Why a variable is malformed whose file has not even its attributes.
+const TOO_SHORT: &str = "the file ends within the variable's attributes";
+
 /// A variable that says nothing, and why.
 #[derive(Drop, Serialize)]
 struct Silent {
@@ -57,9 +60,7 @@ fn boot(alloc: Global, number: u16) -> Result<String, AllocError> {
 fn shown_entry(alloc: Global, content: &Content) -> Result<Shown, fmt::Error> {
     match content {
         Content::Bytes(bytes) => Shown::of_entry(alloc, bytes),
-        Content::TooShort => {
-            Shown::malformed(alloc, 0, "the file ends within the variable's attributes")
-        }
+        Content::TooShort => Shown::malformed(alloc, 0, TOO_SHORT),
         Content::Unreadable(cause) => Shown::unreadable(alloc, cause),
     }
 }
@@ -87,8 +88,7 @@ impl Listing {
                 self.fail(variable, reason)?;
             }
             Some(Content::TooShort) => {
-                let reason = "the file ends within the variable's attributes";
-                self.fail(variable, String::from_str(alloc, reason)?)?;
+                self.fail(variable, String::from_str(alloc, TOO_SHORT)?)?;
             }
             Some(Content::Unreadable(cause)) => {
                 let reason = cause.clone()?;
