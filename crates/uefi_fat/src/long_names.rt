@@ -92,8 +92,8 @@ fn without_ends_after<'a>(name: Char16Slice<'a>) -> Char16Slice<'a>
     name.part(0, name.len() - ends_after(name.units()))
 }
 
-/// The part of a name that a FAT volume keeps: without the spaces at its start, and without the
-/// spaces and dots at its end. Looks at these, and at one character more at each end.
+/// The part of a name that a FAT volume keeps: without the spaces at its start, and without the spaces
+/// and dots at its end.
 ///
 /// ```rust
 /// let name = CString16::try_from_str(rt.alloc(), " boot.efi. ")?;
@@ -144,10 +144,10 @@ fn judge(name: Char16Slice<'_>) -> Option<FatNameError>
 
 /// Whether a file on a FAT volume can have a name: `Ok`, or why not.
 ///
-/// The trimmed name decides. It is refused as `Empty` where it has no character, so that `.` and
-/// `..` are refused: these name folders, and the file system looks for them before it trims a name.
-/// It is refused as `TooLong` where it has more than 255 characters, and as `IllegalChar` of the
-/// first character that is below U+0020 or one of `" * / : < > ? \ |`. One pass.
+/// The trimmed name decides. It is refused as `Empty` where it has no character, so that `.` and `..` are
+/// refused: these name folders, and the file system looks for them before it trims a name. It is refused
+/// as `TooLong` where it has more than 255 characters, and as `IllegalChar` of the first character that
+/// is below U+0020 or one of `" * / : < > ? \ |`.
 ///
 /// ```rust
 /// let name = CString16::try_from_str(rt.alloc(), "why?.txt")?;
@@ -180,8 +180,7 @@ pub fn is_fat_name(name: Char16Slice<'_>) -> bool
     check_fat_name(name).is_ok()
 }
 
-/// Whether two names are of one file on a FAT volume: their trimmed parts are the same without
-/// case. At most one pass over each.
+/// Whether two names are of one file on a FAT volume: their trimmed parts are the same without case.
 ///
 /// A file may also have a short name that somebody made up for it, such as `LONGNA~1.TXT`. No name
 /// says which.

@@ -53,8 +53,8 @@ fn fat_byte(character: Char16) -> u8
 /// each character in upper case, or `_` where no short name takes it, and no byte for a space or a
 /// dot.
 ///
-/// Ends with the buffer or the name, whichever is first; what is after the bytes is unchanged, and
-/// no NUL is written. [`is_short_name`](crate::is_short_name) has the characters. One pass.
+/// Ends with the buffer or the name, whichever is first; what is after the bytes is unchanged, and no NUL
+/// is written. [`is_short_name`](crate::is_short_name) has the characters.
 ///
 /// ```rust
 /// let name = CString16::try_from_str(rt.alloc(), "a+b c.efi")?;

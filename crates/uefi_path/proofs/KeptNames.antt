@@ -8,6 +8,7 @@ use Rattle.uefi_path.specs.NormalForms.{before_normal, kind, normal_of, IsName, 
 use Rattle.uefi_path.specs.declared.component_kinds.Kind.{Kind}
 use Rattle.uefi_path.specs.Separators.{separator, with_separators, canonical, slash}
 use Rattle.uefi_path.specs.Verdicts.{IsGood, verdict}
+use Rattle.uefi_path.proofs.SeparatorPlaces.{IsTextUnit-separator}
 use Rattle.uefi_path.proofs.ParentForm.{room, room-joined, units-canonical, components_of-joined}
 use Rattle.uefi_path.proofs.Joining.{with_separators-plain, separator_is_plain, AreComponents-components_of}
 use Rattle.uefi_path.proofs.Validity.{good-plain, All-good_plain, All-joined, valid-accepted, valid-components, valid-from}
@@ -174,12 +175,9 @@ plain_normal_text (q ∷ qs) good =
     (All-joined (λ u. u ≢ slash) (q ∷ qs) separator_is_plain (All-good_plain (q ∷ qs) good))
 
 -- and names that are texts make a text
-separator_is_text : IsTextUnit separator
-separator_is_text = (omega arith, (omega arith, λ surrogate. omega (arith, surrogate)))
-
 pub IsText-normal_text : (names : List (List ℕ)) → All IsText names → IsText (normal_text names)
-IsText-normal_text [] texts = All-cons IsTextUnit separator [] separator_is_text (All-nil IsTextUnit)
-IsText-normal_text (q ∷ qs) texts = All-joined IsTextUnit (q ∷ qs) separator_is_text texts
+IsText-normal_text [] texts = All-cons IsTextUnit separator [] IsTextUnit-separator (All-nil IsTextUnit)
+IsText-normal_text (q ∷ qs) texts = All-joined IsTextUnit (q ∷ qs) IsTextUnit-separator texts
 
 -- names are their own normal form
 normal_of-names : (ps : List (List ℕ)) → All IsName ps → normal_of ps ≡ ps

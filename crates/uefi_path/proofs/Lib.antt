@@ -4,6 +4,8 @@ pub mod Drafts
 pub mod ParentForm
 pub mod Validity
 pub mod TakenComponents
+pub mod MatchCosts
+pub mod NormalLengths
 pub mod Rewriting
 pub mod KeptNames
 pub mod LastPieces

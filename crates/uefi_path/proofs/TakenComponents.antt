@@ -1,5 +1,5 @@
 -- Components that are taken one by one.
-use Rattle.std.proofs.Common.{◌≡◌, ◌≢◌, ◌-◌, ℕ, zero, suc, ◌≤◌, List, [], ◌∷◌, ◌++◌, length, refl, arith, length-append, ◌+◌, ◌<◌, false, not, nat_lt, Bool, cond, drop, length-drop, All, Some, None, sym, ◌∙◌, ap, inl, inr, map, Option, get_or, subst, ◌↔◌, append_assoc}
+use Rattle.std.proofs.Common.{◌≡◌, ◌≢◌, ◌-◌, ℕ, zero, suc, ◌≤◌, List, [], ◌∷◌, ◌++◌, length, refl, arith, length-append, ◌+◌, ◌<◌, false, not, nat_lt, Bool, cond, drop, length-drop, All, Some, None, sym, ◌∙◌, ap, inl, inr, map, Option, get_or, subst, take, ◌↔◌, append_assoc}
 use Rattle.std.proofs.Math.Seq.{take-length}
 use Rattle.std.proofs.lemmas.List.{take-append-le, drop-drop, drop-append-le, same_from_push}
 use Rattle.std.proofs.lemmas.List.Splits.{join_with_byte-slice_split, slice_split_none, slice_split_first}
@@ -8,27 +8,22 @@ use Rattle.uefi_path.specs.Ancestors.{beginnings}
 use Rattle.uefi_path.specs.Components.{components_of, joined}
 use Rattle.uefi_path.specs.Separators.{canonical, is_separator, separator}
 use Rattle.uefi_path.specs.SuccessiveParents.{prefixes, shorter_prefixes}
-use Rattle.uefi_path.proofs.Joining.{AreComponents-components_of}
+use Rattle.uefi_path.proofs.Joining.{AreComponents-components_of, All-slice_split}
+use Rattle.uefi_path.proofs.SeparatorPlaces.{IsTextUnit-separator}
+use Rattle.uefi_path.proofs.Validity.{All-joined}
 use Rattle.std.specs.Option.{unwrap_or, IfSome}
 use Rattle.std.proofs.lemmas.Bool.{cases_Bool, ltb-true, ltb-false, cases_lt}
 use Rattle.std.proofs.lemmas.List.Sums.{fails_before_first, prefix_len-le-length}
 use Rattle.uefi_path.specs.ComponentPlaces.{components_from}
 use Rattle.std.proofs.Math.ListN.{drop_of_length-le}
 use Rattle.uefi_path.specs.ComponentIndices.{BeginAtPlaces, placed_from}
-use seplogic.Ra.Ura.{Ura}
-use mir.Val.{Val, vstruct, vnil}
-use types.Logic.{Logic}
-use types.Kit.{Goal, Step, step, Item, ‵, ◌$◌, fjoin, fpack, feq_i}
-use denote.RattleType.{RattleType, Valss}
-use denote.Steps.{nothing}
-use denote.Struct.Struct.{Struct, within}
 use Rattle.std.specs.Iterator.{YieldsFirstBy}
 use Rattle.std.specs.Iterator.Runs.{AllItems, EachRunFrom}
 use Rattle.std.proofs.iter.runs.Lists.{at_some}
 use Rattle.std.proofs.lemmas.Grind.{common_steps}
-use Rattle.std.proofs.lemmas.List.Elements.{All-nil, All-weaker}
+use Rattle.std.proofs.lemmas.List.Elements.{All-cons, All-nil, All-take, All-weaker}
 use Rattle.uefi_text.proofs.Runs.{gives_each}
-use Rattle.uefi_text.specs.Units.{IsText}
+use Rattle.uefi_text.specs.Units.{IsText, IsTextUnit}
 use Rattle.uefi_text.specs.Views.{units_of}
 use Rattle.uefi_path.specs.Runs.{GivesNoNulIn}
 use Rattle.uefi_path.specs.Views.{components_left}
@@ -122,19 +117,6 @@ begin_at_places text place (piece ∷ pieces) within begins =
       ),
     )
 
--- a struct without fields, as a running program has it
-abbrev pub none : Val
-none = vstruct vnil
-
-abbrev pub fieldless : RattleType
-fieldless = Struct (record { name = []; args = []; types = []; fields = [] })
-
-pub none_made : {M : Type 1} {𝓤 : Ura M} {𝓛 : Logic 𝓤} {K : Type 0} {Γ : List (Item 𝓤)} {G : Goal 𝓤 𝓛.H}
-    → K → Step K 𝓛 (‵ (fieldless.own_val tt (none ∷ [])) ∷ Γ) G Γ G
-none_made t = step (λ s.
-    nothing t $ feq_i t (List Val) (none ∷ []) (none ∷ []) refl $ fjoin t $
-    fpack t (Valss []) (within (record { name = []; args = []; types = []; fields = [] }) tt (none ∷ [])) tt $ s)
-
 -- no unit of a text is NUL
 pub no_nul : (text : List ℕ) → IsText text → All (λ unit. unit ≢ 0) text
 no_nul text is_text = grind arith
@@ -192,3 +174,15 @@ back_same own piece us vs ours theirs front last other e =
 pub back_some : (piece : List ℕ) (us vs theirs front : List (List ℕ)) → us ≡ [] → vs ≡ theirs ++ piece ∷ [] → us ≡ front ++ vs → ⊥
 back_some piece us vs theirs front none other e =
     omega (arith, ap length (sym none ∙ e ∙ ap (λ ps. front ++ ps) other), length-append front (theirs ++ piece ∷ []), length-append theirs (piece ∷ []))
+
+-- the beginnings of a text are texts
+prefixes_are_texts : (count : ℕ) (pieces : List (List ℕ)) → All IsText pieces → All IsText (prefixes count pieces)
+prefixes_are_texts zero pieces texts = All-nil IsText
+prefixes_are_texts (suc count) pieces texts =
+    All-cons IsText (joined (take (suc count) pieces)) (prefixes count pieces)
+    (All-joined IsTextUnit (take (suc count) pieces) IsTextUnit-separator (All-take IsText (suc count) pieces texts))
+    (prefixes_are_texts count pieces texts)
+
+pub beginnings_are_texts : (units : List ℕ) → IsText units → All IsText (beginnings (slice_split is_separator units))
+beginnings_are_texts units is_text =
+    prefixes_are_texts (length (slice_split is_separator units)) (slice_split is_separator units) (All-slice_split IsTextUnit units is_text)

@@ -5,6 +5,7 @@ use Rattle.std.specs.Cmp.Lexicographic.{pointwise, slice_cmp}
 use Rattle.std.specs.Ordering.{nat_cmp}
 use Rattle.std.specs.declared.cmp.Ordering.{Ordering}
 use Rattle.std.specs.declared.cmp.Ordering.TheVariants.{Equal}
+use Rattle.uefi_path.specs.Writing.{normal_path}
 use Rattle.uefi_path.specs.Climbing.{NoneClimbs, dot_dots, names}
 use Rattle.uefi_path.specs.Components.{AreComponents, components_of}
 use Rattle.uefi_path.specs.NormalForms.{IsName, NormalForm, dot_dot, Rewrites, normal_of, normal_text}
@@ -217,6 +218,10 @@ NormalHoldsNames = (text : List ℕ) (normal : List (List ℕ)) → verdict text
 abbrev pub NormalIsNormal : Type 0
 NormalIsNormal = (text : List ℕ) (normal : List (List ℕ)) → verdict text ≡ None
     → NormalForm (components_of text) normal → NormalForm (components_of (normal_text normal)) normal
+
+-- the normal path of a path has no more units
+abbrev pub NormalIsNoLonger : Type 0
+NormalIsNoLonger = (text normal : List ℕ) → normal_path text ≡ Some normal → length normal ≤ length text
 
 -- the normal paths of two valid ones are equal exactly where steps lead from the components of both to
 -- some list

@@ -1,7 +1,7 @@
 -- What a borrowed value shows. Other crates see these words alone, and no field.
 use Rattle.std.specs.Prelude.{ℕ, List, [], Option, Some, None, drop}
 use Rattle.std.specs.List.{slice_split}
-use Rattle.uefi_text.specs.Views.{text_of, units_of}
+use Rattle.uefi_text.specs.Views.{read_count, read_units, text_of, units_of}
 use Rattle.uefi_path.specs.Separators.{is_separator}
 use Rattle.uefi_path.specs.declared.path.Path.{Path}
 use Rattle.uefi_path.specs.declared.components.Components.{Components}
@@ -27,8 +27,8 @@ components_left components = pieces_of_rest components.rest
 
 -- the text whose units are read
 unfoldable pub counted_text : CountedUnits → List ℕ
-counted_text units = units.units.now
+counted_text units = read_units units.reader
 
 -- how many units were read
 unfoldable pub reads_of : CountedUnits → ℕ
-reads_of units = units.count.number
+reads_of units = read_count units.reader

@@ -1,10 +1,11 @@
 //! The beginnings of a path: the path itself, and then each shorter one. No call takes memory.
 #![tactic(auto, unfolding(crate::specs::Ancestors::ancestors_left))]
 
-ghost use Rattle.std.specs.Prelude.{◌≡◌};
+ghost use Rattle.std.specs.Prelude.{◌≡◌, All};
 ghost use Rattle.uefi_path.specs.Ancestors.{ancestors_left, beginnings};
 ghost use Rattle.uefi_path.specs.Components.{components_of};
 ghost use Rattle.uefi_path.specs.Views.{path_text};
+ghost use Rattle.uefi_text.specs.Units.{IsText};
 ghost use Rattle.uefi_text.specs.Runs.{GivesEach};
 ghost use Rattle.uefi_text.specs.Views.{units_of};
 ghost use Rattle.std.specs.Iterator.{YieldsFirstBy, item_count};
@@ -22,9 +23,9 @@ pub struct Ancestors<'a> {
 }
 
 impl<'a> Path<'a> {
-    /// The canonical text of the path, then the same without its last component, and so on down to
-    /// the first component alone. A path without components has none. Those after the first are the
-    /// successive parents of a valid path. All of them together cost one pass over the text.
+    /// The canonical text of the path, then the same without its last component, and so on down to the
+    /// first component alone. A path without components has none. Those after the first are the
+    /// successive parents of a valid path.
     ///
     /// ```rust
     /// let text = CString16::try_from_str(rt.alloc(), r"\efi\boot\a.efi")?;
@@ -36,6 +37,7 @@ impl<'a> Path<'a> {
     /// ```
     pub fn ancestors(&self) -> Ancestors<'a>
         ensures same { ancestors_left result ≡ beginnings (components_of (path_text self.now)) }
+        ensures texts { All IsText (ancestors_left result) }
         ensures runs { GivesEach units_of ancestors_left result }
     {
         let text = self.canonical();

@@ -1,6 +1,6 @@
 //! Paths compared without case, and matched against patterns. Case and patterns are those of the
 //! firmware's Unicode collation (UEFI Specification 2.10, section 21.1). No call takes memory.
-ghost use Rattle.std.specs.Prelude.{◌≡◌, ◌<◌, ◌^◌, ◌↔◌, All, IfSome, IsSome, IsTrue, drop, length};
+ghost use Rattle.std.specs.Prelude.{◌+◌, ◌*◌, ◌≤◌, ◌≡◌, ◌<◌, ◌^◌, ◌↔◌, All, IfSome, IsSome, IsTrue, drop, length};
 ghost use Rattle.uefi_path.specs.Components.{components_of};
 ghost use Rattle.uefi_path.specs.Separators.{canonical};
 ghost use Rattle.uefi_path.specs.Views.{path_text, components_left};
@@ -8,12 +8,13 @@ ghost use Rattle.uefi_path.specs.WithoutCase.{MatchesPath, StartsWithoutCase};
 ghost use Rattle.uefi_text.specs.Case.{caseless_order, uppers};
 ghost use Rattle.uefi_text.specs.Runs.{GivesEach};
 ghost use Rattle.uefi_text.specs.Units.{IsText};
-ghost use Rattle.uefi_text.specs.Views.{units_of};
+ghost use Rattle.uefi_text.specs.Views.{read_count, units_of};
 ghost use Rattle.uefi_path.specs.Runs.{GivesNoNulIn};
 
 use crate::components::Components;
 use crate::path::Path;
 use std::cmp::Ordering;
+use uefi_text::counted::CountedReader;
 
 impl<'a> Path<'a> {
     /// Whether both paths are equal without case: their canonical texts are.
@@ -49,8 +50,7 @@ impl<'a> Path<'a> {
     }
 
     /// Whether the components of this path begin with those of the base, without case, as
-    /// [`Path::starts_with`] does with case. At most one pass over each, which ends at the first
-    /// components that differ.
+    /// [`Path::starts_with`] does with case.
     ///
     /// ```rust
     /// let text = CString16::try_from_str(rt.alloc(), r"\EFI\Boot")?;
@@ -65,9 +65,8 @@ impl<'a> Path<'a> {
         self.strip_prefix_ignore_case(base).is_some()
     }
 
-    /// The components of this path after as many as the base has, where it starts with the base
-    /// without case; else `None`. At most one pass over each, which ends at the first components that
-    /// differ.
+    /// The components of this path after as many as the base has, where it starts with the base without
+    /// case; else `None`.
     ///
     /// ```rust
     /// let text = CString16::try_from_str(rt.alloc(), r"\EFI\Boot\a.efi")?;
@@ -89,8 +88,9 @@ impl<'a> Path<'a> {
 
     /// Whether a pattern matches this path: each of its components the one at the same place, as
     /// `CStr16::matches` does, and both have as many. So neither `*` nor `?` takes a separator, and
-    /// one that stands between `[` and `]` ends a component too. At most one pass over each path, and
-    /// the time that its components take.
+    /// one that stands between `[` and `]` ends a component too. Once the components are known, reads at
+    /// most (p + 1) * (t + 1) units of each, where the pattern has p units and this path t.
+    /// [`Path::matches_counted`] promises that.
     ///
     /// ```rust
     /// let pattern = CString16::try_from_str(rt.alloc(), r"\efi\*\shim*.efi")?;
@@ -103,6 +103,36 @@ impl<'a> Path<'a> {
     pub fn matches(&self, pattern: Path<'_>) -> bool
         ensures { IsTrue result ↔ MatchesPath (path_text pattern.entry) (path_text self.now) }
     {
-        self.components().match_each(pattern.components())
+        let mut own = CountedReader::new(self.to_cstr16().as_slice());
+        let mut other = CountedReader::new(pattern.to_cstr16().as_slice());
+        self.matches_counted(pattern, &mut own, &mut other)
+    }
+
+    /// What [`Path::matches`] does, with the units of the components read through two readers, whose counts
+    /// go on. No unit of the text that a reader had is read.
+    ///
+    /// ```rust
+    /// use uefi_text::counted::CountedReader;
+    ///
+    /// let name = CStr16::from_u16_with_nul(&[0x48, 0x69, 0])?;
+    /// let path = Path::new(name);
+    /// let (mut own, mut other) = (CountedReader::new(name.as_slice()), CountedReader::new(name.as_slice()));
+    /// assert!(rt; path.matches_counted(path, &mut own, &mut other));
+    /// ```
+    #[tactic(auto, using(crate::proofs::MatchCosts::path_cost))]
+    pub fn matches_counted<'p>(
+        &self,
+        pattern: Path<'p>,
+        own: &mut CountedReader<'a>,
+        other: &mut CountedReader<'p>,
+    ) -> bool
+        ensures matches { IsTrue result ↔ MatchesPath (path_text pattern.entry) (path_text self.now) }
+        ensures own_reads { read_count own.new ≤ read_count own.old
+            + (length (path_text pattern.entry) + 1) * (length (path_text self.now) + 1) }
+        ensures other_reads { read_count other.new ≤ read_count other.old
+            + (length (path_text pattern.entry) + 1) * (length (path_text self.now) + 1) }
+    {
+        self.components()
+            .match_each(pattern.components(), own, other)
     }
 }

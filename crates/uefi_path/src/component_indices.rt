@@ -51,8 +51,7 @@ impl<'a> Path<'a> {
     ghost use Rattle.uefi_path.specs.ComponentIndices.{BeginAtPlaces, indexed_units, indices_left};
 
     /// Returns the components, as [`Path::components`], each with the place where it begins: how many
-    /// characters of the text stand before it, a leading separator among them. Takes no memory; all of
-    /// them together cost one pass over the text.
+    /// characters of the text stand before it, a leading separator among them. Takes no memory.
     ///
     /// ```rust
     /// let text = CString16::try_from_str(rt.alloc(), r"\efi\boot")?;
@@ -76,8 +75,7 @@ impl<'a> Path<'a> {
 impl<A: Allocator + Copy> PathBuf<A> {
     ghost use Rattle.uefi_path.specs.ComponentIndices.{BeginAtPlaces, indexed_units, indices_left};
 
-    /// Returns the components with their places, as [`Path::component_indices`]. All of them together
-    /// cost time linear in their number: no character after the first is read.
+    /// Returns the components with their places, as [`Path::component_indices`].
     ///
     /// ```rust
     /// let text = CString16::try_from_str(rt.alloc(), "efi/boot")?;

@@ -1,41 +1,12 @@
-//! The units of a text, and how often one was read. The count stands in contracts alone: no running
-//! program reads it, and it takes no memory.
+//! The units of a text, and how often one was read.
 #![tactic(auto, unfolding(crate::specs::Views::counted_text, crate::specs::Views::reads_of))]
 
-ghost use Rattle.std.specs.Prelude.{◌≡◌, ℕ, ◌+◌, ◌<◌, ◌^◌, length, slice_index};
+ghost use Rattle.std.specs.Prelude.{◌≡◌, ◌+◌, ◌<◌, ◌^◌, length, slice_index};
 ghost use Rattle.uefi_text.specs.Units.{IsText};
-ghost use Rattle.uefi_text.specs.Views.{text_of};
+ghost use Rattle.uefi_text.specs.Views.{read_units, text_of};
 
-use std::marker::Model;
+use uefi_text::counted::CountedReader;
 use uefi_text::strs::CStr16;
-
-/// How many units were read.
-#[derive(Drop)]
-struct ReadCount {
-    ghost number: { ℕ },
-}
-
-impl Model for ReadCount {
-    ghost use Rattle.std.specs.Borrow.{ftrue};
-
-    ghost also_owns = { λ _. ftrue };
-}
-
-impl ReadCount {
-    fn zero() -> ReadCount
-        ensures { result.number ≡ 0 }
-    {
-        ReadCount {}
-    }
-
-    /// One more.
-    #[inline(always)]
-    fn next(&self) -> ReadCount
-        ensures { result.number ≡ self.now.number + 1 }
-    {
-        ReadCount {}
-    }
-}
 
 /// The code units of a text, of which contracts count each read. It is there so that
 /// [`crate::PathBuf::push_counted`] can promise to read each unit of what it pushes once. The count
@@ -49,10 +20,9 @@ impl ReadCount {
 /// ```
 #[derive(Drop)]
 pub struct CountedUnits<'a> {
-    units: &'a [u16],
-    count: ReadCount,
-    pub ghost is_text: { IsText units.now },
-    pub ghost bound: { length units.now + 1 < 2 ^ 64 },
+    reader: CountedReader<'a>,
+    pub ghost is_text: { IsText (read_units reader) },
+    pub ghost bound: { length (read_units reader) + 1 < 2 ^ 64 },
 }
 
 impl<'a> CountedUnits<'a> {
@@ -63,10 +33,8 @@ impl<'a> CountedUnits<'a> {
         ensures text { counted_text result ≡ text_of string.entry }
         ensures count { reads_of result ≡ 0 }
     {
-        let text = string.as_slice();
         CountedUnits {
-            units: text.units(),
-            count: ReadCount::zero(),
+            reader: CountedReader::new(string.as_slice()),
         }
     }
 
@@ -77,7 +45,7 @@ impl<'a> CountedUnits<'a> {
         ensures is_text { IsText (counted_text self.now) }
         ensures bound { length (counted_text self.now) + 1 < 2 ^ 64 }
     {
-        self.units.len()
+        self.reader.len()
     }
 
     /// The unit at an index below [`CountedUnits::len`]. Counts one read.
@@ -88,7 +56,6 @@ impl<'a> CountedUnits<'a> {
         ensures text { counted_text self.new ≡ counted_text self.old }
         ensures count { reads_of self.new ≡ reads_of self.old + 1 }
     {
-        self.count = self.count.next();
-        self.units[i]
+        self.reader.get(i)
     }
 }

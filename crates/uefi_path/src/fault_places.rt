@@ -43,9 +43,8 @@ fn find_path_fault(path: Path<'_>) -> Option<PathFault>
     None
 }
 
-/// Whether a path is accepted, as [`validate_path`](crate::validate_path) says; or why not, and where
-/// its first component at fault begins. At most two passes over each component, which stop at the
-/// fault. Takes no memory.
+/// Whether a path is accepted, as [`validate_path`](crate::validate_path) says; or why not, and where its
+/// first component at fault begins. Takes no memory.
 ///
 /// ```rust
 /// let text = CString16::try_from_str(rt.alloc(), r"\efi\b?ot")?;

@@ -6,6 +6,7 @@ ghost use Rattle.std.specs.List.{last_or};
 ghost use Rattle.uefi_path.specs.Components.{components_of};
 ghost use Rattle.uefi_path.specs.FileNames.{HasNoExtension, IsExtension, IsLastDot, IsNamed, IsStem};
 ghost use Rattle.uefi_path.specs.Views.{path_text};
+ghost use Rattle.uefi_text.specs.Units.{IsText};
 ghost use Rattle.uefi_text.specs.Views.{units_of};
 
 use crate::component_kinds::{Kind, kind_of};
@@ -52,9 +53,8 @@ pub(crate) fn stem_len(name: Char16Slice<'_>) -> usize
 }
 
 impl<'a> Path<'a> {
-    /// The last component up to its extension: what stands before its last dot. It is the whole
-    /// component where no dot stands after its first character, and for `..`. `None` where there is
-    /// no component. Reads that component alone.
+    /// The last component up to its extension: what stands before its last dot. It is the whole component
+    /// where no dot stands after its first character, and for `..`. `None` where there is no component.
     ///
     /// ```rust
     /// let text = CString16::try_from_str(rt.alloc(), r"\efi\boot.tar.gz")?;
@@ -63,15 +63,15 @@ impl<'a> Path<'a> {
     /// assert_eq!(rt; path.extension(), Some(text.as_cstr16().as_slice().part(14, 16)));
     /// ```
     pub fn file_stem(&self) -> Option<Char16Slice<'a>>
-        ensures { IsStem (last_or None (components_of (path_text self.now))) (option_map units_of result) }
+        ensures stem { IsStem (last_or None (components_of (path_text self.now))) (option_map units_of result) }
+        ensures is_text { IfSome result (λ stem. IsText (units_of stem)) }
     {
         let name = self.file_name()?;
         Some(name.part(0, stem_len(name)))
     }
 
-    /// What stands after the last dot of the last component; it may be empty. `None` where that
-    /// component has no dot after its first character, where it is `..`, and where there is no
-    /// component. Reads that component alone.
+    /// What stands after the last dot of the last component; it may be empty. `None` where that component
+    /// has no dot after its first character, where it is `..`, and where there is no component.
     ///
     /// ```rust
     /// let text = CString16::try_from_str(rt.alloc(), r"\efi\.efi")?;
@@ -80,8 +80,9 @@ impl<'a> Path<'a> {
     /// assert_eq!(rt; path.file_stem(), path.file_name());
     /// ```
     pub fn extension(&self) -> Option<Char16Slice<'a>>
-        ensures { IsExtension (last_or None (components_of (path_text self.now)))
+        ensures extension { IsExtension (last_or None (components_of (path_text self.now)))
             (option_map units_of result) }
+        ensures is_text { IfSome result (λ extension. IsText (units_of extension)) }
     {
         let name = self.file_name()?;
         let dot = extension_dot(name)?;

@@ -9,7 +9,7 @@ ghost use Rattle.uefi_path.specs.Laws.{ComponentsAreJoined, FullTextsTakeMore, J
 ghost use Rattle.uefi_path.specs.Laws.{ParentIsNotDoubled, ParentIsRelative, ParentIsValid};
 ghost use Rattle.uefi_path.specs.Laws.{CanonicalIsEqual, ComponentsRebuild, ParentOfJoined, RefusedForFirst, ValidWhereUnrefused};
 ghost use Rattle.uefi_path.specs.Laws.{AreParentsWhereSame, FewerParents, ParentsArePrefixes, ParentsOfAreParents, WalkingUpEnds};
-ghost use Rattle.uefi_path.specs.Laws.{NormalFormWhereSame, NormalFormsAgree, NormalFormsExist, NormalFormsOnce, NormalHoldsNames, NormalIsNormal, NormalIsValid, NormalPathsAgree};
+ghost use Rattle.uefi_path.specs.Laws.{NormalFormWhereSame, NormalFormsAgree, NormalFormsExist, NormalFormsOnce, NormalHoldsNames, NormalIsNoLonger, NormalIsNormal, NormalIsValid, NormalPathsAgree};
 
 /// Every text has exactly one list of components, `components_of` it: none where its canonical text
 /// is empty, else one more than separators in it.
@@ -125,12 +125,13 @@ pub fn normal_unique()
 
 /// The normal path of a valid path is valid, holds neither `.` nor `..`, and is its own normal path.
 /// Two valid paths have equal ones exactly where such steps lead from the components of both to some
-/// list of pieces.
+/// list of pieces. A normal path has no more units than the path that it is made of.
 pub fn normal_once()
     ensures valid { NormalIsValid }
     ensures names { NormalHoldsNames }
     ensures again { NormalIsNormal }
     ensures agree { NormalPathsAgree }
+    ensures no_longer { NormalIsNoLonger }
 {}
 
 /// A name has one stem and one extension, or no extension.

@@ -99,10 +99,9 @@ impl<'a> Path<'a> {
     /// nothing is left the normal path is the lone separator.
     ///
     /// A path that is not valid is refused as `Invalid`, with the reason that
-    /// [`validate_path`](crate::validation::validate_path) reports; `OutOfMemory` comes last. The
-    /// passes that judge the path see whether all components are names: then the text is copied,
-    /// and else two more passes make the path. Takes memory as [`PathBuf::from`] does: once for the
-    /// text, and once for the places of its separators, if it has any.
+    /// [`validate_path`](crate::validation::validate_path) reports; `OutOfMemory` comes last. Takes
+    /// memory as [`PathBuf::from`] does: once for the text, and once for the places of its separators, if
+    /// it has any.
     ///
     /// ```rust
     /// let text = CString16::try_from_str(rt.alloc(), r"\efi\.\boot\..\debian")?;

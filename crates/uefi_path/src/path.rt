@@ -57,10 +57,9 @@ impl<'a> Path<'a> {
         self.string
     }
 
-    /// The components: the pieces between the separators of the canonical text, empty ones too, and
-    /// none of the empty text. They are the only list of pieces without separators that joins to
-    /// that text, where a list of one empty piece does not count. Takes no memory; all of them
-    /// together cost one pass over the text.
+    /// The components: the pieces between the separators of the canonical text, empty ones too, and none
+    /// of the empty text. They are the only list of pieces without separators that joins to that text,
+    /// where a list of one empty piece does not count. Takes no memory.
     ///
     /// ```rust
     /// let text = CString16::try_from_str(rt.alloc(), r"\efi\boot\")?;
@@ -84,8 +83,7 @@ impl<'a> Path<'a> {
         Components::of_canonical(self.string, Rest::of(text))
     }
 
-    /// The last component, or `None` where there is none. It may be empty. Takes no memory, and
-    /// reads that component alone.
+    /// The last component, or `None` where there is none. It may be empty. Takes no memory.
     ///
     /// ```rust
     /// let text = CString16::try_from_str(rt.alloc(), r"\efi\shimx64.efi")?;
@@ -102,9 +100,8 @@ impl<'a> Path<'a> {
         Some(text.part(start, text.len()))
     }
 
-    /// Whether the components of this path begin with those of the base. So `\a\bc` starts with `a`
-    /// and with `\a\bc`, and not with `\a\b`; and every path starts with the empty one. Takes no
-    /// memory; at most one pass over each, which ends at the first components that differ.
+    /// Whether the components of this path begin with those of the base. So `\a\bc` starts with `a` and
+    /// with `\a\bc`, and not with `\a\b`; and every path starts with the empty one. Takes no memory.
     ///
     /// ```rust
     /// let text = CString16::try_from_str(rt.alloc(), r"\efi\boot")?;
@@ -121,8 +118,7 @@ impl<'a> Path<'a> {
     }
 
     /// The components of this path after those of the base, where it starts with the base, as
-    /// [`Path::starts_with`] says; else `None`. Takes no memory; at most one pass over each, which
-    /// ends at the first components that differ.
+    /// [`Path::starts_with`] says; else `None`. Takes no memory.
     ///
     /// ```rust
     /// let text = CString16::try_from_str(rt.alloc(), r"\efi\boot\bootx64.efi")?;
@@ -143,9 +139,8 @@ impl<'a> Path<'a> {
         self.components().strip(base.components())
     }
 
-    /// Whether the components of this path end with those of another. So `\a\bc` ends with `bc` and
-    /// with `a\bc`, and not with `c`; and every path ends with the empty one. Takes no memory; at
-    /// most one pass over each, from the end, which stops at the first components that differ.
+    /// Whether the components of this path end with those of another. So `\a\bc` ends with `bc` and with
+    /// `a\bc`, and not with `c`; and every path ends with the empty one. Takes no memory.
     ///
     /// ```rust
     /// let text = CString16::try_from_str(rt.alloc(), r"\efi\boot")?;

@@ -153,7 +153,7 @@ impl<'a> Path<'a> {
 
     /// The path with another pushed after it, as [`PathBuf::push`] does, in memory that it owns; or
     /// `AllocError`. The slashes of both are replaced. Takes memory of the size needed for the text of
-    /// both, and for the places of their separators; linear in what both have.
+    /// both, and for the places of their separators.
     ///
     /// ```rust
     /// let base = CString16::try_from_str(rt.alloc(), r"\efi")?;
@@ -175,12 +175,11 @@ impl<'a> Path<'a> {
 
     /// The parent, each slash replaced; or `AllocError`.
     ///
-    /// The parent is the path without its last component. A path of at most one component has none:
-    /// that takes no memory and is never refused. Of the components before the last the empty ones
-    /// are left out; where the last of them is empty and another is not, a separator ends the
-    /// parent. So the parent of `a\\b` is `a\`. A parent is shorter than the path, so climbing from
-    /// parent to parent ends. Linear in the text; takes memory once for the text, and once for the
-    /// places of its separators, if it has any.
+    /// The parent is the path without its last component. A path of at most one component has none: that
+    /// takes no memory and is never refused. Of the components before the last the empty ones are left
+    /// out; where the last of them is empty and another is not, a separator ends the parent. So the
+    /// parent of `a\\b` is `a\`. A parent is shorter than the path, so climbing from parent to parent
+    /// ends. Takes memory once for the text, and once for the places of its separators, if it has any.
     ///
     /// ```rust
     /// let text = CString16::try_from_str(rt.alloc(), r"\efi\boot")?;
@@ -256,7 +255,7 @@ impl<A: Allocator + Copy> PathBuf<A> {
     /// Takes over a string as a path, each slash replaced, without a copy. Where memory for the
     /// places of its separators is refused, the result is an `Err` with the unchanged string.
     ///
-    /// Takes memory once, and none for a text without separators and slashes. Linear in the text.
+    /// Takes memory once, and none for a text without separators and slashes.
     ///
     /// ```rust
     /// let text = CString16::try_from_str(rt.alloc(), "efi/boot")?;
@@ -280,9 +279,8 @@ impl<A: Allocator + Copy> PathBuf<A> {
     /// this one is not empty and does not end in one; or returns `AllocError`, and the path is
     /// unchanged.
     ///
-    /// The empty path changes nothing, takes no memory and is never refused. Any other takes memory
-    /// where text or places have no room: once for the text, and for the places as they come. A push
-    /// costs what it adds, on average: of what stands already it reads the last character alone.
+    /// The empty path changes nothing, takes no memory and is never refused. Any other takes memory where
+    /// text or places have no room: once for the text, and for the places as they come.
     ///
     /// ```rust
     /// let text = CString16::try_from_str(rt.alloc(), "efi/boot")?;
@@ -302,8 +300,8 @@ impl<A: Allocator + Copy> PathBuf<A> {
     /// Pushes a text as [`PathBuf::push`] pushes its path, and reads each of its units once: the
     /// count of reads rises by their number.
     ///
-    /// Where memory is refused the count rises by at most that. The last character of this path is
-    /// read too, which is not counted. One pass adds the units and the places of their separators.
+    /// Where memory is refused the count rises by at most that. The last character of this path is read
+    /// too, which is not counted.
     ///
     /// ```rust
     /// let text = CString16::try_from_str(rt.alloc(), "efi/boot")?;
@@ -477,9 +475,8 @@ impl<A: Allocator + Copy> PathBuf<A> {
         parent_of(self.alloc(), self.components())
     }
 
-    /// Removes the last component and the separator before it, and says whether it did. A path of at
-    /// most one component stays as it is, as it has no parent. Takes no memory and gives none back;
-    /// reads the component that goes alone.
+    /// Removes the last component and the separator before it, and says whether it did. A path of at most
+    /// one component stays as it is, as it has no parent. Takes no memory and gives none back.
     ///
     /// ```rust
     /// let text = CString16::try_from_str(rt.alloc(), r"\efi\boot")?;
@@ -631,8 +628,7 @@ impl<A: Allocator + Copy> PathBuf<A> {
         self.string.is_empty()
     }
 
-    /// The components, as [`Path::components`]. From the front, all of them together cost time linear in
-    /// their number; from the back, the characters are read.
+    /// The components, as [`Path::components`].
     pub fn components(&self) -> Components<'_>
         ensures same { components_left result ≡ components_of self.now }
         ensures components { AreComponents self.now (components_left result) }

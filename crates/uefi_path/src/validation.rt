@@ -155,7 +155,7 @@ pub(crate) fn judge(path: Path<'_>) -> Result<bool, PathError>
 /// [`CHARACTER_DENY_LIST`] as `IllegalChar` of its first such, and a `..` as `ClimbsAboveRoot`
 /// where the components before it hold at least as many `..` as names. A `.` is no name.
 ///
-/// At most two passes over each component, which stop at the fault. Takes no memory.
+/// Takes no memory.
 ///
 /// ```rust
 /// let text = CString16::try_from_str(rt.alloc(), r"\efi\..\boot")?;

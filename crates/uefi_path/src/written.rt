@@ -178,8 +178,8 @@ pub(crate) fn write_string(units: &mut [u16], len: usize, names: NamesFromLast<'
 }
 
 /// Pushes a path on the text that the first `end` units of a buffer are, in the buffer, as
-/// [`PathBuf::push`](crate::PathBuf::push) does, and writes a NUL after it. Fails only if the buffer is too
-/// small, and then leaves it unchanged. One pass over the path.
+/// [`PathBuf::push`](crate::PathBuf::push) does, and writes a NUL after it. Fails only if the buffer is
+/// too small, and then leaves it unchanged.
 #[doc(hidden)]
 pub fn push_in_buf(buffer: &mut [u16], end: usize, path: &[u16]) -> Result<usize, BufferTooSmall>
     requires { end ≤ length buffer.now }
@@ -242,8 +242,8 @@ impl Error for NormalWriteError {}
 /// without it. What follows the NUL is unchanged. A buffer that is too small is unchanged. No call takes
 /// memory.
 impl<'a> Path<'a> {
-    /// Writes the parent, which [`Path::parent`] makes, to the start of a buffer; or returns `Ok(None)`, if
-    /// the path has at most one component, and the buffer is unchanged. Two passes over the components.
+    /// Writes the parent, which [`Path::parent`] makes, to the start of a buffer; or returns `Ok(None)`,
+    /// if the path has at most one component, and the buffer is unchanged.
     ///
     /// ```rust
     /// let text = CString16::try_from_str(rt.alloc(), r"\efi\boot")?;
@@ -277,7 +277,7 @@ impl<'a> Path<'a> {
     /// once each slash is a separator.
     ///
     /// Fails with `Invalid`, with the reason of [`validate_path`](crate::validate_path) for that path, or
-    /// else if the buffer is too small. Two passes over the components after those that judge the path.
+    /// else if the buffer is too small.
     ///
     /// ```rust
     /// let text = CString16::try_from_str(rt.alloc(), "a/../b")?;
@@ -310,7 +310,6 @@ impl<'a> Path<'a> {
     }
 
     /// Writes this path with another pushed on it, which [`Path::join`] makes, to the start of a buffer.
-    /// One pass over each.
     ///
     /// ```rust
     /// let text = CString16::try_from_str(rt.alloc(), "a/b")?;

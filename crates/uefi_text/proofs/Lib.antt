@@ -24,6 +24,7 @@ pub mod GreedySearch
 pub mod SearchSteps
 pub mod SearchCosts
 pub mod SetPlaces
+pub mod ReadCounts
 pub mod PatternsWithoutCase
 pub mod Puts
 pub mod SunkUnits

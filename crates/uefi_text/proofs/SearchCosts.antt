@@ -15,26 +15,29 @@ tried_within (Some star) pattern place within = within.1
 later_is_less : (text t place w : ℕ) → t ≤ place → (text - place) * w ≤ (text - t) * w
 later_is_less text t place w h = let k : text - place ≤ text - t = omega arith in mul-le-mul_right w k
 
-pub star_cost : (text pattern place at steps next bound : ℕ) (star : Option Star) → StarWithin star pattern place → at < pattern → next ≡ steps + 1
-    → steps + 2 * left text pattern (tried star) at ≤ bound → next + 2 * left text pattern place (at + 1) ≤ bound
-star_cost text pattern place at steps next bound star within inside is before =
+-- a `*` is passed
+pub star_cost : (text pattern place at bound reads : ℕ) (star : Option Star) → StarWithin star pattern place → at < pattern
+    → reads + left text pattern (tried star) at ≤ bound → reads + 1 + left text pattern place (at + 1) ≤ bound
+star_cost text pattern place at bound reads star within inside before =
     let less : (text - place) * (pattern + 1) ≤ (text - tried star) * (pattern + 1) =
     later_is_less text (tried star) place (pattern + 1) (tried_within star pattern place within) in
     omega arith
 
-pub unit_cost : (rest pattern at n steps ticked next bound : ℕ) → n ≤ pattern - at → ticked ≡ steps + 1 → next + 2 ≤ ticked + 2 * n
-    → steps + 2 * (rest + (pattern - at)) ≤ bound → next + 2 * (rest + (pattern - (at + n))) ≤ bound
-unit_cost rest pattern at n steps ticked next bound some is cost before = omega arith
+-- a part of some units is passed, after no more reads
+pub unit_cost : (rest pattern at n reads next bound : ℕ) → n ≤ pattern - at → next ≤ reads + n
+    → reads + (rest + (pattern - at)) ≤ bound → next + (rest + (pattern - (at + n))) ≤ bound
+unit_cost rest pattern at n reads next bound some few before = omega arith
 
 -- with one place less for the last `*`
 one_less : (text pattern t : ℕ) → t < text → (text - t) * (pattern + 1) ≡ (text - (t + 1)) * (pattern + 1) + (pattern + 1)
 one_less text pattern t inside = let e : text - t ≡ (text - (t + 1)) + 1 = omega arith in rw e (omega arith)
 
-pub back_cost : (text pattern place at steps ticked next bound : ℕ) (star : Option Star) (last : Star) → star ≡ Some last → last.tried ≤ place → place < text
-    → ticked ≡ steps + 1 → next ≤ ticked + 2 * (pattern - at) → steps + 2 * left text pattern (tried star) at ≤ bound
-    → next + 2 * left text pattern (last.tried + 1) last.after ≤ bound
-back_cost text pattern place at steps ticked next bound star last is within inside more cost before =
-    let from : steps + 2 * left text pattern last.tried at ≤ bound = subst (λ s. steps + 2 * left text pattern (tried s) at ≤ bound) is before in
+-- the search goes back, after no more reads than the pattern has units left, and one
+pub back_cost : (text pattern place at reads more bound : ℕ) (star : Option Star) (last : Star) → star ≡ Some last → last.tried ≤ place → place < text
+    → at ≤ pattern → more + at ≤ pattern + 1 → reads + left text pattern (tried star) at ≤ bound
+    → reads + more + left text pattern (last.tried + 1) last.after ≤ bound
+back_cost text pattern place at reads more bound star last is within inside in_pattern few before =
+    let from : reads + left text pattern last.tried at ≤ bound = subst (λ s. reads + left text pattern (tried s) at ≤ bound) is before in
     let less = one_less text pattern last.tried (omega arith) in
     let rest : ℕ = (text - (last.tried + 1)) * (pattern + 1) in
     omega arith

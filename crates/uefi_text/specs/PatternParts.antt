@@ -1,7 +1,8 @@
 -- What a part of a pattern that is no `*` does with a unit. Only private clauses cite it.
-use Rattle.std.specs.Prelude.{◌≡◌, ℕ, Bool, false, ◌&&◌, ◌||◌, ◌==◌, nat_le, if◌then◌else◌, List, [], ◌∷◌}
+use Rattle.std.specs.Prelude.{◌<◌, ◌≤◌, drop, length, slice_index, ◌≡◌, ℕ, Bool, false, ◌&&◌, ◌||◌, ◌==◌, nat_le, if◌then◌else◌, List, [], ◌∷◌}
 use Rattle.uefi_text.specs.Case.{upper}
-use Rattle.uefi_text.specs.Patterns.{Matches, hyphen, right_bracket}
+use Rattle.uefi_text.specs.Patterns.{Matches, hyphen, right_bracket, star}
+use Rattle.uefi_text.specs.declared.patterns.Part.{Part}
 
 -- a pattern matches no text that begins with a unit
 abbrev pub Refuses : List ℕ → ℕ → Type 0
@@ -37,5 +38,23 @@ rest_takes before (c ∷ cs) unit =
     (if c == hyphen then range_takes before cs unit else upper c == upper unit) || rest_takes c cs unit
 
 -- whether a unit is one of a set
-abbrev pub set_takes : List ℕ → ℕ → Bool
-set_takes set unit = rest_takes 0 set unit
+abbrev pub set_has : List ℕ → ℕ → Bool
+set_has set unit = rest_takes 0 set unit
+
+-- whether a unit of a set takes another, after two units of it: as the end of a range, or as itself
+abbrev pub unit_has : ℕ → ℕ → ℕ → ℕ → Bool
+unit_has earlier before c unit =
+    (if before == hyphen then range_takes earlier (c ∷ []) unit else false)
+    || (if c == hyphen then false else upper c == upper unit)
+
+-- what a part is to the rest of a pattern that begins with it, and to a unit
+abbrev pub IsPart : Part → List ℕ → ℕ → Type 0
+IsPart Part.Star rest unit = (0 < length rest) × (slice_index rest 0 ≡ star)
+IsPart (Part.Takes n) rest unit = (0 < n) × (n ≤ length rest) × TakesOne rest (drop n rest) unit
+IsPart Part.Refuses rest unit = Refuses rest unit
+
+-- how many units of a pattern are read at most, to know its first part
+abbrev pub part_reads : Part → List ℕ → ℕ
+part_reads Part.Star rest = 1
+part_reads (Part.Takes n) rest = n
+part_reads Part.Refuses rest = length rest

@@ -2,6 +2,7 @@
 use Rattle.std.specs.Prelude.{ℕ, List}
 use Rattle.uefi_text.specs.Packed.{packed_items}
 use Rattle.uefi_text.specs.Units.{without_nul}
+use Rattle.uefi_text.specs.declared.counted.CountedReader.{CountedReader}
 use Rattle.uefi_text.specs.declared.latin1.CStr8.{CStr8}
 use Rattle.uefi_text.specs.declared.strs.CStr16.{CStr16}
 use Rattle.uefi_text.specs.declared.strs.Char16Slice.{Char16Slice}
@@ -25,6 +26,14 @@ units_of part = part.units.now
 -- the code units of the characters that are still to come
 unfoldable pub units_left : CStr16Iter → List ℕ
 units_left iter = iter.units.now
+
+-- the units that a reader reads
+unfoldable pub read_units : CountedReader → List ℕ
+read_units reader = reader.units.now
+
+-- how many units it has read
+unfoldable pub read_count : CountedReader → ℕ
+read_count reader = reader.count.number
 
 module _ {T : Type 0} {P : _} where
   -- the numbers of the items of a packed slice

@@ -117,8 +117,7 @@ impl Char16 {
 }
 
 impl<'a> CStr16<'a> {
-    /// Whether both strings are the same without case: their texts in upper case are. One pass, which ends at
-    /// the first characters that differ, or at once where the lengths do.
+    /// Whether both strings are the same without case: their texts in upper case are.
     ///
     /// ```rust
     /// let shim = CString16::try_from_str(rt.alloc(), "Shimx64.efi")?;
@@ -131,9 +130,8 @@ impl<'a> CStr16<'a> {
         are_same(self.to_u16_slice(), other.to_u16_slice())
     }
 
-    /// How both strings compare without case, as `StriColl` compares them: by the first characters
-    /// that differ in upper case, and where one text is a prefix of the other, the shorter is less.
-    /// One pass, which ends there.
+    /// How both strings compare without case, as `StriColl` compares them: by the first characters that
+    /// differ in upper case, and where one text is a prefix of the other, the shorter is less.
     ///
     /// ```rust
     /// let (one, two) = (&[0x61, 0x42, 0], &[0x41, 0x63, 0]);

@@ -34,9 +34,9 @@ impl<'a> CStr8<'a> {
 
     /// Borrows all of the bytes as a string.
     ///
-    /// The first zero decides. At the last place it ends the string. Before the last place it is
-    /// refused as `InteriorNul` with its index, even where the bytes don't end in zero. Where there
-    /// is none the result is `NotNulTerminated`. One pass, which ends soon after the first zero.
+    /// The first zero decides. At the last place it ends the string. Before the last place it is refused
+    /// as `InteriorNul` with its index, even where the bytes don't end in zero. Where there is none the
+    /// result is `NotNulTerminated`.
     ///
     /// ```rust
     /// let name = CStr8::from_bytes_with_nul(b"Boot\0")?;
@@ -197,8 +197,7 @@ impl<'a> EqStrUntilNul for CStr8<'a> {
     }
 }
 
-/// Whether every character of a Rust text is one of Latin-1: at most U+00FF. One pass over the
-/// bytes, which ends soon after the first that decides; takes no memory.
+/// Whether every character of a Rust text is one of Latin-1: at most U+00FF. Takes no memory.
 ///
 /// ```rust
 /// assert!(rt; is_latin1("café"));
@@ -211,8 +210,7 @@ pub fn is_latin1(s: &str) -> bool
     !has_byte_beyond_latin1(s.as_bytes())
 }
 
-/// Whether no character of a Rust text is NUL. One pass over the bytes, which ends soon after the
-/// first NUL; takes no memory.
+/// Whether no character of a Rust text is NUL. Takes no memory.
 ///
 /// ```rust
 /// assert!(rt; has_no_nul("Boot"));
@@ -225,8 +223,8 @@ pub fn has_no_nul(s: &str) -> bool
     !has_zero(s.as_bytes())
 }
 
-/// The number of characters of a Rust text of Latin-1, each NUL counted, which is the number of
-/// bytes that it takes in Latin-1. [`is_latin1`] tests the condition. One pass; takes no memory.
+/// The number of characters of a Rust text of Latin-1, each NUL counted, which is the number of bytes
+/// that it takes in Latin-1. [`is_latin1`] tests the condition. Takes no memory.
 ///
 /// ```rust
 /// assert_eq!(rt; str_num_latin1_chars("café"), 4);
@@ -242,8 +240,8 @@ pub fn str_num_latin1_chars(s: &str) -> usize
     s.chars().count()
 }
 
-/// Encodes a Rust text of Latin-1 that holds no NUL: a byte for each character, and a NUL after
-/// them. `N` has to be one more than the number of characters. One pass; takes no memory.
+/// Encodes a Rust text of Latin-1 that holds no NUL: a byte for each character, and a NUL after them. `N`
+/// has to be one more than the number of characters. Takes no memory.
 ///
 /// [`is_latin1`], [`has_no_nul`] and [`str_num_latin1_chars`] test the conditions.
 ///

@@ -30,6 +30,7 @@
 pub mod case;
 pub mod char_sink;
 pub mod chars;
+pub mod counted;
 #[doc(hidden)]
 pub mod decode;
 mod encode;
@@ -44,7 +45,6 @@ mod packed_numbers;
 pub mod patterns;
 #[doc(hidden)]
 pub mod scan;
-pub mod steps;
 mod strings_in_bytes;
 pub mod strs;
 #[doc(hidden)]

@@ -61,8 +61,8 @@ impl Class<Char16> for Nul {
     }
 }
 
-/// Whether none of the characters is NUL, which [`CString16::extend`] requires of what it adds. One
-/// pass, which ends soon after the first NUL; takes no memory.
+/// Whether none of the characters is NUL, which [`CString16::extend`] requires of what it adds. Takes no
+/// memory.
 ///
 /// ```rust
 /// let e = Char16::try_from_char('e')?;
@@ -314,8 +314,8 @@ impl<A: Allocator> CString16<A> {
 
     /// Takes over a vector of units as a string, without a copy.
     ///
-    /// Refused exactly as [`CStr16::from_u16_with_nul`] refuses the units; a refused vector is
-    /// dropped. One pass, which ends soon after the first NUL or surrogate; takes no memory.
+    /// Refused exactly as [`CStr16::from_u16_with_nul`] refuses the units; a refused vector is dropped.
+    /// Takes no memory.
     ///
     /// ```rust
     /// let mut vector = Vec::new(rt.alloc());
@@ -436,7 +436,6 @@ impl<A: Allocator> CString16<A> {
     /// [`Char16Slice::has_no_nul`] tests the characters, and those of a text hold none.
     ///
     /// Takes memory at most once. Where there are no characters it takes none and is never refused.
-    /// Many calls take time linear in what they add, on average.
     ///
     /// ```rust
     /// let entry = CString16::try_from_str(rt.alloc(), "Boot0001")?;
@@ -522,7 +521,7 @@ impl<A: Allocator> CString16<A> {
         Ok(())
     }
 
-    /// Replaces each `search` by `replace`; neither may be NUL. One pass; takes no memory.
+    /// Replaces each `search` by `replace`; neither may be NUL. Takes no memory.
     ///
     /// ```rust
     /// let mut name = CString16::try_from_str(rt.alloc(), "efi/boot/")?;
@@ -537,8 +536,7 @@ impl<A: Allocator> CString16<A> {
         self.replace_char_from(0, search, replace);
     }
 
-    /// Replaces each `search` by `replace` from index `start` on; neither may be NUL. One pass over
-    /// what stands there; takes no memory.
+    /// Replaces each `search` by `replace` from index `start` on; neither may be NUL. Takes no memory.
     ///
     /// ```rust
     /// let mut name = CString16::try_from_str(rt.alloc(), "a-b-c")?;
@@ -561,7 +559,7 @@ impl<A: Allocator> CString16<A> {
     }
 
     /// Puts the text in upper case, character by character, as `StrUpr` does (UEFI Specification 2.10,
-    /// section 21.1). One pass; takes no memory.
+    /// section 21.1). Takes no memory.
     ///
     /// ```rust
     /// let mut name = CString16::try_from_str(rt.alloc(), "café.txt")?;
@@ -574,7 +572,7 @@ impl<A: Allocator> CString16<A> {
         self.set_case(Case::Upper);
     }
 
-    /// Puts the text in lower case, character by character, as `StrLwr` does. One pass; takes no memory.
+    /// Puts the text in lower case, character by character, as `StrLwr` does. Takes no memory.
     ///
     /// ```rust
     /// let mut name = CString16::try_from_str(rt.alloc(), "BOOTX64.EFI")?;

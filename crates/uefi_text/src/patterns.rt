@@ -12,16 +12,14 @@
 //! after it, in the order of their upper cases; before the first character of a set comes U+0000. A
 //! `[` without `]` matches nothing. `specs/Patterns.antt` says what a pattern matches, by one rule
 //! for each way that it begins.
-ghost use Rattle.std.specs.Prelude.{◌≡◌, ◌≢◌, ◌==◌, ◌↔◌, ◌+◌, ◌*◌, ◌<◌, ◌≤◌, [], IsTrue, MatchOption, drop, length, position, slice_index};
-ghost use Rattle.uefi_text.specs.PatternParts.{Refuses, TakesOne, is_right_bracket, range_takes};
-ghost use Rattle.uefi_text.specs.Patterns.{IsInSet, Matches, star};
-ghost use Rattle.uefi_text.specs.Views.{text_of, units_of};
+ghost use Rattle.std.specs.Prelude.{IfSome, Some, None, ◌≡◌, ◌≢◌, ◌==◌, ◌↔◌, ◌+◌, ◌*◌, ◌^◌, ◌<◌, ◌≤◌, [], IsTrue, MatchOption, drop, length, position, slice_index, take};
+ghost use Rattle.uefi_text.specs.PatternParts.{IsPart, Refuses, TakesOne, is_right_bracket, part_reads, set_has, unit_has};
+ghost use Rattle.uefi_text.specs.Patterns.{Matches, star};
+ghost use Rattle.uefi_text.specs.Views.{read_count, read_units, text_of, units_of};
 
 use crate::case::upper;
-use crate::steps::Steps;
+use crate::counted::CountedReader;
 use crate::strs::{CStr16, Char16Slice};
-use std::marker::Brand;
-use std::sync::ledger::{Blank, Ledger};
 
 const STAR: u16 = 0x2a;
 
@@ -40,148 +38,186 @@ struct Star {
     tried: usize,
 }
 
-/// Whether a range takes a unit, or the unit that ends it is the same: `rest` follows the `-`.
-fn range_takes_unit(first: u16, rest: &[u16], unit: u16) -> bool
-    ensures { result ≡ range_takes first rest.now unit }
-{
-    match rest {
-        [last, ..] => {
-            let capital = upper(unit);
-            let end = upper(*last);
-            upper(first) <= capital && capital <= end || end == capital
-        }
-        [] => false,
-    }
+/// What the first part of the rest of a pattern does with a unit.
+#[derive(Clone, Copy, Drop)]
+enum Part {
+    /// It is a `*`.
+    Star,
+    /// It has this many units, and takes the unit.
+    Takes(usize),
+    Refuses,
 }
 
-/// Whether a unit is one of a set.
-fn is_in_set<L: Ledger>(set: &[u16], unit: u16, steps: &mut Steps<L>) -> bool
-    ensures inside { IsTrue result ↔ IsInSet set.now unit }
-    ensures cost { steps.new ≤ steps.old + length set.now }
+/// Whether a unit of a set takes another: as itself, or as the end of a range, if `-` is before it.
+/// `earlier` is before that.
+fn takes_here(earlier: u16, before: u16, c: u16, unit: u16) -> bool
+    ensures { result ≡ unit_has earlier before c unit }
 {
+    let capital = upper(unit);
+    let end = upper(c);
+    let in_range = upper(earlier) <= capital && capital <= end;
+    before == HYPHEN && (in_range || end == capital) || c != HYPHEN && end == capital
+}
+
+/// Goes once over a set that begins at `start`, after its `[`: how many units it has before its `]`, and
+/// whether it takes a unit. `None` if there is no `]`.
+fn set_takes(pattern: &mut CountedReader<'_>, start: usize, unit: u16) -> Option<(usize, bool)>
+    requires { start ≤ length (read_units pattern.old) }
+    ensures units { read_units pattern.new ≡ read_units pattern.old }
+    ensures set { MatchOption result (None ≡ position is_right_bracket (drop start (read_units pattern.old)))
+        (λ set. (Some set.0 ≡ position is_right_bracket (drop start (read_units pattern.old)))
+        × (set.1 ≡ set_has (take set.0 (drop start (read_units pattern.old))) unit)) }
+    ensures cost { MatchOption result
+        (read_count pattern.new + start ≤ read_count pattern.old + length (read_units pattern.old))
+        (λ set. read_count pattern.new ≤ read_count pattern.old + set.0 + 1) }
+{
+    let mut takes = false;
+    let mut earlier = 0;
     let mut before = 0;
-    for (i, c) in set.iter().enumerate() {
-        steps.tick();
-        let takes = if *c == HYPHEN {
-            range_takes_unit(before, &set[i + 1..], unit)
-        } else {
-            upper(*c) == upper(unit)
-        };
-        if takes {
-            return true;
+    for i in start..pattern.len() {
+        let c = pattern.get(i);
+        if c == RIGHT_BRACKET {
+            return Some((i - start, takes));
         }
-        before = *c;
-    }
-    false
-}
-
-/// The place of the `]` that ends a set.
-fn set_end<L: Ledger>(units: &[u16], steps: &mut Steps<L>) -> Option<usize>
-    ensures end { result ≡ position is_right_bracket units.now }
-    ensures cost { MatchOption result (steps.new ≤ steps.old + length units.now)
-        (λ end. steps.new ≤ steps.old + end + 1) }
-{
-    for (i, c) in units.iter().enumerate() {
-        steps.tick();
-        if *c == RIGHT_BRACKET {
-            return Some(i);
-        }
+        takes |= takes_here(earlier, before, c, unit);
+        earlier = before;
+        before = c;
     }
     None
 }
 
-/// The length of what a pattern begins with, a unit or a set, if that is no `*` and takes a unit.
-fn part_that_takes<L: Ledger>(pattern: &[u16], unit: u16, steps: &mut Steps<L>) -> Option<usize>
-    requires { slice_index pattern.now 0 ≢ star }
-    ensures within { MatchOption result (Unit {0}) (λ n. (0 < n) × (n ≤ length pattern.now)) }
-    ensures takes { MatchOption result (Refuses pattern.now unit)
-        (λ n. TakesOne pattern.now (drop n pattern.now) unit) }
-    ensures cost { MatchOption result (steps.new ≤ steps.old + 2 * length pattern.now)
-        (λ n. steps.new + 2 ≤ steps.old + 2 * n) }
+/// The length of what the pattern has at a place, a unit or a set, if that is no `*` and takes a unit.
+/// `first` is the unit at that place.
+fn part_that_takes(
+    pattern: &mut CountedReader<'_>,
+    at: usize,
+    first: u16,
+    unit: u16,
+) -> Option<usize>
+    requires within { at < length (read_units pattern.old) }
+    requires bound { length (read_units pattern.old) < 2 ^ 64 }
+    requires first { first ≡ slice_index (read_units pattern.old) at }
+    requires no_star { first ≢ star }
+    ensures units { read_units pattern.new ≡ read_units pattern.old }
+    ensures takes { MatchOption result (Refuses (drop at (read_units pattern.old)) unit)
+        (λ n. TakesOne (drop at (read_units pattern.old)) (drop n (drop at (read_units pattern.old))) unit) }
+    ensures within { IfSome result (λ n. (0 < n) × (at + n ≤ length (read_units pattern.old))) }
+    ensures cost { MatchOption result
+        (read_count pattern.new + at < read_count pattern.old + length (read_units pattern.old))
+        (λ n. read_count pattern.new < read_count pattern.old + n) }
 {
-    let (first, rest) = pattern.split_first()?;
-    if *first == QUESTION_MARK {
+    if first == QUESTION_MARK {
         return Some(1);
     }
-    if *first == LEFT_BRACKET {
-        let Some(end) = set_end(rest, steps) else {
+    if first == LEFT_BRACKET {
+        let Some((len, takes)) = set_takes(pattern, at + 1, unit) else {
             return None;
         };
-        if is_in_set(&rest[..end], unit, steps) {
-            return Some(end + 2);
-        }
-        return None;
+        return if takes { Some(len + 2) } else { None };
     }
-    if upper(*first) == upper(unit) {
+    if upper(first) == upper(unit) {
         return Some(1);
     }
     None
 }
 
-/// Whether a pattern matches the empty text: it holds nothing but `*`.
-fn matches_nothing<L: Ledger>(pattern: &[u16], steps: &mut Steps<L>) -> bool
-    ensures matches { IsTrue result ↔ Matches pattern.now [] }
-    ensures cost { steps.new ≤ steps.old + length pattern.now }
+/// What the pattern has at a place for a unit of the text.
+fn part_at(pattern: &mut CountedReader<'_>, at: usize, unit: u16) -> Part
+    requires { at ≤ length (read_units pattern.old) }
+    ensures units { read_units pattern.new ≡ read_units pattern.old }
+    ensures bound { length (read_units pattern.old) < 2 ^ 64 }
+    ensures part { IsPart result (drop at (read_units pattern.old)) unit }
+    ensures cost { read_count pattern.new
+        ≤ read_count pattern.old + part_reads result (drop at (read_units pattern.old)) }
 {
-    for c in pattern {
-        steps.tick();
-        if *c != STAR {
+    if at == pattern.len() {
+        return Part::Refuses;
+    }
+    let first = pattern.get(at);
+    if first == STAR {
+        return Part::Star;
+    }
+    match part_that_takes(pattern, at, first, unit) {
+        Some(n) => Part::Takes(n),
+        None => Part::Refuses,
+    }
+}
+
+/// Whether the pattern matches the empty text from a place on: it has nothing but `*` there.
+fn matches_nothing(pattern: &mut CountedReader<'_>, start: usize) -> bool
+    requires { start ≤ length (read_units pattern.old) }
+    ensures units { read_units pattern.new ≡ read_units pattern.old }
+    ensures matches { IsTrue result ↔ Matches (drop start (read_units pattern.old)) [] }
+    ensures cost { read_count pattern.new + start ≤ read_count pattern.old + length (read_units pattern.old) }
+{
+    for i in start..pattern.len() {
+        if pattern.get(i) != STAR {
             return false;
         }
     }
     true
 }
 
-/// Whether a pattern matches a text.
-///
-/// Where a unit is refused the search goes back to the last `*` alone, which takes one unit more:
-/// what matches later in the text after an earlier `*` also reaches the last one later.
-fn matches_units<L: Ledger>(pattern: &[u16], text: &[u16], steps: &mut Steps<L>) -> bool
-    ensures matches { IsTrue result ↔ Matches pattern.now text.now }
-    ensures cost { steps.new ≤ steps.old + 2 * (length pattern.now + 1) * (length text.now + 1) }
-{
-    let mut at = 0;
-    let mut place = 0;
-    let mut star: Option<Star> = None;
-    'searching: while place < text.len() {
-        steps.tick();
-        if at < pattern.len() && pattern[at] == STAR {
-            at += 1;
-            star = Some(Star {
-                after: at,
-                tried: place,
-            });
-        } else if let Some(n) = part_that_takes(&pattern[at..], text[place], steps) {
-            at += n;
-            place += 1;
-        } else if let Some(last) = star {
-            at = last.after;
-            place = last.tried + 1;
-            star = Some(Star {
-                after: at,
-                tried: place,
-            });
-        } else {
-            return false;
+impl<'a> CountedReader<'a> {
+    /// Whether a pattern matches all of the units, as [`CStr16::matches`]. Reads each unit of the text less
+    /// often than the pattern is long plus one, and so each unit of the pattern.
+    ///
+    /// Where a unit is refused the search goes back to the last `*` alone, which takes one unit more:
+    /// what matches later in the text after an earlier `*` also reaches the last one later.
+    ///
+    /// ```rust
+    /// use counted::CountedReader;
+    ///
+    /// let name = CStr16::from_u16_with_nul(&[0x48, 0x69, 0])?.as_slice();
+    /// assert!(rt; CountedReader::new(name).matches(&mut CountedReader::new(name)));
+    /// ```
+    pub fn matches(&mut self, pattern: &mut CountedReader<'_>) -> bool
+        ensures matches { IsTrue result ↔ Matches (read_units pattern.old) (read_units self.old) }
+        ensures text { read_units self.new ≡ read_units self.old }
+        ensures pattern { read_units pattern.new ≡ read_units pattern.old }
+        ensures text_reads { read_count self.new < read_count self.old
+            + (length (read_units pattern.old) + 1) * (length (read_units self.old) + 1) }
+        ensures pattern_reads { read_count pattern.new < read_count pattern.old
+            + (length (read_units pattern.old) + 1) * (length (read_units self.old) + 1) }
+    {
+        let mut at = 0;
+        let mut place = 0;
+        let mut star: Option<Star> = None;
+        'searching: while place < self.len() {
+            let unit = self.get(place);
+            match part_at(pattern, at, unit) {
+                Part::Star => {
+                    at += 1;
+                    star = Some(Star {
+                        after: at,
+                        tried: place,
+                    });
+                }
+                Part::Takes(n) => {
+                    at += n;
+                    place += 1;
+                }
+                Part::Refuses => {
+                    let Some(last) = star else {
+                        return false;
+                    };
+                    at = last.after;
+                    place = last.tried + 1;
+                    star = Some(Star {
+                        after: at,
+                        tried: place,
+                    });
+                }
+            }
         }
+        matches_nothing(pattern, at)
     }
-    matches_nothing(&pattern[at..], steps)
-}
-
-/// As [`matches_units`], in steps that nobody counts.
-fn matches_uncounted<L: Ledger>(pattern: &[u16], text: &[u16], blank: Blank) -> bool
-    requires name { blank.name ≡ L.name }
-    requires parts { blank.parts ≡ L.parts }
-    requires some { 0 < blank.parts }
-    ensures { IsTrue result ↔ Matches pattern.now text.now }
-{
-    let mut steps = Steps::<L>::start(blank);
-    matches_units(pattern, text, &mut steps)
 }
 
 impl<'a> CStr16<'a> {
-    /// Whether a pattern matches the whole string, without case. [`Char16Slice::matches_counted`]
-    /// says how long that takes at most.
+    /// Whether a pattern matches the whole string, without case. Reads fewer than (p + 1) * (t + 1) units
+    /// of each, where the pattern has p characters and the string t. [`CountedReader::matches`] promises
+    /// that.
     ///
     /// ```rust
     /// let pattern = CString16::try_from_str(rt.alloc(), "shim*.[ef]?i")?;
@@ -209,25 +245,6 @@ impl<'a> Char16Slice<'a> {
     pub fn matches(&self, pattern: Char16Slice<'_>) -> bool
         ensures { IsTrue result ↔ Matches (units_of pattern.entry) (units_of self.now) }
     {
-        matches_uncounted::<Brand>(pattern.units(), self.units(), Blank::new(1))
-    }
-
-    /// What [`Char16Slice::matches`] does, in counted steps: each looks at two characters of the
-    /// pattern at most, and at one of these.
-    ///
-    /// ```rust
-    /// use std::marker::Brand;
-    /// use std::sync::ledger::Blank;
-    ///
-    /// let name = CStr16::from_u16_with_nul(&[0x48, 0x69, 0])?.as_slice();
-    /// let mut steps = steps::Steps::<Brand>::start(Blank::new(1));
-    /// assert!(rt; name.matches_counted(name, &mut steps));
-    /// ```
-    pub fn matches_counted<L: Ledger>(&self, pattern: Char16Slice<'_>, steps: &mut Steps<L>) -> bool
-        ensures matches { IsTrue result ↔ Matches (units_of pattern.entry) (units_of self.now) }
-        ensures cost { steps.new
-            ≤ steps.old + 2 * (length (units_of pattern.entry) + 1) * (length (units_of self.now) + 1) }
-    {
-        matches_units(pattern.units(), self.units(), steps)
+        CountedReader::new(*self).matches(&mut CountedReader::new(pattern))
     }
 }

@@ -115,9 +115,9 @@ impl<'a> CStr16<'a> {
 
     /// Borrows the units up to the first NUL, and with it, as a string.
     ///
-    /// The first NUL or surrogate decides. A NUL ends the string, and what follows it does not matter.
-    /// A surrogate is refused as `InvalidChar` with its index. Where there is neither the result is
-    /// `NoNul`. One pass, which ends soon after that unit; takes no memory.
+    /// The first NUL or surrogate decides. A NUL ends the string, and what follows it does not matter. A
+    /// surrogate is refused as `InvalidChar` with its index. Where there is neither the result is
+    /// `NoNul`. Takes no memory.
     ///
     /// ```rust
     /// let name = CStr16::from_u16_until_nul(&[0x42, 0x6f, 0x6f, 0x74, 0, 0xffff])?;
@@ -143,10 +143,9 @@ impl<'a> CStr16<'a> {
 
     /// Borrows all of the units as a string.
     ///
-    /// The first NUL or surrogate decides. A NUL at the last place ends the string. One before it
-    /// is refused as `InteriorNul`, and a surrogate as `InvalidChar`, each with its index. Where
-    /// there is neither the result is `NotNulTerminated`. One pass, which ends at that unit; takes
-    /// no memory.
+    /// The first NUL or surrogate decides. A NUL at the last place ends the string. One before it is
+    /// refused as `InteriorNul`, and a surrogate as `InvalidChar`, each with its index. Where there is
+    /// neither the result is `NotNulTerminated`. Takes no memory.
     ///
     /// ```rust
     /// let name = CStr16::from_u16_with_nul(&[0x48, 0x69, 0])?;
@@ -179,13 +178,12 @@ impl<'a> CStr16<'a> {
 
     /// Encodes a Rust text as a string at the start of a buffer, and returns its length without the NUL.
     ///
-    /// The UTF-16 of the text (Unicode Standard, section 3.9) has to have fewer units than the
-    /// buffer has places. Else the result is `BufferTooSmall`, whatever the text holds, and the
-    /// buffer holds the first of these units; half of a surrogate pair may be the last. Where there
-    /// is room the buffer begins with the units and a NUL, and what follows them is unchanged,
-    /// whatever is returned. The first character that is NUL or above U+FFFF then decides:
-    /// `InteriorNul` or `InvalidChar`, with the number of characters before it. Linear in the text,
-    /// and stops where the buffer is full; takes no memory.
+    /// The UTF-16 of the text (Unicode Standard, section 3.9) has to have fewer units than the buffer has
+    /// places. Else the result is `BufferTooSmall`, whatever the text holds, and the buffer holds the
+    /// first of these units; half of a surrogate pair may be the last. Where there is room the buffer
+    /// begins with the units and a NUL, and what follows them is unchanged, whatever is returned. The
+    /// first character that is NUL or above U+FFFF then decides: `InteriorNul` or `InvalidChar`, with the
+    /// number of characters before it. Takes no memory.
     ///
     /// ```rust
     /// let mut buffer = [0xffff; 4];
@@ -205,8 +203,7 @@ impl<'a> CStr16<'a> {
     }
 
     /// Encodes a Rust text at the start of a buffer, and borrows it from there as a string.
-    /// [`CStr16::write_str`] says when it is refused and what the buffer then holds. Linear in the
-    /// text; takes no memory.
+    /// [`CStr16::write_str`] says when it is refused and what the buffer then holds. Takes no memory.
     ///
     /// ```rust
     /// let mut buffer = [0; 8];
@@ -303,15 +300,15 @@ impl<'a> CStr16<'a> {
         self.num_chars() == 0
     }
 
-    /// Whether every character is ASCII. One pass, which ends soon after the first that is not.
+    /// Whether every character is ASCII.
     pub fn is_ascii(&self) -> bool
         ensures { IsTrue result ↔ IsAscii (text_of self.now) }
     {
         is_ascii(self.to_u16_slice())
     }
 
-    /// The string as bytes, the low byte first on every machine: two for each character and two for
-    /// the NUL; or `AllocError`. One pass, into one allocation of that size.
+    /// The string as bytes, the low byte first on every machine: two for each character and two for the
+    /// NUL; or `AllocError`. One allocation of that size.
     ///
     /// ```rust
     /// let price = CStr16::from_u16_with_nul(&[0x35, 0x20ac, 0])?;
@@ -577,7 +574,7 @@ impl<'a> Char16Slice<'a> {
         CStr16Iter { units: self.units }
     }
 
-    /// Whether none of the characters is NUL. One pass, which ends soon after the first NUL.
+    /// Whether none of the characters is NUL.
     pub fn has_no_nul(&self) -> bool
         ensures { IsTrue result ↔ All (λ unit. unit ≢ 0) (units_of self.now) }
     {

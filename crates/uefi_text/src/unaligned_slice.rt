@@ -345,7 +345,7 @@ impl<'a, T: Packed> UnalignedSlice<'a, T> {
         read_items(self.bytes, dest);
     }
 
-    /// Writes the items to `dest`, which has to have as many places as there are items. One pass.
+    /// Writes the items to `dest`, which has to have as many places as there are items.
     ///
     /// ```rust
     /// let items: UnalignedSlice<u16> = UnalignedSlice::new(&[0x34, 0x12, 0x78, 0x56], 2);
@@ -364,8 +364,8 @@ impl<'a, T: Packed> UnalignedSlice<'a, T> {
         }
     }
 
-    /// The items as a vector, or `AllocError`. One request for memory, of exactly the size of the
-    /// items, and none where there are no items. Linear in the items.
+    /// The items as a vector, or `AllocError`. One request for memory, of exactly the size of the items,
+    /// and none where there are no items.
     ///
     /// ```rust
     /// let items: UnalignedSlice<u16> = UnalignedSlice::new(&[0x34, 0x12, 0x78, 0x56], 2);
@@ -560,9 +560,8 @@ impl<'a> UnalignedSlice<'a, u16> {
         None
     }
 
-    /// The units that bytes begin with, up to and with their first NUL, and the bytes after it; or
-    /// `None` exactly where no NUL is among the units. Units before the NUL may be surrogates. Linear
-    /// in the bytes up to the NUL.
+    /// The units that bytes begin with, up to and with their first NUL, and the bytes after it; or `None`
+    /// exactly where no NUL is among the units. Units before the NUL may be surrogates.
     ///
     /// ```rust
     /// let field = [0x48, 0, 0x69, 0, 0, 0, 7, 8];

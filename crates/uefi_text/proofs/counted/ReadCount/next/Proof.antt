@@ -15,11 +15,11 @@ use denote.Signature.{plain, types_at}
 use denote.Steps.{nothing}
 use denote.Triple.Entry.{alive}
 use denote.Triple.Walked.{Stays, says, stay_dropped, walk_of, ends_at, Goes-dropped}
-use Rattle.uefi_path.proofs.TakenComponents.{none, none_made}
-use Rattle.uefi_path.specs.contracts.counted.ReadCount as ReadCount
-use Rattle.uefi_path.specs.contracts.counted.ReadCount.next as f
-use Rattle.uefi_path.proofs.counted.ReadCount.next.Statement.{statement}
-use Rattle.uefi_path.proofs.counted.ReadCount.next.Code as code
+use Rattle.uefi_text.proofs.ReadCounts.{none, none_made}
+use Rattle.uefi_text.specs.contracts.counted.ReadCount as ReadCount
+use Rattle.uefi_text.specs.contracts.counted.ReadCount.next as f
+use Rattle.uefi_text.proofs.counted.ReadCount.next.Statement.{statement}
+use Rattle.uefi_text.proofs.counted.ReadCount.next.Code as code
 
 abbrev stayed : Stays f.ended.signature.params f.ended.kept
 stayed = (stay_dropped _ yes, tt)

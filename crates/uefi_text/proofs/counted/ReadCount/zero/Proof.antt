@@ -10,10 +10,10 @@ use denote.RattleType.{owns}
 use denote.Signature.{types_at}
 use denote.Triple.Entry.{alive}
 use denote.Triple.Walked.{Stays, says, walk_of, ends_at}
-use Rattle.uefi_path.proofs.TakenComponents.{none, none_made}
-use Rattle.uefi_path.specs.contracts.counted.ReadCount.zero as f
-use Rattle.uefi_path.proofs.counted.ReadCount.zero.Statement.{statement}
-use Rattle.uefi_path.proofs.counted.ReadCount.zero.Code as code
+use Rattle.uefi_text.proofs.ReadCounts.{none, none_made}
+use Rattle.uefi_text.specs.contracts.counted.ReadCount.zero as f
+use Rattle.uefi_text.proofs.counted.ReadCount.zero.Statement.{statement}
+use Rattle.uefi_text.proofs.counted.ReadCount.zero.Code as code
 
 abbrev stayed : Stays f.ended.signature.params f.ended.kept
 stayed = tt

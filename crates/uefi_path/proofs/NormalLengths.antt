@@ -1,0 +1,54 @@
+-- A normal path has no more units than the path.
+use Rattle.std.proofs.Common.{◌≡◌, ◌+◌, ◌≤◌, ℕ, List, [], ◌∷◌, Some, None, Option, ap, arith, length, length-append}
+use Rattle.uefi_path.specs.Components.{components_of, joined}
+use Rattle.uefi_path.specs.Laws.{NormalIsNoLonger}
+use Rattle.uefi_path.specs.NormalForms.{before_normal, before_piece, kind, normal_of, normal_text}
+use Rattle.uefi_path.specs.Separators.{separator}
+use Rattle.uefi_path.specs.Verdicts.{verdict}
+use Rattle.uefi_path.specs.Writing.{normal_where}
+use Rattle.uefi_path.specs.WithoutCase.{units_and_ends}
+use Rattle.uefi_path.specs.declared.component_kinds.Kind.{Kind}
+use Rattle.uefi_path.specs.declared.validation.PathError.{PathError}
+use Rattle.uefi_path.proofs.MatchCosts.{path_units}
+
+piece_units : (k : Kind) (name piece : List ℕ) (others : List (List ℕ))
+    → units_and_ends (before_piece k name piece others) ≤ length name + 1 + (length piece + 1 + units_and_ends others)
+piece_units Kind.Dot name piece others = omega arith
+piece_units Kind.DotDot name piece others = omega arith
+piece_units Kind.Name name piece others = omega arith
+
+before_units : (k : Kind) (piece : List ℕ) (others : List (List ℕ)) → units_and_ends (before_normal k piece others) ≤ length piece + 1 + units_and_ends others
+before_units Kind.Dot piece others = omega arith
+before_units Kind.DotDot piece others = omega arith
+before_units Kind.Name piece [] = omega arith
+before_units Kind.Name piece (next ∷ others) = piece_units (kind next) piece next others
+
+normal_units : (pieces : List (List ℕ)) → units_and_ends (normal_of pieces) ≤ units_and_ends pieces
+normal_units [] = omega arith
+normal_units (piece ∷ pieces) =
+    let rest = normal_units pieces in
+    omega (arith, rest, before_units (kind piece) piece (normal_of pieces))
+
+joined_units_of : (piece : List ℕ) (pieces : List (List ℕ)) → length (joined (piece ∷ pieces)) + 1 ≡ units_and_ends (piece ∷ pieces)
+joined_units_of piece [] = omega (arith, length-append piece [])
+joined_units_of piece (next ∷ pieces) =
+    let rest = joined_units_of next pieces in
+    omega (arith, rest, length-append piece (separator ∷ joined (next ∷ pieces)))
+
+text_units : (pieces : List (List ℕ)) (count : ℕ) → 1 ≤ count → units_and_ends pieces ≤ count + 1 → length (normal_text pieces) ≤ count
+text_units [] count some fits = some
+text_units (piece ∷ pieces) count some fits = omega (arith, fits, joined_units_of piece pieces)
+
+found : (error : Option PathError) (normal : List (List ℕ)) (text : List ℕ) → normal_where error normal ≡ Some text → normal_text normal ≡ text
+found None normal text is = cc
+found (Some error) normal text is = absurd (cc)
+
+pub normal_is_no_longer : NormalIsNoLonger
+normal_is_no_longer [] normal is = absurd (cc)
+normal_is_no_longer (unit ∷ units) normal is =
+    let text : List ℕ = unit ∷ units in
+    let pieces = components_of text in
+    let all = normal_units pieces in
+    let most = path_units text in
+    let fits = text_units (normal_of pieces) (length text) (omega arith) (omega (arith, all, most)) in
+    omega (arith, fits, ap length (found (verdict text) (normal_of pieces) normal is))
