@@ -210,8 +210,8 @@ nard_result NARD_CALL nard_string_make_lowercase(nard_unit *buffer, nard_size ro
 
 /*
  * Whether both begin with a string, and the pattern matches the whole text of `units` without case, as MetaiMatch does: `*`
- * is any text, `?` is one unit, `[a-z]` is one unit of a set. Takes at most 2 * (p + 1) * (t + 1) steps for a pattern of p
- * units and a text of t; a step goes over one set of the pattern.
+ * is any text, `?` is one unit, `[a-z]` is one unit of a set. For a pattern of p units and a text of t,
+ * fewer than (p + 1) * (t + 1) units of each are read once both are known to be strings.
  */
 nard_bool NARD_CALL nard_string_matches(const nard_unit *units, nard_size count,
                                         const nard_unit *pattern, nard_size pattern_count);
@@ -294,7 +294,8 @@ nard_bool NARD_CALL nard_utf8_is_latin1(const nard_byte *bytes, nard_size byte_c
  * Checks that the units begin with a string that is a path to a file. A slash is not a separator: nard_path_join with an
  * empty second path replaces slashes first.
  *
- *   *length     out: the length of the text if the path is judged, otherwise as nard_string_until_nul
+ *   *place      out: the index of the unit at which the component at fault begins; the length of the text if the result is
+ *               NARD_OK; as nard_string_until_nul if the units do not begin with a string
  *   *character  out: the character that is not allowed, or 0
  *
  * Returns
@@ -304,7 +305,7 @@ nard_bool NARD_CALL nard_utf8_is_latin1(const nard_byte *bytes, nard_size byte_c
  *   NARD_EMPTY_COMPONENT, NARD_ILLEGAL_CHAR, NARD_CLIMBS_ABOVE_ROOT
  *                                    the fault of the first component that has one
  */
-nard_result NARD_CALL nard_path_verdict(const nard_unit *units, nard_size count, nard_size *length, nard_unit *character);
+nard_result NARD_CALL nard_path_verdict(const nard_unit *units, nard_size count, nard_size *place, nard_unit *character);
 
 /* Whether both begin with a string, and are equal as paths. */
 nard_bool NARD_CALL nard_path_equal(const nard_unit *first, nard_size first_count,
@@ -378,8 +379,10 @@ nard_result NARD_CALL nard_path_parent(const nard_unit *path, nard_size count, n
  * Returns
  *   NARD_OK                 *character is 0
  *   NARD_BUFFER_TOO_SMALL   room <= *length, and *character is 0; the buffer is unchanged
- *   another reason          as nard_path_verdict of the path with its slashes replaced, with its *length and *character; the
- *                           buffer is unchanged
+ *   NARD_NO_NUL, NARD_INVALID_CHAR
+ *                           as nard_string_until_nul, with its *length, and *character is 0; the buffer is unchanged
+ *   another reason          as nard_path_verdict of the path with its slashes replaced, with its *character; *length is the
+ *                           length of the path's text; the buffer is unchanged
  */
 nard_result NARD_CALL nard_path_normalize(const nard_unit *path, nard_size count, nard_unit *buffer, nard_size room,
                                           nard_size *length, nard_unit *character);

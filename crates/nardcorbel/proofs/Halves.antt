@@ -1,5 +1,5 @@
 -- A buffer in two halves, of which the second begins with a string.
-use Rattle.std.proofs.Common.{◌≡◌, ℕ, ◌+◌, ◌/◌, ◌<◌, ◌∙◌, false, List, [], ◌∷◌, ◌++◌, ap, append_assoc, arith, drop, get_or, length, length-append, length-drop, refl, sym, take}
+use Rattle.std.proofs.Common.{◌≡◌, ℕ, ◌+◌, ◌/◌, ◌*◌, ◌≤◌, ◌<◌, length-drop, ◌∙◌, false, List, [], ◌∷◌, ◌++◌, ap, append_assoc, arith, drop, get_or, length, length-append, length-drop, refl, sym, take}
 use Rattle.std.specs.List.{position_or_len}
 use Rattle.std.proofs.lemmas.Grind.{common_steps}
 use Rattle.std.proofs.lemmas.List.{get_or_append_left, length-take}
@@ -49,3 +49,12 @@ halves buffer one two first second =
     let all : length (one ++ two) / 2 ≡ length one =
     omega (arith, length-append one two, second, front, length-drop middle buffer) in
     (ap (λ n. take n (one ++ two)) all ∙ take-append_seam one two, ap (λ n. drop n (one ++ two)) all ∙ drop-append_seam one two)
+
+-- twice as many places, and two, leave as many and one in each half
+pub enough_halves : (buffer : List ℕ) (n : ℕ) → 2 * n + 2 ≤ length buffer → (n < length (first_half buffer)) × (n < length (second_half buffer))
+enough_halves buffer n big =
+    let half : n + 1 ≤ length buffer / 2 = omega arith in
+    let less : length buffer / 2 + (n + 1) ≤ length buffer = omega arith in (
+      omega (arith, half, length-take (length buffer / 2) buffer),
+      omega (arith, less, length-drop (length buffer / 2) buffer),
+    )

@@ -59,3 +59,7 @@ no_room text buffer full =
     let nul : length (nul_terminated text) ≡ length text + 1 = length-append text (0 ∷ []) in
     let more : length buffer < length (nul_terminated text) = omega (arith, nul, full) in
     (grind (arith, common_steps), grind (arith, common_steps))
+
+-- a text that leaves a place for its NUL is written
+pub has_room : (text buffer : List ℕ) → length text < length buffer → room_reason text buffer ≡ 0
+has_room text buffer fits = grind (arith, common_steps)

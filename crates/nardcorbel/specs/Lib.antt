@@ -6,4 +6,5 @@ pub mod DevicePaths
 pub mod Building
 pub mod BootVariables
 pub mod NodeNumbers
+pub mod Paths
 pub mod TextFaults

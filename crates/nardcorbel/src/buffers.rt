@@ -1,5 +1,5 @@
 //! Paths that are made in a caller's buffer: whole, or not at all. No call takes memory.
-ghost use Rattle.std.specs.Prelude.{◌≡◌, ℕ, ◌≤◌, List, None, Some, length};
+ghost use Rattle.std.specs.Prelude.{◌≡◌, ◌+◌, ◌*◌, ℕ, ◌≤◌, List, None, Some, length};
 ghost use Rattle.std.specs.List.{find, position_or_len};
 ghost use Rattle.std.specs.Str.{IsUtf8, chars};
 ghost use Rattle.std.specs.Str.Lossy.{utf8_valid_len};
@@ -213,9 +213,8 @@ pub extern "C" fn nard_path_normalize(
 /// place more if their number is odd, and [`nard_path_normalize`] makes of that the normal path in the
 /// first half.
 ///
-/// Each refuses in its half as it does in a buffer: twice as many places as bytes, and two more, are enough
-/// for any path. `character` becomes 0 but where a character is the reason. As many passes as of the two
-/// calls; takes no memory.
+/// Each refuses in its half as it does in a buffer. Twice as many places as bytes, and two more, are enough
+/// for any path. `character` becomes 0 but where a character is the reason. Takes no memory.
 #[unsafe(no_mangle)]
 pub extern "C" fn nard_path_normalize_utf8(
     bytes: &[u8],
@@ -254,6 +253,8 @@ pub extern "C" fn nard_path_normalize_utf8(
     ensures normal { HasStringIn bytes.now (second_half buffer.old) → (normal : List ℕ)
         → normal_path (with_separators (chars bytes.now)) ≡ Some normal
         → first_half buffer.new ≡ with_prefix (nul_terminated normal) (first_half buffer.old) }
+    ensures enough { 2 * length bytes.now + 2 ≤ length buffer.old → IsUtf8 bytes.now → IsText (chars bytes.now)
+        → IsValid (with_separators (chars bytes.now)) → result ≡ OK }
     ensures string { HasStringIn bytes.now (second_half buffer.old) → second_half buffer.new
         ≡ with_prefix (nul_terminated (chars bytes.now)) (second_half buffer.old) }
 {

@@ -10,6 +10,7 @@ ghost use Rattle.uefi_path.specs.Parents.{all_but_last, parent_text};
 ghost use Rattle.uefi_path.specs.Separators.{canonical, separator};
 ghost use Rattle.uefi_path.specs.Verdicts.{IsValid, verdict};
 ghost use Rattle.uefi_path.specs.Views.{path_text};
+ghost use Rattle.nardcorbel.specs.Paths.{IsPlaceOfFault};
 ghost use Rattle.uefi_path.specs.ComponentPlaces.{component_place, components_from};
 ghost use Rattle.nardcorbel.specs.Reasons.{order_number, path_reason, refused_character, until_nul_reason};
 ghost use Rattle.nardcorbel.specs.Strings.{text_in, until_nul_place};
@@ -17,22 +18,26 @@ ghost use Rattle.nardcorbel.specs.Strings.{text_in, until_nul_place};
 use crate::reasons::{NO_ORDER, OK, order_number, path_reason, until_nul_reason};
 use crate::strings::until_nul_place;
 use uefi_path::path_units::{last_component, next_component, others_end};
-use uefi_path::{Path, validate_path};
+use uefi_path::{Path, validate_path_at};
 use uefi_text::CStr16;
 
-/// Whether a path names a file: `OK`, or why not, and the character that is refused.
-pub(crate) fn judge(path: Path<'_>, character: &mut u16) -> u32
+/// Whether a path names a file: `OK`, or why not, the character that is refused, and where the component at
+/// fault begins.
+fn judge(path: Path<'_>, place: &mut usize, character: &mut u16) -> u32
     ensures reason { result ≡ path_reason (verdict (path_text path.entry)) }
     ensures valid { (result ≡ OK) ↔ IsValid (path_text path.entry) }
+    ensures place { IsPlaceOfFault (verdict (path_text path.entry)) (path_text path.entry) place.new }
     ensures character { character.new ≡ refused_character (verdict (path_text path.entry)) }
 {
-    match validate_path(path) {
+    match validate_path_at(path) {
         Ok(()) => {
+            *place = path.to_cstr16().num_chars();
             *character = 0;
             OK
         }
-        Err(error) => {
-            let (reason, refused) = path_reason(error);
+        Err(fault) => {
+            let (reason, refused) = path_reason(fault.error);
+            *place = fault.place;
             *character = refused;
             reason
         }
@@ -41,29 +46,28 @@ pub(crate) fn judge(path: Path<'_>, character: &mut u16) -> u32
 
 /// Whether the units begin with a string whose path names a file: `OK`, or why not.
 ///
-/// Units that begin with no string are refused as by [`nard_string_until_nul`], and then the path as by
-/// `validate_path`. `place` becomes what [`nard_string_until_nul`] says, which is the length of the text
-/// where only the path is refused. `character` becomes the character of `ILLEGAL_CHAR`, and 0 else. One pass
-/// over the units, and those of `validate_path`, two at most; takes no memory.
+/// Units that begin with no string are refused as by [`nard_string_until_nul`], with its `place`, and then the
+/// path as by `validate_path_at`: `place` becomes where the component at fault begins. It becomes the length of
+/// the text if the result is `OK`. `character` becomes the character of `ILLEGAL_CHAR`, and 0 else. Takes no
+/// memory.
 #[unsafe(no_mangle)]
 pub extern "C" fn nard_path_verdict(units: &[u16], place: &mut usize, character: &mut u16) -> u32
     ensures no_string { ¬ BeginsWithString units.now
-        → result ≡ until_nul_reason (until_nul_refusal units.now) }
+        → (result ≡ until_nul_reason (until_nul_refusal units.now))
+        × (place.new ≡ until_nul_place units.now)
+        × (character.new ≡ 0) }
     ensures reason { BeginsWithString units.now → result ≡ path_reason (verdict (text_in units.now)) }
     ensures valid { (result ≡ OK) ↔ (BeginsWithString units.now × IsValid (text_in units.now)) }
-    ensures place { place.new ≡ until_nul_place units.now }
-    ensures no_character { ¬ BeginsWithString units.now → character.new ≡ 0 }
+    ensures place { BeginsWithString units.now
+        → IsPlaceOfFault (verdict (text_in units.now)) (text_in units.now) place.new }
     ensures character { BeginsWithString units.now
         → character.new ≡ refused_character (verdict (text_in units.now)) }
 {
-    *character = 0;
     match CStr16::from_u16_until_nul(units) {
-        Ok(string) => {
-            *place = string.num_chars();
-            judge(Path::new(string), character)
-        }
+        Ok(string) => judge(Path::new(string), place, character),
         Err(error) => {
             *place = until_nul_place(error, units);
+            *character = 0;
             until_nul_reason(error)
         }
     }

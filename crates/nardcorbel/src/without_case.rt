@@ -118,8 +118,9 @@ pub extern "C" fn nard_string_order_ignore_case(first: &[u16], second: &[u16]) -
     order_number(first.cmp_ignore_case(second))
 }
 
-/// Whether both begin with a string, and the pattern matches the whole text of the other, without case. It
-/// takes no longer than twice the product of both lengths, and no memory.
+/// Whether both begin with a string, and the pattern matches the whole text of the other, without case. For p
+/// units of the pattern's text and t of the other, `CountedReader::matches` reads fewer than (p + 1) * (t + 1)
+/// units of each. Takes no memory.
 #[unsafe(no_mangle)]
 pub extern "C" fn nard_string_matches(units: &[u16], pattern: &[u16]) -> bool
     ensures { IsTrue result ↔ (BeginsWithString units.now × BeginsWithString pattern.now

@@ -1,7 +1,7 @@
 //! Where the component begins for which a path is refused.
 #![tactic(auto, using(crate::proofs::Rules::faults_rules))]
 
-ghost use Rattle.std.specs.Prelude.{◌≡◌, ◌↔◌, IfErr, IsOk, MatchOption, None};
+ghost use Rattle.std.specs.Prelude.{◌≡◌, ◌↔◌, IfErr, IsOk, MatchOption, MatchResult, None, Some};
 ghost use Rattle.uefi_path.specs.FaultPlaces.{IsRefusedAt};
 ghost use Rattle.uefi_path.specs.Verdicts.{IsValid, verdict};
 ghost use Rattle.uefi_path.specs.Views.{path_text};
@@ -54,6 +54,8 @@ fn find_path_fault(path: Path<'_>) -> Option<PathFault>
 /// ```
 pub fn validate_path_at(path: Path<'_>) -> Result<(), PathFault>
     ensures valid { IsOk result ↔ IsValid (path_text path.entry) }
+    ensures verdict { MatchResult result (λ _. verdict (path_text path.entry) ≡ None)
+        (λ fault. verdict (path_text path.entry) ≡ Some fault.error) }
     ensures refusal { IfErr result (λ fault. IsRefusedAt (path_text path.entry) fault) }
 {
     match find_path_fault(path) {

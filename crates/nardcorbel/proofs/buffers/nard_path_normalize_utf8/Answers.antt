@@ -1,17 +1,22 @@
 -- The second half begins with the string of the text, unless it has no room for it.
-use Rattle.std.proofs.Common.{◌<◌, ◌++◌, ap, arith, length, refl, subst, sym, ◌∙◌}
+use Rattle.std.proofs.Common.{Some, ◌≡◌, ◌<◌, ◌++◌, ap, arith, length, refl, subst, sym, ◌∙◌}
+use Rattle.std.proofs.lemmas.List.{length-map}
 use Rattle.std.proofs.lemmas.Str.{scalars-chars}
 use Rattle.std.specs.Str.{chars}
 use Rattle.uefi_text.specs.UnalignedCStr16.{with_prefix}
-use Rattle.uefi_text.specs.Units.{nul_terminated}
-use Rattle.uefi_text.proofs.Texts.{IsText-chars, undecided-IsText}
-use Rattle.uefi_path.specs.Separators.{with_separators}
+use Rattle.uefi_text.specs.Units.{nul_terminated, replaced}
+use Rattle.uefi_text.proofs.Texts.{IsText-chars, length-chars, undecided-IsText}
+use Rattle.uefi_path.specs.Separators.{separator, slash, with_separators}
 use Rattle.uefi_path.specs.Verdicts.{IsValid, verdict}
-use Rattle.uefi_path.specs.Writing.{normal_path}
-use Rattle.nardcorbel.specs.Buffers.{room_reason}
+use Rattle.uefi_path.specs.Writing.{normal_path, normal_where}
+use Rattle.nardcorbel.specs.Buffers.{HasStringIn, first_half, room_reason, second_half}
 use Rattle.nardcorbel.specs.Reasons.{path_reason, refused_character}
-use Rattle.nardcorbel.proofs.Halves.{begins, end_of_written, halves, text_of_written}
-use Rattle.nardcorbel.proofs.Judged.{all_before, no_room, none_found}
+use Rattle.uefi_path.specs.Components.{components_of}
+use Rattle.uefi_path.specs.NormalForms.{normal_of, normal_text}
+use Rattle.uefi_path.proofs.NormalLengths.{normal_is_no_longer}
+use Rattle.uefi_path.proofs.Validity.{valid_unrefused}
+use Rattle.nardcorbel.proofs.Halves.{begins, end_of_written, enough_halves, halves, text_of_written}
+use Rattle.nardcorbel.proofs.Judged.{all_before, has_room, no_room, none_found}
 use Rattle.nardcorbel.proofs.buffers.nard_path_normalize_utf8.Goals as goal
 
 pub returns-then-reason-ne-OK-clause-no_room : goal.returns-then-reason-ne-OK-clause-no_room
@@ -116,3 +121,26 @@ returns-clause-string c = λ has.
     (c.nard_path_normalize.auto.buffer ∙ ap length cut.front) (c.nard_string_from_utf8-reason.auto.buffer ∙ ap length cut.back) in
     both.1 ∙ c.nard_string_from_utf8-reason.ensures.buffer has.utf8 has.text
     ∙ ap (with_prefix (nul_terminated (chars c.args.bytes.now))) cut.back
+
+pub returns-then-reason-ne-OK-clause-enough : goal.returns-then-reason-ne-OK-clause-enough
+returns-then-reason-ne-OK-clause-enough c = λ big utf8 is_text valid.
+    let text = chars c.args.bytes.now in
+    let some = length-chars c.args.bytes.now utf8 in
+    let room = (enough_halves c.args.buffer.now (length c.args.bytes.now) big).1 in
+    let fits = has_room text c.split_at_mut-first.result.1.now (omega (arith, some, room, ap length c.split_at_mut-first.ensures.back)) in
+    absurd (c.if-reason-ne-OK.true (c.nard_string_from_utf8-reason.ensures.reason utf8 is_text ∙ fits))
+
+pub returns-clause-enough : goal.returns-clause-enough
+returns-clause-enough c = λ big utf8 is_text valid.
+    let text = chars c.args.bytes.now in
+    let some = length-chars c.args.bytes.now utf8 in
+    let halves_room = enough_halves c.args.buffer.now (length c.args.bytes.now) big in
+    let front_room = halves_room.0 in
+    let back_room = halves_room.1 in
+    let has : HasStringIn c.args.bytes.now (second_half c.args.buffer.now) = record { utf8 = utf8; text = is_text; room = omega (arith, some, back_room) } in
+    let pieces = normal_of (components_of (with_separators text)) in
+    let is : normal_path (with_separators text) ≡ Some (normal_text pieces) = ap (λ v. normal_where v pieces) ((valid_unrefused (with_separators text)).0 valid) in
+    let short = normal_is_no_longer (with_separators text) (normal_text pieces) is in
+    let same : length (with_separators text) ≡ length text = length-map text (replaced slash separator) in
+    returns-clause-reason c has (normal_text pieces) is
+    ∙ has_room (normal_text pieces) (first_half c.args.buffer.now) (omega (arith, some, front_room, short, same))
