@@ -1,15 +1,14 @@
 -- A byte that is wrong lies in its text, or at its end.
 use Rattle.std.proofs.Common.{ℕ, suc, ◌+◌, ◌-◌, ◌≤◌, Bool, true, false, cond, eqb, List, [], ◌∷◌, length, arith}
 use Rattle.std.specs.Prelude.{Option, Some, None, codes}
-use Rattle.uefi_node_table.specs.Table.{forms}
-use Rattle.uefi_node_reader.specs.LenientFaults.{FaultWithin, begun, call_fault, cut_fault, fault, fault_after, file_fault, forms_stop, further, lenient_fault, path_stop, place_at, stop_fault}
+use Rattle.uefi_node_reader.specs.LenientFaults.{begun, call_fault, cut_fault, fault, fault_after, file_fault, lenient_fault, place_at, stop_fault}
 use Rattle.uefi_node_reader.specs.LenientFields.{after_literal}
 use Rattle.uefi_node_reader.specs.LenientNodes.{begins_call, cut_call, is_blank, tidied}
 use Rattle.uefi_node_reader.specs.NamedFiles.{is_after_node}
 use Rattle.uefi_node_reader.specs.declared.faults.Expected.TheVariants as expected
 use Rattle.uefi_node_reader.specs.declared.faults.Stop.{Stop}
 
-place_within : (count : ℕ) (text : List ℕ) → place_at count text ≤ length text
+pub place_within : (count : ℕ) (text : List ℕ) → place_at count text ≤ length text
 place_within count [] = omega arith
 place_within count (c ∷ cs) = by (is_blank c) (eqb count 0) (place_within count cs) (place_within (count - 1) cs)
   where
@@ -44,6 +43,6 @@ after_within text None = by (begins_call text)
     by true = call_within text (after_literal (codes "File(") text)
     by false = omega arith
 
-pub fault_within : FaultWithin
+pub fault_within : (text : List ℕ) → (lenient_fault text).byte ≤ length text
 unfolding lenient_fault
 fault_within text = after_within text (begun text)

@@ -1,5 +1,5 @@
 -- Why no node is read leniently of a text: which byte is wrong, and what was expected there.
-use Rattle.std.specs.Prelude.{ℕ, ◌+◌, ◌-◌, ◌*◌, ◌^◌, ◌≤◌, nat_lt, Bool, true, false, ◌==◌, ◌&&◌, if◌then◌else◌, List, [], ◌∷◌, codes, drop, take, length, position, Option, Some, None, is_some, Result, Ok, Err}
+use Rattle.std.specs.Prelude.{ℕ, ◌+◌, ◌-◌, ◌*◌, ◌^◌, nat_lt, Bool, true, false, ◌==◌, ◌&&◌, if◌then◌else◌, List, [], ◌∷◌, codes, drop, take, length, position, Option, Some, None, is_some, Result, Ok, Err}
 use Rattle.std.specs.Option.{option_map, option_or}
 use Rattle.uefi_node_table.specs.Rows.{Form, Piece, is_used}
 use Rattle.uefi_node_table.specs.Table.{forms}
@@ -199,7 +199,3 @@ fault_after text None = if begins_call text then call_fault text (after_literal 
 -- the fault of a text of which no node is read leniently
 unfoldable pub lenient_fault : List ℕ → NodeFault
 lenient_fault text = fault_after text (begun text)
-
--- the wrong byte lies in the text, or at its end
-abbrev pub FaultWithin : Type 0
-FaultWithin = (text : List ℕ) → (lenient_fault text).byte ≤ length text

@@ -31,7 +31,7 @@ use uefi_node_table::table::{GROUPS, group};
 use uefi_node_table::words::Words;
 
 /// A text that stops here, where this was expected.
-fn stop_at(text: &[u8], expected: Expected) -> Stop
+pub(crate) fn stop_at(text: &[u8], expected: Expected) -> Stop
     ensures { result ≡ stop_at text.now expected }
 {
     Stop {

@@ -4,9 +4,9 @@
 ghost use Rattle.std.specs.Prelude.{◌≡◌, ◌<◌, ◌≤◌, codes, length};
 ghost use Rattle.std.specs.Option.{option_map};
 ghost use Rattle.uefi_node_reader.specs.Laws.{NodeAgain, NodeFits, NodeStarts, NodeTakes, NodeTextOnce};
-ghost use Rattle.uefi_node_reader.specs.LenientFaults.{FaultWithin, begun, call_fault, lenient_fault};
+ghost use Rattle.uefi_node_reader.specs.LenientFaults.{begun, call_fault, lenient_fault};
 ghost use Rattle.uefi_node_reader.specs.LenientFields.{after_literal};
-ghost use Rattle.uefi_node_reader.specs.LenientNodes.{LenientAgain, LenientEnds, LenientStarts, LenientTakes, ended, file_or_call, lenient_read};
+ghost use Rattle.uefi_node_reader.specs.LenientNodes.{ended, file_or_call, lenient_read};
 ghost use Rattle.uefi_node_reader.specs.NamedFiles.{is_after_node, node_read};
 ghost use Rattle.uefi_node_reader.specs.TextNodeViews.{text_node};
 
@@ -45,7 +45,9 @@ fn is_after_node(text: &[u8]) -> bool
 }
 
 /// What was read, where it ends as a node may end.
-fn ended<'s, 't>(read: Option<(TextNode<'s>, &'t [u8])>) -> Option<(TextNode<'s>, &'t [u8])>
+pub(crate) fn ended<'s, 't>(
+    read: Option<(TextNode<'s>, &'t [u8])>,
+) -> Option<(TextNode<'s>, &'t [u8])>
     ensures { option_map (λ x. (text_node x.0, x.1.now)) result
         ≡ ended (option_map (λ x. (text_node x.0, x.1.now)) read.entry) }
 {
@@ -168,19 +170,4 @@ pub fn nodes_are_read()
 /// Two nodes that are told and have the same text are the same, whatever stands after them.
 pub fn node_text_once()
     ensures { NodeTextOnce }
-{}
-
-/// What is read leniently is told, and what stands after it is the rest of the text, which is empty or begins
-/// with a slash or a comma; the text begins with neither. What is read before one of these is read leniently
-/// as the same node.
-pub fn nodes_are_read_leniently()
-    ensures takes { LenientTakes }
-    ensures ends { LenientEnds }
-    ensures starts { LenientStarts }
-    ensures again { LenientAgain }
-{}
-
-/// The wrong byte of a text lies in it, or at its end.
-pub fn faults_lie_within()
-    ensures { FaultWithin }
 {}
