@@ -5,7 +5,7 @@ use Rattle.uefi_node_reader.specs.TextNodeViews.{text_node}
 use Rattle.uefi_device_path.specs.declared.errors.BuildError.{BuildError}
 use Rattle.uefi_device_path.specs.declared.errors.BuildError.TheVariants.{OutOfMemory}
 use Rattle.uefi_device_path.proofs.PathReading.{accepted}
-use Rattle.uefi_device_path.proofs.lenient_reader.push_read.Goals as goal
+use Rattle.uefi_device_path.proofs.styled_reader.push_read.Goals as goal
 
 pub returns-clause-memory : goal.returns-clause-memory
 returns-clause-memory g c =
