@@ -72,7 +72,7 @@ fn put_styled_text_at(
 
 /// Adds the nodes that a text is read as in a style to the device path that a buffer begins with, before its end, and
 /// returns how many bytes the path then has. What follows it is unchanged.
-pub(crate) fn push_styled_text_in_buf(
+pub fn push_styled_text_in_buf(
     style: TextStyle,
     buffer: &mut [u8],
     text: &str,

@@ -62,6 +62,9 @@ pub use errors::{
 };
 pub use grow::{append_in_buf, push_in_buf};
 pub use grow_lenient_text::{push_lenient_text_in_buf, push_libefivar_text_in_buf};
+// What the library for C is made of: callers in Rattle have a call for each style.
+#[doc(hidden)]
+pub use grow_styled_text::push_styled_text_in_buf;
 pub use grow_text::push_text_in_buf;
 pub use instance::{DevicePathInstance, DevicePathInstanceIterator};
 pub use lenient_errors::{Expected, LenientTextError, PushLenientTextError, TextFault};
