@@ -651,10 +651,10 @@ nard_result NARD_CALL nard_device_path_push_lenient_text(nard_byte *buffer, nard
  * Adds the nodes of a text in UTF-8 that libefivar prints, and efibootmgr with it, to the device path that a buffer begins with,
  * before its end, for example
  *     PciRoot(0x0)/Pci(0x1d,0x0)/NVMe(0x1,00-25-38-5B-71-B0-03-1C)/HD(1,GPT,12345678-9abc-def0-1234-56789abcdef0,0x800,0x64000)
- * libefivar prints the identifier of an NVMe node from its first byte on, and numbers of Fibre Channel in hexadecimal without 0x. Its
- * SAS and UsbClass leave out what distinguishes two nodes, and in PciRoot and PcieRoot a text may stand in place of the number,
- * which begins with 0x: these are refused. All other nodes are read as nard_device_path_push_lenient_text reads them, and the
- * arguments and what it returns are as there.
+ * libefivar prints the identifier of an NVMe node from its first byte on, and Ata with three numbers. Its Fibre, SAS and UsbClass
+ * leave out what distinguishes two nodes, and in PciRoot and PcieRoot a text may stand in place of the number, which begins with
+ * 0x: these are refused. All other nodes are read as nard_device_path_push_lenient_text reads them, and the arguments and what it
+ * returns are as there.
  */
 nard_result NARD_CALL nard_device_path_push_libefivar_text(nard_byte *buffer, nard_size room, const nard_byte *bytes,
                                                            nard_size byte_count, nard_byte *scratch, nard_size scratch_room,

@@ -323,8 +323,8 @@ impl<'a> DevicePathBuilder<'a> {
     }
 
     /// Adds the nodes of a text that libefivar prints, and efibootmgr with it, before the end. libefivar prints the identifier of an
-    /// NVMe node from its first byte on, and numbers of Fibre Channel in hexadecimal without `0x`; `SAS(..)`, `UsbClass(..)` and a
-    /// `PciRoot(..)` without `0x` are refused. Other nodes are read, and the call fails, as by
+    /// NVMe node from its first byte on, and `Ata` with three numbers; `Fibre(..)`, `SAS(..)`, `UsbClass(..)` and a `PciRoot(..)`
+    /// without `0x` are refused. Other nodes are read, and the call fails, as by
     /// [`push_lenient_text`](Self::push_lenient_text).
     ///
     /// ```

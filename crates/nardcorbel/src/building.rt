@@ -33,8 +33,8 @@ use crate::strings::until_nul_place;
 use uefi_device_path::build::RawNode;
 use uefi_device_path::{
     BuildError, DevicePath, DeviceSubType, DeviceType, GrowError, LoadOptionBuilder,
-    OptionBuildError, PushLenientTextError, PushTextError, TextStyle, append_in_buf, laws,
-    push_in_buf, push_styled_text_in_buf, push_text_in_buf,
+    OptionBuildError, PushLenientTextError, PushTextError, append_in_buf, laws, push_in_buf,
+    push_styled_text_in_buf, push_text_in_buf,
 };
 use uefi_node_reader::styles::TextStyle;
 use uefi_text::CStr16;

@@ -10,7 +10,7 @@ ghost use Rattle.nardcorbel.specs.Buffers.{length_shown, room_reason};
 ghost use Rattle.nardcorbel.specs.TextFaults.{IsFaultOf, fault_in, fault_units, fault_text};
 
 use crate::reasons::{NOT_UTF8, SCRATCH_TOO_SMALL, report};
-use uefi_device_path::{PushLenientTextError, TextFault, TextStyle, laws, push_styled_text_in_buf};
+use uefi_device_path::{PushLenientTextError, TextFault, laws, push_styled_text_in_buf};
 use uefi_node_reader::styles::TextStyle;
 use uefi_text::text_sink::{Printed, TextSink};
 use uefi_text::write_units;

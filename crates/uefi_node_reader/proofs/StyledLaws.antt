@@ -80,11 +80,12 @@ own_is text node rest e = by (begins_call text) refl e
 either_way : (text : List ℕ) (node : Node) (rest : List ℕ) (Goal : Type 0) → (Own text node rest → is_after_node rest ≡ true → Goal)
     → (lenient_read text ≡ Some (node, rest) → Goal) → libefivar_read text ≡ Some (node, rest) → Goal
 unfolding libefivar_read
-either_way text node rest Goal own other e = by (is_some (own_fault text)) e
+either_way text node rest Goal own other e = by (is_some (own_read text)) (is_some (own_fault text)) e
   where
-    by : (b : Bool) → cond b (ended (own_read text)) (lenient_read text) ≡ Some (node, rest) → Goal
-    by true p = let read = ends (own_read text) node rest p in own (own_is text node rest read.0) read.1
-    by false p = other p
+    by : (a b : Bool) → cond a (ended (own_read text)) (cond b None (lenient_read text)) ≡ Some (node, rest) → Goal
+    by true b p = let read = ends (own_read text) node rest p in own (own_is text node rest read.0) read.1
+    by false true p = cc
+    by false false p = other p
 
 pub styled_takes : StyledTakes
 unfolding styled_read
@@ -118,7 +119,9 @@ styled_again text node rest e after = lenient_again text node rest e after
 -- where the fault of a call lies
 own_within : (text : List ℕ) (o : Option NodeFault) → own_fault text ≡ o → (fault_or_lenient text o).byte ≤ length text
 own_within text None e = fault_within text
-own_within text (Some other) e = by (past (own_read text))
+own_within text (Some other) e =
+    let call = bind_some (cut_call text) _ other e in
+    placed (length (tidied call.0.0)) (own_stop (tidied call.0.0)) call.2
   where
     placed : (len : ℕ) (s : Option Stop)
         → option_map (λ (stop : Stop). fault (place_at (len - stop.left) text) stop.expected) s ≡ Some other → other.byte ≤ length text
@@ -127,13 +130,11 @@ own_within text (Some other) e = by (past (own_read text))
         let same : fault (place_at (len - stop.left) text) stop.expected ≡ other = cc in
         subst (λ (f : NodeFault). f.byte ≤ length text) same (place_within (len - stop.left) text)
 
-    by : (r : Option (List ℕ)) → (fault_after_own text other r).byte ≤ length text
-    by (Some rest) = omega arith
-    by None =
-        let call = bind_some (cut_call text) _ other e in
-        placed (length (tidied call.0.0)) (own_stop (tidied call.0.0)) call.2
+after_within : (text : List ℕ) (o : Option (List ℕ)) → (fault_after_own text o).byte ≤ length text
+after_within text None = own_within text (own_fault text) refl
+after_within text (Some rest) = omega arith
 
 pub styled_fault_within : StyledFaultWithin
 unfolding styled_fault libefivar_fault
 styled_fault_within Lenient text = fault_within text
-styled_fault_within Libefivar text = own_within text (own_fault text) refl
+styled_fault_within Libefivar text = after_within text (past (own_read text))

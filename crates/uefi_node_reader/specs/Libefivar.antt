@@ -43,11 +43,11 @@ abbrev pub base_after : List ℕ → List ℕ → Option Stop
 base_after name text = after name text >>= λ rest.
     if begins_with (codes "0x") rest then None else Some (stop_at rest expected.Base)
 
--- where a tidied call stops that libefivar prints in its own form alone, for different nodes, or with a text in
--- place of a number
+-- where a tidied call stops that libefivar prints in its own form alone, for different nodes, or with a text of the
+-- device in place of its number
 abbrev pub own_stop : List ℕ → Option Stop
 own_stop text = option_or (stop_after expected.AsPrinted (codes "NVME(") text)
-    (option_or (stop_after expected.AsPrinted (codes "FIBRE(") text)
+    (option_or (stop_after expected.Untold (codes "FIBRE(") text)
     (option_or (stop_after expected.Untold (codes "SAS(") text)
     (option_or (stop_after expected.Untold (codes "USBCLASS(") text)
     (option_or (base_after (codes "PCIROOT(") text) (base_after (codes "PCIEROOT(") text)))))
@@ -59,21 +59,22 @@ own_fault text = cut_call text >>= λ call.
     (own_stop (tidied call.0))
 
 -- the node whose text bytes begin with as libefivar prints it, and what stands after it: in one of its own
--- forms, if it has its own for the name of the call, or else as people write it
+-- forms, or else as people write it
 unfoldable pub libefivar_read : List ℕ → Option (Node × List ℕ)
-libefivar_read text = if is_some (own_fault text) then ended (own_read text) else lenient_read text
+libefivar_read text = if is_some (own_read text) then ended (own_read text)
+    else (if is_some (own_fault text) then None else lenient_read text)
 
--- the fault of a text, by what stands after the call that it begins with in such a form: the node should end
--- there
-abbrev pub fault_after_own : List ℕ → NodeFault → Option (List ℕ) → NodeFault
-fault_after_own text other None = other
-fault_after_own text other (Some rest) = fault (length text - length rest) expected.End
-
--- the same, by the fault of such a call
+-- the fault of a call, or else of a text of which no node is read leniently
 abbrev pub fault_or_lenient : List ℕ → Option NodeFault → NodeFault
 fault_or_lenient text None = lenient_fault text
-fault_or_lenient text (Some other) = fault_after_own text other (past (own_read text))
+fault_or_lenient text (Some other) = other
+
+-- the fault of a text, by what stands after the call that it begins with in one of these forms: the node should
+-- end there
+abbrev pub fault_after_own : List ℕ → Option (List ℕ) → NodeFault
+fault_after_own text None = fault_or_lenient text (own_fault text)
+fault_after_own text (Some rest) = fault (length text - length rest) expected.End
 
 -- the fault of a text of which no node is read so
 unfoldable pub libefivar_fault : List ℕ → NodeFault
-libefivar_fault text = fault_or_lenient text (own_fault text)
+libefivar_fault text = fault_after_own text (past (own_read text))

@@ -1,9 +1,9 @@
 //! Nodes as libefivar 37 prints them, on which efibootmgr stands, where its text of a node is the
 //! specification's text of another, or is in no form of the table.
 //!
-//! It prints the identifier of an NVMe node from its first byte on, and numbers of Fibre Channel in hexadecimal
-//! without `0x`. Its `SAS` and `UsbClass` leave out what distinguishes two nodes. In `PciRoot` and `PcieRoot` a
-//! text of the device may stand in place of its number, which begins with `0x`.
+//! It prints the identifier of an NVMe node from its first byte on, and the numbers of `Ata` without words. Its
+//! `Fibre`, `SAS` and `UsbClass` leave out what distinguishes two nodes. In `PciRoot` and `PcieRoot` a text of the
+//! device may stand in place of its number, which begins with `0x`.
 #![tactic(auto)]
 
 ghost use Rattle.std.specs.Prelude.{◌≡◌, ◌<◌, ◌≤◌, IfSome, IsTrue, codes, length, map};
@@ -47,7 +47,7 @@ macro_rules! own {
 /// Its own forms of calls, in the letters of a tidied call.
 #[rattlefmt::skip]
 const OWN: &[Row] = &[
-    own!(3 3 20 "FIBRE(" [Hexadecimal 4 8 ","] [Hexadecimal 12 8 ")"]),
+    own!(3 1 4 "ATA(" [Decimal 0 1 ","] [Decimal 1 1 ","] [Decimal 2 2 ")"]),
     own!(3 23 12 "NVME(0x" [Hexadecimal 0 4 ","] [Forth 4 1 "-"] [Forth 5 1 "-"] [Forth 6 1 "-"]
         [Forth 7 1 "-"] [Forth 8 1 "-"] [Forth 9 1 "-"] [Forth 10 1 "-"] [Forth 11 1 ")"]),
 ];
@@ -116,15 +116,15 @@ fn base_after(name: &[u8], text: &[u8]) -> Option<Stop>
     Some(stop_at(rest, Expected::Base))
 }
 
-/// Where a tidied call stops that libefivar prints in its own form alone, for different nodes, or with a text in
-/// place of a number.
+/// Where a tidied call stops that libefivar prints in its own form alone, for different nodes, or with a text of the
+/// device in place of its number.
 fn own_stop(text: &[u8]) -> Option<Stop>
     ensures { result ≡ own_stop text.now }
 {
     if let Some(stop) = stop_after(Expected::AsPrinted, b"NVME(", text) {
         return Some(stop);
     }
-    if let Some(stop) = stop_after(Expected::AsPrinted, b"FIBRE(", text) {
+    if let Some(stop) = stop_after(Expected::Untold, b"FIBRE(", text) {
         return Some(stop);
     }
     if let Some(stop) = stop_after(Expected::Untold, b"SAS(", text) {

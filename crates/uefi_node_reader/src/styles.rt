@@ -31,10 +31,13 @@ fn read_libefivar_node<'s, 't: 's>(
     requires { length text.now < length scratch.old }
     ensures { option_map (λ x. (text_node x.0, x.1.now)) result ≡ libefivar_read text.now }
 {
-    if own_fault(scratch, text).is_none() {
-        return read_lenient_node(scratch, text);
+    if own(scratch, text).is_some() {
+        return ended(own(scratch, text));
     }
-    ended(own(scratch, text))
+    if own_fault(scratch, text).is_some() {
+        return None;
+    }
+    read_lenient_node(scratch, text)
 }
 
 /// Why no node is read so.
@@ -44,15 +47,15 @@ fn libefivar_fault(scratch: &mut [u8], text: &[u8]) -> NodeFault
     ensures fault { result ≡ libefivar_fault text.now }
     ensures within { result.byte ≤ length text.now }
 {
-    let Some(fault) = own_fault(scratch, text) else {
-        return lenient_fault(scratch, text);
-    };
-    match own(scratch, text) {
-        Some((_, rest)) => NodeFault {
+    if let Some((_, rest)) = own(scratch, text) {
+        return NodeFault {
             byte: text.len().saturating_sub(rest.len()),
             expected: Expected::End,
-        },
-        None => fault,
+        };
+    }
+    match own_fault(scratch, text) {
+        Some(fault) => fault,
+        None => lenient_fault(scratch, text),
     }
 }
 
