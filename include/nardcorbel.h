@@ -626,8 +626,8 @@ nard_result NARD_CALL nard_device_path_push_text(nard_byte *buffer, nard_size ro
  *     pciroot(0)/pci(31, 2)/HD(1,GPT,12345678-9abc-def0-1234-56789abcdef0,0x800,0x100000)/File(\EFI\boot\bootx64.efi)
  * Names and digits stand in either case, numbers in decimal or after 0x, with zeros before them; blanks may stand in a call, and
  * numbers at its end may be left out, but not all of them; the name of a file may stand in File(..), or without its first
- * backslash if it has another, and neither a `)` nor a `:`. What nard_device_path_push_text reads is read as the same. A comma
- * ends an instance.
+ * backslash if it has another, and neither a `)` nor a `:`, but not after a comma, which ends an instance. What
+ * nard_device_path_push_text reads is read as the same.
  *
  * A call in which other programs print hexadecimal numbers without 0x, such as Fibre(5006,0), is refused. efibootmgr's text of an
  * NVMe node is the specification's text of another node: read what it prints by nard_device_path_push_libefivar_text.

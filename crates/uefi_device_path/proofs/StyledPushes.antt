@@ -45,7 +45,7 @@ module _ (style : TextStyle) where
       → Holds old (before ++ done) new end → ReadsTo style text (done ++ node ∷ []) s rest → IsStyledText style text → HasRoom old text before
       → end + node_length node ≤ length new
   room_for_next starts old new text before done node end s rest on more (all, read) room =
-      let x = first_of_all style starts text all (reads_rest style text all read) more in
+      let x = first_of_all style text starts all (reads_rest style text all read) more in
       room_for_more old new before done x.0 node end on
       (subst (λ (l : List Node). length (path_bytes (before ++ l)) ≤ length old) x.1.0 (room all read))
 

@@ -39,7 +39,7 @@ fn read_from<A: Allocator + Copy>(
 impl<A: Allocator + Copy> DevicePathBuf<A> {
     /// Reads a path from a text of the UEFI Specification as people write it: names and digits in either
     /// case, numbers in decimal or after `0x`, zeros before them, blanks in a call, numbers left out at its
-    /// end, `File(..)`, and a file's name that has a backslash without its first one.
+    /// end, `File(..)`, and, but after a comma, a file's name that has a backslash without its first one.
     ///
     /// A call in which other programs print hexadecimal numbers without `0x`, such as `Fibre(5006,0)`, is
     /// refused. `efibootmgr` prints the identifier of an NVMe node with its bytes in the other order.
@@ -50,7 +50,7 @@ impl<A: Allocator + Copy> DevicePathBuf<A> {
     /// Allocates one byte more than the text has, for copies of its calls and names, which it frees; then
     /// the text is judged, and `NoNode` says where the first node begins that can't be read, which byte of
     /// it is wrong, and what has to stand there; then it allocates once, for the whole path. `OutOfMemory`
-    /// if one of the two requests is refused.
+    /// if one of the two requests is refused, the first of which comes before the text is judged.
     ///
     /// ```rust
     /// let path = DevicePathBuf::from_lenient_text(rt.alloc(), "pciroot(0)/pci(31, 2)")?;

@@ -3,10 +3,9 @@
 
 ghost use Rattle.std.specs.Prelude.{◌++◌, ◌∷◌, ◌≡◌, ◌+◌, ◌-◌, ◌<◌, ◌≤◌, ◌^◌, min, [], List, IfOk, IfErr, MatchOption, OnOk, Some, None, length};
 ghost use Rattle.uefi_device_nodes.specs.Nodes.{Node};
-ghost use Rattle.uefi_device_path.specs.StyledReading.{IsLenientError, IsReadAs, IsStyledText, ReadingStopsAt};
+ghost use Rattle.uefi_device_path.specs.StyledReading.{IsLenientError, IsReadAs, IsStyledText, ReadingStopsAt, follows_comma, place_fault, place_read};
 ghost use Rattle.uefi_device_path.specs.Paths.{path_bytes};
 ghost use Rattle.uefi_node_reader.specs.NamedFiles.{IsTold};
-ghost use Rattle.uefi_node_reader.specs.Styles.{styled_fault, styled_read};
 ghost use Rattle.uefi_node_reader.specs.TextNodeViews.{text_node};
 
 use crate::build::DevicePathBuf;
@@ -17,18 +16,26 @@ use std::alloc::Allocator;
 use uefi_node_reader::nodes::nodes_are_read;
 use uefi_node_reader::styles::{TextStyle, read_styled_node, styled_fault, styled_nodes_are_read};
 
-/// The node that a text begins with, in a style, and what stands after it. The buffer then holds
-/// anything.
+/// Whether what is left of a text stands after a comma: a file's name begins with a backslash there.
+fn follows_comma(text: &[u8], rest: &[u8]) -> bool
+    ensures { result ≡ follows_comma text.now rest.now }
+{
+    rest.len() < text.len() && text[text.len() - rest.len() - 1] == b','
+}
+
+/// The node that is read in a style where this place of a text begins, and what stands after it. The buffer then
+/// holds anything.
 pub(crate) fn first_styled_node<'s, 't: 's>(
     style: TextStyle,
     scratch: &'s mut [u8],
     text: &'t [u8],
+    place: &'t [u8],
 ) -> Option<(ReadNode<'s>, &'t [u8])>
-    requires { length text.now < length scratch.old }
-    ensures { MatchOption result (styled_read style text.now ≡ None)
-        (λ x. styled_read style text.now ≡ Some (text_node x.0.node, x.1.now)) }
+    requires { length place.now < length scratch.old }
+    ensures { MatchOption result (place_read style text.now place.now ≡ None)
+        (λ x. place_read style text.now place.now ≡ Some (text_node x.0.node, x.1.now)) }
 {
-    let (node, rest) = read_styled_node(style, scratch, text)?;
+    let (node, rest) = read_styled_node(style, follows_comma(text, place), scratch, place)?;
     Some((ReadNode { node }, rest))
 }
 
@@ -37,11 +44,11 @@ fn fault_at(style: TextStyle, scratch: &mut [u8], text: &[u8], rest: &[u8]) -> T
     requires room { length rest.now < length scratch.old }
     requires within { length rest.now ≤ length text.now }
     ensures node { result.node ≡ length text.now - length rest.now }
-    ensures byte { result.byte ≡ result.node + (styled_fault style rest.now).byte }
-    ensures expected { result.expected ≡ (styled_fault style rest.now).expected }
+    ensures byte { result.byte ≡ result.node + (place_fault style text.now rest.now).byte }
+    ensures expected { result.expected ≡ (place_fault style text.now rest.now).expected }
 {
     let node = text.len() - rest.len();
-    let fault = styled_fault(style, scratch, rest);
+    let fault = styled_fault(style, follows_comma(text, rest), scratch, rest);
     TextFault {
         node,
         byte: node + fault.byte,
@@ -75,7 +82,7 @@ pub(crate) fn check_styled_text(
             }
             None => {
                 let place = node_start(at_start, rest);
-                let Some((node, after)) = first_styled_node(style, scratch, place) else {
+                let Some((node, after)) = first_styled_node(style, scratch, text, place) else {
                     return Err(fault_at(style, scratch, text, place));
                 };
                 len = len.saturating_add(node.node.data_len()).saturating_add(4);
@@ -125,7 +132,7 @@ fn push_styled_text<A: Allocator>(
             }
             None => {
                 let place = node_start(at_start, rest);
-                let Some((node, after)) = first_styled_node(style, scratch, place) else {
+                let Some((node, after)) = first_styled_node(style, scratch, text, place) else {
                     unreachable!()
                 };
                 push_read(path, &node)?;

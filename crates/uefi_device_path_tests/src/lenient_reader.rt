@@ -168,7 +168,8 @@ pub(crate) const REFUSED: &str = "\
 0 0 uri(http://a): the exact printed form | 0 5 file(a\u{7}b): the name of a file | \
 0 0 a\u{202e}: the name of a file | 0 0 shim.efi: the name of a file | \
 0 0 Pci 0x1F,0x2): the name of a file | 0 0 PciRoot/Pci(0x1,0x0): the name of a file | \
-0 0 FS0:\\EFI\\x.efi: the name of a file | 7 7 \\EFI\\a,b.efi: the name of a file | \
+0 0 FS0:\\EFI\\x.efi: the name of a file | 7 7 \\EFI\\a,b.efi: the name of a file | 7 7 \\EFI\\a,b\\c.efi: the name of a file | \
+1 1 ,EFI\\a.efi: the name of a file | \
 0 0 EFI\\x)\\y: the name of a file | 0 9 HD(1,MBR,12345678,0x800,0x64000): a number after `0x` | \
 0 5 Acpi(12345678,0): a number after `0x` | 0 25 BluetoothLE(001122334455,10): a number after `0x` | \
 0 6 Fibre(5006016047273469,0): a number after `0x` | \

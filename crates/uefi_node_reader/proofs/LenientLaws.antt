@@ -142,9 +142,9 @@ called text node rest e =
     (call.0, call.1, with_rest _ call.0.1 node rest (unless (is_some (ambiguous_stop (tidied call.0.0))) _ (node, rest) call.2))
 
 -- what a bare name was read of
-bare_named : (text : List ℕ) (node : Node) (rest : List ℕ) → bare_read text ≡ Some (node, rest)
+bare_named : (is_rooted : Bool) (text : List ℕ) (node : Node) (rest : List ℕ) → bare_read is_rooted text ≡ Some (node, rest)
     → (whole (name_read (rooted (name_bytes text))) ≡ Some node) × (drop (position_or_len ends_name text) text ≡ rest)
-bare_named text node rest e = with_rest _ _ node rest (if_bare (is_bare (name_bytes text)) (named_read text) (node, rest) e)
+bare_named is_rooted text node rest e = with_rest _ _ node rest (if_bare (not is_rooted && is_bare (name_bytes text)) (named_read text) (node, rest) e)
 
 call_told : (text : List ℕ) (node : Node) (rest : List ℕ) → call_read text ≡ Some (node, rest) → IsTold node
 call_told text node rest e =
@@ -174,45 +174,45 @@ ends (Some read) node rest e =
     (λ i. Some (q.1 i, q.2 i), ap is_after_node (sym q.2) ∙ q.0)
 
 -- one of the four that are tried
-module _ (text : List ℕ) (node : Node) (rest : List ℕ) (Goal : Type 0)
+module _ (is_rooted : Bool) (text : List ℕ) (node : Node) (rest : List ℕ) (Goal : Type 0)
     (strict : node_read text ≡ Some (node, rest) → is_after_node rest ≡ true → Goal)
     (file : begins_call text ≡ true → (name : List ℕ) → after_literal (codes "File(") text ≡ Some name
     → file_read name ≡ Some (node, rest) → is_after_node rest ≡ true → Goal)
     (call : begins_call text ≡ true → call_read text ≡ Some (node, rest) → is_after_node rest ≡ true → Goal)
-    (bare : bare_read text ≡ Some (node, rest) → Goal) where
+    (bare : bare_read is_rooted text ≡ Some (node, rest) → Goal) where
   either_call : begins_call text ≡ true → (o : Option (List ℕ)) → after_literal (codes "File(") text ≡ o
       → ended (file_or_call o text) ≡ Some (node, rest) → Goal
   either_call b None f e = let q = ends (call_read text) node rest e in call b q.0 q.1
   either_call b (Some name) f e = let q = ends (file_read name) node rest e in file b name f q.0 q.1
 
   call_or_name : (b : Bool) → begins_call text ≡ b
-      → cond b (ended (file_or_call (after_literal (codes "File(") text) text)) (bare_read text) ≡ Some (node, rest)
+      → cond b (ended (file_or_call (after_literal (codes "File(") text) text)) (bare_read is_rooted text) ≡ Some (node, rest)
       → Goal
   call_or_name true b e = either_call b (after_literal (codes "File(") text) refl e
   call_or_name false b e = bare e
 
-  one_of_four : lenient_read text ≡ Some (node, rest) → Goal
+  one_of_four : lenient_read is_rooted text ≡ Some (node, rest) → Goal
   unfolding lenient_read
   one_of_four e = elim (one_read (ended (node_read text)) _ (node, rest) e) [
     | inl p ↦ let q = ends (node_read text) node rest p in strict q.0 q.1
     | inr p ↦ call_or_name (begins_call text) refl p
   ]
 
-pub lenient_takes : (text : List ℕ) (node : Node) (rest : List ℕ)
-    → lenient_read text ≡ Some (node, rest) → IsTold node
-lenient_takes text node rest e = one_of_four text node rest (IsTold node)
+pub lenient_takes : (is_rooted : Bool) (text : List ℕ) (node : Node) (rest : List ℕ)
+    → lenient_read is_rooted text ≡ Some (node, rest) → IsTold node
+lenient_takes is_rooted text node rest e = one_of_four is_rooted text node rest (IsTold node)
     (λ p _. (node_takes text node rest p).0)
     (λ _ name _ p _. file_told name node rest p) (λ _ p _. call_told text node rest p)
-    (λ p. name_told (rooted (name_bytes text)) node (bare_named text node rest p).0) e
+    (λ p. name_told (rooted (name_bytes text)) node (bare_named is_rooted text node rest p).0) e
 
-pub lenient_again : (text : List ℕ) (node : Node) (rest : List ℕ) → node_read text ≡ Some (node, rest)
-    → is_after_node rest ≡ true → lenient_read text ≡ Some (node, rest)
+pub lenient_again : (is_rooted : Bool) (text : List ℕ) (node : Node) (rest : List ℕ) → node_read text ≡ Some (node, rest)
+    → is_after_node rest ≡ true → lenient_read is_rooted text ≡ Some (node, rest)
 unfolding lenient_read
-lenient_again text node rest e after =
+lenient_again is_rooted text node rest e after =
     let strict : ended (node_read text) ≡ Some (node, rest) =
     ap ended e ∙ ap (λ (b : Bool). read_if b node rest) after in
     ap (λ (o : Option (Node × List ℕ)). either_read o
-    (cond (begins_call text) (ended (file_or_call (after_literal (codes "File(") text) text)) (bare_read text))) strict
+    (cond (begins_call text) (ended (file_or_call (after_literal (codes "File(") text) text)) (bare_read is_rooted text))) strict
 
 -- the end of a text
 abbrev IsEnd : List ℕ → List ℕ → Type 0
@@ -353,18 +353,18 @@ bare_rest (c ∷ cs) node e = by (ends_name c) e
     by true q = let none = no_name in cc
     by false q = dropped (1 + position_or_len ends_name cs) (position_or_len ends_name cs) c cs (omega arith)
 
-bare_end : (text : List ℕ) (node : Node) (rest : List ℕ) → bare_read text ≡ Some (node, rest)
+bare_end : (is_rooted : Bool) (text : List ℕ) (node : Node) (rest : List ℕ) → bare_read is_rooted text ≡ Some (node, rest)
     → IsRestOf text rest × (is_after_node rest ≡ true)
-bare_end text node rest e =
-    let name = bare_named text node rest e in
+bare_end is_rooted text node rest e =
+    let name = bare_named is_rooted text node rest e in
     subst (λ (x : List ℕ). IsRestOf text x × (is_after_node x ≡ true)) name.1
     (bare_rest text node name.0, after_name text)
 
-pub lenient_ends : (text : List ℕ) (node : Node) (rest : List ℕ) → lenient_read text ≡ Some (node, rest)
+pub lenient_ends : (is_rooted : Bool) (text : List ℕ) (node : Node) (rest : List ℕ) → lenient_read is_rooted text ≡ Some (node, rest)
     → IsRestOf text rest × (is_after_node rest ≡ true)
-lenient_ends text node rest e = one_of_four text node rest (IsRestOf text rest × (is_after_node rest ≡ true))
+lenient_ends is_rooted text node rest e = one_of_four is_rooted text node rest (IsRestOf text rest × (is_after_node rest ≡ true))
     (λ p after. (strict_end text node rest p after, after)) (λ _ name begun p after. (file_end text name node rest begun p, after))
-    (λ _ p after. (call_end text node rest p, after)) (bare_end text node rest) e
+    (λ _ p after. (call_end text node rest p, after)) (bare_end is_rooted text node rest) e
 
 -- nothing is read where a slash or a comma stands first, or nothing
 no_bytes : (text : List ℕ) → is_after_node text ≡ true → name_bytes text ≡ []
@@ -377,21 +377,21 @@ call_starts text first call =
     let none : begins_call text ≡ false = ap (λ (x : List ℕ). list_any (λ c. c == 40) x) (no_bytes text first) in
     absurd (true≢false (sym call ∙ none))
 
-pub lenient_starts : (text : List ℕ) (node : Node) (rest : List ℕ) → lenient_read text ≡ Some (node, rest)
+pub lenient_starts : (is_rooted : Bool) (text : List ℕ) (node : Node) (rest : List ℕ) → lenient_read is_rooted text ≡ Some (node, rest)
     → is_after_node text ≡ false
-lenient_starts text node rest e = by (is_after_node text) refl
+lenient_starts is_rooted text node rest e = by (is_after_node text) refl
   where
     strict : node_read text ≡ Some (node, rest) → is_after_node text ≡ false
     strict p = let read = node_takes text node rest p in ap is_after_node read.1 ∙ node_starts node read.0 rest
 
-    bare : is_after_node text ≡ true → bare_read text ≡ Some (node, rest) → is_after_node text ≡ false
+    bare : is_after_node text ≡ true → bare_read is_rooted text ≡ Some (node, rest) → is_after_node text ≡ false
     bare first p =
-        let name = (bare_named text node rest p).0 in
+        let name = (bare_named is_rooted text node rest p).0 in
         let none : whole (name_read (rooted (name_bytes text))) ≡ None =
         ap (λ (x : List ℕ). whole (name_read (rooted x))) (no_bytes text first) ∙ no_name in
         cc (name, none)
 
     by : (b : Bool) → is_after_node text ≡ b → is_after_node text ≡ false
     by false p = p
-    by true p = one_of_four text node rest (is_after_node text ≡ false) (λ q _. strict q)
+    by true p = one_of_four is_rooted text node rest (is_after_node text ≡ false) (λ q _. strict q)
         (λ b _ _ _ _. call_starts text p b) (λ b _ _. call_starts text p b) (bare p) e

@@ -31,3 +31,4 @@ pub mod LenientFaults
 pub mod FaultPlaces
 pub mod LenientLaws
 pub mod StyledLaws
+pub mod Alike

@@ -77,33 +77,33 @@ own_is text node rest e = by (begins_call text) refl e
         }
 
 -- one of the two that are tried
-either_way : (text : List ℕ) (node : Node) (rest : List ℕ) (Goal : Type 0) → (Own text node rest → is_after_node rest ≡ true → Goal)
-    → (lenient_read text ≡ Some (node, rest) → Goal) → libefivar_read text ≡ Some (node, rest) → Goal
+either_way : (is_rooted : Bool) (text : List ℕ) (node : Node) (rest : List ℕ) (Goal : Type 0) → (Own text node rest → is_after_node rest ≡ true → Goal)
+    → (lenient_read is_rooted text ≡ Some (node, rest) → Goal) → libefivar_read is_rooted text ≡ Some (node, rest) → Goal
 unfolding libefivar_read
-either_way text node rest Goal own other e = by (is_some (own_read text)) (is_some (own_fault text)) e
+either_way is_rooted text node rest Goal own other e = by (is_some (own_read text)) (is_some (own_fault text)) e
   where
-    by : (a b : Bool) → cond a (ended (own_read text)) (cond b None (lenient_read text)) ≡ Some (node, rest) → Goal
+    by : (a b : Bool) → cond a (ended (own_read text)) (cond b None (lenient_read is_rooted text)) ≡ Some (node, rest) → Goal
     by true b p = let read = ends (own_read text) node rest p in own (own_is text node rest read.0) read.1
     by false true p = cc
     by false false p = other p
 
 pub styled_takes : StyledTakes
 unfolding styled_read
-styled_takes Lenient text node rest e = lenient_takes text node rest e
-styled_takes Libefivar text node rest e =
-    either_way text node rest (IsTold node) (λ own _. own.told) (lenient_takes text node rest) e
+styled_takes Lenient is_rooted text node rest e = lenient_takes is_rooted text node rest e
+styled_takes Libefivar is_rooted text node rest e =
+    either_way is_rooted text node rest (IsTold node) (λ own _. own.told) (lenient_takes is_rooted text node rest) e
 
 pub styled_ends : StyledEnds
 unfolding styled_read
-styled_ends Lenient text node rest e = lenient_ends text node rest e
-styled_ends Libefivar text node rest e = either_way text node rest (IsRestOf text rest × (is_after_node rest ≡ true))
-    (λ own after. (own.rest_of, after)) (lenient_ends text node rest) e
+styled_ends Lenient is_rooted text node rest e = lenient_ends is_rooted text node rest e
+styled_ends Libefivar is_rooted text node rest e = either_way is_rooted text node rest (IsRestOf text rest × (is_after_node rest ≡ true))
+    (λ own after. (own.rest_of, after)) (lenient_ends is_rooted text node rest) e
 
 pub styled_starts : StyledStarts
 unfolding styled_read
-styled_starts Lenient text node rest e = lenient_starts text node rest e
-styled_starts Libefivar text node rest e = either_way text node rest (is_after_node text ≡ false)
-    (λ own _. no_call own.call) (lenient_starts text node rest) e
+styled_starts Lenient is_rooted text node rest e = lenient_starts is_rooted text node rest e
+styled_starts Libefivar is_rooted text node rest e = either_way is_rooted text node rest (is_after_node text ≡ false)
+    (λ own _. no_call own.call) (lenient_starts is_rooted text node rest) e
   where
     no_call : begins_call text ≡ true → is_after_node text ≡ false
     no_call call = by (is_after_node text) refl
@@ -114,12 +114,12 @@ styled_starts Libefivar text node rest e = either_way text node rest (is_after_n
 
 pub styled_again : LenientAgain
 unfolding styled_read
-styled_again text node rest e after = lenient_again text node rest e after
+styled_again is_rooted text node rest e after = lenient_again is_rooted text node rest e after
 
 -- where the fault of a call lies
-own_within : (text : List ℕ) (o : Option NodeFault) → own_fault text ≡ o → (fault_or_lenient text o).byte ≤ length text
-own_within text None e = fault_within text
-own_within text (Some other) e =
+own_within : (is_rooted : Bool) (text : List ℕ) (o : Option NodeFault) → own_fault text ≡ o → (fault_or_lenient is_rooted text o).byte ≤ length text
+own_within is_rooted text None e = fault_within is_rooted text
+own_within is_rooted text (Some other) e =
     let call = bind_some (cut_call text) _ other e in
     placed (length (tidied call.0.0)) (own_stop (tidied call.0.0)) call.2
   where
@@ -130,11 +130,11 @@ own_within text (Some other) e =
         let same : fault (place_at (len - stop.left) text) stop.expected ≡ other = cc in
         subst (λ (f : NodeFault). f.byte ≤ length text) same (place_within (len - stop.left) text)
 
-after_within : (text : List ℕ) (o : Option (List ℕ)) → (fault_after_own text o).byte ≤ length text
-after_within text None = own_within text (own_fault text) refl
-after_within text (Some rest) = omega arith
+after_within : (is_rooted : Bool) (text : List ℕ) (o : Option (List ℕ)) → (fault_after_own is_rooted text o).byte ≤ length text
+after_within is_rooted text None = own_within is_rooted text (own_fault text) refl
+after_within is_rooted text (Some rest) = omega arith
 
 pub styled_fault_within : StyledFaultWithin
 unfolding styled_fault libefivar_fault
-styled_fault_within Lenient text = fault_within text
-styled_fault_within Libefivar text = after_within text (past (own_read text))
+styled_fault_within Lenient is_rooted text = fault_within is_rooted text
+styled_fault_within Libefivar is_rooted text = after_within is_rooted text (past (own_read text))

@@ -97,9 +97,10 @@ abbrev pub is_bare : List ℕ → Bool
 is_bare name = list_any (λ c. c == 92) name
     && not (list_any (λ c. c == 41) name || list_any (λ c. c == 58) name)
 
--- the node with the name that a text begins with, if that may stand without its first backslash
-abbrev pub bare_read : List ℕ → Option (Node × List ℕ)
-bare_read text = if is_bare (name_bytes text) then named_read text else None
+-- the node with the name that a text begins with, if that may stand without its first backslash: not where it is
+-- rooted, after a comma
+abbrev pub bare_read : Bool → List ℕ → Option (Node × List ℕ)
+bare_read is_rooted text = if not is_rooted && is_bare (name_bytes text) then named_read text else None
 
 -- the test for a text that begins with a call: a `(` stands before a slash or a comma
 abbrev pub begins_call : List ℕ → Bool
@@ -115,8 +116,8 @@ abbrev pub IsRestOf : List ℕ → List ℕ → Type 0
 IsRestOf text rest = (first : ℕ) × (front : List ℕ) × (text ≡ first ∷ (front ++ rest))
 
 -- the node whose text bytes begin with as people write it, and what stands after it: as it is printed, in
--- `File(..)`, as another call, or as a bare name
-unfoldable pub lenient_read : List ℕ → Option (Node × List ℕ)
-lenient_read text = either_read (ended (node_read text))
+-- `File(..)`, as another call, or as a bare name, unless names have to be rooted there
+unfoldable pub lenient_read : Bool → List ℕ → Option (Node × List ℕ)
+lenient_read is_rooted text = either_read (ended (node_read text))
     (if begins_call text then ended (file_or_call (after_literal (codes "File(") text) text)
-    else bare_read text)
+    else bare_read is_rooted text)

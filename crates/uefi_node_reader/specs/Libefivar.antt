@@ -1,6 +1,6 @@
 -- Nodes as libefivar prints them, where its text of a node is the specification's text of another, or is in no
 -- form of the table.
-use Rattle.std.specs.Prelude.{if◌then◌else◌, List, [], ◌∷◌, codes, map, length, ◌-◌, ℕ, Option, Some, None, is_some}
+use Rattle.std.specs.Prelude.{Bool, if◌then◌else◌, List, [], ◌∷◌, codes, map, length, ◌-◌, ℕ, Option, Some, None, is_some}
 use Rattle.std.specs.Option.{option_map, option_or}
 use Rattle.uefi_device_nodes.specs.Nodes.{Node}
 use Rattle.uefi_node_table.specs.Rows.{Form, const_form}
@@ -60,21 +60,21 @@ own_fault text = cut_call text >>= λ call.
 
 -- the node whose text bytes begin with as libefivar prints it, and what stands after it: in one of its own
 -- forms, or else as people write it
-unfoldable pub libefivar_read : List ℕ → Option (Node × List ℕ)
-libefivar_read text = if is_some (own_read text) then ended (own_read text)
-    else (if is_some (own_fault text) then None else lenient_read text)
+unfoldable pub libefivar_read : Bool → List ℕ → Option (Node × List ℕ)
+libefivar_read is_rooted text = if is_some (own_read text) then ended (own_read text)
+    else (if is_some (own_fault text) then None else lenient_read is_rooted text)
 
 -- the fault of a call, or else of a text of which no node is read leniently
-abbrev pub fault_or_lenient : List ℕ → Option NodeFault → NodeFault
-fault_or_lenient text None = lenient_fault text
-fault_or_lenient text (Some other) = other
+abbrev pub fault_or_lenient : Bool → List ℕ → Option NodeFault → NodeFault
+fault_or_lenient is_rooted text None = lenient_fault is_rooted text
+fault_or_lenient is_rooted text (Some other) = other
 
 -- the fault of a text, by what stands after the call that it begins with in one of these forms: the node should
 -- end there
-abbrev pub fault_after_own : List ℕ → Option (List ℕ) → NodeFault
-fault_after_own text None = fault_or_lenient text (own_fault text)
-fault_after_own text (Some rest) = fault (length text - length rest) expected.End
+abbrev pub fault_after_own : Bool → List ℕ → Option (List ℕ) → NodeFault
+fault_after_own is_rooted text None = fault_or_lenient is_rooted text (own_fault text)
+fault_after_own is_rooted text (Some rest) = fault (length text - length rest) expected.End
 
 -- the fault of a text of which no node is read so
-unfoldable pub libefivar_fault : List ℕ → NodeFault
-libefivar_fault text = fault_after_own text (past (own_read text))
+unfoldable pub libefivar_fault : Bool → List ℕ → NodeFault
+libefivar_fault is_rooted text = fault_after_own is_rooted text (past (own_read text))

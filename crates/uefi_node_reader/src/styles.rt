@@ -25,11 +25,12 @@ pub enum TextStyle {
 /// buffer then holds anything.
 #[tactic(auto, unfolding(crate::specs::Libefivar::libefivar_read))]
 fn read_libefivar_node<'s, 't: 's>(
+    is_rooted: bool,
     scratch: &'s mut [u8],
     text: &'t [u8],
 ) -> Option<(TextNode<'s>, &'t [u8])>
     requires { length text.now < length scratch.old }
-    ensures { option_map (λ x. (text_node x.0, x.1.now)) result ≡ libefivar_read text.now }
+    ensures { option_map (λ x. (text_node x.0, x.1.now)) result ≡ libefivar_read is_rooted text.now }
 {
     if own(scratch, text).is_some() {
         return ended(own(scratch, text));
@@ -37,14 +38,14 @@ fn read_libefivar_node<'s, 't: 's>(
     if own_fault(scratch, text).is_some() {
         return None;
     }
-    read_lenient_node(scratch, text)
+    read_lenient_node(is_rooted, scratch, text)
 }
 
 /// Why no node is read so.
 #[tactic(auto, unfolding(crate::specs::Libefivar::libefivar_fault))]
-fn libefivar_fault(scratch: &mut [u8], text: &[u8]) -> NodeFault
+fn libefivar_fault(is_rooted: bool, scratch: &mut [u8], text: &[u8]) -> NodeFault
     requires { length text.now < length scratch.old }
-    ensures fault { result ≡ libefivar_fault text.now }
+    ensures fault { result ≡ libefivar_fault is_rooted text.now }
     ensures within { result.byte ≤ length text.now }
 {
     if let Some((_, rest)) = own(scratch, text) {
@@ -55,39 +56,40 @@ fn libefivar_fault(scratch: &mut [u8], text: &[u8]) -> NodeFault
     }
     match own_fault(scratch, text) {
         Some(fault) => fault,
-        None => lenient_fault(scratch, text),
+        None => lenient_fault(is_rooted, scratch, text),
     }
 }
 
 /// Reads the node that a text begins with in a style, and returns what stands after it, too: nothing, or a slash
-/// or a comma first. The buffer then holds anything. Takes no memory but the buffer, for a copy of the call or of
+/// or a comma first. A file's name has to begin with a backslash where it is rooted. The buffer then holds anything. Takes no memory but the buffer, for a copy of the call or of
 /// the name.
 #[tactic(auto, unfolding(crate::specs::Styles::styled_read))]
 pub fn read_styled_node<'s, 't: 's>(
     style: TextStyle,
+    is_rooted: bool,
     scratch: &'s mut [u8],
     text: &'t [u8],
 ) -> Option<(TextNode<'s>, &'t [u8])>
     requires { length text.now < length scratch.old }
-    ensures { option_map (λ x. (text_node x.0, x.1.now)) result ≡ styled_read style text.now }
+    ensures { option_map (λ x. (text_node x.0, x.1.now)) result ≡ styled_read style is_rooted text.now }
 {
     match style {
-        TextStyle::Lenient => read_lenient_node(scratch, text),
-        TextStyle::Libefivar => read_libefivar_node(scratch, text),
+        TextStyle::Lenient => read_lenient_node(is_rooted, scratch, text),
+        TextStyle::Libefivar => read_libefivar_node(is_rooted, scratch, text),
     }
 }
 
 /// Returns why [`read_styled_node`] reads no node from a text: the byte that is wrong, and what has to stand
 /// there. The buffer then holds anything.
 #[tactic(auto, unfolding(crate::specs::Styles::styled_fault))]
-pub fn styled_fault(style: TextStyle, scratch: &mut [u8], text: &[u8]) -> NodeFault
+pub fn styled_fault(style: TextStyle, is_rooted: bool, scratch: &mut [u8], text: &[u8]) -> NodeFault
     requires { length text.now < length scratch.old }
-    ensures fault { result ≡ styled_fault style text.now }
+    ensures fault { result ≡ styled_fault style is_rooted text.now }
     ensures within { result.byte ≤ length text.now }
 {
     match style {
-        TextStyle::Lenient => lenient_fault(scratch, text),
-        TextStyle::Libefivar => libefivar_fault(scratch, text),
+        TextStyle::Lenient => lenient_fault(is_rooted, scratch, text),
+        TextStyle::Libefivar => libefivar_fault(is_rooted, scratch, text),
     }
 }
 

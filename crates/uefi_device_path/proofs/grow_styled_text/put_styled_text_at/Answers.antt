@@ -5,6 +5,7 @@ use Rattle.std.proofs.lemmas.Grind.{common_steps}
 use Rattle.uefi_built_nodes.specs.RawNodes.{raw_node}
 use Rattle.uefi_device_nodes.specs.Nodes.{Node}
 use Rattle.uefi_node_reader.specs.TextNodeViews.{text_node}
+use Rattle.uefi_device_path.specs.StyledReading.{follows_comma}
 use Rattle.uefi_device_path.specs.Building.{build_refusal}
 use Rattle.uefi_device_path.specs.StyledReading.{ReadsTo}
 use Rattle.uefi_device_path.specs.Paths.{nodes_in, without_end}
@@ -51,7 +52,7 @@ nodes-smaller-in-Some c =
 
 pub first_styled_node-requires : goal.first_styled_node-requires
 first_styled_node-requires c =
-    let within = place_within c.args.style c.styled_nodes_are_read.ensures.ends c.args.text.now c.nodes.invariant.done c.nodes.at_start c.nodes.rest.now
+    let within = place_within c.args.style c.args.text.now c.styled_nodes_are_read.ensures.ends c.nodes.invariant.done c.nodes.at_start c.nodes.rest.now
     c.node_start-place.result.now c.nodes.invariant.on c.node_start-place.ensures in
     omega (arith, within, c.requires.scratch, c.nodes.auto.scratch)
 
@@ -59,14 +60,14 @@ pub unreachable-requires : goal.unreachable-requires
 unreachable-requires c =
     let laws = c.styled_nodes_are_read.ensures in
     let (nodes, read) = c.requires.readable in
-    never_stops c.args.style laws.starts laws.ends c.args.text.now nodes c.nodes.invariant.done read c.nodes.at_start c.nodes.rest.now
+    never_stops c.args.style c.args.text.now laws.starts laws.ends nodes c.nodes.invariant.done read c.nodes.at_start c.nodes.rest.now
     c.node_start-place.result.now c.nodes.invariant.on c.in-None.ensures c.node_start-place.ensures c.in_default.ensures
 
 pub put_at-end-requires-in-None-clause-unrefused : goal.put_at-end-requires-in-None-clause-unrefused
 put_at-end-requires-in-None-clause-unrefused c =
     let node : Node = text_node c.in-Some-first_styled_node.node.node in
     accepted c.nodes_are_read.ensures.fits node
-    (c.styled_nodes_are_read.ensures.takes c.args.style c.node_start-place.result.now node c.in-Some-first_styled_node.after.now
+    (c.styled_nodes_are_read.ensures.takes c.args.style (follows_comma c.args.text.now c.node_start-place.result.now) c.node_start-place.result.now node c.in-Some-first_styled_node.after.now
     c.in-Some-first_styled_node.ensures)
 
 pub put_at-end-requires-in-None-clause-room : goal.put_at-end-requires-in-None-clause-room
@@ -76,7 +77,7 @@ put_at-end-requires-in-None-clause-room c =
     let node : Node = text_node c.in-Some-first_styled_node.node.node in
     let after = c.in-Some-first_styled_node.after.now in
     let before = nodes_in (without_end (take c.args.len c.args.buffer.now)) in
-    let over = (over_node c.args.style laws.ends c.args.text.now on.done c.nodes.at_start c.nodes.rest.now c.node_start-place.result.now after node
+    let over = (over_node c.args.style c.args.text.now laws.ends on.done c.nodes.at_start c.nodes.rest.now c.node_start-place.result.now after node
     on.on c.in-None.ensures c.node_start-place.ensures c.in-Some-first_styled_node.ensures).0 in
     room_for_next c.args.style laws.starts c.args.buffer.now c.nodes.buffer c.args.text.now before on.done node c.nodes.end
     false after on.holds over c.requires.readable c.requires.room
@@ -89,7 +90,7 @@ nodes-preserved c =
     let node : Node = text_node c.in-Some-first_styled_node.node.node in
     let after = c.in-Some-first_styled_node.after.now in
     let before = nodes_in (without_end (take c.args.len c.args.buffer.now)) in
-    let over = (over_node c.args.style laws.ends c.args.text.now on.done c.nodes.at_start c.nodes.rest.now c.node_start-place.result.now after node
+    let over = (over_node c.args.style c.args.text.now laws.ends on.done c.nodes.at_start c.nodes.rest.now c.node_start-place.result.now after node
     on.on c.in-None.ensures c.node_start-place.ensures c.in-Some-first_styled_node.ensures).0 in
     puts_next c.args.style laws.starts c.args.buffer.now c.args.text.now before on.done node c.nodes.buffer
     c.put_at-end-in-None.new.buffer c.nodes.end c.put_at-end-in-None.result false after on.holds over
@@ -97,7 +98,7 @@ nodes-preserved c =
 
 pub nodes-smaller : goal.nodes-smaller
 nodes-smaller c =
-    (over_node c.args.style c.styled_nodes_are_read.ensures.ends c.args.text.now c.nodes.invariant.done c.nodes.at_start c.nodes.rest.now
+    (over_node c.args.style c.args.text.now c.styled_nodes_are_read.ensures.ends c.nodes.invariant.done c.nodes.at_start c.nodes.rest.now
     c.node_start-place.result.now c.in-Some-first_styled_node.after.now (text_node c.in-Some-first_styled_node.node.node)
     c.nodes.invariant.on c.in-None.ensures c.node_start-place.ensures c.in-Some-first_styled_node.ensures).1
 

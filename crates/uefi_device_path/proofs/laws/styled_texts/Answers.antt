@@ -6,10 +6,10 @@ returns c =
     let styled = c.styled_nodes_are_read.ensures in
     let laws = c.nodes_are_read.ensures in
     record {
-      once = λ style. read_once style styled.starts;
-      stops = λ style. reading_stops_once style styled.starts;
-      never_both = λ style. read_never_stops style styled.starts;
-      within = λ style. faults_within style styled.ends c.faults_lie_within.ensures;
-      told = λ style. read_told style styled.takes;
+      once = λ style text. read_once style text styled.starts;
+      stops = λ style text. reading_stops_once style text styled.starts;
+      never_both = λ style text. read_never_stops style text styled.starts;
+      within = λ style text. faults_within style text styled.ends c.faults_lie_within.ensures;
+      told = λ style text. read_told style text styled.takes;
       printed = lenient_printed laws.fits laws.again styled.again;
     }

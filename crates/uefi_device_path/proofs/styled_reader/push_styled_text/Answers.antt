@@ -2,6 +2,7 @@ use Rattle.std.proofs.Common.{true, false, List, sym, subst, arith}
 use Rattle.std.proofs.lemmas.Bool.Decides.{nat_tests}
 use Rattle.uefi_device_nodes.specs.Nodes.{Node}
 use Rattle.uefi_node_reader.specs.TextNodeViews.{text_node}
+use Rattle.uefi_device_path.specs.StyledReading.{follows_comma}
 use Rattle.uefi_device_path.specs.StyledReading.{ReadsTo}
 use Rattle.uefi_device_path.specs.StyledReading.ReadsTo.{Begins}
 use Rattle.uefi_device_path.proofs.StyledReading.{all_read, over_comma, over_node, never_stops, place_within}
@@ -19,7 +20,7 @@ nodes-preserved-in-Some g c =
 
 pub first_styled_node-requires : goal.first_styled_node-requires
 first_styled_node-requires g c =
-    let within = place_within c.args.style c.styled_nodes_are_read.ensures.ends c.args.text.now c.nodes.path c.nodes.at_start c.nodes.rest.now
+    let within = place_within c.args.style c.args.text.now c.styled_nodes_are_read.ensures.ends c.nodes.path c.nodes.at_start c.nodes.rest.now
     c.node_start-place.result.now c.nodes.invariant c.node_start-place.ensures in
     omega (arith, within, c.requires.room, c.nodes.auto.scratch)
 
@@ -27,20 +28,20 @@ pub unreachable-requires : goal.unreachable-requires
 unreachable-requires g c =
     let laws = c.styled_nodes_are_read.ensures in
     let (nodes, read) = c.requires.readable in
-    never_stops c.args.style laws.starts laws.ends c.args.text.now nodes c.nodes.path read c.nodes.at_start c.nodes.rest.now
+    never_stops c.args.style c.args.text.now laws.starts laws.ends nodes c.nodes.path read c.nodes.at_start c.nodes.rest.now
     c.node_start-place.result.now c.nodes.invariant c.in-None.ensures c.node_start-place.ensures c.in_default.ensures
 
 pub nodes-preserved : goal.nodes-preserved
 nodes-preserved g c =
     subst (λ (x : List Node). ReadsTo c.args.style c.args.text.now x false c.in-Some-first_styled_node.after.now)
     (sym c.in_ok-push_read-in-None.ensures.ok)
-    (over_node c.args.style c.styled_nodes_are_read.ensures.ends c.args.text.now c.nodes.path c.nodes.at_start c.nodes.rest.now
+    (over_node c.args.style c.args.text.now c.styled_nodes_are_read.ensures.ends c.nodes.path c.nodes.at_start c.nodes.rest.now
     c.node_start-place.result.now c.in-Some-first_styled_node.after.now (text_node c.in-Some-first_styled_node.node.node)
     c.nodes.invariant c.in-None.ensures c.node_start-place.ensures c.in-Some-first_styled_node.ensures).0
 
 pub nodes-smaller : goal.nodes-smaller
 nodes-smaller g c =
-    (over_node c.args.style c.styled_nodes_are_read.ensures.ends c.args.text.now c.nodes.path c.nodes.at_start c.nodes.rest.now
+    (over_node c.args.style c.args.text.now c.styled_nodes_are_read.ensures.ends c.nodes.path c.nodes.at_start c.nodes.rest.now
     c.node_start-place.result.now c.in-Some-first_styled_node.after.now (text_node c.in-Some-first_styled_node.node.node)
     c.nodes.invariant c.in-None.ensures c.node_start-place.ensures c.in-Some-first_styled_node.ensures).1
 
@@ -50,6 +51,6 @@ returns-clause-ok g c =
 
 pub push_read-requires : goal.push_read-requires
 push_read-requires g c =
-    c.styled_nodes_are_read.ensures.takes c.args.style c.node_start-place.result.now
+    c.styled_nodes_are_read.ensures.takes c.args.style (follows_comma c.args.text.now c.node_start-place.result.now) c.node_start-place.result.now
     (text_node c.in-Some-first_styled_node.node.node) c.in-Some-first_styled_node.after.now
     c.in-Some-first_styled_node.ensures
