@@ -130,6 +130,18 @@ static nard_result call_device_path_push_lenient_text(void)
     return nard_device_path_push_lenient_text(OUT, IN(0), scratch, number, place);
 }
 
+static nard_result call_device_path_push_libefivar_text(void)
+{
+    nard_byte *scratch = put(SCRATCH, NULL, number);
+    return nard_device_path_push_libefivar_text(OUT, IN(0), scratch, number, place);
+}
+
+static nard_result call_libefivar_text_fault(void)
+{
+    nard_byte *scratch = put(SCRATCH, NULL, number);
+    return nard_libefivar_text_fault(IN(0), scratch, number, OUT, place);
+}
+
 static nard_result call_lenient_text_fault(void)
 {
     nard_byte *scratch = put(SCRATCH, NULL, number);
@@ -363,6 +375,21 @@ static const struct row rows[] = {
           .number = 14),
     FAULT(device_path_push_lenient_text, REFUSED, NOT_UTF8, 1, .before = BYTES(END), .in = {BYTES("x\xc3")}),
     FAULT(device_path_push_lenient_text, REFUSED, UNKNOWN_END, 1, .before = BYTES(UNKNOWN), .in = {BYTES("\xc3")}),
+    ROW(device_path_push_libefivar_text, WHOLE, .before = BYTES(END), .in = {BYTES("NVMe(0xc,00-25-38-B3-91-B0-4C-5D)")},
+        .number = 34, .out = BYTES("\3\x17\x10\0\14\0\0\0\0\x25\x38\xb3\x91\xb0\x4c\x5d" END)),
+    ROW(device_path_push_libefivar_text, WHOLE, .before = BYTES(END), .in = {BYTES("Ata(1,0,12)")}, .number = 12,
+        .out = BYTES("\3\1\10\0\1\0\14\0" END)),
+    FAULT(device_path_push_libefivar_text, REFUSED, SCRATCH_TOO_SMALL, 3, .before = BYTES(PCI END), .in = {BYTES("(a")},
+          .number = 2),
+    FAULT(device_path_push_libefivar_text, REFUSED, NO_NODE, 8, .before = BYTES(PCI END), .in = {BYTES("PciRoot(12)")},
+          .number = 12),
+    FAULT(device_path_push_libefivar_text, REFUSED, NOT_UTF8, 1, .before = BYTES(END), .in = {BYTES("x\xc3")}),
+    FAULT(device_path_push_libefivar_text, REFUSED, UNKNOWN_END, 1, .before = BYTES(UNKNOWN), .in = {BYTES("\xc3")}),
+    ROW(libefivar_text_fault, TEXT, .in = {BYTES("PciRoot(0x0)/SAS(0x1)")}, .number = 22,
+        .out = UNITS(u"no node at offset 13: expected a shorter node, or one whose text tells all of it at offset 17")),
+    ROW(libefivar_text_fault, TEXT, .in = {BYTES("file(a)")}, .number = 8, .out = UNITS(u"")),
+    FAULT(libefivar_text_fault, REFUSED, SCRATCH_TOO_SMALL, 3, .in = {BYTES("(a")}, .number = 2),
+    FAULT(libefivar_text_fault, REFUSED, NOT_UTF8, 1, .in = {BYTES("x\xc3")}),
     ROW(lenient_text_fault, TEXT, .in = {BYTES("PciRoot(0)/Pci(256,0)")}, .number = 22,
         .out = UNITS(u"no node at offset 11: expected a number up to 0xFF at offset 15")),
     ROW(lenient_text_fault, TEXT, .in = {BYTES("file(a)")}, .number = 8, .out = UNITS(u"")),

@@ -629,11 +629,11 @@ nard_result NARD_CALL nard_device_path_push_text(nard_byte *buffer, nard_size ro
  *     pciroot(0)/pci(31, 2)/HD(1,GPT,12345678-9abc-def0-1234-56789abcdef0,0x800,0x100000)/File(\EFI\boot\bootx64.efi)
  * Names and digits stand in either case, numbers in decimal or after 0x, with zeros before them; blanks may stand in a call, and
  * numbers at its end may be left out, but not all of them; the name of a file may stand in File(..), or without its first
- * backslash if it has another, and neither a `)` nor a `:`. What nard_device_path_push_text reads is read as the same. A comma
- * ends an instance.
+ * backslash if it has another, and neither a `)` nor a `:`, but not after a comma, which ends an instance. What
+ * nard_device_path_push_text reads is read as the same.
  *
- * A call in which other programs print hexadecimal numbers without 0x, such as Fibre(5006,0), is refused. efibootmgr prints the
- * identifier of an NVMe node with its bytes in the other order: its text is the specification's text of another node.
+ * A call in which other programs print hexadecimal numbers without 0x, such as Fibre(5006,0), is refused. efibootmgr's text of an
+ * NVMe node is the specification's text of another node: read what it prints by nard_device_path_push_libefivar_text.
  *
  *   scratch, scratch_room   for copies of calls and names: one byte more than the text; it then holds anything
  *
@@ -651,6 +651,19 @@ nard_result NARD_CALL nard_device_path_push_lenient_text(nard_byte *buffer, nard
                                                          nard_size *length);
 
 /*
+ * Adds the nodes of a text in UTF-8 that libefivar prints, and efibootmgr with it, to the device path that a buffer begins with,
+ * before its end, for example
+ *     PciRoot(0x0)/Pci(0x1d,0x0)/NVMe(0x1,00-25-38-5B-71-B0-03-1C)/HD(1,GPT,12345678-9abc-def0-1234-56789abcdef0,0x800,0x64000)
+ * libefivar prints the identifier of an NVMe node from its first byte on, and Ata with three numbers. Its Fibre, SAS and UsbClass
+ * leave out what distinguishes two nodes, and in PciRoot and PcieRoot a text may stand in place of the number, which begins with
+ * 0x: these are refused. All other nodes are read as nard_device_path_push_lenient_text reads them, and the arguments and what it
+ * returns are as there.
+ */
+nard_result NARD_CALL nard_device_path_push_libefivar_text(nard_byte *buffer, nard_size room, const nard_byte *bytes,
+                                                           nard_size byte_count, nard_byte *scratch, nard_size scratch_room,
+                                                           nard_size *length);
+
+/*
  * Writes in words why nard_device_path_push_lenient_text returns NARD_NO_NODE for a text, as UTF-16 with a NUL, for example
  *     no node at offset 11: expected a number up to 0xFF at offset 20
  * If it reads the text, there are no words.
@@ -666,6 +679,13 @@ nard_result NARD_CALL nard_device_path_push_lenient_text(nard_byte *buffer, nard
  */
 nard_result NARD_CALL nard_lenient_text_fault(const nard_byte *bytes, nard_size byte_count, nard_byte *scratch,
                                               nard_size scratch_room, nard_unit *buffer, nard_size room, nard_size *length);
+
+/*
+ * Writes in words why nard_device_path_push_libefivar_text returns NARD_NO_NODE for a text, as nard_lenient_text_fault does for
+ * nard_device_path_push_lenient_text.
+ */
+nard_result NARD_CALL nard_libefivar_text_fault(const nard_byte *bytes, nard_size byte_count, nard_byte *scratch,
+                                                nard_size scratch_room, nard_unit *buffer, nard_size room, nard_size *length);
 
 /*
  * Writes a load option of one device path: what a variable Boot#### holds.
@@ -1129,12 +1149,26 @@ static inline NARD_MUST_USE nard_result NARD_CALL nard_call_device_path_push_len
 }
 #define nard_device_path_push_lenient_text nard_call_device_path_push_lenient_text
 
+static inline NARD_MUST_USE nard_result NARD_CALL nard_call_device_path_push_libefivar_text(nard_byte *buffer, nard_size room,
+        const nard_byte *bytes, nard_size byte_count, nard_byte *scratch, nard_size scratch_room, nard_size *length)
+{
+    return nard_device_path_push_libefivar_text(nard_given_byte_room(buffer), room, nard_given_bytes(bytes), byte_count, nard_given_byte_room(scratch), scratch_room, length);
+}
+#define nard_device_path_push_libefivar_text nard_call_device_path_push_libefivar_text
+
 static inline NARD_MUST_USE nard_result NARD_CALL nard_call_lenient_text_fault(const nard_byte *bytes, nard_size byte_count,
         nard_byte *scratch, nard_size scratch_room, nard_unit *buffer, nard_size room, nard_size *length)
 {
     return nard_lenient_text_fault(nard_given_bytes(bytes), byte_count, nard_given_byte_room(scratch), scratch_room, nard_given_unit_room(buffer), room, length);
 }
 #define nard_lenient_text_fault nard_call_lenient_text_fault
+
+static inline NARD_MUST_USE nard_result NARD_CALL nard_call_libefivar_text_fault(const nard_byte *bytes, nard_size byte_count,
+        nard_byte *scratch, nard_size scratch_room, nard_unit *buffer, nard_size room, nard_size *length)
+{
+    return nard_libefivar_text_fault(nard_given_bytes(bytes), byte_count, nard_given_byte_room(scratch), scratch_room, nard_given_unit_room(buffer), room, length);
+}
+#define nard_libefivar_text_fault nard_call_libefivar_text_fault
 
 static inline NARD_MUST_USE nard_result NARD_CALL nard_call_load_option_write(nard_size attributes,
         const nard_unit *description, nard_size count, const nard_byte *bytes, nard_size byte_count, const nard_byte *optional,

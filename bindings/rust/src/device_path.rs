@@ -322,6 +322,40 @@ impl<'a> DevicePathBuilder<'a> {
         Ok(())
     }
 
+    /// Adds the nodes of a text that libefivar prints, and efibootmgr with it, before the end. libefivar prints the identifier of an
+    /// NVMe node from its first byte on, and `Ata` with three numbers; `Fibre(..)`, `SAS(..)`, `UsbClass(..)` and a `PciRoot(..)`
+    /// without `0x` are refused. Other nodes are read, and the call fails, as by
+    /// [`push_lenient_text`](Self::push_lenient_text).
+    ///
+    /// ```
+    /// # use nardcorbel::DevicePathBuilder;
+    /// let (mut one, mut two) = ([0; 32], [0; 32]);
+    /// let mut path = DevicePathBuilder::with_buf(&mut one)?;
+    /// path.push_libefivar_text("NVMe(0x1,00-25-38-5B-71-B0-03-1C)", &mut [0; 40])?;
+    /// let mut same = DevicePathBuilder::with_buf(&mut two)?;
+    /// same.push_text("NVMe(0x1,1C-03-B0-71-5B-38-25-00)")?;
+    /// assert_eq!(path.finalize(), same.finalize());
+    /// # Ok::<(), nardcorbel::Error>(())
+    /// ```
+    pub fn push_libefivar_text(&mut self, text: &str, scratch: &mut [u8]) -> Result<(), Error> {
+        let mut length = 0;
+        // SAFETY: the pointers and the counts are those of slices, the first and the third not shared; `length` is a local.
+        let reason = unsafe {
+            sys::nard_device_path_push_libefivar_text(
+                self.buffer.as_mut_ptr(),
+                self.buffer.len(),
+                text.as_ptr(),
+                text.len(),
+                scratch.as_mut_ptr(),
+                scratch.len(),
+                &mut length,
+            )
+        };
+        check_bytes(reason, length)?;
+        self.length = length;
+        Ok(())
+    }
+
     /// Writes in words why [`push_lenient_text`](Self::push_lenient_text) fails with [`Reason::NoNode`](crate::Reason) for a text,
     /// into a buffer, and returns their UTF-16 without the NUL: none if it reads the text.
     ///

@@ -362,7 +362,25 @@ extern "C" {
         scratch_room: usize,
         length: *mut usize,
     ) -> u32;
+    pub fn nard_device_path_push_libefivar_text(
+        buffer: *mut u8,
+        room: usize,
+        bytes: *const u8,
+        byte_count: usize,
+        scratch: *mut u8,
+        scratch_room: usize,
+        length: *mut usize,
+    ) -> u32;
     pub fn nard_lenient_text_fault(
+        bytes: *const u8,
+        byte_count: usize,
+        scratch: *mut u8,
+        scratch_room: usize,
+        buffer: *mut u16,
+        room: usize,
+        length: *mut usize,
+    ) -> u32;
+    pub fn nard_libefivar_text_fault(
         bytes: *const u8,
         byte_count: usize,
         scratch: *mut u8,

@@ -7,7 +7,7 @@ use Rattle.std.specs.Prelude.{OnErr, OnOk}
 use Rattle.std.proofs.lemmas.Bool.{false≢true}
 use Rattle.uefi_device_path.proofs.Entries.{same_entry}
 use Rattle.uefi_device_path.specs.Building.{grow_refusal}
-use Rattle.uefi_device_path.specs.LenientReading.{IsPushLenientError, IsLenientText}
+use Rattle.uefi_device_path.specs.StyledReading.{IsPushLenientError, IsStyledText}
 use Rattle.uefi_device_path.specs.LoadOptions.{Entry}
 use Rattle.uefi_device_path.specs.PathReading.{HasPath, IsPushTextError, StopsAt}
 use Rattle.uefi_device_path.specs.declared.errors.BuildError.{BuildError}
@@ -16,6 +16,7 @@ use Rattle.uefi_device_path.specs.declared.errors.PushTextError.{PushTextError}
 use Rattle.uefi_device_path.specs.declared.errors.PushTextError.TheVariants as text
 use Rattle.uefi_device_path.specs.declared.lenient_errors.PushLenientTextError.{PushLenientTextError}
 use Rattle.uefi_device_path.specs.declared.lenient_errors.PushLenientTextError.TheVariants as lenient
+use Rattle.uefi_node_reader.specs.declared.styles.TextStyle.{TextStyle}
 use Rattle.nardcorbel.specs.Building.{IsWrongAt, build_place, build_reason, entry_of_path, lenient_place, lenient_reason, text_place, text_reason}
 use Rattle.nardcorbel.specs.Reasons.{node_reason}
 use Rattle.nardcorbel.specs.declared.reasons.TheConstants.{OK, BUFFER_TOO_SMALL, NO_NODE}
@@ -109,16 +110,16 @@ lenient_never_added (lenient.ScratchTooSmall needed) is = omega (arith, is)
 lenient_never_added (lenient.NoNode fault) is = omega (arith, is)
 lenient_never_added (lenient.BufferTooSmall needed) is = omega (arith, is)
 
-pub reading_stops_there : (buffer bytes : List ℕ) (error : PushLenientTextError) → IsPushLenientError buffer bytes error
-    → lenient_reason (Some error) ≡ NO_NODE → IsWrongAt bytes (lenient_place (Some error) 0)
-reading_stops_there buffer bytes (lenient.Path error) cause is = absurd (omega (arith, is, node_reason_below error.cause))
-reading_stops_there buffer bytes (lenient.ScratchTooSmall needed) cause is = absurd (omega (arith, is))
-reading_stops_there buffer bytes (lenient.NoNode fault) cause is = (fault, (cause, refl))
-reading_stops_there buffer bytes (lenient.BufferTooSmall needed) cause is = absurd (omega (arith, is))
+pub reading_stops_there : (style : TextStyle) (buffer bytes : List ℕ) (error : PushLenientTextError) → IsPushLenientError style buffer bytes error
+    → lenient_reason (Some error) ≡ NO_NODE → IsWrongAt style bytes (lenient_place (Some error) 0)
+reading_stops_there style buffer bytes (lenient.Path error) cause is = absurd (omega (arith, is, node_reason_below error.cause))
+reading_stops_there style buffer bytes (lenient.ScratchTooSmall needed) cause is = absurd (omega (arith, is))
+reading_stops_there style buffer bytes (lenient.NoNode fault) cause is = (fault, (cause, refl))
+reading_stops_there style buffer bytes (lenient.BufferTooSmall needed) cause is = absurd (omega (arith, is))
 
-pub read_has_no_room : (buffer bytes : List ℕ) (error : PushLenientTextError) → IsPushLenientError buffer bytes error
-    → lenient_reason (Some error) ≡ BUFFER_TOO_SMALL → IsLenientText bytes
-read_has_no_room buffer bytes (lenient.Path error) cause is = absurd (omega (arith, is, node_reason_above error.cause))
-read_has_no_room buffer bytes (lenient.ScratchTooSmall needed) cause is = absurd (omega (arith, is))
-read_has_no_room buffer bytes (lenient.NoNode fault) cause is = absurd (omega (arith, is))
-read_has_no_room buffer bytes (lenient.BufferTooSmall needed) cause is = cause
+pub read_has_no_room : (style : TextStyle) (buffer bytes : List ℕ) (error : PushLenientTextError) → IsPushLenientError style buffer bytes error
+    → lenient_reason (Some error) ≡ BUFFER_TOO_SMALL → IsStyledText style bytes
+read_has_no_room style buffer bytes (lenient.Path error) cause is = absurd (omega (arith, is, node_reason_above error.cause))
+read_has_no_room style buffer bytes (lenient.ScratchTooSmall needed) cause is = absurd (omega (arith, is))
+read_has_no_room style buffer bytes (lenient.NoNode fault) cause is = absurd (omega (arith, is))
+read_has_no_room style buffer bytes (lenient.BufferTooSmall needed) cause is = cause

@@ -1,7 +1,7 @@
 -- What a caller in C sees of device paths and load options that are written.
 use Rattle.std.specs.Prelude.{◌≡◌, ℕ, List, [], ◌∷◌, Option, Some, None}
 use Rattle.uefi_device_nodes.specs.Nodes.{Node}
-use Rattle.uefi_device_path.specs.LenientReading.{ReadingStopsAt}
+use Rattle.uefi_device_path.specs.StyledReading.{ReadingStopsAt}
 use Rattle.uefi_device_path.specs.LoadOptions.{Entry}
 use Rattle.uefi_device_path.specs.declared.errors.BuildError.{BuildError}
 use Rattle.uefi_device_path.specs.declared.errors.BuildError.TheVariants as build
@@ -12,6 +12,7 @@ use Rattle.uefi_device_path.specs.declared.errors.PushTextError.TheVariants as t
 use Rattle.uefi_device_path.specs.declared.lenient_errors.PushLenientTextError.{PushLenientTextError}
 use Rattle.uefi_device_path.specs.declared.lenient_errors.PushLenientTextError.TheVariants as lenient
 use Rattle.uefi_device_path.specs.declared.lenient_errors.TextFault.{TextFault}
+use Rattle.uefi_node_reader.specs.declared.styles.TextStyle.{TextStyle}
 use Rattle.nardcorbel.specs.Reasons.{node_reason}
 use Rattle.nardcorbel.specs.declared.reasons.TheConstants.{OK, INTERIOR_NUL, BUFFER_TOO_SMALL, EMPTY_LIST, NODE_OF_END, NODE_TOO_LONG, LIST_TOO_LONG, NO_NODE, SCRATCH_TOO_SMALL}
 
@@ -81,8 +82,8 @@ lenient_place (Some (lenient.NoNode fault)) len = fault.byte
 lenient_place (Some (lenient.BufferTooSmall needed)) len = needed
 
 -- a text is not read, and this byte of it is wrong
-abbrev pub IsWrongAt : List ℕ → ℕ → Type 0
-IsWrongAt text byte = (fault : TextFault) × (ReadingStopsAt text fault × (byte ≡ fault.byte))
+abbrev pub IsWrongAt : TextStyle → List ℕ → ℕ → Type 0
+IsWrongAt style text byte = (fault : TextFault) × (ReadingStopsAt style text fault × (byte ≡ fault.byte))
 
 -- the same of a load option
 abbrev pub option_build_place : Option OptionBuildError → ℕ → ℕ → ℕ

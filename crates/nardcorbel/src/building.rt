@@ -9,7 +9,7 @@ ghost use Rattle.uefi_text.specs.Units.{BeginsWithString};
 ghost use Rattle.uefi_device_nodes.specs.Nodes.{Node, node_with};
 ghost use Rattle.uefi_device_path.specs.Building.{append_refusal, push_refusal, text_refusal, grow_refusal};
 ghost use Rattle.uefi_device_path.specs.Faults.{RefusedFor};
-ghost use Rattle.uefi_device_path.specs.LenientReading.{IsReadAs, IsLenientText, ReadingStopsAt, lenient_refusal};
+ghost use Rattle.uefi_device_path.specs.StyledReading.{IsReadAs, IsStyledText, ReadingStopsAt, lenient_refusal};
 ghost use Rattle.uefi_device_path.specs.LoadOptions.{entry_bytes};
 ghost use Rattle.uefi_device_path.specs.Matching.{IsExpansion};
 ghost use Rattle.uefi_device_path.specs.OptionBuilding.{option_over, write_fault};
@@ -19,6 +19,7 @@ ghost use Rattle.uefi_device_path.specs.PathTexts.{nodes_text};
 ghost use Rattle.uefi_device_path.specs.declared.errors.BuildError.{BuildError};
 ghost use Rattle.uefi_device_path.specs.declared.errors.DevicePathError.{DevicePathError};
 ghost use Rattle.uefi_device_path.specs.declared.lenient_errors.TextFault.{TextFault};
+ghost use Rattle.uefi_node_reader.specs.declared.styles.TextStyle.TheVariants.{Lenient, Libefivar};
 ghost use Rattle.nardcorbel.specs.Building.{build_place, build_reason, entry_of_path, IsWrongAt, lenient_place, lenient_reason, option_build_place, option_build_reason, text_place, text_reason};
 ghost use Rattle.nardcorbel.specs.Reasons.{node_reason, until_nul_reason};
 ghost use Rattle.nardcorbel.specs.Strings.{text_in, until_nul_place};
@@ -33,8 +34,9 @@ use uefi_device_path::build::RawNode;
 use uefi_device_path::{
     BuildError, DevicePath, DeviceSubType, DeviceType, GrowError, LoadOptionBuilder,
     OptionBuildError, PushLenientTextError, PushTextError, append_in_buf, laws, push_in_buf,
-    push_lenient_text_in_buf, push_text_in_buf,
+    push_styled_text_in_buf, push_text_in_buf,
 };
+use uefi_node_reader::styles::TextStyle;
 use uefi_text::CStr16;
 
 /// The reason why nodes are not added; memory is never the reason.
@@ -269,8 +271,67 @@ pub extern "C" fn nard_device_path_push_text(
     }
 }
 
+/// Adds the nodes of a text in UTF-8, read in a style, to the device path that a buffer begins with, before its end.
+fn push_styled_text(
+    style: TextStyle,
+    buffer: &mut [u8],
+    bytes: &[u8],
+    scratch: &mut [u8],
+    place: &mut usize,
+) -> u32
+    ensures no_path { (error : DevicePathError) → RefusedFor buffer.old error
+        → (result ≡ node_reason error.cause) × (place.new ≡ error.offset) }
+    ensures not_utf8 { (nodes : List Node) → BeginWithPath buffer.old nodes → ¬ IsUtf8 bytes.now
+        → (result ≡ NOT_UTF8) × (place.new ≡ utf8_valid_len bytes.now) }
+    ensures no_scratch { (nodes : List Node) → BeginWithPath buffer.old nodes → IsUtf8 bytes.now
+        → length scratch.old ≤ length bytes.now
+        → (result ≡ SCRATCH_TOO_SMALL) × (place.new ≡ length bytes.now + 1) }
+    ensures no_node { (nodes : List Node) → BeginWithPath buffer.old nodes → IsUtf8 bytes.now
+        → length bytes.now < length scratch.old
+        → (fault : TextFault) → ReadingStopsAt style bytes.now fault
+        → (result ≡ NO_NODE) × (place.new ≡ fault.byte) }
+    ensures reason { (nodes read : List Node) → BeginWithPath buffer.old nodes → IsUtf8 bytes.now
+        → length bytes.now < length scratch.old → IsReadAs style bytes.now read
+        → result ≡ lenient_reason (lenient_refusal nodes read (length buffer.old)) }
+    ensures place { (nodes read : List Node) → BeginWithPath buffer.old nodes → IsUtf8 bytes.now
+        → length bytes.now < length scratch.old → IsReadAs style bytes.now read
+        → place.new ≡ lenient_place (lenient_refusal nodes read (length buffer.old))
+        (length (path_bytes (nodes ++ read))) }
+    ensures buffer { (nodes read : List Node) → BeginWithPath buffer.old nodes → IsReadAs style bytes.now read
+        → result ≡ OK → buffer.new ≡ with_prefix (path_bytes (nodes ++ read)) buffer.old }
+    ensures stops { result ≡ NO_NODE → IsWrongAt style bytes.now place.new }
+    ensures read { result ≡ OK → IsStyledText style bytes.now }
+    ensures small { result ≡ BUFFER_TOO_SMALL → IsStyledText style bytes.now }
+    ensures unchanged { result ≢ OK → buffer.new ≡ buffer.old }
+{
+    // The law does nothing: it says that no path is refused.
+    laws::accepted_paths();
+    let reason = nard_device_path_check(buffer, place);
+    if reason != OK {
+        return reason;
+    }
+    let text = match str::from_utf8(bytes) {
+        Ok(text) => text,
+        Err(error) => {
+            *place = error.valid_up_to();
+            return NOT_UTF8;
+        }
+    };
+    match push_styled_text_in_buf(style, buffer, text, scratch) {
+        Ok(len) => {
+            *place = len;
+            OK
+        }
+        Err(error) => {
+            let (reason, at) = lenient_reason(error);
+            *place = at;
+            reason
+        }
+    }
+}
+
 /// Adds the nodes of a text in UTF-8, as people write it, to the device path that a buffer begins with,
-/// before its end, as [`push_lenient_text_in_buf`] does.
+/// before its end, as [`push_lenient_text_in_buf`](uefi_device_path) does.
 ///
 /// A buffer that begins with no device path is refused as by [`nard_device_path_check`], with its `place`;
 /// then bytes that are not UTF-8 as `NOT_UTF8`, and `place` becomes how many bytes before the fault are;
@@ -296,46 +357,61 @@ pub extern "C" fn nard_device_path_push_lenient_text(
         → (result ≡ SCRATCH_TOO_SMALL) × (place.new ≡ length bytes.now + 1) }
     ensures no_node { (nodes : List Node) → BeginWithPath buffer.old nodes → IsUtf8 bytes.now
         → length bytes.now < length scratch.old
-        → (fault : TextFault) → ReadingStopsAt bytes.now fault
+        → (fault : TextFault) → ReadingStopsAt Lenient bytes.now fault
         → (result ≡ NO_NODE) × (place.new ≡ fault.byte) }
     ensures reason { (nodes read : List Node) → BeginWithPath buffer.old nodes → IsUtf8 bytes.now
-        → length bytes.now < length scratch.old → IsReadAs bytes.now read
+        → length bytes.now < length scratch.old → IsReadAs Lenient bytes.now read
         → result ≡ lenient_reason (lenient_refusal nodes read (length buffer.old)) }
     ensures place { (nodes read : List Node) → BeginWithPath buffer.old nodes → IsUtf8 bytes.now
-        → length bytes.now < length scratch.old → IsReadAs bytes.now read
+        → length bytes.now < length scratch.old → IsReadAs Lenient bytes.now read
         → place.new ≡ lenient_place (lenient_refusal nodes read (length buffer.old))
         (length (path_bytes (nodes ++ read))) }
-    ensures buffer { (nodes read : List Node) → BeginWithPath buffer.old nodes → IsReadAs bytes.now read
+    ensures buffer { (nodes read : List Node) → BeginWithPath buffer.old nodes → IsReadAs Lenient bytes.now read
         → result ≡ OK → buffer.new ≡ with_prefix (path_bytes (nodes ++ read)) buffer.old }
-    ensures stops { result ≡ NO_NODE → IsWrongAt bytes.now place.new }
-    ensures read { result ≡ OK → IsLenientText bytes.now }
-    ensures small { result ≡ BUFFER_TOO_SMALL → IsLenientText bytes.now }
+    ensures stops { result ≡ NO_NODE → IsWrongAt Lenient bytes.now place.new }
+    ensures read { result ≡ OK → IsStyledText Lenient bytes.now }
+    ensures small { result ≡ BUFFER_TOO_SMALL → IsStyledText Lenient bytes.now }
     ensures unchanged { result ≢ OK → buffer.new ≡ buffer.old }
 {
-    // The law does nothing: it says that no path is refused.
-    laws::accepted_paths();
-    let reason = nard_device_path_check(buffer, place);
-    if reason != OK {
-        return reason;
-    }
-    let text = match str::from_utf8(bytes) {
-        Ok(text) => text,
-        Err(error) => {
-            *place = error.valid_up_to();
-            return NOT_UTF8;
-        }
-    };
-    match push_lenient_text_in_buf(buffer, text, scratch) {
-        Ok(len) => {
-            *place = len;
-            OK
-        }
-        Err(error) => {
-            let (reason, at) = lenient_reason(error);
-            *place = at;
-            reason
-        }
-    }
+    push_styled_text(TextStyle::Lenient, buffer, bytes, scratch, place)
+}
+
+/// Adds the nodes of a text in UTF-8 that libefivar prints, and efibootmgr with it, to the device path that a
+/// buffer begins with, before its end, as [`push_libefivar_text_in_buf`](uefi_device_path) does. It is refused as
+/// by [`nard_device_path_push_lenient_text`].
+#[unsafe(no_mangle)]
+pub extern "C" fn nard_device_path_push_libefivar_text(
+    buffer: &mut [u8],
+    bytes: &[u8],
+    scratch: &mut [u8],
+    place: &mut usize,
+) -> u32
+    ensures no_path { (error : DevicePathError) → RefusedFor buffer.old error
+        → (result ≡ node_reason error.cause) × (place.new ≡ error.offset) }
+    ensures not_utf8 { (nodes : List Node) → BeginWithPath buffer.old nodes → ¬ IsUtf8 bytes.now
+        → (result ≡ NOT_UTF8) × (place.new ≡ utf8_valid_len bytes.now) }
+    ensures no_scratch { (nodes : List Node) → BeginWithPath buffer.old nodes → IsUtf8 bytes.now
+        → length scratch.old ≤ length bytes.now
+        → (result ≡ SCRATCH_TOO_SMALL) × (place.new ≡ length bytes.now + 1) }
+    ensures no_node { (nodes : List Node) → BeginWithPath buffer.old nodes → IsUtf8 bytes.now
+        → length bytes.now < length scratch.old
+        → (fault : TextFault) → ReadingStopsAt Libefivar bytes.now fault
+        → (result ≡ NO_NODE) × (place.new ≡ fault.byte) }
+    ensures reason { (nodes read : List Node) → BeginWithPath buffer.old nodes → IsUtf8 bytes.now
+        → length bytes.now < length scratch.old → IsReadAs Libefivar bytes.now read
+        → result ≡ lenient_reason (lenient_refusal nodes read (length buffer.old)) }
+    ensures place { (nodes read : List Node) → BeginWithPath buffer.old nodes → IsUtf8 bytes.now
+        → length bytes.now < length scratch.old → IsReadAs Libefivar bytes.now read
+        → place.new ≡ lenient_place (lenient_refusal nodes read (length buffer.old))
+        (length (path_bytes (nodes ++ read))) }
+    ensures buffer { (nodes read : List Node) → BeginWithPath buffer.old nodes → IsReadAs Libefivar bytes.now read
+        → result ≡ OK → buffer.new ≡ with_prefix (path_bytes (nodes ++ read)) buffer.old }
+    ensures stops { result ≡ NO_NODE → IsWrongAt Libefivar bytes.now place.new }
+    ensures read { result ≡ OK → IsStyledText Libefivar bytes.now }
+    ensures small { result ≡ BUFFER_TOO_SMALL → IsStyledText Libefivar bytes.now }
+    ensures unchanged { result ≢ OK → buffer.new ≡ buffer.old }
+{
+    push_styled_text(TextStyle::Libefivar, buffer, bytes, scratch, place)
 }
 
 /// Whether both begin with a device path, and the second is a short form that stands for the first, as

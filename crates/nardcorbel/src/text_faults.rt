@@ -1,15 +1,17 @@
-//! Why a text as people write it is not read, in words.
+//! Why a text as people write it, or as libefivar prints it, is not read, in words.
 ghost use Rattle.std.specs.Prelude.{◌≡◌, ◌+◌, ◌<◌, ◌≤◌, Option, length};
 ghost use Rattle.std.specs.Str.{IsUtf8};
 ghost use Rattle.std.specs.Str.Lossy.{utf8_valid_len};
 ghost use Rattle.uefi_text.specs.UnalignedCStr16.{with_prefix};
 ghost use Rattle.uefi_text.specs.Units.{nul_terminated};
 ghost use Rattle.uefi_device_path.specs.declared.lenient_errors.TextFault.{TextFault};
+ghost use Rattle.uefi_node_reader.specs.declared.styles.TextStyle.TheVariants.{Lenient, Libefivar};
 ghost use Rattle.nardcorbel.specs.Buffers.{length_shown, room_reason};
 ghost use Rattle.nardcorbel.specs.TextFaults.{IsFaultOf, fault_in, fault_units, fault_text};
 
 use crate::reasons::{NOT_UTF8, SCRATCH_TOO_SMALL, report};
-use uefi_device_path::{PushLenientTextError, TextFault, laws, push_lenient_text_in_buf};
+use uefi_device_path::{PushLenientTextError, TextFault, laws, push_styled_text_in_buf};
+use uefi_node_reader::styles::TextStyle;
 use uefi_text::text_sink::{Printed, TextSink};
 use uefi_text::write_units;
 
@@ -42,16 +44,53 @@ fn fault_in(error: PushLenientTextError) -> Option<TextFault>
 }
 
 /// The fault of a text that is not read. The second buffer then holds anything.
-fn find_fault(text: &str, scratch: &mut [u8]) -> Option<TextFault>
+fn find_fault(style: TextStyle, text: &str, scratch: &mut [u8]) -> Option<TextFault>
     requires { length text.now < length scratch.old }
-    ensures { (fault : Option TextFault) → IsFaultOf text.now fault → result ≡ fault }
+    ensures { (fault : Option TextFault) → IsFaultOf style text.now fault → result ≡ fault }
 {
     // The law does nothing: it says that the empty path is not refused.
     laws::accepted_paths();
-    match push_lenient_text_in_buf(&mut [0x7f, 0xff, 4, 0], text, scratch) {
+    match push_styled_text_in_buf(style, &mut [0x7f, 0xff, 4, 0], text, scratch) {
         Ok(_) => None,
         Err(error) => fault_in(error),
     }
+}
+
+/// Writes in words why a text is not read in a style.
+fn write_fault(
+    style: TextStyle,
+    bytes: &[u8],
+    scratch: &mut [u8],
+    buffer: &mut [u16],
+    place: &mut usize,
+) -> u32
+    ensures not_utf8 { ¬ IsUtf8 bytes.now → (result ≡ NOT_UTF8)
+        × (place.new ≡ utf8_valid_len bytes.now) × (buffer.new ≡ buffer.old) }
+    ensures no_scratch { IsUtf8 bytes.now → length scratch.old ≤ length bytes.now
+        → (result ≡ SCRATCH_TOO_SMALL) × (place.new ≡ length bytes.now + 1) × (buffer.new ≡ buffer.old) }
+    ensures reason { IsUtf8 bytes.now → length bytes.now < length scratch.old
+        → (fault : Option TextFault) → IsFaultOf style bytes.now fault
+        → result ≡ room_reason (fault_units fault) buffer.old }
+    ensures place { IsUtf8 bytes.now → length bytes.now < length scratch.old
+        → (fault : Option TextFault) → IsFaultOf style bytes.now fault
+        → place.new ≡ length_shown (fault_units fault) }
+    ensures buffer { IsUtf8 bytes.now → length bytes.now < length scratch.old
+        → (fault : Option TextFault) → IsFaultOf style bytes.now fault
+        → buffer.new ≡ with_prefix (nul_terminated (fault_units fault)) buffer.old }
+{
+    let text = match str::from_utf8(bytes) {
+        Ok(text) => text,
+        Err(error) => {
+            *place = error.valid_up_to();
+            return NOT_UTF8;
+        }
+    };
+    if scratch.len() <= text.len() {
+        *place = text.len() + 1;
+        return SCRATCH_TOO_SMALL;
+    }
+    let fault = find_fault(style, text, scratch);
+    report(write_units(buffer, &FaultText { fault }), place)
 }
 
 /// Writes in words why `nard_device_path_push_lenient_text` refuses a text as `NO_NODE`, into the first
@@ -75,26 +114,40 @@ pub extern "C" fn nard_lenient_text_fault(
     ensures no_scratch { IsUtf8 bytes.now → length scratch.old ≤ length bytes.now
         → (result ≡ SCRATCH_TOO_SMALL) × (place.new ≡ length bytes.now + 1) × (buffer.new ≡ buffer.old) }
     ensures reason { IsUtf8 bytes.now → length bytes.now < length scratch.old
-        → (fault : Option TextFault) → IsFaultOf bytes.now fault
+        → (fault : Option TextFault) → IsFaultOf Lenient bytes.now fault
         → result ≡ room_reason (fault_units fault) buffer.old }
     ensures place { IsUtf8 bytes.now → length bytes.now < length scratch.old
-        → (fault : Option TextFault) → IsFaultOf bytes.now fault
+        → (fault : Option TextFault) → IsFaultOf Lenient bytes.now fault
         → place.new ≡ length_shown (fault_units fault) }
     ensures buffer { IsUtf8 bytes.now → length bytes.now < length scratch.old
-        → (fault : Option TextFault) → IsFaultOf bytes.now fault
+        → (fault : Option TextFault) → IsFaultOf Lenient bytes.now fault
         → buffer.new ≡ with_prefix (nul_terminated (fault_units fault)) buffer.old }
 {
-    let text = match str::from_utf8(bytes) {
-        Ok(text) => text,
-        Err(error) => {
-            *place = error.valid_up_to();
-            return NOT_UTF8;
-        }
-    };
-    if scratch.len() <= text.len() {
-        *place = text.len() + 1;
-        return SCRATCH_TOO_SMALL;
-    }
-    let fault = find_fault(text, scratch);
-    report(write_units(buffer, &FaultText { fault }), place)
+    write_fault(TextStyle::Lenient, bytes, scratch, buffer, place)
+}
+
+/// Writes in words why `nard_device_path_push_libefivar_text` refuses a text as `NO_NODE`, as
+/// [`nard_lenient_text_fault`] does for a text as people write it.
+#[unsafe(no_mangle)]
+pub extern "C" fn nard_libefivar_text_fault(
+    bytes: &[u8],
+    scratch: &mut [u8],
+    buffer: &mut [u16],
+    place: &mut usize,
+) -> u32
+    ensures not_utf8 { ¬ IsUtf8 bytes.now → (result ≡ NOT_UTF8)
+        × (place.new ≡ utf8_valid_len bytes.now) × (buffer.new ≡ buffer.old) }
+    ensures no_scratch { IsUtf8 bytes.now → length scratch.old ≤ length bytes.now
+        → (result ≡ SCRATCH_TOO_SMALL) × (place.new ≡ length bytes.now + 1) × (buffer.new ≡ buffer.old) }
+    ensures reason { IsUtf8 bytes.now → length bytes.now < length scratch.old
+        → (fault : Option TextFault) → IsFaultOf Libefivar bytes.now fault
+        → result ≡ room_reason (fault_units fault) buffer.old }
+    ensures place { IsUtf8 bytes.now → length bytes.now < length scratch.old
+        → (fault : Option TextFault) → IsFaultOf Libefivar bytes.now fault
+        → place.new ≡ length_shown (fault_units fault) }
+    ensures buffer { IsUtf8 bytes.now → length bytes.now < length scratch.old
+        → (fault : Option TextFault) → IsFaultOf Libefivar bytes.now fault
+        → buffer.new ≡ with_prefix (nul_terminated (fault_units fault)) buffer.old }
+{
+    write_fault(TextStyle::Libefivar, bytes, scratch, buffer, place)
 }

@@ -17,5 +17,5 @@ pub mod TextLengths
 pub mod PushedTexts
 pub mod NamesInARow
 pub mod ShownPaths
-pub mod LenientReading
-pub mod LenientPushes
+pub mod StyledReading
+pub mod StyledPushes

@@ -10,7 +10,7 @@ use Rattle.uefi_device_nodes.specs.Nodes.{Node, IsInner}
 use Rattle.uefi_device_nodes.specs.NodeFaults.{fault_place}
 use Rattle.uefi_device_nodes.specs.declared.errors.NodeError.{NodeError}
 use Rattle.uefi_device_nodes.specs.declared.errors.NodeError.TheVariants.{Missing, TruncatedHeader, UnknownEnd, LengthBelowHeader, EndWithData, BeyondEnd}
-use Rattle.uefi_device_path.specs.LenientReading.{IsReadAs, ReadingStopsAt}
+use Rattle.uefi_device_path.specs.StyledReading.{IsReadAs, ReadingStopsAt}
 use Rattle.uefi_device_path.specs.PathReading.{AreTold, StopsAt}
 use Rattle.uefi_text.specs.Packed.{IsByte}
 use Rattle.uefi_field_texts.specs.ShownTexts.{IsShown}
@@ -22,6 +22,8 @@ use Rattle.uefi_device_path.specs.LoadOptions.{Entry, EntryRefusedFor, IsEntry, 
 use Rattle.uefi_device_path.specs.declared.errors.DevicePathError.{DevicePathError}
 use Rattle.uefi_device_path.specs.declared.errors.LoadOptionError.{LoadOptionError}
 use Rattle.uefi_device_path.specs.declared.lenient_errors.TextFault.{TextFault}
+use Rattle.uefi_node_reader.specs.declared.styles.TextStyle.{TextStyle}
+use Rattle.uefi_node_reader.specs.declared.styles.TextStyle.TheVariants.{Lenient}
 
 -- bytes begin with one path at most
 abbrev pub PathsOnce : Type 0
@@ -78,34 +80,34 @@ abbrev pub OptionsNeverBoth : Type 0
 OptionsNeverBoth = (entry : Entry) (error : LoadOptionError) → IsEntry entry
     → EntryRefusedFor (entry_bytes entry) error → ⊥
 
--- a text as people write it is read as at most one list of nodes
-abbrev pub LenientOnce : Type 0
-LenientOnce = (text : List ℕ) (nodes others : List Node) → IsReadAs text nodes → IsReadAs text others
-    → nodes ≡ others
+-- a text is read in a style as at most one list of nodes
+abbrev pub ReadOnce : Type 0
+ReadOnce = (style : TextStyle) (text : List ℕ) (nodes others : List Node) → IsReadAs style text nodes
+    → IsReadAs style text others → nodes ≡ others
 
 -- it has at most one fault
-abbrev pub LenientStopsOnce : Type 0
-LenientStopsOnce = (text : List ℕ) (fault other : TextFault) → ReadingStopsAt text fault
-    → ReadingStopsAt text other → fault ≡ other
+abbrev pub ReadingStopsOnce : Type 0
+ReadingStopsOnce = (style : TextStyle) (text : List ℕ) (fault other : TextFault) → ReadingStopsAt style text fault
+    → ReadingStopsAt style text other → fault ≡ other
 
 -- a text that is read has no fault
 abbrev pub ReadNeverStops : Type 0
-ReadNeverStops = (text : List ℕ) (nodes : List Node) (fault : TextFault) → IsReadAs text nodes
-    → ReadingStopsAt text fault → ⊥
+ReadNeverStops = (style : TextStyle) (text : List ℕ) (nodes : List Node) (fault : TextFault)
+    → IsReadAs style text nodes → ReadingStopsAt style text fault → ⊥
 
 -- the wrong byte does not stand before the node that it belongs to, nor after the end of the text
 abbrev pub FaultsWithin : Type 0
-FaultsWithin = (text : List ℕ) (fault : TextFault) → ReadingStopsAt text fault
+FaultsWithin = (style : TextStyle) (text : List ℕ) (fault : TextFault) → ReadingStopsAt style text fault
     → (fault.node ≤ fault.byte) × (fault.byte ≤ length text)
 
 -- the printed text of the nodes that were read tells all of them
-abbrev pub LenientTold : Type 0
-LenientTold = (text : List ℕ) (nodes : List Node) → IsReadAs text nodes → AreTold nodes
+abbrev pub ReadTold : Type 0
+ReadTold = (style : TextStyle) (text : List ℕ) (nodes : List Node) → IsReadAs style text nodes → AreTold nodes
 
--- a printed text that tells all of its nodes is read as these nodes
+-- a printed text that tells all of its nodes is read leniently as these nodes
 abbrev pub LenientPrinted : Type 0
 LenientPrinted = (text : List ℕ) (nodes : List Node) → AreTold nodes → nodes_text false false nodes ≡ text
-    → IsReadAs text nodes
+    → IsReadAs Lenient text nodes
 
 -- no two lists of nodes of which the text tells all have the same text
 abbrev pub TextsOnce : Type 0

@@ -16,6 +16,7 @@ pub use Rattle.uefi_built_messages.specs.NetworkNodes
 pub use Rattle.uefi_device_nodes.specs.NodeEnums
 pub use Rattle.uefi_device_nodes.specs.Layouts
 pub use Rattle.uefi_node_reader.specs.FaultTexts
+pub use Rattle.uefi_node_reader.specs.declared.styles.TextStyle
 pub use Rattle.uefi_node_reader.specs.declared.faults.Expected
 pub use Rattle.uefi_device_nodes.specs.declared.errors.NodeError
 pub use Rattle.uefi_device_nodes.specs.declared.errors.NodeConversionError
@@ -37,7 +38,7 @@ pub mod OptionEdits
 pub mod Instances
 pub mod PathTexts
 pub mod PathReading
-pub mod LenientReading
+pub mod StyledReading
 pub mod LenientErrorTexts
 pub mod Matching
 pub mod Laws

@@ -1,67 +1,21 @@
-//! Device paths that grow, in the buffer in which they lie, by the nodes of a text as people write it.
+//! Device paths that grow, in the buffer in which they lie, by the nodes of a text as people write
+//! it, or as libefivar prints it.
 #![tactic(auto)]
 
 ghost use Rattle.std.specs.Prelude.{◌≡◌, ◌+◌, ◌<◌, ◌≤◌, ◌++◌, List, drop, length, take, Err, IfErr, IfOk, OnErr, OnOk};
 ghost use Rattle.std.specs.Result.{result_err};
 ghost use Rattle.uefi_device_nodes.specs.Nodes.{Node};
 ghost use Rattle.uefi_device_path.specs.Faults.{RefusedFor};
-ghost use Rattle.uefi_device_path.specs.LenientReading.{IsPushLenientError, IsReadAs, IsLenientText, ReadingStopsAt, lenient_refusal};
+ghost use Rattle.uefi_device_path.specs.StyledReading.{IsPushLenientError, IsReadAs, IsStyledText, ReadingStopsAt, lenient_refusal};
 ghost use Rattle.uefi_device_path.specs.Paths.{BeginWithPath, IsPath, nodes_in, path_bytes, without_end};
 ghost use Rattle.uefi_text.specs.UnalignedCStr16.{with_prefix};
 ghost use Rattle.uefi_device_path.specs.declared.errors.DevicePathError.{DevicePathError};
 ghost use Rattle.uefi_device_path.specs.declared.lenient_errors.TextFault.{TextFault};
+ghost use Rattle.uefi_node_reader.specs.declared.styles.TextStyle.TheVariants.{Lenient, Libefivar};
 
-use crate::grow::{path_len, put_at};
-use crate::grow_text::instance_end;
-use crate::laws::lenient_texts;
+use crate::grow_styled_text::push_styled_text_in_buf;
 use crate::lenient_errors::PushLenientTextError;
-use crate::lenient_reader::{check_lenient_text, first_lenient_node};
-use crate::path_reader::{after_comma, node_start};
-use uefi_node_reader::nodes::{nodes_are_read, nodes_are_read_leniently};
-
-/// Adds the nodes that a text is read as to the path that the first `len` bytes of a buffer are, before its
-/// end, where there is room for them, and returns how many bytes the path then has.
-fn put_lenient_text_at(buffer: &mut [u8], len: usize, text: &[u8], scratch: &mut [u8]) -> usize
-    requires scratch { length text.now < length scratch.old }
-    requires within { len ≤ length buffer.now }
-    requires is_path { IsPath (take len buffer.now) }
-    requires readable { IsLenientText text.now }
-    requires room { (read : List Node) → IsReadAs text.now read
-        → length (path_bytes (nodes_in (without_end (take len buffer.now)) ++ read)) ≤ length buffer.now }
-    ensures within { result ≤ length buffer.old }
-    ensures grown { IsPath (take result buffer.new) }
-    ensures nodes { (read : List Node) → IsReadAs text.now read
-        → nodes_in (without_end (take result buffer.new))
-        ≡ nodes_in (without_end (take len buffer.old)) ++ read }
-    ensures rest { drop result buffer.new ≡ drop result buffer.old }
-{
-    nodes_are_read();
-    nodes_are_read_leniently();
-    lenient_texts();
-    let mut end = len;
-    let mut rest = text;
-    let mut at_start = true;
-    'nodes: while !rest.is_empty() {
-        match after_comma(rest) {
-            Some(after) => {
-                let node = instance_end();
-                end = put_at(buffer, end, &node);
-                rest = after;
-                at_start = true;
-            }
-            None => {
-                let place = node_start(at_start, rest);
-                let Some((node, after)) = first_lenient_node(scratch, place) else {
-                    unreachable!()
-                };
-                end = put_at(buffer, end, &node);
-                rest = after;
-                at_start = false;
-            }
-        }
-    }
-    end
-}
+use uefi_node_reader::styles::TextStyle;
 
 /// Adds the nodes of a text, as people write it, to the device path that a buffer begins with, before its
 /// end, and returns how many bytes the path then has. What follows it is unchanged.
@@ -93,34 +47,61 @@ pub fn push_lenient_text_in_buf(
         → result ≡ Err (PushLenientTextError.ScratchTooSmall (length text.now + 1)) }
     ensures no_node { (nodes : List Node) → BeginWithPath buffer.old nodes
         → length text.now < length scratch.old
-        → (fault : TextFault) → ReadingStopsAt text.now fault
+        → (fault : TextFault) → ReadingStopsAt Lenient text.now fault
         → result ≡ Err (PushLenientTextError.NoNode fault) }
     ensures refusal { (nodes read : List Node) → BeginWithPath buffer.old nodes
-        → length text.now < length scratch.old → IsReadAs text.now read
+        → length text.now < length scratch.old → IsReadAs Lenient text.now read
         → result_err result ≡ lenient_refusal nodes read (length buffer.old) }
-    ensures len { (nodes read : List Node) → BeginWithPath buffer.old nodes → IsReadAs text.now read
+    ensures len { (nodes read : List Node) → BeginWithPath buffer.old nodes → IsReadAs Lenient text.now read
         → IfOk result (λ len. len ≡ length (path_bytes (nodes ++ read))) }
-    ensures buffer { (nodes read : List Node) → BeginWithPath buffer.old nodes → IsReadAs text.now read
+    ensures buffer { (nodes read : List Node) → BeginWithPath buffer.old nodes → IsReadAs Lenient text.now read
         → OnOk result (buffer.new ≡ with_prefix (path_bytes (nodes ++ read)) buffer.old) }
-    ensures read { OnOk result (IsLenientText text.now) }
-    ensures cause { IfErr result (λ error. IsPushLenientError buffer.old text.now error) }
+    ensures read { OnOk result (IsStyledText Lenient text.now) }
+    ensures cause { IfErr result (λ error. IsPushLenientError Lenient buffer.old text.now error) }
     ensures err { OnErr result (buffer.new ≡ buffer.old) }
 {
-    lenient_texts();
-    let len = match path_len(buffer) {
-        Ok(len) => len,
-        Err(error) => return Err(PushLenientTextError::Path(error)),
-    };
-    let bytes = text.as_bytes();
-    if scratch.len() <= bytes.len() {
-        return Err(PushLenientTextError::ScratchTooSmall(bytes.len() + 1));
-    }
-    let needed = match check_lenient_text(scratch, bytes) {
-        Ok(added) => (len - 4).saturating_add(added),
-        Err(fault) => return Err(PushLenientTextError::NoNode(fault)),
-    };
-    if buffer.len() < needed {
-        return Err(PushLenientTextError::BufferTooSmall(needed));
-    }
-    Ok(put_lenient_text_at(buffer, len, bytes, scratch))
+    push_styled_text_in_buf(TextStyle::Lenient, buffer, text, scratch)
+}
+
+/// Adds the nodes of a text that libefivar prints, and efibootmgr with it, to the device path that a buffer begins
+/// with, before its end, and returns how many bytes the path then has. What follows it is unchanged.
+///
+/// The text is read as [`DevicePathBuf::from_libefivar_text`](crate::DevicePathBuf) reads it. It fails as
+/// [`push_lenient_text_in_buf`] does.
+///
+/// ```rust
+/// let mut buffer = [0; 20];
+/// buffer[0] = 0x7f;
+/// buffer[1] = 0xff;
+/// buffer[2] = 4;
+/// let text = "NVMe(0x1,01-02-03-04-05-06-07-08)";
+/// assert_eq!(rt; push_libefivar_text_in_buf(&mut buffer, text, &mut [0; 34]), Ok(20));
+/// assert_eq!(rt; &buffer[8..16], [1, 2, 3, 4, 5, 6, 7, 8].as_slice());
+/// ```
+pub fn push_libefivar_text_in_buf(
+    buffer: &mut [u8],
+    text: &str,
+    scratch: &mut [u8],
+) -> Result<usize, PushLenientTextError>
+    ensures no_path { (error : DevicePathError) → RefusedFor buffer.old error
+        → result ≡ Err (PushLenientTextError.Path error) }
+    ensures no_scratch { (nodes : List Node) → BeginWithPath buffer.old nodes
+        → length scratch.old ≤ length text.now
+        → result ≡ Err (PushLenientTextError.ScratchTooSmall (length text.now + 1)) }
+    ensures no_node { (nodes : List Node) → BeginWithPath buffer.old nodes
+        → length text.now < length scratch.old
+        → (fault : TextFault) → ReadingStopsAt Libefivar text.now fault
+        → result ≡ Err (PushLenientTextError.NoNode fault) }
+    ensures refusal { (nodes read : List Node) → BeginWithPath buffer.old nodes
+        → length text.now < length scratch.old → IsReadAs Libefivar text.now read
+        → result_err result ≡ lenient_refusal nodes read (length buffer.old) }
+    ensures len { (nodes read : List Node) → BeginWithPath buffer.old nodes → IsReadAs Libefivar text.now read
+        → IfOk result (λ len. len ≡ length (path_bytes (nodes ++ read))) }
+    ensures buffer { (nodes read : List Node) → BeginWithPath buffer.old nodes → IsReadAs Libefivar text.now read
+        → OnOk result (buffer.new ≡ with_prefix (path_bytes (nodes ++ read)) buffer.old) }
+    ensures read { OnOk result (IsStyledText Libefivar text.now) }
+    ensures cause { IfErr result (λ error. IsPushLenientError Libefivar buffer.old text.now error) }
+    ensures err { OnErr result (buffer.new ≡ buffer.old) }
+{
+    push_styled_text_in_buf(TextStyle::Libefivar, buffer, text, scratch)
 }

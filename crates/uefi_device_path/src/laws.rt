@@ -1,7 +1,7 @@
 //! The laws by which users of device paths and load options reason. They speak of the definitions that
 //! the contracts of the working calls cite. Each law is a function that does nothing: its contract is the
 //! law.
-ghost use Rattle.uefi_device_path.specs.Laws.{AcceptedWithMore, BuiltIsRead, BytesOnce, FaultsWithin, InstancesShown, LenientOnce, LenientPrinted, LenientStopsOnce, LenientTold, NamesInARow, NeverBoth, OneName, OnlyFilesCount, OptionsNeverBoth, OptionsOnce, PathsOnce, PathsShown, ReadNeverStops, RefusedByHeader, RelativeNamesArePushed, StopsOnce, TextsNeverBoth, TextsOnce};
+ghost use Rattle.uefi_device_path.specs.Laws.{AcceptedWithMore, BuiltIsRead, BytesOnce, FaultsWithin, InstancesShown, LenientPrinted, NamesInARow, NeverBoth, OneName, OnlyFilesCount, OptionsNeverBoth, OptionsOnce, PathsOnce, PathsShown, ReadNeverStops, ReadOnce, ReadTold, ReadingStopsOnce, RefusedByHeader, RelativeNamesArePushed, StopsOnce, TextsNeverBoth, TextsOnce};
 
 pub use uefi_built_messages::laws as built_messages;
 pub use uefi_built_nodes::laws as built_nodes;
@@ -9,9 +9,9 @@ use uefi_device_nodes::laws::nodes_are_shown;
 pub use uefi_device_nodes::layouts;
 use uefi_field_texts::laws::fields_are_shown;
 pub use uefi_field_texts::laws::guid_texts;
-use uefi_node_reader::nodes::{
-    faults_lie_within, node_text_once, nodes_are_read, nodes_are_read_leniently,
-};
+pub use uefi_node_reader::nodes::texts_alike;
+use uefi_node_reader::nodes::{node_text_once, nodes_are_read};
+use uefi_node_reader::styles::{faults_lie_within, styled_nodes_are_read};
 use uefi_path::laws::join_components;
 
 /// Bytes and nodes determine one another: bytes begin with one path at most, no two paths have the same
@@ -61,19 +61,19 @@ pub fn stopped_texts()
     node_text_once();
 }
 
-/// A text as people write it is read as exactly one list of nodes, or it has exactly one fault, whose byte
-/// stands neither before its node nor after the end of the text. The printed text of the nodes that were read
-/// tells all of them. A printed text that tells all of its nodes is read as these nodes.
-pub fn lenient_texts()
-    ensures once { LenientOnce }
-    ensures stops { LenientStopsOnce }
+/// A text is read in a style as exactly one list of nodes, or it has exactly one fault, whose byte stands
+/// neither before its node nor after the end of the text. The printed text of the nodes that were read tells all
+/// of them. A printed text that tells all of its nodes is read leniently as these nodes.
+pub fn styled_texts()
+    ensures once { ReadOnce }
+    ensures stops { ReadingStopsOnce }
     ensures never_both { ReadNeverStops }
     ensures within { FaultsWithin }
-    ensures told { LenientTold }
+    ensures told { ReadTold }
     ensures printed { LenientPrinted }
 {
     nodes_are_read();
-    nodes_are_read_leniently();
+    styled_nodes_are_read();
     faults_lie_within();
 }
 

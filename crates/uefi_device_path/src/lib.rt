@@ -33,6 +33,7 @@ mod errors;
 mod file_path;
 mod grow;
 mod grow_lenient_text;
+mod grow_styled_text;
 mod grow_text;
 mod instance;
 mod instance_text;
@@ -48,6 +49,7 @@ mod option_edits;
 mod path_list;
 mod path_reader;
 mod path_text;
+mod styled_reader;
 
 pub use build::{BuildNode, DevicePathBuf};
 pub use builder::DevicePathBuilder;
@@ -59,7 +61,10 @@ pub use errors::{
     PushTextError,
 };
 pub use grow::{append_in_buf, push_in_buf};
-pub use grow_lenient_text::push_lenient_text_in_buf;
+pub use grow_lenient_text::{push_lenient_text_in_buf, push_libefivar_text_in_buf};
+// What the library for C is made of: callers in Rattle have a call for each style.
+#[doc(hidden)]
+pub use grow_styled_text::push_styled_text_in_buf;
 pub use grow_text::push_text_in_buf;
 pub use instance::{DevicePathInstance, DevicePathInstanceIterator};
 pub use lenient_errors::{Expected, LenientTextError, PushLenientTextError, TextFault};

@@ -1,25 +1,49 @@
 //! Reads texts of device paths from standard input, a line each and as people write them, and prints what
-//! each means: the bytes of the path in hexadecimal, and the text that is printed of it.
+//! each means: the bytes of the path in hexadecimal, and the text that is printed of it. With `--libefivar`, the
+//! texts are those that libefivar prints, and efibootmgr with it.
 //!
 //! Ends with 0 where each line is a path; with 1 where one is none, which is printed with the node that can't
 //! be read, the byte that is wrong and what has to stand there; with 2 where a read or a write failed, or a
 //! line is not UTF-8 or finds no memory; with 3, and `out of memory` on standard error, where a path finds no
-//! memory.
+//! memory; with 5, and how it is called on standard error, where the arguments are wrong.
 #![tactic(auto)]
 
 use std::alloc::Allocator;
+use std::env;
 use std::fmt::{self, Write};
 use std::io::{self, BufRead, BufReader, Write as _};
 use std::process::ExitCode;
 use uefi_device_path::{DevicePathBuf, LenientTextError};
 
+const USAGE: &str = "usage: uefi_device_path_cli [--libefivar] < LINES\n";
+
+/// Whose texts the lines are.
+#[derive(Clone, Copy)]
+enum Writer {
+    People,
+    Libefivar,
+}
+
+/// The path that a line is.
+fn read<A: Allocator + Copy>(
+    writer: Writer,
+    alloc: A,
+    line: &str,
+) -> Result<DevicePathBuf<A>, LenientTextError> {
+    match writer {
+        Writer::People => DevicePathBuf::from_lenient_text(alloc, line),
+        Writer::Libefivar => DevicePathBuf::from_libefivar_text(alloc, line),
+    }
+}
+
 /// Writes what a line means. False where it is no path.
 fn write_path<W: Write, A: Allocator + Copy>(
     out: &mut W,
     alloc: A,
+    writer: Writer,
     line: &str,
 ) -> Result<bool, fmt::Error> {
-    match DevicePathBuf::from_lenient_text(alloc, line) {
+    match read(writer, alloc, line) {
         Ok(path) => {
             let path = path.as_device_path();
             for byte in path.as_bytes() {
@@ -36,7 +60,15 @@ fn write_path<W: Write, A: Allocator + Copy>(
     }
 }
 
-fn main(rt: HostRuntime) -> ExitCode {
+/// Prints why the program ends early.
+fn refuse(rt: &HostRuntime, message: &str, status: u8) -> ExitCode {
+    // Nothing is left to do where standard error can't be written.
+    let _ = eprint!(rt; "{message}");
+    ExitCode::from(status)
+}
+
+/// Prints what each line of standard input means.
+fn print_paths(rt: &HostRuntime, writer: Writer) -> ExitCode {
     let mut is_well = true;
     let mut output = String::new(rt.alloc());
     for line in rt.lines(rt.alloc()) {
@@ -44,15 +76,27 @@ fn main(rt: HostRuntime) -> ExitCode {
             return ExitCode::from(2);
         };
         output.clear();
-        let Ok(is_path) = write_path(&mut output, rt.alloc(), &line) else {
-            // Nothing is left to do where standard error can't be written.
-            let _ = eprint!(rt; "out of memory\n");
-            return ExitCode::from(3);
+        let Ok(is_path) = write_path(&mut output, rt.alloc(), writer, &line) else {
+            return refuse(rt, "out of memory\n", 3);
         };
         is_well = is_well && is_path;
-        if io::writer(&rt).write_all(output.as_bytes()).is_err() {
+        if io::writer(rt).write_all(output.as_bytes()).is_err() {
             return ExitCode::from(2);
         }
     }
     ExitCode::from(if is_well { 0 } else { 1 })
+}
+
+fn main(rt: HostRuntime) -> ExitCode {
+    let Ok(arguments) = env::args(&rt) else {
+        return refuse(&rt, "out of memory\n", 3);
+    };
+    let mut writer = Writer::People;
+    for argument in arguments.skip(1) {
+        match argument.as_str() {
+            "--libefivar" => writer = Writer::Libefivar,
+            _ => return refuse(&rt, USAGE, 5),
+        }
+    }
+    print_paths(&rt, writer)
 }

@@ -4,7 +4,7 @@
 use for_tests::{bytes, split_row};
 use std::alloc::Global;
 use std::test::Fail;
-use uefi_device_path::DevicePathBuf;
+use uefi_device_path::{DevicePathBuf, LenientTextError};
 
 /// Paths that libefivar makes, without the node that ends them, and the texts that it prints of them.
 pub(crate) const BY_LIBEFIVAR: &str = "\
@@ -69,9 +69,19 @@ pub(crate) const BY_PEOPLE: &str = "\
 04040e005c0061005c0062000000 a\\b
 02010c00d041030a0000000001010600021f7f01040004040a005c0061000000 pciroot(0)/pci(0x1f,2),file(a)";
 
+/// Nodes that libefivar prints in a form of its own: bytes, and the text that it prints.
+const BY_LIBEFIVAR_ALONE: &str = "\
+031710000c000000002538b391b04c5d NVMe(0xc,00-25-38-B3-91-B0-4C-5D)
+03171000010000000025385b71b012f4 nvme(0x1, 00-25-38-5b-71-b0-12-f4)
+0301080001000c00 Ata(1,0,12)";
+
 /// Whether a text is read as the path of these bytes, and what is printed of that path is read as it is.
-fn is_read(alloc: Global, text: &str, nodes: &[u8]) -> Result<bool, Fail> {
-    let path = DevicePathBuf::from_lenient_text(alloc, text)?;
+fn is_read(
+    alloc: Global,
+    read: Result<DevicePathBuf<Global>, LenientTextError>,
+    nodes: &[u8],
+) -> Result<bool, Fail> {
+    let path = read?;
     let path = path.as_device_path();
     let again = DevicePathBuf::from_text(alloc, path.to_string(alloc)?.as_str())?;
     let end: &[u8] = &[0x7f, 0xff, 4, 0];
@@ -83,9 +93,54 @@ fn texts(rt: HostRuntime) -> Result<(), Fail> {
     for table in [BY_LIBEFIVAR, BY_PEOPLE] {
         for line in table.split('\n') {
             let (nodes, text) = split_row(line);
-            let is_right = is_read(rt.alloc(), text, &bytes(rt.alloc(), nodes)?)?;
+            let nodes = bytes(rt.alloc(), nodes)?;
+            let read = DevicePathBuf::from_lenient_text(rt.alloc(), text);
+            let is_right = is_read(rt.alloc(), read, &nodes)?;
             assert!(rt; is_right, "{line}");
         }
+    }
+    Ok(())
+}
+
+#[test]
+fn texts_of_libefivar(rt: HostRuntime) -> Result<(), Fail> {
+    for table in [BY_LIBEFIVAR, BY_LIBEFIVAR_ALONE] {
+        for line in table.split('\n') {
+            let (nodes, text) = split_row(line);
+            let nodes = bytes(rt.alloc(), nodes)?;
+            let read = DevicePathBuf::from_libefivar_text(rt.alloc(), text);
+            let is_right = is_read(rt.alloc(), read, &nodes)?;
+            assert!(rt; is_right, "{line}");
+        }
+    }
+    Ok(())
+}
+
+/// What libefivar prints for different nodes, and texts that it does not print; and the words of the fault.
+const REFUSED_OF_LIBEFIVAR: &str = "\
+SAS(5006016047273469,12,34,NoTopology): no node at offset 0: expected a shorter node, or one whose text tells all \
+    of it at offset 4
+\\a/UsbClass(781,5583,255,18): no node at offset 3: expected a shorter node, or one whose text tells all of it at \
+    offset 12
+Fibre(5,0): no node at offset 0: expected a shorter node, or one whose text tells all of it at offset 6
+PciRoot(12): no node at offset 0: expected a number after `0x` at offset 8
+pcieroot( ): no node at offset 0: expected a number after `0x` at offset 10
+NVMe(1,00-25-38-5B-71-B0-03-1C): no node at offset 0: expected the exact printed form at offset 5
+NVMe(0x1,00-25-38-5B-71-B0-03-1C)x: no node at offset 0: expected `/`, `,` or the end of the text at offset 33
+Pci(256,0): no node at offset 0: expected a number up to 0xFF at offset 4";
+
+#[test]
+fn refused_texts_of_libefivar(rt: HostRuntime) -> Result<(), Fail> {
+    for line in REFUSED_OF_LIBEFIVAR.split('\n') {
+        let Some((text, words)) = line.split_once(": ") else {
+            return Err(Fail::from("a row without words"));
+        };
+        let error = DevicePathBuf::from_libefivar_text(rt.alloc(), text).err();
+        let shown = match error {
+            Some(error) => format!(in rt.alloc(); "{error}")?,
+            None => String::new(rt.alloc()),
+        };
+        assert_eq!(rt; shown.as_str(), words);
     }
     Ok(())
 }
@@ -113,7 +168,8 @@ pub(crate) const REFUSED: &str = "\
 0 0 uri(http://a): the exact printed form | 0 5 file(a\u{7}b): the name of a file | \
 0 0 a\u{202e}: the name of a file | 0 0 shim.efi: the name of a file | \
 0 0 Pci 0x1F,0x2): the name of a file | 0 0 PciRoot/Pci(0x1,0x0): the name of a file | \
-0 0 FS0:\\EFI\\x.efi: the name of a file | 7 7 \\EFI\\a,b.efi: the name of a file | \
+0 0 FS0:\\EFI\\x.efi: the name of a file | 7 7 \\EFI\\a,b.efi: the name of a file | 7 7 \\EFI\\a,b\\c.efi: the name of a file | \
+1 1 ,EFI\\a.efi: the name of a file | \
 0 0 EFI\\x)\\y: the name of a file | 0 9 HD(1,MBR,12345678,0x800,0x64000): a number after `0x` | \
 0 5 Acpi(12345678,0): a number after `0x` | 0 25 BluetoothLE(001122334455,10): a number after `0x` | \
 0 6 Fibre(5006016047273469,0): a number after `0x` | \

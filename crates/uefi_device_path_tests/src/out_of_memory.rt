@@ -29,6 +29,7 @@ enum Call<'a> {
     InstanceFilePath(&'a [u8]),
     FromText(&'a str),
     FromLenientText(&'a str),
+    FromLibefivarText(&'a str),
     /// A text that is refused at a place.
     NoText(&'a str, usize),
     NoLenientText(&'a str, usize),
@@ -138,6 +139,10 @@ fn answers(call: Call<'_>, heap: &Refusing<Global>) -> Result<bool, AllocError> 
             DevicePathBuf::from_lenient_text(heap, text),
             LenientTextError::OutOfMemory,
         ),
+        Call::FromLibefivarText(text) => is_answered(
+            DevicePathBuf::from_libefivar_text(heap, text),
+            LenientTextError::OutOfMemory,
+        ),
         Call::NoText(text, place) => Ok(
             DevicePathBuf::from_text(heap, text).err() == Some(PathTextError::NoNode(place)),
         ),
@@ -173,6 +178,10 @@ const ROWS: &[(Call<'static>, u64)] = &[
     (Call::NoText("\\a/Path(3,99,0F", 3), 0),
     (Call::FromLenientText(""), 2),
     (Call::FromLenientText("pciroot(0)/pci(31,2)/File(a)"), 2),
+    (
+        Call::FromLibefivarText("NVMe(0x1,00-25-38-5B-71-B0-03-1C)/File(a)"),
+        2,
+    ),
     // The copy alone: no path is asked for.
     (Call::NoLenientText("pciroot(0)/pci(31,2)/", 21), 1),
     (Call::NoLenientText("file(a)/Uri(\u{e9})", 8), 1),

@@ -1,15 +1,14 @@
 -- A byte that is wrong lies in its text, or at its end.
 use Rattle.std.proofs.Common.{ℕ, suc, ◌+◌, ◌-◌, ◌≤◌, Bool, true, false, cond, eqb, List, [], ◌∷◌, length, arith}
 use Rattle.std.specs.Prelude.{Option, Some, None, codes}
-use Rattle.uefi_node_table.specs.Table.{forms}
-use Rattle.uefi_node_reader.specs.LenientFaults.{FaultWithin, begun, call_fault, cut_fault, fault, fault_after, file_fault, forms_stop, further, lenient_fault, path_stop, place_at, stop_fault}
+use Rattle.uefi_node_reader.specs.LenientFaults.{open_fault, begun, call_fault, call_stop, cut_fault, fault, fault_after, file_fault, lenient_fault, place_at, stop_fault}
 use Rattle.uefi_node_reader.specs.LenientFields.{after_literal}
 use Rattle.uefi_node_reader.specs.LenientNodes.{begins_call, cut_call, is_blank, tidied}
 use Rattle.uefi_node_reader.specs.NamedFiles.{is_after_node}
 use Rattle.uefi_node_reader.specs.declared.faults.Expected.TheVariants as expected
 use Rattle.uefi_node_reader.specs.declared.faults.Stop.{Stop}
 
-place_within : (count : ℕ) (text : List ℕ) → place_at count text ≤ length text
+pub place_within : (count : ℕ) (text : List ℕ) → place_at count text ≤ length text
 place_within count [] = omega arith
 place_within count (c ∷ cs) = by (is_blank c) (eqb count 0) (place_within count cs) (place_within (count - 1) cs)
   where
@@ -23,8 +22,16 @@ stop_within : (text : List ℕ) (len : ℕ) (o : Option Stop) → (stop_fault te
 stop_within text len None = omega arith
 stop_within text len (Some stop) = place_within (len - stop.left) text
 
+open_within : (text : List ℕ) (len : ℕ) (o : Option Stop) → (open_fault text len o).byte ≤ length text
+open_within text len None = omega arith
+open_within text len (Some stop) = by (eqb stop.left 0)
+  where
+    by : (b : Bool) → (cond b (fault (length text) (expected.Byte 41)) (fault (place_at (len - stop.left) text) stop.expected)).byte ≤ length text
+    by true = omega arith
+    by false = place_within (len - stop.left) text
+
 cut_within : (text : List ℕ) (o : Option (List ℕ × List ℕ)) → (cut_fault text o).byte ≤ length text
-cut_within text None = omega arith
+cut_within text None = open_within text (length (tidied text)) (call_stop (tidied text))
 cut_within text (Some call) = stop_within text (length (tidied call.0)) _
 
 file_within : (text name : List ℕ) (o : Option (List ℕ × List ℕ)) → (file_fault text name o).byte ≤ length text
@@ -44,6 +51,6 @@ after_within text None = by (begins_call text)
     by true = call_within text (after_literal (codes "File(") text)
     by false = omega arith
 
-pub fault_within : FaultWithin
+pub fault_within : (is_rooted : Bool) (text : List ℕ) → (lenient_fault is_rooted text).byte ≤ length text
 unfolding lenient_fault
-fault_within text = after_within text (begun text)
+fault_within is_rooted text = after_within text (begun is_rooted text)

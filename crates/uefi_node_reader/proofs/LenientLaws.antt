@@ -14,7 +14,7 @@ use Rattle.uefi_node_reader.specs.FieldReading.{◌>>=◌, either_read, read_if}
 use Rattle.uefi_device_nodes.specs.NodeTexts.{node_text}
 use Rattle.uefi_node_reader.specs.LenientFields.{after_letter, after_literal, begins_base, literal_left, past_base}
 use Rattle.uefi_node_reader.specs.Ambiguous.{ambiguous_stop}
-use Rattle.uefi_node_reader.specs.LenientNodes.{IsRestOf, LenientAgain, LenientEnds, LenientStarts, LenientTakes, bare_read, is_bare, named_read, begins_call, call_read, cut_call, ended, file_or_call, file_read, form_set, forms_set, lenient_read, rooted, path_set, tidied, told_in, whole}
+use Rattle.uefi_node_reader.specs.LenientNodes.{IsRestOf, bare_read, is_bare, named_read, begins_call, call_read, cut_call, ended, file_or_call, file_read, form_set, forms_set, lenient_read, rooted, path_set, tidied, told_in, whole}
 use Rattle.uefi_node_reader.specs.NamedFiles.{IsTold, ends_name, is_after_node, is_name, name_bytes, name_data, name_read, node_read}
 use Rattle.uefi_node_reader.specs.PlainNodes.{plain_read, types_read}
 use Rattle.uefi_node_reader.specs.TableReading.{is_empty, is_sound, prints}
@@ -79,7 +79,7 @@ form_told form sound text (Some read) f node e = by (is_empty read.1) (tells for
         subst IsTold same (inl (tells_told form own (form_set_in form sound text read.0 read.1 f) p))
 
 -- one of two that were read
-one_node : (a b : Option Node) (x : Node) → option_or a b ≡ Some x → (a ≡ Some x) ⊎ (b ≡ Some x)
+pub one_node : (a b : Option Node) (x : Node) → option_or a b ≡ Some x → (a ≡ Some x) ⊎ (b ≡ Some x)
 one_node None b x e = inr e
 one_node (Some y) b x e = inl e
 
@@ -118,7 +118,7 @@ name_told text node e =
     let read = whole_read (name_read text) node e in inr (inr (name_takes text node read.0 read.1).0)
 
 -- a node that was read, with what stands after it
-with_rest : (o : Option Node) (after : List ℕ) (node : Node) (rest : List ℕ)
+pub with_rest : (o : Option Node) (after : List ℕ) (node : Node) (rest : List ℕ)
     → option_map {U = Node × List ℕ} (λ (x : Node). (x, after)) o ≡ Some (node, rest)
     → (o ≡ Some node) × (after ≡ rest)
 with_rest None after node rest e = cc
@@ -142,9 +142,9 @@ called text node rest e =
     (call.0, call.1, with_rest _ call.0.1 node rest (unless (is_some (ambiguous_stop (tidied call.0.0))) _ (node, rest) call.2))
 
 -- what a bare name was read of
-bare_named : (text : List ℕ) (node : Node) (rest : List ℕ) → bare_read text ≡ Some (node, rest)
+bare_named : (is_rooted : Bool) (text : List ℕ) (node : Node) (rest : List ℕ) → bare_read is_rooted text ≡ Some (node, rest)
     → (whole (name_read (rooted (name_bytes text))) ≡ Some node) × (drop (position_or_len ends_name text) text ≡ rest)
-bare_named text node rest e = with_rest _ _ node rest (if_bare (is_bare (name_bytes text)) (named_read text) (node, rest) e)
+bare_named is_rooted text node rest e = with_rest _ _ node rest (if_bare (not is_rooted && is_bare (name_bytes text)) (named_read text) (node, rest) e)
 
 call_told : (text : List ℕ) (node : Node) (rest : List ℕ) → call_read text ≡ Some (node, rest) → IsTold node
 call_told text node rest e =
@@ -166,7 +166,7 @@ file_told : (text : List ℕ) (node : Node) (rest : List ℕ) → file_read text
 file_told text node rest e = let call = filed text node rest e in name_told (rooted call.0.0) node call.2.0
 
 -- what was read, and ends where a node may end
-ends : (o : Option (Node × List ℕ)) (node : Node) (rest : List ℕ) → ended o ≡ Some (node, rest)
+pub ends : (o : Option (Node × List ℕ)) (node : Node) (rest : List ℕ) → ended o ≡ Some (node, rest)
     → (o ≡ Some (node, rest)) × (is_after_node rest ≡ true)
 ends None node rest e = cc
 ends (Some read) node rest e =
@@ -174,43 +174,45 @@ ends (Some read) node rest e =
     (λ i. Some (q.1 i, q.2 i), ap is_after_node (sym q.2) ∙ q.0)
 
 -- one of the four that are tried
-module _ (text : List ℕ) (node : Node) (rest : List ℕ) (Goal : Type 0)
+module _ (is_rooted : Bool) (text : List ℕ) (node : Node) (rest : List ℕ) (Goal : Type 0)
     (strict : node_read text ≡ Some (node, rest) → is_after_node rest ≡ true → Goal)
     (file : begins_call text ≡ true → (name : List ℕ) → after_literal (codes "File(") text ≡ Some name
     → file_read name ≡ Some (node, rest) → is_after_node rest ≡ true → Goal)
     (call : begins_call text ≡ true → call_read text ≡ Some (node, rest) → is_after_node rest ≡ true → Goal)
-    (bare : bare_read text ≡ Some (node, rest) → Goal) where
+    (bare : bare_read is_rooted text ≡ Some (node, rest) → Goal) where
   either_call : begins_call text ≡ true → (o : Option (List ℕ)) → after_literal (codes "File(") text ≡ o
       → ended (file_or_call o text) ≡ Some (node, rest) → Goal
   either_call b None f e = let q = ends (call_read text) node rest e in call b q.0 q.1
   either_call b (Some name) f e = let q = ends (file_read name) node rest e in file b name f q.0 q.1
 
   call_or_name : (b : Bool) → begins_call text ≡ b
-      → cond b (ended (file_or_call (after_literal (codes "File(") text) text)) (bare_read text) ≡ Some (node, rest)
+      → cond b (ended (file_or_call (after_literal (codes "File(") text) text)) (bare_read is_rooted text) ≡ Some (node, rest)
       → Goal
   call_or_name true b e = either_call b (after_literal (codes "File(") text) refl e
   call_or_name false b e = bare e
 
-  one_of_four : lenient_read text ≡ Some (node, rest) → Goal
+  one_of_four : lenient_read is_rooted text ≡ Some (node, rest) → Goal
   unfolding lenient_read
   one_of_four e = elim (one_read (ended (node_read text)) _ (node, rest) e) [
     | inl p ↦ let q = ends (node_read text) node rest p in strict q.0 q.1
     | inr p ↦ call_or_name (begins_call text) refl p
   ]
 
-pub lenient_takes : LenientTakes
-lenient_takes text node rest e = one_of_four text node rest (IsTold node)
+pub lenient_takes : (is_rooted : Bool) (text : List ℕ) (node : Node) (rest : List ℕ)
+    → lenient_read is_rooted text ≡ Some (node, rest) → IsTold node
+lenient_takes is_rooted text node rest e = one_of_four is_rooted text node rest (IsTold node)
     (λ p _. (node_takes text node rest p).0)
     (λ _ name _ p _. file_told name node rest p) (λ _ p _. call_told text node rest p)
-    (λ p. name_told (rooted (name_bytes text)) node (bare_named text node rest p).0) e
+    (λ p. name_told (rooted (name_bytes text)) node (bare_named is_rooted text node rest p).0) e
 
-pub lenient_again : LenientAgain
+pub lenient_again : (is_rooted : Bool) (text : List ℕ) (node : Node) (rest : List ℕ) → node_read text ≡ Some (node, rest)
+    → is_after_node rest ≡ true → lenient_read is_rooted text ≡ Some (node, rest)
 unfolding lenient_read
-lenient_again text node rest e after =
+lenient_again is_rooted text node rest e after =
     let strict : ended (node_read text) ≡ Some (node, rest) =
     ap ended e ∙ ap (λ (b : Bool). read_if b node rest) after in
     ap (λ (o : Option (Node × List ℕ)). either_read o
-    (cond (begins_call text) (ended (file_or_call (after_literal (codes "File(") text) text)) (bare_read text))) strict
+    (cond (begins_call text) (ended (file_or_call (after_literal (codes "File(") text) text)) (bare_read is_rooted text))) strict
 
 -- the end of a text
 abbrev IsEnd : List ℕ → List ℕ → Type 0
@@ -280,7 +282,7 @@ literal_end (c ∷ cs) false text rest e = by (begins_base (c ∷ cs)) e (litera
         then_end text letter.0 rest (letter_end c text letter.0 letter.1) after
 
 -- what stands after a call
-cut_end : (text : List ℕ) (call : List ℕ × List ℕ) → cut_call text ≡ Some call → IsRestOf text call.1
+pub cut_end : (text : List ℕ) (call : List ℕ × List ℕ) → cut_call text ≡ Some call → IsRestOf text call.1
 cut_end [] call e = cc
 cut_end (c ∷ cs) call e = by (position (λ (x : ℕ). x == 41) (c ∷ cs)) e
   where
@@ -351,42 +353,45 @@ bare_rest (c ∷ cs) node e = by (ends_name c) e
     by true q = let none = no_name in cc
     by false q = dropped (1 + position_or_len ends_name cs) (position_or_len ends_name cs) c cs (omega arith)
 
-bare_end : (text : List ℕ) (node : Node) (rest : List ℕ) → bare_read text ≡ Some (node, rest)
+bare_end : (is_rooted : Bool) (text : List ℕ) (node : Node) (rest : List ℕ) → bare_read is_rooted text ≡ Some (node, rest)
     → IsRestOf text rest × (is_after_node rest ≡ true)
-bare_end text node rest e =
-    let name = bare_named text node rest e in
+bare_end is_rooted text node rest e =
+    let name = bare_named is_rooted text node rest e in
     subst (λ (x : List ℕ). IsRestOf text x × (is_after_node x ≡ true)) name.1
     (bare_rest text node name.0, after_name text)
 
-pub lenient_ends : LenientEnds
-lenient_ends text node rest e = one_of_four text node rest (IsRestOf text rest × (is_after_node rest ≡ true))
+pub lenient_ends : (is_rooted : Bool) (text : List ℕ) (node : Node) (rest : List ℕ) → lenient_read is_rooted text ≡ Some (node, rest)
+    → IsRestOf text rest × (is_after_node rest ≡ true)
+lenient_ends is_rooted text node rest e = one_of_four is_rooted text node rest (IsRestOf text rest × (is_after_node rest ≡ true))
     (λ p after. (strict_end text node rest p after, after)) (λ _ name begun p after. (file_end text name node rest begun p, after))
-    (λ _ p after. (call_end text node rest p, after)) (bare_end text node rest) e
+    (λ _ p after. (call_end text node rest p, after)) (bare_end is_rooted text node rest) e
 
 -- nothing is read where a slash or a comma stands first, or nothing
 no_bytes : (text : List ℕ) → is_after_node text ≡ true → name_bytes text ≡ []
 no_bytes [] e = refl
 no_bytes (c ∷ cs) e = ap (λ (t : Bool). take (name_place cs t) (c ∷ cs)) e
 
-pub lenient_starts : LenientStarts
-lenient_starts text node rest e = by (is_after_node text) refl
-  where
-    no_call : is_after_node text ≡ true → begins_call text ≡ true → is_after_node text ≡ false
-    no_call first call =
-        let none : begins_call text ≡ false = ap (λ (x : List ℕ). list_any (λ c. c == 40) x) (no_bytes text first) in
-        absurd (true≢false (sym call ∙ none))
+-- a call begins with neither
+pub call_starts : (text : List ℕ) → is_after_node text ≡ true → begins_call text ≡ true → is_after_node text ≡ false
+call_starts text first call =
+    let none : begins_call text ≡ false = ap (λ (x : List ℕ). list_any (λ c. c == 40) x) (no_bytes text first) in
+    absurd (true≢false (sym call ∙ none))
 
+pub lenient_starts : (is_rooted : Bool) (text : List ℕ) (node : Node) (rest : List ℕ) → lenient_read is_rooted text ≡ Some (node, rest)
+    → is_after_node text ≡ false
+lenient_starts is_rooted text node rest e = by (is_after_node text) refl
+  where
     strict : node_read text ≡ Some (node, rest) → is_after_node text ≡ false
     strict p = let read = node_takes text node rest p in ap is_after_node read.1 ∙ node_starts node read.0 rest
 
-    bare : is_after_node text ≡ true → bare_read text ≡ Some (node, rest) → is_after_node text ≡ false
+    bare : is_after_node text ≡ true → bare_read is_rooted text ≡ Some (node, rest) → is_after_node text ≡ false
     bare first p =
-        let name = (bare_named text node rest p).0 in
+        let name = (bare_named is_rooted text node rest p).0 in
         let none : whole (name_read (rooted (name_bytes text))) ≡ None =
         ap (λ (x : List ℕ). whole (name_read (rooted x))) (no_bytes text first) ∙ no_name in
         cc (name, none)
 
     by : (b : Bool) → is_after_node text ≡ b → is_after_node text ≡ false
     by false p = p
-    by true p = one_of_four text node rest (is_after_node text ≡ false) (λ q _. strict q)
-        (λ b _ _ _ _. no_call p b) (λ b _ _. no_call p b) (bare p) e
+    by true p = one_of_four is_rooted text node rest (is_after_node text ≡ false) (λ q _. strict q)
+        (λ b _ _ _ _. call_starts text p b) (λ b _ _. call_starts text p b) (bare p) e

@@ -30,3 +30,5 @@ pub mod LenientReads
 pub mod LenientFaults
 pub mod FaultPlaces
 pub mod LenientLaws
+pub mod StyledLaws
+pub mod Alike

@@ -110,7 +110,7 @@ form_again form r s content l all whole rest =
     ∙ ap (λ (x : List ℕ). Some (x, rest)) whole.0
 
 -- what is known of data that were read in a form
-record Taken (form : Form) (text content rest : List ℕ) : Type 0 where
+pub record Taken (form : Form) (text content rest : List ℕ) : Type 0 where
   pub text_is : text ≡ form_text form content ++ rest
   pub read : is_read form.mode ≡ true
   pub whole : IsWhole form content
@@ -125,7 +125,7 @@ values_same n head extra l = alike (is_within n) (head ++ extra) head (λ p w.
     between_is (head ++ extra) p.place to
     ∙ ap (λ (x : List ℕ). drop p.place x) (take-append-le to head extra (omega (arith, here.0, l))) ∙ sym (between_is head p.place to))
 
-form_takes : (form : Form) → is_sound form ≡ true → (text content rest : List ℕ) → form_read form text ≡ Some (content, rest) → Taken form text content rest
+pub form_takes : (form : Form) → is_sound form ≡ true → (text content rest : List ℕ) → form_read form text ≡ Some (content, rest) → Taken form text content rest
 form_takes form s text content rest read =
     let r = is_body form text (content, rest) read in
     let is = sound form r.0 s in

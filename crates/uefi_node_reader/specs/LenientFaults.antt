@@ -1,5 +1,5 @@
 -- Why no node is read leniently of a text: which byte is wrong, and what was expected there.
-use Rattle.std.specs.Prelude.{ℕ, ◌+◌, ◌-◌, ◌*◌, ◌^◌, ◌≤◌, nat_lt, Bool, true, false, ◌==◌, ◌&&◌, if◌then◌else◌, List, [], ◌∷◌, codes, drop, take, length, position, Option, Some, None, is_some, Result, Ok, Err}
+use Rattle.std.specs.Prelude.{ℕ, ◌+◌, ◌-◌, ◌*◌, ◌^◌, nat_lt, Bool, true, false, ◌==◌, ◌&&◌, if◌then◌else◌, List, [], ◌∷◌, codes, drop, take, length, position, Option, Some, None, is_some, Result, Ok, Err}
 use Rattle.std.specs.Option.{option_map, option_or}
 use Rattle.uefi_node_table.specs.Rows.{Form, Piece, is_used}
 use Rattle.uefi_node_table.specs.Table.{forms}
@@ -168,12 +168,20 @@ abbrev pub stop_fault : List ℕ → ℕ → Option Stop → NodeFault
 stop_fault text len None = fault 0 expected.Node
 stop_fault text len (Some stop) = fault (place_at (len - stop.left) text) stop.expected
 
+-- where a tidied call stops telling which node it is, or else where it stops being that of any form
+abbrev pub call_stop : List ℕ → Option Stop
+call_stop text = option_or (ambiguous_stop text) (further (forms_stop forms text) (path_stop text))
+
+-- the fault of a call without a `)`, of which nothing else is wrong if reading it stops after that
+abbrev pub open_fault : List ℕ → ℕ → Option Stop → NodeFault
+open_fault text len None = fault 0 expected.Node
+open_fault text len (Some stop) = if stop.left == 0 then fault (length text) (expected.Byte 41)
+    else fault (place_at (len - stop.left) text) stop.expected
+
 -- the fault of a call, by what stands before its `)`
 abbrev pub cut_fault : List ℕ → Option (List ℕ × List ℕ) → NodeFault
-cut_fault text None = fault (length text) (expected.Byte 41)
-cut_fault text (Some call) = stop_fault text (length (tidied call.0))
-    (option_or (ambiguous_stop (tidied call.0))
-    (further (forms_stop forms (tidied call.0)) (path_stop (tidied call.0))))
+cut_fault text None = open_fault text (length (tidied text)) (call_stop (tidied text))
+cut_fault text (Some call) = stop_fault text (length (tidied call.0)) (call_stop (tidied call.0))
 
 -- the fault of a file's name up to a `)`
 abbrev pub file_fault : List ℕ → List ℕ → Option (List ℕ × List ℕ) → NodeFault
@@ -186,9 +194,9 @@ call_fault text None = cut_fault text (cut_call text)
 call_fault text (Some name) = file_fault text name (cut_call name)
 
 -- what stands after the node that a text begins with, whatever that is
-abbrev pub begun : List ℕ → Option (List ℕ)
-begun text = past (either_read (node_read text)
-    (if begins_call text then file_or_call (after_literal (codes "File(") text) text else bare_read text))
+abbrev pub begun : Bool → List ℕ → Option (List ℕ)
+begun is_rooted text = past (either_read (node_read text)
+    (if begins_call text then file_or_call (after_literal (codes "File(") text) text else bare_read is_rooted text))
 
 -- the fault of a text, by what stands after the node that it begins with: the node should end there
 abbrev pub fault_after : List ℕ → Option (List ℕ) → NodeFault
@@ -197,9 +205,5 @@ fault_after text None = if begins_call text then call_fault text (after_literal 
     else fault 0 (if is_after_node text then expected.Node else expected.FileName)
 
 -- the fault of a text of which no node is read leniently
-unfoldable pub lenient_fault : List ℕ → NodeFault
-lenient_fault text = fault_after text (begun text)
-
--- the wrong byte lies in the text, or at its end
-abbrev pub FaultWithin : Type 0
-FaultWithin = (text : List ℕ) → (lenient_fault text).byte ≤ length text
+unfoldable pub lenient_fault : Bool → List ℕ → NodeFault
+lenient_fault is_rooted text = fault_after text (begun is_rooted text)

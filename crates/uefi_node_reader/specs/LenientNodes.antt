@@ -11,7 +11,7 @@ use Rattle.uefi_device_nodes.specs.Nodes.{Node, node_with}
 use Rattle.uefi_node_reader.specs.Ambiguous.{ambiguous_stop}
 use Rattle.uefi_node_reader.specs.FieldReading.{◌>>=◌, either_read, read_if}
 use Rattle.uefi_node_reader.specs.LenientFields.{after_literal, pieces_set}
-use Rattle.uefi_node_reader.specs.NamedFiles.{ends_name, is_after_node, IsTold, name_bytes, name_read, node_read}
+use Rattle.uefi_node_reader.specs.NamedFiles.{ends_name, is_after_node, name_bytes, name_read, node_read}
 use Rattle.uefi_node_reader.specs.PlainNodes.{types_read}
 use Rattle.uefi_node_reader.specs.TableReading.{blank, is_empty, is_read, rest_read}
 use Rattle.uefi_node_reader.specs.Telling.{tells}
@@ -97,9 +97,10 @@ abbrev pub is_bare : List ℕ → Bool
 is_bare name = list_any (λ c. c == 92) name
     && not (list_any (λ c. c == 41) name || list_any (λ c. c == 58) name)
 
--- the node with the name that a text begins with, if that may stand without its first backslash
-abbrev pub bare_read : List ℕ → Option (Node × List ℕ)
-bare_read text = if is_bare (name_bytes text) then named_read text else None
+-- the node with the name that a text begins with, if that may stand without its first backslash: not where it is
+-- rooted, after a comma
+abbrev pub bare_read : Bool → List ℕ → Option (Node × List ℕ)
+bare_read is_rooted text = if not is_rooted && is_bare (name_bytes text) then named_read text else None
 
 -- the test for a text that begins with a call: a `(` stands before a slash or a comma
 abbrev pub begins_call : List ℕ → Bool
@@ -115,28 +116,8 @@ abbrev pub IsRestOf : List ℕ → List ℕ → Type 0
 IsRestOf text rest = (first : ℕ) × (front : List ℕ) × (text ≡ first ∷ (front ++ rest))
 
 -- the node whose text bytes begin with as people write it, and what stands after it: as it is printed, in
--- `File(..)`, as another call, or as a bare name
-unfoldable pub lenient_read : List ℕ → Option (Node × List ℕ)
-lenient_read text = either_read (ended (node_read text))
+-- `File(..)`, as another call, or as a bare name, unless names have to be rooted there
+unfoldable pub lenient_read : Bool → List ℕ → Option (Node × List ℕ)
+lenient_read is_rooted text = either_read (ended (node_read text))
     (if begins_call text then ended (file_or_call (after_literal (codes "File(") text) text)
-    else bare_read text)
-
--- what is read leniently is told
-abbrev pub LenientTakes : Type 0
-LenientTakes = (text : List ℕ) (node : Node) (rest : List ℕ)
-    → lenient_read text ≡ Some (node, rest) → IsTold node
-
--- what stands after it is the end of the text, after one byte or more, and may stand after a node
-abbrev pub LenientEnds : Type 0
-LenientEnds = (text : List ℕ) (node : Node) (rest : List ℕ) → lenient_read text ≡ Some (node, rest)
-    → IsRestOf text rest × (is_after_node rest ≡ true)
-
--- it begins with no byte that may stand after a node
-abbrev pub LenientStarts : Type 0
-LenientStarts = (text : List ℕ) (node : Node) (rest : List ℕ) → lenient_read text ≡ Some (node, rest)
-    → is_after_node text ≡ false
-
--- what is read where a node may end is read leniently as the same
-abbrev pub LenientAgain : Type 0
-LenientAgain = (text : List ℕ) (node : Node) (rest : List ℕ) → node_read text ≡ Some (node, rest)
-    → is_after_node rest ≡ true → lenient_read text ≡ Some (node, rest)
+    else bare_read is_rooted text)

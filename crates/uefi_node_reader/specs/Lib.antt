@@ -10,6 +10,9 @@ pub mod Telling
 pub mod Ambiguous
 pub mod LenientNodes
 pub mod LenientFaults
+pub mod Alike
+pub mod Libefivar
+pub mod Styles
 pub mod FaultTexts
 pub mod Counted
 pub mod TextNodes

@@ -49,7 +49,7 @@ fn left_after(mark: &[u8], text: &[u8]) -> Option<usize>
 }
 
 /// Whether a text begins with another.
-fn begins_with(start: &[u8], text: &[u8]) -> bool
+pub(crate) fn begins_with(start: &[u8], text: &[u8]) -> bool
     ensures { result ≡ begins_with start.now text.now }
 {
     after(start, text).is_some()

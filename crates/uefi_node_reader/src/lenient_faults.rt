@@ -9,7 +9,7 @@ ghost use Rattle.uefi_node_table.specs.Fields.{fits_shape};
 ghost use Rattle.uefi_node_table.specs.Rows.{as_form, as_piece, is_within};
 ghost use Rattle.uefi_node_table.specs.Table.{forms};
 ghost use Rattle.uefi_node_reader.specs.Ambiguous.{ambiguous_stop};
-ghost use Rattle.uefi_node_reader.specs.LenientFaults.{call_name, close_stop, cut_fault, ending_end, exact_end, expected_field, expected_word, file_fault, form_end, form_stop, forms_stop, further, literal_end, named_stop, or_stop, past, path_stop, piece_end, pieces_end, place_at, rest_end, stop_at, stop_of, tail_stop, types_end};
+ghost use Rattle.uefi_node_reader.specs.LenientFaults.{call_name, call_stop, close_stop, cut_fault, ending_end, exact_end, expected_field, expected_word, file_fault, form_end, form_stop, forms_stop, further, literal_end, named_stop, open_fault, or_stop, past, path_stop, piece_end, pieces_end, place_at, rest_end, stop_at, stop_fault, stop_of, tail_stop, types_end};
 ghost use Rattle.uefi_node_reader.specs.LenientNodes.{cut_call};
 ghost use Rattle.uefi_node_reader.specs.Numerals.{number_read};
 ghost use Rattle.uefi_node_reader.specs.TableReading.{is_filled, is_read, is_sound, tail_read};
@@ -31,7 +31,7 @@ use uefi_node_table::table::{GROUPS, group};
 use uefi_node_table::words::Words;
 
 /// A text that stops here, where this was expected.
-fn stop_at(text: &[u8], expected: Expected) -> Stop
+pub(crate) fn stop_at(text: &[u8], expected: Expected) -> Stop
     ensures { result ≡ stop_at text.now expected }
 {
     Stop {
@@ -349,8 +349,7 @@ fn path_stop(text: &[u8]) -> Option<Stop>
 
 /// Where a tidied call stops telling which node it is, or else where it stops being that of any form.
 pub(crate) fn call_stop(text: &[u8]) -> Option<Stop>
-    ensures { result ≡ option_or (ambiguous_stop text.now)
-        (further (forms_stop forms text.now) (path_stop text.now)) }
+    ensures { result ≡ call_stop text.now }
 {
     match ambiguous_stop(text) {
         Some(stop) => Some(stop),
@@ -375,20 +374,12 @@ pub(crate) fn place_at(count: usize, text: &[u8]) -> usize
     text.len()
 }
 
-/// The fault of a text that begins with a call other than `File(..)`.
-pub(crate) fn call_fault(scratch: &mut [u8], text: &[u8]) -> NodeFault
-    requires { length text.now < length scratch.old }
-    ensures fault { result ≡ cut_fault text.now (cut_call text.now) }
+/// The fault of a text, by how many bytes its tidied call has and where reading it stops.
+fn stop_fault(text: &[u8], len: usize, stop: Option<Stop>) -> NodeFault
+    ensures fault { result ≡ stop_fault text.now len stop }
     ensures within { result.byte ≤ length text.now }
 {
-    let Some((front, _)) = cut_call(text) else {
-        return NodeFault {
-            byte: text.len(),
-            expected: Expected::Byte(b')'),
-        };
-    };
-    let len = tidy(scratch, front);
-    match call_stop(&scratch[..len]) {
+    match stop {
         Some(stop) => NodeFault {
             byte: place_at(len.saturating_sub(stop.left), text),
             expected: stop.expected,
@@ -398,6 +389,34 @@ pub(crate) fn call_fault(scratch: &mut [u8], text: &[u8]) -> NodeFault
             expected: Expected::Node,
         },
     }
+}
+
+/// The same of a call without a `)`, of which nothing else is wrong if reading it stops after that.
+fn open_fault(text: &[u8], len: usize, stop: Option<Stop>) -> NodeFault
+    ensures fault { result ≡ open_fault text.now len stop }
+    ensures within { result.byte ≤ length text.now }
+{
+    match stop {
+        Some(Stop { left: 0, .. }) => NodeFault {
+            byte: text.len(),
+            expected: Expected::Byte(b')'),
+        },
+        _ => stop_fault(text, len, stop),
+    }
+}
+
+/// The fault of a text that begins with a call other than `File(..)`.
+pub(crate) fn call_fault(scratch: &mut [u8], text: &[u8]) -> NodeFault
+    requires { length text.now < length scratch.old }
+    ensures fault { result ≡ cut_fault text.now (cut_call text.now) }
+    ensures within { result.byte ≤ length text.now }
+{
+    let Some((front, _)) = cut_call(text) else {
+        let len = tidy(scratch, text);
+        return open_fault(text, len, call_stop(&scratch[..len]));
+    };
+    let len = tidy(scratch, front);
+    stop_fault(text, len, call_stop(&scratch[..len]))
 }
 
 /// The fault of a text that ends with a file's name in `File(..)`, and what follows that.

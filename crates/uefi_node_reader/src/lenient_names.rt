@@ -69,17 +69,18 @@ fn is_bare(name: &[u8]) -> bool
     name.contains(&b'\\') && !(name.contains(&b')') || name.contains(&b':'))
 }
 
-/// Reads the node with the name that a text begins with, if that may stand without its first backslash.
-/// Returns what stands after it, too.
+/// Reads the node with the name that a text begins with, if that may stand without its first backslash: not
+/// where it is rooted. Returns what stands after it, too.
 pub(crate) fn bare<'s, 't>(
+    is_rooted: bool,
     scratch: &'s mut [u8],
     text: &'t [u8],
 ) -> Option<(TextNode<'s>, &'t [u8])>
     requires { length text.now < length scratch.old }
-    ensures { option_map (λ x. (text_node x.0, x.1.now)) result ≡ bare_read text.now }
+    ensures { option_map (λ x. (text_node x.0, x.1.now)) result ≡ bare_read is_rooted text.now }
 {
     let (front, rest) = text.split_at(name_len(text));
-    if !is_bare(front) {
+    if is_rooted || !is_bare(front) {
         return None;
     }
     let node = whole_name(scratch, front)?;

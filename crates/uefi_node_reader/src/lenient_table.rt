@@ -7,7 +7,7 @@ ghost use Rattle.std.specs.Prelude.{◌≡◌, ◌<◌, ◌≤◌, ◌==◌, IfS
 ghost use Rattle.uefi_node_table.specs.Rows.{as_form};
 ghost use Rattle.uefi_node_table.specs.Table.{forms};
 ghost use Rattle.uefi_node_reader.specs.LenientNodes.{call_read, cut_call, form_set, forms_set, is_blank, is_textless, path_set, tidied, tidied_byte, told_in};
-ghost use Rattle.uefi_node_reader.specs.TableReading.{is_filled, is_sound};
+ghost use Rattle.uefi_node_reader.specs.TableReading.{form_read, is_filled, is_sound};
 ghost use Rattle.uefi_node_reader.specs.TextNodes.{fitting};
 ghost use Rattle.uefi_node_reader.specs.TextNodeViews.{data_of, text_node};
 
@@ -15,7 +15,7 @@ use crate::ambiguous::ambiguous_stop;
 use crate::counted_bytes::push;
 use crate::lenient_fields::{after_literal, set_pieces};
 use crate::plain_nodes::plain_types;
-use crate::table_reader::{finish_row, fixed_part};
+use crate::table_reader::{finish_row, fixed_part, read_row};
 use crate::telling::tells;
 use crate::text_node::TextNode;
 use uefi_node_table::rows::{Mode, Row, Tail};
@@ -109,13 +109,14 @@ fn set_row<'a>(row: &Row, text: &'a [u8]) -> Option<(TextNode<'a>, &'a [u8])>
     finish_row(row, fixed, rest)
 }
 
-/// Reads a node of a form from all of its tidied text, if its own text tells it.
-fn set_told<'a>(row: &Row, text: &'a [u8]) -> Option<TextNode<'a>>
-    requires sound { IsTrue (is_sound (as_form row.now)) }
-    requires filled { IsTrue (is_filled (as_form row.now)) }
-    ensures { option_map text_node result ≡ told_in (as_form row.now) (form_set (as_form row.now) text.now) }
+/// The node that was read in a form, if nothing stands after it, and its own text tells it.
+fn told<'a>(row: &Row, read: Option<(TextNode<'a>, &'a [u8])>) -> Option<TextNode<'a>>
+    requires types { IfSome read (λ x.
+        (x.0.device_type ≡ row.now.kind) × (x.0.sub_type ≡ row.now.sub_kind)) }
+    ensures { option_map text_node result
+        ≡ told_in (as_form row.now) (option_map (λ x. (data_of x.0, x.1.now)) read.entry) }
 {
-    let (node, rest) = set_row(row, text)?;
+    let (node, rest) = read?;
     if !rest.is_empty() {
         return None;
     }
@@ -123,6 +124,24 @@ fn set_told<'a>(row: &Row, text: &'a [u8]) -> Option<TextNode<'a>>
         return None;
     }
     Some(node)
+}
+
+/// Reads a node of a form from all of its tidied text, if its own text tells it.
+fn set_told<'a>(row: &Row, text: &'a [u8]) -> Option<TextNode<'a>>
+    requires sound { IsTrue (is_sound (as_form row.now)) }
+    requires filled { IsTrue (is_filled (as_form row.now)) }
+    ensures { option_map text_node result ≡ told_in (as_form row.now) (form_set (as_form row.now) text.now) }
+{
+    told(row, set_row(row, text))
+}
+
+/// The same exactly in the form.
+pub(crate) fn exact_told<'a>(row: &Row, text: &'a [u8]) -> Option<TextNode<'a>>
+    requires sound { IsTrue (is_sound (as_form row.now)) }
+    requires filled { IsTrue (is_filled (as_form row.now)) }
+    ensures { option_map text_node result ≡ told_in (as_form row.now) (form_read (as_form row.now) text.now) }
+{
+    told(row, read_row(row, text))
 }
 
 /// Reads the node of the first of these forms that a tidied text has.

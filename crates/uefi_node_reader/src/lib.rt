@@ -15,6 +15,7 @@ mod lenient_faults;
 mod lenient_fields;
 mod lenient_names;
 mod lenient_table;
+mod libefivar;
 mod name_data;
 mod named_files;
 mod node_tails;
@@ -22,6 +23,8 @@ mod node_tails;
 pub mod nodes;
 mod numerals;
 mod plain_nodes;
+#[doc(hidden)]
+pub mod styles;
 mod table_reader;
 mod telling;
 #[doc(hidden)]

@@ -3,10 +3,11 @@
 
 ghost use Rattle.std.specs.Prelude.{◌≡◌, ◌<◌, ◌≤◌, codes, length};
 ghost use Rattle.std.specs.Option.{option_map};
+ghost use Rattle.uefi_node_reader.specs.Alike.{CallsAlike, ZerosAlike, ZerosAlikeAfterBase};
 ghost use Rattle.uefi_node_reader.specs.Laws.{NodeAgain, NodeFits, NodeStarts, NodeTakes, NodeTextOnce};
-ghost use Rattle.uefi_node_reader.specs.LenientFaults.{FaultWithin, begun, call_fault, lenient_fault};
+ghost use Rattle.uefi_node_reader.specs.LenientFaults.{begun, call_fault, lenient_fault};
 ghost use Rattle.uefi_node_reader.specs.LenientFields.{after_literal};
-ghost use Rattle.uefi_node_reader.specs.LenientNodes.{LenientAgain, LenientEnds, LenientStarts, LenientTakes, ended, file_or_call, lenient_read};
+ghost use Rattle.uefi_node_reader.specs.LenientNodes.{ended, file_or_call, lenient_read};
 ghost use Rattle.uefi_node_reader.specs.NamedFiles.{is_after_node, node_read};
 ghost use Rattle.uefi_node_reader.specs.TextNodeViews.{text_node};
 
@@ -45,7 +46,9 @@ fn is_after_node(text: &[u8]) -> bool
 }
 
 /// What was read, where it ends as a node may end.
-fn ended<'s, 't>(read: Option<(TextNode<'s>, &'t [u8])>) -> Option<(TextNode<'s>, &'t [u8])>
+pub(crate) fn ended<'s, 't>(
+    read: Option<(TextNode<'s>, &'t [u8])>,
+) -> Option<(TextNode<'s>, &'t [u8])>
     ensures { option_map (λ x. (text_node x.0, x.1.now)) result
         ≡ ended (option_map (λ x. (text_node x.0, x.1.now)) read.entry) }
 {
@@ -75,17 +78,19 @@ fn called<'s, 't>(scratch: &'s mut [u8], text: &'t [u8]) -> Option<(TextNode<'s>
 /// either case and without its blanks. A number stands in hexadecimal after `0x`, else in decimal, and may
 /// begin with zeros. Numbers at the end may be left out: they are then 0, or the default of their kind (UEFI
 /// Specification 2.10, section 10.6.1). The name of a file may stand in `File(..)`, or without its first
-/// backslash where it has no `(`. Takes no memory but the buffer, for a copy of the call or of the name.
+/// backslash where it has no `(`, unless names are rooted there. Takes no memory but the buffer, for a copy of the
+/// call or of the name.
 ///
 /// Left to [`read_node`], and so read only as printed, are calls that hold texts (`Uri`, `UsbWwid`, `AcpiEx`,
 /// `iSCSI`, `Wi-Fi`, `BBS`). The numbers of `AcpiAdr` after the first are as printed but for their case.
 #[tactic(auto, unfolding(crate::specs::LenientNodes::lenient_read))]
 pub fn read_lenient_node<'s, 't: 's>(
+    is_rooted: bool,
     scratch: &'s mut [u8],
     text: &'t [u8],
 ) -> Option<(TextNode<'s>, &'t [u8])>
     requires { length text.now < length scratch.old }
-    ensures { option_map (λ x. (text_node x.0, x.1.now)) result ≡ lenient_read text.now }
+    ensures { option_map (λ x. (text_node x.0, x.1.now)) result ≡ lenient_read is_rooted text.now }
 {
     if let Some(read) = ended(read_node(text)) {
         return Some(read);
@@ -93,13 +98,13 @@ pub fn read_lenient_node<'s, 't: 's>(
     if begins_call(text) {
         return ended(called(scratch, text));
     }
-    bare(scratch, text)
+    bare(is_rooted, scratch, text)
 }
 
 /// What stands after the node that a text begins with, whatever that is. The buffer then holds anything.
-fn begun<'t>(scratch: &mut [u8], text: &'t [u8]) -> Option<&'t [u8]>
+fn begun<'t>(is_rooted: bool, scratch: &mut [u8], text: &'t [u8]) -> Option<&'t [u8]>
     requires { length text.now < length scratch.old }
-    ensures { option_map (λ x. x.now) result ≡ begun text.now }
+    ensures { option_map (λ x. x.now) result ≡ begun is_rooted text.now }
 {
     if let Some((_, rest)) = read_node(text) {
         return Some(rest);
@@ -108,7 +113,7 @@ fn begun<'t>(scratch: &mut [u8], text: &'t [u8]) -> Option<&'t [u8]>
         let (_, rest) = called(scratch, text)?;
         return Some(rest);
     }
-    let (_, rest) = bare(scratch, text)?;
+    let (_, rest) = bare(is_rooted, scratch, text)?;
     Some(rest)
 }
 
@@ -132,12 +137,12 @@ fn fault_in_call(scratch: &mut [u8], text: &[u8]) -> NodeFault
 /// first of a field that can't be read. If the text begins with a whole node, it is the first byte after
 /// that. Takes no memory but the buffer.
 #[tactic(auto, unfolding(crate::specs::LenientFaults::lenient_fault))]
-pub fn lenient_fault(scratch: &mut [u8], text: &[u8]) -> NodeFault
+pub fn lenient_fault(is_rooted: bool, scratch: &mut [u8], text: &[u8]) -> NodeFault
     requires { length text.now < length scratch.old }
-    ensures fault { result ≡ lenient_fault text.now }
+    ensures fault { result ≡ lenient_fault is_rooted text.now }
     ensures within { result.byte ≤ length text.now }
 {
-    if let Some(rest) = begun(scratch, text) {
+    if let Some(rest) = begun(is_rooted, scratch, text) {
         return NodeFault {
             byte: text.len().saturating_sub(rest.len()),
             expected: Expected::End,
@@ -170,17 +175,10 @@ pub fn node_text_once()
     ensures { NodeTextOnce }
 {}
 
-/// What is read leniently is told, and what stands after it is the rest of the text, which is empty or begins
-/// with a slash or a comma; the text begins with neither. What is read before one of these is read leniently
-/// as the same node.
-pub fn nodes_are_read_leniently()
-    ensures takes { LenientTakes }
-    ensures ends { LenientEnds }
-    ensures starts { LenientStarts }
-    ensures again { LenientAgain }
-{}
-
-/// The wrong byte of a text lies in it, or at its end.
-pub fn faults_lie_within()
-    ensures { FaultWithin }
+/// Calls that differ in case and in blanks alone are read leniently as the same, if neither is read exactly. A zero
+/// before the digits of a number changes nothing.
+pub fn texts_alike()
+    ensures calls { CallsAlike }
+    ensures zeros { ZerosAlike }
+    ensures zeros_after_base { ZerosAlikeAfterBase }
 {}

@@ -68,7 +68,7 @@ pub(crate) fn finish_row<'a>(
 }
 
 /// Reads a node of a form. Returns what stands after it, too.
-fn read_row<'a>(row: &Row, text: &'a [u8]) -> Option<(TextNode<'a>, &'a [u8])>
+pub(crate) fn read_row<'a>(row: &Row, text: &'a [u8]) -> Option<(TextNode<'a>, &'a [u8])>
     requires sound { IsTrue (is_sound (as_form row.now)) }
     requires filled { IsTrue (is_filled (as_form row.now)) }
     ensures types { IfSome result (λ x.

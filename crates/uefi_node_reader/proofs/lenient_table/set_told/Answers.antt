@@ -1,57 +1,12 @@
-use Rattle.std.proofs.Common.{◌≡◌, Bool, true, false, cond, eqb, ◌&&◌, List, [], ◌∷◌, ℕ, length, sym, ap, ◌∙◌, arith}
-use Rattle.std.specs.Prelude.{None, Option, Some}
-use Rattle.std.proofs.lemmas.Bool.{ne_eqb}
+use Rattle.std.proofs.Common.{List, ℕ, ap, ◌∙◌}
+use Rattle.std.specs.Prelude.{Option}
 use Rattle.uefi_node_table.specs.Rows.{Form, as_form}
-use Rattle.uefi_device_nodes.specs.Nodes.{Node, node_with}
 use Rattle.uefi_node_reader.specs.LenientNodes.{form_set, told_in}
-use Rattle.uefi_node_reader.specs.TableReading.{is_empty}
-use Rattle.uefi_node_reader.specs.Telling.{tells}
-use Rattle.uefi_node_reader.specs.TextNodeViews.{data_of, text_node}
 use Rattle.uefi_node_reader.proofs.LenientLaws.{told_in-fitting}
 use Rattle.uefi_node_reader.proofs.lenient_table.set_told.Goals as goal
 
-pub returns-in_err-node : goal.returns-in_err-node
-returns-in_err-node c =
-    let form : Form = as_form c.args.row.now in
-    rw c.from_residual.ensures (ap (λ (o : Option (List ℕ × List ℕ)). told_in form o) (rw c.in_err-node.was at c.set_row.ensures.data)
-    ∙ told_in-fitting form (form_set form c.args.text.now))
-
--- the test for an empty text
-empty : (rest : List ℕ) (found : Bool) → found ≡ eqb (length rest) 0 → found ≡ is_empty rest
-empty [] found e = e
-empty (c ∷ cs) found e = e ∙ ne_eqb (length (c ∷ cs)) 0 (λ h. absurd (omega arith))
-
-pub returns-then-not-is_empty : goal.returns-then-not-is_empty
-returns-then-not-is_empty c =
-    let form : Form = as_form c.args.row.now in
-    let node : Node = node_with form.kind form.sub_kind (data_of c.in_ok-node.node) in
-    (λ i. cond ((sym c.if-not-is_empty.true ∙ empty c.in_ok-node.rest.now c.is_empty.result c.is_empty.ensures) i && tells form node) (Some node) None)
-    ∙ ap (λ (o : Option (List ℕ × List ℕ)). told_in form o) (rw c.in_ok-node.was at c.set_row.ensures.data)
-    ∙ told_in-fitting form (form_set form c.args.text.now)
-
-pub returns-then-not-tells : goal.returns-then-not-tells
-unfolding text_node
-returns-then-not-tells c =
-    let form : Form = as_form c.args.row.now in
-    let read = c.in_ok-node.node in
-    let rest : List ℕ = c.in_ok-node.rest.now in
-    let node : Node = node_with form.kind form.sub_kind (data_of read) in
-    let types = (rw c.in_ok-node.was at c.set_row.ensures.types) in
-    let not_told : false ≡ tells form node = sym c.if-not-tells.true ∙ c.tells.ensures ∙ (λ i. tells form (node_with (types.0 i) (types.1 i) (data_of read))) in
-    (λ i. cond ((sym c.if-not-is_empty.false ∙ empty rest c.is_empty.result c.is_empty.ensures) i && not_told i) (Some node) None)
-    ∙ ap (λ (o : Option (List ℕ × List ℕ)). told_in form o) (rw c.in_ok-node.was at c.set_row.ensures.data)
-    ∙ told_in-fitting form (form_set form c.args.text.now)
-
 pub returns : goal.returns
-unfolding text_node
 returns c =
     let form : Form = as_form c.args.row.now in
-    let read = c.in_ok-node.node in
-    let rest : List ℕ = c.in_ok-node.rest.now in
-    let node : Node = node_with form.kind form.sub_kind (data_of read) in
-    let types = (rw c.in_ok-node.was at c.set_row.ensures.types) in
-    let is_told : true ≡ tells form node = sym c.if-not-tells.false ∙ c.tells.ensures ∙ (λ i. tells form (node_with (types.0 i) (types.1 i) (data_of read))) in
-    (λ i. Some (node_with (types.0 i) (types.1 i) (data_of read)))
-    ∙ (λ i. cond ((sym c.if-not-is_empty.false ∙ empty rest c.is_empty.result c.is_empty.ensures) i && is_told i) (Some node) None)
-    ∙ ap (λ (o : Option (List ℕ × List ℕ)). told_in form o) (rw c.in_ok-node.was at c.set_row.ensures.data)
+    c.told.ensures ∙ ap (λ (o : Option (List ℕ × List ℕ)). told_in form o) c.set_row.ensures.data
     ∙ told_in-fitting form (form_set form c.args.text.now)

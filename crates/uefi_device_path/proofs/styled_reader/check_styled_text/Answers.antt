@@ -1,0 +1,60 @@
+use Rattle.std.proofs.Common.{arith}
+use Rattle.std.proofs.lemmas.Bool.Decides.{nat_tests}
+use Rattle.uefi_node_reader.specs.TextNodeViews.{text_node}
+use Rattle.uefi_device_path.proofs.StyledReading.{all_read, counts_all, counts_comma, counts_first, counts_node, place_within, stopped}
+use Rattle.uefi_device_path.proofs.styled_reader.check_styled_text.Goals as goal
+
+pub nodes-init : goal.nodes-init
+nodes-init c = counts_first c.args.style c.args.text.now
+
+pub nodes-preserved-in-Some : goal.nodes-preserved-in-Some
+nodes-preserved-in-Some c =
+    rw c.saturating_add-len.ensures (counts_comma c.args.style c.args.text.now c.nodes.at_start c.nodes.rest.now c.in-Some.after.now c.nodes.len
+    c.nodes.invariant c.in-Some.ensures).0
+
+pub fault_at-requires-clause-within : goal.fault_at-requires-clause-within
+fault_at-requires-clause-within c =
+    place_within c.args.style c.args.text.now c.styled_nodes_are_read.ensures.ends c.nodes.invariant.nodes c.nodes.at_start c.nodes.rest.now
+    c.node_start-place.result.now c.nodes.invariant.on c.node_start-place.ensures
+
+pub returns-in_default-clause-refusal : goal.returns-in_default-clause-refusal
+returns-in_default-clause-refusal c =
+    stopped c.args.style c.args.text.now c.styled_nodes_are_read.ensures.ends c.nodes.invariant.nodes c.nodes.at_start c.nodes.rest.now
+    c.node_start-place.result.now c.nodes.invariant.on c.in-None.ensures c.node_start-place.ensures c.in_default.ensures
+    c.fault_at.result c.fault_at.ensures.node c.fault_at.ensures.byte c.fault_at.ensures.expected
+
+pub nodes-preserved : goal.nodes-preserved
+nodes-preserved c =
+    rw c.saturating_add-len-in-None.ensures (rw c.saturating_add.ensures (rw c.data_len.ensures.count
+    (counts_node c.args.style c.args.text.now c.styled_nodes_are_read.ensures.ends c.nodes.at_start c.nodes.rest.now c.node_start-place.result.now
+    c.in-Some-first_styled_node.after.now (text_node c.in-Some-first_styled_node.node.node) c.nodes.len c.nodes.invariant c.in-None.ensures
+    c.node_start-place.ensures c.in-Some-first_styled_node.ensures).0))
+
+pub nodes-smaller : goal.nodes-smaller
+nodes-smaller c =
+    (counts_node c.args.style c.args.text.now c.styled_nodes_are_read.ensures.ends c.nodes.at_start c.nodes.rest.now c.node_start-place.result.now
+    c.in-Some-first_styled_node.after.now (text_node c.in-Some-first_styled_node.node.node) c.nodes.len c.nodes.invariant c.in-None.ensures
+    c.node_start-place.ensures c.in-Some-first_styled_node.ensures).1
+
+pub returns-clause-path : goal.returns-clause-path
+returns-clause-path c = (
+  c.nodes.invariant.nodes,
+  all_read c.args.style c.args.text.now c.nodes.invariant.nodes c.nodes.at_start c.nodes.rest.now c.nodes.invariant.on (grind (arith, nat_tests)),
+)
+
+pub returns-clause-len : goal.returns-clause-len
+returns-clause-len c =
+    counts_all c.args.style c.args.text.now c.styled_nodes_are_read.ensures.starts c.nodes.at_start c.nodes.rest.now c.nodes.len
+    c.nodes.invariant (grind (arith, nat_tests))
+
+pub fault_at-requires-clause-room : goal.fault_at-requires-clause-room
+fault_at-requires-clause-room c =
+    let within = place_within c.args.style c.args.text.now c.styled_nodes_are_read.ensures.ends c.nodes.invariant.nodes c.nodes.at_start c.nodes.rest.now
+    c.node_start-place.result.now c.nodes.invariant.on c.node_start-place.ensures in
+    omega (arith, within, c.requires, c.nodes.auto.scratch)
+
+pub first_styled_node-requires : goal.first_styled_node-requires
+first_styled_node-requires c =
+    let within = place_within c.args.style c.args.text.now c.styled_nodes_are_read.ensures.ends c.nodes.invariant.nodes c.nodes.at_start c.nodes.rest.now
+    c.node_start-place.result.now c.nodes.invariant.on c.node_start-place.ensures in
+    omega (arith, within, c.requires, c.nodes.auto.scratch)

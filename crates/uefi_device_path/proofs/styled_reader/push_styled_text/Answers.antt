@@ -1,0 +1,56 @@
+use Rattle.std.proofs.Common.{true, false, List, sym, subst, arith}
+use Rattle.std.proofs.lemmas.Bool.Decides.{nat_tests}
+use Rattle.uefi_device_nodes.specs.Nodes.{Node}
+use Rattle.uefi_node_reader.specs.TextNodeViews.{text_node}
+use Rattle.uefi_device_path.specs.StyledReading.{follows_comma}
+use Rattle.uefi_device_path.specs.StyledReading.{ReadsTo}
+use Rattle.uefi_device_path.specs.StyledReading.ReadsTo.{Begins}
+use Rattle.uefi_device_path.proofs.StyledReading.{all_read, over_comma, over_node, never_stops, place_within}
+use Rattle.uefi_device_path.proofs.styled_reader.push_styled_text.Goals as goal
+
+pub nodes-init : goal.nodes-init
+nodes-init g c =
+    let text = c.args.text.now in
+    subst (λ (x : List Node). ReadsTo c.args.style text x true text) (sym c.requires.empty) Begins
+
+pub nodes-preserved-in-Some : goal.nodes-preserved-in-Some
+nodes-preserved-in-Some g c =
+    subst (λ (x : List Node). ReadsTo c.args.style c.args.text.now x true c.in-Some.after.now) (sym c.in_ok-push_end-in-Some.ensures.ok)
+    (over_comma c.args.style c.args.text.now c.nodes.path c.nodes.at_start c.nodes.rest.now c.in-Some.after.now c.nodes.invariant c.in-Some.ensures).0
+
+pub first_styled_node-requires : goal.first_styled_node-requires
+first_styled_node-requires g c =
+    let within = place_within c.args.style c.args.text.now c.styled_nodes_are_read.ensures.ends c.nodes.path c.nodes.at_start c.nodes.rest.now
+    c.node_start-place.result.now c.nodes.invariant c.node_start-place.ensures in
+    omega (arith, within, c.requires.room, c.nodes.auto.scratch)
+
+pub unreachable-requires : goal.unreachable-requires
+unreachable-requires g c =
+    let laws = c.styled_nodes_are_read.ensures in
+    let (nodes, read) = c.requires.readable in
+    never_stops c.args.style c.args.text.now laws.starts laws.ends nodes c.nodes.path read c.nodes.at_start c.nodes.rest.now
+    c.node_start-place.result.now c.nodes.invariant c.in-None.ensures c.node_start-place.ensures c.in_default.ensures
+
+pub nodes-preserved : goal.nodes-preserved
+nodes-preserved g c =
+    subst (λ (x : List Node). ReadsTo c.args.style c.args.text.now x false c.in-Some-first_styled_node.after.now)
+    (sym c.in_ok-push_read-in-None.ensures.ok)
+    (over_node c.args.style c.args.text.now c.styled_nodes_are_read.ensures.ends c.nodes.path c.nodes.at_start c.nodes.rest.now
+    c.node_start-place.result.now c.in-Some-first_styled_node.after.now (text_node c.in-Some-first_styled_node.node.node)
+    c.nodes.invariant c.in-None.ensures c.node_start-place.ensures c.in-Some-first_styled_node.ensures).0
+
+pub nodes-smaller : goal.nodes-smaller
+nodes-smaller g c =
+    (over_node c.args.style c.args.text.now c.styled_nodes_are_read.ensures.ends c.nodes.path c.nodes.at_start c.nodes.rest.now
+    c.node_start-place.result.now c.in-Some-first_styled_node.after.now (text_node c.in-Some-first_styled_node.node.node)
+    c.nodes.invariant c.in-None.ensures c.node_start-place.ensures c.in-Some-first_styled_node.ensures).1
+
+pub returns-clause-ok : goal.returns-clause-ok
+returns-clause-ok g c =
+    all_read c.args.style c.args.text.now c.nodes.path c.nodes.at_start c.nodes.rest.now c.nodes.invariant (grind (arith, nat_tests))
+
+pub push_read-requires : goal.push_read-requires
+push_read-requires g c =
+    c.styled_nodes_are_read.ensures.takes c.args.style (follows_comma c.args.text.now c.node_start-place.result.now) c.node_start-place.result.now
+    (text_node c.in-Some-first_styled_node.node.node) c.in-Some-first_styled_node.after.now
+    c.in-Some-first_styled_node.ensures

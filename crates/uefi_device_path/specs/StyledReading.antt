@@ -1,0 +1,84 @@
+-- Device paths read from texts in a style.
+use Rattle.std.specs.Prelude.{◌≡◌, ℕ, ◌+◌, ◌-◌, Bool, true, false, nat_lt, ◌==◌, ◌&&◌, if◌then◌else◌, List, [], ◌∷◌, ◌++◌, length, slice_index, codes, Option, Some, None}
+use Rattle.uefi_device_nodes.specs.Nodes.{Node}
+use Rattle.uefi_device_path.specs.Building.{path_length}
+use Rattle.uefi_device_path.specs.PathReading.{end_instance, is_after_instance}
+use Rattle.uefi_device_path.specs.Faults.{RefusedFor}
+use Rattle.uefi_device_path.specs.declared.lenient_errors.LenientTextError.{LenientTextError}
+use Rattle.uefi_device_path.specs.declared.lenient_errors.LenientTextError.TheVariants.{NoNode, OutOfMemory}
+use Rattle.uefi_device_path.specs.declared.lenient_errors.PushLenientTextError.{PushLenientTextError}
+use Rattle.uefi_device_path.specs.declared.lenient_errors.PushLenientTextError.TheVariants as push
+use Rattle.uefi_device_path.specs.declared.lenient_errors.TextFault.{TextFault}
+use Rattle.uefi_node_reader.specs.declared.faults.NodeFault.{NodeFault}
+use Rattle.uefi_node_reader.specs.Styles.{styled_fault, styled_read}
+use Rattle.uefi_node_reader.specs.declared.styles.TextStyle.{TextStyle}
+
+-- the test for a place after a comma: a file's name begins with a backslash there
+abbrev pub follows_comma : List ℕ → List ℕ → Bool
+follows_comma text place = nat_lt (length place) (length text)
+    && (slice_index text (length text - length place - 1) == 44)
+
+-- the node that is read at a place of a text, and what stands after it
+abbrev pub place_read : TextStyle → List ℕ → List ℕ → Option (Node × List ℕ)
+place_read style text place = styled_read style (follows_comma text place) place
+
+-- the fault of a place of a text where none is read
+abbrev pub place_fault : TextStyle → List ℕ → List ℕ → NodeFault
+place_fault style text place = styled_fault style (follows_comma text place) place
+
+-- the nodes of a text up to what is left of it, and whether an instance begins there
+pub data ReadsTo (style : TextStyle) (text : List ℕ) : List Node → Bool → List ℕ → Type 0 where
+  -- at its beginning
+  Begins : ReadsTo style text [] true text
+  -- a comma ends an instance
+  Comma : (nodes : List Node) (at_start : Bool) (rest : List ℕ) → ReadsTo style text nodes at_start (44 ∷ rest)
+      → ReadsTo style text (nodes ++ end_instance ∷ []) true rest
+  -- one more node, after a slash where it is not the first of its instance
+  OneMore : (nodes : List Node) (at_start : Bool) (node : Node) (place rest : List ℕ)
+      → ReadsTo style text nodes at_start ((if at_start then [] else codes "/") ++ place)
+      → place_read style text place ≡ Some (node, rest) → ReadsTo style text (nodes ++ node ∷ []) false rest
+
+-- a text is read as nodes to its end
+abbrev pub IsReadAs : TextStyle → List ℕ → List Node → Type 0
+IsReadAs style text nodes = (at_start : Bool) × ReadsTo style text nodes at_start []
+
+-- a text is read as some path
+abbrev pub IsStyledText : TextStyle → List ℕ → Type 0
+IsStyledText style text = (nodes : List Node) × IsReadAs style text nodes
+
+-- after some nodes no node is read, and no instance ends, where this fault says that the next begins: the
+-- fault of what is left of the text
+pub record ReadingStops (style : TextStyle) (text : List ℕ) (fault : TextFault) (nodes : List Node) (at_start : Bool)
+    (rest : List ℕ) : Type 0 where
+  pub reads : ReadsTo style text nodes at_start ((if at_start then [] else codes "/") ++ rest)
+  pub not_empty : at_start ≡ true → is_after_instance rest ≡ false
+  pub none : place_read style text rest ≡ None
+  pub offset : fault.node ≡ length text - length rest
+  pub byte : fault.byte ≡ fault.node + (place_fault style text rest).byte
+  pub expected : fault.expected ≡ (place_fault style text rest).expected
+
+-- the fault of a text that is not read
+abbrev pub ReadingStopsAt : TextStyle → List ℕ → TextFault → Type 0
+ReadingStopsAt style text fault = (nodes : List Node) × (at_start : Bool) × (rest : List ℕ)
+    × ReadingStops style text fault nodes at_start rest
+
+-- why a text is not read: memory was refused, or its fault
+abbrev pub IsLenientError : TextStyle → List ℕ → LenientTextError → Type 0
+IsLenientError style text OutOfMemory = Unit {0}
+IsLenientError style text (NoNode fault) = ReadingStopsAt style text fault
+
+-- why the nodes that a text is read as are not added to the path that a buffer begins with: there is no path,
+-- the second buffer is not longer than the text, the text has this fault, or there is no room for them
+abbrev pub IsPushLenientError : TextStyle → List ℕ → List ℕ → PushLenientTextError → Type 0
+IsPushLenientError style buffer text (push.Path error) = RefusedFor buffer error
+IsPushLenientError style buffer text (push.ScratchTooSmall needed) = needed ≡ length text + 1
+IsPushLenientError style buffer text (push.NoNode fault) = ReadingStopsAt style text fault
+IsPushLenientError style buffer text (push.BufferTooSmall needed) = IsStyledText style text
+
+-- why the nodes that a text is read as are not added to a path of these nodes in a buffer of `room` bytes, or
+-- none
+abbrev pub lenient_refusal : List Node → List Node → ℕ → Option PushLenientTextError
+lenient_refusal nodes read room =
+    if nat_lt room (path_length (nodes ++ read))
+    then Some (push.BufferTooSmall (path_length (nodes ++ read)))
+    else None

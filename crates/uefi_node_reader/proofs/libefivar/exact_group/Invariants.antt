@@ -1,0 +1,8 @@
+use Rattle.std.proofs.Common.{◌≡◌, drop, map}
+use Rattle.uefi_node_table.specs.Rows.{as_form}
+use Rattle.uefi_node_reader.specs.Libefivar.{forms_exact}
+use Rattle.uefi_node_reader.proofs.libefivar.exact_group.Given as goal
+
+abbrev pub invariant-loop-row : goal.invariant-loop-row
+invariant-loop-row l =
+    forms_exact (map as_form (drop l.row-index l.rows)) l.text ≡ forms_exact (map as_form l.rows) l.text

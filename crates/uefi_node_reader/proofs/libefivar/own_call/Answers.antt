@@ -1,0 +1,12 @@
+use Rattle.std.proofs.Common.{ap, ◌∙◌, List}
+use Rattle.std.specs.List.{list_all}
+use Rattle.uefi_node_table.specs.Rows.{Form}
+use Rattle.uefi_node_reader.specs.TableReading.{is_filled, is_sound}
+use Rattle.uefi_node_reader.proofs.StyledLaws.{own_filled, own_sound}
+use Rattle.uefi_node_reader.proofs.libefivar.own_call.Goals as goal
+
+pub exact_group-requires-clause-sound : goal.exact_group-requires-clause-sound
+exact_group-requires-clause-sound c = ap (λ (l : List Form). list_all is_sound l) c.own_forms.ensures ∙ own_sound
+
+pub exact_group-requires-clause-filled : goal.exact_group-requires-clause-filled
+exact_group-requires-clause-filled c = ap (λ (l : List Form). list_all is_filled l) c.own_forms.ensures ∙ own_filled

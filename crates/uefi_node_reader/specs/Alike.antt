@@ -1,0 +1,30 @@
+-- Texts that are read alike.
+use Rattle.std.specs.Prelude.{◌≡◌, ◌≤◌, ℕ, Bool, true, false, List, ◌∷◌, ◌++◌, codes, Some, None}
+use Rattle.uefi_node_reader.specs.LenientFields.{after_literal, any_number, begins_base}
+use Rattle.uefi_node_reader.specs.LenientNodes.{begins_call, cut_call, ended, lenient_read, tidied}
+use Rattle.uefi_node_reader.specs.NamedFiles.{node_read}
+use Rattle.uefi_node_reader.specs.Numerals.{has_digit}
+
+-- a text begins with a call, of which this stands before its `)` and this after it: one that names no file, and
+-- is not read exactly
+pub record IsOtherCall (text front rest : List ℕ) : Type 0 where
+  pub begins : begins_call text ≡ true
+  pub cut : cut_call text ≡ Some (front, rest)
+  pub no_file : after_literal (codes "File(") text ≡ None
+  pub inexact : ended (node_read text) ≡ None
+
+-- two such calls that differ in case and in blanks alone are read as the same
+abbrev pub CallsAlike : Type 0
+CallsAlike = (is_rooted : Bool) (text other front back rest : List ℕ) → IsOtherCall text front rest
+    → IsOtherCall other back rest → tidied front ≡ tidied back
+    → lenient_read is_rooted text ≡ lenient_read is_rooted other
+
+-- a zero before a number of decimal digits changes nothing
+abbrev pub ZerosAlike : Type 0
+ZerosAlike = (limit : ℕ) (text : List ℕ) → 1 ≤ limit → has_digit 10 text ≡ true → begins_base text ≡ false
+    → any_number limit (48 ∷ text) ≡ any_number limit text
+
+-- nor does one after `0x`
+abbrev pub ZerosAlikeAfterBase : Type 0
+ZerosAlikeAfterBase = (limit : ℕ) (text : List ℕ) → 1 ≤ limit → has_digit 16 text ≡ true
+    → any_number limit (codes "0x0" ++ text) ≡ any_number limit (codes "0x" ++ text)

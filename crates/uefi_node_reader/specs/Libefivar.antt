@@ -1,0 +1,80 @@
+-- Nodes as libefivar prints them, where its text of a node is the specification's text of another, or is in no
+-- form of the table.
+use Rattle.std.specs.Prelude.{Bool, if◌then◌else◌, List, [], ◌∷◌, codes, map, length, ◌-◌, ℕ, Option, Some, None, is_some}
+use Rattle.std.specs.Option.{option_map, option_or}
+use Rattle.uefi_device_nodes.specs.Nodes.{Node}
+use Rattle.uefi_node_table.specs.Rows.{Form, const_form}
+use Rattle.uefi_node_reader.specs.Ambiguous.{begins_with}
+use Rattle.uefi_node_reader.specs.FieldReading.{◌>>=◌}
+use Rattle.uefi_node_reader.specs.LenientFaults.{fault, lenient_fault, past, place_at, stop_at}
+use Rattle.uefi_node_reader.specs.LenientNodes.{begins_call, cut_call, ended, lenient_read, tidied, told_in}
+use Rattle.uefi_node_reader.specs.TableReading.{form_read}
+use Rattle.uefi_node_reader.specs.WordReading.{after}
+use Rattle.uefi_node_reader.specs.declared.faults.Expected.{Expected}
+use Rattle.uefi_node_reader.specs.declared.faults.Expected.TheVariants as expected
+use Rattle.uefi_node_reader.specs.declared.faults.NodeFault.{NodeFault}
+use Rattle.uefi_node_reader.specs.declared.faults.Stop.{Stop}
+use Rattle.uefi_node_reader.specs.declared.libefivar.TheConstants.{OWN}
+
+-- its own forms of calls, in the letters of a tidied call
+unfoldable pub own_forms : List Form
+own_forms = map const_form OWN.now
+
+-- the node in the first of these forms that a tidied text has exactly
+abbrev pub forms_exact : List Form → List ℕ → Option Node
+forms_exact [] text = None
+forms_exact (form ∷ forms) text = option_or (told_in form (form_read form text)) (forms_exact forms text)
+
+-- the node whose call a text begins with in one of its own forms, and what stands after it
+abbrev pub own_call : List ℕ → Option (Node × List ℕ)
+own_call text = cut_call text >>= λ call.
+    option_map (λ node. (node, call.1)) (forms_exact own_forms (tidied call.0))
+
+-- the same of a text that begins with a call
+abbrev pub own_read : List ℕ → Option (Node × List ℕ)
+own_read text = if begins_call text then own_call text else None
+
+-- where a tidied call stops after this name
+abbrev pub stop_after : Expected → List ℕ → List ℕ → Option Stop
+stop_after what name text = option_map (λ rest. stop_at rest what) (after name text)
+
+-- the same, if no `0x` follows
+abbrev pub base_after : List ℕ → List ℕ → Option Stop
+base_after name text = after name text >>= λ rest.
+    if begins_with (codes "0x") rest then None else Some (stop_at rest expected.Base)
+
+-- where a tidied call stops that libefivar prints in its own form alone, for different nodes, or with a text of the
+-- device in place of its number
+abbrev pub own_stop : List ℕ → Option Stop
+own_stop text = option_or (stop_after expected.AsPrinted (codes "NVME(") text)
+    (option_or (stop_after expected.Untold (codes "FIBRE(") text)
+    (option_or (stop_after expected.Untold (codes "SAS(") text)
+    (option_or (stop_after expected.Untold (codes "USBCLASS(") text)
+    (option_or (base_after (codes "PCIROOT(") text) (base_after (codes "PCIEROOT(") text)))))
+
+-- the fault of a text that begins with such a call
+abbrev pub own_fault : List ℕ → Option NodeFault
+own_fault text = cut_call text >>= λ call.
+    option_map (λ stop. fault (place_at (length (tidied call.0) - stop.left) text) stop.expected)
+    (own_stop (tidied call.0))
+
+-- the node whose text bytes begin with as libefivar prints it, and what stands after it: in one of its own
+-- forms, or else as people write it
+unfoldable pub libefivar_read : Bool → List ℕ → Option (Node × List ℕ)
+libefivar_read is_rooted text = if is_some (own_read text) then ended (own_read text)
+    else (if is_some (own_fault text) then None else lenient_read is_rooted text)
+
+-- the fault of a call, or else of a text of which no node is read leniently
+abbrev pub fault_or_lenient : Bool → List ℕ → Option NodeFault → NodeFault
+fault_or_lenient is_rooted text None = lenient_fault is_rooted text
+fault_or_lenient is_rooted text (Some other) = other
+
+-- the fault of a text, by what stands after the call that it begins with in one of these forms: the node should
+-- end there
+abbrev pub fault_after_own : Bool → List ℕ → Option (List ℕ) → NodeFault
+fault_after_own is_rooted text None = fault_or_lenient is_rooted text (own_fault text)
+fault_after_own is_rooted text (Some rest) = fault (length text - length rest) expected.End
+
+-- the fault of a text of which no node is read so
+unfoldable pub libefivar_fault : Bool → List ℕ → NodeFault
+libefivar_fault is_rooted text = fault_after_own is_rooted text (past (own_read text))

@@ -1,0 +1,155 @@
+//! Nodes as libefivar 37 prints them, on which efibootmgr stands, where its text of a node is the
+//! specification's text of another, or is in no form of the table.
+//!
+//! It prints the identifier of an NVMe node from its first byte on, and the numbers of `Ata` without words. Its
+//! `Fibre`, `SAS` and `UsbClass` leave out what distinguishes two nodes. In `PciRoot` and `PcieRoot` a text of the
+//! device may stand in place of its number, which begins with `0x`.
+#![tactic(auto)]
+
+ghost use Rattle.std.specs.Prelude.{◌≡◌, ◌<◌, ◌≤◌, IfSome, IsTrue, codes, length, map};
+ghost use Rattle.std.specs.List.{list_all};
+ghost use Rattle.std.specs.Option.{option_map};
+ghost use Rattle.uefi_node_table.specs.Rows.{as_form};
+ghost use Rattle.uefi_node_reader.specs.Libefivar.{base_after, forms_exact, own_call, own_fault, own_forms, own_read, own_stop, stop_after};
+ghost use Rattle.uefi_node_reader.specs.TableReading.{is_filled, is_sound};
+ghost use Rattle.uefi_node_reader.specs.TextNodeViews.{text_node};
+
+use crate::ambiguous::begins_with;
+use crate::faults::{Expected, NodeFault, Stop};
+use crate::fields::after;
+use crate::lenient_faults::{place_at, stop_at};
+use crate::lenient_names::begins_call;
+use crate::lenient_table::{cut_call, exact_told, tidy};
+use crate::text_node::TextNode;
+use uefi_node_table::rows::{Mode, PieceOf, Row, RowOf, Shape, Tail};
+
+/// A form of these.
+macro_rules! own {
+    ($kind:literal $sub_kind:literal $least:literal $start:literal
+        $([$shape:ident $place:literal $width:literal $ending:literal])*) => {
+        RowOf {
+            kind: $kind,
+            sub_kind: $sub_kind,
+            mode: Mode::Read,
+            least: $least,
+            more: 0,
+            when: &[],
+            also: &[],
+            start: $start,
+            pieces: &[$(PieceOf { shape: Shape::$shape, place: $place, width: $width, ending: $ending }),*],
+            tail: Tail::Nothing,
+            close: "",
+            rest: &[],
+        }
+    };
+}
+
+/// Its own forms of calls, in the letters of a tidied call.
+#[rattlefmt::skip]
+const OWN: &[Row] = &[
+    own!(3 1 4 "ATA(" [Decimal 0 1 ","] [Decimal 1 1 ","] [Decimal 2 2 ")"]),
+    own!(3 23 12 "NVME(0x" [Hexadecimal 0 4 ","] [Forth 4 1 "-"] [Forth 5 1 "-"] [Forth 6 1 "-"]
+        [Forth 7 1 "-"] [Forth 8 1 "-"] [Forth 9 1 "-"] [Forth 10 1 "-"] [Forth 11 1 ")"]),
+];
+
+/// These forms.
+#[tactic(auto, unfolding(crate::specs::Libefivar::own_forms))]
+fn own_forms() -> &'static [Row]
+    ensures { map as_form result.now ≡ own_forms }
+{
+    OWN
+}
+
+/// Reads the node of the first of these forms that a tidied text has exactly.
+fn exact_group<'a>(rows: &[Row], text: &'a [u8]) -> Option<TextNode<'a>>
+    requires sound { IsTrue (list_all is_sound (map as_form rows.now)) }
+    requires filled { IsTrue (list_all is_filled (map as_form rows.now)) }
+    ensures { option_map text_node result ≡ forms_exact (map as_form rows.now) text.now }
+{
+    for row in rows {
+        if let Some(node) = exact_told(row, text) {
+            return Some(node);
+        }
+    }
+    None
+}
+
+/// Reads the node whose call a text begins with in one of its own forms, from a tidied copy of the call. Returns
+/// what stands after it, too.
+fn own_call<'s, 't>(scratch: &'s mut [u8], text: &'t [u8]) -> Option<(TextNode<'s>, &'t [u8])>
+    requires { length text.now < length scratch.old }
+    ensures { option_map (λ x. (text_node x.0, x.1.now)) result ≡ own_call text.now }
+{
+    let (front, rest) = cut_call(text)?;
+    let len = tidy(scratch, front);
+    let node = exact_group(own_forms(), &scratch[..len])?;
+    Some((node, rest))
+}
+
+/// The same of a text that begins with a call.
+pub(crate) fn own<'s, 't>(scratch: &'s mut [u8], text: &'t [u8]) -> Option<(TextNode<'s>, &'t [u8])>
+    requires { length text.now < length scratch.old }
+    ensures { option_map (λ x. (text_node x.0, x.1.now)) result ≡ own_read text.now }
+{
+    if begins_call(text) {
+        return own_call(scratch, text);
+    }
+    None
+}
+
+/// Where a tidied call stops after this name.
+fn stop_after(expected: Expected, name: &[u8], text: &[u8]) -> Option<Stop>
+    ensures { result ≡ stop_after expected name.now text.now }
+{
+    let rest = after(name, text)?;
+    Some(stop_at(rest, expected))
+}
+
+/// The same, if no `0x` follows.
+fn base_after(name: &[u8], text: &[u8]) -> Option<Stop>
+    ensures { result ≡ base_after name.now text.now }
+{
+    let rest = after(name, text)?;
+    if begins_with(b"0x", rest) {
+        return None;
+    }
+    Some(stop_at(rest, Expected::Base))
+}
+
+/// Where a tidied call stops that libefivar prints in its own form alone, for different nodes, or with a text of the
+/// device in place of its number.
+fn own_stop(text: &[u8]) -> Option<Stop>
+    ensures { result ≡ own_stop text.now }
+{
+    if let Some(stop) = stop_after(Expected::AsPrinted, b"NVME(", text) {
+        return Some(stop);
+    }
+    if let Some(stop) = stop_after(Expected::Untold, b"FIBRE(", text) {
+        return Some(stop);
+    }
+    if let Some(stop) = stop_after(Expected::Untold, b"SAS(", text) {
+        return Some(stop);
+    }
+    if let Some(stop) = stop_after(Expected::Untold, b"USBCLASS(", text) {
+        return Some(stop);
+    }
+    if let Some(stop) = base_after(b"PCIROOT(", text) {
+        return Some(stop);
+    }
+    base_after(b"PCIEROOT(", text)
+}
+
+/// The fault of a text that begins with such a call. The buffer then holds anything.
+pub(crate) fn own_fault(scratch: &mut [u8], text: &[u8]) -> Option<NodeFault>
+    requires { length text.now < length scratch.old }
+    ensures fault { result ≡ own_fault text.now }
+    ensures within { IfSome result (λ fault. fault.byte ≤ length text.now) }
+{
+    let (front, _) = cut_call(text)?;
+    let len = tidy(scratch, front);
+    let stop = own_stop(&scratch[..len])?;
+    Some(NodeFault {
+        byte: place_at(len.saturating_sub(stop.left), text),
+        expected: stop.expected,
+    })
+}
