@@ -27,13 +27,20 @@ pub struct Error {
 
 impl Error {
     pub(crate) const fn new(reason: Reason, place: usize) -> Self {
-        Self { reason, place, character: None }
+        Self {
+            reason,
+            place,
+            character: None,
+        }
     }
 
     /// Names the character at fault, if it is one of a text.
     pub(crate) fn in_text(self, text: &str) -> Self {
         match self.reason {
-            Reason::InvalidChar | Reason::InteriorNul => Self { character: text.chars().nth(self.place), ..self },
+            Reason::InvalidChar | Reason::InteriorNul => Self {
+                character: text.chars().nth(self.place),
+                ..self
+            },
             _ => self,
         }
     }
@@ -41,7 +48,10 @@ impl Error {
     /// Names the character at fault, if a call said one.
     pub(crate) fn with_unit(self, unit: u16) -> Self {
         match self.reason {
-            Reason::IllegalChar => Self { character: char::from_u32(unit.into()), ..self },
+            Reason::IllegalChar => Self {
+                character: char::from_u32(unit.into()),
+                ..self
+            },
             _ => self,
         }
     }
@@ -125,7 +135,9 @@ impl fmt::Display for Error {
             write!(f, ", {character:?} (U+{:04X})", u32::from(character))?;
         }
         match self.reason {
-            Reason::BufferTooSmall | Reason::ScratchTooSmall => write!(f, ": it needs room for {}", self.place),
+            Reason::BufferTooSmall | Reason::ScratchTooSmall => {
+                write!(f, ": it needs room for {}", self.place)
+            }
             Reason::PathEmpty
             | Reason::NoParent
             | Reason::NodeOfEnd

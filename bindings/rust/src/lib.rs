@@ -5,17 +5,21 @@
 #[cfg(feature = "alloc")]
 extern crate alloc;
 
-
+mod boot_variables;
 pub mod data_types;
 mod error;
 #[allow(missing_docs)]
 #[rustfmt::skip]
 pub mod fields;
 pub mod fs;
+pub mod proto;
 #[allow(missing_docs)]
 #[rustfmt::skip]
 mod sys;
 
+pub use boot_variables::{
+    order_numbers, LoadOptionKind, LoadOptionName, OrderBuffer, OrderNumbers,
+};
 #[cfg(feature = "alloc")]
 pub use data_types::CString16;
 pub use data_types::{str_from_units_lossy, CStr16, CStr8, Char16, Char8, Guid, Shown};
@@ -23,6 +27,7 @@ pub use error::{Error, Reason};
 #[cfg(feature = "alloc")]
 pub use fs::PathBuf;
 pub use fs::{Component, Components, Path};
+pub use proto::device_path::{DevicePath, DevicePathNode, LoadOption};
 
 /// What most programs use.
 pub mod prelude {

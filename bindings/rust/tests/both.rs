@@ -2,14 +2,13 @@
 //! `nardcorbel` in its `use` lines, which `bindings/rust/check` tries.
 
 use nardcorbel::data_types::{
-    CharConversionError, EqStrUntilNul, FromSliceUntilNulError, FromSliceWithNulError, FromStrError,
-    FromStrWithBufError, UnalignedCStr16Error, UnalignedSlice, NUL_16, NUL_8,
+    CharConversionError, EqStrUntilNul, FromSliceUntilNulError, FromSliceWithNulError,
+    FromStrError, FromStrWithBufError, UnalignedCStr16Error, UnalignedSlice, NUL_16, NUL_8,
 };
 use nardcorbel::fs::{Path, PathBuf, PathError, CHARACTER_DENY_LIST, SEPARATOR, SEPARATOR_STR};
 use nardcorbel::{char16, cstr16, cstr8, CStr16, CStr8, CString16, Char16, Char8};
 use std::borrow::Borrow;
 use std::collections::HashSet;
-use std::ffi::CStr;
 use std::mem::MaybeUninit;
 
 /// A string of its own.
@@ -63,14 +62,19 @@ fn characters_beside_chars() {
 #[test]
 fn unaligned_items() {
     // The first byte puts the items at odd addresses, if the array is at an even one.
-    let bytes: [u8; 13] = [0, 0x10, 0x11, 0x12, 0x13, 0x20, 0x21, 0x22, 0x23, 0x30, 0x31, 0x32, 0x33];
+    let bytes: [u8; 13] = [
+        0, 0x10, 0x11, 0x12, 0x13, 0x20, 0x21, 0x22, 0x23, 0x30, 0x31, 0x32, 0x33,
+    ];
     let items = [0x1312_1110, 0x2322_2120, 0x3332_3130];
     let data: *const u32 = bytes[1..].as_ptr().cast();
     // SAFETY: three items stand there.
     let (none, all) = unsafe { (UnalignedSlice::new(data, 0), UnalignedSlice::new(data, 3)) };
     assert!(none.is_empty() && !all.is_empty() && all.len() == 3 && all.as_ptr() == data);
     let found: Vec<_> = (0..4).map(|it| all.get(it)).collect();
-    assert_eq!(found, [Some(items[0]), Some(items[1]), Some(items[2]), None]);
+    assert_eq!(
+        found,
+        [Some(items[0]), Some(items[1]), Some(items[2]), None]
+    );
     let mut copy = [0; 3];
     all.copy_to(&mut copy);
     assert_eq!(copy, items);
@@ -83,21 +87,31 @@ fn unaligned_items() {
 #[test]
 fn unaligned_strings() {
     let mut bytes = [0; 11];
-    for (index, byte) in [b't', 0, b'e', 0, b's', 0, b't', 0, 0, 0].into_iter().enumerate() {
+    for (index, byte) in [b't', 0, b'e', 0, b's', 0, b't', 0, 0, 0]
+        .into_iter()
+        .enumerate()
+    {
         bytes[index + 1] = byte;
     }
     // SAFETY: five units stand there.
-    let units: UnalignedSlice<'_, u16> = unsafe { UnalignedSlice::new(bytes[1..].as_ptr().cast(), 5) };
+    let units: UnalignedSlice<'_, u16> =
+        unsafe { UnalignedSlice::new(bytes[1..].as_ptr().cast(), 5) };
     let mut room = [MaybeUninit::new(9); 6];
-    assert_eq!(units.to_cstr16(&mut room[..4]), Err(UnalignedCStr16Error::BufferTooSmall));
+    assert_eq!(
+        units.to_cstr16(&mut room[..4]),
+        Err(UnalignedCStr16Error::BufferTooSmall)
+    );
     assert_eq!(units.to_cstr16(&mut room[..5]).unwrap(), owned("test"));
-    assert_eq!(CStr16::from_unaligned_slice(&units, &mut room), Ok(cstr16!("test")));
+    assert_eq!(
+        CStr16::from_unaligned_slice(&units, &mut room),
+        Ok(cstr16!("test"))
+    );
     assert_eq!(units.to_cstring16(), Ok(owned("test")));
 }
 
 #[test]
 fn strings_of_latin1() {
-    let string: &CStr8 = CStr::from_bytes_with_nul(b"hello world\0").unwrap().try_into().unwrap();
+    let string: &CStr8 = c"hello world".try_into().unwrap();
     assert!(string.eq_str_until_nul("hello world\0") && "hello world\0".eq_str_until_nul(string));
     for (bytes, error) in [
         (&b""[..], FromSliceWithNulError::NotNulTerminated),
@@ -121,11 +135,17 @@ fn strings_up_to_a_nul() {
     for (units, wanted) in [
         (&[][..], Err(FromSliceUntilNulError::NoNul)),
         (&[65, 66], Err(FromSliceUntilNulError::NoNul)),
-        (&[65, 0xde01, 0], Err(FromSliceUntilNulError::InvalidChar(1))),
+        (
+            &[65, 0xde01, 0],
+            Err(FromSliceUntilNulError::InvalidChar(1)),
+        ),
         (&[97, 98, 0], Ok("ab")),
         (&[97, 0, 98, 0], Ok("a")),
     ] {
-        assert_eq!(CStr16::from_u16_until_nul(units).map(|it| it.to_string()), wanted.map(String::from));
+        assert_eq!(
+            CStr16::from_u16_until_nul(units).map(|it| it.to_string()),
+            wanted.map(String::from)
+        );
     }
     let (a, b) = (char16!('a'), char16!('b'));
     for (chars, wanted) in [
@@ -147,7 +167,10 @@ fn strings_of_all_units() {
         (&[0xd800, 0], Err(FromSliceWithNulError::InvalidChar(0))),
         (&[65, 66, 0], Ok("AB")),
     ] {
-        assert_eq!(CStr16::from_u16_with_nul(units).map(|it| it.to_string()), wanted.map(String::from));
+        assert_eq!(
+            CStr16::from_u16_with_nul(units).map(|it| it.to_string()),
+            wanted.map(String::from)
+        );
         let again = CString16::try_from(units.to_vec());
         assert_eq!(again.map(|it| it.to_string()), wanted.map(String::from));
     }
@@ -155,7 +178,10 @@ fn strings_of_all_units() {
     for (chars, wanted) in [
         (&[][..], Err(FromSliceWithNulError::NotNulTerminated)),
         (&[a, b], Err(FromSliceWithNulError::NotNulTerminated)),
-        (&[a, NUL_16, b, NUL_16], Err(FromSliceWithNulError::InteriorNul(1))),
+        (
+            &[a, NUL_16, b, NUL_16],
+            Err(FromSliceWithNulError::InteriorNul(1)),
+        ),
         (&[a, b, NUL_16], Ok(cstr16!("ab"))),
     ] {
         assert_eq!(CStr16::from_char16_with_nul(chars), wanted);
@@ -167,14 +193,31 @@ fn strings_of_bytes() {
     let units = [b'A'.into(), b'B'.into(), 0];
     let string = CStr16::from_bytes_with_nul(bytes_of(&units)).unwrap();
     assert_eq!(string.to_u16_slice_with_nul(), units);
-    assert!(CStr16::from_bytes_with_nul(bytes_of(&[0])).unwrap().is_empty());
+    assert!(CStr16::from_bytes_with_nul(bytes_of(&[0]))
+        .unwrap()
+        .is_empty());
     for (bytes, error) in [
-        (&bytes_of(&[65, 0])[..3], FromSliceWithNulError::NotNulTerminated),
+        (
+            &bytes_of(&[65, 0])[..3],
+            FromSliceWithNulError::NotNulTerminated,
+        ),
         (bytes_of(&[65, 66]), FromSliceWithNulError::NotNulTerminated),
-        (bytes_of(&[65, 0x100]), FromSliceWithNulError::NotNulTerminated),
-        (bytes_of(&[65, 0, 66, 0]), FromSliceWithNulError::InteriorNul(1)),
-        (bytes_of(&[0xd800, 0]), FromSliceWithNulError::InvalidChar(0)),
-        (&bytes_of(&[65, 0, 0])[1..5], FromSliceWithNulError::NotAligned),
+        (
+            bytes_of(&[65, 0x100]),
+            FromSliceWithNulError::NotNulTerminated,
+        ),
+        (
+            bytes_of(&[65, 0, 66, 0]),
+            FromSliceWithNulError::InteriorNul(1),
+        ),
+        (
+            bytes_of(&[0xd800, 0]),
+            FromSliceWithNulError::InvalidChar(0),
+        ),
+        (
+            &bytes_of(&[65, 0, 0])[1..5],
+            FromSliceWithNulError::NotAligned,
+        ),
     ] {
         assert_eq!(refusal(CStr16::from_bytes_with_nul(bytes)), Some(error));
     }
@@ -200,7 +243,10 @@ fn parts_of_strings() {
     const ABC: &CStr16 = cstr16!("ABC");
     assert_eq!(ABC.to_u16_slice_with_nul(), [65, 66, 67, 0]);
     assert_eq!(ABC.to_u16_slice(), [65, 66, 67]);
-    assert_eq!((ABC.num_chars(), ABC.num_bytes(), ABC.to_string()), (3, 8, "ABC".to_string()));
+    assert_eq!(
+        (ABC.num_chars(), ABC.num_bytes(), ABC.to_string()),
+        (3, 8, "ABC".to_string())
+    );
     assert!(ABC.is_ascii() && !cstr16!("é").is_ascii() && cstr16!().is_empty());
     let string = cstr16!("a");
     assert_eq!(string.as_slice(), [char16!('a')]);
@@ -219,9 +265,13 @@ fn parts_of_strings() {
 /// Both directions, for `str` and `String`, of a string of `test`.
 macro_rules! beside_texts {
     ($string:expr) => {
-        for (text, equal) in
-            [("test", true), ("te\0st", true), ("test\0", true), ("hello", false), ("tesT", false)]
-        {
+        for (text, equal) in [
+            ("test", true),
+            ("te\0st", true),
+            ("test\0", true),
+            ("hello", false),
+            ("tesT", false),
+        ] {
             assert_eq!($string.eq_str_until_nul(text), equal);
             assert_eq!($string.eq_str_until_nul(&text), equal);
             assert_eq!($string.eq_str_until_nul(&String::from(text)), equal);
@@ -243,15 +293,24 @@ fn owned_strings() {
     assert_eq!(owned("x").as_slice_with_nul(), [char16!('x'), NUL_16]);
     assert_eq!(CString16::try_from("😀"), Err(FromStrError::InvalidChar));
     assert_eq!(CString16::try_from("x\0"), Err(FromStrError::InteriorNul));
-    assert_eq!(CString16::try_from(vec![]), Err(FromSliceWithNulError::NotNulTerminated));
+    assert_eq!(
+        CString16::try_from(vec![]),
+        Err(FromSliceWithNulError::NotNulTerminated)
+    );
     assert_eq!(CString16::try_from(vec![b'x'.into(), 0]), Ok(owned("x")));
     assert_eq!(cstr16!("abc"), owned("abc"));
     assert_eq!(owned("abc"), cstr16!("abc"));
     let again: CString16 = cstr16!("ab").to_owned();
     let borrowed: &CStr16 = again.borrow();
     assert_eq!(borrowed, cstr16!("ab"));
-    assert_eq!(again.as_slice_with_nul(), [char16!('a'), char16!('b'), NUL_16]);
-    assert_eq!((CString16::default(), owned("a") < owned("ab")), (CString16::new(), true));
+    assert_eq!(
+        again.as_slice_with_nul(),
+        [char16!('a'), char16!('b'), NUL_16]
+    );
+    assert_eq!(
+        (CString16::default(), owned("a") < owned("ab")),
+        (CString16::new(), true)
+    );
     let names: HashSet<CString16> = [owned("a"), owned("b"), owned("a")].into();
     assert!(names.len() == 2 && names.contains(cstr16!("b")));
 }
@@ -266,7 +325,10 @@ fn owned_strings_that_change() {
     all.push(char16!('!'));
     all.push_str(greeting.as_ref());
     all.extend(&[char16!('!')]);
-    assert_eq!((all.num_chars(), String::from(&all)), (4, "!hi!".to_string()));
+    assert_eq!(
+        (all.num_chars(), String::from(&all)),
+        (4, "!hi!".to_string())
+    );
     let mut slashes = owned("foo/bar/foobar//");
     slashes.replace_char(char16!('/'), char16!('\\'));
     assert_eq!(slashes.to_string(), r"foo\bar\foobar\\");
@@ -292,21 +354,37 @@ fn a_nul_replaces_nothing() {
 fn paths_of_strings() {
     let text = r"\hello\foo\bar";
     let (string, again) = (cstr16!(r"\hello\foo\bar"), owned(text));
-    let borrowed: [&Path; 4] = [string.into(), Path::new(string), again.as_ref().into(), Path::new(&again)];
-    let copies: [PathBuf; 4] = [string.into(), again.as_ref().into(), again.clone().into(), path_of(text)];
+    let borrowed: [&Path; 4] = [
+        string.into(),
+        Path::new(string),
+        again.as_ref().into(),
+        Path::new(&again),
+    ];
+    let copies: [PathBuf; 4] = [
+        string.into(),
+        again.as_ref().into(),
+        again.clone().into(),
+        path_of(text),
+    ];
     for (one, two) in borrowed.iter().zip(&copies) {
         assert_eq!(one.to_cstr16(), two.to_cstr16());
     }
     let path: &Path = copies[0].borrow();
     let string: &CStr16 = path.as_ref();
-    assert_eq!((string.to_string(), path.to_string()), (text.to_string(), text.to_string()));
+    assert_eq!(
+        (string.to_string(), path.to_string()),
+        (text.to_string(), text.to_string())
+    );
     assert_eq!(path_of("/a/b").to_cstr16(), cstr16!(r"\a\b"));
 }
 
 #[test]
 fn components() {
-    let three: &[&[Char16]] =
-        &[cstr16!("foo").as_slice(), cstr16!("bar").as_slice(), cstr16!("hello").as_slice()];
+    let three: &[&[Char16]] = &[
+        cstr16!("foo").as_slice(),
+        cstr16!("bar").as_slice(),
+        cstr16!("hello").as_slice(),
+    ];
     for (text, wanted) in [
         (cstr16!(r"foo\bar\hello"), three),
         (cstr16!(r"\foo\bar\hello"), three),
@@ -316,7 +394,11 @@ fn components() {
         (cstr16!(r"\\a"), &[&[], &[char16!('a')]]),
         (cstr16!(r"a\"), &[&[char16!('a')], &[]]),
     ] {
-        assert_eq!(Path::new(text).components().collect::<Vec<_>>(), wanted, "{text}");
+        assert_eq!(
+            Path::new(text).components().collect::<Vec<_>>(),
+            wanted,
+            "{text}"
+        );
     }
 }
 
@@ -377,7 +459,10 @@ fn joined_paths() {
 #[test]
 fn names_of_paths() {
     assert_eq!((SEPARATOR, SEPARATOR_STR), (char16!('\\'), cstr16!("\\")));
-    let denied: String = CHARACTER_DENY_LIST.iter().map(|it| char::from(*it)).collect();
+    let denied: String = CHARACTER_DENY_LIST
+        .iter()
+        .map(|it| char::from(*it))
+        .collect();
     assert_eq!(denied, "\0\"*/:<>?\\|");
     let error = PathError::IllegalChar(CHARACTER_DENY_LIST[6]);
     assert_eq!(error, PathError::IllegalChar(char16!('>')));
@@ -396,5 +481,7 @@ fn errors_are_errors() {
         &PathError::IllegalChar(char16!('7')),
     ];
     assert!(errors.iter().all(|it| !it.to_string().is_empty()));
-    assert!([1, 2, 4, 5].iter().all(|it| errors[*it].to_string().contains('7')));
+    assert!([1, 2, 4, 5]
+        .iter()
+        .all(|it| errors[*it].to_string().contains('7')));
 }

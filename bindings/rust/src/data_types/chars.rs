@@ -34,7 +34,9 @@ impl TryFrom<char> for Char8 {
     type Error = CharConversionError;
 
     fn try_from(value: char) -> Result<Self, CharConversionError> {
-        u8::try_from(value).map(Self).map_err(|_| CharConversionError)
+        u8::try_from(value)
+            .map(Self)
+            .map_err(|_| CharConversionError)
     }
 }
 

@@ -94,7 +94,10 @@ const fn character(bytes: &[u8], at: usize) -> (u32, usize) {
     } else if first < 0xe0 {
         ((first & 0x1f) << 6 | rest(bytes, at + 1), 2)
     } else if first < 0xf0 {
-        ((first & 0xf) << 12 | rest(bytes, at + 1) << 6 | rest(bytes, at + 2), 3)
+        (
+            (first & 0xf) << 12 | rest(bytes, at + 1) << 6 | rest(bytes, at + 2),
+            3,
+        )
     } else {
         // No string of firmware can hold it: the value doesn't matter as long as it is above U+FFFF.
         (0x1_0000, 4)
@@ -141,5 +144,17 @@ macro_rules! literal {
         }
     };
 }
-literal!(str_num_latin1_chars, str_to_latin1, u8, 0xff, "the text is not Latin-1");
-literal!(str_num_ucs2_chars, str_to_ucs2, u16, 0xffff, "a character of the text is above U+FFFF");
+literal!(
+    str_num_latin1_chars,
+    str_to_latin1,
+    u8,
+    0xff,
+    "the text is not Latin-1"
+);
+literal!(
+    str_num_ucs2_chars,
+    str_to_ucs2,
+    u16,
+    0xffff,
+    "a character of the text is above U+FFFF"
+);

@@ -83,9 +83,15 @@ impl CString16 {
     ///
     /// Panics if one of the two is NUL.
     pub fn replace_char(&mut self, search: Char16, replace: Char16) {
-        assert!(search != NUL_16 && replace != NUL_16, "a string has no NUL before its end");
+        assert!(
+            search != NUL_16 && replace != NUL_16,
+            "a string has no NUL before its end"
+        );
         let (search, replace) = (search.into(), replace.into());
-        self.0.iter_mut().filter(|it| **it == search).for_each(|it| *it = replace);
+        self.0
+            .iter_mut()
+            .filter(|it| **it == search)
+            .for_each(|it| *it = replace);
     }
 
     /// Returns the number of characters, without the NUL.

@@ -5,7 +5,10 @@ use crate::sys;
 use core::fmt::{self, Write};
 
 /// Writes characters with the width, fill, alignment and precision that a format asks for, as `str` does.
-pub(crate) fn pad(f: &mut fmt::Formatter<'_>, chars: impl Iterator<Item = char> + Clone) -> fmt::Result {
+pub(crate) fn pad(
+    f: &mut fmt::Formatter<'_>,
+    chars: impl Iterator<Item = char> + Clone,
+) -> fmt::Result {
     if f.width().is_none() && f.precision().is_none() {
         return chars.into_iter().try_for_each(|it| f.write_char(it));
     }
@@ -59,8 +62,13 @@ impl<I: Iterator<Item = char> + Clone> fmt::Display for Shown<I> {
     fn fmt(&self, f: &mut fmt::Formatter<'_>) -> fmt::Result {
         for character in self.0.clone() {
             match character {
-                '\0'..='\u{1f}' | '\u{7f}'..='\u{9f}' | '\u{61c}' | '\u{200e}' | '\u{200f}'
-                | '\u{2028}'..='\u{202e}' | '\u{2066}'..='\u{2069}' => write!(f, "{}", character.escape_unicode())?,
+                '\0'..='\u{1f}'
+                | '\u{7f}'..='\u{9f}'
+                | '\u{61c}'
+                | '\u{200e}'
+                | '\u{200f}'
+                | '\u{2028}'..='\u{202e}'
+                | '\u{2066}'..='\u{2069}' => write!(f, "{}", character.escape_unicode())?,
                 _ => f.write_char(character)?,
             }
         }

@@ -250,7 +250,10 @@ impl CStr16 {
     pub const fn from_constant(units: &[u16]) -> &Self {
         let (mut index, last) = (0, units.len() - 1);
         while index < last {
-            assert!(!matches!(units[index], 0 | 0xd800..=0xdfff), "NUL or a surrogate");
+            assert!(
+                !matches!(units[index], 0 | 0xd800..=0xdfff),
+                "NUL or a surrogate"
+            );
             index += 1;
         }
         assert!(units[last] == 0, "the last unit is not NUL");
@@ -298,7 +301,10 @@ impl CStr16 {
     /// assert_eq!(error, FromStrWithBufError::InvalidChar(1));
     /// # Ok::<(), FromStrWithBufError>(())
     /// ```
-    pub fn from_str_with_buf<'a>(text: &str, buffer: &'a mut [u16]) -> Result<&'a Self, FromStrWithBufError> {
+    pub fn from_str_with_buf<'a>(
+        text: &str,
+        buffer: &'a mut [u16],
+    ) -> Result<&'a Self, FromStrWithBufError> {
         let mut place = 0;
         match sys::nard_string_from_utf8(text.as_bytes(), buffer, &mut place) {
             sys::OK => Ok(Self::of(&buffer[..=place])),
@@ -313,7 +319,9 @@ impl CStr16 {
         source: &UnalignedSlice<'_, u16>,
         buffer: &'buf mut [MaybeUninit<u16>],
     ) -> Result<&'buf Self, UnalignedCStr16Error> {
-        let buffer = buffer.get_mut(..source.len()).ok_or(UnalignedCStr16Error::BufferTooSmall)?;
+        let buffer = buffer
+            .get_mut(..source.len())
+            .ok_or(UnalignedCStr16Error::BufferTooSmall)?;
         source.copy_to_maybe_uninit(buffer);
         // SAFETY: `copy_to_maybe_uninit` wrote each element.
         let units = unsafe { &*(ptr::from_ref(buffer) as *const [u16]) };
@@ -453,7 +461,10 @@ impl CStr16 {
     /// ```
     #[must_use]
     pub fn eq_ignore_case(&self, other: &Self) -> bool {
-        sys::nard_string_equal_ignore_case(self.to_u16_slice_with_nul(), other.to_u16_slice_with_nul())
+        sys::nard_string_equal_ignore_case(
+            self.to_u16_slice_with_nul(),
+            other.to_u16_slice_with_nul(),
+        )
     }
 
     /// Compares two strings without case.
@@ -478,7 +489,10 @@ impl CStr16 {
     /// ```
     #[must_use]
     pub fn matches(&self, pattern: &Self) -> bool {
-        sys::nard_string_matches(self.to_u16_slice_with_nul(), pattern.to_u16_slice_with_nul())
+        sys::nard_string_matches(
+            self.to_u16_slice_with_nul(),
+            pattern.to_u16_slice_with_nul(),
+        )
     }
 
     /// Returns whether two names mean the same file on a FAT volume: they are equal without case, and without spaces at the start

@@ -30,7 +30,11 @@ impl<'a, T: Copy> UnalignedSlice<'a, T> {
     /// So many items stand there, and are unchanged while the slice is used.
     #[must_use]
     pub const unsafe fn new(data: *const T, len: usize) -> Self {
-        Self { data, len, _items: PhantomData }
+        Self {
+            data,
+            len,
+            _items: PhantomData,
+        }
     }
 
     /// Returns whether there are no items.
@@ -65,7 +69,10 @@ impl<'a, T: Copy> UnalignedSlice<'a, T> {
     /// Iterates over the items.
     #[must_use]
     pub const fn iter(&'a self) -> UnalignedSliceIter<'a, T> {
-        UnalignedSliceIter { slice: self, index: 0 }
+        UnalignedSliceIter {
+            slice: self,
+            index: 0,
+        }
     }
 
     /// Copies the items to a slice.
@@ -85,7 +92,9 @@ impl<'a, T: Copy> UnalignedSlice<'a, T> {
     /// Panics if the slices have different lengths.
     pub fn copy_to_maybe_uninit(&self, dest: &mut [MaybeUninit<T>]) {
         assert_eq!(dest.len(), self.len, "the slices have different lengths");
-        dest.iter_mut().zip(self).for_each(|(to, item)| *to = MaybeUninit::new(item));
+        dest.iter_mut()
+            .zip(self)
+            .for_each(|(to, item)| *to = MaybeUninit::new(item));
     }
 
     /// Copies the items to a vector.
@@ -96,12 +105,26 @@ impl<'a, T: Copy> UnalignedSlice<'a, T> {
     }
 }
 
+/// Items that are bytes of any value, in the machine's order.
+#[doc(hidden)]
+pub trait Plain: Copy {}
+impl Plain for u16 {}
+impl Plain for u32 {}
+impl Plain for [u8; 16] {}
+
+impl<'a, T: Plain> UnalignedSlice<'a, T> {
+    /// The items that bytes are; the bytes of no whole item at the end are left out.
+    pub(crate) const fn of_bytes(bytes: &'a [u8]) -> Self {
+        // SAFETY: the bytes hold so many items, and are borrowed as long.
+        unsafe { Self::new(bytes.as_ptr().cast(), bytes.len() / size_of::<T>()) }
+    }
+}
+
 impl<'a> UnalignedSlice<'a, u16> {
     /// Creates a slice of the units that bytes are, two for each; an odd byte at the end is left out.
     #[must_use]
     pub const fn from_unit_bytes(bytes: &'a [u8]) -> Self {
-        // SAFETY: the bytes hold so many units, and are borrowed as long.
-        unsafe { Self::new(bytes.as_ptr().cast(), bytes.len() / 2) }
+        Self::of_bytes(bytes)
     }
 }
 
@@ -123,7 +146,10 @@ impl<'a, T: Copy> IntoIterator for UnalignedSlice<'a, T> {
     type IntoIter = UnalignedSliceIntoIter<'a, T>;
 
     fn into_iter(self) -> Self::IntoIter {
-        UnalignedSliceIntoIter { slice: self, index: 0 }
+        UnalignedSliceIntoIter {
+            slice: self,
+            index: 0,
+        }
     }
 }
 

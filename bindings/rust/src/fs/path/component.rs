@@ -95,7 +95,9 @@ impl fmt::Display for Component<'_> {
 impl fmt::Debug for Component<'_> {
     fn fmt(&self, f: &mut fmt::Formatter<'_>) -> fmt::Result {
         f.write_char('"')?;
-        self.chars().flat_map(char::escape_debug).try_for_each(|it| f.write_char(it))?;
+        self.chars()
+            .flat_map(char::escape_debug)
+            .try_for_each(|it| f.write_char(it))?;
         f.write_char('"')
     }
 }

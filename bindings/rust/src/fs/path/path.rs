@@ -97,7 +97,8 @@ impl Path {
     pub fn file_name(&self) -> Option<&CStr16> {
         let mut start = 0;
         // What follows the last separator ends in the NUL of the whole.
-        sys::nard_path_file_name(self.0.to_u16_slice(), &mut start).then(|| CStr16::of(&self.units()[start..]))
+        sys::nard_path_file_name(self.0.to_u16_slice(), &mut start)
+            .then(|| CStr16::of(&self.units()[start..]))
     }
 
     /// Checks that the path names a file, and says where the fault of the first component is that has one.
@@ -201,10 +202,13 @@ impl Path {
     pub fn normalize_str_in_buf<'a>(text: &str, buffer: &'a mut [u16]) -> Result<&'a Self, Error> {
         let (mut length, mut unit) = (0, 0);
         match sys::nard_path_normalize_utf8(text.as_bytes(), buffer, &mut length, &mut unit) {
-            sys::BUFFER_TOO_SMALL => {
-                Err(Error::new(Reason::BufferTooSmall, length.saturating_add(1).saturating_mul(2)))
+            sys::BUFFER_TOO_SMALL => Err(Error::new(
+                Reason::BufferTooSmall,
+                length.saturating_add(1).saturating_mul(2),
+            )),
+            reason => {
+                written(reason, length, buffer).map_err(|error| error.in_text(text).with_unit(unit))
             }
-            reason => written(reason, length, buffer).map_err(|error| error.in_text(text).with_unit(unit)),
         }
     }
 }
@@ -317,7 +321,10 @@ impl PartialEq<str> for Path {
     /// Compares with the path that the text is.
     fn eq(&self, other: &str) -> bool {
         let other = other.strip_prefix('\\').unwrap_or(other);
-        self.canonical().iter().map(|it| char::from(*it)).eq(other.chars())
+        self.canonical()
+            .iter()
+            .map(|it| char::from(*it))
+            .eq(other.chars())
     }
 }
 

@@ -24,7 +24,9 @@ impl fmt::Display for PathError {
         match self {
             Self::Empty => f.write_str("the path is empty"),
             Self::EmptyComponent => f.write_str("a component of the path is empty"),
-            Self::IllegalChar(it) => write!(f, "no file name holds {it:?} (U+{:04X})", u16::from(*it)),
+            Self::IllegalChar(it) => {
+                write!(f, "no file name holds {it:?} (U+{:04X})", u16::from(*it))
+            }
             Self::ClimbsAboveRoot => f.write_str("the path climbs above the root"),
         }
     }
@@ -52,7 +54,9 @@ pub fn validate_path<P: AsRef<Path>>(path: P) -> Result<(), PathError> {
         sys::EMPTY_COMPONENT => Err(PathError::EmptyComponent),
         sys::CLIMBS_ABOVE_ROOT => Err(PathError::ClimbsAboveRoot),
         // The library names a character of the path, so it is no surrogate.
-        _ => Err(PathError::IllegalChar(Char16::try_from(unit).unwrap_or_default())),
+        _ => Err(PathError::IllegalChar(
+            Char16::try_from(unit).unwrap_or_default(),
+        )),
     }
 }
 
@@ -71,7 +75,9 @@ pub(super) fn located(error: PathError, path: &Path) -> Error {
     };
     match error {
         PathError::Empty => Error::new(Reason::PathEmpty, 0),
-        PathError::EmptyComponent => Error::new(Reason::EmptyComponent, place_where(&mut |it| it.is_empty())),
+        PathError::EmptyComponent => {
+            Error::new(Reason::EmptyComponent, place_where(&mut |it| it.is_empty()))
+        }
         PathError::IllegalChar(character) => Error {
             reason: Reason::IllegalChar,
             // No component before the faulty one holds such a character.
