@@ -1,0 +1,285 @@
+//! The calls that the crate `uefi` lacks: each once with an answer and once refused.
+
+use nardcorbel::{
+    cstr16, cstr8, guid, order_numbers, str_from_units_lossy, CStr16, Guid, LoadOptionKind,
+    LoadOptionName, OrderBuffer, Path, PathBuf, Reason, Shown,
+};
+use std::cmp::Ordering;
+use std::collections::{BTreeSet, HashSet};
+
+#[test]
+fn strings() {
+    let (string, capitals) = (cstr16!("Boot.efi"), cstr16!("BOOT.EFI"));
+    assert!(string == "Boot.efi" && *string != *"Boot" && string != "Boot.efi." && string != "");
+    assert!(
+        string.eq_ignore_case(capitals)
+            && string != capitals
+            && string.matches(cstr16!("b*.[e-f]f?"))
+    );
+    assert_eq!(
+        (string.cmp_ignore_case(capitals), string.cmp(capitals)),
+        (Ordering::Equal, Ordering::Greater)
+    );
+    assert!(
+        string.chars().rev().eq("ife.tooB".chars()) && string.iter().rev().eq(string.iter().rev())
+    );
+    assert_eq!((string.iter().len(), string.into_iter().count()), (8, 8));
+    let [one, two, three] = [cstr16!(" Boot.efi. "), capitals, cstr16!("boot")];
+    assert!(one.is_same_fat_file(two) && !one.is_same_fat_file(three));
+    for text in [format!("{:>10}|", cstr16!("é")), format!("{:>10}|", "é")] {
+        assert_eq!(text, "         é|");
+    }
+    assert_eq!(
+        format!("{:-^7.3}|", cstr8!("abcd")),
+        format!("{:-^7.3}|", "abcd")
+    );
+    assert_eq!(
+        format!("{:?}", cstr16!("a\"\u{1b}")),
+        "CStr16(\"a\\\"\\u{1b}\")"
+    );
+}
+
+#[test]
+fn buffers_and_what_is_no_string() {
+    let mut buffer = [9; 4];
+    assert!(CStr16::from_str_with_buf("abcdef\u{1f600}", &mut buffer).is_err());
+    assert_eq!(buffer, [9; 4]);
+    let mut bytes = [9; 3];
+    assert_eq!(cstr16!("é").to_str_in_buf(&mut bytes), Ok("é"));
+    let error = cstr16!("é").to_str_in_buf(&mut bytes[..2]).unwrap_err();
+    assert_eq!((error.reason, error.place), (Reason::BufferTooSmall, 3));
+    let units = [0x61, 0xd800, 0xd83d, 0xde00, 0, 0x62];
+    assert_eq!(
+        str_from_units_lossy(&units, &mut [9; 16]),
+        Ok("a\u{fffd}\u{1f600}")
+    );
+    let error = str_from_units_lossy(&units, &mut [9; 8]).unwrap_err();
+    assert_eq!((error.reason, error.place), (Reason::BufferTooSmall, 9));
+    assert_eq!(
+        Shown("red\u{1b}\u{202e}".chars()).to_string(),
+        "red\\u{1b}\\u{202e}"
+    );
+}
+
+#[test]
+fn paths() {
+    let [path, same, other] =
+        [r"\efi\.\Boot\a.efi", r"efi\.\Boot\a.efi", r"EFI\*\*\?.efi"].map(path_of);
+    assert!(path == same && path.cmp(&same) == Ordering::Equal && path != other);
+    assert!(path.matches(&other) && path.eq_ignore_case(&same));
+    assert!(path.iter().eq(["efi", ".", "Boot", "a.efi"]));
+    assert!(path.iter().rev().eq(["a.efi", "Boot", ".", "efi"]));
+    assert_eq!(path.file_name(), Some(cstr16!("a.efi")));
+    let mut buffer = [9; 32];
+    assert_eq!(
+        path.normalize_in_buf(&mut buffer).unwrap(),
+        r"efi\Boot\a.efi"
+    );
+    assert_eq!(path.normalize().unwrap(), r"efi\Boot\a.efi");
+    assert_eq!(path_of("a/..").normalize().unwrap().to_string(), r"\");
+    assert_eq!(path.parent_in_buf(&mut buffer).unwrap(), r"efi\.\Boot");
+    let [folder, file] = ["/a/b", "c/d"].map(path_of);
+    assert_eq!(
+        folder.join_in_buf(&file, &mut buffer).unwrap().to_string(),
+        r"\a\b\c\d"
+    );
+    let error = path.normalize_in_buf(&mut buffer[..3]).unwrap_err();
+    assert_eq!((error.reason, error.place), (Reason::BufferTooSmall, 15));
+    assert_eq!(
+        Path::normalize_str_in_buf("/efi/é/../a", &mut buffer).unwrap(),
+        r"efi\a"
+    );
+    for (text, room, reason, place) in [
+        ("abc", 7, Reason::BufferTooSmall, 8),
+        ("a/..\0", 32, Reason::InteriorNul, 4),
+    ] {
+        let error = Path::normalize_str_in_buf(text, &mut buffer[..room]).unwrap_err();
+        assert_eq!((error.reason, error.place), (reason, place));
+    }
+    assert_eq!(
+        path_of("a").parent_in_buf(&mut buffer).unwrap_err().reason,
+        Reason::NoParent
+    );
+}
+
+/// A path of its own.
+fn path_of(text: &str) -> PathBuf {
+    text.parse().unwrap()
+}
+
+#[test]
+fn components_from_both_ends() {
+    for (text, wanted) in [
+        ("", &[][..]),
+        (r"\", &[]),
+        (r"\\", &["", ""]),
+        (r"a\b\c", &["a", "b", "c"]),
+        (r"\a\\b\", &["a", "", "b", ""]),
+    ] {
+        let path = path_of(text);
+        assert!(path.iter().eq(wanted.iter().copied()), "{text}");
+        assert!(path.iter().rev().eq(wanted.iter().rev().copied()), "{text}");
+        let (mut iter, mut left) = (path.components(), wanted.len());
+        while left > 0 {
+            let (least, most) = iter.size_hint();
+            assert!(least <= left && most.unwrap() >= left);
+            assert!(if left % 2 == 0 {
+                iter.next()
+            } else {
+                iter.next_back()
+            }
+            .is_some());
+            left -= 1;
+        }
+        assert_eq!(
+            (iter.next(), iter.next_back(), iter.next()),
+            (None, None, None)
+        );
+    }
+}
+
+#[test]
+fn refused_paths() {
+    for (text, sentence, place, character) in [
+        ("", "path is empty", 0, None),
+        (r"a\\b", "path contains an empty component, at 2", 2, None),
+        (r"\a\b\", "path contains an empty component, at 5", 5, None),
+        (
+            r"\a\x:y\z",
+            "path contains an illegal character, ':' (U+003A), at 4",
+            4,
+            Some(':'),
+        ),
+        (r"a\.\..\..\b", "path climbs above the root, at 7", 7, None),
+    ] {
+        for error in [
+            path_of(text).validate().unwrap_err(),
+            path_of(text).validate().err().unwrap(),
+        ] {
+            assert_eq!(
+                (error.to_string().as_str(), error.place, error.character),
+                (sentence, place, character)
+            );
+        }
+    }
+    let error = path_of("a:b").normalize().unwrap_err();
+    assert_eq!(
+        (error.reason, error.character),
+        (Reason::IllegalChar, Some(':'))
+    );
+    for (text, sentence) in [
+        ("ab😀", "invalid character, '😀' (U+1F600), at 2"),
+        ("ab\0", "interior null character, '\\0' (U+0000), at 2"),
+    ] {
+        assert_eq!(text.parse::<PathBuf>().unwrap_err().to_string(), sentence);
+        assert_eq!(path_of("c").join(text).unwrap_err().to_string(), sentence);
+        let mut path = path_of("c");
+        assert!(path.push(text).is_err() && path == "c");
+    }
+}
+
+#[test]
+fn paths_in_collections() {
+    let paths = [r"\b", "b", "a", r"a\c", r"\a\c"].map(path_of);
+    let ordered: Vec<_> = paths
+        .iter()
+        .cloned()
+        .collect::<BTreeSet<_>>()
+        .into_iter()
+        .collect();
+    assert_eq!(ordered, ["a", r"a\c", "b"]);
+    let set: HashSet<_> = paths.iter().cloned().collect();
+    assert_eq!(
+        (set.len(), set.contains(Path::new(cstr16!(r"\a")))),
+        (3, true)
+    );
+    let joined: PathBuf = paths.iter().take(3).collect();
+    assert_eq!(joined.to_string(), r"\b\b\a");
+    assert_eq!(path_of(r"a\").join(cstr16!("b")).to_string(), r"a\b");
+}
+
+#[test]
+fn guids() {
+    let text = "c12a7328-f81f-11d2-ba4b-00a0c93ec93b";
+    let system = guid!("C12A7328-F81F-11D2-BA4B-00A0C93EC93B");
+    assert_eq!(
+        (text.parse(), system.to_string()),
+        (Ok(system), text.to_string())
+    );
+    assert_eq!(
+        system.to_bytes(),
+        *b"\x28\x73\x2a\xc1\x1f\xf8\xd2\x11\xba\x4b\x00\xa0\xc9\x3e\xc9\x3b"
+    );
+    assert_eq!(Guid::from_bytes([0; 16]), Guid::ZERO);
+    for (text, place) in [
+        (&text[..35], 35),
+        ("c12a7328_", 8),
+        ("x", 0),
+        (&format!("{text}0"), 36),
+    ] {
+        assert_eq!(text.parse::<Guid>().unwrap_err().place, place);
+    }
+}
+
+#[test]
+fn boot_variables() {
+    let name = LoadOptionName::from_cstr16(cstr16!("SysPrep0A1F")).unwrap();
+    assert_eq!((name.kind, name.number), (LoadOptionKind::SysPrep, 0xa1f));
+    let mut buffer = [9; 24];
+    assert_eq!(name.to_cstr16_in_buf(&mut buffer).unwrap(), "SysPrep0A1F");
+    let error = name.to_cstr16_in_buf(&mut buffer[..11]).unwrap_err();
+    assert_eq!((error.reason, error.place), (Reason::BufferTooSmall, 12));
+    for kind in [
+        LoadOptionKind::Boot,
+        LoadOptionKind::Driver,
+        LoadOptionKind::SysPrep,
+        LoadOptionKind::PlatformRecovery,
+    ] {
+        let name = LoadOptionName {
+            kind,
+            number: 0xbeef,
+        };
+        assert_eq!(name.to_string(), format!("{kind:?}BEEF"));
+        assert_eq!(name.to_string().parse(), Ok(name));
+    }
+    for text in [
+        "BootOrder",
+        "Boot001f",
+        "",
+        "PlatformRecovery00000",
+        "Boot00é0",
+    ] {
+        assert_eq!(
+            text.parse::<LoadOptionName>().unwrap_err().reason,
+            Reason::NotAName
+        );
+    }
+}
+
+#[test]
+fn orders() {
+    assert!(order_numbers(&[1, 0, 0, 2]).unwrap().eq([1, 0x200]));
+    assert_eq!(
+        (
+            order_numbers(&[]).unwrap().len(),
+            order_numbers(&[1, 0]).unwrap().len()
+        ),
+        (0, 1)
+    );
+    assert_eq!(order_numbers(&[1]).unwrap_err().reason, Reason::OddBytes);
+    let mut places = [0; 3];
+    let mut order = OrderBuffer::new(&mut places);
+    for (place, number) in [(0, 7), (9, 8), (1, 9)] {
+        order.insert(place, number).unwrap();
+    }
+    assert_eq!(order.as_slice(), [7, 9, 8]);
+    let error = order.insert(0, 5).unwrap_err();
+    assert_eq!((error.reason, error.place), (Reason::BufferTooSmall, 4));
+    assert!(order.move_to_front(8) && !order.move_to_front(5));
+    assert!(order.remove(9) && !order.remove(9));
+    assert!(order.to_le_bytes().eq([8, 0, 7, 0]));
+    let order = OrderBuffer::from_order(&mut places, &[3, 0, 1, 0, 3, 0]).unwrap();
+    assert_eq!(order.as_slice(), [3, 1]);
+    assert!(OrderBuffer::from_order(&mut places[..1], &[3, 0, 1, 0]).is_err());
+    assert!(OrderBuffer::from_order(&mut places, &[3]).is_err());
+}
