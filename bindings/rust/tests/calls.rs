@@ -1,4 +1,5 @@
 //! The calls that the crate `uefi` lacks: each once with an answer and once refused.
+#![cfg(feature = "alloc")]
 
 use nardcorbel::{
     cstr16, cstr8, guid, order_numbers, str_from_units_lossy, CStr16, Guid, LoadOptionKind,
@@ -152,15 +153,11 @@ fn refused_paths() {
         ),
         (r"a\.\..\..\b", "path climbs above the root, at 7", 7, None),
     ] {
-        for error in [
-            path_of(text).validate().unwrap_err(),
-            path_of(text).validate().err().unwrap(),
-        ] {
-            assert_eq!(
-                (error.to_string().as_str(), error.place, error.character),
-                (sentence, place, character)
-            );
-        }
+        let error = path_of(text).validate().unwrap_err();
+        assert_eq!(
+            (error.to_string().as_str(), error.place, error.character),
+            (sentence, place, character)
+        );
     }
     let error = path_of("a:b").normalize().unwrap_err();
     assert_eq!(

@@ -1,4 +1,5 @@
 //! Lines as authors of Rust write them, who know `std::path`, `camino` or the crate `uefi`.
+#![cfg(feature = "alloc")]
 
 use nardcorbel::proto::device_path::build::{self, DevicePathBuilder};
 use nardcorbel::{cstr16, CString16, DevicePath, OrderBuffer, Path, PathBuf};
