@@ -14,7 +14,8 @@ fn main() -> Result<(), Box<dyn Error>> {
     println!("description: {}", option.description());
     for path in option.device_paths() {
         println!("device path: {path}");
-        let file = path.file_path()?;
+        let mut units = vec![0; bytes.len()];
+        let file = path.file_path_in_buf(&mut units)?;
         match file.validate() {
             Ok(()) => println!("file: {file}"),
             Err(error) => println!("file: {}: {error}", Shown(file.to_cstr16().chars())),

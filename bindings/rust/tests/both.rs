@@ -1,5 +1,6 @@
 //! What this crate and the crate `uefi` have in common, by names that both have: the file also passes with `uefi` in place of
 //! `nardcorbel` in its `use` lines, which `bindings/rust/check` tries.
+#![cfg(feature = "alloc")]
 
 use nardcorbel::data_types::{
     CharConversionError, EqStrUntilNul, FromSliceUntilNulError, FromSliceWithNulError,

@@ -2,8 +2,8 @@
 #![cfg(feature = "alloc")]
 
 use nardcorbel::{
-    cstr16, cstr8, guid, order_numbers, str_from_units_lossy, CStr16, Guid, LoadOptionKind,
-    LoadOptionName, OrderBuffer, Path, PathBuf, Reason, Shown,
+    cstr16, cstr8, guid, order_numbers, str_from_units_lossy, CStr16, CString16, Guid,
+    LoadOptionKind, LoadOptionName, OrderBuffer, Path, PathBuf, Reason, Shown,
 };
 use std::cmp::Ordering;
 use std::collections::{BTreeSet, HashSet};
@@ -158,6 +158,15 @@ fn refused_paths() {
             (error.to_string().as_str(), error.place, error.character),
             (sentence, place, character)
         );
+    }
+    for (text, place) in [("x/../y/../..", 10), ("/a//b", 3), ("a/b*", 3), ("//", 1)] {
+        let error = Path::normalize_str_in_buf(text, &mut [0; 32]).unwrap_err();
+        assert_eq!(
+            (error.place, error),
+            (place, path_of(text).normalize().unwrap_err())
+        );
+        let path = Path::new(&CString16::try_from(text).unwrap()).normalize();
+        assert_eq!(path.unwrap_err(), error);
     }
     let error = path_of("a:b").normalize().unwrap_err();
     assert_eq!(

@@ -111,7 +111,7 @@ impl Path {
     /// assert_eq!(error.to_string(), "path contains an illegal character, ':' (U+003A), at 3");
     /// ```
     pub fn validate(&self) -> Result<(), Error> {
-        validate_path(self).map_err(|error| located(error, self))
+        validate_path(self).map_err(|error| error.located(self.0.chars()))
     }
 
     /// Returns whether both paths are equal without case, as the firmware's file systems compare them.
@@ -183,7 +183,8 @@ impl Path {
     pub fn normalize_in_buf<'a>(&self, buffer: &'a mut [u16]) -> Result<&'a Self, Error> {
         let (mut length, mut unit) = (0, 0);
         let reason = sys::nard_path_normalize(self.units(), buffer, &mut length, &mut unit);
-        written(reason, length, buffer).map_err(|error| error.with_unit(unit))
+        written(reason, length, buffer)
+            .map_err(|error| located(error.with_unit(unit), self.0.chars(), true))
     }
 
     /// Writes the path that a text is, without `.` and without each name that a `..` follows, to the start of a buffer and
@@ -206,9 +207,8 @@ impl Path {
                 Reason::BufferTooSmall,
                 length.saturating_add(1).saturating_mul(2),
             )),
-            reason => {
-                written(reason, length, buffer).map_err(|error| error.in_text(text).with_unit(unit))
-            }
+            reason => written(reason, length, buffer)
+                .map_err(|error| located(error.in_text(text).with_unit(unit), text.chars(), true)),
         }
     }
 }

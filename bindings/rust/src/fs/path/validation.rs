@@ -1,6 +1,6 @@
 //! Which paths name a file.
 
-use super::{Path, SEPARATOR};
+use super::Path;
 use crate::data_types::Char16;
 use crate::error::{Error, Reason};
 use crate::sys;
@@ -60,40 +60,61 @@ pub fn validate_path<P: AsRef<Path>>(path: P) -> Result<(), PathError> {
     }
 }
 
-/// The error, and the index in the text of the character or the component that is at fault.
-pub(super) fn located(error: PathError, path: &Path) -> Error {
-    let text = path.to_cstr16().as_slice();
-    let (mut start, mut depth) = (usize::from(text.first() == Some(&SEPARATOR)), 0);
-    let mut place_where = |faulty: &mut dyn FnMut(&[Char16]) -> bool| {
-        for component in path.components() {
-            if faulty(component) {
-                break;
-            }
-            start += component.len() + 1;
+impl PathError {
+    /// The reason, and the character at fault.
+    fn parts(self) -> (Reason, Option<char>) {
+        match self {
+            Self::Empty => (Reason::PathEmpty, None),
+            Self::EmptyComponent => (Reason::EmptyComponent, None),
+            Self::IllegalChar(it) => (Reason::IllegalChar, Some(it.into())),
+            Self::ClimbsAboveRoot => (Reason::ClimbsAboveRoot, None),
         }
-        start
-    };
-    match error {
-        PathError::Empty => Error::new(Reason::PathEmpty, 0),
-        PathError::EmptyComponent => {
-            Error::new(Reason::EmptyComponent, place_where(&mut |it| it.is_empty()))
+    }
+
+    /// The error, and where it is in the text of the path.
+    pub(super) fn located(self, chars: impl Iterator<Item = char>) -> Error {
+        let (reason, character) = self.parts();
+        let error = Error {
+            character,
+            ..Error::new(reason, 0)
+        };
+        located(error, chars, false)
+    }
+}
+
+/// The error of a path with the index of the character or the component at fault. In a path that is normalized, slashes
+/// separate too.
+pub(super) fn located(error: Error, chars: impl Iterator<Item = char>, slashes: bool) -> Error {
+    if !matches!(
+        error.reason,
+        Reason::EmptyComponent | Reason::IllegalChar | Reason::ClimbsAboveRoot
+    ) {
+        return error;
+    }
+    let (mut start, mut depth, mut dots) = (0, 0, true);
+    let place = chars.chain(['\\']).enumerate().find_map(|(index, it)| {
+        if it != '\\' && !(slashes && it == '/') {
+            dots &= it == '.';
+            // No component before the faulty one holds an illegal character.
+            return (error.character == Some(it)).then_some(index);
         }
-        PathError::IllegalChar(character) => Error {
-            reason: Reason::IllegalChar,
-            // No component before the faulty one holds such a character.
-            place: text.iter().position(|it| *it == character).unwrap_or(0),
-            character: Some(character.into()),
-        },
-        PathError::ClimbsAboveRoot => {
-            let mut climbs = |component: &[Char16]| {
-                depth += match component {
-                    [dot] if *dot == '.' => 0,
-                    [one, two] if *one == '.' && *two == '.' => -1,
-                    _ => 1,
-                };
-                depth < 0
-            };
-            Error::new(Reason::ClimbsAboveRoot, place_where(&mut climbs))
+        let (component, length) = (start, index - start);
+        depth += match length {
+            0 => 0,
+            1 if dots => 0,
+            2 if dots => -1,
+            _ => 1,
+        };
+        (start, dots) = (index + 1, true);
+        match error.reason {
+            // One separator at the start makes no difference.
+            Reason::EmptyComponent => (length == 0 && index > 0).then_some(component),
+            Reason::ClimbsAboveRoot => (depth < 0).then_some(component),
+            _ => None,
         }
+    });
+    Error {
+        place: place.unwrap_or(0),
+        ..error
     }
 }
