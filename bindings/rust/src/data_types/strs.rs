@@ -101,8 +101,7 @@ impl CStr8 {
         match bytes.iter().position(|it| *it == 0) {
             None => Err(FromSliceWithNulError::NotNulTerminated),
             Some(it) if it + 1 < bytes.len() => Err(FromSliceWithNulError::InteriorNul(it)),
-            // SAFETY: the last byte is the first NUL.
-            Some(_) => Ok(unsafe { Self::from_bytes_with_nul_unchecked(bytes) }),
+            Some(_) => Ok(Self::from_constant(bytes)),
         }
     }
 
@@ -117,7 +116,7 @@ impl CStr8 {
         unsafe { &*(ptr::from_ref(bytes) as *const Self) }
     }
 
-    /// The string of a constant, for the macro `cstr8!`.
+    /// The string of bytes whose last and only the last is 0, for the macro `cstr8!`. Panics at any others.
     #[doc(hidden)]
     #[must_use]
     pub const fn from_constant(bytes: &[u8]) -> &Self {
