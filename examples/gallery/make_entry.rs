@@ -29,7 +29,9 @@ fn main() -> Result<(), Box<dyn Error>> {
             partition_signature: PartitionSignature::Guid(signature.parse()?),
             partition_format: PartitionFormat::GPT,
         })?
-        .push(&build::media::FilePath { path_name: file.to_cstr16() })?
+        .push(&build::media::FilePath {
+            path_name: file.to_cstr16(),
+        })?
         .finalize()?;
     let entry = build::LoadOption {
         attributes: 1, // LOAD_OPTION_ACTIVE
