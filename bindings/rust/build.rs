@@ -1,5 +1,5 @@
 //! Finds the archive: in the folder that `NARDCORBEL_LIB_DIR` names, else in the release that this crate lies in, else in the
-//! repository, where `rt lib` and `tools/firmware-lib` build it.
+//! repository, where `rt lib` and `tools/firmware-lib` build it. If there is none, only a program that is linked fails.
 
 use std::env;
 use std::path::{Path, PathBuf};
@@ -8,9 +8,14 @@ fn main() {
     println!("cargo:rerun-if-env-changed=NARDCORBEL_LIB_DIR");
     let of = |name: &str| env::var(name).unwrap_or_default();
     let (processor, system) = (of("CARGO_CFG_TARGET_ARCH"), of("CARGO_CFG_TARGET_OS"));
-    let file = match system.as_str() {
-        "uefi" => "nardcorbel_firmware.lib",
-        _ => "libnardcorbel.a",
+    // On targets of UEFI rustc looks for libNAME.a, so the file has its whole name.
+    let (file, modifiers, name) = match system.as_str() {
+        "uefi" => (
+            "nardcorbel_firmware.lib",
+            "+verbatim",
+            "nardcorbel_firmware.lib",
+        ),
+        _ => ("libnardcorbel.a", "-verbatim", "nardcorbel"),
     };
     let top = Path::new(&of("CARGO_MANIFEST_DIR")).join("../../..");
     let repository = Path::new(&of("CARGO_MANIFEST_DIR")).join("../../crates/nardcorbel/out");
@@ -25,18 +30,18 @@ fn main() {
             repository,
         ],
     };
-    match folders.iter().find(|it| it.join(file).is_file()) {
-        Some(folder) => {
-            println!("cargo:rerun-if-changed={}", folder.join(file).display());
-            println!("cargo:rustc-link-search=native={}", folder.display());
-        }
-        None => panic!(
-            "there is no {file} in {folders:?}: set NARDCORBEL_LIB_DIR to the folder that has it"
-        ),
+    for folder in &folders {
+        println!("cargo:rerun-if-changed={}", folder.join(file).display());
     }
-    // On targets of UEFI rustc looks for libNAME.a, so the file has its whole name.
-    match system.as_str() {
-        "uefi" => println!("cargo:rustc-link-lib=static:+verbatim={file}"),
-        _ => println!("cargo:rustc-link-lib=static=nardcorbel"),
+    let found = folders.iter().find(|it| it.join(file).is_file());
+    if let Some(folder) = found {
+        println!("cargo:rustc-link-search=native={}", folder.display());
     }
+    // An archive that is not bundled is looked for when a program is linked.
+    let bundle = if found.is_some() {
+        "+bundle"
+    } else {
+        "-bundle"
+    };
+    println!("cargo:rustc-link-lib=static:{bundle},{modifiers}={name}");
 }

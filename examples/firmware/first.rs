@@ -3,7 +3,7 @@
 #![no_main]
 
 use core::ffi::c_void;
-use nardcorbel::{CStr16, Error, Path};
+use nardcorbel::{cstr16, Error, Path};
 
 /// What the firmware's table has before the console for output, and that (UEFI Specification 2.10, section 4.3).
 #[repr(C)]
@@ -21,12 +21,12 @@ pub struct Console {
 
 /// Makes a path normal, and prints it.
 fn print_normal(console: *mut Console) -> Result<(), Error> {
-    let (mut string, mut normal) = ([0; 48], [0; 48]);
-    let file = CStr16::from_str_with_buf(r"\EFI\debian\..\BOOT\.\BOOTX64.EFI", &mut string)?;
-    let path = Path::new(file).normalize_in_buf(&mut normal)?;
-    for units in [path.to_cstr16().to_u16_slice_with_nul(), &[0x0d, 0x0a, 0]] {
-        // SAFETY: the firmware gave its console, and the units end in a NUL.
-        unsafe { ((*console).output_string)(console, units.as_ptr()) };
+    let mut normal = [0; 48];
+    let file = Path::new(cstr16!(r"\EFI\debian\..\BOOT\.\BOOTX64.EFI"));
+    let path = file.normalize_in_buf(&mut normal)?;
+    for string in [path.to_cstr16(), cstr16!("\r\n")] {
+        // SAFETY: the firmware gave its console, and a string ends in a NUL.
+        unsafe { ((*console).output_string)(console, string.as_ptr().cast()) };
     }
     Ok(())
 }

@@ -5,15 +5,13 @@
 //!
 //!     boot/EFI/BOOT/BOOTX64.EFI
 
-use nardcorbel::CStr16;
+use nardcorbel::{CStr16, CString16};
 use std::error::Error;
 use std::{env, fs, io, path::Path, path::PathBuf};
 
 /// Whether a name matches. One that UCS-2 cannot say is the name of no file in firmware.
 fn matches(name: &str, pattern: &CStr16) -> bool {
-    // Linux has no longer names.
-    let mut buffer = [0; 256];
-    CStr16::from_str_with_buf(name, &mut buffer).is_ok_and(|it| it.matches(pattern))
+    CString16::try_from(name).is_ok_and(|it| it.matches(pattern))
 }
 
 fn find(folder: &Path, pattern: &CStr16, found: &mut Vec<PathBuf>) -> io::Result<()> {
@@ -37,10 +35,8 @@ fn main() -> Result<(), Box<dyn Error>> {
     let [_, folder, pattern] = &words[..] else {
         return Err("usage: find_files FOLDER PATTERN".into());
     };
-    let mut buffer = vec![0; pattern.len() + 1];
-    let pattern = CStr16::from_str_with_buf(pattern, &mut buffer)?;
-    let mut found = Vec::new();
-    find(Path::new(folder), pattern, &mut found)?;
+    let (pattern, mut found) = (CString16::try_from(&**pattern)?, Vec::new());
+    find(Path::new(folder), &pattern, &mut found)?;
     found.sort();
     for path in found {
         println!("{}", path.display());

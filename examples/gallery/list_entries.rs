@@ -5,7 +5,7 @@
 //!
 //!     Boot0001* debian: HD(1,GPT,03020100-0504-0706-0809-0A0B0C0D0E0F,0x800,0x100000)/\EFI\debian\shimx64.efi
 
-use nardcorbel::{order_numbers, str_from_units_lossy, LoadOption, LoadOptionKind, LoadOptionName};
+use nardcorbel::{order_numbers, LoadOption, LoadOptionKind, LoadOptionName};
 use std::{env, error::Error, fs, io};
 
 /// The owner of the variables, which ends the names of their files.
@@ -18,16 +18,13 @@ fn value(folder: &str, name: &str) -> io::Result<Vec<u8>> {
 }
 
 /// Prints an entry, or fails if there is none, or it is malformed.
-fn print(folder: &str, name: &str) -> Result<(), Box<dyn Error>> {
-    let bytes = value(folder, name)?;
+fn print(folder: &str, name: &LoadOptionName) -> Result<(), Box<dyn Error>> {
+    let bytes = value(folder, &name.to_string())?;
     let option = LoadOption::from_bytes(&bytes)?;
     let star = if option.is_active() { "*" } else { "" };
-    // No byte prints more than four units, and no unit more than three bytes.
-    let (mut units, mut text) = (vec![0; 4 * bytes.len()], vec![0; 12 * bytes.len()]);
     for path in option.device_paths() {
-        let shown = str_from_units_lossy(path.text_in_buf(false, false, &mut units)?, &mut text)?;
-        println!("{name}{star} {}: {shown}", option.description());
-        let file = path.file_path_in_buf(&mut units);
+        println!("{name}{star} {}: {path}", option.description());
+        let file = path.file_path();
         match file.and_then(|it| it.validate().map(|()| it)) {
             Ok(file) => println!("  file: {file}"),
             Err(error) => println!("  no file: {error}"),
@@ -41,9 +38,7 @@ fn main() -> Result<(), Box<dyn Error>> {
     let order = value(&folder, "BootOrder")?;
     for number in order_numbers(&order)? {
         let kind = LoadOptionKind::Boot;
-        let name = LoadOptionName { kind, number }
-            .to_cstr16_in_buf(&mut [0; 32])?
-            .to_string();
+        let name = LoadOptionName { kind, number };
         print(&folder, &name).unwrap_or_else(|error| println!("{name}: {error}"));
     }
     Ok(())

@@ -6,15 +6,13 @@
 //!
 //! Ends with 1 if a path is refused.
 
-use nardcorbel::Path;
+use nardcorbel::PathBuf;
 use std::process::ExitCode;
 
 fn main() -> ExitCode {
     let mut status = ExitCode::SUCCESS;
     for name in std::env::args().skip(1) {
-        // As much as any path of this length needs.
-        let mut buffer = vec![0; 2 * name.len() + 2];
-        match Path::normalize_str_in_buf(&name, &mut buffer) {
+        match name.parse::<PathBuf>().and_then(|it| it.normalize()) {
             Ok(path) => println!("{path}"),
             Err(error) => {
                 println!("{name}: {error}");

@@ -27,10 +27,7 @@ fn main() -> Result<(), Box<dyn Error>> {
         let full = bytes_of(&line?)?;
         let full = DevicePath::from_bytes(&full)?;
         if full.is_expansion_of(short) {
-            // No byte of a device path prints more than four units.
-            let mut buffer = vec![0; 4 * full.as_bytes().len() + 1];
-            let text = full.text_in_buf(false, false, &mut buffer)?;
-            println!("{}", String::from_utf16_lossy(text));
+            println!("{full}");
         }
     }
     Ok(())

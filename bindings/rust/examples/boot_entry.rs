@@ -1,12 +1,8 @@
 //! Prints a boot entry, the value of a variable `Boot####` from standard input, such as `examples/data/Boot0001`.
 
-use nardcorbel::{LoadOption, Path, Shown};
+use nardcorbel::{LoadOption, Shown};
 use std::error::Error;
 use std::io::{self, Read};
-
-fn text(units: &[u16]) -> String {
-    String::from_utf16_lossy(units)
-}
 
 fn main() -> Result<(), Box<dyn Error>> {
     let mut bytes = Vec::new();
@@ -17,15 +13,12 @@ fn main() -> Result<(), Box<dyn Error>> {
     println!("active: {}", option.is_active());
     println!("description: {}", option.description());
     for path in option.device_paths() {
-        let mut buffer = vec![0; 0x10000];
-        println!(
-            "device path: {}",
-            text(path.text_in_buf(false, false, &mut buffer)?)
-        );
-        let file: &Path = path.file_path_in_buf(&mut buffer)?;
+        println!("device path: {path}");
+        let mut units = vec![0; bytes.len()];
+        let file = path.file_path_in_buf(&mut units)?;
         match file.validate() {
             Ok(()) => println!("file: {file}"),
-            Err(error) => println!("file: {}: {error}", Shown(file.to_string().chars())),
+            Err(error) => println!("file: {}: {error}", Shown(file.to_cstr16().chars())),
         }
     }
     Ok(())

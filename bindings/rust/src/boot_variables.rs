@@ -1,11 +1,15 @@
 //! Names of load options, and orders of them.
 
+use crate::data_types::CStr16;
 use crate::error::{check, Error, Reason};
-use crate::strs::CStr16;
 use crate::sys;
+use core::fmt;
+use core::iter::FusedIterator;
+use core::ops::Deref;
+use core::str::FromStr;
 
 /// What load options a name is for.
-#[derive(Clone, Copy, Debug, PartialEq, Eq, Hash)]
+#[derive(Clone, Copy, Debug, PartialEq, Eq, PartialOrd, Ord, Hash)]
 pub enum LoadOptionKind {
     /// `Boot####`.
     Boot,
@@ -18,7 +22,16 @@ pub enum LoadOptionKind {
 }
 
 /// The name of the variable of a load option, such as `Boot001F`.
-#[derive(Clone, Copy, Debug, PartialEq, Eq, Hash)]
+///
+/// ```
+/// use nardcorbel::{LoadOptionKind, LoadOptionName};
+///
+/// let name: LoadOptionName = "Boot001F".parse()?;
+/// assert_eq!((name.kind, name.number), (LoadOptionKind::Boot, 0x1f));
+/// assert_eq!(name.to_string(), "Boot001F");
+/// # Ok::<(), nardcorbel::Error>(())
+/// ```
+#[derive(Clone, Copy, Debug, PartialEq, Eq, PartialOrd, Ord, Hash)]
 pub struct LoadOptionName {
     /// What load options it is for.
     pub kind: LoadOptionKind,
@@ -27,23 +40,17 @@ pub struct LoadOptionName {
     pub number: u16,
 }
 
+/// The longest name, and its NUL.
+const NAME_ROOM: usize = 21;
+
 impl LoadOptionName {
     /// Reads a name. Fails if the string is none: after the word stand four digits of hexadecimal, in upper case.
-    ///
-    /// ```
-    /// # use nardcorbel::{CStr16, LoadOptionKind, LoadOptionName};
-    /// let mut buffer = [0; 16];
-    /// let name = LoadOptionName::from_cstr16(CStr16::from_str_with_buf("Boot001F", &mut buffer)?)?;
-    /// assert_eq!((name.kind, name.number), (LoadOptionKind::Boot, 0x1f));
-    /// # Ok::<(), nardcorbel::Error>(())
-    /// ```
     pub fn from_cstr16(string: &CStr16) -> Result<Self, Error> {
-        let (units, mut kind, mut number) = (string.to_u16_slice_with_nul(), 0, 0);
-        // SAFETY: the pointer and the count are those of a slice; `kind` and `number` are locals.
-        let reason = unsafe {
-            sys::nard_boot_name_read(units.as_ptr(), units.len(), &mut kind, &mut number)
-        };
-        check(reason, 0)?;
+        let (mut kind, mut number) = (0, 0);
+        check(
+            sys::nard_boot_name_read(string.to_u16_slice_with_nul(), &mut kind, &mut number),
+            0,
+        )?;
         let kind = match kind {
             sys::DRIVER => LoadOptionKind::Driver,
             sys::SYS_PREP => LoadOptionKind::SysPrep,
@@ -54,14 +61,6 @@ impl LoadOptionName {
     }
 
     /// Writes the name and a NUL to the start of a buffer, and returns the string. It has at most 20 characters.
-    ///
-    /// ```
-    /// # use nardcorbel::{LoadOptionKind, LoadOptionName};
-    /// let mut buffer = [0; 16];
-    /// let name = LoadOptionName { kind: LoadOptionKind::Driver, number: 10 };
-    /// assert_eq!(name.to_cstr16_in_buf(&mut buffer)?, "Driver000A");
-    /// # Ok::<(), nardcorbel::Error>(())
-    /// ```
     pub fn to_cstr16_in_buf(self, buffer: &mut [u16]) -> Result<&CStr16, Error> {
         let kind = match self.kind {
             LoadOptionKind::Boot => sys::BOOT,
@@ -70,18 +69,29 @@ impl LoadOptionName {
             LoadOptionKind::PlatformRecovery => sys::PLATFORM_RECOVERY,
         };
         let mut place = 0;
-        // SAFETY: the pointer and the count are those of a slice that is not shared; `place` is a local.
-        let reason = unsafe {
-            sys::nard_boot_name_write(
-                kind,
-                self.number,
-                buffer.as_mut_ptr(),
-                buffer.len(),
-                &mut place,
-            )
-        };
-        check(reason, place)?;
+        check(
+            sys::nard_boot_name_write(kind, self.number, buffer, &mut place),
+            place,
+        )?;
         Ok(CStr16::of(&buffer[..=place]))
+    }
+}
+
+impl FromStr for LoadOptionName {
+    type Err = Error;
+
+    fn from_str(text: &str) -> Result<Self, Error> {
+        let string = CStr16::from_str_with_buf(text, &mut [0; NAME_ROOM]).map(Self::from_cstr16);
+        string.unwrap_or(Err(Error::new(Reason::NotAName, 0)))
+    }
+}
+
+impl fmt::Display for LoadOptionName {
+    fn fmt(&self, f: &mut fmt::Formatter<'_>) -> fmt::Result {
+        match self.to_cstr16_in_buf(&mut [0; NAME_ROOM]) {
+            Ok(it) => fmt::Display::fmt(it, f),
+            Err(_) => Err(fmt::Error),
+        }
     }
 }
 
@@ -90,25 +100,59 @@ impl LoadOptionName {
 /// Fails if their number is odd.
 ///
 /// ```
-/// # use nardcorbel::order_numbers;
+/// use nardcorbel::order_numbers;
+///
 /// assert!(order_numbers(&[3, 0, 0x1f, 0])?.eq([3, 0x1f]));
+/// assert_eq!(order_numbers(&[3]).unwrap_err().to_string(), "odd number of bytes, at 1");
 /// # Ok::<(), nardcorbel::Error>(())
 /// ```
-pub fn order_numbers(bytes: &[u8]) -> Result<impl Iterator<Item = u16> + '_, Error> {
-    let read = |place| {
-        let mut number = 0;
-        // SAFETY: the pointer and the count are those of a slice; `number` is a local.
-        let reason =
-            unsafe { sys::nard_boot_order_read(bytes.as_ptr(), bytes.len(), place, &mut number) };
-        check(reason, bytes.len()).map(|()| number)
-    };
-    match read(0) {
-        Err(error) if error.reason != Reason::EndOfOrder => Err(error),
-        _ => Ok((0..).map_while(move |place| read(place).ok())),
+pub fn order_numbers(bytes: &[u8]) -> Result<OrderNumbers<'_>, Error> {
+    let mut number = 0;
+    match sys::nard_boot_order_read(bytes, 0, &mut number) {
+        sys::OK | sys::END_OF_ORDER => Ok(OrderNumbers { bytes, place: 0 }),
+        reason => Err(Error::new(Reason::of(reason), bytes.len())),
     }
 }
 
-/// An order that is edited in a buffer: each number stands in it once.
+/// Iterates over the numbers of an order.
+#[derive(Clone, Debug)]
+pub struct OrderNumbers<'a> {
+    bytes: &'a [u8],
+    place: usize,
+}
+
+impl Iterator for OrderNumbers<'_> {
+    type Item = u16;
+
+    fn next(&mut self) -> Option<u16> {
+        let mut number = 0;
+        let found = sys::nard_boot_order_read(self.bytes, self.place, &mut number) == sys::OK;
+        self.place += usize::from(found);
+        found.then_some(number)
+    }
+
+    fn size_hint(&self) -> (usize, Option<usize>) {
+        let left = self.bytes.len() / 2 - self.place;
+        (left, Some(left))
+    }
+}
+
+impl ExactSizeIterator for OrderNumbers<'_> {}
+impl FusedIterator for OrderNumbers<'_> {}
+
+/// An order that is edited in a buffer: each number stands in it once. It dereferences to its numbers.
+///
+/// ```
+/// use nardcorbel::OrderBuffer;
+///
+/// let mut places = [0; 4];
+/// let mut order = OrderBuffer::from_order(&mut places, &[3, 0, 1, 0])?;
+/// order.push(7)?;
+/// order.move_to_front(1);
+/// assert_eq!(order.as_slice(), [1, 3, 7]);
+/// assert!(order.len() == 3 && order.contains(&7));
+/// # Ok::<(), nardcorbel::Error>(())
+/// ```
 #[derive(Debug)]
 pub struct OrderBuffer<'a> {
     places: &'a mut [u16],
@@ -117,28 +161,36 @@ pub struct OrderBuffer<'a> {
 
 impl<'a> OrderBuffer<'a> {
     /// Creates an empty order in a buffer.
-    ///
-    /// ```
-    /// # use nardcorbel::OrderBuffer;
-    /// let mut places = [0; 4];
-    /// assert!(OrderBuffer::new(&mut places).as_slice().is_empty());
-    /// ```
+    #[must_use]
     pub fn new(places: &'a mut [u16]) -> Self {
         Self { places, count: 0 }
     }
 
-    /// Returns the numbers in order.
+    /// Creates an order from the bytes of a variable such as `BootOrder`. A number that stands there twice is kept where it
+    /// stands first.
     ///
-    /// ```
-    /// # use nardcorbel::OrderBuffer;
-    /// let mut places = [0; 4];
-    /// let mut order = OrderBuffer::new(&mut places);
-    /// order.insert(0, 7)?;
-    /// assert_eq!(order.as_slice(), [7]);
-    /// # Ok::<(), nardcorbel::Error>(())
-    /// ```
+    /// Fails if the number of bytes is odd, or if the buffer has too few places.
+    pub fn from_order(places: &'a mut [u16], bytes: &[u8]) -> Result<Self, Error> {
+        let mut order = Self::new(places);
+        for number in order_numbers(bytes)? {
+            if !order.contains(&number) {
+                order.push(number)?;
+            }
+        }
+        Ok(order)
+    }
+
+    /// Returns the numbers in order.
+    #[must_use]
     pub fn as_slice(&self) -> &[u16] {
         &self.places[..self.count]
+    }
+
+    /// Puts a number at the end. A number that is in the order moves.
+    ///
+    /// Fails if the number is new and the buffer has no room. The order is then unchanged.
+    pub fn push(&mut self, number: u16) -> Result<(), Error> {
+        self.insert(self.count, number)
     }
 
     /// Puts a number at a place among the others, or at the end if the place is beyond it. A number that is in the order moves.
@@ -146,72 +198,51 @@ impl<'a> OrderBuffer<'a> {
     /// Fails if the number is new and the buffer has no room. The order is then unchanged.
     ///
     /// ```
-    /// # use nardcorbel::OrderBuffer;
-    /// let mut places = [0; 4];
+    /// use nardcorbel::OrderBuffer;
+    ///
+    /// let mut places = [0; 2];
     /// let mut order = OrderBuffer::new(&mut places);
     /// order.insert(0, 7)?;
     /// order.insert(0, 9)?;
     /// assert_eq!(order.as_slice(), [9, 7]);
+    /// assert_eq!(order.push(5).unwrap_err().to_string(), "buffer too small: it needs room for 3");
     /// # Ok::<(), nardcorbel::Error>(())
     /// ```
     pub fn insert(&mut self, place: usize, number: u16) -> Result<(), Error> {
-        // SAFETY: the pointer and the count are those of a slice that is not shared; `count` is a field of its own.
-        let reason = unsafe {
-            sys::nard_boot_order_insert(
-                self.places.as_mut_ptr(),
-                self.places.len(),
-                &mut self.count,
-                place,
-                number,
-            )
-        };
+        let reason = sys::nard_boot_order_insert(self.places, &mut self.count, place, number);
         // `check` counts one more for a buffer that is too small.
         check(reason, self.count)
     }
 
     /// Removes a number, and returns whether it was in the order.
-    ///
-    /// ```
-    /// # use nardcorbel::OrderBuffer;
-    /// let mut places = [0; 4];
-    /// let mut order = OrderBuffer::new(&mut places);
-    /// order.insert(0, 7)?;
-    /// assert!(order.remove(7) && !order.remove(7));
-    /// # Ok::<(), nardcorbel::Error>(())
-    /// ```
     pub fn remove(&mut self, number: u16) -> bool {
-        // SAFETY: the pointer and the count are those of a slice that is not shared; `count` is a field of its own.
-        unsafe {
-            sys::nard_boot_order_remove(
-                self.places.as_mut_ptr(),
-                self.places.len(),
-                &mut self.count,
-                number,
-            )
-        }
+        sys::nard_boot_order_remove(self.places, &mut self.count, number)
     }
 
     /// Moves a number to the front, and returns whether it was in the order.
-    ///
-    /// ```
-    /// # use nardcorbel::OrderBuffer;
-    /// let mut places = [0; 4];
-    /// let mut order = OrderBuffer::new(&mut places);
-    /// order.insert(0, 7)?;
-    /// order.insert(1, 9)?;
-    /// assert!(order.move_to_front(9));
-    /// assert_eq!(order.as_slice(), [9, 7]);
-    /// # Ok::<(), nardcorbel::Error>(())
-    /// ```
     pub fn move_to_front(&mut self, number: u16) -> bool {
-        // SAFETY: the pointer and the count are those of a slice that is not shared; `count` is a field of its own.
-        unsafe {
-            sys::nard_boot_order_move_to_front(
-                self.places.as_mut_ptr(),
-                self.places.len(),
-                &mut self.count,
-                number,
-            )
-        }
+        sys::nard_boot_order_move_to_front(self.places, &mut self.count, number)
+    }
+
+    /// Returns the bytes of the order, as a variable holds them.
+    pub fn to_le_bytes(&self) -> impl Iterator<Item = u8> + '_ {
+        self.iter().flat_map(|it| it.to_le_bytes())
+    }
+}
+
+impl Deref for OrderBuffer<'_> {
+    type Target = [u16];
+
+    fn deref(&self) -> &[u16] {
+        self.as_slice()
+    }
+}
+
+impl<'a> IntoIterator for &'a OrderBuffer<'_> {
+    type Item = &'a u16;
+    type IntoIter = core::slice::Iter<'a, u16>;
+
+    fn into_iter(self) -> Self::IntoIter {
+        self.iter()
     }
 }

@@ -4,6 +4,14 @@ use crate::sys;
 use core::fmt;
 
 /// Why a call refuses its input, and where.
+///
+/// ```
+/// use nardcorbel::{PathBuf, Reason};
+///
+/// let error = "a\\😀".parse::<PathBuf>().unwrap_err();
+/// assert_eq!((error.reason, error.place, error.character), (Reason::InvalidChar, 2, Some('😀')));
+/// assert_eq!(error.to_string(), "invalid character, '😀' (U+1F600), at 2");
+/// ```
 #[derive(Clone, Copy, Debug, PartialEq, Eq)]
 pub struct Error {
     /// What is wrong.
@@ -12,6 +20,41 @@ pub struct Error {
     /// For [`Reason::BufferTooSmall`], how many elements the buffer needs. Otherwise the index or offset of the fault in the input.
     /// It has no meaning where the whole path or node is at fault.
     pub place: usize,
+
+    /// The character at fault, if one is.
+    pub character: Option<char>,
+}
+
+impl Error {
+    pub(crate) const fn new(reason: Reason, place: usize) -> Self {
+        Self {
+            reason,
+            place,
+            character: None,
+        }
+    }
+
+    /// Names the character at fault, if it is one of a text.
+    pub(crate) fn in_text(self, text: &str) -> Self {
+        match self.reason {
+            Reason::InvalidChar | Reason::InteriorNul => Self {
+                character: text.chars().nth(self.place),
+                ..self
+            },
+            _ => self,
+        }
+    }
+
+    /// Names the character at fault, if a call said one.
+    pub(crate) fn with_unit(self, unit: u16) -> Self {
+        match self.reason {
+            Reason::IllegalChar => Self {
+                character: char::from_u32(unit.into()),
+                ..self
+            },
+            _ => self,
+        }
+    }
 }
 
 macro_rules! reasons {
@@ -24,6 +67,8 @@ macro_rules! reasons {
                 #[doc = $text]
                 $name,
             )*
+            /// The text is no GUID.
+            NotAGuid,
             /// A number that this version of the crate does not know.
             Unknown(u32),
         }
@@ -41,6 +86,7 @@ macro_rules! reasons {
             fn fmt(&self, f: &mut fmt::Formatter<'_>) -> fmt::Result {
                 match self {
                     $(Reason::$name => f.write_str($text),)*
+                    Reason::NotAGuid => f.write_str("not a GUID"),
                     Reason::Unknown(number) => write!(f, "unknown reason {number}"),
                 }
             }
@@ -84,19 +130,21 @@ reasons! {
 
 impl fmt::Display for Error {
     fn fmt(&self, f: &mut fmt::Formatter<'_>) -> fmt::Result {
+        self.reason.fmt(f)?;
+        if let Some(character) = self.character {
+            write!(f, ", {character:?} (U+{:04X})", u32::from(character))?;
+        }
         match self.reason {
             Reason::BufferTooSmall | Reason::ScratchTooSmall => {
-                write!(f, "{}: it needs room for {}", self.reason, self.place)
+                write!(f, ": it needs room for {}", self.place)
             }
             Reason::PathEmpty
-            | Reason::EmptyComponent
-            | Reason::IllegalChar
-            | Reason::ClimbsAboveRoot
             | Reason::NoParent
             | Reason::NodeOfEnd
             | Reason::NodeTooLong
-            | Reason::ListTooLong => self.reason.fmt(f),
-            reason => write!(f, "{reason}, at {}", self.place),
+            | Reason::ListTooLong
+            | Reason::NotAName => Ok(()),
+            _ => write!(f, ", at {}", self.place),
         }
     }
 }
@@ -107,25 +155,13 @@ impl core::error::Error for Error {}
 pub(crate) fn check_bytes(number: u32, place: usize) -> Result<(), Error> {
     match number {
         sys::OK => Ok(()),
-        _ => Err(Error {
-            reason: Reason::of(number),
-            place,
-        }),
+        _ => Err(Error::new(Reason::of(number), place)),
     }
 }
 
 /// The error of any other call.
 pub(crate) fn check(number: u32, place: usize) -> Result<(), Error> {
-    match number {
-        sys::OK => Ok(()),
-        // A text also needs room for its NUL.
-        sys::BUFFER_TOO_SMALL => Err(Error {
-            reason: Reason::BufferTooSmall,
-            place: place.saturating_add(1),
-        }),
-        _ => Err(Error {
-            reason: Reason::of(number),
-            place,
-        }),
-    }
+    // A text also needs room for its NUL.
+    let missing = usize::from(number == sys::BUFFER_TOO_SMALL);
+    check_bytes(number, place.saturating_add(missing))
 }

@@ -1,5 +1,5 @@
 //! The calls of the library, made from `nardcorbel.h` by `make-sys`: the header says what each does.
-#![allow(dead_code)]
+#![allow(dead_code, clippy::too_many_arguments)]
 
 pub const OK: u32 = 0;
 pub const NO_NUL: u32 = 1;
@@ -62,396 +62,198 @@ pub struct LoadOption {
     pub optional_length: usize,
 }
 
-extern "C" {
-    pub fn nard_string_with_nul(
-        units: *const u16,
-        count: usize,
-        length: *mut usize,
-    ) -> u32;
-    pub fn nard_string_until_nul(
-        units: *const u16,
-        count: usize,
-        length: *mut usize,
-    ) -> u32;
-    pub fn nard_string_equal(
-        first: *const u16,
-        first_count: usize,
-        second: *const u16,
-        second_count: usize,
-    ) -> bool;
-    pub fn nard_string_order(
-        first: *const u16,
-        first_count: usize,
-        second: *const u16,
-        second_count: usize,
-    ) -> i32;
-    pub fn nard_string_is_ascii(
-        units: *const u16,
-        count: usize,
-    ) -> bool;
-    pub fn nard_string_equal_ignore_case(
-        first: *const u16,
-        first_count: usize,
-        second: *const u16,
-        second_count: usize,
-    ) -> bool;
-    pub fn nard_string_order_ignore_case(
-        first: *const u16,
-        first_count: usize,
-        second: *const u16,
-        second_count: usize,
-    ) -> i32;
-    pub fn nard_string_make_uppercase(
-        buffer: *mut u16,
-        room: usize,
-        length: *mut usize,
-    ) -> u32;
-    pub fn nard_string_make_lowercase(
-        buffer: *mut u16,
-        room: usize,
-        length: *mut usize,
-    ) -> u32;
-    pub fn nard_string_matches(
-        units: *const u16,
-        count: usize,
-        pattern: *const u16,
-        pattern_count: usize,
-    ) -> bool;
-    pub fn nard_units_from_bytes(
-        bytes: *const u8,
-        byte_count: usize,
-        buffer: *mut u16,
-        room: usize,
-        count: *mut usize,
-    ) -> u32;
-    pub fn nard_packed_until_nul(
-        bytes: *const u8,
-        byte_count: usize,
-        count: *mut usize,
-    ) -> u32;
-    pub fn nard_string_from_utf8(
-        bytes: *const u8,
-        byte_count: usize,
-        buffer: *mut u16,
-        room: usize,
-        length: *mut usize,
-    ) -> u32;
-    pub fn nard_utf8_from_string(
-        units: *const u16,
-        count: usize,
-        bytes: *mut u8,
-        room: usize,
-        length: *mut usize,
-    ) -> u32;
-    pub fn nard_utf8_from_units_lossy(
-        units: *const u16,
-        count: usize,
-        bytes: *mut u8,
-        room: usize,
-        length: *mut usize,
-    ) -> u32;
-    pub fn nard_string_equal_until_nul(
-        units: *const u16,
-        count: usize,
-        bytes: *const u8,
-        byte_count: usize,
-    ) -> bool;
-    pub fn nard_utf8_is_latin1(
-        bytes: *const u8,
-        byte_count: usize,
-    ) -> bool;
-    pub fn nard_path_verdict(
-        units: *const u16,
-        count: usize,
-        length: *mut usize,
-        character: *mut u16,
-    ) -> u32;
-    pub fn nard_path_equal(
-        first: *const u16,
-        first_count: usize,
-        second: *const u16,
-        second_count: usize,
-    ) -> bool;
-    pub fn nard_path_order(
-        first: *const u16,
-        first_count: usize,
-        second: *const u16,
-        second_count: usize,
-    ) -> i32;
-    pub fn nard_path_equal_ignore_case(
-        first: *const u16,
-        first_count: usize,
-        second: *const u16,
-        second_count: usize,
-    ) -> bool;
-    pub fn nard_path_matches(
-        path: *const u16,
-        count: usize,
-        pattern: *const u16,
-        pattern_count: usize,
-    ) -> bool;
-    pub fn nard_path_next_component(
-        text: *const u16,
-        length: usize,
-        place: *mut usize,
-        start: *mut usize,
-        component_length: *mut usize,
-    ) -> bool;
-    pub fn nard_path_file_name(
-        text: *const u16,
-        length: usize,
-        start: *mut usize,
-    ) -> bool;
-    pub fn nard_path_parent_length(
-        text: *const u16,
-        length: usize,
-        parent_length: *mut usize,
-    ) -> bool;
-    pub fn nard_path_push(
-        buffer: *mut u16,
-        room: usize,
-        path: *const u16,
-        count: usize,
-        length: *mut usize,
-    ) -> u32;
-    pub fn nard_path_join(
-        path: *const u16,
-        count: usize,
-        other: *const u16,
-        other_count: usize,
-        buffer: *mut u16,
-        room: usize,
-        length: *mut usize,
-    ) -> u32;
-    pub fn nard_path_parent(
-        path: *const u16,
-        count: usize,
-        buffer: *mut u16,
-        room: usize,
-        length: *mut usize,
-    ) -> u32;
-    pub fn nard_path_normalize(
-        path: *const u16,
-        count: usize,
-        buffer: *mut u16,
-        room: usize,
-        length: *mut usize,
-        character: *mut u16,
-    ) -> u32;
-    pub fn nard_path_normalize_utf8(
-        bytes: *const u8,
-        byte_count: usize,
-        buffer: *mut u16,
-        room: usize,
-        length: *mut usize,
-        character: *mut u16,
-    ) -> u32;
-    pub fn nard_fat_name_check(
-        units: *const u16,
-        count: usize,
-        length: *mut usize,
-        character: *mut u16,
-    ) -> u32;
-    pub fn nard_fat_name_equal(
-        first: *const u16,
-        first_count: usize,
-        second: *const u16,
-        second_count: usize,
-    ) -> bool;
-    pub fn nard_fat_name_is_short(
-        units: *const u16,
-        count: usize,
-    ) -> bool;
-    pub fn nard_fat_from_string(
-        units: *const u16,
-        count: usize,
-        bytes: *mut u8,
-        room: usize,
-        length: *mut usize,
-    ) -> u32;
-    pub fn nard_string_from_fat(
-        bytes: *const u8,
-        byte_count: usize,
-        buffer: *mut u16,
-        room: usize,
-        length: *mut usize,
-    ) -> u32;
-    pub fn nard_device_path_check(
-        bytes: *const u8,
-        byte_count: usize,
-        length: *mut usize,
-    ) -> u32;
-    pub fn nard_device_path_next_node(
-        bytes: *const u8,
-        byte_count: usize,
-        offset: *mut usize,
-        node: *mut DeviceNode,
-    ) -> u32;
-    pub fn nard_node_number(
-        content: *const u8,
-        byte_count: usize,
-        place: usize,
-        width: usize,
-        number: *mut u64,
-    ) -> u32;
-    pub fn nard_device_path_file_path(
-        bytes: *const u8,
-        byte_count: usize,
-        buffer: *mut u16,
-        room: usize,
-        length: *mut usize,
-    ) -> u32;
-    pub fn nard_device_path_text(
-        bytes: *const u8,
-        byte_count: usize,
-        display_only: bool,
-        allow_shortcuts: bool,
-        buffer: *mut u16,
-        room: usize,
-        length: *mut usize,
-    ) -> u32;
-    pub fn nard_node_text(
-        bytes: *const u8,
-        byte_count: usize,
-        display_only: bool,
-        allow_shortcuts: bool,
-        buffer: *mut u16,
-        room: usize,
-        length: *mut usize,
-    ) -> u32;
-    pub fn nard_load_option_read(
-        bytes: *const u8,
-        byte_count: usize,
-        option: *mut LoadOption,
-        offset: *mut usize,
-    ) -> u32;
-    pub fn nard_device_path_begin(
-        buffer: *mut u8,
-        room: usize,
-        length: *mut usize,
-    ) -> u32;
-    pub fn nard_device_path_push(
-        buffer: *mut u8,
-        room: usize,
-        device_type: u8,
-        sub_type: u8,
-        content: *const u8,
-        byte_count: usize,
-        length: *mut usize,
-    ) -> u32;
-    pub fn nard_device_path_append(
-        buffer: *mut u8,
-        room: usize,
-        bytes: *const u8,
-        byte_count: usize,
-        length: *mut usize,
-    ) -> u32;
-    pub fn nard_device_path_push_text(
-        buffer: *mut u8,
-        room: usize,
-        bytes: *const u8,
-        byte_count: usize,
-        length: *mut usize,
-    ) -> u32;
-    pub fn nard_device_path_push_lenient_text(
-        buffer: *mut u8,
-        room: usize,
-        bytes: *const u8,
-        byte_count: usize,
-        scratch: *mut u8,
-        scratch_room: usize,
-        length: *mut usize,
-    ) -> u32;
-    pub fn nard_device_path_push_libefivar_text(
-        buffer: *mut u8,
-        room: usize,
-        bytes: *const u8,
-        byte_count: usize,
-        scratch: *mut u8,
-        scratch_room: usize,
-        length: *mut usize,
-    ) -> u32;
-    pub fn nard_lenient_text_fault(
-        bytes: *const u8,
-        byte_count: usize,
-        scratch: *mut u8,
-        scratch_room: usize,
-        buffer: *mut u16,
-        room: usize,
-        length: *mut usize,
-    ) -> u32;
-    pub fn nard_libefivar_text_fault(
-        bytes: *const u8,
-        byte_count: usize,
-        scratch: *mut u8,
-        scratch_room: usize,
-        buffer: *mut u16,
-        room: usize,
-        length: *mut usize,
-    ) -> u32;
-    pub fn nard_load_option_write(
-        attributes: usize,
-        description: *const u16,
-        count: usize,
-        bytes: *const u8,
-        byte_count: usize,
-        optional: *const u8,
-        optional_count: usize,
-        buffer: *mut u8,
-        room: usize,
-        length: *mut usize,
-    ) -> u32;
-    pub fn nard_device_path_strip_prefix(
-        bytes: *const u8,
-        byte_count: usize,
-        prefix: *const u8,
-        prefix_count: usize,
-        offset: *mut usize,
-    ) -> bool;
-    pub fn nard_device_path_is_expansion(
-        bytes: *const u8,
-        byte_count: usize,
-        form: *const u8,
-        form_count: usize,
-    ) -> bool;
-    pub fn nard_boot_name_read(
-        units: *const u16,
-        count: usize,
-        kind: *mut u8,
-        number: *mut u16,
-    ) -> u32;
-    pub fn nard_boot_name_write(
-        kind: u8,
-        number: u16,
-        buffer: *mut u16,
-        room: usize,
-        length: *mut usize,
-    ) -> u32;
-    pub fn nard_boot_order_read(
-        bytes: *const u8,
-        byte_count: usize,
-        place: usize,
-        number: *mut u16,
-    ) -> u32;
-    pub fn nard_boot_order_insert(
-        order: *mut u16,
-        room: usize,
-        count: *mut usize,
-        place: usize,
-        number: u16,
-    ) -> u32;
-    pub fn nard_boot_order_remove(
-        order: *mut u16,
-        room: usize,
-        count: *mut usize,
-        number: u16,
-    ) -> bool;
-    pub fn nard_boot_order_move_to_front(
-        order: *mut u16,
-        room: usize,
-        count: *mut usize,
-        number: u16,
-    ) -> bool;
-    pub fn nard_version(
-    ) -> u32;
+/// Declares a call of the library, and a function of its name that takes slices and references.
+macro_rules! call {
+    ($name:ident($($given:ident: $kind:ty),*) -> $result:ty as ($($passed:expr),*) of ($($type:ty),*)) => {
+        pub fn $name($($given: $kind),*) -> $result {
+            extern "C" {
+                fn $name($(_: $type),*) -> $result;
+            }
+            // SAFETY: the library asks for pointers that are not null, aligned for their type, with as many elements as the count
+            // after them says, for what it writes to overlap nothing else, and for memory that nobody else uses during the call.
+            // Slices and references have all of it. The library keeps no pointer, and writes only whole elements.
+            unsafe { $name($($passed),*) }
+        }
+    };
 }
+
+call!(nard_string_with_nul(units: &[u16], length: &mut usize) -> u32
+    as (units.as_ptr(), units.len(), length)
+    of (*const u16, usize, *mut usize));
+call!(nard_string_until_nul(units: &[u16], length: &mut usize) -> u32
+    as (units.as_ptr(), units.len(), length)
+    of (*const u16, usize, *mut usize));
+call!(nard_string_equal(first: &[u16], second: &[u16]) -> bool
+    as (first.as_ptr(), first.len(), second.as_ptr(), second.len())
+    of (*const u16, usize, *const u16, usize));
+call!(nard_string_order(first: &[u16], second: &[u16]) -> i32
+    as (first.as_ptr(), first.len(), second.as_ptr(), second.len())
+    of (*const u16, usize, *const u16, usize));
+call!(nard_string_is_ascii(units: &[u16]) -> bool
+    as (units.as_ptr(), units.len())
+    of (*const u16, usize));
+call!(nard_string_equal_ignore_case(first: &[u16], second: &[u16]) -> bool
+    as (first.as_ptr(), first.len(), second.as_ptr(), second.len())
+    of (*const u16, usize, *const u16, usize));
+call!(nard_string_order_ignore_case(first: &[u16], second: &[u16]) -> i32
+    as (first.as_ptr(), first.len(), second.as_ptr(), second.len())
+    of (*const u16, usize, *const u16, usize));
+call!(nard_string_make_uppercase(buffer: &mut [u16], length: &mut usize) -> u32
+    as (buffer.as_mut_ptr(), buffer.len(), length)
+    of (*mut u16, usize, *mut usize));
+call!(nard_string_make_lowercase(buffer: &mut [u16], length: &mut usize) -> u32
+    as (buffer.as_mut_ptr(), buffer.len(), length)
+    of (*mut u16, usize, *mut usize));
+call!(nard_string_matches(units: &[u16], pattern: &[u16]) -> bool
+    as (units.as_ptr(), units.len(), pattern.as_ptr(), pattern.len())
+    of (*const u16, usize, *const u16, usize));
+call!(nard_units_from_bytes(bytes: &[u8], buffer: &mut [u16], count: &mut usize) -> u32
+    as (bytes.as_ptr(), bytes.len(), buffer.as_mut_ptr(), buffer.len(), count)
+    of (*const u8, usize, *mut u16, usize, *mut usize));
+call!(nard_packed_until_nul(bytes: &[u8], count: &mut usize) -> u32
+    as (bytes.as_ptr(), bytes.len(), count)
+    of (*const u8, usize, *mut usize));
+call!(nard_string_from_utf8(bytes: &[u8], buffer: &mut [u16], length: &mut usize) -> u32
+    as (bytes.as_ptr(), bytes.len(), buffer.as_mut_ptr(), buffer.len(), length)
+    of (*const u8, usize, *mut u16, usize, *mut usize));
+call!(nard_utf8_from_string(units: &[u16], bytes: &mut [u8], length: &mut usize) -> u32
+    as (units.as_ptr(), units.len(), bytes.as_mut_ptr(), bytes.len(), length)
+    of (*const u16, usize, *mut u8, usize, *mut usize));
+call!(nard_utf8_from_units_lossy(units: &[u16], bytes: &mut [u8], length: &mut usize) -> u32
+    as (units.as_ptr(), units.len(), bytes.as_mut_ptr(), bytes.len(), length)
+    of (*const u16, usize, *mut u8, usize, *mut usize));
+call!(nard_string_equal_until_nul(units: &[u16], bytes: &[u8]) -> bool
+    as (units.as_ptr(), units.len(), bytes.as_ptr(), bytes.len())
+    of (*const u16, usize, *const u8, usize));
+call!(nard_utf8_is_latin1(bytes: &[u8]) -> bool
+    as (bytes.as_ptr(), bytes.len())
+    of (*const u8, usize));
+call!(nard_path_verdict(units: &[u16], place: &mut usize, character: &mut u16) -> u32
+    as (units.as_ptr(), units.len(), place, character)
+    of (*const u16, usize, *mut usize, *mut u16));
+call!(nard_path_equal(first: &[u16], second: &[u16]) -> bool
+    as (first.as_ptr(), first.len(), second.as_ptr(), second.len())
+    of (*const u16, usize, *const u16, usize));
+call!(nard_path_order(first: &[u16], second: &[u16]) -> i32
+    as (first.as_ptr(), first.len(), second.as_ptr(), second.len())
+    of (*const u16, usize, *const u16, usize));
+call!(nard_path_equal_ignore_case(first: &[u16], second: &[u16]) -> bool
+    as (first.as_ptr(), first.len(), second.as_ptr(), second.len())
+    of (*const u16, usize, *const u16, usize));
+call!(nard_path_matches(path: &[u16], pattern: &[u16]) -> bool
+    as (path.as_ptr(), path.len(), pattern.as_ptr(), pattern.len())
+    of (*const u16, usize, *const u16, usize));
+call!(nard_path_next_component(text: &[u16], place: &mut usize, start: &mut usize, component_length: &mut usize) -> bool
+    as (text.as_ptr(), text.len(), place, start, component_length)
+    of (*const u16, usize, *mut usize, *mut usize, *mut usize));
+call!(nard_path_file_name(text: &[u16], start: &mut usize) -> bool
+    as (text.as_ptr(), text.len(), start)
+    of (*const u16, usize, *mut usize));
+call!(nard_path_parent_length(text: &[u16], parent_length: &mut usize) -> bool
+    as (text.as_ptr(), text.len(), parent_length)
+    of (*const u16, usize, *mut usize));
+call!(nard_path_push(buffer: &mut [u16], path: &[u16], length: &mut usize) -> u32
+    as (buffer.as_mut_ptr(), buffer.len(), path.as_ptr(), path.len(), length)
+    of (*mut u16, usize, *const u16, usize, *mut usize));
+call!(nard_path_join(path: &[u16], other: &[u16], buffer: &mut [u16], length: &mut usize) -> u32
+    as (path.as_ptr(), path.len(), other.as_ptr(), other.len(), buffer.as_mut_ptr(), buffer.len(), length)
+    of (*const u16, usize, *const u16, usize, *mut u16, usize, *mut usize));
+call!(nard_path_parent(path: &[u16], buffer: &mut [u16], length: &mut usize) -> u32
+    as (path.as_ptr(), path.len(), buffer.as_mut_ptr(), buffer.len(), length)
+    of (*const u16, usize, *mut u16, usize, *mut usize));
+call!(nard_path_normalize(path: &[u16], buffer: &mut [u16], length: &mut usize, character: &mut u16) -> u32
+    as (path.as_ptr(), path.len(), buffer.as_mut_ptr(), buffer.len(), length, character)
+    of (*const u16, usize, *mut u16, usize, *mut usize, *mut u16));
+call!(nard_path_normalize_utf8(bytes: &[u8], buffer: &mut [u16], length: &mut usize, character: &mut u16) -> u32
+    as (bytes.as_ptr(), bytes.len(), buffer.as_mut_ptr(), buffer.len(), length, character)
+    of (*const u8, usize, *mut u16, usize, *mut usize, *mut u16));
+call!(nard_fat_name_check(units: &[u16], length: &mut usize, character: &mut u16) -> u32
+    as (units.as_ptr(), units.len(), length, character)
+    of (*const u16, usize, *mut usize, *mut u16));
+call!(nard_fat_name_equal(first: &[u16], second: &[u16]) -> bool
+    as (first.as_ptr(), first.len(), second.as_ptr(), second.len())
+    of (*const u16, usize, *const u16, usize));
+call!(nard_fat_name_is_short(units: &[u16]) -> bool
+    as (units.as_ptr(), units.len())
+    of (*const u16, usize));
+call!(nard_fat_from_string(units: &[u16], bytes: &mut [u8], length: &mut usize) -> u32
+    as (units.as_ptr(), units.len(), bytes.as_mut_ptr(), bytes.len(), length)
+    of (*const u16, usize, *mut u8, usize, *mut usize));
+call!(nard_string_from_fat(bytes: &[u8], buffer: &mut [u16], length: &mut usize) -> u32
+    as (bytes.as_ptr(), bytes.len(), buffer.as_mut_ptr(), buffer.len(), length)
+    of (*const u8, usize, *mut u16, usize, *mut usize));
+call!(nard_device_path_check(bytes: &[u8], length: &mut usize) -> u32
+    as (bytes.as_ptr(), bytes.len(), length)
+    of (*const u8, usize, *mut usize));
+call!(nard_device_path_next_node(bytes: &[u8], offset: &mut usize, node: &mut DeviceNode) -> u32
+    as (bytes.as_ptr(), bytes.len(), offset, node)
+    of (*const u8, usize, *mut usize, *mut DeviceNode));
+call!(nard_node_number(content: &[u8], place: usize, width: usize, number: &mut u64) -> u32
+    as (content.as_ptr(), content.len(), place, width, number)
+    of (*const u8, usize, usize, usize, *mut u64));
+call!(nard_device_path_file_path(bytes: &[u8], buffer: &mut [u16], length: &mut usize) -> u32
+    as (bytes.as_ptr(), bytes.len(), buffer.as_mut_ptr(), buffer.len(), length)
+    of (*const u8, usize, *mut u16, usize, *mut usize));
+call!(nard_device_path_text(bytes: &[u8], display_only: bool, allow_shortcuts: bool, buffer: &mut [u16], length: &mut usize) -> u32
+    as (bytes.as_ptr(), bytes.len(), display_only, allow_shortcuts, buffer.as_mut_ptr(), buffer.len(), length)
+    of (*const u8, usize, bool, bool, *mut u16, usize, *mut usize));
+call!(nard_node_text(bytes: &[u8], display_only: bool, allow_shortcuts: bool, buffer: &mut [u16], length: &mut usize) -> u32
+    as (bytes.as_ptr(), bytes.len(), display_only, allow_shortcuts, buffer.as_mut_ptr(), buffer.len(), length)
+    of (*const u8, usize, bool, bool, *mut u16, usize, *mut usize));
+call!(nard_load_option_read(bytes: &[u8], option: &mut LoadOption, offset: &mut usize) -> u32
+    as (bytes.as_ptr(), bytes.len(), option, offset)
+    of (*const u8, usize, *mut LoadOption, *mut usize));
+call!(nard_device_path_begin(buffer: &mut [u8], length: &mut usize) -> u32
+    as (buffer.as_mut_ptr(), buffer.len(), length)
+    of (*mut u8, usize, *mut usize));
+call!(nard_device_path_push(buffer: &mut [u8], device_type: u8, sub_type: u8, content: &[u8], length: &mut usize) -> u32
+    as (buffer.as_mut_ptr(), buffer.len(), device_type, sub_type, content.as_ptr(), content.len(), length)
+    of (*mut u8, usize, u8, u8, *const u8, usize, *mut usize));
+call!(nard_device_path_append(buffer: &mut [u8], bytes: &[u8], length: &mut usize) -> u32
+    as (buffer.as_mut_ptr(), buffer.len(), bytes.as_ptr(), bytes.len(), length)
+    of (*mut u8, usize, *const u8, usize, *mut usize));
+call!(nard_device_path_push_text(buffer: &mut [u8], bytes: &[u8], length: &mut usize) -> u32
+    as (buffer.as_mut_ptr(), buffer.len(), bytes.as_ptr(), bytes.len(), length)
+    of (*mut u8, usize, *const u8, usize, *mut usize));
+call!(nard_device_path_push_lenient_text(buffer: &mut [u8], bytes: &[u8], scratch: &mut [u8], length: &mut usize) -> u32
+    as (buffer.as_mut_ptr(), buffer.len(), bytes.as_ptr(), bytes.len(), scratch.as_mut_ptr(), scratch.len(), length)
+    of (*mut u8, usize, *const u8, usize, *mut u8, usize, *mut usize));
+call!(nard_device_path_push_libefivar_text(buffer: &mut [u8], bytes: &[u8], scratch: &mut [u8], length: &mut usize) -> u32
+    as (buffer.as_mut_ptr(), buffer.len(), bytes.as_ptr(), bytes.len(), scratch.as_mut_ptr(), scratch.len(), length)
+    of (*mut u8, usize, *const u8, usize, *mut u8, usize, *mut usize));
+call!(nard_lenient_text_fault(bytes: &[u8], scratch: &mut [u8], buffer: &mut [u16], length: &mut usize) -> u32
+    as (bytes.as_ptr(), bytes.len(), scratch.as_mut_ptr(), scratch.len(), buffer.as_mut_ptr(), buffer.len(), length)
+    of (*const u8, usize, *mut u8, usize, *mut u16, usize, *mut usize));
+call!(nard_libefivar_text_fault(bytes: &[u8], scratch: &mut [u8], buffer: &mut [u16], length: &mut usize) -> u32
+    as (bytes.as_ptr(), bytes.len(), scratch.as_mut_ptr(), scratch.len(), buffer.as_mut_ptr(), buffer.len(), length)
+    of (*const u8, usize, *mut u8, usize, *mut u16, usize, *mut usize));
+call!(nard_load_option_write(attributes: usize, description: &[u16], bytes: &[u8], optional: &[u8], buffer: &mut [u8], length: &mut usize) -> u32
+    as (attributes, description.as_ptr(), description.len(), bytes.as_ptr(), bytes.len(), optional.as_ptr(), optional.len(), buffer.as_mut_ptr(), buffer.len(), length)
+    of (usize, *const u16, usize, *const u8, usize, *const u8, usize, *mut u8, usize, *mut usize));
+call!(nard_device_path_strip_prefix(bytes: &[u8], prefix: &[u8], offset: &mut usize) -> bool
+    as (bytes.as_ptr(), bytes.len(), prefix.as_ptr(), prefix.len(), offset)
+    of (*const u8, usize, *const u8, usize, *mut usize));
+call!(nard_device_path_is_expansion(bytes: &[u8], form: &[u8]) -> bool
+    as (bytes.as_ptr(), bytes.len(), form.as_ptr(), form.len())
+    of (*const u8, usize, *const u8, usize));
+call!(nard_boot_name_read(units: &[u16], kind: &mut u8, number: &mut u16) -> u32
+    as (units.as_ptr(), units.len(), kind, number)
+    of (*const u16, usize, *mut u8, *mut u16));
+call!(nard_boot_name_write(kind: u8, number: u16, buffer: &mut [u16], length: &mut usize) -> u32
+    as (kind, number, buffer.as_mut_ptr(), buffer.len(), length)
+    of (u8, u16, *mut u16, usize, *mut usize));
+call!(nard_boot_order_read(bytes: &[u8], place: usize, number: &mut u16) -> u32
+    as (bytes.as_ptr(), bytes.len(), place, number)
+    of (*const u8, usize, usize, *mut u16));
+call!(nard_boot_order_insert(order: &mut [u16], count: &mut usize, place: usize, number: u16) -> u32
+    as (order.as_mut_ptr(), order.len(), count, place, number)
+    of (*mut u16, usize, *mut usize, usize, u16));
+call!(nard_boot_order_remove(order: &mut [u16], count: &mut usize, number: u16) -> bool
+    as (order.as_mut_ptr(), order.len(), count, number)
+    of (*mut u16, usize, *mut usize, u16));
+call!(nard_boot_order_move_to_front(order: &mut [u16], count: &mut usize, number: u16) -> bool
+    as (order.as_mut_ptr(), order.len(), count, number)
+    of (*mut u16, usize, *mut usize, u16));
+call!(nard_version() -> u32
+    as ()
+    of ());

@@ -1,0 +1,5 @@
+//! Paths of firmware file systems.
+
+pub mod path;
+
+pub use path::*;

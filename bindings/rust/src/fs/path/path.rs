@@ -1,0 +1,405 @@
+//! Borrowed paths.
+
+use super::validation::located;
+use super::{validate_path, Components, Iter, SEPARATOR};
+#[cfg(feature = "alloc")]
+use super::{PathArgument, PathBuf};
+use crate::data_types::{CStr16, Char16};
+use crate::error::{check, Error, Reason};
+use crate::sys;
+use core::borrow::Borrow;
+use core::cmp::Ordering;
+use core::fmt;
+use core::hash::{Hash, Hasher};
+
+/// A path: components with a separator, `\`, between them.
+///
+/// One separator at the start makes no difference to what paths are equal, to their order, and to what they contain.
+///
+/// ```
+/// use nardcorbel::{cstr16, Path};
+///
+/// let path = Path::new(cstr16!(r"\EFI\BOOT\BOOTX64.EFI"));
+/// assert_eq!(path, r"EFI\BOOT\BOOTX64.EFI");
+/// for component in path {
+///     println!("{component}");
+/// }
+/// ```
+#[repr(transparent)]
+pub struct Path(CStr16);
+
+impl Path {
+    /// Wraps a string as a path.
+    #[must_use]
+    pub fn new<S: AsRef<CStr16> + ?Sized>(string: &S) -> &Self {
+        // SAFETY: `Path` is a transparent wrapper of `CStr16`.
+        unsafe { &*(core::ptr::from_ref(string.as_ref()) as *const Self) }
+    }
+
+    /// Returns the string of the path.
+    #[must_use]
+    pub const fn to_cstr16(&self) -> &CStr16 {
+        &self.0
+    }
+
+    fn units(&self) -> &[u16] {
+        self.0.to_u16_slice_with_nul()
+    }
+
+    /// The text without the separator at its start.
+    fn canonical(&self) -> &[Char16] {
+        match self.0.as_slice() {
+            [SEPARATOR, rest @ ..] => rest,
+            text => text,
+        }
+    }
+
+    /// Returns whether the path is the empty text.
+    #[must_use]
+    pub const fn is_empty(&self) -> bool {
+        self.0.is_empty()
+    }
+
+    /// Iterates over the components, as slices of characters.
+    ///
+    /// ```
+    /// use nardcorbel::{cstr16, Path};
+    ///
+    /// let path = Path::new(cstr16!(r"\a\bc"));
+    /// assert!(path.components().map(|it| it.len()).eq([1, 2]));
+    /// ```
+    #[must_use]
+    pub fn components(&self) -> Components<'_> {
+        Components::of(self.canonical())
+    }
+
+    /// Iterates over the components, which can be printed and compared with texts.
+    ///
+    /// ```
+    /// use nardcorbel::{cstr16, Path};
+    ///
+    /// assert!(Path::new(cstr16!(r"a\b")).iter().rev().eq(["b", "a"]));
+    /// ```
+    #[must_use]
+    pub fn iter(&self) -> Iter<'_> {
+        Iter(self.components())
+    }
+
+    /// Returns the last component, which may be empty, or `None` if there is none.
+    ///
+    /// ```
+    /// use nardcorbel::{cstr16, Path};
+    ///
+    /// let name = Path::new(cstr16!(r"a\b")).file_name();
+    /// assert_eq!(name, Some(cstr16!("b")));
+    /// ```
+    #[must_use]
+    pub fn file_name(&self) -> Option<&CStr16> {
+        let mut start = 0;
+        // What follows the last separator ends in the NUL of the whole.
+        sys::nard_path_file_name(self.0.to_u16_slice(), &mut start)
+            .then(|| CStr16::of(&self.units()[start..]))
+    }
+
+    /// Checks that the path names a file, and says where the fault of the first component is that has one.
+    ///
+    /// ```
+    /// use nardcorbel::{cstr16, Path};
+    ///
+    /// let error = Path::new(cstr16!(r"a\b:")).validate().unwrap_err();
+    /// assert_eq!((error.place, error.character), (3, Some(':')));
+    /// assert_eq!(error.to_string(), "path contains an illegal character, ':' (U+003A), at 3");
+    /// ```
+    pub fn validate(&self) -> Result<(), Error> {
+        validate_path(self).map_err(|error| error.located(self.0.chars()))
+    }
+
+    /// Returns whether both paths are equal without case, as the firmware's file systems compare them.
+    ///
+    /// ```
+    /// use nardcorbel::{cstr16, Path};
+    ///
+    /// assert!(Path::new(cstr16!(r"\EFI")).eq_ignore_case(Path::new(cstr16!("efi"))));
+    /// ```
+    #[must_use]
+    pub fn eq_ignore_case(&self, other: &Self) -> bool {
+        sys::nard_path_equal_ignore_case(self.units(), other.units())
+    }
+
+    /// Returns whether each component of a pattern matches the component at its place, and both have as many: `*` stops at `\`.
+    ///
+    /// ```
+    /// use nardcorbel::{cstr16, Path};
+    ///
+    /// assert!(Path::new(cstr16!(r"\EFI\a")).matches(Path::new(cstr16!(r"e*\?"))));
+    /// ```
+    #[must_use]
+    pub fn matches(&self, pattern: &Self) -> bool {
+        sys::nard_path_matches(self.units(), pattern.units())
+    }
+
+    /// Joins two paths at the start of a buffer, replacing each `/` with `\`, and returns the result.
+    ///
+    /// ```
+    /// use nardcorbel::{cstr16, Path};
+    ///
+    /// let mut buffer = [0; 8];
+    /// let path = Path::new(cstr16!("a")).join_in_buf(Path::new(cstr16!("b")), &mut buffer)?;
+    /// assert_eq!(path, r"a\b");
+    /// # Ok::<(), nardcorbel::Error>(())
+    /// ```
+    pub fn join_in_buf<'a>(&self, other: &Self, buffer: &'a mut [u16]) -> Result<&'a Self, Error> {
+        let mut length = 0;
+        let reason = sys::nard_path_join(self.units(), other.units(), buffer, &mut length);
+        written(reason, length, buffer)
+    }
+
+    /// Writes the parent, all components but the last, to the start of a buffer and returns it.
+    ///
+    /// Fails if the path has at most one component, or if the buffer is too small.
+    ///
+    /// ```
+    /// use nardcorbel::{cstr16, Path};
+    ///
+    /// assert_eq!(Path::new(cstr16!(r"a\b")).parent_in_buf(&mut [0; 8])?, "a");
+    /// # Ok::<(), nardcorbel::Error>(())
+    /// ```
+    pub fn parent_in_buf<'a>(&self, buffer: &'a mut [u16]) -> Result<&'a Self, Error> {
+        let mut length = 0;
+        let reason = sys::nard_path_parent(self.units(), buffer, &mut length);
+        written(reason, length, buffer)
+    }
+
+    /// Writes the path without `.`, and without each name that a `..` follows, to the start of a buffer and returns it.
+    ///
+    /// Fails as [`validate`](Self::validate) does, or if the buffer is too small.
+    ///
+    /// ```
+    /// use nardcorbel::{cstr16, Path};
+    ///
+    /// assert_eq!(Path::new(cstr16!("a/../b")).normalize_in_buf(&mut [0; 8])?, "b");
+    /// # Ok::<(), nardcorbel::Error>(())
+    /// ```
+    pub fn normalize_in_buf<'a>(&self, buffer: &'a mut [u16]) -> Result<&'a Self, Error> {
+        let (mut length, mut unit) = (0, 0);
+        let reason = sys::nard_path_normalize(self.units(), buffer, &mut length, &mut unit);
+        written(reason, length, buffer)
+            .map_err(|error| located(error.with_unit(unit), self.0.chars(), true))
+    }
+
+    /// Writes the path that a text is, without `.` and without each name that a `..` follows, to the start of a buffer and
+    /// returns it.
+    ///
+    /// Fails if the text has a NUL or a character above U+FFFF, then as [`validate`](Self::validate) does; or if the buffer is too
+    /// small. A string of the text is kept in its second half, so twice as many units as the text has bytes, and two more, are
+    /// enough.
+    ///
+    /// ```
+    /// use nardcorbel::Path;
+    ///
+    /// assert_eq!(Path::normalize_str_in_buf("a/./b", &mut [0; 16])?, r"a\b");
+    /// # Ok::<(), nardcorbel::Error>(())
+    /// ```
+    pub fn normalize_str_in_buf<'a>(text: &str, buffer: &'a mut [u16]) -> Result<&'a Self, Error> {
+        let (mut length, mut unit) = (0, 0);
+        match sys::nard_path_normalize_utf8(text.as_bytes(), buffer, &mut length, &mut unit) {
+            sys::BUFFER_TOO_SMALL => Err(Error::new(
+                Reason::BufferTooSmall,
+                length.saturating_add(1).saturating_mul(2),
+            )),
+            reason => written(reason, length, buffer)
+                .map_err(|error| located(error.in_text(text).with_unit(unit), text.chars(), true)),
+        }
+    }
+}
+
+/// The path of this length at the start of a buffer, or why the call failed.
+fn written(reason: u32, length: usize, buffer: &[u16]) -> Result<&Path, Error> {
+    check(reason, length)?;
+    Ok(Path::new(CStr16::of(&buffer[..=length])))
+}
+
+/// What needs memory.
+#[cfg(feature = "alloc")]
+impl Path {
+    /// Copies the path, replacing each `/` with `\`.
+    #[must_use]
+    pub fn to_path_buf(&self) -> PathBuf {
+        PathBuf::from(&self.0)
+    }
+
+    /// Returns a copy of all components but the last, or `None` if there are not two.
+    ///
+    /// ```
+    /// use nardcorbel::{cstr16, Path};
+    ///
+    /// assert_eq!(Path::new(cstr16!(r"a\b")).parent().unwrap(), "a");
+    /// assert_eq!(Path::new(cstr16!("a")).parent(), None);
+    /// ```
+    #[must_use]
+    pub fn parent(&self) -> Option<PathBuf> {
+        let mut units = alloc::vec![0; self.units().len()];
+        let length = self.parent_in_buf(&mut units).ok()?.0.num_chars();
+        units.truncate(length + 1);
+        Some(PathBuf::of(units))
+    }
+
+    /// Copies the path and adds another one, or a text.
+    ///
+    /// A path is joined as it is. A text may be no path, so the result is then a `Result`.
+    ///
+    /// ```
+    /// use nardcorbel::{cstr16, Path, PathBuf};
+    ///
+    /// let folder = Path::new(cstr16!("EFI"));
+    /// let with_path: PathBuf = folder.join(cstr16!("BOOT"));
+    /// let with_text: PathBuf = folder.join("BOOT")?;
+    /// assert_eq!(with_path, with_text);
+    /// # Ok::<(), nardcorbel::Error>(())
+    /// ```
+    pub fn join<P: PathArgument>(&self, path: P) -> P::Result<PathBuf> {
+        path.with_path(|it| {
+            let mut whole = self.to_path_buf();
+            whole.push_path(it);
+            whole
+        })
+    }
+
+    /// Copies the path without `.`, and without each name that a `..` follows.
+    ///
+    /// ```
+    /// use nardcorbel::{cstr16, Path};
+    ///
+    /// assert_eq!(Path::new(cstr16!(r"a\..\b")).normalize()?, "b");
+    /// # Ok::<(), nardcorbel::Error>(())
+    /// ```
+    pub fn normalize(&self) -> Result<PathBuf, Error> {
+        // A lone separator stands for nothing.
+        let mut units = alloc::vec![0; self.units().len().max(2)];
+        let length = self.normalize_in_buf(&mut units)?.0.num_chars();
+        units.truncate(length + 1);
+        Ok(PathBuf::of(units))
+    }
+}
+
+#[cfg(feature = "alloc")]
+impl alloc::borrow::ToOwned for Path {
+    type Owned = PathBuf;
+
+    fn to_owned(&self) -> PathBuf {
+        self.to_path_buf()
+    }
+}
+
+impl PartialEq for Path {
+    fn eq(&self, other: &Self) -> bool {
+        self.canonical() == other.canonical()
+    }
+}
+
+impl Eq for Path {}
+
+impl PartialOrd for Path {
+    fn partial_cmp(&self, other: &Self) -> Option<Ordering> {
+        Some(self.cmp(other))
+    }
+}
+
+impl Ord for Path {
+    fn cmp(&self, other: &Self) -> Ordering {
+        self.canonical().cmp(other.canonical())
+    }
+}
+
+impl Hash for Path {
+    fn hash<H: Hasher>(&self, state: &mut H) {
+        self.canonical().hash(state);
+    }
+}
+
+impl PartialEq<str> for Path {
+    /// Compares with the path that the text is.
+    fn eq(&self, other: &str) -> bool {
+        let other = other.strip_prefix('\\').unwrap_or(other);
+        self.canonical()
+            .iter()
+            .map(|it| char::from(*it))
+            .eq(other.chars())
+    }
+}
+
+impl PartialEq<&str> for Path {
+    fn eq(&self, other: &&str) -> bool {
+        *self == **other
+    }
+}
+
+impl PartialEq<str> for &Path {
+    fn eq(&self, other: &str) -> bool {
+        **self == *other
+    }
+}
+
+impl PartialEq<Path> for str {
+    fn eq(&self, other: &Path) -> bool {
+        *other == *self
+    }
+}
+
+impl fmt::Display for Path {
+    fn fmt(&self, f: &mut fmt::Formatter<'_>) -> fmt::Result {
+        fmt::Display::fmt(&self.0, f)
+    }
+}
+
+impl fmt::Debug for Path {
+    fn fmt(&self, f: &mut fmt::Formatter<'_>) -> fmt::Result {
+        f.debug_tuple("Path").field(&&self.0).finish()
+    }
+}
+
+impl<'a> IntoIterator for &'a Path {
+    type Item = super::Component<'a>;
+    type IntoIter = Iter<'a>;
+
+    fn into_iter(self) -> Iter<'a> {
+        self.iter()
+    }
+}
+
+impl<'a> From<&'a CStr16> for &'a Path {
+    fn from(string: &'a CStr16) -> Self {
+        Path::new(string)
+    }
+}
+
+impl AsRef<Path> for Path {
+    fn as_ref(&self) -> &Path {
+        self
+    }
+}
+
+impl AsRef<Path> for CStr16 {
+    fn as_ref(&self) -> &Path {
+        Path::new(self)
+    }
+}
+
+impl AsRef<CStr16> for Path {
+    fn as_ref(&self) -> &CStr16 {
+        &self.0
+    }
+}
+
+/// Paths are equal more often than their strings: look paths up by paths.
+impl Borrow<CStr16> for Path {
+    fn borrow(&self) -> &CStr16 {
+        &self.0
+    }
+}
+
+impl Borrow<Path> for CStr16 {
+    fn borrow(&self) -> &Path {
+        Path::new(self)
+    }
+}

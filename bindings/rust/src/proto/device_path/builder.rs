@@ -1,0 +1,309 @@
+//! Device paths that are built node by node.
+
+use super::{DevicePath, DeviceSubType, DeviceType};
+use crate::error::{check_bytes, Error, Reason};
+use crate::sys;
+#[cfg(feature = "alloc")]
+use alloc::vec::Vec;
+use core::fmt;
+use core::mem::MaybeUninit;
+
+/// Why a device path cannot be built.
+#[derive(Clone, Copy, Debug, PartialEq, Eq)]
+pub enum BuildError {
+    /// The buffer is too small for the path.
+    BufferTooSmall,
+    /// A node would have more than 65,535 bytes.
+    NodeTooBig,
+    /// A node would end the path, or ends an instance and has data.
+    EndNode,
+}
+
+impl fmt::Display for BuildError {
+    fn fmt(&self, f: &mut fmt::Formatter<'_>) -> fmt::Result {
+        f.write_str(match self {
+            Self::BufferTooSmall => "the buffer is too small for the device path",
+            Self::NodeTooBig => "the node is longer than its header can state",
+            Self::EndNode => "an end node may not stand before the end of a device path",
+        })
+    }
+}
+
+impl core::error::Error for BuildError {}
+
+impl From<BuildError> for Error {
+    fn from(error: BuildError) -> Self {
+        let reason = match error {
+            BuildError::BufferTooSmall => Reason::BufferTooSmall,
+            BuildError::NodeTooBig => Reason::NodeTooLong,
+            BuildError::EndNode => Reason::NodeOfEnd,
+        };
+        Self::new(reason, 0)
+    }
+}
+
+/// A node that can be built: the structs of [`build`](super::build), and nodes of other paths.
+///
+/// ```
+/// use nardcorbel::proto::device_path::{build::DevicePathBuilder, BuildNode, DeviceSubType, DeviceType};
+///
+/// /// A node of a kind of its own.
+/// struct Lamp(u8);
+///
+/// impl BuildNode for Lamp {
+///     fn full_type(&self) -> (DeviceType, DeviceSubType) {
+///         (DeviceType::MESSAGING, DeviceSubType(0x28))
+///     }
+///
+///     fn parts(&self, write: &mut dyn FnMut(usize, &[u8])) {
+///         write(0, &[self.0]);
+///     }
+/// }
+///
+/// let mut buffer = [0; 16];
+/// let path = DevicePathBuilder::with_buf(&mut buffer).push(&Lamp(7))?.finalize()?;
+/// assert_eq!(path.to_string(), "Path(3,40,07)");
+/// # Ok::<(), nardcorbel::proto::device_path::BuildError>(())
+/// ```
+pub trait BuildNode {
+    /// Returns the type and the sub-type.
+    fn full_type(&self) -> (DeviceType, DeviceSubType);
+
+    /// Writes the data in pieces, each with its place. The node is as long as the last piece ends; what no piece covers is zero.
+    fn parts(&self, write: &mut dyn FnMut(usize, &[u8]));
+}
+
+/// Builds a device path.
+///
+/// ```
+/// use nardcorbel::proto::device_path::build::{self, DevicePathBuilder};
+///
+/// let mut bytes = Vec::new();
+/// let path = DevicePathBuilder::with_vec(&mut bytes)
+///     .push(&build::hardware::Pci { function: 2, device: 0x1f })?
+///     .push_text(r"Sata(0x0,0xFFFF,0x0)/\a")?
+///     .finalize()?;
+/// assert_eq!(path.to_string(), r"Pci(0x1F,0x2)/Sata(0x0,0xFFFF,0x0)/\a");
+/// # Ok::<(), nardcorbel::Error>(())
+/// ```
+#[derive(Debug)]
+pub struct DevicePathBuilder<'a> {
+    room: Room<'a>,
+    /// The bytes of the path with its end node: 0 if the buffer has no room for that.
+    length: usize,
+}
+
+#[derive(Debug)]
+enum Room<'a> {
+    Buffer(&'a mut [u8]),
+    #[cfg(feature = "alloc")]
+    Vec(&'a mut Vec<u8>),
+}
+
+/// A buffer of bytes, initialized or not.
+pub trait Buffer {
+    /// Returns the bytes; those that were not initialized become zero.
+    #[doc(hidden)]
+    fn initialized(&mut self) -> &mut [u8];
+}
+
+impl Buffer for [u8] {
+    fn initialized(&mut self) -> &mut [u8] {
+        self
+    }
+}
+
+impl Buffer for [MaybeUninit<u8>] {
+    fn initialized(&mut self) -> &mut [u8] {
+        self.fill(MaybeUninit::new(0));
+        // SAFETY: each byte was just written.
+        unsafe { &mut *(core::ptr::from_mut(self) as *mut [u8]) }
+    }
+}
+
+impl<T, const N: usize> Buffer for [T; N]
+where
+    [T]: Buffer,
+{
+    fn initialized(&mut self) -> &mut [u8] {
+        self.as_mut_slice().initialized()
+    }
+}
+
+impl<'a> DevicePathBuilder<'a> {
+    /// Starts a path without nodes in a buffer, of which it needs 4 bytes for the end.
+    pub fn with_buf<B: Buffer + ?Sized>(buffer: &'a mut B) -> Self {
+        let (buffer, mut length) = (buffer.initialized(), 0);
+        if sys::nard_device_path_begin(buffer, &mut length) != sys::OK {
+            length = 0;
+        }
+        Self {
+            room: Room::Buffer(buffer),
+            length,
+        }
+    }
+
+    /// Starts a path without nodes in a vector, which loses what it had, and grows as needed.
+    #[cfg(feature = "alloc")]
+    pub fn with_vec(vector: &'a mut Vec<u8>) -> Self {
+        vector.clear();
+        vector.extend([0x7f, 0xff, 4, 0]);
+        Self {
+            room: Room::Vec(vector),
+            length: 4,
+        }
+    }
+
+    /// Makes room for more bytes, and returns all.
+    fn room(&mut self, more: usize) -> Result<&mut [u8], BuildError> {
+        let needed = self
+            .length
+            .checked_add(more)
+            .ok_or(BuildError::BufferTooSmall)?;
+        match &mut self.room {
+            Room::Buffer(buffer) if self.length == 0 || buffer.len() < needed => {
+                Err(BuildError::BufferTooSmall)
+            }
+            Room::Buffer(buffer) => Ok(buffer),
+            #[cfg(feature = "alloc")]
+            Room::Vec(vector) => {
+                vector.resize(needed, 0);
+                Ok(vector)
+            }
+        }
+    }
+
+    /// Adds a node.
+    pub fn push(mut self, node: &dyn BuildNode) -> Result<Self, BuildError> {
+        let mut size = 4;
+        node.parts(&mut |place, bytes| size = size.max(4 + place + bytes.len()));
+        let header = u16::try_from(size)
+            .map_err(|_| BuildError::NodeTooBig)?
+            .to_le_bytes();
+        let (DeviceType(kind), DeviceSubType(sub_type)) = node.full_type();
+        if kind == 0x7f && (sub_type != 1 || size > 4) {
+            return Err(BuildError::EndNode);
+        }
+        let start = self.length.saturating_sub(4);
+        let bytes = &mut self.room(size)?[start..];
+        bytes[..4].copy_from_slice(&[kind, sub_type, header[0], header[1]]);
+        let data = &mut bytes[4..size];
+        data.fill(0);
+        node.parts(&mut |place, part| data[place..place + part.len()].copy_from_slice(part));
+        bytes[size..size + 4].copy_from_slice(&[0x7f, 0xff, 4, 0]);
+        self.length += size;
+        Ok(self)
+    }
+
+    /// Calls the library with a buffer, and again with a larger one if it is one that grows.
+    fn add(mut self, call: &mut dyn FnMut(&mut [u8], &mut usize) -> u32) -> Result<Self, Error> {
+        let mut length = 0;
+        let mut reason = call(self.room(0)?, &mut length);
+        if reason == sys::BUFFER_TOO_SMALL {
+            let more = length - self.length;
+            reason = match self.room(more) {
+                Ok(room) => call(room, &mut length),
+                Err(_) => reason,
+            };
+        }
+        check_bytes(reason, length)?;
+        self.length = length;
+        Ok(self)
+    }
+
+    /// Adds all nodes of another path.
+    pub fn push_path(self, path: &DevicePath) -> Result<Self, Error> {
+        self.add(&mut |room, length| sys::nard_device_path_append(room, path.as_bytes(), length))
+    }
+
+    /// Adds the nodes of a text, such as `PciRoot(0x0)/Pci(0x1F,0x2)`. A comma ends an instance.
+    ///
+    /// Fails with [`Reason::NoNode`] at the byte where a node has to begin and none does.
+    ///
+    /// ```
+    /// use nardcorbel::proto::device_path::build::DevicePathBuilder;
+    ///
+    /// let mut bytes = Vec::new();
+    /// let error = DevicePathBuilder::with_vec(&mut bytes).push_text("Pci(x)").unwrap_err();
+    /// assert_eq!(error.to_string(), "no node, at 0");
+    /// ```
+    pub fn push_text(self, text: &str) -> Result<Self, Error> {
+        self.add(&mut |room, length| sys::nard_device_path_push_text(room, text.as_bytes(), length))
+    }
+
+    /// Adds the nodes of a text as people write it, such as `pciroot(0)/pci(31,2)/File(a)`: names and digits in either case,
+    /// numbers in decimal or after `0x`, numbers left out at the end of a call, and a file's name in `File(..)` or without its
+    /// first backslash. A comma ends an instance.
+    ///
+    /// `scratch` takes copies and then holds anything. Fails with [`Reason::ScratchTooSmall`] if it is not longer than the text,
+    /// and with [`Reason::NoNode`] at the wrong byte of the first node that can't be read.
+    ///
+    /// ```
+    /// use nardcorbel::proto::device_path::build::DevicePathBuilder;
+    ///
+    /// let (mut bytes, mut scratch) = (Vec::new(), [0; 32]);
+    /// let builder = DevicePathBuilder::with_vec(&mut bytes);
+    /// let path = builder.push_lenient_text("pci(31, 2)/File(a)", &mut scratch)?.finalize()?;
+    /// assert_eq!(path.to_string(), r"Pci(0x1F,0x2)/\a");
+    /// # Ok::<(), nardcorbel::Error>(())
+    /// ```
+    pub fn push_lenient_text(self, text: &str, scratch: &mut [u8]) -> Result<Self, Error> {
+        self.add(&mut |room, length| {
+            sys::nard_device_path_push_lenient_text(room, text.as_bytes(), scratch, length)
+        })
+    }
+
+    /// Adds the nodes of a text that libefivar prints, and efibootmgr with it. libefivar prints the identifier of an NVMe node from
+    /// its first byte on, and `Ata` with three numbers; `Fibre(..)`, `SAS(..)`, `UsbClass(..)` and a `PciRoot(..)` without `0x` are
+    /// refused. Other nodes are read, and the call fails, as by [`push_lenient_text`](Self::push_lenient_text).
+    ///
+    /// ```
+    /// use nardcorbel::proto::device_path::build::DevicePathBuilder;
+    ///
+    /// let (mut bytes, mut scratch) = (Vec::new(), [0; 40]);
+    /// let builder = DevicePathBuilder::with_vec(&mut bytes);
+    /// let text = "NVMe(0x1,00-25-38-5B-71-B0-03-1C)";
+    /// let path = builder.push_libefivar_text(text, &mut scratch)?.finalize()?;
+    /// assert_eq!(path.to_string(), "NVMe(0x1,1C-03-B0-71-5B-38-25-00)");
+    /// # Ok::<(), nardcorbel::Error>(())
+    /// ```
+    pub fn push_libefivar_text(self, text: &str, scratch: &mut [u8]) -> Result<Self, Error> {
+        self.add(&mut |room, length| {
+            sys::nard_device_path_push_libefivar_text(room, text.as_bytes(), scratch, length)
+        })
+    }
+
+    /// Writes in words why [`push_lenient_text`](Self::push_lenient_text) fails with [`Reason::NoNode`] for a text, into a buffer,
+    /// and returns their UTF-16 without the NUL: none if it reads the text.
+    ///
+    /// ```
+    /// use nardcorbel::proto::device_path::build::DevicePathBuilder;
+    ///
+    /// let mut units = [0; 64];
+    /// let words = DevicePathBuilder::lenient_text_fault("Pci(x)", &mut [0; 7], &mut units)?;
+    /// let words = String::from_utf16_lossy(words);
+    /// assert_eq!(words, "no node at offset 0: expected a number up to 0xFF at offset 4");
+    /// # Ok::<(), nardcorbel::Error>(())
+    /// ```
+    pub fn lenient_text_fault<'b>(
+        text: &str,
+        scratch: &mut [u8],
+        buffer: &'b mut [u16],
+    ) -> Result<&'b [u16], Error> {
+        let mut length = 0;
+        let reason = sys::nard_lenient_text_fault(text.as_bytes(), scratch, buffer, &mut length);
+        crate::error::check(reason, length)?;
+        Ok(&buffer[..length])
+    }
+
+    /// Returns the path.
+    pub fn finalize(mut self) -> Result<&'a DevicePath, BuildError> {
+        self.room(0)?;
+        let bytes: &'a [u8] = match self.room {
+            Room::Buffer(buffer) => &buffer[..self.length],
+            #[cfg(feature = "alloc")]
+            Room::Vec(vector) => vector,
+        };
+        DevicePath::from_bytes(bytes).map_err(|_| BuildError::EndNode)
+    }
+}

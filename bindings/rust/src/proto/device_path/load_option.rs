@@ -1,0 +1,189 @@
+//! Load options.
+
+use super::DevicePath;
+use crate::data_types::Shown;
+use crate::error::{check, Error};
+use crate::sys;
+use core::iter::FusedIterator;
+
+/// A load option in borrowed bytes: the value of a variable `Boot####`.
+///
+/// ```
+/// use nardcorbel::LoadOption;
+///
+/// let option = LoadOption::from_bytes(&[1, 0, 0, 0, 4, 0, 0x62, 0, 0, 0, 0x7f, 0xff, 4, 0, 9])?;
+/// assert!(option.is_active());
+/// assert_eq!(option.description().to_string(), "b");
+/// assert_eq!(option.device_paths().count(), 1);
+/// assert_eq!(option.optional_data(), [9]);
+/// # Ok::<(), nardcorbel::Error>(())
+/// ```
+#[derive(Clone, Copy, Debug)]
+pub struct LoadOption<'a> {
+    bytes: &'a [u8],
+    parts: sys::LoadOption,
+}
+
+impl<'a> LoadOption<'a> {
+    /// Reads a load option. Fails for the first fault; the error's place is its offset.
+    pub fn from_bytes(bytes: &'a [u8]) -> Result<Self, Error> {
+        let (mut parts, mut offset) = (sys::LoadOption::default(), 0);
+        check(
+            sys::nard_load_option_read(bytes, &mut parts, &mut offset),
+            offset,
+        )?;
+        Ok(Self { bytes, parts })
+    }
+
+    /// Returns the attributes.
+    #[must_use]
+    pub fn attributes(&self) -> u32 {
+        // The library says that these are 32 bits.
+        self.parts.attributes as u32
+    }
+
+    /// Returns whether firmware tries the option by itself: the first bit of the attributes.
+    #[must_use]
+    pub fn is_active(&self) -> bool {
+        self.attributes() % 2 == 1
+    }
+
+    /// Iterates over the code units of the description, without its NUL. They may be surrogates.
+    pub fn description_units(&self) -> impl Iterator<Item = u16> + Clone + 'a {
+        let (start, length) = (self.parts.description_start, self.parts.description_length);
+        self.bytes[start..start + 2 * length]
+            .chunks_exact(2)
+            .map(|it| u16::from_le_bytes([it[0], it[1]]))
+    }
+
+    /// Iterates over the characters of the description. U+FFFD stands for each unpaired surrogate. They may be
+    /// control characters: print [`LoadOption::description`].
+    pub fn description_chars(&self) -> impl Iterator<Item = char> + Clone + 'a {
+        char::decode_utf16(self.description_units())
+            .map(|it| it.unwrap_or(char::REPLACEMENT_CHARACTER))
+    }
+
+    /// Returns the description as people may see it: see [`Shown`].
+    pub fn description(&self) -> Shown<impl Iterator<Item = char> + Clone + 'a> {
+        Shown(self.description_chars())
+    }
+
+    /// Iterates over the device paths of the file path list. There is at least one.
+    #[must_use]
+    pub fn device_paths(&self) -> LoadOptionDevicePaths<'a> {
+        let (start, length) = (self.parts.list_start, self.parts.list_length);
+        LoadOptionDevicePaths {
+            rest: &self.bytes[start..start + length],
+        }
+    }
+
+    /// Returns the bytes after the file path list.
+    #[must_use]
+    pub fn optional_data(&self) -> &'a [u8] {
+        let (start, length) = (self.parts.optional_start, self.parts.optional_length);
+        &self.bytes[start..start + length]
+    }
+}
+
+impl<'a> TryFrom<&'a [u8]> for LoadOption<'a> {
+    type Error = Error;
+
+    fn try_from(bytes: &'a [u8]) -> Result<Self, Error> {
+        Self::from_bytes(bytes)
+    }
+}
+
+/// Iterates over the device paths of a load option.
+#[derive(Clone, Debug)]
+pub struct LoadOptionDevicePaths<'a> {
+    rest: &'a [u8],
+}
+
+impl<'a> Iterator for LoadOptionDevicePaths<'a> {
+    type Item = &'a DevicePath;
+
+    fn next(&mut self) -> Option<&'a DevicePath> {
+        let path = DevicePath::from_bytes(self.rest).ok()?;
+        self.rest = &self.rest[path.as_bytes().len()..];
+        Some(path)
+    }
+}
+
+impl FusedIterator for LoadOptionDevicePaths<'_> {}
+
+/// The struct that builds load options.
+pub mod build {
+    use super::DevicePath;
+    use crate::data_types::CStr16;
+    use crate::error::{check_bytes, Error};
+    use crate::sys;
+
+    /// Builds a load option of one device path.
+    ///
+    /// ```
+    /// use nardcorbel::proto::device_path::{build, DevicePath, LoadOption};
+    /// use nardcorbel::cstr16;
+    ///
+    /// let path: Box<DevicePath> = r"PciRoot(0x0)/\a.efi".parse()?;
+    /// let entry = build::LoadOption {
+    ///     attributes: 1,
+    ///     description: cstr16!("debian"),
+    ///     device_path: &path,
+    ///     optional_data: b"quiet",
+    /// };
+    /// let bytes = entry.to_vec()?;
+    /// assert_eq!(LoadOption::from_bytes(&bytes)?.optional_data(), b"quiet");
+    /// # Ok::<(), nardcorbel::Error>(())
+    /// ```
+    #[derive(Clone, Copy, Debug, PartialEq, Eq)]
+    pub struct LoadOption<'a> {
+        /// The attributes; the first bit says that firmware tries the option by itself.
+        pub attributes: u32,
+        /// What the firmware's menu shows.
+        pub description: &'a CStr16,
+        /// What is loaded.
+        pub device_path: &'a DevicePath,
+        /// What is passed to it.
+        pub optional_data: &'a [u8],
+    }
+
+    impl LoadOption<'_> {
+        fn write(&self, buffer: &mut [u8], length: &mut usize) -> u32 {
+            let (units, path) = (
+                self.description.to_u16_slice_with_nul(),
+                self.device_path.as_bytes(),
+            );
+            sys::nard_load_option_write(
+                self.attributes as usize,
+                units,
+                path,
+                self.optional_data,
+                buffer,
+                length,
+            )
+        }
+
+        /// Writes the load option to the start of a buffer, and returns its bytes.
+        ///
+        /// Fails if the device path has more than 65,535 bytes, or if the buffer is too small. Then the buffer is unchanged.
+        pub fn write_in_buf<'b>(&self, buffer: &'b mut [u8]) -> Result<&'b [u8], Error> {
+            let mut length = 0;
+            check_bytes(self.write(buffer, &mut length), length)?;
+            Ok(&buffer[..length])
+        }
+
+        /// Returns the bytes of the load option. Fails if the device path has more than 65,535.
+        #[cfg(feature = "alloc")]
+        pub fn to_vec(&self) -> Result<alloc::vec::Vec<u8>, Error> {
+            // Six bytes stand before the description.
+            let parts = [
+                self.description.num_bytes(),
+                self.device_path.as_bytes().len(),
+                self.optional_data.len(),
+            ];
+            let mut bytes = alloc::vec![0; 6 + parts.iter().sum::<usize>()];
+            self.write_in_buf(&mut bytes)?;
+            Ok(bytes)
+        }
+    }
+}

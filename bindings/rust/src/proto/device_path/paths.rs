@@ -1,0 +1,353 @@
+//! Device paths in borrowed and in owned bytes.
+
+use super::{text, DevicePathNode, DeviceType};
+use crate::data_types::CStr16;
+use crate::error::{check, Error};
+use crate::fs::Path;
+use crate::sys;
+#[cfg(feature = "alloc")]
+use alloc::{borrow::ToOwned, boxed::Box, vec, vec::Vec};
+use core::fmt;
+use core::iter::FusedIterator;
+
+/// A device path: nodes one after the other, and the one that ends it.
+///
+/// ```
+/// use nardcorbel::DevicePath;
+///
+/// let path = DevicePath::from_bytes(&[1, 1, 6, 0, 2, 0x1f, 0x7f, 0xff, 4, 0])?;
+/// assert_eq!(path.to_string(), "Pci(0x1F,0x2)");
+/// for node in path {
+///     println!("{node}: {} bytes", node.length());
+/// }
+/// # Ok::<(), nardcorbel::Error>(())
+/// ```
+#[derive(PartialEq, Eq, Hash)]
+#[repr(transparent)]
+pub struct DevicePath([u8]);
+
+impl DevicePath {
+    /// The bytes of a whole path.
+    pub(super) fn of(bytes: &[u8]) -> &Self {
+        // SAFETY: `DevicePath` is a transparent wrapper.
+        unsafe { &*(core::ptr::from_ref(bytes) as *const Self) }
+    }
+
+    /// Reads the device path that bytes begin with, and ignores what follows it.
+    ///
+    /// Fails for the first malformed node. The error's place is the offset of the bytes at fault.
+    ///
+    /// ```
+    /// use nardcorbel::DevicePath;
+    ///
+    /// let error = DevicePath::from_bytes(&[1, 1, 3, 0]).unwrap_err();
+    /// assert_eq!(error.to_string(), "a node is shorter than its header, at 2");
+    /// ```
+    pub fn from_bytes(bytes: &[u8]) -> Result<&Self, Error> {
+        let mut length = 0;
+        check(sys::nard_device_path_check(bytes, &mut length), length)?;
+        Ok(Self::of(&bytes[..length]))
+    }
+
+    /// Borrows the device path at an address, as firmware gives it.
+    ///
+    /// # Safety
+    ///
+    /// Nodes stand there, up to the one that ends the path, and are unchanged while the path is used.
+    #[must_use]
+    pub unsafe fn from_ffi_ptr<'a>(ptr: *const u8) -> &'a Self {
+        // SAFETY: the caller's, for each header up to the end node's and for the slice of all.
+        unsafe {
+            let mut length = 0;
+            loop {
+                let [kind, sub_type, low, high] = *ptr.add(length).cast::<[u8; 4]>();
+                length += usize::from(u16::from_le_bytes([low, high])).max(4);
+                if (kind, sub_type) == (0x7f, 0xff) {
+                    break Self::of(core::slice::from_raw_parts(ptr, length));
+                }
+            }
+        }
+    }
+
+    /// Returns the address of the first node, for the firmware.
+    #[must_use]
+    pub const fn as_ffi_ptr(&self) -> *const u8 {
+        self.0.as_ptr()
+    }
+
+    /// Returns all bytes of the path, with those of its end node.
+    #[must_use]
+    pub const fn as_bytes(&self) -> &[u8] {
+        &self.0
+    }
+
+    /// Iterates over the nodes, without the one that ends the path.
+    #[must_use]
+    pub fn node_iter(&self) -> DevicePathNodeIterator<'_> {
+        DevicePathNodeIterator {
+            rest: &self.0,
+            of_instance: false,
+        }
+    }
+
+    /// Iterates over the instances.
+    ///
+    /// ```
+    /// use nardcorbel::DevicePath;
+    ///
+    /// let path: Box<DevicePath> = "Pci(0x1,0x0)/Pci(0x2,0x0),Pci(0x3,0x0)".parse()?;
+    /// assert!(path.instance_iter().map(|it| it.node_iter().count()).eq([2, 1]));
+    /// # Ok::<(), nardcorbel::Error>(())
+    /// ```
+    #[must_use]
+    pub fn instance_iter(&self) -> DevicePathInstanceIterator<'_> {
+        DevicePathInstanceIterator { rest: &self.0 }
+    }
+
+    /// Writes the names of all nodes that name files to the start of a buffer, as one path, and returns it.
+    ///
+    /// Fails if such a name is not a string, or if the buffer is too small.
+    pub fn file_path_in_buf<'b>(&self, buffer: &'b mut [u16]) -> Result<&'b Path, Error> {
+        let mut length = 0;
+        check(
+            sys::nard_device_path_file_path(&self.0, buffer, &mut length),
+            length,
+        )?;
+        Ok(Path::new(CStr16::of(&buffer[..=length])))
+    }
+
+    /// Formats the path as text, such as `PciRoot(0x0)/Pci(0x1F,0x2)`, into a buffer, and returns its UTF-16 without the NUL.
+    ///
+    /// `display_only` asks for shorter forms that cannot be read back, `allow_shortcuts` for names such as `VenPcAnsi()`.
+    pub fn text_in_buf<'b>(
+        &self,
+        display_only: bool,
+        allow_shortcuts: bool,
+        buffer: &'b mut [u16],
+    ) -> Result<&'b [u16], Error> {
+        let mut length = 0;
+        let reason =
+            sys::nard_device_path_text(&self.0, display_only, allow_shortcuts, buffer, &mut length);
+        check(reason, length)?;
+        Ok(&buffer[..length])
+    }
+
+    /// Returns the path without the nodes of another one at its start, or `None` if it does not begin with them.
+    #[must_use]
+    pub fn strip_prefix(&self, prefix: &DevicePath) -> Option<&DevicePath> {
+        let mut offset = 0;
+        sys::nard_device_path_strip_prefix(&self.0, &prefix.0, &mut offset)
+            .then(|| Self::of(&self.0[offset..]))
+    }
+
+    /// Returns whether a short form, such as `HD(..)/\file`, stands for this full path.
+    #[must_use]
+    pub fn is_expansion_of(&self, short: &DevicePath) -> bool {
+        sys::nard_device_path_is_expansion(&self.0, &short.0)
+    }
+}
+
+/// What needs memory.
+#[cfg(feature = "alloc")]
+impl DevicePath {
+    /// The path of bytes, which a proved call wrote.
+    fn boxed(bytes: Vec<u8>) -> Box<Self> {
+        // SAFETY: `DevicePath` is a transparent wrapper.
+        unsafe { Box::from_raw(Box::into_raw(bytes.into_boxed_slice()) as *mut Self) }
+    }
+
+    /// Copies the path.
+    #[must_use]
+    pub fn to_boxed(&self) -> Box<Self> {
+        Self::boxed(self.0.to_vec())
+    }
+
+    /// Copies the nodes of this path and then those of another one.
+    ///
+    /// ```
+    /// use nardcorbel::DevicePath;
+    ///
+    /// let device: Box<DevicePath> = "PciRoot(0x0)".parse()?;
+    /// let file: Box<DevicePath> = r"\a".parse()?;
+    /// assert_eq!(device.append_path(&file)?.to_string(), r"PciRoot(0x0)/\a");
+    /// # Ok::<(), nardcorbel::Error>(())
+    /// ```
+    pub fn append_path(&self, right: &Self) -> Result<Box<Self>, Error> {
+        let (mut bytes, mut length) = (self.0.to_vec(), 0);
+        bytes.resize(bytes.len() + right.0.len(), 0);
+        check(
+            sys::nard_device_path_append(&mut bytes, &right.0, &mut length),
+            length,
+        )?;
+        bytes.truncate(length);
+        Ok(Self::boxed(bytes))
+    }
+
+    /// Copies the nodes of this path and then another one.
+    pub fn append_node(&self, right: &DevicePathNode) -> Result<Box<Self>, Error> {
+        let (mut bytes, mut length) = (self.0.to_vec(), 0);
+        bytes.resize(bytes.len() + right.as_bytes().len(), 0);
+        let (kind, sub_type) = (right.device_type().0, right.sub_type().0);
+        check(
+            sys::nard_device_path_push(&mut bytes, kind, sub_type, right.data(), &mut length),
+            length,
+        )?;
+        bytes.truncate(length);
+        Ok(Self::boxed(bytes))
+    }
+
+    /// Copies the names of all nodes that name files, as one path. Fails if such a name is not a string.
+    ///
+    /// ```
+    /// use nardcorbel::DevicePath;
+    ///
+    /// let path: Box<DevicePath> = r"PciRoot(0x0)/\EFI\a.efi".parse()?;
+    /// assert_eq!(path.file_path()?, r"\EFI\a.efi");
+    /// # Ok::<(), nardcorbel::Error>(())
+    /// ```
+    pub fn file_path(&self) -> Result<crate::PathBuf, Error> {
+        // No name has more units than its node has bytes.
+        let mut units = vec![0; self.0.len()];
+        Ok(self.file_path_in_buf(&mut units)?.to_path_buf())
+    }
+}
+
+#[cfg(feature = "alloc")]
+impl ToOwned for DevicePath {
+    type Owned = Box<Self>;
+
+    fn to_owned(&self) -> Box<Self> {
+        self.to_boxed()
+    }
+}
+
+#[cfg(feature = "alloc")]
+impl Clone for Box<DevicePath> {
+    fn clone(&self) -> Self {
+        self.to_boxed()
+    }
+}
+
+#[cfg(feature = "alloc")]
+impl core::str::FromStr for Box<DevicePath> {
+    type Err = Error;
+
+    /// Reads the text of a device path, as it is displayed. Fails with the offset where a node has to begin and none does.
+    fn from_str(text: &str) -> Result<Self, Error> {
+        let mut bytes = Vec::new();
+        let path = super::build::DevicePathBuilder::with_vec(&mut bytes)
+            .push_text(text)?
+            .finalize()?;
+        Ok(path.to_boxed())
+    }
+}
+
+impl<'a> TryFrom<&'a [u8]> for &'a DevicePath {
+    type Error = Error;
+
+    fn try_from(bytes: &'a [u8]) -> Result<Self, Error> {
+        DevicePath::from_bytes(bytes)
+    }
+}
+
+impl<'a> IntoIterator for &'a DevicePath {
+    type Item = &'a DevicePathNode;
+    type IntoIter = DevicePathNodeIterator<'a>;
+
+    fn into_iter(self) -> Self::IntoIter {
+        self.node_iter()
+    }
+}
+
+impl fmt::Display for DevicePath {
+    fn fmt(&self, f: &mut fmt::Formatter<'_>) -> fmt::Result {
+        text::display_path(self, f)
+    }
+}
+
+impl fmt::Debug for DevicePath {
+    fn fmt(&self, f: &mut fmt::Formatter<'_>) -> fmt::Result {
+        write!(f, "DevicePath({self})")
+    }
+}
+
+/// An instance of a device path: some of its nodes, and the one that ends the instance or the path.
+#[derive(PartialEq, Eq, Hash)]
+#[repr(transparent)]
+pub struct DevicePathInstance([u8]);
+
+impl DevicePathInstance {
+    /// Iterates over the nodes, without the one that ends the instance.
+    #[must_use]
+    pub fn node_iter(&self) -> DevicePathNodeIterator<'_> {
+        DevicePathNodeIterator {
+            rest: &self.0,
+            of_instance: true,
+        }
+    }
+
+    /// Returns all bytes, with those of the node that ends the instance.
+    #[must_use]
+    pub const fn as_bytes(&self) -> &[u8] {
+        &self.0
+    }
+}
+
+impl fmt::Debug for DevicePathInstance {
+    fn fmt(&self, f: &mut fmt::Formatter<'_>) -> fmt::Result {
+        f.debug_list().entries(self.node_iter()).finish()
+    }
+}
+
+/// Iterates over the nodes of a path or an instance, first to last.
+#[derive(Clone, Debug)]
+pub struct DevicePathNodeIterator<'a> {
+    rest: &'a [u8],
+    of_instance: bool,
+}
+
+impl<'a> Iterator for DevicePathNodeIterator<'a> {
+    type Item = &'a DevicePathNode;
+
+    fn next(&mut self) -> Option<&'a DevicePathNode> {
+        let (mut offset, mut node) = (0, sys::DeviceNode::default());
+        let reason = sys::nard_device_path_next_node(self.rest, &mut offset, &mut node);
+        if reason != sys::OK || (self.of_instance && node.device_type == DeviceType::END.0) {
+            self.rest = &[];
+            return None;
+        }
+        let (bytes, rest) = self.rest.split_at(offset);
+        self.rest = rest;
+        Some(DevicePathNode::of(bytes))
+    }
+}
+
+impl FusedIterator for DevicePathNodeIterator<'_> {}
+
+/// Iterates over the instances of a path, first to last.
+#[derive(Clone, Debug)]
+pub struct DevicePathInstanceIterator<'a> {
+    rest: &'a [u8],
+}
+
+impl<'a> Iterator for DevicePathInstanceIterator<'a> {
+    type Item = &'a DevicePathInstance;
+
+    fn next(&mut self) -> Option<&'a DevicePathInstance> {
+        if self.rest.is_empty() {
+            return None;
+        }
+        let nodes = DevicePathNodeIterator {
+            rest: self.rest,
+            of_instance: true,
+        };
+        // And the node that ends them.
+        let length: usize = nodes.map(|it| it.as_bytes().len()).sum();
+        let (bytes, rest) = self.rest.split_at(length + 4);
+        self.rest = rest;
+        // SAFETY: `DevicePathInstance` is a transparent wrapper.
+        Some(unsafe { &*(core::ptr::from_ref(bytes) as *const DevicePathInstance) })
+    }
+}
+
+impl FusedIterator for DevicePathInstanceIterator<'_> {}

@@ -1,0 +1,3 @@
+//! What firmware offers.
+
+pub mod device_path;
