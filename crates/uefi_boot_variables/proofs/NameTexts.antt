@@ -8,7 +8,7 @@ use Rattle.std.proofs.lemmas.Str.{encode_ascii}
 use Rattle.std.specs.List.{list_all}
 use Rattle.std.specs.Prelude.{encode_utf8}
 use Rattle.uefi_text.specs.Units.{IsText, IsTextUnit}
-use Rattle.uefi_boot_variables.specs.Names.{digit_of, four_digits, name_text, word_of}
+use Rattle.uefi_boot_variables.specs.Names.{name_digit, four_digits, name_text, word_of}
 use Rattle.uefi_boot_variables.specs.declared.variable_names.LoadOptionKind.{LoadOptionKind}
 use Rattle.uefi_boot_variables.specs.declared.variable_names.LoadOptionKind.TheVariants.{Boot, Driver, SysPrep, PlatformRecovery}
 use Rattle.uefi_boot_variables.specs.declared.variable_names.LoadOptionName.{LoadOptionName}
@@ -33,7 +33,7 @@ word_once PlatformRecovery SysPrep e = cc
 word_once PlatformRecovery PlatformRecovery e = refl
 
 -- digits of numbers below 16 determine them
-pub digit_once : (a b : ℕ) → a < 16 → b < 16 → digit_of a ≡ digit_of b → a ≡ b
+pub digit_once : (a b : ℕ) → a < 16 → b < 16 → name_digit a ≡ name_digit b → a ≡ b
 digit_once a b a_low b_low e = grind (arith, nat_tests)
 
 -- a list of four
@@ -42,7 +42,7 @@ four_of xs long = fill_by_all (λ k. get_or xs k 0) xs 4 0 long (λ k less. refl
 
 -- the digits of a number that is put together of four
 four_digits_of : (a b c d : ℕ) → a < 16 → b < 16 → c < 16 → d < 16
-    → four_digits (((a * 16 + b) * 16 + c) * 16 + d) ≡ digit_of a ∷ digit_of b ∷ digit_of c ∷ digit_of d ∷ []
+    → four_digits (((a * 16 + b) * 16 + c) * 16 + d) ≡ name_digit a ∷ name_digit b ∷ name_digit c ∷ name_digit d ∷ []
 four_digits_of a b c d la lb lc ld =
     let n = ((a * 16 + b) * 16 + c) * 16 + d in
     let ea : n / 4096 ≡ a = omega arith in
@@ -54,10 +54,10 @@ four_digits_of a b c d la lb lc ld =
 -- four digits determine their number
 pub four_digits_once : (m n : ℕ) → m < 65536 → n < 65536 → four_digits m ≡ four_digits n → m ≡ n
 four_digits_once m n lm ln e =
-    let ea : digit_of (m / 4096) ≡ digit_of (n / 4096) = cc in
-    let eb : digit_of (m / 256 % 16) ≡ digit_of (n / 256 % 16) = cc in
-    let ec : digit_of (m / 16 % 16) ≡ digit_of (n / 16 % 16) = cc in
-    let ed : digit_of (m % 16) ≡ digit_of (n % 16) = cc in
+    let ea : name_digit (m / 4096) ≡ name_digit (n / 4096) = cc in
+    let eb : name_digit (m / 256 % 16) ≡ name_digit (n / 256 % 16) = cc in
+    let ec : name_digit (m / 16 % 16) ≡ name_digit (n / 16 % 16) = cc in
+    let ed : name_digit (m % 16) ≡ name_digit (n % 16) = cc in
     let a = digit_once (m / 4096) (n / 4096) (omega arith) (omega arith) ea in
     let b = digit_once (m / 256 % 16) (n / 256 % 16) (omega arith) (omega arith) eb in
     let c = digit_once (m / 16 % 16) (n / 16 % 16) (omega arith) (omega arith) ec in
@@ -66,7 +66,7 @@ four_digits_once m n lm ln e =
 
 -- digits that were read are those of one number
 pub digits_found : (text : List ℕ) (a b c d : ℕ) → length text ≡ 4 → a < 16 → b < 16 → c < 16 → d < 16
-    → get_or text 0 0 ≡ digit_of a → get_or text 1 0 ≡ digit_of b → get_or text 2 0 ≡ digit_of c → get_or text 3 0 ≡ digit_of d
+    → get_or text 0 0 ≡ name_digit a → get_or text 1 0 ≡ name_digit b → get_or text 2 0 ≡ name_digit c → get_or text 3 0 ≡ name_digit d
     → (number : ℕ) → number < 65536
     → (Some (((a * 16 + b) * 16 + c) * 16 + d) ≡ Some number) ↔ (text ≡ four_digits number)
 digits_found text a b c d long la lb lc ld ea eb ec ed number small =
@@ -132,10 +132,10 @@ plain_text (x ∷ xs) e =
     All-cons IsTextUnit x xs (first.0, (omega arith, λ high. absurd (omega arith))) (plain_text xs others)
 
 -- the digit of a number below 16 is of ASCII
-pub digit_plain : (n : ℕ) → n < 16 → (0 < digit_of n) × (digit_of n < 128)
+pub digit_plain : (n : ℕ) → n < 16 → (0 < name_digit n) × (name_digit n < 128)
 digit_plain n low = grind (arith, nat_tests)
 
-digit_text : (n : ℕ) → n < 16 → IsTextUnit (digit_of n)
+digit_text : (n : ℕ) → n < 16 → IsTextUnit (name_digit n)
 digit_text n low = let p = digit_plain n low in (p.0, (omega arith, λ high. absurd (omega arith)))
 
 word_text : (kind : LoadOptionKind) → IsText (word_of kind)
@@ -148,10 +148,10 @@ word_text PlatformRecovery = plain_text (word_of PlatformRecovery) refl
 pub names_are_texts : (name : LoadOptionName) → name.number < 65536 → IsText (name_text name)
 names_are_texts name small =
     let n = name.number in
-    let a = digit_of (n / 4096) in
-    let b = digit_of (n / 256 % 16) in
-    let c = digit_of (n / 16 % 16) in
-    let d = digit_of (n % 16) in
+    let a = name_digit (n / 4096) in
+    let b = name_digit (n / 256 % 16) in
+    let c = name_digit (n / 16 % 16) in
+    let d = name_digit (n % 16) in
     All-append IsTextUnit (word_of name.kind) (four_digits n) (word_text name.kind)
     (All-cons IsTextUnit a (b ∷ c ∷ d ∷ []) (digit_text (n / 4096) (omega arith))
     (All-cons IsTextUnit b (c ∷ d ∷ []) (digit_text (n / 256 % 16) (omega arith))
@@ -173,10 +173,10 @@ printed_digits n a b c d digits small is ea eb ec ed =
       ec,
       ed,
       is,
-      encode_ascii (digit_of (n / 4096)) pa.1,
-      encode_ascii (digit_of (n / 256 % 16)) pb.1,
-      encode_ascii (digit_of (n / 16 % 16)) pc.1,
-      encode_ascii (digit_of (n % 16)) pd.1,
+      encode_ascii (name_digit (n / 4096)) pa.1,
+      encode_ascii (name_digit (n / 256 % 16)) pb.1,
+      encode_ascii (name_digit (n / 16 % 16)) pc.1,
+      encode_ascii (name_digit (n % 16)) pd.1,
     ) refl
 
 abbrev made : LoadOptionKind → ℕ → LoadOptionName

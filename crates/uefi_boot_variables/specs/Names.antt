@@ -12,14 +12,14 @@ word_of SysPrep = codes "SysPrep"
 word_of PlatformRecovery = codes "PlatformRecovery"
 
 -- the hexadecimal digit of a number below 16: 0 to 9, and A to F
-abbrev pub digit_of : ℕ → ℕ
-digit_of number = if nat_lt number 10 then 48 + number else 55 + number
+abbrev pub name_digit : ℕ → ℕ
+name_digit number = if nat_lt number 10 then 48 + number else 55 + number
 
 -- the four hexadecimal digits of a number below 65536, the highest first
 abbrev pub four_digits : ℕ → List ℕ
 four_digits number =
-    digit_of (number / 4096) ∷ digit_of (number / 256 % 16)
-    ∷ digit_of (number / 16 % 16) ∷ digit_of (number % 16) ∷ []
+    name_digit (number / 4096) ∷ name_digit (number / 256 % 16)
+    ∷ name_digit (number / 16 % 16) ∷ name_digit (number % 16) ∷ []
 
 -- the text of a name
 abbrev pub name_text : LoadOptionName → List ℕ

@@ -16,12 +16,12 @@ unfoldable pub numbers_in : OrderBuffer → List ℕ
 numbers_in buffer = take buffer.len buffer.places.now
 
 -- what all places of that memory hold
-unfoldable pub places_of : OrderBuffer → List ℕ
-places_of buffer = buffer.places.now
+unfoldable pub order_places : OrderBuffer → List ℕ
+order_places buffer = buffer.places.now
 
 -- how many numbers that memory has room for
 abbrev pub room_of : OrderBuffer → ℕ
-room_of buffer = length (places_of buffer)
+room_of buffer = length (order_places buffer)
 
 -- the slice that is that memory
 unfoldable pub memory_of : OrderBuffer → GName

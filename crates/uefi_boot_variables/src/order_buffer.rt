@@ -3,7 +3,7 @@
 //! The memory is a slice of numbers, as firmware keeps an order once it has read it: `SetVariable` takes
 //! the address of these numbers, and twice their count as the size. Where bytes are wanted instead,
 //! [`OrderBuffer::write_bytes`] writes them.
-#![tactic(auto, unfolding(crate::specs::Views::memory_of, crate::specs::Views::numbers_in, crate::specs::Views::numbers_of, crate::specs::Views::places_of))]
+#![tactic(auto, unfolding(crate::specs::Views::memory_of, crate::specs::Views::numbers_in, crate::specs::Views::numbers_of, crate::specs::Views::order_places))]
 
 ghost use Rattle.std.specs.Prelude.{◌≡◌, ◌==◌, ◌+◌, ◌*◌, ◌<◌, ◌≤◌, ◌↔◌, ◌∷◌, ◌++◌, [], drop, insert, length, remove, take, true, false, IfOk, IsErr, IsTrue, OnErr, OnOk};
 ghost use Rattle.uefi_boot_variables.specs.Orders.{no_twice, once_each, over, stands_in, with_at, with_front, without};
@@ -15,7 +15,7 @@ use crate::orders::LoadOrder;
 /// An order in memory of the caller, in which no number stands twice. No call allocates memory.
 ///
 /// A contract sees the list of its numbers (`numbers_in`), and what all places of the caller's memory hold
-/// (`places_of`): the numbers come first, and no call changes the places after them. Once the order is no
+/// (`order_places`): the numbers come first, and no call changes the places after them. Once the order is no
 /// longer used, the caller's slice holds the places of its last call, because each call keeps the slice
 /// that the order was made from (`memory_of`).
 ///
@@ -36,13 +36,13 @@ pub struct OrderBuffer<'a> {
 }
 
 impl<'a> OrderBuffer<'a> {
-    ghost use Rattle.uefi_boot_variables.specs.Views.{memory_of, numbers_in, numbers_of, places_of, room_of};
+    ghost use Rattle.uefi_boot_variables.specs.Views.{memory_of, numbers_in, numbers_of, order_places, room_of};
 
     /// Creates an order without numbers. It has room for as many as there are places, and changes none.
     pub fn new(places: &'a mut [u16]) -> Self
         ensures numbers { numbers_in result ≡ [] }
         ensures room { room_of result ≡ length places.old }
-        ensures places { places_of result ≡ places.old }
+        ensures places { order_places result ≡ places.old }
         ensures memory { memory_of result ≡ places.entry.ghost_name }
     {
         OrderBuffer { places, len: 0 }
@@ -64,7 +64,7 @@ impl<'a> OrderBuffer<'a> {
     pub fn from_order(places: &'a mut [u16], order: &LoadOrder<'_>) -> Result<Self, OrderFull>
         ensures ok { IfOk result (λ buffer. numbers_in buffer ≡ once_each (numbers_of order.now)) }
         ensures room { IfOk result (λ buffer. room_of buffer ≡ length places.old) }
-        ensures places { IfOk result (λ buffer. places_of buffer ≡ over (numbers_in buffer) places.old) }
+        ensures places { IfOk result (λ buffer. order_places buffer ≡ over (numbers_in buffer) places.old) }
         ensures refused { IsErr result ↔ (length places.old < length (once_each (numbers_of order.now))) }
         ensures memory { IfOk result (λ buffer. memory_of buffer ≡ places.entry.ghost_name) }
     {
@@ -108,7 +108,7 @@ impl<'a> OrderBuffer<'a> {
         requires absent { stands_in number (numbers_in self.old) ≡ false }
         ensures numbers { numbers_in self.new ≡ insert (numbers_in self.old) place number }
         ensures room { room_of self.new ≡ room_of self.old }
-        ensures places { places_of self.new ≡ over (numbers_in self.new) (places_of self.old) }
+        ensures places { order_places self.new ≡ over (numbers_in self.new) (order_places self.old) }
         ensures memory { memory_of self.new ≡ memory_of self.old }
     {
         put(self.places, self.len, place, number);
@@ -129,7 +129,7 @@ impl<'a> OrderBuffer<'a> {
         ensures ok { OnOk result (numbers_in self.new ≡ once_each (numbers_in self.old ++ number ∷ [])) }
         ensures err { OnErr result (numbers_in self.new ≡ numbers_in self.old) }
         ensures room { room_of self.new ≡ room_of self.old }
-        ensures places { places_of self.new ≡ over (numbers_in self.new) (places_of self.old) }
+        ensures places { order_places self.new ≡ over (numbers_in self.new) (order_places self.old) }
         ensures memory { memory_of self.new ≡ memory_of self.old }
         ensures refused { IsErr result ↔ ((stands_in number (numbers_in self.old) ≡ false)
             × (length (numbers_in self.old) ≡ room_of self.old)) }
@@ -157,7 +157,7 @@ impl<'a> OrderBuffer<'a> {
         ensures stood { result ≡ stands_in number (numbers_in self.old) }
         ensures len { result ≡ true → length (numbers_in self.new) + 1 ≡ length (numbers_in self.old) }
         ensures room { room_of self.new ≡ room_of self.old }
-        ensures places { places_of self.new ≡ over (numbers_in self.new) (places_of self.old) }
+        ensures places { order_places self.new ≡ over (numbers_in self.new) (order_places self.old) }
         ensures memory { memory_of self.new ≡ memory_of self.old }
     {
         let len = remove(self.places, self.len, number);
@@ -182,7 +182,7 @@ impl<'a> OrderBuffer<'a> {
         ensures ok { OnOk result (numbers_in self.new ≡ with_at place number (numbers_in self.old)) }
         ensures err { OnErr result (numbers_in self.new ≡ numbers_in self.old) }
         ensures room { room_of self.new ≡ room_of self.old }
-        ensures places { places_of self.new ≡ over (numbers_in self.new) (places_of self.old) }
+        ensures places { order_places self.new ≡ over (numbers_in self.new) (order_places self.old) }
         ensures memory { memory_of self.new ≡ memory_of self.old }
         ensures refused { IsErr result ↔ ((stands_in number (numbers_in self.old) ≡ false)
             × (length (numbers_in self.old) ≡ room_of self.old)) }
@@ -205,7 +205,7 @@ impl<'a> OrderBuffer<'a> {
         ensures numbers { numbers_in self.new ≡ with_front number (numbers_in self.old) }
         ensures stood { result ≡ stands_in number (numbers_in self.old) }
         ensures room { room_of self.new ≡ room_of self.old }
-        ensures places { places_of self.new ≡ over (numbers_in self.new) (places_of self.old) }
+        ensures places { order_places self.new ≡ over (numbers_in self.new) (order_places self.old) }
         ensures memory { memory_of self.new ≡ memory_of self.old }
     {
         let stood = self.contains(number);

@@ -4,7 +4,7 @@
 ghost use Rattle.std.specs.Prelude.{◌≡◌};
 ghost use Rattle.std.specs.Iterator.{YieldsFirstBy, item_count};
 ghost use Rattle.std.specs.Option.{option_copied};
-ghost use Rattle.uefi_boot_variables.specs.Present.{bytes_of, shown, present_options};
+ghost use Rattle.uefi_boot_variables.specs.Present.{bytes_for, shown, present_options};
 ghost use Rattle.uefi_boot_variables.specs.Views.{numbers_of, options_left};
 ghost use Rattle.uefi_text.specs.Runs.{GivesEach};
 
@@ -12,8 +12,8 @@ use crate::orders::LoadOrder;
 use uefi_text::unaligned_slice::UnalignedSliceIter;
 
 /// The bytes of the first of the variables that has a number.
-fn bytes_of<'a>(variables: &'a [(u16, &'a [u8])], number: u16) -> Option<&'a [u8]>
-    ensures { option_copied result ≡ bytes_of number variables.now }
+fn bytes_for<'a>(variables: &'a [(u16, &'a [u8])], number: u16) -> Option<&'a [u8]>
+    ensures { option_copied result ≡ bytes_for number variables.now }
 {
     for variable in variables {
         if variable.0 == number {
@@ -65,7 +65,7 @@ impl<'a> Iterator for PresentOptions<'a> {
 
     fn next(&mut self) -> Option<(u16, &'a [u8])> {
         'numbers: while let Some(number) = self.order.next() {
-            if let Some(bytes) = bytes_of(self.variables, number) {
+            if let Some(bytes) = bytes_for(self.variables, number) {
                 return Some((number, bytes));
             }
         }

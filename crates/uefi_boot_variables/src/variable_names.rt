@@ -2,7 +2,7 @@
 ghost use Rattle.std.specs.Prelude.{◌≡◌, ℕ, ◌+◌, ◌*◌, ◌^◌, ◌<◌, ◌≤◌, ◌↔◌, ◌++◌, length, map, slice_index, take, IfErr, IfOk, IfSome, IsErr, IsTrue, OnOk, Some};
 ghost use Rattle.uefi_boot_variables.specs.declared.variable_names.LoadOptionKind.{LoadOptionKind};
 ghost use Rattle.uefi_boot_variables.specs.declared.variable_names.LoadOptionName.{LoadOptionName};
-ghost use Rattle.uefi_boot_variables.specs.Names.{digit_of, four_digits, name_text, word_of};
+ghost use Rattle.uefi_boot_variables.specs.Names.{name_digit, four_digits, name_text, word_of};
 ghost use Rattle.uefi_text.specs.UnalignedCStr16.{with_prefix};
 ghost use Rattle.uefi_text.specs.UnitTexts.{written_len};
 ghost use Rattle.uefi_text.specs.Units.{nul_terminated};
@@ -74,7 +74,7 @@ fn unit_at<U: Unit>(units: &[U], place: usize) -> u16
 /// The upper-case hexadecimal digit of a number below 16.
 fn digit(number: u16) -> u8
     requires { number < 16 }
-    ensures { result ≡ digit_of number }
+    ensures { result ≡ name_digit number }
 {
     if number < 10 {
         b'0' + number as u8
@@ -98,7 +98,7 @@ fn digits(number: u16) -> [u8; 4]
 /// The number whose digit a unit is.
 fn read_digit(unit: u16) -> Option<u16>
     ensures below { IfSome result (λ number. number < 16) }
-    ensures exact { (number : ℕ) → number < 16 → ((result ≡ Some number) ↔ (unit ≡ digit_of number)) }
+    ensures exact { (number : ℕ) → number < 16 → ((result ≡ Some number) ↔ (unit ≡ name_digit number)) }
 {
     match unit {
         0x30..=0x39 => Some(unit - 0x30),

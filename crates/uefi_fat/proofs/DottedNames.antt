@@ -10,32 +10,32 @@ use Rattle.std.proofs.lemmas.List.Sums.{AllPass-from_list_all, list_all-from_All
 use Rattle.std.proofs.lemmas.List.Elements.{All-head, All-tail, All-get_or}
 use Rattle.std.proofs.lemmas.List.Quantifiers.{position-Some}
 use Rattle.uefi_fat.specs.ShortNames.{IsShortName, IsShortPart, is_short_unit}
-use Rattle.uefi_fat.specs.Trimming.{full_stop, is_dot}
+use Rattle.uefi_fat.specs.Trimming.{period, is_dot}
 
 -- no character of a short name is a dot
 no_dot : (u : ℕ) → is_short_unit u ≡ true → is_dot u ≡ false
 no_dot u short =
     false_from_ne_true (is_dot u) (λ dot.
-    let same : u ≡ full_stop = eqb-true u full_stop dot in
+    let same : u ≡ period = eqb-true u period dot in
     true≢false (sym short ∙ ap is_short_unit same))
 
 -- so the first dot stands after the base
 first_dot : (base extension : List ℕ) → AllPass is_short_unit base
-    → position_or_len is_dot (base ++ full_stop ∷ extension) ≡ length base
+    → position_or_len is_dot (base ++ period ∷ extension) ≡ length base
 first_dot [] extension short = refl
 first_dot (u ∷ us) extension short =
     let fails : not (is_dot u) ≡ true = ap not (no_dot u (All-head (λ v. is_short_unit v ≡ true) u us short)) in
-    cond-true (not (is_dot u)) (1 + position_or_len is_dot (us ++ full_stop ∷ extension)) 0 fails
+    cond-true (not (is_dot u)) (1 + position_or_len is_dot (us ++ period ∷ extension)) 0 fails
     ∙ ap (λ n. 1 + n) (first_dot us extension (All-tail (λ v. is_short_unit v ≡ true) u us short))
     ∙ omega arith
 
 found_dot : (base extension : List ℕ) → AllPass is_short_unit base
-    → position is_dot (base ++ full_stop ∷ extension) ≡ Some (length base)
+    → position is_dot (base ++ period ∷ extension) ≡ Some (length base)
 found_dot base extension short =
     let at = first_dot base extension short in
-    let inside : nat_lt (position_or_len is_dot (base ++ full_stop ∷ extension)) (length (base ++ full_stop ∷ extension)) ≡ true =
-    grind (arith, nat_tests, at, length-append base (full_stop ∷ extension)) in
-    cond-true _ (Some (position_or_len is_dot (base ++ full_stop ∷ extension))) None inside ∙ ap Some at
+    let inside : nat_lt (position_or_len is_dot (base ++ period ∷ extension)) (length (base ++ period ∷ extension)) ≡ true =
+    grind (arith, nat_tests, at, length-append base (period ∷ extension)) in
+    cond-true _ (Some (position_or_len is_dot (base ++ period ∷ extension))) None inside ∙ ap Some at
 
 -- without a dot a name is all base
 pub base_alone : (name : List ℕ) → position is_dot name ≡ None → IsShortName name ↔ IsShortPart 8 name
@@ -52,10 +52,10 @@ base_alone name none = (
 
 -- a dot of a name cuts it
 cut_at : (name : List ℕ) (dot : ℕ) → dot < length name → is_dot (get_or name dot 0) ≡ true
-    → name ≡ take dot name ++ full_stop ∷ drop (dot + 1) name
+    → name ≡ take dot name ++ period ∷ drop (dot + 1) name
 cut_at name dot inside is =
-    let here : drop dot name ≡ full_stop ∷ drop (dot + 1) name =
-    rw (add-one) (drop-cons name dot 0 inside ∙ ap (λ u. u ∷ drop (suc dot) name) (eqb-true (get_or name dot 0) full_stop is)) in
+    let here : drop dot name ≡ period ∷ drop (dot + 1) name =
+    rw (add-one) (drop-cons name dot 0 inside ∙ ap (λ u. u ∷ drop (suc dot) name) (eqb-true (get_or name dot 0) period is)) in
     sym (ap (λ us. take dot name ++ us) (sym here) ∙ take-append-drop dot name)
 
 -- with a dot it is the base before the first, and the extension after it
@@ -72,10 +72,10 @@ base_and_extension name dot found =
             sym (found_dot base extension short_base.short_units) ∙ ap (position is_dot) (sym is) ∙ found in
             let place : length base ≡ dot = cc in
             let front : take dot name ≡ base =
-            ap (take dot) is ∙ ap (λ n. take n (base ++ full_stop ∷ extension)) (sym place) ∙ take-append_seam base _ in
+            ap (take dot) is ∙ ap (λ n. take n (base ++ period ∷ extension)) (sym place) ∙ take-append_seam base _ in
             let back : drop (dot + 1) name ≡ extension =
-            ap (drop (dot + 1)) is ∙ ap (λ n. drop (n + 1) (base ++ full_stop ∷ extension)) (sym place)
-            ∙ drop-append-add base (full_stop ∷ extension) 1 in
+            ap (drop (dot + 1)) is ∙ ap (λ n. drop (n + 1) (base ++ period ∷ extension)) (sym place)
+            ∙ drop-append-add base (period ∷ extension) 1 in
             (subst (IsShortPart 8) (sym front) short_base, subst (IsShortPart 3) (sym back) short_extension)
       ],
       λ parts. inr (take dot name, drop (dot + 1) name, cut_at name dot facts.0 facts.1, parts.0, parts.1),

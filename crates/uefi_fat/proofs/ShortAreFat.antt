@@ -12,7 +12,7 @@ use Rattle.std.proofs.lemmas.List.Sums.{AllPass-from_list_all, suffix_len-take_n
 use Rattle.uefi_text.specs.Units.{denied_characters}
 use Rattle.uefi_fat.specs.LongNames.{IsFatName, is_illegal}
 use Rattle.uefi_fat.specs.ShortNames.{IsShortName, IsShortPart, is_short_unit}
-use Rattle.uefi_fat.specs.Trimming.{full_stop, is_space, is_space_or_dot, trimmed, without_leading, without_trailing}
+use Rattle.uefi_fat.specs.Trimming.{period, is_space, is_space_or_dot, trimmed, without_leading, without_trailing}
 
 -- no illegal unit stands in short names, since none of those does
 failed : (b : Bool) → not b ≡ true → b ≡ false
@@ -48,10 +48,10 @@ legal u short =
     true≢false (sym short ∙ unfit u (nat_lt u 0x20) (list_any (λ other. other == u) denied_characters) refl refl illegal))
 
 -- nor is one of them trimmed
-trimmed_unfit : (u : ℕ) (space dot : Bool) → (u == 0x20) ≡ space → (u == full_stop) ≡ dot → (space || dot) ≡ true
+trimmed_unfit : (u : ℕ) (space dot : Bool) → (u == 0x20) ≡ space → (u == period) ≡ dot → (space || dot) ≡ true
     → is_short_unit u ≡ false
 trimmed_unfit u true dot is_space is_dot end = ap is_short_unit (eqb-true u 0x20 is_space)
-trimmed_unfit u false true is_space is_dot end = ap is_short_unit (eqb-true u full_stop is_dot)
+trimmed_unfit u false true is_space is_dot end = ap is_short_unit (eqb-true u period is_dot)
 trimmed_unfit u false false is_space is_dot end = absurd (cc)
 
 next_at : (x : ℕ) (xs : List ℕ) (i : ℕ) → get_or (x ∷ xs) (1 + i) 0 ≡ get_or xs i 0
@@ -59,7 +59,7 @@ next_at x xs i = let same : 1 + i ≡ suc i = omega arith in ap (λ k. get_or (x
 
 no_end : (u : ℕ) → is_short_unit u ≡ true → is_space_or_dot u ≡ false
 no_end u short =
-    false_from_ne_true (is_space_or_dot u) (λ end. true≢false (sym short ∙ trimmed_unfit u (u == 0x20) (u == full_stop) refl refl end))
+    false_from_ne_true (is_space_or_dot u) (λ end. true≢false (sym short ∙ trimmed_unfit u (u == 0x20) (u == period) refl refl end))
 
 no_space : (u : ℕ) → is_short_unit u ≡ true → is_space u ≡ false
 no_space u short =
@@ -108,25 +108,25 @@ base_is_fat (u ∷ us) short =
     (omega (arith, short.within)) (units_legal (u ∷ us) short.short_units)
 
 both_are_fat : (base extension : List ℕ) → IsShortPart 8 base → IsShortPart 3 extension
-    → IsFatName (base ++ full_stop ∷ extension)
+    → IsFatName (base ++ period ∷ extension)
 both_are_fat [] extension short after = let some : 0 < length {A = ℕ} [] = short.not_empty in absurd (omega arith)
 both_are_fat (u ∷ us) extension short after =
     let P : ℕ → Type 0 = λ v. is_short_unit v ≡ true in
-    let rest = us ++ full_stop ∷ extension in
+    let rest = us ++ period ∷ extension in
     let end = length extension - 1 in
     let some : 0 < length extension = after.not_empty in
     let inside : end < length extension = omega arith in
-    let long : length rest ≡ length us + (1 + length extension) = length-append us (full_stop ∷ extension) ∙ omega arith in
+    let long : length rest ≡ length us + (1 + length extension) = length-append us (period ∷ extension) ∙ omega arith in
     let place : length rest ≡ length (u ∷ us) + (1 + end) = omega (arith, long) in
     let last_is : get_or extension end 0 ≡ get_or (u ∷ rest) (length rest) 0 =
-    sym (ap (λ i. get_or (u ∷ rest) i 0) place ∙ get_or-append-add (u ∷ us) (full_stop ∷ extension) (1 + end) 0
-    ∙ next_at full_stop extension end) in
+    sym (ap (λ i. get_or (u ∷ rest) i 0) place ∙ get_or-append-add (u ∷ us) (period ∷ extension) (1 + end) 0
+    ∙ next_at period extension end) in
     fat_name u rest
     (untrimmed u (get_or extension end 0) rest (All-head P u us short.short_units)
     (All-get_or P extension end 0 inside after.short_units) last_is)
     (omega (arith, short.within, after.within, long))
-    (All-append (λ v. is_illegal v ≡ false) (u ∷ us) (full_stop ∷ extension) (units_legal (u ∷ us) short.short_units)
-    (All-cons (λ v. is_illegal v ≡ false) full_stop extension refl (units_legal extension after.short_units)))
+    (All-append (λ v. is_illegal v ≡ false) (u ∷ us) (period ∷ extension) (units_legal (u ∷ us) short.short_units)
+    (All-cons (λ v. is_illegal v ≡ false) period extension refl (units_legal extension after.short_units)))
 
 pub short_are_fat : (name : List ℕ) → IsShortName name → IsFatName name
 short_are_fat name short =

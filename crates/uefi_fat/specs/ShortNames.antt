@@ -2,7 +2,7 @@
 use Rattle.std.specs.Prelude.{◌≡◌, ◌<◌, ◌≤◌, ◌⊎◌, ℕ, Bool, ◌&&◌, ◌||◌, ◌==◌, not, nat_le, List, [], ◌∷◌, ◌++◌, length}
 use Rattle.std.specs.List.{AllPass, list_any}
 use Rattle.uefi_text.specs.Case.{lower, upper}
-use Rattle.uefi_fat.specs.Trimming.{full_stop}
+use Rattle.uefi_fat.specs.Trimming.{period}
 
 -- the test for a letter that has a case: one that upper or lower case changes
 abbrev pub has_case : ℕ → Bool
@@ -34,5 +34,5 @@ pub record IsShortPart (most : ℕ) (part : List ℕ) : Type 0 where
 -- a short name: a base of at most 8 units, or such a base, a dot and an extension of at most 3
 abbrev pub IsShortName : List ℕ → Type 0
 IsShortName name = IsShortPart 8 name
-    ⊎ ((base : List ℕ) × (extension : List ℕ) × (name ≡ base ++ full_stop ∷ extension)
+    ⊎ ((base : List ℕ) × (extension : List ℕ) × (name ≡ base ++ period ∷ extension)
     × IsShortPart 8 base × IsShortPart 3 extension)

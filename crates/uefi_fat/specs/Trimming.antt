@@ -7,16 +7,16 @@ abbrev pub is_space : ℕ → Bool
 is_space unit = unit == 0x20
 
 -- the code unit of `.`
-abbrev pub full_stop : ℕ
-full_stop = 0x2e
+abbrev pub period : ℕ
+period = 0x2e
 
 -- the test for a dot
 abbrev pub is_dot : ℕ → Bool
-is_dot unit = unit == full_stop
+is_dot unit = unit == period
 
 -- the test for a space or a dot
 abbrev pub is_space_or_dot : ℕ → Bool
-is_space_or_dot unit = (unit == 0x20) || (unit == full_stop)
+is_space_or_dot unit = (unit == 0x20) || (unit == period)
 
 -- units after those at the start that pass a test
 abbrev pub without_leading : (ℕ → Bool) → List ℕ → List ℕ

@@ -10,7 +10,7 @@ use Rattle.std.proofs.lemmas.List.{drop_at, length-replicate, take_at}
 use Rattle.std.proofs.lemmas.List.Elements.{All-append, All-cons, All-drop, All-head, All-nil, All-tail, All-take}
 use borrow.Author.Tests.{ltb-true}
 use Rattle.uefi_text.specs.Packed.{IsByte}
-use Rattle.uefi_node_table.specs.Rows.{Item, is_within, item_of, item_text, items_of, list_text, pieces_text}
+use Rattle.uefi_node_table.specs.Rows.{Item, is_within, item_of, item_text, list_items, list_text, pieces_text}
 use Rattle.uefi_node_table.specs.declared.rows.Items.{Items}
 use Rattle.uefi_node_table.specs.declared.rows.Items.TheVariants.{Numbers, Ipv4, Ipv6}
 use Rattle.uefi_node_reader.specs.FieldReading.{◌>>=◌}
@@ -184,7 +184,7 @@ items_takes item is (suc most) text bytes rest e = by (after item.start text) re
 -- what stands after a list, or in place of one
 pub list_starts : (item : Item) → is_sound_item item ≡ true → (bytes rest : List ℕ) → has_digit 16 rest ≡ false
     → has_digit 16 (list_text item bytes ++ rest) ≡ false
-list_starts item s bytes rest e = let is = sound item s in starts item is.starts (items_of item.size bytes) rest e
+list_starts item s bytes rest e = let is = sound item s in starts item is.starts (list_items item.size bytes) rest e
 
 pub list_again : (item : Item) → is_sound_item item ≡ true → (bytes : List ℕ) → AreItems item bytes → All IsByte bytes → (rest : List ℕ)
     → after item.start rest ≡ None → has_digit 16 rest ≡ false → list_read item (list_text item bytes ++ rest) ≡ Some (bytes, rest)

@@ -9,7 +9,7 @@ use Rattle.uefi_text.specs.Packed.{IsByte, little_endian}
 use Rattle.uefi_field_texts.specs.FieldTexts.{cid_string, hid_string, id_strings_text, shown_bytes, uid_string, until_nul}
 use Rattle.uefi_field_texts.specs.ShownTexts.{AsciiShown, BytesShown, IsShown, JoinedShown, NamesShown, NumbersShown, UnitsShown, is_printable}
 use Rattle.uefi_node_table.specs.Fields.{field_text}
-use Rattle.uefi_node_table.specs.Rows.{Form, Piece, form_text, item_of, item_text, items_of, matches, pieces_text, tail_text, value_at}
+use Rattle.uefi_node_table.specs.Rows.{Form, Piece, form_text, item_of, item_text, list_items, matches, pieces_text, tail_text, value_at}
 use Rattle.uefi_node_table.specs.ShownTexts.{TableShown}
 use Rattle.uefi_node_table.specs.Table.{form_of, forms, group_forms, table_text, text_in}
 use Rattle.uefi_node_table.specs.Words.{Word, suits, word_text, words_of}
@@ -127,7 +127,7 @@ module _ (joined : JoinedShown) (ascii : AsciiShown) (numbers : NumbersShown) (b
   tail_shown Name bytes h = (bytes_are (until_nul bytes)).4
   tail_shown Padded bytes h = (bytes_are (until_nul (take 32 bytes))).4
   tail_shown Ids bytes h = ids_shown bytes
-  tail_shown (Repeated items) bytes h = list_shown items (items_of (item_of items).size bytes)
+  tail_shown (Repeated items) bytes h = list_shown items (list_items (item_of items).size bytes)
 
   form_shown : (form : Form) → is_clean form ≡ true → (content : List ℕ) → All IsByte content → IsShown (form_text form content)
   unfolding is_clean

@@ -120,12 +120,12 @@ abbrev pub item_text : Item → List ℕ → List ℕ
 item_text item bytes = item.start ++ pieces_text item.pieces bytes
 
 -- the bytes of each whole item
-abbrev pub items_of : ℕ → List ℕ → List (List ℕ)
-items_of size bytes = first_chunks size (length bytes / size) bytes
+abbrev pub list_items : ℕ → List ℕ → List (List ℕ)
+list_items size bytes = first_chunks size (length bytes / size) bytes
 
 -- the text of a list
 abbrev pub list_text : Item → List ℕ → List ℕ
-list_text item bytes = flat_map (item_text item) (items_of item.size bytes)
+list_text item bytes = flat_map (item_text item) (list_items item.size bytes)
 
 -- the text of the data after the fixed part
 abbrev pub tail_text : Tail → List ℕ → List ℕ

@@ -13,13 +13,13 @@ unfoldable pub path_text : Path → List ℕ
 path_text path = text_of path.string
 
 -- the units that are left to cut
-abbrev pub units_left : Rest → List ℕ
-units_left rest = drop rest.start (units_of rest.text)
+abbrev pub uncut_units : Rest → List ℕ
+uncut_units rest = drop rest.start (units_of rest.text)
 
 -- the pieces of what is left to cut, if anything is
 abbrev pub pieces_of_rest : Option Rest → List (List ℕ)
 pieces_of_rest None = []
-pieces_of_rest (Some rest) = slice_split is_separator (units_left rest)
+pieces_of_rest (Some rest) = slice_split is_separator (uncut_units rest)
 
 -- the components that are still to come
 unfoldable pub components_left : Components → List (List ℕ)

@@ -40,11 +40,11 @@ pub(crate) struct Rest<'a> {
 }
 
 impl<'a> Rest<'a> {
-    ghost use Rattle.uefi_path.specs.Views.{pieces_of_rest, units_left};
+    ghost use Rattle.uefi_path.specs.Views.{pieces_of_rest, uncut_units};
 
     /// A whole text, in which the separators are looked for.
     pub(crate) fn of(text: Char16Slice<'a>) -> Rest<'a>
-        ensures { units_left result ≡ units_of text.entry }
+        ensures { uncut_units result ≡ units_of text.entry }
     {
         Rest {
             text,
@@ -57,7 +57,7 @@ impl<'a> Rest<'a> {
     pub(crate) fn placed(text: Char16Slice<'a>, start: usize, places: &'a [usize]) -> Rest<'a>
         requires within { start ≤ length (units_of text) }
         requires all { places.now ≡ places_from start (drop start (units_of text)) }
-        ensures { units_left result ≡ drop start (units_of text.entry) }
+        ensures { uncut_units result ≡ drop start (units_of text.entry) }
     {
         Rest {
             text,
@@ -68,7 +68,7 @@ impl<'a> Rest<'a> {
 
     /// The units that are left.
     fn units(self) -> Char16Slice<'a>
-        ensures { units_of result ≡ units_left self.entry }
+        ensures { units_of result ≡ uncut_units self.entry }
     {
         self.text.part(self.start, self.text.len())
     }
@@ -76,7 +76,7 @@ impl<'a> Rest<'a> {
     /// The first component, and what is left after it.
     #[inline(always)]
     fn cut(self) -> (Char16Slice<'a>, Option<Rest<'a>>)
-        ensures { slice_split is_separator (units_left self.entry)
+        ensures { slice_split is_separator (uncut_units self.entry)
             ≡ units_of result.0 ∷ pieces_of_rest result.1 }
     {
         // The clauses of this call say how long the text can be.
@@ -95,7 +95,7 @@ impl<'a> Rest<'a> {
 
     /// What is left before the last component, and that component.
     fn cut_back(self) -> (Option<Rest<'a>>, Char16Slice<'a>)
-        ensures { slice_split is_separator (units_left self.entry)
+        ensures { slice_split is_separator (uncut_units self.entry)
             ≡ pieces_of_rest result.0 ++ units_of result.1 ∷ [] }
     {
         let (front, last) = cut_last(self.units());
@@ -105,11 +105,11 @@ impl<'a> Rest<'a> {
 
 impl<'a> Components<'a> {
     ghost use Rattle.uefi_path.specs.Runs.{GivesNoNulIn};
-    ghost use Rattle.uefi_path.specs.Views.{components_left, units_left};
+    ghost use Rattle.uefi_path.specs.Views.{components_left, uncut_units};
 
     /// The components of the path of a string, of which the rest is the canonical text.
     pub(crate) fn of_canonical(string: CStr16<'_>, rest: Rest<'a>) -> Components<'a>
-        requires { units_left rest ≡ canonical (text_of string) }
+        requires { uncut_units rest ≡ canonical (text_of string) }
         ensures same { components_left result ≡ components_of (text_of string.entry) }
         ensures components { AreComponents (text_of string.entry) (components_left result) }
         ensures only { (pieces : List (List ℕ)) →

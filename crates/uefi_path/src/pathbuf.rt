@@ -11,7 +11,7 @@ ghost use Rattle.uefi_path.specs.Pushing.{IsPushNext, appended, needs_separator,
 ghost use Rattle.uefi_path.specs.Renaming.{IsExtended, IsRenamed, StartsName, dotted};
 ghost use Rattle.uefi_path.specs.Separators.{IsPlain, canonical, is_slash, places_of, separator, with_separators};
 ghost use Rattle.uefi_path.specs.SuccessiveParents.{parent_chain, parents_of};
-ghost use Rattle.uefi_path.specs.Views.{components_left, path_text, counted_text, reads_of, units_left};
+ghost use Rattle.uefi_path.specs.Views.{components_left, path_text, counted_text, reads_of, uncut_units};
 ghost use Rattle.uefi_text.specs.Units.{IsText};
 ghost use Rattle.uefi_text.specs.Views.{text_of, units_of};
 ghost use Rattle.uefi_text.specs.Runs.{GivesEach};
@@ -646,7 +646,7 @@ impl<A: Allocator + Copy> PathBuf<A> {
     /// The canonical text, with these places of the separators there. Looks at no character.
     fn canonical<'a>(&'a self, places: &'a [usize]) -> Rest<'a>
         requires { places.now ≡ places_of self.now }
-        ensures { units_left result ≡ canonical self.now }
+        ensures { uncut_units result ≡ canonical self.now }
     {
         let text = self.string.as_cstr16().as_slice();
         if !places.is_empty() && places[0] == 0 {

@@ -20,8 +20,8 @@ pub data LineCommand : Type 0 where
   unknown : LineCommand
   not_utf8 : LineCommand
 
-abbrev pub is_space : ℕ → Bool
-is_space byte = byte == 32
+abbrev pub is_space_byte : ℕ → Bool
+is_space_byte byte = byte == 32
 
 -- a verb and the text that follows its space
 abbrev pub verb_with : List ℕ → List ℕ → LineCommand
@@ -52,7 +52,7 @@ command_at line (Some place) = verb_with (take place line) (drop (place + 1) lin
 
 -- the command of a line
 abbrev pub command_of : List ℕ → LineCommand
-command_of line = if is_utf8 line then command_at line (position is_space line) else not_utf8
+command_of line = if is_utf8 line then command_at line (position is_space_byte line) else not_utf8
 
 -- what the program's own value of a command stands for
 abbrev pub command_shown : Command → LineCommand

@@ -4,7 +4,7 @@ use Rattle.std.proofs.lemmas.Grind.{common_steps}
 use Rattle.std.proofs.lemmas.List.Elements.{All-nil}
 use Rattle.uefi_text.specs.Units.{IsText, IsTextUnit}
 use Rattle.uefi_text.specs.Views.{text_of, units_of}
-use Rattle.uefi_path.specs.Views.{components_left, units_left}
+use Rattle.uefi_path.specs.Views.{components_left, uncut_units}
 use Rattle.uefi_path.proofs.Joining.{AreComponents-components_of, components_of-only, slice_split-canonical, All-canonical, All-slice_split}
 use Rattle.uefi_text.proofs.Runs.{gives_each}
 use Rattle.uefi_path.proofs.TakenComponents.{gives_no_nul}
@@ -20,7 +20,7 @@ pub returns-clause-components : goal.returns-clause-components
 unfolding components_left
 returns-clause-components c =
     let text = text_of c.args.string in
-    let units = units_left c.args.rest in
+    let units = uncut_units c.args.rest in
     let non_empty : units ≡ [] → ⊥ = λ e. grind (arith, common_steps, c.if-is_empty.ensures) in
     rw (slice_split-canonical text units c.requires non_empty) (AreComponents-components_of text)
 
@@ -28,7 +28,7 @@ pub returns-clause-only : goal.returns-clause-only
 unfolding components_left
 returns-clause-only c = λ pieces components.
     let text = text_of c.args.string in
-    let units = units_left c.args.rest in
+    let units = uncut_units c.args.rest in
     let non_empty : units ≡ [] → ⊥ = λ e. grind (arith, common_steps, c.if-is_empty.ensures) in
     components_of-only text pieces components ∙ sym (slice_split-canonical text units c.requires non_empty)
 
@@ -37,7 +37,7 @@ unfolding components_left
 returns-clause-texts c =
     let text = text_of c.args.string in
     let is_text : IsText text = subst IsText c.as_slice-text.ensures.same c.as_slice-text.ensures.is_text in
-    All-slice_split IsTextUnit (units_left c.args.rest)
+    All-slice_split IsTextUnit (uncut_units c.args.rest)
     (subst IsText (sym c.requires) (All-canonical IsTextUnit text is_text))
 
 pub returns-then-is_empty-clause-runs : goal.returns-then-is_empty-clause-runs
