@@ -7,12 +7,12 @@ use crate::stored::is_entry;
 use std::alloc::Global;
 use std::fmt::Display;
 use std::test::Fail;
-use uefi_boot_variables::{NotTwoBytes, OddLength, OrderFull};
+use uefi_boot_variables::{LoadOptionKind, LoadOptionName, NotTwoBytes, OddLength, OrderFull};
 use uefi_device_path::build::media::HardDrive;
 use uefi_device_path::{LoadOptionCause, LoadOptionError};
 use uefi_fat::FatNameError;
 use uefi_path::{Path, PathError};
-use uefi_text::{CString16, Char16, FromSliceWithNulError, FromStrError};
+use uefi_text::{BufferTooSmall, CString16, Char16, FromSliceWithNulError, FromStrError};
 use upath::JudgeError;
 
 #[test]
@@ -177,4 +177,27 @@ fn errors_of_names_and_orders(rt: HostRuntime) -> Result<(), Fail> {
     assert!(rt; says(alloc, &NotTwoBytes(3), "a number has two bytes, and not 3"));
     assert!(rt; says(alloc, &OrderFull, "there is no room for another number"));
     Ok(())
+}
+
+/// The name of a variable is written where it has room, and a shorter buffer is refused and unchanged.
+#[test]
+fn names_in_buffers(rt: HostRuntime) {
+    let name = LoadOptionName {
+        kind: LoadOptionKind::Boot,
+        number: 0x12ab,
+    };
+    for len in 0..12 {
+        let mut room = [9; 12];
+        let refused = name
+            .to_cstr16(room.get_mut(..len).unwrap_or_default())
+            .err();
+        let (want, left) = match len {
+            0..9 => (Some(BufferTooSmall(9)), [9; 12]),
+            _ => (
+                None,
+                [0x42, 0x6f, 0x6f, 0x74, 0x31, 0x32, 0x41, 0x42, 0, 9, 9, 9],
+            ),
+        };
+        assert!(rt; refused == want && room == left, "{len}");
+    }
 }
