@@ -566,6 +566,7 @@ impl<A: Allocator + Copy> PathBuf<A> {
             is_set ≡ true → IsExtended self.old self.new (text_of extension.entry)) }
         ensures none { IfOk result (λ is_set. is_set ≡ false → self.new ≡ self.old) }
         ensures some { IfOk result (λ is_set. IsTrue is_set ↔ (components_of self.old ≢ [])) }
+        ensures no_memory { OnErr result (components_of self.old ≢ []) }
         ensures err { OnErr result (self.new ≡ self.old) }
     {
         let text = self.string.as_cstr16().as_slice();
