@@ -10,13 +10,13 @@ use Rattle.uefi_text.specs.Units.{BeginsWithString, IsText, IsTextUnit, is_nul, 
 use Rattle.uefi_text.proofs.TextsInBuffers.{text_fits}
 use Rattle.uefi_text.proofs.Accepting.{until_nul_refusal-begins}
 use Rattle.nardcorbel.specs.Buffers.{first_half, second_half}
-use Rattle.nardcorbel.specs.Strings.{text_in, until_nul_place, until_nul_place_at}
+use Rattle.nardcorbel.specs.Strings.{text_until_nul, until_nul_place, until_nul_place_at}
 
 no_nul : (u : ℕ) → IsTextUnit u → is_nul u ≡ false
 no_nul u unit = grind (arith, common_steps)
 
 -- what stands before the first NUL is the text, where a text and its NUL stand first
-text_before : (text rest : List ℕ) → IsText text → text_in (text ++ 0 ∷ rest) ≡ text
+text_before : (text rest : List ℕ) → IsText text → text_until_nul (text ++ 0 ∷ rest) ≡ text
 text_before text rest is_text =
     let units = text ++ 0 ∷ rest in
     let place : position_or_len is_nul units ≡ length text =
@@ -32,12 +32,12 @@ begins text units written is_text room wrote =
     (text, drop (length text + 1) units, is_text, wrote ∙ sym (text_fits text units room))
 
 pub text_of_written : (text units written : List ℕ) → IsText text → length text < length units
-    → written ≡ with_prefix (nul_terminated text) units → text_in written ≡ text
+    → written ≡ with_prefix (nul_terminated text) units → text_until_nul written ≡ text
 text_of_written text units written is_text room wrote =
     let rest = drop (length text + 1) units in
-    ap text_in (wrote ∙ sym (text_fits text units room) ∙ append_assoc text (0 ∷ []) rest) ∙ text_before text rest is_text
+    ap text_until_nul (wrote ∙ sym (text_fits text units room) ∙ append_assoc text (0 ∷ []) rest) ∙ text_before text rest is_text
 
-pub end_of_written : (written : List ℕ) → BeginsWithString written → until_nul_place written ≡ length (text_in written)
+pub end_of_written : (written : List ℕ) → BeginsWithString written → until_nul_place written ≡ length (text_until_nul written)
 end_of_written written begin = ap (until_nul_place_at written) (until_nul_refusal-begins written begin)
 
 -- the halves of a buffer after both were written

@@ -10,12 +10,12 @@ use Rattle.uefi_text.specs.declared.errors.FromSliceWithNulError.{FromSliceWithN
 use Rattle.uefi_text.specs.declared.errors.FromSliceWithNulError.TheVariants as with_nul
 
 -- what stands before the first NUL of units, and all of them where there is none
-abbrev pub text_in : List ℕ → List ℕ
-text_in units = before_first is_nul units
+abbrev pub text_until_nul : List ℕ → List ℕ
+text_until_nul units = before_first is_nul units
 
 -- the place at which units are refused: that of the unit, or after all of them where a NUL is missing
 abbrev pub until_nul_place_at : List ℕ → Option FromSliceUntilNulError → ℕ
-until_nul_place_at units None = length (text_in units)
+until_nul_place_at units None = length (text_until_nul units)
 until_nul_place_at units (Some (until_nul.InvalidChar place)) = place
 until_nul_place_at units (Some until_nul.NoNul) = length units
 until_nul_place_at units (Some until_nul.OutOfMemory) = length units

@@ -12,7 +12,7 @@ ghost use Rattle.uefi_text.specs.Units.{BeginsWithString, nul_terminated};
 ghost use Rattle.nardcorbel.specs.BootVariables.{kind_number};
 ghost use Rattle.nardcorbel.specs.Buffers.{room_reason};
 ghost use Rattle.nardcorbel.specs.Reasons.{until_nul_reason};
-ghost use Rattle.nardcorbel.specs.Strings.{text_in};
+ghost use Rattle.nardcorbel.specs.Strings.{text_until_nul};
 
 use crate::reasons::{
     BUFFER_TOO_SMALL, END_OF_ORDER, NOT_A_NAME, ODD_BYTES, OK, report, until_nul_reason,
@@ -69,19 +69,18 @@ fn kind_of(number: u8) -> Option<LoadOptionKind>
 
 /// Reads the string that units begin with as the name of a load option, such as `Boot001F`.
 ///
-/// At `OK` `kind` becomes its kind and `number` its number. Units that begin with no string are
-/// refused as by `nard_string_until_nul`, and then a string that `LoadOptionName::from_cstr16` does
-/// not read as `NOT_A_NAME`. Refused, `kind` and `number` stay unchanged. Two passes; takes no
-/// memory.
+/// At `OK` `kind` becomes its kind and `number` its number. Units that begin with no string are refused
+/// as by `nard_string_until_nul`, and then a string that `LoadOptionName::from_cstr16` does not read as
+/// `NOT_A_NAME`. Refused, `kind` and `number` stay unchanged. Takes no memory.
 #[unsafe(no_mangle)]
 pub extern "C" fn nard_boot_name_read(units: &[u16], kind: &mut u8, number: &mut u16) -> u32
     ensures no_string { ¬ BeginsWithString units.now
         → result ≡ until_nul_reason (until_nul_refusal units.now) }
     ensures name { BeginsWithString units.now → (name : LoadOptionName) → name.number < 2 ^ 16
-        → text_in units.now ≡ name_text name
+        → text_until_nul units.now ≡ name_text name
         → (result ≡ OK) × (kind.new ≡ kind_number name.kind) × (number.new ≡ name.number) }
     ensures ok { result ≡ OK → BeginsWithString units.now × ((name : LoadOptionName)
-        × (name.number < 2 ^ 16) × (text_in units.now ≡ name_text name)) }
+        × (name.number < 2 ^ 16) × (text_until_nul units.now ≡ name_text name)) }
     ensures refused { BeginsWithString units.now → result ≢ OK → result ≡ NOT_A_NAME }
     ensures unchanged { result ≢ OK → (kind.new ≡ kind.old) × (number.new ≡ number.old) }
 {

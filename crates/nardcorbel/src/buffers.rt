@@ -14,7 +14,7 @@ ghost use Rattle.nardcorbel.specs.Buffers.{HasStringIn, first_half, length_shown
 ghost use Rattle.uefi_path.specs.Verdicts.{IsValid, verdict};
 ghost use Rattle.uefi_path.specs.Writing.{normal_path};
 ghost use Rattle.nardcorbel.specs.Reasons.{character_reason, path_reason, refused_character, until_nul_reason};
-ghost use Rattle.nardcorbel.specs.Strings.{text_in, until_nul_place};
+ghost use Rattle.nardcorbel.specs.Strings.{text_until_nul, until_nul_place};
 
 use crate::reasons::{
     BUFFER_TOO_SMALL, NO_PARENT, NOT_UTF8, OK, path_reason, report, until_nul_reason,
@@ -30,8 +30,8 @@ use uefi_text::{BufferTooSmall, CStr16};
 ///
 /// Units that begin with no string are refused as by `nard_string_until_nul`, those of the buffer first.
 /// Else `place` becomes how many units the path has, or at most `usize::MAX - 1`, and a buffer of no more
-/// places is `BUFFER_TOO_SMALL`. Refused, the buffer stays unchanged; what stands after the NUL stays. One
-/// pass over each; takes no memory.
+/// places is `BUFFER_TOO_SMALL`. Refused, the buffer stays unchanged; what stands after the NUL stays.
+/// Takes no memory.
 #[unsafe(no_mangle)]
 pub extern "C" fn nard_path_push(buffer: &mut [u16], path: &[u16], place: &mut usize) -> u32
     ensures no_string { ¬ BeginsWithString buffer.old
@@ -43,11 +43,11 @@ pub extern "C" fn nard_path_push(buffer: &mut [u16], path: &[u16], place: &mut u
     ensures unchanged { ¬ (BeginsWithString buffer.old × BeginsWithString path.now)
         → buffer.new ≡ buffer.old }
     ensures reason { BeginsWithString buffer.old → BeginsWithString path.now
-        → result ≡ room_reason (pushed (text_in buffer.old) (text_in path.now)) buffer.old }
+        → result ≡ room_reason (pushed (text_until_nul buffer.old) (text_until_nul path.now)) buffer.old }
     ensures place { BeginsWithString buffer.old → BeginsWithString path.now
-        → place.new ≡ length_shown (pushed (text_in buffer.old) (text_in path.now)) }
+        → place.new ≡ length_shown (pushed (text_until_nul buffer.old) (text_until_nul path.now)) }
     ensures buffer { BeginsWithString buffer.old → BeginsWithString path.now → buffer.new
-        ≡ with_prefix (nul_terminated (pushed (text_in buffer.old) (text_in path.now))) buffer.old }
+        ≡ with_prefix (nul_terminated (pushed (text_until_nul buffer.old) (text_until_nul path.now))) buffer.old }
 {
     let end = match CStr16::from_u16_until_nul(buffer) {
         Ok(string) => string.num_chars(),
@@ -71,7 +71,7 @@ pub extern "C" fn nard_path_push(buffer: &mut [u16], path: &[u16], place: &mut u
 ///
 /// Units that begin with no string are refused as by `nard_string_until_nul`, those of `path` first. Else
 /// `place` and a buffer that is too small are as in [`nard_path_push`]. Refused, the buffer stays
-/// unchanged; what stands after the NUL stays. One pass over each; takes no memory.
+/// unchanged; what stands after the NUL stays. Takes no memory.
 #[unsafe(no_mangle)]
 pub extern "C" fn nard_path_join(
     path: &[u16],
@@ -88,11 +88,11 @@ pub extern "C" fn nard_path_join(
     ensures unchanged { ¬ (BeginsWithString path.now × BeginsWithString other.now)
         → buffer.new ≡ buffer.old }
     ensures reason { BeginsWithString path.now → BeginsWithString other.now → result
-        ≡ room_reason (pushed (with_separators (text_in path.now)) (text_in other.now)) buffer.old }
+        ≡ room_reason (pushed (with_separators (text_until_nul path.now)) (text_until_nul other.now)) buffer.old }
     ensures place { BeginsWithString path.now → BeginsWithString other.now → place.new
-        ≡ length_shown (pushed (with_separators (text_in path.now)) (text_in other.now)) }
+        ≡ length_shown (pushed (with_separators (text_until_nul path.now)) (text_until_nul other.now)) }
     ensures buffer { BeginsWithString path.now → BeginsWithString other.now → buffer.new
-        ≡ with_prefix (nul_terminated (pushed (with_separators (text_in path.now)) (text_in other.now)))
+        ≡ with_prefix (nul_terminated (pushed (with_separators (text_until_nul path.now)) (text_until_nul other.now)))
         buffer.old }
 {
     let path = match CStr16::from_u16_until_nul(path) {
@@ -117,22 +117,22 @@ pub extern "C" fn nard_path_join(
 ///
 /// Units that begin with no string are refused as by `nard_string_until_nul`, and a path of at most one
 /// component as `NO_PARENT`, which leaves `place` unchanged. Else `place` becomes how many units the
-/// parent has, and a buffer of no more places is `BUFFER_TOO_SMALL`. Refused, the buffer stays
-/// unchanged; what stands after the NUL stays. Two passes over the path; takes no memory.
+/// parent has, and a buffer of no more places is `BUFFER_TOO_SMALL`. Refused, the buffer stays unchanged;
+/// what stands after the NUL stays. Takes no memory.
 #[unsafe(no_mangle)]
 pub extern "C" fn nard_path_parent(path: &[u16], buffer: &mut [u16], place: &mut usize) -> u32
     ensures no_string { ¬ BeginsWithString path.now
         → (result ≡ until_nul_reason (until_nul_refusal path.now))
         × (place.new ≡ until_nul_place path.now)
         × (buffer.new ≡ buffer.old) }
-    ensures none { BeginsWithString path.now → parent_text (text_in path.now) ≡ None
+    ensures none { BeginsWithString path.now → parent_text (text_until_nul path.now) ≡ None
         → (result ≡ NO_PARENT) × (place.new ≡ place.old) × (buffer.new ≡ buffer.old) }
     ensures reason { BeginsWithString path.now → (parent : List ℕ)
-        → parent_text (text_in path.now) ≡ Some parent → result ≡ room_reason parent buffer.old }
+        → parent_text (text_until_nul path.now) ≡ Some parent → result ≡ room_reason parent buffer.old }
     ensures place { BeginsWithString path.now → (parent : List ℕ)
-        → parent_text (text_in path.now) ≡ Some parent → place.new ≡ length parent }
+        → parent_text (text_until_nul path.now) ≡ Some parent → place.new ≡ length parent }
     ensures buffer { BeginsWithString path.now → (parent : List ℕ)
-        → parent_text (text_in path.now) ≡ Some parent
+        → parent_text (text_until_nul path.now) ≡ Some parent
         → buffer.new ≡ with_prefix (nul_terminated parent) buffer.old }
 {
     let path = match CStr16::from_u16_until_nul(path) {
@@ -154,10 +154,9 @@ pub extern "C" fn nard_path_parent(path: &[u16], buffer: &mut [u16], place: &mut
 ///
 /// Units that begin with no string are refused as by `nard_string_until_nul`, and then a path that is not
 /// valid as by `nard_path_verdict` of the path with its slashes replaced, with its `place` and its
-/// `character`. Else `place` becomes how many units the normal path has, and a buffer of no more places is
-/// `BUFFER_TOO_SMALL`. Refused, the buffer stays unchanged; what stands after the NUL stays. `character`
-/// becomes 0 but where a character is the reason. Two passes over the path after those that judge it;
-/// takes no memory.
+/// `character`. Else `place` becomes how many units the normal path has, and a buffer of no more places
+/// is `BUFFER_TOO_SMALL`. Refused, the buffer stays unchanged; what stands after the NUL stays.
+/// `character` becomes 0 but where a character is the reason. Takes no memory.
 #[unsafe(no_mangle)]
 pub extern "C" fn nard_path_normalize(
     path: &[u16],
@@ -170,20 +169,20 @@ pub extern "C" fn nard_path_normalize(
         × (place.new ≡ until_nul_place path.now)
         × (character.new ≡ 0)
         × (buffer.new ≡ buffer.old) }
-    ensures refused { BeginsWithString path.now → ¬ IsValid (with_separators (text_in path.now))
-        → (result ≡ path_reason (verdict (with_separators (text_in path.now))))
+    ensures refused { BeginsWithString path.now → ¬ IsValid (with_separators (text_until_nul path.now))
+        → (result ≡ path_reason (verdict (with_separators (text_until_nul path.now))))
         × (place.new ≡ until_nul_place path.now)
         × (buffer.new ≡ buffer.old) }
     ensures character { BeginsWithString path.now
-        → character.new ≡ refused_character (verdict (with_separators (text_in path.now))) }
+        → character.new ≡ refused_character (verdict (with_separators (text_until_nul path.now))) }
     ensures reason { BeginsWithString path.now → (normal : List ℕ)
-        → normal_path (with_separators (text_in path.now)) ≡ Some normal
+        → normal_path (with_separators (text_until_nul path.now)) ≡ Some normal
         → result ≡ room_reason normal buffer.old }
     ensures place { BeginsWithString path.now → (normal : List ℕ)
-        → normal_path (with_separators (text_in path.now)) ≡ Some normal
+        → normal_path (with_separators (text_until_nul path.now)) ≡ Some normal
         → place.new ≡ length normal }
     ensures buffer { BeginsWithString path.now → (normal : List ℕ)
-        → normal_path (with_separators (text_in path.now)) ≡ Some normal
+        → normal_path (with_separators (text_until_nul path.now)) ≡ Some normal
         → buffer.new ≡ with_prefix (nul_terminated normal) buffer.old }
 {
     // The law does nothing: it says that a path that is not valid is refused.

@@ -22,7 +22,7 @@ ghost use Rattle.uefi_device_path.specs.declared.lenient_errors.TextFault.{TextF
 ghost use Rattle.uefi_node_reader.specs.declared.styles.TextStyle.TheVariants.{Lenient, Libefivar};
 ghost use Rattle.nardcorbel.specs.Building.{build_place, build_reason, entry_of_path, IsWrongAt, lenient_place, lenient_reason, option_build_place, option_build_reason, text_place, text_reason};
 ghost use Rattle.nardcorbel.specs.Reasons.{node_reason, until_nul_reason};
-ghost use Rattle.nardcorbel.specs.Strings.{text_in, until_nul_place};
+ghost use Rattle.nardcorbel.specs.Strings.{text_until_nul, until_nul_place};
 
 use crate::device_paths::nard_device_path_check;
 use crate::reasons::{
@@ -527,15 +527,15 @@ pub extern "C" fn nard_load_option_write(
         → (result ≡ node_reason error.cause) × (place.new ≡ error.offset) × (buffer.new ≡ buffer.old) }
     ensures reason { BeginsWithString description.now → (nodes : List Node) → BeginWithPath bytes.now nodes
         → result ≡ option_build_reason (write_fault
-        (entry_of_path (attributes % 2 ^ 32) (text_in description.now) nodes optional.now)
+        (entry_of_path (attributes % 2 ^ 32) (text_until_nul description.now) nodes optional.now)
         (length buffer.old)) }
     ensures place { BeginsWithString description.now → (nodes : List Node) → BeginWithPath bytes.now nodes
-        → let entry = entry_of_path (attributes % 2 ^ 32) (text_in description.now) nodes optional.now in
+        → let entry = entry_of_path (attributes % 2 ^ 32) (text_until_nul description.now) nodes optional.now in
         place.new ≡ option_build_place (write_fault entry (length buffer.old)) (length (entry_bytes entry))
         place.old }
     ensures buffer { BeginsWithString description.now → (nodes : List Node) → BeginWithPath bytes.now nodes
         → buffer.new ≡ option_over
-        (entry_of_path (attributes % 2 ^ 32) (text_in description.now) nodes optional.now) buffer.old }
+        (entry_of_path (attributes % 2 ^ 32) (text_until_nul description.now) nodes optional.now) buffer.old }
 {
     // The law does nothing: it says that no path is refused.
     laws::accepted_paths();

@@ -27,7 +27,7 @@ use uefi_device_path::{
 ///
 /// `place` becomes how many bytes the path has, its end node among them; or the offset of the bytes that
 /// are at fault in the first malformed node, as [`DevicePath::from_bytes`] has it. What follows the path
-/// is not read. One pass; takes no memory (UEFI Specification 2.10, section 10.3.1).
+/// is not read. Takes no memory (UEFI Specification 2.10, section 10.3.1).
 #[unsafe(no_mangle)]
 pub extern "C" fn nard_device_path_check(bytes: &[u8], place: &mut usize) -> u32
     ensures accepts { (result ≡ OK) ↔ ((nodes : List Node) × BeginWithPath bytes.now nodes) }
@@ -132,11 +132,11 @@ pub extern "C" fn nard_device_path_next_node(
 /// Writes the file path of the device path that bytes begin with, as [`DevicePath::write_file_path`] does,
 /// into the first places of a buffer, and a NUL.
 ///
-/// Bytes that begin with no device path are refused as by [`nard_device_path_check`], and then a node that
-/// should name a file and has no name, where `place` becomes the offset of its data: `ODD_BYTES` where they
-/// end in half a unit, and else as by `nard_string_with_nul`. Else `place` becomes how many units the file
-/// path has, its NUL not counted, and a buffer of no more places is `BUFFER_TOO_SMALL`. Refused, the buffer
-/// stays unchanged; what stands after the NUL stays. Three passes over the nodes; takes no memory (UEFI
+/// Bytes that begin with no device path are refused as by [`nard_device_path_check`], and then a node
+/// that should name a file and has no name, where `place` becomes the offset of its data: `ODD_BYTES`
+/// where they end in half a unit, and else as by `nard_string_with_nul`. Else `place` becomes how many
+/// units the file path has, its NUL not counted, and a buffer of no more places is `BUFFER_TOO_SMALL`.
+/// Refused, the buffer stays unchanged; what stands after the NUL stays. Takes no memory (UEFI
 /// Specification 2.10, section 10.3.5.4).
 #[unsafe(no_mangle)]
 pub extern "C" fn nard_device_path_file_path(
@@ -190,9 +190,8 @@ pub extern "C" fn nard_device_path_file_path(
 ///
 /// Bytes that begin with no device path are refused as by [`nard_device_path_check`], and the buffer
 /// stays unchanged. Else `place` becomes how many units the text has, its NUL not counted, or at most
-/// `usize::MAX - 1`, and a buffer of no more places, and no other, is `BUFFER_TOO_SMALL`: it stays unchanged.
-/// What stands after the NUL stays. Makes the text twice: once to count it; takes no memory (UEFI
-/// Specification 2.10, section 10.6.1).
+/// `usize::MAX - 1`, and a buffer of no more places, and no other, is `BUFFER_TOO_SMALL`: it stays
+/// unchanged. What stands after the NUL stays. Takes no memory (UEFI Specification 2.10, section 10.6.1).
 #[unsafe(no_mangle)]
 pub extern "C" fn nard_device_path_text(
     bytes: &[u8],

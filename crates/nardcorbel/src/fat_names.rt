@@ -14,7 +14,7 @@ ghost use Rattle.uefi_fat.specs.ShortNames.{IsShortName};
 ghost use Rattle.uefi_fat.specs.Trimming.{trimmed};
 ghost use Rattle.nardcorbel.specs.Buffers.{room_reason};
 ghost use Rattle.nardcorbel.specs.Reasons.{fat_name_reason, refused_fat_character, until_nul_reason};
-ghost use Rattle.nardcorbel.specs.Strings.{text_in, until_nul_place};
+ghost use Rattle.nardcorbel.specs.Strings.{text_until_nul, until_nul_place};
 
 use crate::reasons::{CHAR_REPLACED, OK, fat_name_reason, report, until_nul_reason};
 use crate::strings::until_nul_place;
@@ -43,21 +43,21 @@ fn judge_name(name: Char16Slice<'_>, character: &mut u16) -> u32
 /// Whether the units begin with a string that a file on a FAT volume can have as its name: `OK`, or
 /// why not.
 ///
-/// Units that begin with no string are refused as by `nard_string_until_nul`, and then the name as
-/// by `check_fat_name`. `place` becomes what `nard_string_until_nul` says, which is the length of
-/// the text where only the name is refused. `character` becomes the character of `ILLEGAL_CHAR`,
-/// and 0 else. Two passes; takes no memory.
+/// Units that begin with no string are refused as by `nard_string_until_nul`, and then the name as by
+/// `check_fat_name`. `place` becomes what `nard_string_until_nul` says, which is the length of the text
+/// where only the name is refused. `character` becomes the character of `ILLEGAL_CHAR`, and 0 else. Takes
+/// no memory.
 #[unsafe(no_mangle)]
 pub extern "C" fn nard_fat_name_check(units: &[u16], place: &mut usize, character: &mut u16) -> u32
     ensures no_string { ¬ BeginsWithString units.now
         → result ≡ until_nul_reason (until_nul_refusal units.now) }
     ensures reason { BeginsWithString units.now
-        → result ≡ fat_name_reason (name_refusal (text_in units.now)) }
-    ensures valid { (result ≡ OK) ↔ (BeginsWithString units.now × IsFatName (text_in units.now)) }
+        → result ≡ fat_name_reason (name_refusal (text_until_nul units.now)) }
+    ensures valid { (result ≡ OK) ↔ (BeginsWithString units.now × IsFatName (text_until_nul units.now)) }
     ensures place { place.new ≡ until_nul_place units.now }
     ensures no_character { ¬ BeginsWithString units.now → character.new ≡ 0 }
     ensures character { BeginsWithString units.now
-        → character.new ≡ refused_fat_character (name_refusal (text_in units.now)) }
+        → character.new ≡ refused_fat_character (name_refusal (text_until_nul units.now)) }
 {
     *character = 0;
     match CStr16::from_u16_until_nul(units) {
@@ -72,12 +72,12 @@ pub extern "C" fn nard_fat_name_check(units: &[u16], place: &mut usize, characte
     }
 }
 
-/// Whether both begin with a string, and these are names of one file on a FAT volume, as
-/// `same_fat_file` says. One pass over each; takes no memory.
+/// Whether both begin with a string, and these are names of one file on a FAT volume, as `same_fat_file`
+/// says. Takes no memory.
 #[unsafe(no_mangle)]
 pub extern "C" fn nard_fat_name_equal(first: &[u16], second: &[u16]) -> bool
     ensures { IsTrue result ↔ (BeginsWithString first.now × BeginsWithString second.now
-        × (uppers (trimmed (text_in first.now)) ≡ uppers (trimmed (text_in second.now)))) }
+        × (uppers (trimmed (text_until_nul first.now)) ≡ uppers (trimmed (text_until_nul second.now)))) }
 {
     let Ok(first) = CStr16::from_u16_until_nul(first) else {
         return false;
@@ -88,11 +88,10 @@ pub extern "C" fn nard_fat_name_equal(first: &[u16], second: &[u16]) -> bool
     same_fat_file(first.as_slice(), second.as_slice())
 }
 
-/// Whether the units begin with a string that is an 8.3 name, as `is_short_name` says. Two passes;
-/// takes no memory.
+/// Whether the units begin with a string that is an 8.3 name, as `is_short_name` says. Takes no memory.
 #[unsafe(no_mangle)]
 pub extern "C" fn nard_fat_name_is_short(units: &[u16]) -> bool
-    ensures { IsTrue result ↔ (BeginsWithString units.now × IsShortName (text_in units.now)) }
+    ensures { IsTrue result ↔ (BeginsWithString units.now × IsShortName (text_until_nul units.now)) }
 {
     match CStr16::from_u16_until_nul(units) {
         Ok(string) => is_short_name(string.as_slice()),
@@ -104,9 +103,9 @@ pub extern "C" fn nard_fat_name_is_short(units: &[u16]) -> bool
 /// names, as `str_to_fat` does: `OK`, or `CHAR_REPLACED` where one of them is `_` in place of
 /// another.
 ///
-/// `place` becomes how many bytes are written. What is after them stays, and no NUL is written.
-/// Units that begin with no string are refused as by `nard_string_until_nul`, whose `place` is
-/// reported, and the bytes stay unchanged. Two passes; takes no memory.
+/// `place` becomes how many bytes are written. What is after them stays, and no NUL is written. Units
+/// that begin with no string are refused as by `nard_string_until_nul`, whose `place` is reported, and
+/// the bytes stay unchanged. Takes no memory.
 #[unsafe(no_mangle)]
 pub extern "C" fn nard_fat_from_string(units: &[u16], bytes: &mut [u8], place: &mut usize) -> u32
     ensures no_string { ¬ BeginsWithString units.now
@@ -114,12 +113,12 @@ pub extern "C" fn nard_fat_from_string(units: &[u16], bytes: &mut [u8], place: &
     ensures unchanged { ¬ BeginsWithString units.now → bytes.new ≡ bytes.old }
     ensures refused_place { ¬ BeginsWithString units.now → place.new ≡ until_nul_place units.now }
     ensures reason { BeginsWithString units.now → result
-        ≡ (if list_any is_unfit (take (length bytes.old) (kept_units (text_in units.now)))
+        ≡ (if list_any is_unfit (take (length bytes.old) (kept_units (text_until_nul units.now)))
         then CHAR_REPLACED else OK) }
     ensures bytes { BeginsWithString units.now
-        → bytes.new ≡ with_units (fat_bytes (text_in units.now)) bytes.old }
+        → bytes.new ≡ with_units (fat_bytes (text_until_nul units.now)) bytes.old }
     ensures place { BeginsWithString units.now
-        → place.new ≡ min (length (fat_bytes (text_in units.now))) (length bytes.old) }
+        → place.new ≡ min (length (fat_bytes (text_until_nul units.now))) (length bytes.old) }
 {
     match CStr16::from_u16_until_nul(units) {
         Ok(string) => {
@@ -143,7 +142,7 @@ pub extern "C" fn nard_fat_from_string(units: &[u16], bytes: &mut [u8], place: &
 /// none, and a NUL.
 ///
 /// `place` becomes how many units the text has. A buffer with no more places than these is
-/// `BUFFER_TOO_SMALL`, and stays unchanged. Two passes; takes no memory.
+/// `BUFFER_TOO_SMALL`, and stays unchanged. Takes no memory.
 #[unsafe(no_mangle)]
 pub extern "C" fn nard_string_from_fat(bytes: &[u8], buffer: &mut [u16], place: &mut usize) -> u32
     ensures reason { result ≡ room_reason (fat_text bytes.now) buffer.old }

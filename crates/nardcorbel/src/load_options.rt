@@ -74,10 +74,10 @@ fn parts_of(option: &LoadOption<'_>) -> LoadOptionParts
 
 /// Reads a load option, the value of a variable `Boot####`: `OK`, or why the bytes are none.
 ///
-/// At `OK` `option` becomes where its parts stand, and `place` becomes how many bytes there are.
-/// Refused as [`LoadOption::from_bytes`] refuses the bytes, for the first fault: `place` becomes its
-/// offset, and `option` stays unchanged. The description may hold surrogates. One pass, and one more
-/// over the first path; takes no memory (UEFI Specification 2.10, section 3.1.3).
+/// At `OK` `option` becomes where its parts stand, and `place` becomes how many bytes there are. Refused
+/// as [`LoadOption::from_bytes`] refuses the bytes, for the first fault: `place` becomes its offset, and
+/// `option` stays unchanged. The description may hold surrogates. Takes no memory (UEFI Specification
+/// 2.10, section 3.1.3).
 #[unsafe(no_mangle)]
 pub extern "C" fn nard_load_option_read(
     bytes: &[u8],

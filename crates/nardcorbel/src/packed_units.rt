@@ -12,7 +12,7 @@ use uefi_text::unaligned_slice::read_items;
 ///
 /// Bytes that are odd in number are `ODD_BYTES`, and then a buffer of fewer places than there are units
 /// is `BUFFER_TOO_SMALL`; either leaves the buffer unchanged. What stands after the units stays. `count`
-/// becomes how many units there are, refused or not. One pass; takes no memory.
+/// becomes how many units there are, refused or not. Takes no memory.
 #[unsafe(no_mangle)]
 pub extern "C" fn nard_units_from_bytes(bytes: &[u8], buffer: &mut [u16], count: &mut usize) -> u32
     ensures ok { (result ≡ OK)
@@ -41,7 +41,7 @@ pub extern "C" fn nard_units_from_bytes(bytes: &[u8], buffer: &mut [u16], count:
 /// `NO_NUL` where none is a NUL. They may be surrogates.
 ///
 /// `count` becomes their number, and where no NUL is among the units that of all of them: a byte that is
-/// left at the end counts for nothing. One pass up to the NUL; takes no memory.
+/// left at the end counts for nothing. Takes no memory.
 #[unsafe(no_mangle)]
 pub extern "C" fn nard_packed_until_nul(bytes: &[u8], count: &mut usize) -> u32
     ensures accepts { (result ≡ OK)

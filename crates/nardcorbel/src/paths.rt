@@ -13,7 +13,7 @@ ghost use Rattle.uefi_path.specs.Views.{path_text};
 ghost use Rattle.nardcorbel.specs.Paths.{IsPlaceOfFault};
 ghost use Rattle.uefi_path.specs.ComponentPlaces.{component_place, components_from};
 ghost use Rattle.nardcorbel.specs.Reasons.{order_number, path_reason, refused_character, until_nul_reason};
-ghost use Rattle.nardcorbel.specs.Strings.{text_in, until_nul_place};
+ghost use Rattle.nardcorbel.specs.Strings.{text_until_nul, until_nul_place};
 
 use crate::reasons::{NO_ORDER, OK, order_number, path_reason, until_nul_reason};
 use crate::strings::until_nul_place;
@@ -56,12 +56,12 @@ pub extern "C" fn nard_path_verdict(units: &[u16], place: &mut usize, character:
         → (result ≡ until_nul_reason (until_nul_refusal units.now))
         × (place.new ≡ until_nul_place units.now)
         × (character.new ≡ 0) }
-    ensures reason { BeginsWithString units.now → result ≡ path_reason (verdict (text_in units.now)) }
-    ensures valid { (result ≡ OK) ↔ (BeginsWithString units.now × IsValid (text_in units.now)) }
+    ensures reason { BeginsWithString units.now → result ≡ path_reason (verdict (text_until_nul units.now)) }
+    ensures valid { (result ≡ OK) ↔ (BeginsWithString units.now × IsValid (text_until_nul units.now)) }
     ensures place { BeginsWithString units.now
-        → IsPlaceOfFault (verdict (text_in units.now)) (text_in units.now) place.new }
+        → IsPlaceOfFault (verdict (text_until_nul units.now)) (text_until_nul units.now) place.new }
     ensures character { BeginsWithString units.now
-        → character.new ≡ refused_character (verdict (text_in units.now)) }
+        → character.new ≡ refused_character (verdict (text_until_nul units.now)) }
 {
     match CStr16::from_u16_until_nul(units) {
         Ok(string) => judge(Path::new(string), place, character),
@@ -74,11 +74,11 @@ pub extern "C" fn nard_path_verdict(units: &[u16], place: &mut usize, character:
 }
 
 /// Whether both begin with a string, and the paths of these are equal: one leading separator says
-/// nothing. One pass over each; takes no memory.
+/// nothing. Takes no memory.
 #[unsafe(no_mangle)]
 pub extern "C" fn nard_path_equal(first: &[u16], second: &[u16]) -> bool
     ensures { IsTrue result ↔ (BeginsWithString first.now × BeginsWithString second.now
-        × (canonical (text_in first.now) ≡ canonical (text_in second.now))) }
+        × (canonical (text_until_nul first.now) ≡ canonical (text_until_nul second.now))) }
 {
     let Ok(first) = CStr16::from_u16_until_nul(first) else {
         return false;
@@ -89,14 +89,14 @@ pub extern "C" fn nard_path_equal(first: &[u16], second: &[u16]) -> bool
     Path::new(first) == Path::new(second)
 }
 
-/// The order of two paths, which is that of their texts without one leading separator, by code unit: -1, 0
-/// or 1 where the first is less, equal or greater, and `NO_ORDER` where one of them does not begin with a
-/// string. One pass over each; takes no memory.
+/// The order of two paths, which is that of their texts without one leading separator, by code unit: -1,
+/// 0 or 1 where the first is less, equal or greater, and `NO_ORDER` where one of them does not begin with
+/// a string. Takes no memory.
 #[unsafe(no_mangle)]
 pub extern "C" fn nard_path_order(first: &[u16], second: &[u16]) -> i32
     ensures order { BeginsWithString first.now → BeginsWithString second.now
         → result ≡ order_number (slice_cmp nat_cmp
-        (canonical (text_in first.now)) (canonical (text_in second.now))) }
+        (canonical (text_until_nul first.now)) (canonical (text_until_nul second.now))) }
     ensures none { (result ≡ NO_ORDER) ↔ ¬ (BeginsWithString first.now × BeginsWithString second.now) }
 {
     let Ok(first) = CStr16::from_u16_until_nul(first) else {
@@ -111,9 +111,9 @@ pub extern "C" fn nard_path_order(first: &[u16], second: &[u16]) -> i32
 /// The next component of a path, from a place in its text on: whether there is one.
 ///
 /// `text` are the units of the path without its NUL, any units. `place` is 0 at first. Where there is a
-/// component it is the `len` units from `start` on, which is `place`, but 1 where a separator begins the text
-/// and `place` is 0; and `place` becomes the place of the next one, after the separator that ends it. Else
-/// all three stay unchanged. An empty component is one, too. One pass over the component; takes no memory.
+/// component it is the `len` units from `start` on, which is `place`, but 1 where a separator begins the
+/// text and `place` is 0; and `place` becomes the place of the next one, after the separator that ends
+/// it. Else all three stay unchanged. An empty component is one, too. Takes no memory.
 #[unsafe(no_mangle)]
 pub extern "C" fn nard_path_next_component(
     text: &[u16],
@@ -142,9 +142,9 @@ pub extern "C" fn nard_path_next_component(
 
 /// The last component of a path: whether it has one.
 ///
-/// `text` are the units of the path without its NUL, any units. `start` becomes the place where the component
-/// begins, which ends with the text, and stays unchanged where there is none. It may be empty. One pass over
-/// the component, from its end; takes no memory.
+/// `text` are the units of the path without its NUL, any units. `start` becomes the place where the
+/// component begins, which ends with the text, and stays unchanged where there is none. It may be empty.
+/// Takes no memory.
 #[unsafe(no_mangle)]
 pub extern "C" fn nard_path_file_name(text: &[u16], start: &mut usize) -> bool
     ensures name { IsTrue result
@@ -162,11 +162,10 @@ pub extern "C" fn nard_path_file_name(text: &[u16], start: &mut usize) -> bool
 /// How many units the parent of a path takes at the start of its text: whether it has a parent, which no
 /// path of at most one component has.
 ///
-/// `text` are the units of the path without its NUL, any units. `len` becomes the place of the
-/// separator before the last component: the units before it are a path of all components but the last. Of a
-/// valid path they are the parent, but for a separator at their start. It
-/// stays unchanged where there is no parent. One pass over the last component, from its end; takes no
-/// memory.
+/// `text` are the units of the path without its NUL, any units. `len` becomes the place of the separator
+/// before the last component: the units before it are a path of all components but the last. Of a valid
+/// path they are the parent, but for a separator at their start. It stays unchanged where there is no
+/// parent. Takes no memory.
 #[unsafe(no_mangle)]
 pub extern "C" fn nard_path_parent_length(text: &[u16], parent_length: &mut usize) -> bool
     ensures parent { IsTrue result

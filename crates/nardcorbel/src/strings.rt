@@ -7,7 +7,7 @@ ghost use Rattle.uefi_text.specs.Units.{BeginsWithString, IsString};
 ghost use Rattle.uefi_text.specs.FromSliceUntilNul.{until_nul_refusal};
 ghost use Rattle.uefi_text.specs.FromSliceWithNul.{with_nul_refusal};
 ghost use Rattle.nardcorbel.specs.Reasons.{order_number, until_nul_reason, with_nul_reason};
-ghost use Rattle.nardcorbel.specs.Strings.{text_in, until_nul_place, until_nul_place_at, with_nul_place, with_nul_place_at};
+ghost use Rattle.nardcorbel.specs.Strings.{text_until_nul, until_nul_place, until_nul_place_at, with_nul_place, with_nul_place_at};
 
 use crate::reasons::{NO_ORDER, OK, order_number, until_nul_reason, with_nul_reason};
 use uefi_text::{CStr16, FromSliceUntilNulError, FromSliceWithNulError};
@@ -37,9 +37,8 @@ fn with_nul_place(error: FromSliceWithNulError, units: &[u16]) -> usize
 
 /// Whether all of the units are one string: `OK`, or why they are none.
 ///
-/// The first unit that is a NUL or a surrogate decides. `place` becomes the length of the text, the
-/// index of the unit that is refused, or the number of units where none is a NUL. One pass, which ends
-/// at that unit; takes no memory.
+/// The first unit that is a NUL or a surrogate decides. `place` becomes the length of the text, the index
+/// of the unit that is refused, or the number of units where none is a NUL. Takes no memory.
 #[unsafe(no_mangle)]
 pub extern "C" fn nard_string_with_nul(units: &[u16], place: &mut usize) -> u32
     ensures reason { result ≡ with_nul_reason (with_nul_refusal units.now) }
@@ -61,8 +60,7 @@ pub extern "C" fn nard_string_with_nul(units: &[u16], place: &mut usize) -> u32
 /// Whether the units begin with a string: `OK`, or why they do not. What follows the first NUL is not
 /// read.
 ///
-/// `place` becomes what [`nard_string_with_nul`] says. One pass, which ends at the first NUL or
-/// surrogate; takes no memory.
+/// `place` becomes what [`nard_string_with_nul`] says. Takes no memory.
 #[unsafe(no_mangle)]
 pub extern "C" fn nard_string_until_nul(units: &[u16], place: &mut usize) -> u32
     ensures reason { result ≡ until_nul_reason (until_nul_refusal units.now) }
@@ -81,11 +79,11 @@ pub extern "C" fn nard_string_until_nul(units: &[u16], place: &mut usize) -> u32
     }
 }
 
-/// Whether both begin with a string, and have the same text. One pass over each; takes no memory.
+/// Whether both begin with a string, and have the same text. Takes no memory.
 #[unsafe(no_mangle)]
 pub extern "C" fn nard_string_equal(first: &[u16], second: &[u16]) -> bool
     ensures { IsTrue result ↔ (BeginsWithString first.now × BeginsWithString second.now
-        × (text_in first.now ≡ text_in second.now)) }
+        × (text_until_nul first.now ≡ text_until_nul second.now)) }
 {
     let Ok(first) = CStr16::from_u16_until_nul(first) else {
         return false;
@@ -97,11 +95,11 @@ pub extern "C" fn nard_string_equal(first: &[u16], second: &[u16]) -> bool
 }
 
 /// The order of two strings, by code unit: -1, 0 or 1 where the first is less, equal or greater, and
-/// `NO_ORDER` where one of them does not begin with a string. One pass over each; takes no memory.
+/// `NO_ORDER` where one of them does not begin with a string. Takes no memory.
 #[unsafe(no_mangle)]
 pub extern "C" fn nard_string_order(first: &[u16], second: &[u16]) -> i32
     ensures order { BeginsWithString first.now → BeginsWithString second.now
-        → result ≡ order_number (slice_cmp nat_cmp (text_in first.now) (text_in second.now)) }
+        → result ≡ order_number (slice_cmp nat_cmp (text_until_nul first.now) (text_until_nul second.now)) }
     ensures none { (result ≡ NO_ORDER) ↔ ¬ (BeginsWithString first.now × BeginsWithString second.now) }
 {
     let Ok(first) = CStr16::from_u16_until_nul(first) else {
@@ -113,11 +111,11 @@ pub extern "C" fn nard_string_order(first: &[u16], second: &[u16]) -> i32
     order_number(first.cmp(&second))
 }
 
-/// Whether the units begin with a string, and each character of its text is one of ASCII. One pass;
-/// takes no memory.
+/// Whether the units begin with a string, and each character of its text is one of ASCII. Takes no
+/// memory.
 #[unsafe(no_mangle)]
 pub extern "C" fn nard_string_is_ascii(units: &[u16]) -> bool
-    ensures { IsTrue result ↔ (BeginsWithString units.now × IsAscii (text_in units.now)) }
+    ensures { IsTrue result ↔ (BeginsWithString units.now × IsAscii (text_until_nul units.now)) }
 {
     match CStr16::from_u16_until_nul(units) {
         Ok(string) => string.is_ascii(),

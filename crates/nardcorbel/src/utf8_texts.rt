@@ -11,7 +11,7 @@ ghost use Rattle.uefi_text.specs.UnalignedCStr16.{with_prefix};
 ghost use Rattle.uefi_text.specs.Units.{BeginsWithString, IsText, nul_terminated};
 ghost use Rattle.nardcorbel.specs.Buffers.{length_shown, room_reason};
 ghost use Rattle.nardcorbel.specs.Reasons.{character_reason, until_nul_reason};
-ghost use Rattle.nardcorbel.specs.Strings.{text_in, until_nul_place};
+ghost use Rattle.nardcorbel.specs.Strings.{text_until_nul, until_nul_place};
 
 use crate::reasons::{
     BUFFER_TOO_SMALL, INTERIOR_NUL, INVALID_CHAR, NOT_UTF8, OK, report, until_nul_reason,
@@ -39,12 +39,11 @@ fn judge_text(text: &str) -> (u32, usize)
 
 /// Writes a text in UTF-8 as a string to the start of a buffer.
 ///
-/// Bytes that are not UTF-8 are `NOT_UTF8`, and `place` becomes how many bytes before the fault
-/// are. Then a text is refused for its first character that is NUL or above U+FFFF, as
-/// `INTERIOR_NUL` or `INVALID_CHAR`, and `place` becomes how many characters are before it. Else
-/// `place` becomes the length of the text, and a buffer of no more places is `BUFFER_TOO_SMALL`.
-/// Refused, the buffer stays unchanged; what is after the NUL stays. One pass over the bytes and
-/// two over the characters; takes no memory.
+/// Bytes that are not UTF-8 are `NOT_UTF8`, and `place` becomes how many bytes before the fault are. Then
+/// a text is refused for its first character that is NUL or above U+FFFF, as `INTERIOR_NUL` or
+/// `INVALID_CHAR`, and `place` becomes how many characters are before it. Else `place` becomes the length
+/// of the text, and a buffer of no more places is `BUFFER_TOO_SMALL`. Refused, the buffer stays
+/// unchanged; what is after the NUL stays. Takes no memory.
 #[unsafe(no_mangle)]
 pub extern "C" fn nard_string_from_utf8(bytes: &[u8], buffer: &mut [u16], place: &mut usize) -> u32
     ensures not_utf8 { (result ≡ NOT_UTF8) ↔ ¬ IsUtf8 bytes.now }
@@ -92,14 +91,13 @@ fn write_judged(text: &str, buffer: &mut [u16]) -> u32
     }
 }
 
-/// Whether the units begin with a string, the bytes are UTF-8, and the two count as equal up to the
-/// first NUL: the string's text, or what the bytes encode before their first NUL, is a prefix of
-/// the other of these. One pass over the bytes, and one that ends at the first difference; takes no
-/// memory.
+/// Whether the units begin with a string, the bytes are UTF-8, and the two count as equal up to the first
+/// NUL: the string's text, or what the bytes encode before their first NUL, is a prefix of the other of
+/// these. Takes no memory.
 #[unsafe(no_mangle)]
 pub extern "C" fn nard_string_equal_until_nul(units: &[u16], bytes: &[u8]) -> bool
     ensures { IsTrue result ↔ (BeginsWithString units.now × IsUtf8 bytes.now
-        × IsEqualUntilNul (text_in units.now) (chars bytes.now)) }
+        × IsEqualUntilNul (text_until_nul units.now) (chars bytes.now)) }
 {
     let Ok(string) = CStr16::from_u16_until_nul(units) else {
         return false;
@@ -110,8 +108,7 @@ pub extern "C" fn nard_string_equal_until_nul(units: &[u16], bytes: &[u8]) -> bo
     }
 }
 
-/// Whether the bytes are UTF-8, and each character that they encode is one of Latin-1. One pass for
-/// each; takes no memory.
+/// Whether the bytes are UTF-8, and each character that they encode is one of Latin-1. Takes no memory.
 #[unsafe(no_mangle)]
 pub extern "C" fn nard_utf8_is_latin1(bytes: &[u8]) -> bool
     ensures { IsTrue result ↔ (IsUtf8 bytes.now × IsLatin1 (chars bytes.now)) }
@@ -125,10 +122,10 @@ pub extern "C" fn nard_utf8_is_latin1(bytes: &[u8]) -> bool
 /// Writes the text of the string that units begin with, in UTF-8 and with a NUL, into the first
 /// places of `bytes`.
 ///
-/// Units that begin with no string are refused as by `nard_string_until_nul`, with its `place`.
-/// Else `place` becomes how many bytes the text has, or at most `usize::MAX - 1`, and bytes with no more
+/// Units that begin with no string are refused as by `nard_string_until_nul`, with its `place`. Else
+/// `place` becomes how many bytes the text has, or at most `usize::MAX - 1`, and bytes with no more
 /// places than these are `BUFFER_TOO_SMALL`. Refused, the bytes stay unchanged; what stands after the NUL
-/// stays. A few passes over the text; takes no memory.
+/// stays. Takes no memory.
 #[unsafe(no_mangle)]
 pub extern "C" fn nard_utf8_from_string(units: &[u16], bytes: &mut [u8], place: &mut usize) -> u32
     ensures no_string { ¬ BeginsWithString units.now
@@ -136,11 +133,11 @@ pub extern "C" fn nard_utf8_from_string(units: &[u16], bytes: &mut [u8], place: 
     ensures unchanged { ¬ BeginsWithString units.now → bytes.new ≡ bytes.old }
     ensures refused_place { ¬ BeginsWithString units.now → place.new ≡ until_nul_place units.now }
     ensures reason { BeginsWithString units.now
-        → result ≡ room_reason (encode_utf8_all (text_in units.now)) bytes.old }
+        → result ≡ room_reason (encode_utf8_all (text_until_nul units.now)) bytes.old }
     ensures bytes { BeginsWithString units.now
-        → bytes.new ≡ with_prefix (nul_terminated (encode_utf8_all (text_in units.now))) bytes.old }
+        → bytes.new ≡ with_prefix (nul_terminated (encode_utf8_all (text_until_nul units.now))) bytes.old }
     ensures place { BeginsWithString units.now
-        → place.new ≡ length_shown (encode_utf8_all (text_in units.now)) }
+        → place.new ≡ length_shown (encode_utf8_all (text_until_nul units.now)) }
 {
     match CStr16::from_u16_until_nul(units) {
         Ok(string) => report(write_lossy(string.as_slice().units(), bytes), place),

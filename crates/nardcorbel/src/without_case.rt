@@ -9,7 +9,7 @@ ghost use Rattle.uefi_path.specs.Separators.{canonical};
 ghost use Rattle.uefi_path.specs.WithoutCase.{MatchesPath};
 ghost use Rattle.nardcorbel.specs.Cases.{cased};
 ghost use Rattle.nardcorbel.specs.Reasons.{order_number, until_nul_reason};
-ghost use Rattle.nardcorbel.specs.Strings.{text_in, until_nul_place};
+ghost use Rattle.nardcorbel.specs.Strings.{text_until_nul, until_nul_place};
 
 use crate::reasons::{NO_ORDER, OK, order_number, until_nul_reason};
 use crate::strings::until_nul_place;
@@ -42,7 +42,7 @@ fn set_case(units: &mut [u16], is_upper: bool)
 fn set_case_of_text(buffer: &mut [u16], is_upper: bool, place: &mut usize) -> u32
     ensures reason { result ≡ until_nul_reason (until_nul_refusal buffer.old) }
     ensures buffer { BeginsWithString buffer.old → buffer.new
-        ≡ map (cased is_upper) (text_in buffer.old) ++ drop (length (text_in buffer.old)) buffer.old }
+        ≡ map (cased is_upper) (text_until_nul buffer.old) ++ drop (length (text_until_nul buffer.old)) buffer.old }
     ensures unchanged { ¬ BeginsWithString buffer.old → buffer.new ≡ buffer.old }
     ensures place { place.new ≡ until_nul_place buffer.old }
 {
@@ -58,14 +58,14 @@ fn set_case_of_text(buffer: &mut [u16], is_upper: bool, place: &mut usize) -> u3
     OK
 }
 
-/// Puts the text of the string that units begin with in upper case, as `StrUpr` does. Units that begin with
-/// no string are refused as by `nard_string_until_nul`, whose `place` is reported, and stay unchanged; what
-/// follows the text stays. Two passes; takes no memory.
+/// Puts the text of the string that units begin with in upper case, as `StrUpr` does. Units that begin
+/// with no string are refused as by `nard_string_until_nul`, whose `place` is reported, and stay
+/// unchanged; what follows the text stays. Takes no memory.
 #[unsafe(no_mangle)]
 pub extern "C" fn nard_string_make_uppercase(buffer: &mut [u16], place: &mut usize) -> u32
     ensures reason { result ≡ until_nul_reason (until_nul_refusal buffer.old) }
     ensures buffer { BeginsWithString buffer.old → buffer.new
-        ≡ uppers (text_in buffer.old) ++ drop (length (text_in buffer.old)) buffer.old }
+        ≡ uppers (text_until_nul buffer.old) ++ drop (length (text_until_nul buffer.old)) buffer.old }
     ensures unchanged { ¬ BeginsWithString buffer.old → buffer.new ≡ buffer.old }
     ensures place { place.new ≡ until_nul_place buffer.old }
 {
@@ -77,19 +77,18 @@ pub extern "C" fn nard_string_make_uppercase(buffer: &mut [u16], place: &mut usi
 pub extern "C" fn nard_string_make_lowercase(buffer: &mut [u16], place: &mut usize) -> u32
     ensures reason { result ≡ until_nul_reason (until_nul_refusal buffer.old) }
     ensures buffer { BeginsWithString buffer.old → buffer.new
-        ≡ lowers (text_in buffer.old) ++ drop (length (text_in buffer.old)) buffer.old }
+        ≡ lowers (text_until_nul buffer.old) ++ drop (length (text_until_nul buffer.old)) buffer.old }
     ensures unchanged { ¬ BeginsWithString buffer.old → buffer.new ≡ buffer.old }
     ensures place { place.new ≡ until_nul_place buffer.old }
 {
     set_case_of_text(buffer, false, place)
 }
 
-/// Whether both begin with a string, and have the same text without case. One pass over each; takes no
-/// memory.
+/// Whether both begin with a string, and have the same text without case. Takes no memory.
 #[unsafe(no_mangle)]
 pub extern "C" fn nard_string_equal_ignore_case(first: &[u16], second: &[u16]) -> bool
     ensures { IsTrue result ↔ (BeginsWithString first.now × BeginsWithString second.now
-        × (uppers (text_in first.now) ≡ uppers (text_in second.now))) }
+        × (uppers (text_until_nul first.now) ≡ uppers (text_until_nul second.now))) }
 {
     let Ok(first) = CStr16::from_u16_until_nul(first) else {
         return false;
@@ -100,13 +99,13 @@ pub extern "C" fn nard_string_equal_ignore_case(first: &[u16], second: &[u16]) -
     first.eq_ignore_case(second)
 }
 
-/// The order of two strings without case, which is that of their units in upper case: -1, 0 or 1 where the
-/// first is less, equal or greater, and `NO_ORDER` where one of them does not begin with a string. One pass
-/// over each; takes no memory.
+/// The order of two strings without case, which is that of their units in upper case: -1, 0 or 1 where
+/// the first is less, equal or greater, and `NO_ORDER` where one of them does not begin with a string.
+/// Takes no memory.
 #[unsafe(no_mangle)]
 pub extern "C" fn nard_string_order_ignore_case(first: &[u16], second: &[u16]) -> i32
     ensures order { BeginsWithString first.now → BeginsWithString second.now
-        → result ≡ order_number (caseless_order (text_in first.now) (text_in second.now)) }
+        → result ≡ order_number (caseless_order (text_until_nul first.now) (text_until_nul second.now)) }
     ensures none { (result ≡ NO_ORDER) ↔ ¬ (BeginsWithString first.now × BeginsWithString second.now) }
 {
     let Ok(first) = CStr16::from_u16_until_nul(first) else {
@@ -124,7 +123,7 @@ pub extern "C" fn nard_string_order_ignore_case(first: &[u16], second: &[u16]) -
 #[unsafe(no_mangle)]
 pub extern "C" fn nard_string_matches(units: &[u16], pattern: &[u16]) -> bool
     ensures { IsTrue result ↔ (BeginsWithString units.now × BeginsWithString pattern.now
-        × Matches (text_in pattern.now) (text_in units.now)) }
+        × Matches (text_until_nul pattern.now) (text_until_nul units.now)) }
 {
     let Ok(string) = CStr16::from_u16_until_nul(units) else {
         return false;
@@ -136,11 +135,11 @@ pub extern "C" fn nard_string_matches(units: &[u16], pattern: &[u16]) -> bool
 }
 
 /// Whether both begin with a string, and the paths of these are equal without case: one leading separator
-/// says nothing. One pass over each; takes no memory.
+/// says nothing. Takes no memory.
 #[unsafe(no_mangle)]
 pub extern "C" fn nard_path_equal_ignore_case(first: &[u16], second: &[u16]) -> bool
     ensures { IsTrue result ↔ (BeginsWithString first.now × BeginsWithString second.now
-        × (uppers (canonical (text_in first.now)) ≡ uppers (canonical (text_in second.now)))) }
+        × (uppers (canonical (text_until_nul first.now)) ≡ uppers (canonical (text_until_nul second.now)))) }
 {
     let Ok(first) = CStr16::from_u16_until_nul(first) else {
         return false;
@@ -156,7 +155,7 @@ pub extern "C" fn nard_path_equal_ignore_case(first: &[u16], second: &[u16]) -> 
 #[unsafe(no_mangle)]
 pub extern "C" fn nard_path_matches(path: &[u16], pattern: &[u16]) -> bool
     ensures { IsTrue result ↔ (BeginsWithString path.now × BeginsWithString pattern.now
-        × MatchesPath (text_in pattern.now) (text_in path.now)) }
+        × MatchesPath (text_until_nul pattern.now) (text_until_nul path.now)) }
 {
     let Ok(path) = CStr16::from_u16_until_nul(path) else {
         return false;

@@ -9,7 +9,7 @@ use Rattle.uefi_device_path.specs.declared.errors.DevicePathError.{DevicePathErr
 use Rattle.uefi_device_path.specs.declared.errors.OptionBuildError.{OptionBuildError}
 use Rattle.nardcorbel.specs.Building.{option_build_place, option_build_reason}
 use Rattle.nardcorbel.specs.Reasons.{node_reason}
-use Rattle.nardcorbel.specs.Strings.{text_in}
+use Rattle.nardcorbel.specs.Strings.{text_until_nul}
 use Rattle.nardcorbel.proofs.Written.{fields_are}
 use Rattle.nardcorbel.proofs.building.nard_load_option_write.Goals as goal
 
@@ -24,18 +24,18 @@ returns-clause-no_path c = λ string error refused.
 
 pub returns-clause-reason : goal.returns-clause-reason
 returns-clause-reason c = λ string nodes begins.
-    let text : c.to_u16_slice-text.result.now ≡ text_in c.args.description.now = grind (arith, common_steps) in
+    let text : c.to_u16_slice-text.result.now ≡ text_until_nul c.args.description.now = grind (arith, common_steps) in
     let same = c.in-Ok-from_bytes.ensures.only nodes begins in
-    let is = fields_are (fields_of c.new.result) (c.args.attributes % 4294967296) (text_in c.args.description.now) nodes c.args.optional.now
+    let is = fields_are (fields_of c.new.result) (c.args.attributes % 4294967296) (text_until_nul c.args.description.now) nodes c.args.optional.now
     c.new.ensures.attributes (c.new.ensures.description ∙ text) (c.new.ensures.paths ∙ ap (λ (ks : List Node). ks ∷ []) (sym same)) c.new.ensures.optional in
     c.report_option.ensures.reason ∙ ap option_build_reason c.write.ensures.refusal
     ∙ ap (λ (e : Entry). option_build_reason (write_fault e (length c.args.buffer.now))) is
 
 pub returns-clause-place : goal.returns-clause-place
 returns-clause-place c = λ string nodes begins.
-    let text : c.to_u16_slice-text.result.now ≡ text_in c.args.description.now = grind (arith, common_steps) in
+    let text : c.to_u16_slice-text.result.now ≡ text_until_nul c.args.description.now = grind (arith, common_steps) in
     let same = c.in-Ok-from_bytes.ensures.only nodes begins in
-    let is = fields_are (fields_of c.new.result) (c.args.attributes % 4294967296) (text_in c.args.description.now) nodes c.args.optional.now
+    let is = fields_are (fields_of c.new.result) (c.args.attributes % 4294967296) (text_until_nul c.args.description.now) nodes c.args.optional.now
     c.new.ensures.attributes (c.new.ensures.description ∙ text) (c.new.ensures.paths ∙ ap (λ (ks : List Node). ks ∷ []) (sym same)) c.new.ensures.optional in
     let len = length (entry_bytes (fields_of c.new.result)) in
     c.report_option.ensures.place len c.write.ensures.ok
@@ -44,8 +44,8 @@ returns-clause-place c = λ string nodes begins.
 
 pub returns-clause-buffer : goal.returns-clause-buffer
 returns-clause-buffer c = λ string nodes begins.
-    let text : c.to_u16_slice-text.result.now ≡ text_in c.args.description.now = grind (arith, common_steps) in
+    let text : c.to_u16_slice-text.result.now ≡ text_until_nul c.args.description.now = grind (arith, common_steps) in
     let same = c.in-Ok-from_bytes.ensures.only nodes begins in
-    let is = fields_are (fields_of c.new.result) (c.args.attributes % 4294967296) (text_in c.args.description.now) nodes c.args.optional.now
+    let is = fields_are (fields_of c.new.result) (c.args.attributes % 4294967296) (text_until_nul c.args.description.now) nodes c.args.optional.now
     c.new.ensures.attributes (c.new.ensures.description ∙ text) (c.new.ensures.paths ∙ ap (λ (ks : List Node). ks ∷ []) (sym same)) c.new.ensures.optional in
     c.write.ensures.buffer ∙ ap (λ (e : Entry). option_over e c.args.buffer.now) is
