@@ -19,6 +19,7 @@ ghost use Rattle.uefi_device_path.specs.PathTexts.{nodes_text};
 ghost use Rattle.uefi_device_path.specs.declared.errors.BuildError.{BuildError};
 ghost use Rattle.uefi_device_path.specs.declared.errors.DevicePathError.{DevicePathError};
 ghost use Rattle.uefi_device_path.specs.declared.lenient_errors.TextFault.{TextFault};
+ghost use Rattle.uefi_node_reader.specs.Styles.{is_copied};
 ghost use Rattle.uefi_node_reader.specs.declared.styles.TextStyle.TheVariants.{Lenient, Libefivar};
 ghost use Rattle.nardcorbel.specs.Building.{build_place, build_reason, entry_of_path, IsWrongAt, lenient_place, lenient_reason, option_build_place, option_build_reason, text_place, text_reason};
 ghost use Rattle.nardcorbel.specs.Reasons.{node_reason, until_nul_reason};
@@ -279,6 +280,7 @@ fn push_styled_text(
     scratch: &mut [u8],
     place: &mut usize,
 ) -> u32
+    requires { IsTrue (is_copied style) }
     ensures no_path { (error : DevicePathError) → RefusedFor buffer.old error
         → (result ≡ node_reason error.cause) × (place.new ≡ error.offset) }
     ensures not_utf8 { (nodes : List Node) → BeginWithPath buffer.old nodes → ¬ IsUtf8 bytes.now

@@ -1,10 +1,11 @@
 //! Why a text as people write it, or as libefivar prints it, is not read, in words.
-ghost use Rattle.std.specs.Prelude.{◌≡◌, ◌+◌, ◌<◌, ◌≤◌, Option, length};
+ghost use Rattle.std.specs.Prelude.{◌≡◌, ◌+◌, ◌<◌, ◌≤◌, IsTrue, Option, length};
 ghost use Rattle.std.specs.Str.{IsUtf8};
 ghost use Rattle.std.specs.Str.Lossy.{utf8_valid_len};
 ghost use Rattle.uefi_text.specs.UnalignedCStr16.{with_prefix};
 ghost use Rattle.uefi_text.specs.Units.{nul_terminated};
 ghost use Rattle.uefi_device_path.specs.declared.lenient_errors.TextFault.{TextFault};
+ghost use Rattle.uefi_node_reader.specs.Styles.{is_copied};
 ghost use Rattle.uefi_node_reader.specs.declared.styles.TextStyle.TheVariants.{Lenient, Libefivar};
 ghost use Rattle.nardcorbel.specs.Buffers.{length_shown, room_reason};
 ghost use Rattle.nardcorbel.specs.TextFaults.{IsFaultOf, fault_in, fault_units, fault_text};
@@ -45,7 +46,8 @@ fn fault_in(error: PushLenientTextError) -> Option<TextFault>
 
 /// The fault of a text that is not read. The second buffer then holds anything.
 fn find_fault(style: TextStyle, text: &str, scratch: &mut [u8]) -> Option<TextFault>
-    requires { length text.now < length scratch.old }
+    requires copied { IsTrue (is_copied style) }
+    requires room { length text.now < length scratch.old }
     ensures { (fault : Option TextFault) → IsFaultOf style text.now fault → result ≡ fault }
 {
     // The law does nothing: it says that the empty path is not refused.
@@ -64,6 +66,7 @@ fn write_fault(
     buffer: &mut [u16],
     place: &mut usize,
 ) -> u32
+    requires { IsTrue (is_copied style) }
     ensures not_utf8 { ¬ IsUtf8 bytes.now → (result ≡ NOT_UTF8)
         × (place.new ≡ utf8_valid_len bytes.now) × (buffer.new ≡ buffer.old) }
     ensures no_scratch { IsUtf8 bytes.now → length scratch.old ≤ length bytes.now

@@ -19,3 +19,4 @@ pub mod NamesInARow
 pub mod ShownPaths
 pub mod StyledReading
 pub mod StyledPushes
+pub mod PrintedReading

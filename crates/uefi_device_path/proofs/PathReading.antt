@@ -215,11 +215,6 @@ pub place_fits : (at_start : Bool) (rest place : List ℕ) → place ≡ cond at
 place_fits true rest place e = omega (arith, ap length e)
 place_fits false rest place e = omega (arith, ap length e, length-drop 1 rest)
 
-pub place_within : (text : List ℕ) (nodes : List Node) (at_start : Bool) (rest place : List ℕ)
-    → Going text nodes at_start rest → place ≡ cond at_start rest (drop 1 rest) → length place ≤ length text
-place_within text nodes at_start rest place on is =
-    omega (arith, ap length on.splits, length-append (rest_text true nodes) rest, place_fits at_start rest place is)
-
 -- over a node
 pub over_node : NodeFits → NodeStarts → (text : List ℕ) (nodes new : List Node) (at_start : Bool)
     (rest place after : List ℕ) (node : Node) → Going text nodes at_start rest

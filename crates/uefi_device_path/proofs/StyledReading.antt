@@ -4,7 +4,7 @@ use Rattle.std.specs.Prelude.{IfOk, IfErr, Option, Some, None, Result, Ok, Err, 
 use Rattle.std.proofs.lemmas.List.{append-nil, append_cancel_left, length-append}
 use Rattle.std.proofs.lemmas.List.Elements.{All-head, All-nil, All-push, All-tail}
 use Rattle.uefi_device_nodes.specs.Nodes.{Node}
-use Rattle.uefi_device_path.specs.Laws.{LenientPrinted, ReadNeverStops, ReadOnce, ReadTold}
+use Rattle.uefi_device_path.specs.Laws.{PrintedIsRead, ReadNeverStops, ReadOnce, ReadTold}
 use Rattle.uefi_device_path.specs.StyledReading.{follows_comma, place_fault, place_read, IsLenientError, IsReadAs, ReadingStops, ReadingStopsAt, ReadsTo}
 use Rattle.uefi_device_path.specs.StyledReading.ReadsTo.{Begins, Comma, OneMore}
 use Rattle.uefi_device_path.specs.PathReading.{AreTold, end_instance, is_after_instance}
@@ -16,9 +16,8 @@ use Rattle.uefi_device_path.proofs.PathReading.{IsToldOrEnd, path_text_is, place
 use Rattle.uefi_device_path.proofs.TextLengths.{bytes_more}
 use Rattle.uefi_device_path.proofs.TextStops.{end_first, nothing_is_no_byte, told_first, whole_after}
 use Rattle.uefi_node_reader.specs.Laws.{NodeAgain, NodeFits}
-use Rattle.uefi_node_reader.specs.Styles.{LenientAgain, StyledEnds, StyledFaultWithin, StyledStarts, StyledTakes}
+use Rattle.uefi_node_reader.specs.Styles.{StyledAgain, takes_printed, StyledEnds, StyledFaultWithin, StyledStarts, StyledTakes}
 use Rattle.uefi_node_reader.specs.declared.styles.TextStyle.{TextStyle}
-use Rattle.uefi_node_reader.specs.declared.styles.TextStyle.TheVariants.{Lenient}
 use Rattle.uefi_node_reader.specs.NamedFiles.{is_after_node}
 use Rattle.uefi_node_reader.specs.TableReading.{first_of}
 
@@ -373,15 +372,15 @@ module _ (style : TextStyle) (text : List ℕ) where
   told_result told (Ok path) ok = told style text path ok
   told_result told (Err error) ok = tt
 
-printed_rests : NodeFits → NodeAgain → LenientAgain → (text : List ℕ) (s : Bool) (nodes : List Node) → AreTold nodes
-    → Rests Lenient text s (rest_text s nodes) nodes None
-printed_rests fits again lenient text s [] told = refl
-printed_rests fits again lenient text s (n ∷ ns) told =
-    one (All-head IsToldOrEnd n ns told) (printed_rests fits again lenient text true ns (All-tail IsToldOrEnd n ns told))
-    (printed_rests fits again lenient text false ns (All-tail IsToldOrEnd n ns told))
+printed_rests : NodeFits → NodeAgain → StyledAgain → (style : TextStyle) → takes_printed style ≡ true → (text : List ℕ) (s : Bool) (nodes : List Node) → AreTold nodes
+    → Rests style text s (rest_text s nodes) nodes None
+printed_rests fits again styled style takes text s [] told = refl
+printed_rests fits again styled style takes text s (n ∷ ns) told =
+    one (All-head IsToldOrEnd n ns told) (printed_rests fits again styled style takes text true ns (All-tail IsToldOrEnd n ns told))
+    (printed_rests fits again styled style takes text false ns (All-tail IsToldOrEnd n ns told))
   where
-    one : IsToldOrEnd n → Rests Lenient text true (rest_text true ns) ns None → Rests Lenient text false (rest_text false ns) ns None
-        → Rests Lenient text s (rest_text s (n ∷ ns)) (n ∷ ns) None
+    one : IsToldOrEnd n → Rests style text true (rest_text true ns) ns None → Rests style text false (rest_text false ns) ns None
+        → Rests style text s (rest_text s (n ∷ ns)) (n ∷ ns) None
     one (inl told) r q =
         let after = rest_text false ns in
         inr (
@@ -390,13 +389,13 @@ printed_rests fits again lenient text s (n ∷ ns) told =
             after,
             (
               told_first fits s n ns None told,
-              (lenient (follows_comma text (printed n ++ after)) (printed n ++ after) n after (again n told after (whole_after ns None)) (whole_after ns None), q),
+              (styled style takes (follows_comma text (printed n ++ after)) (printed n ++ after) n after (again n told after (whole_after ns None)) (whole_after ns None), q),
             ),
           ),
         )
     one (inr same) r q = inl (rest_text true ns, (end_first s n ns None same, (same, r)))
 
-pub lenient_printed : NodeFits → NodeAgain → LenientAgain → LenientPrinted
-lenient_printed fits again lenient text nodes told is =
-    subst (λ (x : List ℕ). IsReadAs Lenient x nodes) (sym (path_text_is nodes) ∙ is)
-    (rests_read Lenient (rest_text true nodes) nodes [] true (rest_text true nodes) Begins (printed_rests fits again lenient (rest_text true nodes) true nodes told))
+pub printed_is_read : NodeFits → NodeAgain → StyledAgain → PrintedIsRead
+printed_is_read fits again styled style takes text nodes told is =
+    subst (λ (x : List ℕ). IsReadAs style x nodes) (sym (path_text_is nodes) ∙ is)
+    (rests_read style (rest_text true nodes) nodes [] true (rest_text true nodes) Begins (printed_rests fits again styled style takes (rest_text true nodes) true nodes told))

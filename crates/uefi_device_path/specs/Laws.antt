@@ -23,7 +23,8 @@ use Rattle.uefi_device_path.specs.declared.errors.DevicePathError.{DevicePathErr
 use Rattle.uefi_device_path.specs.declared.errors.LoadOptionError.{LoadOptionError}
 use Rattle.uefi_device_path.specs.declared.lenient_errors.TextFault.{TextFault}
 use Rattle.uefi_node_reader.specs.declared.styles.TextStyle.{TextStyle}
-use Rattle.uefi_node_reader.specs.declared.styles.TextStyle.TheVariants.{Lenient}
+use Rattle.uefi_node_reader.specs.declared.styles.TextStyle.TheVariants.{Printed}
+use Rattle.uefi_node_reader.specs.Styles.{takes_printed}
 
 -- bytes begin with one path at most
 abbrev pub PathsOnce : Type 0
@@ -104,10 +105,19 @@ FaultsWithin = (style : TextStyle) (text : List ℕ) (fault : TextFault) → Rea
 abbrev pub ReadTold : Type 0
 ReadTold = (style : TextStyle) (text : List ℕ) (nodes : List Node) → IsReadAs style text nodes → AreTold nodes
 
--- a printed text that tells all of its nodes is read leniently as these nodes
-abbrev pub LenientPrinted : Type 0
-LenientPrinted = (text : List ℕ) (nodes : List Node) → AreTold nodes → nodes_text false false nodes ≡ text
-    → IsReadAs Lenient text nodes
+-- a printed text that tells all of its nodes is read in such a style as these nodes
+abbrev pub PrintedIsRead : Type 0
+PrintedIsRead = (style : TextStyle) → takes_printed style ≡ true → (text : List ℕ) (nodes : List Node)
+    → AreTold nodes → nodes_text false false nodes ≡ text → IsReadAs style text nodes
+
+-- in the style of printed texts, a text is that of the nodes that are read
+abbrev pub ReadIsPrinted : Type 0
+ReadIsPrinted = (text : List ℕ) (nodes : List Node) → IsReadAs Printed text nodes
+    → nodes_text false false nodes ≡ text
+
+-- and where it is not read, it stops being that of such nodes
+abbrev pub PrintedStops : Type 0
+PrintedStops = (text : List ℕ) (fault : TextFault) → ReadingStopsAt Printed text fault → StopsAt text fault.node
 
 -- no two lists of nodes of which the text tells all have the same text
 abbrev pub TextsOnce : Type 0

@@ -8,9 +8,11 @@ use Rattle.uefi_device_path.specs.declared.lenient_errors.LenientTextError.{Leni
 use Rattle.uefi_device_path.specs.declared.lenient_errors.LenientTextError.TheVariants.{NoNode, OutOfMemory}
 use Rattle.uefi_device_path.specs.declared.lenient_errors.PushLenientTextError.{PushLenientTextError}
 use Rattle.uefi_device_path.specs.declared.lenient_errors.PushLenientTextError.TheVariants as push
+use Rattle.uefi_device_path.specs.declared.errors.PushTextError.{PushTextError}
+use Rattle.uefi_device_path.specs.declared.errors.PushTextError.TheVariants as push_text
 use Rattle.uefi_device_path.specs.declared.lenient_errors.TextFault.{TextFault}
 use Rattle.uefi_node_reader.specs.declared.faults.NodeFault.{NodeFault}
-use Rattle.uefi_node_reader.specs.Styles.{styled_fault, styled_read}
+use Rattle.uefi_node_reader.specs.Styles.{is_copied, styled_fault, styled_read}
 use Rattle.uefi_node_reader.specs.declared.styles.TextStyle.{TextStyle}
 
 -- the test for a place after a comma: a file's name begins with a backslash there
@@ -68,12 +70,20 @@ IsLenientError style text OutOfMemory = Unit {0}
 IsLenientError style text (NoNode fault) = ReadingStopsAt style text fault
 
 -- why the nodes that a text is read as are not added to the path that a buffer begins with: there is no path,
--- the second buffer is not longer than the text, the text has this fault, or there is no room for them
+-- the second buffer is not longer than the text that is copied, the text has this fault, or there is no room for them
 abbrev pub IsPushLenientError : TextStyle → List ℕ → List ℕ → PushLenientTextError → Type 0
 IsPushLenientError style buffer text (push.Path error) = RefusedFor buffer error
-IsPushLenientError style buffer text (push.ScratchTooSmall needed) = needed ≡ length text + 1
+IsPushLenientError style buffer text (push.ScratchTooSmall needed) =
+    (is_copied style ≡ true) × (needed ≡ length text + 1)
 IsPushLenientError style buffer text (push.NoNode fault) = ReadingStopsAt style text fault
 IsPushLenientError style buffer text (push.BufferTooSmall needed) = IsStyledText style text
+
+-- the same of a text that is not copied
+abbrev pub text_error : PushLenientTextError → PushTextError
+text_error (push.Path error) = push_text.Path error
+text_error (push.ScratchTooSmall needed) = push_text.BufferTooSmall needed
+text_error (push.NoNode fault) = push_text.NoNode fault.node
+text_error (push.BufferTooSmall needed) = push_text.BufferTooSmall needed
 
 -- why the nodes that a text is read as are not added to a path of these nodes in a buffer of `room` bytes, or
 -- none

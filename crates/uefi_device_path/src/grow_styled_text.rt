@@ -1,24 +1,39 @@
 //! Device paths that grow, in the buffer in which they lie, by the nodes of a text in a style.
 #![tactic(auto)]
 
-ghost use Rattle.std.specs.Prelude.{◌≡◌, ◌+◌, ◌<◌, ◌≤◌, ◌++◌, List, drop, length, take, Err, IfErr, IfOk, OnErr, OnOk};
+ghost use Rattle.std.specs.Prelude.{◌≡◌, ◌+◌, true, ◌<◌, ◌≤◌, ◌++◌, List, drop, length, take, Err, IfErr, IfOk, OnErr, OnOk};
 ghost use Rattle.std.specs.Result.{result_err};
+ghost use Rattle.uefi_built_nodes.specs.RawNodes.{raw_node};
 ghost use Rattle.uefi_device_nodes.specs.Nodes.{Node};
+ghost use Rattle.uefi_device_path.specs.PathReading.{end_instance};
 ghost use Rattle.uefi_device_path.specs.Faults.{RefusedFor};
 ghost use Rattle.uefi_device_path.specs.StyledReading.{IsPushLenientError, IsReadAs, IsStyledText, ReadingStopsAt, lenient_refusal};
 ghost use Rattle.uefi_device_path.specs.Paths.{BeginWithPath, IsPath, nodes_in, path_bytes, without_end};
+ghost use Rattle.uefi_node_reader.specs.Styles.{HasScratch, is_copied};
 ghost use Rattle.uefi_text.specs.UnalignedCStr16.{with_prefix};
 ghost use Rattle.uefi_device_path.specs.declared.errors.DevicePathError.{DevicePathError};
 ghost use Rattle.uefi_device_path.specs.declared.lenient_errors.TextFault.{TextFault};
 
 use crate::grow::{path_len, put_at};
-use crate::grow_text::instance_end;
 use crate::laws::styled_texts;
 use crate::lenient_errors::PushLenientTextError;
 use crate::path_reader::{after_comma, node_start};
 use crate::styled_reader::{check_styled_text, first_styled_node};
+use uefi_built_nodes::RawNode;
+use uefi_device_nodes::{DeviceSubType, DeviceType};
 use uefi_node_reader::nodes::nodes_are_read;
-use uefi_node_reader::styles::{TextStyle, styled_nodes_are_read};
+use uefi_node_reader::styles::{TextStyle, is_copied, styled_nodes_are_read};
+
+/// The node that ends an instance.
+fn instance_end() -> RawNode<'static>
+    ensures { raw_node result ≡ end_instance }
+{
+    RawNode {
+        device_type: DeviceType(0x7f),
+        sub_type: DeviceSubType(0x01),
+        content: &[],
+    }
+}
 
 /// Adds the nodes that a text is read as to the path that the first `len` bytes of a buffer are, before its
 /// end, where there is room for them, and returns how many bytes the path then has.
@@ -29,7 +44,7 @@ fn put_styled_text_at(
     text: &[u8],
     scratch: &mut [u8],
 ) -> usize
-    requires scratch { length text.now < length scratch.old }
+    requires scratch { HasScratch style text.now scratch.old }
     requires within { len ≤ length buffer.now }
     requires is_path { IsPath (take len buffer.now) }
     requires readable { IsStyledText style text.now }
@@ -81,14 +96,14 @@ pub fn push_styled_text_in_buf(
     ensures no_path { (error : DevicePathError) → RefusedFor buffer.old error
         → result ≡ Err (PushLenientTextError.Path error) }
     ensures no_scratch { (nodes : List Node) → BeginWithPath buffer.old nodes
-        → length scratch.old ≤ length text.now
+        → is_copied style ≡ true → length scratch.old ≤ length text.now
         → result ≡ Err (PushLenientTextError.ScratchTooSmall (length text.now + 1)) }
     ensures no_node { (nodes : List Node) → BeginWithPath buffer.old nodes
-        → length text.now < length scratch.old
+        → HasScratch style text.now scratch.old
         → (fault : TextFault) → ReadingStopsAt style text.now fault
         → result ≡ Err (PushLenientTextError.NoNode fault) }
     ensures refusal { (nodes read : List Node) → BeginWithPath buffer.old nodes
-        → length text.now < length scratch.old → IsReadAs style text.now read
+        → HasScratch style text.now scratch.old → IsReadAs style text.now read
         → result_err result ≡ lenient_refusal nodes read (length buffer.old) }
     ensures len { (nodes read : List Node) → BeginWithPath buffer.old nodes → IsReadAs style text.now read
         → IfOk result (λ len. len ≡ length (path_bytes (nodes ++ read))) }
@@ -104,7 +119,7 @@ pub fn push_styled_text_in_buf(
         Err(error) => return Err(PushLenientTextError::Path(error)),
     };
     let bytes = text.as_bytes();
-    if scratch.len() <= bytes.len() {
+    if is_copied(style) && scratch.len() <= bytes.len() {
         return Err(PushLenientTextError::ScratchTooSmall(bytes.len() + 1));
     }
     let needed = match check_styled_text(style, scratch, bytes) {

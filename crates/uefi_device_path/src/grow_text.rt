@@ -1,75 +1,35 @@
 //! Device paths that grow, in the buffer in which they lie, by the nodes of a text.
 #![tactic(auto)]
 
-ghost use Rattle.std.specs.Prelude.{◌≡◌, ℕ, ◌≤◌, ◌++◌, List, drop, length, take, Err, IfErr, IfOk, OnErr, OnOk, false};
+ghost use Rattle.std.specs.Prelude.{◌≡◌, ℕ, ◌++◌, List, length, Err, IfErr, IfOk, OnErr, OnOk, false};
 ghost use Rattle.std.specs.Result.{result_err};
-ghost use Rattle.uefi_built_nodes.specs.RawNodes.{raw_node};
 ghost use Rattle.uefi_device_nodes.specs.Nodes.{Node};
 ghost use Rattle.uefi_device_path.specs.Building.{text_refusal};
 ghost use Rattle.uefi_device_path.specs.Faults.{RefusedFor};
-ghost use Rattle.uefi_device_path.specs.PathReading.{AreTold, HasPath, IsPushTextError, StopsAt, end_instance};
-ghost use Rattle.uefi_device_path.specs.Paths.{BeginWithPath, IsPath, nodes_in, path_bytes, without_end};
+ghost use Rattle.uefi_device_path.specs.PathReading.{AreTold, HasPath, IsPushTextError, StopsAt};
+ghost use Rattle.uefi_device_path.specs.Paths.{BeginWithPath, path_bytes};
 ghost use Rattle.uefi_device_path.specs.PathTexts.{nodes_text};
+ghost use Rattle.uefi_device_path.specs.StyledReading.{text_error};
 ghost use Rattle.uefi_text.specs.UnalignedCStr16.{with_prefix};
 ghost use Rattle.uefi_device_path.specs.declared.errors.DevicePathError.{DevicePathError};
 
 use crate::errors::PushTextError;
-use crate::grow::{path_len, put_at};
-use crate::path_reader::{after_comma, check_text, first_node, node_start};
-use uefi_built_nodes::RawNode;
-use uefi_device_nodes::{DeviceSubType, DeviceType};
+use crate::grow_styled_text::push_styled_text_in_buf;
+use crate::laws::{accepted_paths, styled_texts};
+use crate::lenient_errors::PushLenientTextError;
 use uefi_node_reader::nodes::{node_text_once, nodes_are_read};
+use uefi_node_reader::styles::TextStyle;
 
-/// The node that ends an instance.
-pub(crate) fn instance_end() -> RawNode<'static>
-    ensures { raw_node result ≡ end_instance }
+/// Why the nodes of a text that is not copied are not added: the second buffer is never too small then.
+fn text_error(error: PushLenientTextError) -> PushTextError
+    ensures { result ≡ text_error error }
 {
-    RawNode {
-        device_type: DeviceType(0x7f),
-        sub_type: DeviceSubType(0x01),
-        content: &[],
+    match error {
+        PushLenientTextError::Path(error) => PushTextError::Path(error),
+        PushLenientTextError::NoNode(fault) => PushTextError::NoNode(fault.node),
+        PushLenientTextError::ScratchTooSmall(needed)
+        | PushLenientTextError::BufferTooSmall(needed) => PushTextError::BufferTooSmall(needed),
     }
-}
-
-/// Adds the nodes of a text to the path that the first `len` bytes of a buffer are, before its end, where
-/// there is room for them, and returns how many bytes the path then has.
-fn put_text_at(buffer: &mut [u8], len: usize, text: &[u8]) -> usize
-    requires within { len ≤ length buffer.now }
-    requires is_path { IsPath (take len buffer.now) }
-    requires has_path { HasPath text.now }
-    requires room { (told : List Node) → AreTold told → nodes_text false false told ≡ text.now
-        → length (path_bytes (nodes_in (without_end (take len buffer.now)) ++ told)) ≤ length buffer.now }
-    ensures within { result ≤ length buffer.old }
-    ensures grown { IsPath (take result buffer.new) }
-    ensures nodes { (told : List Node) → AreTold told → nodes_text false false told ≡ text.now
-        → nodes_in (without_end (take result buffer.new))
-        ≡ nodes_in (without_end (take len buffer.old)) ++ told }
-    ensures rest { drop result buffer.new ≡ drop result buffer.old }
-{
-    nodes_are_read();
-    node_text_once();
-    let mut end = len;
-    let mut rest = text;
-    let mut at_start = true;
-    'nodes: while !rest.is_empty() {
-        match after_comma(rest) {
-            Some(after) => {
-                let node = instance_end();
-                end = put_at(buffer, end, &node);
-                rest = after;
-                at_start = true;
-            }
-            None => {
-                let Some((node, after)) = first_node(node_start(at_start, rest)) else {
-                    unreachable!()
-                };
-                end = put_at(buffer, end, &node);
-                rest = after;
-                at_start = false;
-            }
-        }
-    }
-    end
 }
 
 /// Adds the nodes of a text to the device path that a buffer begins with, before its end, and returns how
@@ -108,17 +68,10 @@ pub fn push_text_in_buf(buffer: &mut [u8], text: &str) -> Result<usize, PushText
 {
     nodes_are_read();
     node_text_once();
-    let len = match path_len(buffer) {
-        Ok(len) => len,
-        Err(error) => return Err(PushTextError::Path(error)),
-    };
-    let bytes = text.as_bytes();
-    let needed = match check_text(bytes) {
-        Ok(added) => (len - 4).saturating_add(added),
-        Err(place) => return Err(PushTextError::NoNode(place)),
-    };
-    if buffer.len() < needed {
-        return Err(PushTextError::BufferTooSmall(needed));
+    styled_texts();
+    accepted_paths();
+    match push_styled_text_in_buf(TextStyle::Printed, buffer, text, &mut []) {
+        Ok(len) => Ok(len),
+        Err(error) => Err(text_error(error)),
     }
-    Ok(put_text_at(buffer, len, bytes))
 }

@@ -1,7 +1,7 @@
 //! The laws by which users of device paths and load options reason. They speak of the definitions that
 //! the contracts of the working calls cite. Each law is a function that does nothing: its contract is the
 //! law.
-ghost use Rattle.uefi_device_path.specs.Laws.{AcceptedWithMore, BuiltIsRead, BytesOnce, FaultsWithin, InstancesShown, LenientPrinted, NamesInARow, NeverBoth, OneName, OnlyFilesCount, OptionsNeverBoth, OptionsOnce, PathsOnce, PathsShown, ReadNeverStops, ReadOnce, ReadTold, ReadingStopsOnce, RefusedByHeader, RelativeNamesArePushed, StopsOnce, TextsNeverBoth, TextsOnce};
+ghost use Rattle.uefi_device_path.specs.Laws.{AcceptedWithMore, BuiltIsRead, BytesOnce, FaultsWithin, InstancesShown, NamesInARow, NeverBoth, OneName, OnlyFilesCount, OptionsNeverBoth, OptionsOnce, PathsOnce, PathsShown, PrintedIsRead, PrintedStops, ReadIsPrinted, ReadNeverStops, ReadOnce, ReadTold, ReadingStopsOnce, RefusedByHeader, RelativeNamesArePushed, StopsOnce, TextsNeverBoth, TextsOnce};
 
 pub use uefi_built_messages::laws as built_messages;
 pub use uefi_built_nodes::laws as built_nodes;
@@ -63,14 +63,17 @@ pub fn stopped_texts()
 
 /// A text is read in a style as exactly one list of nodes, or it has exactly one fault, whose byte stands
 /// neither before its node nor after the end of the text. The printed text of the nodes that were read tells all
-/// of them. A printed text that tells all of its nodes is read leniently as these nodes.
+/// of them. A printed text that tells all of its nodes is read as these nodes, exactly and leniently. In the style of
+/// printed texts no other text is read.
 pub fn styled_texts()
     ensures once { ReadOnce }
     ensures stops { ReadingStopsOnce }
     ensures never_both { ReadNeverStops }
     ensures within { FaultsWithin }
     ensures told { ReadTold }
-    ensures printed { LenientPrinted }
+    ensures printed { PrintedIsRead }
+    ensures is_printed { ReadIsPrinted }
+    ensures printed_stops { PrintedStops }
 {
     nodes_are_read();
     styled_nodes_are_read();

@@ -3,22 +3,24 @@
 
 ghost use Rattle.std.specs.Prelude.{◌≡◌, ℕ, ◌<◌, ◌-◌, ◌^◌, min, true, false, if◌then◌else◌, ◌∷◌, ◌++◌, [], List, length, drop, IfOk, IfErr, MatchOption, OnOk, Err, Some};
 ghost use Rattle.uefi_device_nodes.specs.Nodes.{Node};
-ghost use Rattle.uefi_device_path.specs.PathReading.{AreTold, BeginsWithNode, HasPath, IsReadError, NoneBegins, StopsAt, end_instance, is_after_instance};
-ghost use Rattle.uefi_device_path.specs.Paths.{path_bytes};
+ghost use Rattle.uefi_device_path.specs.PathReading.{AreTold, IsReadError, StopsAt, end_instance, is_after_instance};
 ghost use Rattle.uefi_device_path.specs.PathTexts.{nodes_text};
-ghost use Rattle.uefi_node_reader.specs.NamedFiles.{is_after_node};
 ghost use Rattle.uefi_node_reader.specs.TextNodeViews.{text_node};
 ghost use Rattle.uefi_device_path.specs.ErrorTexts.{path_text_error_text};
 ghost use Rattle.uefi_device_path.specs.declared.path_reader.PathTextError.TheVariants.{NoNode, OutOfMemory};
 
 use crate::build::DevicePathBuf;
 use crate::errors::BuildError;
+use crate::laws::styled_texts;
+use crate::lenient_errors::LenientTextError;
+use crate::styled_reader::read_styled_path;
 use std::alloc::Allocator;
 use std::error::Error;
 use std::fmt;
 use uefi_built_nodes::BuildNode;
 use uefi_device_nodes::{DeviceSubType, DeviceType};
-use uefi_node_reader::nodes::{node_text_once, nodes_are_read, read_node};
+use uefi_node_reader::nodes::{node_text_once, nodes_are_read};
+use uefi_node_reader::styles::TextStyle;
 use uefi_node_reader::text_node::TextNode;
 use uefi_text::number_texts::put_decimal;
 use uefi_text::text_sink::{Printed, TextSink, print};
@@ -64,16 +66,6 @@ pub(crate) fn push_end<A: Allocator>(path: &mut DevicePathBuf<A>) -> Result<(), 
     path.push(DeviceType(0x7f), DeviceSubType(0x01), &[])
 }
 
-/// Whether bytes may stand after a node: none, or a slash or a comma first.
-fn is_after_node(bytes: &[u8]) -> bool
-    ensures { result ≡ is_after_node bytes.now }
-{
-    match bytes {
-        [] => true,
-        [first, ..] => *first == b'/' || *first == b',',
-    }
-}
-
 /// A node whose text was read, to be added to a path.
 #[derive(Clone, Copy)]
 pub(crate) struct ReadNode<'a> {
@@ -98,19 +90,6 @@ impl BuildNode for ReadNode<'_> {
     }
 }
 
-/// The node whose text bytes begin with before a slash, a comma or their end, and what stands after it.
-pub(crate) fn first_node(text: &[u8]) -> Option<(ReadNode<'_>, &[u8])>
-    ensures { MatchOption result (NoneBegins text.now)
-        (λ x. BeginsWithNode text.now (text_node x.0.node) x.1.now) }
-{
-    nodes_are_read();
-    let (node, rest) = read_node(text)?;
-    if !is_after_node(rest) {
-        return None;
-    }
-    Some((ReadNode { node }, rest))
-}
-
 /// What stands after a comma that a text begins with, or `None`.
 pub(crate) fn after_comma(text: &[u8]) -> Option<&[u8]>
     requires { 0 < length text.now }
@@ -130,88 +109,18 @@ pub(crate) fn node_start(at_start: bool, text: &[u8]) -> &[u8]
     if at_start { text } else { &text[1..] }
 }
 
-/// How many bytes the path has whose text bytes are, as far as a `usize` counts, or where they stop being
-/// the text of one.
-pub(crate) fn check_text(text: &[u8]) -> Result<usize, usize>
-    ensures path { IfOk result (λ _. HasPath text.now) }
-    ensures len { IfOk result (λ len. (nodes : List Node) → AreTold nodes
-        → nodes_text false false nodes ≡ text.now → len ≡ min (length (path_bytes nodes)) (2 ^ 64 - 1)) }
-    ensures refusal { IfErr result (StopsAt text.now) }
-{
-    nodes_are_read();
-    node_text_once();
-    let mut len = 4usize;
-    let mut rest = text;
-    let mut at_start = true;
-    'nodes: while !rest.is_empty() {
-        match after_comma(rest) {
-            Some(after) => {
-                len = len.saturating_add(4);
-                rest = after;
-                at_start = true;
-            }
-            None => {
-                let place = node_start(at_start, rest);
-                let Some((node, after)) = first_node(place) else {
-                    return Err(text.len() - place.len());
-                };
-                len = len.saturating_add(node.data_len()).saturating_add(4);
-                rest = after;
-                at_start = false;
-            }
-        }
-    }
-    Ok(len)
-}
-
-/// Adds the nodes whose text bytes are, where they are the text of a path. Refused for memory alone.
-fn push_text<A: Allocator>(path: &mut DevicePathBuf<A>, text: &[u8]) -> Result<(), BuildError>
-    requires empty { path.old ≡ [] }
-    requires has_path { HasPath text.now }
-    ensures told { OnOk result (AreTold path.new) }
-    ensures ok { OnOk result (nodes_text false false path.new ≡ text.now) }
-{
-    nodes_are_read();
-    node_text_once();
-    let mut rest = text;
-    let mut at_start = true;
-    'nodes: while !rest.is_empty() {
-        match after_comma(rest) {
-            Some(after) => {
-                push_end(path)?;
-                rest = after;
-                at_start = true;
-            }
-            None => {
-                let Some((node, after)) = first_node(node_start(at_start, rest)) else {
-                    unreachable!()
-                };
-                path.push_node(&node)?;
-                rest = after;
-                at_start = false;
-            }
-        }
-    }
-    Ok(())
-}
-
 /// The path whose text bytes are, in memory that is asked for once they are known to be the text of one.
 fn read_path<A: Allocator + Copy>(alloc: A, text: &[u8]) -> Result<DevicePathBuf<A>, PathTextError>
     ensures told { IfOk result (λ path. AreTold path) }
     ensures ok { IfOk result (λ path. nodes_text false false path ≡ text.now) }
     ensures refusal { IfErr result (IsReadError text.now) }
 {
-    let len = match check_text(text) {
-        Ok(len) => len,
-        Err(place) => return Err(PathTextError::NoNode(place)),
-    };
-    let Ok(mut path) = DevicePathBuf::with_capacity(alloc, len) else {
-        return Err(PathTextError::OutOfMemory);
-    };
-    let Ok(()) = push_text(&mut path, text) else {
-        return Err(PathTextError::OutOfMemory);
-    };
-    Ok(path)
+    styled_texts();
+    match read_styled_path(TextStyle::Printed, alloc, &mut [], text) {
+        Ok(path) => Ok(path),
+        Err(LenientTextError::NoNode(fault)) => Err(PathTextError::NoNode(fault.node)),
+        Err(LenientTextError::OutOfMemory) => Err(PathTextError::OutOfMemory),
+    }
 }
 
 impl<A: Allocator + Copy> DevicePathBuf<A> {

@@ -1,11 +1,13 @@
 //! Device paths read from texts in a style.
 #![tactic(auto)]
 
-ghost use Rattle.std.specs.Prelude.{◌++◌, ◌∷◌, ◌≡◌, ◌+◌, ◌-◌, ◌<◌, ◌≤◌, ◌^◌, min, [], List, IfOk, IfErr, MatchOption, OnOk, Some, None, length};
+ghost use Rattle.std.specs.Prelude.{◌++◌, ◌∷◌, ◌≡◌, ◌+◌, ◌-◌, ◌<◌, ◌≤◌, ◌^◌, min, [], List, IfOk, IfErr, MatchOption, OnOk, Some, None, Err, length};
 ghost use Rattle.uefi_device_nodes.specs.Nodes.{Node};
 ghost use Rattle.uefi_device_path.specs.StyledReading.{IsLenientError, IsReadAs, IsStyledText, ReadingStopsAt, follows_comma, place_fault, place_read};
 ghost use Rattle.uefi_device_path.specs.Paths.{path_bytes};
 ghost use Rattle.uefi_node_reader.specs.NamedFiles.{IsTold};
+ghost use Rattle.uefi_node_reader.specs.Styles.{HasScratch};
+ghost use Rattle.uefi_device_path.specs.declared.lenient_errors.LenientTextError.TheVariants.{OutOfMemory};
 ghost use Rattle.uefi_node_reader.specs.TextNodeViews.{text_node};
 
 use crate::build::DevicePathBuf;
@@ -31,7 +33,7 @@ pub(crate) fn first_styled_node<'s, 't: 's>(
     text: &'t [u8],
     place: &'t [u8],
 ) -> Option<(ReadNode<'s>, &'t [u8])>
-    requires { length place.now < length scratch.old }
+    requires { HasScratch style place.now scratch.old }
     ensures { MatchOption result (place_read style text.now place.now ≡ None)
         (λ x. place_read style text.now place.now ≡ Some (text_node x.0.node, x.1.now)) }
 {
@@ -41,7 +43,7 @@ pub(crate) fn first_styled_node<'s, 't: 's>(
 
 /// The fault of a text of which no node is read where this rest begins. The buffer then holds anything.
 fn fault_at(style: TextStyle, scratch: &mut [u8], text: &[u8], rest: &[u8]) -> TextFault
-    requires room { length rest.now < length scratch.old }
+    requires room { HasScratch style rest.now scratch.old }
     requires within { length rest.now ≤ length text.now }
     ensures node { result.node ≡ length text.now - length rest.now }
     ensures byte { result.byte ≡ result.node + (place_fault style text.now rest.now).byte }
@@ -63,7 +65,7 @@ pub(crate) fn check_styled_text(
     scratch: &mut [u8],
     text: &[u8],
 ) -> Result<usize, TextFault>
-    requires { length text.now < length scratch.old }
+    requires { HasScratch style text.now scratch.old }
     ensures path { IfOk result (λ _. IsStyledText style text.now) }
     ensures len { IfOk result (λ len. (nodes : List Node) → IsReadAs style text.now nodes
         → len ≡ min (length (path_bytes nodes)) (2 ^ 64 - 1)) }
@@ -114,7 +116,7 @@ fn push_styled_text<A: Allocator>(
     scratch: &mut [u8],
     text: &[u8],
 ) -> Result<(), BuildError>
-    requires room { length text.now < length scratch.old }
+    requires room { HasScratch style text.now scratch.old }
     requires empty { path.old ≡ [] }
     requires readable { IsStyledText style text.now }
     ensures ok { OnOk result (IsReadAs style text.now path.new) }
@@ -151,9 +153,10 @@ pub(crate) fn read_styled_path<A: Allocator + Copy>(
     scratch: &mut [u8],
     text: &[u8],
 ) -> Result<DevicePathBuf<A>, LenientTextError>
-    requires { length text.now < length scratch.old }
+    requires { HasScratch style text.now scratch.old }
     ensures ok { IfOk result (λ path. IsReadAs style text.now path) }
     ensures refusal { IfErr result (IsLenientError style text.now) }
+    ensures memory { result ≡ Err OutOfMemory → IsStyledText style text.now }
 {
     let len = match check_styled_text(style, scratch, text) {
         Ok(len) => len,

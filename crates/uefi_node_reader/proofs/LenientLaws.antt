@@ -307,7 +307,7 @@ file_end text name node rest begun e =
     subst (λ (x : List ℕ). IsRestOf text x) call.2.1
     (then_rest text name call.0.1 after (cut_end name call.0 call.1))
 
-strict_end : (text : List ℕ) (node : Node) (rest : List ℕ) → node_read text ≡ Some (node, rest)
+pub strict_end : (text : List ℕ) (node : Node) (rest : List ℕ) → node_read text ≡ Some (node, rest)
     → is_after_node rest ≡ true → IsRestOf text rest
 strict_end text node rest e after =
     let read = node_takes text node rest e in

@@ -2,7 +2,7 @@
 use Rattle.std.specs.List.{list_all}
 use Rattle.std.proofs.lemmas.Bool.{and_parts, not-true}
 use Rattle.std.specs.Prelude.{not, Option, Some, None, codes}
-use Rattle.std.proofs.Common.{◌%◌, eqb, leb, ◌&&◌, ◌||◌, cond, ◌≤◌, ◌≡◌, ℕ, true, false, List, [], ◌∷◌, ◌++◌, refl, ap, sym, ◌∙◌, append_assoc, inl, inr, length, Bool, arith}
+use Rattle.std.proofs.Common.{subst, ◌%◌, eqb, leb, ◌&&◌, ◌||◌, cond, ◌≤◌, ◌≡◌, ℕ, true, false, List, [], ◌∷◌, ◌++◌, refl, ap, sym, ◌∙◌, append_assoc, inl, inr, length, Bool, arith}
 use borrow.Author.Tests.{eqb-true, leb-true}
 use lib.Utf8.{encode, encodes}
 use Rattle.uefi_node_table.specs.Rows.{Form, is_used}
@@ -11,7 +11,7 @@ use Rattle.uefi_node_table.proofs.Forms.{found}
 use Rattle.uefi_device_nodes.specs.Nodes.{Node}
 use Rattle.uefi_device_nodes.specs.NodeTexts.{irregular_text, is_irregular, node_text, unknown_text}
 use Rattle.uefi_node_reader.specs.FieldReading.{either_read}
-use Rattle.uefi_node_reader.specs.TableReading.{IsTabled, printed_by, prints, table_read}
+use Rattle.uefi_node_reader.specs.TableReading.{first_of, IsTabled, printed_by, prints, table_read}
 use Rattle.uefi_node_reader.specs.WordReading.{clash}
 use Rattle.uefi_node_reader.specs.PlainNodes.{is_formed, is_plain, plain_read}
 use Rattle.uefi_node_reader.specs.NamedFiles.{name_data, is_name_char, begins_name, is_after_node, IsTold, name_read, node_read, is_name}
@@ -112,6 +112,16 @@ node_again node (inr (inr named)) rest ends =
     let none = other named.name rest (name_parts named.name named.is_name).0 in
     let same = ap (λ (x : List ℕ). x ++ rest) (name_printed node named) in
     (λ i. either_read ((ap (λ (x : List ℕ). table_read forms x) same ∙ none.0) i) (either_read ((ap plain_read same ∙ none.1) i) (name_again node named rest ends i)))
+
+-- a text that begins with a backslash is that of a name alone
+name_alone : (others : List ℕ) → name_read (92 ∷ others) ≡ node_read (92 ∷ others)
+unfolding node_read
+name_alone others = ap (λ (o : Option (Node × List ℕ)). either_read o (either_read (plain_read (92 ∷ others)) (name_read (92 ∷ others))))
+    (sym (unread forms 0 forms (92 ∷ []) others clear_of_names))
+
+pub name_first : (text : List ℕ) → first_of text ≡ 92 → name_read text ≡ node_read text
+name_first [] e = absurd (omega (arith, e))
+name_first (c ∷ cs) e = subst (λ (x : ℕ). name_read (x ∷ cs) ≡ node_read (x ∷ cs)) (sym e) (name_alone cs)
 
 -- what is read is a node that is told, and is printed so
 pub node_takes : (text : List ℕ) (node : Node) (rest : List ℕ) → node_read text ≡ Some (node, rest)

@@ -1,5 +1,6 @@
 -- What is read in a style is told, and what stands after it is the rest of its text.
-use Rattle.std.proofs.Common.{◌≡◌, ◌-◌, ◌≤◌, ℕ, Bool, true, false, cond, ◌&&◌, List, [], ◌∷◌, length, refl, subst, inl, inr, arith, is_some}
+use Rattle.std.proofs.Common.{ap, ◌∙◌, ◌≡◌, ◌-◌, ◌≤◌, ℕ, Bool, true, false, cond, ◌&&◌, List, [], ◌∷◌, length, refl, subst, inl, inr, arith, is_some}
+use Rattle.uefi_node_reader.specs.FieldReading.{read_if}
 use Rattle.std.specs.Prelude.{Option, Some, None}
 use Rattle.std.specs.List.{list_all}
 use Rattle.std.specs.Option.{option_map}
@@ -9,16 +10,17 @@ use Rattle.uefi_device_nodes.specs.Nodes.{Node, node_with}
 use Rattle.uefi_node_reader.specs.LenientFaults.{fault, past, place_at}
 use Rattle.uefi_node_reader.specs.LenientNodes.{IsRestOf, begins_call, cut_call, ended, lenient_read, tidied, told_in}
 use Rattle.uefi_node_reader.specs.Libefivar.{fault_after_own, fault_or_lenient, forms_exact, libefivar_fault, libefivar_read, own_call, own_fault, own_forms, own_read, own_stop}
-use Rattle.uefi_node_reader.specs.NamedFiles.{IsTold, is_after_node}
-use Rattle.uefi_node_reader.specs.Styles.{LenientAgain, StyledEnds, StyledFaultWithin, StyledStarts, StyledTakes, styled_fault, styled_read}
+use Rattle.uefi_node_reader.specs.NamedFiles.{IsTold, is_after_node, node_read}
+use Rattle.uefi_node_reader.specs.Styles.{PrintedExactly, StyledAgain, StyledEnds, StyledFaultWithin, StyledStarts, StyledTakes, styled_fault, styled_read}
 use Rattle.uefi_node_reader.specs.TableReading.{form_read, is_empty, is_filled, is_sound}
 use Rattle.uefi_node_reader.specs.Telling.{tells}
 use Rattle.uefi_node_reader.specs.declared.faults.NodeFault.{NodeFault}
 use Rattle.uefi_node_reader.specs.declared.faults.Stop.{Stop}
-use Rattle.uefi_node_reader.specs.declared.styles.TextStyle.TheVariants.{Lenient, Libefivar}
+use Rattle.uefi_node_reader.specs.declared.styles.TextStyle.TheVariants.{Printed, Lenient, Libefivar}
 use Rattle.uefi_node_reader.proofs.FaultPlaces.{fault_within, place_within}
-use Rattle.uefi_node_reader.proofs.LenientLaws.{call_starts, cut_end, ends, lenient_again, lenient_ends, lenient_starts, lenient_takes, one_node, with_rest}
+use Rattle.uefi_node_reader.proofs.LenientLaws.{call_starts, cut_end, ends, lenient_again, lenient_ends, lenient_starts, lenient_takes, one_node, strict_end, with_rest}
 use Rattle.uefi_node_reader.proofs.Literals.{bind_some}
+use Rattle.uefi_node_reader.proofs.NodeLaws.{node_starts, node_takes}
 use Rattle.uefi_node_reader.proofs.TableLaws.{form_takes}
 use Rattle.uefi_node_reader.proofs.ToldNodes.{tells_told}
 
@@ -89,18 +91,24 @@ either_way is_rooted text node rest Goal own other e = by (is_some (own_read tex
 
 pub styled_takes : StyledTakes
 unfolding styled_read
+styled_takes Printed is_rooted text node rest e = (node_takes text node rest (ends (node_read text) node rest e).0).0
 styled_takes Lenient is_rooted text node rest e = lenient_takes is_rooted text node rest e
 styled_takes Libefivar is_rooted text node rest e =
     either_way is_rooted text node rest (IsTold node) (λ own _. own.told) (lenient_takes is_rooted text node rest) e
 
 pub styled_ends : StyledEnds
 unfolding styled_read
+styled_ends Printed is_rooted text node rest e =
+    let read = ends (node_read text) node rest e in (strict_end text node rest read.0 read.1, read.1)
 styled_ends Lenient is_rooted text node rest e = lenient_ends is_rooted text node rest e
 styled_ends Libefivar is_rooted text node rest e = either_way is_rooted text node rest (IsRestOf text rest × (is_after_node rest ≡ true))
     (λ own after. (own.rest_of, after)) (lenient_ends is_rooted text node rest) e
 
 pub styled_starts : StyledStarts
 unfolding styled_read
+styled_starts Printed is_rooted text node rest e =
+    let read = node_takes text node rest (ends (node_read text) node rest e).0 in
+    ap is_after_node read.1 ∙ node_starts node read.0 rest
 styled_starts Lenient is_rooted text node rest e = lenient_starts is_rooted text node rest e
 styled_starts Libefivar is_rooted text node rest e = either_way is_rooted text node rest (is_after_node text ≡ false)
     (λ own _. no_call own.call) (lenient_starts is_rooted text node rest) e
@@ -112,9 +120,15 @@ styled_starts Libefivar is_rooted text node rest e = either_way is_rooted text n
         by true p = call_starts text p call
         by false p = p
 
-pub styled_again : LenientAgain
+pub styled_again : StyledAgain
 unfolding styled_read
-styled_again is_rooted text node rest e after = lenient_again is_rooted text node rest e after
+styled_again Printed takes is_rooted text node rest e after = ap ended e ∙ ap (λ (b : Bool). read_if b node rest) after
+styled_again Lenient takes is_rooted text node rest e after = lenient_again is_rooted text node rest e after
+styled_again Libefivar takes is_rooted text node rest e after = cc
+
+pub printed_exactly : PrintedExactly
+unfolding styled_read
+printed_exactly is_rooted text node rest e = (ends (node_read text) node rest e).0
 
 -- where the fault of a call lies
 own_within : (is_rooted : Bool) (text : List ℕ) (o : Option NodeFault) → own_fault text ≡ o → (fault_or_lenient is_rooted text o).byte ≤ length text
@@ -136,5 +150,6 @@ after_within is_rooted text (Some rest) = omega arith
 
 pub styled_fault_within : StyledFaultWithin
 unfolding styled_fault libefivar_fault
+styled_fault_within Printed is_rooted text = omega arith
 styled_fault_within Lenient is_rooted text = fault_within is_rooted text
 styled_fault_within Libefivar is_rooted text = after_within is_rooted text (past (own_read text))

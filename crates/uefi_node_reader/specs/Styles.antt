@@ -1,24 +1,43 @@
 -- Nodes read from texts of each style.
-use Rattle.std.specs.Prelude.{◌≡◌, ◌≤◌, ℕ, Bool, List, length, Option, Some, true, false}
+use Rattle.std.specs.Prelude.{◌≡◌, ◌≤◌, ◌<◌, ℕ, Bool, List, length, Option, Some, true, false}
 use Rattle.uefi_device_nodes.specs.Nodes.{Node}
-use Rattle.uefi_node_reader.specs.LenientFaults.{lenient_fault}
-use Rattle.uefi_node_reader.specs.LenientNodes.{IsRestOf, lenient_read}
+use Rattle.uefi_node_reader.specs.LenientFaults.{fault, lenient_fault}
+use Rattle.uefi_node_reader.specs.LenientNodes.{IsRestOf, ended, lenient_read}
 use Rattle.uefi_node_reader.specs.Libefivar.{libefivar_fault, libefivar_read}
 use Rattle.uefi_node_reader.specs.NamedFiles.{IsTold, is_after_node, node_read}
+use Rattle.uefi_node_reader.specs.declared.faults.Expected.TheVariants as expected
 use Rattle.uefi_node_reader.specs.declared.faults.NodeFault.{NodeFault}
 use Rattle.uefi_node_reader.specs.declared.styles.TextStyle.{TextStyle}
-use Rattle.uefi_node_reader.specs.declared.styles.TextStyle.TheVariants.{Lenient, Libefivar}
+use Rattle.uefi_node_reader.specs.declared.styles.TextStyle.TheVariants.{Printed, Lenient, Libefivar}
 
 -- the node whose text bytes begin with in a style, where names have to begin with a backslash or not, and what
 -- stands after it
 unfoldable pub styled_read : TextStyle → Bool → List ℕ → Option (Node × List ℕ)
+styled_read Printed is_rooted text = ended (node_read text)
 styled_read Lenient is_rooted text = lenient_read is_rooted text
 styled_read Libefivar is_rooted text = libefivar_read is_rooted text
 
 -- the fault of a text of which no node is read in a style
 unfoldable pub styled_fault : TextStyle → Bool → List ℕ → NodeFault
+styled_fault Printed is_rooted text = fault 0 expected.AsPrinted
 styled_fault Lenient is_rooted text = lenient_fault is_rooted text
 styled_fault Libefivar is_rooted text = libefivar_fault is_rooted text
+
+-- the test for a style whose calls and names are copied before they are read
+abbrev pub is_copied : TextStyle → Bool
+is_copied Printed = false
+is_copied Lenient = true
+is_copied Libefivar = true
+
+-- the test for a style in which printed texts are read as what they are printed of
+abbrev pub takes_printed : TextStyle → Bool
+takes_printed Printed = true
+takes_printed Lenient = true
+takes_printed Libefivar = false
+
+-- a buffer is long enough for copies of a text
+abbrev pub HasScratch : TextStyle → List ℕ → List ℕ → Type 0
+HasScratch style text scratch = is_copied style ≡ true → length text < length scratch
 
 -- what is read is told
 abbrev pub StyledTakes : Type 0
@@ -35,10 +54,16 @@ abbrev pub StyledStarts : Type 0
 StyledStarts = (style : TextStyle) (is_rooted : Bool) (text : List ℕ) (node : Node) (rest : List ℕ)
     → styled_read style is_rooted text ≡ Some (node, rest) → is_after_node text ≡ false
 
--- what is read exactly where a node may end is read leniently as the same
-abbrev pub LenientAgain : Type 0
-LenientAgain = (is_rooted : Bool) (text : List ℕ) (node : Node) (rest : List ℕ) → node_read text ≡ Some (node, rest)
-    → is_after_node rest ≡ true → styled_read Lenient is_rooted text ≡ Some (node, rest)
+-- what is read exactly where a node may end is read in such a style as the same
+abbrev pub StyledAgain : Type 0
+StyledAgain = (style : TextStyle) → takes_printed style ≡ true → (is_rooted : Bool) (text : List ℕ) (node : Node)
+    (rest : List ℕ) → node_read text ≡ Some (node, rest) → is_after_node rest ≡ true
+    → styled_read style is_rooted text ≡ Some (node, rest)
+
+-- what is read in the style of printed texts is read exactly
+abbrev pub PrintedExactly : Type 0
+PrintedExactly = (is_rooted : Bool) (text : List ℕ) (node : Node) (rest : List ℕ)
+    → styled_read Printed is_rooted text ≡ Some (node, rest) → node_read text ≡ Some (node, rest)
 
 -- the wrong byte lies in the text, or at its end
 abbrev pub StyledFaultWithin : Type 0

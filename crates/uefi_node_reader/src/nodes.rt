@@ -11,6 +11,7 @@ ghost use Rattle.uefi_node_reader.specs.LenientNodes.{ended, file_or_call, lenie
 ghost use Rattle.uefi_node_reader.specs.NamedFiles.{is_after_node, node_read};
 ghost use Rattle.uefi_node_reader.specs.TextNodeViews.{text_node};
 
+use crate::clear_texts::first_of;
 use crate::faults::{Expected, NodeFault};
 use crate::lenient_faults::{call_fault, file_fault};
 use crate::lenient_fields::after_literal;
@@ -26,6 +27,10 @@ use crate::text_node::TextNode;
 pub fn read_node(text: &[u8]) -> Option<(TextNode<'_>, &[u8])>
     ensures { option_map (λ x. (text_node x.0, x.1.now)) result ≡ node_read text.now }
 {
+    if first_of(text) == b'\\' {
+        // No other text of a node begins so.
+        return name(text);
+    }
     if let Some(read) = by_table(text) {
         return Some(read);
     }

@@ -4,21 +4,34 @@
 ghost use Rattle.std.specs.Option.{option_map};
 ghost use Rattle.std.specs.Prelude.{◌≡◌, ◌<◌, ◌≤◌, length};
 ghost use Rattle.uefi_node_reader.specs.Libefivar.{libefivar_fault, libefivar_read};
-ghost use Rattle.uefi_node_reader.specs.Styles.{LenientAgain, StyledEnds, StyledFaultWithin, StyledStarts, StyledTakes, styled_fault, styled_read};
+ghost use Rattle.uefi_node_reader.specs.Styles.{HasScratch, PrintedExactly, StyledAgain, StyledEnds, StyledFaultWithin, StyledStarts, StyledTakes, is_copied, styled_fault, styled_read};
 ghost use Rattle.uefi_node_reader.specs.TextNodeViews.{text_node};
 
 use crate::faults::{Expected, NodeFault};
 use crate::libefivar::{own, own_fault};
-use crate::nodes::{ended, lenient_fault, read_lenient_node};
+use crate::nodes::{ended, lenient_fault, read_lenient_node, read_node};
 use crate::text_node::TextNode;
 
 /// Whose texts are read.
 #[derive(Clone, Copy, Debug, PartialEq, Eq)]
 pub enum TextStyle {
+    /// Those that are printed to be read back, exactly.
+    Printed,
     /// Those of the specification, as people write them.
     Lenient,
     /// Those that libefivar prints, and efibootmgr with it.
     Libefivar,
+}
+
+/// Whether calls and names are copied before they are read.
+pub fn is_copied(style: TextStyle) -> bool
+    ensures { result ≡ is_copied style }
+{
+    match style {
+        TextStyle::Printed => false,
+        TextStyle::Lenient => true,
+        TextStyle::Libefivar => true,
+    }
 }
 
 /// Reads the node that a text begins with as libefivar prints it, and returns what stands after it, too. The
@@ -70,10 +83,11 @@ pub fn read_styled_node<'s, 't: 's>(
     scratch: &'s mut [u8],
     text: &'t [u8],
 ) -> Option<(TextNode<'s>, &'t [u8])>
-    requires { length text.now < length scratch.old }
+    requires { HasScratch style text.now scratch.old }
     ensures { option_map (λ x. (text_node x.0, x.1.now)) result ≡ styled_read style is_rooted text.now }
 {
     match style {
+        TextStyle::Printed => ended(read_node(text)),
         TextStyle::Lenient => read_lenient_node(is_rooted, scratch, text),
         TextStyle::Libefivar => read_libefivar_node(is_rooted, scratch, text),
     }
@@ -83,24 +97,29 @@ pub fn read_styled_node<'s, 't: 's>(
 /// there. The buffer then holds anything.
 #[tactic(auto, unfolding(crate::specs::Styles::styled_fault))]
 pub fn styled_fault(style: TextStyle, is_rooted: bool, scratch: &mut [u8], text: &[u8]) -> NodeFault
-    requires { length text.now < length scratch.old }
+    requires { HasScratch style text.now scratch.old }
     ensures fault { result ≡ styled_fault style is_rooted text.now }
     ensures within { result.byte ≤ length text.now }
 {
     match style {
+        TextStyle::Printed => NodeFault {
+            byte: 0,
+            expected: Expected::AsPrinted,
+        },
         TextStyle::Lenient => lenient_fault(is_rooted, scratch, text),
         TextStyle::Libefivar => libefivar_fault(is_rooted, scratch, text),
     }
 }
 
 /// What is read is told, and what stands after it is the rest of the text, which is empty or begins with a slash
-/// or a comma; the text begins with neither. What is read exactly before one of these is read leniently as the
-/// same node.
+/// or a comma; the text begins with neither. What is read exactly before one of these is read as the same node in the
+/// styles of printed texts and of people.
 pub fn styled_nodes_are_read()
     ensures takes { StyledTakes }
     ensures ends { StyledEnds }
     ensures starts { StyledStarts }
-    ensures again { LenientAgain }
+    ensures again { StyledAgain }
+    ensures exactly { PrintedExactly }
 {}
 
 /// The wrong byte of a text lies in it, or at its end.

@@ -145,11 +145,11 @@ returns-then-reason-ne-OK-clause-no_scratch c = λ nodes begins utf8 short.
 
 pub returns-in-Ok-push_styled_text_in_buf-clause-no_scratch : goal.returns-in-Ok-push_styled_text_in_buf-clause-no_scratch
 returns-in-Ok-push_styled_text_in_buf-clause-no_scratch c = λ nodes begins utf8 short.
-    absurd (cc (c.in-Ok-push_styled_text_in_buf.ensures.no_scratch nodes begins (omega (arith, short, ap length c.in-Ok.ensures.cases.0))))
+    absurd (cc (c.in-Ok-push_styled_text_in_buf.ensures.no_scratch nodes begins c.requires (omega (arith, short, ap length c.in-Ok.ensures.cases.0))))
 
 pub returns-in-Err-push_styled_text_in_buf-clause-no_scratch : goal.returns-in-Err-push_styled_text_in_buf-clause-no_scratch
 returns-in-Err-push_styled_text_in_buf-clause-no_scratch c = λ nodes begins utf8 short.
-    let said = c.in-Err-push_styled_text_in_buf.ensures.no_scratch nodes begins (omega (arith, short, ap length c.in-Ok.ensures.cases.0)) in
+    let said = c.in-Err-push_styled_text_in_buf.ensures.no_scratch nodes begins c.requires (omega (arith, short, ap length c.in-Ok.ensures.cases.0)) in
     let same : c.in-Err-push_styled_text_in_buf.error ≡ ScratchTooSmall (length c.in-Ok.text.now + 1) = cc in (
       c.lenient_reason-reason.ensures.reason ∙ ap (λ (e : PushLenientTextError). lenient_reason (Some e)) same,
       c.lenient_reason-reason.ensures.place 0 ∙ ap (λ (e : PushLenientTextError). lenient_place (Some e) 0) same

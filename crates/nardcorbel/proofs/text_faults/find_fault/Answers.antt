@@ -37,8 +37,8 @@ none style text stops (Some fault) is = absurd (stops fault is)
 
 pub returns-in-Err : goal.returns-in-Err
 returns-in-Err c = λ fault is. c.fault_in.ensures
-    ∙ found c.args.style c.args.text.now c.in-Err.error (λ f stop. let said = c.in-Err.ensures.no_node [] begins c.requires f stop in cc)
-    (λ read reads. c.in-Err.ensures.refusal [] read begins c.requires reads) fault is
+    ∙ found c.args.style c.args.text.now c.in-Err.error (λ f stop. let said = c.in-Err.ensures.no_node [] begins (λ _. c.requires.room) f stop in cc)
+    (λ read reads. c.in-Err.ensures.refusal [] read begins (λ _. c.requires.room) reads) fault is
 
 pub returns-in-Ok : goal.returns-in-Ok
-returns-in-Ok c = λ fault is. none c.args.style c.args.text.now (λ f stop. cc (c.in-Ok.ensures.no_node [] begins c.requires f stop)) fault is
+returns-in-Ok c = λ fault is. none c.args.style c.args.text.now (λ f stop. cc (c.in-Ok.ensures.no_node [] begins (λ _. c.requires.room) f stop)) fault is

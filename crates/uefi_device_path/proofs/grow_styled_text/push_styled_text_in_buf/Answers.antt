@@ -17,7 +17,7 @@ returns-in-Err-clause-no_path c = λ error refused. let same = c.in-Err.ensures.
     in cc
 
 pub returns-in-Err-clause-no_scratch : goal.returns-in-Err-clause-no_scratch
-returns-in-Err-clause-no_scratch c = λ nodes begins short. absurd (cc (c.in-Err.ensures.accepts
+returns-in-Err-clause-no_scratch c = λ nodes begins copied short. absurd (cc (c.in-Err.ensures.accepts
     nodes begins).1)
 
 pub returns-in-Err-clause-no_node : goal.returns-in-Err-clause-no_node

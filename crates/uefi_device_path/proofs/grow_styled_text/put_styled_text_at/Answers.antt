@@ -54,7 +54,7 @@ pub first_styled_node-requires : goal.first_styled_node-requires
 first_styled_node-requires c =
     let within = place_within c.args.style c.args.text.now c.styled_nodes_are_read.ensures.ends c.nodes.invariant.done c.nodes.at_start c.nodes.rest.now
     c.node_start-place.result.now c.nodes.invariant.on c.node_start-place.ensures in
-    omega (arith, within, c.requires.scratch, c.nodes.auto.scratch)
+    λ copied. omega (arith, within, c.requires.scratch copied, c.nodes.auto.scratch)
 
 pub unreachable-requires : goal.unreachable-requires
 unreachable-requires c =

@@ -1,113 +1,54 @@
--- A buffer begins with one path at most, and a text either is that of one or stops at one place.
-use Rattle.std.proofs.Common.{◌∙◌, ◌++◌, ℕ, List, ap, refl, sym, subst, length, take, arith}
+-- The text is read as the nodes whose text it is, or it stops where it stops being one.
+use Rattle.std.proofs.Common.{◌≡◌, ◌∙◌, ap, refl}
 use Rattle.std.specs.Prelude.{Err}
-use Rattle.std.proofs.lemmas.Grind.{common_steps}
-use Rattle.uefi_device_nodes.specs.Nodes.{Node}
-use Rattle.uefi_device_path.specs.PathReading.{StopsAt}
-use Rattle.uefi_device_path.specs.Paths.{nodes_in, without_end}
-use Rattle.uefi_device_path.specs.declared.errors.PushTextError.TheVariants.{NoNode}
-use Rattle.uefi_device_path.proofs.Building.{grown_buffer, len_of_path}
-use Rattle.uefi_device_path.proofs.PushedTexts.{needed_is, with_room, without_room}
-use Rattle.uefi_device_path.proofs.TextStops.{never_both, stops_once}
+use Rattle.uefi_device_path.specs.declared.errors.PushTextError.{PushTextError}
+use Rattle.uefi_device_path.specs.declared.lenient_errors.PushLenientTextError.TheVariants as push
+use Rattle.uefi_node_reader.specs.declared.styles.TextStyle.TheVariants.{Printed}
+use Rattle.uefi_device_path.specs.StyledReading.{text_error}
+use Rattle.uefi_device_path.proofs.PrintedReading.{all_fit, cause_is, never_stops, not_all_fit, only_stop, path_is}
 use Rattle.uefi_device_path.proofs.grow_text.push_text_in_buf.Goals as goal
 
+pub returns-in-Ok-clause-no_path : goal.returns-in-Ok-clause-no_path
+returns-in-Ok-clause-no_path c = λ error refused. absurd (cc (c.in-Ok.ensures.no_path error refused))
+
+pub returns-in-Ok-clause-no_node : goal.returns-in-Ok-clause-no_node
+returns-in-Ok-clause-no_node c = λ nodes begins place stop. absurd (never_stops c.node_text_once.ensures c.nodes_are_read.ensures.starts
+    c.nodes_are_read.ensures.fits c.styled_texts.ensures.told c.styled_texts.ensures.is_printed c.args.text.now c.in-Ok.ensures.read place stop)
+
+pub returns-in-Ok-clause-refusal : goal.returns-in-Ok-clause-refusal
+returns-in-Ok-clause-refusal c = λ nodes told begins are is. all_fit nodes told _
+    (c.in-Ok.ensures.refusal nodes told begins (λ copied. cc) (c.styled_texts.ensures.printed Printed refl c.args.text.now told are is))
+
+pub returns-in-Ok-clause-len : goal.returns-in-Ok-clause-len
+returns-in-Ok-clause-len c = λ nodes told begins are is.
+    c.in-Ok.ensures.len nodes told begins (c.styled_texts.ensures.printed Printed refl c.args.text.now told are is)
+
+pub returns-in-Ok-clause-buffer : goal.returns-in-Ok-clause-buffer
+returns-in-Ok-clause-buffer c = λ nodes told begins are is.
+    c.in-Ok.ensures.buffer nodes told begins (c.styled_texts.ensures.printed Printed refl c.args.text.now told are is)
+
+pub returns-in-Ok-clause-read : goal.returns-in-Ok-clause-read
+returns-in-Ok-clause-read c =
+    path_is c.styled_texts.ensures.told c.styled_texts.ensures.is_printed c.args.text.now c.in-Ok.ensures.read
+
 pub returns-in-Err-clause-no_path : goal.returns-in-Err-clause-no_path
-returns-in-Err-clause-no_path c = λ error refused. let same = c.in-Err.ensures.refusal error refused
-    in cc
+returns-in-Err-clause-no_path c = λ error refused.
+    let said = c.in-Err.ensures.no_path error refused in
+    let same : c.in-Err.error ≡ push.Path error = cc in
+    ap (λ (e : PushTextError). Err e) (c.text_error.ensures ∙ ap text_error same)
 
 pub returns-in-Err-clause-no_node : goal.returns-in-Err-clause-no_node
-returns-in-Err-clause-no_node c = λ nodes begins place stop. absurd (cc (c.in-Err.ensures.accepts
-    nodes begins).1)
+returns-in-Err-clause-no_node c = λ nodes begins place stop. ap (λ (e : PushTextError). Err e) (c.text_error.ensures
+    ∙ only_stop c.node_text_once.ensures c.nodes_are_read.ensures.starts c.nodes_are_read.ensures.fits c.accepted_paths.ensures.never_both
+    c.styled_texts.ensures.told c.styled_texts.ensures.is_printed c.styled_texts.ensures.printed_stops c.args.buffer.now nodes begins
+    c.args.text.now c.in-Err.error c.in-Err.ensures.cause place stop)
 
 pub returns-in-Err-clause-refusal : goal.returns-in-Err-clause-refusal
-returns-in-Err-clause-refusal c = λ nodes told begins are is. absurd (cc (c.in-Err.ensures.accepts
-    nodes begins).1)
+returns-in-Err-clause-refusal c = λ nodes told begins are is.
+    not_all_fit nodes told _ c.in-Err.error c.text_error.result c.text_error.ensures
+    (c.in-Err.ensures.refusal nodes told begins (λ copied. cc) (c.styled_texts.ensures.printed Printed refl c.args.text.now told are is))
 
-pub returns-in-Err-check_text-clause-no_path : goal.returns-in-Err-check_text-clause-no_path
-returns-in-Err-check_text-clause-no_path c = λ error refused. absurd (cc (c.in-Ok.ensures.refusal
-    error refused))
-
-pub returns-in-Err-check_text-clause-no_node : goal.returns-in-Err-check_text-clause-no_node
-returns-in-Err-check_text-clause-no_node c = λ nodes begins place stop.
-    let laws = c.nodes_are_read.ensures in
-    ap (λ (n : ℕ). Err (NoNode n)) (stops_once c.node_text_once.ensures laws.starts laws.fits
-    c.as_bytes-bytes.result.now
-    c.in-Err-check_text.place place c.in-Err-check_text.ensures.refusal (subst (λ (x : List ℕ).
-    StopsAt x place) (sym c.as_bytes-bytes.ensures.value) stop))
-
-pub returns-in-Err-check_text-clause-refusal : goal.returns-in-Err-check_text-clause-refusal
-returns-in-Err-check_text-clause-refusal c = λ nodes told begins are is.
-    let laws = c.nodes_are_read.ensures in
-    let place = c.in-Err-check_text.place in
-    absurd (never_both c.node_text_once.ensures laws.starts laws.fits told place are
-    (subst (λ (x : List ℕ). StopsAt x place) (sym (is ∙ sym c.as_bytes-bytes.ensures.value))
-    c.in-Err-check_text.ensures.refusal))
-
-pub returns-then-buffer-needed-clause-no_path : goal.returns-then-buffer-needed-clause-no_path
-returns-then-buffer-needed-clause-no_path c = λ error refused. absurd (cc (c.in-Ok.ensures.refusal
-    error refused))
-
-pub returns-then-buffer-needed-clause-no_node : goal.returns-then-buffer-needed-clause-no_node
-returns-then-buffer-needed-clause-no_node c = λ nodes begins place stop.
-    let laws = c.nodes_are_read.ensures in
-    let (told, are, is) = c.in-Ok-check_text.ensures.path in
-    absurd (never_both c.node_text_once.ensures laws.starts laws.fits told place are
-    (subst (λ (x : List ℕ). StopsAt x place) (sym (is ∙ c.as_bytes-bytes.ensures.value)) stop))
-
-pub returns-then-buffer-needed-clause-refusal : goal.returns-then-buffer-needed-clause-refusal
-returns-then-buffer-needed-clause-refusal c = λ nodes told begins are is.
-    let long = len_of_path c.args.buffer.now nodes c.in-Ok.len c.in-Ok.ensures.is_path
-    (sym (c.in-Ok.ensures.accepts nodes begins).0) c.in-Ok.ensures.within in
-    let needed = needed_is nodes told c.in-Ok.len c.in-Ok-check_text.added
-    c.saturating_add-needed.result long
-    (c.in-Ok-check_text.ensures.len told are (is ∙ sym c.as_bytes-bytes.ensures.value))
-    c.saturating_add-needed.ensures in
-    without_room nodes told (length c.args.buffer.now) c.saturating_add-needed.result needed
-    c.if-buffer-needed.true
-
-pub put_text_at-requires-clause-room : goal.put_text_at-requires-clause-room
-put_text_at-requires-clause-room c = λ told are is.
-    let nodes = nodes_in (without_end (take c.in-Ok.len c.args.buffer.now)) in
-    let long = len_of_path c.args.buffer.now nodes c.in-Ok.len c.in-Ok.ensures.is_path refl
-    c.in-Ok.ensures.within in
-    let needed = needed_is nodes told c.in-Ok.len c.in-Ok-check_text.added
-    c.saturating_add-needed.result long
-    (c.in-Ok-check_text.ensures.len told are is) c.saturating_add-needed.ensures in
-    omega (arith, needed, c.if-buffer-needed.false)
-
-pub returns-clause-no_path : goal.returns-clause-no_path
-returns-clause-no_path c = λ error refused. absurd (cc (c.in-Ok.ensures.refusal error refused))
-
-pub returns-clause-no_node : goal.returns-clause-no_node
-returns-clause-no_node c = λ nodes begins place stop.
-    let laws = c.nodes_are_read.ensures in
-    let (told, are, is) = c.in-Ok-check_text.ensures.path in
-    absurd (never_both c.node_text_once.ensures laws.starts laws.fits told place are
-    (subst (λ (x : List ℕ). StopsAt x place) (sym (is ∙ c.as_bytes-bytes.ensures.value)) stop))
-
-pub returns-clause-refusal : goal.returns-clause-refusal
-returns-clause-refusal c = λ nodes told begins are is.
-    let long = len_of_path c.args.buffer.now nodes c.in-Ok.len c.in-Ok.ensures.is_path
-    (sym (c.in-Ok.ensures.accepts nodes begins).0) c.in-Ok.ensures.within in
-    let needed = needed_is nodes told c.in-Ok.len c.in-Ok-check_text.added
-    c.saturating_add-needed.result long
-    (c.in-Ok-check_text.ensures.len told are (is ∙ sym c.as_bytes-bytes.ensures.value))
-    c.saturating_add-needed.ensures in
-    with_room nodes told (length c.args.buffer.now) c.saturating_add-needed.result needed
-    c.if-buffer-needed.false
-
-pub returns-clause-len : goal.returns-clause-len
-returns-clause-len c = λ nodes told begins are is.
-    let shown = c.put_text_at.ensures.nodes told are (is ∙ sym c.as_bytes-bytes.ensures.value)
-    ∙ ap (λ (ns : List Node). ns ++ told) (sym (c.in-Ok.ensures.accepts nodes begins).0) in
-    len_of_path c.put_text_at.new.buffer (nodes ++ told) c.put_text_at.result
-    c.put_text_at.ensures.grown shown
-    (grind (arith, common_steps))
-
-pub returns-clause-buffer : goal.returns-clause-buffer
-returns-clause-buffer c = λ nodes told begins are is.
-    let shown = c.put_text_at.ensures.nodes told are (is ∙ sym c.as_bytes-bytes.ensures.value)
-    ∙ ap (λ (ns : List Node). ns ++ told) (sym (c.in-Ok.ensures.accepts nodes begins).0) in
-    grown_buffer c.args.buffer.now c.put_text_at.new.buffer (nodes ++ told) c.put_text_at.result
-    c.put_text_at.ensures.grown shown c.put_text_at.ensures.within (grind (arith, common_steps))
-    c.put_text_at.ensures.rest
+pub returns-in-Err-clause-cause : goal.returns-in-Err-clause-cause
+returns-in-Err-clause-cause c =
+    cause_is c.styled_texts.ensures.told c.styled_texts.ensures.is_printed c.styled_texts.ensures.printed_stops c.args.buffer.now
+    c.args.text.now c.in-Err.error c.text_error.result c.text_error.ensures c.in-Err.ensures.cause

@@ -1,4 +1,5 @@
-use Rattle.uefi_device_path.proofs.StyledReading.{faults_within, lenient_printed, read_never_stops, read_once, read_told, reading_stops_once}
+use Rattle.uefi_device_path.proofs.PrintedReading.{printed_stops, read_is_printed}
+use Rattle.uefi_device_path.proofs.StyledReading.{faults_within, printed_is_read, read_never_stops, read_once, read_told, reading_stops_once}
 use Rattle.uefi_device_path.proofs.laws.styled_texts.Goals as goal
 
 pub returns : goal.returns
@@ -11,5 +12,7 @@ returns c =
       never_both = λ style text. read_never_stops style text styled.starts;
       within = λ style text. faults_within style text styled.ends c.faults_lie_within.ensures;
       told = λ style text. read_told style text styled.takes;
-      printed = lenient_printed laws.fits laws.again styled.again;
+      printed = printed_is_read laws.fits laws.again styled.again;
+      is_printed = read_is_printed styled.exactly styled.ends laws.takes laws.fits laws.starts;
+      printed_stops = printed_stops styled.exactly styled.ends styled.again laws.takes laws.again laws.fits laws.starts;
     }

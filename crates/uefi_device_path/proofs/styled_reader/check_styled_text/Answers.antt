@@ -51,10 +51,10 @@ pub fault_at-requires-clause-room : goal.fault_at-requires-clause-room
 fault_at-requires-clause-room c =
     let within = place_within c.args.style c.args.text.now c.styled_nodes_are_read.ensures.ends c.nodes.invariant.nodes c.nodes.at_start c.nodes.rest.now
     c.node_start-place.result.now c.nodes.invariant.on c.node_start-place.ensures in
-    omega (arith, within, c.requires, c.nodes.auto.scratch)
+    λ copied. omega (arith, within, c.requires copied, c.nodes.auto.scratch)
 
 pub first_styled_node-requires : goal.first_styled_node-requires
 first_styled_node-requires c =
     let within = place_within c.args.style c.args.text.now c.styled_nodes_are_read.ensures.ends c.nodes.invariant.nodes c.nodes.at_start c.nodes.rest.now
     c.node_start-place.result.now c.nodes.invariant.on c.node_start-place.ensures in
-    omega (arith, within, c.requires, c.nodes.auto.scratch)
+    λ copied. omega (arith, within, c.requires copied, c.nodes.auto.scratch)
