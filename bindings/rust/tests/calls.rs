@@ -11,7 +11,9 @@ use std::collections::{BTreeSet, HashSet};
 #[test]
 fn strings() {
     let (string, capitals) = (cstr16!("Boot.efi"), cstr16!("BOOT.EFI"));
-    assert!(string == "Boot.efi" && *string != *"Boot" && string != "Boot.efi." && string != "");
+    assert!(
+        string == "Boot.efi" && *string != *"Boot" && string != "Boot.efi." && !string.is_empty()
+    );
     assert!(
         string.eq_ignore_case(capitals)
             && string != capitals

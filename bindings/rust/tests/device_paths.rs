@@ -907,12 +907,14 @@ fn texts_that_people_write() {
         .finalize()
         .unwrap();
     assert_eq!(path.as_bytes(), PATH);
-    let builder = || build::DevicePathBuilder::with_vec(Box::leak(Box::default()));
-    let error = builder()
+    let mut bytes = [0; 32];
+    let builder = build::DevicePathBuilder::with_buf(&mut bytes);
+    let error = builder
         .push_lenient_text("pci(x)", &mut scratch)
         .unwrap_err();
     assert_eq!((error.reason, error.place), (Reason::NoNode, 4));
-    let error = builder().push_lenient_text("a", &mut [0]).unwrap_err();
+    let builder = build::DevicePathBuilder::with_buf(&mut bytes);
+    let error = builder.push_lenient_text("a", &mut [0]).unwrap_err();
     assert_eq!(error.to_string(), "scratch too small: it needs room for 2");
 }
 
