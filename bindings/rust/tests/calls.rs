@@ -7,6 +7,7 @@ use nardcorbel::{
 };
 use std::cmp::Ordering;
 use std::collections::{BTreeSet, HashSet};
+use std::hash::{Hash, Hasher};
 
 #[test]
 fn strings() {
@@ -204,6 +205,35 @@ fn paths_in_collections() {
     let joined: PathBuf = paths.iter().take(3).collect();
     assert_eq!(joined.to_string(), r"\b\b\a");
     assert_eq!(path_of(r"a\").join(cstr16!("b")).to_string(), r"a\b");
+}
+
+/// What a value tells a hasher.
+#[derive(Default)]
+struct Told(Vec<Vec<u8>>);
+
+impl Hasher for Told {
+    fn write(&mut self, bytes: &[u8]) {
+        self.0.push(bytes.to_vec());
+    }
+
+    fn finish(&self) -> u64 {
+        0
+    }
+}
+
+fn told(value: &(impl Hash + ?Sized)) -> Vec<Vec<u8>> {
+    let mut hasher = Told::default();
+    value.hash(&mut hasher);
+    hasher.0
+}
+
+#[test]
+fn hashes_of_what_is_equal() {
+    let (string, path) = (cstr16!("ab"), path_of(r"\ab"));
+    assert_eq!(told(string), told(&CString16::from(string)));
+    assert_eq!(told(string), told(&path));
+    assert_eq!(told(Path::new(string)), told(&*path));
+    assert_ne!(told(string), told(cstr16!("a")));
 }
 
 #[test]
