@@ -438,7 +438,8 @@ impl CStr16 {
     /// Returns whether all characters are ASCII.
     #[must_use]
     pub fn is_ascii(&self) -> bool {
-        self.0.iter().all(Char16::is_ascii)
+        // Without a branch for each unit.
+        self.to_u16_slice().iter().fold(0, |all, it| all | it) < 0x80
     }
 
     /// Writes the text to a sink, such as a `String`.
