@@ -181,6 +181,7 @@ fn refused_paths() {
         ("ab\0", "interior null character, '\\0' (U+0000), at 2"),
     ] {
         assert_eq!(text.parse::<PathBuf>().unwrap_err().to_string(), sentence);
+        assert_eq!(text.parse::<CString16>().unwrap_err().to_string(), sentence);
         assert_eq!(path_of("c").join(text).unwrap_err().to_string(), sentence);
         let mut path = path_of("c");
         assert!(path.push(text).is_err() && path == "c");
