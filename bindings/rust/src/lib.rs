@@ -4,7 +4,11 @@
 
 #[cfg(feature = "alloc")]
 extern crate alloc;
+#[cfg(test)]
+extern crate std;
 
+#[cfg(test)]
+mod beside;
 mod boot_variables;
 pub mod data_types;
 mod error;

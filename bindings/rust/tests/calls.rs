@@ -1,6 +1,7 @@
 //! The calls that the crate `uefi` lacks: each once with an answer and once refused.
 #![cfg(feature = "alloc")]
 
+use nardcorbel::fs::{validate_path, PathError, CHARACTER_DENY_LIST};
 use nardcorbel::{
     cstr16, cstr8, guid, order_numbers, str_from_units_lossy, CStr16, CString16, Guid,
     LoadOptionKind, LoadOptionName, OrderBuffer, Path, PathBuf, Reason, Shown,
@@ -140,6 +141,24 @@ fn components_from_both_ends() {
             (None, None, None)
         );
     }
+}
+
+#[test]
+fn verdicts() {
+    for (text, verdict) in [
+        (r"hello\foo\bar", Ok(())),
+        (
+            r"hello\f>oo\bar",
+            Err(PathError::IllegalChar(CHARACTER_DENY_LIST[6])),
+        ),
+        (r"hello\\bar", Err(PathError::EmptyComponent)),
+        ("", Err(PathError::Empty)),
+        (r"..\a", Err(PathError::ClimbsAboveRoot)),
+    ] {
+        assert_eq!(validate_path(path_of(text)), verdict);
+    }
+    let error = PathError::IllegalChar(CHARACTER_DENY_LIST[6]);
+    assert_eq!(error.to_string(), "no file name holds '>' (U+003E)");
 }
 
 #[test]
