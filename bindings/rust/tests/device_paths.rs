@@ -104,6 +104,15 @@ fn paths() -> Result<(), Error> {
 fn instances() {
     let path: Box<DevicePath> = r"Pci(0x1,0x0)/\a,Pci(0x2,0x0)".parse().unwrap();
     let instances: Vec<_> = path.instance_iter().collect();
+    assert_eq!(
+        instances
+            .iter()
+            .map(|it| it.to_string())
+            .collect::<Vec<_>>()
+            .join(","),
+        path.to_string()
+    );
+    assert_eq!(instances[0].into_iter().count(), 2);
     assert_eq!(instances.len(), 2);
     let texts = |index: usize| {
         instances[index]
