@@ -1,10 +1,14 @@
 #![doc = include_str!("../README.md")]
 #![no_std]
-#![warn(missing_docs)]
+#![warn(missing_docs, clippy::undocumented_unsafe_blocks)]
 
 #[cfg(feature = "alloc")]
 extern crate alloc;
+#[cfg(test)]
+extern crate std;
 
+#[cfg(test)]
+mod beside;
 mod boot_variables;
 pub mod data_types;
 mod error;

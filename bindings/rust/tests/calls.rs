@@ -1,17 +1,21 @@
 //! The calls that the crate `uefi` lacks: each once with an answer and once refused.
 #![cfg(feature = "alloc")]
 
+use nardcorbel::fs::{validate_path, PathError, CHARACTER_DENY_LIST};
 use nardcorbel::{
     cstr16, cstr8, guid, order_numbers, str_from_units_lossy, CStr16, CString16, Guid,
     LoadOptionKind, LoadOptionName, OrderBuffer, Path, PathBuf, Reason, Shown,
 };
 use std::cmp::Ordering;
 use std::collections::{BTreeSet, HashSet};
+use std::hash::{Hash, Hasher};
 
 #[test]
 fn strings() {
     let (string, capitals) = (cstr16!("Boot.efi"), cstr16!("BOOT.EFI"));
-    assert!(string == "Boot.efi" && *string != *"Boot" && string != "Boot.efi." && string != "");
+    assert!(
+        string == "Boot.efi" && *string != *"Boot" && string != "Boot.efi." && !string.is_empty()
+    );
     assert!(
         string.eq_ignore_case(capitals)
             && string != capitals
@@ -140,6 +144,24 @@ fn components_from_both_ends() {
 }
 
 #[test]
+fn verdicts() {
+    for (text, verdict) in [
+        (r"hello\foo\bar", Ok(())),
+        (
+            r"hello\f>oo\bar",
+            Err(PathError::IllegalChar(CHARACTER_DENY_LIST[6])),
+        ),
+        (r"hello\\bar", Err(PathError::EmptyComponent)),
+        ("", Err(PathError::Empty)),
+        (r"..\a", Err(PathError::ClimbsAboveRoot)),
+    ] {
+        assert_eq!(validate_path(path_of(text)), verdict);
+    }
+    let error = PathError::IllegalChar(CHARACTER_DENY_LIST[6]);
+    assert_eq!(error.to_string(), "no file name holds '>' (U+003E)");
+}
+
+#[test]
 fn refused_paths() {
     for (text, sentence, place, character) in [
         ("", "path is empty", 0, None),
@@ -178,6 +200,7 @@ fn refused_paths() {
         ("ab\0", "interior null character, '\\0' (U+0000), at 2"),
     ] {
         assert_eq!(text.parse::<PathBuf>().unwrap_err().to_string(), sentence);
+        assert_eq!(text.parse::<CString16>().unwrap_err().to_string(), sentence);
         assert_eq!(path_of("c").join(text).unwrap_err().to_string(), sentence);
         let mut path = path_of("c");
         assert!(path.push(text).is_err() && path == "c");
@@ -202,6 +225,35 @@ fn paths_in_collections() {
     let joined: PathBuf = paths.iter().take(3).collect();
     assert_eq!(joined.to_string(), r"\b\b\a");
     assert_eq!(path_of(r"a\").join(cstr16!("b")).to_string(), r"a\b");
+}
+
+/// What a value tells a hasher.
+#[derive(Default)]
+struct Told(Vec<Vec<u8>>);
+
+impl Hasher for Told {
+    fn write(&mut self, bytes: &[u8]) {
+        self.0.push(bytes.to_vec());
+    }
+
+    fn finish(&self) -> u64 {
+        0
+    }
+}
+
+fn told(value: &(impl Hash + ?Sized)) -> Vec<Vec<u8>> {
+    let mut hasher = Told::default();
+    value.hash(&mut hasher);
+    hasher.0
+}
+
+#[test]
+fn hashes_of_what_is_equal() {
+    let (string, path) = (cstr16!("ab"), path_of(r"\ab"));
+    assert_eq!(told(string), told(&CString16::from(string)));
+    assert_eq!(told(string), told(&path));
+    assert_eq!(told(Path::new(string)), told(&*path));
+    assert_ne!(told(string), told(cstr16!("a")));
 }
 
 #[test]

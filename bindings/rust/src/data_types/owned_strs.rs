@@ -3,6 +3,7 @@
 use super::chars::{Char16, NUL_16};
 use super::strs::{CStr16, EqStrUntilNul, FromSliceWithNulError};
 use super::UnalignedSlice;
+use crate::error::{check, Error, Reason};
 use crate::sys;
 use alloc::borrow::{Borrow, ToOwned};
 use alloc::string::String;
@@ -134,32 +135,24 @@ impl TryFrom<&str> for CString16 {
     type Error = FromStrError;
 
     fn try_from(text: &str) -> Result<Self, FromStrError> {
-        // No character has fewer bytes than units.
-        let (mut units, mut place) = (vec![0; text.len() + 1], 0);
-        match sys::nard_string_from_utf8(text.as_bytes(), &mut units, &mut place) {
-            sys::OK => {
-                units.truncate(place + 1);
-                Ok(Self(units))
-            }
-            sys::INTERIOR_NUL => Err(FromStrError::InteriorNul),
-            _ => Err(FromStrError::InvalidChar),
-        }
+        text.parse().map_err(|error: Error| match error.reason {
+            Reason::InteriorNul => FromStrError::InteriorNul,
+            _ => FromStrError::InvalidChar,
+        })
     }
 }
 
 impl FromStr for CString16 {
-    type Err = FromStrError;
+    type Err = Error;
 
-    fn from_str(text: &str) -> Result<Self, FromStrError> {
-        Self::try_from(text)
-    }
-}
-
-impl TryFrom<String> for CString16 {
-    type Error = FromStrError;
-
-    fn try_from(text: String) -> Result<Self, FromStrError> {
-        Self::try_from(&*text)
+    /// Creates a string from a text. The error says which character is refused, and where.
+    fn from_str(text: &str) -> Result<Self, Error> {
+        // No character has fewer bytes than units.
+        let (mut units, mut place) = (vec![0; text.len() + 1], 0);
+        let reason = sys::nard_string_from_utf8(text.as_bytes(), &mut units, &mut place);
+        check(reason, place).map_err(|error| error.in_text(text))?;
+        units.truncate(place + 1);
+        Ok(Self(units))
     }
 }
 

@@ -8,6 +8,7 @@ use core::borrow::Borrow;
 use core::cmp::Ordering;
 use core::ffi::CStr;
 use core::fmt::{self, Write};
+use core::hash::{Hash, Hasher};
 use core::iter::FusedIterator;
 use core::mem::MaybeUninit;
 use core::ptr;
@@ -179,9 +180,35 @@ impl<'a> TryFrom<&'a CStr> for &'a CStr8 {
 /// assert_eq!(string, "a");
 /// # Ok::<(), nardcorbel::data_types::FromSliceWithNulError>(())
 /// ```
-#[derive(Eq, PartialEq, Ord, PartialOrd, Hash)]
+#[derive(Eq)]
 #[repr(transparent)]
 pub struct CStr16([Char16]);
+
+// Over units, which is faster, and what `CString16` does.
+impl PartialEq for CStr16 {
+    fn eq(&self, other: &Self) -> bool {
+        self.to_u16_slice_with_nul() == other.to_u16_slice_with_nul()
+    }
+}
+
+impl PartialOrd for CStr16 {
+    fn partial_cmp(&self, other: &Self) -> Option<Ordering> {
+        Some(self.cmp(other))
+    }
+}
+
+impl Ord for CStr16 {
+    fn cmp(&self, other: &Self) -> Ordering {
+        self.to_u16_slice_with_nul()
+            .cmp(other.to_u16_slice_with_nul())
+    }
+}
+
+impl Hash for CStr16 {
+    fn hash<H: Hasher>(&self, state: &mut H) {
+        self.to_u16_slice_with_nul().hash(state);
+    }
+}
 
 impl CStr16 {
     /// Borrows the string at an address.
@@ -411,7 +438,8 @@ impl CStr16 {
     /// Returns whether all characters are ASCII.
     #[must_use]
     pub fn is_ascii(&self) -> bool {
-        self.0.iter().all(Char16::is_ascii)
+        // Without a branch for each unit.
+        self.to_u16_slice().iter().fold(0, |all, it| all | it) < 0x80
     }
 
     /// Writes the text to a sink, such as a `String`.

@@ -4,7 +4,7 @@ use super::validation::located;
 use super::{validate_path, Components, Iter, SEPARATOR};
 #[cfg(feature = "alloc")]
 use super::{PathArgument, PathBuf};
-use crate::data_types::{CStr16, Char16};
+use crate::data_types::CStr16;
 use crate::error::{check, Error, Reason};
 use crate::sys;
 use core::borrow::Borrow;
@@ -46,11 +46,11 @@ impl Path {
         self.0.to_u16_slice_with_nul()
     }
 
-    /// The text without the separator at its start.
-    fn canonical(&self) -> &[Char16] {
+    /// The text and its NUL, without the separator at the start.
+    fn canonical(&self) -> &CStr16 {
         match self.0.as_slice() {
-            [SEPARATOR, rest @ ..] => rest,
-            text => text,
+            [SEPARATOR, ..] => CStr16::of(&self.units()[1..]),
+            _ => &self.0,
         }
     }
 
@@ -70,7 +70,7 @@ impl Path {
     /// ```
     #[must_use]
     pub fn components(&self) -> Components<'_> {
-        Components::of(self.canonical())
+        Components::of(self.canonical().as_slice())
     }
 
     /// Iterates over the components, which can be printed and compared with texts.
@@ -320,11 +320,7 @@ impl Hash for Path {
 impl PartialEq<str> for Path {
     /// Compares with the path that the text is.
     fn eq(&self, other: &str) -> bool {
-        let other = other.strip_prefix('\\').unwrap_or(other);
-        self.canonical()
-            .iter()
-            .map(|it| char::from(*it))
-            .eq(other.chars())
+        *self.canonical() == *other.strip_prefix('\\').unwrap_or(other)
     }
 }
 

@@ -137,11 +137,7 @@ impl TryFrom<&str> for PathBuf {
 
     /// Creates a path from a text. Fails at a NUL and at a character above U+FFFF, and says which and where.
     fn try_from(text: &str) -> Result<Self, Error> {
-        let (mut units, mut place) = (alloc::vec![0; text.len() + 1], 0);
-        let reason = sys::nard_string_from_utf8(text.as_bytes(), &mut units, &mut place);
-        check(reason, place).map_err(|error| error.in_text(text))?;
-        units.truncate(place + 1);
-        Ok(Self::from(CString16::of(units)))
+        text.parse::<CString16>().map(Self::from)
     }
 }
 

@@ -162,23 +162,27 @@ view! {
 /// The type and the sub-type of a file's name.
 const FILE_PATH: (u8, u8) = (4, 4);
 
-/// Builds the name of a file or a folder.
-#[derive(Clone, Copy, Debug, PartialEq, Eq)]
-pub struct FilePathBuild<'a> {
-    /// The name.
-    pub path_name: &'a CStr16,
-}
+/// What [`build::media`](super::build::media) has beside the structs of the table.
+pub(super) mod file {
+    use super::{BuildNode, CStr16, DeviceSubType, DeviceType, FILE_PATH};
 
-impl BuildNode for FilePathBuild<'_> {
-    fn full_type(&self) -> (DeviceType, DeviceSubType) {
-        (DeviceType(FILE_PATH.0), DeviceSubType(FILE_PATH.1))
+    /// The name of a file or a folder.
+    #[derive(Clone, Copy, Debug, PartialEq, Eq)]
+    pub struct FilePath<'a> {
+        /// The name, with its NUL.
+        pub path_name: &'a CStr16,
     }
 
-    fn parts(&self, write: &mut dyn FnMut(usize, &[u8])) {
-        let units = self.path_name.to_u16_slice_with_nul().iter();
-        units
-            .enumerate()
-            .for_each(|(index, unit)| write(2 * index, &unit.to_le_bytes()));
+    impl BuildNode for FilePath<'_> {
+        fn full_type(&self) -> (DeviceType, DeviceSubType) {
+            (DeviceType(FILE_PATH.0), DeviceSubType(FILE_PATH.1))
+        }
+
+        fn parts(&self, write: &mut dyn FnMut(usize, &[u8])) {
+            let units = self.path_name.to_u16_slice_with_nul().iter();
+            let units = units.enumerate();
+            units.for_each(|(index, unit)| write(2 * index, &unit.to_le_bytes()));
+        }
     }
 }
 

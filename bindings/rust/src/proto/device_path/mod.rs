@@ -64,7 +64,7 @@ pub mod build {
     /// Structs that build the nodes.
     pub mod media {
         pub use crate::proto::device_path::media::build::*;
-        pub use crate::proto::device_path::media::FilePathBuild as FilePath;
+        pub use crate::proto::device_path::media::file::FilePath;
     }
 
     /// Nodes that end a path or an instance.

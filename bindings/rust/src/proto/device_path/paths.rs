@@ -293,9 +293,24 @@ impl DevicePathInstance {
     }
 }
 
+impl<'a> IntoIterator for &'a DevicePathInstance {
+    type Item = &'a DevicePathNode;
+    type IntoIter = DevicePathNodeIterator<'a>;
+
+    fn into_iter(self) -> Self::IntoIter {
+        self.node_iter()
+    }
+}
+
+impl fmt::Display for DevicePathInstance {
+    fn fmt(&self, f: &mut fmt::Formatter<'_>) -> fmt::Result {
+        text::display_instance(self, f)
+    }
+}
+
 impl fmt::Debug for DevicePathInstance {
     fn fmt(&self, f: &mut fmt::Formatter<'_>) -> fmt::Result {
-        f.debug_list().entries(self.node_iter()).finish()
+        write!(f, "DevicePathInstance({self})")
     }
 }
 

@@ -1,6 +1,6 @@
 //! Device paths as texts.
 
-use super::{DevicePath, DevicePathNode};
+use super::{DevicePath, DevicePathInstance, DevicePathNode};
 use crate::error::Error;
 #[cfg(feature = "alloc")]
 use crate::Reason;
@@ -42,18 +42,22 @@ fn written(
 pub(super) fn display_path(path: &DevicePath, f: &mut fmt::Formatter<'_>) -> fmt::Result {
     written(f, |buffer| path.text_in_buf(false, false, buffer)).unwrap_or_else(|_| {
         // Without memory for the whole, node by node.
-        path.instance_iter()
-            .enumerate()
-            .try_for_each(|(index, instance)| {
-                f.write_str(if index > 0 { "," } else { "" })?;
-                instance
-                    .node_iter()
-                    .enumerate()
-                    .try_for_each(|(index, node)| {
-                        f.write_str(if index > 0 { "/" } else { "" })?;
-                        display_node(node, f)
-                    })
-            })
+        let mut instances = path.instance_iter().enumerate();
+        instances.try_for_each(|(index, instance)| {
+            f.write_str(if index > 0 { "," } else { "" })?;
+            display_instance(instance, f)
+        })
+    })
+}
+
+pub(super) fn display_instance(
+    instance: &DevicePathInstance,
+    f: &mut fmt::Formatter<'_>,
+) -> fmt::Result {
+    let mut nodes = instance.node_iter().enumerate();
+    nodes.try_for_each(|(index, node)| {
+        f.write_str(if index > 0 { "/" } else { "" })?;
+        display_node(node, f)
     })
 }
 
