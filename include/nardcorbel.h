@@ -942,9 +942,9 @@ static inline nard_bool NARD_CALL nard_call_utf8_is_latin1(const nard_byte *byte
 #define nard_utf8_is_latin1 nard_call_utf8_is_latin1
 
 static inline NARD_MUST_USE nard_result NARD_CALL nard_call_path_verdict(const nard_unit *units, nard_size count,
-        nard_size *length, nard_unit *character)
+        nard_size *place, nard_unit *character)
 {
-    return nard_path_verdict(nard_given_units(units), count, length, character);
+    return nard_path_verdict(nard_given_units(units), count, place, character);
 }
 #define nard_path_verdict nard_call_path_verdict
 

@@ -17,8 +17,7 @@ ghost use Rattle.uefi_device_path.specs.declared.lenient_errors.TextFault.{TextF
 use crate::grow::{path_len, put_at};
 use crate::laws::styled_texts;
 use crate::lenient_errors::PushLenientTextError;
-use crate::path_reader::{after_comma, node_start};
-use crate::styled_reader::{check_styled_text, first_styled_node};
+use crate::styled_reader::{after_comma, check_styled_text, first_styled_node, node_start};
 use uefi_built_nodes::RawNode;
 use uefi_device_nodes::{DeviceSubType, DeviceType};
 use uefi_node_reader::nodes::nodes_are_read;

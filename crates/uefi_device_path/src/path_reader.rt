@@ -3,25 +3,20 @@
 
 ghost use Rattle.std.specs.Prelude.{◌≡◌, ℕ, ◌<◌, ◌-◌, ◌^◌, min, true, false, if◌then◌else◌, ◌∷◌, ◌++◌, [], List, length, drop, IfOk, IfErr, MatchOption, OnOk, Err, Some};
 ghost use Rattle.uefi_device_nodes.specs.Nodes.{Node};
-ghost use Rattle.uefi_device_path.specs.PathReading.{AreTold, IsReadError, StopsAt, end_instance, is_after_instance};
+ghost use Rattle.uefi_device_path.specs.PathReading.{AreTold, IsReadError, StopsAt};
 ghost use Rattle.uefi_device_path.specs.PathTexts.{nodes_text};
-ghost use Rattle.uefi_node_reader.specs.TextNodeViews.{text_node};
 ghost use Rattle.uefi_device_path.specs.ErrorTexts.{path_text_error_text};
 ghost use Rattle.uefi_device_path.specs.declared.path_reader.PathTextError.TheVariants.{NoNode, OutOfMemory};
 
 use crate::build::DevicePathBuf;
-use crate::errors::BuildError;
 use crate::laws::styled_texts;
 use crate::lenient_errors::LenientTextError;
 use crate::styled_reader::read_styled_path;
 use std::alloc::Allocator;
 use std::error::Error;
 use std::fmt;
-use uefi_built_nodes::BuildNode;
-use uefi_device_nodes::{DeviceSubType, DeviceType};
 use uefi_node_reader::nodes::{node_text_once, nodes_are_read};
 use uefi_node_reader::styles::TextStyle;
-use uefi_node_reader::text_node::TextNode;
 use uefi_text::number_texts::put_decimal;
 use uefi_text::text_sink::{Printed, TextSink, print};
 
@@ -57,57 +52,6 @@ impl fmt::Display for PathTextError {
 }
 
 impl Error for PathTextError {}
-
-/// Adds the node that ends an instance. Refused for memory alone.
-pub(crate) fn push_end<A: Allocator>(path: &mut DevicePathBuf<A>) -> Result<(), BuildError>
-    ensures ok { OnOk result (path.new ≡ path.old ++ end_instance ∷ []) }
-    ensures memory { IfErr result (λ error. error ≡ BuildError.OutOfMemory) }
-{
-    path.push(DeviceType(0x7f), DeviceSubType(0x01), &[])
-}
-
-/// A node whose text was read, to be added to a path.
-#[derive(Clone, Copy)]
-pub(crate) struct ReadNode<'a> {
-    pub(crate) node: TextNode<'a>,
-}
-
-/// The node.
-impl BuildNode for ReadNode<'_> {
-    ghost node = { λ n. text_node n.node };
-
-    fn full_type(&self) -> (DeviceType, DeviceSubType) {
-        let (device_type, sub_type) = self.node.types();
-        (DeviceType(device_type), DeviceSubType(sub_type))
-    }
-
-    fn data_len(&self) -> usize {
-        self.node.data_len()
-    }
-
-    fn write_data(&self, bytes: &mut [u8]) {
-        self.node.write_data(bytes);
-    }
-}
-
-/// What stands after a comma that a text begins with, or `None`.
-pub(crate) fn after_comma(text: &[u8]) -> Option<&[u8]>
-    requires { 0 < length text.now }
-    ensures { MatchOption result (is_after_instance text.now ≡ false) (λ rest. text.now ≡ 44 ∷ rest.now) }
-{
-    match text {
-        [b',', rest @ ..] => Some(rest),
-        _ => None,
-    }
-}
-
-/// Where a node has to begin: at the start of an instance here, else after the slash that stands here.
-pub(crate) fn node_start(at_start: bool, text: &[u8]) -> &[u8]
-    requires { 0 < length text.now }
-    ensures { result.now ≡ (if at_start then text.now else drop 1 text.now) }
-{
-    if at_start { text } else { &text[1..] }
-}
 
 /// The path whose text bytes are, in memory that is asked for once they are known to be the text of one.
 fn read_path<A: Allocator + Copy>(alloc: A, text: &[u8]) -> Result<DevicePathBuf<A>, PathTextError>

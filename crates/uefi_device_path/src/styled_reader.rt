@@ -1,9 +1,10 @@
 //! Device paths read from texts in a style.
 #![tactic(auto)]
 
-ghost use Rattle.std.specs.Prelude.{◌++◌, ◌∷◌, ◌≡◌, ◌+◌, ◌-◌, ◌<◌, ◌≤◌, ◌^◌, min, [], List, IfOk, IfErr, MatchOption, OnOk, Some, None, Err, length};
+ghost use Rattle.std.specs.Prelude.{true, false, if◌then◌else◌, drop, ◌++◌, ◌∷◌, ◌≡◌, ◌+◌, ◌-◌, ◌<◌, ◌≤◌, ◌^◌, min, [], List, IfOk, IfErr, MatchOption, OnOk, Some, None, Err, length};
 ghost use Rattle.uefi_device_nodes.specs.Nodes.{Node};
 ghost use Rattle.uefi_device_path.specs.StyledReading.{IsLenientError, IsReadAs, IsStyledText, ReadingStopsAt, follows_comma, place_fault, place_read};
+ghost use Rattle.uefi_device_path.specs.PathReading.{end_instance, is_after_instance};
 ghost use Rattle.uefi_device_path.specs.Paths.{path_bytes};
 ghost use Rattle.uefi_node_reader.specs.NamedFiles.{IsTold};
 ghost use Rattle.uefi_node_reader.specs.Styles.{HasScratch};
@@ -13,10 +14,63 @@ ghost use Rattle.uefi_node_reader.specs.TextNodeViews.{text_node};
 use crate::build::DevicePathBuf;
 use crate::errors::BuildError;
 use crate::lenient_errors::{LenientTextError, TextFault};
-use crate::path_reader::{ReadNode, after_comma, node_start, push_end};
 use std::alloc::Allocator;
+use uefi_built_nodes::BuildNode;
+use uefi_device_nodes::{DeviceSubType, DeviceType};
 use uefi_node_reader::nodes::nodes_are_read;
 use uefi_node_reader::styles::{TextStyle, read_styled_node, styled_fault, styled_nodes_are_read};
+use uefi_node_reader::text_node::TextNode;
+
+/// Adds the node that ends an instance. Refused for memory alone.
+pub(crate) fn push_end<A: Allocator>(path: &mut DevicePathBuf<A>) -> Result<(), BuildError>
+    ensures ok { OnOk result (path.new ≡ path.old ++ end_instance ∷ []) }
+    ensures memory { IfErr result (λ error. error ≡ BuildError.OutOfMemory) }
+{
+    path.push(DeviceType(0x7f), DeviceSubType(0x01), &[])
+}
+
+/// A node whose text was read, to be added to a path.
+#[derive(Clone, Copy)]
+pub(crate) struct ReadNode<'a> {
+    pub(crate) node: TextNode<'a>,
+}
+
+/// The node.
+impl BuildNode for ReadNode<'_> {
+    ghost node = { λ n. text_node n.node };
+
+    fn full_type(&self) -> (DeviceType, DeviceSubType) {
+        let (device_type, sub_type) = self.node.types();
+        (DeviceType(device_type), DeviceSubType(sub_type))
+    }
+
+    fn data_len(&self) -> usize {
+        self.node.data_len()
+    }
+
+    fn write_data(&self, bytes: &mut [u8]) {
+        self.node.write_data(bytes);
+    }
+}
+
+/// What stands after a comma that a text begins with, or `None`.
+pub(crate) fn after_comma(text: &[u8]) -> Option<&[u8]>
+    requires { 0 < length text.now }
+    ensures { MatchOption result (is_after_instance text.now ≡ false) (λ rest. text.now ≡ 44 ∷ rest.now) }
+{
+    match text {
+        [b',', rest @ ..] => Some(rest),
+        _ => None,
+    }
+}
+
+/// Where a node has to begin: at the start of an instance here, else after the slash that stands here.
+pub(crate) fn node_start(at_start: bool, text: &[u8]) -> &[u8]
+    requires { 0 < length text.now }
+    ensures { result.now ≡ (if at_start then text.now else drop 1 text.now) }
+{
+    if at_start { text } else { &text[1..] }
+}
 
 /// Whether what is left of a text stands after a comma: a file's name begins with a backslash there.
 fn follows_comma(text: &[u8], rest: &[u8]) -> bool
