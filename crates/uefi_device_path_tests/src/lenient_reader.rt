@@ -69,6 +69,28 @@ pub(crate) const BY_PEOPLE: &str = "\
 04040e005c0061005c0062000000 a\\b
 02010c00d041030a0000000001010600021f7f01040004040a005c0061000000 pciroot(0)/pci(0x1f,2),file(a)";
 
+/// Texts that programs print and people paste, and what they mean: by the layouts of the specification and, where
+/// libefivar prints such a text, by the bytes that it prints it of.
+const PASTED: &str = "\
+04071400c9bdb87cebf8344faaea3ee4af6516a1 FvVol(7cb8bdc9-f8eb-4f34-aaea-3ee4af6516a1)
+030a14005347c1e0bef9d2119a0c0090273fc14d VenPcAnsi()
+030a14006560a6df19b4d3119a2d0090273fc14d venvt100()
+030a14000bc7ae7be057764c8e872f9e28088343 VenVt100Plus()
+030a1400d6a015adec8bcf4aa073d01de77e2d88 VENUTF8()
+030a1400d2e8a4eb5838ec41a2812647ba9660d0 DebugPort( )
+030a18009d9a49372f54894ca02635da142094e401000000 uartflowctrl(hardware)
+04012a000c0000003f0000000000000000200300000000007856340000000000000000000000000001\
+    01 HD(12,MBR,0x345678,0x3f,0x32000)
+04012a000100000000000000000000000000000000000000010000000000000000000000000000000101 hd(1,mbr,0x1)
+030b2500525400abcdef000000000000000000000000000000000000000000000000000001 MAC(52:54:00:ab:cd:ef,1)
+030b2500525400abcdef000000000000000000000000000000000000000000000000000000 mac(52-54-00-AB-CD-EF)
+030b2500525400abcdef000000000000000000000000000000000000000000000000000000 MAC(525400ABCDEF)
+030c1b0000000000c0a80001000000000000000000000000000000 IPv4(192.168.0.1)
+03171000010000000000000000000000 NVMe(1)
+031b0a00001122334455 Bluetooth(00:11:22:33:44:55)
+031e0b0000112233445501 BluetoothLE(00:11:22:33:44:55,1)
+0406140078563412bc9af0de123456789abcdef0 FvFile({12345678-9ABC-DEF0-1234-56789ABCDEF0})";
+
 /// Nodes that libefivar prints in a form of its own: bytes, and the text that it prints.
 const BY_LIBEFIVAR_ALONE: &str = "\
 031710000c000000002538b391b04c5d NVMe(0xc,00-25-38-B3-91-B0-4C-5D)
@@ -90,7 +112,7 @@ fn is_read(
 
 #[test]
 fn texts(rt: HostRuntime) -> Result<(), Fail> {
-    for table in [BY_LIBEFIVAR, BY_PEOPLE] {
+    for table in [BY_LIBEFIVAR, BY_PEOPLE, PASTED] {
         for line in table.split('\n') {
             let (nodes, text) = split_row(line);
             let nodes = bytes(rt.alloc(), nodes)?;
@@ -157,14 +179,14 @@ pub(crate) const REFUSED: &str = "\
 0 9 PciRoot(0: `)` | 0 43 VenHw(12345678-9abc-def0-1234-56789abcdef0,): 2 hexadecimal digits | \
 11 18 PciRoot(0)/Pci(1,2,3): `)` | 0 14 Path(1,1,0102): a shorter node, or one whose text tells all of it | \
 0 6 File(a: `)` | 0 7 NVMe(1,0025385b71b0031c): 16 hexadecimal digits in pairs, with dashes between them | \
-2 3 ,,(: `)` | 0 0 wi-fi(home): the exact printed form | \
+2 3 ,,(: a number after `0x` | 0 0 wi-fi(home): the exact printed form | \
 0 45 VenHw(12345678-9abc-def0-1234-56789abcdef0,abc): `)` | 0 18 IPv4(1.2.3.4,TCP,Dynamic,0.0.0.0): `H` | \
 0 4 Pci(f,0): a number up to 0xFF | 0 14 Uart(9600,8,N,3): stop bits (D, 1, 1.5, 2 or x) and `)` | \
 12 20 pci root(0)/pci( 31 ; 2 ): `,` | 0 7 HD(128,0,1032547698badcfe0102030405060708,0x0,0x0): `M` | \
 0 7 Sata(0,-1,0): a number up to 0xFFFF | 0 17 HD(1,GPT,12345678_9abc-def0-1234-56789abcdef0): `-` | \
 0 12 Ata(Primary,Third,0): `S` | 0 18 AcpiAdr(0x80010100,1): the exact printed form | \
 0 26 SAS(0,0,0,SAS,Internal,Dirct,0,0): `e` | 11 15 PciRoot(0)/Pci(0x100,0): a number up to 0xFF | \
-0 17 MAC(001122334455,2): `0` | 0 13 Acpi(PNP0A03,0x): a number up to 0xFFFFFFFF | \
+0 19 MAC(001122334455,2): a shorter node, or one whose text tells all of it | 0 13 Acpi(PNP0A03,0x): a number up to 0xFFFFFFFF | \
 0 0 uri(http://a): the exact printed form | 0 5 file(a\u{7}b): the name of a file | \
 0 0 a\u{202e}: the name of a file | 0 0 shim.efi: the name of a file | \
 0 0 Pci 0x1F,0x2): the name of a file | 0 0 PciRoot/Pci(0x1,0x0): the name of a file | \

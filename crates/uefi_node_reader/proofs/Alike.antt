@@ -1,23 +1,22 @@
 -- Texts that differ in case, in blanks or in zeros before numbers alone are read alike.
 use Rattle.std.proofs.Common.{◌≡◌, ◌≤◌, ◌+◌, ◌*◌, ℕ, Bool, true, false, cond, eqb, ltb, List, [], ◌∷◌, refl, sym, ap, subst, ◌∙◌, arith, true≢false, is_some}
 use Rattle.std.specs.Prelude.{Option, Some, None, codes}
-use Rattle.std.specs.Option.{option_map, option_or}
+use Rattle.std.specs.Option.{option_map}
 use Rattle.std.proofs.lemmas.Bool.{lt-ltb}
 use borrow.Author.Tests.{eqb-true}
 use Rattle.uefi_device_nodes.specs.Nodes.{Node}
-use Rattle.uefi_node_table.specs.Table.{forms}
 use Rattle.uefi_node_reader.specs.Alike.{CallsAlike, IsOtherCall, ZerosAlike, ZerosAlikeAfterBase}
 use Rattle.uefi_node_reader.specs.Ambiguous.{ambiguous_stop}
 use Rattle.uefi_node_reader.specs.FieldReading.{either_read}
 use Rattle.uefi_node_reader.specs.LenientFields.{after_literal, any_number, past_base, some_digits}
-use Rattle.uefi_node_reader.specs.LenientNodes.{bare_read, begins_call, call_read, cut_call, ended, file_or_call, forms_set, lenient_read, path_set, tidied}
+use Rattle.uefi_node_reader.specs.LenientNodes.{bare_read, begins_call, call_read, call_set, cut_call, ended, file_or_call, lenient_read, tidied}
 use Rattle.uefi_node_reader.specs.Numerals.{digit_of, digits_after, has_digit}
 use Rattle.uefi_node_reader.proofs.Literals.{after_some}
 
 -- what is read of a call, by its tidied text
 abbrev tidied_read : List ℕ → List ℕ → Option (Node × List ℕ)
 tidied_read text rest = cond (is_some (ambiguous_stop text)) None
-    (option_map (λ (node : Node). (node, rest)) (option_or (forms_set forms text) (path_set text)))
+    (option_map (λ (node : Node). (node, rest)) (call_set text))
 
 call_by_tidied : (text front rest : List ℕ) → cut_call text ≡ Some (front, rest) → call_read text ≡ tidied_read (tidied front) rest
 call_by_tidied text front rest e = after_some (cut_call text) (λ (call : List ℕ × List ℕ). tidied_read (tidied call.0) call.1) (front, rest) e

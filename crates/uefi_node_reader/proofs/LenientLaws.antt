@@ -14,7 +14,7 @@ use Rattle.uefi_node_reader.specs.FieldReading.{◌>>=◌, either_read, read_if}
 use Rattle.uefi_device_nodes.specs.NodeTexts.{node_text}
 use Rattle.uefi_node_reader.specs.LenientFields.{after_letter, after_literal, begins_base, literal_left, past_base}
 use Rattle.uefi_node_reader.specs.Ambiguous.{ambiguous_stop}
-use Rattle.uefi_node_reader.specs.LenientNodes.{IsRestOf, bare_read, is_bare, named_read, begins_call, call_read, cut_call, ended, file_or_call, file_read, form_set, forms_set, lenient_read, rooted, path_set, tidied, told_in, whole}
+use Rattle.uefi_node_reader.specs.LenientNodes.{IsRestOf, call_set, bare_read, is_bare, named_read, begins_call, call_read, cut_call, ended, file_or_call, file_read, form_set, forms_set, lenient_read, rooted, path_set, tidied, told_in, whole}
 use Rattle.uefi_node_reader.specs.NamedFiles.{IsTold, ends_name, is_after_node, is_name, name_bytes, name_data, name_read, node_read}
 use Rattle.uefi_node_reader.specs.PlainNodes.{plain_read, types_read}
 use Rattle.uefi_node_reader.specs.TableReading.{is_empty, is_sound, prints}
@@ -27,6 +27,8 @@ use Rattle.uefi_node_reader.proofs.LenientFields.{form_set_in}
 use Rattle.uefi_node_reader.proofs.Literals.{after_again, after_some, bind_some}
 use Rattle.uefi_node_reader.proofs.NamedFiles.{name_takes}
 use Rattle.uefi_node_reader.proofs.NodeLaws.{node_starts, node_takes}
+use Rattle.uefi_node_reader.specs.OtherForms.{pasted_forms}
+use Rattle.uefi_node_reader.proofs.OtherForms.{pasted_sound}
 use Rattle.uefi_node_reader.proofs.PlainNodes.{plain_takes}
 use Rattle.uefi_node_reader.proofs.ToldNodes.{tells_told}
 
@@ -136,7 +138,7 @@ if_bare false o x e = cc
 -- what a call was read of
 called : (text : List ℕ) (node : Node) (rest : List ℕ) → call_read text ≡ Some (node, rest)
     → (call : List ℕ × List ℕ) × (cut_call text ≡ Some call)
-    × ((option_or (forms_set forms (tidied call.0)) (path_set (tidied call.0)) ≡ Some node) × (call.1 ≡ rest))
+    × ((call_set (tidied call.0) ≡ Some node) × (call.1 ≡ rest))
 called text node rest e =
     let call = bind_some (cut_call text) _ (node, rest) e in
     (call.0, call.1, with_rest _ call.0.1 node rest (unless (is_some (ambiguous_stop (tidied call.0.0))) _ (node, rest) call.2))
@@ -149,9 +151,13 @@ bare_named is_rooted text node rest e = with_rest _ _ node rest (if_bare (not is
 call_told : (text : List ℕ) (node : Node) (rest : List ℕ) → call_read text ≡ Some (node, rest) → IsTold node
 call_told text node rest e =
     let call = called text node rest e in
-    elim (one_node (forms_set forms (tidied call.0.0)) (path_set (tidied call.0.0)) node call.2.0) [
-      | inl p ↦ forms_told forms table_sound (tidied call.0.0) node p
-      | inr p ↦ path_told (tidied call.0.0) node p
+    let text = tidied call.0.0 in
+    elim (one_node (forms_set forms text) (option_or (forms_set pasted_forms text) (path_set text)) node call.2.0) [
+      | inl p ↦ forms_told forms table_sound text node p
+      | inr q ↦ elim (one_node (forms_set pasted_forms text) (path_set text) node q) [
+        | inl p ↦ forms_told pasted_forms pasted_sound text node p
+        | inr p ↦ path_told text node p
+      ]
     ]
 
 -- what a name in `File(..)` was read of

@@ -29,6 +29,7 @@ pub mod ToldNodes
 pub mod LenientReads
 pub mod LenientFaults
 pub mod FaultPlaces
+pub mod OtherForms
 pub mod LenientLaws
 pub mod StyledLaws
 pub mod Alike

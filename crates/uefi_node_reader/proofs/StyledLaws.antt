@@ -9,10 +9,10 @@ use Rattle.uefi_node_table.specs.Rows.{Form}
 use Rattle.uefi_device_nodes.specs.Nodes.{Node, node_with}
 use Rattle.uefi_node_reader.specs.LenientFaults.{fault, past, place_at}
 use Rattle.uefi_node_reader.specs.LenientNodes.{IsRestOf, begins_call, cut_call, ended, lenient_read, tidied, told_in}
-use Rattle.uefi_node_reader.specs.Libefivar.{fault_after_own, fault_or_lenient, forms_exact, libefivar_fault, libefivar_read, own_call, own_fault, own_forms, own_read, own_stop}
+use Rattle.uefi_node_reader.specs.Libefivar.{fault_after_own, fault_or_lenient, forms_exact, libefivar_fault, libefivar_read, own_call, own_fault, own_read, own_stop}
 use Rattle.uefi_node_reader.specs.NamedFiles.{IsTold, is_after_node, node_read}
 use Rattle.uefi_node_reader.specs.Styles.{PrintedExactly, StyledAgain, StyledEnds, StyledFaultWithin, StyledStarts, StyledTakes, styled_fault, styled_read}
-use Rattle.uefi_node_reader.specs.TableReading.{form_read, is_empty, is_filled, is_sound}
+use Rattle.uefi_node_reader.specs.TableReading.{form_read, is_empty, is_sound}
 use Rattle.uefi_node_reader.specs.Telling.{tells}
 use Rattle.uefi_node_reader.specs.declared.faults.NodeFault.{NodeFault}
 use Rattle.uefi_node_reader.specs.declared.faults.Stop.{Stop}
@@ -21,16 +21,10 @@ use Rattle.uefi_node_reader.proofs.FaultPlaces.{fault_within, place_within}
 use Rattle.uefi_node_reader.proofs.LenientLaws.{call_starts, cut_end, ends, lenient_again, lenient_ends, lenient_starts, lenient_takes, one_node, strict_end, with_rest}
 use Rattle.uefi_node_reader.proofs.Literals.{bind_some}
 use Rattle.uefi_node_reader.proofs.NodeLaws.{node_starts, node_takes}
+use Rattle.uefi_node_reader.specs.OtherForms.{own_forms}
+use Rattle.uefi_node_reader.proofs.OtherForms.{own_sound}
 use Rattle.uefi_node_reader.proofs.TableLaws.{form_takes}
 use Rattle.uefi_node_reader.proofs.ToldNodes.{tells_told}
-
-pub own_sound : list_all is_sound own_forms ≡ true
-unfolding own_forms
-own_sound = refl
-
-pub own_filled : list_all is_filled own_forms ≡ true
-unfolding own_forms
-own_filled = refl
 
 exact_told : (form : Form) → is_sound form ≡ true → (text : List ℕ) (o : Option (List ℕ × List ℕ)) → form_read form text ≡ o
     → (node : Node) → told_in form o ≡ Some node → IsTold node

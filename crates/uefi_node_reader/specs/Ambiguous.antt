@@ -42,11 +42,17 @@ bare_number_left text =
 abbrev pub base_stop : ℕ → Stop
 base_stop left = record { left = left; expected = expected.Base }
 
+-- the test for a tidied call that never has numbers
+abbrev pub is_named_alone : List ℕ → Bool
+is_named_alone text = begins_with (codes "VENPCANSI()") text || (begins_with (codes "VENVT100()") text
+    || (begins_with (codes "VENVT100PLUS()") text || (begins_with (codes "VENUTF8()") text
+    || begins_with (codes "DEBUGPORT()") text)))
+
 -- the test for a tidied call without numbers
 abbrev pub is_empty_call : List ℕ → Bool
 is_empty_call text = first_of (drop (length text - 2) text) == 40
 
 -- where a tidied call stops telling which node it is
 abbrev pub ambiguous_stop : List ℕ → Option Stop
-ambiguous_stop text = if is_empty_call text then Some (base_stop 1)
+ambiguous_stop text = if is_named_alone text then None else if is_empty_call text then Some (base_stop 1)
     else option_map base_stop (bare_number_left text)

@@ -15,6 +15,7 @@ use Rattle.uefi_node_reader.specs.LenientFields.{after_letter, after_literal, be
 use Rattle.uefi_node_reader.specs.LenientNodes.{bare_read, begins_call, cut_call, file_or_call, is_blank, is_textless, tidied}
 use Rattle.uefi_node_reader.specs.NamedFiles.{is_after_node, node_read}
 use Rattle.uefi_node_reader.specs.Numerals.{number_read}
+use Rattle.uefi_node_reader.specs.OtherForms.{pasted_forms}
 use Rattle.uefi_node_reader.specs.TableReading.{first_of, is_empty, is_read, tail_read}
 use Rattle.uefi_node_reader.specs.WordReading.{after}
 use Rattle.uefi_node_reader.specs.declared.faults.Expected.{Expected}
@@ -170,7 +171,8 @@ stop_fault text len (Some stop) = fault (place_at (len - stop.left) text) stop.e
 
 -- where a tidied call stops telling which node it is, or else where it stops being that of any form
 abbrev pub call_stop : List ℕ → Option Stop
-call_stop text = option_or (ambiguous_stop text) (further (forms_stop forms text) (path_stop text))
+call_stop text = option_or (ambiguous_stop text)
+    (further (forms_stop forms text) (further (forms_stop pasted_forms text) (path_stop text)))
 
 -- the fault of a call without a `)`, of which nothing else is wrong if reading it stops after that
 abbrev pub open_fault : List ℕ → ℕ → Option Stop → NodeFault

@@ -12,13 +12,14 @@ use Rattle.uefi_node_reader.specs.Ambiguous.{ambiguous_stop}
 use Rattle.uefi_node_reader.specs.FieldReading.{◌>>=◌, either_read, read_if}
 use Rattle.uefi_node_reader.specs.LenientFields.{after_literal, pieces_set}
 use Rattle.uefi_node_reader.specs.NamedFiles.{ends_name, is_after_node, name_bytes, name_read, node_read}
+use Rattle.uefi_node_reader.specs.OtherForms.{pasted_forms}
 use Rattle.uefi_node_reader.specs.PlainNodes.{types_read}
 use Rattle.uefi_node_reader.specs.TableReading.{blank, is_empty, is_read, rest_read}
 use Rattle.uefi_node_reader.specs.Telling.{tells}
 
--- the test for a blank: a space or a tab
+-- the test for a byte of a call that is passed over: a space, a tab, or a brace around a GUID
 abbrev pub is_blank : ℕ → Bool
-is_blank byte = (byte == 32) || (byte == 9)
+is_blank byte = (byte == 32) || ((byte == 9) || ((byte == 123) || (byte == 125)))
 
 -- a byte in upper case, but an `x` as the table has it in `0x`
 abbrev pub tidied_byte : ℕ → ℕ
@@ -65,12 +66,15 @@ whole (Some read) = if is_empty read.1 then Some read.0 else None
 abbrev pub path_set : List ℕ → Option Node
 path_set text = after_literal (codes "Path(") text >>= λ rest. whole (types_read rest)
 
+-- the node that a tidied text has, in a form of the table, in one that people paste, or of no kind
+abbrev pub call_set : List ℕ → Option Node
+call_set text = option_or (forms_set forms text) (option_or (forms_set pasted_forms text) (path_set text))
+
 -- the node whose call a text begins with, and what stands after it: none if programs print the call for
 -- different nodes
 abbrev pub call_read : List ℕ → Option (Node × List ℕ)
 call_read text = cut_call text >>= λ call. if is_some (ambiguous_stop (tidied call.0)) then None
-    else option_map (λ node. (node, call.1))
-    (option_or (forms_set forms (tidied call.0)) (path_set (tidied call.0)))
+    else option_map (λ node. (node, call.1)) (call_set (tidied call.0))
 
 -- a name with a backslash at its start
 abbrev pub rooted : List ℕ → List ℕ

@@ -7,6 +7,7 @@ pub mod NamedFiles
 pub mod Laws
 pub mod LenientFields
 pub mod Telling
+pub mod OtherForms
 pub mod Ambiguous
 pub mod LenientNodes
 pub mod LenientFaults

@@ -1,24 +1,20 @@
 -- Nodes as libefivar prints them, where its text of a node is the specification's text of another, or is in no
 -- form of the table.
-use Rattle.std.specs.Prelude.{Bool, if◌then◌else◌, List, [], ◌∷◌, codes, map, length, ◌-◌, ℕ, Option, Some, None, is_some}
+use Rattle.std.specs.Prelude.{Bool, if◌then◌else◌, List, [], ◌∷◌, codes, length, ◌-◌, ℕ, Option, Some, None, is_some}
 use Rattle.std.specs.Option.{option_map, option_or}
 use Rattle.uefi_device_nodes.specs.Nodes.{Node}
-use Rattle.uefi_node_table.specs.Rows.{Form, const_form}
+use Rattle.uefi_node_table.specs.Rows.{Form}
 use Rattle.uefi_node_reader.specs.Ambiguous.{begins_with}
 use Rattle.uefi_node_reader.specs.FieldReading.{◌>>=◌}
 use Rattle.uefi_node_reader.specs.LenientFaults.{fault, lenient_fault, past, place_at, stop_at}
 use Rattle.uefi_node_reader.specs.LenientNodes.{begins_call, cut_call, ended, lenient_read, tidied, told_in}
+use Rattle.uefi_node_reader.specs.OtherForms.{own_forms}
 use Rattle.uefi_node_reader.specs.TableReading.{form_read}
 use Rattle.uefi_node_reader.specs.WordReading.{after}
 use Rattle.uefi_node_reader.specs.declared.faults.Expected.{Expected}
 use Rattle.uefi_node_reader.specs.declared.faults.Expected.TheVariants as expected
 use Rattle.uefi_node_reader.specs.declared.faults.NodeFault.{NodeFault}
 use Rattle.uefi_node_reader.specs.declared.faults.Stop.{Stop}
-use Rattle.uefi_node_reader.specs.declared.libefivar.TheConstants.{OWN}
-
--- its own forms of calls, in the letters of a tidied call
-unfoldable pub own_forms : List Form
-own_forms = map const_form OWN.now
 
 -- the node in the first of these forms that a tidied text has exactly
 abbrev pub forms_exact : List Form → List ℕ → Option Node

@@ -6,7 +6,7 @@
 
 ghost use Rattle.std.specs.Prelude.{◌≡◌};
 ghost use Rattle.std.specs.Option.{option_map};
-ghost use Rattle.uefi_node_reader.specs.Ambiguous.{ambiguous_stop, bare_number_left, begins_with, digits_left, is_empty_call, left_after, two_digits};
+ghost use Rattle.uefi_node_reader.specs.Ambiguous.{ambiguous_stop, bare_number_left, begins_with, digits_left, is_empty_call, is_named_alone, left_after, two_digits};
 ghost use Rattle.uefi_node_reader.specs.WordReading.{after};
 
 use crate::clear_texts::first_of;
@@ -86,10 +86,24 @@ fn is_empty_call(text: &[u8]) -> bool
     first_of(&text[text.len().saturating_sub(2)..]) == b'('
 }
 
+/// Whether a tidied call never has numbers.
+fn is_named_alone(text: &[u8]) -> bool
+    ensures { result ≡ is_named_alone text.now }
+{
+    begins_with(b"VENPCANSI()", text)
+        || begins_with(b"VENVT100()", text)
+        || begins_with(b"VENVT100PLUS()", text)
+        || begins_with(b"VENUTF8()", text)
+        || begins_with(b"DEBUGPORT()", text)
+}
+
 /// Where a tidied call stops telling which node it is.
 pub(crate) fn ambiguous_stop(text: &[u8]) -> Option<Stop>
     ensures { result ≡ ambiguous_stop text.now }
 {
+    if is_named_alone(text) {
+        return None;
+    }
     let left = if is_empty_call(text) {
         1
     } else {

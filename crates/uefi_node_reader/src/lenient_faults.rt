@@ -12,6 +12,7 @@ ghost use Rattle.uefi_node_reader.specs.Ambiguous.{ambiguous_stop};
 ghost use Rattle.uefi_node_reader.specs.LenientFaults.{call_name, call_stop, close_stop, cut_fault, ending_end, exact_end, expected_field, expected_word, file_fault, form_end, form_stop, forms_stop, further, literal_end, named_stop, open_fault, or_stop, past, path_stop, piece_end, pieces_end, place_at, rest_end, stop_at, stop_fault, stop_of, tail_stop, types_end};
 ghost use Rattle.uefi_node_reader.specs.LenientNodes.{cut_call};
 ghost use Rattle.uefi_node_reader.specs.Numerals.{number_read};
+ghost use Rattle.uefi_node_reader.specs.OtherForms.{pasted_forms};
 ghost use Rattle.uefi_node_reader.specs.TableReading.{is_filled, is_read, is_sound, tail_read};
 ghost use Rattle.uefi_node_reader.specs.declared.faults.Expected.TheVariants.{Number};
 
@@ -25,6 +26,7 @@ use crate::lenient_fields::{
 use crate::lenient_table::{cut_call, is_blank, is_textless, tidy};
 use crate::node_tails::push_tail;
 use crate::numerals::number;
+use crate::other_forms::pasted_forms;
 use crate::table_reader::fixed_part;
 use uefi_node_table::rows::{Mode, Piece, Row, Shape, Tail};
 use uefi_node_table::table::{GROUPS, group};
@@ -339,6 +341,13 @@ fn table_stop(text: &[u8]) -> Option<Stop>
     furthest
 }
 
+/// The same of the forms that people paste.
+fn pasted_stop(text: &[u8]) -> Option<Stop>
+    ensures { result ≡ forms_stop pasted_forms text.now }
+{
+    group_stop(pasted_forms(), text)
+}
+
 /// The same of a node of no kind.
 fn path_stop(text: &[u8]) -> Option<Stop>
     ensures { result ≡ path_stop text.now }
@@ -353,7 +362,10 @@ pub(crate) fn call_stop(text: &[u8]) -> Option<Stop>
 {
     match ambiguous_stop(text) {
         Some(stop) => Some(stop),
-        None => further(table_stop(text), path_stop(text)),
+        None => further(
+            table_stop(text),
+            further(pasted_stop(text), path_stop(text)),
+        ),
     }
 }
 

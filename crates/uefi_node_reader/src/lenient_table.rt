@@ -6,7 +6,8 @@ ghost use Rattle.std.specs.Option.{option_map, option_or};
 ghost use Rattle.std.specs.Prelude.{◌≡◌, ◌<◌, ◌≤◌, ◌==◌, IfSome, IsTrue, length, map, position, take};
 ghost use Rattle.uefi_node_table.specs.Rows.{as_form};
 ghost use Rattle.uefi_node_table.specs.Table.{forms};
-ghost use Rattle.uefi_node_reader.specs.LenientNodes.{call_read, cut_call, form_set, forms_set, is_blank, is_textless, path_set, tidied, tidied_byte, told_in};
+ghost use Rattle.uefi_node_reader.specs.LenientNodes.{call_read, call_set, cut_call, form_set, forms_set, is_blank, is_textless, path_set, tidied, tidied_byte, told_in};
+ghost use Rattle.uefi_node_reader.specs.OtherForms.{pasted_forms};
 ghost use Rattle.uefi_node_reader.specs.TableReading.{form_read, is_filled, is_sound};
 ghost use Rattle.uefi_node_reader.specs.TextNodes.{fitting};
 ghost use Rattle.uefi_node_reader.specs.TextNodeViews.{data_of, text_node};
@@ -14,6 +15,7 @@ ghost use Rattle.uefi_node_reader.specs.TextNodeViews.{data_of, text_node};
 use crate::ambiguous::ambiguous_stop;
 use crate::counted_bytes::push;
 use crate::lenient_fields::{after_literal, set_pieces};
+use crate::other_forms::pasted_forms;
 use crate::plain_nodes::plain_types;
 use crate::table_reader::{finish_row, fixed_part, read_row};
 use crate::telling::tells;
@@ -21,11 +23,11 @@ use crate::text_node::TextNode;
 use uefi_node_table::rows::{Mode, Row, Tail};
 use uefi_node_table::table::{GROUPS, group};
 
-/// Whether a byte is a blank.
+/// Whether a byte of a call is passed over: a space, a tab, or a brace around a GUID.
 pub(crate) fn is_blank(byte: u8) -> bool
     ensures { result ≡ is_blank byte }
 {
-    byte == b' ' || byte == b'\t'
+    byte == b' ' || byte == b'\t' || byte == b'{' || byte == b'}'
 }
 
 /// A byte in upper case, but an `x` as the table has it in `0x`.
@@ -182,11 +184,21 @@ fn set_path(text: &[u8]) -> Option<TextNode<'_>>
     Some(node)
 }
 
-/// The same of either.
+/// The same in a form that people paste.
+fn set_pasted(text: &[u8]) -> Option<TextNode<'_>>
+    ensures { option_map text_node result ≡ forms_set pasted_forms text.now }
+{
+    set_group(pasted_forms(), text)
+}
+
+/// The same of any of these.
 fn set_call(text: &[u8]) -> Option<TextNode<'_>>
-    ensures { option_map text_node result ≡ option_or (forms_set forms text.now) (path_set text.now) }
+    ensures { option_map text_node result ≡ call_set text.now }
 {
     if let Some(node) = set_table(text) {
+        return Some(node);
+    }
+    if let Some(node) = set_pasted(text) {
         return Some(node);
     }
     set_path(text)

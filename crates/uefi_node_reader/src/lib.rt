@@ -22,6 +22,7 @@ mod node_tails;
 #[doc(hidden)]
 pub mod nodes;
 mod numerals;
+mod other_forms;
 mod plain_nodes;
 #[doc(hidden)]
 pub mod styles;

@@ -10,7 +10,7 @@ ghost use Rattle.std.specs.Prelude.{◌≡◌, ◌<◌, ◌≤◌, IfSome, IsTru
 ghost use Rattle.std.specs.List.{list_all};
 ghost use Rattle.std.specs.Option.{option_map};
 ghost use Rattle.uefi_node_table.specs.Rows.{as_form};
-ghost use Rattle.uefi_node_reader.specs.Libefivar.{base_after, forms_exact, own_call, own_fault, own_forms, own_read, own_stop, stop_after};
+ghost use Rattle.uefi_node_reader.specs.Libefivar.{base_after, forms_exact, own_call, own_fault, own_read, own_stop, stop_after};
 ghost use Rattle.uefi_node_reader.specs.TableReading.{is_filled, is_sound};
 ghost use Rattle.uefi_node_reader.specs.TextNodeViews.{text_node};
 
@@ -20,45 +20,9 @@ use crate::fields::after;
 use crate::lenient_faults::{place_at, stop_at};
 use crate::lenient_names::begins_call;
 use crate::lenient_table::{cut_call, exact_told, tidy};
+use crate::other_forms::own_forms;
 use crate::text_node::TextNode;
-use uefi_node_table::rows::{Mode, PieceOf, Row, RowOf, Shape, Tail};
-
-/// A form of these.
-macro_rules! own {
-    ($kind:literal $sub_kind:literal $least:literal $start:literal
-        $([$shape:ident $place:literal $width:literal $ending:literal])*) => {
-        RowOf {
-            kind: $kind,
-            sub_kind: $sub_kind,
-            mode: Mode::Read,
-            least: $least,
-            more: 0,
-            when: &[],
-            also: &[],
-            start: $start,
-            pieces: &[$(PieceOf { shape: Shape::$shape, place: $place, width: $width, ending: $ending }),*],
-            tail: Tail::Nothing,
-            close: "",
-            rest: &[],
-        }
-    };
-}
-
-/// Its own forms of calls, in the letters of a tidied call.
-#[rattlefmt::skip]
-const OWN: &[Row] = &[
-    own!(3 1 4 "ATA(" [Decimal 0 1 ","] [Decimal 1 1 ","] [Decimal 2 2 ")"]),
-    own!(3 23 12 "NVME(0x" [Hexadecimal 0 4 ","] [Forth 4 1 "-"] [Forth 5 1 "-"] [Forth 6 1 "-"]
-        [Forth 7 1 "-"] [Forth 8 1 "-"] [Forth 9 1 "-"] [Forth 10 1 "-"] [Forth 11 1 ")"]),
-];
-
-/// These forms.
-#[tactic(auto, unfolding(crate::specs::Libefivar::own_forms))]
-fn own_forms() -> &'static [Row]
-    ensures { map as_form result.now ≡ own_forms }
-{
-    OWN
-}
+use uefi_node_table::rows::Row;
 
 /// Reads the node of the first of these forms that a tidied text has exactly.
 fn exact_group<'a>(rows: &[Row], text: &'a [u8]) -> Option<TextNode<'a>>

@@ -2,7 +2,7 @@ use Rattle.std.proofs.Common.{ap, ◌∙◌, List}
 use Rattle.std.specs.List.{list_all}
 use Rattle.uefi_node_table.specs.Rows.{Form}
 use Rattle.uefi_node_reader.specs.TableReading.{is_filled, is_sound}
-use Rattle.uefi_node_reader.proofs.StyledLaws.{own_filled, own_sound}
+use Rattle.uefi_node_reader.proofs.OtherForms.{own_filled, own_sound}
 use Rattle.uefi_node_reader.proofs.libefivar.own_call.Goals as goal
 
 pub exact_group-requires-clause-sound : goal.exact_group-requires-clause-sound

@@ -1,0 +1,85 @@
+//! Forms in which nodes are read, and never printed.
+#![tactic(auto)]
+
+ghost use Rattle.std.specs.Prelude.{◌≡◌, map};
+ghost use Rattle.uefi_node_table.specs.Rows.{as_form};
+ghost use Rattle.uefi_node_reader.specs.OtherForms.{own_forms, pasted_forms};
+
+use uefi_node_table::rows::{Mode, PieceOf, Row, RowOf, Shape, Tail};
+
+/// A form of these: the type, the sub-type, how many bytes the data have, those that are fixed, what the text begins
+/// with, and the fields.
+macro_rules! form {
+    ($kind:literal $sub_kind:literal $least:literal [$($at:literal = $byte:literal)*] $start:literal
+        $([$shape:ident $place:literal $width:literal $ending:literal])*) => {
+        RowOf {
+            kind: $kind,
+            sub_kind: $sub_kind,
+            mode: Mode::Read,
+            least: $least,
+            more: 0,
+            when: &[],
+            also: &[$(($at, $byte)),*],
+            start: $start,
+            pieces: &[$(PieceOf { shape: Shape::$shape, place: $place, width: $width, ending: $ending }),*],
+            tail: Tail::Nothing,
+            close: "",
+            rest: &[],
+        }
+    };
+}
+
+/// Forms in which libefivar alone prints nodes, in the letters of a tidied call.
+#[rattlefmt::skip]
+const OWN: &[Row] = &[
+    form!(3 1 4 [] "ATA(" [Decimal 0 1 ","] [Decimal 1 1 ","] [Decimal 2 2 ")"]),
+    form!(3 23 12 [] "NVME(0x" [Hexadecimal 0 4 ","] [Forth 4 1 "-"] [Forth 5 1 "-"] [Forth 6 1 "-"]
+        [Forth 7 1 "-"] [Forth 8 1 "-"] [Forth 9 1 "-"] [Forth 10 1 "-"] [Forth 11 1 ")"]),
+];
+
+/// Forms that programs print and people paste: short names of vendors' nodes, as the UEFI Specification 2.10 lists
+/// them in section 10.6.1.6, and fields that other programs write otherwise or leave out.
+#[rattlefmt::skip]
+const PASTED: &[Row] = &[
+    form!(3 10 16 [0 = 0x53 1 = 0x47 2 = 0xc1 3 = 0xe0 4 = 0xbe 5 = 0xf9 6 = 0xd2 7 = 0x11
+        8 = 0x9a 9 = 0x0c 10 = 0x00 11 = 0x90 12 = 0x27 13 = 0x3f 14 = 0xc1 15 = 0x4d] "VenPcAnsi()"),
+    form!(3 10 16 [0 = 0x65 1 = 0x60 2 = 0xa6 3 = 0xdf 4 = 0x19 5 = 0xb4 6 = 0xd3 7 = 0x11
+        8 = 0x9a 9 = 0x2d 10 = 0x00 11 = 0x90 12 = 0x27 13 = 0x3f 14 = 0xc1 15 = 0x4d] "VenVt100()"),
+    form!(3 10 16 [0 = 0x0b 1 = 0xc7 2 = 0xae 3 = 0x7b 4 = 0xe0 5 = 0x57 6 = 0x76 7 = 0x4c
+        8 = 0x8e 9 = 0x87 10 = 0x2f 11 = 0x9e 12 = 0x28 13 = 0x08 14 = 0x83 15 = 0x43] "VenVt100Plus()"),
+    form!(3 10 16 [0 = 0xd6 1 = 0xa0 2 = 0x15 3 = 0xad 4 = 0xec 5 = 0x8b 6 = 0xcf 7 = 0x4a
+        8 = 0xa0 9 = 0x73 10 = 0xd0 11 = 0x1d 12 = 0xe7 13 = 0x7e 14 = 0x2d 15 = 0x88] "VenUtf8()"),
+    form!(3 10 16 [0 = 0xd2 1 = 0xe8 2 = 0xa4 3 = 0xeb 4 = 0x58 5 = 0x38 6 = 0xec 7 = 0x41
+        8 = 0xa2 9 = 0x81 10 = 0x26 11 = 0x47 12 = 0xba 13 = 0x96 14 = 0x60 15 = 0xd0] "DebugPort()"),
+    form!(3 11 33 [] "MAC(" [Forth 0 6 ",0x"] [Hexadecimal 32 1 ")"]),
+    form!(3 11 33 [] "MAC(" [Forth 0 1 ":"] [Forth 1 1 ":"] [Forth 2 1 ":"] [Forth 3 1 ":"]
+        [Forth 4 1 ":"] [Forth 5 1 ",0x"] [Hexadecimal 32 1 ")"]),
+    form!(3 11 33 [] "MAC(" [Forth 0 1 "-"] [Forth 1 1 "-"] [Forth 2 1 "-"] [Forth 3 1 "-"]
+        [Forth 4 1 "-"] [Forth 5 1 ",0x"] [Hexadecimal 32 1 ")"]),
+    form!(3 12 23 [] "IPv4(" [Decimal 4 1 "."] [Decimal 5 1 "."] [Decimal 6 1 "."] [Decimal 7 1 ")"]),
+    form!(3 23 12 [] "NVMe(0x" [Hexadecimal 0 4 ")"]),
+    form!(3 27 6 [] "Bluetooth(" [Forth 0 1 ":"] [Forth 1 1 ":"] [Forth 2 1 ":"] [Forth 3 1 ":"]
+        [Forth 4 1 ":"] [Forth 5 1 ")"]),
+    form!(3 30 7 [] "BluetoothLE(" [Forth 0 1 ":"] [Forth 1 1 ":"] [Forth 2 1 ":"] [Forth 3 1 ":"]
+        [Forth 4 1 ":"] [Forth 5 1 ",0x"] [Hexadecimal 6 1 ")"]),
+    form!(4 1 38 [36 = 0x01 37 = 0x01] "HD(" [Decimal 0 4 ",MBR,0x"] [Hexadecimal 20 4 ",0x"]
+        [Hexadecimal 4 8 ",0x"] [Hexadecimal 12 8 ")"]),
+    form!(4 7 16 [] "FvVol(" [Back 0 4 "-"] [Back 4 2 "-"] [Back 6 2 "-"] [Forth 8 2 "-"]
+        [Forth 10 6 ")"]),
+];
+
+/// The forms of [`OWN`].
+#[tactic(auto, unfolding(crate::specs::OtherForms::own_forms))]
+pub(crate) fn own_forms() -> &'static [Row]
+    ensures { map as_form result.now ≡ own_forms }
+{
+    OWN
+}
+
+/// The forms of [`PASTED`].
+#[tactic(auto, unfolding(crate::specs::OtherForms::pasted_forms))]
+pub(crate) fn pasted_forms() -> &'static [Row]
+    ensures { map as_form result.now ≡ pasted_forms }
+{
+    PASTED
+}
