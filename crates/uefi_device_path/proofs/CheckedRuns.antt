@@ -9,7 +9,7 @@ use Rattle.uefi_device_nodes.specs.NodeFaults.{fault_place, node_fault}
 use Rattle.uefi_device_nodes.specs.Nodes.{IsInner, Node, end_entire, first_node, node_bytes, node_length, stated_length}
 use Rattle.uefi_device_nodes.specs.declared.errors.NodeError.{NodeError}
 use Rattle.uefi_device_path.specs.CheckedNodes.{BeginWithEnd, Checked, checked_at, checked_by, checked_within, nodes_before, rest_at}
-use Rattle.uefi_device_path.specs.Faults.{RefusedFor, Refuses}
+use Rattle.uefi_device_path.specs.Faults.{RefusedFor, RefusesNode}
 use Rattle.uefi_device_path.specs.PathLists.{is_end_entire}
 use Rattle.uefi_device_path.specs.Paths.{BeginWith, BeginWithPath, joined, nodes_in}
 use Rattle.uefi_device_path.specs.Views.{checked_bytes, checked_left, rest_of}
@@ -116,7 +116,7 @@ checked_path bytes nodes path =
     ∙ append-nil (map Ok nodes)
 
 -- the nodes before a fault, and the fault
-pub checked_refused : (bytes : List ℕ) (error : DevicePathError) (nodes : List Node) (rest : List ℕ) → Refuses bytes error nodes rest
+pub checked_refused : (bytes : List ℕ) (error : DevicePathError) (nodes : List Node) (rest : List ℕ) → RefusesNode bytes error nodes rest
     → checked_within (suc (length bytes)) 0 bytes ≡ map Ok nodes ++ Err error ∷ []
 checked_refused bytes error nodes rest refused =
     let long = begin_long bytes nodes rest refused.begins in

@@ -7,7 +7,7 @@ use Rattle.uefi_device_path.specs.declared.errors.DevicePathError.{DevicePathErr
 
 -- bytes are these nodes and then a rest at which no node begins, for the cause and at the place that
 -- the error says
-pub record Refuses (bytes : List ℕ) (error : DevicePathError) (nodes : List Node)
+pub record RefusesNode (bytes : List ℕ) (error : DevicePathError) (nodes : List Node)
     (rest : List ℕ) : Type 0 where
   pub begins : BeginWith bytes nodes rest
   pub cause : node_fault rest ≡ Some error.cause
@@ -15,7 +15,7 @@ pub record Refuses (bytes : List ℕ) (error : DevicePathError) (nodes : List No
 
 -- bytes are refused for this error
 abbrev pub RefusedFor : List ℕ → DevicePathError → Type 0
-RefusedFor bytes error = (nodes : List Node) × (rest : List ℕ) × Refuses bytes error nodes rest
+RefusedFor bytes error = (nodes : List Node) × (rest : List ℕ) × RefusesNode bytes error nodes rest
 
 -- what reading the path that bytes begin with gives: it, which is the only one, or the only refusal
 abbrev pub GivesPath : {P : Type 0} → (P → List Node) → List ℕ → Result P DevicePathError → Type 0

@@ -7,7 +7,7 @@ ghost use Rattle.std.specs.Option.{option_map};
 ghost use Rattle.uefi_device_nodes.specs.NodeFaults.{node_fault};
 ghost use Rattle.uefi_device_nodes.specs.Nodes.{Node, end_entire, node_bytes};
 ghost use Rattle.uefi_device_path.specs.CheckedNodes.{BeginWithEnd, nodes_before};
-ghost use Rattle.uefi_device_path.specs.Faults.{RefusedFor, Refuses};
+ghost use Rattle.uefi_device_path.specs.Faults.{RefusedFor, RefusesNode};
 ghost use Rattle.uefi_device_path.specs.Paths.{BeginWith, BeginWithPath};
 ghost use Rattle.uefi_device_path.specs.declared.checked_nodes.Progress.{Progress};
 ghost use Rattle.uefi_device_path.specs.declared.errors.DevicePathError.{DevicePathError};
@@ -56,7 +56,7 @@ impl<'a> CheckedNodes<'a> {
         ensures accepted { (nodes : List Node) → BeginWithPath bytes.now nodes
             → checked_left result ≡ map Ok nodes }
         ensures refused { (error : DevicePathError) (nodes : List Node) (rest : List ℕ)
-            → Refuses bytes.now error nodes rest
+            → RefusesNode bytes.now error nodes rest
             → checked_left result ≡ map Ok nodes ++ Err error ∷ [] }
         ensures bytes { checked_bytes result ≡ bytes.now }
         ensures rest { rest_of result ≡ None }

@@ -1,5 +1,5 @@
 //! Load options that are written, into a caller's buffer or into memory.
-#![tactic(auto, unfolding(crate::specs::Views::fields_of))]
+#![tactic(auto, unfolding(crate::specs::Views::option_entry))]
 
 ghost use Rattle.std.specs.Prelude.{◌≡◌, ◌+◌, ◌*◌, ◌<◌, ◌≤◌, ◌++◌, length, map, IfOk, IfErr, IfSome, IsNone, None, unwrap_or};
 ghost use Rattle.std.specs.Result.{result_err};
@@ -8,7 +8,7 @@ ghost use Rattle.uefi_text.specs.Units.{nul_terminated};
 ghost use Rattle.uefi_device_path.specs.PathLists.{list_bytes};
 ghost use Rattle.uefi_device_path.specs.LoadOptions.{IsEntry, entry_bytes, four_bytes, two_bytes};
 ghost use Rattle.uefi_device_path.specs.OptionBuilding.{fields_fault, option_over, write_fault};
-ghost use Rattle.uefi_device_path.specs.Views.{nodes_of, fields_of};
+ghost use Rattle.uefi_device_path.specs.Views.{nodes_of, option_entry};
 
 use crate::device_path::DevicePath;
 use crate::errors::OptionBuildError;
@@ -77,7 +77,7 @@ fn put_paths(bytes: &mut [u8], paths: &[DevicePath<'_>])
 }
 
 /// The fields of a load option that is written (UEFI Specification 2.10, section 3.1.3). A contract sees
-/// them as `fields_of` them: the load option.
+/// them as `option_entry` them: the load option.
 #[derive(Clone, Copy)]
 pub struct LoadOptionBuilder<'a> {
     attributes: u32,
@@ -108,10 +108,10 @@ impl<'a> LoadOptionBuilder<'a> {
         paths: &'a [DevicePath<'a>],
         optional: &'a [u8],
     ) -> Self
-        ensures attributes { (fields_of result).attributes ≡ attributes }
-        ensures description { (fields_of result).description ≡ description.now }
-        ensures paths { (fields_of result).paths ≡ map nodes_of paths.now }
-        ensures optional { (fields_of result).optional ≡ optional.now }
+        ensures attributes { (option_entry result).attributes ≡ attributes }
+        ensures description { (option_entry result).description ≡ description.now }
+        ensures paths { (option_entry result).paths ≡ map nodes_of paths.now }
+        ensures optional { (option_entry result).optional ≡ optional.now }
     {
         LoadOptionBuilder {
             attributes,
@@ -124,11 +124,11 @@ impl<'a> LoadOptionBuilder<'a> {
     /// How long the list and the whole are, where the fields are a load option that can be written.
     fn lengths(&self) -> Result<Lengths, OptionBuildError>
         ensures list { IfOk result (λ lengths.
-            lengths.list ≡ length (list_bytes (fields_of self.now).paths)) }
+            lengths.list ≡ length (list_bytes (option_entry self.now).paths)) }
         ensures stated { IfOk result (λ lengths. lengths.list ≤ 0xffff) }
-        ensures whole { IfOk result (λ lengths. lengths.whole ≡ length (entry_bytes (fields_of self.now))) }
-        ensures entry { IfOk result (λ _. IsEntry (fields_of self.now)) }
-        ensures refusal { result_err result ≡ fields_fault (fields_of self.now) }
+        ensures whole { IfOk result (λ lengths. lengths.whole ≡ length (entry_bytes (option_entry self.now))) }
+        ensures entry { IfOk result (λ _. IsEntry (option_entry self.now)) }
+        ensures refusal { result_err result ≡ fields_fault (option_entry self.now) }
     {
         if let Some(place) = find_nul(self.description) {
             return Err(OptionBuildError::NulInDescription(place));
@@ -148,10 +148,10 @@ impl<'a> LoadOptionBuilder<'a> {
 
     /// Writes the load option into as many bytes as it has.
     fn put(&self, bytes: &mut [u8], list: usize)
-        requires list { list ≡ length (list_bytes (fields_of self.now).paths) }
+        requires list { list ≡ length (list_bytes (option_entry self.now).paths) }
         requires stated { list ≤ 0xffff }
-        requires whole { length bytes.now ≡ length (entry_bytes (fields_of self.now)) }
-        ensures { bytes.new ≡ entry_bytes (fields_of self.now) }
+        requires whole { length bytes.now ≡ length (entry_bytes (option_entry self.now)) }
+        ensures { bytes.new ≡ entry_bytes (option_entry self.now) }
     {
         let (header, described) = bytes.split_at_mut(6);
         put_header(header, self.attributes, list);
@@ -179,10 +179,10 @@ impl<'a> LoadOptionBuilder<'a> {
     /// assert_eq!(rt; option.write(&mut buffer[..13]), Err(OptionBuildError::BufferTooSmall(14)));
     /// ```
     pub fn write(&self, buffer: &mut [u8]) -> Result<usize, OptionBuildError>
-        ensures ok { IfOk result (λ len. len ≡ length (entry_bytes (fields_of self.now))) }
-        ensures entry { IfOk result (λ _. IsEntry (fields_of self.now)) }
-        ensures refusal { result_err result ≡ write_fault (fields_of self.now) (length buffer.old) }
-        ensures buffer { buffer.new ≡ option_over (fields_of self.now) buffer.old }
+        ensures ok { IfOk result (λ len. len ≡ length (entry_bytes (option_entry self.now))) }
+        ensures entry { IfOk result (λ _. IsEntry (option_entry self.now)) }
+        ensures refusal { result_err result ≡ write_fault (option_entry self.now) (length buffer.old) }
+        ensures buffer { buffer.new ≡ option_over (option_entry self.now) buffer.old }
     {
         let lengths = match self.lengths() {
             Ok(lengths) => lengths,
@@ -207,11 +207,11 @@ impl<'a> LoadOptionBuilder<'a> {
     /// assert_eq!(rt; bytes.as_slice(), wanted.as_slice());
     /// ```
     pub fn to_vec<A: Allocator>(&self, alloc: A) -> Result<Vec<u8, A>, OptionBuildError>
-        ensures ok { IfOk result (λ bytes. bytes.items ≡ entry_bytes (fields_of self.now)) }
-        ensures entry { IfOk result (λ _. IsEntry (fields_of self.now)) }
-        ensures accepted { IfOk result (λ _. fields_fault (fields_of self.now) ≡ None) }
+        ensures ok { IfOk result (λ bytes. bytes.items ≡ entry_bytes (option_entry self.now)) }
+        ensures entry { IfOk result (λ _. IsEntry (option_entry self.now)) }
+        ensures accepted { IfOk result (λ _. fields_fault (option_entry self.now) ≡ None) }
         ensures refusal { IfErr result (λ error. error
-            ≡ unwrap_or (fields_fault (fields_of self.now)) OptionBuildError.OutOfMemory) }
+            ≡ unwrap_or (fields_fault (option_entry self.now)) OptionBuildError.OutOfMemory) }
     {
         let lengths = match self.lengths() {
             Ok(lengths) => lengths,

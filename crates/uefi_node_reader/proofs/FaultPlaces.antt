@@ -1,7 +1,7 @@
 -- A byte that is wrong lies in its text, or at its end.
 use Rattle.std.proofs.Common.{ℕ, suc, ◌+◌, ◌-◌, ◌≤◌, Bool, true, false, cond, eqb, List, [], ◌∷◌, length, arith}
 use Rattle.std.specs.Prelude.{Option, Some, None, codes}
-use Rattle.uefi_node_reader.specs.LenientFaults.{open_fault, begun, call_fault, call_stop, cut_fault, fault, fault_after, file_fault, lenient_fault, place_at, stop_fault}
+use Rattle.uefi_node_reader.specs.LenientFaults.{open_fault, begun, call_fault, call_stop, cut_fault, fault_at_byte, fault_after, file_fault, lenient_fault, place_at, stop_fault}
 use Rattle.uefi_node_reader.specs.LenientFields.{after_literal}
 use Rattle.uefi_node_reader.specs.LenientNodes.{begins_call, cut_call, is_blank, tidied}
 use Rattle.uefi_node_reader.specs.NamedFiles.{is_after_node}
@@ -26,7 +26,7 @@ open_within : (text : List ℕ) (len : ℕ) (o : Option Stop) → (open_fault te
 open_within text len None = omega arith
 open_within text len (Some stop) = by (eqb stop.left 0)
   where
-    by : (b : Bool) → (cond b (fault (length text) (expected.Byte 41)) (fault (place_at (len - stop.left) text) stop.expected)).byte ≤ length text
+    by : (b : Bool) → (cond b (fault_at_byte (length text) (expected.Byte 41)) (fault_at_byte (place_at (len - stop.left) text) stop.expected)).byte ≤ length text
     by true = omega arith
     by false = place_within (len - stop.left) text
 
@@ -47,7 +47,7 @@ after_within text (Some rest) = omega arith
 after_within text None = by (begins_call text)
   where
     by : (b : Bool) → (cond b (call_fault text (after_literal (codes "File(") text))
-        (fault 0 (cond (is_after_node text) expected.Node expected.FileName))).byte ≤ length text
+        (fault_at_byte 0 (cond (is_after_node text) expected.Node expected.FileName))).byte ≤ length text
     by true = call_within text (after_literal (codes "File(") text)
     by false = omega arith
 

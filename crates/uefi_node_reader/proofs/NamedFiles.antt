@@ -24,7 +24,7 @@ use Rattle.uefi_node_reader.specs.Counted.{pushed}
 use Rattle.uefi_node_reader.specs.FieldReading.{read_if}
 use Rattle.uefi_node_reader.proofs.CountedBytes.{pushed-append}
 use Rattle.uefi_node_reader.proofs.Digits.{some_pair}
-use Rattle.uefi_node_reader.specs.NamedFiles.{begins_name, ends_name, is_after_node, is_name, is_name_char, IsNamed, name_bytes, name_data, name_read}
+use Rattle.uefi_node_reader.specs.NamedFiles.{begins_name, ends_name, is_after_node, is_name, is_name_char, IsNamedNode, name_bytes, name_data, name_read}
 
 -- the test for units among which no NUL is
 abbrev pub no_nul : List ℕ → Bool
@@ -146,11 +146,11 @@ pub name_parts : (name : List ℕ) → is_name name ≡ true → (begins_name na
 name_parts name e =
     let p = and_parts (begins_name name) _ e in (p.0, (and_parts (list_all is_name_char name) _ p.1).0)
 
-pub name_printed : (node : Node) (is : IsNamed node) → node_text false false node ≡ encodes is.name
+pub name_printed : (node : Node) (is : IsNamedNode node) → node_text false false node ≡ encodes is.name
 name_printed node is = ap (λ (x : Node). node_text false false x) is.is ∙ named_text is.name is.scalars (name_parts is.name is.is_name).1
 
 -- a name is read as its node
-pub name_again : (node : Node) → IsNamed node → (rest : List ℕ) → is_after_node rest ≡ true
+pub name_again : (node : Node) → IsNamedNode node → (rest : List ℕ) → is_after_node rest ≡ true
     → name_read (node_text false false node ++ rest) ≡ Some (node, rest)
 name_again node is rest ends =
     let text : List ℕ = encodes is.name ++ rest in
@@ -169,7 +169,7 @@ taken true made node left rest e = let same = some_pair (made, left) (node, rest
 
 -- what is read is a node that holds a name, and is printed so
 pub name_takes : (text : List ℕ) (node : Node) (rest : List ℕ) → name_read text ≡ Some (node, rest)
-    → IsNamed node × (text ≡ node_text false false node ++ rest)
+    → IsNamedNode node × (text ≡ node_text false false node ++ rest)
 name_takes text node rest e =
     let place : ℕ = position_or_len ends_name text in
     let name : List ℕ = name_bytes text in
@@ -180,8 +180,8 @@ name_takes text node rest e =
     let same : chars name ≡ u.0 = ap chars (sym u.1.1) ∙ chars-encodes u.0 u.1.0 in
     let s : all_scalars (chars name) ≡ true = ap all_scalars same ∙ u.1.0 in
     let bytes : encodes (chars name) ≡ name = ap encodes same ∙ u.1.1 in
-    let is : IsNamed made = record { name = chars name; scalars = s; is_name = q.1; is = refl } in (
-      subst (λ (x : Node). IsNamed x) p.1 is,
+    let is : IsNamedNode made = record { name = chars name; scalars = s; is_name = q.1; is = refl } in (
+      subst (λ (x : Node). IsNamedNode x) p.1 is,
       sym (take-append-drop place text) ∙ (λ i. sym bytes i ++ p.2 i)
           ∙ ap (λ (x : List ℕ). x ++ rest) (sym (name_printed made is)) ∙ ap (λ (x : Node). node_text false false x ++ rest) p.1,
     )

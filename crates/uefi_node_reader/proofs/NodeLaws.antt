@@ -11,7 +11,7 @@ use Rattle.uefi_node_table.proofs.Forms.{found}
 use Rattle.uefi_device_nodes.specs.Nodes.{Node}
 use Rattle.uefi_device_nodes.specs.NodeTexts.{irregular_text, is_irregular, node_text, unknown_text}
 use Rattle.uefi_node_reader.specs.FieldReading.{either_read}
-use Rattle.uefi_node_reader.specs.TableReading.{first_of, IsTabled, printed_by, prints, table_read}
+use Rattle.uefi_node_reader.specs.TableReading.{first_of, IsTabled, printed_in, prints, table_read}
 use Rattle.uefi_node_reader.specs.WordReading.{clash}
 use Rattle.uefi_node_reader.specs.PlainNodes.{is_formed, is_plain, plain_read}
 use Rattle.uefi_node_reader.specs.NamedFiles.{name_data, is_name_char, begins_name, is_after_node, IsTold, name_read, node_read, is_name}
@@ -71,7 +71,7 @@ regular node told =
     }
 
 -- such a node is printed by the table
-tabled_text : (node : Node) → IsTabled forms node → node_text false false node ≡ printed_by forms node
+tabled_text : (node : Node) → IsTabled forms node → node_text false false node ≡ printed_in forms node
 unfolding node_text has_form table_text
 tabled_text node told =
     let none = (regular node told).regular in

@@ -13,7 +13,7 @@ use Rattle.uefi_node_reader.specs.TableReading.{added}
 use Rattle.uefi_node_reader.specs.TextNodes.{fitting}
 use Rattle.uefi_node_reader.specs.WordReading.{after}
 use Rattle.uefi_node_reader.proofs.Heads.{form_shown}
-use Rattle.uefi_node_reader.specs.PlainNodes.{IsPlain, is_formed, is_plain, plain_read}
+use Rattle.uefi_node_reader.specs.PlainNodes.{IsPlainNode, is_formed, is_plain, plain_read}
 use Rattle.uefi_node_reader.proofs.Digits.{decimal_base, number_again, number_takes, some_pair}
 use Rattle.uefi_node_reader.proofs.Literals.{after_takes, bind_some}
 use Rattle.uefi_node_reader.proofs.TailLaws.{comma_again, comma_takes}
@@ -51,7 +51,7 @@ unfolding unknown_text
 unknown_parts node rest = simp append_assoc
 
 -- the text of a plain node is read as that node
-pub plain_again : (node : Node) → IsPlain node → (rest : List ℕ) → plain_read (node_text false false node ++ rest) ≡ Some (node, rest)
+pub plain_again : (node : Node) → IsPlainNode node → (rest : List ℕ) → plain_read (node_text false false node ++ rest) ≡ Some (node, rest)
 plain_again node is rest =
     let a : List ℕ = codes ")" ++ rest in
     let b : List ℕ = comma_bytes node.content ++ a in
@@ -68,7 +68,7 @@ if_takes true made node left rest e = let same = some_pair (made, left) (node, r
 
 -- what is read is a plain node, and is printed so
 pub plain_takes : (text : List ℕ) (node : Node) (rest : List ℕ) → plain_read text ≡ Some (node, rest)
-    → IsPlain node × (text ≡ node_text false false node ++ rest)
+    → IsPlainNode node × (text ≡ node_text false false node ++ rest)
 plain_takes text node rest e =
     let t = bind_some (after (codes "Path(") text) _ (node, rest) e in
     let k = bind_some (number_read 10 256 t.0) _ (node, rest) t.2 in
@@ -81,12 +81,12 @@ plain_takes text node rest e =
     let kind = number_takes 10 false decimal_base 256 (omega arith) (omega arith) t.0 k.0.0 k.0.1 k.1 in
     let sub_kind = number_takes 10 false decimal_base 256 (omega arith) (omega arith) u.0 s.0.0 s.0.1 s.1 in
     let bytes = comma_takes s.0.1 c.0.0 c.0.1 c.1 in
-    let is : IsPlain made = record { device_type = kind.1; sub_type = sub_kind.1; content = bytes.1; plain = same.0 } in
+    let is : IsPlainNode made = record { device_type = kind.1; sub_type = sub_kind.1; content = bytes.1; plain = same.0 } in
     let whole : text ≡ unknown_text made ++ r.0 = after_takes (codes "Path(") text t.0 t.1
     ∙ ap (λ (x : List ℕ). codes "Path(" ++ x) (kind.0 ∙ ap (λ (x : List ℕ). decimal k.0.0 ++ x) (after_takes (codes ",") k.0.1 u.0 u.1
     ∙ ap (λ (x : List ℕ). codes "," ++ x) (sub_kind.0 ∙ ap (λ (x : List ℕ). decimal s.0.0 ++ x) (bytes.0
     ∙ ap (λ (x : List ℕ). comma_bytes c.0.0 ++ x) (after_takes (codes ")") c.0.1 r.0 r.1))))) ∙ sym (unknown_parts made r.0) in (
-      subst (λ (x : Node). IsPlain x) same.1 is,
+      subst (λ (x : Node). IsPlainNode x) same.1 is,
       whole ∙ ap (λ (x : List ℕ). x ++ r.0) (sym (plain_text made (plain_parts made same.0))) ∙ (λ i. node_text false false (same.1 i) ++ same.2 i),
     )
 

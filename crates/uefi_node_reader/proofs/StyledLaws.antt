@@ -7,7 +7,7 @@ use Rattle.std.specs.Option.{option_map}
 use Rattle.std.proofs.lemmas.Bool.{and_parts}
 use Rattle.uefi_node_table.specs.Rows.{Form}
 use Rattle.uefi_device_nodes.specs.Nodes.{Node, node_with}
-use Rattle.uefi_node_reader.specs.LenientFaults.{fault, past, place_at}
+use Rattle.uefi_node_reader.specs.LenientFaults.{fault_at_byte, past, place_at}
 use Rattle.uefi_node_reader.specs.LenientNodes.{IsRestOf, begins_call, cut_call, ended, lenient_read, tidied, told_in}
 use Rattle.uefi_node_reader.specs.Libefivar.{fault_after_own, fault_or_lenient, forms_exact, libefivar_fault, libefivar_read, own_call, own_fault, own_read, own_stop}
 use Rattle.uefi_node_reader.specs.NamedFiles.{IsTold, is_after_node, node_read}
@@ -124,7 +124,7 @@ pub printed_exactly : PrintedExactly
 unfolding styled_read
 printed_exactly is_rooted text node rest e = (ends (node_read text) node rest e).0
 
--- where the fault of a call lies
+-- where the fault_at_byte of a call lies
 own_within : (is_rooted : Bool) (text : List ℕ) (o : Option NodeFault) → own_fault text ≡ o → (fault_or_lenient is_rooted text o).byte ≤ length text
 own_within is_rooted text None e = fault_within is_rooted text
 own_within is_rooted text (Some other) e =
@@ -132,10 +132,10 @@ own_within is_rooted text (Some other) e =
     placed (length (tidied call.0.0)) (own_stop (tidied call.0.0)) call.2
   where
     placed : (len : ℕ) (s : Option Stop)
-        → option_map (λ (stop : Stop). fault (place_at (len - stop.left) text) stop.expected) s ≡ Some other → other.byte ≤ length text
+        → option_map (λ (stop : Stop). fault_at_byte (place_at (len - stop.left) text) stop.expected) s ≡ Some other → other.byte ≤ length text
     placed len None p = cc
     placed len (Some stop) p =
-        let same : fault (place_at (len - stop.left) text) stop.expected ≡ other = cc in
+        let same : fault_at_byte (place_at (len - stop.left) text) stop.expected ≡ other = cc in
         subst (λ (f : NodeFault). f.byte ≤ length text) same (place_within (len - stop.left) text)
 
 after_within : (is_rooted : Bool) (text : List ℕ) (o : Option (List ℕ)) → (fault_after_own is_rooted text o).byte ≤ length text

@@ -14,7 +14,7 @@ use Rattle.uefi_node_table.specs.Table.{text_in}
 use Rattle.uefi_device_nodes.specs.Nodes.{Node, node_with}
 use Rattle.uefi_node_reader.specs.FieldReading.{◌>>=◌, either_read, read_if}
 use Rattle.uefi_node_reader.specs.WordReading.{after}
-use Rattle.uefi_node_reader.specs.TableReading.{IsTabled, IsTailTold, IsWhole, all_differ, are_apart, blank, differ, ends_pieces, ends_tail, followed, form_place, form_read, forms_read, is_apart, is_kept, is_open, is_read, is_sound, kept, overlay, pieces_differ, pieces_put, printed_by, prints, rest_read, table_read, tail_read}
+use Rattle.uefi_node_reader.specs.TableReading.{IsTabled, IsTailTold, IsWhole, all_differ, are_apart, blank, differ, ends_pieces, ends_tail, followed, form_place, form_read, forms_read, is_apart, is_kept, is_open, is_read, is_sound, kept, overlay, pieces_differ, pieces_put, printed_in, prints, rest_read, table_read, tail_read}
 use Rattle.uefi_node_reader.specs.WordReading.{clash, same_text}
 use Rattle.uefi_node_reader.proofs.Digits.{some_pair}
 use Rattle.uefi_node_reader.proofs.Literals.{after_again, after_some, after_takes, bind_some, clash_none, same_is}
@@ -183,14 +183,14 @@ placed test (b ∷ bs) form others e = by (test b) refl e (placed test bs form o
     by false p q h = ap (λ (t : Bool). cond t (Some b) (find_form test (bs ++ form ∷ others))) p ∙ h (omega arith)
 
 some_takes : (all before forms : List Form) → all ≡ before ++ forms → list_all is_sound forms ≡ true → (text : List ℕ) (node : Node) (rest : List ℕ)
-    → forms_read all (length before) forms text ≡ Some (node, rest) → IsTabled all node × (text ≡ printed_by all node ++ rest)
+    → forms_read all (length before) forms text ≡ Some (node, rest) → IsTabled all node × (text ≡ printed_in all node ++ rest)
 some_takes all before [] a s text node rest e = cc
 some_takes all before (f ∷ fs) a s text node rest e =
     let parts = and_parts (is_sound f) (list_all is_sound fs) s in
     by (form_read f text) refl (form_takes f parts.0 text) e (some_takes all (before ++ f ∷ []) fs (a ∙ sym (append_assoc before (f ∷ []) fs)) parts.1 text node rest)
   where
     Told : Type 0
-    Told = IsTabled all node × (text ≡ printed_by all node ++ rest)
+    Told = IsTabled all node × (text ≡ printed_in all node ++ rest)
 
     next : ℕ
     next = length before + 1
@@ -206,9 +206,9 @@ some_takes all before (f ∷ fs) a s text node rest e =
         let is_here : form_place (prints made) (before ++ f ∷ fs) ≡ length before = ap (λ (l : List Form). form_place (prints made) l) (sym a) ∙ eqb-true _ _ tests.0 in
         let chosen : find_form (prints made) all ≡ Some f = ap (λ (l : List Form). find_form (prints made) l) a ∙ placed (prints made) before f fs is_here in
         let told : IsTabled all made = record { form = f; found = chosen; read = r.read; whole = r.whole; bytes = r.bytes; fits = tests.1 } in
-        let printed : printed_by all made ≡ form_text f content = ap (λ (o : Option Form). text_in o content) chosen in (
+        let printed : printed_in all made ≡ form_text f content = ap (λ (o : Option Form). text_in o content) chosen in (
           subst (λ (x : Node). IsTabled all x) same.0 told,
-          r.text_is ∙ ap (λ (x : List ℕ). x ++ left) (sym printed) ∙ (λ i. printed_by all (same.0 i) ++ same.1 i),
+          r.text_is ∙ ap (λ (x : List ℕ). x ++ left) (sym printed) ∙ (λ i. printed_in all (same.0 i) ++ same.1 i),
         )
 
     by : (r : Option (List ℕ × List ℕ)) → form_read f text ≡ r → ((content left : List ℕ) → form_read f text ≡ Some (content, left) → Taken f text content left)
@@ -221,7 +221,7 @@ some_takes all before (f ∷ fs) a s text node rest e =
 
 -- what is read is told by the table, and is printed so
 pub table_takes : (forms : List Form) → list_all is_sound forms ≡ true → (text : List ℕ) (node : Node) (rest : List ℕ)
-    → table_read forms text ≡ Some (node, rest) → IsTabled forms node × (text ≡ printed_by forms node ++ rest)
+    → table_read forms text ≡ Some (node, rest) → IsTabled forms node × (text ≡ printed_in forms node ++ rest)
 table_takes forms s text node rest e = some_takes forms [] forms refl s text node rest e
 
 -- where the form stands that is found
@@ -297,7 +297,7 @@ skips all (b ∷ bs) form others place d r s content rest l bytes =
 
 -- a node that is told by the table is read from its text
 pub table_again : (forms : List Form) → list_all is_sound forms ≡ true → all_differ forms ≡ true → (node : Node) → IsTabled forms node → (rest : List ℕ)
-    → table_read forms (printed_by forms node ++ rest) ≡ Some (node, rest)
+    → table_read forms (printed_in forms node ++ rest) ≡ Some (node, rest)
 table_again forms s d node told rest =
     let form : Form = told.form in
     let st = stands (prints node) forms form told.found in

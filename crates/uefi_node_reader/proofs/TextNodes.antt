@@ -10,7 +10,7 @@ use Rattle.uefi_device_nodes.specs.Nodes.{Node, node_with}
 use Rattle.uefi_node_reader.specs.Counted.{pushed, put_on}
 use Rattle.uefi_node_reader.specs.FieldReading.{read_if}
 use Rattle.uefi_node_reader.specs.TableReading.{added, form_place, kept, prints}
-use Rattle.uefi_node_reader.specs.TextNodes.{bytes_of, fitting}
+use Rattle.uefi_node_reader.specs.TextNodes.{read_data, fitting}
 use Rattle.uefi_node_reader.proofs.CountedBytes.{counted, first_shown, front_kept, whole_written}
 use Rattle.uefi_node_reader.proofs.Digits.{some_pair}
 
@@ -42,9 +42,9 @@ module _ (start : List ℕ) (fixed : ℕ) (small : fixed ≤ 64) (room : length 
   -- a node is read
   pub record IsRead (o : Option (List ℕ × List ℕ)) (head : List ℕ) (len : ℕ) (rest : List ℕ) : Type 0 where
     pub some : is_some o ≡ true
-    pub count : len ≡ length (take fixed head ++ bytes_of o)
-    pub shown : take len head ≡ take 64 (take fixed head ++ bytes_of o)
-    pub data_ : Some (take fixed head ++ bytes_of o, rest) ≡ fitting (option_and_then (added (take fixed start)) o)
+    pub count : len ≡ length (take fixed head ++ read_data o)
+    pub shown : take len head ≡ take 64 (take fixed head ++ read_data o)
+    pub data_ : Some (take fixed head ++ read_data o, rest) ≡ fitting (option_and_then (added (take fixed start)) o)
 
   pub tail_fits : (o : Option (List ℕ × List ℕ)) (head : List ℕ) (len : ℕ) (rest : List ℕ)
       → Some ((head, len), rest) ≡ option_and_then (put_on (start, fixed)) o → len ≤ 0xfffb → IsRead o head len rest
@@ -70,8 +70,8 @@ module _ (start : List ℕ) (fixed : ℕ) (small : fixed ≤ 64) (room : length 
 
 -- all data, written to as many places
 pub tail_written : (front places written head : List ℕ) (o : Option (List ℕ × List ℕ)) (len : ℕ) (r : Option (ℕ × Bor (List ℕ)))
-    → is_some o ≡ true → length places ≡ length (front ++ bytes_of o) → length places ≤ 2 ^ 64 - 1 → (written, len) ≡ pushed (places, 0) front
-    → option_map (λ (x : ℕ × Bor (List ℕ)). ((head, x.0), x.1.now)) r ≡ option_and_then (put_on (written, len)) o → head ≡ front ++ bytes_of o
+    → is_some o ≡ true → length places ≡ length (front ++ read_data o) → length places ≤ 2 ^ 64 - 1 → (written, len) ≡ pushed (places, 0) front
+    → option_map (λ (x : ℕ × Bor (List ℕ)). ((head, x.0), x.1.now)) r ≡ option_and_then (put_on (written, len)) o → head ≡ front ++ read_data o
 tail_written front places written head None len r some size few first e = absurd (true≢false (sym some))
 tail_written front places written head (Some read) len None some size few first e = cc
 tail_written front places written head (Some read) len (Some x) some size few first e =

@@ -160,37 +160,37 @@ place_at count [] = 0
 place_at count (c ∷ cs) = if is_blank c then place_at count cs + 1
     else (if count == 0 then 0 else place_at (count - 1) cs + 1)
 
--- a fault of a text
-abbrev pub fault : ℕ → Expected → NodeFault
-fault byte what = record { byte = byte; expected = what }
+-- a fault_at_byte of a text
+abbrev pub fault_at_byte : ℕ → Expected → NodeFault
+fault_at_byte byte what = record { byte = byte; expected = what }
 
--- the fault of a text, by how many bytes its tidied call has and where reading it stops
+-- the fault_at_byte of a text, by how many bytes its tidied call has and where reading it stops
 abbrev pub stop_fault : List ℕ → ℕ → Option Stop → NodeFault
-stop_fault text len None = fault 0 expected.Node
-stop_fault text len (Some stop) = fault (place_at (len - stop.left) text) stop.expected
+stop_fault text len None = fault_at_byte 0 expected.Node
+stop_fault text len (Some stop) = fault_at_byte (place_at (len - stop.left) text) stop.expected
 
 -- where a tidied call stops telling which node it is, or else where it stops being that of any form
 abbrev pub call_stop : List ℕ → Option Stop
 call_stop text = option_or (ambiguous_stop text)
     (further (forms_stop forms text) (further (forms_stop pasted_forms text) (path_stop text)))
 
--- the fault of a call without a `)`, of which nothing else is wrong if reading it stops after that
+-- the fault_at_byte of a call without a `)`, of which nothing else is wrong if reading it stops after that
 abbrev pub open_fault : List ℕ → ℕ → Option Stop → NodeFault
-open_fault text len None = fault 0 expected.Node
-open_fault text len (Some stop) = if stop.left == 0 then fault (length text) (expected.Byte 41)
-    else fault (place_at (len - stop.left) text) stop.expected
+open_fault text len None = fault_at_byte 0 expected.Node
+open_fault text len (Some stop) = if stop.left == 0 then fault_at_byte (length text) (expected.Byte 41)
+    else fault_at_byte (place_at (len - stop.left) text) stop.expected
 
--- the fault of a call, by what stands before its `)`
+-- the fault_at_byte of a call, by what stands before its `)`
 abbrev pub cut_fault : List ℕ → Option (List ℕ × List ℕ) → NodeFault
 cut_fault text None = open_fault text (length (tidied text)) (call_stop (tidied text))
 cut_fault text (Some call) = stop_fault text (length (tidied call.0)) (call_stop (tidied call.0))
 
--- the fault of a file's name up to a `)`
+-- the fault_at_byte of a file's name up to a `)`
 abbrev pub file_fault : List ℕ → List ℕ → Option (List ℕ × List ℕ) → NodeFault
-file_fault text name None = fault (length text) (expected.Byte 41)
-file_fault text name (Some call) = fault (length text - length name) expected.FileName
+file_fault text name None = fault_at_byte (length text) (expected.Byte 41)
+file_fault text name (Some call) = fault_at_byte (length text - length name) expected.FileName
 
--- the fault of a text that begins with a call
+-- the fault_at_byte of a text that begins with a call
 abbrev pub call_fault : List ℕ → Option (List ℕ) → NodeFault
 call_fault text None = cut_fault text (cut_call text)
 call_fault text (Some name) = file_fault text name (cut_call name)
@@ -200,12 +200,12 @@ abbrev pub begun : Bool → List ℕ → Option (List ℕ)
 begun is_rooted text = past (either_read (node_read text)
     (if begins_call text then file_or_call (after_literal (codes "File(") text) text else bare_read is_rooted text))
 
--- the fault of a text, by what stands after the node that it begins with: the node should end there
+-- the fault_at_byte of a text, by what stands after the node that it begins with: the node should end there
 abbrev pub fault_after : List ℕ → Option (List ℕ) → NodeFault
-fault_after text (Some rest) = fault (length text - length rest) expected.End
+fault_after text (Some rest) = fault_at_byte (length text - length rest) expected.End
 fault_after text None = if begins_call text then call_fault text (after_literal (codes "File(") text)
-    else fault 0 (if is_after_node text then expected.Node else expected.FileName)
+    else fault_at_byte 0 (if is_after_node text then expected.Node else expected.FileName)
 
--- the fault of a text of which no node is read leniently
+-- the fault_at_byte of a text of which no node is read leniently
 unfoldable pub lenient_fault : Bool → List ℕ → NodeFault
 lenient_fault is_rooted text = fault_after text (begun is_rooted text)

@@ -10,7 +10,7 @@ use Rattle.uefi_device_nodes.specs.Nodes.{Node, node_with}
 use Rattle.uefi_node_table.specs.Table.{forms}
 use Rattle.uefi_node_reader.specs.FieldReading.{either_read, read_if}
 use Rattle.uefi_node_reader.specs.TableReading.{IsTabled, table_read}
-use Rattle.uefi_node_reader.specs.PlainNodes.{IsPlain, plain_read}
+use Rattle.uefi_node_reader.specs.PlainNodes.{IsPlainNode, plain_read}
 
 -- the test for a byte that ends a name: a slash or a comma
 abbrev pub ends_name : ℕ → Bool
@@ -34,7 +34,7 @@ abbrev pub is_name : List ℕ → Bool
 is_name name = begins_name name && (list_all is_name_char name && nat_le (length (name_data name)) 0xfffb)
 
 -- a node that holds a name, and nothing else
-pub record IsNamed (node : Node) : Type 0 where
+pub record IsNamedNode (node : Node) : Type 0 where
   pub name : List ℕ
   pub scalars : all_scalars name ≡ true
   pub is_name : is_name name ≡ true
@@ -51,7 +51,7 @@ name_read text = read_if (is_utf8 (name_bytes text) && is_name (chars (name_byte
 
 -- a node whose text holds all that it holds
 abbrev pub IsTold : Node → Type 0
-IsTold node = IsTabled forms node ⊎ (IsPlain node ⊎ IsNamed node)
+IsTold node = IsTabled forms node ⊎ (IsPlainNode node ⊎ IsNamedNode node)
 
 -- the node whose text bytes begin with, and what stands after it
 unfoldable pub node_read : List ℕ → Option (Node × List ℕ)

@@ -18,7 +18,7 @@ is_plain node = not (node.device_type == 0x7f)
     && (not (is_formed node) && nat_le (length node.content) 0xfffb)
 
 -- a node that is printed with all its data, whatever they are
-pub record IsPlain (node : Node) : Type 0 where
+pub record IsPlainNode (node : Node) : Type 0 where
   pub device_type : node.device_type < 256
   pub sub_type : node.sub_type < 256
   pub content : All IsByte node.content

@@ -1,7 +1,7 @@
 -- Nodes read from texts of each style.
 use Rattle.std.specs.Prelude.{◌≡◌, ◌≤◌, ◌<◌, ℕ, Bool, List, length, Option, Some, true, false}
 use Rattle.uefi_device_nodes.specs.Nodes.{Node}
-use Rattle.uefi_node_reader.specs.LenientFaults.{fault, lenient_fault}
+use Rattle.uefi_node_reader.specs.LenientFaults.{fault_at_byte, lenient_fault}
 use Rattle.uefi_node_reader.specs.LenientNodes.{IsRestOf, ended, lenient_read}
 use Rattle.uefi_node_reader.specs.Libefivar.{libefivar_fault, libefivar_read}
 use Rattle.uefi_node_reader.specs.NamedFiles.{IsTold, is_after_node, node_read}
@@ -17,9 +17,9 @@ styled_read Printed is_rooted text = ended (node_read text)
 styled_read Lenient is_rooted text = lenient_read is_rooted text
 styled_read Libefivar is_rooted text = libefivar_read is_rooted text
 
--- the fault of a text of which no node is read in a style
+-- the fault_at_byte of a text of which no node is read in a style
 unfoldable pub styled_fault : TextStyle → Bool → List ℕ → NodeFault
-styled_fault Printed is_rooted text = fault 0 expected.AsPrinted
+styled_fault Printed is_rooted text = fault_at_byte 0 expected.AsPrinted
 styled_fault Lenient is_rooted text = lenient_fault is_rooted text
 styled_fault Libefivar is_rooted text = libefivar_fault is_rooted text
 

@@ -193,8 +193,8 @@ IsWhole form content = (overlay (fields_of form) content (blank form) ++ drop fo
     × IsTailTold form.tail form.close (drop form.least content)
 
 -- the text of a node in its form of the table, or nothing
-abbrev pub printed_by : List Form → Node → List ℕ
-printed_by forms node = text_in (find_form (prints node) forms) node.content
+abbrev pub printed_in : List Form → Node → List ℕ
+printed_in forms node = text_in (find_form (prints node) forms) node.content
 
 -- a node whose text in the table tells all of it
 pub record IsTabled (forms : List Form) (node : Node) : Type 0 where

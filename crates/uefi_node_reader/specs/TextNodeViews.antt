@@ -5,9 +5,9 @@ use Rattle.uefi_node_reader.specs.TextNodes.{all_data}
 use Rattle.uefi_node_reader.specs.declared.text_node.TextNode.{TextNode}
 
 -- the data of a node that was read
-abbrev pub data_of : TextNode → List ℕ
-data_of node = all_data node.head node.fixed node.coding node.close.now node.text.now
+abbrev pub text_node_data : TextNode → List ℕ
+text_node_data node = all_data node.head node.fixed node.coding node.close.now node.text.now
 
 -- the node that was read
 unfoldable pub text_node : TextNode → Node
-text_node node = node_with node.device_type node.sub_type (data_of node)
+text_node node = node_with node.device_type node.sub_type (text_node_data node)

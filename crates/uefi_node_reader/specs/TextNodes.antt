@@ -7,13 +7,13 @@ use Rattle.uefi_node_reader.specs.declared.coding.Coding.{Coding}
 use Rattle.uefi_node_reader.specs.declared.coding.Coding.TheVariants.{InTail, InName}
 
 -- data that were read, or none
-abbrev pub bytes_of : Option (List ℕ × List ℕ) → List ℕ
-bytes_of None = []
-bytes_of (Some read) = read.0
+abbrev pub read_data : Option (List ℕ × List ℕ) → List ℕ
+read_data None = []
+read_data (Some read) = read.0
 
 -- the data that a text begins with
 abbrev pub decoded : Coding → List ℕ → List ℕ → List ℕ
-decoded (InTail tail) close text = bytes_of (tail_read tail close text)
+decoded (InTail tail) close text = read_data (tail_read tail close text)
 decoded InName close text = name_data (chars text)
 
 -- the test for a text that begins with data

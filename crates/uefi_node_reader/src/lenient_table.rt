@@ -10,7 +10,7 @@ ghost use Rattle.uefi_node_reader.specs.LenientNodes.{call_read, call_set, cut_c
 ghost use Rattle.uefi_node_reader.specs.OtherForms.{pasted_forms};
 ghost use Rattle.uefi_node_reader.specs.TableReading.{form_read, is_filled, is_sound};
 ghost use Rattle.uefi_node_reader.specs.TextNodes.{fitting};
-ghost use Rattle.uefi_node_reader.specs.TextNodeViews.{data_of, text_node};
+ghost use Rattle.uefi_node_reader.specs.TextNodeViews.{text_node_data, text_node};
 
 use crate::ambiguous::ambiguous_stop;
 use crate::counted_bytes::push;
@@ -90,7 +90,7 @@ fn set_row<'a>(row: &Row, text: &'a [u8]) -> Option<(TextNode<'a>, &'a [u8])>
     requires filled { IsTrue (is_filled (as_form row.now)) }
     ensures types { IfSome result (λ x.
         (x.0.device_type ≡ row.now.kind) × (x.0.sub_type ≡ row.now.sub_kind)) }
-    ensures data { option_map (λ x. (data_of x.0, x.1.now)) result
+    ensures data { option_map (λ x. (text_node_data x.0, x.1.now)) result
         ≡ fitting (form_set (as_form row.now) text.now) }
 {
     let Mode::Read = row.mode else {
@@ -116,7 +116,7 @@ fn told<'a>(row: &Row, read: Option<(TextNode<'a>, &'a [u8])>) -> Option<TextNod
     requires types { IfSome read (λ x.
         (x.0.device_type ≡ row.now.kind) × (x.0.sub_type ≡ row.now.sub_kind)) }
     ensures { option_map text_node result
-        ≡ told_in (as_form row.now) (option_map (λ x. (data_of x.0, x.1.now)) read.entry) }
+        ≡ told_in (as_form row.now) (option_map (λ x. (text_node_data x.0, x.1.now)) read.entry) }
 {
     let (node, rest) = read?;
     if !rest.is_empty() {

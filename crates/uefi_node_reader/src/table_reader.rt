@@ -10,7 +10,7 @@ ghost use Rattle.uefi_device_nodes.specs.Nodes.{node_with};
 ghost use Rattle.uefi_node_reader.specs.TableReading.{are_within, blank, form_place, form_read, forms_read, is_filled, is_sound, kept, prints, put_all, rest_read, table_read};
 ghost use Rattle.uefi_node_reader.specs.TextNodes.{fitting};
 ghost use Rattle.uefi_node_reader.specs.WordReading.{after};
-ghost use Rattle.uefi_node_reader.specs.TextNodeViews.{data_of, text_node};
+ghost use Rattle.uefi_node_reader.specs.TextNodeViews.{text_node_data, text_node};
 
 use crate::fields::after;
 use crate::node_tails::read_pieces;
@@ -51,7 +51,7 @@ pub(crate) fn finish_row<'a>(
     requires within { IsTrue (list_all (is_within row.now.least) (map as_piece row.now.rest.now)) }
     ensures types { IfSome result (λ x.
         (x.0.device_type ≡ row.now.kind) × (x.0.sub_type ≡ row.now.sub_kind)) }
-    ensures data { option_map (λ x. (data_of x.0, x.1.now)) result
+    ensures data { option_map (λ x. (text_node_data x.0, x.1.now)) result
         ≡ fitting (rest_read (as_form row.now) (take row.now.least fixed, text.now)) }
 {
     let (node, rest) = TextNode::with_tail(
@@ -73,7 +73,7 @@ pub(crate) fn read_row<'a>(row: &Row, text: &'a [u8]) -> Option<(TextNode<'a>, &
     requires filled { IsTrue (is_filled (as_form row.now)) }
     ensures types { IfSome result (λ x.
         (x.0.device_type ≡ row.now.kind) × (x.0.sub_type ≡ row.now.sub_kind)) }
-    ensures data { option_map (λ x. (data_of x.0, x.1.now)) result
+    ensures data { option_map (λ x. (text_node_data x.0, x.1.now)) result
         ≡ fitting (form_read (as_form row.now) text.now) }
 {
     let Mode::Read = row.mode else {

@@ -37,7 +37,7 @@ pub struct TextNode<'a> {
 }
 
 impl<'a> TextNode<'a> {
-    ghost use Rattle.uefi_node_reader.specs.TextNodeViews.{data_of, text_node};
+    ghost use Rattle.uefi_node_reader.specs.TextNodeViews.{text_node_data, text_node};
 
     /// The node with these fixed bytes, and the data that a text begins with before `close`, as a tail has
     /// them; and what stands after these.
@@ -53,7 +53,7 @@ impl<'a> TextNode<'a> {
         requires { fixed ≤ 64 }
         ensures types { IfSome result (λ x. (x.0.device_type ≡ device_type) × (x.0.sub_type ≡ sub_type)) }
         ensures fixed { IfSome result (λ x. x.0.fixed ≡ fixed) }
-        ensures data { option_map (λ x. (data_of x.0, x.1.now)) result
+        ensures data { option_map (λ x. (text_node_data x.0, x.1.now)) result
             ≡ fitting (option_and_then (added (take fixed fixed_bytes)) (tail_read tail close.now text.now)) }
     {
         let mut head = fixed_bytes;
@@ -83,9 +83,9 @@ impl<'a> TextNode<'a> {
         requires { IsTrue (list_all (is_within self.fixed) (map as_piece pieces.now)) }
         ensures types { IfSome result (λ x.
             (x.0.device_type ≡ self.entry.device_type) × (x.0.sub_type ≡ self.entry.sub_type)) }
-        ensures data { option_map (λ x. (data_of x.0, x.1.now)) result
-            ≡ option_and_then (followed (drop self.entry.fixed (data_of self.entry)))
-            (pieces_put (map as_piece pieces.now) (take self.entry.fixed (data_of self.entry)) text.now) }
+        ensures data { option_map (λ x. (text_node_data x.0, x.1.now)) result
+            ≡ option_and_then (followed (drop self.entry.fixed (text_node_data self.entry)))
+            (pieces_put (map as_piece pieces.now) (take self.entry.fixed (text_node_data self.entry)) text.now) }
     {
         let mut head = self.head;
         let rest = read_pieces(pieces, &mut head[..usize::from(self.fixed)], text)?;

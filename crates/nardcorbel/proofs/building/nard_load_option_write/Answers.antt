@@ -4,7 +4,7 @@ use Rattle.std.proofs.lemmas.Grind.{common_steps}
 use Rattle.uefi_device_nodes.specs.Nodes.{Node}
 use Rattle.uefi_device_path.specs.LoadOptions.{Entry, entry_bytes}
 use Rattle.uefi_device_path.specs.OptionBuilding.{option_over, write_fault}
-use Rattle.uefi_device_path.specs.Views.{fields_of, nodes_of}
+use Rattle.uefi_device_path.specs.Views.{option_entry, nodes_of}
 use Rattle.uefi_device_path.specs.declared.errors.DevicePathError.{DevicePathError}
 use Rattle.uefi_device_path.specs.declared.errors.OptionBuildError.{OptionBuildError}
 use Rattle.nardcorbel.specs.Building.{option_build_place, option_build_reason}
@@ -26,7 +26,7 @@ pub returns-clause-reason : goal.returns-clause-reason
 returns-clause-reason c = λ string nodes begins.
     let text : c.to_u16_slice-text.result.now ≡ text_until_nul c.args.description.now = grind (arith, common_steps) in
     let same = c.in-Ok-from_bytes.ensures.only nodes begins in
-    let is = fields_are (fields_of c.new.result) (c.args.attributes % 4294967296) (text_until_nul c.args.description.now) nodes c.args.optional.now
+    let is = fields_are (option_entry c.new.result) (c.args.attributes % 4294967296) (text_until_nul c.args.description.now) nodes c.args.optional.now
     c.new.ensures.attributes (c.new.ensures.description ∙ text) (c.new.ensures.paths ∙ ap (λ (ks : List Node). ks ∷ []) (sym same)) c.new.ensures.optional in
     c.report_option.ensures.reason ∙ ap option_build_reason c.write.ensures.refusal
     ∙ ap (λ (e : Entry). option_build_reason (write_fault e (length c.args.buffer.now))) is
@@ -35,9 +35,9 @@ pub returns-clause-place : goal.returns-clause-place
 returns-clause-place c = λ string nodes begins.
     let text : c.to_u16_slice-text.result.now ≡ text_until_nul c.args.description.now = grind (arith, common_steps) in
     let same = c.in-Ok-from_bytes.ensures.only nodes begins in
-    let is = fields_are (fields_of c.new.result) (c.args.attributes % 4294967296) (text_until_nul c.args.description.now) nodes c.args.optional.now
+    let is = fields_are (option_entry c.new.result) (c.args.attributes % 4294967296) (text_until_nul c.args.description.now) nodes c.args.optional.now
     c.new.ensures.attributes (c.new.ensures.description ∙ text) (c.new.ensures.paths ∙ ap (λ (ks : List Node). ks ∷ []) (sym same)) c.new.ensures.optional in
-    let len = length (entry_bytes (fields_of c.new.result)) in
+    let len = length (entry_bytes (option_entry c.new.result)) in
     c.report_option.ensures.place len c.write.ensures.ok
     ∙ ap (λ (r : Option OptionBuildError). option_build_place r len c.args.place.now) c.write.ensures.refusal
     ∙ ap (λ (e : Entry). option_build_place (write_fault e (length c.args.buffer.now)) (length (entry_bytes e)) c.args.place.now) is
@@ -46,6 +46,6 @@ pub returns-clause-buffer : goal.returns-clause-buffer
 returns-clause-buffer c = λ string nodes begins.
     let text : c.to_u16_slice-text.result.now ≡ text_until_nul c.args.description.now = grind (arith, common_steps) in
     let same = c.in-Ok-from_bytes.ensures.only nodes begins in
-    let is = fields_are (fields_of c.new.result) (c.args.attributes % 4294967296) (text_until_nul c.args.description.now) nodes c.args.optional.now
+    let is = fields_are (option_entry c.new.result) (c.args.attributes % 4294967296) (text_until_nul c.args.description.now) nodes c.args.optional.now
     c.new.ensures.attributes (c.new.ensures.description ∙ text) (c.new.ensures.paths ∙ ap (λ (ks : List Node). ks ∷ []) (sym same)) c.new.ensures.optional in
     c.write.ensures.buffer ∙ ap (λ (e : Entry). option_over e c.args.buffer.now) is

@@ -5,7 +5,7 @@ use Rattle.uefi_node_table.specs.Rows.{Form, as_form}
 use Rattle.uefi_device_nodes.specs.Nodes.{Node, node_with}
 use Rattle.uefi_node_reader.specs.TableReading.{is_empty}
 use Rattle.uefi_node_reader.specs.Telling.{tells}
-use Rattle.uefi_node_reader.specs.TextNodeViews.{data_of, text_node}
+use Rattle.uefi_node_reader.specs.TextNodeViews.{text_node_data, text_node}
 use Rattle.uefi_node_reader.proofs.lenient_table.told.Goals as goal
 
 -- the test for an empty text
@@ -19,9 +19,9 @@ returns-then-not-tells c =
     let form : Form = as_form c.args.row.now in
     let read = c.in_ok-node.node in
     let rest : List ℕ = c.in_ok-node.rest.now in
-    let node : Node = node_with form.kind form.sub_kind (data_of read) in
+    let node : Node = node_with form.kind form.sub_kind (text_node_data read) in
     let types = (rw c.in_ok-node.was at c.requires.types) in
-    let not_told : false ≡ tells form node = sym c.if-not-tells.true ∙ c.tells.ensures ∙ (λ i. tells form (node_with (types.0 i) (types.1 i) (data_of read))) in
+    let not_told : false ≡ tells form node = sym c.if-not-tells.true ∙ c.tells.ensures ∙ (λ i. tells form (node_with (types.0 i) (types.1 i) (text_node_data read))) in
     rw c.in_ok-node.was (λ i. cond ((sym c.if-not-is_empty.false ∙ empty rest c.is_empty.result c.is_empty.ensures) i && not_told i) (Some node) None)
 
 pub returns : goal.returns
@@ -30,8 +30,8 @@ returns c =
     let form : Form = as_form c.args.row.now in
     let read = c.in_ok-node.node in
     let rest : List ℕ = c.in_ok-node.rest.now in
-    let node : Node = node_with form.kind form.sub_kind (data_of read) in
+    let node : Node = node_with form.kind form.sub_kind (text_node_data read) in
     let types = (rw c.in_ok-node.was at c.requires.types) in
-    let is_told : true ≡ tells form node = sym c.if-not-tells.false ∙ c.tells.ensures ∙ (λ i. tells form (node_with (types.0 i) (types.1 i) (data_of read))) in
-    rw c.in_ok-node.was ((λ i. Some (node_with (types.0 i) (types.1 i) (data_of read)))
+    let is_told : true ≡ tells form node = sym c.if-not-tells.false ∙ c.tells.ensures ∙ (λ i. tells form (node_with (types.0 i) (types.1 i) (text_node_data read))) in
+    rw c.in_ok-node.was ((λ i. Some (node_with (types.0 i) (types.1 i) (text_node_data read)))
     ∙ (λ i. cond ((sym c.if-not-is_empty.false ∙ empty rest c.is_empty.result c.is_empty.ensures) i && is_told i) (Some node) None))

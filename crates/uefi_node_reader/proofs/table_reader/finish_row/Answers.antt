@@ -4,7 +4,7 @@ use Rattle.std.specs.List.{list_all}
 use Rattle.std.proofs.lemmas.List.{length-take-le}
 use Rattle.uefi_node_table.specs.Rows.{Form, as_form, is_within}
 use Rattle.uefi_node_reader.specs.TableReading.{followed, pieces_put}
-use Rattle.uefi_node_reader.specs.TextNodeViews.{data_of}
+use Rattle.uefi_node_reader.specs.TextNodeViews.{text_node_data}
 use Rattle.uefi_node_reader.specs.WordReading.{after}
 use Rattle.uefi_node_reader.proofs.RestReads.{rest_none, rest_some}
 use Rattle.uefi_node_reader.proofs.table_reader.finish_row.Goals as goal
@@ -24,7 +24,7 @@ returns-clause-data c =
     let size : length fixed ≡ form.least = length-take-le form.least c.args.fixed (omega (arith, c.requires.small, c.with_tail.auto.fixed_bytes)) in
     let within = ap (λ (n : ℕ). list_all (is_within n) form.rest) size ∙ c.requires.within in
     let node = c.in_ok-node.node in
-    let all : List ℕ = data_of node in
+    let all : List ℕ = text_node_data node in
     let ended : Some c.in_ok-rest.rest.now ≡ after form.close c.in_ok-node.rest.now =
     (rw c.in_ok-rest.was at c.after.ensures) ∙ ap (λ (l : List ℕ). after l c.in_ok-node.rest.now) c.as_bytes.ensures.value in
     c.with_fields.ensures.data

@@ -8,7 +8,7 @@ use Rattle.uefi_device_nodes.specs.Nodes.{Node, node_with}
 use Rattle.uefi_node_reader.specs.FieldReading.{◌>>=◌, read_if}
 use Rattle.uefi_node_reader.specs.TableReading.{blank, form_place, form_read, is_read, kept, pieces_put, prints, rest_read}
 use Rattle.uefi_node_reader.specs.WordReading.{after}
-use Rattle.uefi_node_reader.specs.TextNodeViews.{data_of, text_node}
+use Rattle.uefi_node_reader.specs.TextNodeViews.{text_node_data, text_node}
 use Rattle.uefi_node_reader.proofs.Heads.{place_shown}
 use Rattle.uefi_node_reader.proofs.TextNodes.{kept-fitting}
 use Rattle.uefi_node_reader.proofs.table_reader.read_kept.Goals as goal
@@ -42,7 +42,7 @@ pub returns-then-form_place-place : goal.returns-then-form_place-place
 unfolding text_node
 returns-then-form_place-place c =
     let form : Form = as_form c.args.row.now in
-    let bytes : List ℕ = data_of c.in_ok-node.node in
+    let bytes : List ℕ = text_node_data c.in_ok-node.node in
     let node : Node = node_with form.kind form.sub_kind bytes in
     let place : c.form_place.result ≡ form_place (prints node) forms = c.form_place.ensures
     ∙ ap (λ (l : List ℕ). form_place (prints (node_with form.kind form.sub_kind l)) forms) c.head.ensures ∙ place_shown form.kind form.sub_kind bytes in
@@ -57,7 +57,7 @@ unfolding text_node
 returns c =
     let form : Form = as_form c.args.row.now in
     let read = c.in_ok-node.node in
-    let bytes : List ℕ = data_of read in
+    let bytes : List ℕ = text_node_data read in
     let node : Node = node_with form.kind form.sub_kind bytes in
     let types = (rw c.in_ok-node.was at c.read_row.ensures.types) in
     let place : c.form_place.result ≡ form_place (prints node) forms = c.form_place.ensures

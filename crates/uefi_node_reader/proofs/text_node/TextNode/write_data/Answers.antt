@@ -5,7 +5,7 @@ use Rattle.std.proofs.lemmas.Str.{IsUtf8-from_is_utf8}
 use Rattle.uefi_node_reader.specs.Counted.{pushed, put_on}
 use Rattle.uefi_node_reader.specs.NamedFiles.{name_data}
 use Rattle.uefi_node_reader.specs.TableReading.{tail_read}
-use Rattle.uefi_node_reader.specs.TextNodes.{bytes_of, decoded, is_coded}
+use Rattle.uefi_node_reader.specs.TextNodes.{read_data, decoded, is_coded}
 use Rattle.uefi_node_reader.specs.TextNodeViews.{text_node}
 use Rattle.uefi_node_reader.specs.declared.coding.Coding.{Coding}
 use Rattle.uefi_node_reader.proofs.CountedBytes.{whole_written}
@@ -17,7 +17,7 @@ unfolding text_node
 returns-in-InTail c =
     let node = c.args.self.now in
     let front : List ℕ = take node.fixed node.head in
-    let all : (text_node node).content ≡ front ++ bytes_of (tail_read c.in-InTail.tail node.close.now node.text.now) =
+    let all : (text_node node).content ≡ front ++ read_data (tail_read c.in-InTail.tail node.close.now node.text.now) =
     ap (λ (k : Coding). front ++ decoded k node.close.now node.text.now) c.in-InTail.is in
     let some : is_some (tail_read c.in-InTail.tail node.close.now node.text.now) ≡ true =
     ap (λ (k : Coding). is_coded k node.close.now node.text.now) (sym c.in-InTail.is) ∙ node.coded in
