@@ -104,9 +104,9 @@ impl<'a> DevicePath<'a> {
         }
     }
 
-    /// The device path that bytes begin with, and the bytes after it. Refused for the first node that
-    /// is none: for what is wrong with it first in the order of its bytes, at the offset of those bytes.
-    /// Takes no memory; one pass.
+    /// The device path that bytes begin with, and the bytes after it. Refused for the first node that is
+    /// none: for what is wrong with it first in the order of its bytes, at the offset of those bytes.
+    /// Takes no memory.
     ///
     /// ```rust
     /// let bytes = [1, 1, 6, 0, 2, 0x1f, 0x7f, 0xff, 4, 0, 9];
@@ -216,8 +216,7 @@ impl<'a> DevicePath<'a> {
     /// after it, and returns its length without the NUL. What follows the NUL is unchanged.
     ///
     /// Fails with `Name` if that call refuses a name, for the same node, or else if the buffer is too
-    /// small. The buffer is then unchanged. One pass over the nodes measures, and one writes. Takes no
-    /// memory.
+    /// small. The buffer is then unchanged. Takes no memory.
     ///
     /// ```rust
     /// let path = DevicePathBuf::from_text(rt.alloc(), r"SD(0x1)/\a\b")?;

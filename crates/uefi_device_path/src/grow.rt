@@ -125,7 +125,7 @@ pub(crate) fn path_len(buffer: &[u8]) -> Result<usize, DevicePathError>
 ///
 /// Fails with `Path` if the buffer begins with no device path, and then as
 /// [`DevicePathBuilder::push_node`](crate::DevicePathBuilder::push_node) does; the buffer is then
-/// unchanged. Allocates nothing; one pass over the path.
+/// unchanged. Allocates nothing.
 ///
 /// ```rust
 /// let mut buffer = [0x7f, 0xff, 4, 0, 0, 0, 0, 0, 0, 0];

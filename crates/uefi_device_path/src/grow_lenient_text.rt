@@ -21,12 +21,11 @@ use uefi_node_reader::styles::TextStyle;
 /// end, and returns how many bytes the path then has. What follows it is unchanged.
 ///
 /// The text is read as [`DevicePathBuf::from_lenient_text`](crate::DevicePathBuf) reads it; a comma in it
-/// ends an instance. Copies of its calls and names go into `scratch`, which has to be longer than the text,
-/// and then holds anything. Fails with `Path` if the buffer begins with no device path, then with
-/// `ScratchTooSmall` and the count of bytes that it needs, then with `NoNode` and the first node that can't
-/// be read, its first wrong byte and what has to stand there, and then with `BufferTooSmall` and the count
-/// of bytes that the path then needs; the buffer is then unchanged. Allocates nothing; one pass over the
-/// path, and two over the text.
+/// ends an instance. Copies of its calls and names go into `scratch`, which has to be longer than the
+/// text, and then holds anything. Fails with `Path` if the buffer begins with no device path, then with
+/// `ScratchTooSmall` and the count of bytes that it needs, then with `NoNode` and the first node that
+/// can't be read, its first wrong byte and what has to stand there, and then with `BufferTooSmall` and
+/// the count of bytes that the path then needs; the buffer is then unchanged. Allocates nothing.
 ///
 /// ```rust
 /// let mut buffer = [0x7f, 0xff, 4, 0, 0, 0, 0, 0, 0, 0];

@@ -36,10 +36,9 @@ fn text_error(error: PushLenientTextError) -> PushTextError
 /// many bytes the path then has. What follows it is unchanged.
 ///
 /// The text is read as [`DevicePathBuf::from_text`](crate::DevicePathBuf) reads it; a comma in it ends an
-/// instance. Fails with `Path` if the buffer begins with no device path, then with `NoNode` and the byte at
-/// which the text stops being that of a path, and then with `BufferTooSmall` and the count of bytes that
-/// the path then needs; the buffer is then unchanged. Allocates nothing; one pass over the path, and two
-/// over the text.
+/// instance. Fails with `Path` if the buffer begins with no device path, then with `NoNode` and the byte
+/// at which the text stops being that of a path, and then with `BufferTooSmall` and the count of bytes
+/// that the path then needs; the buffer is then unchanged. Allocates nothing.
 ///
 /// ```rust
 /// let mut buffer = [0x7f, 0xff, 4, 0, 0, 0, 0, 0, 0];

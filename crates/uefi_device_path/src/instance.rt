@@ -108,8 +108,7 @@ impl<'a> DevicePathInstance<'a> {
     /// a NUL after it, and returns its length without the NUL. What follows the NUL is unchanged.
     ///
     /// Fails with `Name` if that call refuses a name, for the same node, or else if the buffer is too
-    /// small. The buffer is then unchanged. One pass over the nodes measures, and one writes. Takes no
-    /// memory.
+    /// small. The buffer is then unchanged. Takes no memory.
     ///
     /// ```rust
     /// let path = DevicePathBuf::from_text(rt.alloc(), r"\a\b,SD(0x1)")?;

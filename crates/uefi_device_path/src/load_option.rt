@@ -49,9 +49,9 @@ pub struct LoadOption<'a> {
 impl<'a> LoadOption<'a> {
     ghost use Rattle.uefi_device_path.specs.Views.{entry_of, nodes_of, parts_of, paths_left};
 
-    /// The load option that the bytes are. Refused for the first of these that is wrong: fewer than
-    /// six bytes, a description without NUL, a file path list beyond the end or of no bytes, and a
-    /// node of the list. Takes no memory; one pass.
+    /// The load option that the bytes are. Refused for the first of these that is wrong: fewer than six
+    /// bytes, a description without NUL, a file path list beyond the end or of no bytes, and a node of
+    /// the list. Takes no memory.
     ///
     /// ```rust
     /// let option = LoadOption::from_bytes(b"\x01\0\0\0\x04\0a\0\0\0\x7f\xff\x04\0")?;
@@ -77,7 +77,7 @@ impl<'a> LoadOption<'a> {
 
     /// The load option that the bytes are, or what is well in them up to the first fault: the attributes,
     /// the description, the device paths before the fault and the nodes before it. What is refused, and
-    /// for what, is as [`LoadOption::from_bytes`] has it. Allocates nothing; one pass.
+    /// for what, is as [`LoadOption::from_bytes`] has it. Allocates nothing.
     ///
     /// Firmware such as EDK II boots an entry whose first path is whole, whatever follows that path in the
     /// list: of such an entry the first of [`LoadOptionParts::device_paths`] is that path.

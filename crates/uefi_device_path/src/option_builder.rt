@@ -168,7 +168,7 @@ impl<'a> LoadOptionBuilder<'a> {
     ///
     /// Refused for the first of these: a NUL in the description, no device path, a file path list of more
     /// than 65,535 bytes, a length that is no `usize`, and a buffer of fewer bytes, with the length that it
-    /// needs. The buffer is then unchanged. Takes no memory; two passes over the device paths.
+    /// needs. The buffer is then unchanged. Takes no memory.
     ///
     /// ```rust
     /// let path = DevicePathBuf::new(rt.alloc())?;

@@ -123,8 +123,8 @@ impl<'a> LoadOption<'a> {
     /// many bytes it then has. All other fields keep their bytes. What follows the load option in
     /// the buffer is unchanged.
     ///
-    /// Fails only with `BufferTooSmall`, which holds that length, if the buffer has fewer bytes;
-    /// the buffer is then unchanged. Allocates nothing; one pass.
+    /// Fails only with `BufferTooSmall`, which holds that length, if the buffer has fewer bytes; the
+    /// buffer is then unchanged. Allocates nothing.
     ///
     /// ```rust
     /// let option = LoadOption::from_bytes(b"\x01\0\0\0\x04\0a\0\0\0\x7f\xff\x04\0")?;

@@ -59,7 +59,7 @@ pub(crate) fn find_fault(bytes: &[u8]) -> Result<(), ListFault<'_>>
 /// Whether bytes are one device path or more, and nothing else.
 ///
 /// Fails at the first path that is malformed with the error of [`DevicePath::split_first`], whose
-/// offset counts from the first byte of all. One pass; allocates nothing.
+/// offset counts from the first byte of all. Takes no memory.
 ///
 /// ```rust
 /// assert_eq!(rt; check_paths(&[0x7f, 0xff, 4, 0, 0x7f, 0xff, 4, 0]), Ok(()));
