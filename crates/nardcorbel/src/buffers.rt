@@ -47,7 +47,8 @@ pub extern "C" fn nard_path_push(buffer: &mut [u16], path: &[u16], place: &mut u
     ensures place { BeginsWithString buffer.old → BeginsWithString path.now
         → place.new ≡ length_shown (pushed (text_until_nul buffer.old) (text_until_nul path.now)) }
     ensures buffer { BeginsWithString buffer.old → BeginsWithString path.now → buffer.new
-        ≡ with_prefix (nul_terminated (pushed (text_until_nul buffer.old) (text_until_nul path.now))) buffer.old }
+        ≡ with_prefix
+        (nul_terminated (pushed (text_until_nul buffer.old) (text_until_nul path.now))) buffer.old }
 {
     let end = match CStr16::from_u16_until_nul(buffer) {
         Ok(string) => string.num_chars(),
@@ -88,11 +89,13 @@ pub extern "C" fn nard_path_join(
     ensures unchanged { ¬ (BeginsWithString path.now × BeginsWithString other.now)
         → buffer.new ≡ buffer.old }
     ensures reason { BeginsWithString path.now → BeginsWithString other.now → result
-        ≡ room_reason (pushed (with_separators (text_until_nul path.now)) (text_until_nul other.now)) buffer.old }
+        ≡ room_reason
+        (pushed (with_separators (text_until_nul path.now)) (text_until_nul other.now)) buffer.old }
     ensures place { BeginsWithString path.now → BeginsWithString other.now → place.new
         ≡ length_shown (pushed (with_separators (text_until_nul path.now)) (text_until_nul other.now)) }
     ensures buffer { BeginsWithString path.now → BeginsWithString other.now → buffer.new
-        ≡ with_prefix (nul_terminated (pushed (with_separators (text_until_nul path.now)) (text_until_nul other.now)))
+        ≡ with_prefix (nul_terminated
+        (pushed (with_separators (text_until_nul path.now)) (text_until_nul other.now)))
         buffer.old }
 {
     let path = match CStr16::from_u16_until_nul(path) {
@@ -252,7 +255,8 @@ pub extern "C" fn nard_path_normalize_utf8(
     ensures normal { HasStringIn bytes.now (second_half buffer.old) → (normal : List ℕ)
         → normal_path (with_separators (chars bytes.now)) ≡ Some normal
         → first_half buffer.new ≡ with_prefix (nul_terminated normal) (first_half buffer.old) }
-    ensures enough { 2 * length bytes.now + 2 ≤ length buffer.old → IsUtf8 bytes.now → IsText (chars bytes.now)
+    ensures enough { 2 * length bytes.now + 2 ≤ length buffer.old → IsUtf8 bytes.now
+        → IsText (chars bytes.now)
         → IsValid (with_separators (chars bytes.now)) → result ≡ OK }
     ensures string { HasStringIn bytes.now (second_half buffer.old) → second_half buffer.new
         ≡ with_prefix (nul_terminated (chars bytes.now)) (second_half buffer.old) }

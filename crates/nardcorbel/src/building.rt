@@ -272,7 +272,8 @@ pub extern "C" fn nard_device_path_push_text(
     }
 }
 
-/// Adds the nodes of a text in UTF-8, read in a style, to the device path that a buffer begins with, before its end.
+/// Adds the nodes of a text in UTF-8, read in a style, to the device path that a buffer begins with,
+/// before its end.
 fn push_styled_text(
     style: TextStyle,
     buffer: &mut [u8],
@@ -368,7 +369,8 @@ pub extern "C" fn nard_device_path_push_lenient_text(
         → length bytes.now < length scratch.old → IsReadAs Lenient bytes.now read
         → place.new ≡ lenient_place (lenient_refusal nodes read (length buffer.old))
         (length (path_bytes (nodes ++ read))) }
-    ensures buffer { (nodes read : List Node) → BeginWithPath buffer.old nodes → IsReadAs Lenient bytes.now read
+    ensures buffer { (nodes read : List Node) → BeginWithPath buffer.old nodes
+        → IsReadAs Lenient bytes.now read
         → result ≡ OK → buffer.new ≡ with_prefix (path_bytes (nodes ++ read)) buffer.old }
     ensures stops { result ≡ NO_NODE → IsWrongAt Lenient bytes.now place.new }
     ensures read { result ≡ OK → IsStyledText Lenient bytes.now }
@@ -378,9 +380,9 @@ pub extern "C" fn nard_device_path_push_lenient_text(
     push_styled_text(TextStyle::Lenient, buffer, bytes, scratch, place)
 }
 
-/// Adds the nodes of a text in UTF-8 that libefivar prints, and efibootmgr with it, to the device path that a
-/// buffer begins with, before its end, as [`push_libefivar_text_in_buf`](uefi_device_path) does. It is refused as
-/// by [`nard_device_path_push_lenient_text`].
+/// Adds the nodes of a text in UTF-8 that libefivar prints, and efibootmgr with it, to the device path
+/// that a buffer begins with, before its end, as [`push_libefivar_text_in_buf`](uefi_device_path) does.
+/// It is refused as by [`nard_device_path_push_lenient_text`].
 #[unsafe(no_mangle)]
 pub extern "C" fn nard_device_path_push_libefivar_text(
     buffer: &mut [u8],
@@ -406,7 +408,8 @@ pub extern "C" fn nard_device_path_push_libefivar_text(
         → length bytes.now < length scratch.old → IsReadAs Libefivar bytes.now read
         → place.new ≡ lenient_place (lenient_refusal nodes read (length buffer.old))
         (length (path_bytes (nodes ++ read))) }
-    ensures buffer { (nodes read : List Node) → BeginWithPath buffer.old nodes → IsReadAs Libefivar bytes.now read
+    ensures buffer { (nodes read : List Node) → BeginWithPath buffer.old nodes
+        → IsReadAs Libefivar bytes.now read
         → result ≡ OK → buffer.new ≡ with_prefix (path_bytes (nodes ++ read)) buffer.old }
     ensures stops { result ≡ NO_NODE → IsWrongAt Libefivar bytes.now place.new }
     ensures read { result ≡ OK → IsStyledText Libefivar bytes.now }
@@ -532,7 +535,8 @@ pub extern "C" fn nard_load_option_write(
         (entry_of_path (attributes % 2 ^ 32) (text_until_nul description.now) nodes optional.now)
         (length buffer.old)) }
     ensures place { BeginsWithString description.now → (nodes : List Node) → BeginWithPath bytes.now nodes
-        → let entry = entry_of_path (attributes % 2 ^ 32) (text_until_nul description.now) nodes optional.now in
+        → let entry = entry_of_path (attributes % 2 ^ 32)
+        (text_until_nul description.now) nodes optional.now in
         place.new ≡ option_build_place (write_fault entry (length buffer.old)) (length (entry_bytes entry))
         place.old }
     ensures buffer { BeginsWithString description.now → (nodes : List Node) → BeginWithPath bytes.now nodes

@@ -46,10 +46,10 @@ fn judge(path: Path<'_>, place: &mut usize, character: &mut u16) -> u32
 
 /// Whether the units begin with a string whose path names a file: `OK`, or why not.
 ///
-/// Units that begin with no string are refused as by [`nard_string_until_nul`], with its `place`, and then the
-/// path as by `validate_path_at`: `place` becomes where the component at fault begins. It becomes the length of
-/// the text if the result is `OK`. `character` becomes the character of `ILLEGAL_CHAR`, and 0 else. Takes no
-/// memory.
+/// Units that begin with no string are refused as by [`nard_string_until_nul`], with its `place`, and
+/// then the path as by `validate_path_at`: `place` becomes where the component at fault begins. It
+/// becomes the length of the text if the result is `OK`. `character` becomes the character of
+/// `ILLEGAL_CHAR`, and 0 else. Takes no memory.
 #[unsafe(no_mangle)]
 pub extern "C" fn nard_path_verdict(units: &[u16], place: &mut usize, character: &mut u16) -> u32
     ensures no_string { ¬ BeginsWithString units.now

@@ -42,7 +42,8 @@ fn set_case(units: &mut [u16], is_upper: bool)
 fn set_case_of_text(buffer: &mut [u16], is_upper: bool, place: &mut usize) -> u32
     ensures reason { result ≡ until_nul_reason (until_nul_refusal buffer.old) }
     ensures buffer { BeginsWithString buffer.old → buffer.new
-        ≡ map (cased is_upper) (text_until_nul buffer.old) ++ drop (length (text_until_nul buffer.old)) buffer.old }
+        ≡ map (cased is_upper) (text_until_nul buffer.old)
+        ++ drop (length (text_until_nul buffer.old)) buffer.old }
     ensures unchanged { ¬ BeginsWithString buffer.old → buffer.new ≡ buffer.old }
     ensures place { place.new ≡ until_nul_place buffer.old }
 {
@@ -117,9 +118,9 @@ pub extern "C" fn nard_string_order_ignore_case(first: &[u16], second: &[u16]) -
     order_number(first.cmp_ignore_case(second))
 }
 
-/// Whether both begin with a string, and the pattern matches the whole text of the other, without case. For p
-/// units of the pattern's text and t of the other, `CountedReader::matches` reads fewer than (p + 1) * (t + 1)
-/// units of each. Takes no memory.
+/// Whether both begin with a string, and the pattern matches the whole text of the other, without case.
+/// For p units of the pattern's text and t of the other, `CountedReader::matches` reads fewer than (p +
+/// 1) * (t + 1) units of each. Takes no memory.
 #[unsafe(no_mangle)]
 pub extern "C" fn nard_string_matches(units: &[u16], pattern: &[u16]) -> bool
     ensures { IsTrue result ↔ (BeginsWithString units.now × BeginsWithString pattern.now

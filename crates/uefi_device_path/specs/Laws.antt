@@ -88,7 +88,8 @@ ReadOnce = (style : TextStyle) (text : List ℕ) (nodes others : List Node) → 
 
 -- it has at most one fault
 abbrev pub ReadingStopsOnce : Type 0
-ReadingStopsOnce = (style : TextStyle) (text : List ℕ) (fault other : TextFault) → ReadingStopsAt style text fault
+ReadingStopsOnce = (style : TextStyle) (text : List ℕ) (fault other : TextFault)
+    → ReadingStopsAt style text fault
     → ReadingStopsAt style text other → fault ≡ other
 
 -- a text that is read has no fault
@@ -117,7 +118,8 @@ ReadIsPrinted = (text : List ℕ) (nodes : List Node) → IsReadAs Printed text 
 
 -- and where it is not read, it stops being that of such nodes
 abbrev pub PrintedStops : Type 0
-PrintedStops = (text : List ℕ) (fault : TextFault) → ReadingStopsAt Printed text fault → StopsAt text fault.node
+PrintedStops = (text : List ℕ) (fault : TextFault) → ReadingStopsAt Printed text fault
+    → StopsAt text fault.node
 
 -- no two lists of nodes of which the text tells all have the same text
 abbrev pub TextsOnce : Type 0

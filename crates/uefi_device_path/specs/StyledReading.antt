@@ -33,7 +33,8 @@ pub data ReadsTo (style : TextStyle) (text : List ℕ) : List Node → Bool → 
   -- at its beginning
   Begins : ReadsTo style text [] true text
   -- a comma ends an instance
-  Comma : (nodes : List Node) (at_start : Bool) (rest : List ℕ) → ReadsTo style text nodes at_start (44 ∷ rest)
+  Comma : (nodes : List Node) (at_start : Bool) (rest : List ℕ)
+      → ReadsTo style text nodes at_start (44 ∷ rest)
       → ReadsTo style text (nodes ++ end_instance ∷ []) true rest
   -- one more node, after a slash where it is not the first of its instance
   OneMore : (nodes : List Node) (at_start : Bool) (node : Node) (place rest : List ℕ)
@@ -50,7 +51,8 @@ IsStyledText style text = (nodes : List Node) × IsReadAs style text nodes
 
 -- after some nodes no node is read, and no instance ends, where this fault says that the next begins: the
 -- fault of what is left of the text
-pub record ReadingStops (style : TextStyle) (text : List ℕ) (fault : TextFault) (nodes : List Node) (at_start : Bool)
+pub record ReadingStops (style : TextStyle) (text : List ℕ) (fault : TextFault) (nodes : List Node)
+    (at_start : Bool)
     (rest : List ℕ) : Type 0 where
   pub reads : ReadsTo style text nodes at_start ((if at_start then [] else codes "/") ++ rest)
   pub not_empty : at_start ≡ true → is_after_instance rest ≡ false
@@ -69,8 +71,9 @@ abbrev pub IsLenientError : TextStyle → List ℕ → LenientTextError → Type
 IsLenientError style text OutOfMemory = Unit {0}
 IsLenientError style text (NoNode fault) = ReadingStopsAt style text fault
 
--- why the nodes that a text is read as are not added to the path that a buffer begins with: there is no path,
--- the second buffer is not longer than the text that is copied, the text has this fault, or there is no room for them
+-- why the nodes that a text is read as are not added to the path that a buffer begins with: there is no
+-- path, the second buffer is not longer than the text that is copied, the text has this fault, or there
+-- is no room for them
 abbrev pub IsPushLenientError : TextStyle → List ℕ → List ℕ → PushLenientTextError → Type 0
 IsPushLenientError style buffer text (push.Path error) = RefusedFor buffer error
 IsPushLenientError style buffer text (push.ScratchTooSmall needed) =

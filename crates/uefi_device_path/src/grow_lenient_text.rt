@@ -53,7 +53,8 @@ pub fn push_lenient_text_in_buf(
         → result_err result ≡ lenient_refusal nodes read (length buffer.old) }
     ensures len { (nodes read : List Node) → BeginWithPath buffer.old nodes → IsReadAs Lenient text.now read
         → IfOk result (λ len. len ≡ length (path_bytes (nodes ++ read))) }
-    ensures buffer { (nodes read : List Node) → BeginWithPath buffer.old nodes → IsReadAs Lenient text.now read
+    ensures buffer { (nodes read : List Node) → BeginWithPath buffer.old nodes
+        → IsReadAs Lenient text.now read
         → OnOk result (buffer.new ≡ with_prefix (path_bytes (nodes ++ read)) buffer.old) }
     ensures read { OnOk result (IsStyledText Lenient text.now) }
     ensures cause { IfErr result (λ error. IsPushLenientError Lenient buffer.old text.now error) }
@@ -62,8 +63,9 @@ pub fn push_lenient_text_in_buf(
     push_styled_text_in_buf(TextStyle::Lenient, buffer, text, scratch)
 }
 
-/// Adds the nodes of a text that libefivar prints, and efibootmgr with it, to the device path that a buffer begins
-/// with, before its end, and returns how many bytes the path then has. What follows it is unchanged.
+/// Adds the nodes of a text that libefivar prints, and efibootmgr with it, to the device path that a
+/// buffer begins with, before its end, and returns how many bytes the path then has. What follows it is
+/// unchanged.
 ///
 /// The text is read as [`DevicePathBuf::from_libefivar_text`](crate::DevicePathBuf) reads it. It fails as
 /// [`push_lenient_text_in_buf`] does.
@@ -96,7 +98,8 @@ pub fn push_libefivar_text_in_buf(
         → result_err result ≡ lenient_refusal nodes read (length buffer.old) }
     ensures len { (nodes read : List Node) → BeginWithPath buffer.old nodes → IsReadAs Libefivar text.now read
         → IfOk result (λ len. len ≡ length (path_bytes (nodes ++ read))) }
-    ensures buffer { (nodes read : List Node) → BeginWithPath buffer.old nodes → IsReadAs Libefivar text.now read
+    ensures buffer { (nodes read : List Node) → BeginWithPath buffer.old nodes
+        → IsReadAs Libefivar text.now read
         → OnOk result (buffer.new ≡ with_prefix (path_bytes (nodes ++ read)) buffer.old) }
     ensures read { OnOk result (IsStyledText Libefivar text.now) }
     ensures cause { IfErr result (λ error. IsPushLenientError Libefivar buffer.old text.now error) }

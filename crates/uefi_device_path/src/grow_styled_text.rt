@@ -84,8 +84,8 @@ fn put_styled_text_at(
     end
 }
 
-/// Adds the nodes that a text is read as in a style to the device path that a buffer begins with, before its end, and
-/// returns how many bytes the path then has. What follows it is unchanged.
+/// Adds the nodes that a text is read as in a style to the device path that a buffer begins with,
+/// before its end, and returns how many bytes the path then has. What follows it is unchanged.
 pub fn push_styled_text_in_buf(
     style: TextStyle,
     buffer: &mut [u8],

@@ -61,10 +61,10 @@ pub fn stopped_texts()
     node_text_once();
 }
 
-/// A text is read in a style as exactly one list of nodes, or it has exactly one fault, whose byte stands
-/// neither before its node nor after the end of the text. The printed text of the nodes that were read tells all
-/// of them. A printed text that tells all of its nodes is read as these nodes, exactly and leniently. In the style of
-/// printed texts no other text is read.
+/// A text is read in a style as exactly one list of nodes, or it has exactly one fault, whose byte
+/// stands neither before its node nor after the end of the text. The printed text of the nodes that
+/// were read tells all of them. A printed text that tells all of its nodes is read as these nodes,
+/// exactly and leniently. In the style of printed texts no other text is read.
 pub fn styled_texts()
     ensures once { ReadOnce }
     ensures stops { ReadingStopsOnce }

@@ -75,11 +75,11 @@ impl<A: Allocator + Copy> DevicePathBuf<A> {
 
     /// Reads a path from a text that libefivar prints, and efibootmgr with it.
     ///
-    /// libefivar prints some nodes otherwise than the specification. The identifier of an NVMe node has its
-    /// bytes in order, and `Ata` has three numbers. Its `Fibre`, `SAS` and `UsbClass` leave out what
-    /// distinguishes two nodes, and in `PciRoot` and `PcieRoot` a text may stand in place of the number, which
-    /// begins with `0x`; these are refused. All other nodes are read as [`DevicePathBuf::from_lenient_text`]
-    /// reads them. It fails and allocates as that call does.
+    /// libefivar prints some nodes otherwise than the specification. The identifier of an NVMe node has
+    /// its bytes in order, and `Ata` has three numbers. Its `Fibre`, `SAS` and `UsbClass` leave out
+    /// what distinguishes two nodes, and in `PciRoot` and `PcieRoot` a text may stand in place of the
+    /// number, which begins with `0x`; these are refused. All other nodes are read as
+    /// [`DevicePathBuf::from_lenient_text`] reads them. It fails and allocates as that call does.
     ///
     /// ```rust
     /// let text = "NVMe(0x1,00-25-38-5B-71-B0-03-1C)";

@@ -126,7 +126,8 @@ impl<'a> LoadOptionBuilder<'a> {
         ensures list { IfOk result (λ lengths.
             lengths.list ≡ length (list_bytes (option_entry self.now).paths)) }
         ensures stated { IfOk result (λ lengths. lengths.list ≤ 0xffff) }
-        ensures whole { IfOk result (λ lengths. lengths.whole ≡ length (entry_bytes (option_entry self.now))) }
+        ensures whole { IfOk result (λ lengths. lengths.whole
+            ≡ length (entry_bytes (option_entry self.now))) }
         ensures entry { IfOk result (λ _. IsEntry (option_entry self.now)) }
         ensures refusal { result_err result ≡ fields_fault (option_entry self.now) }
     {

@@ -79,8 +79,8 @@ fn follows_comma(text: &[u8], rest: &[u8]) -> bool
     rest.len() < text.len() && text[text.len() - rest.len() - 1] == b','
 }
 
-/// The node that is read in a style where this place of a text begins, and what stands after it. The buffer then
-/// holds anything.
+/// The node that is read in a style where this place of a text begins, and what stands after it. The
+/// buffer then holds anything.
 pub(crate) fn first_styled_node<'s, 't: 's>(
     style: TextStyle,
     scratch: &'s mut [u8],

@@ -1,6 +1,6 @@
-//! Reads texts of device paths from standard input, a line each and as people write them, and prints what
-//! each means: the bytes of the path in hexadecimal, and the text that is printed of it. With `--libefivar`, the
-//! texts are those that libefivar prints, and efibootmgr with it.
+//! Reads texts of device paths from standard input, a line each and as people write them, and prints
+//! what each means: the bytes of the path in hexadecimal, and the text that is printed of it. With
+//! `--libefivar`, the texts are those that libefivar prints, and efibootmgr with it.
 //!
 //! Ends with 0 where each line is a path; with 1 where one is none, which is printed with the node that can't
 //! be read, the byte that is wrong and what has to stand there; with 2 where a read or a write failed, or a

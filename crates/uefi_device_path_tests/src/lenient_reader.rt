@@ -69,8 +69,8 @@ pub(crate) const BY_PEOPLE: &str = "\
 04040e005c0061005c0062000000 a\\b
 02010c00d041030a0000000001010600021f7f01040004040a005c0061000000 pciroot(0)/pci(0x1f,2),file(a)";
 
-/// Texts that programs print and people paste, and what they mean: by the layouts of the specification and, where
-/// libefivar prints such a text, by the bytes that it prints it of.
+/// Texts that programs print and people paste, and what they mean: by the layouts of the specification
+/// and, where libefivar prints such a text, by the bytes that it prints it of.
 const PASTED: &str = "\
 04071400c9bdb87cebf8344faaea3ee4af6516a1 FvVol(7cb8bdc9-f8eb-4f34-aaea-3ee4af6516a1)
 030a14005347c1e0bef9d2119a0c0090273fc14d VenPcAnsi()

@@ -5,8 +5,8 @@ use Rattle.uefi_node_reader.specs.LenientNodes.{begins_call, cut_call, ended, le
 use Rattle.uefi_node_reader.specs.NamedFiles.{node_read}
 use Rattle.uefi_node_reader.specs.Numerals.{has_digit}
 
--- a text begins with a call, of which this stands before its `)` and this after it: one that names no file, and
--- is not read exactly
+-- a text begins with a call, of which this stands before its `)` and this after it: one that names no
+-- file, and is not read exactly
 pub record IsOtherCall (text front rest : List ℕ) : Type 0 where
   pub begins : begins_call text ≡ true
   pub cut : cut_call text ≡ Some (front, rest)

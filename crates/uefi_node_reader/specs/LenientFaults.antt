@@ -198,7 +198,8 @@ call_fault text (Some name) = file_fault text name (cut_call name)
 -- what stands after the node that a text begins with, whatever that is
 abbrev pub begun : Bool → List ℕ → Option (List ℕ)
 begun is_rooted text = past (either_read (node_read text)
-    (if begins_call text then file_or_call (after_literal (codes "File(") text) text else bare_read is_rooted text))
+    (if begins_call text then file_or_call (after_literal (codes "File(") text) text
+    else bare_read is_rooted text))
 
 -- the fault_at_byte of a text, by what stands after the node that it begins with: the node should end there
 abbrev pub fault_after : List ℕ → Option (List ℕ) → NodeFault

@@ -101,8 +101,8 @@ abbrev pub is_bare : List ℕ → Bool
 is_bare name = list_any (λ c. c == 92) name
     && not (list_any (λ c. c == 41) name || list_any (λ c. c == 58) name)
 
--- the node with the name that a text begins with, if that may stand without its first backslash: not where it is
--- rooted, after a comma
+-- the node with the name that a text begins with, if that may stand without its first backslash: not
+-- where it is rooted, after a comma
 abbrev pub bare_read : Bool → List ℕ → Option (Node × List ℕ)
 bare_read is_rooted text = if not is_rooted && is_bare (name_bytes text) then named_read text else None
 

@@ -1,5 +1,5 @@
--- Nodes as libefivar prints them, where its text of a node is the specification's text of another, or is in no
--- form of the table.
+-- Nodes as libefivar prints them, where its text of a node is the specification's text of another, or
+-- is in no form of the table.
 use Rattle.std.specs.Prelude.{Bool, if◌then◌else◌, List, [], ◌∷◌, codes, length, ◌-◌, ℕ, Option, Some, None, is_some}
 use Rattle.std.specs.Option.{option_map, option_or}
 use Rattle.uefi_device_nodes.specs.Nodes.{Node}
@@ -39,8 +39,8 @@ abbrev pub base_after : List ℕ → List ℕ → Option Stop
 base_after name text = after name text >>= λ rest.
     if begins_with (codes "0x") rest then None else Some (stop_at rest expected.Base)
 
--- where a tidied call stops that libefivar prints in its own form alone, for different nodes, or with a text of the
--- device in place of its number
+-- where a tidied call stops that libefivar prints in its own form alone, for different nodes, or with a
+-- text of the device in place of its number
 abbrev pub own_stop : List ℕ → Option Stop
 own_stop text = option_or (stop_after expected.AsPrinted (codes "NVME(") text)
     (option_or (stop_after expected.Untold (codes "FIBRE(") text)
@@ -65,8 +65,8 @@ abbrev pub fault_or_lenient : Bool → List ℕ → Option NodeFault → NodeFau
 fault_or_lenient is_rooted text None = lenient_fault is_rooted text
 fault_or_lenient is_rooted text (Some other) = other
 
--- the fault_at_byte of a text, by what stands after the call that it begins with in one of these forms: the node should
--- end there
+-- the fault_at_byte of a text, by what stands after the call that it begins with in one of these forms:
+-- the node should end there
 abbrev pub fault_after_own : Bool → List ℕ → Option (List ℕ) → NodeFault
 fault_after_own is_rooted text None = fault_or_lenient is_rooted text (own_fault text)
 fault_after_own is_rooted text (Some rest) = fault_at_byte (length text - length rest) expected.End

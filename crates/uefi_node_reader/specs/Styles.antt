@@ -10,8 +10,8 @@ use Rattle.uefi_node_reader.specs.declared.faults.NodeFault.{NodeFault}
 use Rattle.uefi_node_reader.specs.declared.styles.TextStyle.{TextStyle}
 use Rattle.uefi_node_reader.specs.declared.styles.TextStyle.TheVariants.{Printed, Lenient, Libefivar}
 
--- the node whose text bytes begin with in a style, where names have to begin with a backslash or not, and what
--- stands after it
+-- the node whose text bytes begin with in a style, where names have to begin with a backslash or not,
+-- and what stands after it
 unfoldable pub styled_read : TextStyle → Bool → List ℕ → Option (Node × List ℕ)
 styled_read Printed is_rooted text = ended (node_read text)
 styled_read Lenient is_rooted text = lenient_read is_rooted text
@@ -56,7 +56,8 @@ StyledStarts = (style : TextStyle) (is_rooted : Bool) (text : List ℕ) (node : 
 
 -- what is read exactly where a node may end is read in such a style as the same
 abbrev pub StyledAgain : Type 0
-StyledAgain = (style : TextStyle) → takes_printed style ≡ true → (is_rooted : Bool) (text : List ℕ) (node : Node)
+StyledAgain = (style : TextStyle) → takes_printed style ≡ true
+    → (is_rooted : Bool) (text : List ℕ) (node : Node)
     (rest : List ℕ) → node_read text ≡ Some (node, rest) → is_after_node rest ≡ true
     → styled_read style is_rooted text ≡ Some (node, rest)
 
@@ -67,4 +68,5 @@ PrintedExactly = (is_rooted : Bool) (text : List ℕ) (node : Node) (rest : List
 
 -- the wrong byte lies in the text, or at its end
 abbrev pub StyledFaultWithin : Type 0
-StyledFaultWithin = (style : TextStyle) (is_rooted : Bool) (text : List ℕ) → (styled_fault style is_rooted text).byte ≤ length text
+StyledFaultWithin = (style : TextStyle) (is_rooted : Bool) (text : List ℕ)
+    → (styled_fault style is_rooted text).byte ≤ length text

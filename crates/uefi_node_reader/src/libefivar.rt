@@ -1,9 +1,9 @@
 //! Nodes as libefivar 37 prints them, on which efibootmgr stands, where its text of a node is the
 //! specification's text of another, or is in no form of the table.
 //!
-//! It prints the identifier of an NVMe node from its first byte on, and the numbers of `Ata` without words. Its
-//! `Fibre`, `SAS` and `UsbClass` leave out what distinguishes two nodes. In `PciRoot` and `PcieRoot` a text of the
-//! device may stand in place of its number, which begins with `0x`.
+//! It prints the identifier of an NVMe node from its first byte on, and the numbers of `Ata` without
+//! words. Its `Fibre`, `SAS` and `UsbClass` leave out what distinguishes two nodes. In `PciRoot` and
+//! `PcieRoot` a text of the device may stand in place of its number, which begins with `0x`.
 #![tactic(auto)]
 
 ghost use Rattle.std.specs.Prelude.{◌≡◌, ◌<◌, ◌≤◌, IfSome, IsTrue, codes, length, map};
@@ -38,8 +38,8 @@ fn exact_group<'a>(rows: &[Row], text: &'a [u8]) -> Option<TextNode<'a>>
     None
 }
 
-/// Reads the node whose call a text begins with in one of its own forms, from a tidied copy of the call. Returns
-/// what stands after it, too.
+/// Reads the node whose call a text begins with in one of its own forms, from a tidied copy of the
+/// call. Returns what stands after it, too.
 fn own_call<'s, 't>(scratch: &'s mut [u8], text: &'t [u8]) -> Option<(TextNode<'s>, &'t [u8])>
     requires { length text.now < length scratch.old }
     ensures { option_map (λ x. (text_node x.0, x.1.now)) result ≡ own_call text.now }
@@ -80,8 +80,8 @@ fn base_after(name: &[u8], text: &[u8]) -> Option<Stop>
     Some(stop_at(rest, Expected::Base))
 }
 
-/// Where a tidied call stops that libefivar prints in its own form alone, for different nodes, or with a text of the
-/// device in place of its number.
+/// Where a tidied call stops that libefivar prints in its own form alone, for different nodes, or with
+/// a text of the device in place of its number.
 fn own_stop(text: &[u8]) -> Option<Stop>
     ensures { result ≡ own_stop text.now }
 {

@@ -79,12 +79,12 @@ fn called<'s, 't>(scratch: &'s mut [u8], text: &'t [u8]) -> Option<(TextNode<'s>
 /// Reads the node that a text begins with, as people write it, and returns what stands after it, too:
 /// nothing, or a slash or a comma first. The buffer then holds anything.
 ///
-/// A node that [`read_node`] reads there is read as the same. Else a call is read, up to its first `)`, in
-/// either case and without its blanks. A number stands in hexadecimal after `0x`, else in decimal, and may
-/// begin with zeros. Numbers at the end may be left out: they are then 0, or the default of their kind (UEFI
-/// Specification 2.10, section 10.6.1). The name of a file may stand in `File(..)`, or without its first
-/// backslash where it has no `(`, unless names are rooted there. Takes no memory but the buffer, for a copy of the
-/// call or of the name.
+/// A node that [`read_node`] reads there is read as the same. Else a call is read, up to its first `)`,
+/// in either case and without its blanks. A number stands in hexadecimal after `0x`, else in decimal,
+/// and may begin with zeros. Numbers at the end may be left out: they are then 0, or the default of
+/// their kind (UEFI Specification 2.10, section 10.6.1). The name of a file may stand in `File(..)`, or
+/// without its first backslash where it has no `(`, unless names are rooted there. Takes no memory but
+/// the buffer, for a copy of the call or of the name.
 ///
 /// Left to [`read_node`], and so read only as printed, are calls that hold texts (`Uri`, `UsbWwid`, `AcpiEx`,
 /// `iSCSI`, `Wi-Fi`, `BBS`). The numbers of `AcpiAdr` after the first are as printed but for their case.
@@ -180,8 +180,8 @@ pub fn node_text_once()
     ensures { NodeTextOnce }
 {}
 
-/// Calls that differ in case and in blanks alone are read leniently as the same, if neither is read exactly. A zero
-/// before the digits of a number changes nothing.
+/// Calls that differ in case and in blanks alone are read leniently as the same, if neither is read
+/// exactly. A zero before the digits of a number changes nothing.
 pub fn texts_alike()
     ensures calls { CallsAlike }
     ensures zeros { ZerosAlike }

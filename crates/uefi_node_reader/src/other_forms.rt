@@ -7,8 +7,8 @@ ghost use Rattle.uefi_node_reader.specs.OtherForms.{own_forms, pasted_forms};
 
 use uefi_node_table::rows::{Mode, PieceOf, Row, RowOf, Shape, Tail};
 
-/// A form of these: the type, the sub-type, how many bytes the data have, those that are fixed, what the text begins
-/// with, and the fields.
+/// A form of these: the type, the sub-type, how many bytes the data have, those that are fixed, what
+/// the text begins with, and the fields.
 macro_rules! form {
     ($kind:literal $sub_kind:literal $least:literal [$($at:literal = $byte:literal)*] $start:literal
         $([$shape:ident $place:literal $width:literal $ending:literal])*) => {
@@ -37,8 +37,8 @@ const OWN: &[Row] = &[
         [Forth 7 1 "-"] [Forth 8 1 "-"] [Forth 9 1 "-"] [Forth 10 1 "-"] [Forth 11 1 ")"]),
 ];
 
-/// Forms that programs print and people paste: short names of vendors' nodes, as the UEFI Specification 2.10 lists
-/// them in section 10.6.1.6, and fields that other programs write otherwise or leave out.
+/// Forms that programs print and people paste: short names of vendors' nodes, as the UEFI Specification
+/// 2.10 lists them in section 10.6.1.6, and fields that other programs write otherwise or leave out.
 #[rattlefmt::skip]
 const PASTED: &[Row] = &[
     form!(3 10 16 [0 = 0x53 1 = 0x47 2 = 0xc1 3 = 0xe0 4 = 0xbe 5 = 0xf9 6 = 0xd2 7 = 0x11

@@ -73,9 +73,9 @@ fn libefivar_fault(is_rooted: bool, scratch: &mut [u8], text: &[u8]) -> NodeFaul
     }
 }
 
-/// Reads the node that a text begins with in a style, and returns what stands after it, too: nothing, or a slash
-/// or a comma first. A file's name has to begin with a backslash where it is rooted. The buffer then holds anything. Takes no memory but the buffer, for a copy of the call or of
-/// the name.
+/// Reads the node that a text begins with in a style, and returns what stands after it, too: nothing,
+/// or a slash or a comma first. A file's name has to begin with a backslash where it is rooted. The
+/// buffer then holds anything. Takes no memory but the buffer, for a copy of the call or of the name.
 #[tactic(auto, unfolding(crate::specs::Styles::styled_read))]
 pub fn read_styled_node<'s, 't: 's>(
     style: TextStyle,
@@ -111,9 +111,9 @@ pub fn styled_fault(style: TextStyle, is_rooted: bool, scratch: &mut [u8], text:
     }
 }
 
-/// What is read is told, and what stands after it is the rest of the text, which is empty or begins with a slash
-/// or a comma; the text begins with neither. What is read exactly before one of these is read as the same node in the
-/// styles of printed texts and of people.
+/// What is read is told, and what stands after it is the rest of the text, which is empty or begins
+/// with a slash or a comma; the text begins with neither. What is read exactly before one of these is
+/// read as the same node in the styles of printed texts and of people.
 pub fn styled_nodes_are_read()
     ensures takes { StyledTakes }
     ensures ends { StyledEnds }

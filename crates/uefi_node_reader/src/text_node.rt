@@ -85,7 +85,8 @@ impl<'a> TextNode<'a> {
             (x.0.device_type ≡ self.entry.device_type) × (x.0.sub_type ≡ self.entry.sub_type)) }
         ensures data { option_map (λ x. (text_node_data x.0, x.1.now)) result
             ≡ option_and_then (followed (drop self.entry.fixed (text_node_data self.entry)))
-            (pieces_put (map as_piece pieces.now) (take self.entry.fixed (text_node_data self.entry)) text.now) }
+            (pieces_put (map as_piece pieces.now)
+            (take self.entry.fixed (text_node_data self.entry)) text.now) }
     {
         let mut head = self.head;
         let rest = read_pieces(pieces, &mut head[..usize::from(self.fixed)], text)?;
