@@ -88,7 +88,8 @@ fn put_styled_text_at(
 /// before its end, and returns how many bytes the path then has. What follows it is unchanged.
 ///
 /// Hidden: the library for C calls it in each style, and nothing promises that it stays. Other callers have
-/// [`crate::push_text_in_buf`], [`crate::push_lenient_text_in_buf`] and [`crate::push_libefivar_text_in_buf`].
+/// [`crate::push_text_in_buf`], [`crate::push_lenient_text_in_buf`] and
+/// [`crate::push_libefivar_text_in_buf`].
 #[doc(hidden)]
 pub fn push_styled_text_in_buf(
     style: TextStyle,
