@@ -140,9 +140,11 @@ fn texts_of_libefivar(rt: HostRuntime) -> Result<(), Fail> {
 
 /// What libefivar prints for different nodes, and texts that it does not print; and the words of the fault.
 const REFUSED_OF_LIBEFIVAR: &str = "\
-SAS(5006016047273469,12,34,NoTopology): no node at offset 0: expected a shorter node, or one whose text tells all \
+SAS(5006016047273469,12,34,NoTopology): no node at offset 0: expected a shorter node, or one \
+    whose text tells all \
     of it at offset 4
-\\a/UsbClass(781,5583,255,18): no node at offset 3: expected a shorter node, or one whose text tells all of it at \
+\\a/UsbClass(781,5583,255,18): no node at offset 3: expected a shorter node, or one whose text \
+    tells all of it at \
     offset 12
 Fibre(5,0): no node at offset 0: expected a shorter node, or one whose text tells all of it at offset 6
 PciRoot(12): no node at offset 0: expected a number after `0x` at offset 8
@@ -186,11 +188,13 @@ pub(crate) const REFUSED: &str = "\
 0 7 Sata(0,-1,0): a number up to 0xFFFF | 0 17 HD(1,GPT,12345678_9abc-def0-1234-56789abcdef0): `-` | \
 0 12 Ata(Primary,Third,0): `S` | 0 18 AcpiAdr(0x80010100,1): the exact printed form | \
 0 26 SAS(0,0,0,SAS,Internal,Dirct,0,0): `e` | 11 15 PciRoot(0)/Pci(0x100,0): a number up to 0xFF | \
-0 19 MAC(001122334455,2): a shorter node, or one whose text tells all of it | 0 13 Acpi(PNP0A03,0x): a number up to 0xFFFFFFFF | \
+0 19 MAC(001122334455,2): a shorter node, or one whose text tells all of it | 0 13 \
+    Acpi(PNP0A03,0x): a number up to 0xFFFFFFFF | \
 0 0 uri(http://a): the exact printed form | 0 5 file(a\u{7}b): the name of a file | \
 0 0 a\u{202e}: the name of a file | 0 0 shim.efi: the name of a file | \
 0 0 Pci 0x1F,0x2): the name of a file | 0 0 PciRoot/Pci(0x1,0x0): the name of a file | \
-0 0 FS0:\\EFI\\x.efi: the name of a file | 7 7 \\EFI\\a,b.efi: the name of a file | 7 7 \\EFI\\a,b\\c.efi: the name of a file | \
+0 0 FS0:\\EFI\\x.efi: the name of a file | 7 7 \\EFI\\a,b.efi: the name of a file | 7 7 \
+    \\EFI\\a,b\\c.efi: the name of a file | \
 1 1 ,EFI\\a.efi: the name of a file | \
 0 0 EFI\\x)\\y: the name of a file | 0 9 HD(1,MBR,12345678,0x800,0x64000): a number after `0x` | \
 0 5 Acpi(12345678,0): a number after `0x` | 0 25 BluetoothLE(001122334455,10): a number after `0x` | \

@@ -63,7 +63,8 @@ impl<'a> Path<'a> {
     /// assert_eq!(rt; path.extension(), Some(text.as_cstr16().as_slice().part(14, 16)));
     /// ```
     pub fn file_stem(&self) -> Option<Char16Slice<'a>>
-        ensures stem { IsStem (last_or None (components_of (path_text self.now))) (option_map units_of result) }
+        ensures stem { IsStem (last_or None (components_of (path_text self.now)))
+            (option_map units_of result) }
         ensures is_text { IfSome result (λ stem. IsText (units_of stem)) }
     {
         let name = self.file_name()?;
