@@ -1,5 +1,5 @@
 -- The steps of the search, as the code makes them.
-use Rattle.std.proofs.Common.{◌≡◌, ◌∙◌, ◌+◌, ◌-◌, ◌<◌, ◌≤◌, ◌≢◌, ◌↔◌, ℕ, Bool, IsTrue, List, [], ◌∷◌, ap, sym, subst, refl, arith, length-drop, drop, get_or, length, Some, Option}
+use Rattle.std.proofs.Common.{◌≡◌, ◌∙◌, ◌+◌, ◌<◌, ◌≤◌, ◌≢◌, ◌↔◌, ℕ, Bool, IsTrue, List, [], ◌∷◌, ap, sym, subst, refl, arith, length-drop, drop, get_or, length, Some, Option}
 use Rattle.std.proofs.Math.ListN.{drop_of_length-le}
 use Rattle.std.proofs.lemmas.List.{drop-drop, get_or-drop}
 use Rattle.uefi_text.specs.Patterns.{Matches, Nothing, Any, One, OneOf, Itself}
