@@ -3,7 +3,7 @@ use Rattle.std.proofs.Common.{◌≡◌, ℕ, ◌+◌, ◌-◌, ◌^◌, ◌≤�
 use Rattle.std.proofs.lemmas.List.{drop-drop}
 use Rattle.uefi_device_nodes.specs.Nodes.{Node, end_entire, node_bytes, node_length}
 use Rattle.uefi_device_path.specs.Building.{path_length}
-use Rattle.uefi_device_path.specs.Paths.{IsPath, joined, nodes_in, path_bytes, without_end}
+use Rattle.uefi_device_path.specs.Paths.{IsPath, nodes_bytes, nodes_in, path_bytes, without_end}
 use Rattle.uefi_device_path.proofs.Building.{len_of_path}
 use Rattle.uefi_device_path.proofs.ShortForms.{bytes_of_both}
 use Rattle.uefi_device_path.proofs.TextLengths.{bytes_more}
@@ -38,9 +38,9 @@ first_bytes : (nodes others : List Node) → length (path_bytes nodes) ≤ lengt
 first_bytes nodes others = omega (
   arith,
   ap length (bytes_of_both (nodes ++ others) nodes others refl),
-  length-append (joined nodes) (path_bytes others),
-  length-append (joined nodes) (node_bytes end_entire),
-  length-append (joined others) (node_bytes end_entire),
+  length-append (nodes_bytes nodes) (path_bytes others),
+  length-append (nodes_bytes nodes) (node_bytes end_entire),
+  length-append (nodes_bytes others) (node_bytes end_entire),
 )
 
 -- there is room for one node more, where there is room for all
@@ -73,6 +73,6 @@ needed_is nodes told len added needed long some is = omega (
   some,
   is,
   ap length (bytes_of_both (nodes ++ told) nodes told refl),
-  length-append (joined nodes) (path_bytes told),
-  length-append (joined nodes) (node_bytes end_entire),
+  length-append (nodes_bytes nodes) (path_bytes told),
+  length-append (nodes_bytes nodes) (node_bytes end_entire),
 )
