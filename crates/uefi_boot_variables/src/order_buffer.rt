@@ -48,28 +48,30 @@ impl<'a> OrderBuffer<'a> {
         OrderBuffer { places, len: 0 }
     }
 
-    /// Copies the numbers of an order, each where it stands first.
+    /// Takes the numbers of an order in place of its own, each where it stands first.
     ///
-    /// Returns `OrderFull` if there are fewer places than different numbers; the places are then unchanged.
-    /// Compares each number with those before it, and does so twice if the order has more numbers than
-    /// there are places.
+    /// Returns `OrderFull` if there is no room for them; the order is then unchanged. Compares each number with
+    /// those before it, and does so twice if the other order has more numbers than this one has room for.
     ///
     /// ```rust
     /// let order = LoadOrder::from_bytes(&[3, 0, 1, 0, 3, 0])?;
     /// let mut places = [0; 2];
-    /// let buffer = OrderBuffer::from_order(&mut places, &order)?;
+    /// let mut buffer = OrderBuffer::new(&mut places);
+    /// buffer.copy_from(&order)?;
     /// assert_eq!(rt; buffer.as_slice(), [3, 1].as_slice());
-    /// assert_eq!(rt; OrderBuffer::from_order(&mut [0; 1], &order).err(), Some(OrderFull));
+    /// assert_eq!(rt; OrderBuffer::new(&mut [0; 1]).copy_from(&order), Err(OrderFull));
     /// ```
-    pub fn from_order(places: &'a mut [u16], order: &LoadOrder<'_>) -> Result<Self, OrderFull>
-        ensures ok { IfOk result (λ buffer. numbers_in buffer ≡ once_each (numbers_of order.now)) }
-        ensures room { IfOk result (λ buffer. room_of buffer ≡ length places.old) }
-        ensures places { IfOk result (λ buffer. order_places buffer ≡ over (numbers_in buffer) places.old) }
-        ensures refused { IsErr result ↔ (length places.old < length (once_each (numbers_of order.now))) }
-        ensures memory { IfOk result (λ buffer. memory_of buffer ≡ places.entry.ghost_name) }
+    pub fn copy_from(&mut self, order: &LoadOrder<'_>) -> Result<(), OrderFull>
+        ensures ok { OnOk result (numbers_in self.new ≡ once_each (numbers_of order.now)) }
+        ensures err { OnErr result (numbers_in self.new ≡ numbers_in self.old) }
+        ensures room { room_of self.new ≡ room_of self.old }
+        ensures places { OnOk result (order_places self.new ≡ over (numbers_in self.new) (order_places self.old)) }
+        ensures unchanged { OnErr result (order_places self.new ≡ order_places self.old) }
+        ensures memory { memory_of self.new ≡ memory_of self.old }
+        ensures refused { IsErr result ↔ (room_of self.old < length (once_each (numbers_of order.now))) }
     {
-        let len = copy(places, order)?;
-        Ok(OrderBuffer { places, len })
+        self.len = copy(self.places, order)?;
+        Ok(())
     }
 
     /// The numbers in order.
@@ -173,7 +175,8 @@ impl<'a> OrderBuffer<'a> {
     /// ```rust
     /// let mut places = [0; 3];
     /// let order = LoadOrder::from_bytes(&[1, 0, 2, 0, 3, 0])?;
-    /// let mut buffer = OrderBuffer::from_order(&mut places, &order)?;
+    /// let mut buffer = OrderBuffer::new(&mut places);
+    /// buffer.copy_from(&order)?;
     /// buffer.insert(0, 3)?;
     /// assert_eq!(rt; buffer.as_slice(), [3, 1, 2].as_slice());
     /// assert_eq!(rt; buffer.insert(0, 4), Err(OrderFull));
@@ -197,7 +200,8 @@ impl<'a> OrderBuffer<'a> {
     /// ```rust
     /// let mut places = [0; 3];
     /// let order = LoadOrder::from_bytes(&[1, 0, 2, 0, 3, 0])?;
-    /// let mut buffer = OrderBuffer::from_order(&mut places, &order)?;
+    /// let mut buffer = OrderBuffer::new(&mut places);
+    /// buffer.copy_from(&order)?;
     /// assert!(rt; buffer.move_to_front(2) && !buffer.move_to_front(4));
     /// assert_eq!(rt; buffer.as_slice(), [2, 1, 3].as_slice());
     /// ```

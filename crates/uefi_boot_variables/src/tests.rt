@@ -130,10 +130,15 @@ fn edit(rt: &impl Abort, order: &mut OrderBuffer<'_>) {
 #[test]
 fn edits(rt: HostRuntime) -> Result<(), Fail> {
     let order = LoadOrder::from_bytes(&[3, 0, 0, 0, 3, 0, 7, 0])?;
-    let mut few = [0; 2];
-    assert!(rt; OrderBuffer::from_order(&mut few, &order).is_err());
+    let mut few = [0xffff; 2];
+    assert_eq!(rt;
+        OrderBuffer::new(&mut few).copy_from(&order),
+        Err(OrderFull)
+    );
+    assert_eq!(rt; few, [0xffff; 2]);
     let mut places = [0xffff; 4];
-    let mut edited = OrderBuffer::from_order(&mut places, &order)?;
+    let mut edited = OrderBuffer::new(&mut places);
+    edited.copy_from(&order)?;
     edit(&rt, &mut edited);
     let mut bytes = [0xff; 7];
     assert_eq!(rt; edited.write_bytes(&mut bytes), Ok(6));
