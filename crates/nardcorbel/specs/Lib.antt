@@ -1,6 +1,5 @@
 pub mod Reasons
 pub mod Strings
-pub mod Cases
 pub mod Buffers
 pub mod DevicePaths
 pub mod Building

@@ -18,7 +18,7 @@ ghost use Rattle.nardcorbel.specs.Strings.{text_until_nul, until_nul_place};
 
 use crate::reasons::{CHAR_REPLACED, OK, fat_name_reason, report, until_nul_reason};
 use crate::strings::until_nul_place;
-use uefi_fat::{check_fat_name, fat_to_str, is_short_name, same_fat_file, str_to_fat};
+use uefi_fat::{FatBytes, check_fat_name, fat_to_str, is_short_name, same_fat_file, str_to_fat};
 use uefi_text::{CStr16, Char16Slice};
 
 /// Whether a file can have a name: `OK`, or why not, and the character that is refused.
@@ -99,6 +99,19 @@ pub extern "C" fn nard_fat_name_is_short(units: &[u16]) -> bool
     }
 }
 
+/// What a call returns that wrote bytes in the characters of short names. `place` becomes how many.
+pub(crate) fn report_fat(written: FatBytes, place: &mut usize) -> u32
+    ensures reason { result ≡ (if written.is_replaced then CHAR_REPLACED else OK) }
+    ensures place { place.new ≡ written.len }
+{
+    *place = written.len;
+    if written.is_replaced {
+        CHAR_REPLACED
+    } else {
+        OK
+    }
+}
+
 /// Writes the string that units begin with to the start of `bytes` in the characters of short
 /// names, as `str_to_fat` does: `OK`, or `CHAR_REPLACED` where one of them is `_` in place of
 /// another.
@@ -121,15 +134,7 @@ pub extern "C" fn nard_fat_from_string(units: &[u16], bytes: &mut [u8], place: &
         → place.new ≡ min (length (fat_bytes (text_until_nul units.now))) (length bytes.old) }
 {
     match CStr16::from_u16_until_nul(units) {
-        Ok(string) => {
-            let written = str_to_fat(string.as_slice(), bytes);
-            *place = written.len;
-            if written.is_replaced {
-                CHAR_REPLACED
-            } else {
-                OK
-            }
-        }
+        Ok(string) => report_fat(str_to_fat(string.as_slice(), bytes), place),
         Err(error) => {
             *place = until_nul_place(error, units);
             until_nul_reason(error)

@@ -18,5 +18,6 @@ pub mod paths;
 pub mod reasons;
 pub mod strings;
 pub mod text_faults;
+pub mod units;
 pub mod utf8_texts;
 pub mod without_case;

@@ -8,18 +8,8 @@ ghost use Rattle.nardcorbel.specs.Buffers.{length_shown, room_reason};
 ghost use Rattle.nardcorbel.specs.Strings.{text_until_nul};
 
 use crate::reasons::report;
+use crate::strings::until_nul;
 use uefi_text::decode::write_lossy;
-use uefi_text::scan::find_nul;
-
-/// The units before the first NUL, or all of them where there is none.
-fn part_shown(units: &[u16]) -> &[u16]
-    ensures { result.now ≡ text_until_nul units.now }
-{
-    match find_nul(units) {
-        Some(end) => &units[..end],
-        None => units,
-    }
-}
 
 /// Writes the units before the first NUL, or all of them where there is none, in UTF-8 and with a
 /// NUL to the start of `bytes`.
@@ -39,5 +29,5 @@ pub extern "C" fn nard_utf8_from_units_lossy(
     ensures bytes { bytes.new
         ≡ with_prefix (nul_terminated (lossy_utf8 (text_until_nul units.now))) bytes.old }
 {
-    report(write_lossy(part_shown(units), bytes), place)
+    report(write_lossy(until_nul(units), bytes), place)
 }

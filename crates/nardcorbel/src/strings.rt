@@ -10,6 +10,7 @@ ghost use Rattle.nardcorbel.specs.Reasons.{order_number, until_nul_reason, with_
 ghost use Rattle.nardcorbel.specs.Strings.{text_until_nul, until_nul_place, until_nul_place_at, with_nul_place, with_nul_place_at};
 
 use crate::reasons::{NO_ORDER, OK, order_number, until_nul_reason, with_nul_reason};
+use uefi_text::scan::find_nul;
 use uefi_text::{CStr16, FromSliceUntilNulError, FromSliceWithNulError};
 
 /// The place at which units are refused.
@@ -32,6 +33,16 @@ fn with_nul_place(error: FromSliceWithNulError, units: &[u16]) -> usize
         FromSliceWithNulError::NotNulTerminated
         | FromSliceWithNulError::NotAligned
         | FromSliceWithNulError::OutOfMemory => units.len(),
+    }
+}
+
+/// The units before the first NUL, or all of them if there is none.
+pub(crate) fn until_nul(units: &[u16]) -> &[u16]
+    ensures { result.now ≡ text_until_nul units.now }
+{
+    match find_nul(units) {
+        Some(end) => &units[..end],
+        None => units,
     }
 }
 

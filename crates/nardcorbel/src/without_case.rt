@@ -1,62 +1,42 @@
 //! Strings and paths in units that C holds, compared without case and matched against patterns, as the
 //! firmware's Unicode collation does (UEFI Specification 2.10, section 21.1).
-ghost use Rattle.std.specs.Prelude.{◌≡◌, ◌↔◌, ◌++◌, drop, length, map, IsTrue};
+ghost use Rattle.std.specs.Prelude.{◌≡◌, ◌↔◌, ◌≤◌, ◌++◌, drop, length, take, IfErr, IfOk, IsOk, IsTrue};
 ghost use Rattle.uefi_text.specs.Case.{caseless_order, lowers, uppers};
 ghost use Rattle.uefi_text.specs.FromSliceUntilNul.{until_nul_refusal};
 ghost use Rattle.uefi_text.specs.Patterns.{Matches};
 ghost use Rattle.uefi_text.specs.Units.{BeginsWithString};
 ghost use Rattle.uefi_path.specs.Separators.{canonical};
 ghost use Rattle.uefi_path.specs.WithoutCase.{MatchesPath};
-ghost use Rattle.nardcorbel.specs.Cases.{cased};
 ghost use Rattle.nardcorbel.specs.Reasons.{order_number, until_nul_reason};
 ghost use Rattle.nardcorbel.specs.Strings.{text_until_nul, until_nul_place};
 
 use crate::reasons::{NO_ORDER, OK, order_number, until_nul_reason};
 use crate::strings::until_nul_place;
 use uefi_path::Path;
-use uefi_text::{CStr16, Char16};
+use uefi_text::CStr16;
+use uefi_text::case::{make_lowercase, make_uppercase};
 
-/// A unit in upper or lower case. A surrogate has neither.
-fn cased(is_upper: bool, unit: u16) -> u16
-    ensures { result ≡ cased is_upper unit }
+/// How long the text is of the string that units begin with, or why they begin with none. `place` becomes the
+/// length, or where the units are refused.
+fn text_len(units: &[u16], place: &mut usize) -> Result<usize, u32>
+    ensures len { IfOk result (λ len. len ≡ length (text_until_nul units.now)) }
+    ensures text { IfOk result (λ len. take len units.now ≡ text_until_nul units.now) }
+    ensures within { IfOk result (λ len. len ≤ length units.now) }
+    ensures string { IsOk result ↔ BeginsWithString units.now }
+    ensures ok { IfOk result (λ _. until_nul_reason (until_nul_refusal units.now) ≡ OK) }
+    ensures err { IfErr result (λ reason. reason ≡ until_nul_reason (until_nul_refusal units.now)) }
+    ensures place { place.new ≡ until_nul_place units.now }
 {
-    match Char16::try_from(unit) {
-        Ok(character) if is_upper => u16::from(character.to_uppercase()),
-        Ok(character) => u16::from(character.to_lowercase()),
-        Err(_) => unit,
-    }
-}
-
-/// Puts units in upper or lower case.
-#[tactic(auto, using(std::proofs::lemmas::List::take_all, std::proofs::lemmas::List::drop_all))]
-fn set_case(units: &mut [u16], is_upper: bool)
-    ensures { units.new ≡ map (cased is_upper) units.old }
-{
-    for unit in units.iter_mut() {
-        *unit = cased(is_upper, *unit);
-    }
-}
-
-/// Puts the text of the string that units begin with in upper or lower case, and reports its length or
-/// why the units begin with no string.
-fn set_case_of_text(buffer: &mut [u16], is_upper: bool, place: &mut usize) -> u32
-    ensures reason { result ≡ until_nul_reason (until_nul_refusal buffer.old) }
-    ensures buffer { BeginsWithString buffer.old → buffer.new
-        ≡ map (cased is_upper) (text_until_nul buffer.old)
-        ++ drop (length (text_until_nul buffer.old)) buffer.old }
-    ensures unchanged { ¬ BeginsWithString buffer.old → buffer.new ≡ buffer.old }
-    ensures place { place.new ≡ until_nul_place buffer.old }
-{
-    let len = match CStr16::from_u16_until_nul(buffer) {
-        Ok(string) => string.num_chars(),
-        Err(error) => {
-            *place = until_nul_place(error, buffer);
-            return until_nul_reason(error);
+    match CStr16::from_u16_until_nul(units) {
+        Ok(string) => {
+            *place = string.num_chars();
+            Ok(*place)
         }
-    };
-    *place = len;
-    set_case(&mut buffer[..len], is_upper);
-    OK
+        Err(error) => {
+            *place = until_nul_place(error, units);
+            Err(until_nul_reason(error))
+        }
+    }
 }
 
 /// Puts the text of the string that units begin with in upper case, as `StrUpr` does. Units that begin
@@ -70,7 +50,13 @@ pub extern "C" fn nard_string_make_uppercase(buffer: &mut [u16], place: &mut usi
     ensures unchanged { ¬ BeginsWithString buffer.old → buffer.new ≡ buffer.old }
     ensures place { place.new ≡ until_nul_place buffer.old }
 {
-    set_case_of_text(buffer, true, place)
+    match text_len(buffer, place) {
+        Ok(len) => {
+            make_uppercase(&mut buffer[..len]);
+            OK
+        }
+        Err(reason) => reason,
+    }
 }
 
 /// The same in lower case, as `StrLwr` does.
@@ -82,7 +68,13 @@ pub extern "C" fn nard_string_make_lowercase(buffer: &mut [u16], place: &mut usi
     ensures unchanged { ¬ BeginsWithString buffer.old → buffer.new ≡ buffer.old }
     ensures place { place.new ≡ until_nul_place buffer.old }
 {
-    set_case_of_text(buffer, false, place)
+    match text_len(buffer, place) {
+        Ok(len) => {
+            make_lowercase(&mut buffer[..len]);
+            OK
+        }
+        Err(reason) => reason,
+    }
 }
 
 /// Whether both begin with a string, and have the same text without case. Takes no memory.

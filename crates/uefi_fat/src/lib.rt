@@ -33,5 +33,5 @@ mod short_names;
 mod tests;
 
 pub use long_names::{FatNameError, check_fat_name, is_fat_name, same_fat_file, trimmed};
-pub use oem::{FatBytes, fat_to_str, str_to_fat};
+pub use oem::{FatBytes, fat_to_str, str_to_fat, units_to_fat};
 pub use short_names::is_short_name;

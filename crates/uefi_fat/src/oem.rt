@@ -11,9 +11,9 @@ ghost use Rattle.uefi_text.specs.UnitTexts.{written_len};
 ghost use Rattle.uefi_text.specs.Units.{is_nul, nul_terminated};
 ghost use Rattle.uefi_text.specs.Views.{units_of};
 
-use crate::short_names::is_fat_character;
+use crate::short_names::is_fat_unit;
 use uefi_text::BufferTooSmall;
-use uefi_text::chars::Char16;
+use uefi_text::case::upper;
 use uefi_text::strs::Char16Slice;
 
 /// What stands for a character that no short name takes.
@@ -30,23 +30,51 @@ pub struct FatBytes {
     pub is_replaced: bool,
 }
 
-/// Whether a short name leaves the character out.
-fn is_left_out(character: Char16) -> bool
-    ensures { result ≡ is_space_or_dot character }
+/// Whether a short name leaves the unit out.
+fn is_left_out(unit: u16) -> bool
+    ensures { result ≡ is_space_or_dot unit }
 {
-    let unit = u16::from(character);
     unit == 0x20 || unit == 0x2e
 }
 
-/// The byte of a character.
-fn fat_byte(character: Char16) -> u8
-    ensures { result ≡ fat_byte character }
+/// The byte of a unit.
+fn fat_byte(unit: u16) -> u8
+    ensures { result ≡ fat_byte unit }
 {
-    if is_fat_character(character) {
-        u16::from(character.to_uppercase()) as u8
+    if is_fat_unit(unit) {
+        upper(unit) as u8
     } else {
         UNDERSCORE
     }
+}
+
+/// Writes units to the start of a buffer in the characters of short names, as [`str_to_fat`] writes a name. The
+/// units may hold surrogates, as names on FAT volumes may: no short name takes one.
+///
+/// ```rust
+/// let mut buffer = [0; 3];
+/// let written = units_to_fat(&[0x61, 0xd83d, 0x2e], &mut buffer);
+/// assert_eq!(rt; written, FatBytes { len: 2, is_replaced: true });
+/// assert_eq!(rt; buffer, *b"A_\0");
+/// ```
+pub fn units_to_fat(units: &[u16], buffer: &mut [u8]) -> FatBytes
+    ensures buffer { buffer.new ≡ with_units (fat_bytes units.now) buffer.old }
+    ensures len { result.len ≡ min (length (fat_bytes units.now)) (length buffer.old) }
+    ensures replaced { result.is_replaced ≡ list_any is_unfit (take (length buffer.old) (kept_units units.now)) }
+{
+    let mut len = 0;
+    let mut is_replaced = false;
+    for unit in units {
+        if len == buffer.len() {
+            break;
+        }
+        if !is_left_out(*unit) {
+            buffer[len] = fat_byte(*unit);
+            is_replaced |= !is_fat_unit(*unit);
+            len += 1;
+        }
+    }
+    FatBytes { len, is_replaced }
 }
 
 /// Writes a name to the start of a buffer in the characters of short names, as `StrToFat` does:
@@ -69,19 +97,7 @@ pub fn str_to_fat(name: Char16Slice<'_>, buffer: &mut [u8]) -> FatBytes
     ensures replaced { result.is_replaced
         ≡ list_any is_unfit (take (length buffer.old) (kept_units (units_of name.entry))) }
 {
-    let mut len = 0;
-    let mut is_replaced = false;
-    for character in name.iter() {
-        if len == buffer.len() {
-            break;
-        }
-        if !is_left_out(character) {
-            buffer[len] = fat_byte(character);
-            is_replaced |= !is_fat_character(character);
-            len += 1;
-        }
-    }
-    FatBytes { len, is_replaced }
+    units_to_fat(name.units(), buffer)
 }
 
 /// Writes bytes as units.

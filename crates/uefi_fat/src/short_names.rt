@@ -5,6 +5,7 @@ ghost use Rattle.uefi_fat.specs.ShortNames.{IsShortName, IsShortPart, has_case, 
 ghost use Rattle.uefi_fat.specs.Trimming.{is_dot};
 ghost use Rattle.uefi_text.specs.Views.{units_of};
 
+use uefi_text::case::{lower, upper};
 use uefi_text::chars::Char16;
 use uefi_text::strs::Char16Slice;
 
@@ -17,20 +18,20 @@ const MOST_OF_BASE: usize = 8;
 /// The most characters of an extension.
 const MOST_OF_EXTENSION: usize = 3;
 
-/// Whether upper or lower case changes the character.
-fn has_case(character: Char16) -> bool
-    ensures { result ≡ has_case character }
+/// Whether upper or lower case changes the unit.
+fn has_case(unit: u16) -> bool
+    ensures { result ≡ has_case unit }
 {
-    character.to_uppercase() != character || character.to_lowercase() != character
+    upper(unit) != unit || lower(unit) != unit
 }
 
-/// Whether a short name takes the character, in upper case.
-pub(crate) fn is_fat_character(character: Char16) -> bool
-    ensures { result ≡ is_fat_unit character }
+/// Whether a short name takes the unit, in upper case.
+pub(crate) fn is_fat_unit(unit: u16) -> bool
+    ensures { result ≡ is_fat_unit unit }
 {
-    has_case(character)
+    has_case(unit)
         || matches!(
-            u16::from(character),
+            unit,
             0x30..=0x39
                 | 0x21
                 | 0x23..=0x29
@@ -47,7 +48,7 @@ pub(crate) fn is_fat_character(character: Char16) -> bool
 fn is_short_character(character: Char16) -> bool
     ensures { result ≡ is_short_unit character }
 {
-    is_fat_character(character) && character.to_uppercase() == character
+    is_fat_unit(u16::from(character)) && character.to_uppercase() == character
 }
 
 /// Whether each of the characters stands in short names.

@@ -1,11 +1,14 @@
 //! Upper and lower case, and strings compared without it, as the firmware's Unicode collation does for
 //! English: `StriColl`, `StrUpr` and `StrLwr` (UEFI Specification 2.10, section 21.1). No call takes memory.
 //!
+//! The functions take any units, surrogates included, because names on FAT volumes may hold them. Strings and
+//! slices of characters have methods of the same names.
+//!
 //! The letters that have a case are `a` to `z` and the small letters of Latin-1, U+00E0 to U+00FE but
 //! the division sign U+00F7. Their upper case is 32 below them. Any other character is its own upper
 //! case and its own lower case. `specs/Case.antt` has the definitions.
 ghost use Rattle.std.specs.Prelude.{◌≡◌, ◌↔◌, IsTrue, map};
-ghost use Rattle.uefi_text.specs.Case.{caseless_order, in_case, is_lowercase, lower, upper, uppers};
+ghost use Rattle.uefi_text.specs.Case.{caseless_order, in_case, is_lowercase, lower, lowers, upper, uppers};
 ghost use Rattle.uefi_text.specs.Views.{text_of, units_of};
 
 use crate::chars::Char16;
@@ -21,16 +24,25 @@ fn is_lowercase(unit: u16) -> bool
 }
 
 /// A unit in upper case.
+///
+/// ```rust
+/// assert_eq!(rt; case::upper(0xe9), 0xc9);
+/// assert_eq!(rt; case::upper(0xd800), 0xd800);
+/// ```
 #[inline(always)]
-pub(crate) fn upper(unit: u16) -> u16
+pub fn upper(unit: u16) -> u16
     ensures { result ≡ upper unit }
 {
     if is_lowercase(unit) { unit - 32 } else { unit }
 }
 
 /// A unit in lower case.
+///
+/// ```rust
+/// assert_eq!(rt; case::lower(0x51), 0x71);
+/// ```
 #[inline(always)]
-fn lower(unit: u16) -> u16
+pub fn lower(unit: u16) -> u16
     ensures { result ≡ lower unit }
 {
     if unit < 0xff && is_lowercase(unit + 32) {
@@ -68,8 +80,39 @@ pub(crate) fn set_case(units: &mut [u16], case: Case)
     }
 }
 
-/// How units compare without case.
-fn compare(units: &[u16], others: &[u16]) -> Ordering
+/// Puts units in upper case.
+///
+/// ```rust
+/// let mut name = [0x61, 0xdc00, 0xff];
+/// case::make_uppercase(&mut name);
+/// assert_eq!(rt; name, [0x41, 0xdc00, 0xff]);
+/// ```
+pub fn make_uppercase(units: &mut [u16])
+    ensures { units.new ≡ uppers units.old }
+{
+    set_case(units, Case::Upper);
+}
+
+/// Puts units in lower case.
+///
+/// ```rust
+/// let mut name = [0x41, 0xdc00];
+/// case::make_lowercase(&mut name);
+/// assert_eq!(rt; name, [0x61, 0xdc00]);
+/// ```
+pub fn make_lowercase(units: &mut [u16])
+    ensures { units.new ≡ lowers units.old }
+{
+    set_case(units, Case::Lower);
+}
+
+/// How units compare without case: by the first that differ in upper case, and where one list of units is a
+/// prefix of the other, the shorter is less.
+///
+/// ```rust
+/// assert!(rt; case::cmp_ignore_case(&[0x61, 0xd800], &[0x41, 0xd801]).is_lt());
+/// ```
+pub fn cmp_ignore_case(units: &[u16], others: &[u16]) -> Ordering
     ensures { result ≡ caseless_order units.now others.now }
 {
     for i in 0..units.len().min(others.len()) {
@@ -82,10 +125,14 @@ fn compare(units: &[u16], others: &[u16]) -> Ordering
 }
 
 /// Whether units are the same without case.
-fn are_same(units: &[u16], others: &[u16]) -> bool
+///
+/// ```rust
+/// assert!(rt; case::eq_ignore_case(&[0x61, 0xd800], &[0x41, 0xd800]));
+/// ```
+pub fn eq_ignore_case(units: &[u16], others: &[u16]) -> bool
     ensures { IsTrue result ↔ (uppers units.now ≡ uppers others.now) }
 {
-    units.len() == others.len() && compare(units, others).is_eq()
+    units.len() == others.len() && cmp_ignore_case(units, others).is_eq()
 }
 
 impl Char16 {
@@ -127,7 +174,7 @@ impl<'a> CStr16<'a> {
     pub fn eq_ignore_case(&self, other: CStr16<'_>) -> bool
         ensures { IsTrue result ↔ (uppers (text_of self.now) ≡ uppers (text_of other.entry)) }
     {
-        are_same(self.to_u16_slice(), other.to_u16_slice())
+        eq_ignore_case(self.to_u16_slice(), other.to_u16_slice())
     }
 
     /// How both strings compare without case, as `StriColl` compares them: by the first characters that
@@ -142,7 +189,7 @@ impl<'a> CStr16<'a> {
     pub fn cmp_ignore_case(&self, other: CStr16<'_>) -> Ordering
         ensures { result ≡ caseless_order (text_of self.now) (text_of other.entry) }
     {
-        compare(self.to_u16_slice(), other.to_u16_slice())
+        cmp_ignore_case(self.to_u16_slice(), other.to_u16_slice())
     }
 }
 
@@ -158,7 +205,7 @@ impl<'a> Char16Slice<'a> {
     pub fn eq_ignore_case(&self, other: Char16Slice<'_>) -> bool
         ensures { IsTrue result ↔ (uppers (units_of self.now) ≡ uppers (units_of other.entry)) }
     {
-        are_same(self.units(), other.units())
+        eq_ignore_case(self.units(), other.units())
     }
 
     /// How both slices compare without case, as [`CStr16::cmp_ignore_case`].
@@ -172,6 +219,6 @@ impl<'a> Char16Slice<'a> {
     pub fn cmp_ignore_case(&self, other: Char16Slice<'_>) -> Ordering
         ensures { result ≡ caseless_order (units_of self.now) (units_of other.entry) }
     {
-        compare(self.units(), other.units())
+        cmp_ignore_case(self.units(), other.units())
     }
 }

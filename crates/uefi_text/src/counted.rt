@@ -59,8 +59,21 @@ impl<'a> CountedReader<'a> {
         ensures units { read_units result ≡ units_of characters.entry }
         ensures count { read_count result ≡ 0 }
     {
+        CountedReader::of_units(characters.units())
+    }
+
+    /// A reader of units that has read none.
+    ///
+    /// ```rust
+    /// let mut reader = counted::CountedReader::of_units(&[0xd800, 0x69]);
+    /// assert_eq!(rt; (reader.len(), reader.get(0)), (2, 0xd800));
+    /// ```
+    pub fn of_units(units: &'a [u16]) -> CountedReader<'a>
+        ensures units { read_units result ≡ units.now }
+        ensures count { read_count result ≡ 0 }
+    {
         CountedReader {
-            units: characters.units(),
+            units,
             count: ReadCount::zero(),
         }
     }

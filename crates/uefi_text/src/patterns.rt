@@ -214,6 +214,19 @@ impl<'a> CountedReader<'a> {
     }
 }
 
+/// Whether a pattern matches all of the units, as [`CStr16::matches`]. Both may hold surrogates, as names on FAT
+/// volumes may.
+///
+/// ```rust
+/// assert!(rt; patterns::matches(&[0x61, 0xd83d, 0xde00], &[0x41, 0x2a]));
+/// assert!(rt; !patterns::matches(&[0x61], &[0x3f, 0x3f]));
+/// ```
+pub fn matches(units: &[u16], pattern: &[u16]) -> bool
+    ensures { IsTrue result ↔ Matches pattern.now units.now }
+{
+    CountedReader::of_units(units).matches(&mut CountedReader::of_units(pattern))
+}
+
 impl<'a> CStr16<'a> {
     /// Whether a pattern matches the whole string, without case. Reads fewer than (p + 1) * (t + 1) units
     /// of each, where the pattern has p characters and the string t. [`CountedReader::matches`] promises
@@ -245,6 +258,6 @@ impl<'a> Char16Slice<'a> {
     pub fn matches(&self, pattern: Char16Slice<'_>) -> bool
         ensures { IsTrue result ↔ Matches (units_of pattern.entry) (units_of self.now) }
     {
-        CountedReader::new(*self).matches(&mut CountedReader::new(pattern))
+        matches(self.units(), pattern.units())
     }
 }

@@ -1,6 +1,6 @@
 use Rattle.std.proofs.Common.{◌≡◌, drop}
 use Rattle.uefi_text.specs.Case.{caseless_order}
-use Rattle.uefi_text.proofs.case.compare.Given as goal
+use Rattle.uefi_text.proofs.case.cmp_ignore_case.Given as goal
 
 -- what is left decides
 abbrev pub invariant-loop-i : goal.invariant-loop-i

@@ -1,0 +1,86 @@
+//! Units that may hold surrogates, compared without case, matched and converted as the firmware's Unicode
+//! collation does (UEFI Specification 2.10, section 21.1): names on FAT volumes may be no strings.
+//!
+//! The text of units is what is before their first NUL, or all of them if there is none. No call refuses a unit.
+ghost use Rattle.std.specs.Prelude.{◌≡◌, ◌↔◌, ◌++◌, drop, if◌then◌else◌, length, min, take, IsTrue};
+ghost use Rattle.std.specs.List.{list_any};
+ghost use Rattle.uefi_text.specs.Case.{caseless_order, lowers, uppers};
+ghost use Rattle.uefi_text.specs.FromStrWithBuf.{with_units};
+ghost use Rattle.uefi_text.specs.Patterns.{Matches};
+ghost use Rattle.uefi_fat.specs.Oem.{fat_bytes, is_unfit, kept_units};
+ghost use Rattle.nardcorbel.specs.Reasons.{order_number};
+ghost use Rattle.nardcorbel.specs.Strings.{text_until_nul};
+
+use crate::fat_names::report_fat;
+use crate::reasons::{CHAR_REPLACED, OK, order_number};
+use crate::strings::until_nul;
+use uefi_fat::units_to_fat;
+use uefi_text::case::{cmp_ignore_case, eq_ignore_case, make_lowercase, make_uppercase};
+use uefi_text::patterns::matches;
+
+/// Whether the texts of both are the same without case. Takes no memory.
+#[unsafe(no_mangle)]
+pub extern "C" fn nard_units_equal_ignore_case(first: &[u16], second: &[u16]) -> bool
+    ensures { IsTrue result ↔ (uppers (text_until_nul first.now) ≡ uppers (text_until_nul second.now)) }
+{
+    eq_ignore_case(until_nul(first), until_nul(second))
+}
+
+/// The order of both texts without case, as `StriColl` has it: -1, 0 or 1 if the first is less, equal or greater.
+/// Takes no memory.
+#[unsafe(no_mangle)]
+pub extern "C" fn nard_units_order_ignore_case(first: &[u16], second: &[u16]) -> i32
+    ensures { result
+        ≡ order_number (caseless_order (text_until_nul first.now) (text_until_nul second.now)) }
+{
+    order_number(cmp_ignore_case(until_nul(first), until_nul(second)))
+}
+
+/// Whether the text of the pattern matches the whole text of the units, as `MetaiMatch` does. Takes no memory.
+#[unsafe(no_mangle)]
+pub extern "C" fn nard_units_matches(units: &[u16], pattern: &[u16]) -> bool
+    ensures { IsTrue result ↔ Matches (text_until_nul pattern.now) (text_until_nul units.now) }
+{
+    matches(until_nul(units), until_nul(pattern))
+}
+
+/// Puts the text in upper case, as `StrUpr` does, and returns its length. What follows it is unchanged. Takes no
+/// memory.
+#[unsafe(no_mangle)]
+pub extern "C" fn nard_units_make_uppercase(buffer: &mut [u16]) -> usize
+    ensures length { result ≡ length (text_until_nul buffer.old) }
+    ensures buffer { buffer.new
+        ≡ uppers (text_until_nul buffer.old) ++ drop (length (text_until_nul buffer.old)) buffer.old }
+{
+    let len = until_nul(buffer).len();
+    make_uppercase(&mut buffer[..len]);
+    len
+}
+
+/// The same in lower case, as `StrLwr` does.
+#[unsafe(no_mangle)]
+pub extern "C" fn nard_units_make_lowercase(buffer: &mut [u16]) -> usize
+    ensures length { result ≡ length (text_until_nul buffer.old) }
+    ensures buffer { buffer.new
+        ≡ lowers (text_until_nul buffer.old) ++ drop (length (text_until_nul buffer.old)) buffer.old }
+{
+    let len = until_nul(buffer).len();
+    make_lowercase(&mut buffer[..len]);
+    len
+}
+
+/// Writes the text to the start of `bytes` in the characters of short names, as `StrToFat` and `units_to_fat` do:
+/// `OK`, or `CHAR_REPLACED` if one of them is `_` in place of another unit.
+///
+/// `place` becomes how many bytes are written. What follows them is unchanged, and no NUL is written. Takes no
+/// memory.
+#[unsafe(no_mangle)]
+pub extern "C" fn nard_fat_from_units(units: &[u16], bytes: &mut [u8], place: &mut usize) -> u32
+    ensures reason { result
+        ≡ (if list_any is_unfit (take (length bytes.old) (kept_units (text_until_nul units.now)))
+        then CHAR_REPLACED else OK) }
+    ensures bytes { bytes.new ≡ with_units (fat_bytes (text_until_nul units.now)) bytes.old }
+    ensures place { place.new ≡ min (length (fat_bytes (text_until_nul units.now))) (length bytes.old) }
+{
+    report_fat(units_to_fat(until_nul(units), bytes), place)
+}
