@@ -3,6 +3,8 @@ use Rattle.std.specs.Prelude.{◌≡◌, ℕ, Bool, ◌+◌, ◌*◌, List, ◌+
 use Rattle.uefi_device_nodes.specs.Nodes.{Node, node_bytes, node_with}
 use Rattle.uefi_device_nodes.specs.NodeTexts.{node_text}
 use Rattle.uefi_device_path.specs.LoadOptions.{Entry}
+use Rattle.uefi_device_path.specs.declared.extent.PathExtent.{PathExtent}
+use Rattle.uefi_device_path.specs.declared.extent.PathExtent.TheVariants.{Whole, Cut}
 use Rattle.uefi_device_path.specs.PathLists.{list_bytes}
 use Rattle.uefi_device_path.specs.Paths.{path_bytes}
 use Rattle.uefi_device_path.specs.PathTexts.{nodes_text}
@@ -14,6 +16,12 @@ use Rattle.nardcorbel.specs.declared.load_options.LoadOptionParts.{LoadOptionPar
 abbrev pub node_in : List ℕ → DeviceNode → Node
 node_in bytes node =
     node_with node.device_type node.sub_type (slice_range bytes node.start (node.start + node.length))
+
+-- what is reported of how far bytes go from an offset on: where the next node begins, and how many bytes there have
+-- to be
+abbrev pub ShowsExtent : ℕ → PathExtent → ℕ → ℕ → Type 0
+ShowsExtent start (Whole len) place needed = (place ≡ start) × (needed ≡ start + len)
+ShowsExtent start (Cut cut) place needed = (place ≡ start + cut.passed) × (needed ≡ start + cut.needed)
 
 -- the text of a device path of these nodes, in UTF-16
 abbrev pub text_units : Bool → Bool → List Node → List ℕ

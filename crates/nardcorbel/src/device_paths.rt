@@ -6,13 +6,15 @@ ghost use Rattle.uefi_text.specs.Units.{nul_terminated};
 ghost use Rattle.uefi_device_nodes.specs.NodeFaults.{fault_place, node_fault};
 ghost use Rattle.uefi_device_nodes.specs.Nodes.{IsInner, Node, end_entire, node_bytes};
 ghost use Rattle.uefi_device_nodes.specs.declared.errors.NodeError.{NodeError};
+ghost use Rattle.uefi_device_path.specs.Extents.{BeginNoPath, HasExtent};
 ghost use Rattle.uefi_device_path.specs.Faults.{RefusedFor};
 ghost use Rattle.uefi_device_path.specs.FilePaths.{FileRefusedFor, IsReadable, file_path};
 ghost use Rattle.uefi_device_path.specs.Paths.{BeginWithPath, path_bytes};
 ghost use Rattle.uefi_device_path.specs.declared.errors.DevicePathError.{DevicePathError};
 ghost use Rattle.uefi_device_path.specs.declared.errors.FilePathError.{FilePathError};
+ghost use Rattle.uefi_device_path.specs.declared.extent.PathExtent.{PathExtent};
 ghost use Rattle.nardcorbel.specs.Buffers.{length_shown, room_reason};
-ghost use Rattle.nardcorbel.specs.DevicePaths.{node_in, text_units};
+ghost use Rattle.nardcorbel.specs.DevicePaths.{ShowsExtent, node_in, text_units};
 ghost use Rattle.nardcorbel.specs.Reasons.{name_reason, node_reason};
 
 use crate::reasons::{
@@ -20,7 +22,7 @@ use crate::reasons::{
 };
 use uefi_device_nodes::node::fault_place;
 use uefi_device_path::{
-    AllowShortcuts, DevicePath, DevicePathNode, DisplayOnly, FilePathWriteError, laws,
+    AllowShortcuts, DevicePath, DevicePathNode, DisplayOnly, FilePathWriteError, PathExtent, laws,
 };
 
 /// Whether bytes begin with a device path: `OK`, or why not.
@@ -46,6 +48,45 @@ pub extern "C" fn nard_device_path_check(bytes: &[u8], place: &mut usize) -> u32
         }
         Err(error) => {
             *place = error.offset;
+            node_reason(error.cause)
+        }
+    }
+}
+
+/// How many bytes there have to be to go on in a device path whose first bytes these are: `OK`, or why no path begins
+/// so.
+///
+/// At `OK` `needed` becomes the number of bytes up to the end of the path, if that is not more than there are; or
+/// else how many there have to be to say more, and no path that begins with these bytes has fewer. `place` is where a
+/// node begins, 0 at first, and becomes the offset of the next one, so that no node is read twice. Refused, `place`
+/// becomes the offset of the bytes at fault, and `needed` stays. A place after the end of the bytes is `NO_END_NODE`.
+/// Reads no byte but these; takes no memory (UEFI Specification 2.10, section 10.3.1).
+#[unsafe(no_mangle)]
+pub extern "C" fn nard_device_path_needs(bytes: &[u8], place: &mut usize, needed: &mut usize) -> u32
+    ensures extent { result ≡ OK → (extent : PathExtent) × HasExtent (drop place.old bytes.now) extent
+        × ShowsExtent place.old extent place.new needed.new }
+    ensures refusal { place.old ≤ length bytes.now → result ≢ OK → (error : DevicePathError)
+        × RefusedFor (drop place.old bytes.now) error
+        × (result ≡ node_reason error.cause) × (place.new ≡ place.old + error.offset) }
+    ensures never { place.old ≤ length bytes.now → result ≢ OK → BeginNoPath (drop place.old bytes.now) }
+    ensures beyond { length bytes.now < place.old → (result ≡ NO_END_NODE) × (place.new ≡ place.old) }
+    ensures unchanged { result ≢ OK → needed.new ≡ needed.old }
+{
+    let Some(rest) = bytes.get(*place..) else {
+        return NO_END_NODE;
+    };
+    match DevicePath::extent(rest) {
+        Ok(PathExtent::Whole(len)) => {
+            *needed = *place + len;
+            OK
+        }
+        Ok(PathExtent::Cut(cut)) => {
+            *needed = *place + cut.needed;
+            *place += cut.passed;
+            OK
+        }
+        Err(error) => {
+            *place += error.offset;
             node_reason(error.cause)
         }
     }

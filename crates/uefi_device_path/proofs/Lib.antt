@@ -1,5 +1,6 @@
 pub mod Splits
 pub mod ShortForms
+pub mod CutPaths
 pub mod CheckedRuns
 pub mod Names
 pub mod Lists

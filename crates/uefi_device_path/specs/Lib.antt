@@ -24,6 +24,7 @@ pub use Rattle.uefi_device_nodes.specs.declared.node.DevicePathNode
 pub use Rattle.uefi_device_nodes.specs.declared.media.FilePath
 pub mod Paths
 pub mod Faults
+pub mod Extents
 pub mod ErrorTexts
 pub mod CheckedNodes
 pub mod Views

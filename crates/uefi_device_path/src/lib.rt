@@ -30,6 +30,7 @@ mod builder;
 mod checked_nodes;
 mod device_path;
 mod errors;
+mod extent;
 mod file_path;
 mod grow;
 mod grow_lenient_text;
@@ -60,6 +61,7 @@ pub use errors::{
     LoadOptionCause, LoadOptionError, NodeConversionError, NodeError, OptionBuildError,
     PushTextError,
 };
+pub use extent::{PathCut, PathExtent};
 pub use grow::{append_in_buf, push_in_buf};
 pub use grow_lenient_text::{push_lenient_text_in_buf, push_libefivar_text_in_buf};
 // What the library for C is made of: callers in Rattle have a call for each style.

@@ -1,0 +1,103 @@
+//! How far bytes go that may be only the first part of a device path.
+//!
+//! Firmware hands out device paths without their lengths. Such a path is read from its first bytes on, and
+//! never beyond the bytes that its headers state.
+#![tactic(auto)]
+
+ghost use Rattle.std.specs.Prelude.{◌≡◌, ◌+◌, ◌<◌, ◌≤◌, IfErr, IfOk, false, length};
+ghost use Rattle.uefi_device_path.specs.Extents.{BeginNoPath, HasExtent, begun_length, extent_end, is_cut_short};
+ghost use Rattle.uefi_device_path.specs.Faults.{RefusedFor};
+
+use crate::device_path::DevicePath;
+use crate::errors::{DevicePathError, NodeError};
+use uefi_device_nodes::node::{DevicePathNode, fault_place};
+
+/// A device path whose bytes end before it does.
+#[derive(Clone, Copy, Debug, PartialEq, Eq)]
+pub struct PathCut {
+    /// How many bytes the whole nodes have that come first: the next node begins there.
+    pub passed: usize,
+    /// How many bytes there have to be to go on: up to the end of the next node's header, or of the node if its
+    /// header is there.
+    pub needed: usize,
+}
+
+/// How far bytes go that begin like a device path.
+#[derive(Clone, Copy, Debug, PartialEq, Eq)]
+pub enum PathExtent {
+    /// The bytes begin with a device path of this many bytes, its end node included.
+    Whole(usize),
+    /// The bytes end before the path does.
+    Cut(PathCut),
+}
+
+/// How many bytes a node has at least, by its first bytes: its header, or what that states.
+fn begun_length(bytes: &[u8]) -> usize
+    ensures length { result ≡ begun_length bytes.now }
+    ensures small { result < 65536 }
+{
+    match bytes {
+        [_, _, low, high, ..] => u16::from_le_bytes([*low, *high]) as usize,
+        _ => 4,
+    }
+}
+
+/// Whether bytes end before a node does that was refused for this cause.
+fn is_cut_short(cause: NodeError) -> bool
+    ensures { result ≡ is_cut_short cause }
+{
+    matches!(
+        cause,
+        NodeError::Missing | NodeError::TruncatedHeader | NodeError::BeyondEnd
+    )
+}
+
+impl DevicePath<'_> {
+    /// Returns how many bytes the device path has that bytes begin with, or how many there have to be to say.
+    ///
+    /// So a caller who has an address and no length gives four bytes first, and then as many as are needed,
+    /// until the path is whole. No device path that begins with the bytes has fewer than that. Bytes with
+    /// which no device path begins, whatever follows them, are refused as by [`DevicePath::from_bytes`].
+    /// Takes no memory (UEFI Specification 2.10, section 10.3.1).
+    ///
+    /// ```rust
+    /// let bytes = [1, 1, 6, 0, 0, 0x1f, 0x7f, 0xff, 4, 0, 9];
+    /// let cut = |passed, needed| Ok(PathExtent::Cut(PathCut { passed, needed }));
+    /// assert_eq!(rt; DevicePath::extent(&bytes[..4]), cut(0, 6));
+    /// assert_eq!(rt; DevicePath::extent(&bytes[..6]), cut(6, 10));
+    /// assert_eq!(rt; DevicePath::extent(&bytes), Ok(PathExtent::Whole(10)));
+    /// let error = DevicePathError { cause: NodeError::LengthBelowHeader, offset: 2 };
+    /// assert_eq!(rt; DevicePath::extent(&[1, 1, 3, 0]), Err(error));
+    /// ```
+    pub fn extent(bytes: &[u8]) -> Result<PathExtent, DevicePathError>
+        ensures ok { IfOk result (HasExtent bytes.now) }
+        ensures refusal { IfErr result (λ error. RefusedFor bytes.now error) }
+        ensures never { IfErr result (λ _. BeginNoPath bytes.now) }
+        ensures cause { IfErr result (λ error. is_cut_short error.cause ≡ false) }
+        ensures bound { IfOk result (λ extent. extent_end extent < length bytes.now + 65536) }
+        ensures within { IfErr result (λ error. error.offset ≤ length bytes.now) }
+    {
+        let mut rest = bytes;
+        'nodes: loop {
+            let passed = bytes.len() - rest.len();
+            match DevicePathNode::split_first(rest) {
+                Ok((node, after)) => {
+                    if node.is_end_entire() {
+                        return Ok(PathExtent::Whole(passed + 4));
+                    }
+                    rest = after;
+                }
+                Err(cause) => {
+                    if is_cut_short(cause) {
+                        let needed = passed + begun_length(rest);
+                        return Ok(PathExtent::Cut(PathCut { passed, needed }));
+                    }
+                    return Err(DevicePathError {
+                        cause,
+                        offset: passed + fault_place(cause),
+                    });
+                }
+            }
+        }
+    }
+}
