@@ -90,15 +90,17 @@ static void *put(enum area area, const void *at, size_t size)
 ASKS(string_is_ascii) ASKS(utf8_is_latin1) ASKS(fat_name_is_short)
 COMPARES(string_equal) COMPARES(string_order) COMPARES(string_equal_ignore_case) COMPARES(string_order_ignore_case)
 COMPARES(string_matches) COMPARES(path_equal) COMPARES(path_order) COMPARES(path_equal_ignore_case) COMPARES(path_matches)
+COMPARES(units_equal_ignore_case) COMPARES(units_order_ignore_case) COMPARES(units_matches)
 COMPARES(fat_name_equal) COMPARES(string_equal_until_nul) COMPARES(device_path_is_expansion)
 FINDS(string_with_nul) FINDS(string_until_nul) FINDS(packed_until_nul) FINDS(path_file_name) FINDS(path_parent_length)
 FINDS(device_path_check)
 CHANGES(string_make_uppercase) CHANGES(string_make_lowercase) CHANGES(device_path_begin)
 ADDS(path_push) ADDS(device_path_append) ADDS(device_path_push_text)
 WRITES(units_from_bytes) WRITES(string_from_utf8) WRITES(utf8_from_string) WRITES(path_parent) WRITES(fat_from_string)
-WRITES(string_from_fat) WRITES(device_path_file_path) WRITES(utf8_from_units_lossy)
+WRITES(fat_from_units) WRITES(string_from_fat) WRITES(device_path_file_path) WRITES(utf8_from_units_lossy)
 CALL(path_verdict, IN(0), place, JUDGED)
 CALL(path_next_component, IN(0), place, (nard_size *)buffer.at, (nard_size *)buffer.at + 1)
+CALL(device_path_needs, IN(0), place, (nard_size *)buffer.at)
 CALL(path_join, IN(0), IN(1), OUT, place)
 CALL(path_normalize, IN(0), OUT, place, JUDGED)
 CALL(path_normalize_utf8, IN(0), OUT, place, JUDGED)
@@ -288,6 +290,18 @@ static const struct row rows[] = {
     FAULT(fat_name_check, READ, ILLEGAL_CHAR, 3, .in = {UNITS(u"a|*")}, .character = '|'), BAD_UNITS(fat_name_check, READ),
     ANSWER(fat_name_is_short, true, UNITS(u"BOOTX64.EFI")), ANSWER(fat_name_is_short, false, UNITS(u"BOOTX64.EFI_")),
     ANSWER(fat_name_is_short, false, OPEN(u"A")),
+    ANSWER(units_equal_ignore_case, true, OPEN(u"a\xd83d\0x"), UNITS(u"A\xd83d")),
+    ANSWER(units_equal_ignore_case, false, OPEN(u"a\xd83d"), OPEN(u"a\xd83e")),
+    ANSWER(units_equal_ignore_case, true, OPEN(u""), UNITS(u"")),
+    ANSWER(units_order_ignore_case, -1, OPEN(u"a\xd83d"), OPEN(u"A\xde00")),
+    ANSWER(units_order_ignore_case, 1, OPEN(u"b\xd83d"), UNITS(u"B")),
+    ANSWER(units_order_ignore_case, 0, UNITS(u"\xe9"), OPEN(u"\xc9")),
+    ANSWER(units_matches, true, OPEN(u"Photo \xd83d\xde00.jpg"), UNITS(u"photo *.j?g")),
+    ANSWER(units_matches, true, UNITS(u"\xd83d"), OPEN(u"[\xd800-\xdbff]")),
+    ANSWER(units_matches, false, UNITS(u"a\xd83d"), UNITS(u"a")),
+    FAULT(fat_from_units, FITTING, CHAR_REPLACED, 1, .in = {OPEN(u"a\xd83d.b")}, .out = BYTES("A_B")),
+    ROW(fat_from_units, FITTING, .in = {UNITS(u"boot")}, .out = BYTES("BOOT")),
+    ROW(fat_from_units, FITTING, .in = {OPEN(u"boot")}, .out = BYTES("BOOT")),
     FAULT(fat_from_string, FITTING, CHAR_REPLACED, 2, .in = {UNITS(u"b c.+d")}, .out = BYTES("BC_D")),
     ROW(fat_from_string, FITTING, .in = {UNITS(u"boot")}, .out = BYTES("BOOT")),
     BAD_UNITS(fat_from_string, REFUSED, .out = NO_BYTES),
@@ -297,6 +311,16 @@ static const struct row rows[] = {
     ROW(device_path_check, READ, .in = {BYTES(PCI END "x")}, .place = 10),
     FAULT(device_path_check, READ, LENGTH_BELOW_HEADER, 2, .in = {BYTES("\1\1\3\0")}),
     FAULT(device_path_check, READ, END_WITH_DATA, 2, .in = {BYTES("\x7f\xff\5\0")}), BAD_PATHS(device_path_check, READ),
+    ROW(device_path_needs, STEP, .in = {BYTES(PCI END "x")}, .place = 0, .out = SIZES(10)),
+    ROW(device_path_needs, STEP, .in = {BYTES(PCI END)}, .number = 6, .place = 6, .out = SIZES(10)),
+    ROW(device_path_needs, STEP, .in = {BYTES(PCI)}, .place = 6, .out = SIZES(10)),
+    ROW(device_path_needs, STEP, .in = {BYTES(PCI "\1\1\5\1")}, .place = 6, .out = SIZES(6 + 0x105)),
+    ROW(device_path_needs, STEP, .in = {BYTES(PCI)}, .number = 6, .place = 6, .out = SIZES(10)),
+    ROW(device_path_needs, STEP, .in = {BYTES("\1\1\6")}, .place = 0, .out = SIZES(4)),
+    FAULT(device_path_needs, STEP, NO_END_NODE, 7, .in = {BYTES(PCI)}, .number = 7, .out = NO_SIZES(1)),
+    FAULT(device_path_needs, STEP, LENGTH_BELOW_HEADER, 8, .in = {BYTES(PCI "\1\1\3\0")}, .out = NO_SIZES(1)),
+    FAULT(device_path_needs, STEP, UNKNOWN_END, 7, .in = {BYTES(PCI "\x7f\2\xff\0")}, .out = NO_SIZES(1)),
+    FAULT(device_path_needs, STEP, END_WITH_DATA, 8, .in = {BYTES(PCI "\x7f\xff\xff\0")}, .out = NO_SIZES(1)),
     ROW(device_path_next_node, STEP, .in = {BYTES(END PCI)}, .number = 4, .place = 10, .out = SIZES(1, 1, 8, 2)),
     FAULT(device_path_next_node, STEP, END_OF_PATH, 10, .in = {BYTES(PCI END)}, .number = 6, .out = NO_SIZES(4)),
     FAULT(device_path_next_node, STEP, NODE_BEYOND_END, 8, .in = {BYTES(BEYOND)}, .number = 6, .out = NO_SIZES(4)),
@@ -610,6 +634,48 @@ static void try_halves(const struct halves *it, size_t room)
     }
 }
 
+/* Units that may hold surrogates, and what becomes of them up to their NUL. */
+static const struct cased {
+    nard_size (NARD_CALL *call)(nard_unit *buffer, nard_size room);
+    struct list before, after;
+    nard_size length;
+} cased[] = {
+    {nard_units_make_uppercase, UNITS(u"a\xd83d\xe9\0b"), UNITS(u"A\xd83d\xc9\0b"), 3},
+    {nard_units_make_lowercase, UNITS(u"Q\xde00\xd7\0B"), UNITS(u"q\xde00\xd7\0B"), 3},
+};
+
+static void try_cased(const struct cased *it, size_t room)
+{
+    static nard_unit wanted[AREA / 2];
+    nard_unit *units = put(BUFFER, NULL, room * sizeof *units);
+    nard_size length = least(room, it->length);
+    if (room != 0) {
+        memcpy(units, it->before.at, room * sizeof *units);
+        memcpy(wanted, it->after.at, room * sizeof *units);
+    }
+    nard_size result = it->call(units, room);
+    if (result != length || (room != 0 && memcmp(units, wanted, room * sizeof *units) != 0)) {
+        printf("case of units, %zu of them: WRONG: length %zu\n", room, (size_t)result);
+        failed = true;
+    }
+}
+
+/* Paths whose length is not given: the page after them may not be read. */
+static const struct list unmeasured[] = {BYTES(END), BYTES(PCI END), BYTES(PCI FILE_A "\x7f\1\4\0" PCI END)};
+
+static void try_size(const struct list *path)
+{
+    for (size_t limit = 0; limit <= path->count; limit++) {
+        nard_size length = 0, wanted = 0;
+        const nard_byte *bytes = put(0, path->at, limit);
+        nard_result reason = nard_device_path_size(bytes, limit < path->count ? limit : AREA, &length);
+        if (reason != nard_device_path_check(path->at, limit, &wanted) || length != wanted) {
+            printf("size of a path of %zu bytes, limit %zu: WRONG: %s at %zu\n", path->count, limit, nard_reason_text(reason), length);
+            failed = true;
+        }
+    }
+}
+
 static void try_row(const struct row *row)
 {
     size_t counts[] = {row->in[0].count, row->in[1].count, row->in[2].count};
@@ -650,6 +716,11 @@ int main(int argc, char **argv)
         for (size_t i = 0; i < sizeof halves / sizeof halves[0]; i++)
             for (size_t room = 0; room <= 2 * halves[i].string.count + 2; room++)
                 try_halves(&halves[i], room);
+        for (size_t i = 0; i < sizeof cased / sizeof cased[0]; i++)
+            for (size_t room = 0; room <= cased[i].before.count; room++)
+                try_cased(&cased[i], room);
+        for (size_t i = 0; i < sizeof unmeasured / sizeof unmeasured[0]; i++)
+            try_size(&unmeasured[i]);
     }
     for (int i = 0; i < AREAS && is_uninitialized; i++)
         free(areas[i]);

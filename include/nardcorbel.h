@@ -216,6 +216,31 @@ nard_result NARD_CALL nard_string_make_lowercase(nard_unit *buffer, nard_size ro
 nard_bool NARD_CALL nard_string_matches(const nard_unit *units, nard_size count,
                                         const nard_unit *pattern, nard_size pattern_count);
 
+/* ---- Units that may hold surrogates: the texts of the firmware's Unicode collation, names on FAT volumes among them ---- */
+
+/*
+ * The text of units is what is before their first NUL, or all of them if there is none. No unit is refused, so these calls serve
+ * StriColl, MetaiMatch, StrUpr, StrLwr and StrToFat of EFI_UNICODE_COLLATION_PROTOCOL (section 21.1); nard_string_from_fat serves
+ * FatToStr.
+ */
+nard_bool NARD_CALL nard_units_equal_ignore_case(const nard_unit *first, nard_size first_count,
+                                                 const nard_unit *second, nard_size second_count);
+nard_order NARD_CALL nard_units_order_ignore_case(const nard_unit *first, nard_size first_count,
+                                                  const nard_unit *second, nard_size second_count);
+nard_bool NARD_CALL nard_units_matches(const nard_unit *units, nard_size count,
+                                       const nard_unit *pattern, nard_size pattern_count);
+
+/* Both return the length of the text; what follows the text is unchanged. */
+nard_size NARD_CALL nard_units_make_uppercase(nard_unit *buffer, nard_size room);
+nard_size NARD_CALL nard_units_make_lowercase(nard_unit *buffer, nard_size room);
+
+/*
+ * Writes a text in the characters of 8.3 names, as nard_fat_from_string writes a string. A surrogate becomes '_'.
+ * Returns NARD_OK, or NARD_CHAR_REPLACED if a byte is '_' for another unit.
+ */
+nard_result NARD_CALL nard_fat_from_units(const nard_unit *units, nard_size count, nard_byte *bytes, nard_size room,
+                                          nard_size *length);
+
 /* ---- Packed units and UTF-8 ---- */
 
 /*
@@ -466,6 +491,51 @@ nard_result NARD_CALL nard_string_from_fat(const nard_byte *bytes, nard_size byt
  *                   NARD_NODE_BEYOND_END
  */
 nard_result NARD_CALL nard_device_path_check(const nard_byte *bytes, nard_size byte_count, nard_size *length);
+
+/*
+ * Says how many bytes a device path has whose length is not known, without reading beyond them.
+ *
+ *   byte_count   how many bytes may be read: 4 at first, then *needed of the call before
+ *   *offset      in and out: where a node begins, 0 at first; where the next one begins
+ *
+ * Returns
+ *   NARD_OK           *needed <= byte_count: the path is whole, and has *needed bytes, its end node included
+ *                     *needed > byte_count: so many bytes are needed to go on; no path that begins with these has fewer
+ *   NARD_NO_END_NODE  *offset is more than byte_count; *needed and *offset are unchanged
+ *   another reason    as nard_device_path_check, because no path begins with these bytes, whatever follows them; *needed is
+ *                     unchanged
+ */
+nard_result NARD_CALL nard_device_path_needs(const nard_byte *bytes, nard_size byte_count, nard_size *offset,
+                                             nard_size *needed);
+
+/*
+ * The size of a device path whose length is not known, for example one that firmware hands out.
+ *
+ *   limit   a path of more bytes is refused
+ *
+ * Returns
+ *   NARD_OK          *length is how many bytes the path has, its end node included
+ *   another reason   as nard_device_path_check of the first `limit` bytes, *length too
+ *
+ * It reads no byte that a well-formed path from `path` on does not contain, and none from `limit` on. The caller has to know that
+ * these can be read: bytes that are no path may state any length.
+ */
+static inline NARD_MUST_USE nard_result nard_device_path_size(const nard_byte *path, nard_size limit, nard_size *length)
+{
+    nard_size offset = 0, count, needed = 4;
+    do {
+        count = needed;
+        if (count > limit)
+            return nard_device_path_check(path, limit, length);
+        nard_result reason = nard_device_path_needs(path, count, &offset, &needed);
+        if (reason != NARD_OK) {
+            *length = offset;
+            return reason;
+        }
+    } while (needed > count);
+    *length = needed;
+    return NARD_OK;
+}
 
 /* A node of a device path. */
 struct nard_device_node {
@@ -893,6 +963,46 @@ static inline nard_bool NARD_CALL nard_call_string_matches(const nard_unit *unit
 }
 #define nard_string_matches nard_call_string_matches
 
+static inline nard_bool NARD_CALL nard_call_units_equal_ignore_case(const nard_unit *first, nard_size first_count,
+        const nard_unit *second, nard_size second_count)
+{
+    return nard_units_equal_ignore_case(nard_given_units(first), first_count, nard_given_units(second), second_count);
+}
+#define nard_units_equal_ignore_case nard_call_units_equal_ignore_case
+
+static inline nard_order NARD_CALL nard_call_units_order_ignore_case(const nard_unit *first, nard_size first_count,
+        const nard_unit *second, nard_size second_count)
+{
+    return nard_units_order_ignore_case(nard_given_units(first), first_count, nard_given_units(second), second_count);
+}
+#define nard_units_order_ignore_case nard_call_units_order_ignore_case
+
+static inline nard_bool NARD_CALL nard_call_units_matches(const nard_unit *units, nard_size count, const nard_unit *pattern,
+        nard_size pattern_count)
+{
+    return nard_units_matches(nard_given_units(units), count, nard_given_units(pattern), pattern_count);
+}
+#define nard_units_matches nard_call_units_matches
+
+static inline nard_size NARD_CALL nard_call_units_make_uppercase(nard_unit *buffer, nard_size room)
+{
+    return nard_units_make_uppercase(nard_given_unit_room(buffer), room);
+}
+#define nard_units_make_uppercase nard_call_units_make_uppercase
+
+static inline nard_size NARD_CALL nard_call_units_make_lowercase(nard_unit *buffer, nard_size room)
+{
+    return nard_units_make_lowercase(nard_given_unit_room(buffer), room);
+}
+#define nard_units_make_lowercase nard_call_units_make_lowercase
+
+static inline NARD_MUST_USE nard_result NARD_CALL nard_call_fat_from_units(const nard_unit *units, nard_size count,
+        nard_byte *bytes, nard_size room, nard_size *length)
+{
+    return nard_fat_from_units(nard_given_units(units), count, nard_given_byte_room(bytes), room, length);
+}
+#define nard_fat_from_units nard_call_fat_from_units
+
 static inline NARD_MUST_USE nard_result NARD_CALL nard_call_units_from_bytes(const nard_byte *bytes, nard_size byte_count,
         nard_unit *buffer, nard_size room, nard_size *count)
 {
@@ -1071,6 +1181,13 @@ static inline NARD_MUST_USE nard_result NARD_CALL nard_call_device_path_check(co
     return nard_device_path_check(nard_given_bytes(bytes), byte_count, length);
 }
 #define nard_device_path_check nard_call_device_path_check
+
+static inline NARD_MUST_USE nard_result NARD_CALL nard_call_device_path_needs(const nard_byte *bytes, nard_size byte_count,
+        nard_size *offset, nard_size *needed)
+{
+    return nard_device_path_needs(nard_given_bytes(bytes), byte_count, offset, needed);
+}
+#define nard_device_path_needs nard_call_device_path_needs
 
 static inline NARD_MUST_USE nard_result NARD_CALL nard_call_device_path_next_node(const nard_byte *bytes, nard_size byte_count,
         nard_size *offset, struct nard_device_node *node)

@@ -107,6 +107,24 @@ call!(nard_string_make_lowercase(buffer: &mut [u16], length: &mut usize) -> u32
 call!(nard_string_matches(units: &[u16], pattern: &[u16]) -> bool
     as (units.as_ptr(), units.len(), pattern.as_ptr(), pattern.len())
     of (*const u16, usize, *const u16, usize));
+call!(nard_units_equal_ignore_case(first: &[u16], second: &[u16]) -> bool
+    as (first.as_ptr(), first.len(), second.as_ptr(), second.len())
+    of (*const u16, usize, *const u16, usize));
+call!(nard_units_order_ignore_case(first: &[u16], second: &[u16]) -> i32
+    as (first.as_ptr(), first.len(), second.as_ptr(), second.len())
+    of (*const u16, usize, *const u16, usize));
+call!(nard_units_matches(units: &[u16], pattern: &[u16]) -> bool
+    as (units.as_ptr(), units.len(), pattern.as_ptr(), pattern.len())
+    of (*const u16, usize, *const u16, usize));
+call!(nard_units_make_uppercase(buffer: &mut [u16]) -> usize
+    as (buffer.as_mut_ptr(), buffer.len())
+    of (*mut u16, usize));
+call!(nard_units_make_lowercase(buffer: &mut [u16]) -> usize
+    as (buffer.as_mut_ptr(), buffer.len())
+    of (*mut u16, usize));
+call!(nard_fat_from_units(units: &[u16], bytes: &mut [u8], length: &mut usize) -> u32
+    as (units.as_ptr(), units.len(), bytes.as_mut_ptr(), bytes.len(), length)
+    of (*const u16, usize, *mut u8, usize, *mut usize));
 call!(nard_units_from_bytes(bytes: &[u8], buffer: &mut [u16], count: &mut usize) -> u32
     as (bytes.as_ptr(), bytes.len(), buffer.as_mut_ptr(), buffer.len(), count)
     of (*const u8, usize, *mut u16, usize, *mut usize));
@@ -185,6 +203,9 @@ call!(nard_string_from_fat(bytes: &[u8], buffer: &mut [u16], length: &mut usize)
 call!(nard_device_path_check(bytes: &[u8], length: &mut usize) -> u32
     as (bytes.as_ptr(), bytes.len(), length)
     of (*const u8, usize, *mut usize));
+call!(nard_device_path_needs(bytes: &[u8], offset: &mut usize, needed: &mut usize) -> u32
+    as (bytes.as_ptr(), bytes.len(), offset, needed)
+    of (*const u8, usize, *mut usize, *mut usize));
 call!(nard_device_path_next_node(bytes: &[u8], offset: &mut usize, node: &mut DeviceNode) -> u32
     as (bytes.as_ptr(), bytes.len(), offset, node)
     of (*const u8, usize, *mut usize, *mut DeviceNode));

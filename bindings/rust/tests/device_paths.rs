@@ -91,6 +91,12 @@ fn paths() -> Result<(), Error> {
         unsafe { DevicePath::from_ffi_ptr(path.as_ffi_ptr()) },
         &*path
     );
+    for limit in 0..=PATH.len() {
+        let bytes = PATH[..limit].to_vec();
+        // SAFETY: `limit` bytes can be read.
+        let found = unsafe { DevicePath::try_from_ffi_ptr(bytes.as_ptr(), limit) };
+        assert_eq!(found, DevicePath::from_bytes(&bytes));
+    }
     let error = DevicePath::from_bytes(&PATH[..18]).unwrap_err();
     assert_eq!((error.reason, error.place), (Reason::TruncatedHeader, 16));
     let error = "Pci(0x1,0x2)/Pci(x)"

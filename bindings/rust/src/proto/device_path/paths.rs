@@ -69,6 +69,44 @@ impl DevicePath {
         }
     }
 
+    /// Reads the device path at an address, if it has at most `limit` bytes.
+    ///
+    /// Reads no byte that a well-formed path from there on does not contain. Fails as [`DevicePath::from_bytes`] of the first
+    /// `limit` bytes.
+    ///
+    /// ```
+    /// use nardcorbel::{DevicePath, Reason};
+    ///
+    /// let bytes = [1, 1, 6, 0, 2, 0x1f, 0x7f, 0xff, 4, 0];
+    /// // SAFETY: these bytes are a path.
+    /// let path = unsafe { DevicePath::try_from_ffi_ptr(bytes.as_ptr(), 4096)? };
+    /// assert_eq!(path.as_bytes(), bytes);
+    /// // SAFETY: the first nine bytes can be read.
+    /// let error = unsafe { DevicePath::try_from_ffi_ptr(bytes.as_ptr(), 9) }.unwrap_err();
+    /// assert_eq!((error.reason, error.place), (Reason::TruncatedHeader, 6));
+    /// # Ok::<(), nardcorbel::Error>(())
+    /// ```
+    ///
+    /// # Safety
+    ///
+    /// The bytes up to the end of the path, or `limit` bytes if there is no well-formed path, can be read, and are unchanged while
+    /// the path is used.
+    pub unsafe fn try_from_ffi_ptr<'a>(ptr: *const u8, limit: usize) -> Result<&'a Self, Error> {
+        let (mut offset, mut needed) = (0, 4);
+        loop {
+            let count = needed.min(limit);
+            // SAFETY: the caller's, since a well-formed path that begins with the bytes read so far has `needed` bytes or more.
+            let bytes = unsafe { core::slice::from_raw_parts(ptr, count) };
+            if count < needed {
+                return Self::from_bytes(bytes);
+            }
+            check(sys::nard_device_path_needs(bytes, &mut offset, &mut needed), offset)?;
+            if needed <= count {
+                return Ok(Self::of(&bytes[..needed]));
+            }
+        }
+    }
+
     /// Returns the address of the first node, for the firmware.
     #[must_use]
     pub const fn as_ffi_ptr(&self) -> *const u8 {
