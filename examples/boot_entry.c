@@ -1,6 +1,6 @@
 /*
- * Prints a boot entry of UEFI firmware: its number, whether it is active, its description, its device paths, and the path
- * of each file that it names, judged.
+ * Prints a boot entry of UEFI firmware: its number, its attributes, its description, its device paths, the path of each file
+ * that it names, judged, and its optional data, as text if they are text.
  *
  * usage: boot_entry FILE ..
  *
@@ -18,8 +18,8 @@
 /* More than firmware keeps of one variable, without its attributes. */
 enum { MOST_BYTES = 65536, MOST_UNITS = MOST_BYTES / 2, MOST_SHOWN = 4 * MOST_BYTES, MOST_UTF8 = 3 * MOST_SHOWN + 1 };
 
-/* LOAD_OPTION_ACTIVE, and the attributes of a variable that is kept, and seen at boot and at run time. */
-enum { ACTIVE = 1, VARIABLE_ATTRIBUTES = 7 };
+/* The attributes of a load option, and those of a variable that is kept, and seen at boot and at run time. */
+enum { ACTIVE = 1, FORCE_RECONNECT = 2, HIDDEN = 8, CATEGORY = 0x1f00, VARIABLE_ATTRIBUTES = 7 };
 
 /* How many bytes come before a description, and the type and sub-type of a node that names a file. */
 enum { HEAD = 6, MEDIA = 4, FILE_PATH = 4 };
@@ -134,6 +134,78 @@ static void print_device_paths(struct entry entry, size_t at, size_t end)
     }
 }
 
+/* Prints the attributes of an entry. */
+static void print_attributes(const uint8_t *bytes)
+{
+    uint32_t attributes = bytes[0] | bytes[1] << 8 | bytes[2] << 16 | (uint32_t)bytes[3] << 24;
+    uint32_t category = (attributes & CATEGORY) >> 8, reserved = attributes & ~(uint32_t)(ACTIVE | FORCE_RECONNECT | HIDDEN | CATEGORY);
+    const char *between = "  attributes: ";
+    printf("  active: %s\n", attributes & ACTIVE ? "yes" : "no");
+    if ((attributes & ~(uint32_t)ACTIVE) == 0)
+        return;
+    if (attributes & FORCE_RECONNECT) {
+        printf("%sforce reconnect", between);
+        between = ", ";
+    }
+    if (attributes & HIDDEN) {
+        printf("%shidden", between);
+        between = ", ";
+    }
+    if (category == 1)
+        printf("%sapplication", between);
+    else if (category != 0)
+        printf("%scategory %u", between, (unsigned)category);
+    if (category != 0)
+        between = ", ";
+    if (reserved != 0)
+        printf("%sreserved 0x%x", between, (unsigned)reserved);
+    printf("\n");
+}
+
+/* Whether bytes are printable ASCII. */
+static bool is_ascii_text(const uint8_t *bytes, size_t size)
+{
+    for (size_t i = 0; i < size; i++)
+        if (bytes[i] < 0x20 || bytes[i] > 0x7e)
+            return false;
+    return size != 0;
+}
+
+/* Whether units are characters that can be shown, of which half or more are printable ASCII. */
+static bool is_utf16_text(const uint16_t *from, size_t count)
+{
+    size_t ascii = 0;
+    for (size_t i = 0; i < count; i++) {
+        if (from[i] == 0 || is_hidden(from[i]) || (from[i] & 0xf800) == 0xd800)
+            return false;
+        ascii += from[i] < 0x7f;
+    }
+    return count != 0 && ascii >= count - ascii;
+}
+
+/* Prints the optional data of an entry, of which one NUL at the end says nothing in a text. */
+static void print_optional_data(const uint8_t *bytes, size_t size)
+{
+    size_t count = 0, bare = size - (size != 0 && bytes[size - 1] == 0);
+    bool is_units = nard_units_from_bytes(bytes, size, units, MOST_UNITS, &count) == NARD_OK;
+    if (size == 0)
+        return;
+    if (is_ascii_text(bytes, bare)) {
+        printf("  optional data (ASCII): %.*s\n", (int)bare, (const char *)bytes);
+        return;
+    }
+    count -= is_units && count != 0 && units[count - 1] == 0;
+    if (is_units && is_utf16_text(units, count)) {
+        printf("  optional data (UTF-16): ");
+        print_units(units, count);
+    } else {
+        printf("  optional data (hexadecimal): ");
+        for (size_t i = 0; i < size; i++)
+            printf("%02x", bytes[i]);
+    }
+    printf("\n");
+}
+
 /* Prints an entry whose bytes begin with its own attributes. */
 static bool print_entry(struct entry entry)
 {
@@ -142,7 +214,7 @@ static bool print_entry(struct entry entry)
     uint32_t reason = nard_load_option_read(entry.bytes, entry.size, &option, &fault);
     if (reason == NARD_OPTION_TOO_SHORT)
         return refuse(fault, nard_reason_text(reason));
-    printf("  active: %s\n", entry.bytes[0] & ACTIVE ? "yes" : "no");
+    print_attributes(entry.bytes);
     if (nard_packed_until_nul(entry.bytes + HEAD, entry.size - HEAD, &length) != NARD_OK)
         return refuse(fault, nard_reason_text(reason));
     /* All else that is refused stands after the description, or says where the list after it ends. */
@@ -151,7 +223,10 @@ static bool print_entry(struct entry entry)
     print_device_paths(entry, list, end);
     if (!print_nodes(entry, list, end))
         return false;
-    return reason == NARD_OK || refuse(fault, nard_reason_text(reason));
+    if (reason != NARD_OK)
+        return refuse(fault, nard_reason_text(reason));
+    print_optional_data(entry.bytes + option.optional_start, option.optional_length);
+    return true;
 }
 
 /* Whether the name of a file is Boot####, which a dash and more may follow; then its number. */

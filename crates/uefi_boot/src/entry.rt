@@ -1,5 +1,6 @@
 //! What an entry says.
 use crate::growing_texts::text_of;
+use crate::optional_data::OptionalData;
 use serde::Serialize;
 use std::alloc::{AllocError, Global};
 use std::fmt::{self, Write};
@@ -43,9 +44,11 @@ pub(crate) struct Fault {
 #[derive(Drop, Serialize)]
 pub(crate) struct Shown {
     active: Option<bool>,
+    attributes: Option<u32>,
     description: Option<String>,
     device_paths: Vec<String>,
     files: Vec<File>,
+    optional_data: Option<OptionalData>,
     malformed: Option<Fault>,
     unreadable: Option<String>,
 }
@@ -132,9 +135,11 @@ impl Shown {
     fn new(alloc: Global) -> Shown {
         Shown {
             active: None,
+            attributes: None,
             description: None,
             device_paths: Vec::new(alloc),
             files: Vec::new(alloc),
+            optional_data: None,
             malformed: None,
             unreadable: None,
         }
@@ -171,6 +176,12 @@ impl Shown {
     /// Notes what is malformed.
     fn fail(&mut self, offset: usize, reason: String) {
         self.malformed = Some(Fault { offset, reason });
+    }
+
+    /// Notes the attributes.
+    fn set_attributes(&mut self, attributes: u32) {
+        self.active = Some(attributes % 2 == 1);
+        self.attributes = Some(attributes);
     }
 
     /// Adds a description and device paths.
@@ -278,7 +289,7 @@ impl Shown {
     /// Adds what is well in bytes that are no load option, and then what is malformed.
     fn add_parts(&mut self, alloc: Global, parts: LoadOptionParts<'_>) -> fmt::Result {
         if let Some(attributes) = parts.attributes() {
-            self.active = Some(attributes % 2 == 1);
+            self.set_attributes(attributes);
         }
         if let Some(description) = parts.description_units() {
             self.begin(alloc, description, parts.device_paths())?;
@@ -299,10 +310,15 @@ impl Shown {
     /// Adds what an option says.
     fn add_option(&mut self, alloc: Global, option: LoadOption<'_>) -> fmt::Result {
         let description = option.description_units();
-        self.active = Some(option.is_active());
+        self.set_attributes(option.attributes());
         self.begin(alloc, description, option.device_paths())?;
         let start = list_start(description);
-        self.add_paths(alloc, start, option.device_paths())?;
+        if self
+            .add_paths(alloc, start, option.device_paths())?
+            .is_some()
+        {
+            self.optional_data = OptionalData::of(alloc, &option)?;
+        }
         Ok(())
     }
 
@@ -336,6 +352,9 @@ impl Shown {
         if let Some(active) = &self.active {
             writeln!(out, "  active: {}", if *active { "yes" } else { "no" })?;
         }
+        if let Some(attributes) = &self.attributes {
+            write_attributes(out, *attributes)?;
+        }
         if let Some(description) = &self.description {
             writeln!(out, "  description: {description}")?;
         }
@@ -344,6 +363,9 @@ impl Shown {
         }
         for file in &self.files {
             file.write(out)?;
+        }
+        if let Some(data) = &self.optional_data {
+            data.write(out)?;
         }
         if let Some(fault) = &self.malformed {
             writeln!(
@@ -354,6 +376,36 @@ impl Shown {
         }
         Ok(())
     }
+}
+
+/// Writes the attributes that an entry has, but for the first, which says that it is active (UEFI Specification
+/// 2.10, section 3.1.3).
+fn write_attributes<W: Write>(out: &mut W, attributes: u32) -> fmt::Result {
+    if attributes < 2 {
+        return Ok(());
+    }
+    write!(out, "  attributes:")?;
+    let mut between = " ";
+    for (bit, name) in [(0x2, "force reconnect"), (0x8, "hidden")] {
+        if attributes & bit != 0 {
+            write!(out, "{between}{name}")?;
+            between = ", ";
+        }
+    }
+    let category = attributes / 256 % 32;
+    match category {
+        0 => {}
+        1 => write!(out, "{between}application")?,
+        _ => write!(out, "{between}category {category}")?,
+    }
+    if category != 0 {
+        between = ", ";
+    }
+    let reserved = attributes & 0xffff_e0f4;
+    if reserved != 0 {
+        write!(out, "{between}reserved 0x{reserved:x}")?;
+    }
+    writeln!(out)
 }
 
 impl File {

@@ -31,14 +31,16 @@ struct Named {
     entry: Shown,
 }
 
-/// What variables say. `BootOrder`, `BootCurrent` and `BootNext` are `None` if they are not set, malformed or
-/// can't be read. The entries are first those of the order, in order and once each, and then the others by
+/// What variables say. `BootOrder`, `BootCurrent`, `BootNext` and `Timeout` are `None` if they are not set, malformed
+/// or can't be read. The entries are first those of the order, in order and once each, and then the others by
 /// number.
 #[derive(Drop, Serialize)]
 pub(crate) struct Listing {
     boot_order: Option<Vec<String>>,
     boot_current: Option<String>,
     boot_next: Option<String>,
+    /// For how many seconds the firmware waits before it boots; 65,535 is without an end.
+    timeout: Option<u16>,
     malformed: Vec<Silent>,
     unreadable: Vec<Silent>,
     entries: Vec<Named>,
@@ -105,11 +107,24 @@ impl Listing {
         variable: &'static str,
         content: Option<&Content>,
     ) -> Result<Option<String>, fmt::Error> {
+        match self.number(alloc, variable, content)? {
+            Some(number) => Ok(Some(boot(alloc, number)?)),
+            None => Ok(None),
+        }
+    }
+
+    /// The number that a variable is.
+    fn number(
+        &mut self,
+        alloc: Global,
+        variable: &'static str,
+        content: Option<&Content>,
+    ) -> Result<Option<u16>, fmt::Error> {
         let Some(bytes) = self.value(alloc, variable, content)? else {
             return Ok(None);
         };
         match read_number(bytes) {
-            Ok(number) => Ok(Some(boot(alloc, number)?)),
+            Ok(number) => Ok(Some(number)),
             Err(error) => {
                 self.fail(variable, format!(in alloc; "{error}")?)?;
                 Ok(None)
@@ -183,13 +198,14 @@ impl Listing {
             boot_order: None,
             boot_current: None,
             boot_next: None,
+            timeout: None,
             malformed: Vec::new(alloc),
             unreadable: Vec::new(alloc),
             entries: Vec::new(alloc),
             not_set: Vec::new(alloc),
             passed_over: Vec::new(alloc),
         };
-        let (mut order, mut current, mut next) = (None, None, None);
+        let (mut order, mut current, mut next, mut timeout) = (None, None, None, None);
         let mut entries = Vec::new(alloc);
         for Found {
             variable,
@@ -200,12 +216,14 @@ impl Listing {
                 Variable::Order => order = Some(content),
                 Variable::Current => current = Some(content),
                 Variable::Next => next = Some(content),
+                Variable::Timeout => timeout = Some(content),
                 Variable::Entry(number) => push(&mut entries, (*number, content))?,
             }
         }
         let order = listing.order(alloc, order)?;
         listing.boot_current = listing.one(alloc, "BootCurrent", current)?;
         listing.boot_next = listing.one(alloc, "BootNext", next)?;
+        listing.timeout = listing.number(alloc, "Timeout", timeout)?;
         listing.add_entries(alloc, order, &entries)?;
         for it in &variables.passed_over {
             let (file, reason) = (it.file.clone()?, it.reason);
@@ -224,19 +242,40 @@ impl Listing {
         self.malformed.is_empty() && self.entries.iter().all(|named| named.entry.is_well())
     }
 
-    /// Writes why a variable says nothing: it is malformed, can't be read, or is not set.
-    fn write_without<W: Write>(&self, out: &mut W, variable: &str) -> fmt::Result {
+    /// Writes the line of a variable that says nothing, if it is malformed or can't be read. Returns whether it is.
+    fn write_fault<W: Write>(&self, out: &mut W, variable: &str) -> Result<bool, fmt::Error> {
         for (list, what) in [
             (&self.malformed, "malformed"),
             (&self.unreadable, "cannot be read"),
         ] {
             for silent in list {
                 if silent.variable == variable {
-                    return writeln!(out, "{variable}: {what}: {}", silent.reason);
+                    writeln!(out, "{variable}: {what}: {}", silent.reason)?;
+                    return Ok(true);
                 }
             }
         }
-        writeln!(out, "{variable}: not set")
+        Ok(false)
+    }
+
+    /// Writes why a variable says nothing: it is malformed, can't be read, or is not set.
+    fn write_without<W: Write>(&self, out: &mut W, variable: &str) -> fmt::Result {
+        if !self.write_fault(out, variable)? {
+            writeln!(out, "{variable}: not set")?;
+        }
+        Ok(())
+    }
+
+    /// Writes the line of the time that the firmware waits, if the variable is set.
+    fn write_timeout<W: Write>(&self, out: &mut W) -> fmt::Result {
+        match &self.timeout {
+            Some(0xffff) => writeln!(out, "Timeout: none, the firmware waits for a choice"),
+            Some(seconds) => writeln!(out, "Timeout: {seconds} seconds"),
+            None => {
+                self.write_fault(out, "Timeout")?;
+                Ok(())
+            }
+        }
     }
 
     /// Writes the line of a variable that names one entry.
@@ -269,6 +308,7 @@ impl Listing {
         self.write_order(out)?;
         self.write_one(out, "BootCurrent", &self.boot_current)?;
         self.write_one(out, "BootNext", &self.boot_next)?;
+        self.write_timeout(out)?;
         for named in &self.entries {
             writeln!(out, "{}", named.name)?;
             named.entry.write(out)?;

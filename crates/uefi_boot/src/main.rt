@@ -1,14 +1,14 @@
 //! Prints what a machine boots: one boot entry from standard input, or all that a folder or files of
 //! variables hold.
 //!
-//! Without an argument, it reads a variable `Boot####` from standard input, a load option (UEFI
-//! Specification 2.10, section 3.1.3), with or without the four bytes of the variable's attributes that
-//! Linux puts before it, and prints whether the entry is active, its description, and each file that it
-//! names, judged.
+//! Without an argument, it prints the variables of the machine if standard input is a terminal. Otherwise, and for
+//! the argument `-`, it reads a variable `Boot####` from standard input: a load option (UEFI Specification 2.10,
+//! section 3.1.3), with or without the four bytes of the variable's attributes that Linux puts before it. It prints
+//! its attributes, its description, each file that it names, judged, and its optional data, as text if they are text.
 //!
 //! The arguments are files of variables, or folders of them: Linux's `efivars`, whose files are named by
 //! the variable and its GUID, or files that are named by the variable alone. It prints `BootOrder`,
-//! `BootCurrent` and `BootNext`, and then each entry: those of the order first, in its order, and then the
+//! `BootCurrent`, `BootNext` and `Timeout`, and then each entry: those of the order first, in its order, and then the
 //! others by number. A file of a folder is opened only if its name is that of one of these variables. A
 //! variable that can't be read is printed with the cause.
 //!
@@ -25,6 +25,7 @@ ghost use Rattle.std.specs.Prelude.{◌≤◌, IfOk, length};
 mod entry;
 mod growing_texts;
 mod listing;
+mod optional_data;
 mod variables;
 
 use entry::Shown;
@@ -32,16 +33,27 @@ use listing::Listing;
 use serde::Serialize;
 use std::io::{self, IsTerminal, Read, Write};
 use std::process::ExitCode;
-use std::{env, fmt};
+use std::{env, fmt, fs};
 use variables::{Failure, MOST_READ, Variables, read_all};
 
-const HELP: &str = "usage: uefi_boot < FILE     prints the boot entry that a file holds
+const HELP: &str =
+    "usage: uefi_boot            prints the boot variables of this machine, or the entry on standard input
        uefi_boot FOLDER     prints the boot variables of a folder, such as /sys/firmware/efi/efivars
        uefi_boot FILE ..    prints those of files, named as Boot0000 or Boot0000-GUID
+       uefi_boot -          prints the boot entry on standard input
        --json               prints it as JSON
+       -h, --help           prints this
+       --version            prints the version
 status: 0 well, 1 malformed, 2 a read or a write failed, 3 out of memory, 4 a variable can't be read,
         5 wrong arguments
 ";
+
+const VERSION: &str = "uefi_boot 0.7.0\n";
+
+const OPTIONS: [&str; 4] = ["--json", "--help", "--version", "-h"];
+
+/// Where Linux has the variables of the machine.
+const OWN: &str = "/sys/firmware/efi/efivars";
 
 const NO_VARIABLE: &str = "no file is named as a boot variable, such as Boot0000 or BootOrder
 for one entry, write: uefi_boot < FILE
@@ -125,9 +137,6 @@ fn text_of_listing(rt: &HostRuntime, listing: &Listing, form: Form) -> Result<St
 
 /// Prints the entry that standard input is.
 fn print_entry(rt: &HostRuntime, form: Form) -> ExitCode {
-    if rt.stdin().is_terminal() {
-        return refuse_arguments(rt, HELP);
-    }
     let mut buffer = [0; MOST_READ];
     let Ok(count) = fill(&mut rt.reader(), &mut buffer) else {
         return ExitCode::from(2);
@@ -159,6 +168,55 @@ fn print_listing(rt: &HostRuntime, variables: &Variables, form: Form) -> ExitCod
     }
 }
 
+/// Prints the variables of files and folders.
+fn print_files(rt: &HostRuntime, names: &[String], form: Form) -> ExitCode {
+    match read_all(rt, names) {
+        Ok(variables) => print_listing(rt, &variables, form),
+        Err(Failure::OutOfMemory) => is_out_of_memory(rt),
+        Err(Failure::Unreadable) => ExitCode::from(4),
+        Err(Failure::NoVariable) => refuse_arguments(rt, NO_VARIABLE),
+    }
+}
+
+/// Prints what there is without an argument: standard input, unless that is a terminal, or else the variables of the
+/// machine.
+fn print_own(rt: &HostRuntime, mut names: Vec<String>, form: Form) -> ExitCode {
+    if !rt.stdin().is_terminal() {
+        return print_entry(rt, form);
+    }
+    if !fs::metadata(rt, OWN).is_ok_and(|found| found.is_dir()) {
+        return refuse_arguments(rt, HELP);
+    }
+    let Ok(own) = String::from_str(rt.alloc(), OWN) else {
+        return is_out_of_memory(rt);
+    };
+    if names.push(own).is_err() {
+        return is_out_of_memory(rt);
+    }
+    print_files(rt, &names, form)
+}
+
+/// How many bytes two texts have in common at their start.
+fn common_len(one: &str, other: &str) -> usize {
+    one.bytes()
+        .zip(other.bytes())
+        .take_while(|(a, b)| a == b)
+        .count()
+}
+
+/// Says that there is no option of a name, and which one is near.
+fn refuse_option(rt: &HostRuntime, option: &str) -> ExitCode {
+    let mut nearest = "--help";
+    for known in OPTIONS {
+        if common_len(nearest, option) < common_len(known, option) {
+            nearest = known;
+        }
+    }
+    // Nothing is left to do where standard error can't be written.
+    let _ = eprint!(rt; "there is no option {option}: did you mean {nearest}?\n");
+    ExitCode::from(5)
+}
+
 fn main(rt: HostRuntime) -> ExitCode {
     let Ok(arguments) = env::args(&rt) else {
         return is_out_of_memory(&rt);
@@ -167,11 +225,11 @@ fn main(rt: HostRuntime) -> ExitCode {
     let mut form = Form::Lines;
     for argument in arguments.skip(1) {
         match argument.as_str() {
-            "--help" => return end(&rt, HELP, 0),
+            "-h" | "--help" => return end(&rt, HELP, 0),
+            "--version" => return end(&rt, VERSION, 0),
             "--json" => form = Form::Json,
-            option if option.starts_with("-") => {
-                let _ = eprint!(rt; "there is no option {option}\n");
-                return refuse_arguments(&rt, HELP);
+            option if option.starts_with("-") && option != "-" => {
+                return refuse_option(&rt, option);
             }
             _ => {
                 if names.push(argument).is_err() {
@@ -180,13 +238,9 @@ fn main(rt: HostRuntime) -> ExitCode {
             }
         }
     }
-    if names.is_empty() {
-        return print_entry(&rt, form);
-    }
-    match read_all(&rt, &names) {
-        Ok(variables) => print_listing(&rt, &variables, form),
-        Err(Failure::OutOfMemory) => is_out_of_memory(&rt),
-        Err(Failure::Unreadable) => ExitCode::from(4),
-        Err(Failure::NoVariable) => refuse_arguments(&rt, NO_VARIABLE),
+    match names.as_slice() {
+        [] => print_own(&rt, names, form),
+        [name] if name.as_str() == "-" => print_entry(&rt, form),
+        _ => print_files(&rt, &names, form),
     }
 }

@@ -36,6 +36,7 @@ pub(crate) enum Variable {
     Order,
     Current,
     Next,
+    Timeout,
     /// The entry of this number.
     Entry(u16),
 }
@@ -87,6 +88,7 @@ fn variable_of(name: &str) -> Option<Variable> {
         "BootOrder" => Some(Variable::Order),
         "BootCurrent" => Some(Variable::Current),
         "BootNext" => Some(Variable::Next),
+        "Timeout" => Some(Variable::Timeout),
         _ => match LoadOptionName::from_text(name) {
             Some(name) if name.kind == LoadOptionKind::Boot => Some(Variable::Entry(name.number)),
             _ => None,

@@ -1,0 +1,100 @@
+//! Optional data of an entry, as text if they are text.
+use serde::Serialize;
+use std::alloc::Global;
+use std::fmt::{self, Write};
+use uefi_device_path::{LoadOption, is_escaped};
+use uefi_text::{Char16, UnalignedSlice};
+
+/// Optional data: their bytes in hexadecimal, and the text that they are, if they are one.
+#[derive(Drop, Serialize)]
+pub(crate) struct OptionalData {
+    encoding: Option<&'static str>,
+    text: Option<String>,
+    hexadecimal: String,
+}
+
+/// Bytes without one NUL at their end.
+fn without_nul(bytes: &[u8]) -> &[u8] {
+    bytes.strip_suffix(&[0]).unwrap_or(bytes)
+}
+
+/// The text of bytes that are printable ASCII, and maybe a NUL at their end.
+fn ascii_text(alloc: Global, bytes: &[u8]) -> Result<Option<String>, fmt::Error> {
+    let bytes = without_nul(bytes);
+    if bytes.is_empty() || !bytes.iter().all(|byte| matches!(byte, 0x20..=0x7e)) {
+        return Ok(None);
+    }
+    let mut text = String::new(alloc);
+    for byte in bytes {
+        text.write_char(char::from(*byte))?;
+    }
+    Ok(Some(text))
+}
+
+/// The text of units, and maybe a NUL at their end, if each is a character that can be shown, and half of them or
+/// more are printable ASCII. Bytes of another kind are seldom such units.
+fn utf16_text(alloc: Global, units: UnalignedSlice<'_, u16>) -> Result<Option<String>, fmt::Error> {
+    let mut text = String::new(alloc);
+    let (mut count, mut count_of_ascii) = (0usize, 0usize);
+    for (place, unit) in units.iter().enumerate() {
+        if unit == 0 && place == units.len().saturating_sub(1) {
+            break;
+        }
+        let Ok(character) = Char16::try_from(unit) else {
+            return Ok(None);
+        };
+        let character = char::from(character);
+        if is_escaped(character) || unit == 0 {
+            return Ok(None);
+        }
+        text.write_char(character)?;
+        count = count.saturating_add(1);
+        if unit < 0x7f {
+            count_of_ascii = count_of_ascii.saturating_add(1);
+        }
+    }
+    if count == 0 || count_of_ascii < count - count_of_ascii {
+        return Ok(None);
+    }
+    Ok(Some(text))
+}
+
+impl OptionalData {
+    /// What the optional data of an option say, if it has any.
+    pub(crate) fn of(
+        alloc: Global,
+        option: &LoadOption<'_>,
+    ) -> Result<Option<OptionalData>, fmt::Error> {
+        let bytes = option.optional_data();
+        if bytes.is_empty() {
+            return Ok(None);
+        }
+        let mut hexadecimal = String::new(alloc);
+        for byte in bytes {
+            write!(hexadecimal, "{byte:02x}")?;
+        }
+        let mut data = OptionalData {
+            encoding: None,
+            text: None,
+            hexadecimal,
+        };
+        if let Some(text) = ascii_text(alloc, bytes)? {
+            data.encoding = Some("ASCII");
+            data.text = Some(text);
+        } else if let Some(units) = option.optional_units() {
+            if let Some(text) = utf16_text(alloc, units)? {
+                data.encoding = Some("UTF-16");
+                data.text = Some(text);
+            }
+        }
+        Ok(Some(data))
+    }
+
+    /// Writes the line of it.
+    pub(crate) fn write<W: Write>(&self, out: &mut W) -> fmt::Result {
+        match (&self.encoding, &self.text) {
+            (Some(encoding), Some(text)) => writeln!(out, "  optional data ({encoding}): {text}"),
+            _ => writeln!(out, "  optional data (hexadecimal): {}", self.hexadecimal),
+        }
+    }
+}
