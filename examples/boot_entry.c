@@ -180,7 +180,7 @@ static bool is_utf16_text(const uint16_t *from, size_t count)
             return false;
         ascii += from[i] < 0x7f;
     }
-    return count != 0 && ascii >= count - ascii;
+    return ascii != 0 && ascii >= count - ascii;
 }
 
 /* Prints the optional data of an entry, of which one NUL at the end says nothing in a text. */

@@ -50,8 +50,6 @@ status: 0 well, 1 malformed, 2 a read or a write failed, 3 out of memory, 4 a va
 
 const VERSION: &str = "uefi_boot 0.7.0\n";
 
-const OPTIONS: [&str; 4] = ["--json", "--help", "--version", "-h"];
-
 /// Where Linux has the variables of the machine.
 const OWN: &str = "/sys/firmware/efi/efivars";
 
@@ -196,22 +194,20 @@ fn print_own(rt: &HostRuntime, mut names: Vec<String>, form: Form) -> ExitCode {
     print_files(rt, &names, form)
 }
 
-/// How many bytes two texts have in common at their start.
-fn common_len(one: &str, other: &str) -> usize {
-    one.bytes()
-        .zip(other.bytes())
-        .take_while(|(a, b)| a == b)
-        .count()
+/// The option that begins like a text, or else that for help.
+fn nearest(option: &str) -> &'static str {
+    if option.starts_with("--j") {
+        "--json"
+    } else if option.starts_with("--v") {
+        "--version"
+    } else {
+        "--help"
+    }
 }
 
-/// Says that there is no option of a name, and which one is near.
+/// Says that there is no option of a name, and which one begins like it.
 fn refuse_option(rt: &HostRuntime, option: &str) -> ExitCode {
-    let mut nearest = "--help";
-    for known in OPTIONS {
-        if common_len(nearest, option) < common_len(known, option) {
-            nearest = known;
-        }
-    }
+    let nearest = nearest(option);
     // Nothing is left to do where standard error can't be written.
     let _ = eprint!(rt; "there is no option {option}: did you mean {nearest}?\n");
     ExitCode::from(5)

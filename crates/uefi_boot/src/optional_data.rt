@@ -35,7 +35,7 @@ fn ascii_text(alloc: Global, bytes: &[u8]) -> Result<Option<String>, fmt::Error>
 /// more are printable ASCII. Bytes of another kind are seldom such units.
 fn utf16_text(alloc: Global, units: UnalignedSlice<'_, u16>) -> Result<Option<String>, fmt::Error> {
     let mut text = String::new(alloc);
-    let (mut count, mut count_of_ascii) = (0usize, 0usize);
+    let (mut ascii, mut others) = (0usize, 0usize);
     for (place, unit) in units.iter().enumerate() {
         if unit == 0 && place == units.len().saturating_sub(1) {
             break;
@@ -48,12 +48,13 @@ fn utf16_text(alloc: Global, units: UnalignedSlice<'_, u16>) -> Result<Option<St
             return Ok(None);
         }
         text.write_char(character)?;
-        count = count.saturating_add(1);
         if unit < 0x7f {
-            count_of_ascii = count_of_ascii.saturating_add(1);
+            ascii = ascii.saturating_add(1);
+        } else {
+            others = others.saturating_add(1);
         }
     }
-    if count == 0 || count_of_ascii < count - count_of_ascii {
+    if ascii == 0 || ascii < others {
         return Ok(None);
     }
     Ok(Some(text))
