@@ -5,7 +5,7 @@ use Rattle.std.proofs.lemmas.List.{append-nil, append_cancel_left, length-append
 use Rattle.std.proofs.lemmas.List.Elements.{All-head, All-nil, All-push, All-tail}
 use Rattle.uefi_device_nodes.specs.Nodes.{Node}
 use Rattle.uefi_device_path.specs.Laws.{PrintedIsRead, ReadNeverStops, ReadOnce, ReadTold}
-use Rattle.uefi_device_path.specs.StyledReading.{follows_comma, place_fault, place_read, IsLenientError, IsReadAs, ReadingStops, ReadingStopsAt, ReadsTo}
+use Rattle.uefi_device_path.specs.StyledReading.{follows_comma, place_read, IsLenientError, IsReadAs, ReadingStops, ReadingStopsAt, ReadsTo}
 use Rattle.uefi_device_path.specs.StyledReading.ReadsTo.{Begins, Comma, OneMore}
 use Rattle.uefi_device_path.specs.PathReading.{AreTold, end_instance, is_after_instance}
 use Rattle.uefi_device_path.specs.Paths.{path_bytes}
@@ -17,6 +17,7 @@ use Rattle.uefi_device_path.proofs.TextLengths.{bytes_more}
 use Rattle.uefi_device_path.proofs.TextStops.{end_first, nothing_is_no_byte, told_first, whole_after}
 use Rattle.uefi_node_reader.specs.Laws.{NodeAgain, NodeFits}
 use Rattle.uefi_node_reader.specs.Styles.{StyledAgain, takes_printed, StyledEnds, StyledFaultWithin, StyledStarts, StyledTakes}
+use Rattle.uefi_node_reader.specs.declared.faults.NodeFault.{NodeFault}
 use Rattle.uefi_node_reader.specs.declared.styles.TextStyle.{TextStyle}
 use Rattle.uefi_node_reader.specs.NamedFiles.{is_after_node}
 use Rattle.uefi_node_reader.specs.TableReading.{first_of}
@@ -26,15 +27,19 @@ module _ (style : TextStyle) (text : List ℕ) where
   abbrev Starts : Bool → List ℕ → Type 0
   Starts s place = s ≡ true → is_after_instance place ≡ false
 
+  -- no node is read at a place
+  abbrev Refused : List ℕ → Type 0
+  Refused place = (found : NodeFault) × (place_read style text place ≡ Err found)
+
   -- the nodes that are read of what is left of a text, and the place after them where none is read, if there is
   -- one
   abbrev pub Rests : Bool → List ℕ → List Node → Option (List ℕ) → Type 0
   Rests s rest [] None = rest ≡ []
-  Rests s rest [] (Some place) = (rest ≡ separator s ++ place) × (Starts s place × (place_read style text place ≡ None))
+  Rests s rest [] (Some place) = (rest ≡ separator s ++ place) × (Starts s place × Refused place)
   Rests s rest (n ∷ ns) tail =
       ((after : List ℕ) × ((rest ≡ 44 ∷ after) × ((n ≡ end_instance) × Rests true after ns tail)))
       ⊎ ((place : List ℕ) × ((after : List ℕ) × ((rest ≡ separator s ++ place)
-      × ((place_read style text place ≡ Some (n, after)) × Rests false after ns tail))))
+      × ((place_read style text place ≡ Ok (n, after)) × Rests false after ns tail))))
 
   -- the two are not the same
   no_comma : (s : Bool) (place after : List ℕ) → Starts s place → separator s ++ place ≡ 44 ∷ after → ⊥
@@ -47,7 +52,7 @@ module _ (style : TextStyle) (text : List ℕ) where
 
   -- what is read begins with no comma, and is not empty
   begins : StyledStarts → (s : Bool) (place : List ℕ) (node : Node) (after : List ℕ)
-      → place_read style text place ≡ Some (node, after) → Starts s place
+      → place_read style text place ≡ Ok (node, after) → Starts s place
   begins starts s place node after read _ = by place (starts style (follows_comma text place) place node after read)
     where
       by : (t : List ℕ) → is_after_node t ≡ false → is_after_instance t ≡ false
@@ -61,23 +66,29 @@ module _ (style : TextStyle) (text : List ℕ) where
   one_place : (s : Bool) (rest place other : List ℕ) → rest ≡ separator s ++ place → rest ≡ separator s ++ other → place ≡ other
   one_place s rest place other e f = append_cancel_left (separator s) place other (sym e ∙ f)
 
+  abbrev read : Node × List ℕ → Result (Node × List ℕ) NodeFault
+  read x = Ok x
+
+  abbrev failing : NodeFault → Result (Node × List ℕ) NodeFault
+  failing found = Err found
+
   -- one read of a place
   one_read : (place other : List ℕ) (n m : Node) (after left : List ℕ) → place ≡ other
-      → place_read style text place ≡ Some (n, after) → place_read style text other ≡ Some (m, left) → (n ≡ m) × (after ≡ left)
+      → place_read style text place ≡ Ok (n, after) → place_read style text other ≡ Ok (m, left) → (n ≡ m) × (after ≡ left)
   one_read place other n m after left e p q =
       parts (n, after) (m, left) (sym p ∙ ap (place_read style text) e ∙ q)
     where
-      parts : (one two : Node × List ℕ) → Some one ≡ Some two → (one.0 ≡ two.0) × (one.1 ≡ two.1)
+      parts : (one two : Node × List ℕ) → read one ≡ read two → (one.0 ≡ two.0) × (one.1 ≡ two.1)
       parts one two h =
           let same : one ≡ two = cc h in
           (ap (λ (x : Node × List ℕ). x.0) same, ap (λ (x : Node × List ℕ). x.1) same)
 
-  never_read : (place other : List ℕ) (n : Node) (after : List ℕ) → place ≡ other → place_read style text place ≡ None
-      → place_read style text other ≡ Some (n, after) → ⊥
-  never_read place other n after e p q = no (n, after) (sym p ∙ ap (place_read style text) e ∙ q)
+  never_read : (place other : List ℕ) (n : Node) (after : List ℕ) → place ≡ other → Refused place
+      → place_read style text other ≡ Ok (n, after) → ⊥
+  never_read place other n after e (found, p) q = no found (n, after) (sym p ∙ ap (place_read style text) e ∙ q)
     where
-      no : (x : Node × List ℕ) → None ≡ Some x → ⊥
-      no x h = cc
+      no : (found : NodeFault) (x : Node × List ℕ) → Err found ≡ read x → ⊥
+      no found x h = cc
 
   -- nothing is left
   nothing_rests : StyledStarts → (s : Bool) (rest : List ℕ) → rest ≡ [] → (all : List Node) (tail : Option (List ℕ))
@@ -101,7 +112,7 @@ module _ (style : TextStyle) (text : List ℕ) where
 
   -- a node
   node_rests : StyledStarts → (s : Bool) (rest place : List ℕ) → rest ≡ separator s ++ place → (node : Node) (left : List ℕ)
-      → place_read style text place ≡ Some (node, left) → (all : List Node) (tail : Option (List ℕ)) → Rests s rest all tail
+      → place_read style text place ≡ Ok (node, left) → (all : List Node) (tail : Option (List ℕ)) → Rests s rest all tail
       → (ns : List Node) × ((all ≡ node ∷ ns) × Rests false left ns tail)
   node_rests starts s rest place is node left read [] None r =
       absurd (no_nothing s place (begins starts s place node left read) (sym r ∙ is))
@@ -115,7 +126,7 @@ module _ (style : TextStyle) (text : List ℕ) where
 
   -- a place where no node is read
   stop_rests : StyledStarts → (s : Bool) (rest place : List ℕ) → rest ≡ separator s ++ place → Starts s place
-      → place_read style text place ≡ None → (all : List Node) (tail : Option (List ℕ)) → Rests s rest all tail
+      → Refused place → (all : List Node) (tail : Option (List ℕ)) → Rests s rest all tail
       → (all ≡ []) × (tail ≡ Some place)
   stop_rests starts s rest place is other none [] None r = absurd (no_nothing s place other (sym r ∙ is))
   stop_rests starts s rest place is other none [] (Some end) r =
@@ -162,7 +173,7 @@ module _ (style : TextStyle) (text : List ℕ) where
       → Rests true text nodes (Some rest)
   stops_rest fault nodes s rest stop =
       subst (λ (x : List Node). Rests true text x (Some rest)) (append-nil nodes)
-      (rests_on stop.reads [] (Some rest) (refl, (stop.not_empty, stop.none)))
+      (rests_on stop.reads [] (Some rest) (refl, (stop.not_empty, (stop.found, stop.refused))))
 
   -- and back
   rests_read : (more done : List Node) (s : Bool) (rest : List ℕ) → ReadsTo style text done s rest
@@ -208,14 +219,18 @@ module _ (style : TextStyle) (text : List ℕ) where
       (stops_rest fault nodes s rest one) (stops_rest other others t left two)).1 in
       let node : fault.node ≡ other.node =
       one.offset ∙ ap (λ (x : List ℕ). length text - length x) same ∙ sym two.offset in
-      let byte : fault.byte ≡ other.byte =
-      one.byte ∙ (λ i. node i + (place_fault style text (same i)).byte) ∙ sym two.byte in
+      let found : one.found ≡ two.found =
+      err_same one.found two.found (sym one.refused ∙ ap (place_read style text) same ∙ two.refused) in
+      let byte : fault.byte ≡ other.byte = one.byte ∙ (λ i. node i + (found i).byte) ∙ sym two.byte in
       let expected : fault.expected ≡ other.expected =
-      one.expected ∙ ap (λ (x : List ℕ). (place_fault style text x).expected) same ∙ sym two.expected in
+      one.expected ∙ ap (λ (f : NodeFault). f.expected) found ∙ sym two.expected in
       λ i. record { node = node i; byte = byte i; expected = expected i }
     where
       some_same : {a b : List ℕ} → Some a ≡ Some b → a ≡ b
       some_same e = cc
+
+      err_same : (f g : NodeFault) → failing f ≡ failing g → f ≡ g
+      err_same f g e = cc
 
   pub read_never_stops : StyledStarts → (nodes : List Node) (fault : TextFault) → IsReadAs style text nodes
       → ReadingStopsAt style text fault → ⊥
@@ -257,7 +272,7 @@ module _ (style : TextStyle) (text : List ℕ) where
   faults_within ends within fault (nodes, s, rest, stop) =
       let long : length (separator s ++ rest) ≤ length text = reads_within ends stop.reads in
       let size : length rest ≤ length text = omega (arith, long, length-append (separator s) rest) in
-      let here = within style (follows_comma text rest) rest in
+      let here = within style (follows_comma text rest) rest stop.found stop.refused in
       (omega (arith, stop.byte), omega (arith, size, here, stop.offset, stop.byte))
 
   -- where a node has to begin
@@ -278,7 +293,7 @@ module _ (style : TextStyle) (text : List ℕ) where
 
   pub over_node : StyledEnds → (nodes : List Node) (s : Bool) (rest place after : List ℕ) (node : Node)
       → ReadsTo style text nodes s rest → is_after_instance rest ≡ false → place ≡ cond s rest (drop 1 rest)
-      → place_read style text place ≡ Some (node, after)
+      → place_read style text place ≡ Ok (node, after)
       → ReadsTo style text (nodes ++ node ∷ []) false after × (length after < length rest)
   over_node ends nodes s rest place after node on other is read =
       let whole = place_whole ends nodes s rest place on other is in
@@ -289,17 +304,18 @@ module _ (style : TextStyle) (text : List ℕ) where
 
   -- where no node is read
   pub stopped : StyledEnds → (nodes : List Node) (s : Bool) (rest place : List ℕ) → ReadsTo style text nodes s rest
-      → is_after_instance rest ≡ false → place ≡ cond s rest (drop 1 rest) → place_read style text place ≡ None
-      → (fault : TextFault) → fault.node ≡ length text - length place → fault.byte ≡ fault.node + (place_fault style text place).byte
-      → fault.expected ≡ (place_fault style text place).expected → ReadingStopsAt style text fault
-  stopped ends nodes s rest place on other is none fault node byte expected = (
+      → is_after_instance rest ≡ false → place ≡ cond s rest (drop 1 rest) → (found : NodeFault) → place_read style text place ≡ Err found
+      → (fault : TextFault) → fault.node ≡ length text - length place → fault.byte ≡ fault.node + found.byte
+      → fault.expected ≡ found.expected → ReadingStopsAt style text fault
+  stopped ends nodes s rest place on other is found refused fault node byte expected = (
     nodes,
     s,
     place,
     record {
       reads = subst (λ (x : List ℕ). ReadsTo style text nodes s x) (place_whole ends nodes s rest place on other is) on;
       not_empty = λ e. ap is_after_instance (is ∙ ap (λ (t : Bool). cond t rest (drop 1 rest)) e) ∙ other;
-      none = none;
+      found = found;
+      refused = refused;
       offset = node;
       byte = byte;
       expected = expected;
@@ -307,19 +323,19 @@ module _ (style : TextStyle) (text : List ℕ) where
   )
 
   -- such a place has a fault
-  abbrev rest_fault : List ℕ → List ℕ → TextFault
-  rest_fault text place = record {
+  abbrev rest_fault : List ℕ → NodeFault → TextFault
+  rest_fault place found = record {
     node = length text - length place;
-    byte = (length text - length place) + (place_fault style text place).byte;
-    expected = (place_fault style text place).expected;
+    byte = (length text - length place) + found.byte;
+    expected = found.expected;
   }
 
   pub never_stops : StyledStarts → StyledEnds → (all nodes : List Node) → IsReadAs style text all
       → (s : Bool) (rest place : List ℕ) → ReadsTo style text nodes s rest → is_after_instance rest ≡ false
-      → place ≡ cond s rest (drop 1 rest) → place_read style text place ≡ None → ⊥
-  never_stops starts ends all nodes read s rest place on other is none =
-      read_never_stops starts all (rest_fault text place) read
-      (stopped ends nodes s rest place on other is none (rest_fault text place) refl refl refl)
+      → place ≡ cond s rest (drop 1 rest) → (found : NodeFault) → place_read style text place ≡ Err found → ⊥
+  never_stops starts ends all nodes read s rest place on other is found refused =
+      read_never_stops starts all (rest_fault place found) read
+      (stopped ends nodes s rest place on other is found refused (rest_fault place found) refl refl refl)
 
   pub all_read : (nodes : List Node) (s : Bool) (rest : List ℕ) → ReadsTo style text nodes s rest → length rest ≡ 0
       → IsReadAs style text nodes
@@ -345,7 +361,7 @@ module _ (style : TextStyle) (text : List ℕ) where
 
   pub counts_node : StyledEnds → (s : Bool) (rest place after : List ℕ) (node : Node) (len : ℕ)
       → Counts s rest len → is_after_instance rest ≡ false → place ≡ cond s rest (drop 1 rest)
-      → place_read style text place ≡ Some (node, after)
+      → place_read style text place ≡ Ok (node, after)
       → Counts false after (min (min (len + length node.content) (2 ^ 64 - 1) + 4) (2 ^ 64 - 1)) × (length after < length rest)
   counts_node ends s rest place after node len c other is read =
       let over = over_node ends c.nodes s rest place after node c.on other is read in (

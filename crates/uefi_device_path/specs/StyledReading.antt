@@ -1,5 +1,5 @@
 -- Device paths read from texts in a style.
-use Rattle.std.specs.Prelude.{◌≡◌, ℕ, ◌+◌, ◌-◌, Bool, true, false, nat_lt, ◌==◌, ◌&&◌, if◌then◌else◌, List, [], ◌∷◌, ◌++◌, length, slice_index, codes, Option, Some, None}
+use Rattle.std.specs.Prelude.{◌≡◌, ℕ, ◌+◌, ◌-◌, Bool, true, false, nat_lt, ◌==◌, ◌&&◌, if◌then◌else◌, List, [], ◌∷◌, ◌++◌, length, slice_index, codes, Option, Some, None, Result, Ok, Err}
 use Rattle.uefi_device_nodes.specs.Nodes.{Node}
 use Rattle.uefi_device_path.specs.Building.{path_length}
 use Rattle.uefi_device_path.specs.PathReading.{end_instance, is_after_instance}
@@ -12,7 +12,7 @@ use Rattle.uefi_device_path.specs.declared.errors.PushTextError.{PushTextError}
 use Rattle.uefi_device_path.specs.declared.errors.PushTextError.TheVariants as push_text
 use Rattle.uefi_device_path.specs.declared.lenient_errors.TextFault.{TextFault}
 use Rattle.uefi_node_reader.specs.declared.faults.NodeFault.{NodeFault}
-use Rattle.uefi_node_reader.specs.Styles.{is_copied, styled_fault, styled_read}
+use Rattle.uefi_node_reader.specs.Styles.{is_copied, styled_read}
 use Rattle.uefi_node_reader.specs.declared.styles.TextStyle.{TextStyle}
 
 -- the test for a place after a comma: a file's name begins with a backslash there
@@ -20,13 +20,9 @@ abbrev pub follows_comma : List ℕ → List ℕ → Bool
 follows_comma text place = nat_lt (length place) (length text)
     && (slice_index text (length text - length place - 1) == 44)
 
--- the node that is read at a place of a text, and what stands after it
-abbrev pub place_read : TextStyle → List ℕ → List ℕ → Option (Node × List ℕ)
+-- the node that is read at a place of a text, and what stands after it, or the fault of the place
+abbrev pub place_read : TextStyle → List ℕ → List ℕ → Result (Node × List ℕ) NodeFault
 place_read style text place = styled_read style (follows_comma text place) place
-
--- the fault of a place of a text where none is read
-abbrev pub place_fault : TextStyle → List ℕ → List ℕ → NodeFault
-place_fault style text place = styled_fault style (follows_comma text place) place
 
 -- the nodes of a text up to what is left of it, and whether an instance begins there
 pub data ReadsTo (style : TextStyle) (text : List ℕ) : List Node → Bool → List ℕ → Type 0 where
@@ -39,7 +35,7 @@ pub data ReadsTo (style : TextStyle) (text : List ℕ) : List Node → Bool → 
   -- one more node, after a slash where it is not the first of its instance
   OneMore : (nodes : List Node) (at_start : Bool) (node : Node) (place rest : List ℕ)
       → ReadsTo style text nodes at_start ((if at_start then [] else codes "/") ++ place)
-      → place_read style text place ≡ Some (node, rest) → ReadsTo style text (nodes ++ node ∷ []) false rest
+      → place_read style text place ≡ Ok (node, rest) → ReadsTo style text (nodes ++ node ∷ []) false rest
 
 -- a text is read as nodes to its end
 abbrev pub IsReadAs : TextStyle → List ℕ → List Node → Type 0
@@ -56,10 +52,11 @@ pub record ReadingStops (style : TextStyle) (text : List ℕ) (fault : TextFault
     (rest : List ℕ) : Type 0 where
   pub reads : ReadsTo style text nodes at_start ((if at_start then [] else codes "/") ++ rest)
   pub not_empty : at_start ≡ true → is_after_instance rest ≡ false
-  pub none : place_read style text rest ≡ None
+  pub found : NodeFault
+  pub refused : place_read style text rest ≡ Err found
   pub offset : fault.node ≡ length text - length rest
-  pub byte : fault.byte ≡ fault.node + (place_fault style text rest).byte
-  pub expected : fault.expected ≡ (place_fault style text rest).expected
+  pub byte : fault.byte ≡ fault.node + found.byte
+  pub expected : fault.expected ≡ found.expected
 
 -- the fault of a text that is not read
 abbrev pub ReadingStopsAt : TextStyle → List ℕ → TextFault → Type 0

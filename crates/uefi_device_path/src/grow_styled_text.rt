@@ -72,7 +72,7 @@ fn put_styled_text_at(
             }
             None => {
                 let place = node_start(at_start, rest);
-                let Some((node, after)) = first_styled_node(style, scratch, text, place) else {
+                let Ok((node, after)) = first_styled_node(style, scratch, text, place) else {
                     unreachable!()
                 };
                 end = put_at(buffer, end, &node);

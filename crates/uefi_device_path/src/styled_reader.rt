@@ -1,9 +1,10 @@
 //! Device paths read from texts in a style.
 #![tactic(auto)]
 
-ghost use Rattle.std.specs.Prelude.{true, false, if◌then◌else◌, drop, ◌++◌, ◌∷◌, ◌≡◌, ◌+◌, ◌-◌, ◌<◌, ◌≤◌, ◌^◌, min, [], List, IfOk, IfErr, MatchOption, OnOk, Some, None, Err, length};
+ghost use Rattle.std.specs.Prelude.{true, false, if◌then◌else◌, drop, ◌++◌, ◌∷◌, ◌≡◌, ◌+◌, ◌-◌, ◌<◌, ◌≤◌, ◌^◌, min, [], List, IfOk, IfErr, MatchOption, OnOk, Err, length};
+ghost use Rattle.std.specs.Result.{result_map_both};
 ghost use Rattle.uefi_device_nodes.specs.Nodes.{Node};
-ghost use Rattle.uefi_device_path.specs.StyledReading.{IsLenientError, IsReadAs, IsStyledText, ReadingStopsAt, follows_comma, place_fault, place_read};
+ghost use Rattle.uefi_device_path.specs.StyledReading.{IsLenientError, IsReadAs, IsStyledText, ReadingStopsAt, follows_comma, place_read};
 ghost use Rattle.uefi_device_path.specs.PathReading.{end_instance, is_after_instance};
 ghost use Rattle.uefi_device_path.specs.Paths.{path_bytes};
 ghost use Rattle.uefi_node_reader.specs.NamedFiles.{IsTold};
@@ -18,7 +19,8 @@ use std::alloc::Allocator;
 use uefi_built_nodes::BuildNode;
 use uefi_device_nodes::{DeviceSubType, DeviceType};
 use uefi_node_reader::nodes::nodes_are_read;
-use uefi_node_reader::styles::{TextStyle, read_styled_node, styled_fault, styled_nodes_are_read};
+use uefi_node_reader::faults::NodeFault;
+use uefi_node_reader::styles::{TextStyle, faults_lie_within, read_styled_node, styled_nodes_are_read};
 use uefi_node_reader::text_node::TextNode;
 
 /// Adds the node that ends an instance. Refused for memory alone.
@@ -79,36 +81,35 @@ fn follows_comma(text: &[u8], rest: &[u8]) -> bool
     rest.len() < text.len() && text[text.len() - rest.len() - 1] == b','
 }
 
-/// The node that is read in a style where this place of a text begins, and what stands after it. The
-/// buffer then holds anything.
+/// The node that is read in a style where this place of a text begins, and what stands after it, or the
+/// fault of the place. The buffer then holds anything.
 pub(crate) fn first_styled_node<'s, 't: 's>(
     style: TextStyle,
     scratch: &'s mut [u8],
     text: &'t [u8],
     place: &'t [u8],
-) -> Option<(ReadNode<'s>, &'t [u8])>
+) -> Result<(ReadNode<'s>, &'t [u8]), NodeFault>
     requires { HasScratch style place.now scratch.old }
-    ensures { MatchOption result (place_read style text.now place.now ≡ None)
-        (λ x. place_read style text.now place.now ≡ Some (text_node x.0.node, x.1.now)) }
+    ensures { result_map_both (λ x. (text_node x.0.node, x.1.now)) (λ e. e) result
+        ≡ place_read style text.now place.now }
 {
     let (node, rest) = read_styled_node(style, follows_comma(text, place), scratch, place)?;
-    Some((ReadNode { node }, rest))
+    Ok((ReadNode { node }, rest))
 }
 
-/// The fault of a text of which no node is read where this rest begins. The buffer then holds anything.
-fn fault_at(style: TextStyle, scratch: &mut [u8], text: &[u8], rest: &[u8]) -> TextFault
-    requires room { HasScratch style rest.now scratch.old }
-    requires within { length rest.now ≤ length text.now }
+/// The fault of a text, by that of this rest, where no node is read.
+fn fault_at(text: &[u8], rest: &[u8], found: NodeFault) -> TextFault
+    requires rest { length rest.now ≤ length text.now }
+    requires byte { found.byte ≤ length rest.now }
     ensures node { result.node ≡ length text.now - length rest.now }
-    ensures byte { result.byte ≡ result.node + (place_fault style text.now rest.now).byte }
-    ensures expected { result.expected ≡ (place_fault style text.now rest.now).expected }
+    ensures byte { result.byte ≡ result.node + found.byte }
+    ensures expected { result.expected ≡ found.expected }
 {
     let node = text.len() - rest.len();
-    let fault = styled_fault(style, follows_comma(text, rest), scratch, rest);
     TextFault {
         node,
-        byte: node + fault.byte,
-        expected: fault.expected,
+        byte: node + found.byte,
+        expected: found.expected,
     }
 }
 
@@ -126,6 +127,7 @@ pub(crate) fn check_styled_text(
     ensures refusal { IfErr result (ReadingStopsAt style text.now) }
 {
     styled_nodes_are_read();
+    faults_lie_within();
     let mut len = 4usize;
     let mut rest = text;
     let mut at_start = true;
@@ -138,8 +140,9 @@ pub(crate) fn check_styled_text(
             }
             None => {
                 let place = node_start(at_start, rest);
-                let Some((node, after)) = first_styled_node(style, scratch, text, place) else {
-                    return Err(fault_at(style, scratch, text, place));
+                let (node, after) = match first_styled_node(style, scratch, text, place) {
+                    Ok(read) => read,
+                    Err(found) => return Err(fault_at(text, place, found)),
                 };
                 len = len.saturating_add(node.node.data_len()).saturating_add(4);
                 rest = after;
@@ -188,7 +191,7 @@ fn push_styled_text<A: Allocator>(
             }
             None => {
                 let place = node_start(at_start, rest);
-                let Some((node, after)) = first_styled_node(style, scratch, text, place) else {
+                let Ok((node, after)) = first_styled_node(style, scratch, text, place) else {
                     unreachable!()
                 };
                 push_read(path, &node)?;

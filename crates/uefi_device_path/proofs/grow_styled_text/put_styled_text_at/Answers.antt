@@ -61,24 +61,24 @@ unreachable-requires c =
     let laws = c.styled_nodes_are_read.ensures in
     let (nodes, read) = c.requires.readable in
     never_stops c.args.style c.args.text.now laws.starts laws.ends nodes c.nodes.invariant.done read c.nodes.at_start c.nodes.rest.now
-    c.node_start-place.result.now c.nodes.invariant.on c.in-None.ensures c.node_start-place.ensures c.in_default.ensures
+    c.node_start-place.result.now c.nodes.invariant.on c.in-None.ensures c.node_start-place.ensures c.in_default.field-0 (sym (rw c.in_default.is at c.first_styled_node.ensures))
 
 pub put_at-end-requires-in-None-clause-unrefused : goal.put_at-end-requires-in-None-clause-unrefused
 put_at-end-requires-in-None-clause-unrefused c =
-    let node : Node = text_node c.in-Some-first_styled_node.node.node in
+    let node : Node = text_node c.in-Ok.node.node in
     accepted c.nodes_are_read.ensures.fits node
-    (c.styled_nodes_are_read.ensures.takes c.args.style (follows_comma c.args.text.now c.node_start-place.result.now) c.node_start-place.result.now node c.in-Some-first_styled_node.after.now
-    c.in-Some-first_styled_node.ensures)
+    (c.styled_nodes_are_read.ensures.takes c.args.style (follows_comma c.args.text.now c.node_start-place.result.now) c.node_start-place.result.now node c.in-Ok.after.now
+    (sym c.in-Ok.ensures))
 
 pub put_at-end-requires-in-None-clause-room : goal.put_at-end-requires-in-None-clause-room
 put_at-end-requires-in-None-clause-room c =
     let laws = c.styled_nodes_are_read.ensures in
     let on = c.nodes.invariant in
-    let node : Node = text_node c.in-Some-first_styled_node.node.node in
-    let after = c.in-Some-first_styled_node.after.now in
+    let node : Node = text_node c.in-Ok.node.node in
+    let after = c.in-Ok.after.now in
     let before = nodes_in (without_end (take c.args.len c.args.buffer.now)) in
     let over = (over_node c.args.style c.args.text.now laws.ends on.done c.nodes.at_start c.nodes.rest.now c.node_start-place.result.now after node
-    on.on c.in-None.ensures c.node_start-place.ensures c.in-Some-first_styled_node.ensures).0 in
+    on.on c.in-None.ensures c.node_start-place.ensures (sym c.in-Ok.ensures)).0 in
     room_for_next c.args.style laws.starts c.args.buffer.now c.nodes.buffer c.args.text.now before on.done node c.nodes.end
     false after on.holds over c.requires.readable c.requires.room
 
@@ -87,11 +87,11 @@ nodes-preserved c =
     let laws = c.styled_nodes_are_read.ensures in
     let on = c.nodes.invariant in
     let put = c.put_at-end-in-None.ensures in
-    let node : Node = text_node c.in-Some-first_styled_node.node.node in
-    let after = c.in-Some-first_styled_node.after.now in
+    let node : Node = text_node c.in-Ok.node.node in
+    let after = c.in-Ok.after.now in
     let before = nodes_in (without_end (take c.args.len c.args.buffer.now)) in
     let over = (over_node c.args.style c.args.text.now laws.ends on.done c.nodes.at_start c.nodes.rest.now c.node_start-place.result.now after node
-    on.on c.in-None.ensures c.node_start-place.ensures c.in-Some-first_styled_node.ensures).0 in
+    on.on c.in-None.ensures c.node_start-place.ensures (sym c.in-Ok.ensures)).0 in
     puts_next c.args.style laws.starts c.args.buffer.now c.args.text.now before on.done node c.nodes.buffer
     c.put_at-end-in-None.new.buffer c.nodes.end c.put_at-end-in-None.result false after on.holds over
     c.requires.readable c.requires.room put.end (grind (arith, common_steps)) put.grown put.nodes put.rest
@@ -99,8 +99,8 @@ nodes-preserved c =
 pub nodes-smaller : goal.nodes-smaller
 nodes-smaller c =
     (over_node c.args.style c.args.text.now c.styled_nodes_are_read.ensures.ends c.nodes.invariant.done c.nodes.at_start c.nodes.rest.now
-    c.node_start-place.result.now c.in-Some-first_styled_node.after.now (text_node c.in-Some-first_styled_node.node.node)
-    c.nodes.invariant.on c.in-None.ensures c.node_start-place.ensures c.in-Some-first_styled_node.ensures).1
+    c.node_start-place.result.now c.in-Ok.after.now (text_node c.in-Ok.node.node)
+    c.nodes.invariant.on c.in-None.ensures c.node_start-place.ensures (sym c.in-Ok.ensures)).1
 
 pub returns-clause-nodes : goal.returns-clause-nodes
 returns-clause-nodes c = λ read is.

@@ -1,6 +1,7 @@
-use Rattle.std.proofs.Common.{arith}
+use Rattle.std.proofs.Common.{sym, arith}
 use Rattle.std.proofs.lemmas.Bool.Decides.{nat_tests}
 use Rattle.uefi_node_reader.specs.TextNodeViews.{text_node}
+use Rattle.uefi_device_path.specs.StyledReading.{follows_comma}
 use Rattle.uefi_device_path.proofs.StyledReading.{all_read, counts_all, counts_comma, counts_first, counts_node, place_within, stopped}
 use Rattle.uefi_device_path.proofs.styled_reader.check_styled_text.Goals as goal
 
@@ -12,29 +13,34 @@ nodes-preserved-in-Some c =
     rw c.saturating_add-len.ensures (counts_comma c.args.style c.args.text.now c.nodes.at_start c.nodes.rest.now c.in-Some.after.now c.nodes.len
     c.nodes.invariant c.in-Some.ensures).0
 
-pub fault_at-requires-clause-within : goal.fault_at-requires-clause-within
-fault_at-requires-clause-within c =
+pub fault_at-requires-clause-rest : goal.fault_at-requires-clause-rest
+fault_at-requires-clause-rest c =
     place_within c.args.style c.args.text.now c.styled_nodes_are_read.ensures.ends c.nodes.invariant.nodes c.nodes.at_start c.nodes.rest.now
     c.node_start-place.result.now c.nodes.invariant.on c.node_start-place.ensures
 
-pub returns-in_default-clause-refusal : goal.returns-in_default-clause-refusal
-returns-in_default-clause-refusal c =
+pub fault_at-requires-clause-byte : goal.fault_at-requires-clause-byte
+fault_at-requires-clause-byte c =
+    c.faults_lie_within.ensures c.args.style (follows_comma c.args.text.now c.node_start-place.result.now) c.node_start-place.result.now
+    c.in-Err.found (sym c.in-Err.ensures)
+
+pub returns-in-Err-clause-refusal : goal.returns-in-Err-clause-refusal
+returns-in-Err-clause-refusal c =
     stopped c.args.style c.args.text.now c.styled_nodes_are_read.ensures.ends c.nodes.invariant.nodes c.nodes.at_start c.nodes.rest.now
-    c.node_start-place.result.now c.nodes.invariant.on c.in-None.ensures c.node_start-place.ensures c.in_default.ensures
+    c.node_start-place.result.now c.nodes.invariant.on c.in-None.ensures c.node_start-place.ensures c.in-Err.found (sym c.in-Err.ensures)
     c.fault_at.result c.fault_at.ensures.node c.fault_at.ensures.byte c.fault_at.ensures.expected
 
 pub nodes-preserved : goal.nodes-preserved
 nodes-preserved c =
     rw c.saturating_add-len-in-None.ensures (rw c.saturating_add.ensures (rw c.data_len.ensures.count
     (counts_node c.args.style c.args.text.now c.styled_nodes_are_read.ensures.ends c.nodes.at_start c.nodes.rest.now c.node_start-place.result.now
-    c.in-Some-first_styled_node.after.now (text_node c.in-Some-first_styled_node.node.node) c.nodes.len c.nodes.invariant c.in-None.ensures
-    c.node_start-place.ensures c.in-Some-first_styled_node.ensures).0))
+    c.in-Ok.read.1.now (text_node c.in-Ok.read.0.node) c.nodes.len c.nodes.invariant c.in-None.ensures
+    c.node_start-place.ensures (sym c.in-Ok.ensures)).0))
 
 pub nodes-smaller : goal.nodes-smaller
 nodes-smaller c =
     (counts_node c.args.style c.args.text.now c.styled_nodes_are_read.ensures.ends c.nodes.at_start c.nodes.rest.now c.node_start-place.result.now
-    c.in-Some-first_styled_node.after.now (text_node c.in-Some-first_styled_node.node.node) c.nodes.len c.nodes.invariant c.in-None.ensures
-    c.node_start-place.ensures c.in-Some-first_styled_node.ensures).1
+    c.in-Ok.read.1.now (text_node c.in-Ok.read.0.node) c.nodes.len c.nodes.invariant c.in-None.ensures
+    c.node_start-place.ensures (sym c.in-Ok.ensures)).1
 
 pub returns-clause-path : goal.returns-clause-path
 returns-clause-path c = (
@@ -46,12 +52,6 @@ pub returns-clause-len : goal.returns-clause-len
 returns-clause-len c =
     counts_all c.args.style c.args.text.now c.styled_nodes_are_read.ensures.starts c.nodes.at_start c.nodes.rest.now c.nodes.len
     c.nodes.invariant (grind (arith, nat_tests))
-
-pub fault_at-requires-clause-room : goal.fault_at-requires-clause-room
-fault_at-requires-clause-room c =
-    let within = place_within c.args.style c.args.text.now c.styled_nodes_are_read.ensures.ends c.nodes.invariant.nodes c.nodes.at_start c.nodes.rest.now
-    c.node_start-place.result.now c.nodes.invariant.on c.node_start-place.ensures in
-    λ copied. omega (arith, within, c.requires copied, c.nodes.auto.scratch)
 
 pub first_styled_node-requires : goal.first_styled_node-requires
 first_styled_node-requires c =

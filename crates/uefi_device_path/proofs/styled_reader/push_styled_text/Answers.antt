@@ -29,21 +29,21 @@ unreachable-requires g c =
     let laws = c.styled_nodes_are_read.ensures in
     let (nodes, read) = c.requires.readable in
     never_stops c.args.style c.args.text.now laws.starts laws.ends nodes c.nodes.path read c.nodes.at_start c.nodes.rest.now
-    c.node_start-place.result.now c.nodes.invariant c.in-None.ensures c.node_start-place.ensures c.in_default.ensures
+    c.node_start-place.result.now c.nodes.invariant c.in-None.ensures c.node_start-place.ensures c.in_default.field-0 (sym (rw c.in_default.is at c.first_styled_node.ensures))
 
 pub nodes-preserved : goal.nodes-preserved
 nodes-preserved g c =
-    subst (λ (x : List Node). ReadsTo c.args.style c.args.text.now x false c.in-Some-first_styled_node.after.now)
+    subst (λ (x : List Node). ReadsTo c.args.style c.args.text.now x false c.in-Ok.after.now)
     (sym c.in_ok-push_read-in-None.ensures.ok)
     (over_node c.args.style c.args.text.now c.styled_nodes_are_read.ensures.ends c.nodes.path c.nodes.at_start c.nodes.rest.now
-    c.node_start-place.result.now c.in-Some-first_styled_node.after.now (text_node c.in-Some-first_styled_node.node.node)
-    c.nodes.invariant c.in-None.ensures c.node_start-place.ensures c.in-Some-first_styled_node.ensures).0
+    c.node_start-place.result.now c.in-Ok.after.now (text_node c.in-Ok.node.node)
+    c.nodes.invariant c.in-None.ensures c.node_start-place.ensures (sym c.in-Ok.ensures)).0
 
 pub nodes-smaller : goal.nodes-smaller
 nodes-smaller g c =
     (over_node c.args.style c.args.text.now c.styled_nodes_are_read.ensures.ends c.nodes.path c.nodes.at_start c.nodes.rest.now
-    c.node_start-place.result.now c.in-Some-first_styled_node.after.now (text_node c.in-Some-first_styled_node.node.node)
-    c.nodes.invariant c.in-None.ensures c.node_start-place.ensures c.in-Some-first_styled_node.ensures).1
+    c.node_start-place.result.now c.in-Ok.after.now (text_node c.in-Ok.node.node)
+    c.nodes.invariant c.in-None.ensures c.node_start-place.ensures (sym c.in-Ok.ensures)).1
 
 pub returns-clause-ok : goal.returns-clause-ok
 returns-clause-ok g c =
@@ -52,5 +52,5 @@ returns-clause-ok g c =
 pub push_read-requires : goal.push_read-requires
 push_read-requires g c =
     c.styled_nodes_are_read.ensures.takes c.args.style (follows_comma c.args.text.now c.node_start-place.result.now) c.node_start-place.result.now
-    (text_node c.in-Some-first_styled_node.node.node) c.in-Some-first_styled_node.after.now
-    c.in-Some-first_styled_node.ensures
+    (text_node c.in-Ok.node.node) c.in-Ok.after.now
+    (sym c.in-Ok.ensures)
