@@ -4,7 +4,7 @@
 ghost use Rattle.std.specs.Prelude.{true, false, if◌then◌else◌, drop, ◌++◌, ◌∷◌, ◌≡◌, ◌+◌, ◌-◌, ◌<◌, ◌≤◌, ◌^◌, min, [], List, IfOk, IfErr, MatchOption, OnOk, Err, length};
 ghost use Rattle.std.specs.Result.{result_map_both};
 ghost use Rattle.uefi_device_nodes.specs.Nodes.{Node};
-ghost use Rattle.uefi_device_path.specs.StyledReading.{IsLenientError, IsReadAs, IsStyledText, ReadingStopsAt, follows_comma, place_read};
+ghost use Rattle.uefi_device_path.specs.StyledReading.{IsLenientError, IsReadAs, IsStyledText, ReadingStopsAt, fault_from, follows_comma, place_read};
 ghost use Rattle.uefi_device_path.specs.PathReading.{end_instance, is_after_instance};
 ghost use Rattle.uefi_device_path.specs.Paths.{path_bytes};
 ghost use Rattle.uefi_node_reader.specs.NamedFiles.{IsTold};
@@ -101,9 +101,7 @@ pub(crate) fn first_styled_node<'s, 't: 's>(
 fn fault_at(text: &[u8], rest: &[u8], found: NodeFault) -> TextFault
     requires rest { length rest.now ≤ length text.now }
     requires byte { found.byte ≤ length rest.now }
-    ensures node { result.node ≡ length text.now - length rest.now }
-    ensures byte { result.byte ≡ result.node + found.byte }
-    ensures expected { result.expected ≡ found.expected }
+    ensures { result ≡ fault_from text.now rest.now found }
 {
     let node = text.len() - rest.len();
     TextFault {

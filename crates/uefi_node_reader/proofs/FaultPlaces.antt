@@ -1,12 +1,12 @@
 -- A byte that is wrong lies in its text, or at its end.
-use Rattle.std.proofs.Common.{◌≡◌, ℕ, suc, ◌+◌, ◌-◌, ◌≤◌, Bool, true, false, cond, eqb, List, [], ◌∷◌, length, refl, ap, subst, arith}
-use Rattle.std.specs.Prelude.{Option, Some, None, Result, Ok, Err, codes}
-use Rattle.std.specs.Option.{ok_or}
-use Rattle.std.specs.Result.{result_err, result_map_both}
+use Rattle.std.proofs.Common.{ℕ, suc, ◌+◌, ◌-◌, ◌≤◌, Bool, true, false, cond, eqb, List, [], ◌∷◌, length, arith}
+use Rattle.std.specs.Prelude.{IfErr, Option, Some, None, Result, Ok, Err, codes}
+use Rattle.std.specs.Option.{ok_or, option_map}
+use Rattle.std.specs.Result.{result_map_both}
 use Rattle.uefi_device_nodes.specs.Nodes.{Node}
 use Rattle.uefi_node_reader.specs.LenientFields.{after_literal}
-use Rattle.uefi_node_reader.specs.LenientNodes.{bare_read, begins_call, call_in, call_told, cut_call, end_fault, ended_at, exact_or, fault_at_byte, file_in, file_or_call, is_blank, lenient_read, open_fault, or_fault, place_at, stop_fault, tidied, written_read}
-use Rattle.uefi_node_reader.specs.NamedFiles.{is_after_node, node_read}
+use Rattle.uefi_node_reader.specs.LenientNodes.{bare_read, begins_call, call_in, call_told, cut_call, end_fault, ended_at, exact_or, fault_at_byte, file_in, file_or_call, is_blank, lenient_read, open_fault, or_fault, place_at, rooted, stop_fault, tidied, whole, written_read}
+use Rattle.uefi_node_reader.specs.NamedFiles.{is_after_node, name_read, node_read}
 use Rattle.uefi_node_reader.specs.Stops.{◌>?◌}
 use Rattle.uefi_node_reader.specs.declared.faults.Expected.TheVariants as expected
 use Rattle.uefi_node_reader.specs.declared.faults.NodeFault.{NodeFault}
@@ -22,29 +22,14 @@ place_within count (c ∷ cs) = by (is_blank c) (eqb count 0) (place_within coun
     by false true h k = omega arith
     by false false h k = omega arith
 
--- a reading that fails for one fault
-abbrev pub failing : {A : Type 0} → NodeFault → Result A NodeFault
-failing fault = Err fault
-
-pub err_same : {A : Type 0} (one other : NodeFault) → failing {A = A} one ≡ failing other → one ≡ other
-err_same one other e = cc
-
-pub or_err : {A : Type 0} (o : Option A) (one other : NodeFault) → ok_or o one ≡ Err other → one ≡ other
-or_err None one other e = cc
-or_err (Some x) one other e = cc
-
 module _ (text : List ℕ) where
-  -- such a reading fails in the text alone
-  Within : Result (Node × List ℕ) NodeFault → Type 0
-  Within r = (fault : NodeFault) → r ≡ Err fault → fault.byte ≤ length text
+  -- a reading that fails does so in the text, or at its end
+  abbrev pub Within : {A : Type 0} → Result A NodeFault → Type 0
+  Within r = IfErr r (λ fault. fault.byte ≤ length text)
 
-  failed : (one : NodeFault) → one.byte ≤ length text → Within (Err one)
-  unfolding Within
-  failed one l fault e = subst (λ (f : NodeFault). f.byte ≤ length text) (err_same {A = Node × List ℕ} one fault e) l
-
-  or_failed : (o : Option (Node × List ℕ)) (one : NodeFault) → one.byte ≤ length text → Within (ok_or o one)
-  unfolding Within
-  or_failed o one l fault e = subst (λ (f : NodeFault). f.byte ≤ length text) (or_err o one fault e) l
+  pub or_within : {A : Type 0} (o : Option A) (fault : NodeFault) → fault.byte ≤ length text → Within (ok_or o fault)
+  or_within None fault l = l
+  or_within (Some x) fault l = tt
 
   stop_within : (len : ℕ) (o : Option Stop) → (stop_fault text len o).byte ≤ length text
   stop_within len None = omega arith
@@ -60,33 +45,31 @@ module _ (text : List ℕ) where
       by false = place_within (len - stop.left) text
 
   call_within : (o : Option (List ℕ × List ℕ)) → Within (call_in text o)
-  unfolding Within
-  call_within None = failed _ (open_within (length (tidied text)) (call_told (tidied text)))
+  call_within None = open_within (length (tidied text)) (call_told (tidied text))
   call_within (Some call) = by (call_told (tidied call.0))
     where
-      by : (r : Result Node (Option Stop)) → Within (result_map_both (λ (n : Node). (n, call.1)) (stop_fault text (length (tidied call.0))) r)
-      by (Ok node) fault e = cc
-      by (Err stop) fault e = failed _ (stop_within (length (tidied call.0)) stop) fault e
-
-  file_within : (name : List ℕ) (o : Option (List ℕ × List ℕ)) → Within (file_in text name o)
-  file_within name None = failed _ (omega arith)
-  file_within name (Some call) = or_failed _ _ (omega arith)
+      by : (r : Result Node (Option Stop)) → Within {A = Node × List ℕ} (result_map_both (λ (n : Node). (n, call.1)) (stop_fault text (length (tidied call.0))) r)
+      by (Ok node) = tt
+      by (Err stop) = stop_within (length (tidied call.0)) stop
 
   either_within : (r : Result (List ℕ) Stop) → Within (file_or_call r text)
   either_within (Err stop) = call_within (cut_call text)
-  either_within (Ok name) = file_within name (cut_call name)
-
-  pub end_within : (read : Node × List ℕ) (fault : NodeFault) → ended_at text read ≡ Err fault → fault.byte ≤ length text
-  end_within read fault e = by (is_after_node read.1) e
+  either_within (Ok name) = by (cut_call name)
     where
-      by : (b : Bool) → cond b (Ok read) (Err (end_fault text read.1)) ≡ Err fault → fault.byte ≤ length text
-      by true q = cc
-      by false q = subst (λ (f : NodeFault). f.byte ≤ length text) (err_same {A = Node × List ℕ} (end_fault text read.1) fault q) (omega arith)
+      by : (o : Option (List ℕ × List ℕ)) → Within (file_in text name o)
+      by None = omega arith
+      by (Some call) = or_within (option_map (λ (n : Node). (n, call.1)) (whole (name_read (rooted call.0)))) _ (omega arith)
+
+  pub end_within : (read : Node × List ℕ) → Within (ended_at text read)
+  end_within read = by (is_after_node read.1)
+    where
+      by : (b : Bool) → Within {A = Node × List ℕ} (cond b (Ok read) (Err (end_fault text read.1)))
+      by true = tt
+      by false = omega arith
 
   then_within : (r : Result (Node × List ℕ) NodeFault) → Within r → Within (r >? ended_at text)
-  unfolding Within
-  then_within (Ok read) h fault e = end_within read fault e
-  then_within (Err other) h fault e = h fault e
+  then_within (Ok read) h = end_within read
+  then_within (Err fault) h = h
 
   written_within : (is_rooted : Bool) → Within (written_read is_rooted text)
   written_within is_rooted = by (begins_call text) (is_after_node text)
@@ -94,18 +77,17 @@ module _ (text : List ℕ) where
       by : (b first : Bool) → Within (cond b (file_or_call (after_literal (codes "File(") text) text >? ended_at text)
           (ok_or (bare_read is_rooted text) (fault_at_byte 0 (cond first expected.Node expected.FileName))))
       by true first = then_within (file_or_call (after_literal (codes "File(") text) text) (either_within (after_literal (codes "File(") text))
-      by false first = or_failed (bare_read is_rooted text) _ (omega arith)
+      by false first = or_within (bare_read is_rooted text) _ (omega arith)
 
   exact_within : (o : Option (Node × List ℕ)) (r : Result (Node × List ℕ) NodeFault) → Within r → Within (exact_or text o r)
-  unfolding Within
-  exact_within None r h fault e = h fault e
-  exact_within (Some read) r h fault e = by (is_after_node read.1) r e
+  exact_within None r h = h
+  exact_within (Some read) r h = by (is_after_node read.1) r
     where
-      by : (b : Bool) (r : Result (Node × List ℕ) NodeFault) → cond b (Ok read) (or_fault (end_fault text read.1) r) ≡ Err fault → fault.byte ≤ length text
-      by true r q = cc
-      by false (Ok other) q = cc
-      by false (Err other) q = subst (λ (f : NodeFault). f.byte ≤ length text) (err_same {A = Node × List ℕ} (end_fault text read.1) fault q) (omega arith)
+      by : (b : Bool) (r : Result (Node × List ℕ) NodeFault) → Within (cond b (Ok read) (or_fault (end_fault text read.1) r))
+      by true r = tt
+      by false (Ok other) = tt
+      by false (Err other) = omega arith
 
-  pub fault_within : (is_rooted : Bool) (fault : NodeFault) → lenient_read is_rooted text ≡ Err fault → fault.byte ≤ length text
-  unfolding lenient_read Within
-  fault_within is_rooted fault e = exact_within (node_read text) (written_read is_rooted text) (written_within is_rooted) fault e
+  pub fault_within : (is_rooted : Bool) → Within (lenient_read is_rooted text)
+  unfolding lenient_read
+  fault_within is_rooted = exact_within (node_read text) (written_read is_rooted text) (written_within is_rooted)

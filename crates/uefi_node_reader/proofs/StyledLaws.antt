@@ -16,7 +16,7 @@ use Rattle.uefi_node_reader.specs.declared.faults.Expected.TheVariants.{AsPrinte
 use Rattle.uefi_node_reader.specs.declared.faults.NodeFault.{NodeFault}
 use Rattle.uefi_node_reader.specs.declared.faults.Stop.{Stop}
 use Rattle.uefi_node_reader.specs.declared.styles.TextStyle.TheVariants.{Printed, Lenient, Libefivar}
-use Rattle.uefi_node_reader.proofs.FaultPlaces.{end_within, err_same, fault_within, or_err, place_within}
+use Rattle.uefi_node_reader.proofs.FaultPlaces.{Within, end_within, fault_within, or_within, place_within}
 use Rattle.uefi_node_reader.proofs.LenientLaws.{call_starts, cut_end, ends, ends_at, lenient_again, lenient_ends, lenient_starts, lenient_takes, strict_end, told_as, with_rest}
 use Rattle.uefi_node_reader.proofs.Literals.{bind_some, ok_some}
 use Rattle.uefi_node_reader.proofs.NodeLaws.{node_starts, node_takes}
@@ -141,15 +141,13 @@ own_within text fault e =
         subst (λ (f : NodeFault). f.byte ≤ length text) same (place_within (len - stop.left) text)
 
 own_or_within : (is_rooted : Bool) (text : List ℕ) (o : Option (Node × List ℕ)) (f : Option NodeFault) → own_fault text ≡ f
-    → (fault : NodeFault) → own_or_lenient is_rooted text o f ≡ Err fault → fault.byte ≤ length text
-own_or_within is_rooted text (Some read) f p fault e = end_within text read fault e
-own_or_within is_rooted text None (Some other) p fault e = own_within text fault (p ∙ ap (λ (x : NodeFault). Some x) (err_same {A = Node × List ℕ} other fault e))
-own_or_within is_rooted text None None p fault e = fault_within text is_rooted fault e
+    → Within text (own_or_lenient is_rooted text o f)
+own_or_within is_rooted text (Some read) f p = end_within text read
+own_or_within is_rooted text None (Some fault) p = own_within text fault p
+own_or_within is_rooted text None None p = fault_within text is_rooted
 
 pub styled_fault_within : StyledFaultWithin
 unfolding styled_read libefivar_read
-styled_fault_within Printed is_rooted text fault e =
-    let same = or_err (ended (node_read text)) (fault_at_byte 0 AsPrinted) fault e in
-    subst (λ (f : NodeFault). f.byte ≤ length text) same (omega arith)
-styled_fault_within Lenient is_rooted text fault e = fault_within text is_rooted fault e
-styled_fault_within Libefivar is_rooted text fault e = own_or_within is_rooted text (own_read text) (own_fault text) refl fault e
+styled_fault_within Printed is_rooted text = or_within text (ended (node_read text)) (fault_at_byte 0 AsPrinted) (omega arith)
+styled_fault_within Lenient is_rooted text = fault_within text is_rooted
+styled_fault_within Libefivar is_rooted text = own_or_within is_rooted text (own_read text) (own_fault text) refl

@@ -1,5 +1,5 @@
 -- Nodes read from texts of each style.
-use Rattle.std.specs.Prelude.{◌≡◌, ◌≤◌, ◌<◌, ℕ, Bool, List, length, Result, Ok, Err, Some, true, false}
+use Rattle.std.specs.Prelude.{◌≡◌, ◌≤◌, ◌<◌, ℕ, Bool, List, length, IfErr, Result, Ok, Some, true, false}
 use Rattle.std.specs.Option.{ok_or}
 use Rattle.uefi_device_nodes.specs.Nodes.{Node}
 use Rattle.uefi_node_reader.specs.LenientNodes.{IsRestOf, ended, fault_at_byte, lenient_read}
@@ -62,5 +62,5 @@ PrintedExactly = (is_rooted : Bool) (text : List ℕ) (node : Node) (rest : List
 
 -- the wrong byte lies in the text, or at its end
 abbrev pub StyledFaultWithin : Type 0
-StyledFaultWithin = (style : TextStyle) (is_rooted : Bool) (text : List ℕ) (fault : NodeFault)
-    → styled_read style is_rooted text ≡ Err fault → fault.byte ≤ length text
+StyledFaultWithin = (style : TextStyle) (is_rooted : Bool) (text : List ℕ)
+    → IfErr (styled_read style is_rooted text) (λ fault. fault.byte ≤ length text)

@@ -43,23 +43,11 @@ pub(crate) fn further(one: Option<Stop>, other: Option<Stop>) -> Option<Stop>
     }
 }
 
-/// What stands after something that was read, or else where it was not.
-fn or_stop<'a>(read: Option<&'a [u8]>, stop: Stop) -> Result<&'a [u8], Stop>
-    ensures { result_map_both (λ x. x.now) (λ e. e) result
-        ≡ ok_or (option_map (λ x. x.now) read.entry) stop }
-{
-    match read {
-        Some(rest) => Ok(rest),
-        None => Err(stop),
-    }
-}
-
 /// What stands after a literal as it is printed.
 fn exact_end<'a>(literal: &[u8], text: &'a [u8]) -> Result<&'a [u8], Stop>
     ensures { result_map_both (λ x. x.now) (λ e. e) result ≡ exact_end literal.now text.now }
 {
-    let stop = stop_at(text, Expected::Byte(first_of(literal)));
-    or_stop(after(literal, text), stop)
+    after(literal, text).ok_or(stop_at(text, Expected::Byte(first_of(literal))))
 }
 
 /// Where the data after the fields stop: bytes in the first of them, and a list at its start.
@@ -95,8 +83,8 @@ fn tail_rest<'a>(tail: Tail, close: &[u8], text: &'a [u8]) -> Option<&'a [u8]>
 pub(crate) fn rest_end<'a>(tail: Tail, close: &[u8], text: &'a [u8]) -> Result<&'a [u8], Stop>
     ensures { result_map_both (λ x. x.now) (λ e. e) result ≡ rest_end tail close.now text.now }
 {
-    let rest = or_stop(tail_rest(tail, close, text), tail_stop(tail, text))?;
-    or_stop(after(close, rest), close_stop(tail, close, rest))
+    let rest = tail_rest(tail, close, text).ok_or(tail_stop(tail, text))?;
+    after(close, rest).ok_or(close_stop(tail, close, rest))
 }
 
 /// What stands after a number of a byte in decimal.

@@ -1,8 +1,10 @@
-use Rattle.std.proofs.Common.{sym, arith}
+use Rattle.std.proofs.Common.{◌≤◌, length, sym, arith}
+use Rattle.std.proofs.lemmas.Result.{IfErr-at_err}
+use Rattle.uefi_node_reader.specs.declared.faults.NodeFault.{NodeFault}
 use Rattle.std.proofs.lemmas.Bool.Decides.{nat_tests}
 use Rattle.uefi_node_reader.specs.TextNodeViews.{text_node}
 use Rattle.uefi_device_path.specs.StyledReading.{follows_comma}
-use Rattle.uefi_device_path.proofs.StyledReading.{all_read, counts_all, counts_comma, counts_first, counts_node, place_within, stopped}
+use Rattle.uefi_device_path.proofs.StyledReading.{all_read, counts_all, counts_comma, counts_first, counts_node, going_stops, place_within}
 use Rattle.uefi_device_path.proofs.styled_reader.check_styled_text.Goals as goal
 
 pub nodes-init : goal.nodes-init
@@ -15,19 +17,20 @@ nodes-preserved-in-Some c =
 
 pub fault_at-requires-clause-rest : goal.fault_at-requires-clause-rest
 fault_at-requires-clause-rest c =
-    place_within c.args.style c.args.text.now c.styled_nodes_are_read.ensures.ends c.nodes.invariant.nodes c.nodes.at_start c.nodes.rest.now
-    c.node_start-place.result.now c.nodes.invariant.on c.node_start-place.ensures
+    place_within c.args.style c.args.text.now c.nodes.invariant.nodes c.nodes.at_start c.nodes.rest.now
+    c.node_start-place.result.now c.nodes.invariant.on c.in-None.ensures c.node_start-place.ensures
 
 pub fault_at-requires-clause-byte : goal.fault_at-requires-clause-byte
 fault_at-requires-clause-byte c =
-    c.faults_lie_within.ensures c.args.style (follows_comma c.args.text.now c.node_start-place.result.now) c.node_start-place.result.now
-    c.in-Err.found (sym c.in-Err.ensures)
+    let place = c.node_start-place.result.now in
+    IfErr-at_err (λ (f : NodeFault). f.byte ≤ length place) (sym c.in-Err.ensures)
+    (c.faults_lie_within.ensures c.args.style (follows_comma c.args.text.now place) place)
 
 pub returns-in-Err-clause-refusal : goal.returns-in-Err-clause-refusal
 returns-in-Err-clause-refusal c =
-    stopped c.args.style c.args.text.now c.styled_nodes_are_read.ensures.ends c.nodes.invariant.nodes c.nodes.at_start c.nodes.rest.now
-    c.node_start-place.result.now c.nodes.invariant.on c.in-None.ensures c.node_start-place.ensures c.in-Err.found (sym c.in-Err.ensures)
-    c.fault_at.result c.fault_at.ensures.node c.fault_at.ensures.byte c.fault_at.ensures.expected
+    going_stops c.args.style c.args.text.now c.nodes.invariant.nodes c.nodes.at_start c.nodes.rest.now
+    c.node_start-place.result.now c.nodes.invariant.on c.in-None.ensures c.node_start-place.ensures c.in-Err.found
+    (sym c.in-Err.ensures) c.fault_at.result c.fault_at.ensures
 
 pub nodes-preserved : goal.nodes-preserved
 nodes-preserved c =
@@ -50,11 +53,11 @@ returns-clause-path c = (
 
 pub returns-clause-len : goal.returns-clause-len
 returns-clause-len c =
-    counts_all c.args.style c.args.text.now c.styled_nodes_are_read.ensures.starts c.nodes.at_start c.nodes.rest.now c.nodes.len
+    counts_all c.args.style c.args.text.now c.nodes.at_start c.nodes.rest.now c.nodes.len
     c.nodes.invariant (grind (arith, nat_tests))
 
 pub first_styled_node-requires : goal.first_styled_node-requires
 first_styled_node-requires c =
-    let within = place_within c.args.style c.args.text.now c.styled_nodes_are_read.ensures.ends c.nodes.invariant.nodes c.nodes.at_start c.nodes.rest.now
-    c.node_start-place.result.now c.nodes.invariant.on c.node_start-place.ensures in
+    let within = place_within c.args.style c.args.text.now c.nodes.invariant.nodes c.nodes.at_start c.nodes.rest.now
+    c.node_start-place.result.now c.nodes.invariant.on c.in-None.ensures c.node_start-place.ensures in
     λ copied. omega (arith, within, c.requires copied, c.nodes.auto.scratch)
