@@ -1,21 +1,19 @@
 -- A text is read in a style in one way: what the function says is what the relation says.
-use Rattle.std.proofs.Common.{◌≡◌, ◌↔◌, ℕ, zero, suc, ◌+◌, ◌-◌, ◌^◌, ◌<◌, ◌≤◌, min, Bool, true, false, cond, eqb, List, [], ◌∷◌, ◌++◌, length, drop, inl, inr, refl, ap, sym, subst, ◌∙◌, append_assoc, arith, true≢false}
-use Rattle.std.specs.Prelude.{IfOk, IfErr, Option, None, Result, Ok, Err, ◌==◌, ◌||◌}
-use Rattle.std.proofs.lemmas.List.{append-nil, append_cancel_left, length-append}
+use Rattle.std.proofs.Common.{◌≡◌, ◌↔◌, ℕ, zero, suc, ◌+◌, ◌<◌, ◌≤◌, Bool, true, false, cond, List, [], ◌∷◌, ◌++◌, length, drop, inl, inr, refl, ap, sym, subst, ◌∙◌, append_assoc, arith, true≢false}
+use Rattle.std.specs.Prelude.{IfOk, IfErr, None, Result, Ok, Err, ◌==◌, ◌||◌}
+use Rattle.std.proofs.lemmas.List.{append-nil, length-append}
 use Rattle.std.proofs.lemmas.List.Elements.{All-head, All-nil, All-push, All-tail}
 use Rattle.std.proofs.lemmas.Result.{IfErr-at_err}
 use borrow.Author.Tests.{eqb-true}
 use Rattle.uefi_device_nodes.specs.Nodes.{Node}
 use Rattle.uefi_device_path.specs.Laws.{PrintedIsRead, ReadNeverStops, ReadOnce, ReadTold}
-use Rattle.uefi_device_path.specs.StyledReading.{follows_comma, place_read, IsLenientError, IsReadAs, Reads, ReadingStops, ReadingStopsAt, ReadsTo, Stops, fault_from, more_nodes, node_then, nodes_left, path_read}
+use Rattle.uefi_device_path.specs.StyledReading.{follows_comma, place_read, IsLenientError, IsReadAs, Reads, ReadingStopsAt, ReadsTo, Stops, fault_from, more_nodes, node_then, nodes_left, path_read}
 use Rattle.uefi_device_path.specs.StyledReading.ReadsTo.{Begins, Comma, OneMore}
 use Rattle.uefi_device_path.specs.PathReading.{AreTold, end_instance, is_after_instance}
-use Rattle.uefi_device_path.specs.Paths.{path_bytes}
 use Rattle.uefi_device_path.specs.declared.lenient_errors.LenientTextError.{LenientTextError}
 use Rattle.uefi_device_path.specs.declared.lenient_errors.LenientTextError.TheVariants.{NoNode, OutOfMemory}
 use Rattle.uefi_device_path.specs.declared.lenient_errors.TextFault.{TextFault}
 use Rattle.uefi_device_path.proofs.PathReading.{IsToldOrEnd, path_text_is, place_is, printed, rest_text, separator}
-use Rattle.uefi_device_path.proofs.TextLengths.{bytes_more}
 use Rattle.uefi_device_path.proofs.TextStops.{end_first, told_first, whole_after}
 use Rattle.uefi_node_reader.specs.Laws.{NodeAgain, NodeFits, NodeStarts}
 use Rattle.uefi_node_reader.specs.Styles.{StyledAgain, takes_printed, StyledEnds, StyledFaultWithin, StyledStarts, StyledTakes}
@@ -316,56 +314,9 @@ module _ (style : TextStyle) (text : List ℕ) where
     going_stops found refused fault same =
         sym on.all ∙ ap (onto nodes) (left_fault s rest place other is found refused) ∙ ap (λ (f : TextFault). Err f) (sym same)
 
-    -- it is read, if all of the text is
-    pub never_stops : (all : List Node) → IsReadAs style text all → (found : NodeFault) → place_read style text place ≡ Err found → ⊥
-    never_stops all read found refused =
-        read_never_stops all (fault_from text place found) read (going_stops found refused (fault_from text place found) refl)
-
   pub all_read : (nodes : List Node) (s : Bool) (rest : List ℕ) → Going nodes s rest → length rest ≡ 0 → IsReadAs style text nodes
   all_read nodes s [] on none = sym on.all ∙ ap (λ (l : List Node). Ok l) (append-nil nodes)
   all_read nodes s (c ∷ cs) on none = absurd (omega (arith, none))
-
-  -- the nodes that were read are the first of all
-  pub first_of_all : (all nodes : List Node) (s : Bool) (rest : List ℕ) → IsReadAs style text all → Going nodes s rest
-      → (others : List Node) × (all ≡ nodes ++ others)
-  first_of_all all nodes s rest read on = by (left s rest) (on.all ∙ read)
-    where
-      by : (r : Nodes) → onto nodes r ≡ Ok all → (others : List Node) × (all ≡ nodes ++ others)
-      by (Ok more) e = (more, sym (ok_same (nodes ++ more) all e))
-      by (Err fault) e = cc
-
-  -- how many bytes the path of the nodes has
-  pub record Counts (s : Bool) (rest : List ℕ) (len : ℕ) : Type 0 where
-    pub nodes : List Node
-    pub on : Going nodes s rest
-    pub count : len ≡ min (length (path_bytes nodes)) (2 ^ 64 - 1)
-
-  pub counts_first : Counts true text 4
-  counts_first = record { nodes = []; on = going_first; count = omega arith }
-
-  pub counts_comma : (s : Bool) (rest after : List ℕ) (len : ℕ) → Counts s rest len → rest ≡ 44 ∷ after
-      → Counts true after (min (len + 4) (2 ^ 64 - 1)) × (length after < length rest)
-  counts_comma s rest after len c is =
-      let over = going_comma c.nodes s rest after c.on is in (
-        record { nodes = c.nodes ++ end_instance ∷ []; on = over.0; count = omega (arith, c.count, bytes_more c.nodes end_instance) },
-        over.1,
-      )
-
-  pub counts_node : StyledEnds → (s : Bool) (rest place after : List ℕ) (node : Node) (len : ℕ)
-      → Counts s rest len → is_after_instance rest ≡ false → place ≡ cond s rest (drop 1 rest)
-      → place_read style text place ≡ Ok (node, after)
-      → Counts false after (min (min (len + length node.content) (2 ^ 64 - 1) + 4) (2 ^ 64 - 1)) × (length after < length rest)
-  counts_node ends s rest place after node len c other is read =
-      let over = going_node c.nodes s rest place c.on other is ends node after read in (
-        record { nodes = c.nodes ++ node ∷ []; on = over.0; count = omega (arith, c.count, bytes_more c.nodes node) },
-        over.1,
-      )
-
-  pub counts_all : (s : Bool) (rest : List ℕ) (len : ℕ) → Counts s rest len → length rest ≡ 0
-      → (nodes : List Node) → IsReadAs style text nodes → len ≡ min (length (path_bytes nodes)) (2 ^ 64 - 1)
-  counts_all s rest len c none nodes read =
-      c.count ∙ ap (λ (ns : List Node). min (length (path_bytes ns)) (2 ^ 64 - 1))
-      (read_once c.nodes nodes (all_read c.nodes s rest c.on none) read)
 
   -- the nodes that a text is read as are the only result but for memory
   pub only_read : ReadOnce → ReadNeverStops → (r : Result (List Node) LenientTextError)

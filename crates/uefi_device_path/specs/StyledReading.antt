@@ -1,9 +1,10 @@
 -- Device paths read from texts in a style.
-use Rattle.std.specs.Prelude.{◌≡◌, ℕ, zero, suc, ◌+◌, ◌-◌, Bool, true, false, nat_lt, ◌==◌, ◌&&◌, if◌then◌else◌, List, [], ◌∷◌, ◌++◌, length, slice_index, codes, Option, Some, None, Result, Ok, Err}
+use Rattle.std.specs.Prelude.{◌≡◌, ◌≤◌, ℕ, zero, suc, drop, take, ◌+◌, ◌-◌, Bool, true, false, nat_lt, ◌==◌, ◌&&◌, if◌then◌else◌, List, [], ◌∷◌, ◌++◌, length, slice_index, codes, Option, Some, None, Result, Ok, Err}
 use Rattle.uefi_device_nodes.specs.Nodes.{Node}
 use Rattle.uefi_device_path.specs.Building.{path_length}
 use Rattle.uefi_device_path.specs.PathReading.{end_instance, is_after_instance}
 use Rattle.uefi_device_path.specs.Faults.{RefusedFor}
+use Rattle.uefi_device_path.specs.Paths.{IsPath, nodes_in, without_end}
 use Rattle.uefi_device_path.specs.declared.lenient_errors.LenientTextError.{LenientTextError}
 use Rattle.uefi_device_path.specs.declared.lenient_errors.LenientTextError.TheVariants.{NoNode, OutOfMemory}
 use Rattle.uefi_device_path.specs.declared.lenient_errors.PushLenientTextError.{PushLenientTextError}
@@ -103,6 +104,18 @@ pub record ReadingStops (style : TextStyle) (text : List ℕ) (fault : TextFault
 abbrev pub Stops : TextStyle → List ℕ → TextFault → Type 0
 Stops style text fault = (nodes : List Node) × (at_start : Bool) × (rest : List ℕ)
     × ReadingStops style text fault nodes at_start rest
+
+-- the nodes of the path that the first bytes of a buffer are
+abbrev pub nodes_before : ℕ → List ℕ → List Node
+nodes_before len buffer = nodes_in (without_end (take len buffer))
+
+-- a buffer that was `old` begins with the path of these nodes, and what follows it is unchanged
+pub record Holds (old : List ℕ) (nodes : List Node) (new : List ℕ) (end : ℕ) : Type 0 where
+  pub within : end ≤ length new
+  pub path : IsPath (take end new)
+  pub shown : nodes_before end new ≡ nodes
+  pub same : length new ≡ length old
+  pub rest : drop end new ≡ drop end old
 
 -- why a text is not read: memory was refused, or its fault
 abbrev pub IsLenientError : TextStyle → List ℕ → LenientTextError → Type 0

@@ -1,34 +1,40 @@
 //! Device paths read from texts in a style.
 #![tactic(auto)]
 
-ghost use Rattle.std.specs.Prelude.{true, false, if◌then◌else◌, drop, ◌++◌, ◌∷◌, ◌≡◌, ◌+◌, ◌-◌, ◌<◌, ◌≤◌, ◌^◌, min, [], List, IfOk, IfErr, MatchOption, OnOk, Err, length};
+ghost use Rattle.std.specs.Prelude.{take, true, false, if◌then◌else◌, drop, ◌++◌, ◌∷◌, ◌≡◌, ◌+◌, ◌-◌, ◌<◌, ◌≤◌, ◌^◌, min, [], List, IfOk, IfErr, MatchOption, OnOk, Err, length};
 ghost use Rattle.std.specs.Result.{result_map_both};
 ghost use Rattle.uefi_device_nodes.specs.Nodes.{Node};
-ghost use Rattle.uefi_device_path.specs.StyledReading.{IsLenientError, IsReadAs, IsStyledText, ReadingStopsAt, fault_from, follows_comma, place_read};
+ghost use Rattle.uefi_device_path.specs.StyledReading.{Holds, IsLenientError, IsReadAs, IsStyledText, fault_from, follows_comma, nodes_before, path_read, place_read};
 ghost use Rattle.uefi_device_path.specs.PathReading.{end_instance, is_after_instance};
-ghost use Rattle.uefi_device_path.specs.Paths.{path_bytes};
+ghost use Rattle.uefi_device_path.specs.Paths.{IsPath, joined};
+ghost use Rattle.uefi_built_nodes.specs.RawNodes.{raw_node};
 ghost use Rattle.uefi_node_reader.specs.NamedFiles.{IsTold};
 ghost use Rattle.uefi_node_reader.specs.Styles.{HasScratch};
 ghost use Rattle.uefi_device_path.specs.declared.lenient_errors.LenientTextError.TheVariants.{OutOfMemory};
 ghost use Rattle.uefi_node_reader.specs.TextNodeViews.{text_node};
 
-use crate::build::DevicePathBuf;
-use crate::errors::BuildError;
+use crate::build::{DevicePathBuf, empty_path};
+use crate::grow::put_if_room;
 use crate::lenient_errors::{LenientTextError, TextFault};
 use std::alloc::Allocator;
-use uefi_built_nodes::BuildNode;
+use uefi_built_nodes::{BuildNode, RawNode};
 use uefi_device_nodes::{DeviceSubType, DeviceType};
-use uefi_node_reader::nodes::nodes_are_read;
 use uefi_node_reader::faults::NodeFault;
-use uefi_node_reader::styles::{TextStyle, faults_lie_within, read_styled_node, styled_nodes_are_read};
+use uefi_node_reader::nodes::nodes_are_read;
+use uefi_node_reader::styles::{
+    TextStyle, faults_lie_within, read_styled_node, styled_nodes_are_read,
+};
 use uefi_node_reader::text_node::TextNode;
 
-/// Adds the node that ends an instance. Refused for memory alone.
-pub(crate) fn push_end<A: Allocator>(path: &mut DevicePathBuf<A>) -> Result<(), BuildError>
-    ensures ok { OnOk result (path.new ≡ path.old ++ end_instance ∷ []) }
-    ensures memory { IfErr result (λ error. error ≡ BuildError.OutOfMemory) }
+/// The node that ends an instance.
+fn instance_end() -> RawNode<'static>
+    ensures { raw_node result ≡ end_instance }
 {
-    path.push(DeviceType(0x7f), DeviceSubType(0x01), &[])
+    RawNode {
+        device_type: DeviceType(0x7f),
+        sub_type: DeviceSubType(0x01),
+        content: &[],
+    }
 }
 
 /// A node whose text was read, to be added to a path.
@@ -111,28 +117,35 @@ fn fault_at(text: &[u8], rest: &[u8], found: NodeFault) -> TextFault
     }
 }
 
-/// How many bytes the path has that a text is read as, as far as a `usize` counts, or the fault of the text.
-/// The buffer then holds anything.
-pub(crate) fn check_styled_text(
+/// Adds the nodes that a text is read as to the path that the first `len` bytes of a buffer are, before its
+/// end. Returns how many bytes the path then has, as far as a `usize` counts, or the fault of the text. If
+/// the buffer has no room for all of them, it then holds anything, as does the second.
+pub(crate) fn put_text(
     style: TextStyle,
-    scratch: &mut [u8],
+    buffer: &mut [u8],
+    len: usize,
     text: &[u8],
+    scratch: &mut [u8],
 ) -> Result<usize, TextFault>
-    requires { HasScratch style text.now scratch.old }
-    ensures path { IfOk result (λ _. IsStyledText style text.now) }
-    ensures len { IfOk result (λ len. (nodes : List Node) → IsReadAs style text.now nodes
-        → len ≡ min (length (path_bytes nodes)) (2 ^ 64 - 1)) }
-    ensures refusal { IfErr result (ReadingStopsAt style text.now) }
+    requires scratch { HasScratch style text.now scratch.old }
+    requires is_path { len ≤ length buffer.now → IsPath (take len buffer.now) }
+    ensures len { result ≡ result_map_both (λ nodes. min (len + length (joined nodes)) (2 ^ 64 - 1))
+        (λ fault. fault) (path_read style text.now) }
+    ensures put { (nodes : List Node) → IsReadAs style text.now nodes
+        → IfOk result (λ end. end ≤ length buffer.old
+        → Holds buffer.old (nodes_before len buffer.old ++ nodes) buffer.new end) }
 {
+    nodes_are_read();
     styled_nodes_are_read();
     faults_lie_within();
-    let mut len = 4usize;
+    let mut end = len;
     let mut rest = text;
     let mut at_start = true;
     'nodes: while !rest.is_empty() {
         match after_comma(rest) {
             Some(after) => {
-                len = len.saturating_add(4);
+                let node = instance_end();
+                end = put_if_room(buffer, end, &node);
                 rest = after;
                 at_start = true;
             }
@@ -142,63 +155,13 @@ pub(crate) fn check_styled_text(
                     Ok(read) => read,
                     Err(found) => return Err(fault_at(text, place, found)),
                 };
-                len = len.saturating_add(node.node.data_len()).saturating_add(4);
+                end = put_if_room(buffer, end, &node);
                 rest = after;
                 at_start = false;
             }
         }
     }
-    Ok(len)
-}
-
-/// Adds a node that was read. Refused for memory alone.
-fn push_read<A: Allocator>(
-    path: &mut DevicePathBuf<A>,
-    node: &ReadNode<'_>,
-) -> Result<(), BuildError>
-    requires { IsTold (text_node node.now.node) }
-    ensures ok { OnOk result (path.new ≡ path.old ++ text_node node.now.node ∷ []) }
-    ensures memory { IfErr result (λ error. error ≡ BuildError.OutOfMemory) }
-{
-    nodes_are_read();
-    path.push_node(node)
-}
-
-/// Adds the nodes that a text is read as to an empty path. Refused for memory alone.
-fn push_styled_text<A: Allocator>(
-    style: TextStyle,
-    path: &mut DevicePathBuf<A>,
-    scratch: &mut [u8],
-    text: &[u8],
-) -> Result<(), BuildError>
-    requires room { HasScratch style text.now scratch.old }
-    requires empty { path.old ≡ [] }
-    requires readable { IsStyledText style text.now }
-    ensures ok { OnOk result (IsReadAs style text.now path.new) }
-    ensures memory { IfErr result (λ error. error ≡ BuildError.OutOfMemory) }
-{
-    styled_nodes_are_read();
-    let mut rest = text;
-    let mut at_start = true;
-    'nodes: while !rest.is_empty() {
-        match after_comma(rest) {
-            Some(after) => {
-                push_end(path)?;
-                rest = after;
-                at_start = true;
-            }
-            None => {
-                let place = node_start(at_start, rest);
-                let Ok((node, after)) = first_styled_node(style, scratch, text, place) else {
-                    unreachable!()
-                };
-                push_read(path, &node)?;
-                rest = after;
-                at_start = false;
-            }
-        }
-    }
-    Ok(())
+    Ok(end)
 }
 
 /// The path that a text is read as, in memory that is asked for once the text is known to be read.
@@ -213,15 +176,15 @@ pub(crate) fn read_styled_path<A: Allocator + Copy>(
     ensures refusal { IfErr result (IsLenientError style text.now) }
     ensures memory { result ≡ Err OutOfMemory → IsStyledText style text.now }
 {
-    let len = match check_styled_text(style, scratch, text) {
+    let len = match put_text(style, &mut [], 4, text, scratch) {
         Ok(len) => len,
         Err(fault) => return Err(LenientTextError::NoNode(fault)),
     };
-    let Ok(mut path) = DevicePathBuf::with_capacity(alloc, len) else {
+    let Ok(mut bytes) = empty_path(alloc, len) else {
         return Err(LenientTextError::OutOfMemory);
     };
-    let Ok(()) = push_styled_text(style, &mut path, scratch, text) else {
-        return Err(LenientTextError::OutOfMemory);
-    };
-    Ok(path)
+    match put_text(style, bytes.as_mut_slice(), 4, text, scratch) {
+        Ok(_) => Ok(DevicePathBuf::of_bytes(bytes)),
+        Err(fault) => Err(LenientTextError::NoNode(fault)),
+    }
 }
