@@ -1,6 +1,6 @@
 -- In the style of printed texts, a text is read as the nodes whose text it is, or it stops where it stops being one.
 use Rattle.std.proofs.Common.{◌≡◌, ℕ, Bool, true, false, cond, List, [], ◌∷◌, ◌++◌, drop, refl, sym, ap, subst, ◌∙◌, true≢false}
-use Rattle.std.specs.Prelude.{Some, None, nat_lt, ◌==◌, ◌||◌}
+use Rattle.std.specs.Prelude.{Some, None, Ok, Err, nat_lt, ◌==◌, ◌||◌}
 use Rattle.uefi_device_nodes.specs.Nodes.{Node}
 use Rattle.uefi_device_path.specs.Laws.{NeverBoth, PrintedStops, ReadIsPrinted, ReadTold}
 use Rattle.uefi_device_path.specs.PathReading.{BeginsWithNode, HasPath, IsPushTextError, NoneBegins, StopsAt, is_after_instance}
@@ -14,10 +14,12 @@ use Rattle.uefi_device_path.specs.declared.errors.PushTextError.TheVariants as p
 use Rattle.uefi_device_path.specs.declared.lenient_errors.PushLenientTextError.{PushLenientTextError}
 use Rattle.uefi_device_path.specs.declared.lenient_errors.PushLenientTextError.TheVariants as push
 use Rattle.uefi_device_path.proofs.PathReading.{Going, done, going_first, node_begins, over_comma, over_node, separator, stopped}
+use Rattle.uefi_device_path.proofs.StyledReading.{reads_mean, stops_mean}
 use Rattle.uefi_device_path.proofs.TextStops.{never_both, stops_once}
 use Rattle.uefi_node_reader.specs.Laws.{NodeAgain, NodeFits, NodeStarts, NodeTakes, NodeTextOnce}
 use Rattle.uefi_node_reader.specs.NamedFiles.{is_after_node, node_read}
-use Rattle.uefi_node_reader.specs.Styles.{PrintedExactly, StyledAgain, StyledEnds}
+use Rattle.uefi_node_reader.specs.Styles.{PrintedExactly, StyledAgain, StyledEnds, StyledStarts}
+use Rattle.uefi_node_reader.specs.declared.faults.NodeFault.{NodeFault}
 use Rattle.uefi_node_reader.specs.declared.styles.TextStyle.TheVariants.{Printed}
 
 -- what follows a separator is no end of an instance, if a node begins there
@@ -38,7 +40,7 @@ at_place : (s : Bool) (place : List ℕ) → place ≡ cond s (separator s ++ pl
 at_place true place = refl
 at_place false place = refl
 
-module _ (exactly : PrintedExactly) (ends : StyledEnds) (takes : NodeTakes) (fits : NodeFits) (starts : NodeStarts)
+module _ (styled_starts : StyledStarts) (exactly : PrintedExactly) (ends : StyledEnds) (takes : NodeTakes) (fits : NodeFits) (starts : NodeStarts)
     (text : List ℕ) where
   going : {nodes : List Node} {s : Bool} {rest : List ℕ} → ReadsTo Printed text nodes s rest → Going text nodes s rest
   going Begins = going_first text
@@ -50,29 +52,31 @@ module _ (exactly : PrintedExactly) (ends : StyledEnds) (takes : NodeTakes) (fit
       (no_instance starts s place node rest is) (at_place s place) is refl).0
 
   printed_done : (nodes : List Node) → IsReadAs Printed text nodes → nodes_text false false nodes ≡ text
-  printed_done nodes (s, on) = done text nodes s [] (going on) refl
+  printed_done nodes is =
+      let (s, on) = (reads_mean Printed text styled_starts ends nodes).0 is in done text nodes s [] (going on) refl
 
-pub read_is_printed : PrintedExactly → StyledEnds → NodeTakes → NodeFits → NodeStarts → ReadIsPrinted
-read_is_printed exactly ends takes fits starts text nodes read = printed_done exactly ends takes fits starts text nodes read
+pub read_is_printed : StyledStarts → PrintedExactly → StyledEnds → NodeTakes → NodeFits → NodeStarts → ReadIsPrinted
+read_is_printed styled_starts exactly ends takes fits starts text nodes read = printed_done styled_starts exactly ends takes fits starts text nodes read
 
-none_begins : NodeAgain → StyledAgain → (text place : List ℕ) → place_read Printed text place ≡ None → NoneBegins place
-none_begins again styled text place none node after is =
+none_begins : NodeAgain → StyledAgain → (text place : List ℕ) (found : NodeFault) → place_read Printed text place ≡ Err found → NoneBegins place
+none_begins again styled text place found refused node after is =
     let read = styled Printed refl (follows_comma text place) place node after
     (ap node_read is.splits ∙ again node is.told after is.ends) is.ends in
-    no (node, after) (sym none ∙ read)
+    no (node, after) (sym refused ∙ read)
   where
-    no : (x : Node × List ℕ) → None ≡ Some x → ⊥
+    no : (x : Node × List ℕ) → Err found ≡ Ok x → ⊥
     no x e = cc
 
-pub printed_stops : PrintedExactly → StyledEnds → StyledAgain → NodeTakes → NodeAgain → NodeFits → NodeStarts → PrintedStops
-printed_stops exactly ends styled takes again fits starts text fault (nodes, s, rest, stop) =
+pub printed_stops : StyledStarts → PrintedExactly → StyledEnds → StyledAgain → NodeTakes → NodeAgain → NodeFits → NodeStarts → PrintedStops
+printed_stops styled_starts exactly ends styled takes again fits starts text fault is =
+    let (nodes, s, rest, stop) = (stops_mean Printed text styled_starts ends fault).0 is in
     subst (λ (n : ℕ). StopsAt text n) (sym stop.offset)
-    (stopped text nodes s (separator s ++ rest) rest (going exactly ends takes fits starts text stop.reads) (other s stop.not_empty)
-    (at_place s rest) (none_begins again styled text rest stop.none))
+    (stopped text nodes s (separator s ++ rest) rest (going styled_starts exactly ends takes fits starts text stop.reads) (other rest s stop.not_empty)
+    (at_place s rest) (none_begins again styled text rest stop.found stop.refused))
   where
-    other : (b : Bool) → (b ≡ true → is_after_instance rest ≡ false) → is_after_instance (separator b ++ rest) ≡ false
-    other true h = h refl
-    other false h = refl
+    other : (rest : List ℕ) (b : Bool) → (b ≡ true → is_after_instance rest ≡ false) → is_after_instance (separator b ++ rest) ≡ false
+    other rest true h = h refl
+    other rest false h = refl
 
 -- a text that is read has a path, and stops nowhere
 pub path_is : ReadTold → ReadIsPrinted → (text : List ℕ) → IsStyledText Printed text → HasPath text

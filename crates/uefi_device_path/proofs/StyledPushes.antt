@@ -1,67 +1,113 @@
 -- The nodes that a text is read as are added, one after the other, to the path that a buffer begins with.
-use Rattle.std.proofs.Common.{◌≡◌, ℕ, ◌+◌, ◌<◌, ◌≤◌, Bool, true, false, List, [], ◌∷◌, ◌++◌, length, take, drop, refl, ap, sym, subst, append_assoc, arith}
-use Rattle.std.specs.Prelude.{nat_lt, Some, None}
+use Rattle.std.proofs.Common.{◌≡◌, ℕ, ◌+◌, ◌-◌, ◌^◌, ◌<◌, ◌≤◌, min, Bool, true, false, List, [], ◌∷◌, ◌++◌, length, take, drop, refl, ap, sym, subst, ◌∙◌, append_assoc, arith}
+use Rattle.std.specs.Prelude.{nat_lt, Some, None, Ok, Err}
+use Rattle.std.specs.Result.{result_map_both}
 use Rattle.std.proofs.lemmas.Bool.{le-ltb, lt-ltb}
-use Rattle.std.proofs.lemmas.List.{append-nil}
-use Rattle.uefi_device_nodes.specs.Nodes.{Node, node_length}
+use Rattle.std.proofs.lemmas.List.{append-nil, take_all}
+use Rattle.uefi_device_nodes.specs.Nodes.{Node, end_entire, node_bytes, node_length}
 use Rattle.uefi_device_path.specs.Building.{path_length}
-use Rattle.uefi_device_path.specs.StyledReading.{IsStyledText, IsReadAs, ReadsTo, lenient_refusal}
-use Rattle.uefi_device_path.specs.StyledReading.ReadsTo.{Begins}
-use Rattle.uefi_device_path.specs.Paths.{IsPath, nodes_in, path_bytes, without_end}
+use Rattle.uefi_device_path.specs.StyledReading.{Holds, IsReadAs, lenient_refusal, nodes_before, path_read}
+use Rattle.uefi_device_path.specs.Paths.{IsPath, nodes_bytes, nodes_in, path_bytes, without_end}
 use Rattle.uefi_device_path.specs.declared.lenient_errors.PushLenientTextError.TheVariants.{BufferTooSmall}
-use Rattle.uefi_node_reader.specs.Styles.{StyledStarts}
+use Rattle.uefi_device_path.specs.declared.lenient_errors.TextFault.{TextFault}
 use Rattle.uefi_node_reader.specs.declared.styles.TextStyle.{TextStyle}
-use Rattle.uefi_device_path.proofs.StyledReading.{first_of_all, reads_rest}
-use Rattle.uefi_device_path.proofs.PushedTexts.{Holds, holds_next, room_for_more}
+use Rattle.uefi_device_path.proofs.Building.{path_empty}
+use Rattle.uefi_device_path.proofs.StyledReading.{Going, Nodes, going_first, read_once}
+use Rattle.uefi_device_path.proofs.PushedTexts.{holds_next, joined_more, needed_is}
 
-module _ (style : TextStyle) where
-  -- a buffer has room for the path of these nodes and of those that a text is read as
-  abbrev pub HasRoom : List ℕ → List ℕ → List Node → Type 0
-  HasRoom old text before = (read : List Node) → IsReadAs style text read → length (path_bytes (before ++ read)) ≤ length old
+-- the nodes that were read so far, how many bytes the path has with them, and that they are there if all fit
+pub record Puts (style : TextStyle) (text old : List ℕ) (len : ℕ) (new : List ℕ) (end : ℕ) (at_start : Bool)
+    (rest : List ℕ) : Type 0 where
+  pub nodes : List Node
+  pub on : Going style text nodes at_start rest
+  pub count : end ≡ min (len + length (nodes_bytes nodes)) (2 ^ 64 - 1)
+  pub same : length new ≡ length old
+  pub holds : end ≤ length old → Holds old (nodes_before len old ++ nodes) new end
 
-  -- the nodes that were read and added so far
-  pub record Puts (old text : List ℕ) (before : List Node) (new : List ℕ) (end : ℕ) (at_start : Bool)
-      (rest : List ℕ) : Type 0 where
-    pub done : List Node
-    pub on : ReadsTo style text done at_start rest
-    pub holds : Holds old (before ++ done) new end
-
-  pub puts_none : (old text : List ℕ) (len : ℕ) → len ≤ length old → IsPath (take len old)
-      → Puts old text (nodes_in (without_end (take len old))) old len true text
-  puts_none old text len within path = record {
-    done = [];
-    on = Begins;
-    holds = record {
-      within = within;
-      path = path;
-      shown = sym (append-nil (nodes_in (without_end (take len old))));
+module _ (style : TextStyle) (text old : List ℕ) (len : ℕ) where
+  pub puts_none : len ≤ 2 ^ 64 - 1 → (len ≤ length old → IsPath (take len old)) → Puts style text old len old len true text
+  puts_none small path = record {
+    nodes = [];
+    on = going_first style text;
+    count = omega (arith, small);
+    same = refl;
+    holds = λ fits. record {
+      within = fits;
+      path = path fits;
+      shown = sym (append-nil (nodes_before len old));
       same = refl;
       rest = refl;
     };
   }
 
-  -- there is room for one node more
-  pub room_for_next : StyledStarts → (old new text : List ℕ) (before done : List Node) (node : Node) (end : ℕ) (s : Bool) (rest : List ℕ)
-      → Holds old (before ++ done) new end → ReadsTo style text (done ++ node ∷ []) s rest → IsStyledText style text → HasRoom old text before
-      → end + node_length node ≤ length new
-  room_for_next starts old new text before done node end s rest on more (all, read) room =
-      let x = first_of_all style text starts all (reads_rest style text all read) more in
-      room_for_more old new before done x.0 node end on
-      (subst (λ (l : List Node). length (path_bytes (before ++ l)) ≤ length old) x.1.0 (room all read))
-
-  pub puts_next : StyledStarts → (old text : List ℕ) (before done : List Node) (node : Node) (new newer : List ℕ) (end more : ℕ)
-      (s : Bool) (rest : List ℕ) → Holds old (before ++ done) new end → ReadsTo style text (done ++ node ∷ []) s rest
-      → IsStyledText style text → HasRoom old text before
-      → more ≡ end + node_length node → length newer ≡ length new → IsPath (take more newer)
-      → nodes_in (without_end (take more newer)) ≡ nodes_in (without_end (take end new)) ++ node ∷ []
-      → drop more newer ≡ drop more new → Puts old text before newer more s rest
-  puts_next starts old text before done node new newer end more s rest on reads readable room is long path shown after = record {
-    done = done ++ node ∷ [];
+  -- one node more
+  pub puts_next : (new newer : List ℕ) (end more : ℕ) (s t : Bool) (rest after : List ℕ) (node : Node)
+      → (on : Puts style text old len new end s rest) → Going style text (on.nodes ++ node ∷ []) t after
+      → more ≡ min (end + node_length node) (2 ^ 64 - 1) → length newer ≡ length new
+      → (more ≤ length new → more ≡ end + node_length node) → (more ≤ length new → IsPath (take more newer))
+      → (more ≤ length new → nodes_before more newer ≡ nodes_before end new ++ node ∷ [])
+      → (more ≤ length new → drop more newer ≡ drop more new) → Puts style text old len newer more t after
+  puts_next new newer end more s t rest after node on reads is long exact path shown left = record {
+    nodes = on.nodes ++ node ∷ [];
     on = reads;
-    holds = subst (λ (ns : List Node). Holds old ns newer more) (append_assoc before done (node ∷ []))
-        (holds_next old new newer (before ++ done) node end more on
-        (room_for_next starts old new text before done node end s rest on reads readable room) is long path shown after);
+    count = omega (arith, is, on.count, joined_more on.nodes node);
+    same = long ∙ on.same;
+    holds = λ fits.
+        let room : more ≤ length new = omega (arith, fits, on.same) in
+        let one = exact room in
+        subst (λ (ns : List Node). Holds old ns newer more) (append_assoc (nodes_before len old) on.nodes (node ∷ []))
+        (holds_next old new newer (nodes_before len old ++ on.nodes) node end more
+        (on.holds (omega (arith, fits, one))) (omega (arith, room, one)) one long (path room) (shown room) (left room));
   }
+
+-- bytes that are a path with nodes added to none
+pub all_held : (old new : List ℕ) (nodes : List Node) (end : ℕ) → take 4 old ≡ node_bytes end_entire → length old ≡ end
+    → Holds old (nodes_before 4 old ++ nodes) new end → IsPath new × (nodes_in (without_end new) ≡ nodes)
+all_held old new nodes end begins long on =
+    let whole : take end new ≡ new = take_all end new (omega (arith, on.same, long)) in
+    let none : nodes_before 4 old ≡ [] = (path_empty (take 4 old) begins).1 in (
+      subst IsPath whole on.path,
+      ap (λ (l : List ℕ). nodes_in (without_end l)) (sym whole) ∙ on.shown ∙ ap (λ (ns : List Node). ns ++ nodes) none,
+    )
+
+-- how many bytes a path has, or the fault of its text
+pub counted : (count : List Node → ℕ) (r : Nodes) (n : ℕ) → Ok n ≡ result_map_both count (λ (fault : TextFault). fault) r
+    → (nodes : List Node) × (r ≡ Ok nodes) × (n ≡ count nodes)
+counted count (Ok nodes) n e = (nodes, refl, let same : n ≡ count nodes = cc in same)
+counted count (Err fault) n e = cc
+
+pub uncounted : (count : List Node → ℕ) (r : Nodes) (fault : TextFault) → Err fault ≡ result_map_both count (λ (other : TextFault). other) r
+    → r ≡ Err fault
+uncounted count (Ok nodes) fault e = cc
+uncounted count (Err other) fault e = let same : other ≡ fault = cc in ap (λ (f : TextFault). Err f) same
+
+pub counts_once : (count : List Node → ℕ) (r : Nodes) (n m : ℕ) → Ok n ≡ result_map_both count (λ (fault : TextFault). fault) r
+    → Ok m ≡ result_map_both count (λ (fault : TextFault). fault) r → n ≡ m
+counts_once count (Ok nodes) n m one other =
+    let first : n ≡ count nodes = cc in let second : m ≡ count nodes = cc in first ∙ sym second
+counts_once count (Err fault) n m one other = cc
+
+-- how many bytes the path of these nodes has with those of a text
+pub needed_by : (style : TextStyle) (text : List ℕ) (nodes read : List Node) (len needed : ℕ) → len ≡ length (path_bytes nodes)
+    → Ok needed ≡ result_map_both (λ (ns : List Node). min (len + length (nodes_bytes ns)) (2 ^ 64 - 1)) (λ (fault : TextFault). fault) (path_read style text)
+    → IsReadAs style text read → needed ≡ path_length (nodes ++ read)
+needed_by style text nodes read len needed long e is =
+    let (ns, one, count) = counted (λ (ns : List Node). min (len + length (nodes_bytes ns)) (2 ^ 64 - 1)) (path_read style text) needed e in
+    needed_is nodes read len needed long
+    (count ∙ ap (λ (l : List Node). min (len + length (nodes_bytes l)) (2 ^ 64 - 1)) (read_once style text ns read one is))
+
+-- the path that a text is read as, in bytes of its own
+pub path_held : (style : TextStyle) (text old new : List ℕ) (needed end : ℕ)
+    → Ok needed ≡ result_map_both (λ (ns : List Node). min (4 + length (nodes_bytes ns)) (2 ^ 64 - 1)) (λ (fault : TextFault). fault) (path_read style text)
+    → Ok end ≡ result_map_both (λ (ns : List Node). min (4 + length (nodes_bytes ns)) (2 ^ 64 - 1)) (λ (fault : TextFault). fault) (path_read style text)
+    → take 4 old ≡ node_bytes end_entire → length old ≡ needed
+    → ((nodes : List Node) → IsReadAs style text nodes → end ≤ length old → Holds old (nodes_before 4 old ++ nodes) new end)
+    → IsPath new × IsReadAs style text (nodes_in (without_end new))
+path_held style text old new needed end first second begins long put =
+    let (nodes, is, count) = counted (λ (ns : List Node). min (4 + length (nodes_bytes ns)) (2 ^ 64 - 1)) (path_read style text) needed first in
+    let same : end ≡ needed = counts_once (λ (ns : List Node). min (4 + length (nodes_bytes ns)) (2 ^ 64 - 1)) (path_read style text) end needed second first in
+    let all = all_held old new nodes end begins (long ∙ sym same) (put nodes is (omega (arith, same, long))) in
+    (all.0, subst (λ (ns : List Node). IsReadAs style text ns) (sym all.1) is)
 
 -- whether there is room for all
 pub without_room : (nodes read : List Node) (room needed : ℕ) → needed ≡ path_length (nodes ++ read)

@@ -1,5 +1,5 @@
 -- The laws of device paths and load options, over the definitions that contracts of working calls cite.
-use Rattle.std.specs.Prelude.{◌≡◌, ◌≢◌, ℕ, ◌+◌, ◌-◌, ◌≤◌, length, Bool, true, false, List, [], ◌∷◌, ◌++◌, All, filter, fold, take}
+use Rattle.std.specs.Prelude.{◌≡◌, ◌↔◌, ◌≢◌, ℕ, ◌+◌, ◌-◌, ◌≤◌, length, Bool, true, false, List, [], ◌∷◌, ◌++◌, All, filter, fold, take}
 use Rattle.std.specs.List.{flat_map}
 use Rattle.uefi_path.specs.Components.{components_of}
 use Rattle.uefi_path.specs.Laws.{IsRelative}
@@ -10,7 +10,7 @@ use Rattle.uefi_device_nodes.specs.Nodes.{Node, IsInner}
 use Rattle.uefi_device_nodes.specs.NodeFaults.{fault_place}
 use Rattle.uefi_device_nodes.specs.declared.errors.NodeError.{NodeError}
 use Rattle.uefi_device_nodes.specs.declared.errors.NodeError.TheVariants.{Missing, TruncatedHeader, UnknownEnd, LengthBelowHeader, EndWithData, BeyondEnd}
-use Rattle.uefi_device_path.specs.StyledReading.{IsReadAs, ReadingStopsAt}
+use Rattle.uefi_device_path.specs.StyledReading.{IsReadAs, Reads, ReadingStopsAt, Stops}
 use Rattle.uefi_device_path.specs.PathReading.{AreTold, StopsAt}
 use Rattle.uefi_text.specs.Packed.{IsByte}
 use Rattle.uefi_field_texts.specs.ShownTexts.{IsShown}
@@ -96,6 +96,14 @@ ReadingStopsOnce = (style : TextStyle) (text : List ℕ) (fault other : TextFaul
 abbrev pub ReadNeverStops : Type 0
 ReadNeverStops = (style : TextStyle) (text : List ℕ) (nodes : List Node) (fault : TextFault)
     → IsReadAs style text nodes → ReadingStopsAt style text fault → ⊥
+
+-- it is read as these nodes if and only if it is their text in the style
+abbrev pub ReadMeans : Type 0
+ReadMeans = (style : TextStyle) (text : List ℕ) (nodes : List Node) → IsReadAs style text nodes ↔ Reads style text nodes
+
+-- and it has this fault if and only if it stops being the text of nodes there
+abbrev pub StopMeans : Type 0
+StopMeans = (style : TextStyle) (text : List ℕ) (fault : TextFault) → ReadingStopsAt style text fault ↔ Stops style text fault
 
 -- the wrong byte does not stand before the node that it belongs to, nor after the end of the text
 abbrev pub FaultsWithin : Type 0

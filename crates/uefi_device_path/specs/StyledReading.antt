@@ -1,9 +1,10 @@
 -- Device paths read from texts in a style.
-use Rattle.std.specs.Prelude.{◌≡◌, ℕ, ◌+◌, ◌-◌, Bool, true, false, nat_lt, ◌==◌, ◌&&◌, if◌then◌else◌, List, [], ◌∷◌, ◌++◌, length, slice_index, codes, Option, Some, None}
+use Rattle.std.specs.Prelude.{◌≡◌, ◌≤◌, ℕ, zero, suc, drop, take, ◌+◌, ◌-◌, Bool, true, false, nat_lt, ◌==◌, ◌&&◌, if◌then◌else◌, List, [], ◌∷◌, ◌++◌, length, slice_index, codes, Option, Some, None, Result, Ok, Err}
 use Rattle.uefi_device_nodes.specs.Nodes.{Node}
 use Rattle.uefi_device_path.specs.Building.{path_length}
 use Rattle.uefi_device_path.specs.PathReading.{end_instance, is_after_instance}
 use Rattle.uefi_device_path.specs.Faults.{RefusedFor}
+use Rattle.uefi_device_path.specs.Paths.{IsPath, nodes_in, without_end}
 use Rattle.uefi_device_path.specs.declared.lenient_errors.LenientTextError.{LenientTextError}
 use Rattle.uefi_device_path.specs.declared.lenient_errors.LenientTextError.TheVariants.{NoNode, OutOfMemory}
 use Rattle.uefi_device_path.specs.declared.lenient_errors.PushLenientTextError.{PushLenientTextError}
@@ -12,7 +13,7 @@ use Rattle.uefi_device_path.specs.declared.errors.PushTextError.{PushTextError}
 use Rattle.uefi_device_path.specs.declared.errors.PushTextError.TheVariants as push_text
 use Rattle.uefi_device_path.specs.declared.lenient_errors.TextFault.{TextFault}
 use Rattle.uefi_node_reader.specs.declared.faults.NodeFault.{NodeFault}
-use Rattle.uefi_node_reader.specs.Styles.{is_copied, styled_fault, styled_read}
+use Rattle.uefi_node_reader.specs.Styles.{is_copied, styled_read}
 use Rattle.uefi_node_reader.specs.declared.styles.TextStyle.{TextStyle}
 
 -- the test for a place after a comma: a file's name begins with a backslash there
@@ -20,13 +21,54 @@ abbrev pub follows_comma : List ℕ → List ℕ → Bool
 follows_comma text place = nat_lt (length place) (length text)
     && (slice_index text (length text - length place - 1) == 44)
 
--- the node that is read at a place of a text, and what stands after it
-abbrev pub place_read : TextStyle → List ℕ → List ℕ → Option (Node × List ℕ)
+-- the node that is read at a place of a text, and what stands after it, or the fault of the place
+abbrev pub place_read : TextStyle → List ℕ → List ℕ → Result (Node × List ℕ) NodeFault
 place_read style text place = styled_read style (follows_comma text place) place
 
--- the fault of a place of a text where none is read
-abbrev pub place_fault : TextStyle → List ℕ → List ℕ → NodeFault
-place_fault style text place = styled_fault style (follows_comma text place) place
+-- the fault of a text, by that of a place where no node is read
+abbrev pub fault_from : List ℕ → List ℕ → NodeFault → TextFault
+fault_from text place found = record {
+  node = length text - length place;
+  byte = (length text - length place) + found.byte;
+  expected = found.expected;
+}
+
+-- a node, and those that are read then
+abbrev pub more_nodes : Node → Result (List Node) TextFault → Result (List Node) TextFault
+more_nodes node (Ok nodes) = Ok (node ∷ nodes)
+more_nodes node (Err fault) = Err fault
+
+-- the node that is read at a place, and those that are read after it
+abbrev pub node_then : List ℕ → List ℕ → (List ℕ → Result (List Node) TextFault)
+    → Result (Node × List ℕ) NodeFault → Result (List Node) TextFault
+node_then text place next (Ok read) = more_nodes read.0 (next read.1)
+node_then text place next (Err found) = Err (fault_from text place found)
+
+-- the nodes of what is left of a text, where an instance begins or a slash stands, and fewer bytes than this
+-- are left: a comma ends an instance
+abbrev pub nodes_left : TextStyle → List ℕ → ℕ → Bool → List ℕ → Result (List Node) TextFault
+nodes_left style text zero at_start rest = Ok []
+nodes_left style text (suc most) at_start [] = Ok []
+nodes_left style text (suc most) at_start (c ∷ cs) =
+    if c == 44 then more_nodes end_instance (nodes_left style text most true cs)
+    else node_then text (if at_start then c ∷ cs else cs) (nodes_left style text most false)
+    (place_read style text (if at_start then c ∷ cs else cs))
+
+-- the nodes that a text is read as in a style, or its fault
+unfoldable pub path_read : TextStyle → List ℕ → Result (List Node) TextFault
+path_read style text = nodes_left style text (suc (length text)) true text
+
+-- a text is read as nodes to its end
+abbrev pub IsReadAs : TextStyle → List ℕ → List Node → Type 0
+IsReadAs style text nodes = path_read style text ≡ Ok nodes
+
+-- a text is read as some path
+abbrev pub IsStyledText : TextStyle → List ℕ → Type 0
+IsStyledText style text = (nodes : List Node) × IsReadAs style text nodes
+
+-- the fault of a text that is not read
+abbrev pub ReadingStopsAt : TextStyle → List ℕ → TextFault → Type 0
+ReadingStopsAt style text fault = path_read style text ≡ Err fault
 
 -- the nodes of a text up to what is left of it, and whether an instance begins there
 pub data ReadsTo (style : TextStyle) (text : List ℕ) : List Node → Bool → List ℕ → Type 0 where
@@ -39,15 +81,11 @@ pub data ReadsTo (style : TextStyle) (text : List ℕ) : List Node → Bool → 
   -- one more node, after a slash where it is not the first of its instance
   OneMore : (nodes : List Node) (at_start : Bool) (node : Node) (place rest : List ℕ)
       → ReadsTo style text nodes at_start ((if at_start then [] else codes "/") ++ place)
-      → place_read style text place ≡ Some (node, rest) → ReadsTo style text (nodes ++ node ∷ []) false rest
+      → place_read style text place ≡ Ok (node, rest) → ReadsTo style text (nodes ++ node ∷ []) false rest
 
--- a text is read as nodes to its end
-abbrev pub IsReadAs : TextStyle → List ℕ → List Node → Type 0
-IsReadAs style text nodes = (at_start : Bool) × ReadsTo style text nodes at_start []
-
--- a text is read as some path
-abbrev pub IsStyledText : TextStyle → List ℕ → Type 0
-IsStyledText style text = (nodes : List Node) × IsReadAs style text nodes
+-- a text is that of these nodes to its end
+abbrev pub Reads : TextStyle → List ℕ → List Node → Type 0
+Reads style text nodes = (at_start : Bool) × ReadsTo style text nodes at_start []
 
 -- after some nodes no node is read, and no instance ends, where this fault says that the next begins: the
 -- fault of what is left of the text
@@ -56,15 +94,28 @@ pub record ReadingStops (style : TextStyle) (text : List ℕ) (fault : TextFault
     (rest : List ℕ) : Type 0 where
   pub reads : ReadsTo style text nodes at_start ((if at_start then [] else codes "/") ++ rest)
   pub not_empty : at_start ≡ true → is_after_instance rest ≡ false
-  pub none : place_read style text rest ≡ None
+  pub found : NodeFault
+  pub refused : place_read style text rest ≡ Err found
   pub offset : fault.node ≡ length text - length rest
-  pub byte : fault.byte ≡ fault.node + (place_fault style text rest).byte
-  pub expected : fault.expected ≡ (place_fault style text rest).expected
+  pub byte : fault.byte ≡ fault.node + found.byte
+  pub expected : fault.expected ≡ found.expected
 
--- the fault of a text that is not read
-abbrev pub ReadingStopsAt : TextStyle → List ℕ → TextFault → Type 0
-ReadingStopsAt style text fault = (nodes : List Node) × (at_start : Bool) × (rest : List ℕ)
+-- a text stops being that of nodes where this fault says
+abbrev pub Stops : TextStyle → List ℕ → TextFault → Type 0
+Stops style text fault = (nodes : List Node) × (at_start : Bool) × (rest : List ℕ)
     × ReadingStops style text fault nodes at_start rest
+
+-- the nodes of the path that the first bytes of a buffer are
+abbrev pub nodes_before : ℕ → List ℕ → List Node
+nodes_before len buffer = nodes_in (without_end (take len buffer))
+
+-- a buffer that was `old` begins with the path of these nodes, and what follows it is unchanged
+pub record Holds (old : List ℕ) (nodes : List Node) (new : List ℕ) (end : ℕ) : Type 0 where
+  pub within : end ≤ length new
+  pub path : IsPath (take end new)
+  pub shown : nodes_before end new ≡ nodes
+  pub same : length new ≡ length old
+  pub rest : drop end new ≡ drop end old
 
 -- why a text is not read: memory was refused, or its fault
 abbrev pub IsLenientError : TextStyle → List ℕ → LenientTextError → Type 0

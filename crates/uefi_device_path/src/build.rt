@@ -1,11 +1,11 @@
 //! Device paths that are owned, and grow.
 #![tactic(auto)]
 
-ghost use Rattle.std.specs.Prelude.{◌≡◌, ◌+◌, ◌-◌, ◌<◌, ◌≤◌, ◌∷◌, ◌++◌, ◌%◌, ◌/◌, [], List, length, IfOk, IfErr, OnOk, OnErr, None, unwrap_or};
+ghost use Rattle.std.specs.Prelude.{◌≡◌, ◌+◌, ◌-◌, ◌<◌, ◌≤◌, ◌∷◌, ◌++◌, ◌%◌, ◌/◌, [], List, length, take, IfOk, IfErr, OnOk, OnErr, None, unwrap_or};
 ghost use Rattle.std.specs.Result.{result_err};
 ghost use Rattle.std.specs.Vec.{vec_capacity, vec_len};
 ghost use Rattle.uefi_device_nodes.specs.Nodes.{end_entire, node_bytes, node_length, node_with};
-ghost use Rattle.uefi_device_path.specs.Paths.{without_end};
+ghost use Rattle.uefi_device_path.specs.Paths.{IsPath, nodes_in, without_end};
 ghost use Rattle.uefi_device_path.specs.Building.{build_refusal, node_of_name};
 ghost use Rattle.uefi_path.specs.Views.{path_text};
 ghost use Rattle.uefi_device_path.specs.Views.{nodes_of};
@@ -36,6 +36,18 @@ impl<A: Allocator> Model for DevicePathBuf<A> {
     ghost view = { λ path. nodes_in (without_end path.bytes.items) };
 
     ghost invariant = { λ path. IsPath path.bytes.items };
+}
+
+/// This many bytes, which begin with the device path without nodes. One request for memory.
+pub(crate) fn empty_path<A: Allocator>(alloc: A, len: usize) -> Result<Vec<u8, A>, AllocError>
+    requires { 4 ≤ len }
+    ensures begins { IfOk result (λ bytes. take 4 bytes.items ≡ node_bytes end_entire) }
+    ensures len { IfOk result (λ bytes. length bytes.items ≡ len) }
+{
+    let mut bytes = Vec::with_capacity(alloc, len)?;
+    bytes.extend_from_slice(&[0x7f, 0xff, 4, 0])?;
+    bytes.resize(len, 0)?;
+    Ok(bytes)
 }
 
 /// Writes a node over the last four bytes, and the node that ends a path after it.
@@ -111,13 +123,12 @@ impl<A: Allocator> DevicePathBuf<A> {
         })
     }
 
-    /// The same with room for this many bytes. One request for memory.
-    pub(crate) fn with_capacity(alloc: A, len: usize) -> Result<Self, AllocError>
-        ensures { IfOk result (λ path. path ≡ []) }
+    /// The path that these bytes are.
+    pub(crate) fn of_bytes(bytes: Vec<u8, A>) -> Self
+        requires { IsPath bytes.items }
+        ensures { result ≡ nodes_in (without_end bytes.items) }
     {
-        let mut bytes = Vec::with_capacity(alloc, len)?;
-        bytes.extend_from_slice(&[0x7f, 0xff, 4, 0])?;
-        Ok(DevicePathBuf { bytes })
+        DevicePathBuf { bytes }
     }
 
     /// Adds a node before the end: one that was built, or that another path has. Refused as `EndNode` for a

@@ -1,7 +1,7 @@
 //! Device paths that grow in the buffer in which they lie.
 #![tactic(auto)]
 
-ghost use Rattle.std.specs.Prelude.{◌≡◌, ◌+◌, ◌-◌, ◌≤◌, ◌∷◌, ◌++◌, [], List, drop, length, take, Err, IfErr, IfOk, IsOk, None, OnErr, OnOk};
+ghost use Rattle.std.specs.Prelude.{◌≡◌, ◌+◌, ◌-◌, ◌^◌, ◌≤◌, min, ◌∷◌, ◌++◌, [], List, drop, length, take, Err, IfErr, IfOk, IsOk, None, OnErr, OnOk};
 ghost use Rattle.std.specs.Result.{result_err};
 ghost use Rattle.uefi_text.specs.UnalignedCStr16.{with_prefix};
 ghost use Rattle.uefi_device_nodes.specs.Nodes.{Node, end_entire, node_bytes, node_length};
@@ -45,6 +45,25 @@ pub(crate) fn put_at<N: BuildNode>(buffer: &mut [u8], len: usize, node: &N) -> u
     let end = len + node.data_len() + 4;
     put_node(&mut buffer[len - 4..end], header, node);
     end
+}
+
+/// The same where there is room for the node; else the buffer is unchanged. Returns how many bytes the path
+/// then has or needs, as far as a `usize` counts.
+pub(crate) fn put_if_room<N: BuildNode>(buffer: &mut [u8], len: usize, node: &N) -> usize
+    requires is_path { len ≤ length buffer.now → IsPath (take len buffer.now) }
+    requires unrefused { build_refusal (N.node node.now) ≡ None }
+    ensures end { result ≡ min (len + node_length (N.node node.now)) (2 ^ 64 - 1) }
+    ensures exact { result ≤ length buffer.old → result ≡ len + node_length (N.node node.now) }
+    ensures grown { result ≤ length buffer.old → IsPath (take result buffer.new) }
+    ensures nodes { result ≤ length buffer.old → nodes_in (without_end (take result buffer.new))
+        ≡ nodes_in (without_end (take len buffer.old)) ++ N.node node.now ∷ [] }
+    ensures rest { result ≤ length buffer.old → drop result buffer.new ≡ drop result buffer.old }
+{
+    let end = len.saturating_add(node.data_len()).saturating_add(4);
+    if buffer.len() < end {
+        return end;
+    }
+    put_at(buffer, len, node)
 }
 
 /// Adds a node before the end of the path that the first `len` bytes of a buffer are, and returns how many

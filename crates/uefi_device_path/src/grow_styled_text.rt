@@ -14,75 +14,11 @@ ghost use Rattle.uefi_text.specs.UnalignedCStr16.{with_prefix};
 ghost use Rattle.uefi_device_path.specs.declared.errors.DevicePathError.{DevicePathError};
 ghost use Rattle.uefi_device_path.specs.declared.lenient_errors.TextFault.{TextFault};
 
-use crate::grow::{path_len, put_at};
+use crate::grow::path_len;
 use crate::laws::styled_texts;
 use crate::lenient_errors::PushLenientTextError;
-use crate::styled_reader::{after_comma, check_styled_text, first_styled_node, node_start};
-use uefi_built_nodes::RawNode;
-use uefi_device_nodes::{DeviceSubType, DeviceType};
-use uefi_node_reader::nodes::nodes_are_read;
-use uefi_node_reader::styles::{TextStyle, is_copied, styled_nodes_are_read};
-
-/// The node that ends an instance.
-fn instance_end() -> RawNode<'static>
-    ensures { raw_node result ≡ end_instance }
-{
-    RawNode {
-        device_type: DeviceType(0x7f),
-        sub_type: DeviceSubType(0x01),
-        content: &[],
-    }
-}
-
-/// Adds the nodes that a text is read as to the path that the first `len` bytes of a buffer are, before its
-/// end, where there is room for them, and returns how many bytes the path then has.
-fn put_styled_text_at(
-    style: TextStyle,
-    buffer: &mut [u8],
-    len: usize,
-    text: &[u8],
-    scratch: &mut [u8],
-) -> usize
-    requires scratch { HasScratch style text.now scratch.old }
-    requires within { len ≤ length buffer.now }
-    requires is_path { IsPath (take len buffer.now) }
-    requires readable { IsStyledText style text.now }
-    requires room { (read : List Node) → IsReadAs style text.now read
-        → length (path_bytes (nodes_in (without_end (take len buffer.now)) ++ read)) ≤ length buffer.now }
-    ensures within { result ≤ length buffer.old }
-    ensures grown { IsPath (take result buffer.new) }
-    ensures nodes { (read : List Node) → IsReadAs style text.now read
-        → nodes_in (without_end (take result buffer.new))
-        ≡ nodes_in (without_end (take len buffer.old)) ++ read }
-    ensures rest { drop result buffer.new ≡ drop result buffer.old }
-{
-    nodes_are_read();
-    styled_nodes_are_read();
-    styled_texts();
-    let mut end = len;
-    let mut rest = text;
-    let mut at_start = true;
-    'nodes: while !rest.is_empty() {
-        match after_comma(rest) {
-            Some(after) => {
-                let node = instance_end();
-                end = put_at(buffer, end, &node);
-                rest = after;
-                at_start = true;
-            }
-            None => {
-                let place = node_start(at_start, rest);
-                let Some((node, after)) = first_styled_node(style, scratch, text, place) else {
-                    unreachable!()
-                };
-                end = put_at(buffer, end, &node);
-                rest = after;
-                at_start = false;
-            }
-        }
-    }
-    end
-}
+use crate::styled_reader::put_text;
+use uefi_node_reader::styles::{TextStyle, is_copied};
 
 /// Adds the nodes that a text is read as in a style to the device path that a buffer begins with,
 /// before its end, and returns how many bytes the path then has. What follows it is unchanged.
@@ -126,12 +62,15 @@ pub fn push_styled_text_in_buf(
     if is_copied(style) && scratch.len() <= bytes.len() {
         return Err(PushLenientTextError::ScratchTooSmall(bytes.len() + 1));
     }
-    let needed = match check_styled_text(style, scratch, bytes) {
-        Ok(added) => (len - 4).saturating_add(added),
+    let needed = match put_text(style, &mut [], len, bytes, scratch) {
+        Ok(needed) => needed,
         Err(fault) => return Err(PushLenientTextError::NoNode(fault)),
     };
     if buffer.len() < needed {
         return Err(PushLenientTextError::BufferTooSmall(needed));
     }
-    Ok(put_styled_text_at(style, buffer, len, bytes, scratch))
+    match put_text(style, buffer, len, bytes, scratch) {
+        Ok(len) => Ok(len),
+        Err(fault) => Err(PushLenientTextError::NoNode(fault)),
+    }
 }

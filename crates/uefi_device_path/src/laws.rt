@@ -1,7 +1,7 @@
 //! The laws by which users of device paths and load options reason. They speak of the definitions that
 //! the contracts of the working calls cite. Each law is a function that does nothing: its contract is the
 //! law.
-ghost use Rattle.uefi_device_path.specs.Laws.{AcceptedWithMore, BuiltIsRead, BytesOnce, FaultsWithin, InstancesShown, NamesInARow, NeverBoth, OneName, OnlyFilesCount, OptionsNeverBoth, OptionsOnce, PathsOnce, PathsShown, PrintedIsRead, PrintedStops, ReadIsPrinted, ReadNeverStops, ReadOnce, ReadTold, ReadingStopsOnce, RefusedByHeader, RelativeNamesArePushed, StopsOnce, TextsNeverBoth, TextsOnce};
+ghost use Rattle.uefi_device_path.specs.Laws.{AcceptedWithMore, BuiltIsRead, BytesOnce, FaultsWithin, InstancesShown, NamesInARow, NeverBoth, OneName, OnlyFilesCount, OptionsNeverBoth, OptionsOnce, PathsOnce, PathsShown, PrintedIsRead, PrintedStops, ReadIsPrinted, ReadMeans, ReadNeverStops, ReadOnce, ReadTold, ReadingStopsOnce, RefusedByHeader, RelativeNamesArePushed, StopMeans, StopsOnce, TextsNeverBoth, TextsOnce};
 
 pub use uefi_built_messages::laws as built_messages;
 pub use uefi_built_nodes::laws as built_nodes;
@@ -69,6 +69,8 @@ pub fn styled_texts()
     ensures once { ReadOnce }
     ensures stops { ReadingStopsOnce }
     ensures never_both { ReadNeverStops }
+    ensures reads { ReadMeans }
+    ensures stops_where { StopMeans }
     ensures within { FaultsWithin }
     ensures told { ReadTold }
     ensures printed { PrintedIsRead }

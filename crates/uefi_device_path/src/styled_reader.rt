@@ -1,32 +1,40 @@
 //! Device paths read from texts in a style.
 #![tactic(auto)]
 
-ghost use Rattle.std.specs.Prelude.{true, false, if◌then◌else◌, drop, ◌++◌, ◌∷◌, ◌≡◌, ◌+◌, ◌-◌, ◌<◌, ◌≤◌, ◌^◌, min, [], List, IfOk, IfErr, MatchOption, OnOk, Some, None, Err, length};
+ghost use Rattle.std.specs.Prelude.{take, true, false, if◌then◌else◌, drop, ◌++◌, ◌∷◌, ◌≡◌, ◌+◌, ◌-◌, ◌<◌, ◌≤◌, ◌^◌, min, [], List, IfOk, IfErr, MatchOption, OnOk, Err, length};
+ghost use Rattle.std.specs.Result.{result_map_both};
 ghost use Rattle.uefi_device_nodes.specs.Nodes.{Node};
-ghost use Rattle.uefi_device_path.specs.StyledReading.{IsLenientError, IsReadAs, IsStyledText, ReadingStopsAt, follows_comma, place_fault, place_read};
+ghost use Rattle.uefi_device_path.specs.StyledReading.{Holds, IsLenientError, IsReadAs, IsStyledText, fault_from, follows_comma, nodes_before, path_read, place_read};
 ghost use Rattle.uefi_device_path.specs.PathReading.{end_instance, is_after_instance};
-ghost use Rattle.uefi_device_path.specs.Paths.{path_bytes};
+ghost use Rattle.uefi_device_path.specs.Paths.{IsPath, nodes_bytes};
+ghost use Rattle.uefi_built_nodes.specs.RawNodes.{raw_node};
 ghost use Rattle.uefi_node_reader.specs.NamedFiles.{IsTold};
 ghost use Rattle.uefi_node_reader.specs.Styles.{HasScratch};
 ghost use Rattle.uefi_device_path.specs.declared.lenient_errors.LenientTextError.TheVariants.{OutOfMemory};
 ghost use Rattle.uefi_node_reader.specs.TextNodeViews.{text_node};
 
-use crate::build::DevicePathBuf;
-use crate::errors::BuildError;
+use crate::build::{DevicePathBuf, empty_path};
+use crate::grow::put_if_room;
 use crate::lenient_errors::{LenientTextError, TextFault};
 use std::alloc::Allocator;
-use uefi_built_nodes::BuildNode;
+use uefi_built_nodes::{BuildNode, RawNode};
 use uefi_device_nodes::{DeviceSubType, DeviceType};
+use uefi_node_reader::faults::NodeFault;
 use uefi_node_reader::nodes::nodes_are_read;
-use uefi_node_reader::styles::{TextStyle, read_styled_node, styled_fault, styled_nodes_are_read};
+use uefi_node_reader::styles::{
+    TextStyle, faults_lie_within, read_styled_node, styled_nodes_are_read,
+};
 use uefi_node_reader::text_node::TextNode;
 
-/// Adds the node that ends an instance. Refused for memory alone.
-pub(crate) fn push_end<A: Allocator>(path: &mut DevicePathBuf<A>) -> Result<(), BuildError>
-    ensures ok { OnOk result (path.new ≡ path.old ++ end_instance ∷ []) }
-    ensures memory { IfErr result (λ error. error ≡ BuildError.OutOfMemory) }
+/// The node that ends an instance.
+fn instance_end() -> RawNode<'static>
+    ensures { raw_node result ≡ end_instance }
 {
-    path.push(DeviceType(0x7f), DeviceSubType(0x01), &[])
+    RawNode {
+        device_type: DeviceType(0x7f),
+        sub_type: DeviceSubType(0x01),
+        content: &[],
+    }
 }
 
 /// A node whose text was read, to be added to a path.
@@ -79,125 +87,81 @@ fn follows_comma(text: &[u8], rest: &[u8]) -> bool
     rest.len() < text.len() && text[text.len() - rest.len() - 1] == b','
 }
 
-/// The node that is read in a style where this place of a text begins, and what stands after it. The
-/// buffer then holds anything.
+/// The node that is read in a style where this place of a text begins, and what stands after it, or the
+/// fault of the place. The buffer then holds anything.
 pub(crate) fn first_styled_node<'s, 't: 's>(
     style: TextStyle,
     scratch: &'s mut [u8],
     text: &'t [u8],
     place: &'t [u8],
-) -> Option<(ReadNode<'s>, &'t [u8])>
+) -> Result<(ReadNode<'s>, &'t [u8]), NodeFault>
     requires { HasScratch style place.now scratch.old }
-    ensures { MatchOption result (place_read style text.now place.now ≡ None)
-        (λ x. place_read style text.now place.now ≡ Some (text_node x.0.node, x.1.now)) }
+    ensures { result_map_both (λ x. (text_node x.0.node, x.1.now)) (λ e. e) result
+        ≡ place_read style text.now place.now }
 {
     let (node, rest) = read_styled_node(style, follows_comma(text, place), scratch, place)?;
-    Some((ReadNode { node }, rest))
+    Ok((ReadNode { node }, rest))
 }
 
-/// The fault of a text of which no node is read where this rest begins. The buffer then holds anything.
-fn fault_at(style: TextStyle, scratch: &mut [u8], text: &[u8], rest: &[u8]) -> TextFault
-    requires room { HasScratch style rest.now scratch.old }
-    requires within { length rest.now ≤ length text.now }
-    ensures node { result.node ≡ length text.now - length rest.now }
-    ensures byte { result.byte ≡ result.node + (place_fault style text.now rest.now).byte }
-    ensures expected { result.expected ≡ (place_fault style text.now rest.now).expected }
+/// The fault of a text, by that of this rest, where no node is read.
+fn fault_at(text: &[u8], rest: &[u8], found: NodeFault) -> TextFault
+    requires rest { length rest.now ≤ length text.now }
+    requires byte { found.byte ≤ length rest.now }
+    ensures { result ≡ fault_from text.now rest.now found }
 {
     let node = text.len() - rest.len();
-    let fault = styled_fault(style, follows_comma(text, rest), scratch, rest);
     TextFault {
         node,
-        byte: node + fault.byte,
-        expected: fault.expected,
+        byte: node + found.byte,
+        expected: found.expected,
     }
 }
 
-/// How many bytes the path has that a text is read as, as far as a `usize` counts, or the fault of the text.
-/// The buffer then holds anything.
-pub(crate) fn check_styled_text(
+/// Adds the nodes that a text is read as to the path that the first `len` bytes of a buffer are, before its
+/// end. Returns how many bytes the path then has, as far as a `usize` counts, or the fault of the text. If
+/// the buffer has no room for all of them, it then holds anything, as does the second.
+pub(crate) fn put_text(
     style: TextStyle,
-    scratch: &mut [u8],
+    buffer: &mut [u8],
+    len: usize,
     text: &[u8],
+    scratch: &mut [u8],
 ) -> Result<usize, TextFault>
-    requires { HasScratch style text.now scratch.old }
-    ensures path { IfOk result (λ _. IsStyledText style text.now) }
-    ensures len { IfOk result (λ len. (nodes : List Node) → IsReadAs style text.now nodes
-        → len ≡ min (length (path_bytes nodes)) (2 ^ 64 - 1)) }
-    ensures refusal { IfErr result (ReadingStopsAt style text.now) }
-{
-    styled_nodes_are_read();
-    let mut len = 4usize;
-    let mut rest = text;
-    let mut at_start = true;
-    'nodes: while !rest.is_empty() {
-        match after_comma(rest) {
-            Some(after) => {
-                len = len.saturating_add(4);
-                rest = after;
-                at_start = true;
-            }
-            None => {
-                let place = node_start(at_start, rest);
-                let Some((node, after)) = first_styled_node(style, scratch, text, place) else {
-                    return Err(fault_at(style, scratch, text, place));
-                };
-                len = len.saturating_add(node.node.data_len()).saturating_add(4);
-                rest = after;
-                at_start = false;
-            }
-        }
-    }
-    Ok(len)
-}
-
-/// Adds a node that was read. Refused for memory alone.
-fn push_read<A: Allocator>(
-    path: &mut DevicePathBuf<A>,
-    node: &ReadNode<'_>,
-) -> Result<(), BuildError>
-    requires { IsTold (text_node node.now.node) }
-    ensures ok { OnOk result (path.new ≡ path.old ++ text_node node.now.node ∷ []) }
-    ensures memory { IfErr result (λ error. error ≡ BuildError.OutOfMemory) }
+    requires scratch { HasScratch style text.now scratch.old }
+    requires is_path { len ≤ length buffer.now → IsPath (take len buffer.now) }
+    ensures len { result ≡ result_map_both (λ nodes. min (len + length (nodes_bytes nodes)) (2 ^ 64 - 1))
+        (λ fault. fault) (path_read style text.now) }
+    ensures put { (nodes : List Node) → IsReadAs style text.now nodes
+        → IfOk result (λ end. end ≤ length buffer.old
+        → Holds buffer.old (nodes_before len buffer.old ++ nodes) buffer.new end) }
 {
     nodes_are_read();
-    path.push_node(node)
-}
-
-/// Adds the nodes that a text is read as to an empty path. Refused for memory alone.
-fn push_styled_text<A: Allocator>(
-    style: TextStyle,
-    path: &mut DevicePathBuf<A>,
-    scratch: &mut [u8],
-    text: &[u8],
-) -> Result<(), BuildError>
-    requires room { HasScratch style text.now scratch.old }
-    requires empty { path.old ≡ [] }
-    requires readable { IsStyledText style text.now }
-    ensures ok { OnOk result (IsReadAs style text.now path.new) }
-    ensures memory { IfErr result (λ error. error ≡ BuildError.OutOfMemory) }
-{
     styled_nodes_are_read();
+    faults_lie_within();
+    let mut end = len;
     let mut rest = text;
     let mut at_start = true;
     'nodes: while !rest.is_empty() {
         match after_comma(rest) {
             Some(after) => {
-                push_end(path)?;
+                let node = instance_end();
+                end = put_if_room(buffer, end, &node);
                 rest = after;
                 at_start = true;
             }
             None => {
                 let place = node_start(at_start, rest);
-                let Some((node, after)) = first_styled_node(style, scratch, text, place) else {
-                    unreachable!()
+                let (node, after) = match first_styled_node(style, scratch, text, place) {
+                    Ok(read) => read,
+                    Err(found) => return Err(fault_at(text, place, found)),
                 };
-                push_read(path, &node)?;
+                end = put_if_room(buffer, end, &node);
                 rest = after;
                 at_start = false;
             }
         }
     }
-    Ok(())
+    Ok(end)
 }
 
 /// The path that a text is read as, in memory that is asked for once the text is known to be read.
@@ -212,15 +176,15 @@ pub(crate) fn read_styled_path<A: Allocator + Copy>(
     ensures refusal { IfErr result (IsLenientError style text.now) }
     ensures memory { result ≡ Err OutOfMemory → IsStyledText style text.now }
 {
-    let len = match check_styled_text(style, scratch, text) {
+    let len = match put_text(style, &mut [], 4, text, scratch) {
         Ok(len) => len,
         Err(fault) => return Err(LenientTextError::NoNode(fault)),
     };
-    let Ok(mut path) = DevicePathBuf::with_capacity(alloc, len) else {
+    let Ok(mut bytes) = empty_path(alloc, len) else {
         return Err(LenientTextError::OutOfMemory);
     };
-    let Ok(()) = push_styled_text(style, &mut path, scratch, text) else {
-        return Err(LenientTextError::OutOfMemory);
-    };
-    Ok(path)
+    match put_text(style, bytes.as_mut_slice(), 4, text, scratch) {
+        Ok(_) => Ok(DevicePathBuf::of_bytes(bytes)),
+        Err(fault) => Err(LenientTextError::NoNode(fault)),
+    }
 }

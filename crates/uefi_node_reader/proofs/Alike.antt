@@ -1,39 +1,66 @@
 -- Texts that differ in case, in blanks or in zeros before numbers alone are read alike.
-use Rattle.std.proofs.Common.{◌≡◌, ◌≤◌, ◌+◌, ◌*◌, ℕ, Bool, true, false, cond, eqb, ltb, List, [], ◌∷◌, refl, sym, ap, subst, ◌∙◌, arith, true≢false, is_some}
-use Rattle.std.specs.Prelude.{Option, Some, None, codes}
-use Rattle.std.specs.Option.{option_map}
+use Rattle.std.proofs.Common.{◌≡◌, ◌≤◌, ◌+◌, ◌*◌, ℕ, Bool, true, false, cond, eqb, ltb, List, [], ◌∷◌, length, refl, sym, ap, subst, ◌∙◌, arith, true≢false}
+use Rattle.std.specs.Prelude.{Option, Some, None, Result, Ok, Err, codes}
+use Rattle.std.specs.Option.{ok_or, option_map}
+use Rattle.std.specs.Result.{result_map_both, result_ok}
 use Rattle.std.proofs.lemmas.Bool.{lt-ltb}
 use borrow.Author.Tests.{eqb-true}
 use Rattle.uefi_device_nodes.specs.Nodes.{Node}
 use Rattle.uefi_node_reader.specs.Alike.{CallsAlike, IsOtherCall, ZerosAlike, ZerosAlikeAfterBase}
-use Rattle.uefi_node_reader.specs.Ambiguous.{ambiguous_stop}
-use Rattle.uefi_node_reader.specs.FieldReading.{either_read}
+use Rattle.uefi_node_reader.specs.FieldReading.{read_if}
 use Rattle.uefi_node_reader.specs.LenientFields.{after_literal, any_number, past_base, some_digits}
-use Rattle.uefi_node_reader.specs.LenientNodes.{bare_read, begins_call, call_read, call_set, cut_call, ended, file_or_call, lenient_read, tidied}
+use Rattle.uefi_node_reader.specs.LenientNodes.{bare_read, call_in, call_told, cut_call, end_fault, ended, ended_at, exact_or, fault_at_byte, file_or_call, lenient_read, or_fault, stop_fault, tidied, written_read}
+use Rattle.uefi_node_reader.specs.NamedFiles.{is_after_node, node_read}
+use Rattle.uefi_node_reader.specs.Stops.{◌>?◌}
+use Rattle.uefi_node_reader.specs.declared.faults.Expected.TheVariants as expected
+use Rattle.uefi_node_reader.specs.declared.faults.NodeFault.{NodeFault}
+use Rattle.uefi_node_reader.specs.declared.faults.Stop.{Stop}
 use Rattle.uefi_node_reader.specs.Numerals.{digit_of, digits_after, has_digit}
-use Rattle.uefi_node_reader.proofs.Literals.{after_some}
+
+-- what was read, whatever else is the fault
+exact_none : (text : List ℕ) (o : Option (Node × List ℕ)) (other : Result (Node × List ℕ) NodeFault) → ended o ≡ None
+    → result_ok (exact_or text o other) ≡ result_ok other
+exact_none text None other e = refl
+exact_none text (Some read) other e = by (is_after_node read.1) other e
+  where
+    by : (b : Bool) (other : Result (Node × List ℕ) NodeFault) → read_if b read.0 read.1 ≡ None
+        → result_ok (cond b (Ok read) (or_fault (end_fault text read.1) other)) ≡ result_ok other
+    by true other q = cc
+    by false (Ok x) q = refl
+    by false (Err fault) q = refl
 
 -- what is read of a call, by its tidied text
 abbrev tidied_read : List ℕ → List ℕ → Option (Node × List ℕ)
-tidied_read text rest = cond (is_some (ambiguous_stop text)) None
-    (option_map (λ (node : Node). (node, rest)) (call_set text))
+tidied_read text rest = ended (option_map (λ (node : Node). (node, rest)) (result_ok (call_told text)))
 
-call_by_tidied : (text front rest : List ℕ) → cut_call text ≡ Some (front, rest) → call_read text ≡ tidied_read (tidied front) rest
-call_by_tidied text front rest e = after_some (cut_call text) (λ (call : List ℕ × List ℕ). tidied_read (tidied call.0) call.1) (front, rest) e
+ended_ok : (text front rest : List ℕ) (r : Result Node (Option Stop))
+    → result_ok (result_map_both (λ (node : Node). (node, rest)) (stop_fault text (length (tidied front))) r >? ended_at text)
+    ≡ ended (option_map (λ (node : Node). (node, rest)) (result_ok r))
+ended_ok text front rest (Err stop) = refl
+ended_ok text front rest (Ok node) = by (is_after_node rest)
+  where
+    by : (b : Bool) → result_ok (cond b (Ok (node, rest)) (Err (end_fault text rest))) ≡ read_if b node rest
+    by true = refl
+    by false = refl
+
+no_file : (r : Result (List ℕ) Stop) (text : List ℕ) → result_ok r ≡ None → file_or_call r text ≡ call_in text (cut_call text)
+no_file (Err stop) text e = refl
+no_file (Ok name) text e = cc
 
 other_read : (is_rooted : Bool) (text front rest : List ℕ) → IsOtherCall text front rest
-    → lenient_read is_rooted text ≡ ended (tidied_read (tidied front) rest)
+    → result_ok (lenient_read is_rooted text) ≡ tidied_read (tidied front) rest
 unfolding lenient_read
 other_read is_rooted text front rest is =
-    ap (λ (o : Option (Node × List ℕ)). either_read o (cond (begins_call text)
-    (ended (file_or_call (after_literal (codes "File(") text) text)) (bare_read is_rooted text))) is.inexact
-    ∙ ap (λ (t : Bool). cond t (ended (file_or_call (after_literal (codes "File(") text) text)) (bare_read is_rooted text)) is.begins
-    ∙ ap (λ (o : Option (List ℕ)). ended (file_or_call o text)) is.no_file
-    ∙ ap ended (call_by_tidied text front rest is.cut)
+    exact_none text (node_read text) (written_read is_rooted text) is.inexact
+    ∙ ap (λ (t : Bool). result_ok (cond t (file_or_call (after_literal (codes "File(") text) text >? ended_at text)
+    (ok_or (bare_read is_rooted text) (fault_at_byte 0 (cond (is_after_node text) expected.Node expected.FileName))))) is.begins
+    ∙ ap (λ (r : Result (Node × List ℕ) NodeFault). result_ok (r >? ended_at text))
+    (no_file (after_literal (codes "File(") text) text is.no_file ∙ ap (call_in text) is.cut)
+    ∙ ended_ok text front rest (call_told (tidied front))
 
 pub calls_alike : CallsAlike
 calls_alike is_rooted text other front back rest one two same =
-    other_read is_rooted text front rest one ∙ ap (λ (t : List ℕ). ended (tidied_read t rest)) same
+    other_read is_rooted text front rest one ∙ ap (λ (t : List ℕ). tidied_read t rest) same
     ∙ sym (other_read is_rooted other back rest two)
 
 -- a zero more

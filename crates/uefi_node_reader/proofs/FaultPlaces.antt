@@ -1,11 +1,15 @@
 -- A byte that is wrong lies in its text, or at its end.
 use Rattle.std.proofs.Common.{ℕ, suc, ◌+◌, ◌-◌, ◌≤◌, Bool, true, false, cond, eqb, List, [], ◌∷◌, length, arith}
-use Rattle.std.specs.Prelude.{Option, Some, None, codes}
-use Rattle.uefi_node_reader.specs.LenientFaults.{open_fault, begun, call_fault, call_stop, cut_fault, fault_at_byte, fault_after, file_fault, lenient_fault, place_at, stop_fault}
+use Rattle.std.specs.Prelude.{IfErr, Option, Some, None, Result, Ok, Err, codes}
+use Rattle.std.specs.Option.{ok_or, option_map}
+use Rattle.std.specs.Result.{result_map_both}
+use Rattle.uefi_device_nodes.specs.Nodes.{Node}
 use Rattle.uefi_node_reader.specs.LenientFields.{after_literal}
-use Rattle.uefi_node_reader.specs.LenientNodes.{begins_call, cut_call, is_blank, tidied}
-use Rattle.uefi_node_reader.specs.NamedFiles.{is_after_node}
+use Rattle.uefi_node_reader.specs.LenientNodes.{bare_read, begins_call, call_in, call_told, cut_call, end_fault, ended_at, exact_or, fault_at_byte, file_in, file_or_call, is_blank, lenient_read, open_fault, or_fault, place_at, rooted, stop_fault, tidied, whole, written_read}
+use Rattle.uefi_node_reader.specs.NamedFiles.{is_after_node, name_read, node_read}
+use Rattle.uefi_node_reader.specs.Stops.{◌>?◌}
 use Rattle.uefi_node_reader.specs.declared.faults.Expected.TheVariants as expected
+use Rattle.uefi_node_reader.specs.declared.faults.NodeFault.{NodeFault}
 use Rattle.uefi_node_reader.specs.declared.faults.Stop.{Stop}
 
 pub place_within : (count : ℕ) (text : List ℕ) → place_at count text ≤ length text
@@ -18,39 +22,72 @@ place_within count (c ∷ cs) = by (is_blank c) (eqb count 0) (place_within coun
     by false true h k = omega arith
     by false false h k = omega arith
 
-stop_within : (text : List ℕ) (len : ℕ) (o : Option Stop) → (stop_fault text len o).byte ≤ length text
-stop_within text len None = omega arith
-stop_within text len (Some stop) = place_within (len - stop.left) text
+module _ (text : List ℕ) where
+  -- a reading that fails does so in the text, or at its end
+  abbrev pub Within : {A : Type 0} → Result A NodeFault → Type 0
+  Within r = IfErr r (λ fault. fault.byte ≤ length text)
 
-open_within : (text : List ℕ) (len : ℕ) (o : Option Stop) → (open_fault text len o).byte ≤ length text
-open_within text len None = omega arith
-open_within text len (Some stop) = by (eqb stop.left 0)
-  where
-    by : (b : Bool) → (cond b (fault_at_byte (length text) (expected.Byte 41)) (fault_at_byte (place_at (len - stop.left) text) stop.expected)).byte ≤ length text
-    by true = omega arith
-    by false = place_within (len - stop.left) text
+  pub or_within : {A : Type 0} (o : Option A) (fault : NodeFault) → fault.byte ≤ length text → Within (ok_or o fault)
+  or_within None fault l = l
+  or_within (Some x) fault l = tt
 
-cut_within : (text : List ℕ) (o : Option (List ℕ × List ℕ)) → (cut_fault text o).byte ≤ length text
-cut_within text None = open_within text (length (tidied text)) (call_stop (tidied text))
-cut_within text (Some call) = stop_within text (length (tidied call.0)) _
+  stop_within : (len : ℕ) (o : Option Stop) → (stop_fault text len o).byte ≤ length text
+  stop_within len None = omega arith
+  stop_within len (Some stop) = place_within (len - stop.left) text
 
-file_within : (text name : List ℕ) (o : Option (List ℕ × List ℕ)) → (file_fault text name o).byte ≤ length text
-file_within text name None = omega arith
-file_within text name (Some call) = omega arith
+  open_within : (len : ℕ) (r : Result Node (Option Stop)) → (open_fault text len r).byte ≤ length text
+  open_within len (Ok node) = omega arith
+  open_within len (Err None) = omega arith
+  open_within len (Err (Some stop)) = by (eqb stop.left 0)
+    where
+      by : (b : Bool) → (cond b (fault_at_byte (length text) (expected.Byte 41)) (fault_at_byte (place_at (len - stop.left) text) stop.expected)).byte ≤ length text
+      by true = omega arith
+      by false = place_within (len - stop.left) text
 
-call_within : (text : List ℕ) (o : Option (List ℕ)) → (call_fault text o).byte ≤ length text
-call_within text None = cut_within text (cut_call text)
-call_within text (Some name) = file_within text name (cut_call name)
+  call_within : (o : Option (List ℕ × List ℕ)) → Within (call_in text o)
+  call_within None = open_within (length (tidied text)) (call_told (tidied text))
+  call_within (Some call) = by (call_told (tidied call.0))
+    where
+      by : (r : Result Node (Option Stop)) → Within {A = Node × List ℕ} (result_map_both (λ (n : Node). (n, call.1)) (stop_fault text (length (tidied call.0))) r)
+      by (Ok node) = tt
+      by (Err stop) = stop_within (length (tidied call.0)) stop
 
-after_within : (text : List ℕ) (o : Option (List ℕ)) → (fault_after text o).byte ≤ length text
-after_within text (Some rest) = omega arith
-after_within text None = by (begins_call text)
-  where
-    by : (b : Bool) → (cond b (call_fault text (after_literal (codes "File(") text))
-        (fault_at_byte 0 (cond (is_after_node text) expected.Node expected.FileName))).byte ≤ length text
-    by true = call_within text (after_literal (codes "File(") text)
-    by false = omega arith
+  either_within : (r : Result (List ℕ) Stop) → Within (file_or_call r text)
+  either_within (Err stop) = call_within (cut_call text)
+  either_within (Ok name) = by (cut_call name)
+    where
+      by : (o : Option (List ℕ × List ℕ)) → Within (file_in text name o)
+      by None = omega arith
+      by (Some call) = or_within (option_map (λ (n : Node). (n, call.1)) (whole (name_read (rooted call.0)))) _ (omega arith)
 
-pub fault_within : (is_rooted : Bool) (text : List ℕ) → (lenient_fault is_rooted text).byte ≤ length text
-unfolding lenient_fault
-fault_within is_rooted text = after_within text (begun is_rooted text)
+  pub end_within : (read : Node × List ℕ) → Within (ended_at text read)
+  end_within read = by (is_after_node read.1)
+    where
+      by : (b : Bool) → Within {A = Node × List ℕ} (cond b (Ok read) (Err (end_fault text read.1)))
+      by true = tt
+      by false = omega arith
+
+  then_within : (r : Result (Node × List ℕ) NodeFault) → Within r → Within (r >? ended_at text)
+  then_within (Ok read) h = end_within read
+  then_within (Err fault) h = h
+
+  written_within : (is_rooted : Bool) → Within (written_read is_rooted text)
+  written_within is_rooted = by (begins_call text) (is_after_node text)
+    where
+      by : (b first : Bool) → Within (cond b (file_or_call (after_literal (codes "File(") text) text >? ended_at text)
+          (ok_or (bare_read is_rooted text) (fault_at_byte 0 (cond first expected.Node expected.FileName))))
+      by true first = then_within (file_or_call (after_literal (codes "File(") text) text) (either_within (after_literal (codes "File(") text))
+      by false first = or_within (bare_read is_rooted text) _ (omega arith)
+
+  exact_within : (o : Option (Node × List ℕ)) (r : Result (Node × List ℕ) NodeFault) → Within r → Within (exact_or text o r)
+  exact_within None r h = h
+  exact_within (Some read) r h = by (is_after_node read.1) r
+    where
+      by : (b : Bool) (r : Result (Node × List ℕ) NodeFault) → Within (cond b (Ok read) (or_fault (end_fault text read.1) r))
+      by true r = tt
+      by false (Ok other) = tt
+      by false (Err other) = omega arith
+
+  pub fault_within : (is_rooted : Bool) → Within (lenient_read is_rooted text)
+  unfolding lenient_read
+  fault_within is_rooted = exact_within (node_read text) (written_read is_rooted text) (written_within is_rooted)

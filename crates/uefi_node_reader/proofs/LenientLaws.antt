@@ -1,30 +1,38 @@
 -- What is read leniently is told, and what is read strictly is read so too.
-use Rattle.std.proofs.Common.{is_some, ◌≡◌, ◌++◌, append_assoc, take, ℕ, suc, ◌+◌, Bool, true, false, cond, eqb, leb, not, ◌==◌, ◌&&◌, ◌⊎◌, List, [], ◌∷◌, length, drop, refl, sym, ap, subst, ◌∙◌, inl, inr, arith, true≢false}
-use Rattle.std.specs.Prelude.{Option, Some, None, codes, position}
+use Rattle.std.proofs.Common.{◌≡◌, ◌++◌, append_assoc, take, ℕ, suc, ◌+◌, Bool, true, false, cond, eqb, leb, not, ◌==◌, ◌&&◌, ◌⊎◌, List, [], ◌∷◌, length, drop, refl, sym, ap, subst, ◌∙◌, inl, inr, arith, true≢false}
+use Rattle.std.specs.Prelude.{Option, Some, None, Result, Ok, Err, codes, position}
 use Rattle.std.specs.Char.{to_ascii_uppercase}
 use Rattle.std.specs.List.{list_all, list_any, position_or_len}
-use Rattle.std.specs.Option.{option_map, option_or}
+use Rattle.std.specs.Option.{ok_or, option_map}
+use Rattle.std.specs.Result.{result_map_both}
 use Rattle.std.specs.Str.{chars, is_utf8}
 use Rattle.std.proofs.lemmas.Bool.{and_parts}
 use Rattle.std.proofs.lemmas.List.{take-append-drop}
 use Rattle.uefi_node_table.specs.Rows.{Form, find_form}
 use Rattle.uefi_node_table.specs.Table.{forms}
 use Rattle.uefi_device_nodes.specs.Nodes.{Node, node_with}
-use Rattle.uefi_node_reader.specs.FieldReading.{◌>>=◌, either_read, read_if}
+use Rattle.uefi_node_reader.specs.FieldReading.{read_if}
 use Rattle.uefi_device_nodes.specs.NodeTexts.{node_text}
-use Rattle.uefi_node_reader.specs.LenientFields.{after_letter, after_literal, begins_base, literal_left, past_base}
+use Rattle.uefi_node_reader.specs.LenientFields.{after_letter, after_literal, begins_base, literal_left, past_base, pieces_set}
 use Rattle.uefi_node_reader.specs.Ambiguous.{ambiguous_stop}
-use Rattle.uefi_node_reader.specs.LenientNodes.{IsRestOf, call_set, bare_read, is_bare, named_read, begins_call, call_read, cut_call, ended, file_or_call, file_read, form_set, forms_set, lenient_read, rooted, path_set, tidied, told_in, whole}
+use Rattle.uefi_node_reader.specs.LenientNodes.{IsRestOf, bare_read, begins_call, begins_name, call_in, call_told, call_tried, cut_call, end_fault, ended, ended_at, exact_or, fault_at_byte, file_in, file_or_call, form_told, form_tried, forms_tried, is_bare, is_textless, lenient_read, named_read, named_told, or_fault, or_next, path_told, rooted, stop_fault, tidied, told_in, whole, written_read}
+use Rattle.uefi_node_reader.specs.Stops.{◌>?◌, further, rest_end, stop_at, stop_of}
 use Rattle.uefi_node_reader.specs.NamedFiles.{IsTold, ends_name, is_after_node, is_name, name_bytes, name_data, name_read, node_read}
 use Rattle.uefi_node_reader.specs.PlainNodes.{plain_read, types_read}
-use Rattle.uefi_node_reader.specs.TableReading.{is_empty, is_sound, prints}
+use Rattle.uefi_node_reader.specs.TableReading.{blank, is_empty, is_read, is_sound, prints, rest_read}
+use Rattle.uefi_node_table.specs.declared.rows.Mode.{Mode}
+use Rattle.uefi_node_table.specs.declared.rows.Mode.TheVariants.{Read, Printed, Display}
+use Rattle.uefi_node_reader.specs.declared.faults.Expected.TheVariants as expected
+use Rattle.uefi_node_reader.specs.declared.faults.Expected.TheVariants.{AsPrinted}
+use Rattle.uefi_node_reader.specs.declared.faults.NodeFault.{NodeFault}
+use Rattle.uefi_node_reader.specs.declared.faults.Stop.{Stop}
 use Rattle.uefi_node_reader.specs.Telling.{tells, tells_data}
 use Rattle.uefi_node_reader.specs.TextNodes.{fitting}
 use Rattle.uefi_node_reader.proofs.Digits.{some_pair}
 use Rattle.uefi_node_reader.proofs.Groups.{table_sound}
 use Rattle.uefi_node_reader.specs.WordReading.{after}
 use Rattle.uefi_node_reader.proofs.LenientFields.{form_set_in}
-use Rattle.uefi_node_reader.proofs.Literals.{after_again, after_some, bind_some}
+use Rattle.uefi_node_reader.proofs.Literals.{after_again, after_some, bind_ok, map_ok, ok_same, ok_some}
 use Rattle.uefi_node_reader.proofs.NamedFiles.{name_takes}
 use Rattle.uefi_node_reader.proofs.NodeLaws.{node_starts, node_takes}
 use Rattle.uefi_node_reader.specs.OtherForms.{pasted_forms}
@@ -37,12 +45,6 @@ if_read : (b : Bool) (x node : Node) (r rest : List ℕ) → read_if b x r ≡ S
     → (b ≡ true) × (x ≡ node) × (r ≡ rest)
 if_read false x node r rest e = cc
 if_read true x node r rest e = let p = some_pair (x, r) (node, rest) e in (refl, p.0, p.1)
-
--- one of two that were read
-one_read : (a b : Option (Node × List ℕ)) (x : Node × List ℕ) → either_read a b ≡ Some x
-    → (a ≡ Some x) ⊎ (b ≡ Some x)
-one_read None b x e = inr e
-one_read (Some y) b x e = inl e
 
 -- the node of a form with these data
 abbrev of_form : Form → List ℕ → Node
@@ -65,34 +67,82 @@ told_in-fitting form (Some read) = by (leb (length read.0) 0xfffb) refl
     by false p = no (is_empty read.1) (tells_data form read.0 (find_form (prints (of_form form read.0)) forms))
         ∙ ap (λ (t : Bool). cond (is_empty read.1 && (t && tells_data form read.0 (find_form (prints (of_form form read.0)) forms))) (Some (of_form form read.0)) None) (sym p)
 
-form_told : (form : Form) → is_sound form ≡ true → (text : List ℕ) (o : Option (List ℕ × List ℕ)) → form_set form text ≡ o
-    → (node : Node) → told_in form o ≡ Some node → IsTold node
-form_told form sound text None f node e = cc
-form_told form sound text (Some read) f node e = by (is_empty read.1) (tells form own) refl e
+-- a node that its text tells
+pub told_as : (form : Form) (o : Option (List ℕ × List ℕ)) (node : Node) → told_in form o ≡ Some node
+    → (read : List ℕ × List ℕ) × (o ≡ Some read) × (tells form (of_form form read.0) ≡ true) × (of_form form read.0 ≡ node)
+told_as form None node e = cc
+told_as form (Some read) node e = by (is_empty read.1) (tells form (of_form form read.0)) refl e
   where
-    own : Node
-    own = node_with form.kind form.sub_kind read.0
-
-    by : (a b : Bool) → tells form own ≡ b → cond (a && b) (Some own) None ≡ Some node → IsTold node
+    by : (a b : Bool) → tells form (of_form form read.0) ≡ b → cond (a && b) (Some (of_form form read.0)) None ≡ Some node
+        → (x : List ℕ × List ℕ) × (Some read ≡ Some x) × (tells form (of_form form x.0) ≡ true) × (of_form form x.0 ≡ node)
     by false b p q = cc
     by true false p q = cc
-    by true true p q =
-        let same : own ≡ node = cc in
-        subst IsTold same (inl (tells_told form own (form_set_in form sound text read.0 read.1 f) p))
+    by true true p q = let same : of_form form read.0 ≡ node = cc in (read, refl, p, same)
 
--- one of two that were read
-pub one_node : (a b : Option Node) (x : Node) → option_or a b ≡ Some x → (a ≡ Some x) ⊎ (b ≡ Some x)
-one_node None b x e = inr e
-one_node (Some y) b x e = inl e
+-- a form whose start and fields were read
+abbrev ended_row : Form → List ℕ × List ℕ → Result Node Stop
+ended_row form read = ok_or (told_in form (rest_read form read)) (stop_of (rest_end form.tail form.close read.1))
 
-forms_told : (all : List Form) → list_all is_sound all ≡ true → (text : List ℕ) (node : Node)
-    → forms_set all text ≡ Some node → IsTold node
-forms_told [] sound text node e = cc
-forms_told (form ∷ others) sound text node e =
+module _ (form : Form) (text after_start : List ℕ) (read : List ℕ × List ℕ)
+    (start : Ok after_start ≡ after_literal form.start text)
+    (fields : Ok read ≡ pieces_set form.kind form.sub_kind form.pieces (blank form) after_start) where
+  from_fields : ended_row form read ≡ form_told form text
+  from_fields =
+      ap (λ (r : Result (List ℕ × List ℕ) Stop). r >? ended_row form) fields
+      ∙ ap (λ (r : Result (List ℕ) Stop). r >? pieces_set form.kind form.sub_kind form.pieces (blank form) >? ended_row form) start
+
+  last : Option Node → Result Node Stop
+  last o = ok_or o (stop_of (rest_end form.tail form.close read.1))
+
+  pub told_by : (node : Node) → Some node ≡ told_in form (rest_read form read) → Ok node ≡ form_told form text
+  unfolding last
+  told_by node told = ap last told ∙ from_fields
+
+  pub untold_by : (stop : Stop) → None ≡ told_in form (rest_read form read) → stop ≡ stop_of (rest_end form.tail form.close read.1)
+      → Err stop ≡ form_told form text
+  unfolding last
+  untold_by stop told is = ap (λ (s : Stop). Err s) is ∙ ap last told ∙ from_fields
+
+form_is_told : (form : Form) → is_sound form ≡ true → is_read form.mode ≡ true → (text : List ℕ) (node : Node)
+    → form_told form text ≡ Ok node → IsTold node
+form_is_told form sound mode text node e =
+    let fields = bind_ok (after_literal form.start text >? pieces_set form.kind form.sub_kind form.pieces (blank form)) _ node e in
+    let start = bind_ok (after_literal form.start text) _ fields.0 fields.1 in
+    let told = told_as form (rest_read form fields.0) node (ok_some (told_in form (rest_read form fields.0)) _ node fields.2) in
+    subst IsTold told.3 (inl (tells_told form (of_form form told.0.0)
+    (form_set_in form sound mode start.0 told.0.0 told.0.1 fields.0 start.2 told.1) told.2))
+
+tried_told : (form : Form) → is_sound form ≡ true → (text : List ℕ) (node : Node) → form_tried form text ≡ Ok node → IsTold node
+tried_told form sound text node e = by (begins_name form.start text) form.mode refl e
+  where
+    textless : (b : Bool) → is_read form.mode ≡ true
+        → cond b (result_map_both (λ (n : Node). n) (λ (s : Stop). Some s) (form_told form text)) (Err (Some (stop_at text AsPrinted))) ≡ Ok node
+        → IsTold node
+    textless false m q = cc
+    textless true m q =
+        let read = map_ok (λ (n : Node). n) (λ (s : Stop). Some s) (form_told form text) node q in
+        subst IsTold read.2 (form_is_told form sound m text read.0 read.1)
+
+    by : (b : Bool) (mode : Mode) → form.mode ≡ mode → cond b (named_told mode form text) (Err None) ≡ Ok node → IsTold node
+    by false mode m q = cc
+    by true Read m q = textless (is_textless form.tail) (ap is_read m) q
+    by true Printed m q = cc
+    by true Display m q = cc
+
+-- a node that was read, or else the next
+next_way : (r : Result Node (Option Stop)) (next : Option Stop → Result Node (Option Stop)) (node : Node) → or_next r next ≡ Ok node
+    → (r ≡ Ok node) ⊎ ((stop : Option Stop) × (next stop ≡ Ok node))
+next_way (Ok x) next node e = inl e
+next_way (Err stop) next node e = inr (stop, e)
+
+forms_told : (all : List Form) → list_all is_sound all ≡ true → (furthest : Option Stop) (text : List ℕ) (node : Node)
+    → forms_tried all furthest text ≡ Ok node → IsTold node
+forms_told [] sound furthest text node e = cc
+forms_told (form ∷ others) sound furthest text node e =
     let sounds = and_parts (is_sound form) (list_all is_sound others) sound in
-    elim (one_node (told_in form (form_set form text)) (forms_set others text) node e) [
-      | inl p ↦ form_told form sounds.0 text (form_set form text) refl node p
-      | inr p ↦ forms_told others sounds.1 text node p
+    elim (next_way (form_tried form text) (λ stop. forms_tried others (further furthest stop) text) node e) [
+      | inl p ↦ tried_told form sounds.0 text node p
+      | inr p ↦ forms_told others sounds.1 (further furthest p.0) text node p.1
     ]
 
 -- a node after which nothing stands
@@ -106,14 +156,27 @@ whole_read (Some read) node e = by (is_empty read.1) e
     by false q = cc
     by true q = let same : read.0 ≡ node = cc in (read.1, λ i. Some (same i, read.1))
 
-path_told : (text : List ℕ) (node : Node) → path_set text ≡ Some node → IsTold node
-path_told text node e =
-    let begun = bind_some (after_literal (codes "Path(") text) _ node e in
-    let read = whole_read (types_read begun.0) node begun.2 in
-    let printed : plain_read (codes "Path(" ++ begun.0) ≡ Some (node, read.0) =
-    after_some (after (codes "Path(") (codes "Path(" ++ begun.0)) types_read begun.0 (after_again (codes "Path(") begun.0)
+path_is_told : (r : Result (List ℕ) Stop) (node : Node) → path_told r ≡ Ok node → IsTold node
+path_is_told (Err stop) node e = cc
+path_is_told (Ok rest) node e =
+    let read = whole_read (types_read rest) node (ok_some (whole (types_read rest)) _ node e) in
+    let printed : plain_read (codes "Path(" ++ rest) ≡ Some (node, read.0) =
+    after_some (after (codes "Path(") (codes "Path(" ++ rest)) types_read rest (after_again (codes "Path(") rest)
     ∙ read.1 in
-    inr (inl (plain_takes (codes "Path(" ++ begun.0) node read.0 printed).0)
+    inr (inl (plain_takes (codes "Path(" ++ rest) node read.0 printed).0)
+
+call_is_told : (o : Option Stop) (text : List ℕ) (node : Node) → call_tried o text ≡ Ok node → IsTold node
+call_is_told (Some stop) text node e = cc
+call_is_told None text node e = elim (next_way (forms_tried forms None text) _ node e) [
+  | inl p ↦ forms_told forms table_sound None text node p
+  | inr q ↦ elim (next_way (forms_tried pasted_forms q.0 text) _ node q.1) [
+    | inl p ↦ forms_told pasted_forms pasted_sound q.0 text node p
+    | inr p ↦ elim (next_way (path_told (after_literal (codes "Path(") text)) _ node p.1) [
+      | inl p ↦ path_is_told (after_literal (codes "Path(") text) node p
+      | inr p ↦ cc
+    ]
+  ]
+]
 
 name_told : (text : List ℕ) (node : Node) → whole (name_read text) ≡ Some node → IsTold node
 name_told text node e =
@@ -126,50 +189,30 @@ pub with_rest : (o : Option Node) (after : List ℕ) (node : Node) (rest : List 
 with_rest None after node rest e = cc
 with_rest (Some x) after node rest e = let p = some_pair (x, after) (node, rest) e in (λ i. Some (p.0 i), p.1)
 
--- what is read although some texts are not
-unless : {A : Type 0} (b : Bool) (o : Option A) (x : A) → cond b None o ≡ Some x → o ≡ Some x
-unless true o x e = cc
-unless false o x e = e
-
 if_bare : {A : Type 0} (b : Bool) (o : Option A) (x : A) → cond b o None ≡ Some x → o ≡ Some x
 if_bare true o x e = e
 if_bare false o x e = cc
 
 -- what a call was read of
-called : (text : List ℕ) (node : Node) (rest : List ℕ) → call_read text ≡ Some (node, rest)
-    → (call : List ℕ × List ℕ) × (cut_call text ≡ Some call)
-    × ((call_set (tidied call.0) ≡ Some node) × (call.1 ≡ rest))
-called text node rest e =
-    let call = bind_some (cut_call text) _ (node, rest) e in
-    (call.0, call.1, with_rest _ call.0.1 node rest (unless (is_some (ambiguous_stop (tidied call.0.0))) _ (node, rest) call.2))
+called : (text : List ℕ) (node : Node) (rest : List ℕ) (o : Option (List ℕ × List ℕ)) → call_in text o ≡ Ok (node, rest)
+    → (call : List ℕ × List ℕ) × (o ≡ Some call) × ((call_told (tidied call.0) ≡ Ok node) × (call.1 ≡ rest))
+called text node rest None e = cc
+called text node rest (Some call) e =
+    let read = map_ok (λ (n : Node). (n, call.1)) (stop_fault text (length (tidied call.0))) (call_told (tidied call.0)) (node, rest) e in
+    let same : read.0 ≡ node = ap (λ (x : Node × List ℕ). x.0) read.2 in
+    (call, refl, (read.1 ∙ ap (λ (n : Node). Ok n) same, ap (λ (x : Node × List ℕ). x.1) read.2))
 
 -- what a bare name was read of
 bare_named : (is_rooted : Bool) (text : List ℕ) (node : Node) (rest : List ℕ) → bare_read is_rooted text ≡ Some (node, rest)
     → (whole (name_read (rooted (name_bytes text))) ≡ Some node) × (drop (position_or_len ends_name text) text ≡ rest)
 bare_named is_rooted text node rest e = with_rest _ _ node rest (if_bare (not is_rooted && is_bare (name_bytes text)) (named_read text) (node, rest) e)
 
-call_told : (text : List ℕ) (node : Node) (rest : List ℕ) → call_read text ≡ Some (node, rest) → IsTold node
-call_told text node rest e =
-    let call = called text node rest e in
-    let text = tidied call.0.0 in
-    elim (one_node (forms_set forms text) (option_or (forms_set pasted_forms text) (path_set text)) node call.2.0) [
-      | inl p ↦ forms_told forms table_sound text node p
-      | inr q ↦ elim (one_node (forms_set pasted_forms text) (path_set text) node q) [
-        | inl p ↦ forms_told pasted_forms pasted_sound text node p
-        | inr p ↦ path_told text node p
-      ]
-    ]
-
 -- what a name in `File(..)` was read of
-filed : (text : List ℕ) (node : Node) (rest : List ℕ) → file_read text ≡ Some (node, rest)
-    → (call : List ℕ × List ℕ) × (cut_call text ≡ Some call)
-    × ((whole (name_read (rooted call.0)) ≡ Some node) × (call.1 ≡ rest))
-filed text node rest e =
-    let call = bind_some (cut_call text) _ (node, rest) e in
-    (call.0, call.1, with_rest _ call.0.1 node rest call.2)
-
-file_told : (text : List ℕ) (node : Node) (rest : List ℕ) → file_read text ≡ Some (node, rest) → IsTold node
-file_told text node rest e = let call = filed text node rest e in name_told (rooted call.0.0) node call.2.0
+filed : (text name : List ℕ) (node : Node) (rest : List ℕ) (o : Option (List ℕ × List ℕ)) → file_in text name o ≡ Ok (node, rest)
+    → (call : List ℕ × List ℕ) × (o ≡ Some call) × ((whole (name_read (rooted call.0)) ≡ Some node) × (call.1 ≡ rest))
+filed text name node rest None e = cc
+filed text name node rest (Some call) e =
+    (call, refl, with_rest _ call.1 node rest (ok_some (option_map (λ (n : Node). (n, call.1)) (whole (name_read (rooted call.0)))) _ (node, rest) e))
 
 -- what was read, and ends where a node may end
 pub ends : (o : Option (Node × List ℕ)) (node : Node) (rest : List ℕ) → ended o ≡ Some (node, rest)
@@ -179,46 +222,78 @@ ends (Some read) node rest e =
     let q = if_read (is_after_node read.1) read.0 node read.1 rest e in
     (λ i. Some (q.1 i, q.2 i), ap is_after_node (sym q.2) ∙ q.0)
 
+pub ends_at : (text : List ℕ) (read : Node × List ℕ) (node : Node) (rest : List ℕ) → ended_at text read ≡ Ok (node, rest)
+    → (read ≡ (node, rest)) × (is_after_node rest ≡ true)
+ends_at text read node rest e = by (is_after_node read.1) refl e
+  where
+    by : (b : Bool) → is_after_node read.1 ≡ b → cond b (Ok read) (Err (end_fault text read.1)) ≡ Ok (node, rest)
+        → (read ≡ (node, rest)) × (is_after_node rest ≡ true)
+    by false p q = cc
+    by true p q =
+        let same : read ≡ (node, rest) = ok_same (Ok (node, rest)) read (node, rest) (sym q) refl in
+        (same, ap (λ (x : Node × List ℕ). is_after_node x.1) (sym same) ∙ p)
+
+-- what was read exactly, or else otherwise
+exact_way : (text : List ℕ) (o : Option (Node × List ℕ)) (other : Result (Node × List ℕ) NodeFault) (node : Node) (rest : List ℕ)
+    → exact_or text o other ≡ Ok (node, rest)
+    → ((o ≡ Some (node, rest)) × (is_after_node rest ≡ true)) ⊎ (other ≡ Ok (node, rest))
+exact_way text None other node rest e = inr e
+exact_way text (Some read) other node rest e = by (is_after_node read.1) refl other e
+  where
+    by : (b : Bool) → is_after_node read.1 ≡ b → (other : Result (Node × List ℕ) NodeFault)
+        → cond b (Ok read) (or_fault (end_fault text read.1) other) ≡ Ok (node, rest)
+        → ((Some read ≡ Some (node, rest)) × (is_after_node rest ≡ true)) ⊎ (other ≡ Ok (node, rest))
+    by false p (Ok read) q = inr q
+    by false p (Err fault) q = cc
+    by true p other q =
+        let same : read ≡ (node, rest) = ok_same (Ok (node, rest)) read (node, rest) (sym q) refl in
+        inl ((λ i. Some (same i)), ap (λ (x : Node × List ℕ). is_after_node x.1) (sym same) ∙ p)
+
 -- one of the four that are tried
 module _ (is_rooted : Bool) (text : List ℕ) (node : Node) (rest : List ℕ) (Goal : Type 0)
     (strict : node_read text ≡ Some (node, rest) → is_after_node rest ≡ true → Goal)
-    (file : begins_call text ≡ true → (name : List ℕ) → after_literal (codes "File(") text ≡ Some name
-    → file_read name ≡ Some (node, rest) → is_after_node rest ≡ true → Goal)
-    (call : begins_call text ≡ true → call_read text ≡ Some (node, rest) → is_after_node rest ≡ true → Goal)
+    (file : begins_call text ≡ true → (name : List ℕ) → after_literal (codes "File(") text ≡ Ok name
+    → file_in text name (cut_call name) ≡ Ok (node, rest) → is_after_node rest ≡ true → Goal)
+    (call : begins_call text ≡ true → call_in text (cut_call text) ≡ Ok (node, rest) → is_after_node rest ≡ true → Goal)
     (bare : bare_read is_rooted text ≡ Some (node, rest) → Goal) where
-  either_call : begins_call text ≡ true → (o : Option (List ℕ)) → after_literal (codes "File(") text ≡ o
-      → ended (file_or_call o text) ≡ Some (node, rest) → Goal
-  either_call b None f e = let q = ends (call_read text) node rest e in call b q.0 q.1
-  either_call b (Some name) f e = let q = ends (file_read name) node rest e in file b name f q.0 q.1
+  either_call : begins_call text ≡ true → (r : Result (List ℕ) Stop) → after_literal (codes "File(") text ≡ r
+      → (read : Node × List ℕ) → file_or_call r text ≡ Ok read → ended_at text read ≡ Ok (node, rest) → Goal
+  either_call b (Err stop) f read e end =
+      let q = ends_at text read node rest end in call b (e ∙ ap (λ (x : Node × List ℕ). Ok x) q.0) q.1
+  either_call b (Ok name) f read e end =
+      let q = ends_at text read node rest end in file b name f (e ∙ ap (λ (x : Node × List ℕ). Ok x) q.0) q.1
 
   call_or_name : (b : Bool) → begins_call text ≡ b
-      → cond b (ended (file_or_call (after_literal (codes "File(") text) text)) (bare_read is_rooted text) ≡ Some (node, rest)
+      → cond b (file_or_call (after_literal (codes "File(") text) text >? ended_at text)
+      (ok_or (bare_read is_rooted text) (fault_at_byte 0 (cond (is_after_node text) expected.Node expected.FileName))) ≡ Ok (node, rest)
       → Goal
-  call_or_name true b e = either_call b (after_literal (codes "File(") text) refl e
-  call_or_name false b e = bare e
+  call_or_name true b e =
+      let read = bind_ok (file_or_call (after_literal (codes "File(") text) text) (ended_at text) (node, rest) e in
+      either_call b (after_literal (codes "File(") text) refl read.0 read.1 read.2
+  call_or_name false b e = bare (ok_some (bare_read is_rooted text) _ (node, rest) e)
 
-  one_of_four : lenient_read is_rooted text ≡ Some (node, rest) → Goal
+  one_of_four : lenient_read is_rooted text ≡ Ok (node, rest) → Goal
   unfolding lenient_read
-  one_of_four e = elim (one_read (ended (node_read text)) _ (node, rest) e) [
-    | inl p ↦ let q = ends (node_read text) node rest p in strict q.0 q.1
+  one_of_four e = elim (exact_way text (node_read text) (written_read is_rooted text) node rest e) [
+    | inl p ↦ strict p.0 p.1
     | inr p ↦ call_or_name (begins_call text) refl p
   ]
 
 pub lenient_takes : (is_rooted : Bool) (text : List ℕ) (node : Node) (rest : List ℕ)
-    → lenient_read is_rooted text ≡ Some (node, rest) → IsTold node
+    → lenient_read is_rooted text ≡ Ok (node, rest) → IsTold node
 lenient_takes is_rooted text node rest e = one_of_four is_rooted text node rest (IsTold node)
     (λ p _. (node_takes text node rest p).0)
-    (λ _ name _ p _. file_told name node rest p) (λ _ p _. call_told text node rest p)
+    (λ _ name _ p _. let call = filed text name node rest (cut_call name) p in name_told (rooted call.0.0) node call.2.0)
+    (λ _ p _. let call = called text node rest (cut_call text) p in
+    call_is_told (ambiguous_stop (tidied call.0.0)) (tidied call.0.0) node call.2.0)
     (λ p. name_told (rooted (name_bytes text)) node (bare_named is_rooted text node rest p).0) e
 
 pub lenient_again : (is_rooted : Bool) (text : List ℕ) (node : Node) (rest : List ℕ) → node_read text ≡ Some (node, rest)
-    → is_after_node rest ≡ true → lenient_read is_rooted text ≡ Some (node, rest)
+    → is_after_node rest ≡ true → lenient_read is_rooted text ≡ Ok (node, rest)
 unfolding lenient_read
 lenient_again is_rooted text node rest e after =
-    let strict : ended (node_read text) ≡ Some (node, rest) =
-    ap ended e ∙ ap (λ (b : Bool). read_if b node rest) after in
-    ap (λ (o : Option (Node × List ℕ)). either_read o
-    (cond (begins_call text) (ended (file_or_call (after_literal (codes "File(") text) text)) (bare_read is_rooted text))) strict
+    ap (λ (o : Option (Node × List ℕ)). exact_or text o (written_read is_rooted text)) e
+    ∙ ap (λ (b : Bool). cond b (Ok (node, rest)) (or_fault (end_fault text rest) (written_read is_rooted text))) after
 
 -- the end of a text
 abbrev IsEnd : List ℕ → List ℕ → Type 0
@@ -268,24 +343,24 @@ letter_end c (t ∷ ts) rest e = by (eqb (to_ascii_uppercase c) (to_ascii_upperc
     by true q = let same : ts ≡ rest = cc in (t ∷ [], λ i. t ∷ same i)
 
 literal_end : (literal : List ℕ) (at_x : Bool) (text rest : List ℕ)
-    → literal_left literal at_x text ≡ Some rest → IsEnd text rest
-literal_end [] at_x text rest e = let same : text ≡ rest = cc in ([], same)
+    → literal_left literal at_x text ≡ Ok rest → IsEnd text rest
+literal_end [] at_x text rest e = ([], ok_same (Ok rest) text rest (sym e) refl)
 literal_end (c ∷ cs) true text rest e = by (is_empty cs) e (literal_end cs false)
   where
-    by : (b : Bool) → literal_left cs false (cond b text (past_base text)) ≡ Some rest
-        → ((t r : List ℕ) → literal_left cs false t ≡ Some r → IsEnd t r) → IsEnd text rest
+    by : (b : Bool) → literal_left cs false (cond b text (past_base text)) ≡ Ok rest
+        → ((t r : List ℕ) → literal_left cs false t ≡ Ok r → IsEnd t r) → IsEnd text rest
     by true q others = others text rest q
     by false q others = then_end text (past_base text) rest (base_end text) (others (past_base text) rest q)
 literal_end (c ∷ cs) false text rest e = by (begins_base (c ∷ cs)) e (literal_end cs)
   where
     by : (b : Bool)
-        → cond b (literal_left cs true text) (after_letter c text >>= literal_left cs false) ≡ Some rest
-        → ((x : Bool) (t r : List ℕ) → literal_left cs x t ≡ Some r → IsEnd t r) → IsEnd text rest
+        → cond b (literal_left cs true text) (ok_or (after_letter c text) (stop_at text (expected.Byte c)) >? literal_left cs false) ≡ Ok rest
+        → ((x : Bool) (t r : List ℕ) → literal_left cs x t ≡ Ok r → IsEnd t r) → IsEnd text rest
     by true q others = others true text rest q
     by false q others =
-        let letter = bind_some (after_letter c text) (literal_left cs false) rest q in
+        let letter = bind_ok (ok_or (after_letter c text) (stop_at text (expected.Byte c))) (literal_left cs false) rest q in
         let after = others false letter.0 rest letter.2 in
-        then_end text letter.0 rest (letter_end c text letter.0 letter.1) after
+        then_end text letter.0 rest (letter_end c text letter.0 (ok_some (after_letter c text) _ letter.0 letter.1)) after
 
 -- what stands after a call
 pub cut_end : (text : List ℕ) (call : List ℕ × List ℕ) → cut_call text ≡ Some call → IsRestOf text call.1
@@ -301,14 +376,14 @@ cut_end (c ∷ cs) call e = by (position (λ (x : ℕ). x == 41) (c ∷ cs)) e
         (dropped (place + 1) place c cs (omega arith))
 
 call_end : (text : List ℕ) (node : Node) (rest : List ℕ)
-    → call_read text ≡ Some (node, rest) → IsRestOf text rest
-call_end text node rest e = let call = called text node rest e in
+    → call_in text (cut_call text) ≡ Ok (node, rest) → IsRestOf text rest
+call_end text node rest e = let call = called text node rest (cut_call text) e in
     subst (λ (x : List ℕ). IsRestOf text x) call.2.1 (cut_end text call.0 call.1)
 
-file_end : (text name : List ℕ) (node : Node) (rest : List ℕ) → after_literal (codes "File(") text ≡ Some name
-    → file_read name ≡ Some (node, rest) → IsRestOf text rest
+file_end : (text name : List ℕ) (node : Node) (rest : List ℕ) → after_literal (codes "File(") text ≡ Ok name
+    → file_in text name (cut_call name) ≡ Ok (node, rest) → IsRestOf text rest
 file_end text name node rest begun e =
-    let call = filed name node rest e in
+    let call = filed text name node rest (cut_call name) e in
     let after = literal_end (codes "File(") false text name begun in
     subst (λ (x : List ℕ). IsRestOf text x) call.2.1
     (then_rest text name call.0.1 after (cut_end name call.0 call.1))
@@ -366,7 +441,7 @@ bare_end is_rooted text node rest e =
     subst (λ (x : List ℕ). IsRestOf text x × (is_after_node x ≡ true)) name.1
     (bare_rest text node name.0, after_name text)
 
-pub lenient_ends : (is_rooted : Bool) (text : List ℕ) (node : Node) (rest : List ℕ) → lenient_read is_rooted text ≡ Some (node, rest)
+pub lenient_ends : (is_rooted : Bool) (text : List ℕ) (node : Node) (rest : List ℕ) → lenient_read is_rooted text ≡ Ok (node, rest)
     → IsRestOf text rest × (is_after_node rest ≡ true)
 lenient_ends is_rooted text node rest e = one_of_four is_rooted text node rest (IsRestOf text rest × (is_after_node rest ≡ true))
     (λ p after. (strict_end text node rest p after, after)) (λ _ name begun p after. (file_end text name node rest begun p, after))
@@ -383,7 +458,7 @@ call_starts text first call =
     let none : begins_call text ≡ false = ap (λ (x : List ℕ). list_any (λ c. c == 40) x) (no_bytes text first) in
     absurd (true≢false (sym call ∙ none))
 
-pub lenient_starts : (is_rooted : Bool) (text : List ℕ) (node : Node) (rest : List ℕ) → lenient_read is_rooted text ≡ Some (node, rest)
+pub lenient_starts : (is_rooted : Bool) (text : List ℕ) (node : Node) (rest : List ℕ) → lenient_read is_rooted text ≡ Ok (node, rest)
     → is_after_node text ≡ false
 lenient_starts is_rooted text node rest e = by (is_after_node text) refl
   where

@@ -1,7 +1,7 @@
 -- Nodes as people write them: a field in its place, and forms of the table one group after the other.
 use Rattle.std.proofs.Common.{◌≡◌, ℕ, ◌+◌, ◌-◌, ◌<◌, ◌≤◌, Bool, true, false, cond, eqb, not, List, [], ◌∷◌, ◌++◌, length, get_or, Bor, refl, sym, ap, ◌∙◌, arith}
-use Rattle.std.specs.Prelude.{Option, Some, None, codes, filter, map, slice_range}
-use Rattle.std.specs.Option.{option_map, option_or}
+use Rattle.std.specs.Prelude.{Option, Some, None, Result, Ok, Err, codes, filter, map, slice_range}
+use Rattle.std.specs.Option.{ok_or, option_map}
 use Rattle.std.proofs.lemmas.Bool.{ne_eqb}
 use Rattle.std.proofs.lemmas.List.{length-append, length-map}
 use Rattle.std.proofs.lemmas.List.Sums.{count_by-le-length, length-filter}
@@ -12,11 +12,11 @@ use Rattle.uefi_node_table.specs.Rows.{Form, Piece}
 use Rattle.uefi_node_table.specs.Table.{forms_from, group_forms}
 use Rattle.uefi_node_table.proofs.Groups.{next_group}
 use Rattle.uefi_device_nodes.specs.Nodes.{Node}
-use Rattle.uefi_node_reader.specs.FieldReading.{◌>>=◌}
-use Rattle.uefi_node_reader.specs.LenientFields.{after_ending, left_out, piece_set, value_or_spare}
-use Rattle.uefi_node_reader.specs.LenientNodes.{form_set, forms_set, is_blank, rooted, tidied, tidied_byte, told_in}
+use Rattle.uefi_node_reader.specs.LenientFields.{expected_field, left_out, value_or_spare, value_set}
+use Rattle.uefi_node_reader.specs.LenientNodes.{form_tried, forms_tried, is_blank, or_next, rooted, tidied, tidied_byte}
+use Rattle.uefi_node_reader.specs.Stops.{further, stop_at}
 use Rattle.uefi_node_reader.specs.TableReading.{put_at}
-use Rattle.uefi_node_reader.proofs.Literals.{after_some}
+use Rattle.uefi_node_reader.specs.declared.faults.Stop.{Stop}
 
 -- what is left of a text
 abbrev pub Left : Type 0
@@ -25,45 +25,37 @@ Left = Bor (List ℕ)
 abbrev pub found_before : List ℕ → Option Left → Option (List ℕ × List ℕ)
 found_before found left = option_map (λ (x : Left). (found, x.now)) left
 
+-- a field in its place among data
 module _ (kind sub_kind : ℕ) (p : Piece) (content text found : List ℕ) (spare : ℕ) (left : Option Left)
     (within : p.place + p.width ≤ length content) (is_spare : spare ≡ left_out kind sub_kind p.place)
     (read : found_before found left
     ≡ value_or_spare p.shape spare (length (slice_range content p.place (p.place + p.width))) text) where
-  pub value : value_or_spare p.shape (left_out kind sub_kind p.place) p.width text ≡ found_before found left
+  value : value_or_spare p.shape (left_out kind sub_kind p.place) p.width text ≡ found_before found left
   value =
       let wide : length (slice_range content p.place (p.place + p.width)) ≡ p.width =
       length-between content p.place (p.place + p.width) within ∙ omega arith in
       (λ i. value_or_spare p.shape (sym is_spare i) (sym wide i) text) ∙ sym read
 
-  then_ending : List ℕ × List ℕ → Option (List ℕ × List ℕ)
-  then_ending v = after_ending p.ending v.1 >>= λ rest. Some (put_at p v.0 content, rest)
+  placed : Option (List ℕ × List ℕ) → Result (List ℕ × List ℕ) Stop
+  placed o = ok_or (option_map (λ (v : List ℕ × List ℕ). (put_at p v.0 content, v.1)) o)
+      (stop_at text (expected_field p.shape p.width))
 
-  -- a field that was not read
-  pub not_set : left ≡ None → None ≡ piece_set kind sub_kind p content text
-  unfolding then_ending
-  not_set none =
-      sym (ap (λ (o : Option (List ℕ × List ℕ)). o >>= then_ending) (value ∙ ap (found_before found) none))
+  -- one that was not read
+  pub not_set : left ≡ None → (stop : Stop) → stop ≡ stop_at text (expected_field p.shape p.width)
+      → Err stop ≡ value_set kind sub_kind p content text
+  unfolding placed
+  not_set none stop is =
+      ap (λ (s : Stop). Err s) is ∙ sym (ap placed (value ∙ ap (found_before found) none))
 
-  -- a field that was read, in its place among data
-  pub set_in_place : (ending : List ℕ) (rest : Left) (end : Option Left)
-      → left ≡ Some rest → ending ≡ p.ending
-      → option_map (λ (x : Left). x.now) end ≡ after_ending ending rest.now
-      → found_before (put_mid p.place (p.place + p.width - p.place) content found) end
-      ≡ piece_set kind sub_kind p content text
-  unfolding then_ending
-  set_in_place ending rest end some same a =
+  -- one that was read
+  pub set_in_place : (rest : Left) → left ≡ Some rest
+      → Ok (put_mid p.place (p.place + p.width - p.place) content found, rest.now)
+      ≡ value_set kind sub_kind p content text
+  unfolding placed
+  set_in_place rest some =
       let size : p.place + p.width - p.place ≡ p.width = omega arith in
-      ap (λ (k : ℕ). found_before (put_mid p.place k content found) end) size
-      ∙ by end ∙ ap go (a ∙ ap (λ (y : List ℕ). after_ending y rest.now) same)
-      ∙ sym (after_some _ then_ending (found, rest.now) (value ∙ ap (found_before found) some))
-    where
-      go : Option (List ℕ) → Option (List ℕ × List ℕ)
-      go o = o >>= λ (r : List ℕ). Some (put_at p found content, r)
-
-      by : (o : Option Left) → found_before (put_mid p.place p.width content found) o
-          ≡ go (option_map (λ (x : Left). x.now) o)
-      by None = refl
-      by (Some x) = refl
+      ap (λ (k : ℕ). Ok (put_mid p.place k content found, rest.now)) size
+      ∙ sym (ap placed (value ∙ ap (found_before found) some))
 
 -- a name without a backslash at its start, and one with it
 pub rooted_bare : (name : List ℕ) → 1 ≤ length name → (get_or name 0 0 ≡ 92 → ⊥) → rooted name ≡ 92 ∷ name
@@ -93,34 +85,30 @@ tidied_long text = omega (
   count_by-le-length (λ c. not (is_blank c)) text,
 )
 
-or_assoc : (x y z : Option Node) → option_or x (option_or y z) ≡ option_or (option_or x y) z
-or_assoc None y z = refl
-or_assoc (Some x) y z = refl
+-- trying one group more
+next_assoc : (r : Result Node (Option Stop)) (f g : Option Stop → Result Node (Option Stop))
+    → or_next r (λ stop. or_next (f stop) g) ≡ or_next (or_next r f) g
+next_assoc (Ok node) f g = refl
+next_assoc (Err stop) f g = refl
 
-sets_append : (xs bs : List Form) (text : List ℕ)
-    → forms_set (xs ++ bs) text ≡ option_or (forms_set xs text) (forms_set bs text)
-sets_append [] bs text = refl
-sets_append (a ∷ xs) bs text =
-    ap (λ (o : Option Node). option_or (told_in a (form_set a text)) o) (sets_append xs bs text)
-    ∙ or_assoc (told_in a (form_set a text)) (forms_set xs text) (forms_set bs text)
+tried_append : (xs ys : List Form) (furthest : Option Stop) (text : List ℕ)
+    → forms_tried (xs ++ ys) furthest text
+    ≡ or_next (forms_tried xs furthest text) (λ stop. forms_tried ys stop text)
+tried_append [] ys furthest text = refl
+tried_append (x ∷ xs) ys furthest text =
+    ap (or_next (form_tried x text)) (λ i stop. tried_append xs ys (further furthest stop) text i)
+    ∙ next_assoc (form_tried x text) (λ stop. forms_tried xs (further furthest stop) text)
+    (λ stop. forms_tried ys stop text)
 
-module _ (index : ℕ) (more : index < 12) (group : List Form) (is : group ≡ group_forms index) (text : List ℕ)
-    (all : Option Node) (so_far : forms_set (forms_from index (12 - index)) text ≡ all) where
-  others : List Form
-  others = forms_from (index + 1) (12 - (index + 1))
-
-  here : option_or (forms_set group text) (forms_set others text) ≡ all
-  unfolding others
-  here = sym (sets_append group (forms_from (index + 1) (12 - (index + 1))) text)
-      ∙ ap (λ (l : List Form). forms_set l text)
-      (ap (λ (l : List Form). l ++ others) is ∙ sym (next_group index more))
-      ∙ so_far
-
-  -- reading in one group more
-  pub set_step : (node : Node) → Some node ≡ forms_set group text → Some node ≡ all
-  set_step node e = ap (λ (o : Option Node). option_or o (forms_set others text)) e ∙ here
-
-  pub unset_step : None ≡ forms_set group text
-      → forms_set (forms_from (index + 1) (12 - (index + 1))) text ≡ all
-  unfolding others
-  unset_step e = ap (λ (o : Option Node). option_or o (forms_set others text)) e ∙ here
+pub tried_step : (index : ℕ) → index < 12 → (group : List Form) → group ≡ group_forms index → (text : List ℕ)
+    → (furthest : Option Stop) (all : Result Node (Option Stop))
+    → forms_tried (forms_from index (12 - index)) furthest text ≡ all
+    → (here : Result Node (Option Stop)) → here ≡ forms_tried group furthest text
+    → or_next here (λ stop. forms_tried (forms_from (index + 1) (12 - (index + 1))) stop text) ≡ all
+tried_step index more group is text furthest all so_far here e =
+    let others = forms_from (index + 1) (12 - (index + 1)) in
+    ap (λ (r : Result Node (Option Stop)). or_next r (λ stop. forms_tried others stop text)) e
+    ∙ sym (tried_append group others furthest text)
+    ∙ ap (λ (l : List Form). forms_tried l furthest text)
+    (ap (λ (l : List Form). l ++ others) is ∙ sym (next_group index more))
+    ∙ so_far

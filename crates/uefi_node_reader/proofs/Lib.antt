@@ -27,7 +27,6 @@ pub mod Spares
 pub mod LenientFields
 pub mod ToldNodes
 pub mod LenientReads
-pub mod LenientFaults
 pub mod FaultPlaces
 pub mod OtherForms
 pub mod LenientLaws

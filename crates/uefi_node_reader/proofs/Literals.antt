@@ -1,16 +1,35 @@
 -- Literals that a text begins with, and texts that differ.
 use Rattle.std.proofs.Common.{◌≡◌, ◌≢◌, ℕ, Bool, true, false, cond, eqb, List, [], ◌∷◌, ◌++◌, Bor, refl, sym, ap, ◌∙◌}
 use Rattle.std.proofs.lemmas.Bool.{and_parts}
-use Rattle.std.specs.Prelude.{MatchOption, Option, Some, None, option_and_then}
-use Rattle.std.specs.Option.{option_map}
+use Rattle.std.specs.Prelude.{MatchOption, Option, Some, None, Result, Ok, Err, option_and_then}
+use Rattle.std.specs.Option.{ok_or, option_map}
+use Rattle.std.specs.Result.{result_map_both, result_unwrap_or}
 use borrow.Author.Tests.{eq-eqb, eqb-true}
 use Rattle.uefi_node_reader.specs.FieldReading.{◌>>=◌}
+use Rattle.uefi_node_reader.specs.Stops.{◌>?◌}
 use Rattle.uefi_node_reader.specs.WordReading.{after, clash, same_text}
 
 -- what a first step read, where a second read something after it
 pub bind_some : {A B : Type 0} (r : Option A) (f : A → Option B) (y : B) → (r >>= f) ≡ Some y → (x : A) × (r ≡ Some x) × (f x ≡ Some y)
 bind_some None f y e = cc
 bind_some (Some x) f y e = (x, refl, e)
+
+-- the same of readings that may stop
+pub bind_ok : {A B E : Type 0} (r : Result A E) (f : A → Result B E) (y : B) → (r >? f) ≡ Ok y → (x : A) × (r ≡ Ok x) × (f x ≡ Ok y)
+bind_ok (Err stop) f y e = cc
+bind_ok (Ok x) f y e = (x, refl, e)
+
+pub ok_same : {A E : Type 0} (r : Result A E) (x y : A) → r ≡ Ok x → r ≡ Ok y → x ≡ y
+ok_same r x y e f = ap (λ o. result_unwrap_or o x) (sym e ∙ f)
+
+pub ok_some : {A E : Type 0} (o : Option A) (stop : E) (x : A) → ok_or o stop ≡ Ok x → o ≡ Some x
+ok_some None stop x e = cc
+ok_some (Some y) stop x e = ap (λ z. Some z) (ok_same (Ok x) y x (sym e) refl)
+
+pub map_ok : {A B D E : Type 0} (f : A → B) (g : D → E) (r : Result A D) (y : B) → result_map_both f g r ≡ Ok y
+    → (x : A) × (r ≡ Ok x) × (f x ≡ y)
+map_ok f g (Err stop) y e = cc
+map_ok f g (Ok x) y e = (x, refl, ok_same (Ok y) (f x) y (sym e) refl)
 
 -- the second step, after what the first read
 pub after_some : {A B : Type 0} (r : Option A) (f : A → Option B) (x : A) → r ≡ Some x → (r >>= f) ≡ f x

@@ -1,46 +1,41 @@
 -- What is read in a style is told, and what stands after it is the rest of its text.
-use Rattle.std.proofs.Common.{ap, ◌∙◌, ◌≡◌, ◌-◌, ◌≤◌, ℕ, Bool, true, false, cond, ◌&&◌, List, [], ◌∷◌, length, refl, subst, inl, inr, arith, is_some}
+use Rattle.std.proofs.Common.{ap, ◌∙◌, ◌≡◌, ◌-◌, ◌≤◌, ℕ, Bool, true, false, cond, ◌⊎◌, List, [], ◌∷◌, length, refl, subst, inl, inr, arith}
 use Rattle.uefi_node_reader.specs.FieldReading.{read_if}
-use Rattle.std.specs.Prelude.{Option, Some, None}
+use Rattle.std.specs.Prelude.{Option, Some, None, Ok, Err}
 use Rattle.std.specs.List.{list_all}
-use Rattle.std.specs.Option.{option_map}
+use Rattle.std.specs.Option.{ok_or, option_map, option_or}
 use Rattle.std.proofs.lemmas.Bool.{and_parts}
 use Rattle.uefi_node_table.specs.Rows.{Form}
 use Rattle.uefi_device_nodes.specs.Nodes.{Node, node_with}
-use Rattle.uefi_node_reader.specs.LenientFaults.{fault_at_byte, past, place_at}
-use Rattle.uefi_node_reader.specs.LenientNodes.{IsRestOf, begins_call, cut_call, ended, lenient_read, tidied, told_in}
-use Rattle.uefi_node_reader.specs.Libefivar.{fault_after_own, fault_or_lenient, forms_exact, libefivar_fault, libefivar_read, own_call, own_fault, own_read, own_stop}
+use Rattle.uefi_node_reader.specs.LenientNodes.{IsRestOf, begins_call, cut_call, ended, fault_at_byte, lenient_read, place_at, tidied, told_in}
+use Rattle.uefi_node_reader.specs.Libefivar.{forms_exact, libefivar_read, own_call, own_fault, own_or_lenient, own_read, own_stop}
 use Rattle.uefi_node_reader.specs.NamedFiles.{IsTold, is_after_node, node_read}
-use Rattle.uefi_node_reader.specs.Styles.{PrintedExactly, StyledAgain, StyledEnds, StyledFaultWithin, StyledStarts, StyledTakes, styled_fault, styled_read}
-use Rattle.uefi_node_reader.specs.TableReading.{form_read, is_empty, is_sound}
-use Rattle.uefi_node_reader.specs.Telling.{tells}
+use Rattle.uefi_node_reader.specs.Styles.{PrintedExactly, StyledAgain, StyledEnds, StyledFaultWithin, StyledStarts, StyledTakes, styled_read}
+use Rattle.uefi_node_reader.specs.TableReading.{form_read, is_sound}
+use Rattle.uefi_node_reader.specs.declared.faults.Expected.TheVariants.{AsPrinted}
 use Rattle.uefi_node_reader.specs.declared.faults.NodeFault.{NodeFault}
 use Rattle.uefi_node_reader.specs.declared.faults.Stop.{Stop}
 use Rattle.uefi_node_reader.specs.declared.styles.TextStyle.TheVariants.{Printed, Lenient, Libefivar}
-use Rattle.uefi_node_reader.proofs.FaultPlaces.{fault_within, place_within}
-use Rattle.uefi_node_reader.proofs.LenientLaws.{call_starts, cut_end, ends, lenient_again, lenient_ends, lenient_starts, lenient_takes, one_node, strict_end, with_rest}
-use Rattle.uefi_node_reader.proofs.Literals.{bind_some}
+use Rattle.uefi_node_reader.proofs.FaultPlaces.{Within, end_within, fault_within, or_within, place_within}
+use Rattle.uefi_node_reader.proofs.LenientLaws.{call_starts, cut_end, ends, ends_at, lenient_again, lenient_ends, lenient_starts, lenient_takes, strict_end, told_as, with_rest}
+use Rattle.uefi_node_reader.proofs.Literals.{bind_some, ok_some}
 use Rattle.uefi_node_reader.proofs.NodeLaws.{node_starts, node_takes}
 use Rattle.uefi_node_reader.specs.OtherForms.{own_forms}
 use Rattle.uefi_node_reader.proofs.OtherForms.{own_sound}
 use Rattle.uefi_node_reader.proofs.TableLaws.{form_takes}
 use Rattle.uefi_node_reader.proofs.ToldNodes.{tells_told}
 
-exact_told : (form : Form) → is_sound form ≡ true → (text : List ℕ) (o : Option (List ℕ × List ℕ)) → form_read form text ≡ o
-    → (node : Node) → told_in form o ≡ Some node → IsTold node
-exact_told form sound text None f node e = cc
-exact_told form sound text (Some read) f node e = by (is_empty read.1) (tells form own) refl e
-  where
-    own : Node
-    own = node_with form.kind form.sub_kind read.0
+exact_told : (form : Form) → is_sound form ≡ true → (text : List ℕ) (node : Node) → told_in form (form_read form text) ≡ Some node → IsTold node
+exact_told form sound text node e =
+    let told = told_as form (form_read form text) node e in
+    let taken = form_takes form sound text told.0.0 told.0.1 told.1 in
+    subst IsTold told.3 (inl (tells_told form (node_with form.kind form.sub_kind told.0.0)
+    (record { bytes = taken.bytes; tail = taken.whole.1 }) told.2))
 
-    by : (a b : Bool) → tells form own ≡ b → cond (a && b) (Some own) None ≡ Some node → IsTold node
-    by false b p q = cc
-    by true false p q = cc
-    by true true p q =
-        let same : own ≡ node = cc in
-        let taken = form_takes form sound text read.0 read.1 f in
-        subst IsTold same (inl (tells_told form own (record { bytes = taken.bytes; tail = taken.whole.1 }) p))
+-- one of two that were read
+one_node : (a b : Option Node) (x : Node) → option_or a b ≡ Some x → (a ≡ Some x) ⊎ (b ≡ Some x)
+one_node None b x e = inr e
+one_node (Some y) b x e = inl e
 
 all_told : (all : List Form) → list_all is_sound all ≡ true → (text : List ℕ) (node : Node)
     → forms_exact all text ≡ Some node → IsTold node
@@ -48,7 +43,7 @@ all_told [] sound text node e = cc
 all_told (form ∷ others) sound text node e =
     let sounds = and_parts (is_sound form) (list_all is_sound others) sound in
     elim (one_node (told_in form (form_read form text)) (forms_exact others text) node e) [
-      | inl p ↦ exact_told form sounds.0 text (form_read form text) refl node p
+      | inl p ↦ exact_told form sounds.0 text node p
       | inr p ↦ all_told others sounds.1 text node p
     ]
 
@@ -74,18 +69,25 @@ own_is text node rest e = by (begins_call text) refl e
 
 -- one of the two that are tried
 either_way : (is_rooted : Bool) (text : List ℕ) (node : Node) (rest : List ℕ) (Goal : Type 0) → (Own text node rest → is_after_node rest ≡ true → Goal)
-    → (lenient_read is_rooted text ≡ Some (node, rest) → Goal) → libefivar_read is_rooted text ≡ Some (node, rest) → Goal
+    → (lenient_read is_rooted text ≡ Ok (node, rest) → Goal) → libefivar_read is_rooted text ≡ Ok (node, rest) → Goal
 unfolding libefivar_read
-either_way is_rooted text node rest Goal own other e = by (is_some (own_read text)) (is_some (own_fault text)) e
+either_way is_rooted text node rest Goal own other e = by (own_read text) (own_fault text) refl e
   where
-    by : (a b : Bool) → cond a (ended (own_read text)) (cond b None (lenient_read is_rooted text)) ≡ Some (node, rest) → Goal
-    by true b p = let read = ends (own_read text) node rest p in own (own_is text node rest read.0) read.1
-    by false true p = cc
-    by false false p = other p
+    by : (o : Option (Node × List ℕ)) (f : Option NodeFault) → own_read text ≡ o → own_or_lenient is_rooted text o f ≡ Ok (node, rest) → Goal
+    by (Some read) f p q =
+        let end = ends_at text read node rest q in
+        own (own_is text node rest (p ∙ ap (λ (x : Node × List ℕ). Some x) end.0)) end.1
+    by None (Some fault) p q = cc
+    by None None p q = other q
+
+-- a text in the style of printed ones
+printed_read : (text : List ℕ) (node : Node) (rest : List ℕ) → ok_or (ended (node_read text)) (fault_at_byte 0 AsPrinted) ≡ Ok (node, rest)
+    → (node_read text ≡ Some (node, rest)) × (is_after_node rest ≡ true)
+printed_read text node rest e = ends (node_read text) node rest (ok_some (ended (node_read text)) (fault_at_byte 0 AsPrinted) (node, rest) e)
 
 pub styled_takes : StyledTakes
 unfolding styled_read
-styled_takes Printed is_rooted text node rest e = (node_takes text node rest (ends (node_read text) node rest e).0).0
+styled_takes Printed is_rooted text node rest e = (node_takes text node rest (printed_read text node rest e).0).0
 styled_takes Lenient is_rooted text node rest e = lenient_takes is_rooted text node rest e
 styled_takes Libefivar is_rooted text node rest e =
     either_way is_rooted text node rest (IsTold node) (λ own _. own.told) (lenient_takes is_rooted text node rest) e
@@ -93,7 +95,7 @@ styled_takes Libefivar is_rooted text node rest e =
 pub styled_ends : StyledEnds
 unfolding styled_read
 styled_ends Printed is_rooted text node rest e =
-    let read = ends (node_read text) node rest e in (strict_end text node rest read.0 read.1, read.1)
+    let read = printed_read text node rest e in (strict_end text node rest read.0 read.1, read.1)
 styled_ends Lenient is_rooted text node rest e = lenient_ends is_rooted text node rest e
 styled_ends Libefivar is_rooted text node rest e = either_way is_rooted text node rest (IsRestOf text rest × (is_after_node rest ≡ true))
     (λ own after. (own.rest_of, after)) (lenient_ends is_rooted text node rest) e
@@ -101,7 +103,7 @@ styled_ends Libefivar is_rooted text node rest e = either_way is_rooted text nod
 pub styled_starts : StyledStarts
 unfolding styled_read
 styled_starts Printed is_rooted text node rest e =
-    let read = node_takes text node rest (ends (node_read text) node rest e).0 in
+    let read = node_takes text node rest (printed_read text node rest e).0 in
     ap is_after_node read.1 ∙ node_starts node read.0 rest
 styled_starts Lenient is_rooted text node rest e = lenient_starts is_rooted text node rest e
 styled_starts Libefivar is_rooted text node rest e = either_way is_rooted text node rest (is_after_node text ≡ false)
@@ -116,34 +118,36 @@ styled_starts Libefivar is_rooted text node rest e = either_way is_rooted text n
 
 pub styled_again : StyledAgain
 unfolding styled_read
-styled_again Printed takes is_rooted text node rest e after = ap ended e ∙ ap (λ (b : Bool). read_if b node rest) after
+styled_again Printed takes is_rooted text node rest e after =
+    ap (λ (o : Option (Node × List ℕ)). ok_or o (fault_at_byte 0 AsPrinted)) (ap ended e ∙ ap (λ (b : Bool). read_if b node rest) after)
 styled_again Lenient takes is_rooted text node rest e after = lenient_again is_rooted text node rest e after
 styled_again Libefivar takes is_rooted text node rest e after = cc
 
 pub printed_exactly : PrintedExactly
 unfolding styled_read
-printed_exactly is_rooted text node rest e = (ends (node_read text) node rest e).0
+printed_exactly is_rooted text node rest e = (printed_read text node rest e).0
 
--- where the fault_at_byte of a call lies
-own_within : (is_rooted : Bool) (text : List ℕ) (o : Option NodeFault) → own_fault text ≡ o → (fault_or_lenient is_rooted text o).byte ≤ length text
-own_within is_rooted text None e = fault_within is_rooted text
-own_within is_rooted text (Some other) e =
-    let call = bind_some (cut_call text) _ other e in
+-- where the fault of a call lies
+own_within : (text : List ℕ) (fault : NodeFault) → own_fault text ≡ Some fault → fault.byte ≤ length text
+own_within text fault e =
+    let call = bind_some (cut_call text) _ fault e in
     placed (length (tidied call.0.0)) (own_stop (tidied call.0.0)) call.2
   where
     placed : (len : ℕ) (s : Option Stop)
-        → option_map (λ (stop : Stop). fault_at_byte (place_at (len - stop.left) text) stop.expected) s ≡ Some other → other.byte ≤ length text
+        → option_map (λ (stop : Stop). fault_at_byte (place_at (len - stop.left) text) stop.expected) s ≡ Some fault → fault.byte ≤ length text
     placed len None p = cc
     placed len (Some stop) p =
-        let same : fault_at_byte (place_at (len - stop.left) text) stop.expected ≡ other = cc in
+        let same : fault_at_byte (place_at (len - stop.left) text) stop.expected ≡ fault = cc in
         subst (λ (f : NodeFault). f.byte ≤ length text) same (place_within (len - stop.left) text)
 
-after_within : (is_rooted : Bool) (text : List ℕ) (o : Option (List ℕ)) → (fault_after_own is_rooted text o).byte ≤ length text
-after_within is_rooted text None = own_within is_rooted text (own_fault text) refl
-after_within is_rooted text (Some rest) = omega arith
+own_or_within : (is_rooted : Bool) (text : List ℕ) (o : Option (Node × List ℕ)) (f : Option NodeFault) → own_fault text ≡ f
+    → Within text (own_or_lenient is_rooted text o f)
+own_or_within is_rooted text (Some read) f p = end_within text read
+own_or_within is_rooted text None (Some fault) p = own_within text fault p
+own_or_within is_rooted text None None p = fault_within text is_rooted
 
 pub styled_fault_within : StyledFaultWithin
-unfolding styled_fault libefivar_fault
-styled_fault_within Printed is_rooted text = omega arith
-styled_fault_within Lenient is_rooted text = fault_within is_rooted text
-styled_fault_within Libefivar is_rooted text = after_within is_rooted text (past (own_read text))
+unfolding styled_read libefivar_read
+styled_fault_within Printed is_rooted text = or_within text (ended (node_read text)) (fault_at_byte 0 AsPrinted) (omega arith)
+styled_fault_within Lenient is_rooted text = fault_within text is_rooted
+styled_fault_within Libefivar is_rooted text = own_or_within is_rooted text (own_read text) (own_fault text) refl

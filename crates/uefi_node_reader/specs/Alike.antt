@@ -1,5 +1,6 @@
 -- Texts that are read alike.
 use Rattle.std.specs.Prelude.{◌≡◌, ◌≤◌, ℕ, Bool, true, false, List, ◌∷◌, ◌++◌, codes, Some, None}
+use Rattle.std.specs.Result.{result_ok}
 use Rattle.uefi_node_reader.specs.LenientFields.{after_literal, any_number, begins_base}
 use Rattle.uefi_node_reader.specs.LenientNodes.{begins_call, cut_call, ended, lenient_read, tidied}
 use Rattle.uefi_node_reader.specs.NamedFiles.{node_read}
@@ -10,14 +11,14 @@ use Rattle.uefi_node_reader.specs.Numerals.{has_digit}
 pub record IsOtherCall (text front rest : List ℕ) : Type 0 where
   pub begins : begins_call text ≡ true
   pub cut : cut_call text ≡ Some (front, rest)
-  pub no_file : after_literal (codes "File(") text ≡ None
+  pub no_file : result_ok (after_literal (codes "File(") text) ≡ None
   pub inexact : ended (node_read text) ≡ None
 
 -- two such calls that differ in case and in blanks alone are read as the same
 abbrev pub CallsAlike : Type 0
 CallsAlike = (is_rooted : Bool) (text other front back rest : List ℕ) → IsOtherCall text front rest
     → IsOtherCall other back rest → tidied front ≡ tidied back
-    → lenient_read is_rooted text ≡ lenient_read is_rooted other
+    → result_ok (lenient_read is_rooted text) ≡ result_ok (lenient_read is_rooted other)
 
 -- a zero before a number of decimal digits changes nothing
 abbrev pub ZerosAlike : Type 0

@@ -1,16 +1,24 @@
 -- Fields of nodes as people write them: in either case, numbers in either base, and the last left out.
-use Rattle.std.specs.Prelude.{ℕ, ◌^◌, Bool, true, false, ◌==◌, ◌&&◌, ◌||◌, if◌then◌else◌, List, [], ◌∷◌, codes, Option, Some, None, is_some}
+use Rattle.std.specs.Prelude.{ℕ, ◌-◌, ◌*◌, ◌^◌, Bool, true, false, ◌==◌, ◌&&◌, ◌||◌, if◌then◌else◌, List, [], ◌∷◌, codes, Option, Some, None, Result, Ok}
+use Rattle.std.specs.Option.{ok_or, option_map}
+use Rattle.std.specs.Result.{is_ok, result_ok}
 use Rattle.std.proofs.Math.ListN.{replicate}
 use Rattle.std.specs.Char.{to_ascii_uppercase}
 use Rattle.uefi_node_table.specs.Rows.{Piece}
 use Rattle.uefi_node_table.specs.declared.rows.Shape.{Shape}
-use Rattle.uefi_node_table.specs.declared.rows.Shape.TheVariants.{Hexadecimal, Decimal, OrDefault, Next, Word}
+use Rattle.uefi_node_table.specs.declared.rows.Shape.TheVariants.{Hexadecimal, Decimal, OrDefault, Back, Forth, Dashed, Next, Eisa, Word}
+use Rattle.uefi_node_table.specs.declared.words.Words.{Words}
+use Rattle.uefi_node_table.specs.declared.words.Words.TheVariants.{Parity, StopBits}
 use Rattle.uefi_node_table.specs.Words as words
 use Rattle.uefi_node_table.specs.Words.{words_of}
 use Rattle.uefi_node_reader.specs.FieldReading.{◌>>=◌, as_bytes, field_read, less_one}
 use Rattle.uefi_node_reader.specs.Numerals.{digits_after, has_digit}
+use Rattle.uefi_node_reader.specs.Stops.{◌>?◌, stop_at}
 use Rattle.uefi_node_reader.specs.TableReading.{first_of, is_empty, put_at}
 use Rattle.uefi_node_reader.specs.WordReading.{after, or_word}
+use Rattle.uefi_node_reader.specs.declared.faults.Expected.{Expected}
+use Rattle.uefi_node_reader.specs.declared.faults.Expected.TheVariants as expected
+use Rattle.uefi_node_reader.specs.declared.faults.Stop.{Stop}
 
 -- the test for bytes that begin with `0x`
 abbrev pub begins_base : List ℕ → Bool
@@ -29,16 +37,16 @@ abbrev pub after_letter : ℕ → List ℕ → Option (List ℕ)
 after_letter c [] = None
 after_letter c (t ∷ ts) = if to_ascii_uppercase c == to_ascii_uppercase t then Some ts else None
 
--- what stands after a literal of the table in either case, from the `x` of its `0x` on where `at_x`. The `0x`
--- may be left out, and at the end it is that of the number which follows
-abbrev pub literal_left : List ℕ → Bool → List ℕ → Option (List ℕ)
-literal_left [] at_x text = Some text
+-- what stands after a literal of the table in either case, from the `x` of its `0x` on where `at_x`, or the
+-- byte that differs from it. The `0x` may be left out, and at the end it is that of the number which follows
+abbrev pub literal_left : List ℕ → Bool → List ℕ → Result (List ℕ) Stop
+literal_left [] at_x text = Ok text
 literal_left (c ∷ cs) true text = literal_left cs false (if is_empty cs then text else past_base text)
 literal_left (c ∷ cs) false text = if begins_base (c ∷ cs) then literal_left cs true text
-    else after_letter c text >>= literal_left cs false
+    else (ok_or (after_letter c text) (stop_at text (expected.Byte c)) >? literal_left cs false)
 
 -- what stands after a whole literal
-abbrev pub after_literal : List ℕ → List ℕ → Option (List ℕ)
+abbrev pub after_literal : List ℕ → List ℕ → Result (List ℕ) Stop
 after_literal literal text = literal_left literal false text
 
 -- the number below `limit` of one digit or more, and what stands after them
@@ -58,7 +66,7 @@ number_or_word limit text = if has_digit 10 text then any_number limit text
 -- the number of the word that a text begins with, in either case, and what stands after it
 abbrev pub any_word : List words.Word → List ℕ → Option (ℕ × List ℕ)
 any_word [] text = None
-any_word (word ∷ words) text = or_word word.number (after_literal word.text text) (any_word words text)
+any_word (word ∷ words) text = or_word word.number (result_ok (after_literal word.text text)) (any_word words text)
 
 -- the bytes of a field, and what stands after it: digits of bytes may stand after `0x`
 abbrev pub any_field : Shape → ℕ → List ℕ → Option (List ℕ × List ℕ)
@@ -87,18 +95,44 @@ value_or_spare shape spare width text = if is_number shape && (first_of text == 
     then Some (replicate width spare, text) else any_field shape width text
 
 -- what stands after the ending of a field: a comma, and its `0x`, may be left out before `)`
-abbrev pub after_ending : List ℕ → List ℕ → Option (List ℕ)
-after_ending ending text = if (first_of text == 41) && is_some (after_literal ending (codes ","))
-    then Some text else after_literal ending text
+abbrev pub after_ending : List ℕ → List ℕ → Result (List ℕ) Stop
+after_ending ending text = if (first_of text == 41) && is_ok (after_literal ending (codes ","))
+    then Ok text else after_literal ending text
 
--- the data of a node of a kind with the field that a text begins with, and what stands after its ending
-abbrev pub piece_set : ℕ → ℕ → Piece → List ℕ → List ℕ → Option (List ℕ × List ℕ)
-piece_set kind sub_kind piece content text =
-    value_or_spare piece.shape (left_out kind sub_kind piece.place) piece.width text >>= λ value.
-    after_ending piece.ending value.1 >>= λ rest. Some (put_at piece value.0 content, rest)
+-- what is expected where a word of a list has to stand
+abbrev pub expected_word : Words → Expected
+expected_word Parity = expected.Parity
+expected_word StopBits = expected.StopBits
+expected_word words = expected.AsPrinted
+
+-- what is expected where a field has to stand
+abbrev pub expected_field : Shape → ℕ → Expected
+expected_field Hexadecimal width = expected.Number (256 ^ width - 1)
+expected_field Decimal width = expected.Number (256 ^ width - 1)
+expected_field OrDefault width = expected.NumberOrDefault (256 ^ width - 1)
+expected_field Back width = expected.Digits (width * 2)
+expected_field Forth width = expected.Digits (width * 2)
+expected_field Dashed width = expected.DashedDigits (width * 2)
+expected_field Next width = expected.NumberFromOne 256
+expected_field Eisa width = expected.AsPrinted
+expected_field (Word list) width = expected_word list
+
+-- the data of a node of a kind with the field that a text begins with, and what stands after it, or where it
+-- stops
+abbrev pub value_set : ℕ → ℕ → Piece → List ℕ → List ℕ → Result (List ℕ × List ℕ) Stop
+value_set kind sub_kind piece content text =
+    ok_or (option_map (λ value. (put_at piece value.0 content, value.1))
+    (value_or_spare piece.shape (left_out kind sub_kind piece.place) piece.width text))
+    (stop_at text (expected_field piece.shape piece.width))
+
+-- the same after its ending
+abbrev pub piece_set : ℕ → ℕ → Piece → List ℕ → List ℕ → Result (List ℕ × List ℕ) Stop
+piece_set kind sub_kind piece content text = value_set kind sub_kind piece content text
+    >? λ set. after_ending piece.ending set.1
+    >? λ rest. Ok (set.0, rest)
 
 -- the same of fields
-abbrev pub pieces_set : ℕ → ℕ → List Piece → List ℕ → List ℕ → Option (List ℕ × List ℕ)
-pieces_set kind sub_kind [] content text = Some (content, text)
+abbrev pub pieces_set : ℕ → ℕ → List Piece → List ℕ → List ℕ → Result (List ℕ × List ℕ) Stop
+pieces_set kind sub_kind [] content text = Ok (content, text)
 pieces_set kind sub_kind (piece ∷ pieces) content text =
-    piece_set kind sub_kind piece content text >>= λ read. pieces_set kind sub_kind pieces read.0 read.1
+    piece_set kind sub_kind piece content text >? λ read. pieces_set kind sub_kind pieces read.0 read.1

@@ -5,12 +5,12 @@ pub mod WordReading
 pub mod PlainNodes
 pub mod NamedFiles
 pub mod Laws
+pub mod Stops
 pub mod LenientFields
 pub mod Telling
 pub mod OtherForms
 pub mod Ambiguous
 pub mod LenientNodes
-pub mod LenientFaults
 pub mod Alike
 pub mod Libefivar
 pub mod Styles

@@ -1,14 +1,14 @@
 -- Nodes as libefivar prints them, where its text of a node is the specification's text of another, or
 -- is in no form of the table.
-use Rattle.std.specs.Prelude.{Bool, if◌then◌else◌, List, [], ◌∷◌, codes, length, ◌-◌, ℕ, Option, Some, None, is_some}
+use Rattle.std.specs.Prelude.{Bool, if◌then◌else◌, List, [], ◌∷◌, codes, length, ◌-◌, ℕ, Option, Some, None, Result, Err}
 use Rattle.std.specs.Option.{option_map, option_or}
 use Rattle.uefi_device_nodes.specs.Nodes.{Node}
 use Rattle.uefi_node_table.specs.Rows.{Form}
 use Rattle.uefi_node_reader.specs.Ambiguous.{begins_with}
 use Rattle.uefi_node_reader.specs.FieldReading.{◌>>=◌}
-use Rattle.uefi_node_reader.specs.LenientFaults.{fault_at_byte, lenient_fault, past, place_at, stop_at}
-use Rattle.uefi_node_reader.specs.LenientNodes.{begins_call, cut_call, ended, lenient_read, tidied, told_in}
+use Rattle.uefi_node_reader.specs.LenientNodes.{begins_call, cut_call, ended_at, fault_at_byte, lenient_read, place_at, tidied, told_in}
 use Rattle.uefi_node_reader.specs.OtherForms.{own_forms}
+use Rattle.uefi_node_reader.specs.Stops.{stop_at}
 use Rattle.uefi_node_reader.specs.TableReading.{form_read}
 use Rattle.uefi_node_reader.specs.WordReading.{after}
 use Rattle.uefi_node_reader.specs.declared.faults.Expected.{Expected}
@@ -48,29 +48,19 @@ own_stop text = option_or (stop_after expected.AsPrinted (codes "NVME(") text)
     (option_or (stop_after expected.Untold (codes "USBCLASS(") text)
     (option_or (base_after (codes "PCIROOT(") text) (base_after (codes "PCIEROOT(") text)))))
 
--- the fault_at_byte of a text that begins with such a call
+-- the fault of a text that begins with such a call
 abbrev pub own_fault : List ℕ → Option NodeFault
 own_fault text = cut_call text >>= λ call.
     option_map (λ stop. fault_at_byte (place_at (length (tidied call.0) - stop.left) text) stop.expected)
     (own_stop (tidied call.0))
 
--- the node whose text bytes begin with as libefivar prints it, and what stands after it: in one of its own
--- forms, or else as people write it
-unfoldable pub libefivar_read : Bool → List ℕ → Option (Node × List ℕ)
-libefivar_read is_rooted text = if is_some (own_read text) then ended (own_read text)
-    else (if is_some (own_fault text) then None else lenient_read is_rooted text)
+-- what was read in one of its own forms, or else the fault of such a call, or else what people write
+abbrev pub own_or_lenient : Bool → List ℕ → Option (Node × List ℕ) → Option NodeFault → Result (Node × List ℕ) NodeFault
+own_or_lenient is_rooted text (Some read) fault = ended_at text read
+own_or_lenient is_rooted text None (Some fault) = Err fault
+own_or_lenient is_rooted text None None = lenient_read is_rooted text
 
--- the fault_at_byte of a call, or else of a text of which no node is read leniently
-abbrev pub fault_or_lenient : Bool → List ℕ → Option NodeFault → NodeFault
-fault_or_lenient is_rooted text None = lenient_fault is_rooted text
-fault_or_lenient is_rooted text (Some other) = other
-
--- the fault_at_byte of a text, by what stands after the call that it begins with in one of these forms:
--- the node should end there
-abbrev pub fault_after_own : Bool → List ℕ → Option (List ℕ) → NodeFault
-fault_after_own is_rooted text None = fault_or_lenient is_rooted text (own_fault text)
-fault_after_own is_rooted text (Some rest) = fault_at_byte (length text - length rest) expected.End
-
--- the fault_at_byte of a text of which no node is read so
-unfoldable pub libefivar_fault : Bool → List ℕ → NodeFault
-libefivar_fault is_rooted text = fault_after_own is_rooted text (past (own_read text))
+-- the node whose text bytes begin with as libefivar prints it, and what stands after it, or the fault of the
+-- text
+unfoldable pub libefivar_read : Bool → List ℕ → Result (Node × List ℕ) NodeFault
+libefivar_read is_rooted text = own_or_lenient is_rooted text (own_read text) (own_fault text)

@@ -1,9 +1,9 @@
 -- Nodes read from texts of each style.
-use Rattle.std.specs.Prelude.{◌≡◌, ◌≤◌, ◌<◌, ℕ, Bool, List, length, Option, Some, true, false}
+use Rattle.std.specs.Prelude.{◌≡◌, ◌≤◌, ◌<◌, ℕ, Bool, List, length, IfErr, Result, Ok, Some, true, false}
+use Rattle.std.specs.Option.{ok_or}
 use Rattle.uefi_device_nodes.specs.Nodes.{Node}
-use Rattle.uefi_node_reader.specs.LenientFaults.{fault_at_byte, lenient_fault}
-use Rattle.uefi_node_reader.specs.LenientNodes.{IsRestOf, ended, lenient_read}
-use Rattle.uefi_node_reader.specs.Libefivar.{libefivar_fault, libefivar_read}
+use Rattle.uefi_node_reader.specs.LenientNodes.{IsRestOf, ended, fault_at_byte, lenient_read}
+use Rattle.uefi_node_reader.specs.Libefivar.{libefivar_read}
 use Rattle.uefi_node_reader.specs.NamedFiles.{IsTold, is_after_node, node_read}
 use Rattle.uefi_node_reader.specs.declared.faults.Expected.TheVariants as expected
 use Rattle.uefi_node_reader.specs.declared.faults.NodeFault.{NodeFault}
@@ -11,17 +11,11 @@ use Rattle.uefi_node_reader.specs.declared.styles.TextStyle.{TextStyle}
 use Rattle.uefi_node_reader.specs.declared.styles.TextStyle.TheVariants.{Printed, Lenient, Libefivar}
 
 -- the node whose text bytes begin with in a style, where names have to begin with a backslash or not,
--- and what stands after it
-unfoldable pub styled_read : TextStyle → Bool → List ℕ → Option (Node × List ℕ)
-styled_read Printed is_rooted text = ended (node_read text)
+-- and what stands after it, or the fault of the text
+unfoldable pub styled_read : TextStyle → Bool → List ℕ → Result (Node × List ℕ) NodeFault
+styled_read Printed is_rooted text = ok_or (ended (node_read text)) (fault_at_byte 0 expected.AsPrinted)
 styled_read Lenient is_rooted text = lenient_read is_rooted text
 styled_read Libefivar is_rooted text = libefivar_read is_rooted text
-
--- the fault_at_byte of a text of which no node is read in a style
-unfoldable pub styled_fault : TextStyle → Bool → List ℕ → NodeFault
-styled_fault Printed is_rooted text = fault_at_byte 0 expected.AsPrinted
-styled_fault Lenient is_rooted text = lenient_fault is_rooted text
-styled_fault Libefivar is_rooted text = libefivar_fault is_rooted text
 
 -- the test for a style whose calls and names are copied before they are read
 abbrev pub is_copied : TextStyle → Bool
@@ -42,31 +36,31 @@ HasScratch style text scratch = is_copied style ≡ true → length text < lengt
 -- what is read is told
 abbrev pub StyledTakes : Type 0
 StyledTakes = (style : TextStyle) (is_rooted : Bool) (text : List ℕ) (node : Node) (rest : List ℕ)
-    → styled_read style is_rooted text ≡ Some (node, rest) → IsTold node
+    → styled_read style is_rooted text ≡ Ok (node, rest) → IsTold node
 
 -- what stands after it is the end of the text, after one byte or more, and may stand after a node
 abbrev pub StyledEnds : Type 0
 StyledEnds = (style : TextStyle) (is_rooted : Bool) (text : List ℕ) (node : Node) (rest : List ℕ)
-    → styled_read style is_rooted text ≡ Some (node, rest) → IsRestOf text rest × (is_after_node rest ≡ true)
+    → styled_read style is_rooted text ≡ Ok (node, rest) → IsRestOf text rest × (is_after_node rest ≡ true)
 
 -- the text begins with no byte that may stand after a node
 abbrev pub StyledStarts : Type 0
 StyledStarts = (style : TextStyle) (is_rooted : Bool) (text : List ℕ) (node : Node) (rest : List ℕ)
-    → styled_read style is_rooted text ≡ Some (node, rest) → is_after_node text ≡ false
+    → styled_read style is_rooted text ≡ Ok (node, rest) → is_after_node text ≡ false
 
 -- what is read exactly where a node may end is read in such a style as the same
 abbrev pub StyledAgain : Type 0
 StyledAgain = (style : TextStyle) → takes_printed style ≡ true
     → (is_rooted : Bool) (text : List ℕ) (node : Node)
     (rest : List ℕ) → node_read text ≡ Some (node, rest) → is_after_node rest ≡ true
-    → styled_read style is_rooted text ≡ Some (node, rest)
+    → styled_read style is_rooted text ≡ Ok (node, rest)
 
 -- what is read in the style of printed texts is read exactly
 abbrev pub PrintedExactly : Type 0
 PrintedExactly = (is_rooted : Bool) (text : List ℕ) (node : Node) (rest : List ℕ)
-    → styled_read Printed is_rooted text ≡ Some (node, rest) → node_read text ≡ Some (node, rest)
+    → styled_read Printed is_rooted text ≡ Ok (node, rest) → node_read text ≡ Some (node, rest)
 
 -- the wrong byte lies in the text, or at its end
 abbrev pub StyledFaultWithin : Type 0
 StyledFaultWithin = (style : TextStyle) (is_rooted : Bool) (text : List ℕ)
-    → (styled_fault style is_rooted text).byte ≤ length text
+    → IfErr (styled_read style is_rooted text) (λ fault. fault.byte ≤ length text)

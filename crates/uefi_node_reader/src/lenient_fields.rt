@@ -1,19 +1,22 @@
 //! Fields read as people write them. The texts are in upper case but for each `x`, and have no blanks.
 #![tactic(auto)]
 
-ghost use Rattle.std.specs.Prelude.{◌≡◌, ◌+◌, ◌^◌, ◌≤◌, IsTrue, if◌then◌else◌, is_some, length, map};
+ghost use Rattle.std.specs.Prelude.{◌≡◌, ◌+◌, ◌^◌, ◌≤◌, IsTrue, if◌then◌else◌, length, map};
 ghost use Rattle.std.specs.List.{list_all};
 ghost use Rattle.std.specs.Option.{option_and_then, option_map};
+ghost use Rattle.std.specs.Result.{result_map_both};
 ghost use Rattle.std.proofs.Math.ListN.{replicate};
 ghost use Rattle.uefi_node_table.specs.Fields.{fits_shape};
 ghost use Rattle.uefi_node_table.specs.Rows.{as_piece, is_within};
 ghost use Rattle.uefi_node_table.specs.Words.{as_word, words_of};
 ghost use Rattle.uefi_node_reader.specs.FieldReading.{as_bytes, less_one};
-ghost use Rattle.uefi_node_reader.specs.LenientFields.{after_ending, after_letter, after_literal, any_field, any_number, any_word, begins_base, is_number, left_out, number_or_word, past_base, piece_set, pieces_set, some_digits, value_or_spare};
+ghost use Rattle.uefi_node_reader.specs.LenientFields.{after_ending, after_letter, after_literal, any_field, any_number, any_word, begins_base, expected_field, expected_word, is_number, left_out, number_or_word, past_base, piece_set, pieces_set, some_digits, value_or_spare, value_set};
 
 use crate::clear_texts::first_of;
+use crate::faults::{Expected, Stop};
 use crate::fields::{after, last, put_low, read_value};
 use crate::numerals::{digit_of, digits_after};
+use crate::stops::stop_at;
 use uefi_node_table::rows::{Piece, Shape};
 use uefi_node_table::words::{Word, Words, words_of};
 
@@ -46,10 +49,10 @@ pub(crate) fn after_letter(letter: u8, text: &[u8]) -> Option<&[u8]>
     }
 }
 
-/// What stands after a literal of the table, in either case. Its `0x` may be left out, and at its end it is
-/// that of the number which follows.
-pub(crate) fn after_literal<'a>(literal: &[u8], text: &'a [u8]) -> Option<&'a [u8]>
-    ensures { option_map (λ x. x.now) result ≡ after_literal literal.now text.now }
+/// What stands after a literal of the table, in either case, or the byte that differs from it. Its `0x` may
+/// be left out, and at its end it is that of the number which follows.
+pub(crate) fn after_literal<'a>(literal: &[u8], text: &'a [u8]) -> Result<&'a [u8], Stop>
+    ensures { result_map_both (λ x. x.now) (λ e. e) result ≡ after_literal literal.now text.now }
 {
     let mut left = literal;
     let mut at_x = false;
@@ -65,11 +68,14 @@ pub(crate) fn after_literal<'a>(literal: &[u8], text: &'a [u8]) -> Option<&'a [u
         } else if begins_base(left) {
             at_x = true;
         } else {
-            rest = after_letter(*letter, rest)?;
+            let Some(after) = after_letter(*letter, rest) else {
+                return Err(stop_at(rest, Expected::Byte(*letter)));
+            };
+            rest = after;
         }
         left = others;
     }
-    Some(rest)
+    Ok(rest)
 }
 
 /// The number up to `last` of one digit or more, and what stands after them.
@@ -139,7 +145,7 @@ fn any_word<'a>(words: &[Word], text: &'a [u8]) -> Option<(u64, &'a [u8])>
     ensures { option_map (λ x. (x.0, x.1.now)) result ≡ any_word (map as_word words.now) text.now }
 {
     for word in words {
-        if let Some(rest) = after_literal(word.text.as_bytes(), text) {
+        if let Ok(rest) = after_literal(word.text.as_bytes(), text) {
             return Some((word.number, rest));
         }
     }
@@ -218,13 +224,64 @@ pub(crate) fn left_out(kind: u8, sub_kind: u8, place: usize) -> u8
 }
 
 /// What stands after the ending of a field: a comma, and its `0x`, may be left out before `)`.
-fn after_ending<'a>(ending: &[u8], text: &'a [u8]) -> Option<&'a [u8]>
-    ensures { option_map (λ x. x.now) result ≡ after_ending ending.now text.now }
+fn after_ending<'a>(ending: &[u8], text: &'a [u8]) -> Result<&'a [u8], Stop>
+    ensures { result_map_both (λ x. x.now) (λ e. e) result ≡ after_ending ending.now text.now }
 {
-    if first_of(text) == b')' && after_literal(ending, b",").is_some() {
-        return Some(text);
+    if first_of(text) == b')' && after_literal(ending, b",").is_ok() {
+        return Ok(text);
     }
     after_literal(ending, text)
+}
+
+/// What is expected where a word of a list has to stand.
+fn expected_word(words: Words) -> Expected
+    ensures { result ≡ expected_word words }
+{
+    match words {
+        Words::Parity => Expected::Parity,
+        Words::StopBits => Expected::StopBits,
+        _ => Expected::AsPrinted,
+    }
+}
+
+/// What is expected where a field has to stand.
+fn expected_field(shape: Shape, width: usize) -> Expected
+    requires fits { IsTrue (fits_shape shape width) }
+    requires few { width ≤ 64 }
+    ensures { result ≡ expected_field shape width }
+{
+    match shape {
+        Shape::Hexadecimal => Expected::Number(last(width)),
+        Shape::Decimal => Expected::Number(last(width)),
+        Shape::OrDefault => Expected::NumberOrDefault(last(width)),
+        Shape::Back => Expected::Digits(width * 2),
+        Shape::Forth => Expected::Digits(width * 2),
+        Shape::Dashed => Expected::DashedDigits(width * 2),
+        Shape::Next => Expected::NumberFromOne(256),
+        Shape::Eisa => Expected::AsPrinted,
+        Shape::Word(words) => expected_word(words),
+    }
+}
+
+/// Puts the bytes of a field of a node of a kind at their place in its data. Returns what stands after it.
+fn set_value<'a>(
+    kind: u8,
+    sub_kind: u8,
+    piece: &Piece,
+    content: &mut [u8],
+    text: &'a [u8],
+) -> Result<&'a [u8], Stop>
+    requires within { IsTrue (is_within (length content.old) (as_piece piece.now)) }
+    requires few { length content.old ≤ 64 }
+    ensures { result_map_both (λ rest. (content.new, rest.now)) (λ e. e) result
+        ≡ value_set kind sub_kind (as_piece piece.now) content.old text.now }
+{
+    let (from, to) = (piece.place, piece.place + piece.width);
+    let spare = left_out(kind, sub_kind, piece.place);
+    match value_or_spare(piece.shape, spare, &mut content[from..to], text) {
+        Some(rest) => Ok(rest),
+        None => Err(stop_at(text, expected_field(piece.shape, piece.width))),
+    }
 }
 
 /// Puts the field that a text begins with into the data of a node of a kind. Returns what stands after its
@@ -235,14 +292,13 @@ fn set_piece<'a>(
     piece: &Piece,
     content: &mut [u8],
     text: &'a [u8],
-) -> Option<&'a [u8]>
-    requires { IsTrue (is_within (length content.old) (as_piece piece.now)) }
-    ensures { option_map (λ rest. (content.new, rest.now)) result
+) -> Result<&'a [u8], Stop>
+    requires within { IsTrue (is_within (length content.old) (as_piece piece.now)) }
+    requires few { length content.old ≤ 64 }
+    ensures { result_map_both (λ rest. (content.new, rest.now)) (λ e. e) result
         ≡ piece_set kind sub_kind (as_piece piece.now) content.old text.now }
 {
-    let (from, to) = (piece.place, piece.place + piece.width);
-    let spare = left_out(kind, sub_kind, piece.place);
-    let rest = value_or_spare(piece.shape, spare, &mut content[from..to], text)?;
+    let rest = set_value(kind, sub_kind, piece, content, text)?;
     after_ending(piece.ending.as_bytes(), rest)
 }
 
@@ -253,14 +309,15 @@ pub(crate) fn set_pieces<'a>(
     pieces: &[Piece],
     content: &mut [u8],
     text: &'a [u8],
-) -> Option<&'a [u8]>
-    requires { IsTrue (list_all (is_within (length content.old)) (map as_piece pieces.now)) }
-    ensures { option_map (λ rest. (content.new, rest.now)) result
+) -> Result<&'a [u8], Stop>
+    requires within { IsTrue (list_all (is_within (length content.old)) (map as_piece pieces.now)) }
+    requires few { length content.old ≤ 64 }
+    ensures { result_map_both (λ rest. (content.new, rest.now)) (λ e. e) result
         ≡ pieces_set kind sub_kind (map as_piece pieces.now) content.old text.now }
 {
     let mut rest = text;
     for piece in pieces {
         rest = set_piece(kind, sub_kind, piece, content, rest)?;
     }
-    Some(rest)
+    Ok(rest)
 }

@@ -3,11 +3,13 @@
 
 ghost use Rattle.std.specs.Option.{option_map};
 ghost use Rattle.std.specs.Prelude.{◌≡◌, ◌<◌, ◌≤◌, length, take};
-ghost use Rattle.uefi_node_reader.specs.LenientNodes.{bare_read, begins_call, file_read, is_bare, rooted, whole};
+ghost use Rattle.std.specs.Result.{result_map_both};
+ghost use Rattle.uefi_node_reader.specs.LenientNodes.{bare_read, begins_call, cut_call, file_in, is_bare, rooted, whole};
 ghost use Rattle.uefi_node_reader.specs.NamedFiles.{name_read};
 ghost use Rattle.uefi_node_reader.specs.TextNodeViews.{text_node};
 
 use crate::counted_bytes::{push, push_all};
+use crate::faults::{Expected, NodeFault};
 use crate::lenient_table::cut_call;
 use crate::named_files::{name, name_len};
 use crate::text_node::TextNode;
@@ -40,18 +42,30 @@ fn whole_name<'a>(scratch: &'a mut [u8], text: &[u8]) -> Option<TextNode<'a>>
     }
 }
 
-/// Reads the node with the name that a text begins with up to its first `)`. Returns what stands after it,
-/// too.
+/// Reads the node with the name that stands in `File(..)`, from the name on in a text. Returns what stands
+/// after the first `)`, too, or the fault of the text.
 pub(crate) fn file<'s, 't>(
     scratch: &'s mut [u8],
-    text: &'t [u8],
-) -> Option<(TextNode<'s>, &'t [u8])>
-    requires { length text.now < length scratch.old }
-    ensures { option_map (λ x. (text_node x.0, x.1.now)) result ≡ file_read text.now }
+    text: &[u8],
+    name: &'t [u8],
+) -> Result<(TextNode<'s>, &'t [u8]), NodeFault>
+    requires { length name.now < length scratch.old }
+    ensures { result_map_both (λ x. (text_node x.0, x.1.now)) (λ e. e) result
+        ≡ file_in text.now name.now (cut_call name.now) }
 {
-    let (name, rest) = cut_call(text)?;
-    let node = whole_name(scratch, name)?;
-    Some((node, rest))
+    let Some((front, rest)) = cut_call(name) else {
+        return Err(NodeFault {
+            byte: text.len(),
+            expected: Expected::Byte(b')'),
+        });
+    };
+    match whole_name(scratch, front) {
+        Some(node) => Ok((node, rest)),
+        None => Err(NodeFault {
+            byte: text.len().saturating_sub(name.len()),
+            expected: Expected::FileName,
+        }),
+    }
 }
 
 /// Whether a text begins with a call: a `(` stands before a slash or a comma.

@@ -1,22 +1,25 @@
-//! Nodes as people write them, read by the table.
+//! Nodes as people write them, read by the table, and where their texts stop.
 #![tactic(auto)]
 
 ghost use Rattle.std.specs.List.{list_all};
-ghost use Rattle.std.specs.Option.{option_map, option_or};
-ghost use Rattle.std.specs.Prelude.{◌≡◌, ◌<◌, ◌≤◌, ◌==◌, IfSome, IsTrue, length, map, position, take};
+ghost use Rattle.std.specs.Option.{option_map};
+ghost use Rattle.std.specs.Prelude.{◌≡◌, ◌<◌, ◌≤◌, ◌==◌, IfSome, IsTrue, None, codes, length, map, position, take};
+ghost use Rattle.std.specs.Result.{result_map_both};
 ghost use Rattle.uefi_node_table.specs.Rows.{as_form};
 ghost use Rattle.uefi_node_table.specs.Table.{forms};
-ghost use Rattle.uefi_node_reader.specs.LenientNodes.{call_read, call_set, cut_call, form_set, forms_set, is_blank, is_textless, path_set, tidied, tidied_byte, told_in};
+ghost use Rattle.uefi_node_reader.specs.LenientFields.{after_literal};
+ghost use Rattle.uefi_node_reader.specs.LenientNodes.{begins_name, call_in, call_told, cut_call, form_told, form_tried, forms_tried, is_blank, is_textless, named_told, open_fault, path_told, place_at, stop_fault, tidied, tidied_byte, told_in};
 ghost use Rattle.uefi_node_reader.specs.OtherForms.{pasted_forms};
-ghost use Rattle.uefi_node_reader.specs.TableReading.{form_read, is_filled, is_sound};
-ghost use Rattle.uefi_node_reader.specs.TextNodes.{fitting};
+ghost use Rattle.uefi_node_reader.specs.TableReading.{form_read, is_filled, is_read, is_sound};
 ghost use Rattle.uefi_node_reader.specs.TextNodeViews.{text_node_data, text_node};
 
 use crate::ambiguous::ambiguous_stop;
 use crate::counted_bytes::push;
-use crate::lenient_fields::{after_literal, set_pieces};
+use crate::faults::{Expected, NodeFault, Stop};
+use crate::lenient_fields::{after_letter, after_literal, set_pieces};
 use crate::other_forms::pasted_forms;
 use crate::plain_nodes::plain_types;
+use crate::stops::{further, rest_end, stop_at, stop_of, types_end};
 use crate::table_reader::{finish_row, fixed_part, read_row};
 use crate::telling::tells;
 use crate::text_node::TextNode;
@@ -84,33 +87,6 @@ pub(crate) fn is_textless(tail: Tail) -> bool
     }
 }
 
-/// Reads a node of a form from its tidied text. Returns what stands after it, too.
-fn set_row<'a>(row: &Row, text: &'a [u8]) -> Option<(TextNode<'a>, &'a [u8])>
-    requires sound { IsTrue (is_sound (as_form row.now)) }
-    requires filled { IsTrue (is_filled (as_form row.now)) }
-    ensures types { IfSome result (λ x.
-        (x.0.device_type ≡ row.now.kind) × (x.0.sub_type ≡ row.now.sub_kind)) }
-    ensures data { option_map (λ x. (text_node_data x.0, x.1.now)) result
-        ≡ fitting (form_set (as_form row.now) text.now) }
-{
-    let Mode::Read = row.mode else {
-        return None;
-    };
-    if !is_textless(row.tail) {
-        return None;
-    }
-    let rest = after_literal(row.start.as_bytes(), text)?;
-    let mut fixed = fixed_part(row);
-    let rest = set_pieces(
-        row.kind,
-        row.sub_kind,
-        row.pieces,
-        &mut fixed[..row.least],
-        rest,
-    )?;
-    finish_row(row, fixed, rest)
-}
-
 /// The node that was read in a form, if nothing stands after it, and its own text tells it.
 fn told<'a>(row: &Row, read: Option<(TextNode<'a>, &'a [u8])>) -> Option<TextNode<'a>>
     requires types { IfSome read (λ x.
@@ -128,16 +104,7 @@ fn told<'a>(row: &Row, read: Option<(TextNode<'a>, &'a [u8])>) -> Option<TextNod
     Some(node)
 }
 
-/// Reads a node of a form from all of its tidied text, if its own text tells it.
-fn set_told<'a>(row: &Row, text: &'a [u8]) -> Option<TextNode<'a>>
-    requires sound { IsTrue (is_sound (as_form row.now)) }
-    requires filled { IsTrue (is_filled (as_form row.now)) }
-    ensures { option_map text_node result ≡ told_in (as_form row.now) (form_set (as_form row.now) text.now) }
-{
-    told(row, set_row(row, text))
-}
-
-/// The same exactly in the form.
+/// Reads a node of a form from all of its text, exactly in the form, if its own text tells it.
 pub(crate) fn exact_told<'a>(row: &Row, text: &'a [u8]) -> Option<TextNode<'a>>
     requires sound { IsTrue (is_sound (as_form row.now)) }
     requires filled { IsTrue (is_filled (as_form row.now)) }
@@ -146,79 +113,218 @@ pub(crate) fn exact_told<'a>(row: &Row, text: &'a [u8]) -> Option<TextNode<'a>>
     told(row, read_row(row, text))
 }
 
-/// Reads the node of the first of these forms that a tidied text has.
-fn set_group<'a>(rows: &[Row], text: &'a [u8]) -> Option<TextNode<'a>>
+/// Reads a node of a form from its tidied text, if its own text tells it, or says where that stops.
+fn told_row<'a>(row: &Row, text: &'a [u8]) -> Result<TextNode<'a>, Stop>
+    requires sound { IsTrue (is_sound (as_form row.now)) }
+    requires filled { IsTrue (is_filled (as_form row.now)) }
+    requires read { IsTrue (is_read row.now.mode) }
+    ensures { result_map_both text_node (λ e. e) result ≡ form_told (as_form row.now) text.now }
+{
+    let rest = after_literal(row.start.as_bytes(), text)?;
+    let mut fixed = fixed_part(row);
+    let content = &mut fixed[..row.least];
+    let rest = set_pieces(row.kind, row.sub_kind, row.pieces, content, rest)?;
+    match told(row, finish_row(row, fixed, rest)) {
+        Some(node) => Ok(node),
+        None => Err(stop_of(rest_end(row.tail, row.close.as_bytes(), rest))),
+    }
+}
+
+/// Whether a text begins with the name of a call, up to its `(`, in either case.
+fn begins_name(name: &[u8], text: &[u8]) -> bool
+    ensures { result ≡ begins_name name.now text.now }
+{
+    let mut left = name;
+    let mut rest = text;
+    'letters: while let [letter, others @ ..] = left {
+        let Some(after) = after_letter(*letter, rest) else {
+            return false;
+        };
+        if *letter == b'(' {
+            return true;
+        }
+        left = others;
+        rest = after;
+    }
+    true
+}
+
+/// Reads a node of a form whose name its tidied text begins with.
+fn named_row<'a>(row: &Row, text: &'a [u8]) -> Result<TextNode<'a>, Option<Stop>>
+    requires sound { IsTrue (is_sound (as_form row.now)) }
+    requires filled { IsTrue (is_filled (as_form row.now)) }
+    ensures { result_map_both text_node (λ e. e) result
+        ≡ named_told row.now.mode (as_form row.now) text.now }
+{
+    match row.mode {
+        Mode::Read => {
+            if !is_textless(row.tail) {
+                return Err(Some(stop_at(text, Expected::AsPrinted)));
+            }
+            match told_row(row, text) {
+                Ok(node) => Ok(node),
+                Err(stop) => Err(Some(stop)),
+            }
+        }
+        Mode::Printed => Err(Some(stop_at(text, Expected::Untold))),
+        Mode::Display => Err(None),
+    }
+}
+
+/// The same of any form.
+fn try_row<'a>(row: &Row, text: &'a [u8]) -> Result<TextNode<'a>, Option<Stop>>
+    requires sound { IsTrue (is_sound (as_form row.now)) }
+    requires filled { IsTrue (is_filled (as_form row.now)) }
+    ensures { result_map_both text_node (λ e. e) result ≡ form_tried (as_form row.now) text.now }
+{
+    if begins_name(row.start.as_bytes(), text) {
+        return named_row(row, text);
+    }
+    Err(None)
+}
+
+/// Reads the node of the first of these forms that a tidied text has, or says where it stops being that of
+/// the form that was read furthest, at least `furthest`.
+fn try_group<'a>(
+    rows: &[Row],
+    furthest: Option<Stop>,
+    text: &'a [u8],
+) -> Result<TextNode<'a>, Option<Stop>>
     requires sound { IsTrue (list_all is_sound (map as_form rows.now)) }
     requires filled { IsTrue (list_all is_filled (map as_form rows.now)) }
-    ensures { option_map text_node result ≡ forms_set (map as_form rows.now) text.now }
+    ensures { result_map_both text_node (λ e. e) result
+        ≡ forms_tried (map as_form rows.now) furthest text.now }
 {
+    let mut so_far = furthest;
     for row in rows {
-        if let Some(node) = set_told(row, text) {
-            return Some(node);
+        match try_row(row, text) {
+            Ok(node) => return Ok(node),
+            Err(stop) => so_far = further(so_far, stop),
         }
     }
-    None
+    Err(so_far)
 }
 
 /// The same of all forms of the table.
-fn set_table(text: &[u8]) -> Option<TextNode<'_>>
-    ensures { option_map text_node result ≡ forms_set forms text.now }
+fn try_table(text: &[u8]) -> Result<TextNode<'_>, Option<Stop>>
+    ensures { result_map_both text_node (λ e. e) result ≡ forms_tried forms None text.now }
 {
+    let mut furthest = None;
     for index in 0..GROUPS {
-        if let Some(node) = set_group(group(index), text) {
-            return Some(node);
+        match try_group(group(index), furthest, text) {
+            Ok(node) => return Ok(node),
+            Err(stop) => furthest = stop,
         }
     }
-    None
+    Err(furthest)
+}
+
+/// The same of the forms that people paste.
+fn try_pasted(furthest: Option<Stop>, text: &[u8]) -> Result<TextNode<'_>, Option<Stop>>
+    ensures { result_map_both text_node (λ e. e) result ≡ forms_tried pasted_forms furthest text.now }
+{
+    try_group(pasted_forms(), furthest, text)
 }
 
 /// The same of a node of no kind.
-fn set_path(text: &[u8]) -> Option<TextNode<'_>>
-    ensures { option_map text_node result ≡ path_set text.now }
+fn try_path(text: &[u8]) -> Result<TextNode<'_>, Option<Stop>>
+    ensures { result_map_both text_node (λ e. e) result
+        ≡ path_told (after_literal (codes "Path(") text.now) }
 {
-    let rest = after_literal(b"Path(", text)?;
-    let (node, after) = plain_types(rest)?;
-    if !after.is_empty() {
-        return None;
+    let Ok(rest) = after_literal(b"Path(", text) else {
+        return Err(None);
+    };
+    match plain_types(rest) {
+        Some((node, [])) => Ok(node),
+        _ => Err(Some(stop_of(types_end(rest)))),
     }
-    Some(node)
 }
 
-/// The same in a form that people paste.
-fn set_pasted(text: &[u8]) -> Option<TextNode<'_>>
-    ensures { option_map text_node result ≡ forms_set pasted_forms text.now }
+/// The same of any of these. A call that programs print for different nodes stops where it has to tell them
+/// apart.
+fn try_call(text: &[u8]) -> Result<TextNode<'_>, Option<Stop>>
+    ensures { result_map_both text_node (λ e. e) result ≡ call_told text.now }
 {
-    set_group(pasted_forms(), text)
+    if let Some(stop) = ambiguous_stop(text) {
+        return Err(Some(stop));
+    }
+    let furthest = match try_table(text) {
+        Ok(node) => return Ok(node),
+        Err(stop) => stop,
+    };
+    let furthest = match try_pasted(furthest, text) {
+        Ok(node) => return Ok(node),
+        Err(stop) => stop,
+    };
+    match try_path(text) {
+        Ok(node) => Ok(node),
+        Err(stop) => Err(further(furthest, stop)),
+    }
 }
 
-/// The same of any of these.
-fn set_call(text: &[u8]) -> Option<TextNode<'_>>
-    ensures { option_map text_node result ≡ call_set text.now }
+/// Where a byte stands that has this many bytes before it but blanks.
+pub(crate) fn place_at(count: usize, text: &[u8]) -> usize
+    ensures place { result ≡ place_at count text.now }
+    ensures within { result ≤ length text.now }
 {
-    if let Some(node) = set_table(text) {
-        return Some(node);
+    let mut left = count;
+    for place in 0..text.len() {
+        if !is_blank(text[place]) {
+            if left == 0 {
+                return place;
+            }
+            left -= 1;
+        }
     }
-    if let Some(node) = set_pasted(text) {
-        return Some(node);
+    text.len()
+}
+
+/// The fault of a text, by how many bytes its tidied call has and where reading it stops.
+fn stop_fault(text: &[u8], len: usize, stop: Option<Stop>) -> NodeFault
+    ensures { result ≡ stop_fault text.now len stop }
+{
+    match stop {
+        Some(stop) => NodeFault {
+            byte: place_at(len.saturating_sub(stop.left), text),
+            expected: stop.expected,
+        },
+        None => NodeFault {
+            byte: 0,
+            expected: Expected::Node,
+        },
     }
-    set_path(text)
+}
+
+/// The same of a call without a `)`, of which nothing else is wrong if it is read, or stops after that.
+fn open_fault(text: &[u8], len: usize, read: Result<TextNode<'_>, Option<Stop>>) -> NodeFault
+    ensures { result ≡ open_fault text.now len (result_map_both text_node (λ e. e) read.entry) }
+{
+    match read {
+        Ok(_) | Err(Some(Stop { left: 0, .. })) => NodeFault {
+            byte: text.len(),
+            expected: Expected::Byte(b')'),
+        },
+        Err(stop) => stop_fault(text, len, stop),
+    }
 }
 
 /// Reads the node whose call a text begins with, from a tidied copy of the call. Returns what stands after
-/// it, too.
+/// it, too, or the fault of the text.
 pub(crate) fn by_call<'s, 't>(
     scratch: &'s mut [u8],
     text: &'t [u8],
-) -> Option<(TextNode<'s>, &'t [u8])>
+) -> Result<(TextNode<'s>, &'t [u8]), NodeFault>
     requires { length text.now < length scratch.old }
-    ensures { option_map (λ x. (text_node x.0, x.1.now)) result ≡ call_read text.now }
+    ensures { result_map_both (λ x. (text_node x.0, x.1.now)) (λ e. e) result
+        ≡ call_in text.now (cut_call text.now) }
 {
-    let (front, rest) = cut_call(text)?;
+    let Some((front, rest)) = cut_call(text) else {
+        let len = tidy(scratch, text);
+        return Err(open_fault(text, len, try_call(&scratch[..len])));
+    };
     let len = tidy(scratch, front);
-    let call = &scratch[..len];
-    if ambiguous_stop(call).is_some() {
-        return None;
+    match try_call(&scratch[..len]) {
+        Ok(node) => Ok((node, rest)),
+        Err(stop) => Err(stop_fault(text, len, stop)),
     }
-    let node = set_call(call)?;
-    Some((node, rest))
 }

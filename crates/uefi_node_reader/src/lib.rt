@@ -11,7 +11,6 @@ mod counted_bytes;
 #[doc(hidden)]
 pub mod faults;
 mod fields;
-mod lenient_faults;
 mod lenient_fields;
 mod lenient_names;
 mod lenient_table;
@@ -24,6 +23,7 @@ pub mod nodes;
 mod numerals;
 mod other_forms;
 mod plain_nodes;
+mod stops;
 #[doc(hidden)]
 pub mod styles;
 mod table_reader;

@@ -6,7 +6,7 @@
 //! `PcieRoot` a text of the device may stand in place of its number, which begins with `0x`.
 #![tactic(auto)]
 
-ghost use Rattle.std.specs.Prelude.{◌≡◌, ◌<◌, ◌≤◌, IfSome, IsTrue, codes, length, map};
+ghost use Rattle.std.specs.Prelude.{◌≡◌, ◌<◌, IsTrue, codes, length, map};
 ghost use Rattle.std.specs.List.{list_all};
 ghost use Rattle.std.specs.Option.{option_map};
 ghost use Rattle.uefi_node_table.specs.Rows.{as_form};
@@ -17,10 +17,10 @@ ghost use Rattle.uefi_node_reader.specs.TextNodeViews.{text_node};
 use crate::ambiguous::begins_with;
 use crate::faults::{Expected, NodeFault, Stop};
 use crate::fields::after;
-use crate::lenient_faults::{place_at, stop_at};
 use crate::lenient_names::begins_call;
-use crate::lenient_table::{cut_call, exact_told, tidy};
+use crate::lenient_table::{cut_call, exact_told, place_at, tidy};
 use crate::other_forms::own_forms;
+use crate::stops::stop_at;
 use crate::text_node::TextNode;
 use uefi_node_table::rows::Row;
 
@@ -106,8 +106,7 @@ fn own_stop(text: &[u8]) -> Option<Stop>
 /// The fault of a text that begins with such a call. The buffer then holds anything.
 pub(crate) fn own_fault(scratch: &mut [u8], text: &[u8]) -> Option<NodeFault>
     requires { length text.now < length scratch.old }
-    ensures fault { result ≡ own_fault text.now }
-    ensures within { IfSome result (λ fault. fault.byte ≤ length text.now) }
+    ensures { result ≡ own_fault text.now }
 {
     let (front, _) = cut_call(text)?;
     let len = tidy(scratch, front);

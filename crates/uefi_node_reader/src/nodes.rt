@@ -3,17 +3,16 @@
 
 ghost use Rattle.std.specs.Prelude.{◌≡◌, ◌<◌, ◌≤◌, codes, length};
 ghost use Rattle.std.specs.Option.{option_map};
+ghost use Rattle.std.specs.Result.{result_map_both};
 ghost use Rattle.uefi_node_reader.specs.Alike.{CallsAlike, ZerosAlike, ZerosAlikeAfterBase};
 ghost use Rattle.uefi_node_reader.specs.Laws.{NodeAgain, NodeFits, NodeStarts, NodeTakes, NodeTextOnce};
-ghost use Rattle.uefi_node_reader.specs.LenientFaults.{begun, call_fault, lenient_fault};
 ghost use Rattle.uefi_node_reader.specs.LenientFields.{after_literal};
-ghost use Rattle.uefi_node_reader.specs.LenientNodes.{ended, file_or_call, lenient_read};
+ghost use Rattle.uefi_node_reader.specs.LenientNodes.{end_fault, ended, ended_at, file_or_call, lenient_read, written_read};
 ghost use Rattle.uefi_node_reader.specs.NamedFiles.{is_after_node, node_read};
 ghost use Rattle.uefi_node_reader.specs.TextNodeViews.{text_node};
 
 use crate::clear_texts::first_of;
 use crate::faults::{Expected, NodeFault};
-use crate::lenient_faults::{call_fault, file_fault};
 use crate::lenient_fields::after_literal;
 use crate::lenient_names::{bare, begins_call, file};
 use crate::lenient_table::by_call;
@@ -64,16 +63,69 @@ pub(crate) fn ended<'s, 't>(
     None
 }
 
+/// The fault of a text that goes on where its node should end.
+fn end_fault(text: &[u8], rest: &[u8]) -> NodeFault
+    ensures { result ≡ end_fault text.now rest.now }
+{
+    NodeFault {
+        byte: text.len().saturating_sub(rest.len()),
+        expected: Expected::End,
+    }
+}
+
+/// What was read, where it ends as a node may end, or else the fault of the text.
+pub(crate) fn ended_at<'s, 't>(
+    text: &[u8],
+    read: (TextNode<'s>, &'t [u8]),
+) -> Result<(TextNode<'s>, &'t [u8]), NodeFault>
+    ensures { result_map_both (λ x. (text_node x.0, x.1.now)) (λ e. e) result
+        ≡ ended_at text.now (text_node read.entry.0, read.entry.1.now) }
+{
+    if is_after_node(read.1) {
+        return Ok(read);
+    }
+    Err(end_fault(text, read.1))
+}
+
 /// Reads the node whose call a text begins with.
-fn called<'s, 't>(scratch: &'s mut [u8], text: &'t [u8]) -> Option<(TextNode<'s>, &'t [u8])>
+fn called<'s, 't>(
+    scratch: &'s mut [u8],
+    text: &'t [u8],
+) -> Result<(TextNode<'s>, &'t [u8]), NodeFault>
     requires { length text.now < length scratch.old }
-    ensures { option_map (λ x. (text_node x.0, x.1.now)) result
+    ensures { result_map_both (λ x. (text_node x.0, x.1.now)) (λ e. e) result
         ≡ file_or_call (after_literal (codes "File(") text.now) text.now }
 {
     match after_literal(b"File(", text) {
-        Some(name) => file(scratch, name),
-        None => by_call(scratch, text),
+        Ok(name) => file(scratch, text, name),
+        Err(_) => by_call(scratch, text),
     }
+}
+
+/// Reads the node whose text a text begins with as people write it, but not as it is printed.
+fn written<'s, 't>(
+    is_rooted: bool,
+    scratch: &'s mut [u8],
+    text: &'t [u8],
+) -> Result<(TextNode<'s>, &'t [u8]), NodeFault>
+    requires { length text.now < length scratch.old }
+    ensures { result_map_both (λ x. (text_node x.0, x.1.now)) (λ e. e) result
+        ≡ written_read is_rooted text.now }
+{
+    if begins_call(text) {
+        return ended_at(text, called(scratch, text)?);
+    }
+    if let Some(read) = bare(is_rooted, scratch, text) {
+        return Ok(read);
+    }
+    Err(NodeFault {
+        byte: 0,
+        expected: if is_after_node(text) {
+            Expected::Node
+        } else {
+            Expected::FileName
+        },
+    })
 }
 
 /// Reads the node that a text begins with, as people write it, and returns what stands after it, too:
@@ -88,81 +140,30 @@ fn called<'s, 't>(scratch: &'s mut [u8], text: &'t [u8]) -> Option<(TextNode<'s>
 ///
 /// Left to [`read_node`], and so read only as printed, are calls that hold texts (`Uri`, `UsbWwid`, `AcpiEx`,
 /// `iSCSI`, `Wi-Fi`, `BBS`). The numbers of `AcpiAdr` after the first are as printed but for their case.
+///
+/// Returns why no node is read, too: the byte that is wrong, and what has to stand there. Several forms of
+/// nodes may have the name of the call. The one that was read furthest decides, and the first of these if
+/// there are several. The byte is the first that differs from the form's text, or the first of a field that
+/// can't be read. If the text begins with a whole node, it is the first byte after that.
 #[tactic(auto, unfolding(crate::specs::LenientNodes::lenient_read))]
 pub fn read_lenient_node<'s, 't: 's>(
     is_rooted: bool,
     scratch: &'s mut [u8],
     text: &'t [u8],
-) -> Option<(TextNode<'s>, &'t [u8])>
+) -> Result<(TextNode<'s>, &'t [u8]), NodeFault>
     requires { length text.now < length scratch.old }
-    ensures { option_map (λ x. (text_node x.0, x.1.now)) result ≡ lenient_read is_rooted text.now }
+    ensures { result_map_both (λ x. (text_node x.0, x.1.now)) (λ e. e) result
+        ≡ lenient_read is_rooted text.now }
 {
-    if let Some(read) = ended(read_node(text)) {
-        return Some(read);
+    let Some((node, rest)) = read_node(text) else {
+        return written(is_rooted, scratch, text);
+    };
+    if is_after_node(rest) {
+        return Ok((node, rest));
     }
-    if begins_call(text) {
-        return ended(called(scratch, text));
-    }
-    bare(is_rooted, scratch, text)
-}
-
-/// What stands after the node that a text begins with, whatever that is. The buffer then holds anything.
-fn begun<'t>(is_rooted: bool, scratch: &mut [u8], text: &'t [u8]) -> Option<&'t [u8]>
-    requires { length text.now < length scratch.old }
-    ensures { option_map (λ x. x.now) result ≡ begun is_rooted text.now }
-{
-    if let Some((_, rest)) = read_node(text) {
-        return Some(rest);
-    }
-    if begins_call(text) {
-        let (_, rest) = called(scratch, text)?;
-        return Some(rest);
-    }
-    let (_, rest) = bare(is_rooted, scratch, text)?;
-    Some(rest)
-}
-
-/// The fault of a text that begins with a call.
-fn fault_in_call(scratch: &mut [u8], text: &[u8]) -> NodeFault
-    requires { length text.now < length scratch.old }
-    ensures fault { result ≡ call_fault text.now (after_literal (codes "File(") text.now) }
-    ensures within { result.byte ≤ length text.now }
-{
-    match after_literal(b"File(", text) {
-        Some(name) => file_fault(text, name),
-        None => call_fault(scratch, text),
-    }
-}
-
-/// Returns why [`read_lenient_node`] reads no node from a text: the byte that is wrong, and what has to stand
-/// there. The buffer then holds anything.
-///
-/// Several forms of nodes may have the name of the call. The one that was read furthest decides, and the
-/// first of these if there are several. The byte is the first that differs from the form's text, or the
-/// first of a field that can't be read. If the text begins with a whole node, it is the first byte after
-/// that. Takes no memory but the buffer.
-#[tactic(auto, unfolding(crate::specs::LenientFaults::lenient_fault))]
-pub fn lenient_fault(is_rooted: bool, scratch: &mut [u8], text: &[u8]) -> NodeFault
-    requires { length text.now < length scratch.old }
-    ensures fault { result ≡ lenient_fault is_rooted text.now }
-    ensures within { result.byte ≤ length text.now }
-{
-    if let Some(rest) = begun(is_rooted, scratch, text) {
-        return NodeFault {
-            byte: text.len().saturating_sub(rest.len()),
-            expected: Expected::End,
-        };
-    }
-    if begins_call(text) {
-        return fault_in_call(scratch, text);
-    }
-    NodeFault {
-        byte: 0,
-        expected: if is_after_node(text) {
-            Expected::Node
-        } else {
-            Expected::FileName
-        },
+    match written(is_rooted, scratch, text) {
+        Ok(read) => Ok(read),
+        Err(_) => Err(end_fault(text, rest)),
     }
 }
 

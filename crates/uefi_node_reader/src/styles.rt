@@ -1,15 +1,15 @@
 //! One node read from its text, in the style of those who write it.
 #![tactic(auto)]
 
-ghost use Rattle.std.specs.Option.{option_map};
-ghost use Rattle.std.specs.Prelude.{◌≡◌, ◌<◌, ◌≤◌, length};
-ghost use Rattle.uefi_node_reader.specs.Libefivar.{libefivar_fault, libefivar_read};
-ghost use Rattle.uefi_node_reader.specs.Styles.{HasScratch, PrintedExactly, StyledAgain, StyledEnds, StyledFaultWithin, StyledStarts, StyledTakes, is_copied, styled_fault, styled_read};
+ghost use Rattle.std.specs.Prelude.{◌≡◌, ◌<◌, length};
+ghost use Rattle.std.specs.Result.{result_map_both};
+ghost use Rattle.uefi_node_reader.specs.Libefivar.{libefivar_read};
+ghost use Rattle.uefi_node_reader.specs.Styles.{HasScratch, PrintedExactly, StyledAgain, StyledEnds, StyledFaultWithin, StyledStarts, StyledTakes, is_copied, styled_read};
 ghost use Rattle.uefi_node_reader.specs.TextNodeViews.{text_node};
 
 use crate::faults::{Expected, NodeFault};
 use crate::libefivar::{own, own_fault};
-use crate::nodes::{ended, lenient_fault, read_lenient_node, read_node};
+use crate::nodes::{ended, ended_at, read_lenient_node, read_node};
 use crate::text_node::TextNode;
 
 /// Whose texts are read.
@@ -34,80 +34,54 @@ pub fn is_copied(style: TextStyle) -> bool
     }
 }
 
-/// Reads the node that a text begins with as libefivar prints it, and returns what stands after it, too. The
-/// buffer then holds anything.
+/// Reads the node that a text begins with as libefivar prints it, and returns what stands after it, too, or
+/// the fault of the text. The buffer then holds anything.
 #[tactic(auto, unfolding(crate::specs::Libefivar::libefivar_read))]
 fn read_libefivar_node<'s, 't: 's>(
     is_rooted: bool,
     scratch: &'s mut [u8],
     text: &'t [u8],
-) -> Option<(TextNode<'s>, &'t [u8])>
+) -> Result<(TextNode<'s>, &'t [u8]), NodeFault>
     requires { length text.now < length scratch.old }
-    ensures { option_map (λ x. (text_node x.0, x.1.now)) result ≡ libefivar_read is_rooted text.now }
+    ensures { result_map_both (λ x. (text_node x.0, x.1.now)) (λ e. e) result
+        ≡ libefivar_read is_rooted text.now }
 {
     if own(scratch, text).is_some() {
-        return ended(own(scratch, text));
+        // Read again: what is returned borrows the buffer, which the lines below need if there is none.
+        let Some(read) = own(scratch, text) else {
+            unreachable!()
+        };
+        return ended_at(text, read);
     }
-    if own_fault(scratch, text).is_some() {
-        return None;
+    if let Some(fault) = own_fault(scratch, text) {
+        return Err(fault);
     }
     read_lenient_node(is_rooted, scratch, text)
-}
-
-/// Why no node is read so.
-#[tactic(auto, unfolding(crate::specs::Libefivar::libefivar_fault))]
-fn libefivar_fault(is_rooted: bool, scratch: &mut [u8], text: &[u8]) -> NodeFault
-    requires { length text.now < length scratch.old }
-    ensures fault { result ≡ libefivar_fault is_rooted text.now }
-    ensures within { result.byte ≤ length text.now }
-{
-    if let Some((_, rest)) = own(scratch, text) {
-        return NodeFault {
-            byte: text.len().saturating_sub(rest.len()),
-            expected: Expected::End,
-        };
-    }
-    match own_fault(scratch, text) {
-        Some(fault) => fault,
-        None => lenient_fault(is_rooted, scratch, text),
-    }
 }
 
 /// Reads the node that a text begins with in a style, and returns what stands after it, too: nothing,
 /// or a slash or a comma first. A file's name has to begin with a backslash where it is rooted. The
 /// buffer then holds anything. Takes no memory but the buffer, for a copy of the call or of the name.
+///
+/// Returns why no node is read, too: the byte that is wrong, and what has to stand there.
 #[tactic(auto, unfolding(crate::specs::Styles::styled_read))]
 pub fn read_styled_node<'s, 't: 's>(
     style: TextStyle,
     is_rooted: bool,
     scratch: &'s mut [u8],
     text: &'t [u8],
-) -> Option<(TextNode<'s>, &'t [u8])>
+) -> Result<(TextNode<'s>, &'t [u8]), NodeFault>
     requires { HasScratch style text.now scratch.old }
-    ensures { option_map (λ x. (text_node x.0, x.1.now)) result ≡ styled_read style is_rooted text.now }
+    ensures { result_map_both (λ x. (text_node x.0, x.1.now)) (λ e. e) result
+        ≡ styled_read style is_rooted text.now }
 {
     match style {
-        TextStyle::Printed => ended(read_node(text)),
-        TextStyle::Lenient => read_lenient_node(is_rooted, scratch, text),
-        TextStyle::Libefivar => read_libefivar_node(is_rooted, scratch, text),
-    }
-}
-
-/// Returns why [`read_styled_node`] reads no node from a text: the byte that is wrong, and what has to stand
-/// there. The buffer then holds anything.
-#[tactic(auto, unfolding(crate::specs::Styles::styled_fault))]
-pub fn styled_fault(style: TextStyle, is_rooted: bool, scratch: &mut [u8], text: &[u8]) -> NodeFault
-    requires { HasScratch style text.now scratch.old }
-    ensures fault { result ≡ styled_fault style is_rooted text.now }
-    ensures within { result.byte ≤ length text.now }
-{
-    match style {
-        TextStyle::Printed => NodeFault {
+        TextStyle::Printed => ended(read_node(text)).ok_or(NodeFault {
             byte: 0,
             expected: Expected::AsPrinted,
-        },
-        TextStyle::Lenient => lenient_fault(is_rooted, scratch, text),
-        TextStyle::Libefivar => libefivar_fault(is_rooted, scratch, text),
+        }),
+        TextStyle::Lenient => read_lenient_node(is_rooted, scratch, text),
+        TextStyle::Libefivar => read_libefivar_node(is_rooted, scratch, text),
     }
 }
 

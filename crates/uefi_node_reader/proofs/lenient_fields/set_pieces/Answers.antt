@@ -3,7 +3,7 @@ use Rattle.uefi_node_table.specs.Rows.{as_piece, is_within}
 use Rattle.uefi_node_table.proofs.Lists.{all_at_same}
 use Rattle.uefi_node_reader.proofs.lenient_fields.set_pieces.Goals as goal
 
-pub set_piece-requires : goal.set_piece-requires
-set_piece-requires c =
+pub set_piece-requires-clause-within : goal.set_piece-requires-clause-within
+set_piece-requires-clause-within c =
     all_at_same as_piece is_within (length c.args.content.now) (length c.loop-piece.content)
-    c.loop-piece.auto.content c.args.pieces.now c.loop-piece.piece-index _ c.loop-piece-test.true c.requires
+    c.loop-piece.auto.content c.args.pieces.now c.loop-piece.piece-index _ c.loop-piece-test.true c.requires.within

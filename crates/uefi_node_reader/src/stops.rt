@@ -1,0 +1,119 @@
+//! Where texts stop being read, and what is expected there.
+#![tactic(auto)]
+
+ghost use Rattle.std.specs.Option.{ok_or, option_map};
+ghost use Rattle.std.specs.Prelude.{◌≡◌};
+ghost use Rattle.std.specs.Result.{result_map_both};
+ghost use Rattle.uefi_node_reader.specs.Numerals.{number_read};
+ghost use Rattle.uefi_node_reader.specs.Stops.{close_stop, exact_end, further, past, rest_end, stop_at, stop_of, tail_stop, types_end};
+ghost use Rattle.uefi_node_reader.specs.TableReading.{tail_read};
+ghost use Rattle.uefi_node_reader.specs.declared.faults.Expected.TheVariants.{Number};
+
+use crate::clear_texts::first_of;
+use crate::faults::{Expected, Stop};
+use crate::fields::after;
+use crate::node_tails::push_tail;
+use crate::numerals::number;
+use uefi_node_table::rows::Tail;
+
+/// A text that stops here, where this was expected.
+pub(crate) fn stop_at(text: &[u8], expected: Expected) -> Stop
+    ensures { result ≡ stop_at text.now expected }
+{
+    Stop {
+        left: text.len(),
+        expected,
+    }
+}
+
+/// The one of two with less of the text left, or else the first.
+pub(crate) fn further(one: Option<Stop>, other: Option<Stop>) -> Option<Stop>
+    ensures { result ≡ further one other }
+{
+    match (one, other) {
+        (None, _) => other,
+        (Some(_), None) => one,
+        (Some(stop), Some(next)) => {
+            if next.left < stop.left {
+                Some(next)
+            } else {
+                Some(stop)
+            }
+        }
+    }
+}
+
+/// What stands after a literal as it is printed.
+fn exact_end<'a>(literal: &[u8], text: &'a [u8]) -> Result<&'a [u8], Stop>
+    ensures { result_map_both (λ x. x.now) (λ e. e) result ≡ exact_end literal.now text.now }
+{
+    after(literal, text).ok_or(stop_at(text, Expected::Byte(first_of(literal))))
+}
+
+/// Where the data after the fields stop: bytes in the first of them, and a list at its start.
+fn tail_stop(tail: Tail, text: &[u8]) -> Stop
+    ensures { result ≡ tail_stop tail text.now }
+{
+    match (tail, text) {
+        (Tail::Bytes, [_, digits @ ..]) => stop_at(digits, Expected::Digits(2)),
+        (Tail::Bytes, []) => stop_at(text, Expected::Digits(2)),
+        _ => stop_at(text, Expected::AsPrinted),
+    }
+}
+
+/// Where the end of a text stops: one more item may stand there, too, if a list ends here.
+fn close_stop(tail: Tail, close: &[u8], text: &[u8]) -> Stop
+    ensures { result ≡ close_stop tail close.now text.now }
+{
+    match tail {
+        Tail::Repeated(_) => stop_at(text, Expected::AsPrinted),
+        _ => stop_at(text, Expected::Byte(first_of(close))),
+    }
+}
+
+/// What stands after the data that follow the fields.
+fn tail_rest<'a>(tail: Tail, close: &[u8], text: &'a [u8]) -> Option<&'a [u8]>
+    ensures { option_map (λ x. x.now) result ≡ past (tail_read tail close.now text.now) }
+{
+    let (_, rest) = push_tail(tail, close, &mut [], 0, text)?;
+    Some(rest)
+}
+
+/// What stands after the data that follow the fields, and after the end of the text.
+pub(crate) fn rest_end<'a>(tail: Tail, close: &[u8], text: &'a [u8]) -> Result<&'a [u8], Stop>
+    ensures { result_map_both (λ x. x.now) (λ e. e) result ≡ rest_end tail close.now text.now }
+{
+    let rest = tail_rest(tail, close, text).ok_or(tail_stop(tail, text))?;
+    after(close, rest).ok_or(close_stop(tail, close, rest))
+}
+
+/// What stands after a number of a byte in decimal.
+fn byte_end(text: &[u8]) -> Result<&[u8], Stop>
+    ensures { result_map_both (λ x. x.now) (λ e. e) result
+        ≡ ok_or (past (number_read 10 256 text.now)) (stop_at text.now (Number 255)) }
+{
+    match number(10, 0xff, text) {
+        Some((_, rest)) => Ok(rest),
+        None => Err(stop_at(text, Expected::Number(0xff))),
+    }
+}
+
+/// What stands after a node of no kind, from its type on.
+pub(crate) fn types_end(text: &[u8]) -> Result<&[u8], Stop>
+    ensures { result_map_both (λ x. x.now) (λ e. e) result ≡ types_end text.now }
+{
+    let rest = byte_end(text)?;
+    let rest = exact_end(b",", rest)?;
+    let rest = byte_end(rest)?;
+    rest_end(Tail::Bytes, b")", rest)
+}
+
+/// Where a text stops being that of a node: if all of it was read, its text does not tell the node.
+pub(crate) fn stop_of(read: Result<&[u8], Stop>) -> Stop
+    ensures { result ≡ stop_of (result_map_both (λ x. x.now) (λ e. e) read.entry) }
+{
+    match read {
+        Ok(rest) => stop_at(rest, Expected::Untold),
+        Err(stop) => stop,
+    }
+}
