@@ -81,6 +81,55 @@ static void walk_nodes(void)
     expect(reason == NARD_NO_END_NODE && far == (size_t)-1 && node.start == 10, "nard_device_path_next_node", rows_count);
 }
 
+/* Copies the instance at an offset, with an end node, and moves the offset to the next one. Returns NARD_END_OF_PATH after the last. */
+static nard_result cut_instance(const uint8_t *bytes, size_t count, size_t *offset, uint8_t *buffer, size_t room, size_t *length)
+{
+    struct nard_device_node node;
+    nard_result reason = nard_device_path_begin(buffer, room, length);
+    while (reason == NARD_OK) {
+        reason = nard_device_path_next_node(bytes, count, offset, &node);
+        if (reason != NARD_OK || node.device_type == 0x7f)
+            return reason;
+        reason = nard_device_path_push(buffer, room, node.device_type, node.sub_type, bytes + node.start, node.length, length);
+    }
+    return reason;
+}
+
+/* Adds a path as a further instance. */
+static nard_result add_instance(uint8_t *buffer, size_t room, const uint8_t *bytes, size_t count, size_t *length)
+{
+    nard_result reason = nard_device_path_push(buffer, room, 0x7f, 1, NULL, 0, length);
+    return reason == NARD_OK ? nard_device_path_append(buffer, room, bytes, count, length) : reason;
+}
+
+static void cut_instances(void)
+{
+    static const uint8_t usb[] = {3, 5, 6, 0, 1, 2, 0x7f, 0xff, 4, 0};
+    uint8_t both[40], one[40];
+    size_t size = 0, offset = 0, length = 0;
+    memcpy(both, path, PATH_SIZE);
+    expect(add_instance(both, sizeof both, usb, sizeof usb, &size) == NARD_OK && size == 30, "add_instance", 0);
+    expect(cut_instance(both, size, &offset, one, sizeof one, &length) == NARD_OK, "cut_instance", 0);
+    expect(length == PATH_SIZE && memcmp(one, path, length) == 0 && offset == 20, "cut_instance", 1);
+    expect(cut_instance(both, size, &offset, one, sizeof one, &length) == NARD_END_OF_PATH, "cut_instance", 2);
+    expect(length == sizeof usb && memcmp(one, usb, length) == 0 && offset == size, "cut_instance", 3);
+    offset = 0;
+    expect(cut_instance(both, size, &offset, one, 19, &length) == NARD_BUFFER_TOO_SMALL && length == 20, "cut_instance", 4);
+}
+
+/* An end node ends a path once, and a path without nodes has a text. */
+static void end_paths(void)
+{
+    uint8_t end[8];
+    uint16_t text[1] = {9};
+    size_t length = 99;
+    expect(nard_device_path_begin(end, sizeof end, &length) == NARD_OK, "nard_device_path_begin", 0);
+    expect(nard_device_path_push(end, sizeof end, 0x7f, 0xff, NULL, 0, &length) == NARD_NODE_OF_END, "nard_device_path_push", 0);
+    expect(nard_device_path_text(end, 4, false, false, text, 1, &length) == NARD_OK && length == 0 && text[0] == 0,
+           "nard_device_path_text", 0);
+    expect(nard_device_path_push_text(end, sizeof end, NULL, 0, &length) == NARD_OK && length == 4, "nard_device_path_push_text", 0);
+}
+
 /* The macros of nodes in a caller's own macros, where a field is a parameter. */
 #define READ(data, size, field, number) \
     (NARD_WIDTH(field) <= 8 && NARD_PLACE(field) < (size) ? nard_node_number(data, size, field, number) : NARD_NO_FIELD)
@@ -342,6 +391,8 @@ int main(void)
     check_paths();
     walk_nodes();
     read_fields();
+    cut_instances();
+    end_paths();
     write_file_paths();
     write_texts();
     read_options();
