@@ -10,8 +10,8 @@ use Rattle.uefi_device_nodes.specs.Nodes.{Node}
 use Rattle.uefi_node_reader.specs.TextNodeViews.{text_node}
 use Rattle.uefi_node_reader.specs.declared.faults.NodeFault.{NodeFault}
 use Rattle.uefi_device_path.specs.Building.{build_refusal}
-use Rattle.uefi_device_path.specs.Paths.{joined}
-use Rattle.uefi_device_path.specs.StyledReading.{Holds, follows_comma, nodes_before}
+use Rattle.uefi_device_path.specs.Paths.{nodes_bytes}
+use Rattle.uefi_device_path.specs.StyledReading.{Holds, follows_comma, nodes_up_to}
 use Rattle.uefi_device_path.proofs.PathReading.{accepted}
 use Rattle.uefi_device_path.proofs.StyledPushes.{puts_next, puts_none}
 use Rattle.uefi_device_path.proofs.StyledReading.{Going, Nodes, all_read, going_comma, going_node, going_stops, place_within, read_once}
@@ -61,7 +61,7 @@ fault_at-requires-clause-byte c =
 
 pub returns-in-Err-clause-len : goal.returns-in-Err-clause-len
 returns-in-Err-clause-len c =
-    ap (λ (r : Nodes). result_map_both (λ (nodes : List Node). min (c.args.len + length (joined nodes)) (2 ^ 64 - 1)) (λ fault. fault) r)
+    ap (λ (r : Nodes). result_map_both (λ (nodes : List Node). min (c.args.len + length (nodes_bytes nodes)) (2 ^ 64 - 1)) (λ fault. fault) r)
     (sym (going_stops c.args.style c.args.text.now c.nodes.invariant.nodes c.nodes.at_start c.nodes.rest.now
     c.node_start-place.result.now c.nodes.invariant.on c.in-None.ensures c.node_start-place.ensures c.in-Err.found
     (sym c.in-Err.ensures) c.fault_at.result c.fault_at.ensures))
@@ -97,12 +97,12 @@ nodes-smaller c =
 pub returns-clause-len : goal.returns-clause-len
 returns-clause-len c =
     ap (λ n. Ok n) c.nodes.invariant.count
-    ∙ ap (λ (r : Nodes). result_map_both (λ (nodes : List Node). min (c.args.len + length (joined nodes)) (2 ^ 64 - 1)) (λ fault. fault) r)
+    ∙ ap (λ (r : Nodes). result_map_both (λ (nodes : List Node). min (c.args.len + length (nodes_bytes nodes)) (2 ^ 64 - 1)) (λ fault. fault) r)
     (sym (all_read c.args.style c.args.text.now c.nodes.invariant.nodes c.nodes.at_start c.nodes.rest.now c.nodes.invariant.on (grind (arith, nat_tests))))
 
 pub returns-clause-put : goal.returns-clause-put
 returns-clause-put c = λ nodes read fits.
     let on = c.nodes.invariant in
     let all = all_read c.args.style c.args.text.now on.nodes c.nodes.at_start c.nodes.rest.now on.on (grind (arith, nat_tests)) in
-    subst (λ (ns : List Node). Holds c.args.buffer.now (nodes_before c.args.len c.args.buffer.now ++ ns) c.nodes.buffer c.nodes.end)
+    subst (λ (ns : List Node). Holds c.args.buffer.now (nodes_up_to c.args.len c.args.buffer.now ++ ns) c.nodes.buffer c.nodes.end)
     (read_once c.args.style c.args.text.now on.nodes nodes all read) (on.holds fits)
