@@ -7,7 +7,7 @@ use Rattle.std.proofs.lemmas.Result.{IfErr-at_err}
 use borrow.Author.Tests.{eqb-true}
 use Rattle.uefi_device_nodes.specs.Nodes.{Node}
 use Rattle.uefi_device_path.specs.Laws.{PrintedIsRead, ReadNeverStops, ReadOnce, ReadTold}
-use Rattle.uefi_device_path.specs.StyledReading.{follows_comma, place_read, IsLenientError, IsReadAs, Reads, ReadingStopsAt, ReadsTo, StopsBeingRead, fault_from, more_nodes, node_then, nodes_of_rest, path_read}
+use Rattle.uefi_device_path.specs.StyledReading.{follows_comma, place_read, IsReadAs, Reads, ReadingStopsAt, ReadsTo, StopsBeingRead, fault_from, more_nodes, node_then, nodes_of_rest, path_read}
 use Rattle.uefi_device_path.specs.StyledReading.ReadsTo.{Begins, Comma, OneMore}
 use Rattle.uefi_device_path.specs.PathReading.{AreTold, end_instance, is_after_instance}
 use Rattle.uefi_device_path.specs.declared.lenient_errors.LenientTextError.{LenientTextError}
@@ -317,19 +317,6 @@ module _ (style : TextStyle) (text : List ℕ) where
   pub all_read : (nodes : List Node) (s : Bool) (rest : List ℕ) → Going nodes s rest → length rest ≡ 0 → IsReadAs style text nodes
   all_read nodes s [] on none = sym on.all ∙ ap (λ (l : List Node). Ok l) (append-nil nodes)
   all_read nodes s (c ∷ cs) on none = absurd (omega (arith, none))
-
-  -- the nodes that a text is read as are the only result but for memory
-  pub only_read : ReadOnce → ReadNeverStops → (r : Result (List Node) LenientTextError)
-      → IfOk r (λ path. IsReadAs style text path) → IfErr r (IsLenientError style text) → (nodes : List Node) → IsReadAs style text nodes
-      → IfOk r (λ path. path ≡ nodes) × IfErr r (λ error. error ≡ OutOfMemory)
-  only_read once never (Ok path) ok refusal nodes read = (once style text path nodes ok read, tt)
-  only_read once never (Err OutOfMemory) ok refusal nodes read = (tt, refl)
-  only_read once never (Err (NoNode place)) ok refusal nodes read = absurd (never style text nodes place read refusal)
-
-  pub told_result : ReadTold → (r : Result (List Node) LenientTextError)
-      → IfOk r (λ path. IsReadAs style text path) → IfOk r (λ path. AreTold path)
-  told_result told (Ok path) ok = told style text path ok
-  told_result told (Err error) ok = tt
 
 -- what is printed is read
 module _ (fits : NodeFits) (starts : NodeStarts) (again : NodeAgain) (styled : StyledAgain) (ends : StyledEnds) where

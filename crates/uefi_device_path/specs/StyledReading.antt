@@ -117,10 +117,11 @@ pub record Holds (old : List ℕ) (nodes : List Node) (new : List ℕ) (end : �
   pub same : length new ≡ length old
   pub rest : drop end new ≡ drop end old
 
--- why a text is not read: memory was refused, or its fault
-abbrev pub IsLenientError : TextStyle → List ℕ → LenientTextError → Type 0
-IsLenientError style text OutOfMemory = Unit {0}
-IsLenientError style text (NoNode fault) = ReadingStopsAt style text fault
+-- what comes back is what a text is read as, or its fault, unless memory was refused
+abbrev pub GivesText : Result (List Node) LenientTextError → Result (List Node) TextFault → Type 0
+GivesText (Ok path) read = read ≡ Ok path
+GivesText (Err (NoNode fault)) read = read ≡ Err fault
+GivesText (Err OutOfMemory) read = Unit {0}
 
 -- why the nodes that a text is read as are not added to the path that a buffer begins with: there is no
 -- path, the second buffer is not longer than the text that is copied, the text has this fault, or there

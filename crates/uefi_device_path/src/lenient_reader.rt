@@ -1,16 +1,10 @@
 //! Device paths read from texts as people write them, and from those that libefivar prints.
 #![tactic(auto)]
 
-ghost use Rattle.std.specs.Prelude.{◌≡◌, false, List, IfOk, IfErr};
-ghost use Rattle.uefi_device_nodes.specs.Nodes.{Node};
-ghost use Rattle.uefi_device_path.specs.StyledReading.{IsLenientError, IsReadAs};
-ghost use Rattle.uefi_device_path.specs.PathReading.{AreTold};
-ghost use Rattle.uefi_device_path.specs.PathTexts.{nodes_text};
-ghost use Rattle.uefi_device_path.specs.declared.lenient_errors.LenientTextError.TheVariants.{OutOfMemory};
+ghost use Rattle.uefi_device_path.specs.StyledReading.{GivesText, path_read};
 ghost use Rattle.uefi_node_reader.specs.declared.styles.TextStyle.TheVariants.{Lenient, Libefivar};
 
 use crate::build::DevicePathBuf;
-use crate::laws::styled_texts;
 use crate::lenient_errors::LenientTextError;
 use crate::styled_reader::read_styled_path;
 use std::alloc::Allocator;
@@ -22,13 +16,8 @@ fn read_from<A: Allocator + Copy>(
     alloc: A,
     text: &str,
 ) -> Result<DevicePathBuf<A>, LenientTextError>
-    ensures told { IfOk result (λ path. AreTold path) }
-    ensures ok { IfOk result (λ path. IsReadAs style text.now path) }
-    ensures only { (nodes : List Node) → IsReadAs style text.now nodes
-        → IfOk result (λ path. path ≡ nodes) × IfErr result (λ error. error ≡ OutOfMemory) }
-    ensures refusal { IfErr result (IsLenientError style text.now) }
+    ensures { GivesText result (path_read style text.now) }
 {
-    styled_texts();
     let mut scratch = Vec::new(alloc);
     if scratch.resize(text.len() + 1, 0).is_err() {
         return Err(LenientTextError::OutOfMemory);
@@ -61,15 +50,8 @@ impl<A: Allocator + Copy> DevicePathBuf<A> {
     /// assert_eq!(rt; refused.err(), Some(LenientTextError::NoNode(fault)));
     /// ```
     pub fn from_lenient_text(alloc: A, text: &str) -> Result<Self, LenientTextError>
-        ensures told { IfOk result (λ path. AreTold path) }
-        ensures ok { IfOk result (λ path. IsReadAs Lenient text.now path) }
-        ensures only { (nodes : List Node) → IsReadAs Lenient text.now nodes
-            → IfOk result (λ path. path ≡ nodes) × IfErr result (λ error. error ≡ OutOfMemory) }
-        ensures printed { (nodes : List Node) → AreTold nodes → nodes_text false false nodes ≡ text.now
-            → IfOk result (λ path. path ≡ nodes) × IfErr result (λ error. error ≡ OutOfMemory) }
-        ensures refusal { IfErr result (IsLenientError Lenient text.now) }
+        ensures { GivesText result (path_read Lenient text.now) }
     {
-        styled_texts();
         read_from(TextStyle::Lenient, alloc, text)
     }
 
@@ -88,11 +70,7 @@ impl<A: Allocator + Copy> DevicePathBuf<A> {
     /// assert_eq!(rt; text.as_str(), "NVMe(0x1,1C-03-B0-71-5B-38-25-00)");
     /// ```
     pub fn from_libefivar_text(alloc: A, text: &str) -> Result<Self, LenientTextError>
-        ensures told { IfOk result (λ path. AreTold path) }
-        ensures ok { IfOk result (λ path. IsReadAs Libefivar text.now path) }
-        ensures only { (nodes : List Node) → IsReadAs Libefivar text.now nodes
-            → IfOk result (λ path. path ≡ nodes) × IfErr result (λ error. error ≡ OutOfMemory) }
-        ensures refusal { IfErr result (IsLenientError Libefivar text.now) }
+        ensures { GivesText result (path_read Libefivar text.now) }
     {
         read_from(TextStyle::Libefivar, alloc, text)
     }

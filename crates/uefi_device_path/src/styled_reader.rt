@@ -4,7 +4,7 @@
 ghost use Rattle.std.specs.Prelude.{take, true, false, if◌then◌else◌, drop, ◌++◌, ◌∷◌, ◌≡◌, ◌+◌, ◌-◌, ◌<◌, ◌≤◌, ◌^◌, min, [], List, IfOk, IfErr, MatchOption, OnOk, Err, length};
 ghost use Rattle.std.specs.Result.{result_map_both};
 ghost use Rattle.uefi_device_nodes.specs.Nodes.{Node};
-ghost use Rattle.uefi_device_path.specs.StyledReading.{Holds, IsLenientError, IsReadAs, IsStyledText, fault_from, follows_comma, nodes_up_to, path_read, place_read};
+ghost use Rattle.uefi_device_path.specs.StyledReading.{GivesText, Holds, IsReadAs, IsStyledText, fault_from, follows_comma, nodes_up_to, path_read, place_read};
 ghost use Rattle.uefi_device_path.specs.PathReading.{end_instance, is_after_instance};
 ghost use Rattle.uefi_device_path.specs.Paths.{IsPath, nodes_bytes};
 ghost use Rattle.uefi_built_nodes.specs.RawNodes.{raw_node};
@@ -172,8 +172,7 @@ pub(crate) fn read_styled_path<A: Allocator + Copy>(
     text: &[u8],
 ) -> Result<DevicePathBuf<A>, LenientTextError>
     requires { HasScratch style text.now scratch.old }
-    ensures ok { IfOk result (λ path. IsReadAs style text.now path) }
-    ensures refusal { IfErr result (IsLenientError style text.now) }
+    ensures gives { GivesText result (path_read style text.now) }
     ensures memory { result ≡ Err OutOfMemory → IsStyledText style text.now }
 {
     let len = match put_text(style, &mut [], 4, text, scratch) {

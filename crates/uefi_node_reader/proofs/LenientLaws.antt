@@ -279,15 +279,6 @@ module _ (is_rooted : Bool) (text : List ℕ) (node : Node) (rest : List ℕ) (G
     | inr p ↦ call_or_name (begins_call text) refl p
   ]
 
-pub lenient_takes : (is_rooted : Bool) (text : List ℕ) (node : Node) (rest : List ℕ)
-    → lenient_read is_rooted text ≡ Ok (node, rest) → IsTold node
-lenient_takes is_rooted text node rest e = one_of_four is_rooted text node rest (IsTold node)
-    (λ p _. (node_takes text node rest p).0)
-    (λ _ name _ p _. let call = filed text name node rest (cut_call name) p in name_told (rooted call.0.0) node call.2.0)
-    (λ _ p _. let call = called text node rest (cut_call text) p in
-    call_is_told (ambiguous_stop (tidied call.0.0)) (tidied call.0.0) node call.2.0)
-    (λ p. name_told (rooted (name_bytes text)) node (bare_named is_rooted text node rest p).0) e
-
 pub lenient_again : (is_rooted : Bool) (text : List ℕ) (node : Node) (rest : List ℕ) → node_read text ≡ Some (node, rest)
     → is_after_node rest ≡ true → lenient_read is_rooted text ≡ Ok (node, rest)
 unfolding lenient_read
@@ -441,38 +432,59 @@ bare_end is_rooted text node rest e =
     subst (λ (x : List ℕ). IsRestOf text x × (is_after_node x ≡ true)) name.1
     (bare_rest text node name.0, after_name text)
 
-pub lenient_ends : (is_rooted : Bool) (text : List ℕ) (node : Node) (rest : List ℕ) → lenient_read is_rooted text ≡ Ok (node, rest)
-    → IsRestOf text rest × (is_after_node rest ≡ true)
-lenient_ends is_rooted text node rest e = one_of_four is_rooted text node rest (IsRestOf text rest × (is_after_node rest ≡ true))
-    (λ p after. (strict_end text node rest p after, after)) (λ _ name begun p after. (file_end text name node rest begun p, after))
-    (λ _ p after. (call_end text node rest p, after)) (bare_end is_rooted text node rest) e
-
 -- nothing is read where a slash or a comma stands first, or nothing
 no_bytes : (text : List ℕ) → is_after_node text ≡ true → name_bytes text ≡ []
 no_bytes [] e = refl
 no_bytes (c ∷ cs) e = ap (λ (t : Bool). take (name_place cs t) (c ∷ cs)) e
 
--- a call begins with neither
-pub call_starts : (text : List ℕ) → is_after_node text ≡ true → begins_call text ≡ true → is_after_node text ≡ false
-call_starts text first call =
-    let none : begins_call text ≡ false = ap (λ (x : List ℕ). list_any (λ c. c == 40) x) (no_bytes text first) in
-    absurd (true≢false (sym call ∙ none))
-
-pub lenient_starts : (is_rooted : Bool) (text : List ℕ) (node : Node) (rest : List ℕ) → lenient_read is_rooted text ≡ Ok (node, rest)
-    → is_after_node text ≡ false
-lenient_starts is_rooted text node rest e = by (is_after_node text) refl
+pub call_starts : (text : List ℕ) → begins_call text ≡ true → is_after_node text ≡ false
+call_starts text call = by (is_after_node text) refl
   where
-    strict : node_read text ≡ Some (node, rest) → is_after_node text ≡ false
-    strict p = let read = node_takes text node rest p in ap is_after_node read.1 ∙ node_starts node read.0 rest
+    by : (b : Bool) → is_after_node text ≡ b → is_after_node text ≡ false
+    by false first = first
+    by true first = absurd (true≢false (sym call ∙ ap (λ (x : List ℕ). list_any (λ c. c == 40) x) (no_bytes text first)))
 
-    bare : is_after_node text ≡ true → bare_read is_rooted text ≡ Some (node, rest) → is_after_node text ≡ false
-    bare first p =
-        let name = (bare_named is_rooted text node rest p).0 in
+bare_starts : (text : List ℕ) (node : Node) → whole (name_read (rooted (name_bytes text))) ≡ Some node → is_after_node text ≡ false
+bare_starts text node name = by (is_after_node text) refl
+  where
+    by : (b : Bool) → is_after_node text ≡ b → is_after_node text ≡ false
+    by false first = first
+    by true first =
         let none : whole (name_read (rooted (name_bytes text))) ≡ None =
         ap (λ (x : List ℕ). whole (name_read (rooted x))) (no_bytes text first) ∙ no_name in
         cc (name, none)
 
-    by : (b : Bool) → is_after_node text ≡ b → is_after_node text ≡ false
-    by false p = p
-    by true p = one_of_four is_rooted text node rest (is_after_node text ≡ false) (λ q _. strict q)
-        (λ b _ _ _ _. call_starts text p b) (λ b _ _. call_starts text p b) (bare p) e
+-- what is known of a node that was read, and of what stands after it
+pub record WellRead (text : List ℕ) (node : Node) (rest : List ℕ) : Type 0 where
+  pub told : IsTold node
+  pub rest_of : IsRestOf text rest
+  pub ends : is_after_node rest ≡ true
+  pub starts : is_after_node text ≡ false
+
+pub strict_well : (text : List ℕ) (node : Node) (rest : List ℕ) → node_read text ≡ Some (node, rest) → is_after_node rest ≡ true
+    → WellRead text node rest
+strict_well text node rest e after =
+    let read = node_takes text node rest e in
+    record { told = read.0; rest_of = strict_end text node rest e after; ends = after; starts = ap is_after_node read.1 ∙ node_starts node read.0 rest }
+
+pub lenient_well : (is_rooted : Bool) (text : List ℕ) (node : Node) (rest : List ℕ) → lenient_read is_rooted text ≡ Ok (node, rest)
+    → WellRead text node rest
+lenient_well is_rooted text node rest e = one_of_four is_rooted text node rest (WellRead text node rest) (strict_well text node rest)
+    (λ b name begun p after. let call = filed text name node rest (cut_call name) p in record {
+      told = name_told (rooted call.0.0) node call.2.0;
+      rest_of = file_end text name node rest begun p;
+      ends = after;
+      starts = call_starts text b;
+    })
+    (λ b p after. let call = called text node rest (cut_call text) p in record {
+      told = call_is_told (ambiguous_stop (tidied call.0.0)) (tidied call.0.0) node call.2.0;
+      rest_of = call_end text node rest p;
+      ends = after;
+      starts = call_starts text b;
+    })
+    (λ p. let name = (bare_named is_rooted text node rest p).0 in let end = bare_end is_rooted text node rest p in record {
+      told = name_told (rooted (name_bytes text)) node name;
+      rest_of = end.0;
+      ends = end.1;
+      starts = bare_starts text node name;
+    }) e

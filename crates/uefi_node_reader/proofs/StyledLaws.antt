@@ -1,13 +1,13 @@
 -- What is read in a style is told, and what stands after it is the rest of its text.
 use Rattle.std.proofs.Common.{ap, ◌∙◌, ◌≡◌, ◌-◌, ◌≤◌, ℕ, Bool, true, false, cond, ◌⊎◌, List, [], ◌∷◌, length, refl, subst, inl, inr, arith}
 use Rattle.uefi_node_reader.specs.FieldReading.{read_if}
-use Rattle.std.specs.Prelude.{Option, Some, None, Ok, Err}
+use Rattle.std.specs.Prelude.{Option, Some, None, Ok}
 use Rattle.std.specs.List.{list_all}
 use Rattle.std.specs.Option.{ok_or, option_map, option_or}
 use Rattle.std.proofs.lemmas.Bool.{and_parts}
 use Rattle.uefi_node_table.specs.Rows.{Form}
 use Rattle.uefi_device_nodes.specs.Nodes.{Node, node_with}
-use Rattle.uefi_node_reader.specs.LenientNodes.{IsRestOf, begins_call, cut_call, ended, fault_at_byte, lenient_read, place_at, tidied, told_in}
+use Rattle.uefi_node_reader.specs.LenientNodes.{IsRestOf, begins_call, cut_call, ended, fault_at_byte, place_at, tidied, told_in}
 use Rattle.uefi_node_reader.specs.Libefivar.{forms_exact, libefivar_read, own_call, own_fault, own_or_lenient, own_read, own_stop}
 use Rattle.uefi_node_reader.specs.NamedFiles.{IsTold, is_after_node, node_read}
 use Rattle.uefi_node_reader.specs.Styles.{PrintedExactly, StyledAgain, StyledEnds, StyledFaultWithin, StyledStarts, StyledTakes, styled_read}
@@ -15,11 +15,11 @@ use Rattle.uefi_node_reader.specs.TableReading.{form_read, is_sound}
 use Rattle.uefi_node_reader.specs.declared.faults.Expected.TheVariants.{AsPrinted}
 use Rattle.uefi_node_reader.specs.declared.faults.NodeFault.{NodeFault}
 use Rattle.uefi_node_reader.specs.declared.faults.Stop.{Stop}
+use Rattle.uefi_node_reader.specs.declared.styles.TextStyle.{TextStyle}
 use Rattle.uefi_node_reader.specs.declared.styles.TextStyle.TheVariants.{Printed, Lenient, Libefivar}
 use Rattle.uefi_node_reader.proofs.FaultPlaces.{Within, end_within, fault_within, or_within, place_within}
-use Rattle.uefi_node_reader.proofs.LenientLaws.{call_starts, cut_end, ends, ends_at, lenient_again, lenient_ends, lenient_starts, lenient_takes, strict_end, told_as, with_rest}
+use Rattle.uefi_node_reader.proofs.LenientLaws.{WellRead, call_starts, cut_end, ends, ends_at, lenient_again, lenient_well, strict_well, told_as, with_rest}
 use Rattle.uefi_node_reader.proofs.Literals.{bind_some, ok_some}
-use Rattle.uefi_node_reader.proofs.NodeLaws.{node_starts, node_takes}
 use Rattle.uefi_node_reader.specs.OtherForms.{own_forms}
 use Rattle.uefi_node_reader.proofs.OtherForms.{own_sound}
 use Rattle.uefi_node_reader.proofs.TableLaws.{form_takes}
@@ -48,73 +48,49 @@ all_told (form ∷ others) sound text node e =
     ]
 
 -- what was read in one of libefivar's own forms
-record Own (text : List ℕ) (node : Node) (rest : List ℕ) : Type 0 where
-  pub call : begins_call text ≡ true
-  pub told : IsTold node
-  pub rest_of : IsRestOf text rest
-
-own_is : (text : List ℕ) (node : Node) (rest : List ℕ) → own_read text ≡ Some (node, rest) → Own text node rest
-own_is text node rest e = by (begins_call text) refl e
+own_well : (text : List ℕ) (node : Node) (rest : List ℕ) → own_read text ≡ Some (node, rest) → is_after_node rest ≡ true → WellRead text node rest
+own_well text node rest e after = by (begins_call text) refl e
   where
-    by : (b : Bool) → begins_call text ≡ b → cond b (own_call text) None ≡ Some (node, rest) → Own text node rest
+    by : (b : Bool) → begins_call text ≡ b → cond b (own_call text) None ≡ Some (node, rest) → WellRead text node rest
     by false c p = cc
     by true c p =
         let call = bind_some (cut_call text) _ (node, rest) p in
         let read = with_rest (forms_exact own_forms (tidied call.0.0)) call.0.1 node rest call.2 in
         record {
-          call = c;
           told = all_told own_forms own_sound (tidied call.0.0) node read.0;
           rest_of = subst (λ (x : List ℕ). IsRestOf text x) read.1 (cut_end text call.0 call.1);
+          ends = after;
+          starts = call_starts text c;
         }
 
--- one of the two that are tried
-either_way : (is_rooted : Bool) (text : List ℕ) (node : Node) (rest : List ℕ) (Goal : Type 0) → (Own text node rest → is_after_node rest ≡ true → Goal)
-    → (lenient_read is_rooted text ≡ Ok (node, rest) → Goal) → libefivar_read is_rooted text ≡ Ok (node, rest) → Goal
-unfolding libefivar_read
-either_way is_rooted text node rest Goal own other e = by (own_read text) (own_fault text) refl e
-  where
-    by : (o : Option (Node × List ℕ)) (f : Option NodeFault) → own_read text ≡ o → own_or_lenient is_rooted text o f ≡ Ok (node, rest) → Goal
-    by (Some read) f p q =
-        let end = ends_at text read node rest q in
-        own (own_is text node rest (p ∙ ap (λ (x : Node × List ℕ). Some x) end.0)) end.1
-    by None (Some fault) p q = cc
-    by None None p q = other q
+libefivar_well : (is_rooted : Bool) (text : List ℕ) (node : Node) (rest : List ℕ) (o : Option (Node × List ℕ)) (f : Option NodeFault) → own_read text ≡ o
+    → own_or_lenient is_rooted text o f ≡ Ok (node, rest) → WellRead text node rest
+libefivar_well is_rooted text node rest (Some read) f p q =
+    let end = ends_at text read node rest q in
+    own_well text node rest (p ∙ ap (λ (x : Node × List ℕ). Some x) end.0) end.1
+libefivar_well is_rooted text node rest None (Some fault) p q = cc
+libefivar_well is_rooted text node rest None None p q = lenient_well is_rooted text node rest q
 
 -- a text in the style of printed ones
 printed_read : (text : List ℕ) (node : Node) (rest : List ℕ) → ok_or (ended (node_read text)) (fault_at_byte 0 AsPrinted) ≡ Ok (node, rest)
     → (node_read text ≡ Some (node, rest)) × (is_after_node rest ≡ true)
 printed_read text node rest e = ends (node_read text) node rest (ok_some (ended (node_read text)) (fault_at_byte 0 AsPrinted) (node, rest) e)
 
+styled_well : (style : TextStyle) (is_rooted : Bool) (text : List ℕ) (node : Node) (rest : List ℕ)
+    → styled_read style is_rooted text ≡ Ok (node, rest) → WellRead text node rest
+unfolding styled_read libefivar_read
+styled_well Printed is_rooted text node rest e = let read = printed_read text node rest e in strict_well text node rest read.0 read.1
+styled_well Lenient is_rooted text node rest e = lenient_well is_rooted text node rest e
+styled_well Libefivar is_rooted text node rest e = libefivar_well is_rooted text node rest (own_read text) (own_fault text) refl e
+
 pub styled_takes : StyledTakes
-unfolding styled_read
-styled_takes Printed is_rooted text node rest e = (node_takes text node rest (printed_read text node rest e).0).0
-styled_takes Lenient is_rooted text node rest e = lenient_takes is_rooted text node rest e
-styled_takes Libefivar is_rooted text node rest e =
-    either_way is_rooted text node rest (IsTold node) (λ own _. own.told) (lenient_takes is_rooted text node rest) e
+styled_takes style is_rooted text node rest e = (styled_well style is_rooted text node rest e).told
 
 pub styled_ends : StyledEnds
-unfolding styled_read
-styled_ends Printed is_rooted text node rest e =
-    let read = printed_read text node rest e in (strict_end text node rest read.0 read.1, read.1)
-styled_ends Lenient is_rooted text node rest e = lenient_ends is_rooted text node rest e
-styled_ends Libefivar is_rooted text node rest e = either_way is_rooted text node rest (IsRestOf text rest × (is_after_node rest ≡ true))
-    (λ own after. (own.rest_of, after)) (lenient_ends is_rooted text node rest) e
+styled_ends style is_rooted text node rest e = let well = styled_well style is_rooted text node rest e in (well.rest_of, well.ends)
 
 pub styled_starts : StyledStarts
-unfolding styled_read
-styled_starts Printed is_rooted text node rest e =
-    let read = node_takes text node rest (printed_read text node rest e).0 in
-    ap is_after_node read.1 ∙ node_starts node read.0 rest
-styled_starts Lenient is_rooted text node rest e = lenient_starts is_rooted text node rest e
-styled_starts Libefivar is_rooted text node rest e = either_way is_rooted text node rest (is_after_node text ≡ false)
-    (λ own _. no_call own.call) (lenient_starts is_rooted text node rest) e
-  where
-    no_call : begins_call text ≡ true → is_after_node text ≡ false
-    no_call call = by (is_after_node text) refl
-      where
-        by : (b : Bool) → is_after_node text ≡ b → is_after_node text ≡ false
-        by true p = call_starts text p call
-        by false p = p
+styled_starts style is_rooted text node rest e = (styled_well style is_rooted text node rest e).starts
 
 pub styled_again : StyledAgain
 unfolding styled_read

@@ -2,10 +2,10 @@ use Rattle.uefi_node_reader.specs.declared.styles.TextStyle.TheVariants.{Printed
 use Rattle.uefi_device_path.proofs.path_reader.read_path.Goals as goal
 
 pub returns-in-Ok-clause-told : goal.returns-in-Ok-clause-told
-returns-in-Ok-clause-told g c = c.styled_texts.ensures.told Printed c.args.text.now c.in-Ok.path c.in-Ok.ensures.ok
+returns-in-Ok-clause-told g c = c.styled_texts.ensures.told Printed c.args.text.now c.in-Ok.path c.in-Ok.ensures.gives
 
 pub returns-in-Ok-clause-ok : goal.returns-in-Ok-clause-ok
-returns-in-Ok-clause-ok g c = c.styled_texts.ensures.is_printed c.args.text.now c.in-Ok.path c.in-Ok.ensures.ok
+returns-in-Ok-clause-ok g c = c.styled_texts.ensures.is_printed c.args.text.now c.in-Ok.path c.in-Ok.ensures.gives
 
 pub returns-in-Err-OutOfMemory-clause-refusal : goal.returns-in-Err-OutOfMemory-clause-refusal
 returns-in-Err-OutOfMemory-clause-refusal g c =

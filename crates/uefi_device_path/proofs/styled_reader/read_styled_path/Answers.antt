@@ -22,8 +22,8 @@ of_bytes-requires g c =
     c.in-Ok.ensures.len c.in-Ok-put_text.ensures.len (ap (take 4) c.as_mut_slice.ensures.value ∙ c.in-Ok-empty_path.ensures.begins)
     (ap length c.as_mut_slice.ensures.value ∙ c.in-Ok-empty_path.ensures.len) c.in-Ok-put_text.ensures.put).0
 
-pub returns-in-Ok-put_text-clause-ok : goal.returns-in-Ok-put_text-clause-ok
-returns-in-Ok-put_text-clause-ok g c =
+pub returns-in-Ok-put_text-clause-gives : goal.returns-in-Ok-put_text-clause-gives
+returns-in-Ok-put_text-clause-gives g c =
     let bytes = c.in-Ok-empty_path.bytes in
     let new = c.put_text-2.new.buffer in
     let whole : take bytes.len (new ++ drop (length new) bytes.items) ≡ new =
