@@ -53,14 +53,15 @@ pub extern "C" fn nard_device_path_check(bytes: &[u8], place: &mut usize) -> u32
     }
 }
 
-/// How many bytes there have to be to go on in a device path whose first bytes these are: `OK`, or why no path begins
-/// so.
+/// How many bytes there have to be to go on in a device path whose first bytes these are: `OK`, or why
+/// no path begins so.
 ///
-/// At `OK` `needed` becomes the number of bytes up to the end of the path, if that is not more than there are; or
-/// else how many there have to be to say more, and no path that begins with these bytes has fewer. `place` is where a
-/// node begins, 0 at first, and becomes the offset of the next one, so that no node is read twice. Refused, `place`
-/// becomes the offset of the bytes at fault, and `needed` stays. A place after the end of the bytes is `NO_END_NODE`.
-/// Reads no byte but these; takes no memory (UEFI Specification 2.10, section 10.3.1).
+/// At `OK` `needed` becomes the number of bytes up to the end of the path, if that is not more than
+/// there are; or else how many there have to be to say more, and no path that begins with these bytes
+/// has fewer. `place` is where a node begins, 0 at first, and becomes the offset of the next one, so
+/// that no node is read twice. Refused, `place` becomes the offset of the bytes at fault, and `needed`
+/// stays. A place after the end of the bytes is `NO_END_NODE`. Reads no byte but these; takes no memory
+/// (UEFI Specification 2.10, section 10.3.1).
 #[unsafe(no_mangle)]
 pub extern "C" fn nard_device_path_needs(bytes: &[u8], place: &mut usize, needed: &mut usize) -> u32
     ensures extent { result ≡ OK → (extent : PathExtent) × HasExtent (drop place.old bytes.now) extent

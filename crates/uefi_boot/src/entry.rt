@@ -378,8 +378,8 @@ impl Shown {
     }
 }
 
-/// Writes the attributes that an entry has, but for the first, which says that it is active (UEFI Specification
-/// 2.10, section 3.1.3).
+/// Writes the attributes that an entry has, but for the first, which says that it is active (UEFI
+/// Specification 2.10, section 3.1.3).
 fn write_attributes<W: Write>(out: &mut W, attributes: u32) -> fmt::Result {
     if attributes < 2 {
         return Ok(());

@@ -31,9 +31,9 @@ struct Named {
     entry: Shown,
 }
 
-/// What variables say. `BootOrder`, `BootCurrent`, `BootNext` and `Timeout` are `None` if they are not set, malformed
-/// or can't be read. The entries are first those of the order, in order and once each, and then the others by
-/// number.
+/// What variables say. `BootOrder`, `BootCurrent`, `BootNext` and `Timeout` are `None` if they are not
+/// set, malformed or can't be read. The entries are first those of the order, in order and once each,
+/// and then the others by number.
 #[derive(Drop, Serialize)]
 pub(crate) struct Listing {
     boot_order: Option<Vec<String>>,
@@ -242,7 +242,8 @@ impl Listing {
         self.malformed.is_empty() && self.entries.iter().all(|named| named.entry.is_well())
     }
 
-    /// Writes the line of a variable that says nothing, if it is malformed or can't be read. Returns whether it is.
+    /// Writes the line of a variable that says nothing, if it is malformed or can't be read. Returns
+    /// whether it is.
     fn write_fault<W: Write>(&self, out: &mut W, variable: &str) -> Result<bool, fmt::Error> {
         for (list, what) in [
             (&self.malformed, "malformed"),

@@ -1,16 +1,17 @@
 //! Prints what a machine boots: one boot entry from standard input, or all that a folder or files of
 //! variables hold.
 //!
-//! Without an argument, it prints the variables of the machine if standard input is a terminal. Otherwise, and for
-//! the argument `-`, it reads a variable `Boot####` from standard input: a load option (UEFI Specification 2.10,
-//! section 3.1.3), with or without the four bytes of the variable's attributes that Linux puts before it. It prints
-//! its attributes, its description, each file that it names, judged, and its optional data, as text if they are text.
+//! Without an argument, it prints the variables of the machine if standard input is a terminal.
+//! Otherwise, and for the argument `-`, it reads a variable `Boot####` from standard input: a load
+//! option (UEFI Specification 2.10, section 3.1.3), with or without the four bytes of the variable's
+//! attributes that Linux puts before it. It prints its attributes, its description, each file that it
+//! names, judged, and its optional data, as text if they are text.
 //!
-//! The arguments are files of variables, or folders of them: Linux's `efivars`, whose files are named by
-//! the variable and its GUID, or files that are named by the variable alone. It prints `BootOrder`,
-//! `BootCurrent`, `BootNext` and `Timeout`, and then each entry: those of the order first, in its order, and then the
-//! others by number. A file of a folder is opened only if its name is that of one of these variables. A
-//! variable that can't be read is printed with the cause.
+//! The arguments are files of variables, or folders of them: Linux's `efivars`, whose files are named
+//! by the variable and its GUID, or files that are named by the variable alone. It prints `BootOrder`,
+//! `BootCurrent`, `BootNext` and `Timeout`, and then each entry: those of the order first, in its
+//! order, and then the others by number. A file of a folder is opened only if its name is that of one
+//! of these variables. A variable that can't be read is printed with the cause.
 //!
 //! With `--json` it prints the same as JSON.
 //!
@@ -176,8 +177,8 @@ fn print_files(rt: &HostRuntime, names: &[String], form: Form) -> ExitCode {
     }
 }
 
-/// Prints what there is without an argument: standard input, unless that is a terminal, or else the variables of the
-/// machine.
+/// Prints what there is without an argument: standard input, unless that is a terminal, or else the
+/// variables of the machine.
 fn print_own(rt: &HostRuntime, mut names: Vec<String>, form: Form) -> ExitCode {
     if !rt.stdin().is_terminal() {
         return print_entry(rt, form);

@@ -31,8 +31,8 @@ fn ascii_text(alloc: Global, bytes: &[u8]) -> Result<Option<String>, fmt::Error>
     Ok(Some(text))
 }
 
-/// The text of units, and maybe a NUL at their end, if each is a character that can be shown, and half of them or
-/// more are printable ASCII. Bytes of another kind are seldom such units.
+/// The text of units, and maybe a NUL at their end, if each is a character that can be shown, and half
+/// of them or more are printable ASCII. Bytes of another kind are seldom such units.
 fn utf16_text(alloc: Global, units: UnalignedSlice<'_, u16>) -> Result<Option<String>, fmt::Error> {
     let mut text = String::new(alloc);
     let (mut ascii, mut others) = (0usize, 0usize);

@@ -50,8 +50,9 @@ impl<'a> OrderBuffer<'a> {
 
     /// Takes the numbers of an order in place of its own, each where it stands first.
     ///
-    /// Returns `OrderFull` if there is no room for them; the order is then unchanged. Compares each number with
-    /// those before it, and does so twice if the other order has more numbers than this one has room for.
+    /// Returns `OrderFull` if there is no room for them; the order is then unchanged. Compares each
+    /// number with those before it, and does so twice if the other order has more numbers than this one
+    /// has room for.
     ///
     /// ```rust
     /// let order = LoadOrder::from_bytes(&[3, 0, 1, 0, 3, 0])?;

@@ -17,8 +17,8 @@ use uefi_device_nodes::node::{DevicePathNode, fault_place};
 pub struct PathCut {
     /// How many bytes the whole nodes have that come first: the next node begins there.
     pub passed: usize,
-    /// How many bytes there have to be to go on: up to the end of the next node's header, or of the node if its
-    /// header is there.
+    /// How many bytes there have to be to go on: up to the end of the next node's header, or of the
+    /// node if its header is there.
     pub needed: usize,
 }
 

@@ -48,8 +48,8 @@ fn fat_byte(unit: u16) -> u8
     }
 }
 
-/// Writes units to the start of a buffer in the characters of short names, as [`str_to_fat`] writes a name. The
-/// units may hold surrogates, as names on FAT volumes may: no short name takes one.
+/// Writes units to the start of a buffer in the characters of short names, as [`str_to_fat`] writes a
+/// name. The units may hold surrogates, as names on FAT volumes may: no short name takes one.
 ///
 /// ```rust
 /// let mut buffer = [0; 3];

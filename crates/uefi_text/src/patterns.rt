@@ -214,8 +214,8 @@ impl<'a> CountedReader<'a> {
     }
 }
 
-/// Whether a pattern matches all of the units, as [`CStr16::matches`]. Both may hold surrogates, as names on FAT
-/// volumes may.
+/// Whether a pattern matches all of the units, as [`CStr16::matches`]. Both may hold surrogates, as
+/// names on FAT volumes may.
 ///
 /// ```rust
 /// assert!(rt; patterns::matches(&[0x61, 0xd83d, 0xde00], &[0x41, 0x2a]));
