@@ -109,6 +109,7 @@ call_tried None text = or_next (forms_tried forms None text)
     (λ stop. or_next (forms_tried pasted_forms stop text)
     (λ other. or_next (path_told (after_literal (codes "Path(") text)) (λ last. Err (further other last))))
 
+-- the same of a text by itself
 abbrev pub call_told : List ℕ → Result Node (Option Stop)
 call_told text = call_tried (ambiguous_stop text) text
 
