@@ -80,7 +80,8 @@ abbrev pub form_tried : Form → List ℕ → Result Node (Option Stop)
 form_tried form text = if begins_name form.start text then named_told form.mode form text else Err None
 
 -- the node that was read, or else what is read next, by where that stopped
-abbrev pub or_next : Result Node (Option Stop) → (Option Stop → Result Node (Option Stop)) → Result Node (Option Stop)
+abbrev pub or_next : Result Node (Option Stop) → (Option Stop → Result Node (Option Stop))
+    → Result Node (Option Stop)
 or_next (Ok node) next = Ok node
 or_next (Err stop) next = next stop
 
@@ -207,8 +208,8 @@ abbrev pub or_fault : NodeFault → Result (Node × List ℕ) NodeFault → Resu
 or_fault fault (Ok read) = Ok read
 or_fault fault (Err other) = Err fault
 
--- the node that was read exactly, if it ends where a node may end, or else another. The text is at fault where
--- the first ends
+-- the node that was read exactly, if it ends where a node may end, or else another. The text is at
+-- fault where the first ends
 abbrev pub exact_or : List ℕ → Option (Node × List ℕ) → Result (Node × List ℕ) NodeFault
     → Result (Node × List ℕ) NodeFault
 exact_or text None other = other
